@@ -1,0 +1,17 @@
+pub mod Entering
+pub mod Checks
+pub mod Computed
+pub mod Listing
+pub mod Growing
+pub mod Heads
+pub mod Agreeing
+pub mod Sound
+pub mod Parting
+pub mod Spelled
+pub mod Complete
+pub mod Behind
+pub mod Completing
+pub mod Readings
+pub mod Allowing
+pub mod Fronts
+pub mod FrontLaws

@@ -1,0 +1,23 @@
+use Rattle.nc_decode.proofs.FrontLaws.{exact, prefix_free, stop_first, has_its_length, depends_on_its_bytes, masks_only_before_next, names_registers}
+use Rattle.nc_decode.proofs.law.law_of_fronts.Goals as goal
+
+pub returns-clause-exact : goal.returns-clause-exact
+returns-clause-exact c = exact
+
+pub returns-clause-prefix_free : goal.returns-clause-prefix_free
+returns-clause-prefix_free c = prefix_free
+
+pub returns-clause-stop : goal.returns-clause-stop
+returns-clause-stop c = stop_first
+
+pub returns-clause-length : goal.returns-clause-length
+returns-clause-length c = has_its_length
+
+pub returns-clause-local : goal.returns-clause-local
+returns-clause-local c = depends_on_its_bytes
+
+pub returns-clause-masks : goal.returns-clause-masks
+returns-clause-masks c = masks_only_before_next
+
+pub returns-clause-registers : goal.returns-clause-registers
+returns-clause-registers c = names_registers

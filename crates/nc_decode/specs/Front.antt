@@ -1,0 +1,50 @@
+-- The instruction at the front of some bytes, as one function, and what is known of it.
+-- The law `law_of_fronts` ties it to the relation of `Spelling`; whoever stands above cites these words alone.
+use Rattle.std.specs.Prelude.{◌≡◌, ◌≢◌, ◌↔◌, ℕ, ◌<◌, ◌≤◌, List, [], ◌∷◌, ◌++◌, length, take, Option, Some, None, nat_lt, if◌then◌else◌, pos, IfSome}
+use Rattle.std.specs.Result.{result_ok}
+use Rattle.nc_decode.specs.declared.instruction.Instr.{Instr}
+use Rattle.nc_decode.specs.declared.instruction.Flow.{Flow}
+use Rattle.nc_decode.specs.declared.instruction.Flow.TheVariants.{Next, Stop}
+use Rattle.nc_decode.specs.Reading.{reading}
+use Rattle.nc_decode.specs.Spelling.{Spells, IsAtFront}
+
+-- the bytes before the first number that is no byte
+abbrev pub leading_bytes : List ℕ → List ℕ
+leading_bytes [] = []
+leading_bytes (b ∷ rest) = if nat_lt b 256 then b ∷ leading_bytes rest else []
+
+-- the instruction that is a front of these bytes
+unfoldable pub first_instruction : List ℕ → Option Instr
+first_instruction bytes = result_ok (reading (leading_bytes bytes))
+
+-- for every list of numbers: the function finds exactly what is at the front
+abbrev pub IsExact : Type 0
+IsExact = (bytes : List ℕ) (i : Instr) → (first_instruction bytes ≡ Some i) ↔ IsAtFront bytes i
+
+-- no instruction is a proper front of another
+abbrev pub IsPrefixFree : Type 0
+IsPrefixFree = (one more : List ℕ) (i j : Instr) → Spells one i → Spells (one ++ more) j → more ≡ []
+
+-- an instruction of this length and flow that neither names a register nor a displacement
+abbrev pub plain : ℕ → Flow → Instr
+plain len flow = record { len = len; flow = flow; rel = pos 0; reg = 0; masks = None }
+
+-- F4 is an instruction of one byte with the flow Stop
+abbrev pub IsStopFirst : Type 0
+IsStopFirst = (rest : List ℕ) → first_instruction (0xF4 ∷ rest) ≡ Some (plain 1 Stop)
+
+-- an instruction has at least one byte, and no more than there are
+abbrev pub HasItsLength : Type 0
+HasItsLength = (bytes : List ℕ) (i : Instr) → first_instruction bytes ≡ Some i → (1 ≤ i.len) × (i.len ≤ length bytes)
+
+-- nothing behind an instruction matters
+abbrev pub DependsOnItsBytes : Type 0
+DependsOnItsBytes = (bytes others : List ℕ) (i : Instr) → first_instruction bytes ≡ Some i → take i.len others ≡ take i.len bytes → first_instruction others ≡ Some i
+
+-- only an instruction that goes on to the next masks a register
+abbrev pub MasksOnlyBeforeNext : Type 0
+MasksOnlyBeforeNext = (bytes : List ℕ) (i : Instr) → first_instruction bytes ≡ Some i → i.flow ≢ Next → i.masks ≡ None
+
+-- registers are numbered from 0 to 7, and register 4, the stack's, is never masked
+abbrev pub NamesRegisters : Type 0
+NamesRegisters = (bytes : List ℕ) (i : Instr) → first_instruction bytes ≡ Some i → (i.reg < 8) × IfSome i.masks (λ r. (r < 8) × (r ≢ 4))

@@ -1,0 +1,9 @@
+pub mod Entries
+pub mod Rows
+pub mod Spelling
+pub mod Shapes
+pub mod Reading
+pub mod Barred
+pub mod Bundles
+pub mod Transfers
+pub mod Front

@@ -1,0 +1,27 @@
+-- Where control goes after an instruction.
+use Rattle.std.specs.Prelude.{ℕ, ◌+◌, ◌%◌, ◌^◌, Bool, true, false}
+use Rattle.std.specs.Int.{w32, cast_unsigned}
+use Rattle.nc_decode.specs.declared.instruction.Instr.{Instr}
+use Rattle.nc_decode.specs.declared.instruction.Flow.{Flow}
+use Rattle.nc_decode.specs.declared.instruction.Flow.TheVariants.{Branch, Jump, Call, IndirectJump, IndirectCall}
+
+-- a transfer to a target that the instruction itself names
+abbrev pub is_direct : Flow → Bool
+is_direct Branch = true
+is_direct Jump = true
+is_direct Call = true
+is_direct _ = false
+
+-- a transfer to where a register points
+abbrev pub is_indirect : Flow → Bool
+is_indirect IndirectJump = true
+is_indirect IndirectCall = true
+is_indirect _ = false
+
+-- the address behind an instruction at this one
+abbrev pub behind : Instr → ℕ → ℕ
+behind i at = at + i.len
+
+-- the target of a direct transfer at this address, modulo 2^32
+abbrev pub target : Instr → ℕ → ℕ
+target i at = (at + i.len + cast_unsigned w32 i.rel) % 2 ^ 32

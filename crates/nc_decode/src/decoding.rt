@@ -1,0 +1,82 @@
+ghost use Rattle.std.specs.Prelude.{◌≡◌, ◌≤◌, ◌<◌, ◌+◌, ◌↔◌, length, drop, IfOk};
+ghost use Rattle.std.specs.Result.{result_ok};
+ghost use Rattle.nc_decode.specs.Barred.{IsBarred};
+ghost use Rattle.nc_decode.specs.Front.{first_instruction};
+ghost use Rattle.nc_decode.specs.Reading.{reading, rel_of, whole_of, IsSized};
+ghost use Rattle.nc_decode.specs.Spelling.{masks_of, IsAtFront, IsProperFront};
+
+use crate::entry::{Number, Shape};
+use crate::instruction::{DecodeFault, Instr};
+use crate::shape::shape;
+use byteorder::{ByteOrder, LittleEndian};
+
+#[inline(always)]
+fn rel(number: Number, rest: &[u8]) -> i32
+    requires short { number ≡ Number.Short → 1 ≤ length rest.now }
+    requires near { number ≡ Number.Near → 4 ≤ length rest.now }
+    ensures { result ≡ rel_of number rest.now }
+{
+    match number {
+        Number::Short => i32::from(rest[0].cast_signed()),
+        Number::Near => LittleEndian::read_i32(rest),
+        _ => 0,
+    }
+}
+
+#[inline(always)]
+fn masks(bytes: &[u8]) -> Option<u8>
+    ensures { result ≡ masks_of bytes.now }
+{
+    match bytes {
+        [0x83, modrm, 0xE0] if 0xE0 <= *modrm && *modrm < 0xE8 && *modrm != 0xE4 => {
+            Some(*modrm - 0xE0)
+        }
+        _ => None,
+    }
+}
+
+#[inline(always)]
+#[tactic(auto, unfolding(crate::specs::Reading::whole_of))]
+fn whole(bytes: &[u8], shape: Shape) -> Result<Instr, DecodeFault>
+    requires { IsSized shape }
+    ensures { result ≡ whole_of bytes.now shape }
+{
+    let len = shape.head + shape.number_len;
+    if bytes.len() < len as usize {
+        return Err(DecodeFault::Truncated);
+    }
+    Ok(Instr {
+        len,
+        flow: shape.flow,
+        rel: rel(shape.number, &bytes[shape.head as usize..]),
+        reg: shape.reg,
+        masks: masks(&bytes[..len as usize]),
+    })
+}
+
+#[inline(always)]
+#[tactic(auto, unfolding(crate::specs::Reading::reading))]
+fn read(bytes: &[u8]) -> Result<Instr, DecodeFault>
+    ensures { result ≡ reading bytes.now }
+{
+    whole(bytes, shape(bytes)?)
+}
+
+/// The instruction at the front of the bytes.
+pub fn decode(bytes: &[u8]) -> Result<Instr, DecodeFault>
+    // A front of the bytes is a whole instruction, and this is what it says.
+    ensures found { (i : Instr) → (result ≡ Ok i) ↔ IsAtFront bytes.now i }
+    // The bytes are the beginning of a whole instruction, and not all of it.
+    ensures truncated { (result ≡ Err DecodeFault.Truncated) ↔ IsProperFront bytes.now }
+    // Neither.
+    ensures refused { (result ≡ Err DecodeFault.NotPermitted)
+        ↔ (((i : Instr) → ¬ IsAtFront bytes.now i) × ¬ IsProperFront bytes.now) }
+    // What is at the front has none of the barred beginnings.
+    ensures allowed { (i : Instr) (f : IsAtFront bytes.now i) → ¬ IsBarred f.front }
+    // What the layers above know of the table is this function alone.
+    ensures first { result_ok result ≡ first_instruction bytes.now }
+    // What callers need of the length: it is that of the instruction.
+    ensures sized { IfOk result (λ i. (0 < i.len) × (i.len ≤ length bytes.now)) }
+{
+    read(bytes)
+}
