@@ -1,0 +1,12 @@
+//! What closed text and marks are worth.
+
+ghost use Rattle.std.specs.Prelude.{ℕ, List};
+ghost use Rattle.nc_decode.specs.declared.instruction.Mark.{Mark};
+ghost use Rattle.nc_text.specs.Machine.{IsConfined};
+ghost use Rattle.nc_text.specs.Marks.{IsClosed};
+
+/// A text that is closed under some marks is confined: every state of every path that begins at a bundle start of the
+/// region is safe. It does nothing when it is called.
+pub fn law_of_closed()
+    ensures { (text : List ℕ) (marks : List Mark) → IsClosed text marks → IsConfined text }
+{}
