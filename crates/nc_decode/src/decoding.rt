@@ -10,6 +10,7 @@ use crate::instruction::{DecodeFault, Instr};
 use crate::shape::shape;
 use byteorder::{ByteOrder, LittleEndian};
 
+/// The displacement at the front of `rest`, if the number is one.
 #[inline(always)]
 fn rel(number: Number, rest: &[u8]) -> i32
     requires short { number ≡ Number.Short → 1 ≤ length rest.now }
@@ -23,6 +24,7 @@ fn rel(number: Number, rest: &[u8]) -> i32
     }
 }
 
+/// The register that a whole instruction masks.
 #[inline(always)]
 fn masks(bytes: &[u8]) -> Option<u8>
     ensures { result ≡ masks_of bytes.now }
@@ -35,6 +37,7 @@ fn masks(bytes: &[u8]) -> Option<u8>
     }
 }
 
+/// The instruction of this shape, where all its bytes are there.
 #[inline(always)]
 #[tactic(auto, unfolding(crate::specs::Reading::whole_of))]
 fn whole(bytes: &[u8], shape: Shape) -> Result<Instr, DecodeFault>
@@ -54,6 +57,7 @@ fn whole(bytes: &[u8], shape: Shape) -> Result<Instr, DecodeFault>
     })
 }
 
+/// The instruction that stands at the front, found from the left.
 #[inline(always)]
 #[tactic(auto, unfolding(crate::specs::Reading::reading))]
 fn read(bytes: &[u8]) -> Result<Instr, DecodeFault>
@@ -62,7 +66,21 @@ fn read(bytes: &[u8]) -> Result<Instr, DecodeFault>
     whole(bytes, shape(bytes)?)
 }
 
-/// The instruction at the front of the bytes.
+/// The instruction at the front of the bytes: one whole permitted instruction, whatever stands behind it.
+///
+/// The permitted instructions are a part of 32-bit x86 without floating point and vectors: the rows of `specs/Rows`, as
+/// `specs/Spelling` puts them together, with the lengths of the Intel SDM, volume 2. At most one prefix is permitted, and
+/// each only where the prefix table says so. Segment overrides, returns, far transfers, software interrupts, SYSCALL and
+/// SYSENTER are never read.
+///
+/// It takes no memory, and answers for any bytes, with no need for more of them than the instruction has. It doesn't
+/// say whether the instruction may stand at an address: bundles, masks before indirect transfers and targets are judged
+/// by `nc_vet`.
+///
+/// # Errors
+///
+/// `Truncated` exactly where the bytes are a proper front of a permitted instruction, `NotPermitted` in all other cases
+/// in which no front of them is one.
 pub fn decode(bytes: &[u8]) -> Result<Instr, DecodeFault>
     // A front of the bytes is a whole instruction, and this is what it says.
     ensures found { (i : Instr) → (result ≡ Ok i) ↔ IsAtFront bytes.now i }

@@ -1,8 +1,14 @@
 //! One instruction of the permitted part of x86-32, read from the front of some bytes.
+//!
+//! The permitted instructions stand as data in `specs/Rows`, and `specs/Spelling` says what a whole instruction is. `decode`
+//! finds the one at the front of some bytes; `law_of_fronts` is what the crates above may know of the table.
+//! Lengths and encodings are those of the Intel 64 and IA-32 Architectures Software Developer's Manual (SDM), volume 2.
 #![tactic(auto)]
 
 mod decoding;
+mod entries;
 mod entry;
+mod groups;
 mod instruction;
 mod law;
 mod shape;
