@@ -1,23 +1,9 @@
 -- The function that finds the instruction at the front, and the relation that it is.
-use Rattle.std.proofs.Common.{◌≡◌, ◌≢◌, ℕ, ◌+◌, ◌-◌, ◌%◌, ◌<◌, ◌≤◌, Bool, true, false, not, List, [], ◌∷◌, ◌++◌, length, take, drop, get_or, Option, Some, None, Result, Ok, Err, ◌==◌, cond, refl, sym, subst, ◌∙◌, ap, arith, inl, inr, ◌⊎◌, eqb-true, Contains, append_assoc, nat_lt, All, append-nil, ltb-true, lt-ltb, zero, suc}
-use Rattle.std.specs.Prelude.{slice_index, option_to_list, IfSome, if◌then◌else◌}
-use Rattle.std.specs.Result.{result_ok}
-use Rattle.std.proofs.lemmas.List.{length-append, take_at, take-append-drop}
-use Rattle.nc_decode.specs.declared.instruction.DecodeFault.{DecodeFault}
-use Rattle.nc_decode.specs.declared.instruction.DecodeFault.TheVariants.{Truncated, NotPermitted}
-use Rattle.nc_decode.specs.declared.instruction.Instr.{Instr}
-use Rattle.nc_decode.specs.declared.instruction.Flow.{Flow}
-use Rattle.nc_decode.specs.declared.instruction.Flow.TheVariants.{Next, Branch, Jump, Call, IndirectJump, IndirectCall, Stop}
-use Rattle.nc_decode.specs.Rows.{Row, PrefixRow, rows, prefix_rows, within, rm_of}
-use Rattle.nc_decode.specs.Reading.{reading}
-use Rattle.nc_decode.specs.Spelling.{Parts, spelled, AreParts, Allows, masks_of, register_of, instr_of, Spells, IsAtFront}
-use Rattle.nc_decode.specs.Front.{leading_bytes, first_instruction, IsExact, IsPrefixFree, IsStopFirst, HasItsLength, DependsOnItsBytes, MasksOnlyBeforeNext, NamesRegisters, plain}
-use Rattle.nc_decode.proofs.Checks.{each}
-use Rattle.nc_decode.proofs.Computed.{true_or_false, each-Contains}
-use Rattle.nc_decode.proofs.Heads.{code}
+use Rattle.std.proofs.Common.{◌≡◌, ℕ, ◌<◌, Bool, true, false, List, [], ◌∷◌, ◌++◌, cond, refl, sym, ◌∙◌, ap, arith, inl, inr, nat_lt, append-nil, ltb-true, lt-ltb, zero, suc}
+use Rattle.nc_decode.specs.Front.{leading_bytes}
+use Rattle.nc_decode.proofs.Computed.{true_or_false}
 use Rattle.nc_decode.proofs.Sound.{IsBytes}
 use Rattle.nc_decode.proofs.Complete.{cond_is_true, cond_is_false}
-use Rattle.nc_decode.proofs.Readings.{found_from, found_by, spells_read, spells_some}
 
 -- ---- the leading bytes
 

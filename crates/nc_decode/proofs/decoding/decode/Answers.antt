@@ -1,4 +1,4 @@
-use Rattle.std.proofs.Common.{◌≡◌, ◌∙◌, sym, arith, ap}
+use Rattle.std.proofs.Common.{◌∙◌, sym, arith, ap}
 use Rattle.nc_decode.proofs.Readings.{found_from, found_by, reading_front, front_read, refused_from, refused_by, result_sized}
 use Rattle.nc_decode.proofs.Allowing.{spelling_is_allowed}
 use Rattle.std.specs.Result.{result_ok}
