@@ -20,6 +20,11 @@ use Rattle.nc_decode.proofs.Sound.{IsBytes}
 use Rattle.nc_decode.proofs.Behind.{bytes_from_all}
 use Rattle.nc_decode.proofs.Readings.{found_from, found_by, spells_read, spells_some}
 use Rattle.nc_decode.proofs.Fronts.{leading_fit, leading_front, leading_all, leading_whole}
+use Rattle.nc_decode.specs.Front.{MasksExactly, GoesOnBehindPrefix}
+use Rattle.nc_decode.proofs.Masks.{masks_only, mask_masks, mask_register, transfer_register, none_by}
+use Rattle.nc_decode.proofs.GoingOn.{masking_goes_on, masking_is_bare, prefixed_goes_on}
+use Rattle.nc_decode.proofs.Complete.{prefix_at}
+use Rattle.nc_decode.proofs.Behind.{opcode-lt}
 
 -- what the reading answers with an instruction, it answers with it alone
 answered : (x : Result Instr DecodeFault) (i : Instr) → result_ok x ≡ Some i → x ≡ Ok i
@@ -111,113 +116,35 @@ depends_on_its_bytes bytes others i e same =
 
 -- ---- masks and registers
 
--- what masks begins with 83
-masks_begin : (xs : List ℕ) → masks_of xs ≢ None → get_or xs 0 0 ≡ 0x83
-masks_begin [] h = absurd (h refl)
-masks_begin (a ∷ []) h = absurd (h refl)
-masks_begin (a ∷ b ∷ []) h = absurd (h refl)
-masks_begin (a ∷ b ∷ c ∷ d ∷ xs) h = absurd (h refl)
-masks_begin (a ∷ b ∷ c ∷ []) h =
-    elim (true_or_false (a == 0x83)) [
-      | inl is ↦ eqb-true a 0x83 is
-      | inr is_not ↦ absurd (h (rw is_not refl))
-    ]
-
-abbrev goes_on : Flow → Bool
-goes_on Next = true
-goes_on _ = false
-
--- the row 83 goes on, and no prefix is the byte 83
-abbrev row_goes_on : Row → Bool
-row_goes_on row = elim row.escaped [ true ↦ true | false ↦ elim (within 0x83 row.opcodes) [ true ↦ goes_on row.flow | false ↦ true ] ]
-
-abbrev is_other : PrefixRow → Bool
-is_other line = elim (line.prefix == 0x83) [ true ↦ false | false ↦ true ]
-
-rows_go_on : each row_goes_on rows ≡ true
-unfolding rows
-rows_go_on = refl
-
-lines_are_other : each is_other prefix_rows ≡ true
-unfolding prefix_rows
-lines_are_other = refl
-
--- bytes that begin with 83 have no prefix, and 83 is their opcode
-begins_with : (o : Option ℕ) (escaped : Bool) (opcode : ℕ) (rest : List ℕ) → IfSome o (λ b. b ≢ 0x83)
-    → get_or ((option_to_list o ++ cond escaped (0x0F ∷ opcode ∷ []) (opcode ∷ [])) ++ rest) 0 0 ≡ 0x83 → (escaped ≡ false) × (opcode ≡ 0x83)
-begins_with (Some b) escaped opcode rest other e = absurd (other e)
-begins_with None true opcode rest other e = absurd (omega (arith, e))
-begins_with None false opcode rest other e = (refl, e)
-
-other_byte : (line : PrefixRow) (b : ℕ) → Contains prefix_rows line → line.prefix ≡ b → b ≢ 0x83
-other_byte line b c same is =
-    chosen (line.prefix == 0x83) (ap (λ (n : ℕ). n == 0x83) (same ∙ is)) (each-Contains is_other prefix_rows line lines_are_other c)
-  where
-    chosen : (t : Bool) → t ≡ true → (elim t [ true ↦ false | false ↦ true ]) ≡ true → ⊥
-    chosen true e h = absurd cc
-    chosen false e h = absurd cc
-
-prefix_other : (p : Parts) (o : Option ℕ) → IfSome o (λ b. (line : PrefixRow) × Contains prefix_rows line × Allows line b p) → IfSome o (λ b. b ≢ 0x83)
-prefix_other p None h = tt
-prefix_other p (Some b) h = other_byte h.0 b h.1 h.2.same
-
-next_by : (row : Row) → row.escaped ≡ false → within 0x83 row.opcodes ≡ true → row_goes_on row ≡ true → row.flow ≡ Next
-next_by row one opcode h = goes row.flow (by row.escaped (within 0x83 row.opcodes) (goes_on row.flow) one opcode h)
-  where
-    by : (e w g : Bool) → e ≡ false → w ≡ true → (elim e [ true ↦ true | false ↦ elim w [ true ↦ g | false ↦ true ] ]) ≡ true → g ≡ true
-    by true w g e f h = absurd cc
-    by false false g e f h = absurd cc
-    by false true g e f h = h
-    goes : (f : Flow) → goes_on f ≡ true → f ≡ Next
-    goes Next h = refl
-    goes Branch h = absurd cc
-    goes Jump h = absurd cc
-    goes Call h = absurd cc
-    goes IndirectJump h = absurd cc
-    goes IndirectCall h = absurd cc
-    goes Stop h = absurd cc
-
--- what masks goes on to the next
-masking_goes_on : (p : Parts) → AreParts p → masks_of (spelled p) ≢ None → p.row.flow ≡ Next
-masking_goes_on p fit masks =
-    let assoc : spelled p ≡ (option_to_list p.prefix ++ cond p.row.escaped (0x0F ∷ p.opcode ∷ []) (p.opcode ∷ [])) ++ (p.operand ++ p.number)
-    = append_assoc (option_to_list p.prefix ++ cond p.row.escaped (0x0F ∷ p.opcode ∷ []) (p.opcode ∷ [])) p.operand p.number in
-    let first = ap (λ (xs : List ℕ). get_or xs 0 0) (sym assoc) ∙ masks_begin (spelled p) masks in
-    let is = begins_with p.prefix p.row.escaped p.opcode (p.operand ++ p.number) (prefix_other p p.prefix fit.prefix) first in
-    next_by p.row is.0 (subst (λ (n : ℕ). within n p.row.opcodes ≡ true) is.1 fit.opcode) (each-Contains row_goes_on rows p.row rows_go_on fit.listed)
-
-abbrev some_mask : ℕ → Option ℕ
-some_mask r = Some r
-
-none_by : (o m : Option ℕ) → m ≡ o → (m ≢ None → ⊥) → m ≡ None
-none_by None m is h = is
-none_by (Some r) m is h = absurd (h (λ none. (let g : some_mask r ≡ None = sym is ∙ none in cc)))
-
 pub masks_only_before_next : MasksOnlyBeforeNext
 masks_only_before_next bytes i e other =
     let f = found_at_front bytes i e in
     ap (λ (k : Instr). k.masks) f.spells.says
     ∙ none_by _ (masks_of (spelled f.spells.parts)) refl (λ masks. other (ap (λ (k : Instr). k.flow) f.spells.says ∙ masking_goes_on f.spells.parts f.spells.fit masks))
 
--- a mask names a register from 0 to 7 other than 4
-mask_register : (xs : List ℕ) → IfSome (masks_of xs) (λ r. (r < 8) × (r ≢ 4))
-mask_register [] = tt
-mask_register (a ∷ []) = tt
-mask_register (a ∷ b ∷ []) = tt
-mask_register (a ∷ b ∷ c ∷ d ∷ xs) = tt
-mask_register (a ∷ b ∷ c ∷ []) = grind (arith, nat_tests)
-
-transfer_register : (f : Flow) (operand : List ℕ) → register_of f operand < 8
-transfer_register Next operand = omega arith
-transfer_register Branch operand = omega arith
-transfer_register Jump operand = omega arith
-transfer_register Call operand = omega arith
-transfer_register IndirectJump operand = omega arith
-transfer_register IndirectCall operand = omega arith
-transfer_register Stop operand = omega arith
-
 pub names_registers : NamesRegisters
 names_registers bytes i e =
     let f = found_at_front bytes i e in
     subst (λ (k : Instr). (k.reg < 8) × IfSome k.masks (λ r. (r < 8) × (r ≢ 4))) (sym f.spells.says)
       (transfer_register f.spells.parts.row.flow f.spells.parts.operand, mask_register (spelled f.spells.parts))
+
+-- an instruction masks a register exactly where its bytes are that register's mask
+pub masks_exactly : MasksExactly
+masks_exactly bytes i r e =
+    let f = found_at_front bytes i e in
+    let n = spells_some f.front i f.spells in
+    let says : i.masks ≡ masks_of (spelled f.spells.parts) = ap (λ (k : Instr). k.masks) f.spells.says in
+    let front : take i.len bytes ≡ spelled f.spells.parts = ap (λ (xs : List ℕ). take i.len xs) f.parts ∙ take_at f.front f.rest i.len (sym n.0) ∙ f.spells.whole in
+    (
+      λ h. (let m = masks_only (spelled f.spells.parts) r (sym says ∙ h) in (front ∙ m.0, m.1, m.2)),
+      λ h. says ∙ ap masks_of (sym front ∙ h.0) ∙ mask_masks r h.1 h.2,
+    )
+
+-- behind a prefix an instruction goes on to the next and masks nothing
+pub goes_on_behind_prefix : GoesOnBehindPrefix
+goes_on_behind_prefix bytes i s some =
+    let p = prefix_at s.parts s.parts.prefix s.fit.prefix in
+    (
+      ap (λ (k : Instr). k.flow) s.says ∙ prefixed_goes_on s.parts s.parts.prefix s.fit (opcode-lt s.parts p.0 s.fit p.1) s.fit.prefix some,
+      ap (λ (k : Instr). k.masks) s.says ∙ none_by _ (masks_of (spelled s.parts)) refl (λ masks. some (masking_is_bare s.parts s.fit masks)),
+    )

@@ -13,5 +13,7 @@ pub mod Behind
 pub mod Completing
 pub mod Readings
 pub mod Allowing
+pub mod Masks
+pub mod GoingOn
 pub mod Fronts
 pub mod FrontLaws

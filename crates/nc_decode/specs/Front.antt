@@ -6,7 +6,7 @@ use Rattle.nc_decode.specs.declared.instruction.Instr.{Instr}
 use Rattle.nc_decode.specs.declared.instruction.Flow.{Flow}
 use Rattle.nc_decode.specs.declared.instruction.Flow.TheVariants.{Next, Stop}
 use Rattle.nc_decode.specs.Reading.{reading}
-use Rattle.nc_decode.specs.Spelling.{Spells, IsAtFront}
+use Rattle.nc_decode.specs.Spelling.{mask, Spells, IsAtFront}
 
 -- the bytes before the first number that is no byte
 abbrev pub leading_bytes : List ℕ → List ℕ
@@ -48,3 +48,11 @@ MasksOnlyBeforeNext = (bytes : List ℕ) (i : Instr) → first_instruction bytes
 -- registers are numbered from 0 to 7, and register 4, the stack's, is never masked
 abbrev pub NamesRegisters : Type 0
 NamesRegisters = (bytes : List ℕ) (i : Instr) → first_instruction bytes ≡ Some i → (i.reg < 8) × IfSome i.masks (λ r. (r < 8) × (r ≢ 4))
+
+-- an instruction masks a register exactly where its bytes are that register's mask, and no register but 4 is left out
+abbrev pub MasksExactly : Type 0
+MasksExactly = (bytes : List ℕ) (i : Instr) (r : ℕ) → first_instruction bytes ≡ Some i → (i.masks ≡ Some r) ↔ ((take i.len bytes ≡ mask r) × (r < 8) × (r ≢ 4))
+
+-- behind a prefix an instruction goes on to the next and masks nothing
+abbrev pub GoesOnBehindPrefix : Type 0
+GoesOnBehindPrefix = (bytes : List ℕ) (i : Instr) (s : Spells bytes i) → s.parts.prefix ≢ None → (i.flow ≡ Next) × (i.masks ≡ None)

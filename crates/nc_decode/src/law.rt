@@ -1,18 +1,28 @@
 //! The laws of the permitted instructions.
 
-ghost use Rattle.nc_decode.specs.Front.{IsExact, IsPrefixFree, IsStopFirst, HasItsLength, DependsOnItsBytes, MasksOnlyBeforeNext, NamesRegisters};
+ghost use Rattle.nc_decode.specs.Front.{IsExact, IsPrefixFree, IsStopFirst, HasItsLength, DependsOnItsBytes, MasksOnlyBeforeNext, NamesRegisters, MasksExactly, GoesOnBehindPrefix};
 
 /// What every layer above may use of the opcode table, and nothing else of it. It does nothing when it is called.
 ///
-/// For each list of bytes, the function `first_instruction` of the definitions finds exactly the instruction that is
-/// a front of it; no instruction is a proper front of another.
+/// The function `first_instruction` of the definitions finds exactly the instruction that is a front of some bytes, as
+/// `specs/Spelling` says it; `decode` answers by it. The other laws are those that the layers above need.
 pub fn law_of_fronts()
-    // The function finds `i` exactly where a front of the bytes is a spelling that says `i`.
+    // It finds `i` exactly where a front of the bytes is a whole instruction that says `i`, for every list of numbers.
     ensures exact { IsExact }
+    // No instruction is a proper front of another.
     ensures prefix_free { IsPrefixFree }
+    // The byte F4 is an instruction that goes nowhere, whatever stands behind it.
     ensures stop { IsStopFirst }
+    // An instruction has at least one byte, and no more than there are.
     ensures length { HasItsLength }
+    // Nothing behind an instruction matters.
     ensures local { DependsOnItsBytes }
+    // Only an instruction that goes on to the next masks a register.
     ensures masks { MasksOnlyBeforeNext }
+    // Registers are numbered from 0 to 7, and register 4 is never masked.
     ensures registers { NamesRegisters }
+    // A register is masked exactly by the three bytes of its mask.
+    ensures exact_masks { MasksExactly }
+    // Behind a prefix an instruction goes on to the next and masks nothing.
+    ensures prefixes { GoesOnBehindPrefix }
 {}

@@ -1,4 +1,4 @@
-use Rattle.nc_decode.proofs.FrontLaws.{exact, prefix_free, stop_first, has_its_length, depends_on_its_bytes, masks_only_before_next, names_registers}
+use Rattle.nc_decode.proofs.FrontLaws.{exact, prefix_free, stop_first, has_its_length, depends_on_its_bytes, masks_only_before_next, names_registers, masks_exactly, goes_on_behind_prefix}
 use Rattle.nc_decode.proofs.law.law_of_fronts.Goals as goal
 
 pub returns-clause-exact : goal.returns-clause-exact
@@ -21,3 +21,9 @@ returns-clause-masks c = masks_only_before_next
 
 pub returns-clause-registers : goal.returns-clause-registers
 returns-clause-registers c = names_registers
+
+pub returns-clause-exact_masks : goal.returns-clause-exact_masks
+returns-clause-exact_masks c = masks_exactly
+
+pub returns-clause-prefixes : goal.returns-clause-prefixes
+returns-clause-prefixes c = goes_on_behind_prefix
