@@ -3,6 +3,7 @@ use Rattle.std.proofs.Common.{◌≡◌, ◌≢◌, ℕ, ◌<◌, Bool, true, fa
 use Rattle.std.specs.Prelude.{option_to_list, IfSome}
 use Rattle.std.specs.Result.{result_ok}
 use Rattle.std.proofs.lemmas.List.{length-append, take_at, take-append-drop}
+use Rattle.std.proofs.lemmas.Bool.Decides.{nat_tests}
 use Rattle.nc_decode.specs.declared.instruction.DecodeFault.{DecodeFault}
 use Rattle.nc_decode.specs.declared.instruction.Instr.{Instr}
 use Rattle.nc_decode.specs.declared.instruction.Flow.{Flow}
@@ -12,19 +13,16 @@ use Rattle.nc_decode.specs.Entries.{entry_of}
 use Rattle.nc_decode.specs.Shapes.{shape_of, prefixed_shape, prefix_of, opcode_shape, entry_shape, forms_of, coded_len}
 use Rattle.nc_decode.specs.Reading.{reading, whole_of}
 use Rattle.nc_decode.specs.Spelling.{Parts, spelled, AreParts, Allows, masks_of, register_of, Spells, IsAtFront}
-use Rattle.nc_decode.specs.Front.{leading_bytes, first_instruction, IsExact, IsPrefixFree, IsStopFirst, HasItsLength, DependsOnItsBytes, MasksOnlyBeforeNext, NamesRegisters, plain}
-use Rattle.std.proofs.lemmas.Bool.Decides.{nat_tests}
-use Rattle.nc_decode.proofs.Checks.{each}
-use Rattle.nc_decode.proofs.Computed.{true_or_false, each-Contains}
-use Rattle.nc_decode.proofs.Sound.{IsBytes}
-use Rattle.nc_decode.proofs.Behind.{bytes_from_all}
+use Rattle.nc_decode.specs.Front.{leading_bytes, first_instruction, IsExact, IsPrefixFree, IsStopFirst, HasItsLength, DependsOnItsBytes, MasksOnlyBeforeNext, NamesRegisters, plain, MasksExactly, GoesOnBehindPrefix}
+use Rattle.nc_decode.proofs.EntriesMatchRows.{each}
+use Rattle.nc_decode.proofs.BoolTests.{true_or_false, each-Contains}
+use Rattle.nc_decode.proofs.EntryReads.{IsBytes}
+use Rattle.nc_decode.proofs.SpelledIsRead.{bytes_from_all, opcode-lt}
 use Rattle.nc_decode.proofs.Readings.{found_from, found_by, spells_read, spells_some}
-use Rattle.nc_decode.proofs.Fronts.{leading_fit, leading_front, leading_all, leading_whole}
-use Rattle.nc_decode.specs.Front.{MasksExactly, GoesOnBehindPrefix}
+use Rattle.nc_decode.proofs.LeadingBytes.{leading_fit, leading_front, leading_all, leading_whole}
 use Rattle.nc_decode.proofs.Masks.{masks_only, mask_masks, mask_register, transfer_register, none_by}
 use Rattle.nc_decode.proofs.GoingOn.{masking_goes_on, masking_is_bare, prefixed_goes_on}
-use Rattle.nc_decode.proofs.Complete.{prefix_at}
-use Rattle.nc_decode.proofs.Behind.{opcode-lt}
+use Rattle.nc_decode.proofs.SpellingParts.{prefix_at}
 
 -- what the reading answers with an instruction, it answers with it alone
 answered : (x : Result Instr DecodeFault) (i : Instr) → result_ok x ≡ Some i → x ≡ Ok i
@@ -35,6 +33,7 @@ answered (Err f) i e = absurd cc
 spelled_fit : (front : List ℕ) (i : Instr) → Spells front i → IsBytes front
 spelled_fit front i s = subst IsBytes (sym s.whole) (bytes_from_all (spelled s.parts) s.fit.bytes)
 
+-- what the function finds is at the front
 found_at_front : (bytes : List ℕ) (i : Instr) → first_instruction bytes ≡ Some i → IsAtFront bytes i
 unfolding first_instruction
 found_at_front bytes i e =
@@ -47,12 +46,14 @@ found_at_front bytes i e =
       spells = f.spells;
     }
 
+-- what is at the front the function finds
 at_front_found : (bytes : List ℕ) (i : Instr) → IsAtFront bytes i → first_instruction bytes ≡ Some i
 unfolding first_instruction
 at_front_found bytes i f =
     let led : leading_bytes bytes ≡ f.front ++ leading_bytes f.rest = ap leading_bytes f.parts ∙ leading_all f.front f.rest (spelled_fit f.front i f.spells) in
     ap (λ (x : Result Instr DecodeFault). result_ok x) (found_by (leading_bytes bytes) i (record { front = f.front; rest = leading_bytes f.rest; parts = led; spells = f.spells }))
 
+-- the function finds exactly what is at the front
 pub exact : IsExact
 exact bytes i = (found_at_front bytes i, at_front_found bytes i)
 
@@ -61,6 +62,7 @@ pub first_read : (bytes : List ℕ) → IsBytes bytes → result_ok (reading byt
 unfolding first_instruction
 first_read bytes fits = ap (λ (xs : List ℕ). result_ok (reading xs)) (sym (leading_whole bytes fits))
 
+-- no instruction is a proper front of another
 pub prefix_free : IsPrefixFree
 prefix_free one more i j s t =
     let short = spells_read one more i s in
@@ -77,14 +79,17 @@ prefix_free one more i j s t =
     none [] e = refl
     none (x ∷ xs) e = absurd (omega arith)
 
+-- F4 is a byte
 stop_fits : IsBytes (0xF4 ∷ [])
 stop_fits zero = omega arith
 stop_fits (suc k) = omega arith
 
+-- F4 is read as Stop
 stop_read : reading (0xF4 ∷ []) ≡ Ok (plain 1 Stop)
 unfolding reading whole_of shape_of prefixed_shape prefix_of opcode_shape entry_shape entry_of forms_of coded_len
 stop_read = refl
 
+-- the function finds F4, whatever follows
 pub stop_first : IsStopFirst
 stop_first rest =
     let f = found_from (0xF4 ∷ []) (plain 1 Stop) stop_fits stop_read in
@@ -95,6 +100,7 @@ stop_first rest =
       spells = f.spells;
     })
 
+-- an instruction has a byte, and no more than there are
 pub has_its_length : HasItsLength
 has_its_length bytes i e =
     let f = found_at_front bytes i e in
@@ -102,6 +108,7 @@ has_its_length bytes i e =
     let l : length bytes ≡ length (f.front ++ f.rest) = ap (λ (xs : List ℕ). length xs) f.parts in
     (omega (arith, n.1), omega (arith, n.0, l, length-append f.front f.rest))
 
+-- nothing behind an instruction matters
 pub depends_on_its_bytes : DependsOnItsBytes
 depends_on_its_bytes bytes others i e same =
     let f = found_at_front bytes i e in
@@ -116,12 +123,14 @@ depends_on_its_bytes bytes others i e same =
 
 -- ---- masks and registers
 
+-- only an instruction that goes on masks a register
 pub masks_only_before_next : MasksOnlyBeforeNext
 masks_only_before_next bytes i e other =
     let f = found_at_front bytes i e in
     ap (λ (k : Instr). k.masks) f.spells.says
     ∙ none_by _ (masks_of (spelled f.spells.parts)) refl (λ masks. other (ap (λ (k : Instr). k.flow) f.spells.says ∙ masking_goes_on f.spells.parts f.spells.fit masks))
 
+-- registers are numbered from 0 to 7, and 4 is never masked
 pub names_registers : NamesRegisters
 names_registers bytes i e =
     let f = found_at_front bytes i e in

@@ -5,8 +5,8 @@ use Rattle.nc_decode.specs.declared.instruction.Flow.{Flow}
 use Rattle.nc_decode.specs.declared.instruction.Flow.TheVariants.{Next, Branch, Jump, Call, IndirectJump, IndirectCall, Stop}
 use Rattle.nc_decode.specs.Rows.{Row, PrefixRow, rows, prefix_rows, within, reg_of}
 use Rattle.nc_decode.specs.Spelling.{Parts, spelled, IsOperand, AreParts, Allows, masks_of}
-use Rattle.nc_decode.proofs.Checks.{each_below, each, same, not}
-use Rattle.nc_decode.proofs.Computed.{both, both_made, not_is, same_made, true_or_false, each_below-at, each-Contains, chosen_true, chosen_false}
+use Rattle.nc_decode.proofs.EntriesMatchRows.{each_below, each, same, not}
+use Rattle.nc_decode.proofs.BoolTests.{both, both_made, not_is, same_made, true_or_false, each_below-at, each-Contains, chosen_true, chosen_false}
 use Rattle.nc_decode.proofs.Masks.{masks_begin}
 
 -- the flow is Next
@@ -82,6 +82,7 @@ prefixed_goes_on p (Some b) fit lt allows some = line_goes_on p b allows.0 fit l
 abbrev row_goes_on : Row → Bool
 row_goes_on row = elim row.escaped [ true ↦ true | false ↦ elim (within 0x83 row.opcodes) [ true ↦ goes_on row.flow | false ↦ true ] ]
 
+-- so for each row
 rows_go_on : each row_goes_on rows ≡ true
 unfolding rows
 rows_go_on = refl
@@ -90,10 +91,12 @@ rows_go_on = refl
 abbrev is_other : PrefixRow → Bool
 is_other line = elim (line.prefix == 0x83) [ true ↦ false | false ↦ true ]
 
+-- so for each line
 lines_are_other : each is_other prefix_rows ≡ true
 unfolding prefix_rows
 lines_are_other = refl
 
+-- the byte of a line isn't 83
 other_byte : (line : PrefixRow) (b : ℕ) → Contains prefix_rows line → line.prefix ≡ b → b ≢ 0x83
 other_byte line b c same is =
     chosen (line.prefix == 0x83) (ap (λ (n : ℕ). n == 0x83) (same ∙ is)) (each-Contains is_other prefix_rows line lines_are_other c)
@@ -102,6 +105,7 @@ other_byte line b c same is =
     chosen true e h = absurd cc
     chosen false e h = absurd cc
 
+-- nor is the prefix of a spelling
 prefix_other : (p : Parts) (o : Option ℕ) → IfSome o (λ b. (line : PrefixRow) × Contains prefix_rows line × Allows line b p) → IfSome o (λ b. b ≢ 0x83)
 prefix_other p None h = tt
 prefix_other p (Some b) h = other_byte h.0 b h.1 h.2.same
@@ -112,12 +116,14 @@ pub record Begins83 (o : Option ℕ) (escaped : Bool) (opcode : ℕ) : Type 0 wh
   pub one : escaped ≡ false
   pub opcode_is : opcode ≡ 0x83
 
+-- so it is
 begins_83 : (o : Option ℕ) (escaped : Bool) (opcode : ℕ) (rest : List ℕ) → IfSome o (λ b. b ≢ 0x83)
     → get_or ((option_to_list o ++ cond escaped (0x0F ∷ opcode ∷ []) (opcode ∷ [])) ++ rest) 0 0 ≡ 0x83 → Begins83 o escaped opcode
 begins_83 (Some b) escaped opcode rest other e = absurd (other e)
 begins_83 None true opcode rest other e = absurd (omega (arith, e))
 begins_83 None false opcode rest other e = record { bare = refl; one = refl; opcode_is = e }
 
+-- a row that lists 83 goes on
 next_by : (row : Row) → row.escaped ≡ false → within 0x83 row.opcodes ≡ true → row_goes_on row ≡ true → row.flow ≡ Next
 next_by row one opcode h = is_next row.flow (by row.escaped (within 0x83 row.opcodes) (goes_on row.flow) one opcode h)
   where

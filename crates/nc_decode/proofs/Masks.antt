@@ -5,7 +5,7 @@ use Rattle.std.proofs.lemmas.Bool.Decides.{nat_tests}
 use Rattle.nc_decode.specs.declared.instruction.Flow.{Flow}
 use Rattle.nc_decode.specs.declared.instruction.Flow.TheVariants.{Next, Branch, Jump, Call, IndirectJump, IndirectCall, Stop}
 use Rattle.nc_decode.specs.Spelling.{mask, masks_of, register_of}
-use Rattle.nc_decode.proofs.Computed.{true_or_false}
+use Rattle.nc_decode.proofs.BoolTests.{true_or_false}
 
 -- what masks begins with 83
 pub masks_begin : (xs : List ℕ) → masks_of xs ≢ None → get_or xs 0 0 ≡ 0x83
@@ -53,6 +53,7 @@ transfer_register IndirectJump operand = omega arith
 transfer_register IndirectCall operand = omega arith
 transfer_register Stop operand = omega arith
 
+-- a register that is masked
 abbrev some_mask : ℕ → Option ℕ
 some_mask r = Some r
 

@@ -1,9 +1,9 @@
 -- The function that finds the instruction at the front, and the relation that it is.
 use Rattle.std.proofs.Common.{◌≡◌, ℕ, ◌<◌, Bool, true, false, List, [], ◌∷◌, ◌++◌, cond, refl, sym, ◌∙◌, ap, arith, inl, inr, nat_lt, append-nil, ltb-true, lt-ltb, zero, suc}
 use Rattle.nc_decode.specs.Front.{leading_bytes}
-use Rattle.nc_decode.proofs.Computed.{true_or_false}
-use Rattle.nc_decode.proofs.Sound.{IsBytes}
-use Rattle.nc_decode.proofs.Complete.{cond_is_true, cond_is_false}
+use Rattle.nc_decode.proofs.BoolTests.{true_or_false}
+use Rattle.nc_decode.proofs.EntryReads.{IsBytes}
+use Rattle.nc_decode.proofs.SpellingParts.{cond_is_true, cond_is_false}
 
 -- ---- the leading bytes
 
@@ -17,6 +17,7 @@ fit_by true b rest is fits zero = ltb-true _ _ is
 fit_by true b rest is fits (suc i) = fits i
 fit_by false b rest is fits i = omega arith
 
+-- they are bytes
 pub leading_fit : (xs : List ℕ) → IsBytes (leading_bytes xs)
 leading_fit [] i = omega arith
 leading_fit (b ∷ rest) i = fit_by (nat_lt b 256) b (leading_bytes rest) refl (leading_fit rest) i
@@ -26,6 +27,7 @@ pub record IsLed (xs : List ℕ) : Type 0 where
   pub more : List ℕ
   pub parts : xs ≡ leading_bytes xs ++ more
 
+-- they are a front
 pub leading_front : (xs : List ℕ) → IsLed xs
 leading_front [] = record { more = []; parts = refl }
 leading_front (b ∷ rest) =
@@ -41,5 +43,6 @@ pub leading_all : (front rest : List ℕ) → IsBytes front → leading_bytes (f
 leading_all [] rest fits = refl
 leading_all (b ∷ front) rest fits = leading_more b (front ++ rest) (fits 0) ∙ ap (λ (ys : List ℕ). b ∷ ys) (leading_all front rest (λ k. fits (suc k)))
 
+-- bytes lead themselves
 pub leading_whole : (bytes : List ℕ) → IsBytes bytes → leading_bytes bytes ≡ bytes
 leading_whole bytes fits = ap leading_bytes (sym (append-nil bytes)) ∙ (leading_all bytes [] fits ∙ append-nil bytes)
