@@ -1,21 +1,16 @@
 -- The laws of the function that finds the instruction at the front.
-use Rattle.std.proofs.Common.{◌≡◌, ◌≢◌, ℕ, ◌<◌, Bool, true, false, List, [], ◌∷◌, ◌++◌, length, take, drop, get_or, Option, Some, None, Result, Ok, Err, ◌==◌, cond, refl, sym, subst, ◌∙◌, ap, arith, inl, inr, eqb-true, Contains, append_assoc, append-nil, zero, suc}
-use Rattle.std.specs.Prelude.{option_to_list, IfSome}
+use Rattle.std.proofs.Common.{◌≡◌, ◌≢◌, ℕ, ◌<◌, List, [], ◌∷◌, ◌++◌, length, take, drop, Some, Result, Ok, Err, refl, sym, subst, ◌∙◌, ap, arith, append_assoc, append-nil, zero, suc}
+use Rattle.std.specs.Prelude.{IfSome}
 use Rattle.std.specs.Result.{result_ok}
 use Rattle.std.proofs.lemmas.List.{length-append, take_at, take-append-drop}
-use Rattle.std.proofs.lemmas.Bool.Decides.{nat_tests}
 use Rattle.nc_decode.specs.declared.instruction.DecodeFault.{DecodeFault}
 use Rattle.nc_decode.specs.declared.instruction.Instr.{Instr}
-use Rattle.nc_decode.specs.declared.instruction.Flow.{Flow}
-use Rattle.nc_decode.specs.declared.instruction.Flow.TheVariants.{Next, Branch, Jump, Call, IndirectJump, IndirectCall, Stop}
-use Rattle.nc_decode.specs.Rows.{Row, PrefixRow, rows, prefix_rows, within}
+use Rattle.nc_decode.specs.declared.instruction.Flow.TheVariants.{Stop}
 use Rattle.nc_decode.specs.Entries.{entry_of}
 use Rattle.nc_decode.specs.Shapes.{shape_of, prefixed_shape, prefix_of, opcode_shape, entry_shape, forms_of, coded_len}
 use Rattle.nc_decode.specs.Reading.{reading, whole_of}
-use Rattle.nc_decode.specs.Spelling.{Parts, spelled, AreParts, Allows, masks_of, register_of, Spells, IsAtFront}
+use Rattle.nc_decode.specs.Spelling.{spelled, masks_of, Spells, IsAtFront}
 use Rattle.nc_decode.specs.Front.{leading_bytes, first_instruction, IsExact, IsPrefixFree, IsStopFirst, HasItsLength, DependsOnItsBytes, MasksOnlyBeforeNext, NamesRegisters, plain, MasksExactly, GoesOnBehindPrefix}
-use Rattle.nc_decode.proofs.EntriesMatchRows.{each}
-use Rattle.nc_decode.proofs.BoolTests.{true_or_false, each-Contains}
 use Rattle.nc_decode.proofs.EntryReads.{IsBytes}
 use Rattle.nc_decode.proofs.SpelledIsRead.{bytes_from_all, opcode-lt}
 use Rattle.nc_decode.proofs.Readings.{found_from, found_by, spells_read, spells_some}

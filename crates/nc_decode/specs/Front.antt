@@ -49,7 +49,7 @@ MasksOnlyBeforeNext = (bytes : List ℕ) (i : Instr) → first_instruction bytes
 abbrev pub NamesRegisters : Type 0
 NamesRegisters = (bytes : List ℕ) (i : Instr) → first_instruction bytes ≡ Some i → (i.reg < 8) × IfSome i.masks (λ r. (r < 8) × (r ≢ 4))
 
--- an instruction masks a register exactly where its bytes are that register's mask, and no register but 4 is left out
+-- an instruction masks a register exactly where its bytes are that register's mask, for the registers 0 to 7 but 4
 abbrev pub MasksExactly : Type 0
 MasksExactly = (bytes : List ℕ) (i : Instr) (r : ℕ) → first_instruction bytes ≡ Some i → (i.masks ≡ Some r) ↔ ((take i.len bytes ≡ mask r) × (r < 8) × (r ≢ 4))
 
