@@ -1,0 +1,116 @@
+-- A chunk is valid or has one fault.
+use Rattle.std.proofs.Common.{◌≡◌, ◌≢◌, ◌↔◌, ℕ, ◌+◌, List, [], ◌∷◌, ◌++◌, length, refl, sym, subst, ◌∙◌, ap, arith, append-nil}
+use Rattle.std.proofs.lemmas.List.{length-append}
+use Rattle.nc_decode.specs.declared.instruction.Mark.{Mark}
+use Rattle.nc_decode.specs.Transfers.{target}
+use Rattle.nc_vet.specs.declared.fault.VetFault.{VetFault}
+use Rattle.nc_vet.specs.declared.fault.VetFault.TheVariants.{BadBase, BadLength, OutOfRange, NotPermitted, Crosses, Bare, BadTarget, OutOfMemory}
+use Rattle.nc_vet.specs.Chunk.{Piece, code_of, place, IsBase, IsLength, IsInRange, IsTarget, Chunk, IsValid}
+use Rattle.nc_vet.specs.Faults.{IsStuck, IsMistargeted, HasGoodSpan, HasSpanFault, HasFault}
+use Rattle.nc_vet.specs.Steps.{EndsReading, HasJudgedAll}
+use Rattle.nc_vet.proofs.OneReading.{same_pieces}
+
+-- ---- what the parts of the vetting find
+
+-- the fault of base, length and limit is the chunk's
+pub span_fault : (base limit : ℕ) (code : List ℕ) (fault : VetFault) → HasSpanFault base limit (length code) fault → HasFault base limit code fault
+span_fault base limit code BadBase f = f
+span_fault base limit code BadLength f = f
+span_fault base limit code OutOfRange f = f
+span_fault base limit code (NotPermitted at) f = absurd f
+span_fault base limit code (Crosses at) f = absurd f
+span_fault base limit code (Bare at) f = absurd f
+span_fault base limit code (BadTarget at) f = absurd f
+span_fault base limit code OutOfMemory f = absurd f
+
+-- so is the fault that ended the reading
+pub read_fault : (base limit : ℕ) (code : List ℕ) (fault : VetFault) → HasGoodSpan base limit (length code) → EndsReading base code fault → HasFault base limit code fault
+read_fault base limit code BadBase g e = absurd e.why
+read_fault base limit code BadLength g e = absurd e.why
+read_fault base limit code OutOfRange g e = absurd e.why
+read_fault base limit code (NotPermitted at) g e = (g, e)
+read_fault base limit code (Crosses at) g e = (g, e)
+read_fault base limit code (Bare at) g e = (g, e)
+read_fault base limit code (BadTarget at) g e = absurd e.why
+read_fault base limit code OutOfMemory g e = g
+
+-- a chunk that was read and judged is valid
+pub judged_valid : (base limit : ℕ) (code : List ℕ) (marks : List Mark) → HasGoodSpan base limit (length code) → HasJudgedAll base limit code marks → IsValid (record { base = base; limit = limit; code = code; marks = marks })
+judged_valid base limit code marks g h = record {
+  base_is = g.base_is;
+  length_is = g.length_is;
+  range = g.range;
+  pieces = h.read.pieces;
+  parts = h.read.parts;
+  sound = h.read.sound;
+  targets = h.targets;
+  marks_are = h.read.marks_are;
+}
+
+-- ---- a valid chunk has no fault
+
+-- the longest sound front of a valid chunk is all of it
+not_stuck : (c : Chunk) (fault : VetFault) → IsValid c → IsStuck c.base c.code fault → ⊥
+not_stuck c fault v s =
+    let long = s.longest v.pieces [] (record { parts = v.parts ∙ sym (append-nil (code_of v.pieces)); sound = v.sound }) in
+    s.some
+    (none s.rest
+    (omega (arith, long, ap (λ (z : List ℕ). length z) v.parts, ap (λ (z : List ℕ). length z) s.reads.parts, length-append (code_of s.front) s.rest)))
+  where
+    none : (xs : List ℕ) → length xs ≡ 0 → xs ≡ []
+    none [] e = refl
+    none (x ∷ xs) e = absurd (omega arith)
+
+-- a valid chunk's transfers have good targets
+not_mistargeted : (c : Chunk) (at : ℕ) → IsValid c → IsMistargeted c.base c.limit c.code at → ⊥
+not_mistargeted c at v m =
+    let same : v.pieces ≡ m.before ++ m.piece ∷ m.after = same_pieces v.pieces (m.before ++ m.piece ∷ m.after) v.sound.spelled m.sound.spelled (sym v.parts ∙ m.parts) in
+    m.bad
+    (subst (λ (z : List Piece). IsTarget c.base c.limit z (target m.piece.instr (c.base + place m.before))) same (v.targets m.before m.after m.piece same m.direct))
+
+-- a valid chunk is refused for want of memory alone
+pub none_valid : (base limit : ℕ) (code : List ℕ) (marks : List Mark) (fault : VetFault) → IsValid (record { base = base; limit = limit; code = code; marks = marks }) → HasFault base limit code fault → fault ≡ OutOfMemory
+none_valid base limit code marks BadBase v f = absurd (f v.base_is)
+none_valid base limit code marks BadLength v f = absurd (f.1 v.length_is)
+none_valid base limit code marks OutOfRange v f = absurd (f.2 v.range)
+none_valid base limit code marks (NotPermitted at) v f = absurd (not_stuck _ (NotPermitted at) v f.1)
+none_valid base limit code marks (Crosses at) v f = absurd (not_stuck _ (Crosses at) v f.1)
+none_valid base limit code marks (Bare at) v f = absurd (not_stuck _ (Bare at) v f.1)
+none_valid base limit code marks (BadTarget at) v f = absurd (not_mistargeted _ at v f.1)
+none_valid base limit code marks OutOfMemory v f = refl
+
+-- ---- the first three faults are given exactly when they are due
+
+pub record AreDue (base limit len : ℕ) (fault : VetFault) : Type 0 where
+  pub bad_base : (fault ≡ BadBase) ↔ ¬ IsBase base
+  pub bad_length : (fault ≡ BadLength) ↔ (IsBase base × ¬ IsLength len)
+  pub out_of_range : (fault ≡ OutOfRange) ↔ (IsBase base × IsLength len × ¬ IsInRange base limit len)
+
+none_due : (base limit len : ℕ) (fault : VetFault) → HasGoodSpan base limit len → fault ≢ BadBase → fault ≢ BadLength → fault ≢ OutOfRange → AreDue base limit len fault
+none_due base limit len fault g a b c = record {
+  bad_base = (λ e. absurd (a e), λ n. absurd (n g.base_is));
+  bad_length = (λ e. absurd (b e), λ n. absurd (n.1 g.length_is));
+  out_of_range = (λ e. absurd (c e), λ n. absurd (n.2 g.range));
+}
+
+pub due : (base limit : ℕ) (code : List ℕ) (fault : VetFault) → HasFault base limit code fault → AreDue base limit (length code) fault
+due base limit code BadBase f = record {
+  bad_base = (λ e. f, λ n. refl);
+  bad_length = (λ e. absurd cc, λ n. absurd (f n.0));
+  out_of_range = (λ e. absurd cc, λ n. absurd (f n.0));
+}
+due base limit code BadLength f = record {
+  bad_base = (λ e. absurd cc, λ n. absurd (n f.0));
+  bad_length = (λ e. f, λ n. refl);
+  out_of_range = (λ e. absurd cc, λ n. absurd (f.1 n.1));
+}
+due base limit code OutOfRange f = record {
+  bad_base = (λ e. absurd cc, λ n. absurd (n f.0));
+  bad_length = (λ e. absurd cc, λ n. absurd (n.1 f.1));
+  out_of_range = (λ e. f, λ n. refl);
+}
+due base limit code (NotPermitted at) f = none_due base limit (length code) (NotPermitted at) f.0 (λ e. cc) (λ e. cc) (λ e. cc)
+due base limit code (Crosses at) f = none_due base limit (length code) (Crosses at) f.0 (λ e. cc) (λ e. cc) (λ e. cc)
+due base limit code (Bare at) f = none_due base limit (length code) (Bare at) f.0 (λ e. cc) (λ e. cc) (λ e. cc)
+due base limit code (BadTarget at) f = none_due base limit (length code) (BadTarget at) f.0 (λ e. cc) (λ e. cc) (λ e. cc)
+due base limit code OutOfMemory f = none_due base limit (length code) OutOfMemory f (λ e. cc) (λ e. cc) (λ e. cc)

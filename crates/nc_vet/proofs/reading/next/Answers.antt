@@ -1,0 +1,7 @@
+use Rattle.std.proofs.Common.{refl}
+use Rattle.nc_vet.proofs.reading.next.Goals as goal
+
+pub returns-in-Err-NotPermitted-clause-refused : goal.returns-in-Err-NotPermitted-clause-refused
+returns-in-Err-NotPermitted-clause-refused c =
+    let none = c.decode.ensures.refused.0 cc in
+    (refl, none.0, none.1)

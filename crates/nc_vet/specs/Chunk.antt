@@ -1,0 +1,105 @@
+-- What a valid chunk is: a list of whole instructions, one behind the other, that keeps four rules.
+-- Places are counted from the chunk's base. A valid chunk's base is a bundle start, so a place lies in its bundle
+-- as its address does.
+use Rattle.std.specs.Prelude.{◌≡◌, ℕ, ◌+◌, ◌-◌, ◌/◌, ◌%◌, ◌<◌, ◌≤◌, ◌⊎◌, false, List, [], ◌∷◌, ◌++◌, length, replicate, Some, IsTrue, if◌then◌else◌}
+use Rattle.std.specs.List.{flat_map}
+use Rattle.nc_decode.specs.declared.instruction.Instr.{Instr}
+use Rattle.nc_decode.specs.declared.instruction.Mark.{Mark}
+use Rattle.nc_decode.specs.declared.instruction.Mark.TheVariants.{Unmarked, Plain, After}
+use Rattle.nc_decode.specs.Bundles.{IsBundleStart, IsInOneBundle, IsLawfulLimit}
+use Rattle.nc_decode.specs.Spelling.{Spells}
+use Rattle.nc_decode.specs.Transfers.{is_direct, is_indirect, target}
+
+-- one instruction: its bytes, and what it says about control
+pub record Piece : Type 0 where
+  pub bytes : List ℕ
+  pub instr : Instr
+
+-- the bytes of some instructions, one behind the other
+abbrev pub code_of : List Piece → List ℕ
+code_of pieces = flat_map (λ p. p.bytes) pieces
+
+-- the place behind some instructions
+abbrev pub place : List Piece → ℕ
+place before = length (code_of before)
+
+-- the instruction directly before is the mask of the register, in the same bundle
+pub record FollowsMask (before : List Piece) (reg : ℕ) : Type 0 where
+  pub earlier : List Piece
+  pub mask : Piece
+  pub last : before ≡ earlier ++ mask ∷ []
+  pub masks : mask.instr.masks ≡ Some reg
+  pub together : place earlier / 32 ≡ place before / 32
+
+-- each is a whole instruction
+abbrev pub AreSpelled : List Piece → Type 0
+AreSpelled pieces = (before after : List Piece) (p : Piece) → pieces ≡ before ++ p ∷ after → Spells p.bytes p.instr
+
+-- instructions of which none crosses the end of a bundle, and each indirect transfer directly follows the mask of its
+-- register in the same bundle
+pub record AreSound (pieces : List Piece) : Type 0 where
+  pub spelled : AreSpelled pieces
+  pub inside : (before after : List Piece) (p : Piece) → pieces ≡ before ++ p ∷ after → IsInOneBundle (place before) (length p.bytes)
+  pub paired : (before after : List Piece) (p : Piece) → pieces ≡ before ++ p ∷ after → IsTrue (is_indirect p.instr.flow) → FollowsMask before p.instr.reg
+
+-- An instruction that is no second half of a pair begins at the place. In sound code the second halves are the
+-- indirect transfers.
+pub record IsEntry (pieces : List Piece) (at : ℕ) : Type 0 where
+  pub before : List Piece
+  pub after : List Piece
+  pub piece : Piece
+  pub parts : pieces ≡ before ++ piece ∷ after
+  pub here : place before ≡ at
+  pub first : is_indirect piece.instr.flow ≡ false
+
+-- The address lies in the chunk, where such an instruction begins, or it lies outside and is a bundle start below
+-- the limit.
+abbrev pub IsTarget : ℕ → ℕ → List Piece → ℕ → Type 0
+IsTarget base limit pieces to =
+    ((at : ℕ) × (to ≡ base + at) × (at < place pieces) × IsEntry pieces at)
+    ⊎ (((to < base) ⊎ (base + place pieces ≤ to)) × IsBundleStart to × (to < limit))
+
+-- each direct transfer goes to such an address
+abbrev pub AreTargets : ℕ → ℕ → List Piece → Type 0
+AreTargets base limit pieces =
+    (before after : List Piece) (p : Piece) → pieces ≡ before ++ p ∷ after → IsTrue (is_direct p.instr.flow) → IsTarget base limit pieces (target p.instr (base + place before))
+
+-- the mark where an instruction begins
+abbrev pub mark_of : Instr → Mark
+mark_of i = if is_indirect i.flow then After i.reg else Plain
+
+-- the marks of an instruction's places
+abbrev pub instr_marks : Instr → List Mark
+instr_marks i = mark_of i ∷ replicate (i.len - 1) Unmarked
+
+-- the marks of some instructions, one behind the other
+abbrev pub marks_of : List Piece → List Mark
+marks_of pieces = flat_map (λ p. instr_marks p.instr) pieces
+
+abbrev pub IsBase : ℕ → Type 0
+IsBase base = IsBundleStart base × (0x10000 ≤ base)
+
+abbrev pub IsLength : ℕ → Type 0
+IsLength len = (0 < len) × (len % 32 ≡ 0)
+
+-- the limit is lawful, and so many bytes from the base on end at the guard's first byte or before
+abbrev pub IsInRange : ℕ → ℕ → ℕ → Type 0
+IsInRange base limit len = IsLawfulLimit limit × (base + len + 32 ≤ limit)
+
+-- what callers see of a vetted chunk
+pub record Chunk : Type 0 where
+  pub base : ℕ
+  pub limit : ℕ
+  pub code : List ℕ
+  pub marks : List Mark
+
+-- The code is a list of whole instructions that keep the rules, and the marks are theirs.
+pub record IsValid (c : Chunk) : Type 0 where
+  pub base_is : IsBase c.base
+  pub length_is : IsLength (length c.code)
+  pub range : IsInRange c.base c.limit (length c.code)
+  pub pieces : List Piece
+  pub parts : c.code ≡ code_of pieces
+  pub sound : AreSound pieces
+  pub targets : AreTargets c.base c.limit pieces
+  pub marks_are : c.marks ≡ marks_of pieces

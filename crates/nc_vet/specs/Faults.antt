@@ -1,0 +1,74 @@
+-- Which fault a chunk has.
+use Rattle.std.specs.Prelude.{◌≡◌, ◌≢◌, ℕ, ◌+◌, ◌-◌, ◌%◌, ◌≤◌, List, [], ◌∷◌, ◌++◌, length, take, IsTrue}
+use Rattle.nc_decode.specs.declared.instruction.Instr.{Instr}
+use Rattle.nc_decode.specs.Spelling.{IsAtFront, IsProperFront}
+use Rattle.nc_decode.specs.Transfers.{is_direct, target}
+use Rattle.nc_vet.specs.declared.fault.VetFault.{VetFault}
+use Rattle.nc_vet.specs.declared.fault.VetFault.TheVariants.{BadBase, BadLength, OutOfRange, NotPermitted, Crosses, Bare, BadTarget, OutOfMemory}
+use Rattle.nc_vet.specs.Chunk.{Piece, code_of, place, AreSound, IsTarget, IsBase, IsLength, IsInRange}
+
+-- the code begins with these sound instructions, and this is the rest of it
+pub record IsSoundFront (code rest : List ℕ) (front : List Piece) : Type 0 where
+  pub parts : code ≡ code_of front ++ rest
+  pub sound : AreSound front
+
+-- no other sound instructions at the beginning of the code are longer
+abbrev pub IsLongest : List ℕ → List Piece → Type 0
+IsLongest code front = (other : List Piece) (rest : List ℕ) → IsSoundFront code rest other → place other ≤ place front
+
+-- the bytes up to the end of the bundle, where the rest of the code begins at this place
+abbrev pub bundle_rest : ℕ → List ℕ → List ℕ
+bundle_rest at rest = take (32 - at % 32) rest
+
+-- What stands behind a sound front: an instruction inside the bundle, the beginning of one alone, or neither.
+-- The fault has the address of that place.
+abbrev pub StandsBehind : ℕ → List Piece → List ℕ → VetFault → Type 0
+StandsBehind base front rest (Bare at) = (at ≡ base + place front) × ((i : Instr) × IsAtFront (bundle_rest (place front) rest) i)
+StandsBehind base front rest (Crosses at) = (at ≡ base + place front) × IsProperFront (bundle_rest (place front) rest)
+StandsBehind base front rest (NotPermitted at) =
+    (at ≡ base + place front) × ((i : Instr) → ¬ IsAtFront (bundle_rest (place front) rest) i) × ¬ IsProperFront (bundle_rest (place front) rest)
+StandsBehind base front rest _ = ⊥
+
+-- the longest sound front isn't all of the code, and this fault stands behind it
+pub record IsStuck (base : ℕ) (code : List ℕ) (fault : VetFault) : Type 0 where
+  pub front : List Piece
+  pub rest : List ℕ
+  pub reads : IsSoundFront code rest front
+  pub longest : IsLongest code front
+  pub some : rest ≢ []
+  pub why : StandsBehind base front rest fault
+
+-- All of the code is sound, a direct transfer with a bad target stands at the address, and each direct transfer before
+-- it has a good one.
+pub record IsMistargeted (base limit : ℕ) (code : List ℕ) (at : ℕ) : Type 0 where
+  pub before : List Piece
+  pub piece : Piece
+  pub after : List Piece
+  pub parts : code ≡ code_of (before ++ piece ∷ after)
+  pub sound : AreSound (before ++ piece ∷ after)
+  pub here : at ≡ base + place before
+  pub direct : IsTrue (is_direct piece.instr.flow)
+  pub bad : ¬ IsTarget base limit (before ++ piece ∷ after) (target piece.instr (base + place before))
+  pub least : (b a : List Piece) (p : Piece) → before ≡ b ++ p ∷ a → IsTrue (is_direct p.instr.flow) → IsTarget base limit (before ++ piece ∷ after) (target p.instr (base + place b))
+
+-- base, length and limit alone show no fault
+pub record HasGoodSpan (base limit len : ℕ) : Type 0 where
+  pub base_is : IsBase base
+  pub length_is : IsLength len
+  pub range : IsInRange base limit len
+
+-- the first of the faults that base, length and limit alone show
+abbrev pub HasSpanFault : ℕ → ℕ → ℕ → VetFault → Type 0
+HasSpanFault base limit len BadBase = ¬ IsBase base
+HasSpanFault base limit len BadLength = IsBase base × ¬ IsLength len
+HasSpanFault base limit len OutOfRange = IsBase base × IsLength len × ¬ IsInRange base limit len
+HasSpanFault base limit len _ = ⊥
+
+-- A chunk has this fault. Want of memory says nothing of the code.
+abbrev pub HasFault : ℕ → ℕ → List ℕ → VetFault → Type 0
+HasFault base limit code (NotPermitted at) = HasGoodSpan base limit (length code) × IsStuck base code (NotPermitted at)
+HasFault base limit code (Crosses at) = HasGoodSpan base limit (length code) × IsStuck base code (Crosses at)
+HasFault base limit code (Bare at) = HasGoodSpan base limit (length code) × IsStuck base code (Bare at)
+HasFault base limit code (BadTarget at) = HasGoodSpan base limit (length code) × IsMistargeted base limit code at
+HasFault base limit code OutOfMemory = HasGoodSpan base limit (length code)
+HasFault base limit code fault = HasSpanFault base limit (length code) fault

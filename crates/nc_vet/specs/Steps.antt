@@ -1,0 +1,64 @@
+-- One step of the reading and one of the judging of targets: machinery of the proofs, cited by no public contract.
+use Rattle.std.specs.Prelude.{◌≡◌, ◌≢◌, ℕ, ◌+◌, ◌-◌, ◌%◌, ◌<◌, ◌≤◌, ◌↔◌, true, List, ◌∷◌, ◌++◌, length, replicate, Option, Some, None, IsTrue, ⊤, ◌==◌, if◌then◌else◌}
+use Rattle.nc_decode.specs.declared.instruction.Instr.{Instr}
+use Rattle.nc_decode.specs.declared.instruction.Mark.{Mark}
+use Rattle.nc_decode.specs.declared.instruction.Mark.TheVariants.{Unmarked}
+use Rattle.nc_decode.specs.Spelling.{IsAtFront, IsProperFront}
+use Rattle.nc_decode.specs.Transfers.{is_direct, is_indirect, target}
+use Rattle.nc_vet.specs.declared.fault.VetFault.{VetFault}
+use Rattle.nc_vet.specs.declared.fault.VetFault.TheVariants.{NotPermitted, Crosses, Bare, OutOfMemory}
+use Rattle.nc_vet.specs.Chunk.{Piece, code_of, place, AreSound, FollowsMask, AreTargets, marks_of, IsTarget}
+use Rattle.nc_vet.specs.Faults.{IsSoundFront, IsStuck}
+
+-- an instruction that may stand where this register, if any, was just masked
+pub record MayFollow (window : List ℕ) (masked : Option ℕ) (i : Instr) : Type 0 where
+  pub front : IsAtFront window i
+  pub some : 0 < i.len
+  pub inside : i.len ≤ length window
+  pub paired : is_indirect i.flow ≡ true → masked ≡ Some i.reg
+
+-- why none may
+abbrev pub NoneMayFollow : List ℕ → Option ℕ → ℕ → VetFault → Type 0
+NoneMayFollow window masked address (Bare at) = (at ≡ address) × ((i : Instr) × IsAtFront window i × (is_indirect i.flow ≡ true) × (masked ≢ Some i.reg))
+NoneMayFollow window masked address (Crosses at) = (at ≡ address) × IsProperFront window
+NoneMayFollow window masked address (NotPermitted at) = (at ≡ address) × ((i : Instr) → ¬ IsAtFront window i) × ¬ IsProperFront window
+NoneMayFollow window masked address _ = ⊥
+
+-- the register that an instruction has masked for the place behind it
+abbrev pub masked_behind : Instr → ℕ → Option ℕ
+masked_behind i place = if place % 32 == 0 then None else i.masks
+
+-- what has been read so far: the front of the code up to a place
+pub record HasRead (code : List ℕ) (at : ℕ) (masked : Option ℕ) (marks : List Mark) : Type 0 where
+  pub front : List Piece
+  pub rest : List ℕ
+  pub reads : IsSoundFront code rest front
+  pub here : place front ≡ at
+  pub behind : (r : ℕ) → (masked ≡ Some r) ↔ FollowsMask front r
+  pub marks_are : marks ≡ marks_of front ++ replicate (length code - at) Unmarked
+
+-- all of the code is sound instructions, with their marks
+pub record HasReadAll (code : List ℕ) (marks : List Mark) : Type 0 where
+  pub pieces : List Piece
+  pub parts : code ≡ code_of pieces
+  pub sound : AreSound pieces
+  pub marks_are : marks ≡ marks_of pieces
+
+-- why the reading ended
+abbrev pub EndsReading : ℕ → List ℕ → VetFault → Type 0
+EndsReading base code OutOfMemory = ⊤
+EndsReading base code fault = IsStuck base code fault
+
+-- each direct transfer before a place has a good target
+pub record HasJudged (base limit : ℕ) (code : List ℕ) (marks : List Mark) (at : ℕ) : Type 0 where
+  pub read : HasReadAll code marks
+  pub before : List Piece
+  pub after : List Piece
+  pub parts : read.pieces ≡ before ++ after
+  pub here : place before ≡ at
+  pub good : (b a : List Piece) (p : Piece) → before ≡ b ++ p ∷ a → IsTrue (is_direct p.instr.flow) → IsTarget base limit read.pieces (target p.instr (base + place b))
+
+-- each direct transfer has a good target
+pub record HasJudgedAll (base limit : ℕ) (code : List ℕ) (marks : List Mark) : Type 0 where
+  pub read : HasReadAll code marks
+  pub targets : AreTargets base limit read.pieces

@@ -1,0 +1,84 @@
+//! The reading of a chunk: one instruction after the other, from the base.
+
+ghost use Rattle.std.specs.Prelude.{◌≡◌, ◌<◌, ◌+◌, ◌%◌, ◌^◌, length, replicate, IfOk, IfErr};
+ghost use Rattle.nc_decode.specs.Transfers.{is_indirect};
+ghost use Rattle.nc_vet.specs.Chunk.{mark_of};
+ghost use Rattle.nc_vet.specs.Steps.{MayFollow, NoneMayFollow, masked_behind, HasReadAll, EndsReading};
+
+use crate::fault::VetFault;
+use nc_decode::{DecodeFault, Flow, Instr, Mark, decode};
+use std::alloc::{AllocError, Global};
+
+fn is_indirect(flow: Flow) -> bool
+    ensures { result ≡ is_indirect flow }
+{
+    matches!(flow, Flow::IndirectJump | Flow::IndirectCall)
+}
+
+/// The mark where an instruction begins.
+fn mark_of(instr: Instr) -> Mark
+    ensures { result ≡ mark_of instr }
+{
+    if is_indirect(instr.flow) {
+        Mark::After(instr.reg)
+    } else {
+        Mark::Plain
+    }
+}
+
+/// The register that an instruction has masked for the place behind it.
+fn masked_behind(instr: Instr, place: usize) -> Option<u8>
+    ensures { result ≡ masked_behind instr place }
+{
+    if place % 32 == 0 { None } else { instr.masks }
+}
+
+/// The instruction at the front of the rest of a bundle, which begins at this address. The register, if any, was
+/// masked directly before.
+fn next(window: &[u8], masked: Option<u8>, at: u32) -> Result<Instr, VetFault>
+    ensures found { IfOk result (MayFollow window.now masked) }
+    ensures refused { IfErr result (NoneMayFollow window.now masked at) }
+{
+    match decode(window) {
+        Ok(instr) => {
+            if is_indirect(instr.flow) && masked != Some(instr.reg) {
+                Err(VetFault::Bare { at })
+            } else {
+                Ok(instr)
+            }
+        }
+        Err(DecodeFault::Truncated) => Err(VetFault::Crosses { at }),
+        Err(DecodeFault::NotPermitted) => Err(VetFault::NotPermitted { at }),
+    }
+}
+
+/// Marks for so many places, all unmarked.
+fn unmarked(alloc: Global, n: usize) -> Result<Vec<Mark>, AllocError>
+    ensures { IfOk result (λ marks. marks.items ≡ replicate n Mark.Unmarked) }
+{
+    let mut marks = Vec::new(alloc);
+    marks.resize(n, Mark::Unmarked)?;
+    Ok(marks)
+}
+
+/// Reads all of the code, and gives its marks.
+pub(crate) fn read(alloc: Global, base: u32, code: &[u8]) -> Result<Vec<Mark>, VetFault>
+    requires bundles { length code.now % 32 ≡ 0 }
+    requires fits { base + length code.now < 2 ^ 32 }
+    ensures read { IfOk result (λ marks. HasReadAll code.now marks.items) }
+    ensures stuck { IfErr result (EndsReading base code.now) }
+{
+    let Ok(mut marks) = unmarked(alloc, code.len()) else {
+        return Err(VetFault::OutOfMemory);
+    };
+    let mut at = 0usize;
+    let mut masked = None;
+    while at < code.len() {
+        let end = at + (32 - at % 32);
+        let instr = next(&code[at..end], masked, base + at as u32)?;
+        marks[at] = mark_of(instr);
+        at += usize::from(instr.len);
+        masked = masked_behind(instr, at);
+    }
+    Ok(marks)
+}

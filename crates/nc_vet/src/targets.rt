@@ -1,0 +1,72 @@
+//! The targets of the direct transfers of a chunk that has been read.
+
+ghost use Rattle.std.specs.Prelude.{◌≡◌, ◌<◌, ◌+◌, ◌%◌, ◌^◌, List, IsTrue, IsFalse, ◌↔◌, IfNone, IfSome, length};
+ghost use Rattle.nc_decode.specs.Transfers.{is_direct, target};
+ghost use Rattle.nc_vet.specs.Chunk.{IsTarget, Piece, marks_of, AreSpelled};
+ghost use Rattle.nc_vet.specs.Faults.{IsMistargeted};
+ghost use Rattle.nc_vet.specs.Steps.{HasReadAll, HasJudgedAll};
+
+use nc_decode::{Flow, Instr, Mark, decode};
+
+fn is_direct(flow: Flow) -> bool
+    ensures { result ≡ is_direct flow }
+{
+    matches!(flow, Flow::Branch | Flow::Jump | Flow::Call)
+}
+
+/// The target of a direct transfer at this address.
+fn target(instr: Instr, at: u32) -> u32
+    requires { at + instr.len < 2 ^ 32 }
+    ensures { result ≡ target instr at }
+{
+    (at + u32::from(instr.len)).wrapping_add_signed(instr.rel)
+}
+
+/// A direct transfer may go to this address.
+fn is_good(base: u32, limit: u32, marks: &[Mark], to: u32) -> bool
+    ensures exact { (pieces : List Piece) → marks.now ≡ marks_of pieces → AreSpelled pieces
+        → IsTrue result ↔ IsTarget base limit pieces to }
+{
+    if base <= to && ((to - base) as usize) < marks.len() {
+        matches!(marks[(to - base) as usize], Mark::Plain)
+    } else {
+        to % 32 == 0 && to < limit
+    }
+}
+
+/// The instruction at this address is a direct transfer that goes where it may not.
+fn is_misdirected(base: u32, limit: u32, marks: &[Mark], instr: Instr, at: u32) -> bool
+    requires { at + instr.len < 2 ^ 32 }
+    ensures bad { (pieces : List Piece) → marks.now ≡ marks_of pieces → AreSpelled pieces
+        → IsTrue result → IsTrue (is_direct instr.flow) × ¬ IsTarget base limit pieces (target instr at) }
+    ensures good { (pieces : List Piece) → marks.now ≡ marks_of pieces → AreSpelled pieces
+        → IsFalse result → IsTrue (is_direct instr.flow) → IsTarget base limit pieces (target instr at) }
+{
+    if !is_direct(instr.flow) {
+        return false;
+    }
+    !is_good(base, limit, marks, target(instr, at))
+}
+
+/// The address of the first direct transfer that goes where it may not.
+pub(crate) fn bad_target(base: u32, limit: u32, code: &[u8], marks: &[Mark]) -> Option<u32>
+    requires read { HasReadAll code.now marks.now }
+    requires bundles { length code.now % 32 ≡ 0 }
+    requires fits { base + length code.now < 2 ^ 32 }
+    ensures good { IfNone result (HasJudgedAll base limit code.now marks.now) }
+    ensures bad { IfSome result (IsMistargeted base limit code.now) }
+{
+    let mut at = 0usize;
+    while at < code.len() {
+        let end = at + (32 - at % 32);
+        let Ok(instr) = decode(&code[at..end]) else {
+            unreachable!()
+        };
+        let address = base + at as u32;
+        if is_misdirected(base, limit, marks, instr, address) {
+            return Some(address);
+        }
+        at += usize::from(instr.len);
+    }
+    None
+}
