@@ -1,0 +1,12 @@
+pub mod EachMember
+pub mod SpanPlaces
+pub mod Told
+pub mod Puts
+pub mod Joining
+pub mod Creating
+pub mod Instructions
+pub mod Offsets
+pub mod Sound
+pub mod Pieces
+pub mod Rising
+pub mod Inserting

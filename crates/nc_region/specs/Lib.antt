@@ -1,0 +1,5 @@
+pub mod Each
+pub mod Acts
+pub mod Chunks
+pub mod Region
+pub mod Trace

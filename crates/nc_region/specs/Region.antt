@@ -1,0 +1,93 @@
+-- A region: a text and the chunks in it.
+use Rattle.std.specs.Prelude.{◌≡◌, ◌≢◌, ℕ, ◌+◌, ◌-◌, ◌<◌, ◌≤◌, ◌⊎◌, ⊤, List, [], ◌∷◌, Option, length, take, drop, slice_index, slice_index_or}
+use Rattle.std.specs.List.{insert}
+use Rattle.nc_decode.specs.declared.instruction.Mark.TheVariants.{Unmarked}
+use Rattle.nc_vet.specs.Chunk.{IsValid}
+use Rattle.nc_vet.specs.Chunk as vet
+use Rattle.nc_text.specs.Places.{InRegion, limit_of, byte_at}
+use Rattle.nc_text.specs.Marks.{mark_at}
+use Rattle.nc_text.specs.Code.{Code, IsText, bare_mark, new_code}
+use Rattle.nc_region.specs.declared.acts.Act.{Act}
+use Rattle.nc_region.specs.declared.chunk.Chunk.{Chunk}
+use Rattle.nc_region.specs.declared.chunk.ChunkState.{ChunkState}
+use Rattle.nc_region.specs.declared.chunk.ChunkState.TheVariants.{Live, Retired}
+use Rattle.nc_region.specs.declared.fault.CreateFault.{CreateFault}
+use Rattle.nc_region.specs.declared.fault.CreateFault.TheVariants.{WrongLimit, Occupied, OutOfMemory}
+use Rattle.nc_region.specs.Chunks.{IsPlaced, with_chunk}
+use Rattle.nc_region.specs.Each.{Each}
+
+-- what contracts see of a region: bytes and marks, the chunks by rising base, and the acts told so far
+pub record Region : Type 0 where
+  pub code : Code
+  pub chunks : List Chunk
+  pub told : Option (List Act)
+
+abbrev pub IsLive : ChunkState → Type 0
+IsLive Live = ⊤
+IsLive (Retired stamp) = ⊥
+
+abbrev pub IsInChunk : Chunk → ℕ → Type 0
+IsInChunk c at = (c.base ≤ at) × (at < c.base + c.length)
+
+-- by rising base, without overlap
+abbrev pub IsRising : ℕ → List Chunk → Type 0
+IsRising from [] = ⊤
+IsRising from (c ∷ rest) = (from ≤ c.base) × IsRising (c.base + c.length) rest
+
+-- in the chunk's span stand the bytes and the marks of a valid chunk of this base, for the text's limit
+pub record HoldsValid (code : Code) (c : Chunk) : Type 0 where
+  pub vetted : vet.Chunk
+  pub valid : IsValid vetted
+  pub base_is : vetted.base ≡ c.base
+  pub limit_is : vetted.limit ≡ limit_of code.bytes
+  pub long : length vetted.code ≡ c.length
+  pub bytes_are : (at : ℕ) → IsInChunk c at → byte_at code.bytes at ≡ slice_index vetted.code (at - c.base)
+  pub marks_are : (at : ℕ) → IsInChunk c at → mark_at code.marks at ≡ slice_index_or vetted.marks (at - c.base) Unmarked
+
+-- What every region keeps. Outside live chunks all bytes are F4; outside all chunks bundle starts alone are marked.
+pub record IsRegion (code : Code) (chunks : List Chunk) : Type 0 where
+  pub whole : IsText code
+  pub rising : IsRising 0x10000 chunks
+  pub placed : Each (λ (c : Chunk). IsPlaced c.base (limit_of code.bytes) c.length) chunks
+  pub live : Each (λ (c : Chunk). IsLive c.state → HoldsValid code c) chunks
+  pub stops : (at : ℕ) → InRegion code.bytes at → Each (λ (c : Chunk). IsLive c.state → IsInChunk c at → ⊥) chunks → byte_at code.bytes at ≡ 0xF4
+  pub bare : (at : ℕ) → InRegion code.bytes at → Each (λ (c : Chunk). IsInChunk c at → ⊥) chunks → mark_at code.marks at ≡ bare_mark at
+
+-- a text in which nothing was changed yet
+abbrev pub IsNew : Code → Type 0
+IsNew code = (bundles : ℕ) × (2 ≤ bundles) × (bundles ≤ 524288) × (code ≡ new_code bundles)
+
+-- all of a chunk list above a place, and all of it below one
+abbrev pub IsAboveAll : ℕ → List Chunk → Type 0
+IsAboveAll base chunks = Each (λ (d : Chunk). d.base + d.length ≤ base) chunks
+
+abbrev pub IsBelowAll : ℕ → List Chunk → Type 0
+IsBelowAll end chunks = Each (λ (d : Chunk). end ≤ d.base) chunks
+
+-- the index in the list where a chunk of this span keeps it rising
+abbrev pub FitsAt : ℕ → ℕ → List Chunk → ℕ → Type 0
+FitsAt base len chunks k = (k ≤ length chunks) × IsAboveAll base (take k chunks) × IsBelowAll (base + len) (drop k chunks)
+
+-- some chunk of the list has a place of the span
+abbrev pub Meets : ℕ → ℕ → List Chunk → Type 0
+Meets base len [] = ⊥
+Meets base len (d ∷ rest) = ((base < d.base + d.length) × (d.base < base + len)) ⊎ Meets base len rest
+
+-- the new list is the old one with the chunk inserted where it fits
+abbrev pub IsInserted : List Chunk → List Chunk → Chunk → Type 0
+IsInserted old new c = (k : ℕ) × FitsAt c.base c.length old k × (new ≡ insert old k c)
+
+abbrev pub live_chunk : vet.Chunk → Chunk
+live_chunk v = record { base = v.base; length = length v.code; state = Live }
+
+-- The region after the chunk was created: the span holds its code and its marks, and it is in the list. Nothing else
+-- of text, marks and list is changed.
+pub record IsCreated (old new : Region) (v : vet.Chunk) : Type 0 where
+  pub code : new.code ≡ with_chunk old.code v.base v.code v.marks
+  pub chunks : IsInserted old.chunks new.chunks (live_chunk v)
+
+-- when each refusal of `create` comes; only the last one depends on the memory that is there
+abbrev pub MayRefuse : Region → vet.Chunk → CreateFault → Type 0
+MayRefuse r v WrongLimit = v.limit ≢ limit_of r.code.bytes
+MayRefuse r v Occupied = (v.limit ≡ limit_of r.code.bytes) × Meets v.base (length v.code) r.chunks
+MayRefuse r v OutOfMemory = (v.limit ≡ limit_of r.code.bytes) × ¬ Meets v.base (length v.code) r.chunks

@@ -1,0 +1,68 @@
+-- Walks through a text: which states a list of choices leads over, and how it ends.
+use Rattle.std.specs.Prelude.{◌≡◌, ℕ, ◌-◌, ◌%◌, ◌<◌, ◌≤◌, ◌==◌, ⊤, List, [], ◌∷◌, map, Some, None, IsTrue, IsSomeAnd, if◌then◌else◌}
+use Rattle.nc_decode.specs.declared.instruction.Instr.{Instr}
+use Rattle.nc_decode.specs.declared.instruction.Flow.{Flow}
+use Rattle.nc_decode.specs.declared.instruction.Flow.TheVariants.{Branch, IndirectJump, IndirectCall}
+use Rattle.nc_decode.specs.declared.instruction.Flow.TheVariants as flow
+use Rattle.nc_decode.specs.Transfers.{is_indirect, behind, target}
+use Rattle.nc_text.specs.Places.{InRegion, limit_of, instruction_at}
+use Rattle.nc_text.specs.Machine.{State, state, Step, AllSafe}
+use Rattle.nc_region.specs.declared.trace.End.{End}
+use Rattle.nc_region.specs.declared.trace.End.TheVariants.{Stop, Trampoline, Beyond, More}
+
+-- the bundle start that a choice names: the choice with its low five bits cleared
+abbrev pub bundle_of : ℕ → ℕ
+bundle_of choice = choice - choice % 32
+
+-- Of the steps of an instruction, the one that a choice picks: at a branch 0 falls through and every other choice goes
+-- to the target; an indirect transfer goes to the bundle start that the choice names. Elsewhere there is one step.
+abbrev pub Picks : Flow → Instr → State → ℕ → State → Type 0
+Picks Branch i now choice next = next ≡ state (if choice == 0 then behind i now.place else target i now.place) None
+Picks IndirectJump i now choice next = next ≡ state (bundle_of choice) None
+Picks IndirectCall i now choice next = next ≡ state (bundle_of choice) None
+Picks _ i now choice next = ⊤
+
+-- one step of the machine, picked by a choice
+pub record Moves (text : List ℕ) (now : State) (choice : ℕ) (next : State) : Type 0 where
+  pub instr : Instr
+  pub is : instruction_at text now.place ≡ Some instr
+  pub step : Step text now next
+  pub picked : Picks instr.flow instr now choice next
+
+-- a stop stands there
+abbrev pub StopsAt : List ℕ → State → Type 0
+StopsAt text now = InRegion text now.place × IsSomeAnd (instruction_at text now.place) (λ i. i.flow ≡ flow.Stop)
+
+-- neither in the trampoline zone nor at a stop
+abbrev pub GoesOn : List ℕ → State → Type 0
+GoesOn text now = (0x10000 ≤ now.place) × ¬ StopsAt text now
+
+-- the choice takes an indirect transfer to the limit or above it
+abbrev pub LeavesBy : List ℕ → State → ℕ → Type 0
+LeavesBy text now choice = IsSomeAnd (instruction_at text now.place) (λ i. IsTrue (is_indirect i.flow)) × (limit_of text ≤ bundle_of choice)
+
+-- How a walk ends in a state, with these choices left: in the trampoline zone, at a stop, for want of a choice, or by
+-- an indirect transfer to the limit or above it; the first of these in this order.
+abbrev pub EndsBy : List ℕ → State → List ℕ → End → Type 0
+EndsBy text now choices Trampoline = now.place < 0x10000
+EndsBy text now choices Stop = StopsAt text now
+EndsBy text now choices More = GoesOn text now × (choices ≡ [])
+EndsBy text now [] Beyond = ⊥
+EndsBy text now (choice ∷ choices) Beyond = GoesOn text now × LeavesBy text now choice
+
+-- from a state, these choices lead over these states to this end
+abbrev pub Walks : List ℕ → State → List ℕ → List State → End → Type 0
+Walks text now choices [] end = EndsBy text now choices end
+Walks text now [] (next ∷ rest) end = ⊥
+Walks text now (choice ∷ choices) (next ∷ rest) end = GoesOn text now × Moves text now choice next × Walks text next choices rest end
+
+-- The trace of a walk from a place with nothing masked: the places of its states, first to last, and its end.
+pub record IsTrace (text : List ℕ) (start : ℕ) (choices places : List ℕ) (end : End) : Type 0 where
+  pub states : List State
+  pub walks : Walks text (state start None) choices states end
+  pub places_are : places ≡ start ∷ map (λ (s : State). s.place) states
+
+-- each state of every such walk is safe
+abbrev pub IsSafeWalk : List ℕ → ℕ → List ℕ → End → Type 0
+IsSafeWalk text start choices end =
+    (states : List State) → Walks text (state start None) choices states end → AllSafe text (state start None ∷ states)

@@ -1,0 +1,21 @@
+//! The chunks of a region.
+
+/// Whether threads may enter a chunk.
+#[derive(Clone, Copy, Debug, Drop, PartialEq, Eq)]
+pub enum ChunkState {
+    /// Its code stands in the text.
+    Live,
+    /// Its bytes are stops, and its span waits for threads that may still stand in it. The number is the generation
+    /// with which it was retired.
+    Retired(u64),
+}
+
+/// One chunk of a region's list.
+#[derive(Clone, Copy, Debug, Drop, PartialEq, Eq)]
+pub struct Chunk {
+    /// The address of its first byte, which is a bundle start.
+    pub base: u32,
+    /// Its bytes, whole bundles.
+    pub length: u32,
+    pub state: ChunkState,
+}

@@ -1,0 +1,10 @@
+//! What a valid chunk is worth in a text.
+
+ghost use Rattle.nc_vet.specs.Chunk.{Chunk, IsValid};
+ghost use Rattle.nc_region.specs.Chunks.{IsSound};
+
+/// A valid chunk is sound: with its marks, in a text that is otherwise unused, it is closed. It does nothing when it
+/// is called.
+pub fn law_of_chunks()
+    ensures { (v : Chunk) → IsValid v → IsSound v.base v.limit v.code v.marks }
+{}

@@ -1,0 +1,22 @@
+//! A region of code: chunks created in a text that threads may be running, each path through it confined.
+#![tactic(auto)]
+
+mod acts;
+mod chunk;
+mod create;
+mod fault;
+mod law;
+mod listing;
+mod plain;
+mod recorder;
+mod region;
+mod trace;
+
+pub use acts::{Act, Acts};
+pub use chunk::{Chunk, ChunkState};
+pub use fault::{CreateFault, RegionFault, WalkFault};
+pub use law::law_of_chunks;
+pub use plain::Plain;
+pub use recorder::Recorder;
+pub use region::{Region, RegionOf};
+pub use trace::{End, Trace};

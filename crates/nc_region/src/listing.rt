@@ -1,0 +1,80 @@
+//! The list of chunks, by rising base.
+
+ghost use Rattle.std.specs.Prelude.{◌≡◌, ◌+◌, ◌-◌, ◌<◌, ◌≤◌, ◌^◌, ℕ, false, length, take, drop, slice_index_or, IsTrue, IfSome, IfNone};
+ghost use Rattle.std.specs.Vec.{vec_len, vec_capacity};
+ghost use Rattle.std.specs.List.{insert};
+ghost use Rattle.nc_region.specs.Each.{Each};
+ghost use Rattle.nc_region.specs.declared.chunk.Chunk.{Chunk};
+ghost use Rattle.nc_region.specs.Region.{IsRising, IsAboveAll, IsBelowAll, FitsAt, Meets};
+
+use crate::chunk::Chunk;
+
+/// The index of the first chunk whose base isn't below this one, by binary search.
+fn first_from(chunks: &[Chunk], base: u32) -> usize
+    requires { IsRising 0x10000 chunks.now }
+    ensures bound { result ≤ length chunks.now }
+    ensures below { (i : ℕ) (d : Chunk) → i < result → (slice_index_or chunks.now i d).base < base }
+    ensures above { (i : ℕ) (d : Chunk) → result ≤ i → i < length chunks.now → base ≤ (slice_index_or chunks.now i d).base }
+{
+    chunks.partition_point(|c| c.base < base)
+}
+
+/// The first k chunks end at or below the base of a span.
+fn ends_below(chunks: &[Chunk], k: usize, base: u32) -> bool
+    requires inside { k ≤ length chunks.now }
+    requires rising { IsRising 0x10000 chunks.now }
+    requires ends { Each (λ (d : Chunk). (0 < d.length) × (d.base + d.length < 2 ^ 32)) chunks.now }
+    requires below { (i : ℕ) (d : Chunk) → i < k → (slice_index_or chunks.now i d).base < base }
+    ensures clear { IsTrue result → IsAboveAll base (take k chunks.now) }
+    ensures meets { (len : ℕ) → 0 < len → result ≡ false → Meets base len chunks.now }
+{
+    if k == 0 {
+        return true;
+    }
+    let last = chunks[k - 1];
+    last.base + last.length <= base
+}
+
+/// All but the first k chunks begin at or behind the end of a span.
+fn begins_above(chunks: &[Chunk], k: usize, base: u32, len: u32) -> bool
+    requires inside { k ≤ length chunks.now }
+    requires rising { IsRising 0x10000 chunks.now }
+    requires ends { Each (λ (d : Chunk). (0 < d.length) × (d.base + d.length < 2 ^ 32)) chunks.now }
+    requires above { (i : ℕ) (d : Chunk) → k ≤ i → i < length chunks.now → base ≤ (slice_index_or chunks.now i d).base }
+    requires fits { base + len < 2 ^ 32 }
+    ensures clear { IsTrue result → IsBelowAll (base + len) (drop k chunks.now) }
+    ensures meets { result ≡ false → Meets base len chunks.now }
+{
+    if k == chunks.len() {
+        return true;
+    }
+    base + len <= chunks[k].base
+}
+
+/// Where a chunk of this span goes in the list, if it meets none.
+pub(crate) fn room_for(chunks: &[Chunk], base: u32, len: u32) -> Option<usize>
+    requires some { 0 < len }
+    requires fits { base + len < 2 ^ 32 }
+    requires rising { IsRising 0x10000 chunks.now }
+    requires ends { Each (λ (d : Chunk). (0 < d.length) × (d.base + d.length < 2 ^ 32)) chunks.now }
+    ensures some { IfSome result (FitsAt base len chunks.now) }
+    ensures none { IfNone result (Meets base len chunks.now) }
+{
+    let k = first_from(chunks, base);
+    if !ends_below(chunks, k, base) {
+        return None;
+    }
+    if !begins_above(chunks, k, base, len) {
+        return None;
+    }
+    Some(k)
+}
+
+/// Inserts a chunk, for which there is room.
+pub(crate) fn insert_chunk(chunks: &mut Vec<Chunk>, k: usize, chunk: Chunk)
+    requires inside { k ≤ vec_len chunks.old }
+    requires room { vec_len chunks.old < vec_capacity chunks.old }
+    ensures { chunks.new.items ≡ insert chunks.old.items k chunk }
+{
+    let _ = chunks.insert(k, chunk);
+}

@@ -1,0 +1,89 @@
+//! A recorder of acts, for tests and for whoever wants to see the order of single bytes.
+
+ghost use Rattle.std.specs.Prelude.{◌≡◌, ℕ, List, [], ◌∷◌, ◌++◌, Option, Some, None, IfOk, if◌then◌else◌, false};
+ghost use Rattle.std.specs.Option.{option_map};
+ghost use Rattle.nc_region.specs.Acts.{Tells};
+
+use crate::acts::{Act, Acts};
+use nc_decode::Mark;
+use std::alloc::{AllocError, Global};
+
+/// Acts that are recorded, each at the end of a log as it is done.
+///
+/// The log takes its room when it is made. From the first act on for which there is no room it tells nothing, for
+/// good; the acts themselves are done all the same.
+#[derive(Drop)]
+pub struct Recorder<A: Acts + Drop> {
+    acts: A,
+    log: Vec<Act>,
+    full: bool,
+}
+
+impl<A: Acts + Drop> Recorder<A> {
+    /// Records the next acts, with room for so many.
+    pub fn new(alloc: Global, acts: A, room: usize) -> Result<Recorder<A>, AllocError>
+        ensures acts { IfOk result (λ r. r.acts ≡ acts) }
+        ensures told { IfOk result (λ r. (r.log.items ≡ []) × (r.full ≡ false)) }
+    {
+        let mut log = Vec::new(alloc);
+        log.reserve(room)?;
+        Ok(Recorder {
+            acts,
+            log,
+            full: false,
+        })
+    }
+
+    /// The acts so far, first to last, while they are told.
+    pub fn told(&self) -> Option<&[Act]>
+        ensures { option_map (λ acts. acts.now) result ≡ (if self.now.full then None else Some self.now.log.items) }
+    {
+        if self.full { None } else { Some(&self.log) }
+    }
+
+    fn record(&mut self, act: Act)
+        ensures acts { self.new.acts ≡ self.old.acts }
+        ensures told { Tells (if self.old.full then None else Some self.old.log.items) (if self.new.full then None else Some self.new.log.items) (act ∷ []) }
+    {
+        if self.full || self.log.len() == self.log.capacity() {
+            self.full = true;
+            return;
+        }
+        if self.log.push(act).is_err() {
+            self.full = true;
+        }
+    }
+}
+
+impl<A: Acts + Drop> Acts for Recorder<A> {
+    ghost code = { λ r. A.code r.acts };
+
+    ghost told = { λ r. if r.full then None else Some r.log.items };
+
+    fn put(&mut self, at: u32, byte: u8) {
+        self.acts.put(at, byte);
+        self.record(Act::Put(at, byte));
+    }
+
+    fn mark_span(&mut self, at: u32, marks: &[Mark]) {
+        self.acts.mark_span(at, marks);
+        self.record(Act::MarkSpan(at, marks.len() as u32));
+    }
+
+    fn unmark_span(&mut self, at: u32, len: u32) {
+        self.acts.unmark_span(at, len);
+        self.record(Act::UnmarkSpan(at, len));
+    }
+
+    fn byte(&self, at: u32) -> u8 {
+        self.acts.byte(at)
+    }
+
+    fn limit(&self) -> u32 {
+        self.acts.limit()
+    }
+
+    fn mark(&self, at: u32) -> Mark {
+        self.acts.mark(at)
+    }
+}

@@ -1,0 +1,146 @@
+//! A region: a text by its acts, and the list of its chunks.
+
+ghost use Rattle.std.specs.Prelude.{◌≡◌, ◌≤◌, ◌<◌, ◌⊎◌, ◌↔◌, length, [], None, OnOk, IfOk, IfErr, slice_get};
+ghost use Rattle.nc_text.specs.Machine.{IsConfined};
+ghost use Rattle.nc_text.specs.Places.{InRegion, byte_at, limit_of};
+ghost use Rattle.nc_text.specs.Code.{new_code};
+ghost use Rattle.nc_region.specs.Acts.{Tells, acts_of_create};
+ghost use Rattle.nc_region.specs.Region.{Region, IsRegion, IsNew, IsCreated, MayRefuse, Meets};
+
+use crate::acts::Acts;
+use crate::chunk::{Chunk, ChunkState};
+use crate::create::put_chunk;
+use crate::fault::{CreateFault, RegionFault};
+use crate::listing::{insert_chunk, room_for};
+use crate::plain::Plain;
+use nc_text::{Text, TextFault};
+use nc_vet::Vetted;
+use std::alloc::Global;
+use std::marker::Model;
+
+/// A region over a text that tells nothing of its acts.
+pub type Region = RegionOf<Plain>;
+
+/// A region of code from 00010000 to its limit, reached through `A` alone.
+///
+/// Every value of the type is confined: each path through its text that begins at a bundle start stands on safe states
+/// alone. A live chunk's bytes and marks are those of a valid chunk; all other bytes are F4, and outside chunks bundle
+/// starts alone are marked. Chunks are listed by rising base and never overlap.
+#[derive(Drop)]
+pub struct RegionOf<A: Acts + Drop> {
+    acts: A,
+    chunks: Vec<Chunk>,
+}
+
+impl<A: Acts + Drop> Model for RegionOf<A> {
+    ghost use Rattle.nc_region.specs.Region.{Region, IsRegion};
+
+    ghost Value = { Region };
+
+    ghost view = { λ r. record { code = A.code r.acts; chunks = r.chunks.items; told = A.told r.acts } };
+
+    ghost invariant = { λ r. IsRegion (A.code r.acts) r.chunks.items };
+}
+
+impl RegionOf<Plain> {
+    /// A region of this many bundles, without a chunk. Its last bundle is the guard, in which no chunk stands.
+    pub fn new(alloc: Global, bundles: u32) -> Result<Region, RegionFault>
+        ensures size { (result ≡ Err RegionFault.BadSize) ↔ ((bundles < 2) ⊎ (524288 < bundles)) }
+        ensures region { IfOk result (λ r. r ≡ record { code = new_code bundles; chunks = []; told = None }) }
+        ensures confined { IfOk result (λ r. IsConfined r.code.bytes) }
+    {
+        match Text::new(alloc, bundles) {
+            Ok(text) => Ok(RegionOf::over(alloc, Plain::new(text))),
+            Err(TextFault::BadSize) => Err(RegionFault::BadSize),
+            Err(TextFault::OutOfMemory) => Err(RegionFault::OutOfMemory),
+        }
+    }
+}
+
+impl<A: Acts + Drop> RegionOf<A> {
+    /// A region over a new text, without a chunk. It takes no memory.
+    pub fn over(alloc: Global, acts: A) -> RegionOf<A>
+        requires { IsNew (A.code acts) }
+        ensures { result ≡ record { code = A.code acts; chunks = []; told = A.told acts } }
+    {
+        RegionOf {
+            acts,
+            chunks: Vec::new(alloc),
+        }
+    }
+
+    /// What the region does its work by, to read what it tells.
+    pub fn acts(&self) -> &A
+        ensures code { A.code result.now ≡ self.now.code }
+        ensures told { A.told result.now ≡ self.now.told }
+    {
+        &self.acts
+    }
+
+    /// The address behind the region's last byte.
+    pub fn limit(&self) -> u32
+        ensures limit { result ≡ limit_of self.now.code.bytes }
+    {
+        self.acts.limit()
+    }
+
+    /// The byte at an address of the region.
+    pub fn byte(&self, at: u32) -> u8
+        requires { InRegion self.now.code.bytes at }
+        ensures { result ≡ byte_at self.now.code.bytes at }
+    {
+        self.acts.byte(at)
+    }
+
+    /// How many chunks there are, live and retired. Every path through the text is safe.
+    pub fn chunk_count(&self) -> usize
+        ensures count { result ≡ length self.now.chunks }
+        ensures confined { IsConfined self.now.code.bytes }
+        ensures region { IsRegion self.now.code self.now.chunks }
+    {
+        self.chunks.len()
+    }
+
+    /// The chunk at an index of the list, if there is one.
+    pub fn chunk(&self, i: usize) -> Option<Chunk>
+        ensures { result ≡ slice_get self.now.chunks i }
+    {
+        self.chunks.get(i).copied()
+    }
+
+    /// Creates a chunk while threads may be running: its bytes that aren't bundle starts are put, then its marks are
+    /// set, then its bundle starts are put. A refusal changes nothing and gives the chunk back.
+    pub fn create(&mut self, vetted: Vetted) -> Result<(), (Vetted, CreateFault)>
+        // The span holds the chunk's code and marks, and the chunk is in the list; all else is as before.
+        ensures created { OnOk result (IsCreated self.old self.new vetted) }
+        // Exactly the acts of a creation were done, where they are told.
+        ensures acts { OnOk result (Tells self.old.told self.new.told (acts_of_create vetted.base vetted.code)) }
+        // It is created only for this region's limit, where no chunk stands.
+        ensures free { OnOk result ((vetted.limit ≡ limit_of self.old.code.bytes) × ¬ Meets vetted.base (length vetted.code) self.old.chunks) }
+        // Text, marks, chunks and acts are as before, and the chunk comes back.
+        ensures unchanged { IfErr result (λ e. (e.0 ≡ vetted) × (self.new ≡ self.old)) }
+        // Each refusal comes where it is due.
+        ensures refused { IfErr result (λ e. MayRefuse self.old vetted e.1) }
+        ensures confined { IsConfined self.new.code.bytes }
+    {
+        let base = vetted.base();
+        if vetted.limit() != self.acts.limit() {
+            return Err((vetted, CreateFault::WrongLimit));
+        }
+        let length = vetted.code().len() as u32;
+        let Some(k) = room_for(&self.chunks, base, length) else {
+            return Err((vetted, CreateFault::Occupied));
+        };
+        if self.chunks.reserve(1).is_err() {
+            return Err((vetted, CreateFault::OutOfMemory));
+        }
+        put_chunk(&mut self.acts, base, vetted.code(), vetted.marks());
+        let chunk = Chunk {
+            base,
+            length,
+            state: ChunkState::Live,
+        };
+        insert_chunk(&mut self.chunks, k, chunk);
+        Ok(())
+    }
+}
