@@ -20,3 +20,6 @@ pub use plain::Plain;
 pub use recorder::Recorder;
 pub use region::{Region, RegionOf};
 pub use trace::{End, Trace};
+
+#[cfg(test)]
+mod tests;

@@ -80,6 +80,7 @@ impl<A: Acts + Drop> RegionOf<A> {
     /// The address behind the region's last byte.
     pub fn limit(&self) -> u32
         ensures limit { result ≡ limit_of self.now.code.bytes }
+        ensures region { IsRegion self.now.code self.now.chunks }
     {
         self.acts.limit()
     }
