@@ -10,6 +10,7 @@ mod listing;
 mod plain;
 mod recorder;
 mod region;
+mod shared;
 mod trace;
 
 pub use acts::{Act, Acts};
@@ -19,6 +20,7 @@ pub use law::law_of_chunks;
 pub use plain::Plain;
 pub use recorder::Recorder;
 pub use region::{Region, RegionOf};
+pub use shared::Shared;
 pub use trace::{End, Trace};
 
 #[cfg(test)]
