@@ -10,3 +10,5 @@ pub mod Sound
 pub mod Pieces
 pub mod Rising
 pub mod Inserting
+pub mod Windows
+pub mod Walking

@@ -4,9 +4,12 @@ use Rattle.nc_decode.specs.declared.instruction.Instr.{Instr}
 use Rattle.nc_decode.specs.declared.instruction.Flow.{Flow}
 use Rattle.nc_decode.specs.declared.instruction.Flow.TheVariants.{Branch, IndirectJump, IndirectCall}
 use Rattle.nc_decode.specs.declared.instruction.Flow.TheVariants as flow
+use Rattle.nc_decode.specs.Bundles.{IsBundleStart}
 use Rattle.nc_decode.specs.Transfers.{is_indirect, behind, target}
 use Rattle.nc_text.specs.Places.{InRegion, limit_of, instruction_at}
 use Rattle.nc_text.specs.Machine.{State, state, Step, AllSafe}
+use Rattle.nc_region.specs.declared.fault.WalkFault.{WalkFault}
+use Rattle.nc_region.specs.declared.fault.WalkFault.TheVariants.{NotBundle, OutOfMemory}
 use Rattle.nc_region.specs.declared.trace.End.{End}
 use Rattle.nc_region.specs.declared.trace.End.TheVariants.{Stop, Trampoline, Beyond, More}
 
@@ -61,6 +64,15 @@ pub record IsTrace (text : List ℕ) (start : ℕ) (choices places : List ℕ) (
   pub states : List State
   pub walks : Walks text (state start None) choices states end
   pub places_are : places ≡ start ∷ map (λ (s : State). s.place) states
+
+-- a walk begins at a bundle start of the region
+abbrev pub IsWalkStart : List ℕ → ℕ → Type 0
+IsWalkStart text start = InRegion text start × IsBundleStart start
+
+-- when each refusal of a walk comes; only the last one depends on the memory that is there
+abbrev pub MayRefuseWalk : List ℕ → ℕ → WalkFault → Type 0
+MayRefuseWalk text start NotBundle = ¬ IsWalkStart text start
+MayRefuseWalk text start OutOfMemory = IsWalkStart text start
 
 -- each state of every such walk is safe
 abbrev pub IsSafeWalk : List ℕ → ℕ → List ℕ → End → Type 0

@@ -12,6 +12,7 @@ mod recorder;
 mod region;
 mod shared;
 mod trace;
+mod walk;
 
 pub use acts::{Act, Acts};
 pub use chunk::{Chunk, ChunkState};

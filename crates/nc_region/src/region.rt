@@ -6,16 +6,19 @@ ghost use Rattle.nc_text.specs.Places.{InRegion, byte_at, limit_of};
 ghost use Rattle.nc_text.specs.Code.{new_code};
 ghost use Rattle.nc_region.specs.Acts.{Tells, acts_of_create};
 ghost use Rattle.nc_region.specs.Region.{Region, IsRegion, IsNew, IsCreated, MayRefuse, Meets};
+ghost use Rattle.nc_region.specs.Trace.{IsTrace, IsSafeWalk, IsWalkStart, MayRefuseWalk};
 
 use crate::acts::Acts;
 use crate::chunk::{Chunk, ChunkState};
 use crate::create::put_chunk;
-use crate::fault::{CreateFault, RegionFault};
+use crate::fault::{CreateFault, RegionFault, WalkFault};
 use crate::listing::{insert_chunk, room_for};
 use crate::plain::Plain;
+use crate::trace::Trace;
+use crate::walk::{BUNDLE, START, walk_from};
 use nc_text::{Text, TextFault};
 use nc_vet::Vetted;
-use std::alloc::Global;
+use std::alloc::{AllocError, Global};
 use std::marker::Model;
 
 /// A region over a text that tells nothing of its acts.
@@ -143,5 +146,30 @@ impl<A: Acts + Drop> RegionOf<A> {
         };
         insert_chunk(&mut self.chunks, k, chunk);
         Ok(())
+    }
+
+    /// A walk from a bundle start of the region, as these choices pick its steps: the places over which it goes, and how
+    /// it ends.
+    ///
+    /// At a branch the choice 0 falls through, and every other one goes to the target. An indirect transfer goes to the
+    /// choice with its low five bits cleared, if that is below the limit. Each other step uses up a choice too. The
+    /// walk ends below the region, at a stop, where no choice is left, or by an indirect transfer to the limit or above
+    /// it; choices that are left then are ignored. Its places alone take memory, and the region stays as it is.
+    pub fn walk(&self, start: u32, choices: &[u32]) -> Result<Trace, WalkFault>
+        // Its places are those of a walk of the machine, and its end is the first that comes.
+        ensures trace { IfOk result (λ t. IsTrace self.now.code.bytes start choices.now t.places.items t.end) }
+        // The machine stands on safe states alone.
+        ensures safe { IfOk result (λ t. IsSafeWalk self.now.code.bytes start choices.now t.end) }
+        ensures begins { OnOk result (IsWalkStart self.now.code.bytes start) }
+        // Each refusal comes where it is due.
+        ensures refused { IfErr result (MayRefuseWalk self.now.code.bytes start) }
+    {
+        if start < START || start >= self.acts.limit() || start % BUNDLE != 0 {
+            return Err(WalkFault::NotBundle);
+        }
+        match walk_from(*self.chunks.allocator(), &self.acts, start, choices) {
+            Ok(trace) => Ok(trace),
+            Err(AllocError) => Err(WalkFault::OutOfMemory),
+        }
     }
 }

@@ -1,0 +1,50 @@
+use Rattle.std.proofs.Common.{◌≡◌, ◌+◌, ◌<◌, ◌≤◌, List, ℕ, [], ◌∷◌, ◌++◌, length, get_or, take, arith, refl}
+use Rattle.std.proofs.lemmas.List.{take_more}
+use Rattle.nc_text.specs.Machine.{state}
+use Rattle.nc_region.specs.declared.trace.End.{End}
+use Rattle.nc_region.specs.declared.trace.End.TheVariants.{More}
+use Rattle.nc_region.proofs.Walking.{IsUnderWay, way_is_safe, way_goes_on, way_ends_at, way_ends_last, walk_is_safe}
+use Rattle.nc_region.proofs.walk.walk_from.Goals as goal
+use Rattle.nc_region.proofs.walk.walk_from.Goals.{in-Ok-executed, in-Err-executed}
+
+pub step-requires-clause-safe : goal.step-requires-clause-safe
+step-requires-clause-safe g c =
+    let code = g.A.Acts.code c.args.acts.now in
+    way_is_safe code.bytes code.marks c.args.start _ _ (state c.loop-choice.now.place c.loop-choice.now.masked) c.requires.whole.closed c.loop-choice.invariant
+
+pub executed-requires-clause-safe : goal.executed-requires-clause-safe
+executed-requires-clause-safe g c =
+    let code = g.A.Acts.code c.args.acts.now in
+    way_is_safe code.bytes code.marks c.args.start _ _ (state c.loop-choice.now.place c.loop-choice.now.masked) c.requires.whole.closed c.loop-choice.invariant
+
+pub loop-choice-preserved : goal.loop-choice-preserved
+loop-choice-preserved g c =
+    let code = g.A.Acts.code c.args.acts.now in
+    let choices = c.args.choices.now in
+    let k = c.loop-choice.choice-index in
+    let choice = get_or choices k 0 in
+    let places = c.loop-choice.places.items in
+    let now = state c.loop-choice.now.place c.loop-choice.now.masked in
+    let next = state c.in-Ok.next.place c.in-Ok.next.masked in
+    let short : k < length choices = omega arith in
+    rw (take_more choices k 0 short, c.in_ok-push-in-Ok.ensures.items)
+    (way_goes_on code.bytes code.marks c.args.start (take k choices) places now next choice c.requires.whole.closed c.loop-choice.invariant c.in-Ok.ensures.moves.0 c.in-Ok.ensures.moves.1)
+
+pub returns-in-Err : goal.returns-in-Err
+returns-in-Err g c =
+    let code = g.A.Acts.code c.args.acts.now in
+    record {
+      trace = way_ends_at code.bytes code.marks c.args.start c.args.choices.now c.loop-choice.places.items c.loop-choice.choice-index
+          (state c.loop-choice.now.place c.loop-choice.now.masked) c.in-Err.end (omega arith) c.loop-choice.invariant c.in-Err.ensures.ends;
+      safe = walk_is_safe code.bytes code.marks c.args.start c.args.choices.now c.in-Err.end c.requires.whole.closed c.requires.begins;
+    }
+
+pub returns : goal.returns
+returns g c =
+    let code = g.A.Acts.code c.args.acts.now in
+    let ends = way_ends_last code.bytes code.marks c.args.start c.args.choices.now c.loop-choice.places.items c.loop-choice.choice-index (state c.loop-choice.now.place c.loop-choice.now.masked) in
+    let safe = λ (end : End). walk_is_safe code.bytes code.marks c.args.start c.args.choices.now end c.requires.whole.closed c.requires.begins in
+    elim c.match-executed.branch [
+      | in-Ok-executed w ↦ rw w.end-is (record { trace = ends More (omega arith) c.loop-choice.invariant (w.in-Ok-executed.ensures.goes.0, refl); safe = safe More })
+      | in-Err-executed w ↦ rw w.end-is (record { trace = ends w.in-Err-executed.end (omega arith) c.loop-choice.invariant (w.in-Err-executed.ensures.ends []); safe = safe w.in-Err-executed.end })
+    ]

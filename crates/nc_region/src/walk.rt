@@ -1,0 +1,172 @@
+//! Walks through a text: one state after the other, each transfer as a choice picks it.
+
+ghost use Rattle.std.specs.Prelude.{◌≡◌, ◌≢◌, ℕ, ◌+◌, ◌-◌, ◌%◌, ◌^◌, ◌<◌, ◌≤◌, List, ◌∷◌, Some, IsTrue, IsSomeAnd, IfOk, IfErr, IfSome, IfNone, slice_index};
+ghost use Rattle.nc_decode.specs.Bundles.{IsBundleStart, IsInOneBundle};
+ghost use Rattle.nc_decode.specs.Transfers.{is_indirect, target};
+ghost use Rattle.nc_text.specs.Places.{InRegion, byte_at, instruction_at, limit_of};
+ghost use Rattle.nc_text.specs.Machine.{IsMaskedFor, IsSafe, Leads, state};
+ghost use Rattle.nc_text.specs.Code.{IsText};
+ghost use Rattle.nc_region.specs.Trace.{EndsBy, GoesOn, IsSafeWalk, IsTrace, Moves, Picks, IsWalkStart, bundle_of};
+
+use crate::acts::Acts;
+use crate::trace::{End, Trace};
+use nc_decode::{Flow, Instr, decode};
+use std::alloc::{AllocError, Global};
+
+/// The bytes of a bundle.
+pub(crate) const BUNDLE: u32 = 32;
+
+/// The address of a region's first byte.
+pub(crate) const START: u32 = 0x10000;
+
+/// Where a thread stands, and the register that the instruction just executed has masked.
+#[derive(Clone, Copy, Debug, Drop)]
+struct Thread {
+    place: u32,
+    masked: Option<u8>,
+}
+
+impl Thread {
+    /// A thread that comes to a place by a transfer, which masks nothing.
+    fn at(place: u32) -> Thread
+        ensures { result ≡ record { place = place; masked = None } }
+    {
+        Thread {
+            place,
+            masked: None,
+        }
+    }
+}
+
+/// The trace of a walk from a bundle start of the region. Its places alone take memory.
+pub(crate) fn walk_from<A: Acts>(
+    alloc: Global,
+    acts: &A,
+    start: u32,
+    choices: &[u32],
+) -> Result<Trace, AllocError>
+    requires whole { IsText (A.code acts.now) }
+    requires begins { IsWalkStart (A.code acts.now).bytes start }
+    ensures trace { IfOk result (λ t. IsTrace (A.code acts.now).bytes start choices.now t.places.items t.end) }
+    ensures safe { IfOk result (λ t. IsSafeWalk (A.code acts.now).bytes start choices.now t.end) }
+{
+    let mut places = Vec::new(alloc);
+    let mut now = Thread::at(start);
+    places.push(start)?;
+    for choice in choices {
+        match step(acts, now, *choice) {
+            Ok(next) => {
+                places.push(next.place)?;
+                now = next;
+            }
+            Err(end) => return Ok(Trace { places, end }),
+        }
+    }
+    let end = match executed(acts, now) {
+        Ok(_) => End::More,
+        Err(end) => end,
+    };
+    Ok(Trace { places, end })
+}
+
+/// The state to which a choice leads from a safe one, or how the walk ends there.
+fn step<A: Acts>(acts: &A, now: Thread, choice: u32) -> Result<Thread, End>
+    requires whole { IsText (A.code acts.now) }
+    requires safe { IsSafe (A.code acts.now).bytes (state now.place now.masked) }
+    ensures moves { IfOk result (λ next. GoesOn (A.code acts.now).bytes (state now.place now.masked)
+        × Moves (A.code acts.now).bytes (state now.place now.masked) choice (state next.place next.masked)) }
+    ensures ends { IfErr result (λ end. (rest : List ℕ)
+        → EndsBy (A.code acts.now).bytes (state now.place now.masked) (choice ∷ rest) end) }
+{
+    let instr = executed(acts, now)?;
+    next(instr, now, choice, acts.limit()).ok_or(End::Beyond)
+}
+
+/// The instruction that leads on from a safe state, or how the walk ends there whatever the choices are.
+fn executed<A: Acts>(acts: &A, now: Thread) -> Result<Instr, End>
+    requires whole { IsText (A.code acts.now) }
+    requires safe { IsSafe (A.code acts.now).bytes (state now.place now.masked) }
+    ensures goes { IfOk result (λ i. GoesOn (A.code acts.now).bytes (state now.place now.masked)
+        × (instruction_at (A.code acts.now).bytes now.place ≡ Some i)) }
+    ensures ends { IfErr result (λ end. (choices : List ℕ)
+        → EndsBy (A.code acts.now).bytes (state now.place now.masked) choices end) }
+{
+    if now.place < START {
+        return Err(End::Trampoline);
+    }
+    let instr = instruction(acts, now.place);
+    if instr.flow == Flow::Stop {
+        return Err(End::Stop);
+    }
+    Ok(instr)
+}
+
+/// The instruction that stands at a place, wholly inside its bundle.
+fn instruction<A: Acts>(acts: &A, at: u32) -> Instr
+    requires whole { IsText (A.code acts.now) }
+    requires inside { InRegion (A.code acts.now).bytes at }
+    requires stands { IsSomeAnd (instruction_at (A.code acts.now).bytes at) (λ i. IsInOneBundle at i.len) }
+    ensures { instruction_at (A.code acts.now).bytes at ≡ Some result }
+{
+    let bytes = read_bundle(acts, at);
+    let Ok(instr) = decode(&bytes[..(BUNDLE - at % BUNDLE) as usize]) else {
+        unreachable!()
+    };
+    instr
+}
+
+/// The bytes from a place to the end of its bundle, and zeros behind them.
+fn read_bundle<A: Acts>(acts: &A, at: u32) -> [u8; 32]
+    requires whole { IsText (A.code acts.now) }
+    requires inside { InRegion (A.code acts.now).bytes at }
+    ensures { (k : ℕ) → k < 32 - at % 32 → slice_index result k ≡ byte_at (A.code acts.now).bytes (at + k) }
+{
+    let mut bytes = [0; 32];
+    for k in 0..BUNDLE - at % BUNDLE {
+        bytes[k as usize] = acts.byte(at + k);
+    }
+    bytes
+}
+
+/// The state to which a choice leads by an instruction, if that isn't at the limit or above it.
+fn next(instr: Instr, now: Thread, choice: u32, limit: u32) -> Option<Thread>
+    requires goes { instr.flow ≢ Flow.Stop }
+    requires masked { IsMaskedFor instr.flow instr.reg now.masked }
+    requires fits { now.place + instr.len < 2 ^ 32 }
+    ensures moves { IfSome result (λ next. Leads limit instr (state now.place now.masked) (state next.place next.masked)
+        × Picks instr.flow instr (state now.place now.masked) choice (state next.place next.masked)) }
+    ensures beyond { IfNone result (IsTrue (is_indirect instr.flow) × (limit ≤ bundle_of choice)) }
+{
+    let behind = now.place + u32::from(instr.len);
+    match instr.flow {
+        Flow::Next => Some(Thread {
+            place: behind,
+            masked: instr.masks,
+        }),
+        Flow::Branch if choice == 0 => Some(Thread::at(behind)),
+        Flow::Branch | Flow::Jump | Flow::Call => Some(Thread::at(target(instr, now.place))),
+        Flow::IndirectJump | Flow::IndirectCall => masked_target(choice, limit),
+        Flow::Stop => unreachable!(),
+    }
+}
+
+/// The target of a direct transfer at this address.
+fn target(instr: Instr, at: u32) -> u32
+    requires { at + instr.len < 2 ^ 32 }
+    ensures { result ≡ target instr at }
+{
+    (at + u32::from(instr.len)).wrapping_add_signed(instr.rel)
+}
+
+/// Where an indirect transfer goes on this choice: to the choice with its low five bits cleared, if that is below the
+/// limit.
+fn masked_target(choice: u32, limit: u32) -> Option<Thread>
+    ensures below { IfSome result (λ next. (next.place ≡ bundle_of choice) × (next.masked ≡ None) × IsBundleStart next.place × (next.place < limit)) }
+    ensures beyond { IfNone result (limit ≤ bundle_of choice) }
+{
+    let place = choice - choice % BUNDLE;
+    if place >= limit {
+        return None;
+    }
+    Some(Thread::at(place))
+}
