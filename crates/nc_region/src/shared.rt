@@ -1,9 +1,12 @@
 //! A region behind its lock, which threads share.
 
-ghost use Rattle.std.specs.Prelude.{◌≡◌, IfErr};
+ghost use Rattle.std.specs.Prelude.{◌≡◌, ℕ, List, IfOk, IfErr};
+ghost use Rattle.nc_text.specs.Machine.{IsConfined};
+ghost use Rattle.nc_region.specs.Trace.{IsTrace};
 
-use crate::fault::CreateFault;
+use crate::fault::{CreateFault, WalkFault};
 use crate::region::Region;
+use crate::trace::Trace;
 use nc_vet::Vetted;
 use std::sync::{Mutex, Wait};
 
@@ -31,4 +34,20 @@ impl Shared {
     {
         self.region.lock(rt).create(vetted)
     }
+
+    /// `Region::walk` under the lock: the trace through the text that stood there at that moment.
+    pub fn walk(&self, rt: &impl Wait, start: u32, choices: &[u32]) -> Result<Trace, WalkFault>
+        // Whatever text was found under the lock, it is confined, and this is a walk through it.
+        ensures trace { IfOk result (λ t. (text : List ℕ) × IsConfined text × IsTrace text start choices.now t.places.items t.end) }
+    {
+        walk_confined(&self.region.lock(rt), start, choices)
+    }
+}
+
+/// A walk through a region's text, which is confined.
+fn walk_confined(region: &Region, start: u32, choices: &[u32]) -> Result<Trace, WalkFault>
+    ensures { IfOk result (λ t. (text : List ℕ) × IsConfined text × IsTrace text start choices.now t.places.items t.end) }
+{
+    let _count = region.chunk_count();
+    region.walk(start, choices)
 }

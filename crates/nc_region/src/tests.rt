@@ -1,11 +1,16 @@
 //! What no clause says: that calls succeed, and what the clauses' words come to on examples.
 ghost use Rattle.std.specs.Prelude.{◌≤◌};
 
-use crate::{Act, Chunk, ChunkState, CreateFault, Plain, Recorder, Region, RegionFault, RegionOf};
+use crate::{
+    Act, Chunk, ChunkState, CreateFault, End, Plain, Recorder, Region, RegionFault, RegionOf,
+    Shared, Trace, WalkFault,
+};
 use nc_text::Text;
 use nc_vet::{Vetted, vet};
 use std::alloc::Global;
+use std::sync::Wait;
 use std::test::Fail;
+use std::thread::{Threads, join};
 
 const LIMIT: u32 = 0x10080;
 
@@ -137,5 +142,134 @@ fn created_twice(rt: HostRuntime) -> Result<(), Fail> {
         Some((0x10020, 64))
     );
     assert_eq!(rt; (region.limit(), region.chunk_count()), (LIMIT, 2));
+    Ok(())
+}
+
+/// Creates a chunk of a shared region, and walks from its base.
+fn create_and_walk<R: Wait>(rt: &R, shared: &Shared, base: u32, vetted: Vetted) -> Option<Trace> {
+    if shared.create(rt, vetted).is_err() {
+        return None;
+    }
+    shared.walk(rt, base, &[0, 0, 0]).ok()
+}
+
+/// The trace has these places and this end.
+fn is_trace(trace: &Trace, places: &[u32], end: End) -> bool {
+    trace.places.as_slice() == places && trace.end == end
+}
+
+/// Two threads create and walk, each its own chunk.
+fn run_two<R: Threads + Wait + Sync>(
+    rt: &R,
+    shared: &Shared,
+    one: Vetted,
+    other: Vetted,
+) -> (Option<Trace>, Option<Trace>) {
+    join(
+        rt,
+        move || create_and_walk(rt, shared, 0x10000, one),
+        move || create_and_walk(rt, shared, 0x10020, other),
+    )
+}
+
+#[test]
+fn two_threads(rt: HostRuntime) -> Result<(), Fail> {
+    let alloc = rt.alloc();
+    let region = match Region::new(alloc, 4) {
+        Ok(region) => region,
+        Err(fault) => return Err(Fail::new(format_args!("{fault:?}"))),
+    };
+    let shared = Shared::new(region);
+    // a jump to 00010020, and one to 00010000
+    let one = chunk(alloc, 0x10000, LIMIT, 1, &[0xEB, 0x1E])?;
+    let other = chunk(alloc, 0x10020, LIMIT, 1, &[0xEB, 0xDE])?;
+    let (first, second) = run_two(&rt, &shared, one, other);
+    let Some(first) = first else {
+        return Err(Fail::new("the first thread has no trace"));
+    };
+    let Some(second) = second else {
+        return Err(Fail::new("the second thread has no trace"));
+    };
+    let long = [0x10000, 0x10020, 0x10000, 0x10020];
+    let back = [0x10020, 0x10000, 0x10020, 0x10000];
+    let first_long = is_trace(&first, &long, End::More);
+    let second_long = is_trace(&second, &back, End::More);
+    assert!(rt; first_long || is_trace(&first, &[0x10000, 0x10020], End::Stop));
+    assert!(rt; second_long || is_trace(&second, &[0x10020, 0x10000], End::Stop));
+    assert!(rt; first_long || second_long);
+    let Ok(after) = shared.walk(&rt, 0x10000, &[0, 0, 0]) else {
+        return Err(Fail::new("no walk after both"));
+    };
+    assert!(rt; is_trace(&after, &long, End::More));
+    Ok(())
+}
+
+/// A chunk's front, the choices of a walk from 00010000, and its trace.
+static WALKS: [(&[u8], &[u32], &[u32], End); 10] = [
+    (&[0xEB, 0x1E], &[0, 0], &[0x10000, 0x10020], End::Stop),
+    (&[0x74, 0x1E], &[1], &[0x10000, 0x10020], End::Stop),
+    (&[0x74, 0x1E], &[0], &[0x10000, 0x10002], End::More),
+    (
+        &[0x74, 0x1E],
+        &[0xFFFF_FFFF],
+        &[0x10000, 0x10020],
+        End::Stop,
+    ),
+    (&[0xF4], &[], &[0x10000], End::Stop),
+    (
+        &[0x83, 0xE3, 0xE0, 0xFF, 0xE3],
+        &[0, 0x1004F],
+        &[0x10000, 0x10003, 0x10040],
+        End::Stop,
+    ),
+    (
+        &[0x83, 0xE3, 0xE0, 0xFF, 0xE3],
+        &[0, 0xFFE5],
+        &[0x10000, 0x10003, 0xFFE0],
+        End::Trampoline,
+    ),
+    (
+        &[0x83, 0xE3, 0xE0, 0xFF, 0xE3],
+        &[0, 0x100A0],
+        &[0x10000, 0x10003],
+        End::Beyond,
+    ),
+    (
+        &[0x83, 0xE3, 0xE0, 0xFF, 0xE3],
+        &[0],
+        &[0x10000, 0x10003],
+        End::More,
+    ),
+    (
+        &[0x83, 0xE3, 0xE0, 0xFF, 0xE3],
+        &[0, 0x10080],
+        &[0x10000, 0x10003],
+        End::Beyond,
+    ),
+];
+
+#[test]
+fn walks(rt: HostRuntime) -> Result<(), Fail> {
+    for (front, choices, places, end) in &WALKS {
+        let alloc = rt.alloc();
+        let mut region = match Region::new(alloc, 4) {
+            Ok(region) => region,
+            Err(fault) => return Err(Fail::new(format_args!("{fault:?}"))),
+        };
+        assert!(rt;
+            region
+                .create(chunk(alloc, 0x10000, LIMIT, 1, front)?)
+                .is_ok()
+        );
+        let Ok(trace) = region.walk(0x10000, choices) else {
+            return Err(Fail::new("no walk"));
+        };
+        assert!(rt; is_trace(&trace, places, *end), "{front:?} {trace:?}");
+        for start in [0x10003, LIMIT, 0xFFE0, 0xFFFF_FFE0] {
+            assert_eq!(rt; region.walk(start, &[]).err(), Some(WalkFault::NotBundle));
+        }
+        let guard = region.walk(0x10060, &[]);
+        assert!(rt; guard.is_ok());
+    }
     Ok(())
 }

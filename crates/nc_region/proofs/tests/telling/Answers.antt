@@ -1,0 +1,5 @@
+use Rattle.std.proofs.Common.{◌∙◌, arith}
+use Rattle.nc_region.proofs.tests.telling.Goals as goal
+
+pub over-requires : goal.over-requires
+over-requires c = (8, omega arith, omega arith, c.in_ok-recorder.ensures.acts ∙ c.new-2.ensures ∙ c.in-Ok.ensures.code)
