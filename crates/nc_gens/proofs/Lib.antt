@@ -1,0 +1,5 @@
+pub mod FirstTable
+pub mod HandingOver
+pub mod LeastNumber
+pub mod StepsKeep
+pub mod Views

@@ -1,0 +1,3 @@
+pub mod Fields
+pub mod Rule
+pub mod Seen

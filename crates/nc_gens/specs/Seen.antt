@@ -1,0 +1,48 @@
+-- What callers see of a pass and of the keeper. Of a `Gens` they see which table it is.
+use Rattle.std.specs.Prelude.{◌≡◌, ℕ, zero, suc, ◌+◌, ◌++◌, ◌<◌, ◌≤◌, ◌==◌, not, min, fold, filter, List, [], ◌∷◌, length, slice_index}
+use Rattle.atomic_table.specs.Seated.{TableId}
+use Rattle.nc_gens.specs.declared.view.PassNumbers.{PassNumbers}
+use Rattle.nc_gens.specs.declared.view.KeeperNumbers.{KeeperNumbers}
+use Rattle.nc_gens.specs.Rule.{left_word, first_pass_numbers, first_keeper_numbers}
+
+-- `table` is that of the `Gens` that was made with it
+pub record PassState : Type 0 where
+  pub table : TableId
+  pub seat : ℕ
+  pub numbers : PassNumbers
+
+pub record KeeperState : Type 0 where
+  pub table : TableId
+  pub numbers : KeeperNumbers
+
+abbrev pub first_pass : TableId → ℕ → PassState
+first_pass table seat = record { table = table; seat = seat; numbers = first_pass_numbers }
+
+-- a pass for each seat below n, in order
+abbrev pub first_passes : TableId → ℕ → List PassState
+first_passes table zero = []
+first_passes table (suc n) = first_passes table n ++ first_pass table n ∷ []
+
+abbrev pub first_keeper : TableId → ℕ → KeeperState
+first_keeper table seats = record { table = table; numbers = first_keeper_numbers seats }
+
+-- the bounds of the seats that the keeper doesn't hold for left
+abbrev pub staying : List ℕ → List ℕ
+staying = filter (λ b. not (b == left_word))
+
+-- the least of a list, or another number where the list is empty
+abbrev pub least_or : ℕ → List ℕ → ℕ
+least_or other [] = other
+least_or other (b ∷ bs) = fold min b bs
+
+-- the keeper's least number: the least bound of the seats that it doesn't hold for left, and the generation if there are none
+abbrev pub least_number : KeeperNumbers → ℕ
+least_number k = least_or k.generation (staying k.bounds)
+
+-- no number is lower than before
+abbrev pub Raised : List ℕ → List ℕ → Type 0
+Raised old new = (length new ≡ length old) × ((i : ℕ) → i < length old → slice_index old i ≤ slice_index new i)
+
+-- each number is one more than before
+abbrev pub RaisedByOne : List ℕ → List ℕ → Type 0
+RaisedByOne old new = (length new ≡ length old) × ((i : ℕ) → i < length old → slice_index new i ≡ slice_index old i + 1)

@@ -1,0 +1,96 @@
+//! What the keeper does: it draws stamps, and it looks how far the seats have come.
+ghost use Rattle.std.specs.Prelude.{◌≡◌, ◌≢◌, ◌+◌, ◌^◌, ◌<◌, ◌≤◌, ◌↔◌, All, length, slice_index, IfOk, IsOk, OnOk, OnErr};
+ghost use Rattle.nc_gens.specs.Rule.{left_word, generation_raised, word_taken};
+ghost use Rattle.nc_gens.specs.Seen.{Raised, RaisedByOne, least_number, least_or, staying};
+
+use crate::fault::GensFull;
+use crate::steps::{AddOne, TakeWord};
+use crate::table::{Gens, Keeper, LEFT};
+
+/// The last generation, 2^62.
+const LAST: u64 = 1 << 62;
+
+impl Gens {
+    /// Adds one to the generation, and answers the new one: the stamp for what is retired now.
+    ///
+    /// It takes no memory and never waits. It is refused exactly when the generation is 2^62, and
+    /// then nothing changed.
+    ///
+    /// Not promised: that any seat ever takes the new generation.
+    pub fn bump(&self, keeper: &mut Keeper) -> Result<u64, GensFull>
+        requires { keeper.old.table ≡ self.now }
+        ensures room { IsOk result ↔ (keeper.old.numbers.generation < 2 ^ 62) }
+        ensures stamp { IfOk result (λ n. n ≡ keeper.old.numbers.generation + 1) }
+        ensures raised { OnOk result (keeper.new ≡ record keeper.old { numbers = generation_raised keeper.old.numbers }) }
+        ensures full { OnErr result ((keeper.old.numbers.generation ≡ 2 ^ 62) × (keeper.new ≡ keeper.old)) }
+    {
+        if keeper.generation >= LAST {
+            return Err(GensFull);
+        }
+        self.words
+            .shared
+            .fetch_add::<AddOne>(&mut keeper.token, 0, 1);
+        keeper.generation += 1;
+        Ok(keeper.generation)
+    }
+
+    /// Loads each seat's word, raises the keeper's bound of that seat to the number loaded, and
+    /// answers the least bound of the seats whose word it didn't find "left", or the generation if
+    /// there are none. What is retired with a stamp of at most the answer can be reclaimed: every
+    /// seat has checked in since, or has left.
+    ///
+    /// It takes no memory, never waits, and has no refusal.
+    ///
+    /// Not promised: that the answer ever rises (a seat that never checks in holds it back), or
+    /// that the words stood so at one moment. They are loaded one after the other, and only rise.
+    pub fn look(&self, keeper: &mut Keeper) -> u64
+        requires { keeper.old.table ≡ self.now }
+        ensures same { (keeper.new.table ≡ keeper.old.table)
+            × (keeper.new.numbers.generation ≡ keeper.old.numbers.generation) }
+
+        // Each seat's word is loaded once, and no bound falls.
+        ensures seats { (self.now.words ≡ length keeper.new.numbers.bounds + 1)
+            × (length keeper.new.numbers.looks ≡ length keeper.new.numbers.bounds) }
+        ensures looks { RaisedByOne keeper.old.numbers.looks keeper.new.numbers.looks }
+        ensures raised { Raised keeper.old.numbers.bounds keeper.new.numbers.bounds }
+
+        ensures least { result ≡ least_number keeper.new.numbers }
+        ensures below { All (λ b. b ≢ left_word → result ≤ b) keeper.new.numbers.bounds }
+        ensures at_most { result ≤ keeper.new.numbers.generation }
+    {
+        for seat in 0..keeper.bounds.len() {
+            self.look_at(keeper, seat);
+        }
+        least_bound(keeper.bounds.as_slice(), keeper.generation)
+    }
+
+    fn look_at(&self, keeper: &mut Keeper, seat: usize)
+        requires table { keeper.old.table ≡ self.now }
+        requires inside { seat < length keeper.old.numbers.bounds }
+        ensures taken { keeper.new ≡ record keeper.old {
+          numbers = word_taken seat (slice_index keeper.new.numbers.bounds seat) keeper.old.numbers;
+        } }
+        ensures raised { slice_index keeper.old.numbers.bounds seat ≤ slice_index keeper.new.numbers.bounds seat }
+    {
+        let found = self
+            .words
+            .shared
+            .load::<TakeWord>(&mut keeper.token, seat + 1);
+        keeper.bounds[seat] = found;
+    }
+}
+
+fn least_bound(bounds: &[u64], generation: u64) -> u64
+    requires { All (λ b. b ≢ left_word → b ≤ generation) bounds.now }
+    ensures least { result ≡ least_or generation (staying bounds.now) }
+    ensures below { All (λ b. b ≢ left_word → result ≤ b) bounds.now }
+    ensures at_most { result ≤ generation }
+{
+    let mut least = generation;
+    for bound in bounds {
+        if *bound != LEFT {
+            least = least.min(*bound);
+        }
+    }
+    least
+}

@@ -1,0 +1,104 @@
+//! A table is made, with its keeper and its passes.
+ghost use Rattle.std.specs.Prelude.{◌≡◌, ◌+◌, ◌<◌, ◌≤◌, ◌↔◌, ◌⊎◌, [], All, IfOk, OnOk, IsErrOf, length, replicate};
+ghost use Rattle.nc_gens.specs.Rule.{giving_view};
+ghost use Rattle.nc_gens.specs.Seen.{first_passes, first_keeper};
+
+use crate::fault::GensFault;
+use crate::steps::GivePass;
+use crate::table::{Gens, Keeper, Pass};
+use crate::view::{Token, WordTable};
+use arrayvec::ArrayVec;
+use std::alloc::{AllocError, Global};
+
+/// The most seats that a table has.
+pub const MOST_SEATS: usize = 64;
+
+impl Gens {
+    /// The table, its keeper, and a pass for each seat, in the seats' order. The generation, every
+    /// word and every `since` begin at 0.
+    ///
+    /// Refusals, the first in this order: `BadSeats` exactly where `seats` isn't in 1 to 64, before
+    /// anything is allocated; `OutOfMemory` where a growth was refused. No other call takes memory.
+    ///
+    /// Not promised: that memory is there.
+    pub fn new(alloc: Global, seats: u32) -> Result<(Gens, Keeper, Vec<Pass>), GensFault>
+        ensures bad_seats { IsErrOf result GensFault.BadSeats ↔ ((seats ≡ 0) ⊎ (MOST_SEATS < seats)) }
+        ensures keeper { IfOk result (λ r. r.1 ≡ first_keeper r.0 seats) }
+        ensures passes { IfOk result (λ r. r.2.items ≡ first_passes r.0 seats) }
+
+        // Passes and keeper come from the call that made the table.
+        ensures count { IfOk result (λ r. length r.2.items ≡ seats) }
+        ensures tables { IfOk result (λ r. (r.1.table ≡ r.0) × All (λ p. p.table ≡ r.0) r.2.items) }
+    {
+        if seats == 0 || seats as usize > MOST_SEATS {
+            return Err(GensFault::BadSeats);
+        }
+        open(alloc, seats as usize).map_err(|_| GensFault::OutOfMemory)
+    }
+}
+
+fn open(alloc: Global, seats: usize) -> Result<(Gens, Keeper, Vec<Pass>), AllocError>
+    requires { seats ≤ MOST_SEATS }
+    ensures keeper { IfOk result (λ r. (r.1 ≡ first_keeper r.0 seats) × (r.1.table ≡ r.0)) }
+    ensures passes { IfOk result (λ r. r.2.items ≡ first_passes r.0 seats) }
+    ensures count { IfOk result (λ r. length r.2.items ≡ seats) }
+    ensures tables { IfOk result (λ r. All (λ p. p.table ≡ r.0) r.2.items) }
+{
+    let (words, mut token) = lay_words(alloc, seats)?;
+    let passes = give_passes(alloc, &words, &mut token, seats)?;
+    let keeper = Keeper {
+        generation: 0,
+        bounds: zero_bounds(seats),
+        token,
+    };
+    Ok((Gens { words }, keeper, passes))
+}
+
+fn lay_words(alloc: Global, seats: usize) -> Result<(WordTable, Token), AllocError>
+    requires { seats ≤ MOST_SEATS }
+    ensures words { IfOk result (λ r. r.0.shared.table_id.words ≡ seats + 1) }
+    ensures token { IfOk result (λ r. r.1.table_id ≡ r.0.shared.table_id) }
+    ensures view { IfOk result (λ r. r.1.me ≡ (giving_view seats 0, [])) }
+{
+    let zeros = Vec::from_elem(alloc, 0u64, seats + 1)?;
+    WordTable::of_words(alloc, zeros.as_slice(), &seats)
+}
+
+fn give_passes(
+    alloc: Global,
+    words: &WordTable,
+    keeper: &mut Token,
+    seats: usize,
+) -> Result<Vec<Pass>, AllocError>
+    requires few { seats ≤ MOST_SEATS }
+    requires table { keeper.old.table_id ≡ words.now.shared.table_id }
+    requires words { keeper.old.table_id.words ≡ seats + 1 }
+    requires view { keeper.old.me ≡ (giving_view seats 0, []) }
+    ensures passes { IfOk result (λ v. v.items ≡ first_passes keeper.old.table_id seats) }
+    ensures count { IfOk result (λ v. length v.items ≡ seats) }
+    ensures tables { IfOk result (λ v. All (λ p. p.table ≡ keeper.old.table_id) v.items) }
+    ensures table { OnOk result (keeper.new.table_id ≡ keeper.old.table_id) }
+    ensures view { OnOk result (keeper.new.me ≡ (giving_view seats seats, [])) }
+{
+    let mut passes = Vec::with_capacity(alloc, seats)?;
+    for seat in 0..seats {
+        let token = words.shared.split_seat::<GivePass>(keeper);
+        passes.push(Pass {
+            seat,
+            since: 0,
+            token,
+        })?;
+    }
+    Ok(passes)
+}
+
+fn zero_bounds(seats: usize) -> ArrayVec<u64, MOST_SEATS>
+    requires { seats ≤ MOST_SEATS }
+    ensures { result.items ≡ replicate seats 0 }
+{
+    let mut bounds = ArrayVec::new();
+    for _seat in 0..seats {
+        bounds.push(0);
+    }
+    bounds
+}

@@ -1,0 +1,158 @@
+ghost use Rattle.std.specs.Prelude.{◌≡◌, All};
+ghost use Rattle.std.specs.Thread.{IsSync};
+
+use crate::{Gens, GensFault, Keeper, Pass};
+use std::test::Fail;
+use std::thread::{Threads, for_each_mut, join_mut};
+
+#[test]
+fn bad_seats_are_refused(rt: HostRuntime) {
+    for seats in [0, 65, u32::MAX] {
+        let opened = Gens::new(rt.alloc(), seats);
+        assert!(rt;
+            matches!(&opened, Err(GensFault::BadSeats)),
+            "{seats} seats"
+        );
+    }
+}
+
+/// Each pass checks in after a look. The result is the greatest answer of the looks.
+fn check_in_after_looks(gens: &Gens, keeper: &mut Keeper, passes: &mut [Pass]) -> u64
+    requires { (keeper.old.table ≡ gens.now) × All (λ p. p.table ≡ gens.now) passes.old }
+    ensures { keeper.new.table ≡ keeper.old.table }
+{
+    let mut greatest = 0;
+    for pass in passes.iter_mut() {
+        greatest = greatest.max(gens.look(keeper));
+        gens.check_in(pass);
+    }
+    greatest
+}
+
+#[test]
+fn a_look_waits_for_each_seat(rt: HostRuntime) -> Result<(), Fail> {
+    for seats in [1, 2, 64] {
+        let (gens, mut keeper, mut passes) = Gens::new(rt.alloc(), seats)?;
+        assert_eq!(rt; passes.len(), seats as usize);
+        assert_eq!(rt; gens.bump(&mut keeper)?, 1);
+        let early = check_in_after_looks(&gens, &mut keeper, passes.as_mut_slice());
+        assert_eq!(rt; early, 0, "{seats} seats");
+        assert_eq!(rt; gens.look(&mut keeper), 1, "{seats} seats");
+    }
+    Ok(())
+}
+
+#[test]
+fn a_seat_that_leaves_is_not_waited_for(rt: HostRuntime) -> Result<(), Fail> {
+    let (gens, mut keeper, mut passes) = Gens::new(rt.alloc(), 2)?;
+    let second = passes.remove(1);
+    let mut first = passes.remove(0);
+    gens.bump(&mut keeper)?;
+    gens.check_in(&mut first);
+    assert_eq!(rt; gens.look(&mut keeper), 0);
+    gens.leave(second);
+    assert_eq!(rt; gens.look(&mut keeper), 1);
+
+    // Once all have left, the answer is the generation.
+    gens.bump(&mut keeper)?;
+    assert_eq!(rt; gens.look(&mut keeper), 1);
+    gens.leave(first);
+    assert_eq!(rt; gens.look(&mut keeper), 2);
+    Ok(())
+}
+
+#[test]
+fn a_pass_that_is_dropped_holds_back(rt: HostRuntime) -> Result<(), Fail> {
+    let (gens, mut keeper, passes) = Gens::new(rt.alloc(), 1)?;
+    drop(passes);
+    gens.bump(&mut keeper)?;
+    assert_eq!(rt; gens.look(&mut keeper), 0);
+    Ok(())
+}
+
+/// It is allowed to start threads and not to wait, so nothing that it calls waits. It answers the
+/// first stamp, `since` after a meeting and after a check-in, and a look once the seat has left
+/// without taking the second stamp.
+fn all_calls<T: Threads>(_rt: &T, gens: &Gens, keeper: &mut Keeper, mut pass: Pass) -> [u64; 4]
+    requires { (keeper.old.table ≡ gens.now) × (pass.table ≡ gens.now) }
+{
+    let stamp = gens.bump(keeper).unwrap_or(0);
+    gens.meet(&mut pass, keeper);
+    let met = pass.since();
+    gens.check_in(&mut pass);
+    let since = pass.since();
+    let _second = gens.bump(keeper);
+    gens.leave(pass);
+    [stamp, met, since, gens.look(keeper)]
+}
+
+#[test]
+fn no_wait(rt: HostRuntime) -> Result<(), Fail> {
+    let (gens, mut keeper, mut passes) = Gens::new(rt.alloc(), 1)?;
+    let pass = passes.remove(0);
+    assert_eq!(rt; all_calls(&rt, &gens, &mut keeper, pass), [1, 0, 1, 2]);
+    assert_eq!(rt; keeper.generation(), 2);
+    Ok(())
+}
+
+fn check_in_often(gens: &Gens, pass: &mut Pass, times: usize)
+    requires { pass.old.table ≡ gens.now }
+    ensures { pass.new.table ≡ pass.old.table }
+{
+    for _ in 0..times {
+        gens.check_in(pass);
+    }
+}
+
+fn all_check_in<T: Threads + Sync>(rt: &T, gens: &Gens, passes: &mut [Pass], times: usize)
+    requires { All (λ p. p.table ≡ gens.now) passes.old }
+    ensures { All (λ p. p.table ≡ gens.now) passes.new }
+{
+    for_each_mut(rt, passes, 4, &|_, pass| check_in_often(gens, pass, times));
+}
+
+/// Bumps and looks in turn, and tells whether no answer fell or was above the generation.
+fn look_often(gens: &Gens, keeper: &mut Keeper, times: usize) -> bool
+    requires { keeper.old.table ≡ gens.now }
+    ensures { keeper.new.table ≡ keeper.old.table }
+{
+    let mut last = 0;
+    let mut rose = true;
+    for _ in 0..times {
+        let _stamp = gens.bump(keeper);
+        let answer = gens.look(keeper);
+        rose = rose && last <= answer && answer <= keeper.generation();
+        last = answer;
+    }
+    rose
+}
+
+fn check_in_beside<T: Threads + Sync>(
+    rt: &T,
+    gens: &Gens,
+    keeper: &mut Keeper,
+    passes: &mut [Pass],
+) -> bool
+    requires { (keeper.old.table ≡ gens.now) × All (λ p. p.table ≡ gens.now) passes.old }
+    ensures { (keeper.new.table ≡ gens.now) × All (λ p. p.table ≡ gens.now) passes.new }
+{
+    let (_, rose) = join_mut(
+        rt,
+        &mut ||
+            requires { IsSync T.row × All (λ p. p.table ≡ gens.now) passes.now }
+            ensures { All (λ p. p.table ≡ gens.entry.now) passes.exit.now }
+        { all_check_in(rt, gens, passes, 1000) },
+        &mut || look_often(gens, keeper, 100),
+    );
+    rose
+}
+
+#[test]
+fn check_in_beside_the_keeper(rt: HostRuntime) -> Result<(), Fail> {
+    let (gens, mut keeper, mut passes) = Gens::new(rt.alloc(), 4)?;
+    let rose = check_in_beside(&rt, &gens, &mut keeper, passes.as_mut_slice());
+    assert!(rt; rose);
+    all_check_in(&rt, &gens, passes.as_mut_slice(), 1);
+    assert_eq!(rt; gens.look(&mut keeper), 100);
+    Ok(())
+}

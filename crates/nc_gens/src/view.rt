@@ -1,0 +1,57 @@
+//! The table's words, and what each holder of a right to step on them knows.
+//!
+//! Word 0 is the generation, and word i + 1 is the word of seat i. The structs of numbers are
+//! names for proofs: no value of them is ever made, so they cost nothing when the program runs.
+use atomic_table::{Seat, Table, TableRule};
+use std::alloc::Global;
+
+/// The numbers of a pass. No value of it is made.
+pub struct PassNumbers {
+    /// What stands in the word of the pass's own seat.
+    pub word: u64,
+    /// The generation that the last check-in took.
+    pub since: u64,
+    /// The last generation that the pass has loaded, by a check-in or a meeting.
+    pub seen: u64,
+    /// How often the pass has loaded the generation.
+    pub loads: u64,
+}
+
+/// The numbers of the keeper. No value of it is made.
+pub struct KeeperNumbers {
+    pub generation: u64,
+    /// For each seat the number last loaded from its word, at first 0. In a clause an array is a
+    /// list, of any length.
+    pub bounds: [u64; 0],
+    /// For each seat how often its word was loaded.
+    pub looks: [u64; 0],
+}
+
+/// What a token knows of the words: a pass's part, the keeper's, both while they meet, or neither.
+/// No value of it is made.
+pub(crate) struct View {
+    pub is_pass: bool,
+    /// The seat of the pass.
+    pub seat: usize,
+    pub pass: PassNumbers,
+    pub is_keeper: bool,
+    pub keeper: KeeperNumbers,
+    /// The keeper has given out the passes of the seats below this one.
+    pub given: usize,
+}
+
+/// The rule that ties every view to the words. It holds between any two steps.
+pub(crate) struct WordRule;
+
+impl TableRule<(), View, usize> for WordRule {
+    ghost use Rattle.nc_gens.specs.Rule.{Ruled, first_view};
+
+    ghost holds = { λ _. Ruled };
+
+    ghost first = { first_view };
+}
+
+pub(crate) type WordTable = Table<(), View, usize, WordRule, Global>;
+
+/// The right to step on the words, with a view. It has no bytes.
+pub(crate) type Token = Seat<(), View>;
