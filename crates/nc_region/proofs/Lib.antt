@@ -12,3 +12,4 @@ pub mod Rising
 pub mod Inserting
 pub mod Windows
 pub mod Walking
+pub mod OneWalk

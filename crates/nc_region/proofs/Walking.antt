@@ -32,7 +32,7 @@ over_ends text from (c ∷ used) left [] now end over ends = absurd over
 over_ends text from (c ∷ used) left (s ∷ states) now end over ends = (over.0, over.1, over_ends text s used left states now end over.2 ends)
 
 -- a step from a known state leads to a known one
-known_next : (text : List ℕ) (marks : List Mark) → IsClosed text marks → (now next : State) → IsKnown marks now → Step text now next → IsKnown marks next
+pub known_next : (text : List ℕ) (marks : List Mark) → IsClosed text marks → (now next : State) → IsKnown marks now → Step text now next → IsKnown marks next
 known_next text marks closed now next known step =
     elim known [ inl m ↦ closed.steps now next m step | inr z ↦ absurd (omega (arith, z.0, step.0.0)) ]
 

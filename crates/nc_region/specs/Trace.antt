@@ -65,6 +65,16 @@ pub record IsTrace (text : List ℕ) (start : ℕ) (choices places : List ℕ) (
   pub walks : Walks text (state start None) choices states end
   pub places_are : places ≡ start ∷ map (λ (s : State). s.place) states
 
+-- no other trace comes of these choices
+abbrev pub IsOnlyTrace : List ℕ → ℕ → List ℕ → List ℕ → End → Type 0
+IsOnlyTrace text start choices places end =
+    (others : List ℕ) (last : End) → IsTrace text start choices others last → (others ≡ places) × (last ≡ end)
+
+-- on every walk by these choices to this end, each state is safe
+abbrev pub IsSafeWalk : List ℕ → ℕ → List ℕ → End → Type 0
+IsSafeWalk text start choices end =
+    (states : List State) → Walks text (state start None) choices states end → AllSafe text (state start None ∷ states)
+
 -- a walk begins at a bundle start of the region
 abbrev pub IsWalkStart : List ℕ → ℕ → Type 0
 IsWalkStart text start = InRegion text start × IsBundleStart start
@@ -73,8 +83,3 @@ IsWalkStart text start = InRegion text start × IsBundleStart start
 abbrev pub MayRefuseWalk : List ℕ → ℕ → WalkFault → Type 0
 MayRefuseWalk text start NotBundle = ¬ IsWalkStart text start
 MayRefuseWalk text start OutOfMemory = IsWalkStart text start
-
--- each state of every such walk is safe
-abbrev pub IsSafeWalk : List ℕ → ℕ → List ℕ → End → Type 0
-IsSafeWalk text start choices end =
-    (states : List State) → Walks text (state start None) choices states end → AllSafe text (state start None ∷ states)

@@ -6,7 +6,7 @@ ghost use Rattle.nc_text.specs.Places.{InRegion, byte_at, limit_of};
 ghost use Rattle.nc_text.specs.Code.{new_code};
 ghost use Rattle.nc_region.specs.Acts.{Tells, acts_of_create};
 ghost use Rattle.nc_region.specs.Region.{Region, IsRegion, IsNew, IsCreated, MayRefuse, Meets};
-ghost use Rattle.nc_region.specs.Trace.{IsTrace, IsSafeWalk, IsWalkStart, MayRefuseWalk};
+ghost use Rattle.nc_region.specs.Trace.{IsTrace, IsOnlyTrace, IsSafeWalk, IsWalkStart, MayRefuseWalk};
 
 use crate::acts::Acts;
 use crate::chunk::{Chunk, ChunkState};
@@ -158,6 +158,8 @@ impl<A: Acts + Drop> RegionOf<A> {
     pub fn walk(&self, start: u32, choices: &[u32]) -> Result<Trace, WalkFault>
         // Its places are those of a walk of the machine, and its end is the first that comes.
         ensures trace { IfOk result (λ t. IsTrace self.now.code.bytes start choices.now t.places.items t.end) }
+        // The start and the choices determine them.
+        ensures only { IfOk result (λ t. IsOnlyTrace self.now.code.bytes start choices.now t.places.items t.end) }
         // The machine stands on safe states alone.
         ensures safe { IfOk result (λ t. IsSafeWalk self.now.code.bytes start choices.now t.end) }
         ensures begins { OnOk result (IsWalkStart self.now.code.bytes start) }

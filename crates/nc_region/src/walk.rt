@@ -6,7 +6,7 @@ ghost use Rattle.nc_decode.specs.Transfers.{is_indirect, target};
 ghost use Rattle.nc_text.specs.Places.{InRegion, byte_at, instruction_at, limit_of};
 ghost use Rattle.nc_text.specs.Machine.{IsMaskedFor, IsSafe, Leads, state};
 ghost use Rattle.nc_text.specs.Code.{IsText};
-ghost use Rattle.nc_region.specs.Trace.{EndsBy, GoesOn, IsSafeWalk, IsTrace, Moves, Picks, IsWalkStart, bundle_of};
+ghost use Rattle.nc_region.specs.Trace.{EndsBy, GoesOn, IsOnlyTrace, IsSafeWalk, IsTrace, Moves, Picks, IsWalkStart, bundle_of};
 
 use crate::acts::Acts;
 use crate::trace::{End, Trace};
@@ -48,6 +48,7 @@ pub(crate) fn walk_from<A: Acts>(
     requires whole { IsText (A.code acts.now) }
     requires begins { IsWalkStart (A.code acts.now).bytes start }
     ensures trace { IfOk result (λ t. IsTrace (A.code acts.now).bytes start choices.now t.places.items t.end) }
+    ensures only { IfOk result (λ t. IsOnlyTrace (A.code acts.now).bytes start choices.now t.places.items t.end) }
     ensures safe { IfOk result (λ t. IsSafeWalk (A.code acts.now).bytes start choices.now t.end) }
 {
     let mut places = Vec::new(alloc);

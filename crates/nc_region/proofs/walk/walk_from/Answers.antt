@@ -3,9 +3,22 @@ use Rattle.std.proofs.lemmas.List.{take_more}
 use Rattle.nc_text.specs.Machine.{state}
 use Rattle.nc_region.specs.declared.trace.End.{End}
 use Rattle.nc_region.specs.declared.trace.End.TheVariants.{More}
+use Rattle.nc_decode.specs.declared.instruction.Mark.{Mark}
+use Rattle.nc_text.specs.Marks.{IsClosed}
+use Rattle.nc_region.specs.Trace.{IsTrace, IsOnlyTrace, IsSafeWalk, IsWalkStart}
+use Rattle.nc_region.proofs.OneWalk.{one_trace}
 use Rattle.nc_region.proofs.Walking.{IsUnderWay, way_is_safe, way_goes_on, way_ends_at, way_ends_last, walk_is_safe}
 use Rattle.nc_region.proofs.walk.walk_from.Goals as goal
 use Rattle.nc_region.proofs.walk.walk_from.Goals.{in-Ok-executed, in-Err-executed}
+
+-- what is promised of a trace
+meets : (text : List ℕ) (marks : List Mark) (start : ℕ) (choices places : List ℕ) (end : End) → IsClosed text marks → IsWalkStart text start → IsTrace text start choices places end → record { trace : IsTrace text start choices places end; only : IsOnlyTrace text start choices places end; safe : IsSafeWalk text start choices end }
+meets text marks start choices places end closed begins trace =
+    record {
+      trace = trace;
+      only = λ others last other. one_trace text marks start choices places others end last closed begins trace other;
+      safe = walk_is_safe text marks start choices end closed begins;
+    }
 
 pub step-requires-clause-safe : goal.step-requires-clause-safe
 step-requires-clause-safe g c =
@@ -33,18 +46,16 @@ loop-choice-preserved g c =
 pub returns-in-Err : goal.returns-in-Err
 returns-in-Err g c =
     let code = g.A.Acts.code c.args.acts.now in
-    record {
-      trace = way_ends_at code.bytes code.marks c.args.start c.args.choices.now c.loop-choice.places.items c.loop-choice.choice-index
-          (state c.loop-choice.now.place c.loop-choice.now.masked) c.in-Err.end (omega arith) c.loop-choice.invariant c.in-Err.ensures.ends;
-      safe = walk_is_safe code.bytes code.marks c.args.start c.args.choices.now c.in-Err.end c.requires.whole.closed c.requires.begins;
-    }
+    let trace = way_ends_at code.bytes code.marks c.args.start c.args.choices.now c.loop-choice.places.items c.loop-choice.choice-index
+        (state c.loop-choice.now.place c.loop-choice.now.masked) c.in-Err.end (omega arith) c.loop-choice.invariant c.in-Err.ensures.ends in
+    meets code.bytes code.marks c.args.start c.args.choices.now c.loop-choice.places.items c.in-Err.end c.requires.whole.closed c.requires.begins trace
 
 pub returns : goal.returns
 returns g c =
     let code = g.A.Acts.code c.args.acts.now in
-    let ends = way_ends_last code.bytes code.marks c.args.start c.args.choices.now c.loop-choice.places.items c.loop-choice.choice-index (state c.loop-choice.now.place c.loop-choice.now.masked) in
-    let safe = λ (end : End). walk_is_safe code.bytes code.marks c.args.start c.args.choices.now end c.requires.whole.closed c.requires.begins in
+    let trace = way_ends_last code.bytes code.marks c.args.start c.args.choices.now c.loop-choice.places.items c.loop-choice.choice-index (state c.loop-choice.now.place c.loop-choice.now.masked) in
+    let meet = λ (end : End). meets code.bytes code.marks c.args.start c.args.choices.now c.loop-choice.places.items end c.requires.whole.closed c.requires.begins in
     elim c.match-executed.branch [
-      | in-Ok-executed w ↦ rw w.end-is (record { trace = ends More (omega arith) c.loop-choice.invariant (w.in-Ok-executed.ensures.goes.0, refl); safe = safe More })
-      | in-Err-executed w ↦ rw w.end-is (record { trace = ends w.in-Err-executed.end (omega arith) c.loop-choice.invariant (w.in-Err-executed.ensures.ends []); safe = safe w.in-Err-executed.end })
+      | in-Ok-executed w ↦ rw w.end-is (meet More (trace More (omega arith) c.loop-choice.invariant (w.in-Ok-executed.ensures.goes.0, refl)))
+      | in-Err-executed w ↦ rw w.end-is (meet w.in-Err-executed.end (trace w.in-Err-executed.end (omega arith) c.loop-choice.invariant (w.in-Err-executed.ensures.ends [])))
     ]
