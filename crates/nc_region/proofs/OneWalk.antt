@@ -1,6 +1,6 @@
 -- In a closed text a walk goes one way: its start and its choices determine its places and its end.
-use Rattle.std.proofs.Common.{◌≡◌, ◌≢◌, ℕ, ◌+◌, ◌-◌, ◌%◌, ◌<◌, ◌≤◌, ◌⊎◌, List, [], ◌∷◌, map, Option, Some, None, MatchOption, inl, inr, arith, refl, ap, sym, subst, ◌∙◌, true, false}
-use Rattle.std.specs.Prelude.{⊤, IsSomeAnd, IsTrue}
+use Rattle.std.proofs.Common.{◌≡◌, ℕ, ◌<◌, List, [], ◌∷◌, map, Option, Some, None, inl, inr, arith, refl, ap, sym, subst, ◌∙◌, true, false}
+use Rattle.std.specs.Prelude.{IsSomeAnd, IsTrue}
 use Rattle.nc_decode.specs.declared.instruction.Instr.{Instr}
 use Rattle.nc_decode.specs.declared.instruction.Mark.{Mark}
 use Rattle.nc_decode.specs.declared.instruction.Flow.{Flow}
@@ -10,13 +10,14 @@ use Rattle.nc_decode.specs.Transfers.{is_indirect}
 use Rattle.nc_text.specs.Places.{limit_of, instruction_at}
 use Rattle.nc_text.specs.Machine.{State, state, LeadsBy, IsMaskedFor, IsSafe}
 use Rattle.nc_text.specs.Marks.{IsClosed}
-use Rattle.nc_text.proofs.Closing.{Executes, executes, leads_of}
+use Rattle.nc_text.proofs.Closing.{executes, leads_of}
 use Rattle.nc_text.proofs.Confined.{IsKnown, safe_if_known, start_is_marked}
 use Rattle.nc_region.specs.declared.trace.End.{End}
 use Rattle.nc_region.specs.declared.trace.End.TheVariants.{Stop, Trampoline, Beyond, More}
 use Rattle.nc_region.specs.Trace.{EndsBy, GoesOn, IsTrace, IsWalkStart, LeavesBy, Moves, Picks, Walks, bundle_of}
 use Rattle.nc_region.proofs.Walking.{known_next}
 
+-- at a place there is one instruction
 same_instr : (o : Option Instr) (i j : Instr) → o ≡ Some i → o ≡ Some j → i ≡ j
 same_instr o i j a b = cc
 
@@ -30,12 +31,14 @@ one_step IndirectJump limit i now choice a b la lb pa pb = pa ∙ sym pb
 one_step IndirectCall limit i now choice a b la lb pa pb = pa ∙ sym pb
 one_step flow.Stop limit i now choice a b la lb pa pb = absurd la
 
-pub one_move : (text : List ℕ) (now : State) (choice : ℕ) (a b : State) → Moves text now choice a → Moves text now choice b → a ≡ b
+-- so a choice picks one step at a place
+one_move : (text : List ℕ) (now : State) (choice : ℕ) (a b : State) → Moves text now choice a → Moves text now choice b → a ≡ b
 one_move text now choice a b ma mb =
     let same = same_instr (instruction_at text now.place) mb.instr ma.instr mb.is ma.is in
     let picked = subst (λ (i : Instr). Picks i.flow i now choice b) same mb.picked in
     one_step ma.instr.flow (limit_of text) ma.instr now choice a b (leads_of text now a ma.instr ma.is ma.step) (leads_of text now b ma.instr ma.is mb.step) ma.picked picked
 
+-- no test is both true and false
 not_both : false ≡ true → ⊥
 not_both e = cc
 
@@ -51,6 +54,7 @@ below IndirectCall limit i now next choice is may leads picks =
     elim leads [ inl l ↦ subst (λ (s : State). s.place < limit) picks l.2 | inr wrong ↦ absurd (wrong may) ]
 below flow.Stop limit i now next choice is may leads picks = absurd (not_both is)
 
+-- in a safe state no choice both moves on and leaves
 leaves_or_moves : (text : List ℕ) (now next : State) (choice : ℕ) → IsSafe text now → GoesOn text now → LeavesBy text now choice → Moves text now choice next → ⊥
 leaves_or_moves text now next choice safe goes leaves moves =
     let e = executes text now goes.0 safe in
@@ -90,6 +94,7 @@ one_end text now (c ∷ cs) Beyond Stop ea eb = absurd (ea.0.1 eb)
 one_end text now (c ∷ cs) Beyond More ea eb = let e = eb.1 in cc
 one_end text now (c ∷ cs) Beyond Beyond ea eb = refl
 
+-- from a known state the choices lead over one list of states to one end
 one_way : (text : List ℕ) (marks : List Mark) → IsClosed text marks → (now : State) (choices : List ℕ) (xs ys : List State) (a b : End) → IsKnown marks now → Walks text now choices xs a → Walks text now choices ys b → (xs ≡ ys) × (a ≡ b)
 one_way text marks closed now choices [] [] a b known wa wb = (refl, one_end text now choices a b wa wb)
 one_way text marks closed now [] [] (n ∷ ns) a b known wa wb = absurd wb
@@ -103,6 +108,7 @@ one_way text marks closed now (c ∷ cs) (n ∷ ns) (m ∷ ms) a b known wa wb =
     let e = rest.0 in
     (cc, rest.1)
 
+-- from a bundle start of the region there is one trace
 pub one_trace : (text : List ℕ) (marks : List Mark) (start : ℕ) (choices places others : List ℕ) (a b : End) → IsClosed text marks → IsWalkStart text start → IsTrace text start choices places a → IsTrace text start choices others b → (others ≡ places) × (b ≡ a)
 one_trace text marks start choices places others a b closed begins ta tb =
     let known : IsKnown marks (state start None) = inl (start_is_marked text marks closed (state start None) begins.0 begins.1) in

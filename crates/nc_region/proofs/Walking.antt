@@ -1,9 +1,8 @@
 -- What a walk has gone over so far: states from the first to the one where it stands, with the choices used up.
-use Rattle.std.proofs.Common.{◌≡◌, ℕ, ◌+◌, ◌<◌, ◌≤◌, ◌⊎◌, List, [], ◌∷◌, ◌++◌, length, map, take, drop, get_or, None, inl, inr, arith, refl, ap, sym, subst, ◌∙◌}
+use Rattle.std.proofs.Common.{◌≡◌, ℕ, ◌+◌, ◌<◌, ◌≤◌, List, [], ◌∷◌, ◌++◌, length, map, take, drop, get_or, None, inl, inr, arith, refl, ap, sym, subst, ◌∙◌}
 use Rattle.std.proofs.lemmas.List.{drop_more, drop_all, take-append-drop}
 use Rattle.nc_decode.specs.declared.instruction.Mark.{Mark}
-use Rattle.nc_text.specs.Places.{InRegion}
-use Rattle.nc_text.specs.Machine.{State, state, Step, IsSafe, AllSafe, Joined}
+use Rattle.nc_text.specs.Machine.{State, state, Step, IsSafe, Joined}
 use Rattle.nc_text.specs.Marks.{IsClosed}
 use Rattle.nc_text.proofs.Confined.{IsKnown, safe_if_known, start_is_marked, confined_if_closed}
 use Rattle.nc_region.specs.declared.trace.End.{End}
@@ -43,17 +42,21 @@ pub record IsUnderWay (text : List ℕ) (marks : List Mark) (start : ℕ) (used 
   pub places_are : places ≡ start ∷ map (λ (s : State). s.place) states
   pub known : IsKnown marks now
 
+-- the places of some states and of others behind them
 map-append : (xs ys : List State) → map (λ (s : State). s.place) (xs ++ ys) ≡ map (λ (s : State). s.place) xs ++ map (λ (s : State). s.place) ys
 map-append [] ys = refl
 map-append (x ∷ xs) ys = ap (λ (l : List ℕ). x.place ∷ l) (map-append xs ys)
 
+-- it begins on a bundle start of the region
 pub way_begins : (text : List ℕ) (marks : List Mark) (start : ℕ) → IsClosed text marks → IsWalkStart text start → IsUnderWay text marks start [] (start ∷ []) (state start None)
 way_begins text marks start closed begins =
     record { states = []; over = refl; places_are = refl; known = inl (start_is_marked text marks closed (state start None) begins.0 begins.1) }
 
+-- it stands on a safe state
 pub way_is_safe : (text : List ℕ) (marks : List Mark) (start : ℕ) (used places : List ℕ) (now : State) → IsClosed text marks → IsUnderWay text marks start used places now → IsSafe text now
 way_is_safe text marks start used places now closed way = safe_if_known text marks closed now way.known
 
+-- a choice takes it one state further
 pub way_goes_on : (text : List ℕ) (marks : List Mark) (start : ℕ) (used places : List ℕ) (now next : State) (choice : ℕ) → IsClosed text marks → IsUnderWay text marks start used places now → GoesOn text now → Moves text now choice next → IsUnderWay text marks start (used ++ choice ∷ []) (places ++ next.place ∷ []) next
 way_goes_on text marks start used places now next choice closed way goes moves =
     record {
@@ -63,6 +66,7 @@ way_goes_on text marks start used places now next choice closed way goes moves =
       known = known_next text marks closed now next way.known moves.step;
     }
 
+-- where it ends, its places are a trace
 pub way_ends : (text : List ℕ) (marks : List Mark) (start : ℕ) (used left places : List ℕ) (now : State) (end : End) → IsUnderWay text marks start used places now → EndsBy text now left end → IsTrace text start (used ++ left) places end
 way_ends text marks start used left places now end way ends =
     record {
@@ -89,6 +93,7 @@ walk_is_joined text now choices [] end walks = tt
 walk_is_joined text now [] (next ∷ rest) end walks = absurd walks
 walk_is_joined text now (choice ∷ choices) (next ∷ rest) end walks = (walks.1.step, walk_is_joined text next choices rest end walks.2)
 
+-- so on each walk from a bundle start of the region all states are safe
 pub walk_is_safe : (text : List ℕ) (marks : List Mark) (start : ℕ) (choices : List ℕ) (end : End) → IsClosed text marks → IsWalkStart text start → IsSafeWalk text start choices end
 walk_is_safe text marks start choices end closed begins states walks =
     confined_if_closed text marks closed (state start None ∷ states) (begins.0, begins.1, refl, walk_is_joined text (state start None) choices states end walks)

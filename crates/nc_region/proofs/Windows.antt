@@ -1,18 +1,19 @@
 -- An instruction that lies in one bundle is found by the bytes to the bundle's end.
-use Rattle.std.proofs.Common.{◌≡◌, ℕ, ◌+◌, ◌-◌, ◌%◌, ◌<◌, ◌≤◌, List, length, get_or, take, drop, Option, Some, None, arith, refl, sym, ap, subst, ◌∙◌}
+use Rattle.std.proofs.Common.{◌≡◌, ℕ, ◌+◌, ◌-◌, ◌<◌, ◌≤◌, List, length, get_or, take, drop, Option, Some, None, arith, refl, sym, ap, ◌∙◌}
 use Rattle.std.specs.Prelude.{IsSomeAnd}
 use Rattle.std.proofs.lemmas.List.{length-take, length-drop, get_or-take, get_or-drop, ext_get_or}
 use Rattle.nc_decode.specs.declared.instruction.Instr.{Instr}
 use Rattle.nc_decode.specs.Bundles.{IsInOneBundle}
 use Rattle.nc_decode.specs.Front.{first_instruction}
 use Rattle.nc_decode.proofs.FrontLaws.{depends_on_its_bytes}
-use Rattle.nc_text.specs.Places.{InRegion, byte_at, instruction_at, limit_of}
+use Rattle.nc_text.specs.Places.{InRegion, byte_at, instruction_at}
 use Rattle.nc_text.proofs.Fetch.{length_at}
 
 -- the bytes at the front of the window are those of the text from the place on
 abbrev pub Shows : List ℕ → List ℕ → ℕ → ℕ → Type 0
 Shows window text at n = (k : ℕ) → k < n → get_or window k 0 ≡ byte_at text (at + k)
 
+-- an instruction as long as the front of the window, or shorter, is at its front too
 pub found_in_window : (text window : List ℕ) (at n : ℕ) (i : Instr) → InRegion text at → instruction_at text at ≡ Some i → i.len ≤ n → n ≤ length window → Shows window text at n → first_instruction (take n window) ≡ Some i
 found_in_window text window at n i inside is short long shows =
     let low : 65536 ≤ at = inside.0 in
@@ -26,6 +27,7 @@ found_in_window text window at n i inside is short long shows =
     let there = shows k (omega arith) ∙ ap (λ (m : ℕ). get_or text m 0) moved in
     get_or-take i.len (take n window) k 0 small ∙ (get_or-take n window k 0 (omega arith) ∙ (there ∙ (sym (get_or-drop (at - 65536) text k 0) ∙ sym (get_or-take i.len (drop (at - 65536) text) k 0 small))))))
 
+-- what an instruction that is there is known for
 from_some : (o : Option Instr) (at : ℕ) → IsSomeAnd o (λ i. IsInOneBundle at i.len) → (i : Instr) × (o ≡ Some i) × IsInOneBundle at i.len
 from_some None at h = absurd h
 from_some (Some i) at h = (i, refl, h)
@@ -34,5 +36,6 @@ from_some (Some i) at h = (i, refl, h)
 pub standing : (text : List ℕ) (at : ℕ) → IsSomeAnd (instruction_at text at) (λ i. IsInOneBundle at i.len) → (i : Instr) × (instruction_at text at ≡ Some i) × IsInOneBundle at i.len
 standing text at stands = from_some (instruction_at text at) at stands
 
+-- there is one or there is none
 pub not_none : (o : Option Instr) (i : Instr) → o ≡ Some i → o ≡ None → ⊥
 not_none o i some none = cc

@@ -1,4 +1,4 @@
-use Rattle.std.proofs.Common.{◌≡◌, ◌+◌, ◌-◌, ◌%◌, ◌<◌, ◌≤◌, arith, length, sym, ◌∙◌, Some, ap}
+use Rattle.std.proofs.Common.{◌-◌, ◌%◌, arith, sym, ◌∙◌, ap}
 use Rattle.std.specs.Result.{result_ok}
 use Rattle.nc_region.proofs.Windows.{found_in_window, standing, not_none}
 use Rattle.nc_region.proofs.walk.instruction.Goals as goal

@@ -1,4 +1,4 @@
-use Rattle.std.proofs.Common.{◌≡◌, ◌+◌, ◌<◌, ◌≤◌, List, ℕ, [], ◌∷◌, ◌++◌, length, get_or, take, arith, refl}
+use Rattle.std.proofs.Common.{◌<◌, List, ℕ, [], length, get_or, take, arith, refl}
 use Rattle.std.proofs.lemmas.List.{take_more}
 use Rattle.nc_text.specs.Machine.{state}
 use Rattle.nc_region.specs.declared.trace.End.{End}
@@ -7,7 +7,7 @@ use Rattle.nc_decode.specs.declared.instruction.Mark.{Mark}
 use Rattle.nc_text.specs.Marks.{IsClosed}
 use Rattle.nc_region.specs.Trace.{IsTrace, IsOnlyTrace, IsSafeWalk, IsWalkStart}
 use Rattle.nc_region.proofs.OneWalk.{one_trace}
-use Rattle.nc_region.proofs.Walking.{IsUnderWay, way_is_safe, way_goes_on, way_ends_at, way_ends_last, walk_is_safe}
+use Rattle.nc_region.proofs.Walking.{way_is_safe, way_goes_on, way_ends_at, way_ends_last, walk_is_safe}
 use Rattle.nc_region.proofs.walk.walk_from.Goals as goal
 use Rattle.nc_region.proofs.walk.walk_from.Goals.{in-Ok-executed, in-Err-executed}
 
@@ -47,7 +47,7 @@ pub returns-in-Err : goal.returns-in-Err
 returns-in-Err g c =
     let code = g.A.Acts.code c.args.acts.now in
     let trace = way_ends_at code.bytes code.marks c.args.start c.args.choices.now c.loop-choice.places.items c.loop-choice.choice-index
-        (state c.loop-choice.now.place c.loop-choice.now.masked) c.in-Err.end (omega arith) c.loop-choice.invariant c.in-Err.ensures.ends in
+    (state c.loop-choice.now.place c.loop-choice.now.masked) c.in-Err.end (omega arith) c.loop-choice.invariant c.in-Err.ensures.ends in
     meets code.bytes code.marks c.args.start c.args.choices.now c.loop-choice.places.items c.in-Err.end c.requires.whole.closed c.requires.begins trace
 
 pub returns : goal.returns
