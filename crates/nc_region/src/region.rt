@@ -155,6 +155,8 @@ impl<A: Acts + Drop> RegionOf<A> {
     /// choice with its low five bits cleared, if that is below the limit. Each other step uses up a choice too. The
     /// walk ends below the region, at a stop, where no choice is left, or by an indirect transfer to the limit or above
     /// it; choices that are left then are ignored. Its places alone take memory, and the region stays as it is.
+    ///
+    /// Nothing is executed: the choices stand for what data and flags would decide. `NotBundle` is answered without memory.
     pub fn walk(&self, start: u32, choices: &[u32]) -> Result<Trace, WalkFault>
         // Its places are those of a walk of the machine, and its end is the first that comes.
         ensures trace { IfOk result (λ t. IsTrace self.now.code.bytes start choices.now t.places.items t.end) }

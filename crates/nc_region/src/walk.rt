@@ -63,7 +63,7 @@ pub(crate) fn walk_from<A: Acts>(
             Err(end) => return Ok(Trace { places, end }),
         }
     }
-    let end = match executed(acts, now) {
+    let end = match instruction_or_end(acts, now) {
         Ok(_) => End::More,
         Err(end) => end,
     };
@@ -79,12 +79,12 @@ fn step<A: Acts>(acts: &A, now: Thread, choice: u32) -> Result<Thread, End>
     ensures ends { IfErr result (λ end. (rest : List ℕ)
         → EndsBy (A.code acts.now).bytes (state now.place now.masked) (choice ∷ rest) end) }
 {
-    let instr = executed(acts, now)?;
+    let instr = instruction_or_end(acts, now)?;
     next(instr, now, choice, acts.limit()).ok_or(End::Beyond)
 }
 
 /// The instruction that leads on from a safe state, or how the walk ends there whatever the choices are.
-fn executed<A: Acts>(acts: &A, now: Thread) -> Result<Instr, End>
+fn instruction_or_end<A: Acts>(acts: &A, now: Thread) -> Result<Instr, End>
     requires whole { IsText (A.code acts.now) }
     requires safe { IsSafe (A.code acts.now).bytes (state now.place now.masked) }
     ensures goes { IfOk result (λ i. GoesOn (A.code acts.now).bytes (state now.place now.masked)

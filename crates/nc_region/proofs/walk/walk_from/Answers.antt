@@ -9,7 +9,7 @@ use Rattle.nc_region.specs.Trace.{IsTrace, IsOnlyTrace, IsSafeWalk, IsWalkStart}
 use Rattle.nc_region.proofs.OneWalk.{one_trace}
 use Rattle.nc_region.proofs.Walking.{way_is_safe, way_goes_on, way_ends_at, way_ends_last, walk_is_safe}
 use Rattle.nc_region.proofs.walk.walk_from.Goals as goal
-use Rattle.nc_region.proofs.walk.walk_from.Goals.{in-Ok-executed, in-Err-executed}
+use Rattle.nc_region.proofs.walk.walk_from.Goals.{in-Ok-instruction_or_end, in-Err-instruction_or_end}
 
 -- what is promised of a trace
 meets : (text : List ℕ) (marks : List Mark) (start : ℕ) (choices places : List ℕ) (end : End) → IsClosed text marks → IsWalkStart text start → IsTrace text start choices places end → record { trace : IsTrace text start choices places end; only : IsOnlyTrace text start choices places end; safe : IsSafeWalk text start choices end }
@@ -25,8 +25,8 @@ step-requires-clause-safe g c =
     let code = g.A.Acts.code c.args.acts.now in
     way_is_safe code.bytes code.marks c.args.start _ _ (state c.loop-choice.now.place c.loop-choice.now.masked) c.requires.whole.closed c.loop-choice.invariant
 
-pub executed-requires-clause-safe : goal.executed-requires-clause-safe
-executed-requires-clause-safe g c =
+pub instruction_or_end-requires-clause-safe : goal.instruction_or_end-requires-clause-safe
+instruction_or_end-requires-clause-safe g c =
     let code = g.A.Acts.code c.args.acts.now in
     way_is_safe code.bytes code.marks c.args.start _ _ (state c.loop-choice.now.place c.loop-choice.now.masked) c.requires.whole.closed c.loop-choice.invariant
 
@@ -55,7 +55,7 @@ returns g c =
     let code = g.A.Acts.code c.args.acts.now in
     let trace = way_ends_last code.bytes code.marks c.args.start c.args.choices.now c.loop-choice.places.items c.loop-choice.choice-index (state c.loop-choice.now.place c.loop-choice.now.masked) in
     let meet = λ (end : End). meets code.bytes code.marks c.args.start c.args.choices.now c.loop-choice.places.items end c.requires.whole.closed c.requires.begins in
-    elim c.match-executed.branch [
-      | in-Ok-executed w ↦ rw w.end-is (meet More (trace More (omega arith) c.loop-choice.invariant (w.in-Ok-executed.ensures.goes.0, refl)))
-      | in-Err-executed w ↦ rw w.end-is (meet w.in-Err-executed.end (trace w.in-Err-executed.end (omega arith) c.loop-choice.invariant (w.in-Err-executed.ensures.ends [])))
+    elim c.match-instruction_or_end.branch [
+      | in-Ok-instruction_or_end w ↦ rw w.end-is (meet More (trace More (omega arith) c.loop-choice.invariant (w.in-Ok-instruction_or_end.ensures.goes.0, refl)))
+      | in-Err-instruction_or_end w ↦ rw w.end-is (meet w.in-Err-instruction_or_end.end (trace w.in-Err-instruction_or_end.end (omega arith) c.loop-choice.invariant (w.in-Err-instruction_or_end.ensures.ends [])))
     ]
