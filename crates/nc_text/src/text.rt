@@ -16,13 +16,26 @@ pub(crate) const START: u32 = 0x10000;
 /// The byte of the instruction hlt, with which all unused text is filled.
 const STOP: u8 = 0xF4;
 
+/// Why no text is made.
 #[derive(Clone, Copy, Debug, PartialEq, Eq)]
 pub enum TextFault {
+    /// The number of bundles isn't in 2 to 524288.
     BadSize,
+    /// A growth was refused.
     OutOfMemory,
 }
 
-/// Bytes and marks from 00010000 to the limit.
+/// The bytes of a code region, from 00010000 to its limit, and a mark for each of them.
+///
+/// A mark stands for states of a thread: `Plain` for standing there whatever was masked before, `After(r)` for standing
+/// there with r just masked. A text is *closed* when every bundle start is `Plain`, every state that a mark stands for is
+/// safe, and each step from it leads to a state that a mark stands for or to a bundle start below 00010000. A `Text` is
+/// closed at every moment, also between two calls: the contract of each call that changes it demands that the result is
+/// closed. So a thread that stands on a marked state meets only permitted instructions, and leaves the region only to a
+/// bundle start below 00010000 (`law_of_closed`). That is the order of puts of Ansel et al. 2011, "Language-independent
+/// sandboxing of just-in-time compilation and self-modifying code", as one condition on each put.
+///
+/// It promises nothing of threads that stand elsewhere, and executes nothing.
 #[derive(Drop)]
 pub struct Text {
     bytes: Vec<u8>,
@@ -40,7 +53,13 @@ impl Model for Text {
 }
 
 impl Text {
-    /// A text of this many bundles, all stops, with bundle starts alone marked.
+    /// A text of this many bundles of 32 bytes: all F4, with exactly the bundle starts `Plain`. Its limit is 00010000 plus
+    /// 32 times `bundles`. No other call takes memory.
+    ///
+    /// # Errors
+    ///
+    /// `BadSize` exactly where `bundles` isn't in 2 to 524288, before any growth, and `OutOfMemory` only where a growth was
+    /// refused.
     pub fn new(alloc: Global, bundles: u32) -> Result<Self, TextFault>
         ensures size { (result ≡ Err TextFault.BadSize) ↔ ((bundles < 2) ⊎ (524288 < bundles)) }
         ensures code { IfOk result (λ t. t ≡ new_code bundles) }
@@ -60,7 +79,7 @@ impl Text {
         Ok(Text { bytes, marks })
     }
 
-    /// The address behind the last byte.
+    /// The address behind the last byte: a multiple of 32.
     pub fn limit(&self) -> u32
         ensures limit { result ≡ limit_of self.now.bytes }
         ensures whole { IsText self.now }
@@ -68,6 +87,7 @@ impl Text {
         START + self.bytes.len() as u32
     }
 
+    /// The byte at an address of the region.
     pub fn byte(&self, at: u32) -> u8
         requires { InRegion self.now.bytes at }
         ensures { result ≡ byte_at self.now.bytes at }
@@ -75,6 +95,7 @@ impl Text {
         self.bytes[(at - START) as usize]
     }
 
+    /// The mark at an address of the region.
     pub fn mark(&self, at: u32) -> Mark
         requires { InRegion self.now.bytes at }
         ensures { result ≡ mark_at self.now.marks at }
@@ -82,7 +103,9 @@ impl Text {
         self.marks[(at - START) as usize]
     }
 
-    /// Puts one byte.
+    /// Puts one byte at an address of the region. No mark changes, and no other byte.
+    ///
+    /// The condition is that the text with that byte is closed under the same marks. A byte may be put that is there already.
     pub fn put(&mut self, at: u32, byte: u8)
         requires inside { InRegion self.old.bytes at }
         requires closed { IsClosed (with_byte self.old at byte).bytes self.old.marks }
@@ -92,7 +115,11 @@ impl Text {
         self.bytes[(at - START) as usize] = byte;
     }
 
-    /// Sets the marks of a span.
+    /// Sets the marks of the span that begins at `at` and is as long as `marks`. No byte changes, and no mark outside. An
+    /// empty span names no place, wherever `at` is, and changes nothing.
+    ///
+    /// The conditions are that the span lies in the region, that the registers given are 0 to 7, that each place that is
+    /// marked keeps its mark or becomes `Plain`, so that no thread loses its place, and that the result is closed.
     pub fn mark_span(&mut self, at: u32, marks: &[Mark])
         requires inside { SpanInRegion self.old.bytes at (length marks.now) }
         requires registers { All NamesRegister marks.now }
@@ -108,7 +135,11 @@ impl Text {
         set_span(&mut self.marks, (at - START) as usize, marks);
     }
 
-    /// Unmarks the places of a span that aren't bundle starts.
+    /// Makes every place of the span of `len` bytes from `at` on `Unmarked` that isn't a bundle start. No byte changes, and no
+    /// mark outside. An empty span names no place, wherever `at` is, and changes nothing.
+    ///
+    /// The conditions are that the span lies in the region, that every byte of it is F4, and that the result is closed. That
+    /// no thread stands there isn't one of them: whoever calls has to know it.
     pub fn unmark_span(&mut self, at: u32, len: u32)
         requires inside { SpanInRegion self.old.bytes at len }
         requires stops { AreStops self.old.bytes at len }
