@@ -1,0 +1,96 @@
+use Rattle.std.proofs.Common.{◌≡◌, ◌≢◌, ℕ, ◌+◌, ◌-◌, ◌%◌, ◌<◌, ◌≤◌, List, [], ◌∷◌, length, get_or, arith, inl, inr, refl, sym, subst, ◌∙◌, ap}
+use Rattle.std.proofs.lemmas.Bool.{cases_lt}
+use Rattle.std.proofs.lemmas.Bool.Decides.{nat_tests}
+use Rattle.std.proofs.lemmas.List.{get_or-replicate, length-replicate}
+use Rattle.std.proofs.lemmas.List.FromFn.{length-map-range_with_len, get_or-map-range_with_len}
+use Rattle.nc_decode.specs.declared.instruction.Mark.{Mark}
+use Rattle.nc_decode.specs.declared.instruction.Mark.TheVariants.{Unmarked, Plain, After}
+use Rattle.nc_text.specs.Places.{byte_at}
+use Rattle.nc_text.specs.Marks.{IsClosed, Admits}
+use Rattle.nc_text.specs.Code.{Code, bare_mark, bare_marks, with_byte, with_span, with_marks, without_marks, new_code}
+use Rattle.nc_text.proofs.Fresh.{unused_closed, marked_within}
+use Rattle.nc_text.proofs.Closing.{closed_after_put}
+use Rattle.nc_text.proofs.SpanElements.{length-with_span, get_or-with_span_in, get_or-with_span_below, get_or-with_span_above}
+use Rattle.nc_text.proofs.tests.acts.Goals as goal
+
+-- a mark that the span has, or that stood there outside it
+spanned : (xs ys : List Mark) (s k : ℕ) (m : Mark) → s + length ys ≤ length xs → get_or xs k Unmarked ≡ m → (s ≤ k → k < s + length ys → get_or ys (k - s) Unmarked ≡ m) → get_or (with_span xs s ys) k Unmarked ≡ m
+spanned xs ys s k m fits out within =
+    elim (cases_lt k s) [
+      | inl below ↦ get_or-with_span_below xs s ys k Unmarked fits below ∙ out
+      | inr from ↦ elim (cases_lt k (s + length ys)) [
+        | inl in_span ↦ get_or-with_span_in xs s ys k Unmarked fits from in_span ∙ within from in_span
+        | inr past ↦ get_or-with_span_above xs s ys k Unmarked fits past ∙ out
+      ]
+    ]
+
+-- the marks of a new text
+bare_at : (n k : ℕ) → k < n → get_or (bare_marks 65536 n) k Unmarked ≡ bare_mark (65536 + k)
+bare_at n k lt = get_or-map-range_with_len bare_mark 65536 n k (65536 + k) Unmarked lt refl
+
+bare_start : (n k : ℕ) → k < n → k % 32 ≡ 0 → get_or (bare_marks 65536 n) k Unmarked ≡ Plain
+bare_start n k lt start = bare_at n k lt ∙ (let e : (65536 + k) % 32 ≡ 0 = omega (arith, start) in grind (arith, nat_tests, e))
+
+abbrev two_marks : List Mark
+two_marks = Plain ∷ After 3 ∷ []
+
+abbrev first : Code
+first = new_code 2
+
+abbrev second : Code
+second = with_marks first 65537 two_marks
+
+abbrev third : Code
+third = without_marks second 65536 3
+
+long_first : length first.marks ≡ 64
+long_first = length-map-range_with_len bare_mark 65536 64
+
+long_second : length second.marks ≡ 64
+long_second = length-with_span first.marks 1 two_marks (omega (arith, long_first)) ∙ long_first
+
+long_three : length (bare_marks 65536 3) ≡ 3
+long_three = length-map-range_with_len bare_mark 65536 3
+
+long_third : length third.marks ≡ 64
+long_third = length-with_span second.marks 0 (bare_marks 65536 3) (omega (arith, long_second, long_three)) ∙ long_second
+
+start_second : (k : ℕ) → k < 64 → k % 32 ≡ 0 → get_or second.marks k Unmarked ≡ Plain
+start_second k lt start = spanned first.marks two_marks 1 k Plain (omega (arith, long_first)) (bare_start 64 k lt start) (λ low high. absurd (omega (arith, start, low, high)))
+
+start_third : (k : ℕ) → k < 64 → k % 32 ≡ 0 → get_or third.marks k Unmarked ≡ Plain
+start_third k lt start =
+    spanned second.marks (bare_marks 65536 3) 0 k Plain (omega (arith, long_second, long_three)) (start_second k lt start)
+    (λ low high. bare_start 3 (k - 0) (omega (arith, high, long_three)) (omega (arith, start)))
+
+closed_second : IsClosed second.bytes second.marks
+closed_second = unused_closed 64 second.bytes second.marks refl long_second start_second
+
+closed_third : IsClosed third.bytes third.marks
+closed_third = unused_closed 64 third.bytes third.marks refl long_third start_third
+
+-- the byte that is put stands at no mark
+unmarked_third : get_or third.marks 3 Unmarked ≡ Unmarked
+unmarked_third =
+    spanned second.marks (bare_marks 65536 3) 0 3 Unmarked (omega (arith, long_second, long_three))
+    (spanned first.marks two_marks 1 3 Unmarked (omega (arith, long_first)) (bare_at 64 3 (omega arith)) (λ low high. absurd (omega (arith, high))))
+    (λ low high. absurd (omega (arith, high, long_three)))
+
+stop_third : (at : ℕ) → 65536 ≤ at → at < 65600 → byte_at third.bytes at ≡ 244
+stop_third at low high = get_or-replicate 64 (at - 65536) 244 0 (omega (arith, low, high))
+
+closed_fourth : IsClosed (with_byte third 65539 0x90).bytes third.marks
+closed_fourth =
+    closed_after_put third.bytes third.marks 65539 0x90 closed_third (omega arith, let long : length third.bytes ≡ 64 = length-replicate {A = ℕ} 64 244 in omega (arith, long))
+    (λ now m.
+    let other : now.place ≢ 65539 = λ same. subst (λ (k : Mark). Admits k now.masked) (ap (λ (at : ℕ). get_or third.marks (at - 65536) Unmarked) same ∙ unmarked_third) m.1 in
+    inr (inl (other, stop_third now.place m.0 (omega (arith, marked_within third.marks now m, long_third)))))
+
+pub mark_span-requires-clause-closed : goal.mark_span-requires-clause-closed
+mark_span-requires-clause-closed g c = subst (λ (t : Code). IsClosed t.bytes (with_marks t 65537 two_marks).marks) (sym c.in_ok-text.ensures.code) closed_second
+
+pub unmark_span-requires-clause-closed : goal.unmark_span-requires-clause-closed
+unmark_span-requires-clause-closed g c = subst (λ (t : Code). IsClosed t.bytes (without_marks t 65536 3).marks) (sym (c.mark_span.ensures.code ∙ ap (λ (t : Code). with_marks t 65537 two_marks) c.in_ok-text.ensures.code)) closed_third
+
+pub put-requires-clause-closed : goal.put-requires-clause-closed
+put-requires-clause-closed g c = subst (λ (t : Code). IsClosed (with_byte t 65539 0x90).bytes t.marks) (sym (c.unmark_span.ensures.code ∙ ap (λ (t : Code). without_marks t 65536 3) (c.mark_span.ensures.code ∙ ap (λ (t : Code). with_marks t 65537 two_marks) c.in_ok-text.ensures.code))) closed_fourth

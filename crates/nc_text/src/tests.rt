@@ -1,0 +1,59 @@
+use crate::{Text, TextFault, law_of_closed};
+use nc_decode::Mark;
+
+/// Numbers of bundles, and the limit of the text or why there is none.
+static SIZES: [(u32, Result<u32, TextFault>); 8] = [
+    (0, Err(TextFault::BadSize)),
+    (1, Err(TextFault::BadSize)),
+    (2, Ok(0x0001_0040)),
+    (4, Ok(0x0001_0080)),
+    (2048, Ok(0x0002_0000)),
+    (524_288, Ok(0x0101_0000)),
+    (524_289, Err(TextFault::BadSize)),
+    (u32::MAX, Err(TextFault::BadSize)),
+];
+
+#[test]
+fn sizes(rt: HostRuntime) {
+    for (bundles, wanted) in &SIZES {
+        let limit = match Text::new(rt.alloc(), *bundles) {
+            Ok(text) => Ok(text.limit()),
+            Err(fault) => Err(fault),
+        };
+        assert_eq!(rt; limit, *wanted, "{bundles} bundles");
+    }
+}
+
+/// What stands at a place of a new text.
+fn first_mark(at: u32) -> Mark {
+    if at % 32 == 0 {
+        Mark::Plain
+    } else {
+        Mark::Unmarked
+    }
+}
+
+#[test]
+fn acts(rt: HostRuntime) -> Result<(), TextFault> {
+    let mut text = Text::new(rt.alloc(), 2)?;
+    for at in 0x0001_0000..0x0001_0040 {
+        assert_eq!(rt; text.byte(at), 0xF4, "the byte at {at:x}");
+        assert_eq!(rt; text.mark(at), first_mark(at), "the mark at {at:x}");
+    }
+    text.mark_span(0x0001_0001, &[Mark::Plain, Mark::After(3)]);
+    assert_eq!(rt; text.mark(0x0001_0000), Mark::Plain);
+    assert_eq!(rt; text.mark(0x0001_0001), Mark::Plain);
+    assert_eq!(rt; text.mark(0x0001_0002), Mark::After(3));
+    assert_eq!(rt; text.mark(0x0001_0003), Mark::Unmarked);
+    text.unmark_span(0x0001_0000, 3);
+    for at in 0x0001_0000..0x0001_0040 {
+        assert_eq!(rt; text.mark(at), first_mark(at), "the mark at {at:x}");
+    }
+    text.put(0x0001_0003, 0x90);
+    assert_eq!(rt; text.byte(0x0001_0002), 0xF4);
+    assert_eq!(rt; text.byte(0x0001_0003), 0x90);
+    assert_eq!(rt; text.byte(0x0001_0004), 0xF4);
+    assert_eq!(rt; text.mark(0x0001_0003), Mark::Unmarked);
+    law_of_closed();
+    Ok(())
+}
