@@ -68,8 +68,10 @@ prefix_free one more i j s t =
   where
     ok : Instr → Result Instr DecodeFault
     ok k = Ok k
+
     only : (a b : Instr) → ok a ≡ ok b → a ≡ b
     only a b e = cc
+
     none : (xs : List ℕ) → length xs ≡ 0 → xs ≡ []
     none [] e = refl
     none (x ∷ xs) e = absurd (omega arith)
@@ -130,7 +132,7 @@ pub names_registers : NamesRegisters
 names_registers bytes i e =
     let f = found_at_front bytes i e in
     subst (λ (k : Instr). (k.reg < 8) × IfSome k.masks (λ r. (r < 8) × (r ≢ 4))) (sym f.spells.says)
-      (transfer_register f.spells.parts.row.flow f.spells.parts.operand, mask_register (spelled f.spells.parts))
+    (transfer_register f.spells.parts.row.flow f.spells.parts.operand, mask_register (spelled f.spells.parts))
 
 -- an instruction masks a register exactly where its bytes are that register's mask
 pub masks_exactly : MasksExactly
@@ -138,8 +140,7 @@ masks_exactly bytes i r e =
     let f = found_at_front bytes i e in
     let n = spells_some f.front i f.spells in
     let says : i.masks ≡ masks_of (spelled f.spells.parts) = ap (λ (k : Instr). k.masks) f.spells.says in
-    let front : take i.len bytes ≡ spelled f.spells.parts = ap (λ (xs : List ℕ). take i.len xs) f.parts ∙ take_at f.front f.rest i.len (sym n.0) ∙ f.spells.whole in
-    (
+    let front : take i.len bytes ≡ spelled f.spells.parts = ap (λ (xs : List ℕ). take i.len xs) f.parts ∙ take_at f.front f.rest i.len (sym n.0) ∙ f.spells.whole in (
       λ h. (let m = masks_only (spelled f.spells.parts) r (sym says ∙ h) in (front ∙ m.0, m.1, m.2)),
       λ h. says ∙ ap masks_of (sym front ∙ h.0) ∙ mask_masks r h.1 h.2,
     )
@@ -147,8 +148,7 @@ masks_exactly bytes i r e =
 -- behind a prefix an instruction goes on to the next and masks nothing
 pub goes_on_behind_prefix : GoesOnBehindPrefix
 goes_on_behind_prefix bytes i s some =
-    let p = prefix_at s.parts s.parts.prefix s.fit.prefix in
-    (
+    let p = prefix_at s.parts s.parts.prefix s.fit.prefix in (
       ap (λ (k : Instr). k.flow) s.says ∙ prefixed_goes_on s.parts s.parts.prefix s.fit (opcode-lt s.parts p.0 s.fit p.1) s.fit.prefix some,
       ap (λ (k : Instr). k.masks) s.says ∙ none_by _ (masks_of (spelled s.parts)) refl (λ masks. some (masking_is_bare s.parts s.fit masks)),
     )

@@ -112,7 +112,8 @@ impl Text {
         ensures code { self.new ≡ with_byte self.old at byte }
         ensures whole { IsText self.new }
     {
-        self.bytes[(at - START) as usize] = byte;
+        let index = (at - START) as usize;
+        self.bytes[index] = byte;
     }
 
     /// Sets the marks of the span that begins at `at` and is as long as `marks`. No byte changes, and no mark outside. An
