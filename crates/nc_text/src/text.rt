@@ -129,6 +129,7 @@ impl Text {
         ensures code { self.new ≡ with_marks self.old at marks.now }
         ensures whole { IsText self.new }
     {
+        // Names a field, so that the early return is checked against the fields and not the whole.
         let _open = &self.bytes;
         if marks.is_empty() {
             return;
@@ -148,6 +149,7 @@ impl Text {
         ensures code { self.new ≡ without_marks self.old at len }
         ensures whole { IsText self.new }
     {
+        // Names a field, so that the early return is checked against the fields and not the whole.
         let _open = &self.bytes;
         if len == 0 {
             return;

@@ -28,44 +28,57 @@ spanned xs ys s k m fits out within =
 bare_at : (n k : ℕ) → k < n → get_or (bare_marks 65536 n) k Unmarked ≡ bare_mark (65536 + k)
 bare_at n k lt = get_or-map-range_with_len bare_mark 65536 n k (65536 + k) Unmarked lt refl
 
+-- bundle starts are plain in it
 bare_start : (n k : ℕ) → k < n → k % 32 ≡ 0 → get_or (bare_marks 65536 n) k Unmarked ≡ Plain
 bare_start n k lt start = bare_at n k lt ∙ (let e : (65536 + k) % 32 ≡ 0 = omega (arith, start) in grind (arith, nat_tests, e))
 
+-- the marks that are set
 abbrev two_marks : List Mark
 two_marks = Plain ∷ After 3 ∷ []
 
+-- the new text
 abbrev first : Code
 first = new_code 2
 
+-- with two marks set
 abbrev second : Code
 second = with_marks first 65537 two_marks
 
+-- with them taken back
 abbrev third : Code
 third = without_marks second 65536 3
 
+-- as many marks as bytes, each time
 long_first : length first.marks ≡ 64
 long_first = length-map-range_with_len bare_mark 65536 64
 
+-- with the span set
 long_second : length second.marks ≡ 64
 long_second = length-with_span first.marks 1 two_marks (omega (arith, long_first)) ∙ long_first
 
+-- in the span
 long_three : length (bare_marks 65536 3) ≡ 3
 long_three = length-map-range_with_len bare_mark 65536 3
 
+-- with the span taken back
 long_third : length third.marks ≡ 64
 long_third = length-with_span second.marks 0 (bare_marks 65536 3) (omega (arith, long_second, long_three)) ∙ long_second
 
+-- bundle starts stay plain
 start_second : (k : ℕ) → k < 64 → k % 32 ≡ 0 → get_or second.marks k Unmarked ≡ Plain
 start_second k lt start = spanned first.marks two_marks 1 k Plain (omega (arith, long_first)) (bare_start 64 k lt start) (λ low high. absurd (omega (arith, start, low, high)))
 
+-- also when the span is taken back
 start_third : (k : ℕ) → k < 64 → k % 32 ≡ 0 → get_or third.marks k Unmarked ≡ Plain
 start_third k lt start =
     spanned second.marks (bare_marks 65536 3) 0 k Plain (omega (arith, long_second, long_three)) (start_second k lt start)
     (λ low high. bare_start 3 (k - 0) (omega (arith, high, long_three)) (omega (arith, start)))
 
+-- the text with two marks is closed
 closed_second : IsClosed second.bytes second.marks
 closed_second = unused_closed 64 second.bytes second.marks refl long_second start_second
 
+-- without them too
 closed_third : IsClosed third.bytes third.marks
 closed_third = unused_closed 64 third.bytes third.marks refl long_third start_third
 
@@ -76,9 +89,11 @@ unmarked_third =
     (spanned first.marks two_marks 1 3 Unmarked (omega (arith, long_first)) (bare_at 64 3 (omega arith)) (λ low high. absurd (omega (arith, high))))
     (λ low high. absurd (omega (arith, high, long_three)))
 
+-- each of its bytes is a stop
 stop_third : (at : ℕ) → 65536 ≤ at → at < 65600 → byte_at third.bytes at ≡ 244
 stop_third at low high = get_or-replicate 64 (at - 65536) 244 0 (omega (arith, low, high))
 
+-- with the byte put it is closed
 closed_fourth : IsClosed (with_byte third 65539 0x90).bytes third.marks
 closed_fourth =
     closed_after_put third.bytes third.marks 65539 0x90 closed_third (omega arith, let long : length third.bytes ≡ 64 = length-replicate {A = ℕ} 64 244 in omega (arith, long))
