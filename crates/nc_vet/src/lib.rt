@@ -11,3 +11,6 @@ pub use fault::VetFault;
 pub use nc_decode::Mark;
 pub use vetted::Vetted;
 pub use vetting::vet;
+
+#[cfg(test)]
+mod tests;

@@ -1,7 +1,8 @@
 //! The vetting of a chunk.
 
-ghost use Rattle.std.specs.Prelude.{◌≡◌, ◌<◌, ◌≤◌, ◌+◌, ◌^◌, ◌%◌, ◌↔◌, List, ℕ, length, vec_len, IfOk, IfErr, OnOk};
+ghost use Rattle.std.specs.Prelude.{◌≡◌, ◌<◌, ◌^◌, ◌↔◌, List, length, vec_len, IsTrue, IfOk, IfErr, OnOk};
 ghost use Rattle.nc_decode.specs.declared.instruction.Mark.{Mark};
+ghost use Rattle.nc_decode.specs.Bundles.{IsLawfulLimit};
 ghost use Rattle.nc_vet.specs.Chunk.{IsValid, IsBase, IsLength, IsInRange};
 ghost use Rattle.nc_vet.specs.Faults.{HasFault, HasSpanFault, HasGoodSpan};
 
@@ -12,20 +13,36 @@ use crate::vetted::Vetted;
 use nc_decode::Mark;
 use std::alloc::Global;
 
+/// The bytes of a bundle.
+const BUNDLE: u32 = 32;
+
+/// The address of a region's first byte.
+const START: u32 = 0x10000;
+
+/// The most bundles of a region.
+const MAX_BUNDLES: u32 = 524_288;
+
+/// A region may end there.
+fn is_lawful(limit: u32) -> bool
+    ensures { IsTrue result ↔ IsLawfulLimit limit }
+{
+    limit % BUNDLE == 0 && START + 2 * BUNDLE <= limit && limit <= START + MAX_BUNDLES * BUNDLE
+}
+
 /// The first of the faults that base, length and limit alone show.
 fn check_span(base: u32, limit: u32, len: usize) -> Result<(), VetFault>
     requires { len < 2 ^ 63 }
     ensures fine { OnOk result (HasGoodSpan base limit len) }
     ensures fault { IfErr result (HasSpanFault base limit len) }
 {
-    if base % 32 != 0 || base < 0x10000 {
+    if base % BUNDLE != 0 || base < START {
         return Err(VetFault::BadBase);
     }
-    if len == 0 || len % 32 != 0 {
+    if len == 0 || len % BUNDLE as usize != 0 {
         return Err(VetFault::BadLength);
     }
-    let lawful = limit % 32 == 0 && 0x10000 + 64 <= limit && limit <= 0x10000 + 32 * 524_288;
-    if !lawful || base as usize + len + 32 > limit as usize {
+    // The last bundle below the limit is the guard, which no chunk covers.
+    if !is_lawful(limit) || base as usize + len + BUNDLE as usize > limit as usize {
         return Err(VetFault::OutOfRange);
     }
     Ok(())
@@ -33,7 +50,8 @@ fn check_span(base: u32, limit: u32, len: usize) -> Result<(), VetFault>
 
 /// The marks of a valid chunk, or its fault.
 fn judge(alloc: Global, base: u32, limit: u32, code: &[u8]) -> Result<Vec<Mark>, VetFault>
-    ensures valid { IfOk result (λ marks. IsValid (record { base = base; limit = limit; code = code.now; marks = marks.items })) }
+    ensures valid { IfOk result (λ marks.
+        IsValid (record { base = base; limit = limit; code = code.now; marks = marks.items })) }
     ensures fault { IfErr result (HasFault base limit code.now) }
 {
     check_span(base, limit, code.len())?;
@@ -44,20 +62,41 @@ fn judge(alloc: Global, base: u32, limit: u32, code: &[u8]) -> Result<Vec<Mark>,
     }
 }
 
-/// The chunk, if it is valid for its base and this limit; else its code again, and its fault.
+/// Vets a chunk: reads it from its base, instruction by instruction, and judges where its jumps, branches and calls go.
+///
+/// A chunk is valid where it lies between the region's first byte and the guard, which is the last bundle below the
+/// limit, and is a list of permitted instructions such that
+/// - none crosses the end of a 32-byte bundle;
+/// - each indirect jump or call directly follows the mask of its register in the same bundle;
+/// - each direct transfer into the chunk goes to the start of an instruction that is no such jump or call;
+/// - each direct transfer out of the chunk goes to a bundle start below the limit.
+///
+/// The first three faults are tested in their order, before anything is allocated. The reading ends at the first
+/// instruction that breaks the first two rules; only where none does, targets are judged, and the first bad one is
+/// given. A chunk of the region's other code isn't looked at: any bundle start may be a target.
+///
+/// It promises nothing of what the code does with data, and none of memory but that a valid chunk is refused for want
+/// of it alone. On each refusal the code comes back.
+///
+/// The rules are C3 and C5 to C7 of table 1 of Yee et al., "Native Client: A Sandbox for Portable, Untrusted x86
+/// Native Code" (2009).
 pub fn vet(base: u32, limit: u32, code: Vec<u8>) -> Result<Vetted, (Vec<u8>, VetFault)>
     // What is vetted is the code that was given, for that base and limit, and it is valid.
-    ensures vetted { IfOk result (λ v. (v.base ≡ base) × (v.limit ≡ limit) × (v.code ≡ code.items) × IsValid v) }
-    // A refusal names the fault of the chunk; want of memory comes only where the first three faults don't hold.
+    ensures vetted { IfOk result (λ v.
+        (v.base ≡ base) × (v.limit ≡ limit) × (v.code ≡ code.items) × IsValid v) }
+    // A refusal names the chunk's fault; want of memory comes only where none of the first three holds.
     ensures fault { IfErr result (λ e. HasFault base limit code.items e.1) }
     // The code comes back as it was.
     ensures given_back { IfErr result (λ e. e.0 ≡ code) }
     // The first three faults are given exactly when they are due, in this order.
     ensures bad_base { (result ≡ Err (code, VetFault.BadBase)) ↔ ¬ IsBase base }
-    ensures bad_length { (result ≡ Err (code, VetFault.BadLength)) ↔ (IsBase base × ¬ IsLength (vec_len code)) }
-    ensures out_of_range { (result ≡ Err (code, VetFault.OutOfRange)) ↔ (IsBase base × IsLength (vec_len code) × ¬ IsInRange base limit (vec_len code)) }
+    ensures bad_length { (result ≡ Err (code, VetFault.BadLength))
+        ↔ (IsBase base × ¬ IsLength (vec_len code)) }
+    ensures out_of_range { (result ≡ Err (code, VetFault.OutOfRange))
+        ↔ (IsBase base × IsLength (vec_len code) × ¬ IsInRange base limit (vec_len code)) }
     // A valid chunk is refused for want of memory alone.
-    ensures valid { (marks : List Mark) → IsValid (record { base = base; limit = limit; code = code.items; marks = marks })
+    ensures valid { (marks : List Mark)
+        → IsValid (record { base = base; limit = limit; code = code.items; marks = marks })
         → IfErr result (λ e. e.1 ≡ VetFault.OutOfMemory) }
 {
     match judge(*code.allocator(), base, limit, &code) {

@@ -1,0 +1,174 @@
+//! Chunks with the answers that the rules give for them.
+
+use crate::VetFault::{BadBase, BadLength, BadTarget, Bare, Crosses, NotPermitted, OutOfRange};
+use crate::{Mark, VetFault, vet};
+use std::alloc::{AllocError, Global};
+use std::process::Abort;
+use std::test::Fail;
+
+/// Where the chunks of the first two tables stand, in a region of four bundles.
+const BASE: u32 = 0x10000;
+
+const LIMIT: u32 = 0x10080;
+
+/// Bytes that stand in a chunk from some places on; all others are nops.
+type Parts = &'static [(usize, &'static [u8])];
+
+/// Marks of some places.
+type Marks = &'static [(usize, Mark)];
+
+/// Chunks of so many bundles that are valid.
+#[rattlefmt::skip]
+static VALID: [(usize, Parts, Marks); 19] = [
+    // Pairs.
+    (1, &[(27, &[0x83, 0xE0, 0xE0, 0xFF, 0xE0])], &[(26, Mark::Plain), (27, Mark::Plain), (28, Mark::Unmarked), (30, Mark::After(0)), (31, Mark::Unmarked)]),
+    (1, &[(0, &[0x83, 0xE0, 0xE0, 0x83, 0xE0, 0xE0, 0xFF, 0xE0])], &[(0, Mark::Plain), (3, Mark::Plain), (6, Mark::After(0))]),
+    (1, &[(0, &[0x83, 0xE7, 0xE0, 0xFF, 0xD7])], &[(3, Mark::After(7))]),
+    (1, &[(0, &[0x83, 0xE3, 0xE0, 0xFF, 0xE3])], &[(3, Mark::After(3))]),
+    (2, &[(32, &[0x83, 0xE1, 0xE0, 0xFF, 0xE1])], &[(32, Mark::Plain), (35, Mark::After(1))]),
+    // A mask alone is an instruction like any other.
+    (2, &[(29, &[0x83, 0xE0, 0xE0])], &[(29, Mark::Plain), (32, Mark::Plain)]),
+    // Targets in the chunk: the mask of a pair, a mask before it, the last instruction, the instruction itself.
+    (1, &[(0, &[0xEB, 0x00, 0x83, 0xE0, 0xE0, 0xFF, 0xE0])], &[(2, Mark::Plain), (5, Mark::After(0))]),
+    (1, &[(0, &[0xEB, 0x03, 0x83, 0xE0, 0xE0, 0x83, 0xE0, 0xE0, 0xFF, 0xE0])], &[(5, Mark::Plain), (8, Mark::After(0))]),
+    (2, &[(0, &[0xEB, 0x3C]), (62, &[0xEB, 0xC0])], &[(62, Mark::Plain), (63, Mark::Unmarked)]),
+    (1, &[(0, &[0xEB, 0xFE])], &[(0, Mark::Plain), (1, Mark::Unmarked)]),
+    (1, &[(0, &[0x74, 0x0A])], &[(0, Mark::Plain), (1, Mark::Unmarked), (2, Mark::Plain)]),
+    // Targets outside: the next bundle, the guard, the last bundle of the zone, its first, all by several forms.
+    (1, &[(0, &[0x74, 0x1E])], &[(2, Mark::Plain)]),
+    (1, &[(0, &[0xEB, 0x1E])], &[(2, Mark::Plain)]),
+    (1, &[(0, &[0xE8, 0x5B, 0x00, 0x00, 0x00])], &[(4, Mark::Unmarked), (5, Mark::Plain)]),
+    (1, &[(0, &[0xE9, 0xDB, 0xFF, 0xFF, 0xFF])], &[(5, Mark::Plain)]),
+    (1, &[(0, &[0xE9, 0xFB, 0xFF, 0xFE, 0xFF])], &[(5, Mark::Plain)]),
+    (1, &[(0, &[0x0F, 0x84, 0x1A, 0x00, 0x00, 0x00])], &[(6, Mark::Plain)]),
+    (1, &[(0, &[0xE3, 0x3E])], &[(2, Mark::Plain)]),
+    // The longest chunk of this region.
+    (3, &[(0, &[0xEB, 0x5E]), (94, &[0xEB, 0xA0])], &[(94, Mark::Plain), (95, Mark::Unmarked)]),
+];
+
+/// Chunks of so many bundles that are refused.
+#[rattlefmt::skip]
+static FAULTY: [(usize, Parts, VetFault); 31] = [
+    // A pair over the end of a bundle.
+    (2, &[(29, &[0x83, 0xE0, 0xE0, 0xFF, 0xE0])], Bare { at: 0x10020 }),
+    (1, &[(28, &[0x83, 0xE0, 0xE0, 0xFF])], Crosses { at: 0x1001F }),
+    // No mask, the mask of another register, a mask with a prefix, one too far ahead, and of register 4, which none masks.
+    (1, &[(0, &[0xFF, 0xE0])], Bare { at: 0x10000 }),
+    (1, &[(0, &[0x83, 0xE0, 0xE0, 0xFF, 0xE1])], Bare { at: 0x10003 }),
+    (1, &[(0, &[0x66, 0x83, 0xE0, 0xE0, 0xFF, 0xE0])], Bare { at: 0x10004 }),
+    (1, &[(0, &[0x81, 0xE0, 0xE0, 0xFF, 0xFF, 0xFF, 0xFF, 0xE0])], Bare { at: 0x10006 }),
+    (1, &[(0, &[0x83, 0xE0, 0xE0, 0x90, 0xFF, 0xE0])], Bare { at: 0x10004 }),
+    (1, &[(0, &[0x83, 0xE4, 0xE0, 0xFF, 0xE4])], Bare { at: 0x10003 }),
+    (1, &[(0, &[0x83, 0xE0, 0xE0, 0xFF, 0xE0, 0xFF, 0xE0])], Bare { at: 0x10005 }),
+    (2, &[(0, &[0xEB, 0x3C]), (62, &[0xFF, 0xE0])], Bare { at: 0x1003E }),
+    // Instructions over the end of a bundle.
+    (1, &[(28, &[0xE9, 0x00, 0x00, 0x00])], Crosses { at: 0x1001C }),
+    (1, &[(31, &[0xFF])], Crosses { at: 0x1001F }),
+    (2, &[(31, &[0xB8, 0x00, 0x00, 0x00, 0x00])], Crosses { at: 0x1001F }),
+    (1, &[(30, &[0x8B, 0x05])], Crosses { at: 0x1001E }),
+    // What isn't permitted.
+    (1, &[(0, &[0xC3])], NotPermitted { at: 0x10000 }),
+    (1, &[(30, &[0xCD, 0x80])], NotPermitted { at: 0x1001E }),
+    (1, &[(28, &[0xF0, 0x83, 0x38])], NotPermitted { at: 0x1001C }),
+    (3, &[(64, &[0xFF, 0x20])], NotPermitted { at: 0x10040 }),
+    // The first of several, and bad targets only behind a reading without a fault.
+    (1, &[(0, &[0xFF, 0xE0, 0xC3]), (31, &[0xFF])], Bare { at: 0x10000 }),
+    (1, &[(0, &[0xC3, 0xFF, 0xE0]), (31, &[0xFF])], NotPermitted { at: 0x10000 }),
+    (2, &[(31, &[0xFF, 0xC3])], Crosses { at: 0x1001F }),
+    (1, &[(0, &[0xEB, 0x01, 0xB8, 0x00, 0x00, 0x00, 0x00, 0xC3])], NotPermitted { at: 0x10007 }),
+    (1, &[(0, &[0xEB, 0x01, 0xB8, 0x00, 0x00, 0x00, 0x00, 0x90])], BadTarget { at: 0x10000 }),
+    (1, &[(2, &[0xEB, 0xFF, 0xEB, 0xFF])], BadTarget { at: 0x10002 }),
+    // Second halves, and places inside an instruction.
+    (1, &[(0, &[0xEB, 0x03, 0x83, 0xE0, 0xE0, 0xFF, 0xE0])], BadTarget { at: 0x10000 }),
+    (1, &[(0, &[0xEB, 0x01, 0x83, 0xE0, 0xE0, 0xFF, 0xE0])], BadTarget { at: 0x10000 }),
+    (2, &[(0, &[0xEB, 0x3D]), (62, &[0xEB, 0xC0])], BadTarget { at: 0x10000 }),
+    (2, &[(0, &[0xEB, 0x3C]), (62, &[0xEB, 0xC1])], BadTarget { at: 0x1003E }),
+    // Outside the chunk: inside another bundle, the limit, and an address behind the end of all addresses.
+    (1, &[(0, &[0xEB, 0x1F])], BadTarget { at: 0x10000 }),
+    (1, &[(0, &[0xE9, 0x7B, 0x00, 0x00, 0x00])], BadTarget { at: 0x10000 }),
+    (1, &[(5, &[0xE9, 0xD6, 0xFF, 0xFE, 0xFF])], BadTarget { at: 0x10005 }),
+];
+
+/// Base, limit and length of chunks of nops, and the fault that these alone show.
+static SPANS: [(u32, u32, usize, Option<VetFault>); 20] = [
+    (0x10000, LIMIT, 32, None),
+    (0x10040, LIMIT, 32, None),
+    (0x10060, LIMIT, 32, Some(OutOfRange)),
+    (0x10060, 0x100A0, 32, None),
+    (0x10000, LIMIT, 96, None),
+    (0x10000, LIMIT, 128, Some(OutOfRange)),
+    (0xFFFF_FFE0, LIMIT, 32, Some(OutOfRange)),
+    (0x10010, LIMIT, 32, Some(BadBase)),
+    (0x10001, LIMIT, 0, Some(BadBase)),
+    (0xFFE0, LIMIT, 32, Some(BadBase)),
+    (0, 0, 0, Some(BadBase)),
+    (0x10000, LIMIT, 0, Some(BadLength)),
+    (0x10000, 0, 0, Some(BadLength)),
+    (0x10000, LIMIT, 31, Some(BadLength)),
+    (0xFFFF_FFE0, LIMIT, 33, Some(BadLength)),
+    (0x10000, 0x10040, 32, None),
+    (0x10000, 0x10020, 32, Some(OutOfRange)),
+    (0x10000, 0x10090, 32, Some(OutOfRange)),
+    (0x100_FFC0, 0x101_0000, 32, None),
+    (0x10000, 0x101_0020, 32, Some(OutOfRange)),
+];
+
+/// Nops, in which the parts stand.
+fn filled(rt: &impl Abort, alloc: Global, len: usize, parts: Parts) -> Result<Vec<u8>, AllocError> {
+    let mut code = Vec::new(alloc);
+    code.resize(len, 0x90)?;
+    for (start, bytes) in parts {
+        for (i, byte) in bytes.iter().enumerate() {
+            let Some(place) = code.get_mut(start.wrapping_add(i)) else {
+                panic!(rt; "{parts:?} is longer than {len} bytes");
+            };
+            *place = *byte;
+        }
+    }
+    Ok(code)
+}
+
+#[test]
+fn valid_chunks(rt: HostRuntime) -> Result<(), Fail> {
+    for (bundles, parts, marks) in &VALID {
+        let code = filled(&rt, rt.alloc(), bundles.wrapping_mul(32), parts)?;
+        let Ok(vetted) = vet(BASE, LIMIT, code) else {
+            panic!(rt; "{parts:?} is refused");
+        };
+        for (i, mark) in *marks {
+            assert!(rt; *i < vetted.code().len());
+            assert_eq!(rt; vetted.mark(*i), *mark, "at {i} of {parts:?}");
+            assert_eq!(rt; vetted.marks().get(*i), Some(mark), "at {i} of {parts:?}");
+        }
+    }
+    Ok(())
+}
+
+#[test]
+fn faulty_chunks(rt: HostRuntime) -> Result<(), Fail> {
+    for (bundles, parts, fault) in &FAULTY {
+        let code = filled(&rt, rt.alloc(), bundles.wrapping_mul(32), parts)?;
+        assert_eq!(rt;
+            vet(BASE, LIMIT, code).err().map(|e| e.1),
+            Some(*fault),
+            "of {parts:?}"
+        );
+    }
+    Ok(())
+}
+
+#[test]
+fn spans(rt: HostRuntime) -> Result<(), Fail> {
+    for (base, limit, len, fault) in &SPANS {
+        let code = filled(&rt, rt.alloc(), *len, &[])?;
+        match vet(*base, *limit, code) {
+            Ok(vetted) => {
+                assert_eq!(rt; None, *fault, "at {base:x}");
+                assert_eq!(rt; (vetted.base(), vetted.limit()), (*base, *limit));
+                assert_eq!(rt; vetted.code().len(), *len);
+            }
+            Err((_code, found)) => assert_eq!(rt; Some(found), *fault, "at {base:x}"),
+        }
+    }
+    Ok(())
+}
