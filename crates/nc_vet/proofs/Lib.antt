@@ -6,3 +6,4 @@ pub mod MarkedPlaces
 pub mod Judging
 pub mod Stuck
 pub mod OneFault
+pub mod OneVerdict

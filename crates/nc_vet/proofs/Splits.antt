@@ -38,3 +38,18 @@ split_last {A} (x ∷ xs) (b ∷ before) y q e =
 pub flat_map-append : {A B : Type 0} (f : A → List B) (xs ys : List A) → flat_map f (xs ++ ys) ≡ flat_map f xs ++ flat_map f ys
 flat_map-append f [] ys = refl
 flat_map-append f (x ∷ xs) ys = ap (λ zs. f x ++ zs) (flat_map-append f xs ys) ∙ sym (append_assoc (f x) (flat_map f xs) (flat_map f ys))
+
+-- of two elements of a list, one is before the other, or they stand at one place
+pub split_two : {A : Type 0} (before after others rest : List A) (p q : A) → before ++ p ∷ after ≡ others ++ q ∷ rest
+    → (before ≡ others) ⊎ (((more : List A) × (others ≡ before ++ p ∷ more)) ⊎ ((more : List A) × (before ≡ others ++ q ∷ more)))
+split_two [] after [] rest p q e = inl refl
+split_two [] after (y ∷ others) rest p q e = inr (inl (others, (let h : p ≡ y = cc in rw h refl)))
+split_two (x ∷ before) after [] rest p q e = inr (inr (before, (let h : x ≡ q = cc in rw h refl)))
+split_two {A} (x ∷ before) after (y ∷ others) rest p q e =
+    let h : x ≡ y = cc in
+    let t : before ++ p ∷ after ≡ others ++ q ∷ rest = cc in
+    elim (split_two before after others rest p q t) [
+      | inl w ↦ inl (rw (h, w) refl)
+      | inr (inl w) ↦ inr (inl (w.0, rw (h, w.1) refl))
+      | inr (inr w) ↦ inr (inr (w.0, rw (h, w.1) refl))
+    ]

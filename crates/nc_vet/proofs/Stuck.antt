@@ -16,7 +16,7 @@ use Rattle.nc_vet.proofs.Pieces.{code_of-append, place-append, rest_is, front_wi
 use Rattle.nc_vet.proofs.OneReading.{agree, one_at_front}
 
 -- an instruction at the front of bytes that are the beginning of one alone
-none_cut : (bytes : List ℕ) (i : Instr) → IsAtFront bytes i → IsProperFront bytes → ⊥
+pub none_cut : (bytes : List ℕ) (i : Instr) → IsAtFront bytes i → IsProperFront bytes → ⊥
 none_cut bytes i f cut =
     let whole : bytes ++ cut.more ≡ f.front ++ (f.rest ++ cut.more) = ap (λ (z : List ℕ). z ++ cut.more) f.parts ∙ append_assoc f.front f.rest cut.more in
     let none : f.rest ++ cut.more ≡ [] = prefix_free f.front (f.rest ++ cut.more) i cut.instr f.spells (subst (λ (z : List ℕ). Spells z cut.instr) whole cut.spells) in

@@ -2,12 +2,14 @@
 #![tactic(auto)]
 
 mod fault;
+mod law;
 mod reading;
 mod targets;
 mod vetted;
 mod vetting;
 
 pub use fault::VetFault;
+pub use law::law_of_verdicts;
 pub use nc_decode::Mark;
 pub use vetted::Vetted;
 pub use vetting::vet;
