@@ -1,0 +1,285 @@
+-- How a run answers on by a byte, by a line and at the end.
+use Rattle.std.proofs.Common.{◌≡◌, ◌≢◌, ◌++◌, ◌<◌, ◌≤◌, ℕ, List, [], ◌∷◌, Option, Some, None, IfSome, Result, Ok, Err, OnOk, IfErr, IsErrOf, length, take, drop, refl, sym, ap, ◌∙◌, subst, append_assoc, append-nil, take-append-drop, arith}
+use Rattle.std.specs.List.{flat_map}
+use Rattle.std.specs.Io.KnownBytes.{Appends, Consumes, Keeps, IsAtEnd}
+use Rattle.std.proofs.KnownBytes.{Appends-trans, Appends-kept, Appends-nil, Consumes-whole}
+use Rattle.nc_replay.specs.Lines.{lines_of, ended_lines, line_limit}
+use Rattle.nc_replay.specs.Answering.{AnswersLine, AnswersLines, IsAnswered, IsBegun, IsCutShort}
+use Rattle.nc_replay.specs.Progress.{ended, Stands, AnswersKept, Feeds, Finishes}
+use Rattle.nc_replay.specs.declared.fault.ReplayFault.{ReplayFault}
+use Rattle.nc_replay.specs.declared.fault.ReplayFault.TheVariants.{ReadFailed, WriteFailed, OutOfMemory, BadSize, BadSeats}
+use Rattle.nc_replay.proofs.Cuts.{more_to_come, lines_of-some, lines_of-cut, lines_of-open, lines_of-next, last_line, ended_lines-cut, cut-ended, IsOpen-push, AreOpen-push, kept_push, kept_full}
+use Rattle.nc_replay.proofs.Answered.{runs_more}
+
+module _ {S : Type 0} (answers : S → List ℕ → List ℕ → S → Type 0) (start : S) (before : Option (List ℕ)) where
+  -- a byte that ends no line
+  pub stands_byte : (bytes : List ℕ) (now : S) (after : Option (List ℕ)) (kept : List ℕ) (b : ℕ) → Stands answers start before bytes now after kept → b ≢ 10 → length kept ≤ line_limit
+      → Stands answers start before (bytes ++ b ∷ []) now after (kept ++ b ∷ [])
+  stands_byte bytes now after kept b s ne short = record {
+    lines = s.lines;
+    part = s.part ++ b ∷ [];
+    split = ap (λ (xs : List ℕ). xs ++ b ∷ []) s.split ∙ append_assoc (flat_map ended s.lines) s.part (b ∷ []);
+    closed = s.closed;
+    open_part = IsOpen-push s.part b s.open_part ne;
+    is_kept = kept_push line_limit kept s.part b s.is_kept short;
+    answered = s.answered;
+  }
+
+  -- a byte of a line that is too long already
+  pub stands_long : (bytes : List ℕ) (now : S) (after : Option (List ℕ)) (kept : List ℕ) (b : ℕ) → Stands answers start before bytes now after kept → b ≢ 10 → line_limit < length kept
+      → Stands answers start before (bytes ++ b ∷ []) now after kept
+  stands_long bytes now after kept b s ne long = record {
+    lines = s.lines;
+    part = s.part ++ b ∷ [];
+    split = ap (λ (xs : List ℕ). xs ++ b ∷ []) s.split ∙ append_assoc (flat_map ended s.lines) s.part (b ∷ []);
+    closed = s.closed;
+    open_part = IsOpen-push s.part b s.open_part ne;
+    is_kept = kept_full line_limit kept s.part b s.is_kept long;
+    answered = s.answered;
+  }
+
+  -- one more line is answered
+  answered_more : (now : S) (after : Option (List ℕ)) (lines : List (List ℕ)) (line text : List ℕ) (new : S) (later : Option (List ℕ))
+      → IsAnswered answers start now before after lines → AnswersLine answers now line text new → Appends after later text → IsAnswered answers start new before later (lines ++ line ∷ [])
+  answered_more now after lines line text new later a answered_so written = record {
+    text = a.text ++ text;
+    runs = runs_more answers start lines a.text now line text new a.runs answered_so;
+    written = Appends-trans before after later a.text text a.written written;
+  }
+
+  -- the end of a line, which is answered
+  pub stands_line : (bytes : List ℕ) (now : S) (after : Option (List ℕ)) (kept text : List ℕ) (new : S) (later : Option (List ℕ)) (left : List ℕ) (s : Stands answers start before bytes now after kept)
+      → left ≡ [] → AnswersLine answers now s.part text new → Appends after later text → Stands answers start before (bytes ++ 10 ∷ []) new later left
+  stands_line bytes now after kept text new later left s none answered_so written = record {
+    lines = s.lines ++ s.part ∷ [];
+    part = [];
+    split = ap (λ (xs : List ℕ). xs ++ 10 ∷ []) s.split ∙ cut-ended s.lines s.part;
+    closed = AreOpen-push s.lines s.part s.closed s.open_part;
+    open_part = tt;
+    is_kept = none;
+    answered = answered_more now after s.lines s.part text new later s.answered answered_so written;
+  }
+
+  -- the answer to the line was written in part
+  begun_more : (bytes : List ℕ) (now : S) (after : Option (List ℕ)) (kept text : List ℕ) (n : ℕ) (new : S) (later : Option (List ℕ)) (s : Stands answers start before bytes now after kept) (all others : List (List ℕ))
+      → AnswersLine answers now s.part text new → Appends after later (take n text) → all ≡ s.lines ++ (s.part ∷ others) → IsBegun answers start before later all
+  begun_more bytes now after kept text n new later s all others answered_so written e = record {
+    first = s.lines ++ s.part ∷ [];
+    others = others;
+    split = e ∙ sym (append_assoc s.lines (s.part ∷ []) others);
+    text = s.answered.text ++ take n text;
+    missing = drop n text;
+    new = new;
+    runs = subst (λ (t : List ℕ). AnswersLines answers start (s.lines ++ s.part ∷ []) t new)
+        (ap (λ (t : List ℕ). s.answered.text ++ t) (sym (take-append-drop n text)) ∙ sym (append_assoc s.answered.text (take n text) (drop n text)))
+        (runs_more answers start s.lines s.answered.text now s.part text new s.answered.runs answered_so);
+    written = Appends-trans before after later s.answered.text (take n text) s.answered.written written;
+  }
+
+  pub begun_line : (bytes : List ℕ) (now : S) (after : Option (List ℕ)) (kept text : List ℕ) (n : ℕ) (new : S) (later : Option (List ℕ)) (s : Stands answers start before bytes now after kept) (more : List ℕ)
+      → AnswersLine answers now s.part text new → Appends after later (take n text) → IsBegun answers start before later (lines_of (bytes ++ 10 ∷ more))
+  begun_line bytes now after kept text n new later s more answered_so written =
+      begun_more bytes now after kept text n new later s (lines_of (bytes ++ 10 ∷ more)) (lines_of more) answered_so written
+      (ap (λ (xs : List ℕ). lines_of (xs ++ 10 ∷ more)) s.split ∙ lines_of-next s.lines s.part more s.closed s.open_part)
+
+  -- whatever comes, the lines that have ended are the first ones, and at least one more line comes
+  pub short_here : (bytes : List ℕ) (now : S) (after : Option (List ℕ)) (kept more : List ℕ) (s : Stands answers start before bytes now after kept) → 0 < length (s.part ++ more) → IsCutShort answers start before after (lines_of (bytes ++ more))
+  short_here bytes now after kept more s some =
+      let next = lines_of-some (s.part ++ more) some in
+      record {
+        first = s.lines;
+        failed = next.0;
+        others = next.1;
+        split = ap (λ (xs : List ℕ). lines_of (xs ++ more)) s.split ∙ ap lines_of (append_assoc (flat_map ended s.lines) s.part more) ∙ lines_of-cut s.lines (s.part ++ more) s.closed
+            ∙ ap (λ (ls : List (List ℕ)). s.lines ++ ls) next.2;
+        new = now;
+        answered = s.answered;
+      }
+
+  pub stands_ended : (bytes : List ℕ) (now : S) (after : Option (List ℕ)) (kept : List ℕ) → Stands answers start before bytes now after kept → IsAnswered answers start now before after (ended_lines bytes)
+  stands_ended bytes now after kept s =
+      subst (λ (ls : List (List ℕ)). IsAnswered answers start now before after ls)
+      (sym (ap ended_lines s.split ∙ ended_lines-cut s.lines s.part s.closed s.open_part)) s.answered
+
+  lines_at_end : (bytes : List ℕ) (now : S) (after : Option (List ℕ)) (kept : List ℕ) (s : Stands answers start before bytes now after kept) → lines_of bytes ≡ s.lines ++ last_line s.part
+  lines_at_end bytes now after kept s =
+      ap lines_of s.split ∙ lines_of-cut s.lines s.part s.closed ∙ ap (λ (ls : List (List ℕ)). s.lines ++ ls) (lines_of-open s.part s.open_part)
+
+  last_line_some : (part : List ℕ) → 0 < length part → last_line part ≡ part ∷ []
+  last_line_some [] h = absurd (omega arith)
+  last_line_some (b ∷ part) h = refl
+
+  last_line_none : (part : List ℕ) → part ≡ [] → last_line part ≡ []
+  last_line_none part e = ap last_line e
+
+  -- nothing is left behind the last end
+  pub finish_none : (bytes : List ℕ) (now : S) (after : Option (List ℕ)) (kept : List ℕ) (s : Stands answers start before bytes now after kept) → s.part ≡ [] → IsAnswered answers start now before after (lines_of bytes)
+  finish_none bytes now after kept s e =
+      subst (λ (ls : List (List ℕ)). IsAnswered answers start now before after ls)
+      (sym (lines_at_end bytes now after kept s ∙ ap (λ (ls : List (List ℕ)). s.lines ++ ls) (last_line_none s.part e) ∙ append-nil s.lines)) s.answered
+
+  pub finish_line : (bytes : List ℕ) (now : S) (after : Option (List ℕ)) (kept text : List ℕ) (new : S) (later : Option (List ℕ)) (s : Stands answers start before bytes now after kept) → 0 < length s.part
+      → AnswersLine answers now s.part text new → Appends after later text → IsAnswered answers start new before later (lines_of bytes)
+  finish_line bytes now after kept text new later s some answered_so written =
+      subst (λ (ls : List (List ℕ)). IsAnswered answers start new before later ls)
+      (sym (lines_at_end bytes now after kept s ∙ ap (λ (ls : List (List ℕ)). s.lines ++ ls) (last_line_some s.part some)))
+      (answered_more now after s.lines s.part text new later s.answered answered_so written)
+
+  pub finish_begun : (bytes : List ℕ) (now : S) (after : Option (List ℕ)) (kept text : List ℕ) (n : ℕ) (new : S) (later : Option (List ℕ)) (s : Stands answers start before bytes now after kept) → 0 < length s.part
+      → AnswersLine answers now s.part text new → Appends after later (take n text) → IsBegun answers start before later (lines_of bytes)
+  finish_begun bytes now after kept text n new later s some answered_so written =
+      begun_more bytes now after kept text n new later s (lines_of bytes) [] answered_so written
+      (lines_at_end bytes now after kept s ∙ ap (λ (ls : List (List ℕ)). s.lines ++ ls) (last_line_some s.part some))
+
+  -- all answers are a beginning of them
+  pub begun_whole : (now : S) (after : Option (List ℕ)) (lines : List (List ℕ)) → IsAnswered answers start now before after lines → IsBegun answers start before after lines
+  begun_whole now after lines a = record {
+    first = lines;
+    others = [];
+    split = sym (append-nil lines);
+    text = a.text;
+    missing = [];
+    new = now;
+    runs = subst (λ (t : List ℕ). AnswersLines answers start lines t now) (sym (append-nil a.text)) a.runs;
+    written = a.written;
+  }
+
+module _ {S : Type 0} (T : Type 0) (answers : S → List ℕ → List ℕ → S → Type 0) (start : S) (before : Option (List ℕ)) where
+  -- a call that answers the line that ends here
+  pub feeds_line : (bytes : List ℕ) (now : S) (after : Option (List ℕ)) (kept : List ℕ) (new : S) (later : Option (List ℕ)) (left : List ℕ) (s : Stands answers start before bytes now after kept) (r : Result T ReplayFault)
+      → AnswersKept answers now new after later left s.part r → Feeds answers start before (bytes ++ 10 ∷ []) new later left r
+  feeds_line bytes now after kept new later left s (Ok x) h = stands_line answers start before bytes now after kept h.1 new later left s h.0 h.2 h.3
+  feeds_line bytes now after kept new later left s (Err WriteFailed) h = λ more.
+      subst (λ (xs : List ℕ). IsBegun answers start before later (lines_of xs)) (sym (append_assoc bytes (10 ∷ []) more))
+      (begun_line answers start before bytes now after kept h.0 h.1 h.2 later s more h.3 h.4)
+  feeds_line bytes now after kept new later left s (Err OutOfMemory) h = λ more.
+      subst (λ (xs : List ℕ). IsCutShort answers start before later (lines_of xs)) (sym (append_assoc bytes (10 ∷ []) more))
+      (subst (λ (o : Option (List ℕ)). IsCutShort answers start before o (lines_of (bytes ++ 10 ∷ more))) (sym h) (short_here answers start before bytes now after kept (10 ∷ more) s (more_to_come s.part 10 more)))
+  feeds_line bytes now after kept new later left s (Err ReadFailed) h = absurd h
+  feeds_line bytes now after kept new later left s (Err BadSize) h = absurd h
+  feeds_line bytes now after kept new later left s (Err BadSeats) h = absurd h
+
+  -- a failure, however the input answers on
+  pub feeds_failed : (bytes : List ℕ) (now : S) (after : Option (List ℕ)) (kept piece : List ℕ) (fault : ReplayFault)
+      → Feeds {T = T} answers start before bytes now after kept (Err fault) → Feeds {T = T} answers start before (bytes ++ piece) now after kept (Err fault)
+  feeds_failed bytes now after kept piece WriteFailed h = λ more.
+      subst (λ (xs : List ℕ). IsBegun answers start before after (lines_of xs)) (sym (append_assoc bytes piece more)) (h (piece ++ more))
+  feeds_failed bytes now after kept piece OutOfMemory h = λ more.
+      subst (λ (xs : List ℕ). IsCutShort answers start before after (lines_of xs)) (sym (append_assoc bytes piece more)) (h (piece ++ more))
+  feeds_failed bytes now after kept piece ReadFailed h = absurd h
+  feeds_failed bytes now after kept piece BadSize h = absurd h
+  feeds_failed bytes now after kept piece BadSeats h = absurd h
+
+  pub fed_write_failed : (bytes : List ℕ) (now : S) (after : Option (List ℕ)) (kept : List ℕ) (fault : ReplayFault)
+      → Feeds {T = T} answers start before bytes now after kept (Err fault) → fault ≡ WriteFailed → (more : List ℕ) → IsBegun answers start before after (lines_of (bytes ++ more))
+  fed_write_failed bytes now after kept WriteFailed h e = h
+  fed_write_failed bytes now after kept OutOfMemory h e = cc
+  fed_write_failed bytes now after kept ReadFailed h e = absurd h
+  fed_write_failed bytes now after kept BadSize h e = absurd h
+  fed_write_failed bytes now after kept BadSeats h e = absurd h
+
+  pub fed_out_of_memory : (bytes : List ℕ) (now : S) (after : Option (List ℕ)) (kept : List ℕ) (fault : ReplayFault)
+      → Feeds {T = T} answers start before bytes now after kept (Err fault) → fault ≡ OutOfMemory → (more : List ℕ) → IsCutShort answers start before after (lines_of (bytes ++ more))
+  fed_out_of_memory bytes now after kept WriteFailed h e = cc
+  fed_out_of_memory bytes now after kept OutOfMemory h e = h
+  fed_out_of_memory bytes now after kept ReadFailed h e = absurd h
+  fed_out_of_memory bytes now after kept BadSize h e = absurd h
+  fed_out_of_memory bytes now after kept BadSeats h e = absurd h
+
+  pub fed_read_failed : (bytes : List ℕ) (now : S) (after : Option (List ℕ)) (kept : List ℕ) (fault : ReplayFault)
+      → Feeds {T = T} answers start before bytes now after kept (Err fault) → fault ≡ ReadFailed → ⊥
+  fed_read_failed bytes now after kept WriteFailed h e = cc
+  fed_read_failed bytes now after kept OutOfMemory h e = cc
+  fed_read_failed bytes now after kept ReadFailed h e = h
+  fed_read_failed bytes now after kept BadSize h e = absurd h
+  fed_read_failed bytes now after kept BadSeats h e = absurd h
+
+  -- no failure is one of the sizes
+  pub fed_no_size : (bytes : List ℕ) (now : S) (after : Option (List ℕ)) (kept : List ℕ) (fault : ReplayFault)
+      → Feeds {T = T} answers start before bytes now after kept (Err fault) → (fault ≢ BadSize) × (fault ≢ BadSeats)
+  fed_no_size bytes now after kept WriteFailed h = (λ e. cc, λ e. cc)
+  fed_no_size bytes now after kept OutOfMemory h = (λ e. cc, λ e. cc)
+  fed_no_size bytes now after kept ReadFailed h = absurd h
+  fed_no_size bytes now after kept BadSize h = absurd h
+  fed_no_size bytes now after kept BadSeats h = absurd h
+
+  -- a call that answers the last line
+  pub finishes_line : (bytes : List ℕ) (now : S) (after : Option (List ℕ)) (kept : List ℕ) (new : S) (later : Option (List ℕ)) (left : List ℕ) (s : Stands answers start before bytes now after kept) → 0 < length s.part → (r : Result T ReplayFault)
+      → AnswersKept answers now new after later left s.part r → Finishes answers start before bytes new later r
+  finishes_line bytes now after kept new later left s some (Ok x) h = finish_line answers start before bytes now after kept h.1 new later s some h.2 h.3
+  finishes_line bytes now after kept new later left s some (Err WriteFailed) h = finish_begun answers start before bytes now after kept h.0 h.1 h.2 later s some h.3 h.4
+  finishes_line bytes now after kept new later left s some (Err OutOfMemory) h =
+      subst (λ (o : Option (List ℕ)). IsCutShort answers start before o (lines_of bytes)) (sym h)
+      (subst (λ (xs : List ℕ). IsCutShort answers start before after (lines_of xs)) (append-nil bytes) (short_here answers start before bytes now after kept [] s (subst (λ (xs : List ℕ). 0 < length xs) (sym (append-nil s.part)) some)))
+  finishes_line bytes now after kept new later left s some (Err ReadFailed) h = absurd h
+  finishes_line bytes now after kept new later left s some (Err BadSize) h = absurd h
+  finishes_line bytes now after kept new later left s some (Err BadSeats) h = absurd h
+
+  -- a failure has nothing to do with the state
+  pub finishes_failed : (bytes : List ℕ) (now new : S) (after : Option (List ℕ)) (fault : ReplayFault)
+      → Finishes {T = T} answers start before bytes now after (Err fault) → Finishes {T = T} answers start before bytes new after (Err fault)
+  finishes_failed bytes now new after WriteFailed h = h
+  finishes_failed bytes now new after OutOfMemory h = h
+  finishes_failed bytes now new after ReadFailed h = h
+  finishes_failed bytes now new after BadSize h = h
+  finishes_failed bytes now new after BadSeats h = h
+
+pub answered_kept : {S : Type 0} (answers : S → List ℕ → List ℕ → S → Type 0) (start new : S) (before after later : Option (List ℕ)) (lines : List (List ℕ)) → IsAnswered answers start new before after lines → Keeps after later → IsAnswered answers start new before later lines
+answered_kept answers start new before after later lines a k = record { text = a.text; runs = a.runs; written = Appends-kept before after later a.text a.written k }
+
+-- what holds whatever is still to come holds of the input
+pub known_more : (old new : Option (List ℕ)) (front : List ℕ) (P : List ℕ → Type 0) → Consumes old new front → ((more : List ℕ) → P (front ++ more)) → IfSome old P
+known_more None new front P c h = tt
+known_more (Some xs) None front P c h = absurd c
+known_more (Some xs) (Some ys) front P c h = subst P (sym c) (h ys)
+
+pub stands_start : {S : Type 0} (answers : S → List ℕ → List ℕ → S → Type 0) (start : S) (before : Option (List ℕ)) (kept : List ℕ) → kept ≡ [] → Stands answers start before [] start before kept
+stands_start answers start before kept none = record {
+  lines = [];
+  part = [];
+  split = refl;
+  closed = tt;
+  open_part = tt;
+  is_kept = none;
+  answered = record { text = []; runs = (refl, refl); written = Appends-nil before };
+}
+
+-- no failure at the end is one of the sizes
+pub finished_no_size : {S : Type 0} (T : Type 0) (answers : S → List ℕ → List ℕ → S → Type 0) (start : S) (before : Option (List ℕ)) (bytes : List ℕ) (now : S) (after : Option (List ℕ)) (r : Result T ReplayFault)
+    → Finishes answers start before bytes now after r → IfErr r (λ fault. (fault ≢ BadSize) × (fault ≢ BadSeats))
+finished_no_size T answers start before bytes now after (Ok x) h = tt
+finished_no_size T answers start before bytes now after (Err WriteFailed) h = (λ e. cc, λ e. cc)
+finished_no_size T answers start before bytes now after (Err OutOfMemory) h = (λ e. cc, λ e. cc)
+finished_no_size T answers start before bytes now after (Err ReadFailed) h = absurd h
+finished_no_size T answers start before bytes now after (Err BadSize) h = absurd h
+finished_no_size T answers start before bytes now after (Err BadSeats) h = absurd h
+
+-- at the end of the input, whose bytes were all read
+module _ {S : Type 0} (T : Type 0) (answers : S → List ℕ → List ℕ → S → Type 0) (start : S) (before : Option (List ℕ)) (old new : Option (List ℕ)) (front : List ℕ) (consumed : Consumes old new front) (at_end : IsAtEnd new) where
+  pub whole_ok : (now : S) (after : Option (List ℕ)) (r : Result T ReplayFault) → Finishes answers start before front now after r → OnOk r (IfSome old (λ input. IsAnswered answers start now before after (lines_of input)))
+  whole_ok now after (Ok x) h = Consumes-whole old new front (λ input. IsAnswered answers start now before after (lines_of input)) consumed at_end h
+  whole_ok now after (Err e) h = tt
+
+  pub whole_write_failed : (now : S) (after : Option (List ℕ)) (r : Result T ReplayFault) → Finishes answers start before front now after r → IsErrOf r WriteFailed → IfSome old (λ input. IsBegun answers start before after (lines_of input))
+  whole_write_failed now after (Ok x) h e = cc
+  whole_write_failed now after (Err WriteFailed) h e = Consumes-whole old new front (λ input. IsBegun answers start before after (lines_of input)) consumed at_end h
+  whole_write_failed now after (Err OutOfMemory) h e = cc
+  whole_write_failed now after (Err ReadFailed) h e = absurd h
+  whole_write_failed now after (Err BadSize) h e = absurd h
+  whole_write_failed now after (Err BadSeats) h e = absurd h
+
+  pub whole_out_of_memory : (now : S) (after : Option (List ℕ)) (r : Result T ReplayFault) → Finishes answers start before front now after r → IsErrOf r OutOfMemory → IfSome old (λ input. IsCutShort answers start before after (lines_of input))
+  whole_out_of_memory now after (Ok x) h e = cc
+  whole_out_of_memory now after (Err WriteFailed) h e = cc
+  whole_out_of_memory now after (Err OutOfMemory) h e = Consumes-whole old new front (λ input. IsCutShort answers start before after (lines_of input)) consumed at_end h
+  whole_out_of_memory now after (Err ReadFailed) h e = absurd h
+  whole_out_of_memory now after (Err BadSize) h e = absurd h
+  whole_out_of_memory now after (Err BadSeats) h e = absurd h
+
+  pub whole_read_failed : (now : S) (after : Option (List ℕ)) (r : Result T ReplayFault) → Finishes answers start before front now after r → IsErrOf r ReadFailed → ⊥
+  whole_read_failed now after (Ok x) h e = cc
+  whole_read_failed now after (Err WriteFailed) h e = cc
+  whole_read_failed now after (Err OutOfMemory) h e = cc
+  whole_read_failed now after (Err ReadFailed) h e = h
+  whole_read_failed now after (Err BadSize) h e = absurd h
+  whole_read_failed now after (Err BadSeats) h e = absurd h

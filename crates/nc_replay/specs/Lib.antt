@@ -1,0 +1,10 @@
+pub mod Lines
+pub mod Answering
+pub mod Progress
+pub mod Commands
+pub mod Shown
+pub mod Script
+pub mod Texts
+pub mod Answers
+pub mod Session
+pub mod Run

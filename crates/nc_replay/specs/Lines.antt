@@ -1,0 +1,42 @@
+-- Lines of an input: each ends at a byte 0A or at the end of the input.
+use Rattle.std.specs.Prelude.{◌+◌, ◌==◌, ℕ, Bool, List, [], ◌∷◌, if◌then◌else◌, nat_lt, length, take}
+use Rattle.std.specs.List.{slice_split}
+
+-- a byte goes to the front of the first line, which it begins where there is none
+abbrev pub onto_line : ℕ → List (List ℕ) → List (List ℕ)
+onto_line b [] = (b ∷ []) ∷ []
+onto_line b (line ∷ lines) = (b ∷ line) ∷ lines
+
+-- the lines of an input; behind a last 0A there is none
+abbrev pub lines_of : List ℕ → List (List ℕ)
+lines_of [] = []
+lines_of (b ∷ bytes) = if b == 10 then [] ∷ lines_of bytes else onto_line b (lines_of bytes)
+
+-- a byte goes to the front of the first line, if there is one
+abbrev pub onto_ended : ℕ → List (List ℕ) → List (List ℕ)
+onto_ended b [] = []
+onto_ended b (line ∷ lines) = (b ∷ line) ∷ lines
+
+-- the lines whose 0A is among the bytes
+abbrev pub ended_lines : List ℕ → List (List ℕ)
+ended_lines [] = []
+ended_lines (b ∷ bytes) = if b == 10 then [] ∷ ended_lines bytes else onto_ended b (ended_lines bytes)
+
+-- a longer line is answered as a bad one; its 0A isn't counted
+abbrev pub line_limit : ℕ
+line_limit = 1048576
+
+abbrev pub is_long : List ℕ → Bool
+is_long line = nat_lt line_limit (length line)
+
+-- what is kept of a line while it is read
+abbrev pub kept_of : List ℕ → List ℕ
+kept_of line = take (line_limit + 1) line
+
+-- the parts between spaces; beside each space too many stands an empty one, which spells nothing
+abbrev pub words_in : List ℕ → List (List ℕ)
+words_in line = slice_split (λ b. b == 32) line
+
+-- `bad line` and its end
+abbrev pub bad_line : List ℕ
+bad_line = 98 ∷ 97 ∷ 100 ∷ 32 ∷ 108 ∷ 105 ∷ 110 ∷ 101 ∷ 10 ∷ []

@@ -1,0 +1,23 @@
+-- The script's state that a region stands for.
+use Rattle.std.specs.Prelude.{ℕ, ◌-◌, List, map, take, drop}
+use Rattle.nc_text.specs.Places.{limit_of}
+use Rattle.nc_region.specs.Region.{Region}
+use Rattle.nc_region.specs.declared.chunk.Chunk.{Chunk}
+use Rattle.nc_region.specs.declared.chunk.ChunkState.{ChunkState}
+use Rattle.nc_region.specs.declared.chunk.ChunkState.TheVariants as chunk
+use Rattle.nc_replay.specs.Script as script
+use Rattle.nc_replay.specs.Script.{Script, State, Live, Retired}
+
+-- the bytes of a span of the region
+abbrev pub bytes_at : List ℕ → ℕ → ℕ → List ℕ
+bytes_at bytes base length = take length (drop (base - 0x10000) bytes)
+
+abbrev pub state_in : List ℕ → ℕ → ℕ → ChunkState → State
+state_in bytes base length chunk.Live = Live (bytes_at bytes base length)
+state_in bytes base length (chunk.Retired stamp) = Retired length stamp
+
+abbrev pub chunk_in : List ℕ → Chunk → script.Chunk
+chunk_in bytes c = record { base = c.base; state = state_in bytes c.base c.length c.state }
+
+abbrev pub script_of : Region → Script
+script_of region = record { limit = limit_of region.code.bytes; chunks = map (chunk_in region.code.bytes) region.chunks }

@@ -1,0 +1,99 @@
+//! What a line asks for.
+
+ghost use Rattle.std.specs.Prelude.{◌≡◌, ℕ, IfOk, map, Some, None, ◌∷◌};
+ghost use Rattle.std.specs.Option.{option_map};
+ghost use Rattle.nc_replay.specs.Commands.{request_in, create_in, walk_in, addresses_in, alone};
+ghost use Rattle.nc_replay.specs.Shown.{shown};
+
+use crate::words::{address_of, bytes_of, words_of};
+use std::alloc::{AllocError, Global};
+
+/// What a line asks for.
+#[derive(Drop)]
+pub(crate) enum Command {
+    /// A chunk of these bytes at this address.
+    Create { at: u32, bytes: Vec<u8> },
+    /// A walk from this address, which uses up one choice at each instruction.
+    Walk { start: u32, choices: Vec<u32> },
+    /// The list of all chunks.
+    Dump,
+}
+
+/// What follows the word `create`.
+fn create_of(alloc: Global, words: &[&[u8]]) -> Result<Option<Command>, AllocError>
+    ensures { IfOk result (λ found. option_map shown found ≡ create_in (map (λ word. word.now) words.now)) }
+{
+    match words {
+        [at, bytes] => {
+            let Some(at) = address_of(at) else {
+                return Ok(None);
+            };
+            match bytes_of(alloc, bytes)? {
+                Some(bytes) => Ok(Some(Command::Create { at, bytes })),
+                None => Ok(None),
+            }
+        }
+        _ => Ok(None),
+    }
+}
+
+/// A command whose word stands alone.
+fn alone_of(command: Command, words: &[&[u8]]) -> Option<Command>
+    ensures { option_map shown result ≡ alone (shown command) (map (λ word. word.now) words.now) }
+{
+    if words.is_empty() {
+        Some(command)
+    } else {
+        None
+    }
+}
+
+/// Words that are addresses, all of them.
+fn addresses_of(alloc: Global, words: &[&[u8]]) -> Result<Option<Vec<u32>>, AllocError>
+    ensures { IfOk result (λ found. option_map (λ choices. choices.items) found ≡ addresses_in (map (λ word. word.now) words.now)) }
+{
+    let mut choices = Vec::new(alloc);
+    for word in words {
+        match address_of(word) {
+            Some(choice) => choices.push(choice)?,
+            None => return Ok(None),
+        }
+    }
+    Ok(Some(choices))
+}
+
+/// What follows the word `walk`.
+fn walk_of(alloc: Global, words: &[&[u8]]) -> Result<Option<Command>, AllocError>
+    ensures { IfOk result (λ found. option_map shown found ≡ walk_in (map (λ word. word.now) words.now)) }
+{
+    let Some((start, choices)) = words.split_first() else {
+        return Ok(None);
+    };
+    let Some(start) = address_of(start) else {
+        return Ok(None);
+    };
+    match addresses_of(alloc, choices)? {
+        Some(choices) => Ok(Some(Command::Walk { start, choices })),
+        None => Ok(None),
+    }
+}
+
+/// What a line asks for, or nothing where it is a bad line.
+pub(crate) fn command_of(alloc: Global, line: &[u8]) -> Result<Option<Command>, AllocError>
+    ensures { IfOk result (λ found. option_map shown found ≡ request_in line.now) }
+{
+    let words = words_of(alloc, line)?;
+    let Some((key, rest)) = words.as_slice().split_first() else {
+        return Ok(None);
+    };
+    if *key == b"create".as_slice() {
+        return create_of(alloc, rest);
+    }
+    if *key == b"walk".as_slice() {
+        return walk_of(alloc, rest);
+    }
+    if *key == b"dump".as_slice() {
+        return Ok(alone_of(Command::Dump, rest));
+    }
+    Ok(None)
+}

@@ -1,0 +1,64 @@
+//! A script from a reader's bytes to a writer's.
+
+ghost use Rattle.std.specs.Prelude.{◌≡◌, ◌++◌, ◌⊎◌, ◌↔◌, ℕ, List, OnOk, IfSome, IsErrOf};
+ghost use Rattle.std.specs.Io.KnownBytes.{Consumes, IsAtEnd};
+ghost use Rattle.nc_replay.specs.Lines.{lines_of, ended_lines};
+ghost use Rattle.nc_replay.specs.Answering.{IsBegun, IsCutShort};
+ghost use Rattle.nc_replay.specs.Answers.{ServesLine, new_script};
+ghost use Rattle.nc_replay.specs.Run.{AreSeats, HasAnswered, IsSize};
+
+use crate::fault::ReplayFault;
+use crate::session::Session;
+use crate::stream::answer_all;
+use std::alloc::Global;
+use std::io::{Read, Write};
+
+/// Runs a script on a new region of this many bundles, for threads of this many seats: reads its lines, and writes the
+/// answer to each as soon as its end was read.
+///
+/// A line ends at a byte 0A or at the end of the input. `create` with an address and bytes vets a chunk and creates it,
+/// `walk` with an address and choices shows the places of a walk and its end, and `dump` shows every chunk. Every other
+/// line, and each of more than 1,048,576 bytes, is answered as a bad line. What is promised of bytes holds of a reader
+/// and a writer that tell theirs; nothing is promised of when a device fails.
+pub fn run<R: Read, W: Write>(
+    alloc: Global,
+    reader: &mut R,
+    writer: &mut W,
+    bundles: u32,
+    seats: u32,
+) -> Result<(), ReplayFault>
+    // The two numbers are tested first, in this order, before anything is read or written.
+    ensures bad_size { IsErrOf result ReplayFault.BadSize ↔ ¬ IsSize bundles }
+    ensures bad_seats { IsErrOf result ReplayFault.BadSeats ↔ (IsSize bundles × ¬ AreSeats seats) }
+    ensures untouched { ¬ (IsSize bundles × AreSeats seats) → (reader.new ≡ reader.old) × (writer.new ≡ writer.old) }
+
+    // The whole input was read, and exactly its answers were written.
+    ensures ok { OnOk result (IfSome (R.remaining reader.old) (λ input.
+        HasAnswered bundles (W.contents writer.old) (W.contents writer.new) (lines_of input))) }
+    ensures read { OnOk result (IsAtEnd (R.remaining reader.new)) }
+
+    // A beginning of the answers was written.
+    ensures write_failed { IsErrOf result ReplayFault.WriteFailed → IfSome (R.remaining reader.old) (λ input.
+        IsBegun ServesLine (new_script bundles) (W.contents writer.old) (W.contents writer.new) (lines_of input)) }
+
+    // The answers to all lines whose end was read were written.
+    ensures read_failed { IsErrOf result ReplayFault.ReadFailed → (front : List ℕ)
+        × Consumes (R.remaining reader.old) (R.remaining reader.new) front
+        × HasAnswered bundles (W.contents writer.old) (W.contents writer.new) (ended_lines front) }
+
+    // The answers to all lines before the one that failed were written, or there was no memory for the region.
+    ensures out_of_memory { IsErrOf result ReplayFault.OutOfMemory
+        → ((reader.new ≡ reader.old) × (writer.new ≡ writer.old)) ⊎ IfSome (R.remaining reader.old) (λ input.
+        IsCutShort ServesLine (new_script bundles) (W.contents writer.old) (W.contents writer.new) (lines_of input)) }
+{
+    if !(2..=524_288).contains(&bundles) {
+        return Err(ReplayFault::BadSize);
+    }
+    if !(1..=64).contains(&seats) {
+        return Err(ReplayFault::BadSeats);
+    }
+    match Session::new(alloc, bundles) {
+        Ok(mut session) => return answer_all(alloc, &mut session, reader, writer),
+        Err(_) => return Err(ReplayFault::OutOfMemory),
+    }
+}
