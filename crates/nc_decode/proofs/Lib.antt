@@ -17,3 +17,4 @@ pub mod Masks
 pub mod GoingOn
 pub mod LeadingBytes
 pub mod FrontLaws
+pub mod TransferBytes

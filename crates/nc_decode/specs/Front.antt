@@ -1,12 +1,13 @@
 -- The instruction at the front of some bytes, as one function, and what is known of it.
 -- The law `law_of_fronts` ties it to the relation of `Spelling`; whoever stands above cites these words alone.
-use Rattle.std.specs.Prelude.{◌≡◌, ◌≢◌, ◌↔◌, ℕ, ◌<◌, ◌≤◌, List, [], ◌∷◌, ◌++◌, length, take, Option, Some, None, nat_lt, if◌then◌else◌, pos, IfSome}
+use Rattle.std.specs.Prelude.{◌≡◌, ◌≢◌, ◌↔◌, ℕ, ◌<◌, ◌≤◌, List, [], ◌∷◌, ◌++◌, length, take, Option, Some, None, nat_lt, if◌then◌else◌, pos, IfSome, IsTrue}
 use Rattle.std.specs.Result.{result_ok}
 use Rattle.nc_decode.specs.declared.instruction.Instr.{Instr}
 use Rattle.nc_decode.specs.declared.instruction.Flow.{Flow}
 use Rattle.nc_decode.specs.declared.instruction.Flow.TheVariants.{Next, Stop}
 use Rattle.nc_decode.specs.Reading.{reading}
 use Rattle.nc_decode.specs.Spelling.{mask, Spells, IsAtFront}
+use Rattle.nc_decode.specs.Transfers.{is_direct, may_transfer}
 
 -- the bytes before the first number that is no byte
 abbrev pub leading_bytes : List ℕ → List ℕ
@@ -56,3 +57,7 @@ MasksExactly = (bytes : List ℕ) (i : Instr) (r : ℕ) → first_instruction by
 -- behind a prefix an instruction goes on to the next and masks nothing
 abbrev pub GoesOnBehindPrefix : Type 0
 GoesOnBehindPrefix = (bytes : List ℕ) (i : Instr) (s : Spells bytes i) → s.parts.prefix ≢ None → (i.flow ≡ Next) × (i.masks ≡ None)
+
+-- a direct transfer begins with one of a few bytes
+abbrev pub BeginsAsTransfer : Type 0
+BeginsAsTransfer = (byte : ℕ) (rest : List ℕ) (i : Instr) → Spells (byte ∷ rest) i → IsTrue (is_direct i.flow) → IsTrue (may_transfer byte)

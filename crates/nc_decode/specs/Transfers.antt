@@ -1,5 +1,5 @@
 -- Where control goes after an instruction.
-use Rattle.std.specs.Prelude.{ℕ, ◌+◌, ◌%◌, ◌^◌, Bool, true, false}
+use Rattle.std.specs.Prelude.{ℕ, ◌+◌, ◌%◌, ◌^◌, Bool, true, false, ◌==◌, ◌&&◌, ◌||◌, nat_le}
 use Rattle.std.specs.Int.{w32, cast_unsigned}
 use Rattle.nc_decode.specs.declared.instruction.Instr.{Instr}
 use Rattle.nc_decode.specs.declared.instruction.Flow.{Flow}
@@ -25,3 +25,8 @@ behind i at = at + i.len
 -- the target of a direct transfer at this address, modulo 2^32
 abbrev pub target : Instr → ℕ → ℕ
 target i at = (at + i.len + cast_unsigned w32 i.rel) % 2 ^ 32
+
+-- a direct transfer may begin with this byte: the opcode of a branch, a jump or a call, or what stands before that of
+-- a long branch
+abbrev pub may_transfer : ℕ → Bool
+may_transfer byte = byte == 0x0F || (nat_le 0x70 byte && nat_le byte 0x7F) || (nat_le 0xE0 byte && nat_le byte 0xEB)

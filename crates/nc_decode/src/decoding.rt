@@ -81,6 +81,7 @@ fn read(bytes: &[u8]) -> Result<Instr, DecodeFault>
 ///
 /// `Truncated` exactly where the bytes are a proper front of a permitted instruction, `NotPermitted` in all other cases
 /// in which no front of them is one.
+#[inline(always)]
 pub fn decode(bytes: &[u8]) -> Result<Instr, DecodeFault>
     // A front of the bytes is a whole instruction, and this is what it says.
     ensures found { (i : Instr) → (result ≡ Ok i) ↔ IsAtFront bytes.now i }

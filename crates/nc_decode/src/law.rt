@@ -1,6 +1,6 @@
 //! The laws of the permitted instructions.
 
-ghost use Rattle.nc_decode.specs.Front.{IsExact, IsPrefixFree, IsStopFirst, HasItsLength, DependsOnItsBytes, MasksOnlyBeforeNext, NamesRegisters, MasksExactly, GoesOnBehindPrefix};
+ghost use Rattle.nc_decode.specs.Front.{IsExact, IsPrefixFree, IsStopFirst, HasItsLength, DependsOnItsBytes, MasksOnlyBeforeNext, NamesRegisters, MasksExactly, GoesOnBehindPrefix, BeginsAsTransfer};
 
 /// What every layer above may use of the opcode table, and nothing else of it. It does nothing when it is called.
 ///
@@ -25,4 +25,6 @@ pub fn law_of_fronts()
     ensures exact_masks { MasksExactly }
     // Behind a prefix an instruction goes on to the next and masks nothing.
     ensures prefixes { GoesOnBehindPrefix }
+    // A direct transfer begins with one of the bytes that `may_transfer` names.
+    ensures transfers { BeginsAsTransfer }
 {}

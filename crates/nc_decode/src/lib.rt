@@ -13,10 +13,12 @@ mod instruction;
 mod law;
 mod shape;
 mod table;
+mod transfer;
 
 pub use decoding::decode;
 pub use instruction::{DecodeFault, Flow, Instr, Mark};
 pub use law::law_of_fronts;
+pub use transfer::may_transfer;
 
 #[cfg(test)]
 mod tests;

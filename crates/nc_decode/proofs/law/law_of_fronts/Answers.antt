@@ -1,4 +1,5 @@
 use Rattle.nc_decode.proofs.FrontLaws.{exact, prefix_free, stop_first, has_its_length, depends_on_its_bytes, masks_only_before_next, names_registers, masks_exactly, goes_on_behind_prefix}
+use Rattle.nc_decode.proofs.TransferBytes.{direct_begins}
 use Rattle.nc_decode.proofs.law.law_of_fronts.Goals as goal
 
 pub returns-clause-exact : goal.returns-clause-exact
@@ -27,3 +28,6 @@ returns-clause-exact_masks c = masks_exactly
 
 pub returns-clause-prefixes : goal.returns-clause-prefixes
 returns-clause-prefixes c = goes_on_behind_prefix
+
+pub returns-clause-transfers : goal.returns-clause-transfers
+returns-clause-transfers c = direct_begins
