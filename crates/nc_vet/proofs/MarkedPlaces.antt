@@ -57,7 +57,7 @@ plain_first : (b : Bool) (r : ℕ) → Plain ≡ cond b (After r) Plain → b �
 plain_first true r e = absurd cc
 plain_first false r e = refl
 
-first_plain : (b : Bool) (r : ℕ) → b ≡ false → cond b (After r) Plain ≡ Plain
+pub first_plain : (b : Bool) (r : ℕ) → b ≡ false → cond b (After r) Plain ≡ Plain
 first_plain true r e = absurd cc
 first_plain false r e = refl
 
@@ -81,11 +81,11 @@ target_inside base limit to pieces marks is s low lt plain =
     let lt2 : to - base < length (marks_of pieces) = omega (arith, ap (λ (z : List Mark). length z) is) in
     inl (to - base, omega arith, omega (arith, lt2, length-marks_of pieces s), plain_entry pieces s (to - base) lt2 (ap (λ (z : List Mark). get_or z (to - base) Unmarked) (sym is) ∙ plain))
 
-pub none_inside : (base limit to : ℕ) (pieces : List Piece) (marks : List Mark) → marks ≡ marks_of pieces → AreSpelled pieces → base ≤ to → to - base < length marks → get_or marks (to - base) Unmarked ≢ Plain → IsTarget base limit pieces to → ⊥
-none_inside base limit to pieces marks is s low lt other (inl t) =
-    other (ap (λ (z : List Mark). get_or z (to - base) Unmarked) is ∙ ap (λ (k : ℕ). get_or (marks_of pieces) k Unmarked) (omega (arith, t.1)) ∙ entry_plain pieces s t.0 t.3)
-none_inside base limit to pieces marks is s low lt other (inr (inl under, start, below)) = omega (arith, under)
-none_inside base limit to pieces marks is s low lt other (inr (inr past, start, below)) = omega (arith, past, ap (λ (z : List Mark). length z) is, length-marks_of pieces s)
+pub plain_inside : (base limit to : ℕ) (pieces : List Piece) (marks : List Mark) → marks ≡ marks_of pieces → AreSpelled pieces → base ≤ to → to - base < length marks → IsTarget base limit pieces to → get_or marks (to - base) Unmarked ≡ Plain
+plain_inside base limit to pieces marks is s low lt (inl t) =
+    ap (λ (z : List Mark). get_or z (to - base) Unmarked) is ∙ ap (λ (k : ℕ). get_or (marks_of pieces) k Unmarked) (omega (arith, t.1)) ∙ entry_plain pieces s t.0 t.3
+plain_inside base limit to pieces marks is s low lt (inr (inl under, start, below)) = absurd (omega (arith, under))
+plain_inside base limit to pieces marks is s low lt (inr (inr past, start, below)) = absurd (omega (arith, past, ap (λ (z : List Mark). length z) is, length-marks_of pieces s))
 
 -- an address outside may be one where it is a bundle start below the limit, and nowhere else
 pub target_outside : (base limit to : ℕ) (pieces : List Piece) (marks : List Mark) → marks ≡ marks_of pieces → AreSpelled pieces → (base ≤ to → to - base < length marks → ⊥) → to % 32 ≡ 0 → to < limit → IsTarget base limit pieces to

@@ -10,6 +10,7 @@ use Rattle.nc_decode.specs.Spelling.{Spells, IsAtFront}
 use Rattle.nc_decode.specs.Transfers.{is_indirect}
 use Rattle.nc_decode.proofs.Readings.{spells_some}
 use Rattle.nc_vet.specs.Chunk.{Piece, code_of, place, AreSpelled, AreSound, FollowsMask, instr_marks, marks_of, Chunk, IsValid}
+use Rattle.nc_vet.specs.Steps.{HasReadAll}
 use Rattle.nc_vet.proofs.Splits.{split_none, split_push, flat_map-append}
 
 -- the bytes of instructions and of more behind them
@@ -54,6 +55,9 @@ length-marks_of (p ∷ ps) s =
 
 pub valid_len : (c : Chunk) → IsValid c → length c.marks ≡ length c.code
 valid_len c v = ap (λ (z : List Mark). length z) v.marks_are ∙ length-marks_of v.pieces v.sound.spelled ∙ ap (λ (z : List ℕ). length z) (sym v.parts)
+
+pub read_len : (code : List ℕ) (marks : List Mark) → HasReadAll code marks → length marks ≡ length code
+read_len code marks r = ap (λ (z : List Mark). length z) r.marks_are ∙ length-marks_of r.pieces r.sound.spelled ∙ ap (λ (z : List ℕ). length z) (sym r.parts)
 
 -- no instruction is sound
 pub none_sound : AreSound []

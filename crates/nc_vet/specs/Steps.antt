@@ -49,14 +49,24 @@ abbrev pub EndsReading : ℕ → List ℕ → VetFault → Type 0
 EndsReading base code OutOfMemory = ⊤
 EndsReading base code fault = IsStuck base code fault
 
--- each direct transfer before a place has a good target
-pub record HasJudged (base limit : ℕ) (code : List ℕ) (marks : List Mark) (at : ℕ) : Type 0 where
-  pub read : HasReadAll code marks
+-- the instruction that begins at a place, if one does, goes well: it is no direct transfer, or its target is good
+abbrev pub GoesWellAt : ℕ → ℕ → List Piece → ℕ → Type 0
+GoesWellAt base limit pieces at = (before after : List Piece) (p : Piece) → pieces ≡ before ++ p ∷ after → place before ≡ at → IsTrue (is_direct p.instr.flow) → IsTarget base limit pieces (target p.instr (base + at))
+
+-- a direct transfer with a bad target begins at a place
+pub record GoesAstrayAt (base limit : ℕ) (pieces : List Piece) (at : ℕ) : Type 0 where
   pub before : List Piece
   pub after : List Piece
-  pub parts : read.pieces ≡ before ++ after
+  pub piece : Piece
+  pub parts : pieces ≡ before ++ piece ∷ after
   pub here : place before ≡ at
-  pub good : (b a : List Piece) (p : Piece) → before ≡ b ++ p ∷ a → IsTrue (is_direct p.instr.flow) → IsTarget base limit read.pieces (target p.instr (base + place b))
+  pub direct : IsTrue (is_direct piece.instr.flow)
+  pub bad : ¬ IsTarget base limit pieces (target piece.instr (base + at))
+
+-- each instruction that begins before a place goes well
+pub record HasJudged (base limit : ℕ) (code : List ℕ) (marks : List Mark) (at : ℕ) : Type 0 where
+  pub read : HasReadAll code marks
+  pub good : (k : ℕ) → k < at → GoesWellAt base limit read.pieces k
 
 -- each direct transfer has a good target
 pub record HasJudgedAll (base limit : ℕ) (code : List ℕ) (marks : List Mark) : Type 0 where

@@ -1,12 +1,13 @@
 //! The targets of the direct transfers of a chunk that has been read.
 
 ghost use Rattle.std.specs.Prelude.{◌≡◌, ◌<◌, ◌+◌, ◌%◌, ◌^◌, List, IsTrue, IsFalse, ◌↔◌, IfNone, IfSome, length};
+ghost use Rattle.nc_decode.specs.declared.instruction.Mark.{Mark};
 ghost use Rattle.nc_decode.specs.Transfers.{is_direct, target};
 ghost use Rattle.nc_vet.specs.Chunk.{IsTarget, Piece, marks_of, AreSpelled};
 ghost use Rattle.nc_vet.specs.Faults.{IsMistargeted};
-ghost use Rattle.nc_vet.specs.Steps.{HasReadAll, HasJudgedAll};
+ghost use Rattle.nc_vet.specs.Steps.{HasReadAll, GoesWellAt, GoesAstrayAt, HasJudgedAll};
 
-use nc_decode::{Flow, Instr, Mark, decode};
+use nc_decode::{Flow, Instr, Mark, decode, may_transfer};
 
 fn is_direct(flow: Flow) -> bool
     ensures { result ≡ is_direct flow }
@@ -22,13 +23,19 @@ fn target(instr: Instr, at: u32) -> u32
     (at + u32::from(instr.len)).wrapping_add_signed(instr.rel)
 }
 
+fn is_plain(mark: Mark) -> bool
+    ensures { IsTrue result ↔ (mark ≡ Mark.Plain) }
+{
+    matches!(mark, Mark::Plain)
+}
+
 /// A direct transfer may go to this address.
 fn is_good(base: u32, limit: u32, marks: &[Mark], to: u32) -> bool
     ensures exact { (pieces : List Piece) → marks.now ≡ marks_of pieces → AreSpelled pieces
         → IsTrue result ↔ IsTarget base limit pieces to }
 {
     if base <= to && ((to - base) as usize) < marks.len() {
-        matches!(marks[(to - base) as usize], Mark::Plain)
+        is_plain(marks[(to - base) as usize])
     } else {
         to % 32 == 0 && to < limit
     }
@@ -48,6 +55,26 @@ fn is_misdirected(base: u32, limit: u32, marks: &[Mark], instr: Instr, at: u32) 
     !is_good(base, limit, marks, target(instr, at))
 }
 
+/// A direct transfer begins at this place, and goes where it may not.
+fn goes_astray(base: u32, limit: u32, code: &[u8], marks: &[Mark], at: usize) -> bool
+    requires place { at < length code.now }
+    requires each { length marks.now ≡ length code.now }
+    requires bundles { length code.now % 32 ≡ 0 }
+    requires fits { base + length code.now < 2 ^ 32 }
+    ensures bad { (r : HasReadAll code.now marks.now) → IsTrue result → GoesAstrayAt base limit r.pieces at }
+    ensures good { (r : HasReadAll code.now marks.now) → IsFalse result → GoesWellAt base limit r.pieces at }
+{
+    // Seldom both hold, and each alone is hard to foresee for the processor: so no branch between them.
+    if !(may_transfer(code[at]) & is_plain(marks[at])) {
+        return false;
+    }
+    let end = at + (32 - at % 32);
+    let Ok(instr) = decode(&code[at..end]) else {
+        return false;
+    };
+    is_misdirected(base, limit, marks, instr, base + at as u32)
+}
+
 /// The address of the first direct transfer that goes where it may not.
 pub(crate) fn bad_target(base: u32, limit: u32, code: &[u8], marks: &[Mark]) -> Option<u32>
     requires read { HasReadAll code.now marks.now }
@@ -56,17 +83,10 @@ pub(crate) fn bad_target(base: u32, limit: u32, code: &[u8], marks: &[Mark]) -> 
     ensures good { IfNone result (HasJudgedAll base limit code.now marks.now) }
     ensures bad { IfSome result (IsMistargeted base limit code.now) }
 {
-    let mut at = 0usize;
-    while at < code.len() {
-        let end = at + (32 - at % 32);
-        let Ok(instr) = decode(&code[at..end]) else {
-            unreachable!()
-        };
-        let address = base + at as u32;
-        if is_misdirected(base, limit, marks, instr, address) {
-            return Some(address);
+    for at in 0..code.len() {
+        if goes_astray(base, limit, code, marks, at) {
+            return Some(base + at as u32);
         }
-        at += usize::from(instr.len);
     }
     None
 }

@@ -1,13 +1,15 @@
-use Rattle.std.proofs.Common.{arith, refl, ltb-true, lt-ltb, eqb-true, ◌<◌, ◌≤◌, ◌-◌, length}
-use Rattle.nc_vet.proofs.MarkedPlaces.{target_inside, none_inside, target_outside, starts_outside}
+use Rattle.std.proofs.Common.{arith, ltb-true, lt-ltb, eqb-true, ◌<◌, ◌≤◌, ◌-◌, length}
+use Rattle.nc_vet.proofs.MarkedPlaces.{target_inside, plain_inside, target_outside, starts_outside}
 use Rattle.nc_vet.proofs.targets.is_good.Goals as goal
 use Rattle.nc_vet.proofs.targets.is_good.Goals.{else-base-to-via-then-base-to+else-to-base, else-base-to-via-else-base-to}
 
-pub returns-in-Plain : goal.returns-in-Plain
-returns-in-Plain c = record { exact = λ pieces is s. (λ t. target_inside c.args.base c.args.limit c.args.to pieces c.args.marks.now is s (omega arith) (omega arith) c.in-Plain.is, λ t. refl) }
-
-pub returns-in_default : goal.returns-in_default
-returns-in_default c = record { exact = λ pieces is s. (λ t. absurd cc, λ t. absurd (none_inside c.args.base c.args.limit c.args.to pieces c.args.marks.now is s (omega arith) (omega arith) c.in_default.not-Plain t)) }
+pub returns-then-to-base : goal.returns-then-to-base
+returns-then-to-base c = record {
+  exact = λ pieces is s. (
+    λ t. target_inside c.args.base c.args.limit c.args.to pieces c.args.marks.now is s (omega arith) (omega arith) (c.is_plain.ensures.0 t),
+    λ t. c.is_plain.ensures.1 (plain_inside c.args.base c.args.limit c.args.to pieces c.args.marks.now is s (omega arith) (omega arith) t),
+  );
+}
 
 pub returns-then-to-eq0 : goal.returns-then-to-eq0
 returns-then-to-eq0 c =
