@@ -23,6 +23,7 @@ fn target(instr: Instr, at: u32) -> u32
     (at + u32::from(instr.len)).wrapping_add_signed(instr.rel)
 }
 
+/// An instruction begins at a place with this mark, and no second half of a pair.
 fn is_plain(mark: Mark) -> bool
     ensures { IsTrue result ↔ (mark ≡ Mark.Plain) }
 {
@@ -69,13 +70,15 @@ fn goes_astray(base: u32, limit: u32, code: &[u8], marks: &[Mark], at: usize) ->
         return false;
     }
     let end = at + (32 - at % 32);
+    // Where the mark is plain an instruction has been read, so this one is read again.
     let Ok(instr) = decode(&code[at..end]) else {
         return false;
     };
     is_misdirected(base, limit, marks, instr, base + at as u32)
 }
 
-/// The address of the first direct transfer that goes where it may not.
+/// The address of the first direct transfer that goes where it may not. Only what may be a direct transfer by its first
+/// byte is decoded a second time.
 pub(crate) fn bad_target(base: u32, limit: u32, code: &[u8], marks: &[Mark]) -> Option<u32>
     requires read { HasReadAll code.now marks.now }
     requires bundles { length code.now % 32 ≡ 0 }
