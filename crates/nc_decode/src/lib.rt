@@ -5,6 +5,7 @@
 //! Lengths and encodings are those of the Intel 64 and IA-32 Architectures Software Developer's Manual (SDM), volume 2.
 #![tactic(auto)]
 
+mod bundles;
 mod decoding;
 mod entries;
 mod entry;
@@ -15,6 +16,7 @@ mod shape;
 mod table;
 mod transfer;
 
+pub use bundles::{BUNDLE, MAX_BUNDLES, START};
 pub use decoding::decode;
 pub use instruction::{DecodeFault, Flow, Instr, Mark};
 pub use law::law_of_fronts;

@@ -2,7 +2,7 @@
 
 ghost use Rattle.std.specs.Prelude.{◌≡◌, ◌≢◌, ℕ, ◌+◌, ◌-◌, ◌%◌, ◌^◌, ◌<◌, ◌≤◌, List, ◌∷◌, Some, IsTrue, IsSomeAnd, IfOk, IfErr, IfSome, IfNone, slice_index};
 ghost use Rattle.nc_decode.specs.Bundles.{IsBundleStart, IsInOneBundle};
-ghost use Rattle.nc_decode.specs.Transfers.{is_indirect, target};
+ghost use Rattle.nc_decode.specs.Transfers.{is_indirect};
 ghost use Rattle.nc_text.specs.Places.{InRegion, byte_at, instruction_at, limit_of};
 ghost use Rattle.nc_text.specs.Machine.{IsMaskedFor, IsSafe, Leads, state};
 ghost use Rattle.nc_text.specs.Code.{IsText};
@@ -10,14 +10,8 @@ ghost use Rattle.nc_region.specs.Trace.{EndsBy, GoesOn, IsOnlyTrace, IsSafeWalk,
 
 use crate::acts::Acts;
 use crate::trace::{End, Trace};
-use nc_decode::{Flow, Instr, decode};
+use nc_decode::{BUNDLE, Flow, Instr, START, decode};
 use std::alloc::{AllocError, Global};
-
-/// The bytes of a bundle.
-pub(crate) const BUNDLE: u32 = 32;
-
-/// The address of a region's first byte.
-pub(crate) const START: u32 = 0x10000;
 
 /// Where a thread stands, and the register that the instruction just executed has masked.
 #[derive(Clone, Copy, Debug, Drop)]
@@ -145,18 +139,10 @@ fn next(instr: Instr, now: Thread, choice: u32, limit: u32) -> Option<Thread>
             masked: instr.masks,
         }),
         Flow::Branch if choice == 0 => Some(Thread::at(behind)),
-        Flow::Branch | Flow::Jump | Flow::Call => Some(Thread::at(target(instr, now.place))),
+        Flow::Branch | Flow::Jump | Flow::Call => Some(Thread::at(instr.target(now.place))),
         Flow::IndirectJump | Flow::IndirectCall => masked_target(choice, limit),
         Flow::Stop => unreachable!(),
     }
-}
-
-/// The target of a direct transfer at this address.
-fn target(instr: Instr, at: u32) -> u32
-    requires { at + instr.len < 2 ^ 32 }
-    ensures { result ≡ target instr at }
-{
-    (at + u32::from(instr.len)).wrapping_add_signed(instr.rel)
 }
 
 /// Where an indirect transfer goes on this choice: to the choice with its low five bits cleared, if that is below the

@@ -10,6 +10,7 @@ ghost use Rattle.nc_replay.specs.Run.{AreSeats, HasAnswered, IsSize};
 use crate::fault::ReplayFault;
 use crate::session::Session;
 use crate::stream::answer_all;
+use nc_decode::MAX_BUNDLES;
 use std::alloc::Global;
 use std::io::{Read, Write};
 
@@ -51,7 +52,7 @@ pub fn run<R: Read, W: Write>(
         → ((reader.new ≡ reader.old) × (writer.new ≡ writer.old)) ⊎ IfSome (R.remaining reader.old) (λ input.
         IsCutShort ServesLine (new_script bundles) (W.contents writer.old) (W.contents writer.new) (lines_of input)) }
 {
-    if !(2..=524_288).contains(&bundles) {
+    if !(2..=MAX_BUNDLES).contains(&bundles) {
         return Err(ReplayFault::BadSize);
     }
     if !(1..=64).contains(&seats) {

@@ -3,8 +3,7 @@
 ghost use Rattle.std.specs.Prelude.{◌≡◌, ◌+◌, ◌-◌, ◌%◌, ◌≤◌, length, IfOk};
 ghost use Rattle.nc_text.specs.Code.{with_span, bare_marks};
 
-use crate::text::START;
-use nc_decode::Mark;
+use nc_decode::{Mark, START};
 use std::alloc::{AllocError, Global};
 
 /// Sets the marks from an index on.

@@ -6,12 +6,9 @@ ghost use Rattle.nc_text.specs.Places.{InRegion, SpanInRegion, byte_at, limit_of
 ghost use Rattle.nc_text.specs.Code.{Code, IsText, with_byte, with_marks, without_marks, new_code, NamesRegister, KeepsMarks, AreStops};
 
 use crate::spans::{bare, set_span, unmark};
-use nc_decode::Mark;
+use nc_decode::{MAX_BUNDLES, Mark, START};
 use std::alloc::Global;
 use std::marker::Model;
-
-/// The address of a region's first byte.
-pub(crate) const START: u32 = 0x10000;
 
 /// The byte of the instruction hlt, with which all unused text is filled.
 const STOP: u8 = 0xF4;
@@ -65,7 +62,7 @@ impl Text {
         ensures code { IfOk result (λ t. t ≡ new_code bundles) }
         ensures whole { IfOk result IsText }
     {
-        if bundles < 2 || bundles > 524_288 {
+        if bundles < 2 || bundles > MAX_BUNDLES {
             return Err(TextFault::BadSize);
         }
         let n = bundles as usize * 32;

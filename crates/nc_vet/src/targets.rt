@@ -15,15 +15,6 @@ fn is_direct(flow: Flow) -> bool
     matches!(flow, Flow::Branch | Flow::Jump | Flow::Call)
 }
 
-/// The target of a direct transfer at this address.
-fn target(instr: Instr, at: u32) -> u32
-    requires { at + instr.len < 2 ^ 32 }
-    ensures { result ≡ target instr at }
-{
-    (at + u32::from(instr.len)).wrapping_add_signed(instr.rel)
-}
-
-/// An instruction begins at a place with this mark, and no second half of a pair.
 fn is_plain(mark: Mark) -> bool
     ensures { IsTrue result ↔ (mark ≡ Mark.Plain) }
 {
@@ -53,7 +44,7 @@ fn is_misdirected(base: u32, limit: u32, marks: &[Mark], instr: Instr, at: u32) 
     if !is_direct(instr.flow) {
         return false;
     }
-    !is_good(base, limit, marks, target(instr, at))
+    !is_good(base, limit, marks, instr.target(at))
 }
 
 /// A direct transfer begins at this place, and goes where it may not.

@@ -10,17 +10,8 @@ use crate::fault::VetFault;
 use crate::reading::read;
 use crate::targets::bad_target;
 use crate::vetted::Vetted;
-use nc_decode::Mark;
+use nc_decode::{BUNDLE, MAX_BUNDLES, Mark, START};
 use std::alloc::Global;
-
-/// The bytes of a bundle.
-const BUNDLE: u32 = 32;
-
-/// The address of a region's first byte.
-const START: u32 = 0x10000;
-
-/// The most bundles of a region.
-const MAX_BUNDLES: u32 = 524_288;
 
 /// A region may end there.
 fn is_lawful(limit: u32) -> bool
