@@ -8,3 +8,4 @@ pub mod Texts
 pub mod Answers
 pub mod Session
 pub mod Run
+pub mod CommandLine

@@ -5,6 +5,10 @@
 //! what a line asks for. The program runs a script on standard input and output.
 #![tactic(auto)]
 
+ghost use Rattle.std.specs.Prelude.{◌≡◌, map};
+ghost use Rattle.std.specs.String.{string_bytes};
+ghost use Rattle.nc_replay.specs.CommandLine.{is_replay};
+
 mod answer;
 mod command;
 pub mod fault;
@@ -32,14 +36,23 @@ const BUNDLES: u32 = 2048;
 /// How many seats the program has for threads.
 const SEATS: u32 = 4;
 
+/// Whether these words are the program's own name and the word `replay`.
+fn is_replay(words: &[String]) -> bool
+    ensures { result ≡ is_replay (map string_bytes words.now) }
+{
+    match words {
+        [_, word] => word.as_bytes() == b"replay".as_slice(),
+        _ => false,
+    }
+}
+
 /// Whether the command line is the single word `replay`.
-fn asks_for_replay<R: Env + Alloc>(rt: &R) -> Result<bool, ReplayFault> {
+fn asks_for_replay<R: Env + AllocGlobal>(rt: &R) -> Result<bool, ReplayFault> {
     match env::args(rt) {
-        Ok(words) => {
-            let mut words = words.skip(1);
-            let first = words.next();
-            Ok(first.is_some_and(|word| word.as_str() == "replay") && words.next().is_none())
-        }
+        Ok(words) => match words.collect::<Vec<String>>(rt.alloc()) {
+            Ok(words) => Ok(is_replay(&words)),
+            Err(_) => Err(ReplayFault::OutOfMemory),
+        },
         Err(error) if error.kind() == ErrorKind::OutOfMemory => Err(ReplayFault::OutOfMemory),
         // a word that is no text
         Err(_) => Ok(false),
