@@ -6,3 +6,5 @@ pub mod SpanText
 pub mod ChunkText
 pub mod Creating
 pub mod Serving
+pub mod OneAnswer
+pub mod OneText

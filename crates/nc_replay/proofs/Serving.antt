@@ -1,6 +1,6 @@
 -- What a session's calls answer is what the script answers.
 use Rattle.std.proofs.Common.{◌≡◌, ◌≢◌, ◌++◌, ℕ, ◌+◌, ◌-◌, ◌≤◌, length, map, arith, List, inl, inr, refl, sym, ap, ◌∙◌, subst, Result, Ok, Err, OnOk, is_ok, cond}
-use Rattle.std.specs.Prelude.{codes, Option, Some, MatchOption}
+use Rattle.std.specs.Prelude.{codes}
 use Rattle.nc_region.specs.Region.{Region, IsRegion, IsCreated, Meets}
 use Rattle.nc_region.specs.declared.chunk.Chunk.{Chunk}
 use Rattle.nc_text.specs.Code.{Code, with_span}
@@ -15,9 +15,8 @@ use Rattle.nc_vet.specs.Faults.{HasFault}
 use Rattle.nc_vet.specs.declared.fault.VetFault.{VetFault}
 use Rattle.nc_vet.specs.declared.fault.VetFault.TheVariants.{OutOfMemory}
 use Rattle.nc_text.specs.Places.{limit_of}
-use Rattle.nc_replay.specs.Commands.{Request, Create, Walk, request_in}
-use Rattle.nc_replay.specs.Lines.{bad_line}
-use Rattle.nc_replay.specs.Answers.{Serves, ServesLine, IsValidAt}
+use Rattle.nc_replay.specs.Commands.{Create, Walk}
+use Rattle.nc_replay.specs.Answers.{Serves, IsValidAt}
 use Rattle.nc_replay.specs.Session.{script_of, chunk_in}
 use Rattle.nc_replay.specs.Texts.{line_text, refused_text, fault_text, walk_text}
 use Rattle.nc_replay.proofs.RegionText.{text_of-script_of}
@@ -84,11 +83,6 @@ crowded_serves old v is limit_is valid meets = inr (inr (record {
 pub as_asked : (v : vet.Chunk) (base : ℕ) (bytes text : List ℕ) (old new : Script) → v.base ≡ base → v.code ≡ bytes → Serves (Create v.base v.code) old text new → Serves (Create base bytes) old text new
 as_asked v base bytes text old new base_is code_is served =
     subst (λ (b : ℕ). Serves (Create b bytes) old text new) base_is (subst (λ (bs : List ℕ). Serves (Create v.base bs) old text new) code_is served)
-
--- a line that asks for this is served by it
-pub line_serves : (request : Request) (old new : Script) (line text : List ℕ) → request_in line ≡ Some request → Serves request old text new → ServesLine old line text new
-line_serves request old new line text e h =
-    subst (λ (r : Option Request). MatchOption r ((text ≡ bad_line) × (new ≡ old)) (λ asked. Serves asked old text new)) (sym e) h
 
 -- what was added where all of the bytes were
 pub added : {T E : Type 0} (r : Result T E) (new old bytes : List ℕ) (P : List ℕ → Type 0) → new ≡ cond (is_ok r) (old ++ bytes) old → P bytes → OnOk r ((text : List ℕ) × (new ≡ old ++ text) × P text)

@@ -66,6 +66,20 @@ abbrev pub ServesLine : Script → List ℕ → List ℕ → Script → Type 0
 ServesLine old line text new =
     MatchOption (request_in line) ((text ≡ bad_line) × (new ≡ old)) (λ request. Serves request old text new)
 
+-- the request has no other answer, and leads to no other state
+abbrev pub IsOnly : Request → Script → List ℕ → Script → Type 0
+IsOnly request old text new = (other : List ℕ) (next : Script) → Serves request old other next → (other ≡ text) × (next ≡ new)
+
+-- From old, this is the answer to the request, new is the state after it, and there is no other.
+pub record ServesOnly (request : Request) (old : Script) (text : List ℕ) (new : Script) : Type 0 where
+  pub serves : Serves request old text new
+  pub only : IsOnly request old text new
+
+-- From old, this is the answer to the line, new is the state after it, and there is no other.
+pub record AnswersOnly (old : Script) (line text : List ℕ) (new : Script) : Type 0 where
+  pub serves : ServesLine old line text new
+  pub only : (other : List ℕ) (next : Script) → ServesLine old line other next → (other ≡ text) × (next ≡ new)
+
 -- at first there is no chunk
 abbrev pub new_script : ℕ → Script
 new_script bundles = record { limit = 0x10000 + 32 * bundles; chunks = [] }

@@ -9,3 +9,4 @@ pub mod Answers
 pub mod Session
 pub mod Run
 pub mod CommandLine
+pub mod Laws

@@ -1,7 +1,7 @@
 -- What a run of a script has read and written.
 use Rattle.std.specs.Prelude.{ℕ, ◌≤◌, List, Option}
 use Rattle.nc_replay.specs.Answering.{IsAnswered}
-use Rattle.nc_replay.specs.Answers.{ServesLine, new_script}
+use Rattle.nc_replay.specs.Answers.{AnswersOnly, new_script}
 use Rattle.nc_replay.specs.Script.{Script}
 
 -- how many bundles a region may have
@@ -14,4 +14,4 @@ AreSeats seats = (1 ≤ seats) × (seats ≤ 64)
 
 -- exactly the answers to these lines were written, where at first there is no chunk
 abbrev pub HasAnswered : ℕ → Option (List ℕ) → Option (List ℕ) → List (List ℕ) → Type 0
-HasAnswered bundles before after lines = (new : Script) × IsAnswered ServesLine (new_script bundles) new before after lines
+HasAnswered bundles before after lines = (new : Script) × IsAnswered AnswersOnly (new_script bundles) new before after lines

@@ -4,7 +4,8 @@ ghost use Rattle.std.specs.Prelude.{◌≡◌, ◌++◌, ◌⊎◌, ◌↔◌, �
 ghost use Rattle.std.specs.Io.KnownBytes.{Consumes, IsAtEnd};
 ghost use Rattle.nc_replay.specs.Lines.{lines_of, ended_lines};
 ghost use Rattle.nc_replay.specs.Answering.{IsBegun, IsCutShort};
-ghost use Rattle.nc_replay.specs.Answers.{ServesLine, new_script};
+ghost use Rattle.nc_replay.specs.Answers.{AnswersOnly, new_script};
+ghost use Rattle.nc_replay.specs.Laws.{BeginsAll, HasOneText};
 ghost use Rattle.nc_replay.specs.Run.{AreSeats, HasAnswered, IsSize};
 
 use crate::fault::ReplayFault;
@@ -40,7 +41,7 @@ pub fn run<R: Read, W: Write>(
 
     // A beginning of the answers was written.
     ensures write_failed { IsErrOf result ReplayFault.WriteFailed → IfSome (R.remaining reader.old) (λ input.
-        IsBegun ServesLine (new_script bundles) (W.contents writer.old) (W.contents writer.new) (lines_of input)) }
+        IsBegun AnswersOnly (new_script bundles) (W.contents writer.old) (W.contents writer.new) (lines_of input)) }
 
     // The answers to all lines whose end was read were written.
     ensures read_failed { IsErrOf result ReplayFault.ReadFailed → (front : List ℕ)
@@ -50,7 +51,7 @@ pub fn run<R: Read, W: Write>(
     // The answers to all lines before the one that failed were written, or there was no memory for the region.
     ensures out_of_memory { IsErrOf result ReplayFault.OutOfMemory
         → ((reader.new ≡ reader.old) × (writer.new ≡ writer.old)) ⊎ IfSome (R.remaining reader.old) (λ input.
-        IsCutShort ServesLine (new_script bundles) (W.contents writer.old) (W.contents writer.new) (lines_of input)) }
+        IsCutShort AnswersOnly (new_script bundles) (W.contents writer.old) (W.contents writer.new) (lines_of input)) }
 {
     if !(2..=MAX_BUNDLES).contains(&bundles) {
         return Err(ReplayFault::BadSize);
@@ -63,3 +64,10 @@ pub fn run<R: Read, W: Write>(
         Err(_) => return Err(ReplayFault::OutOfMemory),
     }
 }
+
+/// What makes the answers of a run the script's own: lines have no other answers than those that a run wrote, and what
+/// it wrote of some is a beginning of the answers to all. It does nothing when it is called.
+pub fn law_of_answers()
+    ensures one_text { HasOneText }
+    ensures begins_all { BeginsAll }
+{}

@@ -2,7 +2,7 @@
 
 ghost use Rattle.std.specs.Prelude.{◌≡◌, ◌++◌, List, ℕ, OnOk, IfOk, ◌↔◌, ◌⊎◌, ◌<◌};
 ghost use Rattle.nc_replay.specs.Commands.{Create, Walk, Dump};
-ghost use Rattle.nc_replay.specs.Answers.{Serves, ServesLine, new_script};
+ghost use Rattle.nc_replay.specs.Answers.{AnswersOnly, Serves, ServesOnly, new_script};
 ghost use Rattle.nc_replay.specs.Session.{script_of};
 
 use crate::answer::{push_chunk, push_fault, push_trace};
@@ -43,7 +43,7 @@ impl Session {
 }
 
 impl Responder for Session {
-    ghost answers = { ServesLine };
+    ghost answers = { AnswersOnly };
 
     fn answer(&mut self, line: &[u8], out: &mut Vec<u8>) -> Result<(), AllocError> {
         match command_of(self.alloc, line)? {
@@ -89,7 +89,7 @@ fn answer_walk(
     out: &mut Vec<u8>,
 ) -> Result<(), AllocError>
     ensures { OnOk result ((text : List ℕ) × (out.new.items ≡ out.old.items ++ text)
-        × Serves (Walk start choices.now) (script_of region.now) text (script_of region.now)) }
+        × ServesOnly (Walk start choices.now) (script_of region.now) text (script_of region.now)) }
 {
     // what every region keeps: its chunks, and stops beside them, are its text
     let _ = region.limit();

@@ -1,0 +1,41 @@
+-- The lines of a script have one text of answers.
+use Rattle.std.proofs.Common.{◌≡◌, ◌++◌, ℕ, List, [], ◌∷◌, Bool, true, false, refl, sym, ap, ◌∙◌, subst, append_assoc}
+use Rattle.std.specs.Bool.{MatchBool}
+use Rattle.nc_replay.specs.Lines.{is_long, bad_line}
+use Rattle.nc_replay.specs.Answering.{AnswersLines}
+use Rattle.nc_replay.specs.Answers.{AnswersOnly, ServesLine}
+use Rattle.nc_replay.specs.Laws.{HasOneText, BeginsAll}
+use Rattle.nc_replay.specs.Script.{Script}
+
+long_or_only : (long : Bool) (old : Script) (line text other : List ℕ) (new next : Script) → MatchBool long ((text ≡ bad_line) × (new ≡ old)) (AnswersOnly old line text new)
+    → MatchBool long ((other ≡ bad_line) × (next ≡ old)) (ServesLine old line other next) → (other ≡ text) × (next ≡ new)
+long_or_only true old line text other new next a b = (b.0 ∙ sym a.0, b.1 ∙ sym a.1)
+long_or_only false old line text other new next a b = a.only other next b
+
+pub one_text : HasOneText
+one_text old [] text other new next a b = (b.0 ∙ sym a.0, b.1 ∙ sym a.1)
+one_text old (line ∷ lines) text other new next a b =
+    let (mid, answer, rest, one, e, more) = a in
+    let (also, second, others, two, f, same_so) = b in
+    let same = long_or_only (is_long line) old line answer second mid also one two in
+    let on = one_text mid lines rest others new next more (subst (λ (s : Script). AnswersLines ServesLine s lines others next) same.1 same_so) in
+    (f ∙ (ap (λ (t : List ℕ). t ++ others) same.0 ∙ (ap (λ (t : List ℕ). answer ++ t) on.0 ∙ sym e)), on.1)
+
+-- the answers to lines begin with the answers to the first of them
+first_answers : (old : Script) (first others : List (List ℕ)) (all : List ℕ) (last : Script) → AnswersLines ServesLine old (first ++ others) all last
+    → (mid : Script) × (text : List ℕ) × (rest : List ℕ) × AnswersLines ServesLine old first text mid × (all ≡ text ++ rest)
+first_answers old [] others all last h = (old, [], all, (refl, refl), refl)
+first_answers old (line ∷ first) others all last h =
+    let (mid, answer, more, one, e, on) = h in
+    let (end, text, rest, so, f) = first_answers mid first others more last on in
+    (end, answer ++ text, rest, (mid, answer, text, one, refl, so), e ∙ (ap (λ (t : List ℕ). answer ++ t) f ∙ sym (append_assoc answer text rest)))
+
+pub begins_all : BeginsAll
+begins_all old before after lines begun = record {
+  text = begun.text;
+  written = begun.written;
+  begins = λ all last h.
+      let (mid, text, rest, so, e) = first_answers old begun.first begun.others all last (subst (λ (ls : List (List ℕ)). AnswersLines ServesLine old ls all last) begun.split h) in
+      let same = one_text old begun.first (begun.text ++ begun.missing) text begun.new mid begun.runs so in
+      (begun.missing ++ rest, e ∙ (ap (λ (t : List ℕ). t ++ rest) same.0 ∙ append_assoc begun.text begun.missing rest));
+}
