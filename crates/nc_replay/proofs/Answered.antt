@@ -2,6 +2,7 @@
 use Rattle.std.proofs.Common.{◌++◌, ℕ, List, [], ◌∷◌, refl, sym, ap, ◌∙◌, subst, append_assoc, append-nil}
 use Rattle.nc_replay.specs.Answering.{AnswersLine, AnswersLines}
 
+-- answers to lines go on by the answer to one more
 pub runs_more : {S : Type 0} (answers : S → List ℕ → List ℕ → S → Type 0) (old : S) (lines : List (List ℕ)) (text : List ℕ) (mid : S) (line answer : List ℕ) (new : S)
     → AnswersLines answers old lines text mid → AnswersLine answers mid line answer new → AnswersLines answers old (lines ++ line ∷ []) (text ++ answer) new
 runs_more {S} answers old [] text mid line answer new h a =

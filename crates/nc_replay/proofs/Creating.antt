@@ -58,6 +58,7 @@ bytes_at-itself bytes code base low high =
     ∙ get_or-with_span_in bytes (base - 0x10000) code (at - 0x10000) 0 (omega arith) (omega arith) (omega (arith, inside))
     ∙ ap (λ (i : ℕ). get_or code i 0) (omega arith))
 
+-- a chunk's state stays where new code lies apart from it
 state_in-apart : (bytes code : List ℕ) (base from len : ℕ) (s : ChunkState) → 0x10000 ≤ base → base + length code ≤ limit_of bytes → 0x10000 ≤ from → from + len ≤ limit_of bytes
     → (from + len ≤ base) ⊎ (base + length code ≤ from) → state_in (with_span bytes (base - 0x10000) code) from len s ≡ state_in bytes from len s
 state_in-apart bytes code base from len Live low high from_low from_high apart = ap script.Live (bytes_at-apart bytes code base from len low high from_low from_high apart)
@@ -84,6 +85,7 @@ occupied_meets bytes base len (c ∷ rest) placed (inr m) =
     let (k, d, l, is, h) = occupied_meets bytes base len rest placed.1 m in
     (suc k, d, omega (arith, l), is, h)
 
+-- and the other way round
 pub meets_occupied : (bytes : List ℕ) (base len : ℕ) (chunks : List Chunk) → Each (λ (c : Chunk). IsPlaced c.base (limit_of bytes) c.length) chunks
     → IsOccupied base len (map (chunk_in bytes) chunks) → Meets base len chunks
 meets_occupied bytes base len [] placed (k, d, l, is, h) = absurd (omega (arith, l))

@@ -7,6 +7,7 @@ use Rattle.std.specs.List.{flat_map}
 use Rattle.nc_replay.specs.Lines.{onto_line, lines_of, onto_ended, ended_lines}
 use Rattle.nc_replay.specs.Progress.{IsOpen, AreOpen, ended}
 
+-- bytes that differ are told apart
 pub eqb_no : (a b : ℕ) → a ≢ b → eqb a b ≡ false
 eqb_no a b ne = ⊎_elim (λ h. absurd (ne h.1)) (λ h. h.0) (eqb_tells a b)
 
@@ -15,16 +16,19 @@ abbrev pub last_line : List ℕ → List (List ℕ)
 last_line [] = []
 last_line (b ∷ bytes) = (b ∷ bytes) ∷ []
 
+-- a byte goes to the front of the last line
 onto-last_line : (b : ℕ) (bytes : List ℕ) → onto_line b (last_line bytes) ≡ last_line (b ∷ bytes)
 onto-last_line b [] = refl
 onto-last_line b (c ∷ bytes) = refl
 
+-- bytes without an end are one line, or none
 pub lines_of-open : (part : List ℕ) → IsOpen part → lines_of part ≡ last_line part
 lines_of-open [] h = refl
 lines_of-open (b ∷ part) h =
     ap (λ (v : Bool). cond v ([] ∷ lines_of part) (onto_line b (lines_of part))) (eqb_no b 10 h.0)
     ∙ ap (onto_line b) (lines_of-open part h.1) ∙ onto-last_line b part
 
+-- an ended line is the first one
 lines_of-ended : (line more : List ℕ) → IsOpen line → lines_of (ended line ++ more) ≡ line ∷ lines_of more
 lines_of-ended [] more h = refl
 lines_of-ended (b ∷ line) more h =
@@ -36,15 +40,18 @@ onto_line-some : (b : ℕ) (lines : List (List ℕ)) → (line : List ℕ) × (o
 onto_line-some b [] = (b ∷ [], [], refl)
 onto_line-some b (line ∷ lines) = (b ∷ line, lines, refl)
 
+-- either of two lists has a line
 either_some : (v : Bool) (xs ys : List (List ℕ)) → ((line : List ℕ) × (others : List (List ℕ)) × xs ≡ line ∷ others) → ((line : List ℕ) × (others : List (List ℕ)) × ys ≡ line ∷ others)
     → (line : List ℕ) × (others : List (List ℕ)) × cond v xs ys ≡ line ∷ others
 either_some true xs ys h k = h
 either_some false xs ys h k = k
 
+-- some bytes make some line
 pub lines_of-some : (bytes : List ℕ) → 0 < length bytes → (line : List ℕ) × (others : List (List ℕ)) × lines_of bytes ≡ line ∷ others
 lines_of-some [] h = absurd (omega arith)
 lines_of-some (b ∷ bytes) h = either_some (eqb b 10) ([] ∷ lines_of bytes) (onto_line b (lines_of bytes)) ([], lines_of bytes, refl) (onto_line-some b (lines_of bytes))
 
+-- behind a part a byte is still to come
 pub more_to_come : (part : List ℕ) (b : ℕ) (more : List ℕ) → 0 < length (part ++ (b ∷ more))
 more_to_come part b more = omega (arith, length-append part (b ∷ more))
 
@@ -56,12 +63,14 @@ lines_of-cut (line ∷ lines) more h =
     ∙ lines_of-ended line (flat_map ended lines ++ more) h.0
     ∙ ap (λ (ls : List (List ℕ)). line ∷ ls) (lines_of-cut lines more h.1)
 
+-- no line ends in bytes without an end
 ended_lines-open : (part : List ℕ) → IsOpen part → ended_lines part ≡ []
 ended_lines-open [] h = refl
 ended_lines-open (b ∷ part) h =
     ap (λ (v : Bool). cond v ([] ∷ ended_lines part) (onto_ended b (ended_lines part))) (eqb_no b 10 h.0)
     ∙ ap (onto_ended b) (ended_lines-open part h.1)
 
+-- an ended line is the first one of those that end
 ended_lines-ended : (line more : List ℕ) → IsOpen line → ended_lines (ended line ++ more) ≡ line ∷ ended_lines more
 ended_lines-ended [] more h = refl
 ended_lines-ended (b ∷ line) more h =
@@ -76,14 +85,17 @@ ended_lines-cut (line ∷ lines) part h o =
     ∙ ended_lines-ended line (flat_map ended lines ++ part) h.0
     ∙ ap (λ (ls : List (List ℕ)). line ∷ ls) (ended_lines-cut lines part h.1 o)
 
+-- a part goes on by a byte that is no end
 pub IsOpen-push : (part : List ℕ) (b : ℕ) → IsOpen part → b ≢ 10 → IsOpen (part ++ b ∷ [])
 IsOpen-push [] b h ne = (ne, tt)
 IsOpen-push (c ∷ part) b h ne = (h.0, IsOpen-push part b h.1 ne)
 
+-- lines go on by one more
 pub AreOpen-push : (lines : List (List ℕ)) (line : List ℕ) → AreOpen lines → IsOpen line → AreOpen (lines ++ line ∷ [])
 AreOpen-push [] line h o = (o, tt)
 AreOpen-push (l ∷ lines) line h o = (h.0, AreOpen-push lines line h.1 o)
 
+-- the bytes of lines go on by those of one more
 flat_map-push : (lines : List (List ℕ)) (line : List ℕ) → flat_map ended (lines ++ line ∷ []) ≡ flat_map ended lines ++ ended line
 flat_map-push [] line = append-nil (ended line)
 flat_map-push (l ∷ lines) line =
@@ -103,30 +115,37 @@ lines_of-next lines part more h o =
 
 -- ---- what is kept
 
+-- what is kept and not too long is of a part that is not too long
 kept_fits : (n : ℕ) (kept part : List ℕ) → kept ≡ take (n + 1) part → length kept ≤ n → length part ≤ n
 kept_fits n kept part e l = omega (arith, ap length e ∙ length-take (n + 1) part)
 
+-- what is kept and not too long is all of the part
 pub kept_is_all : (n : ℕ) (kept part : List ℕ) → kept ≡ take (n + 1) part → length kept ≤ n → kept ≡ part
 kept_is_all n kept part e l =
     let fits = kept_fits n kept part e l in
     e ∙ take_all (n + 1) part (omega arith)
 
+-- a part of which no more is kept is short
 pub kept_is_short : (n : ℕ) (kept part : List ℕ) → kept ≡ take (n + 1) part → length kept ≤ n → length part ≤ n
 kept_is_short = kept_fits
 
+-- a part of which more is kept is long
 pub kept_is_long : (n : ℕ) (kept part : List ℕ) → kept ≡ take (n + 1) part → n < length kept → n < length part
 kept_is_long n kept part e l = omega (arith, ap length e ∙ length-take (n + 1) part)
 
+-- what is kept goes on by a byte
 pub kept_push : (n : ℕ) (kept part : List ℕ) (b : ℕ) → kept ≡ take (n + 1) part → length kept ≤ n → kept ++ b ∷ [] ≡ take (n + 1) (part ++ b ∷ [])
 kept_push n kept part b e l =
     let fits = kept_fits n kept part e l in
     ap (λ (xs : List ℕ). xs ++ b ∷ []) (kept_is_all n kept part e l)
     ∙ sym (take_all (n + 1) (part ++ b ∷ []) (omega (arith, length-append part (b ∷ []))))
 
+-- what is kept of a long part stays as it is
 pub kept_full : (n : ℕ) (kept part : List ℕ) (b : ℕ) → kept ≡ take (n + 1) part → n < length kept → kept ≡ take (n + 1) (part ++ b ∷ [])
 kept_full n kept part b e l =
     let long = kept_is_long n kept part e l in
     e ∙ sym (take-append-le (n + 1) part (b ∷ []) (omega arith))
 
+-- where some bytes are kept there are some
 pub kept_some : (n : ℕ) (kept part : List ℕ) → kept ≡ take (n + 1) part → 0 < length kept → 0 < length part
 kept_some n kept part e l = omega (arith, ap length e ∙ length-take (n + 1) part)

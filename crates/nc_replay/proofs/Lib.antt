@@ -1,6 +1,7 @@
 pub mod Cuts
 pub mod Answered
 pub mod Steps
+pub mod WholeInput
 pub mod RegionText
 pub mod SpanText
 pub mod ChunkText

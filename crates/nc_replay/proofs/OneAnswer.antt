@@ -18,6 +18,7 @@ use Rattle.nc_replay.specs.Session.{script_of}
 use Rattle.nc_replay.specs.Texts.{line_text, refused_text, fault_text, walk_text}
 use Rattle.nc_replay.proofs.RegionText.{text_of-script_of}
 
+-- what holds of all chunks holds of those behind the first
 tail_of : (P : Chunk → Type 0) (c : Chunk) (cs : List Chunk) → All P (c ∷ cs) → All P cs
 tail_of P c cs h k d l = h (suc k) d (omega (arith, l))
 
@@ -34,17 +35,21 @@ same_cut base (b ∷ bs) ps (c ∷ cs) ds e lb la lc ld =
     let f = rest.0 in
     (cc, rest.1)
 
+-- a chunk is inserted in one way
 same_inserted : (chunk : Chunk) (old new next : List Chunk) → IsInserted chunk old new → IsInserted chunk old next → next ≡ new
 same_inserted chunk old new next i j =
     let same = same_cut chunk.base i.before i.after j.before j.after (sym i.old_is ∙ j.old_is) i.lower i.higher j.lower j.higher in
     j.new_is ∙ (ap (λ (xs : List Chunk). xs ++ chunk ∷ j.after) same.0 ∙ (ap (λ (xs : List Chunk). i.before ++ chunk ∷ xs) same.1 ∙ sym i.new_is))
 
+-- two states of the same limit and chunks
 same_script : (a b : Script) → a.limit ≡ b.limit → a.chunks ≡ b.chunks → a ≡ b
 same_script a b e f = ap (λ (n : ℕ). record { limit = n; chunks = a.chunks }) e ∙ ap (λ (cs : List Chunk). record { limit = b.limit; chunks = cs }) f
 
+-- a valid chunk has no fault
 not_valid : (base limit : ℕ) (bytes : List ℕ) (fault : VetFault) → IsValidAt base limit bytes → HasFault base limit bytes fault → fault ≢ OutOfMemory → ⊥
 not_valid base limit bytes fault v h known = known (none_valid base limit bytes v.0 fault v.1 h)
 
+-- a creation has one answer
 pub create_only : (base : ℕ) (bytes : List ℕ) (old : Script) (text : List ℕ) (new : Script) → Serves (Create base bytes) old text new → IsOnly (Create base bytes) old text new
 create_only base bytes old text new (inl a) other next (inl b) =
     (b.text_is ∙ sym a.text_is, same_script next new (b.limit ∙ sym a.limit) (same_inserted _ old.chunks new.chunks next.chunks a.inserted b.inserted))
@@ -58,9 +63,11 @@ create_only base bytes old text new (inr (inr a)) other next (inl b) = absurd (b
 create_only base bytes old text new (inr (inr a)) other next (inr (inl b)) = absurd (not_valid base old.limit bytes b.fault a.valid b.has b.known)
 create_only base bytes old text new (inr (inr a)) other next (inr (inr b)) = (b.text_is ∙ sym a.text_is, b.same ∙ sym a.same)
 
+-- a dump has one answer
 pub dump_only : (old : Script) (text : List ℕ) (new : Script) → Serves Dump old text new → IsOnly Dump old text new
 dump_only old text new a other next b = (b.0 ∙ sym a.0, b.1 ∙ sym a.1)
 
+-- a walk has one answer, since there is one trace
 pub walk_only : (region : Region) (start : ℕ) (choices places : List ℕ) (end : End) → IsRegion region.code region.chunks → IsWalkStart region.code.bytes start → IsTrace region.code.bytes start choices places end
     → IsOnly (Walk start choices) (script_of region) (line_text (walk_text places end)) (script_of region)
 walk_only region start choices places end is at trace other next (inl w) =
@@ -70,6 +77,7 @@ walk_only region start choices places end is at trace other next (inl w) =
 walk_only region start choices places end is at trace other next (inr n) =
     absurd (n.begins_not (subst (λ (text : List ℕ). IsWalkStart text start) (sym (text_of-script_of region is)) at))
 
+-- a walk from elsewhere is refused alone
 pub no_start_only : (region : Region) (start : ℕ) (choices : List ℕ) → IsRegion region.code region.chunks → ¬ IsWalkStart region.code.bytes start
     → IsOnly (Walk start choices) (script_of region) (line_text (refused_text (codes "NotBundle"))) (script_of region)
 no_start_only region start choices is not other next (inl w) = absurd (not (subst (λ (text : List ℕ). IsWalkStart text start) (text_of-script_of region is) w.begins))

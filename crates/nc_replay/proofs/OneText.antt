@@ -7,11 +7,13 @@ use Rattle.nc_replay.specs.Answers.{AnswersOnly, ServesLine}
 use Rattle.nc_replay.specs.Laws.{HasOneText, BeginsAll}
 use Rattle.nc_replay.specs.Script.{Script}
 
+-- a long line is a bad line alone
 long_or_only : (long : Bool) (old : Script) (line text other : List ℕ) (new next : Script) → MatchBool long ((text ≡ bad_line) × (new ≡ old)) (AnswersOnly old line text new)
     → MatchBool long ((other ≡ bad_line) × (next ≡ old)) (ServesLine old line other next) → (other ≡ text) × (next ≡ new)
 long_or_only true old line text other new next a b = (b.0 ∙ sym a.0, b.1 ∙ sym a.1)
 long_or_only false old line text other new next a b = a.only other next b
 
+-- lines have one text of answers, one line after the other
 pub one_text : HasOneText
 one_text old [] text other new next a b = (b.0 ∙ sym a.0, b.1 ∙ sym a.1)
 one_text old (line ∷ lines) text other new next a b =
@@ -30,6 +32,7 @@ first_answers old (line ∷ first) others all last h =
     let (end, text, rest, so, f) = first_answers mid first others more last on in
     (end, answer ++ text, rest, (mid, answer, text, one, refl, so), e ∙ (ap (λ (t : List ℕ). answer ++ t) f ∙ sym (append_assoc answer text rest)))
 
+-- a beginning of the answers to first lines is one of all answers
 pub begins_all : BeginsAll
 begins_all old before after lines begun = record {
   text = begun.text;

@@ -14,9 +14,11 @@ use Rattle.nc_replay.specs.Script as script
 use Rattle.nc_replay.specs.Script.{byte_in, bytes_of, covers, text_of}
 use Rattle.nc_replay.specs.Session.{bytes_at, state_in, chunk_in, script_of}
 
+-- a span has as many bytes as its length
 pub length-bytes_at : (bytes : List ℕ) (base len : ℕ) → 0x10000 ≤ base → base + len ≤ limit_of bytes → length (bytes_at bytes base len) ≡ len
 length-bytes_at bytes base len low high = length-take-le len (drop (base - 0x10000) bytes) (omega (arith, length-drop (base - 0x10000) bytes))
 
+-- in a span stand the region's bytes
 pub get_or-bytes_at : (bytes : List ℕ) (base len at : ℕ) → 0x10000 ≤ base → base ≤ at → at < base + len → get_or (bytes_at bytes base len) (at - base) 0 ≡ byte_at bytes at
 get_or-bytes_at bytes base len at low from to =
     get_or-take len (drop (base - 0x10000) bytes) (at - base) 0 (omega arith)
@@ -34,6 +36,7 @@ byte_here : (bytes : List ℕ) (base len at : ℕ) (s : ChunkState) → 0x10000 
 byte_here bytes base len at Live low from to stop = get_or-bytes_at bytes base len at low from to
 byte_here bytes base len at (Retired stamp) low from to stop = get_or-replicate len (at - base) 0xF4 0 (omega arith) ∙ sym (stop (λ h. h))
 
+-- either branch has this value
 choose : (p q : Bool) (x y v : ℕ) → (p ≡ true → q ≡ true → x ≡ v) → ((p ≡ false) ⊎ (q ≡ false) → y ≡ v) → cond (p && q) x y ≡ v
 choose true true x y v within beyond = within refl refl
 choose true false x y v within beyond = beyond (inr refl)

@@ -21,9 +21,11 @@ use Rattle.nc_replay.specs.Session.{script_of, chunk_in}
 use Rattle.nc_replay.specs.Texts.{line_text, refused_text, fault_text, walk_text}
 use Rattle.nc_replay.proofs.RegionText.{text_of-script_of}
 
+-- a valid chunk for this limit
 valid_here : (v : vet.Chunk) (limit : ℕ) → v.limit ≡ limit → IsValid v → IsValidAt v.base limit v.code
 valid_here v limit e valid = (v.marks, subst (λ (l : ℕ). IsValid (record { base = v.base; limit = l; code = v.code; marks = v.marks })) e valid)
 
+-- a trace through the region serves a walk
 pub walk_serves : (region : Region) (start : ℕ) (choices places : List ℕ) (end : End) → IsRegion region.code region.chunks → IsWalkStart region.code.bytes start → IsTrace region.code.bytes start choices places end
     → Serves (Walk start choices) (script_of region) (line_text (walk_text places end)) (script_of region)
 walk_serves region start choices places end is at trace = inl (record {
@@ -35,10 +37,12 @@ walk_serves region start choices places end is at trace = inl (record {
   same = refl;
 })
 
+-- a fault of the chunk serves its creation
 pub fault_serves : (region : Region) (base : ℕ) (bytes : List ℕ) (fault : VetFault) → HasFault base (limit_of region.code.bytes) bytes fault → fault ≢ OutOfMemory
     → Serves (Create base bytes) (script_of region) (line_text (refused_text (fault_text fault))) (script_of region)
 fault_serves region base bytes fault has known = inr (inl (record { fault = fault; has = has; known = known; text_is = refl; same = refl }))
 
+-- a walk from elsewhere is refused
 pub no_start_serves : (region : Region) (start : ℕ) (choices : List ℕ) → IsRegion region.code region.chunks → ¬ IsWalkStart region.code.bytes start
     → Serves (Walk start choices) (script_of region) (line_text (refused_text (codes "NotBundle"))) (script_of region)
 no_start_serves region start choices is not = inr (record {

@@ -5,11 +5,13 @@ use Rattle.hex.specs.Hex.{encode_with, encode_lower, lower_digits}
 use Rattle.nc_text.specs.Places.{limit_of, byte_at}
 use Rattle.nc_replay.specs.Session.{bytes_at}
 
+-- digits of bytes, one behind the other
 encode_with-append : (t xs ys : List ℕ) → encode_with t (xs ++ ys) ≡ encode_with t xs ++ encode_with t ys
 unfolding encode_with
 encode_with-append t [] ys = refl
 encode_with-append t (x ∷ xs) ys = ap (λ (zs : List ℕ). slice_index t (x / 16) ∷ slice_index t (x % 16) ∷ zs) (encode_with-append t xs ys)
 
+-- a span goes on by a byte
 bytes_at-more : (bytes : List ℕ) (base n : ℕ) → 0x10000 ≤ base → base + n < limit_of bytes → bytes_at bytes base (n + 1) ≡ bytes_at bytes base n ++ byte_at bytes (base + n) ∷ []
 bytes_at-more bytes base n low high =
     take_more (drop (base - 0x10000) bytes) n 0 (omega (arith, length-drop (base - 0x10000) bytes))

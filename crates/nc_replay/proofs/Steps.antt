@@ -1,8 +1,8 @@
 -- How a run answers on by a byte, by a line and at the end.
-use Rattle.std.proofs.Common.{◌≡◌, ◌≢◌, ◌++◌, ◌<◌, ◌≤◌, ℕ, List, [], ◌∷◌, Option, Some, None, IfSome, Result, Ok, Err, OnOk, IfErr, IsErrOf, length, take, drop, refl, sym, ap, ◌∙◌, subst, append_assoc, append-nil, take-append-drop, arith}
+use Rattle.std.proofs.Common.{◌≡◌, ◌≢◌, ◌++◌, ◌<◌, ◌≤◌, ℕ, List, [], ◌∷◌, Option, Result, Ok, Err, length, take, drop, refl, sym, ap, ◌∙◌, subst, append_assoc, append-nil, take-append-drop, arith}
 use Rattle.std.specs.List.{flat_map}
-use Rattle.std.specs.Io.KnownBytes.{Appends, Consumes, Keeps, IsAtEnd}
-use Rattle.std.proofs.KnownBytes.{Appends-trans, Appends-kept, Appends-nil, Consumes-whole}
+use Rattle.std.specs.Io.KnownBytes.{Appends, Keeps}
+use Rattle.std.proofs.KnownBytes.{Appends-trans, Appends-kept, Appends-nil}
 use Rattle.nc_replay.specs.Lines.{lines_of, ended_lines, line_limit}
 use Rattle.nc_replay.specs.Answering.{AnswersLine, AnswersLines, IsAnswered, IsBegun, IsCutShort}
 use Rattle.nc_replay.specs.Progress.{ended, Stands, AnswersKept, Feeds, Finishes}
@@ -76,6 +76,7 @@ module _ {S : Type 0} (answers : S → List ℕ → List ℕ → S → Type 0) (
     written = Appends-trans before after later s.answered.text (take n text) s.answered.written written;
   }
 
+  -- where writing the answer to a line fails, a beginning of the answers went out
   pub begun_line : (bytes : List ℕ) (now : S) (after : Option (List ℕ)) (kept text : List ℕ) (n : ℕ) (new : S) (later : Option (List ℕ)) (s : Stands answers start before bytes now after kept) (more : List ℕ)
       → AnswersLine answers now s.part text new → Appends after later (take n text) → IsBegun answers start before later (lines_of (bytes ++ 10 ∷ more))
   begun_line bytes now after kept text n new later s more answered_so written =
@@ -96,19 +97,23 @@ module _ {S : Type 0} (answers : S → List ℕ → List ℕ → S → Type 0) (
         answered = s.answered;
       }
 
+  -- the lines that have ended are answered
   pub stands_ended : (bytes : List ℕ) (now : S) (after : Option (List ℕ)) (kept : List ℕ) → Stands answers start before bytes now after kept → IsAnswered answers start now before after (ended_lines bytes)
   stands_ended bytes now after kept s =
       subst (λ (ls : List (List ℕ)). IsAnswered answers start now before after ls)
       (sym (ap ended_lines s.split ∙ ended_lines-cut s.lines s.part s.closed s.open_part)) s.answered
 
+  -- at the end there is at most one line more
   lines_at_end : (bytes : List ℕ) (now : S) (after : Option (List ℕ)) (kept : List ℕ) (s : Stands answers start before bytes now after kept) → lines_of bytes ≡ s.lines ++ last_line s.part
   lines_at_end bytes now after kept s =
       ap lines_of s.split ∙ lines_of-cut s.lines s.part s.closed ∙ ap (λ (ls : List (List ℕ)). s.lines ++ ls) (lines_of-open s.part s.open_part)
 
+  -- some bytes behind the last end are a line
   last_line_some : (part : List ℕ) → 0 < length part → last_line part ≡ part ∷ []
   last_line_some [] h = absurd (omega arith)
   last_line_some (b ∷ part) h = refl
 
+  -- no bytes behind the last end are none
   last_line_none : (part : List ℕ) → part ≡ [] → last_line part ≡ []
   last_line_none part e = ap last_line e
 
@@ -118,6 +123,7 @@ module _ {S : Type 0} (answers : S → List ℕ → List ℕ → S → Type 0) (
       subst (λ (ls : List (List ℕ)). IsAnswered answers start now before after ls)
       (sym (lines_at_end bytes now after kept s ∙ ap (λ (ls : List (List ℕ)). s.lines ++ ls) (last_line_none s.part e) ∙ append-nil s.lines)) s.answered
 
+  -- at the end the last line is answered too
   pub finish_line : (bytes : List ℕ) (now : S) (after : Option (List ℕ)) (kept text : List ℕ) (new : S) (later : Option (List ℕ)) (s : Stands answers start before bytes now after kept) → 0 < length s.part
       → AnswersLine answers now s.part text new → Appends after later text → IsAnswered answers start new before later (lines_of bytes)
   finish_line bytes now after kept text new later s some answered_so written =
@@ -125,6 +131,7 @@ module _ {S : Type 0} (answers : S → List ℕ → List ℕ → S → Type 0) (
       (sym (lines_at_end bytes now after kept s ∙ ap (λ (ls : List (List ℕ)). s.lines ++ ls) (last_line_some s.part some)))
       (answered_more now after s.lines s.part text new later s.answered answered_so written)
 
+  -- at the end, where writing fails, a beginning of the answers went out
   pub finish_begun : (bytes : List ℕ) (now : S) (after : Option (List ℕ)) (kept text : List ℕ) (n : ℕ) (new : S) (later : Option (List ℕ)) (s : Stands answers start before bytes now after kept) → 0 < length s.part
       → AnswersLine answers now s.part text new → Appends after later (take n text) → IsBegun answers start before later (lines_of bytes)
   finish_begun bytes now after kept text n new later s some answered_so written =
@@ -170,6 +177,7 @@ module _ {S : Type 0} (T : Type 0) (answers : S → List ℕ → List ℕ → S 
   feeds_failed bytes now after kept piece BadSize h = absurd h
   feeds_failed bytes now after kept piece BadSeats h = absurd h
 
+  -- what a failed write means, however the input goes on
   pub fed_write_failed : (bytes : List ℕ) (now : S) (after : Option (List ℕ)) (kept : List ℕ) (fault : ReplayFault)
       → Feeds {T = T} answers start before bytes now after kept (Err fault) → fault ≡ WriteFailed → (more : List ℕ) → IsBegun answers start before after (lines_of (bytes ++ more))
   fed_write_failed bytes now after kept WriteFailed h e = h
@@ -178,6 +186,7 @@ module _ {S : Type 0} (T : Type 0) (answers : S → List ℕ → List ℕ → S 
   fed_write_failed bytes now after kept BadSize h e = absurd h
   fed_write_failed bytes now after kept BadSeats h e = absurd h
 
+  -- what want of memory means, however the input goes on
   pub fed_out_of_memory : (bytes : List ℕ) (now : S) (after : Option (List ℕ)) (kept : List ℕ) (fault : ReplayFault)
       → Feeds {T = T} answers start before bytes now after kept (Err fault) → fault ≡ OutOfMemory → (more : List ℕ) → IsCutShort answers start before after (lines_of (bytes ++ more))
   fed_out_of_memory bytes now after kept WriteFailed h e = cc
@@ -186,6 +195,7 @@ module _ {S : Type 0} (T : Type 0) (answers : S → List ℕ → List ℕ → S 
   fed_out_of_memory bytes now after kept BadSize h e = absurd h
   fed_out_of_memory bytes now after kept BadSeats h e = absurd h
 
+  -- no call for a piece fails by a read
   pub fed_read_failed : (bytes : List ℕ) (now : S) (after : Option (List ℕ)) (kept : List ℕ) (fault : ReplayFault)
       → Feeds {T = T} answers start before bytes now after kept (Err fault) → fault ≡ ReadFailed → ⊥
   fed_read_failed bytes now after kept WriteFailed h e = cc
@@ -224,15 +234,11 @@ module _ {S : Type 0} (T : Type 0) (answers : S → List ℕ → List ℕ → S 
   finishes_failed bytes now new after BadSize h = h
   finishes_failed bytes now new after BadSeats h = h
 
+-- what is written stays written
 pub answered_kept : {S : Type 0} (answers : S → List ℕ → List ℕ → S → Type 0) (start new : S) (before after later : Option (List ℕ)) (lines : List (List ℕ)) → IsAnswered answers start new before after lines → Keeps after later → IsAnswered answers start new before later lines
 answered_kept answers start new before after later lines a k = record { text = a.text; runs = a.runs; written = Appends-kept before after later a.text a.written k }
 
--- what holds whatever is still to come holds of the input
-pub known_more : (old new : Option (List ℕ)) (front : List ℕ) (P : List ℕ → Type 0) → Consumes old new front → ((more : List ℕ) → P (front ++ more)) → IfSome old P
-known_more None new front P c h = tt
-known_more (Some xs) None front P c h = absurd c
-known_more (Some xs) (Some ys) front P c h = subst P (sym c) (h ys)
-
+-- at the start nothing is answered
 pub stands_start : {S : Type 0} (answers : S → List ℕ → List ℕ → S → Type 0) (start : S) (before : Option (List ℕ)) (kept : List ℕ) → kept ≡ [] → Stands answers start before [] start before kept
 stands_start answers start before kept none = record {
   lines = [];
@@ -243,43 +249,3 @@ stands_start answers start before kept none = record {
   is_kept = none;
   answered = record { text = []; runs = (refl, refl); written = Appends-nil before };
 }
-
--- no failure at the end is one of the sizes
-pub finished_no_size : {S : Type 0} (T : Type 0) (answers : S → List ℕ → List ℕ → S → Type 0) (start : S) (before : Option (List ℕ)) (bytes : List ℕ) (now : S) (after : Option (List ℕ)) (r : Result T ReplayFault)
-    → Finishes answers start before bytes now after r → IfErr r (λ fault. (fault ≢ BadSize) × (fault ≢ BadSeats))
-finished_no_size T answers start before bytes now after (Ok x) h = tt
-finished_no_size T answers start before bytes now after (Err WriteFailed) h = (λ e. cc, λ e. cc)
-finished_no_size T answers start before bytes now after (Err OutOfMemory) h = (λ e. cc, λ e. cc)
-finished_no_size T answers start before bytes now after (Err ReadFailed) h = absurd h
-finished_no_size T answers start before bytes now after (Err BadSize) h = absurd h
-finished_no_size T answers start before bytes now after (Err BadSeats) h = absurd h
-
--- at the end of the input, whose bytes were all read
-module _ {S : Type 0} (T : Type 0) (answers : S → List ℕ → List ℕ → S → Type 0) (start : S) (before : Option (List ℕ)) (old new : Option (List ℕ)) (front : List ℕ) (consumed : Consumes old new front) (at_end : IsAtEnd new) where
-  pub whole_ok : (now : S) (after : Option (List ℕ)) (r : Result T ReplayFault) → Finishes answers start before front now after r → OnOk r (IfSome old (λ input. IsAnswered answers start now before after (lines_of input)))
-  whole_ok now after (Ok x) h = Consumes-whole old new front (λ input. IsAnswered answers start now before after (lines_of input)) consumed at_end h
-  whole_ok now after (Err e) h = tt
-
-  pub whole_write_failed : (now : S) (after : Option (List ℕ)) (r : Result T ReplayFault) → Finishes answers start before front now after r → IsErrOf r WriteFailed → IfSome old (λ input. IsBegun answers start before after (lines_of input))
-  whole_write_failed now after (Ok x) h e = cc
-  whole_write_failed now after (Err WriteFailed) h e = Consumes-whole old new front (λ input. IsBegun answers start before after (lines_of input)) consumed at_end h
-  whole_write_failed now after (Err OutOfMemory) h e = cc
-  whole_write_failed now after (Err ReadFailed) h e = absurd h
-  whole_write_failed now after (Err BadSize) h e = absurd h
-  whole_write_failed now after (Err BadSeats) h e = absurd h
-
-  pub whole_out_of_memory : (now : S) (after : Option (List ℕ)) (r : Result T ReplayFault) → Finishes answers start before front now after r → IsErrOf r OutOfMemory → IfSome old (λ input. IsCutShort answers start before after (lines_of input))
-  whole_out_of_memory now after (Ok x) h e = cc
-  whole_out_of_memory now after (Err WriteFailed) h e = cc
-  whole_out_of_memory now after (Err OutOfMemory) h e = Consumes-whole old new front (λ input. IsCutShort answers start before after (lines_of input)) consumed at_end h
-  whole_out_of_memory now after (Err ReadFailed) h e = absurd h
-  whole_out_of_memory now after (Err BadSize) h e = absurd h
-  whole_out_of_memory now after (Err BadSeats) h e = absurd h
-
-  pub whole_read_failed : (now : S) (after : Option (List ℕ)) (r : Result T ReplayFault) → Finishes answers start before front now after r → IsErrOf r ReadFailed → ⊥
-  whole_read_failed now after (Ok x) h e = cc
-  whole_read_failed now after (Err WriteFailed) h e = cc
-  whole_read_failed now after (Err OutOfMemory) h e = cc
-  whole_read_failed now after (Err ReadFailed) h e = h
-  whole_read_failed now after (Err BadSize) h e = absurd h
-  whole_read_failed now after (Err BadSeats) h e = absurd h

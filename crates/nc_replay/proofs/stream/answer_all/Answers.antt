@@ -4,7 +4,8 @@ use Rattle.std.proofs.KnownBytes.{Consumes-trans, Consumes-kept}
 use Rattle.nc_replay.specs.Lines.{lines_of}
 use Rattle.nc_replay.specs.Answering.{IsBegun, IsCutShort}
 use Rattle.nc_replay.specs.declared.fault.ReplayFault.TheVariants.{ReadFailed, WriteFailed, OutOfMemory}
-use Rattle.nc_replay.proofs.Steps.{stands_ended, known_more, fed_write_failed, fed_out_of_memory, fed_read_failed, fed_no_size, finished_no_size, whole_ok, whole_write_failed, whole_out_of_memory, whole_read_failed}
+use Rattle.nc_replay.proofs.Steps.{stands_ended, fed_write_failed, fed_out_of_memory, fed_read_failed, fed_no_size}
+use Rattle.nc_replay.proofs.WholeInput.{known_more, finished_no_size, whole_ok, whole_write_failed, whole_out_of_memory, whole_read_failed}
 use Rattle.nc_replay.proofs.stream.answer_all.Goals as goal
 
 pub returns-in-Err-clause-read_failed : goal.returns-in-Err-clause-read_failed
