@@ -22,7 +22,7 @@ impl Gens {
     ///
     /// Not promised: that memory is there.
     pub fn new(alloc: Global, seats: u32) -> Result<(Gens, Keeper, Vec<Pass>), GensFault>
-        ensures bad_seats { IsErrOf result GensFault.BadSeats ↔ ((seats ≡ 0) ⊎ (MOST_SEATS < seats)) }
+        ensures bad_seats { IsErrOf result GensFault.BadSeats ↔ ((seats ≡ 0) ⊎ (64 < seats)) }
         ensures keeper { IfOk result (λ r. r.1 ≡ first_keeper r.0 seats) }
         ensures passes { IfOk result (λ r. r.2.items ≡ first_passes r.0 seats) }
 

@@ -1,7 +1,8 @@
 //! A recorder of acts, for tests and for whoever wants to see the order of single bytes.
 
-ghost use Rattle.std.specs.Prelude.{◌≡◌, ℕ, List, [], ◌∷◌, ◌++◌, Option, Some, None, IfOk, if◌then◌else◌, false};
+ghost use Rattle.std.specs.Prelude.{◌≡◌, ◌↔◌, ℕ, ◌+◌, ◌<◌, ◌≤◌, List, [], ◌∷◌, ◌++◌, Option, Some, None, IfOk, if◌then◌else◌, false};
 ghost use Rattle.std.specs.Option.{option_map};
+ghost use Rattle.std.specs.Vec.{vec_len, vec_capacity};
 ghost use Rattle.nc_region.specs.Acts.{Tells};
 
 use crate::acts::{Act, Acts};
@@ -24,6 +25,7 @@ impl<A: Acts + Drop> Recorder<A> {
     pub fn new(alloc: Global, acts: A, room: usize) -> Result<Recorder<A>, AllocError>
         ensures acts { IfOk result (λ r. r.acts ≡ acts) }
         ensures told { IfOk result (λ r. (r.log.items ≡ []) × (r.full ≡ false)) }
+        ensures room { IfOk result (λ r. vec_len r.log + room ≤ vec_capacity r.log) }
     {
         let mut log = Vec::new(alloc);
         log.reserve(room)?;
@@ -36,13 +38,15 @@ impl<A: Acts + Drop> Recorder<A> {
 
     /// The acts so far, first to last, while they are told.
     pub fn told(&self) -> Option<&[Act]>
-        ensures { option_map (λ acts. acts.now) result ≡ (if self.now.full then None else Some self.now.log.items) }
+        ensures { option_map (λ acts. acts.now) result ≡ ⟦<Recorder<A> as Acts>⟧.told self.now }
     {
         if self.full { None } else { Some(&self.log) }
     }
 
     fn record(&mut self, act: Act)
         ensures acts { self.new.acts ≡ self.old.acts }
+        // It goes on telling exactly where it told and there was room.
+        ensures goes_on { (self.new.full ≡ false) ↔ ((self.old.full ≡ false) × (vec_len self.old.log < vec_capacity self.old.log)) }
         ensures told { Tells (if self.old.full then None else Some self.old.log.items) (if self.new.full then None else Some self.new.log.items) (act ∷ []) }
     {
         if self.full || self.log.len() == self.log.capacity() {

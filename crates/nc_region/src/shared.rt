@@ -1,8 +1,10 @@
 //! A region behind its lock, which threads share.
 
 ghost use Rattle.std.specs.Prelude.{◌≡◌, ℕ, List, IfOk, IfErr};
+ghost use Rattle.nc_decode.specs.Bundles.{IsLawfulLimit};
 ghost use Rattle.nc_text.specs.Machine.{IsConfined};
-ghost use Rattle.nc_region.specs.Trace.{IsTrace};
+ghost use Rattle.nc_text.specs.Places.{limit_of};
+ghost use Rattle.nc_region.specs.Trace.{IsTrace, IsWalkStart, MayRefuseWalk};
 
 use crate::fault::{CreateFault, WalkFault};
 use crate::region::Region;
@@ -37,8 +39,10 @@ impl Shared {
 
     /// `Region::walk` under the lock: the trace through the text that stood there at that moment.
     pub fn walk(&self, rt: &impl Wait, start: u32, choices: &[u32]) -> Result<Trace, WalkFault>
-        // Whatever text was found under the lock, it is confined, and this is a walk through it.
-        ensures trace { IfOk result (λ t. (text : List ℕ) × IsConfined text × IsTrace text start choices.now t.places.items t.end) }
+        // Whatever text was found under the lock, it is confined, and this is a walk through it from a bundle start of it.
+        ensures trace { IfOk result (λ t. (text : List ℕ) × IsConfined text × IsWalkStart text start × IsTrace text start choices.now t.places.items t.end) }
+        // A refusal is one that a text of a lawful size gives.
+        ensures refused { IfErr result (λ e. (text : List ℕ) × IsLawfulLimit (limit_of text) × MayRefuseWalk text start e) }
     {
         walk_confined(&self.region.lock(rt), start, choices)
     }
@@ -46,7 +50,8 @@ impl Shared {
 
 /// A walk through a region's text, which is confined.
 fn walk_confined(region: &Region, start: u32, choices: &[u32]) -> Result<Trace, WalkFault>
-    ensures { IfOk result (λ t. (text : List ℕ) × IsConfined text × IsTrace text start choices.now t.places.items t.end) }
+    ensures trace { IfOk result (λ t. (text : List ℕ) × IsConfined text × IsWalkStart text start × IsTrace text start choices.now t.places.items t.end) }
+    ensures refused { IfErr result (λ e. (text : List ℕ) × IsLawfulLimit (limit_of text) × MayRefuseWalk text start e) }
 {
     let _count = region.chunk_count();
     region.walk(start, choices)
