@@ -82,7 +82,9 @@ fn full_recorder(rt: HostRuntime) -> Result<(), Fail> {
     assert!(rt; first.is_ok() && region.acts().told().is_some());
     let second = region.create(chunk(alloc, 0x10020, 0x10100, 1, &[])?);
     assert!(rt; second.is_ok() && region.acts().told().is_none());
-    assert_eq!(rt; region.chunk_count(), 2);
+    let third = region.create(chunk(alloc, 0x10060, 0x10100, 4, &[])?);
+    assert!(rt; third.is_ok());
+    assert_eq!(rt; region.chunk_count(), 3);
     Ok(())
 }
 
@@ -205,7 +207,7 @@ fn two_threads(rt: HostRuntime) -> Result<(), Fail> {
 }
 
 /// A chunk's front, the choices of a walk from 00010000, and its trace.
-static WALKS: [(&[u8], &[u32], &[u32], End); 10] = [
+static WALKS: [(&[u8], &[u32], &[u32], End); 11] = [
     (&[0xEB, 0x1E], &[0, 0], &[0x10000, 0x10020], End::Stop),
     (&[0x74, 0x1E], &[1], &[0x10000, 0x10020], End::Stop),
     (&[0x74, 0x1E], &[0], &[0x10000, 0x10002], End::More),
@@ -246,6 +248,8 @@ static WALKS: [(&[u8], &[u32], &[u32], End); 10] = [
         &[0x10000, 0x10003],
         End::Beyond,
     ),
+    // a jump to itself, as often as there are choices
+    (&[0xEB, 0xFE], &[0; 40], &[0x10000; 41], End::More),
 ];
 
 #[test]
