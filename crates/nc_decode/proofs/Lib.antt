@@ -18,3 +18,5 @@ pub mod GoingOn
 pub mod LeadingBytes
 pub mod FrontLaws
 pub mod TransferBytes
+mod OperandTable
+mod PlainOpcodes

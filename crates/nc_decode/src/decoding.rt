@@ -29,10 +29,12 @@ fn rel(number: Number, rest: &[u8]) -> i32
 fn masks(bytes: &[u8]) -> Option<u8>
     ensures { result ≡ masks_of bytes.now }
 {
-    match bytes {
-        [0x83, modrm, 0xE0] if 0xE0 <= *modrm && *modrm < 0xE8 && *modrm != 0xE4 => {
-            Some(*modrm - 0xE0)
-        }
+    // The opcode comes first: few instructions have it, while the length alone tells little.
+    let [0x83, rest @ ..] = bytes else {
+        return None;
+    };
+    match rest {
+        [modrm, 0xE0] if 0xE0 <= *modrm && *modrm < 0xE8 && *modrm != 0xE4 => Some(*modrm - 0xE0),
         _ => None,
     }
 }

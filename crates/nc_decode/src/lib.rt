@@ -12,6 +12,7 @@ mod entry;
 mod groups;
 mod instruction;
 mod law;
+mod operand;
 mod shape;
 mod table;
 mod transfer;
