@@ -99,3 +99,9 @@ front_within bytes rest i w s long =
       parts = ap (λ (n : ℕ). take n (bytes ++ rest)) w-is ∙ take-append-add bytes rest (w - length bytes);
       spells = s;
     }
+
+-- an instruction that ends in a window is at the front of the window
+pub front_cut : (bytes : List ℕ) (i : Instr) (w : ℕ) → IsAtFront bytes i → i.len ≤ w → IsAtFront (take w bytes) i
+front_cut bytes i w f long =
+    subst (λ (z : List ℕ). IsAtFront (take w z) i) (sym f.parts)
+    (front_within f.front f.rest i w f.spells (omega (arith, (spells_some f.front i f.spells).0, long)))

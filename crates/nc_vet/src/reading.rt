@@ -1,6 +1,7 @@
 //! The reading of a chunk: one instruction after the other, from the base.
 
-ghost use Rattle.std.specs.Prelude.{◌≡◌, ◌<◌, ◌+◌, ◌%◌, ◌^◌, length, replicate, IfOk, IfErr};
+ghost use Rattle.std.specs.Prelude.{◌≡◌, ◌≤◌, take, ◌<◌, ◌+◌, ◌%◌, ◌^◌, length, replicate, IfOk, IfErr};
+ghost use Rattle.nc_decode.specs.Spelling.{IsAtFront, IsProperFront};
 ghost use Rattle.nc_decode.specs.Transfers.{is_indirect};
 ghost use Rattle.nc_vet.specs.Chunk.{mark_of};
 ghost use Rattle.nc_vet.specs.Steps.{MayFollow, NoneMayFollow, masked_behind, HasReadAll, EndsReading};
@@ -33,13 +34,42 @@ fn masked_behind(instr: Instr, place: usize) -> Option<u8>
     if place % 32 == 0 { None } else { instr.masks }
 }
 
-/// The instruction at the front of the rest of a bundle, which begins at this address. The register, if any, was
-/// masked directly before.
-fn next(window: &[u8], masked: Option<u8>, at: u32) -> Result<Instr, VetFault>
-    ensures found { IfOk result (MayFollow window.now masked) }
-    ensures refused { IfErr result (NoneMayFollow window.now masked at) }
+/// The instruction at the front of a window of few bytes.
+#[inline(never)]
+fn decode_window(window: &[u8]) -> Result<Instr, DecodeFault>
+    ensures found { IfOk result (λ i. IsAtFront window.now i × (0 < i.len) × (i.len ≤ length window.now)) }
+    ensures cut { result ≡ Err DecodeFault.Truncated → IsProperFront window.now }
+    ensures refused { result ≡ Err DecodeFault.NotPermitted
+        → ((i : Instr) → ¬ IsAtFront window.now i) × ¬ IsProperFront window.now }
 {
-    match decode(window) {
+    decode(window)
+}
+
+/// The instruction at the front of the first `room` bytes.
+#[inline(always)]
+fn decode_within(rest: &[u8], room: usize) -> Result<Instr, DecodeFault>
+    requires { room ≤ length rest.now }
+    ensures found { IfOk result (λ i. IsAtFront (take room rest.now) i
+        × (0 < i.len) × (i.len ≤ length (take room rest.now))) }
+    ensures cut { result ≡ Err DecodeFault.Truncated → IsProperFront (take room rest.now) }
+    ensures refused { result ≡ Err DecodeFault.NotPermitted
+        → ((i : Instr) → ¬ IsAtFront (take room rest.now) i) × ¬ IsProperFront (take room rest.now) }
+{
+    // Decoding is fast where more bytes are there than it needs, and nearly always what it finds lies in the room.
+    match decode(rest) {
+        Ok(instr) if usize::from(instr.len) <= room => Ok(instr),
+        _ => decode_window(&rest[..room]),
+    }
+}
+
+/// The instruction at the front of the rest of a bundle, which is the first `room` bytes and begins at this address. The
+/// register, if any, was masked directly before.
+fn next(rest: &[u8], room: usize, masked: Option<u8>, at: u32) -> Result<Instr, VetFault>
+    requires { room ≤ length rest.now }
+    ensures found { IfOk result (MayFollow (take room rest.now) masked) }
+    ensures refused { IfErr result (NoneMayFollow (take room rest.now) masked at) }
+{
+    match decode_within(rest, room) {
         Ok(instr) => {
             if is_indirect(instr.flow) && masked != Some(instr.reg) {
                 Err(VetFault::Bare { at })
@@ -74,8 +104,8 @@ pub(crate) fn read(alloc: Global, base: u32, code: &[u8]) -> Result<Vec<Mark>, V
     let mut at = 0usize;
     let mut masked = None;
     while at < code.len() {
-        let end = at + (32 - at % 32);
-        let instr = next(&code[at..end], masked, base + at as u32)?;
+        let room = 32 - at % 32;
+        let instr = next(&code[at..], room, masked, base + at as u32)?;
         marks[at] = mark_of(instr);
         at += usize::from(instr.len);
         masked = masked_behind(instr, at);

@@ -56,8 +56,11 @@ fn goes_astray(base: u32, limit: u32, code: &[u8], marks: &[Mark], at: usize) ->
     ensures bad { (r : HasReadAll code.now marks.now) → IsTrue result → GoesAstrayAt base limit r.pieces at }
     ensures good { (r : HasReadAll code.now marks.now) → IsFalse result → GoesWellAt base limit r.pieces at }
 {
-    // Seldom both hold, and each alone is hard to foresee for the processor: so no branch between them.
-    if !(may_transfer(code[at]) & is_plain(marks[at])) {
+    // The byte comes first: few are such bytes, while the marks are hard to foresee for the processor.
+    if !may_transfer(code[at]) {
+        return false;
+    }
+    if !is_plain(marks[at]) {
         return false;
     }
     let end = at + (32 - at % 32);

@@ -3,5 +3,5 @@ use Rattle.nc_vet.proofs.reading.next.Goals as goal
 
 pub returns-in-Err-NotPermitted-clause-refused : goal.returns-in-Err-NotPermitted-clause-refused
 returns-in-Err-NotPermitted-clause-refused c =
-    let none = c.decode.ensures.refused.0 cc in
+    let none = c.decode_within.ensures.refused cc in
     (refl, none.0, none.1)

@@ -1,8 +1,8 @@
-use Rattle.std.proofs.Common.{rules, ◌≡◌, ℕ, ◌+◌, ◌-◌, ◌%◌, List, length, set, Option, replicate, arith, ap, subst, sym, ◌∙◌}
-use Rattle.std.proofs.lemmas.List.{length-set, length-replicate}
+use Rattle.std.proofs.Common.{rules, ◌≡◌, ℕ, ◌+◌, ◌-◌, ◌%◌, List, length, set, take, Option, replicate, arith, ap, subst, sym, ◌∙◌}
+use Rattle.std.proofs.lemmas.List.{length-set, length-replicate, take_rest}
 use Rattle.nc_decode.specs.declared.instruction.Mark.{Mark}
 use Rattle.nc_decode.specs.declared.instruction.Mark.TheVariants.{Unmarked}
-use Rattle.nc_vet.specs.Steps.{HasRead, masked_behind}
+use Rattle.nc_vet.specs.Steps.{HasRead, MayFollow, NoneMayFollow, masked_behind}
 use Rattle.nc_vet.proofs.Growing.{begun, grown, grown_in, read_all}
 use Rattle.nc_vet.proofs.Stuck.{stuck}
 use Rattle.nc_vet.proofs.reading.read.Goals as goal
@@ -18,9 +18,10 @@ loop-at-init c =
 
 pub loop-at-preserved : goal.loop-at-preserved
 loop-at-preserved c =
-    let more = grown _ _ _ _ _ _ _ c.loop-at.invariant.so_far (omega arith) c.loop-at.invariant.in_code c.in_ok-instr.ensures.found c.from-at.ensures in
+    let follows = subst (λ (z : List ℕ). MayFollow (take (32 - c.loop-at.at % 32) z) c.loop-at.masked c.in_ok-instr.instr) (take_rest c.args.code.now c.loop-at.at) c.in_ok-instr.ensures.found in
+    let more = grown _ _ _ _ _ _ _ c.loop-at.invariant.so_far (omega arith) c.loop-at.invariant.in_code follows c.from-at.ensures in
     record {
-      in_code = grown_in _ _ _ _ _ _ c.loop-at.invariant.in_code c.in_ok-instr.ensures.found c.from-at.ensures;
+      in_code = grown_in _ _ _ _ _ _ c.loop-at.invariant.in_code follows c.from-at.ensures;
       marks_len = length-set c.loop-at.marks.items c.loop-at.at c.mark_of.result ∙ c.loop-at.invariant.marks_len;
       so_far =
           subst (λ (m : Option ℕ). HasRead c.args.code.now (c.loop-at.at + c.from-at.result) m (set c.loop-at.marks.items c.loop-at.at c.mark_of.result)) (sym c.masked_behind-masked.ensures)
@@ -32,5 +33,6 @@ returns c = record { read = read_all _ _ _ _ c.loop-at.invariant.so_far (omega a
 
 pub returns-in_err-instr-clause-stuck : goal.returns-in_err-instr-clause-stuck
 returns-in_err-instr-clause-stuck c =
-    let ends = stuck c.args.base c.args.code.now c.loop-at.at ((c.loop-at.at + (32 - c.loop-at.at % 32)) - c.loop-at.at) c.loop-at.masked c.loop-at.marks.items c.in_err-instr.field-0.0 c.loop-at.invariant.so_far c.loop-at-test.true (omega arith) c.in_err-instr.ensures.refused in
+    let none = subst (λ (z : List ℕ). NoneMayFollow (take (32 - c.loop-at.at % 32) z) c.loop-at.masked (c.args.base + c.loop-at.at) c.in_err-instr.field-0.0) (take_rest c.args.code.now c.loop-at.at) c.in_err-instr.ensures.refused in
+    let ends = stuck c.args.base c.args.code.now c.loop-at.at (32 - c.loop-at.at % 32) c.loop-at.masked c.loop-at.marks.items c.in_err-instr.field-0.0 c.loop-at.invariant.so_far c.loop-at-test.true (omega arith) none in
     search (rules, ends)

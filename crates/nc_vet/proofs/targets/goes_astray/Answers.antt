@@ -1,22 +1,14 @@
-use Rattle.std.proofs.Common.{◌≡◌, ◌+◌, ◌-◌, ◌%◌, ◌<◌, length, Bool, true, false, ◌&&◌, ◌⊎◌, inl, inr, refl, sym, ◌∙◌, arith}
+use Rattle.std.proofs.Common.{◌≡◌, ◌+◌, ◌-◌, ◌%◌, ◌<◌, length, true, false, sym, ◌∙◌, arith}
 use Rattle.nc_vet.proofs.Judging.{other_byte, other_mark, none_read, good_at, astray_at}
 use Rattle.nc_vet.proofs.targets.goes_astray.Goals as goal
 
--- one of two tests that don't both hold
-either_fails : (a b : Bool) → a && b ≡ false → (a ≡ false) ⊎ (b ≡ false)
-either_fails true b e = inr e
-either_fails false b e = inl refl
+pub returns-then-not-may_transfer-clause-good : goal.returns-then-not-may_transfer-clause-good
+returns-then-not-may_transfer-clause-good c = λ r t.
+    other_byte c.args.base c.args.limit c.args.code.now c.args.marks.now c.args.at _ r (sym c.may_transfer.ensures ∙ c.if-not-may_transfer.true)
 
--- two tests that both hold
-both_hold : (a b : Bool) → a && b ≡ true → (a ≡ true) × (b ≡ true)
-both_hold true b e = (refl, e)
-both_hold false b e = absurd cc
-
-pub returns-then-not-may_transfer-is_plain-clause-good : goal.returns-then-not-may_transfer-is_plain-clause-good
-returns-then-not-may_transfer-is_plain-clause-good c = λ r t. elim (either_fails _ _ c.if-not-may_transfer-is_plain.true) [
-  | inl no_transfer ↦ other_byte c.args.base c.args.limit c.args.code.now c.args.marks.now c.args.at _ r (sym c.may_transfer.ensures ∙ no_transfer)
-  | inr no_plain ↦ other_mark c.args.base c.args.limit c.args.code.now c.args.marks.now c.args.at _ r (λ plain. (let f : true ≡ false = sym (c.is_plain.ensures.1 plain) ∙ no_plain in cc))
-]
+pub returns-then-not-is_plain-clause-good : goal.returns-then-not-is_plain-clause-good
+returns-then-not-is_plain-clause-good c = λ r t.
+    other_mark c.args.base c.args.limit c.args.code.now c.args.marks.now c.args.at _ r (λ plain. (let f : true ≡ false = sym (c.is_plain.ensures.1 plain) ∙ c.if-not-is_plain.true in cc))
 
 pub returns-in_default-clause-good : goal.returns-in_default-clause-good
 returns-in_default-clause-good c = λ r t.
@@ -27,7 +19,7 @@ returns-clause-bad c = λ r t.
     let bad = c.is_misdirected.ensures.bad r.pieces r.marks_are r.sound.spelled t in
     let in_bundle : ((c.args.at + (32 - c.args.at % 32)) - c.args.at) + c.args.at % 32 ≡ 32 = omega arith in
     let in_marks : c.args.at < length c.args.marks.now = omega arith in
-    let plain = c.is_plain.ensures.0 (both_hold _ _ c.if-not-may_transfer-is_plain.false).1 in
+    let plain = c.is_plain.ensures.0 c.if-not-is_plain.false in
     astray_at c.args.base c.args.limit c.args.code.now c.args.marks.now c.args.at ((c.args.at + (32 - c.args.at % 32)) - c.args.at) _ c.in-Ok.instr r in_bundle in_marks plain
     ((c.decode.ensures.found c.in-Ok.instr).0 c.in-Ok.is) bad.0 bad.1
 
