@@ -20,3 +20,4 @@ pub mod FrontLaws
 pub mod TransferBytes
 mod OperandTable
 mod PlainOpcodes
+mod TransferTable

@@ -58,7 +58,11 @@ fn decode_within(rest: &[u8], room: usize) -> Result<Instr, DecodeFault>
     // Decoding is fast where more bytes are there than it needs, and nearly always what it finds lies in the room.
     match decode(rest) {
         Ok(instr) if usize::from(instr.len) <= room => Ok(instr),
-        _ => decode_window(&rest[..room]),
+        // Taken apart and put together again, so that what was found before stays in registers.
+        _ => match decode_window(&rest[..room]) {
+            Ok(instr) => Ok(instr),
+            Err(fault) => Err(fault),
+        },
     }
 }
 
