@@ -1,13 +1,13 @@
-//! How fast vetting is: `nc_bench FILE ADDRESS ROUNDS` vets the file's bytes, as a chunk at that address, again and
-//! again, and prints the bytes and nanoseconds of the best round. Without arguments it does nothing.
+//! How fast vetting is: `nc_bench FILE ADDRESS ROUNDS` vets the file's bytes as a chunk at that address (hexadecimal), again
+//! and again, and prints the time of the best round. Only `vet` is timed. Without these words it says how to call it.
 #![tactic(auto)]
 
-use nc_vet::{VetFault, vet};
+use nc_decode::Mark;
+use nc_vet::{VetFault, Vetted, vet};
 use std::alloc::Global;
-use std::env;
-use std::fs;
 use std::io::{self, Read};
 use std::time::{Duration, Instant};
+use std::{env, fs};
 
 /// The highest limit of a region.
 const LIMIT: u32 = 0x101_0000;
@@ -20,18 +20,19 @@ struct Task {
     rounds: u32,
 }
 
+/// What one round gave: the code again, how long its vetting took, and its instructions or its fault.
+#[derive(Drop)]
+struct Round {
+    code: Vec<u8>,
+    took: Duration,
+    instructions: Result<usize, VetFault>,
+}
+
 /// The task that the command line names, if it names one.
 fn asked(rt: &HostRuntime) -> io::Result<Option<Task>> {
     let mut words = env::args(rt)?;
     let _program = words.next();
-    let (path, base, rounds) = (words.next(), words.next(), words.next());
-    let Some(path) = path else {
-        return Ok(None);
-    };
-    let Some(base) = base else {
-        return Ok(None);
-    };
-    let Some(rounds) = rounds else {
+    let (Some(path), Some(base), Some(rounds)) = (words.next(), words.next(), words.next()) else {
         return Ok(None);
     };
     let mut code = Vec::new(rt.alloc());
@@ -42,34 +43,80 @@ fn asked(rt: &HostRuntime) -> io::Result<Option<Task>> {
     Ok(Some(Task { code, base, rounds }))
 }
 
-/// The code again, and how long its vetting took; the fault where it isn't valid.
-fn round(rt: &HostRuntime, alloc: Global, code: Vec<u8>, base: u32) -> io::Result<(Vec<u8>, Option<VetFault>, Duration)> {
+/// How many instructions have a mark.
+fn instructions(marks: &[Mark]) -> usize {
+    let mut n = 0usize;
+    for mark in marks {
+        if !matches!(mark, Mark::Unmarked) {
+            n = n.saturating_add(1);
+        }
+    }
+    n
+}
+
+/// A copy of the code, for the next round.
+fn copy(alloc: Global, vetted: &Vetted) -> io::Result<Vec<u8>> {
+    let mut code = Vec::new(alloc);
+    code.extend_from_slice(vetted.code())?;
+    Ok(code)
+}
+
+/// Vets the code once.
+fn vet_once(rt: &HostRuntime, alloc: Global, code: Vec<u8>, base: u32) -> io::Result<Round> {
     let start = Instant::now(rt)?;
     let verdict = vet(base, LIMIT, code);
     let took = start.elapsed(rt)?;
-    match verdict {
-        Ok(vetted) => {
-            let mut code = Vec::new(alloc);
-            code.extend_from_slice(vetted.code())?;
-            Ok((code, None, took))
+    Ok(match verdict {
+        Ok(vetted) => Round {
+            code: copy(alloc, &vetted)?,
+            took,
+            instructions: Ok(instructions(vetted.marks())),
+        },
+        Err((code, fault)) => Round {
+            code,
+            took,
+            instructions: Err(fault),
+        },
+    })
+}
+
+/// Prints what the best round took. A megabyte is a million bytes.
+fn report(rt: &HostRuntime, bytes: usize, instructions: usize, best: Duration) -> io::Result<()> {
+    let nanos = u64::try_from(best.as_nanos()).unwrap_or(u64::MAX).max(1);
+    let speed = (bytes as u64).saturating_mul(1000) / nanos;
+    let tenths = nanos.saturating_mul(10) / (instructions as u64).max(1);
+    println!(rt; "{bytes} bytes, {instructions} instructions, {nanos} ns")?;
+    println!(rt;
+        "{speed} MB/s, {}.{} ns an instruction",
+        tenths / 10,
+        tenths % 10
+    )
+}
+
+/// Vets the code in rounds, and reports the best one.
+fn measure(rt: &HostRuntime, task: Task) -> io::Result<()> {
+    let Task {
+        mut code,
+        base,
+        rounds,
+    } = task;
+    let mut best = Duration::MAX;
+    let mut count = 0;
+    for _ in 0..rounds {
+        let done = vet_once(rt, rt.alloc(), code, base)?;
+        code = done.code;
+        best = best.min(done.took);
+        match done.instructions {
+            Ok(n) => count = n,
+            Err(fault) => return println!(rt; "refused: {fault:?}"),
         }
-        Err((code, fault)) => Ok((code, Some(fault), took)),
     }
+    report(rt, code.len(), count, best)
 }
 
 fn main(rt: HostRuntime) -> io::Result<()> {
-    let Some(task) = asked(&rt)? else {
-        return Ok(());
-    };
-    let mut code = task.code;
-    let mut best = Duration::MAX;
-    for _ in 0..task.rounds {
-        let (back, fault, took) = round(&rt, rt.alloc(), code, task.base)?;
-        code = back;
-        best = best.min(took);
-        if let Some(fault) = fault {
-            println!(rt; "{fault:?}")?;
-        }
+    match asked(&rt)? {
+        Some(task) => measure(&rt, task),
+        None => println!(rt; "usage: nc_bench FILE ADDRESS ROUNDS"),
     }
-    println!(rt; "{} bytes, best of {} rounds: {} ns", code.len(), task.rounds, best.as_nanos())
 }
