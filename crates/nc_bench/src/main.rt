@@ -44,10 +44,10 @@ fn asked(rt: &HostRuntime) -> io::Result<Option<Task>> {
 }
 
 /// How many instructions have a mark.
-fn instructions(marks: &[Mark]) -> usize {
+fn instructions(vetted: &Vetted) -> usize {
     let mut n = 0usize;
-    for mark in marks {
-        if !matches!(mark, Mark::Unmarked) {
+    for i in 0..vetted.code().len() {
+        if !matches!(vetted.mark(i), Mark::Unmarked) {
             n = n.saturating_add(1);
         }
     }
@@ -70,7 +70,7 @@ fn vet_once(rt: &HostRuntime, alloc: Global, code: Vec<u8>, base: u32) -> io::Re
         Ok(vetted) => Round {
             code: copy(alloc, &vetted)?,
             took,
-            instructions: Ok(instructions(vetted.marks())),
+            instructions: Ok(instructions(&vetted)),
         },
         Err((code, fault)) => Round {
             code,

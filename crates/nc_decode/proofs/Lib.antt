@@ -21,3 +21,7 @@ pub mod TransferBytes
 mod OperandTable
 mod PlainOpcodes
 mod TransferTable
+pub mod Stages
+pub mod StageMeanings
+pub mod StageSteps
+pub mod Runs

@@ -7,3 +7,4 @@ pub mod Barred
 pub mod Bundles
 pub mod Transfers
 pub mod Front
+pub mod Automaton

@@ -1,6 +1,7 @@
 //! The laws of the permitted instructions.
 
 ghost use Rattle.nc_decode.specs.Front.{IsExact, IsPrefixFree, IsStopFirst, HasItsLength, DependsOnItsBytes, MasksOnlyBeforeNext, NamesRegisters, MasksExactly, GoesOnBehindPrefix, BeginsAsTransfer};
+ghost use Rattle.nc_decode.specs.Automaton.{ReadsByStates, HasStates, NoneIsPaired};
 
 /// What every layer above may use of the opcode table, and nothing else of it. It does nothing when it is called.
 ///
@@ -27,4 +28,14 @@ pub fn law_of_fronts()
     ensures prefixes { GoesOnBehindPrefix }
     // A direct transfer begins with one of the bytes that `may_transfer` names.
     ensures transfers { BeginsAsTransfer }
+{}
+
+/// What a run of the automaton says of the bytes that it has read. It does nothing when it is called.
+pub fn law_of_automaton()
+    // Bytes that lead from the state behind one instruction to that behind the next are an instruction.
+    ensures reads { ReadsByStates }
+    // The states are the numbers from 0 to 74.
+    ensures states { HasStates }
+    // An indirect transfer has more than one byte.
+    ensures pairs { NoneIsPaired }
 {}

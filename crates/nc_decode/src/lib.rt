@@ -5,6 +5,7 @@
 //! Lengths and encodings are those of the Intel 64 and IA-32 Architectures Software Developer's Manual (SDM), volume 2.
 #![tactic(auto)]
 
+mod automaton;
 mod bundles;
 mod decoding;
 mod entries;
@@ -17,10 +18,11 @@ mod shape;
 mod table;
 mod transfer;
 
+pub use automaton::advance;
 pub use bundles::{BUNDLE, MAX_BUNDLES, START};
 pub use decoding::decode;
 pub use instruction::{DecodeFault, Flow, Instr, Mark};
-pub use law::law_of_fronts;
+pub use law::{law_of_automaton, law_of_fronts};
 pub use transfer::may_transfer;
 
 #[cfg(test)]

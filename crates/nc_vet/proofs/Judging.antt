@@ -19,7 +19,7 @@ use Rattle.nc_vet.proofs.OneReading.{one_at_front}
 use Rattle.nc_vet.proofs.MarkedPlaces.{marked, mark_at, first_plain}
 
 -- the code parts at the place of an instruction
-code_at : (code : List ℕ) (pieces before after : List Piece) (p : Piece) → code ≡ code_of pieces → pieces ≡ before ++ p ∷ after → code ≡ code_of before ++ (p.bytes ++ code_of after)
+pub code_at : (code : List ℕ) (pieces before after : List Piece) (p : Piece) → code ≡ code_of pieces → pieces ≡ before ++ p ∷ after → code ≡ code_of before ++ (p.bytes ++ code_of after)
 code_at code pieces before after p c e = c ∙ ap (λ (z : List Piece). code_of z) e ∙ code_of-append before (p ∷ after)
 
 -- an instruction stands at the front of the rest of its bundle

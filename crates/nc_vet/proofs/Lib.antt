@@ -7,3 +7,8 @@ pub mod Judging
 pub mod Stuck
 pub mod OneFault
 pub mod OneVerdict
+pub mod Scanning
+pub mod LaneBits
+pub mod RunStates
+pub mod BitPlaces
+pub mod BitReading

@@ -1,18 +1,26 @@
 //! Vetting of a chunk of untrusted x86-32 code, by the rules of Native Client's inner sandbox.
 #![tactic(auto)]
 
+mod bundle;
 mod fault;
+mod kept;
+mod lane;
+mod lanes;
 mod law;
+mod quick;
 mod reading;
 mod targets;
+mod transfers;
 mod vetted;
 mod vetting;
 
+pub use bundle::Bundle;
 pub use fault::VetFault;
+pub use kept::Kept;
 pub use law::law_of_verdicts;
 pub use nc_decode::Mark;
 pub use vetted::Vetted;
-pub use vetting::vet;
+pub use vetting::{judge, vet};
 
 #[cfg(test)]
 mod tests;

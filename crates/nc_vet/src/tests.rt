@@ -1,6 +1,7 @@
 //! Chunks with the answers that the rules give for them.
 
 use crate::VetFault::{BadBase, BadLength, BadTarget, Bare, Crosses, NotPermitted, OutOfRange};
+use crate::quick::quick;
 use crate::{Mark, VetFault, vet};
 use std::alloc::{AllocError, Global};
 use std::process::Abort;
@@ -138,8 +139,21 @@ fn valid_chunks(rt: HostRuntime) -> Result<(), Fail> {
         for (i, mark) in *marks {
             assert!(rt; *i < vetted.code().len());
             assert_eq!(rt; vetted.mark(*i), *mark, "at {i} of {parts:?}");
-            assert_eq!(rt; vetted.marks().get(*i), Some(mark), "at {i} of {parts:?}");
         }
+    }
+    Ok(())
+}
+
+/// No contract says that the quick way finds valid chunks: it does.
+#[test]
+fn quick_chunks(rt: HostRuntime) -> Result<(), Fail> {
+    for (bundles, parts, _) in &VALID {
+        let code = filled(&rt, rt.alloc(), bundles.wrapping_mul(32), parts)?;
+        assert!(rt; code.len() % 32 == 0 && code.len() < 0x1_0000);
+        assert!(rt;
+            quick(rt.alloc(), BASE, LIMIT, &code).is_some(),
+            "{parts:?} is refused"
+        );
     }
     Ok(())
 }

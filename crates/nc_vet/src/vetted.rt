@@ -1,44 +1,48 @@
 //! A chunk that is known to be valid.
 
-ghost use Rattle.std.specs.Prelude.{◌≡◌, ◌<◌, ◌≤◌, List, ℕ, length, slice_get, Some};
+ghost use Rattle.std.specs.Prelude.{◌≡◌, ◌<◌, ◌≤◌, List, ℕ, length, slice_get, Some, IfOk};
 
+use crate::kept::{Kept, mark_at};
 use nc_decode::Mark;
+use std::alloc::{AllocError, Global};
 use std::marker::Model;
 
 /// A valid chunk, with its base, the limit that it was vetted for, and its marks.
 ///
-/// Only `vet` makes one, and nothing changes it.
+/// Only a chunk that is known to be valid becomes one, and nothing changes it.
 #[derive(Drop)]
 pub struct Vetted {
     base: u32,
     limit: u32,
     code: Vec<u8>,
-    marks: Vec<Mark>,
+    kept: Kept,
 }
 
 impl Model for Vetted {
     ghost use Rattle.nc_vet.specs.Chunk.{Chunk, IsValid};
+    ghost use Rattle.nc_vet.specs.Keeping.{marks_kept};
 
     ghost Value = { Chunk };
 
-    ghost view = { λ v. record { base = v.base; limit = v.limit; code = v.code.items; marks = v.marks.items } };
+    ghost view = { λ v. record { base = v.base; limit = v.limit; code = v.code.items; marks = marks_kept v.code.items v.kept } };
 
-    ghost invariant = { λ v. IsValid (record { base = v.base; limit = v.limit; code = v.code.items; marks = v.marks.items }) };
+    ghost invariant = { λ v. IsValid (record { base = v.base; limit = v.limit; code = v.code.items; marks = marks_kept v.code.items v.kept }) };
 }
 
 impl Vetted {
     ghost use Rattle.nc_vet.specs.Chunk.{IsValid};
+    ghost use Rattle.nc_vet.specs.Keeping.{marks_kept};
 
     /// A chunk that is known to be valid.
-    pub(crate) fn new(base: u32, limit: u32, code: Vec<u8>, marks: Vec<Mark>) -> Vetted
-        requires { IsValid (record { base = base; limit = limit; code = code.items; marks = marks.items }) }
-        ensures { result ≡ record { base = base; limit = limit; code = code.items; marks = marks.items } }
+    pub fn new(base: u32, limit: u32, code: Vec<u8>, kept: Kept) -> Vetted
+        requires { IsValid (record { base = base; limit = limit; code = code.items; marks = marks_kept code.items kept }) }
+        ensures { result ≡ record { base = base; limit = limit; code = code.items; marks = marks_kept code.items kept } }
     {
         Vetted {
             base,
             limit,
             code,
-            marks,
+            kept,
         }
     }
 
@@ -66,11 +70,16 @@ impl Vetted {
 
     /// The marks of the chunk's places, one for each byte: `After(r)` for an indirect transfer on register r, `Plain`
     /// for the start of any other instruction, `Unmarked` elsewhere.
-    pub fn marks(&self) -> &[Mark]
-        ensures value { result.now ≡ self.now.marks }
-        ensures each { length result.now ≡ length self.now.code }
+    pub fn marks(&self, alloc: Global) -> Result<Vec<Mark>, AllocError>
+        ensures value { IfOk result (λ marks. marks.items ≡ self.now.marks) }
+        ensures each { IfOk result (λ marks. length marks.items ≡ length self.now.code) }
     {
-        &self.marks
+        let mut marks = Vec::new(alloc);
+        let code = self.code();
+        for i in 0..code.len() {
+            marks.push(self.mark(i))?;
+        }
+        Ok(marks)
     }
 
     /// The mark of the place that lies so many bytes behind the base.
@@ -78,6 +87,9 @@ impl Vetted {
         requires { i < length self.now.code }
         ensures value { slice_get self.now.marks i ≡ Some result }
     {
-        self.marks[i]
+        match &self.kept {
+            Kept::Bits(bundles) => mark_at(&self.code, bundles, i),
+            Kept::Listed(marks) => marks[i],
+        }
     }
 }

@@ -5,8 +5,12 @@ ghost use Rattle.nc_decode.specs.declared.instruction.Mark.{Mark};
 ghost use Rattle.nc_decode.specs.Bundles.{IsLawfulLimit};
 ghost use Rattle.nc_vet.specs.Chunk.{IsValid, IsBase, IsLength, IsInRange};
 ghost use Rattle.nc_vet.specs.Faults.{HasFault, HasSpanFault, HasGoodSpan};
+ghost use Rattle.nc_vet.specs.Keeping.{marks_kept};
+ghost use Rattle.nc_vet.specs.Verdict.{IsVerdict};
 
 use crate::fault::VetFault;
+use crate::kept::Kept;
+use crate::quick::quick;
 use crate::reading::read;
 use crate::targets::bad_target;
 use crate::vetted::Vetted;
@@ -39,18 +43,32 @@ fn check_span(base: u32, limit: u32, len: usize) -> Result<(), VetFault>
     Ok(())
 }
 
-/// The marks of a valid chunk, or its fault.
-fn judge(alloc: Global, base: u32, limit: u32, code: &[u8]) -> Result<Vec<Mark>, VetFault>
+/// The marks of a valid chunk whose span is good, or its fault, by an exact reading.
+#[inline(never)]
+fn judge_exactly(alloc: Global, base: u32, limit: u32, code: &[u8]) -> Result<Vec<Mark>, VetFault>
+    requires { HasGoodSpan base limit (length code.now) }
     ensures valid { IfOk result (λ marks.
         IsValid (record { base = base; limit = limit; code = code.now; marks = marks.items })) }
     ensures fault { IfErr result (HasFault base limit code.now) }
 {
-    check_span(base, limit, code.len())?;
     let marks = read(alloc, base, code)?;
     match bad_target(base, limit, code, &marks) {
         Some(at) => Err(VetFault::BadTarget { at }),
         None => Ok(marks),
     }
+}
+
+/// Judges a chunk where it lies: the marks of a valid chunk, or its fault. `vet` answers by it.
+pub fn judge(alloc: Global, base: u32, limit: u32, code: &[u8]) -> Result<Kept, VetFault>
+    ensures valid { IfOk result (λ kept.
+        IsValid (record { base = base; limit = limit; code = code.now; marks = marks_kept code.now kept })) }
+    ensures fault { IfErr result (HasFault base limit code.now) }
+{
+    check_span(base, limit, code.len())?;
+    if let Some(bundles) = quick(alloc, base, limit, code) {
+        return Ok(Kept::Bits(bundles));
+    }
+    Ok(Kept::Listed(judge_exactly(alloc, base, limit, code)?))
 }
 
 /// Vets a chunk: reads it from its base, instruction by instruction, and judges where its jumps, branches and calls go.
@@ -72,6 +90,8 @@ fn judge(alloc: Global, base: u32, limit: u32, code: &[u8]) -> Result<Vec<Mark>,
 /// The rules are C3 and C5 to C7 of table 1 of Yee et al., "Native Client: A Sandbox for Portable, Untrusted x86
 /// Native Code" (2009).
 pub fn vet(base: u32, limit: u32, code: Vec<u8>) -> Result<Vetted, (Vec<u8>, VetFault)>
+    // One word for both cases, which vetting of many chunks has too.
+    ensures verdict { IsVerdict base limit code result }
     // What is vetted is the code that was given, for that base and limit, and it is valid.
     ensures vetted { IfOk result (λ v.
         (v.base ≡ base) × (v.limit ≡ limit) × (v.code ≡ code.items) × IsValid v) }
@@ -91,7 +111,7 @@ pub fn vet(base: u32, limit: u32, code: Vec<u8>) -> Result<Vetted, (Vec<u8>, Vet
         → IfErr result (λ e. e.1 ≡ VetFault.OutOfMemory) }
 {
     match judge(*code.allocator(), base, limit, &code) {
-        Ok(marks) => Ok(Vetted::new(base, limit, code, marks)),
+        Ok(kept) => Ok(Vetted::new(base, limit, code, kept)),
         Err(fault) => Err((code, fault)),
     }
 }

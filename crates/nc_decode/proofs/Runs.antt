@@ -1,0 +1,227 @@
+-- Runs of the automaton read instructions.
+use Rattle.std.proofs.Common.{◌≡◌, ℕ, suc, ◌+◌, ◌-◌, ◌<◌, ◌≤◌, Bool, true, false, List, [], ◌∷◌, ◌++◌, Option, Some, None, Ok, length, refl, sym, subst, ◌∙◌, ap, arith, inl, inr, ◌==◌, ◌&&◌, nat_lt, ltb-true, All, eqb-true}
+use Rattle.std.specs.Prelude.{IfSome, IsTrue}
+use Rattle.std.proofs.lemmas.List.{take_all}
+use Rattle.nc_decode.specs.declared.instruction.Instr.{Instr}
+use Rattle.nc_decode.specs.Automaton.{next_state, masked_at, Leads, Ends, ReadsByStates, NoneIsPaired}
+use Rattle.nc_decode.specs.Reading.{reading}
+use Rattle.nc_decode.specs.Spelling.{Spells, masks_of}
+use Rattle.nc_decode.specs.Transfers.{is_direct}
+use Rattle.nc_decode.proofs.EntriesMatchRows.{each_below, not}
+use Rattle.nc_decode.proofs.BoolTests.{each_below-at, both, not_is}
+use Rattle.nc_decode.proofs.SpelledIsRead.{bytes_from_all}
+use Rattle.nc_decode.proofs.Readings.{reading_spells}
+use Rattle.nc_decode.proofs.Masks.{mask_masks}
+use Rattle.nc_decode.proofs.Stages.{Ended, plain, masked, by_short, by_near, paired, Stage, ended, stage_of, masked_by, after, begun, next_stage, next_small}
+use Rattle.nc_decode.proofs.StageMeanings.{Meant, Finished, more}
+use Rattle.nc_decode.proofs.StageSteps.{IsInside, step, begun_meant}
+
+-- ---- the numbers of the stages
+
+-- the stage is no end
+abbrev inside : Stage → Bool
+inside (ended k) = false
+inside _ = true
+
+-- the register that is there, if any is
+abbrev names : Option ℕ → ℕ → Bool
+names (Some t) r = t == r
+names None r = false
+
+-- the stage is an end, and the number tells which
+abbrev tells : Stage → ℕ → Bool
+tells (ended plain) e = e == 64
+tells (ended (masked r)) e = nat_lt r 8 && names (masked_at e) r && not (e == 74)
+tells (ended by_short) e = e == 72
+tells (ended by_near) e = e == 73
+tells (ended paired) e = e == 74
+tells _ e = false
+
+numbered_inside : each_below (λ s. inside (stage_of s)) 64 ≡ true
+numbered_inside = refl
+
+numbered_ends : each_below (λ j. tells (stage_of (64 + j)) (64 + j)) 11 ≡ true
+numbered_ends = refl
+
+is_inside : (x : Stage) → inside x ≡ true → IsInside x
+is_inside (ended k) e = absurd cc
+is_inside _ e = tt
+
+inside_at : (s : ℕ) → s < 64 → IsInside (stage_of s)
+inside_at s lt = is_inside (stage_of s) (each_below-at (λ t. inside (stage_of t)) 64 s numbered_inside lt)
+
+tells_at : (e : ℕ) → 64 ≤ e → e < 75 → tells (stage_of e) e ≡ true
+tells_at e low high = let is : 64 + (e - 64) ≡ e = omega (arith, low) in subst (λ (k : ℕ). tells (stage_of k) k ≡ true) is (each_below-at (λ j. tells (stage_of (64 + j)) (64 + j)) 11 (e - 64) numbered_ends (omega (arith, low, high)))
+
+-- an end, and what its number tells
+record EndsAt (e : ℕ) : Type 0 where
+  kind : Ended
+  is : stage_of e ≡ ended kind
+  told : tells (ended kind) e ≡ true
+
+end_from : (e : ℕ) (x : Stage) → stage_of e ≡ x → tells x e ≡ true → EndsAt e
+end_from e (ended k) is t = record { kind = k; is = is; told = t }
+end_from e _ is t = absurd cc
+
+end_at : (e : ℕ) → 64 ≤ e → e < 75 → EndsAt e
+end_at e low high = end_from e (stage_of e) refl (tells_at e low high)
+
+named : (o : Option ℕ) (r : ℕ) → names o r ≡ true → o ≡ Some r
+named (Some t) r e = ap some_reg (eqb-true t r e)
+  where
+    some_reg : ℕ → Option ℕ
+    some_reg k = Some k
+named None r e = absurd cc
+
+-- the register that the number tells
+masked_same : (e : ℕ) (k : Ended) → tells (ended k) e ≡ true → (masked_by k ≡ masked_at e) × IfSome (masked_by k) (λ r. r < 8)
+masked_same e plain t = let is : e ≡ 64 = eqb-true e 64 t in (rw is refl, tt)
+masked_same e (masked r) t =
+    let a = both (nat_lt r 8 && names (masked_at e) r) (not (e == 74)) t in
+    let b = both (nat_lt r 8) (names (masked_at e) r) a.0 in
+    (sym (named (masked_at e) r b.1), ltb-true r 8 b.0)
+masked_same e by_short t = let is : e ≡ 72 = eqb-true e 72 t in (rw is refl, tt)
+masked_same e by_near t = let is : e ≡ 73 = eqb-true e 73 t in (rw is refl, tt)
+masked_same e paired t = let is : e ≡ 74 = eqb-true e 74 t in (rw is refl, tt)
+
+-- ---- what has been read
+
+spelled_whole : (bytes : List ℕ) (i : Instr) → All (λ b. b < 256) bytes → reading bytes ≡ Ok i → i.len ≡ length bytes → Spells bytes i
+spelled_whole bytes i fits read len = subst (λ (z : List ℕ). Spells z i) (take_all i.len bytes (omega (arith, len))) (reading_spells bytes i (bytes_from_all bytes fits) read).1
+
+-- no flow is both
+never : (b : Bool) → b ≡ false → IsTrue b → ⊥
+never true e t = absurd cc
+never false e t = absurd cc
+
+abbrev some_mask : ℕ → Option ℕ
+some_mask r = Some r
+
+finished_ends : (m e : ℕ) (bytes : List ℕ) (k : Ended) → All (λ b. b < 256) bytes → tells (ended k) e ≡ true → Finished (masked_at m) k bytes → (i : Instr) × Ends m e bytes i
+finished_ends m e bytes plain fits t f =
+    let is : e ≡ 64 = eqb-true e 64 t in (
+      f.instr,
+      record {
+        spells = spelled_whole bytes f.instr fits f.read f.len;
+        indirect = rw is f.kind.1;
+        direct = λ d. absurd (never (is_direct f.instr.flow) f.kind.0 d);
+        masks = λ r h. absurd (let g : masked_at 64 ≡ some_mask r = ap masked_at (sym is) ∙ h in cc);
+        paired = λ p. absurd (omega (arith, is, p));
+      },
+    )
+finished_ends m e bytes (masked r) fits t f =
+    let a = both (nat_lt r 8 && names (masked_at e) r) (not (e == 74)) t in
+    let b = both (nat_lt r 8) (names (masked_at e) r) a.0 in
+    let is : masked_at e ≡ Some r = named (masked_at e) r b.1 in
+    let other : (e == 74) ≡ false = not_is (e == 74) a.1 in
+    let s = spelled_whole bytes f.instr fits f.read f.len in (
+      f.instr,
+      record {
+        spells = s;
+        indirect = f.kind.1 ∙ sym other;
+        direct = λ d. absurd (never (is_direct f.instr.flow) f.kind.0 d);
+        masks = λ q h. (
+            let same : r ≡ q = one r q (sym is ∙ h) in
+            ap (λ (i : Instr). i.masks) s.says ∙ ap masks_of (sym s.whole ∙ f.kind.2) ∙ mask_masks r f.kind.3 f.kind.4 ∙ ap some_mask same);
+        paired = λ p. absurd (let g : (74 == 74) ≡ false = ap (λ (x : ℕ). x == 74) (sym p) ∙ other in cc);
+      },
+    )
+  where
+    one : (x y : ℕ) → some_mask x ≡ some_mask y → x ≡ y
+    one x y h = cc
+finished_ends m e bytes by_short fits t f =
+    let is : e ≡ 72 = eqb-true e 72 t in (
+      f.instr,
+      record {
+        spells = spelled_whole bytes f.instr fits f.read f.len;
+        indirect = rw is f.kind.0;
+        direct = λ d. inl (is, f.kind.1);
+        masks = λ r h. absurd (let g : masked_at 72 ≡ some_mask r = ap masked_at (sym is) ∙ h in cc);
+        paired = λ p. absurd (omega (arith, is, p));
+      },
+    )
+finished_ends m e bytes by_near fits t f =
+    let is : e ≡ 73 = eqb-true e 73 t in (
+      f.instr,
+      record {
+        spells = spelled_whole bytes f.instr fits f.read f.len;
+        indirect = rw is f.kind.0;
+        direct = λ d. inr (is, f.kind.1, f.kind.2);
+        masks = λ r h. absurd (let g : masked_at 73 ≡ some_mask r = ap masked_at (sym is) ∙ h in cc);
+        paired = λ p. absurd (omega (arith, is, p));
+      },
+    )
+finished_ends m e bytes paired fits t f =
+    let is : e ≡ 74 = eqb-true e 74 t in (
+      f.instr,
+      record {
+        spells = spelled_whole bytes f.instr fits f.read f.len;
+        indirect = rw is f.kind.1;
+        direct = λ d. absurd (never (is_direct f.instr.flow) f.kind.0 d);
+        masks = λ r h. absurd (let g : masked_at 74 ≡ some_mask r = ap masked_at (sym is) ∙ h in cc);
+        paired = λ p. (f.kind.2, f.kind.3, f.kind.4);
+      },
+    )
+
+-- ---- the run
+
+-- the bytes behind the first
+behind_first : (b : ℕ) (bs : List ℕ) → All (λ x. x < 256) (b ∷ bs) → All (λ x. x < 256) bs
+behind_first b bs fits k d lt = fits (suc k) d (omega (arith, lt))
+
+first_fits : (b : ℕ) (bs : List ℕ) → All (λ x. x < 256) (b ∷ bs) → b < 256
+first_fits b bs fits = fits 0 0 (omega arith)
+
+-- the stage behind the first byte
+begins_at : (m b : ℕ) → 64 ≤ m → m < 75 → b < 256 → stage_of (next_state m b) ≡ begun (masked_at m) b
+begins_at m b low high lt =
+    let k = end_at m low high in
+    next_stage m b high lt ∙ ap (λ (x : Stage). after x b) k.is ∙ ap (λ (o : Option ℕ). begun o b) (masked_same m k.kind k.told).0
+
+begun_from : (m b : ℕ) → 64 ≤ m → m < 75 → b < 256 → Meant (masked_at m) (begun (masked_at m) b) (b ∷ [])
+begun_from m b low high lt =
+    let k = end_at m low high in
+    let s = masked_same m k.kind k.told in
+    begun_meant (masked_at m) b lt (subst (λ (o : Option ℕ). IfSome o (λ r. r < 8)) s.0 s.1)
+
+-- from a stage to an end
+led : (o : Option ℕ) (s e : ℕ) (pre bs : List ℕ) → s < 64 → All (λ b. b < 256) bs → Meant o (stage_of s) pre → Leads s bs e → Meant o (stage_of e) (pre ++ bs) × (64 ≤ e) × (e < 75)
+led o s e pre [] lt fits m l = absurd l
+led o s e pre (b ∷ []) lt fits m l =
+    let next = step o (stage_of s) b pre (first_fits b [] fits) (inside_at s lt) m in
+    (subst (λ (x : Stage). Meant o x (pre ++ b ∷ [])) (sym (next_stage s b (omega (arith, lt)) (first_fits b [] fits)) ∙ ap stage_of (sym l.0)) next, l.1, omega (arith, l.0, next_small s b))
+led o s e pre (b ∷ c ∷ bs) lt fits m l =
+    let next = step o (stage_of s) b pre (first_fits b (c ∷ bs) fits) (inside_at s lt) m in
+    let meant = subst (λ (x : Stage). Meant o x (pre ++ b ∷ [])) (sym (next_stage s b (omega (arith, lt)) (first_fits b (c ∷ bs) fits))) next in
+    let rest = led o (next_state s b) e (pre ++ b ∷ []) (c ∷ bs) l.0 (behind_first b (c ∷ bs) fits) meant l.1 in
+    (subst (λ (z : List ℕ). Meant o (stage_of e) z) (more pre (c ∷ bs) b) rest.0, rest.1, rest.2)
+
+-- from an end to the next
+led_from_end : (m e : ℕ) (bs : List ℕ) → 64 ≤ m → m < 75 → All (λ b. b < 256) bs → Leads m bs e → Meant (masked_at m) (stage_of e) bs × (64 ≤ e) × (e < 75)
+led_from_end m e [] low high fits l = absurd l
+led_from_end m e (b ∷ []) low high fits l = (
+  subst (λ (x : Stage). Meant (masked_at m) x (b ∷ [])) (sym (begins_at m b low high (first_fits b [] fits)) ∙ ap stage_of (sym l.0)) (begun_from m b low high (first_fits b [] fits)),
+  l.1,
+  omega (arith, l.0, next_small m b),
+)
+led_from_end m e (b ∷ c ∷ bs) low high fits l =
+    led (masked_at m) (next_state m b) e (b ∷ []) (c ∷ bs) l.0 (behind_first b (c ∷ bs) fits)
+    (subst (λ (x : Stage). Meant (masked_at m) x (b ∷ [])) (sym (begins_at m b low high (first_fits b (c ∷ bs) fits))) (begun_from m b low high (first_fits b (c ∷ bs) fits))) l.1
+
+pub reads_by_states : ReadsByStates
+reads_by_states m e bytes low high fits l =
+    let w = led_from_end m e bytes low high fits l in
+    let k = end_at e w.1 w.2 in
+    finished_ends m e bytes k.kind fits k.told (subst (λ (x : Stage). Meant (masked_at m) x bytes) k.is w.0)
+
+-- an instruction of one byte is no indirect transfer
+one_byte : each_below (λ k. each_below (λ b. not (next_state (64 + k) b == 74)) 256) 11 ≡ true
+unfolding next_state
+one_byte = refl
+
+pub none_is_paired : NoneIsPaired
+none_is_paired m b low high lt e =
+    let row : each_below (λ x. not (next_state (64 + (m - 64)) x == 74)) 256 ≡ true = each_below-at (λ k. each_below (λ x. not (next_state (64 + k) x == 74)) 256) 11 (m - 64) one_byte (omega (arith, low, high)) in
+    let is : 64 + (m - 64) ≡ m = omega (arith, low) in
+    let other : (next_state m b == 74) ≡ false = not_is _ (subst (λ (k : ℕ). not (next_state k b == 74) ≡ true) is (each_below-at (λ x. not (next_state (64 + (m - 64)) x == 74)) 256 b row lt)) in
+    (let g : (74 == 74) ≡ false = ap (λ (x : ℕ). x == 74) (sym e) ∙ other in cc)

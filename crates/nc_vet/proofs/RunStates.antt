@@ -1,0 +1,149 @@
+-- The states behind the bytes of bundles, one by one.
+use Rattle.std.proofs.Common.{◌≡◌, ◌≢◌, ℕ, zero, suc, ◌+◌, ◌-◌, ◌*◌, ◌%◌, ◌<◌, Bool, true, false, List, [], ◌∷◌, ◌++◌, length, take, drop, get_or, set, refl, sym, subst, ◌∙◌, ap, arith, inl, inr, ◌==◌, eqb-true, nat_le, replicate}
+use Rattle.std.specs.Prelude.{slice_set, IfSome, Option, Some, None}
+use Rattle.std.proofs.lemmas.Bool.{cases_lt, eqb-false}
+use Rattle.std.proofs.lemmas.List.{length-drop, take_more, get_or-drop, get_or-set_same, get_or-set_other, length-set, get_or_append_left, get_or-append_right, length-append}
+use Rattle.nc_decode.specs.Automaton.{next_state}
+use Rattle.nc_decode.proofs.BoolTests.{true_or_false}
+use Rattle.nc_vet.specs.declared.bundle.Bundle.{Bundle}
+use Rattle.nc_vet.specs.Bits.{no_bits}
+use Rattle.nc_vet.specs.Running.{run, state_behind, before, TellsStates, entered, HasRun, IsTold, AreTold}
+
+-- one more byte of a run
+run_more : (s : ℕ) (bs : List ℕ) (b : ℕ) → run s (bs ++ b ∷ []) ≡ next_state (run s bs) b
+run_more s [] b = refl
+run_more s (c ∷ bs) b = run_more (next_state s c) bs b
+
+-- the run before a place is the state there
+run_before : (code : List ℕ) (k : ℕ) → run 64 (take (k % 32) (drop (k - k % 32) code)) ≡ before (state_behind code) k
+unfolding state_behind
+run_before code k = elim (true_or_false (k % 32 == 0)) [
+  | inl first ↦ rw first (ap (λ (n : ℕ). run 64 (take n (drop (k - k % 32) code))) {y = 0} (eqb-true _ 0 first))
+  | inr inner ↦
+      (let some : k % 32 ≢ 0 = eqb-false _ 0 inner in
+      rw inner
+      (ap (λ (n : ℕ). run 64 (take n (drop (k - k % 32) code))) {y = (k - 1) % 32 + 1} (omega (arith, some))
+      ∙ ap (λ (n : ℕ). run 64 (take ((k - 1) % 32 + 1) (drop n code))) {x = k - k % 32} {y = k - 1 - (k - 1) % 32} (omega (arith, some))))
+]
+
+-- each state is the next
+pub state_next : (code : List ℕ) (k : ℕ) → k < length code → state_behind code k ≡ next_state (before (state_behind code) k) (get_or code k 0)
+unfolding state_behind
+state_next code k lt =
+    let rest : List ℕ = drop (k - k % 32) code in
+    let in_rest : k % 32 < length (drop (k - k % 32) code) = omega (arith, length-drop (k - k % 32) code, lt) in
+    ap (λ (z : List ℕ). run 64 z) (take_more (drop (k - k % 32) code) (k % 32) 0 in_rest)
+    ∙ run_more 64 (take (k % 32) (drop (k - k % 32) code)) (get_or (drop (k - k % 32) code) (k % 32) 0)
+    ∙ ap (λ (s : ℕ). next_state s (get_or (drop (k - k % 32) code) (k % 32) 0)) (run_before code k)
+    ∙ ap (λ (b : ℕ). next_state (before (state_behind code) k) b) (get_or-drop (k - k % 32) code (k % 32) 0 ∙ ap (λ (j : ℕ). get_or code j 0) (omega arith))
+
+-- ---- a lane
+
+-- the state that a lane has is the one before its next byte
+entered_before : (code : List ℕ) (at i : ℕ) → at % 32 ≡ 0 → i < 32 → entered code at i ≡ before (state_behind code) (at + i)
+entered_before code at i start lt = elim (true_or_false (i == 0)) [
+  | inl first ↦
+      (let is : (at + i) % 32 ≡ 0 = omega (arith, start, eqb-true i 0 first) in
+      rw (first, is) refl)
+  | inr inner ↦
+      (let some : i ≢ 0 = eqb-false i 0 inner in
+      let other : ((at + i) % 32 == 0) ≡ false = not_zero ((at + i) % 32) (λ e. some (omega (arith, e, start, lt))) in
+      rw (inner, other) refl)
+]
+  where
+    not_zero : (n : ℕ) → n ≢ 0 → (n == 0) ≡ false
+    not_zero n h = go (n == 0) refl
+      where
+        go : (b : Bool) → (n == 0) ≡ b → b ≡ false
+        go true e = absurd (h (eqb-true n 0 e))
+        go false e = refl
+
+-- before the first byte
+pub run_begun : (code : List ℕ) (at : ℕ) → HasRun code at 0 64 (replicate 32 0)
+run_begun code at = record { now = refl; each = λ k lt. absurd (omega (arith, lt)); long = refl; small = omega arith }
+
+-- one more byte
+pub run_on : (code : List ℕ) (at i state byte : ℕ) (states : List ℕ) → at % 32 ≡ 0 → i < 32 → at + i < length code → HasRun code at i state states → byte ≡ get_or code (at + i) 0 → next_state state byte < 75
+    → HasRun code at (i + 1) (next_state state byte) (slice_set states i (next_state state byte))
+run_on code at i state byte states start lt in_code h is small =
+    let next : next_state state byte ≡ state_behind code (at + i) =
+    ap (λ (b : ℕ). next_state state b) is
+    ∙ ap (λ (s : ℕ). next_state s (get_or code (at + i) 0)) (h.now ∙ entered_before code at i start lt)
+    ∙ sym (state_next code (at + i) in_code) in
+    record {
+      now = next ∙ ap (λ (k : ℕ). state_behind code k) (omega arith) ∙ sym (entered_some code at (i + 1) (omega arith));
+      each = λ k k-lt. elim (cases_lt k i) [
+        | inl earlier ↦ get_or-set_other states i k (next_state state byte) 0 (λ e. omega (arith, e, earlier)) ∙ h.each k earlier
+        | inr here ↦
+            (let same : k ≡ i = omega (arith, here, k-lt) in
+            ap (λ (j : ℕ). get_or (set states i (next_state state byte)) j 0) same ∙ get_or-set_same states i (next_state state byte) 0 (omega (arith, h.long, lt)) ∙ next ∙ ap (λ (j : ℕ). state_behind code (at + j)) (sym same))
+      ];
+      long = length-set states i (next_state state byte) ∙ h.long;
+      small = small;
+    }
+  where
+    entered_some : (c : List ℕ) (a j : ℕ) → 0 < j → entered c a j ≡ state_behind c (a + j - 1)
+    entered_some c a j some = elim (true_or_false (j == 0)) [
+      | inl none ↦ absurd (omega (arith, some, eqb-true j 0 none))
+      | inr other ↦ rw other refl
+    ]
+
+-- the same of what a step has left
+pub run_stepped : (code : List ℕ) (at i state byte after : ℕ) (states more : List ℕ) → at % 32 ≡ 0 → i < 32 → at + i < length code → HasRun code at i state states → byte ≡ get_or code (at + i) 0
+    → after ≡ next_state state byte → more ≡ slice_set states i (next_state state byte) → after < 75 → HasRun code at (i + 1) after more
+run_stepped code at i state byte after states more start lt in_code h is to set_is small =
+    let w = run_on code at i state byte states start lt in_code h is (omega (arith, to, small)) in
+    subst (λ (z : List ℕ). HasRun code at (i + 1) after z) (sym set_is) (subst (λ (s : ℕ). HasRun code at (i + 1) s (slice_set states i (next_state state byte))) (sym to) w)
+
+-- all of a bundle
+pub run_told : (code : List ℕ) (at i state : ℕ) (states : List ℕ) (w : Bundle) → i ≡ 32 → HasRun code at i state states → TellsStates states w → IsTold code at w
+run_told code at i state states w end h t = record {
+  ends = λ k lt. t.ends k lt ∙ ap (λ (s : ℕ). nat_le 64 s) (h.each k (omega (arith, lt, end)));
+  pairs = λ k lt. t.pairs k lt ∙ ap (λ (s : ℕ). s == 74) (h.each k (omega (arith, lt, end)));
+  shorts = λ k lt. t.shorts k lt ∙ ap (λ (s : ℕ). s == 72) (h.each k (omega (arith, lt, end)));
+  nears = λ k lt. t.nears k lt ∙ ap (λ (s : ℕ). s == 73) (h.each k (omega (arith, lt, end)));
+  small = t.small;
+  whole = omega (arith, t.whole, h.each 31 (omega (arith, end)));
+}
+
+-- so it is of a bundle that may not be there
+pub some_told : (code : List ℕ) (at i state : ℕ) (states : List ℕ) (o : Option Bundle) → i ≡ 32 → HasRun code at i state states → IfSome o (TellsStates states) → IfSome o (IsTold code at)
+some_told code at i state states None end h t = tt
+some_told code at i state states (Some w) end h t = run_told code at i state states w end h t
+
+-- the same place
+pub moved : (code : List ℕ) (j k : ℕ) (w : Bundle) → j ≡ k → IsTold code j w → IsTold code k w
+moved code j k w e i = subst (λ (m : ℕ). IsTold code m w) e i
+
+-- eight bundles
+pub eight_told : (code : List ℕ) (at : ℕ) (a b c d e f g h : Bundle) → IsTold code at a → IsTold code (at + 32) b → IsTold code (at + 64) c → IsTold code (at + 96) d
+    → IsTold code (at + 128) e → IsTold code (at + 160) f → IsTold code (at + 192) g → IsTold code (at + 224) h
+    → (n : ℕ) → n < 8 → IsTold code (at + 32 * n) (get_or (a ∷ b ∷ c ∷ d ∷ e ∷ f ∷ g ∷ h ∷ []) n no_bits)
+eight_told code at a b c d e f g h p q r s t u v w zero lt = moved code at (at + 32 * zero) a (omega arith) p
+eight_told code at a b c d e f g h p q r s t u v w (suc zero) lt = moved code (at + 32) (at + 32 * suc zero) b (omega arith) q
+eight_told code at a b c d e f g h p q r s t u v w (suc (suc zero)) lt = moved code (at + 64) (at + 32 * suc (suc zero)) c (omega arith) r
+eight_told code at a b c d e f g h p q r s t u v w (suc (suc (suc zero))) lt = moved code (at + 96) (at + 32 * suc (suc (suc zero))) d (omega arith) s
+eight_told code at a b c d e f g h p q r s t u v w (suc (suc (suc (suc zero)))) lt = moved code (at + 128) (at + 32 * suc (suc (suc (suc zero)))) e (omega arith) t
+eight_told code at a b c d e f g h p q r s t u v w (suc (suc (suc (suc (suc zero))))) lt = moved code (at + 160) (at + 32 * suc (suc (suc (suc (suc zero))))) f (omega arith) u
+eight_told code at a b c d e f g h p q r s t u v w (suc (suc (suc (suc (suc (suc zero)))))) lt = moved code (at + 192) (at + 32 * suc (suc (suc (suc (suc (suc zero)))))) g (omega arith) v
+eight_told code at a b c d e f g h p q r s t u v w (suc (suc (suc (suc (suc (suc (suc zero))))))) lt = moved code (at + 224) (at + 32 * suc (suc (suc (suc (suc (suc (suc zero))))))) h (omega arith) w
+eight_told code at a b c d e f g h p q r s t u v w (suc (suc (suc (suc (suc (suc (suc (suc n)))))))) lt = absurd (omega (arith, lt))
+
+-- ---- all bundles
+
+-- more bundles behind those that were read
+pub told_more : (code : List ℕ) (bundles more : List Bundle) (count : ℕ) → AreTold code bundles → length more ≡ count → ((n : ℕ) → n < count → IsTold code (32 * length bundles + 32 * n) (get_or more n no_bits)) → AreTold code (bundles ++ more)
+told_more code bundles more count t len f n lt = elim (cases_lt n (length bundles)) [
+  | inl earlier ↦ subst (λ (w : Bundle). IsTold code (32 * n) w) (sym (get_or_append_left bundles more no_bits n earlier)) (t n earlier)
+  | inr later ↦
+      subst (λ (w : Bundle). IsTold code (32 * n) w) (sym (get_or-append_right bundles more (length bundles) n no_bits refl later))
+      (moved code (32 * length bundles + 32 * (n - length bundles)) (32 * n) (get_or more (n - length bundles) no_bits) (omega (arith, later)) (f (n - length bundles) (omega (arith, later, lt, len, length-append bundles more))))
+]
+
+-- one more
+pub told_one : (code : List ℕ) (bundles : List Bundle) (w : Bundle) → AreTold code bundles → IsTold code (32 * length bundles) w → AreTold code (bundles ++ w ∷ [])
+told_one code bundles w t one = told_more code bundles (w ∷ []) 1 t refl (λ n lt. first n lt)
+  where
+    first : (n : ℕ) → n < 1 → IsTold code (32 * length bundles + 32 * n) (get_or (w ∷ []) n no_bits)
+    first zero lt = moved code (32 * length bundles) (32 * length bundles + 32 * zero) w (omega arith) one
+    first (suc n) lt = absurd (omega (arith, lt))

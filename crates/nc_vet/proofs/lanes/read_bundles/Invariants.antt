@@ -1,0 +1,16 @@
+use Rattle.std.proofs.Common.{◌≤◌, ◌-◌}
+use Rattle.std.proofs.Common.{vec_len}
+use Rattle.nc_vet.specs.Running.{AreTold}
+use Rattle.nc_vet.proofs.lanes.read_bundles.Given as goal
+
+abbrev pub invariant-loop-bundles : goal.invariant-loop-bundles
+invariant-loop-bundles l = record { within : vec_len l.bundles ≤ l.count; told : AreTold l.code l.bundles.items }
+
+abbrev pub decreases-loop-bundles : goal.decreases-loop-bundles
+decreases-loop-bundles l = l.count - vec_len l.bundles
+
+abbrev pub invariant-loop-bundles-2 : goal.invariant-loop-bundles-2
+invariant-loop-bundles-2 l = record { within : vec_len l.bundles ≤ l.count; told : AreTold l.code l.bundles.items }
+
+abbrev pub decreases-loop-bundles-2 : goal.decreases-loop-bundles-2
+decreases-loop-bundles-2 l = l.count - vec_len l.bundles

@@ -1,0 +1,31 @@
+-- The marks of a chunk by the bits of its bundles.
+use Rattle.std.specs.Prelude.{ℕ, ◌+◌, ◌-◌, ◌/◌, ◌%◌, Bool, List, length, map, get_or, slice_index, ◌==◌, ◌||◌, if◌then◌else◌}
+use Rattle.std.specs.Int.{bit_at}
+use Rattle.std.specs.List.{range_with_len}
+use Rattle.nc_decode.specs.declared.instruction.Mark.{Mark}
+use Rattle.nc_decode.specs.declared.instruction.Mark.TheVariants.{Unmarked, Plain, After}
+use Rattle.nc_vet.specs.declared.bundle.Bundle.{Bundle}
+
+-- an instruction begins at this byte of the bundle: at its first, or where another has ended before
+abbrev pub is_start : Bundle → ℕ → Bool
+is_start w k = (k == 0) || (bit_at w.ends (k - 1) == 1)
+
+-- an indirect transfer begins there, which has two bytes
+abbrev pub is_second : Bundle → ℕ → Bool
+is_second w k = bit_at w.pairs (k + 1) == 1
+
+-- the mark there; the next byte names the register of an indirect transfer
+abbrev pub bit_mark : Bundle → ℕ → ℕ → Mark
+bit_mark w k next = if is_second w k then After (next % 8) else (if is_start w k then Plain else Unmarked)
+
+-- no instructions
+abbrev pub no_bits : Bundle
+no_bits = record { ends = 0; pairs = 0; shorts = 0; nears = 0 }
+
+-- the mark of a place
+abbrev pub mark_at : List ℕ → List Bundle → ℕ → Mark
+mark_at code bundles k = bit_mark (get_or bundles (k / 32) no_bits) (k % 32) (slice_index code (k + 1))
+
+-- the marks of all places
+abbrev pub marks_in : List ℕ → List Bundle → List Mark
+marks_in code bundles = map (mark_at code bundles) (range_with_len 0 (length code))

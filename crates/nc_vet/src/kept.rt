@@ -1,0 +1,68 @@
+//! The marks of a chunk, as they are kept.
+
+ghost use Rattle.std.specs.Prelude.{◌≡◌, ◌<◌, length, slice_index, get_or};
+ghost use Rattle.nc_vet.specs.Bits.{no_bits, bit_mark, mark_at};
+
+use crate::bundle::Bundle;
+use nc_decode::Mark;
+
+/// The marks of a chunk.
+#[derive(Drop)]
+pub enum Kept {
+    /// By the bits of its bundles, from which a mark is made when it is asked for.
+    Bits(Vec<Bundle>),
+    /// One for each byte: where the quick vetting found no memory for bits.
+    Listed(Vec<Mark>),
+}
+
+/// No instructions.
+const NO_BITS: Bundle = Bundle {
+    ends: 0,
+    pairs: 0,
+    shorts: 0,
+    nears: 0,
+};
+
+/// The mark at a byte of a bundle; the next byte names the register of an indirect transfer.
+#[inline(always)]
+fn bit_mark(bundle: Bundle, k: usize, next: u8) -> Mark
+    requires { k < 32 }
+    ensures { result ≡ bit_mark bundle k next }
+{
+    if u64::from(bundle.pairs) >> (k + 1) & 1 == 1 {
+        Mark::After(next % 8)
+    } else if k == 0 || bundle.ends >> (k - 1) & 1 == 1 {
+        Mark::Plain
+    } else {
+        Mark::Unmarked
+    }
+}
+
+/// The bits of a bundle, or none where there is no bundle.
+#[inline(always)]
+pub(crate) fn bundle_at(bundles: &[Bundle], n: usize) -> Bundle
+    ensures { result ≡ get_or bundles.now n no_bits }
+{
+    if n < bundles.len() {
+        bundles[n]
+    } else {
+        NO_BITS
+    }
+}
+
+/// A byte, or 0 behind the last.
+#[inline(always)]
+fn byte_at(code: &[u8], k: usize) -> u8
+    ensures { result ≡ slice_index code.now k }
+{
+    if k < code.len() { code[k] } else { 0 }
+}
+
+/// The mark of a place, by the bits of the bundles.
+#[inline(always)]
+pub(crate) fn mark_at(code: &[u8], bundles: &[Bundle], k: usize) -> Mark
+    requires { k < length code.now }
+    ensures { result ≡ mark_at code.now bundles.now k }
+{
+    bit_mark(bundle_at(bundles, k / 32), k % 32, byte_at(code, k + 1))
+}

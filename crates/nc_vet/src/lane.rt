@@ -1,0 +1,101 @@
+//! The run of the automaton over one bundle.
+
+ghost use Rattle.std.specs.Prelude.{◌≡◌, ◌<◌, ◌≤◌, ℕ, ◌==◌, length, nat_le, slice_index, slice_set, replicate, IfSome};
+ghost use Rattle.std.specs.Int.{bit_at};
+ghost use Rattle.nc_decode.specs.Automaton.{next_state};
+ghost use Rattle.nc_vet.specs.Running.{TellsStates};
+
+use crate::bundle::Bundle;
+use nc_decode::advance;
+use std::simd::prelude::*;
+
+/// The state behind an instruction, with nothing masked: each bundle begins so.
+const BEGIN: usize = 64;
+
+/// The states from here on are those behind an instruction.
+const FIRST_END: u8 = 64;
+
+/// The state behind a direct transfer with a displacement of one byte.
+const SHORT: u8 = 72;
+
+/// The state behind a direct transfer with a displacement of four bytes.
+const NEAR: u8 = 73;
+
+/// The state behind an indirect transfer with its mask.
+const PAIR: u8 = 74;
+
+/// The states behind the first bytes of a bundle, and the last of them.
+#[derive(Clone, Copy, Drop)]
+pub(crate) struct Lane {
+    pub(crate) state: usize,
+    pub(crate) states: [u8; 32],
+}
+
+impl Lane {
+    /// Before the first byte.
+    #[inline(always)]
+    pub(crate) fn new() -> Lane
+        ensures { result ≡ record { state = 64; states = replicate 32 0 } }
+    {
+        Lane {
+            state: BEGIN,
+            states: [0; 32],
+        }
+    }
+
+    /// One more byte, which stands at this place of the bundle.
+    #[inline(always)]
+    pub(crate) fn step(&mut self, i: usize, byte: u8)
+        requires place { i < 32 }
+        requires state { self.old.state < 75 }
+        ensures state { self.new.state ≡ next_state self.old.state byte }
+        ensures states { self.new.states ≡ slice_set self.old.states i (next_state self.old.state byte) }
+        ensures small { self.new.state < 75 }
+    {
+        let state = advance(self.state, byte);
+        self.states[i] = state;
+        self.state = usize::from(state);
+    }
+}
+
+/// The bits of a mask of 32 lanes.
+#[inline(always)]
+fn bits(mask: u64) -> u32
+    requires { mask < 4294967296 }
+    ensures { result ≡ mask }
+{
+    mask as u32
+}
+
+/// Bit k says that lane k is this state.
+#[inline(always)]
+fn equal(states: u8x32, state: u8) -> u32
+    ensures { (k : ℕ) → k < 32 → (bit_at result k == 1) ≡ (slice_index states k == state) }
+{
+    bits(states.simd_eq(u8x32::splat(state)).to_bitmask())
+}
+
+/// Bit k says that lane k is a state behind an instruction.
+#[inline(always)]
+fn ended(states: u8x32) -> u32
+    ensures { (k : ℕ) → k < 32 → (bit_at result k == 1) ≡ nat_le 64 (slice_index states k) }
+{
+    bits(states.simd_ge(u8x32::splat(FIRST_END)).to_bitmask())
+}
+
+/// What the states behind all of a bundle's bytes tell, if its last instruction ends with it.
+#[inline(always)]
+pub(crate) fn told(lane: &Lane) -> Option<Bundle>
+    ensures { IfSome result (TellsStates lane.now.states) }
+{
+    if lane.states[31] < FIRST_END {
+        return None;
+    }
+    let states = u8x32::from_slice(&lane.states);
+    Some(Bundle {
+        ends: ended(states),
+        pairs: equal(states, PAIR),
+        shorts: equal(states, SHORT),
+        nears: equal(states, NEAR),
+    })
+}

@@ -1,0 +1,179 @@
+//! The targets of direct transfers, by the bits of the bundles that have been read.
+
+ghost use Rattle.std.specs.Prelude.{◌≡◌, ◌≢◌, ◌<◌, ◌≤◌, ◌+◌, ◌*◌, ◌%◌, ◌^◌, ℕ, length, get_or, true, false, IsTrue};
+ghost use Rattle.std.specs.Int.{bit_at};
+ghost use Rattle.nc_vet.specs.Bits.{no_bits, is_start, is_second};
+ghost use Rattle.nc_vet.specs.Judged.{short_to, near_to, IsGood, AreGoodShorts, AreGoodNears, AreJudged};
+
+use crate::bundle::Bundle;
+use crate::kept::bundle_at;
+use byteorder::{ByteOrder, LittleEndian};
+
+/// An instruction begins at this byte of a bundle, and is no second half of a pair.
+#[inline(always)]
+fn is_plain(bundle: Bundle, k: u32) -> bool
+    requires { k < 32 }
+    ensures start { IsTrue result → is_start bundle k ≡ true }
+    ensures second { IsTrue result → is_second bundle k ≡ false }
+{
+    let starts = 2 * u64::from(bundle.ends) + 1;
+    starts >> k & 1 == 1 && (bundle.pairs / 2) >> k & 1 == 0
+}
+
+/// A direct transfer may go to this address.
+#[inline(always)]
+fn is_good(base: u32, limit: u32, code: &[u8], bundles: &[Bundle], to: u32) -> bool
+    requires each { length code.now ≡ 32 * length bundles.now }
+    requires fits { base + length code.now < 2 ^ 32 }
+    ensures { IsTrue result → IsGood base limit code.now bundles.now to }
+{
+    let at = to.wrapping_sub(base);
+    if ((at / 32) as usize) < bundles.len() {
+        is_plain(bundles[(at / 32) as usize], at % 32)
+    } else {
+        to % 32 == 0 && to < limit
+    }
+}
+
+/// The place of the lowest bit, and the other bits.
+#[inline(always)]
+fn lowest(bits: u64) -> (u32, u64)
+    requires { 0 < bits }
+    ensures place { result.0 < 64 }
+    ensures set { bit_at bits result.0 ≡ 1 }
+    ensures others { (i : ℕ) → i < 64 → i ≢ result.0 → bit_at result.1 i ≡ bit_at bits i }
+    ensures fewer { result.1 < bits }
+{
+    let place = bits.trailing_zeros();
+    (place, bits & !(1 << place))
+}
+
+/// The bits of two neighbours. A loop over them ends half as often as two loops, and its end is hard to foresee for the
+/// processor.
+#[inline(always)]
+fn both(first: u32, second: u32) -> u64
+    ensures first { (k : ℕ) → k < 32 → bit_at result k ≡ bit_at first k }
+    ensures second { (k : ℕ) → k < 32 → bit_at result (32 + k) ≡ bit_at second k }
+{
+    u64::from(second) * 0x1_0000_0000 + u64::from(first)
+}
+
+/// Where a transfer goes whose displacement is this byte.
+#[inline(always)]
+fn short_target(base: u32, code: &[u8], at: usize) -> u32
+    requires place { at < length code.now }
+    requires fits { base + length code.now < 2 ^ 32 }
+    ensures { result ≡ short_to base code.now at }
+{
+    (base + at as u32 + 1).wrapping_add_signed(i32::from(code[at].cast_signed()))
+}
+
+/// Where a transfer goes whose displacement ends with this byte.
+#[inline(always)]
+fn near_target(base: u32, code: &[u8], at: usize) -> u32
+    requires four { 3 ≤ at }
+    requires place { at < length code.now }
+    requires fits { base + length code.now < 2 ^ 32 }
+    ensures { result ≡ near_to base code.now at }
+{
+    (base + at as u32 + 1).wrapping_add_signed(LittleEndian::read_i32(&code[at - 3..]))
+}
+
+/// The transfers may go where they go whose displacement is one byte, and of which these are the last bytes, counted from
+/// this place on.
+#[inline(always)]
+fn shorts_good(
+    base: u32,
+    limit: u32,
+    code: &[u8],
+    bundles: &[Bundle],
+    start: usize,
+    ends: u64,
+) -> bool
+    requires start { start < length code.now }
+    requires each { length code.now ≡ 32 * length bundles.now }
+    requires fits { base + length code.now < 2 ^ 32 }
+    ensures { IsTrue result → AreGoodShorts base limit code.now bundles.now start ends }
+{
+    let mut left = ends;
+    while left != 0 {
+        let (k, others) = lowest(left);
+        let at = start + k as usize;
+        if at >= code.len() {
+            return false;
+        }
+        let to = short_target(base, code, at);
+        if !is_good(base, limit, code, bundles, to) {
+            return false;
+        }
+        left = others;
+    }
+    true
+}
+
+/// The same of those whose displacement is four bytes.
+#[inline(always)]
+fn nears_good(
+    base: u32,
+    limit: u32,
+    code: &[u8],
+    bundles: &[Bundle],
+    start: usize,
+    ends: u64,
+) -> bool
+    requires start { start < length code.now }
+    requires each { length code.now ≡ 32 * length bundles.now }
+    requires fits { base + length code.now < 2 ^ 32 }
+    ensures { IsTrue result → AreGoodNears base limit code.now bundles.now start ends }
+{
+    let mut left = ends;
+    while left != 0 {
+        let (k, others) = lowest(left);
+        let at = start + k as usize;
+        if at < 3 || at >= code.len() {
+            return false;
+        }
+        let to = near_target(base, code, at);
+        if !is_good(base, limit, code, bundles, to) {
+            return false;
+        }
+        left = others;
+    }
+    true
+}
+
+/// All direct transfers may go where they go.
+#[inline(never)]
+pub(crate) fn all_good(base: u32, limit: u32, code: &[u8], bundles: &[Bundle]) -> bool
+    requires each { length code.now ≡ 32 * length bundles.now }
+    requires fits { base + length code.now < 2 ^ 32 }
+    ensures { IsTrue result → AreJudged base limit code.now bundles.now (length bundles.now) }
+{
+    let mut n = 0;
+    while n < bundles.len() {
+        let first = bundles[n];
+        let second = bundle_at(bundles, n + 1);
+        if !shorts_good(
+            base,
+            limit,
+            code,
+            bundles,
+            32 * n,
+            both(first.shorts, second.shorts),
+        ) {
+            return false;
+        }
+        if !nears_good(
+            base,
+            limit,
+            code,
+            bundles,
+            32 * n,
+            both(first.nears, second.nears),
+        ) {
+            return false;
+        }
+        n += 2;
+    }
+    true
+}
