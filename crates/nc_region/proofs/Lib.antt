@@ -4,6 +4,14 @@ pub mod Told
 pub mod Puts
 pub mod Joining
 pub mod Creating
+pub mod Replacing
+pub mod NewInstructions
+pub mod Standing
+pub mod Exchanging
+pub mod Exchanged
+pub mod Turns
+pub mod Runs
+pub mod Patched
 pub mod Instructions
 pub mod Offsets
 pub mod Sound

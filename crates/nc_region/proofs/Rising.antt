@@ -12,7 +12,7 @@ rises_above from (c ∷ rest) rising =
     (rising.0, each_map (λ (d : Chunk). c.base + c.length ≤ d.base) (λ (d : Chunk). from ≤ d.base) (λ d h. omega (arith, h, rising.0)) rest (rises_above (c.base + c.length) rest rising.1))
 
 -- each of them does
-rises_get : (from : ℕ) (chunks : List Chunk) (k : ℕ) (d : Chunk) → IsRising from chunks → k < length chunks → from ≤ (get_or chunks k d).base
+pub rises_get : (from : ℕ) (chunks : List Chunk) (k : ℕ) (d : Chunk) → IsRising from chunks → k < length chunks → from ≤ (get_or chunks k d).base
 rises_get from [] k d rising lt = absurd (omega arith)
 rises_get from (c ∷ rest) zero d rising lt = rising.0
 rises_get from (c ∷ rest) (suc k) d rising lt = omega (arith, rising.0, rises_get (c.base + c.length) rest k d rising.1 (omega arith))

@@ -28,3 +28,20 @@ pub enum WalkFault {
     /// No memory for the trace.
     OutOfMemory,
 }
+
+/// Why a patch isn't made. The first that holds is given, in this order.
+#[derive(Clone, Copy, Debug, Drop, PartialEq, Eq)]
+pub enum ModifyFault {
+    /// There are no new bytes, or they don't lie in one bundle.
+    BadSpan,
+    /// The bundle isn't part of a live chunk.
+    NotLive,
+    /// The new bytes aren't whole permitted instructions, one behind the other.
+    NotPermitted,
+    /// The new bytes don't take the place of whole instructions of the chunk, each as long as the new one.
+    Boundaries,
+    /// A half of a pair stands there, or an indirect transfer would come.
+    PairTouched,
+    /// A direct transfer would go where none of the chunk may.
+    BadTarget,
+}

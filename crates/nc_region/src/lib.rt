@@ -7,6 +7,7 @@ mod create;
 mod fault;
 mod law;
 mod listing;
+mod modify;
 mod plain;
 mod recorder;
 mod region;
@@ -16,7 +17,7 @@ mod walk;
 
 pub use acts::{Act, Acts};
 pub use chunk::{Chunk, ChunkState};
-pub use fault::{CreateFault, RegionFault, WalkFault};
+pub use fault::{CreateFault, ModifyFault, RegionFault, WalkFault};
 pub use law::law_of_chunks;
 pub use plain::Plain;
 pub use recorder::Recorder;

@@ -1,18 +1,23 @@
 //! A region: a text by its acts, and the list of its chunks.
 
-ghost use Rattle.std.specs.Prelude.{◌≡◌, ◌≤◌, ◌<◌, ◌⊎◌, ◌↔◌, length, [], None, OnOk, IfOk, IfErr, slice_get};
+ghost use Rattle.std.specs.Prelude.{◌≡◌, ◌≤◌, ◌<◌, ◌⊎◌, ◌↔◌, List, length, [], None, OnOk, IfOk, IfErr, slice_get};
 ghost use Rattle.nc_text.specs.Machine.{IsConfined};
 ghost use Rattle.nc_text.specs.Places.{InRegion, byte_at, limit_of};
 ghost use Rattle.nc_text.specs.Code.{new_code};
 ghost use Rattle.nc_region.specs.Acts.{Tells, acts_of_create};
 ghost use Rattle.nc_region.specs.Region.{Region, IsRegion, IsNew, IsCreated, MayRefuse, Meets};
+ghost use Rattle.nc_vet.specs.Chunk.{Piece};
+ghost use Rattle.nc_region.specs.Patch.{IsPatch, MayRefusePatch, IsModified, AreBytesOf, acts_of_modify};
 ghost use Rattle.nc_region.specs.Trace.{IsTrace, IsOnlyTrace, IsSafeWalk, IsWalkStart, MayRefuseWalk};
 
 use crate::acts::Acts;
 use crate::chunk::{Chunk, ChunkState};
 use crate::create::put_chunk;
-use crate::fault::{CreateFault, RegionFault, WalkFault};
+use crate::fault::{CreateFault, ModifyFault, RegionFault, WalkFault};
 use crate::listing::{insert_chunk, room_for};
+use crate::modify::{
+    are_instructions, fits, holder, is_patch_span, keeps_targets, leaves_pairs, put_patch,
+};
 use crate::plain::Plain;
 use crate::trace::Trace;
 use crate::walk::walk_from;
@@ -139,13 +144,60 @@ impl<A: Acts + Drop> RegionOf<A> {
         if self.chunks.reserve(1).is_err() {
             return Err((vetted, CreateFault::OutOfMemory));
         }
-        put_chunk(&mut self.acts, base, vetted.code(), vetted.marks());
+        let Ok(marks) = vetted.marks(*self.chunks.allocator()) else {
+            return Err((vetted, CreateFault::OutOfMemory));
+        };
+        put_chunk(&mut self.acts, base, vetted.code(), &marks);
         let chunk = Chunk {
             base,
             length,
             state: ChunkState::Live,
         };
         insert_chunk(&mut self.chunks, k, chunk);
+        Ok(())
+    }
+
+    /// Replaces instructions of a live chunk by others of the same lengths, while threads may be running: one after the
+    /// other, rising. One whose bytes stay gets no put; one of a single byte gets one put; of a longer one the first byte
+    /// becomes a stop, then its further bytes are put, then its first byte. A refusal changes nothing. It takes no memory.
+    ///
+    /// The new bytes are instructions that lie in one bundle, each takes the place of one that is as long, none of these is
+    /// an indirect transfer or the mask of one, and direct transfers keep the rule of a valid chunk.
+    pub fn modify(&mut self, at: u32, new: &[u8]) -> Result<(), ModifyFault>
+        // The new bytes stand there; all else is as before.
+        ensures modified { OnOk result (IsModified self.old self.new at new.now) }
+        // Exactly the acts of a patch were done, where they are told.
+        ensures acts { OnOk result ((news : List Piece) → AreBytesOf new.now news
+            → Tells self.old.told self.new.told (acts_of_modify self.old.code.bytes at news)) }
+        // Lawful patches alone are made.
+        ensures lawful { OnOk result (IsPatch self.old at new.now) }
+        // Text, marks, chunks and acts are as before.
+        ensures unchanged { IfErr result (λ e. self.new ≡ self.old) }
+        // Each refusal comes exactly where it is due.
+        ensures refused { IfErr result (MayRefusePatch self.old at new.now) }
+        ensures confined { IsConfined self.new.code.bytes }
+    {
+        // Names a field, so that the first return is checked against the fields and not the whole.
+        let _open = &self.chunks;
+        if !is_patch_span(at, new.len()) {
+            return Err(ModifyFault::BadSpan);
+        }
+        let Some(chunk) = holder(&self.chunks, at) else {
+            return Err(ModifyFault::NotLive);
+        };
+        if !are_instructions(new) {
+            return Err(ModifyFault::NotPermitted);
+        }
+        if !fits(&self.acts, chunk, at, new) {
+            return Err(ModifyFault::Boundaries);
+        }
+        if !leaves_pairs(&self.acts, chunk, at, new) {
+            return Err(ModifyFault::PairTouched);
+        }
+        if !keeps_targets(&self.acts, chunk, at, new) {
+            return Err(ModifyFault::BadTarget);
+        }
+        put_patch(&mut self.acts, chunk, at, new);
         Ok(())
     }
 

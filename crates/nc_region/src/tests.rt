@@ -2,8 +2,8 @@
 ghost use Rattle.std.specs.Prelude.{◌≤◌};
 
 use crate::{
-    Act, Chunk, ChunkState, CreateFault, End, Plain, Recorder, Region, RegionFault, RegionOf,
-    Shared, Trace, WalkFault,
+    Act, Chunk, ChunkState, CreateFault, End, ModifyFault, Plain, Recorder, Region, RegionFault,
+    RegionOf, Shared, Trace, WalkFault,
 };
 use nc_text::Text;
 use nc_vet::{Vetted, vet};
@@ -275,5 +275,154 @@ fn walks(rt: HostRuntime) -> Result<(), Fail> {
         let guard = region.walk(0x10060, &[]);
         assert!(rt; guard.is_ok());
     }
+    Ok(())
+}
+
+/// A chunk's front, a patch of it, and its answer with the acts that it owes. The region has 4 bundles, and the chunk stands
+/// at 00010000 and is filled with nops.
+static PATCHES: [(&[u8], u32, &[u8], Result<(), ModifyFault>, &[Act]); 31] = [
+    (
+        &[0xB8, 1, 0, 0, 0],
+        0x10000,
+        &[0xB8, 2, 0, 0, 0],
+        Ok(()),
+        &[
+            Act::Put(0x10000, 0xF4),
+            Act::Put(0x10001, 2),
+            Act::Put(0x10002, 0),
+            Act::Put(0x10003, 0),
+            Act::Put(0x10004, 0),
+            Act::Put(0x10000, 0xB8),
+        ],
+    ),
+    (&[0x90, 0x90, 0x90], 0x10000, &[0x90, 0x40, 0x90], Ok(()), &[Act::Put(0x10001, 0x40)]),
+    (
+        &[0xEB, 0xFE],
+        0x10000,
+        &[0xEB, 0x1E],
+        Ok(()),
+        &[
+            Act::Put(0x10000, 0xF4),
+            Act::Put(0x10001, 0x1E),
+            Act::Put(0x10000, 0xEB),
+        ],
+    ),
+    (&[0x90, 0x90], 0x10000, &[0x66, 0x90], Err(ModifyFault::Boundaries), &[]),
+    (&[0x90], 0x10000, &[0xF4], Ok(()), &[Act::Put(0x10000, 0xF4)]),
+    (
+        &[0x83, 0xE0, 0xE0, 0x83, 0xE0, 0xE0, 0xFF, 0xE0],
+        0x10000,
+        &[0x83, 0xC0, 0x01],
+        Ok(()),
+        &[
+            Act::Put(0x10000, 0xF4),
+            Act::Put(0x10001, 0xC0),
+            Act::Put(0x10002, 0x01),
+            Act::Put(0x10000, 0x83),
+        ],
+    ),
+    (
+        &[0x83, 0xE0, 0xE0, 0x83, 0xE0, 0xE0, 0xFF, 0xE0],
+        0x10003,
+        &[0x83, 0xC0, 0x01],
+        Err(ModifyFault::PairTouched),
+        &[],
+    ),
+    (&[0xEB, 0xFE], 0x10000, &[0xFF, 0xE0], Err(ModifyFault::PairTouched), &[]),
+    // nothing changes
+    (&[0xEB, 0xFE, 0x90], 0x10000, &[0xEB, 0xFE, 0x90], Ok(()), &[]),
+    // a jump into itself, to a bundle start behind, to one that is none, to the limit
+    (&[0xEB, 0xFE], 0x10000, &[0xEB, 0xFF], Err(ModifyFault::BadTarget), &[]),
+    (&[0xEB, 0xFE], 0x10000, &[0xEB, 0x3F], Err(ModifyFault::BadTarget), &[]),
+    (&[0xEB, 0xFE], 0x10000, &[0xEB, 0x7E], Err(ModifyFault::BadTarget), &[]),
+    // a second half as a target
+    (
+        &[0x83, 0xE0, 0xE0, 0xFF, 0xE0, 0xEB, 0xFE],
+        0x10005,
+        &[0xEB, 0xFC],
+        Err(ModifyFault::BadTarget),
+        &[],
+    ),
+    // spans
+    (&[0x90], 0x10000, &[], Err(ModifyFault::BadSpan), &[]),
+    (&[0x90], 0xFFFF_FFFF, &[], Err(ModifyFault::BadSpan), &[]),
+    (&[0x90], 0x1001F, &[0x90, 0x90], Err(ModifyFault::BadSpan), &[]),
+    (&[0x90], 0xFFFF_FFE0, &[0x90; 33], Err(ModifyFault::BadSpan), &[]),
+    (&[0x90], 0xFFFF_FFE0, &[0x90; 32], Err(ModifyFault::NotLive), &[]),
+    (&[0x90], 0x10020, &[0x90], Err(ModifyFault::NotLive), &[]),
+    (&[0x90], 0xFFE0, &[0x90], Err(ModifyFault::NotLive), &[]),
+    (&[0x90], 0x10080, &[0xC3], Err(ModifyFault::NotLive), &[]),
+    (&[0x90], 0x10000, &[0x90; 32], Ok(()), &[]),
+    // bytes
+    (&[0x90], 0x10000, &[0xC3], Err(ModifyFault::NotPermitted), &[]),
+    (&[0x90], 0x10000, &[0x90, 0xB8], Err(ModifyFault::NotPermitted), &[]),
+    (&[0xEB, 0xFE], 0x10001, &[0xC3], Err(ModifyFault::NotPermitted), &[]),
+    (&[0xEB, 0xFE], 0x10001, &[0x90], Err(ModifyFault::Boundaries), &[]),
+    (&[0xEB, 0xFE], 0x10000, &[0x90, 0x90], Err(ModifyFault::Boundaries), &[]),
+    (&[0xEB, 0xFE], 0x10001, &[0xFF, 0xE0], Err(ModifyFault::Boundaries), &[]),
+    // a pair that stays, and one on another register
+    (
+        &[0x83, 0xE0, 0xE0, 0xFF, 0xE0],
+        0x10000,
+        &[0x83, 0xE0, 0xE0, 0xFF, 0xE0],
+        Err(ModifyFault::PairTouched),
+        &[],
+    ),
+    (
+        &[0x83, 0xE0, 0xE0, 0xFF, 0xE0],
+        0x10000,
+        &[0x83, 0xE1, 0xE0, 0xFF, 0xE1],
+        Err(ModifyFault::PairTouched),
+        &[],
+    ),
+    // a new mask makes no pair
+    (
+        &[0x83, 0xC0, 0x01],
+        0x10000,
+        &[0x83, 0xE0, 0xE0],
+        Ok(()),
+        &[
+            Act::Put(0x10000, 0xF4),
+            Act::Put(0x10001, 0xE0),
+            Act::Put(0x10002, 0xE0),
+            Act::Put(0x10000, 0x83),
+        ],
+    ),
+];
+
+#[test]
+fn patches(rt: HostRuntime) -> Result<(), Fail> {
+    for (front, at, new, answer, owed) in &PATCHES {
+        let alloc = rt.alloc();
+        let text = match Text::new(alloc, 4) {
+            Ok(text) => text,
+            Err(fault) => return Err(Fail::new(format_args!("{fault:?}"))),
+        };
+        let mut region = RegionOf::over(alloc, Recorder::new(alloc, Plain::new(text), 100)?);
+        let created = region.create(chunk(alloc, 0x10000, LIMIT, 1, front)?);
+        assert!(rt; created.is_ok());
+        assert_eq!(rt; region.modify(*at, new), *answer);
+        let told = region.acts().told().unwrap_or(&[]);
+        assert_eq!(rt; told.len(), 33usize.saturating_add(owed.len()));
+        assert_eq!(rt; told.get(33..), Some(*owed));
+    }
+    Ok(())
+}
+
+#[test]
+fn patched_walk(rt: HostRuntime) -> Result<(), Fail> {
+    let alloc = rt.alloc();
+    let mut region = match Region::new(alloc, 4) {
+        Ok(region) => region,
+        Err(fault) => return Err(Fail::new(format_args!("{fault:?}"))),
+    };
+    assert!(rt; region.create(chunk(alloc, 0x10000, LIMIT, 1, &[0xEB, 0x1E])?).is_ok());
+    assert_eq!(rt; region.modify(0x10000, &[0xEB, 0x3E]), Ok(()));
+    let Ok(trace) = region.walk(0x10000, &[0, 0]) else {
+        return Err(Fail::new("no walk"));
+    };
+    assert!(rt; is_trace(&trace, &[0x10000, 0x10040], End::Stop));
+    assert_eq!(rt; region.modify(0x10002, &[0xF4]), Ok(()));
+    assert_eq!(rt; (region.byte(0x10002), region.byte(0x10001)), (0xF4, 0x3E));
     Ok(())
 }

@@ -97,7 +97,7 @@ fn instruction_or_end<A: Acts>(acts: &A, now: Thread) -> Result<Instr, End>
 }
 
 /// The instruction that stands at a place, wholly inside its bundle.
-fn instruction<A: Acts>(acts: &A, at: u32) -> Instr
+pub(crate) fn instruction<A: Acts>(acts: &A, at: u32) -> Instr
     requires whole { IsText (A.code acts.now) }
     requires inside { InRegion (A.code acts.now).bytes at }
     requires stands { IsSomeAnd (instruction_at (A.code acts.now).bytes at) (λ i. IsInOneBundle at i.len) }

@@ -22,6 +22,9 @@ returns-in_default-clause-confined g c = rw (← c.self.view_is) (confined_if_cl
 pub returns-then-is_err-clause-confined : goal.returns-then-is_err-clause-confined
 returns-then-is_err-clause-confined g c = confined_if_closed _ _ c.self.invariant.whole.closed
 
+pub returns-in_default-marks-clause-confined : goal.returns-in_default-marks-clause-confined
+returns-in_default-marks-clause-confined g c = confined_if_closed _ _ c.self.invariant.whole.closed
+
 pub returns-clause-confined : goal.returns-clause-confined
 returns-clause-confined g c = confined_if_closed _ _ c.put_chunk.ensures.whole.closed
 
@@ -38,14 +41,21 @@ returns-then-is_err-clause-refused g c =
     let same : v.limit ≡ limit_of (g.A.Acts.code c.self.inside.acts).bytes = sym c.limit.ensures.value ∙ (c.if-limit.false ∙ c.limit-2.ensures.limit) in
     rw (← c.self.view_is) (same, fits_meets c.self.inside.chunks.items v.base (length v.code) c.in-Some.k fit.1 fit.2)
 
+pub returns-in_default-marks-clause-refused : goal.returns-in_default-marks-clause-refused
+returns-in_default-marks-clause-refused g c =
+    let v = c.args.vetted in
+    let fit : FitsAt v.base (length v.code) c.self.inside.chunks.items c.in-Some.k = rw (← c.base-base.ensures.value, ← c.code.ensures.value, ← c.deref.ensures.value) c.in-Some.ensures.some in
+    let same : v.limit ≡ limit_of (g.A.Acts.code c.self.inside.acts).bytes = sym c.limit.ensures.value ∙ (c.if-limit.false ∙ c.limit-2.ensures.limit) in
+    rw (← c.self.view_is) (same, fits_meets c.self.inside.chunks.items v.base (length v.code) c.in-Some.k fit.1 fit.2)
+
 pub put_chunk-requires-clause-sound : goal.put_chunk-requires-clause-sound
 put_chunk-requires-clause-sound g c =
     let v = c.args.vetted in
     let same : v.limit ≡ limit_of (g.A.Acts.code c.self.inside.acts).bytes = sym c.limit.ensures.value ∙ (c.if-limit.false ∙ c.limit-2.ensures.limit) in
-    rw (c.base-base.ensures.value, c.code-2.ensures.value, c.marks.ensures.value, ← same) (valid_chunk_is_sound v c.code.ensures.valid)
+    rw (c.base-base.ensures.value, c.code-2.ensures.value, (c.deref-2.ensures.value ∙ c.in-Ok.ensures.value), ← same) (valid_chunk_is_sound v c.code.ensures.valid)
 
 pub put_chunk-requires-clause-registers : goal.put_chunk-requires-clause-registers
-put_chunk-requires-clause-registers g c = subst (λ (marks : List Mark). All NamesRegister marks) (sym c.marks.ensures.value) (chunk_names_registers c.args.vetted c.code.ensures.valid)
+put_chunk-requires-clause-registers g c = subst (λ (marks : List Mark). All NamesRegister marks) (sym (c.deref-2.ensures.value ∙ c.in-Ok.ensures.value)) (chunk_names_registers c.args.vetted c.code.ensures.valid)
 
 pub put_chunk-requires-clause-bare : goal.put_chunk-requires-clause-bare
 put_chunk-requires-clause-bare g c =
@@ -63,7 +73,7 @@ invariant_of-self-2 g c =
     let fit : FitsAt v.base (length v.code) c.self.inside.chunks.items c.in-Some.k = rw (← c.base-base.ensures.value, ← c.code.ensures.value, ← c.deref.ensures.value) c.in-Some.ensures.some in
     let same : v.limit ≡ limit_of code.bytes = sym c.limit.ensures.value ∙ (c.if-limit.false ∙ c.limit-2.ensures.limit) in
     let sound : IsSound v.base (limit_of code.bytes) v.code v.marks = subst (λ (l : ℕ). IsSound v.base l v.code v.marks) same (valid_chunk_is_sound v c.code.ensures.valid) in
-    let put : g.A.Acts.code c.put_chunk.new.acts ≡ with_chunk code v.base v.code v.marks = c.put_chunk.ensures.code ∙ rw (c.base-base.ensures.value, c.code-2.ensures.value, c.marks.ensures.value) refl in
+    let put : g.A.Acts.code c.put_chunk.new.acts ≡ with_chunk code v.base v.code v.marks = c.put_chunk.ensures.code ∙ rw (c.base-base.ensures.value, c.code-2.ensures.value, (c.deref-2.ensures.value ∙ c.in-Ok.ensures.value)) refl in
     let list : c.insert_chunk.new.chunks.items ≡ insert c.self.inside.chunks.items c.in-Some.k (live_chunk v) =
     c.insert_chunk.ensures ∙ rw (c.reserve.ensures.items, c.base-base.ensures.value, c.code.ensures.value) refl in
     rw (put, list) (region_with_chunk code c.self.inside.chunks.items c.in-Some.k (live_chunk v) v.code v.marks

@@ -1,0 +1,114 @@
+-- While an instruction is replaced, the text stays closed.
+use Rattle.std.proofs.Common.{◌≡◌, ◌≢◌, ℕ, ◌+◌, ◌-◌, ◌<◌, ◌≤◌, ◌⊎◌, List, [], ◌∷◌, length, get_or, set, drop, Some, true, inl, inr, arith, refl, ◌∙◌, sym, ap, subst, ⊎_elim, suc}
+use Rattle.std.proofs.lemmas.Bool.{cases_lt}
+use Rattle.std.proofs.lemmas.Bool.Decides.{eqb_tells}
+use Rattle.std.proofs.lemmas.List.{length-set, ext_get_or}
+use Rattle.nc_decode.specs.declared.instruction.Mark.{Mark}
+use Rattle.nc_text.specs.Places.{limit_of, byte_at}
+use Rattle.nc_text.specs.Machine.{State}
+use Rattle.nc_text.specs.Marks.{IsMarked, IsClosed}
+use Rattle.nc_text.specs.Code.{Code, with_span}
+use Rattle.nc_text.proofs.Closing.{closed_with_stops}
+use Rattle.nc_text.proofs.SpanElements.{length-with_span}
+use Rattle.nc_region.specs.Patch.{any_place}
+use Rattle.nc_region.specs.Chunks.{HasPut}
+use Rattle.nc_region.specs.PatchSteps.{IsReplacing, IsInterim}
+use Rattle.nc_region.proofs.Puts.{byte_at_other, byte_at_same}
+use Rattle.nc_region.proofs.SpanPlaces.{place_of, Before, Within, Behind, span_before, span_within, span_behind}
+
+pub patching_closed : (code : Code) (at : ℕ) (new now : List ℕ) → IsReplacing code at new → IsInterim (with_span code.bytes (at - 65536) new) now at (length new) → IsClosed now code.marks
+patching_closed code at new now patch p =
+    closed_with_stops (with_span code.bytes (at - 65536) new) now code.marks patch.closed p.as_long (λ s m.
+    elim (eqb_tells s.place at) [
+      | inl here ↦ inl (ap (byte_at now) here.1 ∙ p.stop)
+      | inr other ↦ inr (λ i is fits k lt.
+          elim (patch.apart s i m other.1 is) [
+            | inl l ↦ p.before (s.place + k) (omega (arith, m.0)) (omega (arith, l, lt))
+            | inr b ↦ p.behind (s.place + k) (omega (arith, b))
+          ])
+    ])
+
+patch_long : (code : Code) (at : ℕ) (new : List ℕ) → IsReplacing code at new → length (with_span code.bytes (at - 65536) new) ≡ length code.bytes
+patch_long code at new patch = length-with_span code.bytes (at - 65536) new (omega (arith, patch.low, patch.high))
+
+-- with a stop at the start
+pub patch_started : (code : Code) (at : ℕ) (new : List ℕ) → IsReplacing code at new → IsInterim (with_span code.bytes (at - 65536) new) (set code.bytes (at - 65536) 244) at (length new)
+patch_started code at new patch =
+    record {
+      as_long = length-set code.bytes (at - 65536) 244 ∙ sym (patch_long code at new patch);
+      stop = byte_at_same code.bytes at 244 patch.low (omega (arith, patch.high, patch.some));
+      before = λ k low lt. byte_at_other code.bytes at k 244 patch.low low (λ same. omega (arith, same, lt)) ∙ sym (span_before code.bytes at new k 0 patch.low (omega (arith, patch.high)) low lt);
+      behind = λ k past. byte_at_other code.bytes at k 244 patch.low (omega (arith, past, patch.low)) (λ same. omega (arith, same, past, patch.some)) ∙ sym (span_behind code.bytes at new k 0 patch.low (omega (arith, patch.high)) past);
+    }
+
+-- some of the further bytes put
+pub patching_from_put : (old now : List ℕ) (at : ℕ) (rest : List ℕ) (count len : ℕ) → 65536 ≤ at → count ≤ len → byte_at old at ≡ 244 → HasPut any_place (at + 1) rest count old now → IsInterim old now at (1 + len)
+patching_from_put old now at rest count len low le stop puts =
+    record {
+      as_long = puts.as_long;
+      stop = puts.below at low (omega arith) ∙ stop;
+      before = λ k low' lt. puts.below k low' (omega arith);
+      behind = λ k past. puts.above k (omega arith);
+    }
+
+-- what goes on from the text with the stop
+pub patching_over : (code : Code) (at : ℕ) (new now : List ℕ) (len : ℕ) → len ≡ length new → IsReplacing code at new → IsInterim (set code.bytes (at - 65536) 244) now at len → IsInterim (with_span code.bytes (at - 65536) new) now at (length new)
+patching_over code at new now len is patch p =
+    let s = patch_started code at new patch in
+    record {
+      as_long = p.as_long ∙ s.as_long;
+      stop = p.stop;
+      before = λ k low lt. p.before k low lt ∙ s.before k low lt;
+      behind = λ k past. p.behind k (omega (arith, is, past)) ∙ s.behind k past;
+    }
+
+-- with all bytes put it is the final text
+pub patch_final : (code : Code) (at first : ℕ) (rest now : List ℕ) → IsReplacing code at (first ∷ rest) → HasPut any_place (at + 1) rest (length rest) (set code.bytes (at - 65536) 244) now → set now (at - 65536) first ≡ with_span code.bytes (at - 65536) (first ∷ rest)
+patch_final code at first rest now patch puts =
+    let fits : at + length (first ∷ rest) ≤ 65536 + length code.bytes = patch.high in
+    let long : length now ≡ length code.bytes = puts.as_long ∙ length-set code.bytes (at - 65536) 244 in
+    ext_get_or 0 (set now (at - 65536) first) (with_span code.bytes (at - 65536) (first ∷ rest)) (length-set now (at - 65536) first ∙ (long ∙ sym (patch_long code at (first ∷ rest) patch))) (λ j lt.
+    let e : 65536 + j - 65536 ≡ j = omega arith in
+    subst (λ (n : ℕ). get_or (set now (at - 65536) first) n 0 ≡ get_or (with_span code.bytes (at - 65536) (first ∷ rest)) n 0) e
+    (elim (place_of at (suc (length rest)) (65536 + j)) [
+      | Before l ↦
+          byte_at_other now at (65536 + j) first patch.low (omega arith) (λ same. omega (arith, same, l))
+          ∙ (puts.below (65536 + j) (omega arith) (omega (arith, l))
+          ∙ (byte_at_other code.bytes at (65536 + j) 244 patch.low (omega arith) (λ same. omega (arith, same, l))
+          ∙ sym (span_before code.bytes at (first ∷ rest) (65536 + j) 0 patch.low fits (omega arith) l)))
+      | Within a b ↦
+          elim (eqb_tells (65536 + j) at) [
+            | inl here ↦
+                let z : at - at ≡ 0 = omega arith in
+                subst (λ (n : ℕ). byte_at (set now (at - 65536) first) n ≡ byte_at (with_span code.bytes (at - 65536) (first ∷ rest)) n) (sym here.1)
+                (byte_at_same now at first patch.low (omega (arith, long, fits))
+                ∙ sym (span_within code.bytes at (first ∷ rest) at 0 patch.low fits (omega arith) (omega arith) ∙ ap (λ (n : ℕ). get_or (first ∷ rest) n 0) z))
+            | inr later ↦
+                let z : 65536 + j - at ≡ suc (65536 + j - (at + 1)) = omega (arith, later.1, a) in
+                byte_at_other now at (65536 + j) first patch.low (omega arith) later.1
+                ∙ (puts.put (65536 + j) (omega (arith, later.1, a)) (omega (arith, b)) refl
+                ∙ sym (span_within code.bytes at (first ∷ rest) (65536 + j) 0 patch.low fits a b ∙ ap (λ (n : ℕ). get_or (first ∷ rest) n 0) z))
+          ]
+      | Behind p ↦
+          byte_at_other now at (65536 + j) first patch.low (omega arith) (λ same. omega (arith, same, p))
+          ∙ (puts.above (65536 + j) (omega (arith, p))
+          ∙ (byte_at_other code.bytes at (65536 + j) 244 patch.low (omega arith) (λ same. omega (arith, same, p))
+          ∙ sym (span_behind code.bytes at (first ∷ rest) (65536 + j) 0 patch.low fits p)))
+    ]))
+
+-- one byte put is a span of one
+pub single_span : (text : List ℕ) (at : ℕ) (bytes : List ℕ) → 65536 ≤ at → at + length bytes ≤ 65536 + length text → length bytes ≡ 1 → set text (at - 65536) (get_or bytes 0 0) ≡ with_span text (at - 65536) bytes
+single_span text at bytes low fits one =
+    ext_get_or 0 (set text (at - 65536) (get_or bytes 0 0)) (with_span text (at - 65536) bytes) (length-set text (at - 65536) (get_or bytes 0 0) ∙ sym (length-with_span text (at - 65536) bytes (omega (arith, low, fits)))) (λ j lt.
+    let e : 65536 + j - 65536 ≡ j = omega arith in
+    subst (λ (n : ℕ). get_or (set text (at - 65536) (get_or bytes 0 0)) n 0 ≡ get_or (with_span text (at - 65536) bytes) n 0) e
+    (elim (place_of at (length bytes) (65536 + j)) [
+      | Before l ↦ byte_at_other text at (65536 + j) (get_or bytes 0 0) low (omega arith) (λ same. omega (arith, same, l)) ∙ sym (span_before text at bytes (65536 + j) 0 low fits (omega arith) l)
+      | Within a b ↦
+          let here : 65536 + j ≡ at = omega (arith, one, a, b) in
+          let z : at - at ≡ 0 = omega arith in
+          subst (λ (n : ℕ). byte_at (set text (at - 65536) (get_or bytes 0 0)) n ≡ byte_at (with_span text (at - 65536) bytes) n) (sym here)
+          (byte_at_same text at (get_or bytes 0 0) low (omega (arith, fits, one))
+          ∙ sym (span_within text at bytes at 0 low fits (omega arith) (omega (arith, one)) ∙ ap (λ (n : ℕ). get_or bytes n 0) z))
+      | Behind p ↦ byte_at_other text at (65536 + j) (get_or bytes 0 0) low (omega arith) (λ same. omega (arith, same, p, one)) ∙ sym (span_behind text at bytes (65536 + j) 0 low fits p)
+    ]))

@@ -1,0 +1,133 @@
+-- A run of instructions of a chunk, by what stands from its first one on.
+use Rattle.std.proofs.Common.{◌≡◌, ℕ, ◌+◌, ◌-◌, ◌<◌, ◌≤◌, zero, suc, Bool, true, false, cond, List, [], ◌∷◌, ◌++◌, length, get_or, refl, sym, subst, ◌∙◌, ap, arith, inl, inr, ⊎_elim}
+use Rattle.std.proofs.lemmas.Bool.{cases_lt}
+use Rattle.std.proofs.lemmas.List.{get_or_default}
+use Rattle.nc_decode.specs.declared.instruction.Mark.{Mark}
+use Rattle.nc_decode.specs.declared.instruction.Mark.TheVariants.{Unmarked, Plain, After}
+use Rattle.nc_decode.specs.Transfers.{is_indirect}
+use Rattle.nc_vet.specs.Chunk.{Piece, place, marks_of, mark_of}
+use Rattle.nc_vet.proofs.Pieces.{length-marks_of}
+use Rattle.nc_vet.proofs.MarkedPlaces.{marked}
+use Rattle.nc_text.specs.Marks.{mark_at}
+use Rattle.nc_text.specs.Code.{Code, IsText}
+use Rattle.nc_region.specs.declared.chunk.Chunk.{Chunk}
+use Rattle.nc_region.specs.Region.{IsInChunk, IsRising, HoldsValid}
+use Rattle.nc_region.specs.Patch.{IsHeldBy, AreBytesOf, lengths, IsRun, IsHalf, AreNoHalves, AreNotIndirect}
+use Rattle.nc_region.specs.PatchSteps.{Begins, Along, RunsAlong, NoneFirst, NoneIndirect}
+use Rattle.nc_region.proofs.Standing.{all_long, standing}
+use Rattle.nc_region.proofs.Turns.{no_half}
+use Rattle.nc_region.proofs.Rising.{rises_get}
+
+-- where a place of the chunk is marked, an instruction begins
+pub begins_marked : (code : Code) (c : Chunk) (at : ℕ) → HoldsValid code c → IsInChunk c at → (mark_at code.marks at ≡ Unmarked → ⊥) → Begins code c at
+begins_marked code c at h inside some =
+    let marks_long : length (marks_of h.valid.pieces) ≡ c.length = length-marks_of h.valid.pieces h.valid.sound.spelled ∙ all_long code c h in
+    let there : mark_at code.marks at ≡ get_or (marks_of h.valid.pieces) (at - c.base) Unmarked = h.marks_are at inside ∙ ap (λ (z : List Mark). get_or z (at - c.base) Unmarked) h.valid.marks_are in
+    let found = marked h.valid.pieces h.valid.sound.spelled (at - c.base) (mark_at code.marks at) (omega (arith, marks_long, inside.0, inside.1)) (sym there) some in
+    record { holds = h; before = found.before; rest = found.piece ∷ found.after; parts = found.parts; here = omega (arith, found.here, inside.0) }
+
+-- instructions that run along parted from those behind them
+pub record Cut (rest news : List Piece) : Type 0 where
+  pub old : List Piece
+  pub after : List Piece
+  pub parts : rest ≡ old ++ after
+  pub as_long : lengths old ≡ lengths news
+
+pub cut : (rest news : List Piece) → RunsAlong rest news → Cut rest news
+cut rest [] runs = record { old = []; after = rest; parts = refl; as_long = refl }
+cut [] (n ∷ news) runs = absurd runs
+cut (p ∷ rest) (n ∷ news) runs =
+    let k = cut rest news runs.1 in
+    record { old = p ∷ k.old; after = k.after; parts = ap (λ (z : List Piece). p ∷ z) k.parts; as_long = ap (λ (x : ℕ). x ∷ lengths k.old) runs.0 ∙ ap (λ (z : List ℕ). length n.bytes ∷ z) k.as_long }
+
+pub joined : (old after news : List Piece) → lengths old ≡ lengths news → RunsAlong (old ++ after) news
+joined old after [] e = tt
+joined [] after (n ∷ news) e = absurd cc
+joined (p ∷ old) after (n ∷ news) e = (cc, (let tail : lengths old ≡ lengths news = cc in joined old after news tail))
+
+-- what runs along is a run
+pub run_of : (code : Code) (c : Chunk) (at : ℕ) (new : List ℕ) (b : Begins code c at) (news : List Piece) → AreBytesOf new news → RunsAlong b.rest news → IsRun code c at new
+run_of code c at new b news bytes runs =
+    let k = cut b.rest news runs in
+    record { holds = b.holds; before = b.before; old = k.old; after = k.after; parts = b.parts ∙ ap (λ (z : List Piece). b.before ++ z) k.parts; here = b.here; news = news; bytes = bytes; as_long = k.as_long }
+
+-- and a run runs along
+abbrev pub run_begins : (code : Code) (c : Chunk) (at : ℕ) (new : List ℕ) → IsRun code c at new → Begins code c at
+run_begins code c at new r = record { holds = r.holds; before = r.before; rest = r.old ++ r.after; parts = r.parts; here = r.here }
+
+abbrev pub run_along : (code : Code) (c : Chunk) (at : ℕ) (new : List ℕ) → IsRun code c at new → Along code c at new
+run_along code c at new r = record {
+  begins = record { holds = r.holds; before = r.before; rest = r.old ++ r.after; parts = r.parts; here = r.here };
+  news = r.news;
+  bytes = r.bytes;
+  runs = joined r.old r.after r.news r.as_long;
+}
+
+some_mark : (b : Bool) (r : ℕ) → cond b (After r) Plain ≡ Unmarked → ⊥
+some_mark true r e = cc
+some_mark false r e = cc
+
+-- where a run begins, a mark stands
+pub run_marked : (code : Code) (c : Chunk) (at : ℕ) (new : List ℕ) → IsText code → IsInChunk c at → IsRun code c at new → mark_at code.marks at ≡ Unmarked → ⊥
+run_marked code c at new t inside r e =
+    let b = run_begins code c at new r in
+    let s = standing code c at t b inside.1 in
+    some_mark (is_indirect s.piece.instr.flow) s.piece.instr.reg (sym s.mark ∙ e)
+
+-- ---- no half is replaced and no indirect transfer comes, where none is found on the way
+
+first_found : (rest news : List Piece) → RunsAlong rest news → NoneIndirect rest news → NoneFirst rest
+first_found rest [] runs none = none
+first_found [] (n ∷ news) runs none = tt
+first_found (p ∷ rest) (n ∷ news) runs none = none.0
+
+no_half_from : (o : Piece) (rest : List Piece) → is_indirect o.instr.flow ≡ false → NoneFirst rest → IsHalf o rest → ⊥
+no_half_from o [] a b h = (let differ : true ≡ false = sym h ∙ a in cc)
+no_half_from o (next ∷ rest) a b h = elim h [ inl x ↦ (let differ : true ≡ false = sym x ∙ a in cc) | inr x ↦ (let differ : true ≡ false = sym x ∙ b in cc) ]
+
+pub pairs_from : (old after news : List Piece) → lengths old ≡ lengths news → NoneIndirect (old ++ after) news → AreNoHalves old after × AreNotIndirect news
+pairs_from [] after [] e none = (tt, tt)
+pairs_from [] after (n ∷ news) e none = absurd cc
+pairs_from (o ∷ old) after [] e none = absurd cc
+pairs_from (o ∷ old) after (n ∷ news) e none =
+    let tail : lengths old ≡ lengths news = cc in
+    let r = pairs_from old after news tail none.2 in
+    ((no_half_from o (old ++ after) none.0 (first_found (old ++ after) news (joined old after news tail) none.2), r.0), (none.1, r.1))
+
+pub pairs_to : (o : Piece) (old after : List Piece) (n : Piece) (news : List Piece) → lengths old ≡ lengths news → AreNoHalves (o ∷ old) after → AreNotIndirect (n ∷ news) → NoneIndirect (o ∷ (old ++ after)) (n ∷ news)
+pairs_to o [] after n [] e halves fresh = (let h = no_half o after halves.0 in (h.0, fresh.0, h.1))
+pairs_to o [] after n (m ∷ news) e halves fresh = absurd cc
+pairs_to o (p ∷ old) after n [] e halves fresh = absurd cc
+pairs_to o (p ∷ old) after n (m ∷ news) e halves fresh =
+    let tail : lengths old ≡ lengths news = cc in
+    ((no_half o (p ∷ (old ++ after)) halves.0).0, fresh.0, pairs_to p old after m news tail halves.1 fresh.1)
+
+-- ---- a place lies in one chunk
+
+pub apart_by_index : (from : ℕ) (chunks : List Chunk) (d : Chunk) → IsRising from chunks → (i j : ℕ) → i < j → j < length chunks → (get_or chunks i d).base + (get_or chunks i d).length ≤ (get_or chunks j d).base
+apart_by_index from [] d rising i j le lt = absurd (omega arith)
+apart_by_index from (c ∷ rest) d rising zero zero le lt = absurd (omega arith)
+apart_by_index from (c ∷ rest) d rising (suc i) zero le lt = absurd (omega arith)
+apart_by_index from (c ∷ rest) d rising zero (suc j) le lt = rises_get (c.base + c.length) rest j d rising.1 (omega arith)
+apart_by_index from (c ∷ rest) d rising (suc i) (suc j) le lt = apart_by_index (c.base + c.length) rest d rising.1 i j (omega arith) (omega arith)
+
+-- two live chunks that hold a place are one
+pub held_same : (chunks : List Chunk) (at : ℕ) (c d : Chunk) → IsRising 65536 chunks → IsHeldBy chunks at c → IsHeldBy chunks at d → d ≡ c
+held_same chunks at c d rising a b =
+    let i : ℕ = a.0.0 in
+    let j : ℕ = b.0.0 in
+    let is_c : get_or chunks a.0.0 c ≡ c = a.0.2 in
+    let is_d : get_or chunks b.0.0 c ≡ d = get_or_default chunks b.0.0 c d b.0.1 ∙ b.0.2 in
+    ⊎_elim
+    (λ (lt : a.0.0 < b.0.0). absurd (omega (arith, apart_by_index 65536 chunks c rising a.0.0 b.0.0 lt b.0.1, ap (λ (x : Chunk). x.base + x.length) is_c, ap (λ (x : Chunk). x.base) is_d, a.2.1, b.2.0)))
+    (λ (le : b.0.0 ≤ a.0.0).
+    ⊎_elim
+    (λ (lt : b.0.0 < a.0.0). absurd (omega (arith, apart_by_index 65536 chunks c rising b.0.0 a.0.0 lt a.0.1, ap (λ (x : Chunk). x.base + x.length) is_d, ap (λ (x : Chunk). x.base) is_c, b.2.1, a.2.0)))
+    (λ (ge : a.0.0 ≤ b.0.0). (let same : b.0.0 ≡ a.0.0 = omega (arith, le, ge) in sym is_d ∙ (ap (λ (k : ℕ). get_or chunks k c) same ∙ is_c)))
+    (cases_lt b.0.0 a.0.0))
+    (cases_lt a.0.0 b.0.0)
+
+pub pairs_back : (old after news : List Piece) (new : List ℕ) → AreBytesOf new news → 0 < length new → lengths old ≡ lengths news → AreNoHalves old after → AreNotIndirect news → NoneIndirect (old ++ after) news
+pairs_back old after [] new b some e halves fresh = absurd (omega (arith, some, ap (λ (z : List ℕ). length z) b.parts))
+pairs_back [] after (n ∷ news) new b some e halves fresh = absurd cc
+pairs_back (o ∷ old) after (n ∷ news) new b some e halves fresh = (let tail : lengths old ≡ lengths news = cc in pairs_to o old after n news tail halves fresh)

@@ -1,0 +1,188 @@
+-- A patch is made one instruction after the other.
+use Rattle.std.proofs.Common.{◌≡◌, ℕ, ◌+◌, ◌-◌, ◌<◌, ◌≤◌, Bool, true, false, cond, List, [], ◌∷◌, ◌++◌, length, get_or, zero, suc, ◌&&◌, ◌==◌, refl, sym, subst, ◌∙◌, ap, arith, inl, inr, append_assoc, eqb-true}
+use Rattle.std.specs.Prelude.{IsTrue}
+use Rattle.std.proofs.lemmas.List.{length-append, get_or_append_left, get_or-append_right, ext_get_or}
+use Rattle.nc_decode.specs.Transfers.{is_direct, is_indirect, target}
+use Rattle.nc_vet.specs.Chunk.{Piece, place, IsTarget}
+use Rattle.nc_vet.proofs.Pieces.{place-push}
+use Rattle.nc_text.specs.Places.{limit_of, byte_at}
+use Rattle.nc_text.specs.Code.{Code, IsText, with_span}
+use Rattle.nc_text.proofs.SpanElements.{length-with_span}
+use Rattle.nc_region.specs.declared.acts.Act.{Act}
+use Rattle.nc_region.specs.declared.chunk.Chunk.{Chunk}
+use Rattle.nc_region.specs.Patch.{AreBytesOf, lengths, IsHalf, AreNoHalves, AreNotIndirect, GoWell, stands_there, acts_of_instruction, acts_of_modify}
+use Rattle.nc_region.specs.PatchSteps.{NoneFirst, CanPatch}
+use Rattle.nc_region.proofs.SpanPlaces.{place_of, Before, Within, Behind, span_within, span_before, span_behind}
+use Rattle.nc_region.proofs.Exchanging.{target_stays}
+use Rattle.nc_region.proofs.Exchanged.{Changes, changed, changed_holds, changed_long}
+
+lengths_first : (o n : Piece) (os ns : List Piece) → lengths (o ∷ os) ≡ lengths (n ∷ ns) → (length o.bytes ≡ length n.bytes) × (lengths os ≡ lengths ns)
+lengths_first o n os ns e = (cc, cc)
+
+lengths_none : (n : Piece) (ns : List Piece) → lengths [] ≡ lengths (n ∷ ns) → ⊥
+lengths_none n ns e = cc
+
+not_true : (b : Bool) → (b ≡ true → ⊥) → b ≡ false
+not_true true h = absurd (h refl)
+not_true false h = refl
+
+-- what is no half is no indirect transfer and stands before none
+pub no_half : (o : Piece) (rest : List Piece) → (IsHalf o rest → ⊥) → (is_indirect o.instr.flow ≡ false) × NoneFirst rest
+no_half o [] h = (not_true (is_indirect o.instr.flow) h, tt)
+no_half o (next ∷ rest) h = (not_true (is_indirect o.instr.flow) (λ t. h (inl t)), not_true (is_indirect next.instr.flow) (λ t. h (inr t)))
+
+well_map : (P Q : ℕ → Type 0) → ((to : ℕ) → P to → Q to) → (at : ℕ) (ns : List Piece) → GoWell P at ns → GoWell Q at ns
+well_map P Q f at [] w = tt
+well_map P Q f at (n ∷ ns) w = (λ d. f (target n.instr at) (w.0 d), well_map P Q f (at + length n.bytes) ns w.1)
+
+-- the first instruction of a patch, and the one that it replaces
+pub record Turn (code : Code) (c : Chunk) (at : ℕ) (new : List ℕ) (patch : CanPatch code c at new) (n : Piece) (ns : List Piece) : Type 0 where
+  pub o : Piece
+  pub os : List Piece
+  pub old : patch.run.old ≡ o ∷ os
+  pub change : Changes code c at patch.run.before (os ++ patch.run.after) o n
+  pub lens : lengths os ≡ lengths ns
+  pub halves : AreNoHalves os patch.run.after
+  pub fresh : AreNotIndirect ns
+  pub well : GoWell (IsTarget c.base (limit_of code.bytes) patch.run.holds.valid.pieces) (at + length n.bytes) ns
+  pub parts : patch.run.holds.valid.pieces ≡ patch.run.before ++ o ∷ (os ++ patch.run.after)
+
+pub turn : (code : Code) (c : Chunk) (at : ℕ) (new : List ℕ) (patch : CanPatch code c at new) (n : Piece) (ns : List Piece) → IsText code → patch.run.news ≡ n ∷ ns → Turn code c at new patch n ns
+turn code c at new patch n ns t is = go patch.run.old refl
+  where
+    go : (old : List Piece) → patch.run.old ≡ old → Turn code c at new patch n ns
+    go [] e = absurd (lengths_none n ns (ap lengths (sym e) ∙ (patch.run.as_long ∙ ap lengths is)))
+    go (o ∷ os) e =
+        let run = patch.run in
+        let h = patch.run.holds in
+        let parts : patch.run.holds.valid.pieces ≡ patch.run.before ++ o ∷ (os ++ patch.run.after) = patch.run.parts ∙ ap (λ (z : List Piece). patch.run.before ++ (z ++ patch.run.after)) e in
+        let lens = lengths_first o n os ns (ap lengths (sym e) ∙ (patch.run.as_long ∙ ap lengths is)) in
+        let halves : AreNoHalves (o ∷ os) patch.run.after = subst (λ (z : List Piece). AreNoHalves z patch.run.after) e patch.pairs.0 in
+        let plain = no_half o (os ++ patch.run.after) halves.0 in
+        let fresh : AreNotIndirect (n ∷ ns) = subst AreNotIndirect is patch.pairs.1 in
+        let well : GoWell (IsTarget c.base (limit_of code.bytes) patch.run.holds.valid.pieces) at (n ∷ ns) = subst (GoWell (IsTarget c.base (limit_of code.bytes) patch.run.holds.valid.pieces) at) is patch.targets in
+        let place_is : at ≡ patch.run.holds.vetted.base + place patch.run.before = omega (arith, patch.run.here, patch.run.holds.base_is) in
+        record {
+          o = o;
+          os = os;
+          old = e;
+          change = record {
+            whole = t;
+            holds = patch.run.holds;
+            exchange = record {
+              valid = patch.run.holds.valid;
+              parts = parts;
+              spells = patch.run.bytes.spelled [] ns n is;
+              as_long = lens.0;
+              old_plain = plain.0;
+              new_plain = fresh.0;
+              no_mask = plain.1;
+              good = λ d.
+                  subst (λ (b : ℕ). IsTarget b patch.run.holds.vetted.limit patch.run.holds.valid.pieces (target n.instr (patch.run.holds.vetted.base + place patch.run.before))) (sym patch.run.holds.base_is)
+                  (subst (λ (l : ℕ). IsTarget c.base l patch.run.holds.valid.pieces (target n.instr (patch.run.holds.vetted.base + place patch.run.before))) (sym patch.run.holds.limit_is)
+                  (subst (λ (k : ℕ). IsTarget c.base (limit_of code.bytes) patch.run.holds.valid.pieces (target n.instr k)) place_is (well.0 d)));
+            };
+            here = patch.run.here;
+          };
+          lens = lens.1;
+          halves = halves.1;
+          fresh = fresh.1;
+          well = well.1;
+          parts = parts;
+        }
+
+-- the patch that is left
+pub next_patch : (code : Code) (c : Chunk) (at : ℕ) (new : List ℕ) (patch : CanPatch code c at new) (n : Piece) (ns : List Piece) (t : Turn code c at new patch n ns) (len : ℕ) (rest : List ℕ) → len ≡ length n.bytes → AreBytesOf rest ns → CanPatch (changed code at n.bytes) c (at + len) rest
+next_patch code c at new patch n ns t len rest e bytes =
+    let x = t.change in
+    record {
+      run = record {
+        holds = changed_holds code c at patch.run.before (t.os ++ patch.run.after) t.o n t.change;
+        before = patch.run.before ++ n ∷ [];
+        old = t.os;
+        after = patch.run.after;
+        parts = sym (append_assoc patch.run.before (n ∷ []) (t.os ++ patch.run.after));
+        here = omega (arith, place-push patch.run.before n, patch.run.here, e);
+        news = ns;
+        bytes = bytes;
+        as_long = t.lens;
+      };
+      pairs = (t.halves, t.fresh);
+      targets =
+          subst (λ (k : ℕ). GoWell (IsTarget c.base (limit_of (with_span code.bytes (at - 65536) n.bytes)) (patch.run.before ++ n ∷ (t.os ++ patch.run.after))) (at + k) ns) (sym e)
+          (well_map (IsTarget c.base (limit_of code.bytes) patch.run.holds.valid.pieces) (IsTarget c.base (limit_of (with_span code.bytes (at - 65536) n.bytes)) (patch.run.before ++ n ∷ (t.os ++ patch.run.after)))
+          (λ to g. subst (λ (l : ℕ). IsTarget c.base l (patch.run.before ++ n ∷ (t.os ++ patch.run.after)) to) (ap (λ (k : ℕ). 65536 + k) (sym (changed_long code c at patch.run.before (t.os ++ patch.run.after) t.o n t.change)))
+          (target_stays c.base (limit_of code.bytes) patch.run.before (t.os ++ patch.run.after) t.o n to x.exchange.as_long x.exchange.new_plain
+          (subst (λ (z : List Piece). IsTarget c.base (limit_of code.bytes) z to) t.parts g)))
+          (at + length n.bytes) ns t.well);
+    }
+
+-- two spans, one behind the other
+pub spans_join : (text : List ℕ) (at : ℕ) (xs ys : List ℕ) → 65536 ≤ at → at + length xs + length ys ≤ 65536 + length text → with_span (with_span text (at - 65536) xs) (at + length xs - 65536) ys ≡ with_span text (at - 65536) (xs ++ ys)
+spans_join text at xs ys low fits =
+    let first : length (with_span text (at - 65536) xs) ≡ length text = length-with_span text (at - 65536) xs (omega (arith, low, fits)) in
+    let both : length (xs ++ ys) ≡ length xs + length ys = length-append xs ys in
+    let fits2 : at + length xs + length ys ≤ 65536 + length (with_span text (at - 65536) xs) = omega (arith, first, fits) in
+    let fits3 : at + length (xs ++ ys) ≤ 65536 + length text = omega (arith, both, fits) in
+    let fits1 : at + length xs ≤ 65536 + length text = omega (arith, fits) in
+    let low2 : 65536 ≤ at + length xs = omega (arith, low) in
+    ext_get_or 0 (with_span (with_span text (at - 65536) xs) (at + length xs - 65536) ys) (with_span text (at - 65536) (xs ++ ys))
+    (length-with_span (with_span text (at - 65536) xs) (at + length xs - 65536) ys (omega (arith, low, fits, first)) ∙ (first ∙ sym (length-with_span text (at - 65536) (xs ++ ys) (omega (arith, low, fits, both)))))
+    (λ j lt.
+    let e : 65536 + j - 65536 ≡ j = omega arith in
+    subst (λ (k : ℕ). get_or (with_span (with_span text (at - 65536) xs) (at + length xs - 65536) ys) k 0 ≡ get_or (with_span text (at - 65536) (xs ++ ys)) k 0) e
+    (elim (place_of (at + length xs) (length ys) (65536 + j)) [
+      | Before b ↦
+          span_before (with_span text (at - 65536) xs) (at + length xs) ys (65536 + j) 0 low2 fits2 (omega arith) b
+          ∙ elim (place_of at (length xs) (65536 + j)) [
+            | Before f ↦ span_before text at xs (65536 + j) 0 low fits1 (omega arith) f ∙ sym (span_before text at (xs ++ ys) (65536 + j) 0 low fits3 (omega arith) f)
+            | Within f g ↦ span_within text at xs (65536 + j) 0 low fits1 f g ∙ (sym (get_or_append_left xs ys 0 (65536 + j - at) (omega (arith, f, g))) ∙ sym (span_within text at (xs ++ ys) (65536 + j) 0 low fits3 f (omega (arith, g, both))))
+            | Behind f ↦ absurd (omega (arith, b, f))
+          ]
+      | Within f g ↦
+          let d : 65536 + j - at - length xs ≡ 65536 + j - (at + length xs) = omega (arith, f) in
+          span_within (with_span text (at - 65536) xs) (at + length xs) ys (65536 + j) 0 low2 fits2 f g
+          ∙ (ap (λ (k : ℕ). get_or ys k 0) (sym d) ∙ (sym (get_or-append_right xs ys (length xs) (65536 + j - at) 0 refl (omega (arith, f))) ∙ sym (span_within text at (xs ++ ys) (65536 + j) 0 low fits3 (omega (arith, f)) (omega (arith, g, both)))))
+      | Behind f ↦
+          span_behind (with_span text (at - 65536) xs) (at + length xs) ys (65536 + j) 0 low2 fits2 f
+          ∙ (span_behind text at xs (65536 + j) 0 low fits1 (omega (arith, f)) ∙ sym (span_behind text at (xs ++ ys) (65536 + j) 0 low fits3 (omega (arith, f, both))))
+    ]))
+
+both_true : (a b : Bool) → (a && b) ≡ true → (a ≡ true) × (b ≡ true)
+both_true true b e = (refl, e)
+both_true false b e = absurd cc
+
+stands_bytes : (text : List ℕ) (at : ℕ) (bytes : List ℕ) → stands_there text at bytes ≡ true → (k : ℕ) → k < length bytes → byte_at text (at + k) ≡ get_or bytes k 0
+stands_bytes text at [] e k lt = absurd (omega arith)
+stands_bytes text at (b ∷ rest) e zero lt =
+    let z : at + 0 ≡ at = omega arith in
+    ap (byte_at text) z ∙ eqb-true (byte_at text at) b (both_true (byte_at text at == b) (stands_there text (at + 1) rest) e).0
+stands_bytes text at (b ∷ rest) e (suc k) lt =
+    let z : at + suc k ≡ at + 1 + k = omega arith in
+    ap (byte_at text) z ∙ stands_bytes text (at + 1) rest (both_true (byte_at text at == b) (stands_there text (at + 1) rest) e).1 k (omega arith)
+
+-- bytes that stand there already change nothing
+pub stands_same : (text : List ℕ) (at : ℕ) (bytes : List ℕ) → 65536 ≤ at → at + length bytes ≤ 65536 + length text → stands_there text at bytes ≡ true → text ≡ with_span text (at - 65536) bytes
+stands_same text at bytes low fits e =
+    ext_get_or 0 text (with_span text (at - 65536) bytes) (sym (length-with_span text (at - 65536) bytes (omega (arith, low, fits))))
+    (λ j lt.
+    let f : 65536 + j - 65536 ≡ j = omega arith in
+    subst (λ (k : ℕ). get_or text k 0 ≡ get_or (with_span text (at - 65536) bytes) k 0) f
+    (elim (place_of at (length bytes) (65536 + j)) [
+      | Before b ↦ sym (span_before text at bytes (65536 + j) 0 low fits (omega arith) b)
+      | Within a b ↦
+          let z : at + (65536 + j - at) ≡ 65536 + j = omega (arith, a) in
+          ap (byte_at text) (sym z) ∙ (stands_bytes text at bytes e (65536 + j - at) (omega (arith, a, b)) ∙ sym (span_within text at bytes (65536 + j) 0 low fits a b))
+      | Behind p ↦ sym (span_behind text at bytes (65536 + j) 0 low fits p)
+    ]))
+
+-- what stands from a place on is the same in texts that agree there
+same_stands : (a b : List ℕ) (at : ℕ) (bytes : List ℕ) → ((k : ℕ) → at ≤ k → byte_at a k ≡ byte_at b k) → stands_there a at bytes ≡ stands_there b at bytes
+same_stands a b at [] h = refl
+same_stands a b at (x ∷ rest) h = ap (λ (z : ℕ). (z == x) && stands_there a (at + 1) rest) (h at (omega arith)) ∙ ap (λ (z : Bool). (byte_at b at == x) && z) (same_stands a b (at + 1) rest (λ k le. h k (omega (arith, le))))
+
+pub same_acts : (a b : List ℕ) (at : ℕ) (ns : List Piece) → ((k : ℕ) → at ≤ k → byte_at a k ≡ byte_at b k) → acts_of_modify a at ns ≡ acts_of_modify b at ns
+same_acts a b at [] h = refl
+same_acts a b at (n ∷ ns) h =
+    ap (λ (z : Bool). cond z [] (acts_of_instruction at n.bytes) ++ acts_of_modify a (at + length n.bytes) ns) (same_stands a b at n.bytes h)
+    ∙ ap (λ (z : List Act). cond (stands_there b at n.bytes) [] (acts_of_instruction at n.bytes) ++ z) (same_acts a b (at + length n.bytes) ns (λ k le. h k (omega (arith, le))))

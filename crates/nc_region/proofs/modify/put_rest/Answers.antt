@@ -1,0 +1,36 @@
+use Rattle.std.proofs.Common.{◌≡◌, ℕ, ◌+◌, ◌-◌, ◌<◌, ◌≤◌, List, length, get_or, set, arith, sym, ap, subst, ◌∙◌, refl}
+use Rattle.nc_decode.specs.declared.instruction.Mark.{Mark}
+use Rattle.nc_text.specs.Marks.{IsClosed}
+use Rattle.nc_text.specs.Code.{Code, IsText}
+use Rattle.nc_region.specs.Patch.{any_place}
+use Rattle.nc_region.specs.Chunks.{HasPut}
+use Rattle.nc_region.specs.PatchSteps.{IsInterim}
+use Rattle.nc_region.proofs.Puts.{put_more}
+use Rattle.nc_region.proofs.Told.{told_put}
+use Rattle.nc_region.proofs.Replacing.{patching_from_put}
+use Rattle.nc_region.proofs.modify.put_rest.Goals as goal
+
+pub put-requires-clause-closed : goal.put-requires-clause-closed
+put-requires-clause-closed g c =
+    let at = c.args.at in
+    let i = c.loop-i.i in
+    let old = g.A.Acts.code c.args.acts.now in
+    let now = g.A.Acts.code c.loop-i.acts in
+    let next = put_more any_place (at + 1) c.args.rest.now i old.bytes now.bytes c.loop-i.invariant.bytes (omega arith) (omega (arith, c.requires.high)) refl in
+    subst (λ (marks : List Mark). IsClosed (set now.bytes (at + 1 + i - 65536) (get_or c.args.rest.now i 0)) marks) (sym c.loop-i.invariant.marks)
+    (c.requires.closed (set now.bytes (at + 1 + i - 65536) (get_or c.args.rest.now i 0))
+    (patching_from_put old.bytes (set now.bytes (at + 1 + i - 65536) (get_or c.args.rest.now i 0)) at c.args.rest.now (i + 1) (length c.args.rest.now) c.requires.low (omega arith) c.requires.stopped next))
+
+pub loop-i-preserved : goal.loop-i-preserved
+loop-i-preserved g c =
+    let at = c.args.at in
+    let i = c.loop-i.i in
+    let old = g.A.Acts.code c.args.acts.now in
+    let now = g.A.Acts.code c.loop-i.acts in
+    let e = c.put.ensures.code in
+    record {
+      bytes = rw e (put_more any_place (at + 1) c.args.rest.now i old.bytes now.bytes c.loop-i.invariant.bytes (omega arith) (omega (arith, c.requires.high)) refl);
+      marks = rw e c.loop-i.invariant.marks;
+      whole = c.put.ensures.whole;
+      told = told_put any_place (at + 1) c.args.rest.now i _ _ _ (omega arith) refl c.loop-i.invariant.told c.put.ensures.told;
+    }

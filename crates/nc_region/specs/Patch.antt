@@ -1,0 +1,132 @@
+-- A patch: some instructions of a live chunk replaced by others of the same lengths, while threads may be running.
+use Rattle.std.specs.Prelude.{◌≡◌, ℕ, ◌+◌, ◌-◌, ◌<◌, ◌≤◌, ◌⊎◌, ⊤, Bool, true, false, ◌==◌, ◌&&◌, List, [], ◌∷◌, ◌++◌, length, map, Contains, IsTrue, if◌then◌else◌}
+use Rattle.nc_decode.specs.Bundles.{IsInOneBundle}
+use Rattle.nc_decode.specs.Transfers.{is_direct, is_indirect, target}
+use Rattle.nc_vet.specs.Chunk.{Piece, code_of, place, AreSpelled, IsTarget}
+use Rattle.nc_text.specs.Places.{limit_of, byte_at}
+use Rattle.nc_text.specs.Code.{Code, with_span}
+use Rattle.nc_region.specs.declared.acts.Act.{Act}
+use Rattle.nc_region.specs.declared.acts.Act.TheVariants.{Put}
+use Rattle.nc_region.specs.declared.chunk.Chunk.{Chunk}
+use Rattle.nc_region.specs.declared.fault.ModifyFault.{ModifyFault}
+use Rattle.nc_region.specs.declared.fault.ModifyFault.TheVariants.{BadSpan, NotLive, NotPermitted, Boundaries, PairTouched, BadTarget}
+use Rattle.nc_region.specs.Acts.{puts_where}
+use Rattle.nc_region.specs.Region.{Region, IsLive, IsInChunk, HoldsValid}
+
+-- so many bytes, at least one, lie in one bundle
+abbrev pub IsPatchSpan : ℕ → ℕ → Type 0
+IsPatchSpan at len = (0 < len) × IsInOneBundle at len
+
+-- the place lies in this live chunk of the list
+abbrev pub IsHeldBy : List Chunk → ℕ → Chunk → Type 0
+IsHeldBy chunks at c = Contains chunks c × IsLive c.state × IsInChunk c at
+
+-- the place lies in some live chunk
+abbrev pub IsHeld : List Chunk → ℕ → Type 0
+IsHeld chunks at = (c : Chunk) × IsHeldBy chunks at c
+
+-- the bytes are these instructions, one behind the other
+pub record AreBytesOf (bytes : List ℕ) (pieces : List Piece) : Type 0 where
+  pub spelled : AreSpelled pieces
+  pub parts : bytes ≡ code_of pieces
+
+-- the bytes are whole instructions, one behind the other
+abbrev pub AreInstructions : List ℕ → Type 0
+AreInstructions bytes = (pieces : List Piece) × AreBytesOf bytes pieces
+
+-- how long each of some instructions is
+abbrev pub lengths : List Piece → List ℕ
+lengths pieces = map (λ p. length p.bytes) pieces
+
+-- The new bytes are instructions, and from the address on stand as many of the chunk's, each as long as the new one in
+-- its place.
+pub record IsRun (code : Code) (c : Chunk) (at : ℕ) (new : List ℕ) : Type 0 where
+  pub holds : HoldsValid code c
+  pub before : List Piece
+  pub old : List Piece
+  pub after : List Piece
+  pub parts : holds.valid.pieces ≡ before ++ (old ++ after)
+  pub here : c.base + place before ≡ at
+  pub news : List Piece
+  pub bytes : AreBytesOf new news
+  pub as_long : lengths old ≡ lengths news
+
+-- In a valid chunk the halves of pairs are the indirect transfers and the instructions directly before these. This is
+-- one, with what follows it.
+abbrev pub IsHalf : Piece → List Piece → Type 0
+IsHalf p [] = IsTrue (is_indirect p.instr.flow)
+IsHalf p (next ∷ rest) = IsTrue (is_indirect p.instr.flow) ⊎ IsTrue (is_indirect next.instr.flow)
+
+-- none of these instructions is a half, with what follows behind them
+abbrev pub AreNoHalves : List Piece → List Piece → Type 0
+AreNoHalves [] after = ⊤
+AreNoHalves (p ∷ rest) after = ¬ IsHalf p (rest ++ after) × AreNoHalves rest after
+
+-- none is an indirect transfer
+abbrev pub AreNotIndirect : List Piece → Type 0
+AreNotIndirect [] = ⊤
+AreNotIndirect (p ∷ rest) = (is_indirect p.instr.flow ≡ false) × AreNotIndirect rest
+
+-- each direct transfer of these, which stand from an address on, goes to a good one
+abbrev pub GoWell : (ℕ → Type 0) → ℕ → List Piece → Type 0
+GoWell good at [] = ⊤
+GoWell good at (p ∷ rest) = (IsTrue (is_direct p.instr.flow) → good (target p.instr at)) × GoWell good (at + length p.bytes) rest
+
+-- no half of a pair is replaced, and no indirect transfer comes
+abbrev pub LeavesPairs : (code : Code) (c : Chunk) (at : ℕ) (new : List ℕ) → IsRun code c at new → Type 0
+LeavesPairs code c at new run = AreNoHalves run.old run.after × AreNotIndirect run.news
+
+-- the direct transfers that come go where those of a valid chunk may
+abbrev pub KeepsTargets : (code : Code) (c : Chunk) (at : ℕ) (new : List ℕ) → IsRun code c at new → Type 0
+KeepsTargets code c at new run = GoWell (IsTarget c.base (limit_of code.bytes) run.holds.valid.pieces) at run.news
+
+-- The new bytes take the place of whole instructions of a live chunk; they leave its pairs alone; and they go where it
+-- may. Each of the three says what the one before says too.
+abbrev pub Fits : Region → ℕ → List ℕ → Type 0
+Fits r at new = (c : Chunk) × IsHeldBy r.chunks at c × IsRun r.code c at new
+
+abbrev pub FitsBesidePairs : Region → ℕ → List ℕ → Type 0
+FitsBesidePairs r at new = (c : Chunk) × IsHeldBy r.chunks at c × ((run : IsRun r.code c at new) × LeavesPairs r.code c at new run)
+
+-- a lawful patch
+abbrev pub IsPatch : Region → ℕ → List ℕ → Type 0
+IsPatch r at new =
+    IsPatchSpan at (length new)
+    × ((c : Chunk) × IsHeldBy r.chunks at c × ((run : IsRun r.code c at new) × LeavesPairs r.code c at new run × KeepsTargets r.code c at new run))
+
+-- The first of these that doesn't hold is the refusal: the bytes lie in one bundle; that is part of a live chunk; they
+-- are whole instructions; they fit; they leave pairs alone; their targets are good.
+abbrev pub MayRefusePatch : Region → ℕ → List ℕ → ModifyFault → Type 0
+MayRefusePatch r at new BadSpan = ¬ IsPatchSpan at (length new)
+MayRefusePatch r at new NotLive = IsPatchSpan at (length new) × ¬ IsHeld r.chunks at
+MayRefusePatch r at new NotPermitted = IsPatchSpan at (length new) × IsHeld r.chunks at × ¬ AreInstructions new
+MayRefusePatch r at new Boundaries = IsPatchSpan at (length new) × IsHeld r.chunks at × AreInstructions new × ¬ Fits r at new
+MayRefusePatch r at new PairTouched = IsPatchSpan at (length new) × Fits r at new × ¬ FitsBesidePairs r at new
+MayRefusePatch r at new BadTarget = IsPatchSpan at (length new) × FitsBesidePairs r at new × ¬ IsPatch r at new
+
+-- The region after a patch: the new bytes stand there, and nothing else of text, marks and list is changed.
+pub record IsModified (old new : Region) (at : ℕ) (bytes : List ℕ) : Type 0 where
+  pub patched : new.code.bytes ≡ with_span old.code.bytes (at - 0x10000) bytes
+  pub marks : new.code.marks ≡ old.code.marks
+  pub chunks : new.chunks ≡ old.chunks
+
+-- these bytes stand there already
+abbrev pub stands_there : List ℕ → ℕ → List ℕ → Bool
+stands_there text at [] = true
+stands_there text at (byte ∷ rest) = (byte_at text at == byte) && stands_there text (at + 1) rest
+
+abbrev pub any_place : ℕ → Bool
+any_place at = true
+
+-- One instruction is replaced: a stop at its first byte, the further bytes rising, then its first byte. One byte takes
+-- one put.
+abbrev pub acts_of_instruction : ℕ → List ℕ → List Act
+acts_of_instruction at [] = []
+acts_of_instruction at (byte ∷ []) = Put at byte ∷ []
+acts_of_instruction at (byte ∷ next ∷ rest) = Put at 0xF4 ∷ (puts_where any_place (at + 1) (next ∷ rest) ++ Put at byte ∷ [])
+
+-- A patch is made: each instruction whose bytes don't stand there already is replaced, rising.
+abbrev pub acts_of_modify : List ℕ → ℕ → List Piece → List Act
+acts_of_modify text at [] = []
+acts_of_modify text at (p ∷ rest) =
+    (if stands_there text at p.bytes then [] else acts_of_instruction at p.bytes) ++ acts_of_modify text (at + length p.bytes) rest

@@ -1,0 +1,73 @@
+-- Parts of a patch: machinery of the proofs, cited by no public contract.
+use Rattle.std.specs.Prelude.{◌≡◌, ◌≢◌, ℕ, ◌+◌, ◌-◌, ◌<◌, ◌≤◌, ◌⊎◌, ⊤, Bool, true, false, List, [], ◌∷◌, ◌++◌, length, Some}
+use Rattle.nc_decode.specs.declared.instruction.Instr.{Instr}
+use Rattle.nc_decode.specs.declared.instruction.Mark.{Mark}
+use Rattle.nc_decode.specs.declared.instruction.Mark.TheVariants.{Unmarked, Plain, After}
+use Rattle.nc_decode.specs.Transfers.{is_indirect}
+use Rattle.nc_vet.specs.Chunk.{Piece, place}
+use Rattle.nc_text.specs.Places.{limit_of, byte_at, instruction_at}
+use Rattle.nc_text.specs.Machine.{State}
+use Rattle.nc_text.specs.Marks.{IsMarked, IsClosed}
+use Rattle.nc_text.specs.Code.{Code, with_span}
+use Rattle.nc_region.specs.declared.chunk.Chunk.{Chunk}
+use Rattle.nc_region.specs.Region.{HoldsValid}
+use Rattle.nc_region.specs.Patch.{AreBytesOf, IsRun, LeavesPairs, KeepsTargets}
+
+-- an instruction of the chunk begins at the address, or the chunk ends there
+pub record Begins (code : Code) (c : Chunk) (at : ℕ) : Type 0 where
+  pub holds : HoldsValid code c
+  pub before : List Piece
+  pub rest : List Piece
+  pub parts : holds.valid.pieces ≡ before ++ rest
+  pub here : c.base + place before ≡ at
+
+-- the first of these instructions are each as long as the new ones
+abbrev pub RunsAlong : List Piece → List Piece → Type 0
+RunsAlong rest [] = ⊤
+RunsAlong [] (n ∷ news) = ⊥
+RunsAlong (p ∷ rest) (n ∷ news) = (length p.bytes ≡ length n.bytes) × RunsAlong rest news
+
+-- the new bytes are instructions that run along those of the chunk
+pub record Along (code : Code) (c : Chunk) (at : ℕ) (new : List ℕ) : Type 0 where
+  pub begins : Begins code c at
+  pub news : List Piece
+  pub bytes : AreBytesOf new news
+  pub runs : RunsAlong begins.rest news
+
+abbrev pub NoneFirst : List Piece → Type 0
+NoneFirst [] = ⊤
+NoneFirst (p ∷ rest) = is_indirect p.instr.flow ≡ false
+
+-- none of the first instructions, of the one behind them and of the new ones is an indirect transfer
+abbrev pub NoneIndirect : List Piece → List Piece → Type 0
+NoneIndirect rest [] = NoneFirst rest
+NoneIndirect [] (n ∷ news) = ⊤
+NoneIndirect (p ∷ rest) (n ∷ news) = (is_indirect p.instr.flow ≡ false) × (is_indirect n.instr.flow ≡ false) × NoneIndirect rest news
+
+-- the mark is that of an indirect transfer
+abbrev pub is_after : Mark → Bool
+is_after Unmarked = false
+is_after Plain = false
+is_after (After register) = true
+
+-- a lawful patch of a chunk, but for the list of chunks
+pub record CanPatch (code : Code) (c : Chunk) (at : ℕ) (new : List ℕ) : Type 0 where
+  pub run : IsRun code c at new
+  pub pairs : LeavesPairs code c at new run
+  pub targets : KeepsTargets code c at new run
+
+-- An instruction is to be replaced by these bytes: afterwards the text is closed, and no other marked state's
+-- instruction has a byte of the span.
+pub record IsReplacing (code : Code) (at : ℕ) (new : List ℕ) : Type 0 where
+  pub some : 0 < length new
+  pub low : 0x10000 ≤ at
+  pub high : at + length new ≤ limit_of code.bytes
+  pub closed : IsClosed (with_span code.bytes (at - 0x10000) new) code.marks
+  pub apart : (now : State) (i : Instr) → IsMarked code.marks now → now.place ≢ at → instruction_at (with_span code.bytes (at - 0x10000) new) now.place ≡ Some i → (now.place + i.len ≤ at) ⊎ (at + length new ≤ now.place)
+
+-- the text while an instruction is replaced: a stop at its start, and outside it the final bytes
+pub record IsInterim (final now : List ℕ) (at len : ℕ) : Type 0 where
+  pub as_long : length now ≡ length final
+  pub stop : byte_at now at ≡ 0xF4
+  pub before : (k : ℕ) → 0x10000 ≤ k → k < at → byte_at now k ≡ byte_at final k
+  pub behind : (k : ℕ) → at + len ≤ k → byte_at now k ≡ byte_at final k
