@@ -1,0 +1,17 @@
+use Rattle.std.proofs.Common.{subst}
+use Rattle.std.specs.Prelude.{List, All}
+use Rattle.std.specs.Global.{Vec}
+use Rattle.std.proofs.lemmas.List.Elements.{All-head, All-rest}
+use Rattle.nc_work.specs.declared.work.Done.{Done}
+use Rattle.nc_work.specs.Answers.{AreDone}
+use Rattle.nc_work.proofs.vetting.gather.Goals as goal
+
+pub put_all-requires-clause-done : goal.put_all-requires-clause-done
+put_all-requires-clause-done c =
+    let P : Vec Done → Type 0 = λ h. AreDone c.args.jobs.now h.items in
+    All-head P c.in-Some.done _ (subst (λ (z : List (Vec Done)). All P z) c.in-Some.ensures.steps.0 c.loop-done.invariant.hands)
+
+pub loop-done-preserved : goal.loop-done-preserved
+loop-done-preserved c =
+    let P : Vec Done → Type 0 = λ h. AreDone c.args.jobs.now h.items in
+    record { hands = All-rest P c.in-Some.done _ _ c.in-Some.ensures.steps.0 c.loop-done.invariant.hands; answers = c.put_all.ensures.answers }

@@ -1,0 +1,8 @@
+use Rattle.nc_work.proofs.Places.{done_head, done_tail}
+use Rattle.nc_work.proofs.vetting.put_all.Goals as goal
+
+pub put-requires-clause-done : goal.put-requires-clause-done
+put-requires-clause-done c = done_head c.args.jobs.now _ c.in-Some.one _ c.in-Some.ensures.steps.0 c.loop-one.invariant.done
+
+pub loop-one-preserved : goal.loop-one-preserved
+loop-one-preserved c = record { done = done_tail c.args.jobs.now _ c.in-Some.one _ c.in-Some.ensures.steps.0 c.loop-one.invariant.done; answers = c.put.ensures.answers }

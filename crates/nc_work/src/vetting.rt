@@ -1,0 +1,151 @@
+//! Vetting of all jobs.
+
+ghost use Rattle.std.specs.Prelude.{◌≡◌, ◌↔◌, [], All, Some, length, vec_len, vec_capacity, IfOk, IfErr, Err};
+ghost use Rattle.std.specs.List.{AllZip};
+ghost use Rattle.std.specs.Option.{ForSome};
+ghost use Rattle.nc_work.specs.Verdicts.{IsVerdictOn, IsStaff};
+ghost use Rattle.nc_work.specs.Answers.{IsJudged, FitsPlace, AreDone, AreAnswers};
+
+use crate::fault::WorkFault;
+use crate::gate::Gate;
+use crate::job::{Job, Verdict};
+use crate::room::Room;
+use crate::work::{Answer, Done, judge_job, work};
+use nc_vet::Vetted;
+use std::sync::Wait;
+use std::sync::atomic::AtomicUsize;
+use std::thread::{Threads, for_each_mut};
+
+/// The most workers.
+const MOST: u32 = 16;
+
+/// Judges jobs by as many workers as there are lists. Each worker begins with the job of its own number.
+fn work_all<G: Gate, T: Threads + Sync>(rt: &T, jobs: &[Job], hands: &mut [Vec<Done>], gate: &G)
+    requires { All (λ h. AreDone jobs.now h.items) hands.old }
+    ensures { All (λ h. AreDone jobs.now h.items) hands.new }
+{
+    let count = hands.len();
+    let next = AtomicUsize::new(count);
+    for_each_mut(
+        rt,
+        hands,
+        count.max(1),
+        &|own: usize, done: &mut Vec<Done>|
+            requires { AreDone jobs.now done.old.items }
+            ensures { AreDone jobs.entry.now done.new.items }
+        { work(jobs, own, &next, gate, done) },
+    );
+}
+
+/// Puts an answer into its place.
+fn put(jobs: &[Job], done: Done, answers: &mut [Option<Answer>])
+    requires done { FitsPlace jobs.now done.job (Some done.answer) }
+    requires answers { AreAnswers jobs.now answers.old }
+    ensures len { length answers.new ≡ length answers.old }
+    ensures answers { AreAnswers jobs.now answers.new }
+{
+    let Done { job, answer } = done;
+    if job < answers.len() {
+        answers[job] = Some(answer);
+    }
+}
+
+/// Puts what one worker answered into its places.
+fn put_all(jobs: &[Job], done: Vec<Done>, answers: &mut [Option<Answer>])
+    requires done { AreDone jobs.now done.items }
+    requires answers { AreAnswers jobs.now answers.old }
+    ensures len { length answers.new ≡ length answers.old }
+    ensures answers { AreAnswers jobs.now answers.new }
+{
+    for one in done {
+        put(jobs, one, answers);
+    }
+}
+
+/// Puts what all workers answered into its places.
+fn gather(jobs: &[Job], hands: Vec<Vec<Done>>, answers: &mut [Option<Answer>])
+    requires hands { All (λ h. AreDone jobs.now h.items) hands.items }
+    requires answers { AreAnswers jobs.now answers.old }
+    ensures len { length answers.new ≡ length answers.old }
+    ensures answers { AreAnswers jobs.now answers.new }
+{
+    for done in hands {
+        put_all(jobs, done, answers);
+    }
+}
+
+/// The verdict on a job, by the answer on its chunk.
+fn verdict(job: Job, answer: Answer) -> Verdict
+    requires { IsJudged job answer }
+    ensures { IsVerdictOn job result }
+{
+    match answer {
+        Ok(marks) => Ok(Vetted::new(job.base, job.limit, job.code, marks)),
+        Err(fault) => Err((job.code, fault)),
+    }
+}
+
+/// The answer that was found, or the job is judged here.
+fn answer_of<G: Gate>(number: usize, job: &Job, found: Option<Answer>, gate: &G) -> Answer
+    requires { ForSome found (IsJudged job.now) }
+    ensures { IsJudged job.now result }
+{
+    match found {
+        Some(answer) => answer,
+        None => judge_job(number, job, gate),
+    }
+}
+
+/// The verdicts on all jobs. A job that no worker has judged is judged here.
+fn conclude<G: Gate>(
+    jobs: Vec<Job>,
+    answers: &mut [Option<Answer>],
+    mut verdicts: Vec<Verdict>,
+    gate: &G,
+) -> Vec<Verdict>
+    requires len { length answers.old ≡ vec_len jobs }
+    requires answers { AreAnswers jobs.items answers.old }
+    requires room { (verdicts.items ≡ []) × (vec_capacity verdicts ≡ vec_len jobs) }
+    ensures { AllZip IsVerdictOn jobs.items result.items }
+{
+    for job in jobs {
+        let number = verdicts.len();
+        let answer = answer_of(number, &job, answers[number].take(), gate);
+        verdicts.push_reserved(verdict(job, answer));
+    }
+    verdicts
+}
+
+/// Vets all jobs by so many workers, of which the caller is one.
+///
+/// Each verdict is what `vet` answers for that job, in the jobs' order, however many workers there are. A worker takes
+/// the next job when it is done with one, so a long job doesn't hold others up; with at least as many workers as jobs
+/// each job has a worker of its own. A job whose worker can't be started is vetted by another.
+///
+/// All room is made before a worker starts, but for the marks of each chunk; where there is none for those, that job's
+/// verdict says so. On a refusal the jobs come back as they were.
+pub fn vet_all<G: Gate, T: Threads + Wait + Sync>(
+    rt: &T,
+    jobs: Vec<Job>,
+    workers: u32,
+    gate: &G,
+) -> Result<Vec<Verdict>, (Vec<Job>, WorkFault)>
+    ensures verdicts { IfOk result (λ v. AllZip IsVerdictOn jobs.items v.items) }
+    ensures given_back { IfErr result (λ e. e.0 ≡ jobs) }
+    ensures bad_workers { (result ≡ Err (jobs, WorkFault.BadWorkers)) ↔ ¬ IsStaff workers }
+{
+    if workers < 1 || MOST < workers {
+        return Err((jobs, WorkFault::BadWorkers));
+    }
+    let Ok(room) = Room::new(*jobs.allocator(), jobs.len(), workers as usize) else {
+        return Err((jobs, WorkFault::OutOfMemory));
+    };
+    let Room {
+        mut hands,
+        mut answers,
+        verdicts,
+    } = room;
+    work_all(rt, &jobs, &mut hands, gate);
+    gather(&jobs, hands, &mut answers);
+    Ok(conclude(jobs, &mut answers, verdicts, gate))
+}

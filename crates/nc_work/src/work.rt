@@ -1,0 +1,59 @@
+//! What one worker does.
+
+ghost use Rattle.nc_work.specs.Answers.{IsJudged, AreDone};
+
+use crate::gate::Gate;
+use crate::job::Job;
+use nc_vet::{Kept, VetFault, judge};
+use std::sync::atomic::{AtomicUsize, Ordering};
+
+/// The marks of a valid chunk, or a chunk's fault.
+pub type Answer = Result<Kept, VetFault>;
+
+/// A job's number, and the answer.
+#[derive(Drop)]
+pub struct Done {
+    pub job: usize,
+    pub answer: Answer,
+}
+
+/// Judges a job's chunk where it lies, between the gate's calls.
+pub fn judge_job<G: Gate>(number: usize, job: &Job, gate: &G) -> Answer
+    ensures { IsJudged job.now result }
+{
+    gate.before(number);
+    let answer = judge(*job.code.allocator(), job.base, job.limit, &job.code);
+    gate.after(number);
+    answer
+}
+
+/// The next job for a worker: first the one with its own number, then one that nobody has taken.
+fn draw(turn: usize, own: usize, next: &AtomicUsize) -> usize {
+    if turn == 0 {
+        own
+    } else {
+        next.fetch_add(1, Ordering::SeqCst)
+    }
+}
+
+/// What a worker does: it judges the job with its own number, and then the next one that nobody has taken, until none is
+/// left or its list is full. What it answers lands in its list.
+pub fn work<G: Gate>(jobs: &[Job], own: usize, next: &AtomicUsize, gate: &G, done: &mut Vec<Done>)
+    requires { AreDone jobs.now done.old.items }
+    ensures { AreDone jobs.now done.new.items }
+{
+    for turn in 0..jobs.len() {
+        if done.len() >= done.capacity() {
+            break;
+        }
+        let number = draw(turn, own, next);
+        if number >= jobs.len() {
+            break;
+        }
+        let answer = judge_job(number, &jobs[number], gate);
+        done.push_reserved(Done {
+            job: number,
+            answer,
+        });
+    }
+}
