@@ -88,6 +88,19 @@ pub(crate) const OFFV: Entry = Entry {
     ..NO
 };
 
+// ---- no opcode
+
+/// 0F, which comes before an opcode of two bytes.
+pub(crate) const ESC: Entry = NO;
+/// The prefix 66.
+pub(crate) const P66: Entry = NO;
+/// The prefix F0.
+pub(crate) const PF0: Entry = NO;
+/// The prefix F2.
+pub(crate) const PF2: Entry = NO;
+/// The prefix F3.
+pub(crate) const PF3: Entry = NO;
+
 // ---- transfers
 
 /// A branch with a displacement of one byte: Jcc, LOOP, JECXZ.

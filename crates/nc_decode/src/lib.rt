@@ -18,7 +18,7 @@ mod shape;
 mod table;
 mod transfer;
 
-pub use automaton::advance;
+pub use automaton::{AFTER_MASK, AFTER_NEAR, AFTER_PAIR, AFTER_SHORT, DEAD, END, STATES, advance};
 pub use bundles::{BUNDLE, MAX_BUNDLES, START};
 pub use decoding::decode;
 pub use instruction::{DecodeFault, Flow, Instr, Mark};
