@@ -10,13 +10,13 @@ use Rattle.nc_decode.specs.Entries.{entry_of}
 use Rattle.nc_decode.specs.Shapes.{shape_of, prefixed_shape, prefix_of, opcode_shape, entry_shape, forms_of, coded_len}
 use Rattle.nc_decode.specs.Reading.{reading, whole_of}
 use Rattle.nc_decode.specs.Spelling.{spelled, masks_of, Spells, IsAtFront}
-use Rattle.nc_decode.specs.Front.{leading_bytes, first_instruction, IsExact, IsPrefixFree, IsStopFirst, HasItsLength, DependsOnItsBytes, MasksOnlyBeforeNext, NamesRegisters, plain, MasksExactly, GoesOnBehindPrefix}
+use Rattle.nc_decode.specs.Front.{leading_bytes, first_instruction, IsExact, IsPrefixFree, IsStopFirst, HasItsLength, DependsOnItsBytes, MasksOnlyBeforeNext, NamesRegisters, plain, MasksExactly, GoesOnAfterPrefix}
 use Rattle.nc_decode.proofs.EntryReads.{IsBytes}
 use Rattle.nc_decode.proofs.SpelledIsRead.{bytes_from_all, opcode-lt}
 use Rattle.nc_decode.proofs.Readings.{found_from, found_by, spells_read, spells_some}
 use Rattle.nc_decode.proofs.LeadingBytes.{leading_fit, leading_front, leading_all, leading_whole}
 use Rattle.nc_decode.proofs.Masks.{masks_only, mask_masks, mask_register, transfer_register, none_by}
-use Rattle.nc_decode.proofs.GoingOn.{masking_goes_on, masking_is_bare, prefixed_goes_on}
+use Rattle.nc_decode.proofs.GoingOn.{masking_goes_on, masking_has_no_prefix, prefixed_goes_on}
 use Rattle.nc_decode.proofs.SpellingParts.{prefix_at}
 
 -- what the reading answers with an instruction, it answers with it alone
@@ -105,7 +105,7 @@ has_its_length bytes i e =
     let l : length bytes ≡ length (f.front ++ f.rest) = ap (λ (xs : List ℕ). length xs) f.parts in
     (omega (arith, n.1), omega (arith, n.0, l, length-append f.front f.rest))
 
--- nothing behind an instruction matters
+-- nothing after an instruction matters
 pub depends_on_its_bytes : DependsOnItsBytes
 depends_on_its_bytes bytes others i e same =
     let f = found_at_front bytes i e in
@@ -145,10 +145,10 @@ masks_exactly bytes i r e =
       λ h. says ∙ ap masks_of (sym front ∙ h.0) ∙ mask_masks r h.1 h.2,
     )
 
--- behind a prefix an instruction goes on to the next and masks nothing
-pub goes_on_behind_prefix : GoesOnBehindPrefix
-goes_on_behind_prefix bytes i s some =
+-- after a prefix an instruction goes on to the next and masks nothing
+pub goes_on_after_prefix : GoesOnAfterPrefix
+goes_on_after_prefix bytes i s some =
     let p = prefix_at s.parts s.parts.prefix s.fit.prefix in (
       ap (λ (k : Instr). k.flow) s.says ∙ prefixed_goes_on s.parts s.parts.prefix s.fit (opcode-lt s.parts p.0 s.fit p.1) s.fit.prefix some,
-      ap (λ (k : Instr). k.masks) s.says ∙ none_by _ (masks_of (spelled s.parts)) refl (λ masks. some (masking_is_bare s.parts s.fit masks)),
+      ap (λ (k : Instr). k.masks) s.says ∙ none_by _ (masks_of (spelled s.parts)) refl (λ masks. some (masking_has_no_prefix s.parts s.fit masks)),
     )

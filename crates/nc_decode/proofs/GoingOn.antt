@@ -24,7 +24,7 @@ is_next IndirectJump h = absurd cc
 is_next IndirectCall h = absurd cc
 is_next Stop h = absurd cc
 
--- ---- behind a prefix
+-- ---- after a prefix
 
 -- a line of the prefix table and a row share this opcode
 abbrev shares : PrefixRow → Row → ℕ → Bool
@@ -52,7 +52,7 @@ operand_reg : (row : Row) (operand : List ℕ) → row.operand ≡ true → IsOp
 operand_reg row [] is o = absurd (let f : true ≡ false = sym is ∙ o in cc)
 operand_reg row (modrm ∷ tail) is o = o.2
 
--- a row behind a line of the prefix table goes on
+-- a row after a line of the prefix table goes on
 line_goes_on : (p : Parts) (b : ℕ) (line : PrefixRow) → AreParts p → p.opcode < 256 → Contains prefix_rows line → Allows line b p → p.row.flow ≡ Next
 line_goes_on p b line fit lt listed allows =
     let test : apart line p.row ≡ true = each-Contains (apart line) rows p.row (each-Contains (λ l. each (apart l) rows) prefix_rows line lines_go_on listed) fit.listed in
@@ -147,5 +147,5 @@ masking_goes_on p fit masks =
     next_by p.row is.one (subst (λ (n : ℕ). within n p.row.opcodes ≡ true) is.opcode_is fit.opcode) (each-Contains row_goes_on rows p.row rows_go_on fit.listed)
 
 -- what masks has no prefix
-pub masking_is_bare : (p : Parts) → AreParts p → masks_of (spelled p) ≢ None → p.prefix ≡ None
-masking_is_bare p fit masks = (masking_begins p fit masks).bare
+pub masking_has_no_prefix : (p : Parts) → AreParts p → masks_of (spelled p) ≢ None → p.prefix ≡ None
+masking_has_no_prefix p fit masks = (masking_begins p fit masks).bare

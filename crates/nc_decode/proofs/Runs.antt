@@ -165,14 +165,14 @@ finished_ends m e bytes paired fits t f =
 
 -- ---- the run
 
--- the bytes behind the first
+-- the bytes after the first
 behind_first : (b : ℕ) (bs : List ℕ) → All (λ x. x < 256) (b ∷ bs) → All (λ x. x < 256) bs
 behind_first b bs fits k d lt = fits (suc k) d (omega (arith, lt))
 
 first_fits : (b : ℕ) (bs : List ℕ) → All (λ x. x < 256) (b ∷ bs) → b < 256
 first_fits b bs fits = fits 0 0 (omega arith)
 
--- the stage behind the first byte
+-- the stage after the first byte
 begins_at : (m b : ℕ) → 64 ≤ m → m < 75 → b < 256 → stage_of (next_state m b) ≡ begun (masked_at m) b
 begins_at m b low high lt =
     let k = end_at m low high in

@@ -1,4 +1,4 @@
--- What the bytes behind an instruction's begin say at each stage of the automaton, and that one more byte leads on.
+-- What the bytes after an instruction's begin say at each stage of the automaton, and that one more byte leads on.
 use Rattle.std.proofs.Common.{◌≡◌, ◌≢◌, ℕ, zero, suc, ◌+◌, ◌-◌, ◌%◌, ◌<◌, ◌≤◌, Bool, true, false, List, [], ◌∷◌, ◌++◌, Option, Some, Result, Ok, Err, length, drop, get_or, refl, sym, ◌∙◌, ap, arith, inl, inr, ◌==◌, ◌&&◌, eqb-true, nat_lt, append_assoc, append-nil}
 use Rattle.std.specs.Prelude.{if◌then◌else◌, slice_index}
 use Rattle.std.specs.Int.{w8, w32, cast_signed, from_le_bytes}
@@ -8,7 +8,7 @@ use Rattle.nc_decode.specs.declared.entry.Entry.{Entry}
 use Rattle.nc_decode.specs.declared.entry.Number.{Number}
 use Rattle.nc_decode.specs.declared.entry.Number.TheVariants.{Absent, Byte, Sized, Offset, Short, Near, TestByte, TestSized}
 use Rattle.nc_decode.specs.declared.entry.Prefix.{Prefix}
-use Rattle.nc_decode.specs.declared.entry.Prefix.TheVariants.{Plain, Word, Repeat, RepeatNot, Lock}
+use Rattle.nc_decode.specs.declared.entry.Prefix.TheVariants.{Absent as Unprefixed, Word, Repeat, RepeatNot, Lock}
 use Rattle.nc_decode.specs.declared.entry.Shape.{Shape}
 use Rattle.nc_decode.specs.declared.instruction.DecodeFault.{DecodeFault}
 use Rattle.nc_decode.specs.declared.instruction.DecodeFault.TheVariants.{Truncated}
@@ -22,7 +22,7 @@ use Rattle.nc_decode.proofs.EntriesMatchRows.{not}
 use Rattle.nc_decode.proofs.BoolTests.{both, true_or_false, cond_is_true, cond_is_false}
 use Rattle.nc_decode.proofs.ReadIsSpelled.{instr_at}
 use Rattle.nc_decode.proofs.Readings.{reads_whole}
-use Rattle.nc_decode.proofs.Stages.{Ended, plain, masked, by_short, by_near, paired, Stage, dead, prefixed, escaped, operand, masking, mask_number, goal, sib, number, short, near, ended, numbers, modrm, after}
+use Rattle.nc_decode.proofs.Stages.{Ended, plain, masked, by_short, by_near, paired, Stage, dead, prefixed, escaped, operand, masking, mask_number, transfer_after_mask, sib, number, short, near, ended, numbers, modrm, after}
 
 -- ---- the meanings
 
@@ -30,7 +30,7 @@ use Rattle.nc_decode.proofs.Stages.{Ended, plain, masked, by_short, by_near, pai
 abbrev pub ok : Shape → Result Shape DecodeFault
 ok s = Ok s
 
--- the bytes fix this shape, with so many more behind them
+-- the bytes fix this shape, with so many more after them
 abbrev pub Fixed : List ℕ → ℕ → Shape → Type 0
 Fixed pre n s = (rest : List ℕ) → n ≤ length rest → shape_of (pre ++ rest) ≡ Ok s
 
@@ -93,7 +93,7 @@ Meant o (escaped p) pre = (rest : List ℕ) → shape_of (pre ++ rest) ≡ escap
 Meant o (operand forms initial other) pre = WaitsForOperand forms initial other pre
 Meant o masking pre = (pre ≡ 0x83 ∷ []) × WaitsForOperand 0xFFFF 1 1 pre
 Meant o (mask_number r) pre = (pre ≡ 0x83 ∷ (0xE0 + r) ∷ []) × (r < 8) × (r ≢ 4) × WaitsFor 1 pre
-Meant o (goal r) pre = (pre ≡ 0xFF ∷ []) × (r < 8) × (o ≡ Some r) × WaitsForOperand 0x4343 0 0 pre
+Meant o (transfer_after_mask r) pre = (pre ≡ 0xFF ∷ []) × (r < 8) × (o ≡ Some r) × WaitsForOperand 0x4343 0 0 pre
 Meant o (sib n) pre = (b : ℕ) → b < 256 → WaitsFor ((if b % 8 == 5 then 4 else 0) + n) (pre ++ b ∷ [])
 Meant o (number n) pre = (0 < n) × WaitsFor n pre
 Meant o short pre = WaitsForShort pre
@@ -196,7 +196,7 @@ coded_by p k reg initial other z o = elim (true_or_false (reg == 0)) [
     by p Absent e = refl
     by p Byte e = refl
     by Word Sized e = refl
-    by Plain Sized e = refl
+    by Unprefixed Sized e = refl
     by Repeat Sized e = refl
     by RepeatNot Sized e = refl
     by Lock Sized e = refl
@@ -205,7 +205,7 @@ coded_by p k reg initial other z o = elim (true_or_false (reg == 0)) [
     by p Near e = refl
     by p TestByte e = rw e refl
     by Word TestSized e = rw e refl
-    by Plain TestSized e = rw e refl
+    by Unprefixed TestSized e = rw e refl
     by Repeat TestSized e = rw e refl
     by RepeatNot TestSized e = rw e refl
     by Lock TestSized e = rw e refl

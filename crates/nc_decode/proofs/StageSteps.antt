@@ -7,7 +7,7 @@ use Rattle.nc_decode.specs.declared.entry.Entry.{Entry}
 use Rattle.nc_decode.specs.declared.entry.Number.{Number}
 use Rattle.nc_decode.specs.declared.entry.Number.TheVariants.{Absent, Byte, Sized, Offset, Short, Near, TestByte, TestSized}
 use Rattle.nc_decode.specs.declared.entry.Prefix.{Prefix}
-use Rattle.nc_decode.specs.declared.entry.Prefix.TheVariants.{Plain, Word, Repeat, RepeatNot, Lock}
+use Rattle.nc_decode.specs.declared.entry.Prefix.TheVariants.{Absent as Unprefixed, Word, Repeat, RepeatNot, Lock}
 use Rattle.nc_decode.specs.declared.entry.Shape.{Shape}
 use Rattle.nc_decode.specs.declared.instruction.DecodeFault.{DecodeFault}
 use Rattle.nc_decode.specs.declared.instruction.DecodeFault.TheVariants.{NotPermitted}
@@ -19,7 +19,7 @@ use Rattle.nc_decode.specs.Shapes.{prefix_of, forms_of, coded_len, permits, flow
 use Rattle.nc_decode.specs.Transfers.{is_direct, is_indirect}
 use Rattle.nc_decode.proofs.EntriesMatchRows.{each_below, coded_kind, not, each_prefix}
 use Rattle.nc_decode.proofs.BoolTests.{both, not_is, true_or_false, either, chosen_true, chosen_false, cond_is_true, cond_is_false, each_below-at}
-use Rattle.nc_decode.proofs.Stages.{paired, Stage, dead, prefixed, escaped, operand, masking, mask_number, goal, sib, number, short, near, ended, numbers, by_number, calm, behind, opcode, bare, begun, modrm, masks_there, goes_by, after, same_stage, stage_same}
+use Rattle.nc_decode.proofs.Stages.{paired, Stage, dead, prefixed, escaped, operand, masking, mask_number, transfer_after_mask, sib, number, short, near, ended, numbers, by_number, calm, behind, opcode, unprefixed, begun, modrm, masks_there, goes_by, after, same_stage, stage_same}
 use Rattle.nc_decode.proofs.StageMeanings.{Meant, ok, WaitsForOperand, Finished, more, waits_more, finished, numbers_meant, short_ends, near_step, modrm_meant}
 
 -- ---- what the entries have
@@ -57,7 +57,7 @@ tame_two = refl
 -- a test of each prefix, at one
 prefix_at : (t : Prefix → Bool) (p : Prefix) → each_prefix t ≡ true → t p ≡ true
 prefix_at t p e =
-    let a = first (t Plain) _ e in
+    let a = first (t Unprefixed) _ e in
     let b = first (t Word) _ a.1 in
     let c = first (t Repeat) _ b.1 in
     let d = first (t RepeatNot) _ c.1 in
@@ -68,8 +68,8 @@ prefix_at t p e =
     first true y h = (refl, h)
     first false y h = absurd cc
 
-    go : (q : Prefix) → t Plain ≡ true → t Word ≡ true → t Repeat ≡ true → t RepeatNot ≡ true → t Lock ≡ true → t q ≡ true
-    go Plain a b c d f = a
+    go : (q : Prefix) → t Unprefixed ≡ true → t Word ≡ true → t Repeat ≡ true → t RepeatNot ≡ true → t Lock ≡ true → t q ≡ true
+    go Unprefixed a b c d f = a
     go Word a b c d f = b
     go Repeat a b c d f = c
     go RepeatNot a b c d f = d
@@ -126,7 +126,7 @@ entry_tame two b p lt = is_tame p (entry_of two b) (tame_at two b p lt)
 
 -- ---- an opcode has been read
 
--- the shape behind an opcode without operand
+-- the shape after an opcode without operand
 abbrev bare_shape : Prefix → ℕ → Entry → Shape
 bare_shape p head e = record { head = head; number = e.number; number_len = coded_len p e.number 0; flow = e.flow; reg = 0 }
 
@@ -218,7 +218,7 @@ opcode_meant o p pre b lt shapes =
           ∙ ap (λ (n : ℕ). entry_shape p n (entry_of false b) rest) (sym (length_push pre b))))
     ]
 
--- the opcode behind 0F
+-- the opcode after 0F
 escaped_meant : (o : Option ℕ) (p : Prefix) (pre : List ℕ) (b : ℕ) → b < 256 → ((rest : List ℕ) → shape_of (pre ++ rest) ≡ escaped_shape p (length pre) rest) → Meant o (behind p (entry_of true b)) (pre ++ b ∷ [])
 unfolding escaped_shape
 escaped_meant o p pre b lt shapes = behind_meant o p (entry_of true b) (pre ++ b ∷ []) (entry_tame true b p lt) (λ rest.
@@ -226,39 +226,39 @@ escaped_meant o p pre b lt shapes = behind_meant o p (entry_of true b) (pre ++ b
 
 -- ---- an instruction begins
 
-plain_shapes : (b : ℕ) (rest : List ℕ) → prefix_of b ≡ Plain → shape_of (b ∷ rest) ≡ opcode_shape Plain 0 (b ∷ rest)
+plain_shapes : (b : ℕ) (rest : List ℕ) → prefix_of b ≡ Unprefixed → shape_of (b ∷ rest) ≡ opcode_shape Unprefixed 0 (b ∷ rest)
 unfolding shape_of prefixed_shape
 plain_shapes b rest e = ap (λ (p : Prefix). prefixed_shape p (b ∷ rest) rest) e
 
 -- a mask's ModRM, and that of FF
-mask_operand : (o : Option ℕ) → Meant o (opcode Plain 0x83) (0x83 ∷ []) → WaitsForOperand 0xFFFF 1 1 (0x83 ∷ [])
+mask_operand : (o : Option ℕ) → Meant o (opcode Unprefixed 0x83) (0x83 ∷ []) → WaitsForOperand 0xFFFF 1 1 (0x83 ∷ [])
 unfolding entry_of forms_of coded_len
 mask_operand o m = m
 
-goal_operand : (o : Option ℕ) → Meant o (opcode Plain 0xFF) (0xFF ∷ []) → WaitsForOperand 0x4343 0 0 (0xFF ∷ [])
+goal_operand : (o : Option ℕ) → Meant o (opcode Unprefixed 0xFF) (0xFF ∷ []) → WaitsForOperand 0x4343 0 0 (0xFF ∷ [])
 unfolding entry_of forms_of coded_len
 goal_operand o m = m
 
-plain_bare : (o : Option ℕ) (b : ℕ) → b < 256 → prefix_of b ≡ Plain → Meant o (bare Plain b) (b ∷ [])
+plain_bare : (o : Option ℕ) (b : ℕ) → b < 256 → prefix_of b ≡ Unprefixed → Meant o (unprefixed Unprefixed b) (b ∷ [])
 plain_bare o b lt e =
-    let m = opcode_meant o Plain [] b lt (λ rest. plain_shapes b rest e) in
+    let m = opcode_meant o Unprefixed [] b lt (λ rest. plain_shapes b rest e) in
     elim (true_or_false (b == 0x83)) [
       | inl mask ↦
           (let is : b ≡ 0x83 = eqb-true b 0x83 mask in
-          rw mask (ap (λ (x : ℕ). x ∷ []) is, subst (λ (x : ℕ). WaitsForOperand 0xFFFF 1 1 (x ∷ [])) (sym is) (mask_operand o (subst (λ (x : ℕ). Meant o (opcode Plain x) (x ∷ [])) is m))))
+          rw mask (ap (λ (x : ℕ). x ∷ []) is, subst (λ (x : ℕ). WaitsForOperand 0xFFFF 1 1 (x ∷ [])) (sym is) (mask_operand o (subst (λ (x : ℕ). Meant o (opcode Unprefixed x) (x ∷ [])) is m))))
       | inr other ↦ rw other m
     ]
 
-bare_meant : (o : Option ℕ) (b : ℕ) → b < 256 → (p : Prefix) → prefix_of b ≡ p → Meant o (bare p b) (b ∷ [])
+bare_meant : (o : Option ℕ) (b : ℕ) → b < 256 → (p : Prefix) → prefix_of b ≡ p → Meant o (unprefixed p b) (b ∷ [])
 unfolding shape_of prefixed_shape
-bare_meant o b lt Plain e = plain_bare o b lt e
+bare_meant o b lt Unprefixed e = plain_bare o b lt e
 bare_meant o b lt Word e = (refl, λ rest. ap (λ (p : Prefix). prefixed_shape p (b ∷ rest) rest) e)
 bare_meant o b lt Repeat e = (refl, λ rest. ap (λ (p : Prefix). prefixed_shape p (b ∷ rest) rest) e)
 bare_meant o b lt RepeatNot e = (refl, λ rest. ap (λ (p : Prefix). prefixed_shape p (b ∷ rest) rest) e)
 bare_meant o b lt Lock e = (refl, λ rest. ap (λ (p : Prefix). prefixed_shape p (b ∷ rest) rest) e)
 
 -- FF is no prefix
-goal_plain : prefix_of 0xFF ≡ Plain
+goal_plain : prefix_of 0xFF ≡ Unprefixed
 unfolding prefix_of
 goal_plain = refl
 
@@ -268,7 +268,7 @@ begun_meant (Some r) b lt small =
     elim (true_or_false (b == 0xFF)) [
       | inl far ↦
           (let is : b ≡ 0xFF = eqb-true b 0xFF far in
-          let m = goal_operand (Some r) (opcode_meant (Some r) Plain [] 0xFF (omega arith) (λ rest. plain_shapes 0xFF rest goal_plain)) in
+          let m = goal_operand (Some r) (opcode_meant (Some r) Unprefixed [] 0xFF (omega arith) (λ rest. plain_shapes 0xFF rest goal_plain)) in
           rw far (ap (λ (x : ℕ). x ∷ []) is, small, refl, subst (λ (x : ℕ). WaitsForOperand 0x4343 0 0 (x ∷ [])) (sym is) m))
       | inr other ↦ rw other (bare_meant (Some r) b lt (prefix_of b) refl)
     ]
@@ -351,7 +351,7 @@ step o (mask_number r) b pre lt inside m =
           rw mask (record { instr = done.instr; read = done.read; len = done.len; kind = (done.kind.0, done.kind.1, bytes, m.1, m.2) }))
       | inr other ↦ rw other done
     ]
-step o (goal r) b pre lt inside m =
+step o (transfer_after_mask r) b pre lt inside m =
     elim (true_or_false (goes_by r b)) [
       | inl goes ↦ rw goes (subst (λ (z : List ℕ). Finished o paired (z ++ b ∷ [])) (sym m.0) (goal_meant o r b lt m.1 m.2 goes))
       | inr other ↦ rw other (modrm_meant o 0x4343 0 0 b pre lt m.3)

@@ -10,7 +10,7 @@ use Rattle.nc_decode.proofs.EntriesMatchRows.{each_below, each, implies}
 use Rattle.nc_decode.proofs.BoolTests.{implied, each_below-at, each-Contains}
 use Rattle.nc_decode.proofs.SpelledIsRead.{opcode-lt}
 use Rattle.nc_decode.proofs.SpellingParts.{prefix_at}
-use Rattle.nc_decode.proofs.FrontLaws.{goes_on_behind_prefix}
+use Rattle.nc_decode.proofs.FrontLaws.{goes_on_after_prefix}
 
 -- the opcodes of a row of direct transfers are among those bytes, or the escape stands before them
 abbrev row_begins : Row → Bool
@@ -21,7 +21,7 @@ rows_begin : each row_begins rows ≡ true
 unfolding rows
 rows_begin = refl
 
--- the first byte behind no prefix
+-- the first byte after no prefix
 first_byte : (o : Option ℕ) (escaped : Bool) (opcode : ℕ) (more : List ℕ) → o ≡ None → get_or ((option_to_list o ++ cond escaped (0x0F ∷ opcode ∷ []) (opcode ∷ [])) ++ more) 0 0 ≡ cond escaped 0x0F opcode
 first_byte (Some b) escaped opcode more e = absurd cc
 first_byte None true opcode more e = refl
@@ -34,7 +34,7 @@ no_prefix bytes i s direct = go s.parts.prefix refl
     go : (o : Option ℕ) → s.parts.prefix ≡ o → o ≡ None
     go None e = refl
     go (Some b) e = absurd (
-        let next = (goes_on_behind_prefix bytes i s (λ none. (let f : s.parts.prefix ≡ Some b = e in cc))).0 in
+        let next = (goes_on_after_prefix bytes i s (λ none. (let f : s.parts.prefix ≡ Some b = e in cc))).0 in
         let f : true ≡ false = sym direct ∙ ap is_direct next in cc)
 
 -- what an opcode of a row of direct transfers begins with

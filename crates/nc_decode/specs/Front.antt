@@ -38,7 +38,7 @@ IsStopFirst = (rest : List ℕ) → first_instruction (0xF4 ∷ rest) ≡ Some (
 abbrev pub HasItsLength : Type 0
 HasItsLength = (bytes : List ℕ) (i : Instr) → first_instruction bytes ≡ Some i → (1 ≤ i.len) × (i.len ≤ length bytes)
 
--- nothing behind an instruction matters
+-- nothing after an instruction matters
 abbrev pub DependsOnItsBytes : Type 0
 DependsOnItsBytes = (bytes others : List ℕ) (i : Instr) → first_instruction bytes ≡ Some i → take i.len others ≡ take i.len bytes → first_instruction others ≡ Some i
 
@@ -54,9 +54,9 @@ NamesRegisters = (bytes : List ℕ) (i : Instr) → first_instruction bytes ≡ 
 abbrev pub MasksExactly : Type 0
 MasksExactly = (bytes : List ℕ) (i : Instr) (r : ℕ) → first_instruction bytes ≡ Some i → (i.masks ≡ Some r) ↔ ((take i.len bytes ≡ mask r) × (r < 8) × (r ≢ 4))
 
--- behind a prefix an instruction goes on to the next and masks nothing
-abbrev pub GoesOnBehindPrefix : Type 0
-GoesOnBehindPrefix = (bytes : List ℕ) (i : Instr) (s : Spells bytes i) → s.parts.prefix ≢ None → (i.flow ≡ Next) × (i.masks ≡ None)
+-- after a prefix an instruction goes on to the next and masks nothing
+abbrev pub GoesOnAfterPrefix : Type 0
+GoesOnAfterPrefix = (bytes : List ℕ) (i : Instr) (s : Spells bytes i) → s.parts.prefix ≢ None → (i.flow ≡ Next) × (i.masks ≡ None)
 
 -- a direct transfer begins with one of a few bytes
 abbrev pub BeginsAsTransfer : Type 0

@@ -68,7 +68,7 @@ fn read(bytes: &[u8]) -> Result<Instr, DecodeFault>
     whole(bytes, shape(bytes)?)
 }
 
-/// The instruction at the front of the bytes: one whole permitted instruction, whatever stands behind it.
+/// The instruction at the front of the bytes: one whole permitted instruction, whatever stands after it.
 ///
 /// The permitted instructions are a part of 32-bit x86 without floating point and vectors: the rows of `specs/Rows`, as
 /// `specs/Spelling` puts them together, with the lengths of the Intel SDM, volume 2. At most one prefix is permitted, and
