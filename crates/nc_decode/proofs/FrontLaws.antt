@@ -10,7 +10,7 @@ use Rattle.nc_decode.specs.Entries.{entry_of}
 use Rattle.nc_decode.specs.Shapes.{shape_of, prefixed_shape, prefix_of, opcode_shape, entry_shape, forms_of, coded_len}
 use Rattle.nc_decode.specs.Reading.{reading, whole_of}
 use Rattle.nc_decode.specs.Spelling.{spelled, masks_of, Spells, IsAtFront}
-use Rattle.nc_decode.specs.Front.{leading_bytes, first_instruction, IsExact, IsPrefixFree, IsStopFirst, HasItsLength, DependsOnItsBytes, MasksOnlyBeforeNext, NamesRegisters, plain, MasksExactly, GoesOnAfterPrefix}
+use Rattle.nc_decode.specs.Front.{leading_bytes, first_instruction, IsExact, IsPrefixFree, IsStopFirst, HasItsLength, DependsOnItsBytes, MasksOnlyBeforeNext, NamesRegisters, plain, MasksExactly, GoesOnAfterPrefix, NeverBarred, NeverBarredAtFront}
 use Rattle.nc_decode.proofs.EntryReads.{IsBytes}
 use Rattle.nc_decode.proofs.SpelledIsRead.{bytes_from_all, opcode-lt}
 use Rattle.nc_decode.proofs.Readings.{found_from, found_by, spells_read, spells_some}
@@ -18,6 +18,8 @@ use Rattle.nc_decode.proofs.LeadingBytes.{leading_fit, leading_front, leading_al
 use Rattle.nc_decode.proofs.Masks.{masks_only, mask_masks, mask_register, transfer_register, none_by}
 use Rattle.nc_decode.proofs.GoingOn.{masking_goes_on, masking_has_no_prefix, prefixed_goes_on}
 use Rattle.nc_decode.proofs.SpellingParts.{prefix_at}
+use Rattle.nc_decode.proofs.NeverBarred.{spelling_is_allowed}
+use Rattle.nc_decode.specs.Barred.{IsBarred}
 
 -- what the reading answers with an instruction, it answers with it alone
 answered : (x : Result Instr DecodeFault) (i : Instr) → result_ok x ≡ Some i → x ≡ Ok i
@@ -152,3 +154,15 @@ goes_on_after_prefix bytes i s some =
       ap (λ (k : Instr). k.flow) s.says ∙ prefixed_goes_on s.parts s.parts.prefix s.fit (opcode-lt s.parts p.0 s.fit p.1) s.fit.prefix some,
       ap (λ (k : Instr). k.masks) s.says ∙ none_by _ (masks_of (spelled s.parts)) refl (λ masks. some (masking_has_no_prefix s.parts s.fit masks)),
     )
+
+-- no permitted instruction is barred
+pub never_barred : NeverBarred
+never_barred = spelling_is_allowed
+
+-- what the function finds at the front isn't barred
+pub never_barred_at_front : NeverBarredAtFront
+never_barred_at_front bytes i e b =
+    let f = found_at_front bytes i e in
+    let n = spells_some f.front i f.spells in
+    let front : take i.len bytes ≡ f.front = ap (λ (xs : List ℕ). take i.len xs) f.parts ∙ take_at f.front f.rest i.len (sym n.0) in
+    spelling_is_allowed f.front i f.spells (subst IsBarred front b)

@@ -5,6 +5,7 @@ use Rattle.std.specs.Result.{result_ok}
 use Rattle.nc_decode.specs.declared.instruction.Instr.{Instr}
 use Rattle.nc_decode.specs.declared.instruction.Flow.{Flow}
 use Rattle.nc_decode.specs.declared.instruction.Flow.TheVariants.{Next, Stop}
+use Rattle.nc_decode.specs.Barred.{IsBarred}
 use Rattle.nc_decode.specs.Reading.{reading}
 use Rattle.nc_decode.specs.Spelling.{mask, Spells, IsAtFront}
 use Rattle.nc_decode.specs.Transfers.{is_direct, may_transfer}
@@ -57,6 +58,14 @@ MasksExactly = (bytes : List ℕ) (i : Instr) (r : ℕ) → first_instruction by
 -- after a prefix an instruction goes on to the next and masks nothing
 abbrev pub GoesOnAfterPrefix : Type 0
 GoesOnAfterPrefix = (bytes : List ℕ) (i : Instr) (s : Spells bytes i) → s.parts.prefix ≢ None → (i.flow ≡ Next) × (i.masks ≡ None)
+
+-- no permitted instruction has a barred beginning
+abbrev pub NeverBarred : Type 0
+NeverBarred = (bytes : List ℕ) (i : Instr) → Spells bytes i → ¬ IsBarred bytes
+
+-- so none at the front of some bytes has one
+abbrev pub NeverBarredAtFront : Type 0
+NeverBarredAtFront = (bytes : List ℕ) (i : Instr) → first_instruction bytes ≡ Some i → ¬ IsBarred (take i.len bytes)
 
 -- a direct transfer begins with one of a few bytes
 abbrev pub BeginsAsTransfer : Type 0

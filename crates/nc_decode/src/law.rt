@@ -1,6 +1,6 @@
 //! The laws of the permitted instructions.
 
-ghost use Rattle.nc_decode.specs.Front.{IsExact, IsPrefixFree, IsStopFirst, HasItsLength, DependsOnItsBytes, MasksOnlyBeforeNext, NamesRegisters, MasksExactly, GoesOnAfterPrefix, BeginsAsTransfer};
+ghost use Rattle.nc_decode.specs.Front.{IsExact, IsPrefixFree, IsStopFirst, HasItsLength, DependsOnItsBytes, MasksOnlyBeforeNext, NamesRegisters, MasksExactly, GoesOnAfterPrefix, BeginsAsTransfer, NeverBarred, NeverBarredAtFront};
 ghost use Rattle.nc_decode.specs.Automaton.{ReadsByStates, HasStates, NoneIsPaired};
 
 /// What every layer above may use of the opcode table, and nothing else of it. It does nothing when it is called.
@@ -26,6 +26,11 @@ pub fn law_of_fronts()
     ensures exact_masks { MasksExactly }
     // After a prefix an instruction goes on to the next and masks nothing.
     ensures prefixes { GoesOnAfterPrefix }
+    // No permitted instruction is barred: none is a return, a far transfer, a software interrupt, SYSCALL or SYSENTER, and
+    // none has a segment override.
+    ensures allowed { NeverBarred }
+    // So what is at the front of some bytes isn't barred.
+    ensures allowed_at_front { NeverBarredAtFront }
     // A direct transfer begins with one of the bytes that `may_transfer` names.
     ensures transfers { BeginsAsTransfer }
 {}

@@ -19,7 +19,10 @@ mod table;
 mod transfer;
 
 pub use automaton::{AFTER_MASK, AFTER_NEAR, AFTER_PAIR, AFTER_SHORT, DEAD, END, STATES, advance};
-pub use bundles::{BUNDLE, MAX_BUNDLES, START};
+pub use bundles::{
+    BUNDLE, MAX_BUNDLES, MIN_BUNDLES, START, bundle_rest, is_bundle_start, is_lawful_limit,
+    is_region_size,
+};
 pub use decoding::decode;
 pub use instruction::{DecodeFault, Flow, Instr, Mark};
 pub use law::{law_of_automaton, law_of_fronts};
