@@ -8,9 +8,9 @@ use Rattle.nc_decode.specs.declared.entry.Number.TheVariants.{Short, Near}
 use Rattle.nc_decode.specs.declared.entry.Prefix.{Prefix}
 use Rattle.nc_decode.specs.declared.entry.Prefix.TheVariants.{Absent as Unprefixed, Word, Repeat, RepeatNot, Lock}
 use Rattle.nc_decode.specs.Automaton.{next_state}
-use Rattle.nc_decode.specs.Entries.{entry_of}
+use Rattle.nc_decode.specs.machinery.Entries.{entry_of}
 use Rattle.nc_decode.specs.Rows.{mod_of, reg_of}
-use Rattle.nc_decode.specs.Shapes.{prefix_of, prefix_index, forms_of, coded_len, permits, has_sib, escapes}
+use Rattle.nc_decode.specs.machinery.Shapes.{prefix_of, prefix_index, forms_of, coded_len, permits, has_sib, escapes}
 use Rattle.nc_decode.specs.Spelling.{operand_len}
 use Rattle.nc_decode.proofs.EntriesMatchRows.{each, each_below}
 use Rattle.nc_decode.proofs.BoolTests.{both, true_or_false, chosen_true, chosen_false, each_below-at}
@@ -56,15 +56,15 @@ abbrev pub calm : ℕ → ℕ
 calm forms = if forms == 0x5743 then 0x4343 else forms
 
 -- an opcode with this entry has been read
-abbrev pub behind : Prefix → Entry → Stage
-behind p e =
+abbrev pub after_opcode : Prefix → Entry → Stage
+after_opcode p e =
     if forms_of p e == 0 then dead
     else (if e.operand then operand (calm (forms_of p e)) (coded_len p e.number 0) (coded_len p e.number 1)
     else by_number p e.number)
 
 -- an opcode comes next
 abbrev pub opcode : Prefix → ℕ → Stage
-opcode p b = if b == 0x0F then (if escapes p then escaped p else dead) else behind p (entry_of false b)
+opcode p b = if b == 0x0F then (if escapes p then escaped p else dead) else after_opcode p (entry_of false b)
 
 -- no prefix stands before it
 abbrev pub unprefixed : Prefix → ℕ → Stage
@@ -99,7 +99,7 @@ goes_by r b = (b == 0xD0 + r) || (b == 0xE0 + r)
 abbrev pub after : Stage → ℕ → Stage
 after dead b = dead
 after (prefixed p) b = opcode p b
-after (escaped p) b = behind p (entry_of true b)
+after (escaped p) b = after_opcode p (entry_of true b)
 after (operand forms initial other) b = modrm forms initial other b
 after masking b = if masks_there b then mask_number (b - 0xE0) else modrm 0xFFFF 1 1 b
 after (mask_number r) b = if b == 0xE0 then ended (masked r) else ended plain
@@ -121,7 +121,8 @@ stages =
     (operand 0xF0F0 1 1) ∷ (operand 0xFDFD 1 0) ∷ (operand 0xFDFD 2 0) ∷ (operand 0xFDFD 4 0) ∷
     (operand 0xFFFF 0 0) ∷ (operand 0xFFFF 1 1) ∷ (operand 0xFFFF 2 2) ∷ (operand 0xFFFF 4 4) ∷ masking ∷
     (mask_number 0) ∷ (mask_number 1) ∷ (mask_number 2) ∷ (mask_number 3) ∷ (mask_number 5) ∷ (mask_number 6) ∷
-    (mask_number 7) ∷ (transfer_after_mask 0) ∷ (transfer_after_mask 1) ∷ (transfer_after_mask 2) ∷ (transfer_after_mask 3) ∷ (transfer_after_mask 5) ∷ (transfer_after_mask 6) ∷ (transfer_after_mask 7) ∷ (sib 0) ∷
+    (mask_number 7) ∷ (transfer_after_mask 0) ∷ (transfer_after_mask 1) ∷ (transfer_after_mask 2) ∷ (transfer_after_mask 3)
+    ∷ (transfer_after_mask 5) ∷ (transfer_after_mask 6) ∷ (transfer_after_mask 7) ∷ (sib 0) ∷
     (sib 1) ∷ (sib 2) ∷ (sib 4) ∷ (number 1) ∷ (number 2) ∷ (number 3) ∷ (number 4) ∷ (number 5) ∷ (number 6) ∷
     (number 7) ∷ (number 8) ∷ (number 9) ∷ short ∷ (near 1) ∷ (near 2) ∷ (near 3) ∷ (near 4) ∷ (ended plain) ∷
     (ended (masked 0)) ∷ (ended (masked 1)) ∷ (ended (masked 2)) ∷ (ended (masked 3)) ∷ (ended (masked 5)) ∷
@@ -160,6 +161,7 @@ same_stage (near m) (near n) = m == n
 same_stage (ended k) (ended l) = same_end k l
 same_stage _ _ = false
 
+-- prefixes that the test finds equal are equal
 prefix_same : (p q : Prefix) → same_prefix p q ≡ true → p ≡ q
 prefix_same Unprefixed Unprefixed e = refl
 prefix_same Word Word e = refl
@@ -168,6 +170,7 @@ prefix_same RepeatNot RepeatNot e = refl
 prefix_same Lock Lock e = refl
 prefix_same _ _ e = absurd cc
 
+-- endings that the test finds equal are equal
 end_same : (k l : Ended) → same_end k l ≡ true → k ≡ l
 end_same plain plain e = refl
 end_same (masked r) (masked t) e = ap (λ (x : ℕ). masked x) (eqb-true r t e)
@@ -176,6 +179,7 @@ end_same by_near by_near e = refl
 end_same paired paired e = refl
 end_same _ _ e = absurd cc
 
+-- stages that the test finds equal are equal
 pub stage_same : (x y : Stage) → same_stage x y ≡ true → x ≡ y
 stage_same dead dead e = refl
 stage_same (prefixed p) (prefixed q) e = ap (λ (z : Prefix). prefixed z) (prefix_same p q e)
@@ -221,11 +225,13 @@ each_first t x xs e = elim (true_or_false (t x)) [
   | inr not ↦ absurd (let f : false ≡ true = chosen_false (t x) (each t xs) false true not e in cc)
 ]
 
+-- each number of a row is a state
 row_small : (row : List ℕ) (b : ℕ) → each (λ s. nat_lt s 75) row ≡ true → get_or row b 0 < 75
 row_small [] b e = omega arith
 row_small (s ∷ row) zero e = let h = (each_first (λ x. nat_lt x 75) s row e).0 in ltb-true s 75 h
 row_small (s ∷ row) (suc b) e = row_small row b (each_first (λ x. nat_lt x 75) s row e).1
 
+-- each number of the table is a state
 table_small : (rows : List (List ℕ)) (s b : ℕ) → each (λ row. each (λ x. nat_lt x 75) row) rows ≡ true → get_or (get_or rows s []) b 0 < 75
 table_small [] s b e = omega arith
 table_small (row ∷ rows) zero b e = row_small row b (each_first (λ r. each (λ x. nat_lt x 75) r) row rows e).0

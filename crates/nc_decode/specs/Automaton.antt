@@ -39,7 +39,8 @@ pub record Ends (m e : ℕ) (bytes : List ℕ) (i : Instr) : Type 0 where
 
 -- bytes that lead from one state after an instruction to the next such state are an instruction
 abbrev pub ReadsByStates : Type 0
-ReadsByStates = (m e : ℕ) (bytes : List ℕ) → END ≤ m → m < STATES → All (λ b. b < 256) bytes → Leads m bytes e → (i : Instr) × Ends m e bytes i
+ReadsByStates = (m e : ℕ) (bytes : List ℕ) → END ≤ m → m < STATES → All (λ b. b < 256) bytes → Leads m bytes e → (i : Instr)
+    × Ends m e bytes i
 
 -- no number but those below STATES comes next
 abbrev pub HasStates : Type 0

@@ -6,7 +6,7 @@ use Rattle.nc_decode.specs.declared.instruction.Instr.{Instr}
 use Rattle.nc_decode.specs.declared.instruction.Flow.{Flow}
 use Rattle.nc_decode.specs.declared.instruction.Flow.TheVariants.{Next, Stop}
 use Rattle.nc_decode.specs.Barred.{IsBarred}
-use Rattle.nc_decode.specs.Reading.{reading}
+use Rattle.nc_decode.specs.machinery.Reading.{reading}
 use Rattle.nc_decode.specs.Spelling.{mask, Spells, IsAtFront}
 use Rattle.nc_decode.specs.Transfers.{is_direct, may_transfer}
 
@@ -41,7 +41,8 @@ HasItsLength = (bytes : List ℕ) (i : Instr) → first_instruction bytes ≡ So
 
 -- nothing after an instruction matters
 abbrev pub DependsOnItsBytes : Type 0
-DependsOnItsBytes = (bytes others : List ℕ) (i : Instr) → first_instruction bytes ≡ Some i → take i.len others ≡ take i.len bytes → first_instruction others ≡ Some i
+DependsOnItsBytes = (bytes others : List ℕ) (i : Instr) → first_instruction bytes ≡ Some i → take i.len others ≡ take i.len bytes
+    → first_instruction others ≡ Some i
 
 -- only an instruction that goes on to the next masks a register
 abbrev pub MasksOnlyBeforeNext : Type 0
@@ -53,7 +54,8 @@ NamesRegisters = (bytes : List ℕ) (i : Instr) → first_instruction bytes ≡ 
 
 -- an instruction masks a register exactly where its bytes are that register's mask, for the registers 0 to 7 but 4
 abbrev pub MasksExactly : Type 0
-MasksExactly = (bytes : List ℕ) (i : Instr) (r : ℕ) → first_instruction bytes ≡ Some i → (i.masks ≡ Some r) ↔ ((take i.len bytes ≡ mask r) × (r < 8) × (r ≢ 4))
+MasksExactly = (bytes : List ℕ) (i : Instr) (r : ℕ) → first_instruction bytes ≡ Some i → (i.masks ≡ Some r)
+    ↔ ((take i.len bytes ≡ mask r) × (r < 8) × (r ≢ 4))
 
 -- after a prefix an instruction goes on to the next and masks nothing
 abbrev pub GoesOnAfterPrefix : Type 0

@@ -2,7 +2,7 @@ ghost use Rattle.std.specs.Prelude.{◌≡◌, ◌≤◌, ◌<◌, ◌+◌, ◌�
 ghost use Rattle.std.specs.Result.{result_ok};
 ghost use Rattle.nc_decode.specs.Barred.{IsBarred};
 ghost use Rattle.nc_decode.specs.Front.{first_instruction};
-ghost use Rattle.nc_decode.specs.Reading.{reading, rel_of, whole_of, IsSized};
+ghost use Rattle.nc_decode.specs.machinery.Reading.{reading, rel_of, whole_of, IsSized};
 ghost use Rattle.nc_decode.specs.Spelling.{masks_of, IsAtFront, IsProperFront};
 
 use crate::entry::{Number, Shape};
@@ -41,7 +41,7 @@ fn masks(bytes: &[u8]) -> Option<u8>
 
 /// The instruction of this shape, where all its bytes are there.
 #[inline(always)]
-#[tactic(auto, unfolding(crate::specs::Reading::whole_of))]
+#[tactic(auto, unfolding(crate::specs::machinery::Reading::whole_of))]
 fn whole(bytes: &[u8], shape: Shape) -> Result<Instr, DecodeFault>
     requires { IsSized shape }
     ensures { result ≡ whole_of bytes.now shape }
@@ -61,7 +61,7 @@ fn whole(bytes: &[u8], shape: Shape) -> Result<Instr, DecodeFault>
 
 /// The instruction that stands at the front, found from the left.
 #[inline(always)]
-#[tactic(auto, unfolding(crate::specs::Reading::reading))]
+#[tactic(auto, unfolding(crate::specs::machinery::Reading::reading))]
 fn read(bytes: &[u8]) -> Result<Instr, DecodeFault>
     ensures { result ≡ reading bytes.now }
 {

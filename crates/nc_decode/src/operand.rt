@@ -1,7 +1,7 @@
 //! The length of an operand: ModRM, the SIB byte after it if there is one, and the displacement.
 
 ghost use Rattle.std.specs.Prelude.{◌≡◌, ◌≤◌, false};
-ghost use Rattle.nc_decode.specs.Shapes.{has_sib, is_baseless};
+ghost use Rattle.nc_decode.specs.machinery.Shapes.{has_sib, is_baseless};
 ghost use Rattle.nc_decode.specs.Spelling.{operand_len};
 
 /// The bytes of an operand by its ModRM, where SIB doesn't ask for more: a row for the first digit of ModRM, a column for
