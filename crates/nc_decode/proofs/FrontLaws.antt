@@ -21,7 +21,7 @@ use Rattle.nc_decode.proofs.SpellingParts.{prefix_at}
 use Rattle.nc_decode.proofs.NeverBarred.{spelling_is_allowed}
 use Rattle.nc_decode.specs.Barred.{IsBarred}
 
--- what the reading answers with an instruction, it answers with it alone
+-- what the reading answers with an instruction, it answers with only that
 answered : (x : Result Instr DecodeFault) (i : Instr) → result_ok x ≡ Some i → x ≡ Ok i
 answered (Ok j) i e = let same : j ≡ i = cc in ap (λ (k : Instr). Ok k) same
 answered (Err f) i e = absurd cc

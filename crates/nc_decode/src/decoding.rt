@@ -29,7 +29,7 @@ fn rel(number: Number, rest: &[u8]) -> i32
 fn masks(bytes: &[u8]) -> Option<u8>
     ensures { result ≡ masks_of bytes.now }
 {
-    // The opcode comes first: few instructions have it, while the length alone tells little.
+    // The opcode comes first: few instructions have it, while the length by itself tells little.
     let [0x83, rest @ ..] = bytes else {
         return None;
     };
@@ -94,7 +94,7 @@ pub fn decode(bytes: &[u8]) -> Result<Instr, DecodeFault>
         ↔ (((i : Instr) → ¬ IsAtFront bytes.now i) × ¬ IsProperFront bytes.now) }
     // What is at the front has none of the barred beginnings.
     ensures allowed { (i : Instr) (f : IsAtFront bytes.now i) → ¬ IsBarred f.front }
-    // What the layers above know of the table is this function alone.
+    // The layers above know only this function of the table.
     ensures first { result_ok result ≡ first_instruction bytes.now }
     // What callers need of the length: it is that of the instruction.
     ensures sized { IfOk result (λ i. (0 < i.len) × (i.len ≤ length bytes.now)) }

@@ -15,7 +15,7 @@ pub(crate) const ANY: u16 = 0xFFFF;
 /// Each reg field, with an operand in memory.
 const MEM: u16 = 0x00FF;
 
-// ---- the opcode alone, or with a number after it
+// ---- the opcode by itself, or with a number after it
 
 /// No permitted instruction.
 pub(crate) const NO: Entry = Entry {
@@ -26,12 +26,12 @@ pub(crate) const NO: Entry = Entry {
     forms: [0, 0, 0, 0, 0],
 };
 
-/// The opcode alone.
+/// The opcode by itself.
 pub(crate) const OP: Entry = Entry {
     forms: [1, 0, 0, 0, 0],
     ..NO
 };
-/// The opcode alone, also after 66.
+/// The opcode by itself, also after 66.
 pub(crate) const OPV: Entry = Entry {
     forms: [1, 1, 0, 0, 0],
     ..NO
