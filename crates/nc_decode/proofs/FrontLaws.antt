@@ -6,20 +6,22 @@ use Rattle.std.proofs.lemmas.List.{length-append, take_at, take-append-drop}
 use Rattle.nc_decode.specs.declared.instruction.DecodeFault.{DecodeFault}
 use Rattle.nc_decode.specs.declared.instruction.Instr.{Instr}
 use Rattle.nc_decode.specs.declared.instruction.Flow.TheVariants.{Stop}
-use Rattle.nc_decode.specs.Entries.{entry_of}
-use Rattle.nc_decode.specs.Shapes.{shape_of, prefixed_shape, prefix_of, opcode_shape, entry_shape, forms_of, coded_len}
-use Rattle.nc_decode.specs.Reading.{reading, whole_of}
+use Rattle.nc_decode.specs.machinery.Entries.{entry_of}
+use Rattle.nc_decode.specs.machinery.Shapes.{shape_of, prefixed_shape, prefix_of, opcode_shape, entry_shape, forms_of, coded_len}
+use Rattle.nc_decode.specs.machinery.Reading.{reading, whole_of}
 use Rattle.nc_decode.specs.Spelling.{spelled, masks_of, Spells, IsAtFront}
-use Rattle.nc_decode.specs.Front.{leading_bytes, first_instruction, IsExact, IsPrefixFree, IsStopFirst, HasItsLength, DependsOnItsBytes, MasksOnlyBeforeNext, NamesRegisters, plain, MasksExactly, GoesOnBehindPrefix}
+use Rattle.nc_decode.specs.Front.{leading_bytes, first_instruction, IsExact, IsPrefixFree, IsStopFirst, HasItsLength, DependsOnItsBytes, MasksOnlyBeforeNext, NamesRegisters, plain, MasksExactly, GoesOnAfterPrefix, NeverBarred, NeverBarredAtFront}
 use Rattle.nc_decode.proofs.EntryReads.{IsBytes}
 use Rattle.nc_decode.proofs.SpelledIsRead.{bytes_from_all, opcode-lt}
 use Rattle.nc_decode.proofs.Readings.{found_from, found_by, spells_read, spells_some}
 use Rattle.nc_decode.proofs.LeadingBytes.{leading_fit, leading_front, leading_all, leading_whole}
 use Rattle.nc_decode.proofs.Masks.{masks_only, mask_masks, mask_register, transfer_register, none_by}
-use Rattle.nc_decode.proofs.GoingOn.{masking_goes_on, masking_is_bare, prefixed_goes_on}
+use Rattle.nc_decode.proofs.GoingOn.{masking_goes_on, masking_has_no_prefix, prefixed_goes_on}
 use Rattle.nc_decode.proofs.SpellingParts.{prefix_at}
+use Rattle.nc_decode.proofs.NeverBarred.{spelling_is_allowed}
+use Rattle.nc_decode.specs.Barred.{IsBarred}
 
--- what the reading answers with an instruction, it answers with it alone
+-- what the reading answers with an instruction, it answers with only that
 answered : (x : Result Instr DecodeFault) (i : Instr) → result_ok x ≡ Some i → x ≡ Ok i
 answered (Ok j) i e = let same : j ≡ i = cc in ap (λ (k : Instr). Ok k) same
 answered (Err f) i e = absurd cc
@@ -45,8 +47,10 @@ found_at_front bytes i e =
 at_front_found : (bytes : List ℕ) (i : Instr) → IsAtFront bytes i → first_instruction bytes ≡ Some i
 unfolding first_instruction
 at_front_found bytes i f =
-    let led : leading_bytes bytes ≡ f.front ++ leading_bytes f.rest = ap leading_bytes f.parts ∙ leading_all f.front f.rest (spelled_fit f.front i f.spells) in
-    ap (λ (x : Result Instr DecodeFault). result_ok x) (found_by (leading_bytes bytes) i (record { front = f.front; rest = leading_bytes f.rest; parts = led; spells = f.spells }))
+    let led : leading_bytes bytes ≡ f.front ++ leading_bytes f.rest = ap leading_bytes f.parts
+    ∙ leading_all f.front f.rest (spelled_fit f.front i f.spells) in
+    ap (λ (x : Result Instr DecodeFault). result_ok x) (found_by (leading_bytes bytes) i
+    (record { front = f.front; rest = leading_bytes f.rest; parts = led; spells = f.spells }))
 
 -- the function finds exactly what is at the front
 pub exact : IsExact
@@ -105,7 +109,7 @@ has_its_length bytes i e =
     let l : length bytes ≡ length (f.front ++ f.rest) = ap (λ (xs : List ℕ). length xs) f.parts in
     (omega (arith, n.1), omega (arith, n.0, l, length-append f.front f.rest))
 
--- nothing behind an instruction matters
+-- nothing after an instruction matters
 pub depends_on_its_bytes : DependsOnItsBytes
 depends_on_its_bytes bytes others i e same =
     let f = found_at_front bytes i e in
@@ -125,7 +129,8 @@ pub masks_only_before_next : MasksOnlyBeforeNext
 masks_only_before_next bytes i e other =
     let f = found_at_front bytes i e in
     ap (λ (k : Instr). k.masks) f.spells.says
-    ∙ none_by _ (masks_of (spelled f.spells.parts)) refl (λ masks. other (ap (λ (k : Instr). k.flow) f.spells.says ∙ masking_goes_on f.spells.parts f.spells.fit masks))
+    ∙ none_by _ (masks_of (spelled f.spells.parts)) refl (λ masks. other
+    (ap (λ (k : Instr). k.flow) f.spells.says ∙ masking_goes_on f.spells.parts f.spells.fit masks))
 
 -- registers are numbered from 0 to 7, and 4 is never masked
 pub names_registers : NamesRegisters
@@ -140,15 +145,30 @@ masks_exactly bytes i r e =
     let f = found_at_front bytes i e in
     let n = spells_some f.front i f.spells in
     let says : i.masks ≡ masks_of (spelled f.spells.parts) = ap (λ (k : Instr). k.masks) f.spells.says in
-    let front : take i.len bytes ≡ spelled f.spells.parts = ap (λ (xs : List ℕ). take i.len xs) f.parts ∙ take_at f.front f.rest i.len (sym n.0) ∙ f.spells.whole in (
+    let front : take i.len bytes ≡ spelled f.spells.parts = ap (λ (xs : List ℕ). take i.len xs) f.parts
+    ∙ take_at f.front f.rest i.len (sym n.0) ∙ f.spells.whole in (
       λ h. (let m = masks_only (spelled f.spells.parts) r (sym says ∙ h) in (front ∙ m.0, m.1, m.2)),
       λ h. says ∙ ap masks_of (sym front ∙ h.0) ∙ mask_masks r h.1 h.2,
     )
 
--- behind a prefix an instruction goes on to the next and masks nothing
-pub goes_on_behind_prefix : GoesOnBehindPrefix
-goes_on_behind_prefix bytes i s some =
+-- after a prefix an instruction goes on to the next and masks nothing
+pub goes_on_after_prefix : GoesOnAfterPrefix
+goes_on_after_prefix bytes i s some =
     let p = prefix_at s.parts s.parts.prefix s.fit.prefix in (
-      ap (λ (k : Instr). k.flow) s.says ∙ prefixed_goes_on s.parts s.parts.prefix s.fit (opcode-lt s.parts p.0 s.fit p.1) s.fit.prefix some,
-      ap (λ (k : Instr). k.masks) s.says ∙ none_by _ (masks_of (spelled s.parts)) refl (λ masks. some (masking_is_bare s.parts s.fit masks)),
+      ap (λ (k : Instr). k.flow) s.says ∙ prefixed_goes_on s.parts s.parts.prefix s.fit
+          (opcode-lt s.parts p.0 s.fit p.1) s.fit.prefix some,
+      ap (λ (k : Instr). k.masks) s.says ∙ none_by _ (masks_of (spelled s.parts)) refl
+          (λ masks. some (masking_has_no_prefix s.parts s.fit masks)),
     )
+
+-- no permitted instruction is barred
+pub never_barred : NeverBarred
+never_barred = spelling_is_allowed
+
+-- what the function finds at the front isn't barred
+pub never_barred_at_front : NeverBarredAtFront
+never_barred_at_front bytes i e b =
+    let f = found_at_front bytes i e in
+    let n = spells_some f.front i f.spells in
+    let front : take i.len bytes ≡ f.front = ap (λ (xs : List ℕ). take i.len xs) f.parts ∙ take_at f.front f.rest i.len (sym n.0) in
+    spelling_is_allowed f.front i f.spells (subst IsBarred front b)

@@ -24,7 +24,7 @@ is_next IndirectJump h = absurd cc
 is_next IndirectCall h = absurd cc
 is_next Stop h = absurd cc
 
--- ---- behind a prefix
+-- ---- after a prefix
 
 -- a line of the prefix table and a row share this opcode
 abbrev shares : PrefixRow → Row → ℕ → Bool
@@ -48,31 +48,38 @@ unfolding rows prefix_rows
 lines_go_on = refl
 
 -- the reg field of an operand is one of its row's
-operand_reg : (row : Row) (operand : List ℕ) → row.operand ≡ true → IsOperand row operand → within (reg_of (slice_index operand 0)) row.regs ≡ true
+operand_reg : (row : Row) (operand : List ℕ) → row.operand ≡ true → IsOperand row operand
+    → within (reg_of (slice_index operand 0)) row.regs ≡ true
 operand_reg row [] is o = absurd (let f : true ≡ false = sym is ∙ o in cc)
 operand_reg row (modrm ∷ tail) is o = o.2
 
--- a row behind a line of the prefix table goes on
-line_goes_on : (p : Parts) (b : ℕ) (line : PrefixRow) → AreParts p → p.opcode < 256 → Contains prefix_rows line → Allows line b p → p.row.flow ≡ Next
+-- a row after a line of the prefix table goes on
+line_goes_on : (p : Parts) (b : ℕ) (line : PrefixRow) → AreParts p → p.opcode < 256 → Contains prefix_rows line → Allows line b p
+    → p.row.flow ≡ Next
 line_goes_on p b line fit lt listed allows =
-    let test : apart line p.row ≡ true = each-Contains (apart line) rows p.row (each-Contains (λ l. each (apart l) rows) prefix_rows line lines_go_on listed) fit.listed in
+    let test : apart line p.row ≡ true = each-Contains (apart line) rows p.row
+    (each-Contains (λ l. each (apart l) rows) prefix_rows line lines_go_on listed) fit.listed in
     elim (true_or_false (goes_on p.row.flow)) [
       | inl goes ↦ is_next p.row.flow goes
       | inr stays ↦ absurd (
           let below : each_below (apart_at line p.row) 256 ≡ true = chosen_false (goes_on p.row.flow) true _ true stays test in
           let at : apart_at line p.row p.opcode ≡ true = each_below-at (apart_at line p.row) 256 p.opcode below lt in
           let shared : shares line p.row p.opcode ≡ true
-          = both_made (same line.escaped p.row.escaped) _ (same_made _ _ allows.escaped) (both_made (within p.opcode line.opcodes) (within p.opcode p.row.opcodes) allows.opcode fit.opcode) in
+          = both_made (same line.escaped p.row.escaped) _ (same_made _ _ allows.escaped)
+          (both_made (within p.opcode line.opcodes) (within p.opcode p.row.opcodes) allows.opcode fit.opcode) in
           let forms = both p.row.operand _ (chosen_true (shares line p.row p.opcode) _ true true shared at) in
           let reg : ℕ = reg_of (slice_index p.operand 0) in
-          let none : not (shares_reg line p.row (reg_of (slice_index p.operand 0))) ≡ true = each_below-at (λ r. not (shares_reg line p.row r)) 8 (reg_of (slice_index p.operand 0)) forms.1 (omega arith) in
+          let none : not (shares_reg line p.row (reg_of (slice_index p.operand 0))) ≡ true = each_below-at
+          (λ r. not (shares_reg line p.row r)) 8 (reg_of (slice_index p.operand 0)) forms.1 (omega arith) in
           let some : shares_reg line p.row (reg_of (slice_index p.operand 0)) ≡ true
-          = both_made (within (reg_of (slice_index p.operand 0)) line.regs) _ (allows.operand forms.0).0 (operand_reg p.row p.operand forms.0 fit.operand) in
+          = both_made (within (reg_of (slice_index p.operand 0)) line.regs) _ (allows.operand forms.0).0
+          (operand_reg p.row p.operand forms.0 fit.operand) in
           let f : true ≡ false = sym some ∙ not_is _ none in cc)
     ]
 
 -- an instruction with a prefix goes on
-pub prefixed_goes_on : (p : Parts) (o : Option ℕ) → AreParts p → p.opcode < 256 → IfSome o (λ b. (line : PrefixRow) × Contains prefix_rows line × Allows line b p) → o ≢ None → p.row.flow ≡ Next
+pub prefixed_goes_on : (p : Parts) (o : Option ℕ) → AreParts p → p.opcode < 256
+    → IfSome o (λ b. (line : PrefixRow) × Contains prefix_rows line × Allows line b p) → o ≢ None → p.row.flow ≡ Next
 prefixed_goes_on p None fit lt allows some = absurd (some refl)
 prefixed_goes_on p (Some b) fit lt allows some = line_goes_on p b allows.0 fit lt allows.1 allows.2
 
@@ -106,7 +113,8 @@ other_byte line b c same is =
     chosen false e h = absurd cc
 
 -- nor is the prefix of a spelling
-prefix_other : (p : Parts) (o : Option ℕ) → IfSome o (λ b. (line : PrefixRow) × Contains prefix_rows line × Allows line b p) → IfSome o (λ b. b ≢ 0x83)
+prefix_other : (p : Parts) (o : Option ℕ) → IfSome o (λ b. (line : PrefixRow) × Contains prefix_rows line × Allows line b p)
+    → IfSome o (λ b. b ≢ 0x83)
 prefix_other p None h = tt
 prefix_other p (Some b) h = other_byte h.0 b h.1 h.2.same
 
@@ -135,7 +143,8 @@ next_by row one opcode h = is_next row.flow (by row.escaped (within 0x83 row.opc
 -- what masks has the opcode 83 and no prefix
 masking_begins : (p : Parts) → AreParts p → masks_of (spelled p) ≢ None → Begins83 p.prefix p.row.escaped p.opcode
 masking_begins p fit masks =
-    let assoc : spelled p ≡ (option_to_list p.prefix ++ cond p.row.escaped (0x0F ∷ p.opcode ∷ []) (p.opcode ∷ [])) ++ (p.operand ++ p.number)
+    let assoc : spelled p ≡ (option_to_list p.prefix ++ cond p.row.escaped (0x0F ∷ p.opcode ∷ []) (p.opcode ∷ [])) ++
+    (p.operand ++ p.number)
     = append_assoc (option_to_list p.prefix ++ cond p.row.escaped (0x0F ∷ p.opcode ∷ []) (p.opcode ∷ [])) p.operand p.number in
     let first = ap (λ (xs : List ℕ). get_or xs 0 0) (sym assoc) ∙ masks_begin (spelled p) masks in
     begins_83 p.prefix p.row.escaped p.opcode (p.operand ++ p.number) (prefix_other p p.prefix fit.prefix) first
@@ -144,8 +153,9 @@ masking_begins p fit masks =
 pub masking_goes_on : (p : Parts) → AreParts p → masks_of (spelled p) ≢ None → p.row.flow ≡ Next
 masking_goes_on p fit masks =
     let is = masking_begins p fit masks in
-    next_by p.row is.one (subst (λ (n : ℕ). within n p.row.opcodes ≡ true) is.opcode_is fit.opcode) (each-Contains row_goes_on rows p.row rows_go_on fit.listed)
+    next_by p.row is.one (subst (λ (n : ℕ). within n p.row.opcodes ≡ true) is.opcode_is fit.opcode)
+    (each-Contains row_goes_on rows p.row rows_go_on fit.listed)
 
 -- what masks has no prefix
-pub masking_is_bare : (p : Parts) → AreParts p → masks_of (spelled p) ≢ None → p.prefix ≡ None
-masking_is_bare p fit masks = (masking_begins p fit masks).bare
+pub masking_has_no_prefix : (p : Parts) → AreParts p → masks_of (spelled p) ≢ None → p.prefix ≡ None
+masking_has_no_prefix p fit masks = (masking_begins p fit masks).bare

@@ -33,14 +33,23 @@ leading_front (b ∷ rest) =
     elim (true_or_false (nat_lt b 256)) [
       | inl is ↦
           (let f = leading_front rest in
-          record { more = f.more; parts = ap (λ (ys : List ℕ). b ∷ ys) f.parts ∙ ap (λ (ys : List ℕ). ys ++ f.more) (sym (cond_is_true (nat_lt b 256) (b ∷ leading_bytes rest) [] is)) })
-      | inr is_not ↦ record { more = b ∷ rest; parts = ap (λ (ys : List ℕ). ys ++ (b ∷ rest)) (sym (cond_is_false (nat_lt b 256) (b ∷ leading_bytes rest) [] is_not)) }
+          record {
+            more = f.more;
+            parts = ap (λ (ys : List ℕ). b ∷ ys) f.parts
+                ∙ ap (λ (ys : List ℕ). ys ++ f.more) (sym (cond_is_true (nat_lt b 256) (b ∷ leading_bytes rest) [] is));
+          })
+      | inr is_not ↦ record {
+        more = b ∷ rest;
+        parts = ap (λ (ys : List ℕ). ys ++ (b ∷ rest))
+            (sym (cond_is_false (nat_lt b 256) (b ∷ leading_bytes rest) [] is_not));
+      }
     ]
 
 -- bytes in front are leading ones, whatever follows
 pub leading_all : (front rest : List ℕ) → IsBytes front → leading_bytes (front ++ rest) ≡ front ++ leading_bytes rest
 leading_all [] rest fits = refl
-leading_all (b ∷ front) rest fits = leading_more b (front ++ rest) (fits 0) ∙ ap (λ (ys : List ℕ). b ∷ ys) (leading_all front rest (λ k. fits (suc k)))
+leading_all (b ∷ front) rest fits = leading_more b (front ++ rest) (fits 0)
+    ∙ ap (λ (ys : List ℕ). b ∷ ys) (leading_all front rest (λ k. fits (suc k)))
 
 -- bytes lead themselves
 pub leading_whole : (bytes : List ℕ) → IsBytes bytes → leading_bytes bytes ≡ bytes

@@ -1,3 +1,5 @@
+pub mod Offered
+mod EntryShapes
 pub mod EntryLookup
 pub mod EntriesMatchRows
 pub mod BoolTests

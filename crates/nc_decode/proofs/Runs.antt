@@ -4,7 +4,7 @@ use Rattle.std.specs.Prelude.{IfSome, IsTrue}
 use Rattle.std.proofs.lemmas.List.{take_all}
 use Rattle.nc_decode.specs.declared.instruction.Instr.{Instr}
 use Rattle.nc_decode.specs.Automaton.{next_state, masked_at, Leads, Ends, ReadsByStates, NoneIsPaired}
-use Rattle.nc_decode.specs.Reading.{reading}
+use Rattle.nc_decode.specs.machinery.Reading.{reading}
 use Rattle.nc_decode.specs.Spelling.{Spells, masks_of}
 use Rattle.nc_decode.specs.Transfers.{is_direct}
 use Rattle.nc_decode.proofs.EntriesMatchRows.{each_below, not}
@@ -37,21 +37,27 @@ tells (ended by_near) e = e == 73
 tells (ended paired) e = e == 74
 tells _ e = false
 
+-- the states below END are those inside an instruction
 numbered_inside : each_below (λ s. inside (stage_of s)) 64 ≡ true
 numbered_inside = refl
 
+-- the states from END on are those after one
 numbered_ends : each_below (λ j. tells (stage_of (64 + j)) (64 + j)) 11 ≡ true
 numbered_ends = refl
 
+-- what the test of a stage inside an instruction says
 is_inside : (x : Stage) → inside x ≡ true → IsInside x
 is_inside (ended k) e = absurd cc
 is_inside _ e = tt
 
+-- a state below END is inside an instruction
 inside_at : (s : ℕ) → s < 64 → IsInside (stage_of s)
 inside_at s lt = is_inside (stage_of s) (each_below-at (λ t. inside (stage_of t)) 64 s numbered_inside lt)
 
+-- a state from END on tells what has been read
 tells_at : (e : ℕ) → 64 ≤ e → e < 75 → tells (stage_of e) e ≡ true
-tells_at e low high = let is : 64 + (e - 64) ≡ e = omega (arith, low) in subst (λ (k : ℕ). tells (stage_of k) k ≡ true) is (each_below-at (λ j. tells (stage_of (64 + j)) (64 + j)) 11 (e - 64) numbered_ends (omega (arith, low, high)))
+tells_at e low high = let is : 64 + (e - 64) ≡ e = omega (arith, low) in subst (λ (k : ℕ). tells (stage_of k) k ≡ true) is
+    (each_below-at (λ j. tells (stage_of (64 + j)) (64 + j)) 11 (e - 64) numbered_ends (omega (arith, low, high)))
 
 -- an end, and what its number tells
 record EndsAt (e : ℕ) : Type 0 where
@@ -59,13 +65,16 @@ record EndsAt (e : ℕ) : Type 0 where
   is : stage_of e ≡ ended kind
   told : tells (ended kind) e ≡ true
 
+-- what an ending stage tells of its state
 end_from : (e : ℕ) (x : Stage) → stage_of e ≡ x → tells x e ≡ true → EndsAt e
 end_from e (ended k) is t = record { kind = k; is = is; told = t }
 end_from e _ is t = absurd cc
 
+-- so for each state from END on
 end_at : (e : ℕ) → 64 ≤ e → e < 75 → EndsAt e
 end_at e low high = end_from e (stage_of e) refl (tells_at e low high)
 
+-- a register that the test finds is the one
 named : (o : Option ℕ) (r : ℕ) → names o r ≡ true → o ≡ Some r
 named (Some t) r e = ap some_reg (eqb-true t r e)
   where
@@ -86,18 +95,23 @@ masked_same e paired t = let is : e ≡ 74 = eqb-true e 74 t in (rw is refl, tt)
 
 -- ---- what has been read
 
+-- bytes that are read whole are one whole instruction
 spelled_whole : (bytes : List ℕ) (i : Instr) → All (λ b. b < 256) bytes → reading bytes ≡ Ok i → i.len ≡ length bytes → Spells bytes i
-spelled_whole bytes i fits read len = subst (λ (z : List ℕ). Spells z i) (take_all i.len bytes (omega (arith, len))) (reading_spells bytes i (bytes_from_all bytes fits) read).1
+spelled_whole bytes i fits read len = subst (λ (z : List ℕ). Spells z i) (take_all i.len bytes (omega (arith, len)))
+    (reading_spells bytes i (bytes_from_all bytes fits) read).1
 
 -- no flow is both
 never : (b : Bool) → b ≡ false → IsTrue b → ⊥
 never true e t = absurd cc
 never false e t = absurd cc
 
+-- the register of a stage after a mask
 abbrev some_mask : ℕ → Option ℕ
 some_mask r = Some r
 
-finished_ends : (m e : ℕ) (bytes : List ℕ) (k : Ended) → All (λ b. b < 256) bytes → tells (ended k) e ≡ true → Finished (masked_at m) k bytes → (i : Instr) × Ends m e bytes i
+-- what a finished instruction says is what its state tells
+finished_ends : (m e : ℕ) (bytes : List ℕ) (k : Ended) → All (λ b. b < 256) bytes → tells (ended k) e ≡ true
+    → Finished (masked_at m) k bytes → (i : Instr) × Ends m e bytes i
 finished_ends m e bytes plain fits t f =
     let is : e ≡ 64 = eqb-true e 64 t in (
       f.instr,
@@ -122,7 +136,8 @@ finished_ends m e bytes (masked r) fits t f =
         direct = λ d. absurd (never (is_direct f.instr.flow) f.kind.0 d);
         masks = λ q h. (
             let same : r ≡ q = one r q (sym is ∙ h) in
-            ap (λ (i : Instr). i.masks) s.says ∙ ap masks_of (sym s.whole ∙ f.kind.2) ∙ mask_masks r f.kind.3 f.kind.4 ∙ ap some_mask same);
+            ap (λ (i : Instr). i.masks) s.says ∙ ap masks_of (sym s.whole ∙ f.kind.2) ∙ mask_masks r f.kind.3 f.kind.4
+            ∙ ap some_mask same);
         paired = λ p. absurd (let g : (74 == 74) ≡ false = ap (λ (x : ℕ). x == 74) (sym p) ∙ other in cc);
       },
     )
@@ -165,19 +180,21 @@ finished_ends m e bytes paired fits t f =
 
 -- ---- the run
 
--- the bytes behind the first
+-- the bytes after the first
 behind_first : (b : ℕ) (bs : List ℕ) → All (λ x. x < 256) (b ∷ bs) → All (λ x. x < 256) bs
 behind_first b bs fits k d lt = fits (suc k) d (omega (arith, lt))
 
+-- the first byte is a byte
 first_fits : (b : ℕ) (bs : List ℕ) → All (λ x. x < 256) (b ∷ bs) → b < 256
 first_fits b bs fits = fits 0 0 (omega arith)
 
--- the stage behind the first byte
+-- the stage after the first byte
 begins_at : (m b : ℕ) → 64 ≤ m → m < 75 → b < 256 → stage_of (next_state m b) ≡ begun (masked_at m) b
 begins_at m b low high lt =
     let k = end_at m low high in
     next_stage m b high lt ∙ ap (λ (x : Stage). after x b) k.is ∙ ap (λ (o : Option ℕ). begun o b) (masked_same m k.kind k.told).0
 
+-- the first byte after an instruction means what its stage says
 begun_from : (m b : ℕ) → 64 ≤ m → m < 75 → b < 256 → Meant (masked_at m) (begun (masked_at m) b) (b ∷ [])
 begun_from m b low high lt =
     let k = end_at m low high in
@@ -185,29 +202,39 @@ begun_from m b low high lt =
     begun_meant (masked_at m) b lt (subst (λ (o : Option ℕ). IfSome o (λ r. r < 8)) s.0 s.1)
 
 -- from a stage to an end
-led : (o : Option ℕ) (s e : ℕ) (pre bs : List ℕ) → s < 64 → All (λ b. b < 256) bs → Meant o (stage_of s) pre → Leads s bs e → Meant o (stage_of e) (pre ++ bs) × (64 ≤ e) × (e < 75)
+led : (o : Option ℕ) (s e : ℕ) (pre bs : List ℕ) → s < 64 → All (λ b. b < 256) bs → Meant o (stage_of s) pre → Leads s bs e
+    → Meant o (stage_of e) (pre ++ bs) × (64 ≤ e) × (e < 75)
 led o s e pre [] lt fits m l = absurd l
 led o s e pre (b ∷ []) lt fits m l =
-    let next = step o (stage_of s) b pre (first_fits b [] fits) (inside_at s lt) m in
-    (subst (λ (x : Stage). Meant o x (pre ++ b ∷ [])) (sym (next_stage s b (omega (arith, lt)) (first_fits b [] fits)) ∙ ap stage_of (sym l.0)) next, l.1, omega (arith, l.0, next_small s b))
+    let next = step o (stage_of s) b pre (first_fits b [] fits) (inside_at s lt) m in (
+      subst (λ (x : Stage). Meant o x (pre ++ b ∷ [])) (sym (next_stage s b (omega (arith, lt)) (first_fits b [] fits))
+          ∙ ap stage_of (sym l.0)) next,
+      l.1,
+      omega (arith, l.0, next_small s b),
+    )
 led o s e pre (b ∷ c ∷ bs) lt fits m l =
     let next = step o (stage_of s) b pre (first_fits b (c ∷ bs) fits) (inside_at s lt) m in
-    let meant = subst (λ (x : Stage). Meant o x (pre ++ b ∷ [])) (sym (next_stage s b (omega (arith, lt)) (first_fits b (c ∷ bs) fits))) next in
+    let meant = subst (λ (x : Stage). Meant o x (pre ++ b ∷ []))
+    (sym (next_stage s b (omega (arith, lt)) (first_fits b (c ∷ bs) fits))) next in
     let rest = led o (next_state s b) e (pre ++ b ∷ []) (c ∷ bs) l.0 (behind_first b (c ∷ bs) fits) meant l.1 in
     (subst (λ (z : List ℕ). Meant o (stage_of e) z) (more pre (c ∷ bs) b) rest.0, rest.1, rest.2)
 
 -- from an end to the next
-led_from_end : (m e : ℕ) (bs : List ℕ) → 64 ≤ m → m < 75 → All (λ b. b < 256) bs → Leads m bs e → Meant (masked_at m) (stage_of e) bs × (64 ≤ e) × (e < 75)
+led_from_end : (m e : ℕ) (bs : List ℕ) → 64 ≤ m → m < 75 → All (λ b. b < 256) bs → Leads m bs e → Meant (masked_at m) (stage_of e) bs
+    × (64 ≤ e) × (e < 75)
 led_from_end m e [] low high fits l = absurd l
 led_from_end m e (b ∷ []) low high fits l = (
-  subst (λ (x : Stage). Meant (masked_at m) x (b ∷ [])) (sym (begins_at m b low high (first_fits b [] fits)) ∙ ap stage_of (sym l.0)) (begun_from m b low high (first_fits b [] fits)),
+  subst (λ (x : Stage). Meant (masked_at m) x (b ∷ [])) (sym (begins_at m b low high (first_fits b [] fits)) ∙ ap stage_of (sym l.0))
+      (begun_from m b low high (first_fits b [] fits)),
   l.1,
   omega (arith, l.0, next_small m b),
 )
 led_from_end m e (b ∷ c ∷ bs) low high fits l =
     led (masked_at m) (next_state m b) e (b ∷ []) (c ∷ bs) l.0 (behind_first b (c ∷ bs) fits)
-    (subst (λ (x : Stage). Meant (masked_at m) x (b ∷ [])) (sym (begins_at m b low high (first_fits b (c ∷ bs) fits))) (begun_from m b low high (first_fits b (c ∷ bs) fits))) l.1
+    (subst (λ (x : Stage). Meant (masked_at m) x (b ∷ [])) (sym (begins_at m b low high (first_fits b (c ∷ bs) fits)))
+    (begun_from m b low high (first_fits b (c ∷ bs) fits))) l.1
 
+-- the law: bytes between two endings are an instruction
 pub reads_by_states : ReadsByStates
 reads_by_states m e bytes low high fits l =
     let w = led_from_end m e bytes low high fits l in
@@ -219,9 +246,12 @@ one_byte : each_below (λ k. each_below (λ b. not (next_state (64 + k) b == 74)
 unfolding next_state
 one_byte = refl
 
+-- the law: one byte is never an indirect transfer
 pub none_is_paired : NoneIsPaired
 none_is_paired m b low high lt e =
-    let row : each_below (λ x. not (next_state (64 + (m - 64)) x == 74)) 256 ≡ true = each_below-at (λ k. each_below (λ x. not (next_state (64 + k) x == 74)) 256) 11 (m - 64) one_byte (omega (arith, low, high)) in
+    let row : each_below (λ x. not (next_state (64 + (m - 64)) x == 74)) 256 ≡ true = each_below-at
+    (λ k. each_below (λ x. not (next_state (64 + k) x == 74)) 256) 11 (m - 64) one_byte (omega (arith, low, high)) in
     let is : 64 + (m - 64) ≡ m = omega (arith, low) in
-    let other : (next_state m b == 74) ≡ false = not_is _ (subst (λ (k : ℕ). not (next_state k b == 74) ≡ true) is (each_below-at (λ x. not (next_state (64 + (m - 64)) x == 74)) 256 b row lt)) in
+    let other : (next_state m b == 74) ≡ false = not_is _ (subst (λ (k : ℕ). not (next_state k b == 74) ≡ true) is
+    (each_below-at (λ x. not (next_state (64 + (m - 64)) x == 74)) 256 b row lt)) in
     (let g : (74 == 74) ≡ false = ap (λ (x : ℕ). x == 74) (sym e) ∙ other in cc)

@@ -1,4 +1,4 @@
--- What the bytes behind an instruction's begin say at each stage of the automaton, and that one more byte leads on.
+-- What the bytes after an instruction's begin say at each stage of the automaton, and that one more byte leads on.
 use Rattle.std.proofs.Common.{◌≡◌, ◌≢◌, ℕ, zero, suc, ◌+◌, ◌-◌, ◌%◌, ◌<◌, ◌≤◌, Bool, true, false, List, [], ◌∷◌, ◌++◌, Option, Some, Result, Ok, Err, length, drop, get_or, refl, sym, ◌∙◌, ap, arith, inl, inr, ◌==◌, ◌&&◌, eqb-true, nat_lt, append_assoc, append-nil}
 use Rattle.std.specs.Prelude.{if◌then◌else◌, slice_index}
 use Rattle.std.specs.Int.{w8, w32, cast_signed, from_le_bytes}
@@ -8,21 +8,21 @@ use Rattle.nc_decode.specs.declared.entry.Entry.{Entry}
 use Rattle.nc_decode.specs.declared.entry.Number.{Number}
 use Rattle.nc_decode.specs.declared.entry.Number.TheVariants.{Absent, Byte, Sized, Offset, Short, Near, TestByte, TestSized}
 use Rattle.nc_decode.specs.declared.entry.Prefix.{Prefix}
-use Rattle.nc_decode.specs.declared.entry.Prefix.TheVariants.{Plain, Word, Repeat, RepeatNot, Lock}
+use Rattle.nc_decode.specs.declared.entry.Prefix.TheVariants.{Absent as Unprefixed, Word, Repeat, RepeatNot, Lock}
 use Rattle.nc_decode.specs.declared.entry.Shape.{Shape}
 use Rattle.nc_decode.specs.declared.instruction.DecodeFault.{DecodeFault}
 use Rattle.nc_decode.specs.declared.instruction.DecodeFault.TheVariants.{Truncated}
 use Rattle.nc_decode.specs.declared.instruction.Instr.{Instr}
-use Rattle.nc_decode.specs.Reading.{reading, rel_of}
+use Rattle.nc_decode.specs.machinery.Reading.{reading, rel_of}
 use Rattle.nc_decode.specs.Rows.{mod_of, reg_of, rm_of}
-use Rattle.nc_decode.specs.Shapes.{◌>>=◌, forms_of, coded_len, permits, flow_of, reg_if, has_sib, sized_operand, operand_shape, escaped_shape, opcode_shape, shape_of}
+use Rattle.nc_decode.specs.machinery.Shapes.{◌>>=◌, forms_of, coded_len, permits, flow_of, reg_if, has_sib, sized_operand, operand_shape, escaped_shape, opcode_shape, shape_of}
 use Rattle.nc_decode.specs.Spelling.{operand_len}
 use Rattle.nc_decode.specs.Transfers.{is_direct, is_indirect}
 use Rattle.nc_decode.proofs.EntriesMatchRows.{not}
 use Rattle.nc_decode.proofs.BoolTests.{both, true_or_false, cond_is_true, cond_is_false}
 use Rattle.nc_decode.proofs.ReadIsSpelled.{instr_at}
 use Rattle.nc_decode.proofs.Readings.{reads_whole}
-use Rattle.nc_decode.proofs.Stages.{Ended, plain, masked, by_short, by_near, paired, Stage, dead, prefixed, escaped, operand, masking, mask_number, goal, sib, number, short, near, ended, numbers, modrm, after}
+use Rattle.nc_decode.proofs.Stages.{Ended, plain, masked, by_short, by_near, paired, Stage, dead, prefixed, escaped, operand, masking, mask_number, transfer_after_mask, sib, number, short, near, ended, numbers, modrm, after}
 
 -- ---- the meanings
 
@@ -30,7 +30,7 @@ use Rattle.nc_decode.proofs.Stages.{Ended, plain, masked, by_short, by_near, pai
 abbrev pub ok : Shape → Result Shape DecodeFault
 ok s = Ok s
 
--- the bytes fix this shape, with so many more behind them
+-- the bytes fix this shape, with so many more after them
 abbrev pub Fixed : List ℕ → ℕ → Shape → Type 0
 Fixed pre n s = (rest : List ℕ) → n ≤ length rest → shape_of (pre ++ rest) ≡ Ok s
 
@@ -68,15 +68,19 @@ pub record WaitsForOperand (forms initial other : ℕ) (pre : List ℕ) : Type 0
   pub initial_is : coded_len prefix entry.number 0 ≡ initial
   pub other_is : coded_len prefix entry.number 1 ≡ other
   pub permitted : (b : ℕ) → b < 256 → permits forms b ≡ true
-      → (permits (forms_of prefix entry) b ≡ true) × (is_direct (flow_of entry (reg_of b)) ≡ false) × (is_indirect (flow_of entry (reg_of b)) ≡ false)
+      → (permits (forms_of prefix entry) b ≡ true) × (is_direct (flow_of entry (reg_of b)) ≡ false)
+      × (is_indirect (flow_of entry (reg_of b)) ≡ false)
 
 -- what has ended; `o` is the register that was masked directly before
 abbrev pub IsKind : Option ℕ → Ended → List ℕ → Instr → Type 0
 IsKind o plain pre i = (is_direct i.flow ≡ false) × (is_indirect i.flow ≡ false)
-IsKind o (masked r) pre i = (is_direct i.flow ≡ false) × (is_indirect i.flow ≡ false) × (pre ≡ 0x83 ∷ (0xE0 + r) ∷ 0xE0 ∷ []) × (r < 8) × (r ≢ 4)
+IsKind o (masked r) pre i = (is_direct i.flow ≡ false) × (is_indirect i.flow ≡ false) × (pre ≡ 0x83 ∷ (0xE0 + r) ∷ 0xE0 ∷ []) × (r < 8)
+    × (r ≢ 4)
 IsKind o by_short pre i = (is_indirect i.flow ≡ false) × (i.rel ≡ cast_signed w8 (slice_index pre (length pre - 1)))
-IsKind o by_near pre i = (is_indirect i.flow ≡ false) × (4 ≤ length pre) × (i.rel ≡ cast_signed w32 (from_le_bytes w32 (drop (length pre - 4) pre)))
-IsKind o paired pre i = (is_direct i.flow ≡ false) × (is_indirect i.flow ≡ true) × (o ≡ Some i.reg) × (length pre ≡ 2) × (i.reg ≡ slice_index pre 1 % 8)
+IsKind o by_near pre i = (is_indirect i.flow ≡ false) × (4 ≤ length pre)
+    × (i.rel ≡ cast_signed w32 (from_le_bytes w32 (drop (length pre - 4) pre)))
+IsKind o paired pre i = (is_direct i.flow ≡ false) × (is_indirect i.flow ≡ true) × (o ≡ Some i.reg) × (length pre ≡ 2)
+    × (i.reg ≡ slice_index pre 1 % 8)
 
 -- the bytes are read as one whole instruction
 pub record Finished (o : Option ℕ) (k : Ended) (pre : List ℕ) : Type 0 where
@@ -93,7 +97,7 @@ Meant o (escaped p) pre = (rest : List ℕ) → shape_of (pre ++ rest) ≡ escap
 Meant o (operand forms initial other) pre = WaitsForOperand forms initial other pre
 Meant o masking pre = (pre ≡ 0x83 ∷ []) × WaitsForOperand 0xFFFF 1 1 pre
 Meant o (mask_number r) pre = (pre ≡ 0x83 ∷ (0xE0 + r) ∷ []) × (r < 8) × (r ≢ 4) × WaitsFor 1 pre
-Meant o (goal r) pre = (pre ≡ 0xFF ∷ []) × (r < 8) × (o ≡ Some r) × WaitsForOperand 0x4343 0 0 pre
+Meant o (transfer_after_mask r) pre = (pre ≡ 0xFF ∷ []) × (r < 8) × (o ≡ Some r) × WaitsForOperand 0x4343 0 0 pre
 Meant o (sib n) pre = (b : ℕ) → b < 256 → WaitsFor ((if b % 8 == 5 then 4 else 0) + n) (pre ++ b ∷ [])
 Meant o (number n) pre = (0 < n) × WaitsFor n pre
 Meant o short pre = WaitsForShort pre
@@ -114,6 +118,7 @@ fixed_more pre b n m s e f rest long = ap shape_of (more pre rest b) ∙ f (b �
 fixed_whole : (pre : List ℕ) (s : Shape) → Fixed pre 0 s → s.head + s.number_len ≡ length pre → reading pre ≡ Ok (instr_at pre s)
 fixed_whole pre s f total = reads_whole pre s (ap shape_of (sym (append-nil pre)) ∙ f [] (omega arith)) (omega (arith, total))
 
+-- one byte of those that are waited for
 pub waits_more : (pre : List ℕ) (b n m : ℕ) → n ≡ m + 1 → WaitsFor n pre → WaitsFor m (pre ++ b ∷ [])
 waits_more pre b n m e w = record {
   shape = w.shape;
@@ -123,6 +128,7 @@ waits_more pre b n m e w = record {
   indirect = w.indirect;
 }
 
+-- nothing is waited for any more: the instruction is whole
 pub finished : (o : Option ℕ) (pre : List ℕ) → WaitsFor 0 pre → Finished o plain pre
 finished o pre w = record {
   instr = instr_at pre w.shape;
@@ -131,12 +137,14 @@ finished o pre w = record {
   kind = (w.direct, w.indirect);
 }
 
+-- the stage that waits for so many bytes means that
 pub numbers_meant : (o : Option ℕ) (n : ℕ) (pre : List ℕ) → WaitsFor n pre → Meant o (numbers n) pre
 numbers_meant o zero pre w = finished o pre w
 numbers_meant o (suc n) pre w = (omega arith, w)
 
 -- ---- displacements
 
+-- the byte of a short displacement ends the instruction
 pub short_ends : (o : Option ℕ) (pre : List ℕ) (b : ℕ) → WaitsForShort pre → Finished o by_short (pre ++ b ∷ [])
 short_ends o pre b w =
     let bytes : List ℕ = pre ++ b ∷ [] in
@@ -148,10 +156,12 @@ short_ends o pre b w =
       kind = (
         w.indirect,
         ap (λ (k : Number). rel_of k (drop w.shape.head (pre ++ b ∷ []))) w.number
-            ∙ ap (λ (x : ℕ). cast_signed w8 x) (get_or-drop w.shape.head (pre ++ b ∷ []) 0 0 ∙ ap (λ (k : ℕ). get_or (pre ++ b ∷ []) k 0) (omega (arith, w.head, length_push pre b))),
+            ∙ ap (λ (x : ℕ). cast_signed w8 x) (get_or-drop w.shape.head (pre ++ b ∷ []) 0 0
+            ∙ ap (λ (k : ℕ). get_or (pre ++ b ∷ []) k 0) (omega (arith, w.head, length_push pre b))),
       );
     }
 
+-- one byte of a displacement of four
 near_more : (pre : List ℕ) (b n m : ℕ) → n ≡ m + 1 → WaitsForNear n pre → WaitsForNear m (pre ++ b ∷ [])
 near_more pre b n m e w = record {
   shape = w.shape;
@@ -162,6 +172,7 @@ near_more pre b n m e w = record {
   indirect = w.indirect;
 }
 
+-- the last byte of a displacement of four ends the instruction
 near_ends : (o : Option ℕ) (pre : List ℕ) → WaitsForNear 0 pre → Finished o by_near pre
 near_ends o pre w = record {
   instr = instr_at pre w.shape;
@@ -175,6 +186,7 @@ near_ends o pre w = record {
   );
 }
 
+-- one more byte of a displacement of four
 pub near_step : (o : Option ℕ) (pre : List ℕ) (b n : ℕ) → 0 < n → WaitsForNear n pre → Meant o (after (near n) b) (pre ++ b ∷ [])
 near_step o pre b n some w =
     elim (true_or_false (n == 1)) [
@@ -185,7 +197,8 @@ near_step o pre b n some w =
 -- ---- ModRM
 
 -- the bytes of a number depend on whether reg is 0
-coded_by : (p : Prefix) (k : Number) (reg initial other : ℕ) → coded_len p k 0 ≡ initial → coded_len p k 1 ≡ other → coded_len p k reg ≡ (if reg == 0 then initial else other)
+coded_by : (p : Prefix) (k : Number) (reg initial other : ℕ) → coded_len p k 0 ≡ initial → coded_len p k 1 ≡ other
+    → coded_len p k reg ≡ (if reg == 0 then initial else other)
 unfolding coded_len
 coded_by p k reg initial other z o = elim (true_or_false (reg == 0)) [
   | inl is ↦ rw is (ap (λ (r : ℕ). coded_len p k r) (eqb-true reg 0 is) ∙ z)
@@ -196,7 +209,7 @@ coded_by p k reg initial other z o = elim (true_or_false (reg == 0)) [
     by p Absent e = refl
     by p Byte e = refl
     by Word Sized e = refl
-    by Plain Sized e = refl
+    by Unprefixed Sized e = refl
     by Repeat Sized e = refl
     by RepeatNot Sized e = refl
     by Lock Sized e = refl
@@ -205,7 +218,7 @@ coded_by p k reg initial other z o = elim (true_or_false (reg == 0)) [
     by p Near e = refl
     by p TestByte e = rw e refl
     by Word TestSized e = rw e refl
-    by Plain TestSized e = rw e refl
+    by Unprefixed TestSized e = rw e refl
     by Repeat TestSized e = rw e refl
     by RepeatNot TestSized e = rw e refl
     by Lock TestSized e = rw e refl
@@ -222,12 +235,14 @@ sib_len b c two first =
 sib_free : (b c : ℕ) → (mod_of b == 0) ≡ false → operand_len b c ≡ operand_len b 0
 sib_free b c other = rw other refl
 
+-- an operand has a byte, ModRM
 operand_some : (b : ℕ) → 1 ≤ operand_len b 0
 operand_some b = elim (true_or_false ((rm_of b == 4) && nat_lt (mod_of b) 3)) [
   | inl two ↦ rw two (omega arith)
   | inr one ↦ rw one (omega arith)
 ]
 
+-- an operand with SIB has two
 operand_two : (b : ℕ) → has_sib b ≡ true → 2 ≤ operand_len b 0
 operand_two b two = rw two (omega arith)
 
@@ -236,7 +251,8 @@ abbrev ok_len : ℕ → Result ℕ DecodeFault
 ok_len n = Ok n
 
 -- the operand is sized where enough bytes follow
-sized : (b : ℕ) (rest : List ℕ) → (has_sib b && (mod_of b == 0)) ≡ false → operand_len b 0 - 1 ≤ length rest → sized_operand b rest ≡ Ok (operand_len b 0)
+sized : (b : ℕ) (rest : List ℕ) → (has_sib b && (mod_of b == 0)) ≡ false → operand_len b 0 - 1 ≤ length rest
+    → sized_operand b rest ≡ Ok (operand_len b 0)
 unfolding sized_operand
 sized b [] e long = elim (true_or_false (has_sib b)) [
   | inl two ↦ absurd (omega (arith, operand_two b two, long))
@@ -271,10 +287,12 @@ formed_at p head e b n rest passes size =
     cond_is_true (permits (forms_of p e) b) (sized_operand b rest >>= λ k. ok (formed p head e b k)) _ passes
     ∙ ap (λ (x : Result ℕ DecodeFault). x >>= λ k. ok (formed p head e b k)) size
 
+-- the operand of ModRM with SIB has the length that both give
 sib_sized : (b c : ℕ) (rest : List ℕ) → has_sib b ≡ true → sized_operand b (c ∷ rest) ≡ Ok (operand_len b c)
 unfolding sized_operand
 sib_sized b c rest two = cond_is_true (has_sib b) (ok_len (operand_len b c)) (ok_len (operand_len b 0)) two
 
+-- after ModRM the next stage means what has been read
 pub modrm_meant : (o : Option ℕ) (forms initial other b : ℕ) (pre : List ℕ) → b < 256 → WaitsForOperand forms initial other pre
     → Meant o (modrm forms initial other b) (pre ++ b ∷ [])
 modrm_meant o forms initial other b pre lt w =
@@ -282,13 +300,16 @@ modrm_meant o forms initial other b pre lt w =
       | inl passes ↦
           (let q = w.permitted b lt passes in
           let n : ℕ = if reg_of b == 0 then initial else other in
-          let coded : coded_len w.prefix w.entry.number (reg_of b) ≡ (if reg_of b == 0 then initial else other) = coded_by w.prefix w.entry.number (reg_of b) initial other w.initial_is w.other_is in
+          let coded : coded_len w.prefix w.entry.number (reg_of b) ≡
+          (if reg_of b == 0 then initial else other) = coded_by w.prefix w.entry.number
+          (reg_of b) initial other w.initial_is w.other_is in
           elim (true_or_false (has_sib b && (mod_of b == 0))) [
             | inl with_sib ↦
                 (let parts = both (has_sib b) (mod_of b == 0) with_sib in
                 rw (passes, with_sib) (λ c c-lt. record {
                   shape = formed w.prefix (length pre) w.entry b (operand_len b c);
-                  fixed = λ rest long. ap shape_of (more (pre ++ b ∷ []) rest c ∙ more pre (c ∷ rest) b) ∙ w.shapes (b ∷ c ∷ rest) ∙ formed_at w.prefix (length pre) w.entry b (operand_len b c) (c ∷ rest) q.0 (sib_sized b c rest parts.0);
+                  fixed = λ rest long. ap shape_of (more (pre ++ b ∷ []) rest c ∙ more pre (c ∷ rest) b) ∙ w.shapes (b ∷ c ∷ rest)
+                      ∙ formed_at w.prefix (length pre) w.entry b (operand_len b c) (c ∷ rest) q.0 (sib_sized b c rest parts.0);
                   total = omega (arith, coded, sib_len b c parts.0 parts.1, length_push pre b, length_push (pre ++ b ∷ []) c);
                   direct = q.1;
                   indirect = q.2;
@@ -296,7 +317,8 @@ modrm_meant o forms initial other b pre lt w =
             | inr without ↦
                 rw (passes, without) (numbers_meant o _ (pre ++ b ∷ []) (record {
                   shape = formed w.prefix (length pre) w.entry b (operand_len b 0);
-                  fixed = λ rest long. ap shape_of (more pre rest b) ∙ w.shapes (b ∷ rest) ∙ formed_at w.prefix (length pre) w.entry b (operand_len b 0) rest q.0 (sized b rest without (omega (arith, long)));
+                  fixed = λ rest long. ap shape_of (more pre rest b) ∙ w.shapes (b ∷ rest)
+                      ∙ formed_at w.prefix (length pre) w.entry b (operand_len b 0) rest q.0 (sized b rest without (omega (arith, long)));
                   total = omega (arith, coded, operand_some b, length_push pre b);
                   direct = q.1;
                   indirect = q.2;

@@ -7,19 +7,19 @@ use Rattle.nc_decode.specs.declared.entry.Entry.{Entry}
 use Rattle.nc_decode.specs.declared.entry.Number.{Number}
 use Rattle.nc_decode.specs.declared.entry.Number.TheVariants.{Absent, Byte, Sized, Offset, Short, Near, TestByte, TestSized}
 use Rattle.nc_decode.specs.declared.entry.Prefix.{Prefix}
-use Rattle.nc_decode.specs.declared.entry.Prefix.TheVariants.{Plain, Word, Repeat, RepeatNot, Lock}
+use Rattle.nc_decode.specs.declared.entry.Prefix.TheVariants.{Absent as Unprefixed, Word, Repeat, RepeatNot, Lock}
 use Rattle.nc_decode.specs.declared.entry.Shape.{Shape}
 use Rattle.nc_decode.specs.declared.instruction.DecodeFault.{DecodeFault}
 use Rattle.nc_decode.specs.declared.instruction.DecodeFault.TheVariants.{NotPermitted}
 use Rattle.nc_decode.specs.declared.instruction.Instr.{Instr}
-use Rattle.nc_decode.specs.Entries.{entry_of}
-use Rattle.nc_decode.specs.Reading.{reading, whole_of}
+use Rattle.nc_decode.specs.machinery.Entries.{entry_of}
+use Rattle.nc_decode.specs.machinery.Reading.{reading, whole_of}
 use Rattle.nc_decode.specs.Rows.{reg_of}
-use Rattle.nc_decode.specs.Shapes.{prefix_of, forms_of, coded_len, permits, flow_of, reg_if, sized_operand, operand_shape, entry_shape, escapes, escaped_shape, opcode_shape, prefixed_shape, shape_of}
+use Rattle.nc_decode.specs.machinery.Shapes.{prefix_of, forms_of, coded_len, permits, flow_of, reg_if, sized_operand, operand_shape, entry_shape, escapes, escaped_shape, opcode_shape, prefixed_shape, shape_of}
 use Rattle.nc_decode.specs.Transfers.{is_direct, is_indirect}
 use Rattle.nc_decode.proofs.EntriesMatchRows.{each_below, coded_kind, not, each_prefix}
 use Rattle.nc_decode.proofs.BoolTests.{both, not_is, true_or_false, either, chosen_true, chosen_false, cond_is_true, cond_is_false, each_below-at}
-use Rattle.nc_decode.proofs.Stages.{paired, Stage, dead, prefixed, escaped, operand, masking, mask_number, goal, sib, number, short, near, ended, numbers, by_number, calm, behind, opcode, bare, begun, modrm, masks_there, goes_by, after, same_stage, stage_same}
+use Rattle.nc_decode.proofs.Stages.{paired, Stage, dead, prefixed, escaped, operand, masking, mask_number, transfer_after_mask, sib, number, short, near, ended, numbers, by_number, calm, after_opcode, opcode, unprefixed, begun, modrm, masks_there, goes_by, after, same_stage, stage_same}
 use Rattle.nc_decode.proofs.StageMeanings.{Meant, ok, WaitsForOperand, Finished, more, waits_more, finished, numbers_meant, short_ends, near_step, modrm_meant}
 
 -- ---- what the entries have
@@ -31,7 +31,8 @@ given false b = true
 
 -- a form that no indirect transfer has
 abbrev calm_form : Prefix → Entry → ℕ → Bool
-calm_form p e b = given (permits (calm (forms_of p e)) b) (permits (forms_of p e) b && not (is_direct (flow_of e (reg_of b))) && not (is_indirect (flow_of e (reg_of b))))
+calm_form p e b = given (permits (calm (forms_of p e)) b) (permits (forms_of p e) b && not (is_direct (flow_of e (reg_of b)))
+    && not (is_indirect (flow_of e (reg_of b))))
 
 -- An entry's own flow is never indirect, and direct only with a displacement, which no entry with an operand has. Only
 -- indirect transfers are marked so, and the stage leaves them out.
@@ -46,10 +47,12 @@ tame p e =
 abbrev all_tame : Bool → Bool
 all_tame two = each_below (λ o. each_prefix (λ p. tame p (entry_of two o))) 256
 
+-- computed: each opcode of one byte is tame with each prefix
 tame_one : all_tame false ≡ true
 unfolding entry_of forms_of permits flow_of
 tame_one = refl
 
+-- computed: each opcode after 0F is tame with each prefix
 tame_two : all_tame true ≡ true
 unfolding entry_of forms_of permits flow_of
 tame_two = refl
@@ -57,7 +60,7 @@ tame_two = refl
 -- a test of each prefix, at one
 prefix_at : (t : Prefix → Bool) (p : Prefix) → each_prefix t ≡ true → t p ≡ true
 prefix_at t p e =
-    let a = first (t Plain) _ e in
+    let a = first (t Unprefixed) _ e in
     let b = first (t Word) _ a.1 in
     let c = first (t Repeat) _ b.1 in
     let d = first (t RepeatNot) _ c.1 in
@@ -68,16 +71,19 @@ prefix_at t p e =
     first true y h = (refl, h)
     first false y h = absurd cc
 
-    go : (q : Prefix) → t Plain ≡ true → t Word ≡ true → t Repeat ≡ true → t RepeatNot ≡ true → t Lock ≡ true → t q ≡ true
-    go Plain a b c d f = a
+    go : (q : Prefix) → t Unprefixed ≡ true → t Word ≡ true → t Repeat ≡ true → t RepeatNot ≡ true → t Lock ≡ true → t q ≡ true
+    go Unprefixed a b c d f = a
     go Word a b c d f = b
     go Repeat a b c d f = c
     go RepeatNot a b c d f = d
     go Lock a b c d f = f
 
+-- so for one opcode
 pub tame_at : (two : Bool) (o : ℕ) (p : Prefix) → o < 256 → tame p (entry_of two o) ≡ true
-tame_at false o p lt = prefix_at (λ q. tame q (entry_of false o)) p (each_below-at (λ x. each_prefix (λ q. tame q (entry_of false x))) 256 o tame_one lt)
-tame_at true o p lt = prefix_at (λ q. tame q (entry_of true o)) p (each_below-at (λ x. each_prefix (λ q. tame q (entry_of true x))) 256 o tame_two lt)
+tame_at false o p lt = prefix_at (λ q. tame q (entry_of false o)) p
+    (each_below-at (λ x. each_prefix (λ q. tame q (entry_of false x))) 256 o tame_one lt)
+tame_at true o p lt = prefix_at (λ q. tame q (entry_of true o)) p
+    (each_below-at (λ x. each_prefix (λ q. tame q (entry_of true x))) 256 o tame_two lt)
 
 -- what that comes to
 pub record IsTame (p : Prefix) (e : Entry) : Type 0 where
@@ -86,6 +92,7 @@ pub record IsTame (p : Prefix) (e : Entry) : Type 0 where
   pub permitted : e.operand ≡ true → (b : ℕ) → b < 256 → permits (calm (forms_of p e)) b ≡ true
       → (permits (forms_of p e) b ≡ true) × (is_direct (flow_of e (reg_of b)) ≡ false) × (is_indirect (flow_of e (reg_of b)) ≡ false)
 
+-- what a test says where its condition holds
 given_is : (a b : Bool) → given a b ≡ true → a ≡ true → b ≡ true
 given_is true b e h = e
 given_is false b e h = absurd cc
@@ -95,10 +102,17 @@ own_flow : (e : Entry) (reg : ℕ) → e.indirect ≡ false → flow_of e reg �
 unfolding flow_of
 own_flow e reg h = rw h refl
 
+-- what the test of an entry says
 is_tame : (p : Prefix) (e : Entry) → tame p e ≡ true → IsTame p e
 is_tame p e h =
-    let a = both (not (is_indirect e.flow) && given (coded_kind e.number == 0) (not (is_direct e.flow)) && given e.operand (coded_kind e.number == 0)) (elim e.indirect [ true ↦ each_below (calm_form p e) 256 | false ↦ not (forms_of p e == 0x5743) ]) h in
-    let b = both (not (is_indirect e.flow) && given (coded_kind e.number == 0) (not (is_direct e.flow))) (given e.operand (coded_kind e.number == 0)) a.0 in
+    let a = both (not (is_indirect e.flow) && given (coded_kind e.number == 0) (not (is_direct e.flow))
+    && given e.operand (coded_kind e.number == 0)) (elim e.indirect [
+      | true ↦ each_below (calm_form p e) 256
+      | false ↦ not
+          (forms_of p e == 0x5743)
+    ]) h in
+    let b = both (not (is_indirect e.flow) && given (coded_kind e.number == 0) (not (is_direct e.flow)))
+    (given e.operand (coded_kind e.number == 0)) a.0 in
     let c = both (not (is_indirect e.flow)) (given (coded_kind e.number == 0) (not (is_direct e.flow))) b.0 in
     let indirect : is_indirect e.flow ≡ false = not_is _ c.0 in
     let direct : (coded_kind e.number == 0) ≡ true → is_direct e.flow ≡ false = λ k. not_is _ (given_is _ _ c.1 k) in
@@ -107,13 +121,16 @@ is_tame p e h =
       direct = direct;
       permitted = λ has m lt passes. elim (true_or_false e.indirect) [
         | inl marked ↦
-            (let all : each_below (calm_form p e) 256 ≡ true = chosen_true e.indirect (each_below (calm_form p e) 256) (not (forms_of p e == 0x5743)) true marked a.1 in
+            (let all : each_below (calm_form p e) 256 ≡ true = chosen_true e.indirect (each_below (calm_form p e) 256)
+            (not (forms_of p e == 0x5743)) true marked a.1 in
             let f = given_is (permits (calm (forms_of p e)) m) _ (each_below-at (calm_form p e) 256 m all lt) passes in
-            let g = both (permits (forms_of p e) m && not (is_direct (flow_of e (reg_of m)))) (not (is_indirect (flow_of e (reg_of m)))) f in
+            let g = both (permits (forms_of p e) m && not (is_direct (flow_of e (reg_of m))))
+            (not (is_indirect (flow_of e (reg_of m)))) f in
             let k = both (permits (forms_of p e) m) (not (is_direct (flow_of e (reg_of m)))) g.0 in
             (k.0, not_is _ k.1, not_is _ g.1))
         | inr own ↦
-            (let other : (forms_of p e == 0x5743) ≡ false = not_is _ (chosen_false e.indirect (each_below (calm_form p e) 256) (not (forms_of p e == 0x5743)) true own a.1) in (
+            (let other : (forms_of p e == 0x5743) ≡ false = not_is _
+            (chosen_false e.indirect (each_below (calm_form p e) 256) (not (forms_of p e == 0x5743)) true own a.1) in (
               ap (λ (f : ℕ). permits f m) (sym (cond_is_false (forms_of p e == 0x5743) 0x4343 (forms_of p e) other)) ∙ passes,
               ap is_direct (own_flow e (reg_of m) own) ∙ direct (given_is e.operand (coded_kind e.number == 0) b.1 has),
               ap is_indirect (own_flow e (reg_of m) own) ∙ indirect,
@@ -121,31 +138,40 @@ is_tame p e h =
       ];
     }
 
+-- the entry of each opcode is tame
 entry_tame : (two : Bool) (b : ℕ) (p : Prefix) → b < 256 → IsTame p (entry_of two b)
 entry_tame two b p lt = is_tame p (entry_of two b) (tame_at two b p lt)
 
 -- ---- an opcode has been read
 
--- the shape behind an opcode without operand
-abbrev bare_shape : Prefix → ℕ → Entry → Shape
-bare_shape p head e = record { head = head; number = e.number; number_len = coded_len p e.number 0; flow = e.flow; reg = 0 }
+-- the shape after an opcode without operand
+abbrev shape_alone : Prefix → ℕ → Entry → Shape
+shape_alone p head e = record { head = head; number = e.number; number_len = coded_len p e.number 0; flow = e.flow; reg = 0 }
 
 -- the refusal of a shape
 abbrev refused : Result Shape DecodeFault
 refused = Err NotPermitted
 
-entry_operand : (p : Prefix) (head : ℕ) (e : Entry) (rest : List ℕ) → (forms_of p e == 0) ≡ false → e.operand ≡ true → entry_shape p head e rest ≡ operand_shape p head e rest
+-- the shape of an entry with an operand
+entry_operand : (p : Prefix) (head : ℕ) (e : Entry) (rest : List ℕ) → (forms_of p e == 0) ≡ false → e.operand ≡ true
+    → entry_shape p head e rest ≡ operand_shape p head e rest
 unfolding entry_shape
-entry_operand p head e rest some has = cond_is_false (forms_of p e == 0) refused _ some ∙ cond_is_true e.operand (operand_shape p head e rest) (ok (bare_shape p head e)) has
+entry_operand p head e rest some has = cond_is_false (forms_of p e == 0) refused _ some
+    ∙ cond_is_true e.operand (operand_shape p head e rest) (ok (shape_alone p head e)) has
 
-entry_bare : (p : Prefix) (head : ℕ) (e : Entry) (rest : List ℕ) → (forms_of p e == 0) ≡ false → e.operand ≡ false → entry_shape p head e rest ≡ Ok (bare_shape p head e)
+-- the shape of an entry with none
+entry_alone : (p : Prefix) (head : ℕ) (e : Entry) (rest : List ℕ) → (forms_of p e == 0) ≡ false → e.operand ≡ false
+    → entry_shape p head e rest ≡ Ok (shape_alone p head e)
 unfolding entry_shape
-entry_bare p head e rest some has = cond_is_false (forms_of p e == 0) refused _ some ∙ cond_is_false e.operand (operand_shape p head e rest) (ok (bare_shape p head e)) has
+entry_alone p head e rest some has = cond_is_false (forms_of p e == 0) refused _ some
+    ∙ cond_is_false e.operand (operand_shape p head e rest) (ok (shape_alone p head e)) has
 
-plain_number : (o : Option ℕ) (p : Prefix) (e : Entry) (pre : List ℕ) → IsTame p e → ((rest : List ℕ) → shape_of (pre ++ rest) ≡ Ok (bare_shape p (length pre) e)) → (k : Number) → e.number ≡ k
+-- after an opcode with no operand the next stage means what has been read
+plain_number : (o : Option ℕ) (p : Prefix) (e : Entry) (pre : List ℕ) → IsTame p e
+    → ((rest : List ℕ) → shape_of (pre ++ rest) ≡ Ok (shape_alone p (length pre) e)) → (k : Number) → e.number ≡ k
     → (coded_kind e.number == 0) ≡ true → Meant o (numbers (coded_len p k 0)) pre
 plain_number o p e pre t fixed k is kind = numbers_meant o (coded_len p k 0) pre (record {
-  shape = bare_shape p (length pre) e;
+  shape = shape_alone p (length pre) e;
   fixed = λ rest long. fixed rest;
   total = ap (λ (j : Number). length pre + coded_len p j 0) is;
   direct = t.direct kind;
@@ -153,10 +179,12 @@ plain_number o p e pre t fixed k is kind = numbers_meant o (coded_len p k 0) pre
 })
 
 -- a number comes next
-number_meant : (o : Option ℕ) (p : Prefix) (e : Entry) (pre : List ℕ) → IsTame p e → ((rest : List ℕ) → shape_of (pre ++ rest) ≡ Ok (bare_shape p (length pre) e)) → (k : Number) → e.number ≡ k → Meant o (by_number p k) pre
+number_meant : (o : Option ℕ) (p : Prefix) (e : Entry) (pre : List ℕ) → IsTame p e
+    → ((rest : List ℕ) → shape_of (pre ++ rest) ≡ Ok (shape_alone p (length pre) e)) → (k : Number) → e.number ≡ k
+    → Meant o (by_number p k) pre
 unfolding coded_len
 number_meant o p e pre t fixed Short is = record {
-  shape = bare_shape p (length pre) e;
+  shape = shape_alone p (length pre) e;
   fixed = λ rest long. fixed rest;
   head = refl;
   number = is;
@@ -166,7 +194,7 @@ number_meant o p e pre t fixed Short is = record {
 number_meant o p e pre t fixed Near is = (
   omega arith,
   record {
-    shape = bare_shape p (length pre) e;
+    shape = shape_alone p (length pre) e;
     fixed = λ rest long. fixed rest;
     head = refl;
     number = is;
@@ -181,9 +209,11 @@ number_meant o p e pre t fixed Offset is = plain_number o p e pre t fixed Offset
 number_meant o p e pre t fixed TestByte is = plain_number o p e pre t fixed TestByte is (ap (λ (k : Number). coded_kind k == 0) is)
 number_meant o p e pre t fixed TestSized is = plain_number o p e pre t fixed TestSized is (ap (λ (k : Number). coded_kind k == 0) is)
 
-behind_meant : (o : Option ℕ) (p : Prefix) (e : Entry) (pre : List ℕ) → IsTame p e → ((rest : List ℕ) → shape_of (pre ++ rest) ≡ entry_shape p (length pre) e rest) → Meant o (behind p e) pre
+-- after an opcode the next stage means what has been read
+after_opcode_meant : (o : Option ℕ) (p : Prefix) (e : Entry) (pre : List ℕ) → IsTame p e
+    → ((rest : List ℕ) → shape_of (pre ++ rest) ≡ entry_shape p (length pre) e rest) → Meant o (after_opcode p e) pre
 unfolding forms_of
-behind_meant o p e pre t shapes =
+after_opcode_meant o p e pre t shapes =
     elim (true_or_false (forms_of p e == 0)) [
       | inl none ↦ rw none tt
       | inr some ↦ elim (true_or_false e.operand) [
@@ -195,12 +225,14 @@ behind_meant o p e pre t shapes =
           other_is = refl;
           permitted = t.permitted has;
         })
-        | inr without ↦ rw (some, without) (number_meant o p e pre t (λ rest. shapes rest ∙ entry_bare p (length pre) e rest some without) e.number refl)
+        | inr without ↦ rw (some, without) (number_meant o p e pre t
+            (λ rest. shapes rest ∙ entry_alone p (length pre) e rest some without) e.number refl)
       ]
     ]
 
 -- the opcode itself
-opcode_meant : (o : Option ℕ) (p : Prefix) (pre : List ℕ) (b : ℕ) → b < 256 → ((rest : List ℕ) → shape_of (pre ++ b ∷ rest) ≡ opcode_shape p (length pre) (b ∷ rest)) → Meant o (opcode p b) (pre ++ b ∷ [])
+opcode_meant : (o : Option ℕ) (p : Prefix) (pre : List ℕ) (b : ℕ) → b < 256
+    → ((rest : List ℕ) → shape_of (pre ++ b ∷ rest) ≡ opcode_shape p (length pre) (b ∷ rest)) → Meant o (opcode p b) (pre ++ b ∷ [])
 unfolding opcode_shape
 opcode_meant o p pre b lt shapes =
     elim (true_or_false (b == 0x0F)) [
@@ -212,65 +244,78 @@ opcode_meant o p pre b lt shapes =
             ∙ ap (λ (n : ℕ). escaped_shape p n rest) (sym (length_push pre b)))
         | inr never ↦ rw (escape, never) tt
       ]
-      | inr other ↦ rw other (behind_meant o p (entry_of false b) (pre ++ b ∷ []) (entry_tame false b p lt) (λ rest.
+      | inr other ↦ rw other (after_opcode_meant o p (entry_of false b) (pre ++ b ∷ []) (entry_tame false b p lt) (λ rest.
           ap shape_of (more pre rest b) ∙ shapes rest
-          ∙ cond_is_false (b == 0x0F) (if escapes p then escaped_shape p (length pre + 1) rest else refused) (entry_shape p (length pre + 1) (entry_of false b) rest) other
+          ∙ cond_is_false (b == 0x0F) (if escapes p then escaped_shape p (length pre + 1) rest else refused)
+          (entry_shape p (length pre + 1) (entry_of false b) rest) other
           ∙ ap (λ (n : ℕ). entry_shape p n (entry_of false b) rest) (sym (length_push pre b))))
     ]
 
--- the opcode behind 0F
-escaped_meant : (o : Option ℕ) (p : Prefix) (pre : List ℕ) (b : ℕ) → b < 256 → ((rest : List ℕ) → shape_of (pre ++ rest) ≡ escaped_shape p (length pre) rest) → Meant o (behind p (entry_of true b)) (pre ++ b ∷ [])
+-- the opcode after 0F
+escaped_meant : (o : Option ℕ) (p : Prefix) (pre : List ℕ) (b : ℕ) → b < 256
+    → ((rest : List ℕ) → shape_of (pre ++ rest) ≡ escaped_shape p (length pre) rest)
+    → Meant o (after_opcode p (entry_of true b)) (pre ++ b ∷ [])
 unfolding escaped_shape
-escaped_meant o p pre b lt shapes = behind_meant o p (entry_of true b) (pre ++ b ∷ []) (entry_tame true b p lt) (λ rest.
+escaped_meant o p pre b lt shapes = after_opcode_meant o p (entry_of true b) (pre ++ b ∷ []) (entry_tame true b p lt) (λ rest.
     ap shape_of (more pre rest b) ∙ shapes (b ∷ rest) ∙ ap (λ (n : ℕ). entry_shape p n (entry_of true b) rest) (sym (length_push pre b)))
 
 -- ---- an instruction begins
 
-plain_shapes : (b : ℕ) (rest : List ℕ) → prefix_of b ≡ Plain → shape_of (b ∷ rest) ≡ opcode_shape Plain 0 (b ∷ rest)
+-- the shape of bytes with no prefix
+plain_shapes : (b : ℕ) (rest : List ℕ) → prefix_of b ≡ Unprefixed → shape_of (b ∷ rest) ≡ opcode_shape Unprefixed 0 (b ∷ rest)
 unfolding shape_of prefixed_shape
 plain_shapes b rest e = ap (λ (p : Prefix). prefixed_shape p (b ∷ rest) rest) e
 
 -- a mask's ModRM, and that of FF
-mask_operand : (o : Option ℕ) → Meant o (opcode Plain 0x83) (0x83 ∷ []) → WaitsForOperand 0xFFFF 1 1 (0x83 ∷ [])
+mask_operand : (o : Option ℕ) → Meant o (opcode Unprefixed 0x83) (0x83 ∷ []) → WaitsForOperand 0xFFFF 1 1 (0x83 ∷ [])
 unfolding entry_of forms_of coded_len
 mask_operand o m = m
 
-goal_operand : (o : Option ℕ) → Meant o (opcode Plain 0xFF) (0xFF ∷ []) → WaitsForOperand 0x4343 0 0 (0xFF ∷ [])
+-- after FF, ModRM of a form that is no indirect transfer is waited for
+transfer_operand : (o : Option ℕ) → Meant o (opcode Unprefixed 0xFF) (0xFF ∷ []) → WaitsForOperand 0x4343 0 0 (0xFF ∷ [])
 unfolding entry_of forms_of coded_len
-goal_operand o m = m
+transfer_operand o m = m
 
-plain_bare : (o : Option ℕ) (b : ℕ) → b < 256 → prefix_of b ≡ Plain → Meant o (bare Plain b) (b ∷ [])
-plain_bare o b lt e =
-    let m = opcode_meant o Plain [] b lt (λ rest. plain_shapes b rest e) in
+-- the first byte where it is no prefix
+first_unprefixed : (o : Option ℕ) (b : ℕ) → b < 256 → prefix_of b ≡ Unprefixed → Meant o (unprefixed Unprefixed b) (b ∷ [])
+first_unprefixed o b lt e =
+    let m = opcode_meant o Unprefixed [] b lt (λ rest. plain_shapes b rest e) in
     elim (true_or_false (b == 0x83)) [
       | inl mask ↦
           (let is : b ≡ 0x83 = eqb-true b 0x83 mask in
-          rw mask (ap (λ (x : ℕ). x ∷ []) is, subst (λ (x : ℕ). WaitsForOperand 0xFFFF 1 1 (x ∷ [])) (sym is) (mask_operand o (subst (λ (x : ℕ). Meant o (opcode Plain x) (x ∷ [])) is m))))
+          rw mask (
+            ap (λ (x : ℕ). x ∷ []) is,
+            subst (λ (x : ℕ). WaitsForOperand 0xFFFF 1 1 (x ∷ [])) (sym is)
+                (mask_operand o (subst (λ (x : ℕ). Meant o (opcode Unprefixed x) (x ∷ [])) is m)),
+          ))
       | inr other ↦ rw other m
     ]
 
-bare_meant : (o : Option ℕ) (b : ℕ) → b < 256 → (p : Prefix) → prefix_of b ≡ p → Meant o (bare p b) (b ∷ [])
+-- the first byte, where no mask comes directly before
+unprefixed_meant : (o : Option ℕ) (b : ℕ) → b < 256 → (p : Prefix) → prefix_of b ≡ p → Meant o (unprefixed p b) (b ∷ [])
 unfolding shape_of prefixed_shape
-bare_meant o b lt Plain e = plain_bare o b lt e
-bare_meant o b lt Word e = (refl, λ rest. ap (λ (p : Prefix). prefixed_shape p (b ∷ rest) rest) e)
-bare_meant o b lt Repeat e = (refl, λ rest. ap (λ (p : Prefix). prefixed_shape p (b ∷ rest) rest) e)
-bare_meant o b lt RepeatNot e = (refl, λ rest. ap (λ (p : Prefix). prefixed_shape p (b ∷ rest) rest) e)
-bare_meant o b lt Lock e = (refl, λ rest. ap (λ (p : Prefix). prefixed_shape p (b ∷ rest) rest) e)
+unprefixed_meant o b lt Unprefixed e = first_unprefixed o b lt e
+unprefixed_meant o b lt Word e = (refl, λ rest. ap (λ (p : Prefix). prefixed_shape p (b ∷ rest) rest) e)
+unprefixed_meant o b lt Repeat e = (refl, λ rest. ap (λ (p : Prefix). prefixed_shape p (b ∷ rest) rest) e)
+unprefixed_meant o b lt RepeatNot e = (refl, λ rest. ap (λ (p : Prefix). prefixed_shape p (b ∷ rest) rest) e)
+unprefixed_meant o b lt Lock e = (refl, λ rest. ap (λ (p : Prefix). prefixed_shape p (b ∷ rest) rest) e)
 
 -- FF is no prefix
-goal_plain : prefix_of 0xFF ≡ Plain
+goal_plain : prefix_of 0xFF ≡ Unprefixed
 unfolding prefix_of
 goal_plain = refl
 
+-- the first byte of an instruction
 pub begun_meant : (o : Option ℕ) (b : ℕ) → b < 256 → IfSome o (λ r. r < 8) → Meant o (begun o b) (b ∷ [])
-begun_meant None b lt small = bare_meant None b lt (prefix_of b) refl
+begun_meant None b lt small = unprefixed_meant None b lt (prefix_of b) refl
 begun_meant (Some r) b lt small =
     elim (true_or_false (b == 0xFF)) [
       | inl far ↦
           (let is : b ≡ 0xFF = eqb-true b 0xFF far in
-          let m = goal_operand (Some r) (opcode_meant (Some r) Plain [] 0xFF (omega arith) (λ rest. plain_shapes 0xFF rest goal_plain)) in
+          let m = transfer_operand (Some r) (opcode_meant (Some r) Unprefixed [] 0xFF (omega arith)
+          (λ rest. plain_shapes 0xFF rest goal_plain)) in
           rw far (ap (λ (x : ℕ). x ∷ []) is, small, refl, subst (λ (x : ℕ). WaitsForOperand 0x4343 0 0 (x ∷ [])) (sym is) m))
-      | inr other ↦ rw other (bare_meant (Some r) b lt (prefix_of b) refl)
+      | inr other ↦ rw other (unprefixed_meant (Some r) b lt (prefix_of b) refl)
     ]
 
 -- ---- masks and their transfers
@@ -280,8 +325,10 @@ mask_numbers : each_below (λ b. given (masks_there b) (same_stage (modrm 0xFFFF
 unfolding permits
 mask_numbers = refl
 
+-- after a mask's ModRM one byte is waited for
 mask_number_next : (b : ℕ) → b < 256 → masks_there b ≡ true → modrm 0xFFFF 1 1 b ≡ number 1
-mask_number_next b lt e = stage_same _ _ (given_is _ _ (each_below-at (λ x. given (masks_there x) (same_stage (modrm 0xFFFF 1 1 x) (number 1))) 256 b mask_numbers lt) e)
+mask_number_next b lt e = stage_same _ _ (given_is _ _ (each_below-at
+    (λ x. given (masks_there x) (same_stage (modrm 0xFFFF 1 1 x) (number 1))) 256 b mask_numbers lt) e)
 
 -- what such a ModRM is
 mask_bounds : (b : ℕ) → masks_there b ≡ true → (0xE0 ≤ b) × (b < 0xE8) × (b ≢ 0xE4)
@@ -292,11 +339,14 @@ abbrev pairs : ℕ → Result Instr DecodeFault → Bool
 pairs r (Ok i) = (i.len == 2) && is_indirect i.flow && not (is_direct i.flow) && (i.reg == r)
 pairs r (Err e) = false
 
+-- computed: FF and ModRM on each register are read as an indirect transfer on it
 paired_reads : each_below (λ r. pairs r (reading (0xFF ∷ (0xD0 + r) ∷ [])) && pairs r (reading (0xFF ∷ (0xE0 + r) ∷ []))) 8 ≡ true
 unfolding reading whole_of shape_of prefixed_shape prefix_of opcode_shape entry_shape operand_shape sized_operand entry_of forms_of coded_len permits flow_of reg_if
 paired_reads = refl
 
-paired_at : (o : Option ℕ) (r b : ℕ) → r < 8 → o ≡ Some r → b % 8 ≡ r → (x : Result Instr DecodeFault) → reading (0xFF ∷ b ∷ []) ≡ x → pairs r x ≡ true → Finished o paired (0xFF ∷ b ∷ [])
+-- so for one register
+paired_at : (o : Option ℕ) (r b : ℕ) → r < 8 → o ≡ Some r → b % 8 ≡ r → (x : Result Instr DecodeFault) → reading (0xFF ∷ b ∷ []) ≡ x
+    → pairs r x ≡ true → Finished o paired (0xFF ∷ b ∷ [])
 paired_at o r b lt is last (Err e) h p = absurd cc
 paired_at o r b lt is last (Ok i) h p =
     let a = both ((i.len == 2) && is_indirect i.flow && not (is_direct i.flow)) (i.reg == r) p in
@@ -313,12 +363,17 @@ paired_at o r b lt is last (Ok i) h p =
     some_reg : ℕ → Option ℕ
     some_reg k = Some k
 
-goal_meant : (o : Option ℕ) (r b : ℕ) → b < 256 → r < 8 → o ≡ Some r → goes_by r b ≡ true → Finished o paired (0xFF ∷ b ∷ [])
-goal_meant o r b lt small is e =
-    let p = both (pairs r (reading (0xFF ∷ (0xD0 + r) ∷ []))) (pairs r (reading (0xFF ∷ (0xE0 + r) ∷ []))) (each_below-at (λ x. pairs x (reading (0xFF ∷ (0xD0 + x) ∷ [])) && pairs x (reading (0xFF ∷ (0xE0 + x) ∷ []))) 8 r paired_reads small) in
+-- FF and ModRM on the masked register are a finished indirect transfer
+transfer_meant : (o : Option ℕ) (r b : ℕ) → b < 256 → r < 8 → o ≡ Some r → goes_by r b ≡ true → Finished o paired (0xFF ∷ b ∷ [])
+transfer_meant o r b lt small is e =
+    let p = both (pairs r (reading (0xFF ∷ (0xD0 + r) ∷ []))) (pairs r (reading (0xFF ∷ (0xE0 + r) ∷ [])))
+    (each_below-at (λ x. pairs x (reading (0xFF ∷ (0xD0 + x) ∷ []))
+    && pairs x (reading (0xFF ∷ (0xE0 + x) ∷ []))) 8 r paired_reads small) in
     elim (either (b == 0xD0 + r) (b == 0xE0 + r) e) [
-      | inl call ↦ (let at : b ≡ 0xD0 + r = eqb-true b (0xD0 + r) call in subst (λ (x : ℕ). Finished o paired (0xFF ∷ x ∷ [])) (sym at) (paired_at o r (0xD0 + r) small is (omega arith) _ refl p.0))
-      | inr jump ↦ (let at : b ≡ 0xE0 + r = eqb-true b (0xE0 + r) jump in subst (λ (x : ℕ). Finished o paired (0xFF ∷ x ∷ [])) (sym at) (paired_at o r (0xE0 + r) small is (omega arith) _ refl p.1))
+      | inl call ↦ (let at : b ≡ 0xD0 + r = eqb-true b (0xD0 + r) call in subst (λ (x : ℕ). Finished o paired (0xFF ∷ x ∷ [])) (sym at)
+          (paired_at o r (0xD0 + r) small is (omega arith) _ refl p.0))
+      | inr jump ↦ (let at : b ≡ 0xE0 + r = eqb-true b (0xE0 + r) jump in subst (λ (x : ℕ). Finished o paired (0xFF ∷ x ∷ [])) (sym at)
+          (paired_at o r (0xE0 + r) small is (omega arith) _ refl p.1))
     ]
 
 -- ---- the step
@@ -328,9 +383,11 @@ abbrev pub IsInside : Stage → Type 0
 IsInside (ended k) = ⊥
 IsInside _ = Unit {0}
 
+-- one more byte: the next stage means what has been read
 pub step : (o : Option ℕ) (x : Stage) (b : ℕ) (pre : List ℕ) → b < 256 → IsInside x → Meant o x pre → Meant o (after x b) (pre ++ b ∷ [])
 step o dead b pre lt inside m = tt
-step o (prefixed p) b pre lt inside m = opcode_meant o p pre b lt (λ rest. m.1 (b ∷ rest) ∙ ap (λ (n : ℕ). opcode_shape p n (b ∷ rest)) (sym m.0))
+step o (prefixed p) b pre lt inside m = opcode_meant o p pre b lt
+    (λ rest. m.1 (b ∷ rest) ∙ ap (λ (n : ℕ). opcode_shape p n (b ∷ rest)) (sym m.0))
 step o (escaped p) b pre lt inside m = escaped_meant o p pre b lt m
 step o (operand forms initial other) b pre lt inside m = modrm_meant o forms initial other b pre lt m
 step o masking b pre lt inside m =
@@ -338,7 +395,8 @@ step o masking b pre lt inside m =
     elim (true_or_false (masks_there b)) [
       | inl mask ↦
           (let w = mask_bounds b mask in
-          let bytes : pre ++ b ∷ [] ≡ 0x83 ∷ (0xE0 + (b - 0xE0)) ∷ [] = ap (λ (z : List ℕ). z ++ b ∷ []) m.0 ∙ ap (λ (k : ℕ). 0x83 ∷ k ∷ []) (omega (arith, w.0)) in
+          let bytes : pre ++ b ∷ [] ≡ 0x83 ∷ (0xE0 + (b - 0xE0)) ∷ [] = ap (λ (z : List ℕ). z ++ b ∷ []) m.0
+          ∙ ap (λ (k : ℕ). 0x83 ∷ k ∷ []) (omega (arith, w.0)) in
           let waits = subst (λ (z : Stage). Meant o z (pre ++ b ∷ [])) (mask_number_next b lt mask) next in
           rw mask (bytes, omega (arith, w.0, w.1), (λ (e : b - 0xE0 ≡ 4). w.2 (omega (arith, e, w.0))), waits.1))
       | inr other ↦ rw other next
@@ -347,13 +405,14 @@ step o (mask_number r) b pre lt inside m =
     let done = finished o (pre ++ b ∷ []) (waits_more pre b 1 0 (omega arith) m.3) in
     elim (true_or_false (b == 0xE0)) [
       | inl mask ↦
-          (let bytes : pre ++ b ∷ [] ≡ 0x83 ∷ (0xE0 + r) ∷ 0xE0 ∷ [] = ap (λ (z : List ℕ). z ++ b ∷ []) m.0 ∙ ap (λ (k : ℕ). 0x83 ∷ (0xE0 + r) ∷ k ∷ []) (eqb-true b 0xE0 mask) in
+          (let bytes : pre ++ b ∷ [] ≡ 0x83 ∷ (0xE0 + r) ∷ 0xE0 ∷ [] = ap (λ (z : List ℕ). z ++ b ∷ []) m.0
+          ∙ ap (λ (k : ℕ). 0x83 ∷ (0xE0 + r) ∷ k ∷ []) (eqb-true b 0xE0 mask) in
           rw mask (record { instr = done.instr; read = done.read; len = done.len; kind = (done.kind.0, done.kind.1, bytes, m.1, m.2) }))
       | inr other ↦ rw other done
     ]
-step o (goal r) b pre lt inside m =
+step o (transfer_after_mask r) b pre lt inside m =
     elim (true_or_false (goes_by r b)) [
-      | inl goes ↦ rw goes (subst (λ (z : List ℕ). Finished o paired (z ++ b ∷ [])) (sym m.0) (goal_meant o r b lt m.1 m.2 goes))
+      | inl goes ↦ rw goes (subst (λ (z : List ℕ). Finished o paired (z ++ b ∷ [])) (sym m.0) (transfer_meant o r b lt m.1 m.2 goes))
       | inr other ↦ rw other (modrm_meant o 0x4343 0 0 b pre lt m.3)
     ]
 step o (sib n) b pre lt inside m = numbers_meant o _ (pre ++ b ∷ []) (m b lt)

@@ -6,11 +6,11 @@ use Rattle.nc_decode.specs.declared.entry.Entry.{Entry}
 use Rattle.nc_decode.specs.declared.entry.Number.{Number}
 use Rattle.nc_decode.specs.declared.entry.Number.TheVariants.{Short, Near}
 use Rattle.nc_decode.specs.declared.entry.Prefix.{Prefix}
-use Rattle.nc_decode.specs.declared.entry.Prefix.TheVariants.{Plain, Word, Repeat, RepeatNot, Lock}
+use Rattle.nc_decode.specs.declared.entry.Prefix.TheVariants.{Absent as Unprefixed, Word, Repeat, RepeatNot, Lock}
 use Rattle.nc_decode.specs.Automaton.{next_state}
-use Rattle.nc_decode.specs.Entries.{entry_of}
+use Rattle.nc_decode.specs.machinery.Entries.{entry_of}
 use Rattle.nc_decode.specs.Rows.{mod_of, reg_of}
-use Rattle.nc_decode.specs.Shapes.{prefix_of, prefix_index, forms_of, coded_len, permits, has_sib, escapes}
+use Rattle.nc_decode.specs.machinery.Shapes.{prefix_of, prefix_index, forms_of, coded_len, permits, has_sib, escapes}
 use Rattle.nc_decode.specs.Spelling.{operand_len}
 use Rattle.nc_decode.proofs.EntriesMatchRows.{each, each_below}
 use Rattle.nc_decode.proofs.BoolTests.{both, true_or_false, chosen_true, chosen_false, each_below-at}
@@ -23,9 +23,9 @@ pub data Ended : Type 0 where
   by_near : Ended
   paired : Ended
 
--- what the automaton waits for: nothing any more; an opcode behind a prefix, or behind 0F; ModRM of these forms, with the
--- bytes of the number where reg is 0 and where it isn't; ModRM behind 83, and the number behind that of a register; ModRM of
--- FF behind a mask; SIB where mod is 0; so many bytes; a displacement; and an instruction
+-- what the automaton waits for: nothing any more; an opcode after a prefix, or after 0F; ModRM of these forms, with the
+-- bytes of the number where reg is 0 and where it isn't; ModRM after 83, and the number after that of a register; ModRM of
+-- FF after a mask; SIB where mod is 0; so many bytes; a displacement; and an instruction
 pub data Stage : Type 0 where
   dead : Stage
   prefixed : Prefix → Stage
@@ -33,7 +33,7 @@ pub data Stage : Type 0 where
   operand : ℕ → ℕ → ℕ → Stage
   masking : Stage
   mask_number : ℕ → Stage
-  goal : ℕ → Stage
+  transfer_after_mask : ℕ → Stage
   sib : ℕ → Stage
   number : ℕ → Stage
   short : Stage
@@ -56,25 +56,25 @@ abbrev pub calm : ℕ → ℕ
 calm forms = if forms == 0x5743 then 0x4343 else forms
 
 -- an opcode with this entry has been read
-abbrev pub behind : Prefix → Entry → Stage
-behind p e =
+abbrev pub after_opcode : Prefix → Entry → Stage
+after_opcode p e =
     if forms_of p e == 0 then dead
     else (if e.operand then operand (calm (forms_of p e)) (coded_len p e.number 0) (coded_len p e.number 1)
     else by_number p e.number)
 
 -- an opcode comes next
 abbrev pub opcode : Prefix → ℕ → Stage
-opcode p b = if b == 0x0F then (if escapes p then escaped p else dead) else behind p (entry_of false b)
+opcode p b = if b == 0x0F then (if escapes p then escaped p else dead) else after_opcode p (entry_of false b)
 
 -- no prefix stands before it
-abbrev pub bare : Prefix → ℕ → Stage
-bare Plain b = if b == 0x83 then masking else opcode Plain b
-bare p b = prefixed p
+abbrev pub unprefixed : Prefix → ℕ → Stage
+unprefixed Unprefixed b = if b == 0x83 then masking else opcode Unprefixed b
+unprefixed p b = prefixed p
 
--- an instruction begins, behind the mask of a register or not
+-- an instruction begins, after the mask of a register or not
 abbrev pub begun : Option ℕ → ℕ → Stage
-begun None b = bare (prefix_of b) b
-begun (Some r) b = if b == 0xFF then goal r else bare (prefix_of b) b
+begun None b = unprefixed (prefix_of b) b
+begun (Some r) b = if b == 0xFF then transfer_after_mask r else unprefixed (prefix_of b) b
 
 -- ModRM
 abbrev pub modrm : ℕ → ℕ → ℕ → ℕ → Stage
@@ -99,11 +99,11 @@ goes_by r b = (b == 0xD0 + r) || (b == 0xE0 + r)
 abbrev pub after : Stage → ℕ → Stage
 after dead b = dead
 after (prefixed p) b = opcode p b
-after (escaped p) b = behind p (entry_of true b)
+after (escaped p) b = after_opcode p (entry_of true b)
 after (operand forms initial other) b = modrm forms initial other b
 after masking b = if masks_there b then mask_number (b - 0xE0) else modrm 0xFFFF 1 1 b
 after (mask_number r) b = if b == 0xE0 then ended (masked r) else ended plain
-after (goal r) b = if goes_by r b then ended paired else modrm 0x4343 0 0 b
+after (transfer_after_mask r) b = if goes_by r b then ended paired else modrm 0x4343 0 0 b
 after (sib n) b = numbers ((if b % 8 == 5 then 4 else 0) + n)
 after (number n) b = numbers (n - 1)
 after short b = ended by_short
@@ -113,7 +113,7 @@ after (ended k) b = begun (masked_by k) b
 -- the states, from 0 on
 abbrev pub stages : List Stage
 stages =
-    dead ∷ (prefixed Word) ∷ (prefixed Repeat) ∷ (prefixed RepeatNot) ∷ (prefixed Lock) ∷ (escaped Plain) ∷
+    dead ∷ (prefixed Word) ∷ (prefixed Repeat) ∷ (prefixed RepeatNot) ∷ (prefixed Lock) ∷ (escaped Unprefixed) ∷
     (escaped Word) ∷ (escaped Lock) ∷ (operand 0x0003 0 0) ∷ (operand 0x000C 1 0) ∷ (operand 0x000C 4 0) ∷
     (operand 0x007F 1 1) ∷ (operand 0x007F 4 4) ∷ (operand 0x00E0 1 1) ∷ (operand 0x00FF 0 0) ∷
     (operand 0x0101 0 0) ∷ (operand 0x0101 1 1) ∷ (operand 0x0101 2 2) ∷ (operand 0x0101 4 4) ∷
@@ -121,7 +121,8 @@ stages =
     (operand 0xF0F0 1 1) ∷ (operand 0xFDFD 1 0) ∷ (operand 0xFDFD 2 0) ∷ (operand 0xFDFD 4 0) ∷
     (operand 0xFFFF 0 0) ∷ (operand 0xFFFF 1 1) ∷ (operand 0xFFFF 2 2) ∷ (operand 0xFFFF 4 4) ∷ masking ∷
     (mask_number 0) ∷ (mask_number 1) ∷ (mask_number 2) ∷ (mask_number 3) ∷ (mask_number 5) ∷ (mask_number 6) ∷
-    (mask_number 7) ∷ (goal 0) ∷ (goal 1) ∷ (goal 2) ∷ (goal 3) ∷ (goal 5) ∷ (goal 6) ∷ (goal 7) ∷ (sib 0) ∷
+    (mask_number 7) ∷ (transfer_after_mask 0) ∷ (transfer_after_mask 1) ∷ (transfer_after_mask 2) ∷ (transfer_after_mask 3)
+    ∷ (transfer_after_mask 5) ∷ (transfer_after_mask 6) ∷ (transfer_after_mask 7) ∷ (sib 0) ∷
     (sib 1) ∷ (sib 2) ∷ (sib 4) ∷ (number 1) ∷ (number 2) ∷ (number 3) ∷ (number 4) ∷ (number 5) ∷ (number 6) ∷
     (number 7) ∷ (number 8) ∷ (number 9) ∷ short ∷ (near 1) ∷ (near 2) ∷ (near 3) ∷ (near 4) ∷ (ended plain) ∷
     (ended (masked 0)) ∷ (ended (masked 1)) ∷ (ended (masked 2)) ∷ (ended (masked 3)) ∷ (ended (masked 5)) ∷
@@ -152,7 +153,7 @@ same_stage (escaped p) (escaped q) = same_prefix p q
 same_stage (operand f m n) (operand g j k) = (f == g) && (m == j) && (n == k)
 same_stage masking masking = true
 same_stage (mask_number r) (mask_number t) = r == t
-same_stage (goal r) (goal t) = r == t
+same_stage (transfer_after_mask r) (transfer_after_mask t) = r == t
 same_stage (sib m) (sib n) = m == n
 same_stage (number m) (number n) = m == n
 same_stage short short = true
@@ -160,14 +161,16 @@ same_stage (near m) (near n) = m == n
 same_stage (ended k) (ended l) = same_end k l
 same_stage _ _ = false
 
+-- prefixes that the test finds equal are equal
 prefix_same : (p q : Prefix) → same_prefix p q ≡ true → p ≡ q
-prefix_same Plain Plain e = refl
+prefix_same Unprefixed Unprefixed e = refl
 prefix_same Word Word e = refl
 prefix_same Repeat Repeat e = refl
 prefix_same RepeatNot RepeatNot e = refl
 prefix_same Lock Lock e = refl
 prefix_same _ _ e = absurd cc
 
+-- endings that the test finds equal are equal
 end_same : (k l : Ended) → same_end k l ≡ true → k ≡ l
 end_same plain plain e = refl
 end_same (masked r) (masked t) e = ap (λ (x : ℕ). masked x) (eqb-true r t e)
@@ -176,6 +179,7 @@ end_same by_near by_near e = refl
 end_same paired paired e = refl
 end_same _ _ e = absurd cc
 
+-- stages that the test finds equal are equal
 pub stage_same : (x y : Stage) → same_stage x y ≡ true → x ≡ y
 stage_same dead dead e = refl
 stage_same (prefixed p) (prefixed q) e = ap (λ (z : Prefix). prefixed z) (prefix_same p q e)
@@ -186,7 +190,7 @@ stage_same (operand f m n) (operand g j k) e =
     rw (eqb-true f g two.0, eqb-true m j two.1, eqb-true n k one.1) refl
 stage_same masking masking e = refl
 stage_same (mask_number r) (mask_number t) e = ap (λ (x : ℕ). mask_number x) (eqb-true r t e)
-stage_same (goal r) (goal t) e = ap (λ (x : ℕ). goal x) (eqb-true r t e)
+stage_same (transfer_after_mask r) (transfer_after_mask t) e = ap (λ (x : ℕ). transfer_after_mask x) (eqb-true r t e)
 stage_same (sib m) (sib n) e = ap (λ (x : ℕ). sib x) (eqb-true m n e)
 stage_same (number m) (number n) e = ap (λ (x : ℕ). number x) (eqb-true m n e)
 stage_same short short e = refl
@@ -221,11 +225,13 @@ each_first t x xs e = elim (true_or_false (t x)) [
   | inr not ↦ absurd (let f : false ≡ true = chosen_false (t x) (each t xs) false true not e in cc)
 ]
 
+-- each number of a row is a state
 row_small : (row : List ℕ) (b : ℕ) → each (λ s. nat_lt s 75) row ≡ true → get_or row b 0 < 75
 row_small [] b e = omega arith
 row_small (s ∷ row) zero e = let h = (each_first (λ x. nat_lt x 75) s row e).0 in ltb-true s 75 h
 row_small (s ∷ row) (suc b) e = row_small row b (each_first (λ x. nat_lt x 75) s row e).1
 
+-- each number of the table is a state
 table_small : (rows : List (List ℕ)) (s b : ℕ) → each (λ row. each (λ x. nat_lt x 75) row) rows ≡ true → get_or (get_or rows s []) b 0 < 75
 table_small [] s b e = omega arith
 table_small (row ∷ rows) zero b e = row_small row b (each_first (λ r. each (λ x. nat_lt x 75) r) row rows e).0

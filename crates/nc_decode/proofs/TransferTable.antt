@@ -14,4 +14,5 @@ tabled = refl
 pub transfer_at : (b : ℕ) (d : Bool) → b < 256 → get_or TRANSFERS b d ≡ may_transfer b
 transfer_at b d lt =
     get_or_default TRANSFERS b d false lt
-    ∙ same_is (get_or TRANSFERS b false) (may_transfer b) (each_below-at (λ x. same (get_or TRANSFERS x false) (may_transfer x)) 256 b tabled lt)
+    ∙ same_is (get_or TRANSFERS b false) (may_transfer b) (each_below-at
+    (λ x. same (get_or TRANSFERS x false) (may_transfer x)) 256 b tabled lt)

@@ -1,14 +1,23 @@
 -- Addresses: bundles of 32 bytes, where a region begins, and how large it may be.
 use Rattle.std.specs.Prelude.{◌≡◌, ℕ, ◌+◌, ◌*◌, ◌%◌, ◌≤◌}
+use Rattle.nc_decode.specs.declared.bundles.TheConstants.{BUNDLE, START, MIN_BUNDLES, MAX_BUNDLES}
 
 -- the first byte of a bundle
 abbrev pub IsBundleStart : ℕ → Type 0
-IsBundleStart at = at % 32 ≡ 0
+IsBundleStart at = at % BUNDLE ≡ 0
 
 -- so many bytes from this address on lie in one bundle
 abbrev pub IsInOneBundle : ℕ → ℕ → Type 0
-IsInOneBundle at len = at % 32 + len ≤ 32
+IsInOneBundle at len = at % BUNDLE + len ≤ BUNDLE
 
--- the end of a region of 2 to 524288 bundles, which begins at 00010000
+-- a region may have so many bundles: from 2, of which the last is the guard, to 524288
+abbrev pub IsRegionSize : ℕ → Type 0
+IsRegionSize bundles = (MIN_BUNDLES ≤ bundles) × (bundles ≤ MAX_BUNDLES)
+
+-- the address after a region of so many bundles
+abbrev pub limit_after : ℕ → ℕ
+limit_after bundles = START + BUNDLE * bundles
+
+-- the end of such a region: a bundle start, from the limit of the smallest to that of the largest
 abbrev pub IsLawfulLimit : ℕ → Type 0
-IsLawfulLimit limit = (limit % 32 ≡ 0) × (0x10000 + 64 ≤ limit) × (limit ≤ 0x10000 + 32 * 524288)
+IsLawfulLimit limit = IsBundleStart limit × (limit_after MIN_BUNDLES ≤ limit) × (limit ≤ limit_after MAX_BUNDLES)

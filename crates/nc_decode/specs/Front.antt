@@ -1,11 +1,12 @@
 -- The instruction at the front of some bytes, as one function, and what is known of it.
--- The law `law_of_fronts` ties it to the relation of `Spelling`; whoever stands above cites these words alone.
+-- The law `law_of_fronts` ties it to the relation of `Spelling`; whoever stands above cites only these words.
 use Rattle.std.specs.Prelude.{◌≡◌, ◌≢◌, ◌↔◌, ℕ, ◌<◌, ◌≤◌, List, [], ◌∷◌, ◌++◌, length, take, Option, Some, None, nat_lt, if◌then◌else◌, pos, IfSome, IsTrue}
 use Rattle.std.specs.Result.{result_ok}
 use Rattle.nc_decode.specs.declared.instruction.Instr.{Instr}
 use Rattle.nc_decode.specs.declared.instruction.Flow.{Flow}
 use Rattle.nc_decode.specs.declared.instruction.Flow.TheVariants.{Next, Stop}
-use Rattle.nc_decode.specs.Reading.{reading}
+use Rattle.nc_decode.specs.Barred.{IsBarred}
+use Rattle.nc_decode.specs.machinery.Reading.{reading}
 use Rattle.nc_decode.specs.Spelling.{mask, Spells, IsAtFront}
 use Rattle.nc_decode.specs.Transfers.{is_direct, may_transfer}
 
@@ -38,9 +39,10 @@ IsStopFirst = (rest : List ℕ) → first_instruction (0xF4 ∷ rest) ≡ Some (
 abbrev pub HasItsLength : Type 0
 HasItsLength = (bytes : List ℕ) (i : Instr) → first_instruction bytes ≡ Some i → (1 ≤ i.len) × (i.len ≤ length bytes)
 
--- nothing behind an instruction matters
+-- nothing after an instruction matters
 abbrev pub DependsOnItsBytes : Type 0
-DependsOnItsBytes = (bytes others : List ℕ) (i : Instr) → first_instruction bytes ≡ Some i → take i.len others ≡ take i.len bytes → first_instruction others ≡ Some i
+DependsOnItsBytes = (bytes others : List ℕ) (i : Instr) → first_instruction bytes ≡ Some i → take i.len others ≡ take i.len bytes
+    → first_instruction others ≡ Some i
 
 -- only an instruction that goes on to the next masks a register
 abbrev pub MasksOnlyBeforeNext : Type 0
@@ -52,11 +54,20 @@ NamesRegisters = (bytes : List ℕ) (i : Instr) → first_instruction bytes ≡ 
 
 -- an instruction masks a register exactly where its bytes are that register's mask, for the registers 0 to 7 but 4
 abbrev pub MasksExactly : Type 0
-MasksExactly = (bytes : List ℕ) (i : Instr) (r : ℕ) → first_instruction bytes ≡ Some i → (i.masks ≡ Some r) ↔ ((take i.len bytes ≡ mask r) × (r < 8) × (r ≢ 4))
+MasksExactly = (bytes : List ℕ) (i : Instr) (r : ℕ) → first_instruction bytes ≡ Some i → (i.masks ≡ Some r)
+    ↔ ((take i.len bytes ≡ mask r) × (r < 8) × (r ≢ 4))
 
--- behind a prefix an instruction goes on to the next and masks nothing
-abbrev pub GoesOnBehindPrefix : Type 0
-GoesOnBehindPrefix = (bytes : List ℕ) (i : Instr) (s : Spells bytes i) → s.parts.prefix ≢ None → (i.flow ≡ Next) × (i.masks ≡ None)
+-- after a prefix an instruction goes on to the next and masks nothing
+abbrev pub GoesOnAfterPrefix : Type 0
+GoesOnAfterPrefix = (bytes : List ℕ) (i : Instr) (s : Spells bytes i) → s.parts.prefix ≢ None → (i.flow ≡ Next) × (i.masks ≡ None)
+
+-- no permitted instruction has a barred beginning
+abbrev pub NeverBarred : Type 0
+NeverBarred = (bytes : List ℕ) (i : Instr) → Spells bytes i → ¬ IsBarred bytes
+
+-- so none at the front of some bytes has one
+abbrev pub NeverBarredAtFront : Type 0
+NeverBarredAtFront = (bytes : List ℕ) (i : Instr) → first_instruction bytes ≡ Some i → ¬ IsBarred (take i.len bytes)
 
 -- a direct transfer begins with one of a few bytes
 abbrev pub BeginsAsTransfer : Type 0

@@ -1,8 +1,6 @@
-pub mod Entries
+pub mod machinery
 pub mod Rows
 pub mod Spelling
-pub mod Shapes
-pub mod Reading
 pub mod Barred
 pub mod Bundles
 pub mod Transfers

@@ -18,7 +18,7 @@ is_indirect IndirectJump = true
 is_indirect IndirectCall = true
 is_indirect _ = false
 
--- the address behind an instruction at this one (no region ends near 2^32, so it is the same modulo 2^32)
+-- the address after an instruction at this one (no region ends near 2^32, so it is the same modulo 2^32)
 abbrev pub behind : Instr → ℕ → ℕ
 behind i at = at + i.len
 

@@ -1,10 +1,49 @@
 //! The numbers of bundles and regions, for every crate.
 
+ghost use Rattle.std.specs.Prelude.{◌≡◌, ◌+◌, ◌*◌, ◌%◌, ◌-◌, ◌≤◌, ◌<◌, ◌↔◌, IsTrue};
+ghost use Rattle.nc_decode.specs.Bundles.{IsBundleStart, IsLawfulLimit, IsRegionSize};
+
 /// The bytes of a bundle. No permitted instruction crosses the end of one.
 pub const BUNDLE: u32 = 32;
 
 /// The address of a region's first byte. What stands below it is trusted.
 pub const START: u32 = 0x10000;
 
-/// The most bundles of a region. The fewest are 2, of which the last is the guard.
+/// The fewest bundles of a region: one for code, and the guard.
+pub const MIN_BUNDLES: u32 = 2;
+
+/// The most bundles of a region.
 pub const MAX_BUNDLES: u32 = 524_288;
+
+/// A bundle starts at this address.
+#[inline(always)]
+pub fn is_bundle_start(at: u32) -> bool
+    ensures { IsTrue result ↔ IsBundleStart at }
+{
+    at % BUNDLE == 0
+}
+
+/// The bytes from this address to the end of its bundle, from 1 to 32.
+#[inline(always)]
+pub fn bundle_rest(at: u32) -> u32
+    ensures rest { result ≡ 32 - at % 32 }
+    ensures some { (1 ≤ result) × (result ≤ 32) }
+{
+    BUNDLE - at % BUNDLE
+}
+
+/// A region may have so many bundles.
+pub fn is_region_size(bundles: u32) -> bool
+    ensures { IsTrue result ↔ IsRegionSize bundles }
+{
+    MIN_BUNDLES <= bundles && bundles <= MAX_BUNDLES
+}
+
+/// A region may end at this address.
+pub fn is_lawful_limit(limit: u32) -> bool
+    ensures { IsTrue result ↔ IsLawfulLimit limit }
+{
+    is_bundle_start(limit)
+        && START + MIN_BUNDLES * BUNDLE <= limit
+        && limit <= START + MAX_BUNDLES * BUNDLE
+}

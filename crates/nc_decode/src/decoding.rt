@@ -2,7 +2,7 @@ ghost use Rattle.std.specs.Prelude.{◌≡◌, ◌≤◌, ◌<◌, ◌+◌, ◌�
 ghost use Rattle.std.specs.Result.{result_ok};
 ghost use Rattle.nc_decode.specs.Barred.{IsBarred};
 ghost use Rattle.nc_decode.specs.Front.{first_instruction};
-ghost use Rattle.nc_decode.specs.Reading.{reading, rel_of, whole_of, IsSized};
+ghost use Rattle.nc_decode.specs.machinery.Reading.{reading, rel_of, whole_of, IsSized};
 ghost use Rattle.nc_decode.specs.Spelling.{masks_of, IsAtFront, IsProperFront};
 
 use crate::entry::{Number, Shape};
@@ -29,7 +29,7 @@ fn rel(number: Number, rest: &[u8]) -> i32
 fn masks(bytes: &[u8]) -> Option<u8>
     ensures { result ≡ masks_of bytes.now }
 {
-    // The opcode comes first: few instructions have it, while the length alone tells little.
+    // The opcode comes first: few instructions have it, while the length by itself tells little.
     let [0x83, rest @ ..] = bytes else {
         return None;
     };
@@ -41,7 +41,7 @@ fn masks(bytes: &[u8]) -> Option<u8>
 
 /// The instruction of this shape, where all its bytes are there.
 #[inline(always)]
-#[tactic(auto, unfolding(crate::specs::Reading::whole_of))]
+#[tactic(auto, unfolding(crate::specs::machinery::Reading::whole_of))]
 fn whole(bytes: &[u8], shape: Shape) -> Result<Instr, DecodeFault>
     requires { IsSized shape }
     ensures { result ≡ whole_of bytes.now shape }
@@ -61,14 +61,14 @@ fn whole(bytes: &[u8], shape: Shape) -> Result<Instr, DecodeFault>
 
 /// The instruction that stands at the front, found from the left.
 #[inline(always)]
-#[tactic(auto, unfolding(crate::specs::Reading::reading))]
+#[tactic(auto, unfolding(crate::specs::machinery::Reading::reading))]
 fn read(bytes: &[u8]) -> Result<Instr, DecodeFault>
     ensures { result ≡ reading bytes.now }
 {
     whole(bytes, shape(bytes)?)
 }
 
-/// The instruction at the front of the bytes: one whole permitted instruction, whatever stands behind it.
+/// The instruction at the front of the bytes: one whole permitted instruction, whatever stands after it.
 ///
 /// The permitted instructions are a part of 32-bit x86 without floating point and vectors: the rows of `specs/Rows`, as
 /// `specs/Spelling` puts them together, with the lengths of the Intel SDM, volume 2. At most one prefix is permitted, and
@@ -94,7 +94,7 @@ pub fn decode(bytes: &[u8]) -> Result<Instr, DecodeFault>
         ↔ (((i : Instr) → ¬ IsAtFront bytes.now i) × ¬ IsProperFront bytes.now) }
     // What is at the front has none of the barred beginnings.
     ensures allowed { (i : Instr) (f : IsAtFront bytes.now i) → ¬ IsBarred f.front }
-    // What the layers above know of the table is this function alone.
+    // The layers above know only this function of the table.
     ensures first { result_ok result ≡ first_instruction bytes.now }
     // What callers need of the length: it is that of the instruction.
     ensures sized { IfOk result (λ i. (0 < i.len) × (i.len ≤ length bytes.now)) }

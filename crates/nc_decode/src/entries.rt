@@ -1,11 +1,11 @@
 //! The entries of the opcode maps.
 //!
 //! A name is what follows the opcode, in the letters of the manual's opcode maps (Intel SDM volume 2, appendix A):
-//! `OP` nothing, `IB` a byte, `IZ` four bytes (two behind 66), `OFF` a memory offset, `M` ModRM with its SIB and
+//! `OP` nothing, `IB` a byte, `IZ` four bytes (two after 66), `OFF` a memory offset, `M` ModRM with its SIB and
 //! displacement, `MIB` and `MIZ` ModRM and then a number. A transfer and LEA have their own names, with `B` for a
 //! displacement of one byte and `Z` for one of four. Letters at the end name the prefixes that may stand before the
 //! opcode: `V` the byte 66, which gives the operand 16 bits, and `L` the lock prefix F0, only with an operand in memory.
-//! The five forms are those without a prefix and behind 66, F3, F2 and F0.
+//! The five forms are those without a prefix and after 66, F3, F2 and F0.
 
 use crate::entry::{Entry, Number};
 use crate::instruction::Flow;
@@ -15,7 +15,7 @@ pub(crate) const ANY: u16 = 0xFFFF;
 /// Each reg field, with an operand in memory.
 const MEM: u16 = 0x00FF;
 
-// ---- the opcode alone, or with a number behind it
+// ---- the opcode by itself, or with a number after it
 
 /// No permitted instruction.
 pub(crate) const NO: Entry = Entry {
@@ -26,12 +26,12 @@ pub(crate) const NO: Entry = Entry {
     forms: [0, 0, 0, 0, 0],
 };
 
-/// The opcode alone.
+/// The opcode by itself.
 pub(crate) const OP: Entry = Entry {
     forms: [1, 0, 0, 0, 0],
     ..NO
 };
-/// The opcode alone, also behind 66.
+/// The opcode by itself, also after 66.
 pub(crate) const OPV: Entry = Entry {
     forms: [1, 1, 0, 0, 0],
     ..NO
@@ -63,7 +63,7 @@ pub(crate) const IB: Entry = Entry {
     forms: [1, 0, 0, 0, 0],
     ..NO
 };
-/// An immediate byte, also behind 66.
+/// An immediate byte, also after 66.
 pub(crate) const IBV: Entry = Entry {
     number: Number::Byte,
     forms: [1, 1, 0, 0, 0],
@@ -87,6 +87,19 @@ pub(crate) const OFFV: Entry = Entry {
     forms: [1, 1, 0, 0, 0],
     ..NO
 };
+
+// ---- no opcode
+
+/// 0F, which comes before an opcode of two bytes.
+pub(crate) const ESC: Entry = NO;
+/// The prefix 66.
+pub(crate) const P66: Entry = NO;
+/// The prefix F0.
+pub(crate) const PF0: Entry = NO;
+/// The prefix F2.
+pub(crate) const PF2: Entry = NO;
+/// The prefix F3.
+pub(crate) const PF3: Entry = NO;
 
 // ---- transfers
 
@@ -140,7 +153,7 @@ pub(crate) const M: Entry = Entry {
     forms: [ANY, 0, 0, 0, 0],
     ..NO
 };
-/// ModRM, also behind 66.
+/// ModRM, also after 66.
 pub(crate) const MV: Entry = Entry {
     forms: [ANY, ANY, 0, 0, 0],
     ..M
@@ -150,12 +163,12 @@ pub(crate) const ML: Entry = Entry {
     forms: [ANY, 0, 0, 0, MEM],
     ..M
 };
-/// ModRM, also behind 66 and also locked, but never both.
+/// ModRM, also after 66 and also locked, but never both.
 pub(crate) const MVL: Entry = Entry {
     forms: [ANY, ANY, 0, 0, MEM],
     ..M
 };
-/// ModRM and an immediate byte, also behind 66.
+/// ModRM and an immediate byte, also after 66.
 pub(crate) const MIBV: Entry = Entry {
     number: Number::Byte,
     forms: [ANY, ANY, 0, 0, 0],

@@ -1,6 +1,6 @@
 //! The laws of the permitted instructions.
 
-ghost use Rattle.nc_decode.specs.Front.{IsExact, IsPrefixFree, IsStopFirst, HasItsLength, DependsOnItsBytes, MasksOnlyBeforeNext, NamesRegisters, MasksExactly, GoesOnBehindPrefix, BeginsAsTransfer};
+ghost use Rattle.nc_decode.specs.Front.{IsExact, IsPrefixFree, IsStopFirst, HasItsLength, DependsOnItsBytes, MasksOnlyBeforeNext, NamesRegisters, MasksExactly, GoesOnAfterPrefix, BeginsAsTransfer, NeverBarred, NeverBarredAtFront};
 ghost use Rattle.nc_decode.specs.Automaton.{ReadsByStates, HasStates, NoneIsPaired};
 
 /// What every layer above may use of the opcode table, and nothing else of it. It does nothing when it is called.
@@ -12,11 +12,11 @@ pub fn law_of_fronts()
     ensures exact { IsExact }
     // No instruction is a proper front of another.
     ensures prefix_free { IsPrefixFree }
-    // The byte F4 is an instruction that goes nowhere, whatever stands behind it.
+    // The byte F4 is an instruction that goes nowhere, whatever stands after it.
     ensures stop { IsStopFirst }
     // An instruction has at least one byte, and no more than there are.
     ensures length { HasItsLength }
-    // Nothing behind an instruction matters.
+    // Nothing after an instruction matters.
     ensures local { DependsOnItsBytes }
     // Only an instruction that goes on to the next masks a register.
     ensures masks { MasksOnlyBeforeNext }
@@ -24,15 +24,20 @@ pub fn law_of_fronts()
     ensures registers { NamesRegisters }
     // A register is masked exactly by the three bytes of its mask.
     ensures exact_masks { MasksExactly }
-    // Behind a prefix an instruction goes on to the next and masks nothing.
-    ensures prefixes { GoesOnBehindPrefix }
+    // After a prefix an instruction goes on to the next and masks nothing.
+    ensures prefixes { GoesOnAfterPrefix }
+    // No permitted instruction is barred: none is a return, a far transfer, a software interrupt, SYSCALL or SYSENTER, and
+    // none has a segment override.
+    ensures allowed { NeverBarred }
+    // So what is at the front of some bytes isn't barred.
+    ensures allowed_at_front { NeverBarredAtFront }
     // A direct transfer begins with one of the bytes that `may_transfer` names.
     ensures transfers { BeginsAsTransfer }
 {}
 
 /// What a run of the automaton says of the bytes that it has read. It does nothing when it is called.
 pub fn law_of_automaton()
-    // Bytes that lead from the state behind one instruction to that behind the next are an instruction.
+    // Bytes that lead from the state after one instruction to that after the next are an instruction.
     ensures reads { ReadsByStates }
     // The states are the numbers from 0 to 74.
     ensures states { HasStates }

@@ -1,7 +1,7 @@
-//! The length of an operand: ModRM, the SIB byte behind it if there is one, and the displacement.
+//! The length of an operand: ModRM, the SIB byte after it if there is one, and the displacement.
 
 ghost use Rattle.std.specs.Prelude.{◌≡◌, ◌≤◌, false};
-ghost use Rattle.nc_decode.specs.Shapes.{has_sib, is_baseless};
+ghost use Rattle.nc_decode.specs.machinery.Shapes.{has_sib, is_baseless};
 ghost use Rattle.nc_decode.specs.Spelling.{operand_len};
 
 /// The bytes of an operand by its ModRM, where SIB doesn't ask for more: a row for the first digit of ModRM, a column for
@@ -43,7 +43,7 @@ fn is_baseless(modrm: u8, sib: u8) -> bool
     (modrm < 64) & (modrm % 8 == 4) & (sib % 8 == 5)
 }
 
-/// The bytes of an operand. Where ModRM has no SIB behind it, `sib` doesn't count.
+/// The bytes of an operand. Where ModRM has no SIB after it, `sib` doesn't count.
 #[inline(always)]
 pub(crate) fn operand_len(modrm: u8, sib: u8) -> u8
     ensures len { result ≡ operand_len modrm sib }

@@ -1,4 +1,4 @@
-use Rattle.nc_decode.proofs.FrontLaws.{exact, prefix_free, stop_first, has_its_length, depends_on_its_bytes, masks_only_before_next, names_registers, masks_exactly, goes_on_behind_prefix}
+use Rattle.nc_decode.proofs.FrontLaws.{exact, prefix_free, stop_first, has_its_length, depends_on_its_bytes, masks_only_before_next, names_registers, masks_exactly, goes_on_after_prefix, never_barred, never_barred_at_front}
 use Rattle.nc_decode.proofs.TransferBytes.{direct_begins}
 use Rattle.nc_decode.proofs.law.law_of_fronts.Goals as goal
 
@@ -27,7 +27,13 @@ pub returns-clause-exact_masks : goal.returns-clause-exact_masks
 returns-clause-exact_masks c = masks_exactly
 
 pub returns-clause-prefixes : goal.returns-clause-prefixes
-returns-clause-prefixes c = goes_on_behind_prefix
+returns-clause-prefixes c = goes_on_after_prefix
 
 pub returns-clause-transfers : goal.returns-clause-transfers
 returns-clause-transfers c = direct_begins
+
+pub returns-clause-allowed : goal.returns-clause-allowed
+returns-clause-allowed c = never_barred
+
+pub returns-clause-allowed_at_front : goal.returns-clause-allowed_at_front
+returns-clause-allowed_at_front c = never_barred_at_front
