@@ -1,14 +1,17 @@
 -- The states behind the bytes of bundles, one by one.
-use Rattle.std.proofs.Common.{◌≡◌, ◌≢◌, ℕ, zero, suc, ◌+◌, ◌-◌, ◌*◌, ◌%◌, ◌<◌, ◌≤◌, Bool, true, false, List, [], ◌∷◌, ◌++◌, length, take, drop, get_or, set, refl, sym, subst, ◌∙◌, ap, arith, inl, inr, ◌==◌, eqb-true, eq-eqb, leb-true, nat_le, replicate}
-use Rattle.std.specs.Prelude.{slice_set}
-use Rattle.std.specs.Int.{bit_at}
+use Rattle.std.proofs.Common.{◌≡◌, ◌≢◌, ℕ, zero, suc, ◌+◌, ◌-◌, ◌*◌, ◌/◌, ◌%◌, ◌^◌, ◌<◌, ◌≤◌, Bool, true, false, List, [], ◌∷◌, ◌++◌, length, take, drop, get_or, set, refl, sym, subst, ◌∙◌, ap, arith, inl, inr, ◌==◌, eqb-true, eq-eqb, leb-true, nat_le, replicate}
+use Rattle.std.specs.Prelude.{slice_set, slice_index}
+use Rattle.std.specs.Int.{bit_at, w32, leading_zeros}
+use Rattle.std.specs.Int.Count.{leading_of_zero}
+use Rattle.std.proofs.lemmas.Nat.{leading_top}
+use Rattle.std.proofs.Math.Nat.{div-eq_of_lt-le, pow-succ'}
 use Rattle.std.proofs.lemmas.Bool.{cases_lt, eqb-false}
 use Rattle.std.proofs.lemmas.List.{length-drop, length-take-le, take_more, get_or-take, get_or-drop, get_or-set_same, get_or-set_other, length-set, get_or_append_left, get_or-append_right, length-append}
 use Rattle.nc_decode.specs.Automaton.{next_state}
 use Rattle.nc_decode.proofs.BoolTests.{true_or_false}
 use Rattle.nc_vet.specs.declared.bundle.Bundle.{Bundle}
 use Rattle.nc_vet.specs.Bits.{no_bits}
-use Rattle.nc_vet.specs.Running.{run, state_after, before, TellsStates, entered, HasRun, Tells, AreTold}
+use Rattle.nc_vet.specs.Running.{run, state_after, before, TellsStates, entered, HasRun, Tells, AreTold, EndsFront}
 
 -- one more byte of a run
 run_more : (s : ℕ) (bs : List ℕ) (b : ℕ) → run s (bs ++ b ∷ []) ≡ next_state (run s bs) b
@@ -163,3 +166,33 @@ told_more code bundles more items count t is le f whole =
           subst (λ (w : Bundle). Tells code (32 * n) w × (64 ≤ state_after code (32 * n + 31))) (sym word)
           (tells, whole_told code (32 * n) (get_or more (n - length bundles) no_bits) tells (whole (n - length bundles) m-lt)))
     ]
+
+-- where reading stops in a bundle
+pub stopped : (code : List ℕ) (bundles : List Bundle) (w : Bundle) (at end : ℕ) → AreTold code bundles → at ≡ 32 * length bundles → at + 32 ≤ length code → Tells code at w → at ≤ end → end ≤ at + 32
+    → (at < end → (bit_at w.ends (end - at - 1) ≡ 1) × (slice_index code (end - 1) ≢ 0xE0)) → EndsFront code bundles end
+stopped code bundles w at end told here room t low near ended = record {
+  told = told;
+  low = omega (arith, here, low);
+  near = omega (arith, here, near);
+  high = omega (arith, near, room);
+  ended = λ later. (
+      let e = ended (omega (arith, later, here)) in
+      let k-lt : end - at - 1 < 32 = omega (arith, near, later, here) in (
+        subst (λ (k : ℕ). 64 ≤ state_after code k) {x = at + (end - at - 1)} {y = end - 1} (omega (arith, later, here, low))
+            (leb-true 64 (state_after code (at + (end - at - 1))) (sym (t.ends (end - at - 1) k-lt) ∙ eq-eqb (bit_at w.ends (end - at - 1)) 1 e.0)),
+        e.1,
+      ));
+}
+
+-- all bundles are read
+pub all_read : (code : List ℕ) (bundles : List Bundle) (at : ℕ) → AreTold code bundles → at ≡ 32 * length bundles → at ≤ length code → EndsFront code bundles at
+all_read code bundles at told here high = record { told = told; low = omega (arith, here); near = omega (arith, here); high = high; ended = λ later. absurd (omega (arith, later, here)) }
+
+-- the highest bit
+pub top_bit : (n len : ℕ) → n < 2 ^ 32 → len + leading_zeros w32 n ≡ 32 → len ≢ 0 → bit_at n (len - 1) ≡ 1
+top_bit zero len fits is some = absurd (some (omega (arith, is, leading_of_zero 32)))
+top_bit (suc m) len fits is some =
+    let top = leading_top 32 (suc m) (omega arith) fits in
+    let place : top.0 ≡ len - 1 = omega (arith, top.1, is) in
+    let one_is : suc m / 2 ^ top.0 ≡ 1 = div-eq_of_lt-le {k = 1} (2 ^ top.0) {m = suc m} (omega (arith, top.2)) (omega (arith, top.3, pow-succ' 2 top.0)) in
+    ap (λ (k : ℕ). bit_at (suc m) k) (sym place) ∙ ap (λ (k : ℕ). k % 2) one_is

@@ -1,5 +1,5 @@
 -- Running the automaton over bundles: machinery of the proofs, cited by no public contract.
-use Rattle.std.specs.Prelude.{◌≡◌, ℕ, ◌+◌, ◌-◌, ◌*◌, ◌%◌, ◌^◌, ◌<◌, ◌≤◌, List, [], ◌∷◌, length, take, drop, get_or, ◌==◌, nat_le, if◌then◌else◌, ⊤}
+use Rattle.std.specs.Prelude.{◌≡◌, ◌≢◌, ℕ, ◌+◌, ◌-◌, ◌*◌, ◌%◌, ◌^◌, ◌<◌, ◌≤◌, List, [], ◌∷◌, length, take, drop, get_or, slice_index, ◌==◌, nat_le, if◌then◌else◌, ⊤}
 use Rattle.std.specs.Int.{bit_at}
 use Rattle.nc_decode.specs.Automaton.{next_state}
 use Rattle.nc_vet.specs.declared.bundle.Bundle.{Bundle}
@@ -50,6 +50,15 @@ pub record Tells (code : List ℕ) (at : ℕ) (w : Bundle) : Type 0 where
 -- so it is of each of these bundles, and an instruction ends with each
 abbrev pub AreTold : List ℕ → List Bundle → Type 0
 AreTold code bundles = (n : ℕ) → n < length bundles → Tells code (32 * n) (get_or bundles n no_bits) × (64 ≤ state_after code (32 * n + 31))
+
+-- Bundles of the code are told, and reading may go on at a place: after them, or where an instruction ends in the next one that
+-- is no mask, by its last byte.
+pub record EndsFront (code : List ℕ) (bundles : List Bundle) (at : ℕ) : Type 0 where
+  pub told : AreTold code bundles
+  pub low : 32 * length bundles ≤ at
+  pub near : at ≤ 32 * length bundles + 32
+  pub high : at ≤ length code
+  pub ended : 32 * length bundles < at → (64 ≤ state_after code (at - 1)) × (slice_index code (at - 1) ≢ 0xE0)
 
 -- so it is of all bundles of the code, where its marks are bits
 abbrev pub AreBitsTold : List ℕ → Marks → Type 0

@@ -1,9 +1,9 @@
 //! The reading of bundles: the automaton runs over several of them in lock step.
 
-ghost use Rattle.std.specs.Prelude.{◌≡◌, ◌<◌, ◌≤◌, ◌+◌, ◌*◌, ◌%◌, ◌^◌, ℕ, length, get_or, IfSome};
+ghost use Rattle.std.specs.Prelude.{◌≡◌, ◌≢◌, ◌<◌, ◌≤◌, ◌+◌, ◌-◌, ◌*◌, ◌%◌, ◌^◌, ℕ, length, get_or, slice_index, IfSome};
 ghost use Rattle.std.specs.Int.{bit_at};
 ghost use Rattle.nc_vet.specs.Bits.{no_bits};
-ghost use Rattle.nc_vet.specs.Running.{Tells, AreTold};
+ghost use Rattle.nc_vet.specs.Running.{Tells, EndsFront};
 
 use crate::bundle::Bundle;
 use crate::lane::{Lane, told};
@@ -17,6 +17,18 @@ const FEW_LANES: usize = 4;
 
 /// The last byte of a bundle.
 const LAST: u32 = 31;
+
+/// The last byte of each mask.
+const MASK_END: u8 = 0xE0;
+
+/// The front of a chunk that was read by bundles.
+#[derive(Drop)]
+pub(crate) struct Front {
+    /// The bits of its bundles, with each of which an instruction ends.
+    pub(crate) bundles: Vec<Bundle>,
+    /// Where reading goes on: an instruction ends there too, and masks nothing.
+    pub(crate) end: usize,
+}
 
 /// The bits of the eight bundles from a place on.
 #[inline(always)]
@@ -94,13 +106,33 @@ fn whole_front(bundles: &[Bundle]) -> usize
     n
 }
 
-/// The bits of the bundles of the code, if there is memory for them, up to the first bundle that no instruction ends with.
+/// Where reading may go on in a bundle that begins here and has these ends: after the last instruction that ends in it, or
+/// at its start, if none does or that may be a mask by its last byte.
+fn last_end(code: &[u8], start: usize, ends: u32) -> usize
+    requires start { start % 32 ≡ 0 }
+    requires room { start + 32 ≤ length code.now }
+    ensures low { start ≤ result }
+    ensures near { result ≤ start + 32 }
+    ensures ended { start < result
+        → (bit_at ends (result - start - 1) ≡ 1) × (slice_index code.now (result - 1) ≢ 0xE0) }
+{
+    let len = (u32::BITS - ends.leading_zeros()) as usize;
+    if len == 0 {
+        return start;
+    }
+    let end = start + len;
+    if code[end - 1] == MASK_END {
+        return start;
+    }
+    end
+}
+
+/// Reads the bundles of the code, if there is memory for their bits, up to the first bundle that no instruction ends with.
 #[inline(never)]
-pub(crate) fn read_bundles(alloc: Global, code: &[u8]) -> Option<Vec<Bundle>>
+pub(crate) fn read_bundles(alloc: Global, code: &[u8]) -> Option<Front>
     requires bundles { length code.now % 32 ≡ 0 }
     requires fits { length code.now < 2 ^ 32 }
-    ensures told { IfSome result (λ bundles. AreTold code.now bundles.items) }
-    ensures within { IfSome result (λ bundles. 32 * length bundles.items ≤ length code.now) }
+    ensures { IfSome result (λ front. EndsFront code.now front.bundles.items front.end) }
 {
     let count = code.len() / 32;
     let mut bundles = Vec::new(alloc);
@@ -110,7 +142,8 @@ pub(crate) fn read_bundles(alloc: Global, code: &[u8]) -> Option<Vec<Bundle>>
         let whole = whole_front(&more);
         bundles.extend_from_slice(&more[..whole]).ok()?;
         if whole < LANES {
-            return Some(bundles);
+            let end = last_end(code, 32 * bundles.len(), more[whole].ends);
+            return Some(Front { bundles, end });
         }
     }
     while bundles.len() < count {
@@ -119,8 +152,10 @@ pub(crate) fn read_bundles(alloc: Global, code: &[u8]) -> Option<Vec<Bundle>>
         let whole = whole_front(&more[..few]);
         bundles.extend_from_slice(&more[..whole]).ok()?;
         if whole < few {
-            return Some(bundles);
+            let end = last_end(code, 32 * bundles.len(), more[whole].ends);
+            return Some(Front { bundles, end });
         }
     }
-    Some(bundles)
+    let end = 32 * bundles.len();
+    Some(Front { bundles, end })
 }

@@ -154,12 +154,11 @@ pub(crate) fn read(alloc: Global, base: u32, code: &[u8]) -> Result<Marks, VetFa
     ensures told { IfOk result (AreBitsTold code.now) }
     ensures stuck { IfErr result (EndsReading base code.now) }
 {
-    if let Some(bundles) = read_bundles(alloc, code) {
-        let read = 32 * bundles.len();
-        if read == code.len() {
-            return Ok(Marks::Bits(bundles));
+    if let Some(front) = read_bundles(alloc, code) {
+        if 32 * front.bundles.len() == code.len() {
+            return Ok(Marks::Bits(front.bundles));
         }
-        if let Some(fault) = stuck_from(base, code, read) {
+        if let Some(fault) = stuck_from(base, code, front.end) {
             return Err(fault);
         }
     }

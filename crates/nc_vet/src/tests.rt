@@ -3,7 +3,7 @@
 ghost use Rattle.std.specs.Prelude.{◌≡◌, ◌<◌, ◌%◌, length};
 
 use crate::VetFault::{BadBase, BadLength, BadTarget, Bare, Crosses, NotPermitted, OutOfRange};
-use crate::lanes::read_bundles;
+use crate::lanes::{Front, read_bundles};
 use crate::reading::read_exactly;
 use crate::targets::bad_target;
 use crate::transfers::judged_bundles;

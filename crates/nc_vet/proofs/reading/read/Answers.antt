@@ -1,14 +1,11 @@
-use Rattle.std.proofs.Common.{◌*◌, ℕ, None, arith, subst, length}
-use Rattle.nc_vet.specs.Steps.{HasReadTo}
+use Rattle.std.proofs.Common.{arith}
 use Rattle.nc_vet.proofs.BitReading.{read_front, read_bits}
 use Rattle.nc_vet.proofs.reading.read.Goals as goal
 
-pub returns-then-read-code-clause-read : goal.returns-then-read-code-clause-read
-returns-then-read-code-clause-read c =
-    read_bits c.args.code.now c.in-Some.bundles.items c.type_inv.code c.in-Some.ensures.told
-    (omega (arith, c.if-read-code.true, c.len-read.ensures, c.in-Some.bundles.ok.0))
+pub returns-then-len-code-clause-read : goal.returns-then-len-code-clause-read
+returns-then-len-code-clause-read c =
+    read_bits c.args.code.now c.in-Some.front.bundles.items c.type_inv.code c.in-Some.ensures.told
+    (omega (arith, c.if-len-code.true, c.len.ensures, c.in-Some.front.bundles.ok.0))
 
 pub stuck_from-requires-clause-read : goal.stuck_from-requires-clause-read
-stuck_from-requires-clause-read c =
-    subst (λ (k : ℕ). HasReadTo c.args.code.now k None) {x = 32 * length c.in-Some.bundles.items} {y = 32 * c.len-read.result} (omega (arith, c.len-read.ensures, c.in-Some.bundles.ok.0))
-    (read_front c.args.code.now c.in-Some.bundles.items c.type_inv.code c.in-Some.ensures.told c.in-Some.ensures.within)
+stuck_from-requires-clause-read c = read_front c.args.code.now c.in-Some.front.bundles.items c.in-Some.front.end c.type_inv.code c.requires.bundles c.in-Some.ensures
