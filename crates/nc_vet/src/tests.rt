@@ -3,7 +3,7 @@
 ghost use Rattle.std.specs.Prelude.{◌≡◌, ◌<◌, ◌%◌, length};
 
 use crate::VetFault::{BadBase, BadLength, BadTarget, Bare, Crosses, NotPermitted, OutOfRange};
-use crate::lanes::{Front, read_bundles};
+use crate::lanes::read_bundles;
 use crate::reading::read_exactly;
 use crate::targets::bad_target;
 use crate::transfers::judged_bundles;
@@ -182,10 +182,11 @@ fn spans(rt: HostRuntime) -> Result<(), Fail> {
 fn is_quick(alloc: Global, code: &[u8]) -> bool
     requires { (length code.now % 32 ≡ 0) × (length code.now < 0x10000) }
 {
-    let Some(bundles) = read_bundles(alloc, code) else {
+    let Some(front) = read_bundles(alloc, code) else {
         return false;
     };
-    32 * bundles.len() == code.len() && judged_bundles(BASE, LIMIT, code, &bundles) >= bundles.len()
+    32 * front.bundles.len() == code.len()
+        && judged_bundles(BASE, LIMIT, code, &front.bundles) >= front.bundles.len()
 }
 
 /// The verdict of vetting instruction by instruction.
