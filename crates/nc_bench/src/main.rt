@@ -1,9 +1,16 @@
-//! How fast vetting is: `nc_bench FILE ADDRESS ROUNDS` vets the file's bytes as a chunk at that address (hexadecimal), again
-//! and again, and prints the time of the best round. Only `vet` is timed. Without these words it says how to call it.
+//! How fast vetting is: `nc_bench FILE ADDRESS ROUNDS [KIND [BUNDLES]]`.
+//!
+//! The first bundles of the file (all of it, if none are named) are vetted as a chunk at that address (hexadecimal), again
+//! and again, and the time of the best round is printed. A small chunk is vetted many times in a round. Only `vet` and the
+//! dropping of its answer are timed. KIND says what is vetted:
+//! - `accepted` (what is measured where none is named): the bundles, with nops for each direct transfer to a bad target;
+//! - `stuck`: the same, but that the last bundle is nops and ends with a byte that isn't permitted;
+//! - `astray`: the same, but that the last bundle is nops and ends with a jump to a bad target.
+//!
+//! Without the first three words it says how to call it.
 #![tactic(auto)]
 
-use nc_decode::Mark;
-use nc_vet::{VetFault, Vetted, vet};
+use nc_vet::{VetFault, vet};
 use std::alloc::Global;
 use std::io::{self, Read};
 use std::time::{Duration, Instant};
@@ -11,6 +18,19 @@ use std::{env, fs};
 
 /// The highest limit of a region.
 const LIMIT: u32 = 0x101_0000;
+
+/// So many bytes, or one chunk, are vetted in a round.
+const ROUND: usize = 65_536;
+
+/// A nop.
+const NOP: u8 = 0x90;
+
+/// The bytes of a bundle.
+const BUNDLE: usize = 32;
+
+/// The last bytes of a chunk that is stuck there, and of one that goes astray there.
+const STUCK: [u8; 2] = [NOP, 0xC3];
+const ASTRAY: [u8; 2] = [0xEB, 0xFF];
 
 /// What is measured.
 #[derive(Drop)]
@@ -20,12 +40,126 @@ struct Task {
     rounds: u32,
 }
 
-/// What one round gave: the code again, how long its vetting took, and its instructions or its fault.
+/// What one round gave: how long it took, and how many chunks were accepted.
 #[derive(Drop)]
 struct Round {
-    code: Vec<u8>,
     took: Duration,
-    instructions: Result<usize, VetFault>,
+    accepted: usize,
+}
+
+/// How many bytes a direct transfer has that begins with this byte.
+fn transfer_len(byte: u8) -> usize {
+    match byte {
+        0x0F => 6,
+        0xE8 | 0xE9 => 5,
+        _ => 2,
+    }
+}
+
+/// A copy of the code.
+fn copy(alloc: Global, code: &[u8]) -> io::Result<Vec<u8>> {
+    let mut copied = Vec::new(alloc);
+    copied.extend_from_slice(code)?;
+    Ok(copied)
+}
+
+/// Writes nops over so many bytes from a place on.
+fn clear(code: &mut [u8], start: usize, len: usize) {
+    for i in start..start.saturating_add(len) {
+        if let Some(byte) = code.get_mut(i) {
+            *byte = NOP;
+        }
+    }
+}
+
+/// Writes nops over each direct transfer to a bad target. What is refused for something else stays as it is.
+fn settle(alloc: Global, code: Vec<u8>, base: u32) -> io::Result<Vec<u8>> {
+    let mut code = code;
+    for _ in 0..code.len() {
+        let refusal = match vet(base, LIMIT, code) {
+            Ok(vetted) => return copy(alloc, vetted.code()),
+            Err(refusal) => refusal,
+        };
+        code = refusal.0;
+        let VetFault::BadTarget { at } = refusal.1 else {
+            break;
+        };
+        let start = at.saturating_sub(base) as usize;
+        let first = code.get(start).copied().unwrap_or(NOP);
+        clear(&mut code, start, transfer_len(first));
+    }
+    Ok(code)
+}
+
+/// Makes the last bundle nops that end with these two bytes.
+fn end_with(code: &mut [u8], last: [u8; 2]) {
+    let len = code.len();
+    clear(code, len.saturating_sub(BUNDLE), BUNDLE);
+    for (i, byte) in last.iter().enumerate() {
+        if let Some(place) = code.get_mut(len.saturating_sub(2).saturating_add(i)) {
+            *place = *byte;
+        }
+    }
+}
+
+/// Vets copies of the code until a round's bytes are used up, with the time that only that takes.
+fn vet_round(rt: &HostRuntime, task: &Task) -> io::Result<Round> {
+    let mut chunks = Vec::new(rt.alloc());
+    let count = (ROUND / task.code.len().max(1)).max(1);
+    for _ in 0..count {
+        chunks.push(copy(rt.alloc(), &task.code)?)?;
+    }
+    let mut accepted = 0usize;
+    let start = Instant::now(rt)?;
+    for code in chunks {
+        if vet(task.base, LIMIT, code).is_ok() {
+            accepted = accepted.saturating_add(1);
+        }
+    }
+    let took = start.elapsed(rt)?;
+    Ok(Round {
+        took: took / u32::try_from(count).unwrap_or(1),
+        accepted,
+    })
+}
+
+/// Prints what one chunk took in the best round. A megabyte is a million bytes.
+fn report(rt: &HostRuntime, bytes: usize, accepted: usize, best: Duration) -> io::Result<()> {
+    let nanos = u64::try_from(best.as_nanos()).unwrap_or(u64::MAX).max(1);
+    let speed = (bytes as u64).saturating_mul(1000) / nanos;
+    let verdict = if accepted == 0 { "refused" } else { "accepted" };
+    println!(rt; "{bytes} bytes {verdict}, {nanos} ns, {speed} MB/s")
+}
+
+/// Vets the code in rounds, and reports the best one.
+fn measure(rt: &HostRuntime, task: &Task) -> io::Result<()> {
+    let mut best = Duration::MAX;
+    let mut accepted = 0;
+    for _ in 0..task.rounds {
+        let round = vet_round(rt, task)?;
+        best = best.min(round.took);
+        accepted = round.accepted;
+    }
+    report(rt, task.code.len(), accepted, best)
+}
+
+/// The code of a kind, made of a file's bytes.
+fn prepared(
+    alloc: Global,
+    code: Vec<u8>,
+    base: u32,
+    kind: &str,
+    bundles: usize,
+) -> io::Result<Vec<u8>> {
+    let mut code = code;
+    code.truncate(bundles.saturating_mul(BUNDLE));
+    let mut code = settle(alloc, code, base)?;
+    match kind {
+        "stuck" => end_with(&mut code, STUCK),
+        "astray" => end_with(&mut code, ASTRAY),
+        _ => {}
+    }
+    Ok(code)
 }
 
 /// The task that the command line names, if it names one.
@@ -40,83 +174,20 @@ fn asked(rt: &HostRuntime) -> io::Result<Option<Task>> {
     file.read_to_end(&mut code)?;
     let base = u32::from_str_radix(base.as_str(), 16).unwrap_or(0);
     let rounds = rounds.as_str().parse().unwrap_or(1);
+    let kind = words.next();
+    let kind = kind.as_ref().map_or("accepted", |word| word.as_str());
+    let all = code.len() / BUNDLE;
+    let bundles = words
+        .next()
+        .and_then(|word| word.as_str().parse().ok())
+        .unwrap_or(all);
+    let code = prepared(rt.alloc(), code, base, kind, bundles)?;
     Ok(Some(Task { code, base, rounds }))
-}
-
-/// How many instructions have a mark.
-fn instructions(vetted: &Vetted) -> usize {
-    let mut n = 0usize;
-    for i in 0..vetted.code().len() {
-        if !matches!(vetted.mark(i), Mark::Unmarked) {
-            n = n.saturating_add(1);
-        }
-    }
-    n
-}
-
-/// A copy of the code, for the next round.
-fn copy(alloc: Global, vetted: &Vetted) -> io::Result<Vec<u8>> {
-    let mut code = Vec::new(alloc);
-    code.extend_from_slice(vetted.code())?;
-    Ok(code)
-}
-
-/// Vets the code once.
-fn vet_once(rt: &HostRuntime, alloc: Global, code: Vec<u8>, base: u32) -> io::Result<Round> {
-    let start = Instant::now(rt)?;
-    let verdict = vet(base, LIMIT, code);
-    let took = start.elapsed(rt)?;
-    Ok(match verdict {
-        Ok(vetted) => Round {
-            code: copy(alloc, &vetted)?,
-            took,
-            instructions: Ok(instructions(&vetted)),
-        },
-        Err((code, fault)) => Round {
-            code,
-            took,
-            instructions: Err(fault),
-        },
-    })
-}
-
-/// Prints what the best round took. A megabyte is a million bytes.
-fn report(rt: &HostRuntime, bytes: usize, instructions: usize, best: Duration) -> io::Result<()> {
-    let nanos = u64::try_from(best.as_nanos()).unwrap_or(u64::MAX).max(1);
-    let speed = (bytes as u64).saturating_mul(1000) / nanos;
-    let tenths = nanos.saturating_mul(10) / (instructions as u64).max(1);
-    println!(rt; "{bytes} bytes, {instructions} instructions, {nanos} ns")?;
-    println!(rt;
-        "{speed} MB/s, {}.{} ns an instruction",
-        tenths / 10,
-        tenths % 10
-    )
-}
-
-/// Vets the code in rounds, and reports the best one.
-fn measure(rt: &HostRuntime, task: Task) -> io::Result<()> {
-    let Task {
-        mut code,
-        base,
-        rounds,
-    } = task;
-    let mut best = Duration::MAX;
-    let mut count = 0;
-    for _ in 0..rounds {
-        let done = vet_once(rt, rt.alloc(), code, base)?;
-        code = done.code;
-        best = best.min(done.took);
-        match done.instructions {
-            Ok(n) => count = n,
-            Err(fault) => return println!(rt; "refused: {fault:?}"),
-        }
-    }
-    report(rt, code.len(), count, best)
 }
 
 fn main(rt: HostRuntime) -> io::Result<()> {
     match asked(&rt)? {
-        Some(task) => measure(&rt, task),
-        None => println!(rt; "usage: nc_bench FILE ADDRESS ROUNDS"),
+        Some(task) => measure(&rt, &task),
+        None => println!(rt; "usage: nc_bench FILE ADDRESS ROUNDS [accepted|stuck|astray [BUNDLES]]"),
     }
 }

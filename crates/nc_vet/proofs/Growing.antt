@@ -7,7 +7,7 @@ use Rattle.nc_decode.specs.declared.instruction.Mark.{Mark}
 use Rattle.nc_decode.specs.declared.instruction.Mark.TheVariants.{Unmarked}
 use Rattle.nc_decode.proofs.Readings.{spells_some}
 use Rattle.nc_vet.specs.Chunk.{Piece, code_of, place, FollowsMask, mark_of, instr_marks, marks_of}
-use Rattle.nc_vet.specs.Steps.{MayFollow, masked_behind, HasRead, HasReadAll}
+use Rattle.nc_vet.specs.Steps.{MayFollow, masked_after, HasRead, HasReadAll}
 use Rattle.nc_vet.proofs.Splits.{split_none, split_last}
 use Rattle.nc_vet.proofs.Pieces.{code_of-push, place-push, marks_of-push, length-marks_of, none_sound, sound_push, rest_is}
 
@@ -63,7 +63,7 @@ bundle_begun at len some same = λ e. omega (arith, some, same, e)
 
 -- the mask that the last instruction leaves
 mask_left : (front : List Piece) (p : Piece) (at r : ℕ) → place front ≡ at → 0 < length p.bytes → at % 32 + length p.bytes ≤ 32
-    → (masked_behind p.instr (at + length p.bytes) ≡ Some r) ↔ FollowsMask (front ++ p ∷ []) r
+    → (masked_after p.instr (at + length p.bytes) ≡ Some r) ↔ FollowsMask (front ++ p ∷ []) r
 mask_left front p at r here some inside = (
   λ e. (
       let n = masked_from ((at + length p.bytes) % 32 == 0) p.instr.masks r e in
@@ -86,7 +86,7 @@ mask_left front p at r here some inside = (
 
 -- one more instruction is read
 pub grown : (code : List ℕ) (at w n : ℕ) (masked : Option ℕ) (marks : List Mark) (i : Instr) → HasRead code at masked marks → w + at % 32 ≡ 32 → at ≤ length code → MayFollow (take w (drop at code)) masked i → n ≡ i.len
-    → HasRead code (at + n) (masked_behind i (at + n)) (set marks at (mark_of i))
+    → HasRead code (at + n) (masked_after i (at + n)) (set marks at (mark_of i))
 grown code at w n masked marks i h w-is in_code f n-is =
     let bytes : List ℕ = f.front.front in
     let l = spells_some f.front.front i f.front.spells in
@@ -99,7 +99,7 @@ grown code at w n masked marks i h w-is in_code f n-is =
     let inside : at % 32 + length f.front.front ≤ 32 = omega (arith, in_window, w-is) in
     let len : n ≡ length f.front.front = n-is ∙ l.0 in
     let marks_len : length (marks_of h.front) ≡ at = length-marks_of h.front h.reads.sound.spelled ∙ h.here in
-    subst (λ (k : ℕ). HasRead code (at + k) (masked_behind i (at + k)) (set marks at (mark_of i))) (sym len)
+    subst (λ (k : ℕ). HasRead code (at + k) (masked_after i (at + k)) (set marks at (mark_of i))) (sym len)
     (record {
       front = h.front ++ (record { bytes = f.front.front; instr = i }) ∷ [];
       rest = f.front.rest ++ drop w h.rest;

@@ -5,7 +5,7 @@ use Rattle.nc_decode.specs.declared.instruction.Mark.{Mark}
 use Rattle.nc_decode.specs.Transfers.{target}
 use Rattle.nc_vet.specs.declared.fault.VetFault.{VetFault}
 use Rattle.nc_vet.specs.declared.fault.VetFault.TheVariants.{BadBase, BadLength, OutOfRange, NotPermitted, Crosses, Bare, BadTarget, OutOfMemory}
-use Rattle.nc_vet.specs.Chunk.{Piece, code_of, place, IsBase, IsLength, IsInRange, IsTarget, Chunk, IsValid}
+use Rattle.nc_vet.specs.Chunk.{Piece, code_of, place, IsBase, IsLength, IsInRange, IsTarget, MarkedChunk, IsValid}
 use Rattle.nc_vet.specs.Faults.{IsStuck, IsMistargeted, HasGoodSpan, HasSpanFault, HasFault}
 use Rattle.nc_vet.specs.Steps.{EndsReading, HasJudgedAll}
 use Rattle.nc_vet.proofs.OneReading.{same_pieces}
@@ -50,7 +50,7 @@ judged_valid base limit code marks g h = record {
 -- ---- a valid chunk has no fault
 
 -- the longest sound front of a valid chunk is all of it
-not_stuck : (c : Chunk) (fault : VetFault) → IsValid c → IsStuck c.base c.code fault → ⊥
+not_stuck : (c : MarkedChunk) (fault : VetFault) → IsValid c → IsStuck c.base c.code fault → ⊥
 not_stuck c fault v s =
     let long = s.longest v.pieces [] (record { parts = v.parts ∙ sym (append-nil (code_of v.pieces)); sound = v.sound }) in
     s.some
@@ -62,7 +62,7 @@ not_stuck c fault v s =
     none (x ∷ xs) e = absurd (omega arith)
 
 -- a valid chunk's transfers have good targets
-not_mistargeted : (c : Chunk) (at : ℕ) → IsValid c → IsMistargeted c.base c.limit c.code at → ⊥
+not_mistargeted : (c : MarkedChunk) (at : ℕ) → IsValid c → IsMistargeted c.base c.limit c.code at → ⊥
 not_mistargeted c at v m =
     let same : v.pieces ≡ m.before ++ m.piece ∷ m.after = same_pieces v.pieces (m.before ++ m.piece ∷ m.after) v.sound.spelled m.sound.spelled (sym v.parts ∙ m.parts) in
     m.bad

@@ -9,7 +9,7 @@ use Rattle.nc_decode.specs.declared.instruction.Mark.TheVariants.{Unmarked}
 use Rattle.nc_decode.specs.Spelling.{Spells, IsAtFront}
 use Rattle.nc_decode.specs.Transfers.{is_indirect}
 use Rattle.nc_decode.proofs.Readings.{spells_some}
-use Rattle.nc_vet.specs.Chunk.{Piece, code_of, place, AreSpelled, AreSound, FollowsMask, instr_marks, marks_of, Chunk, IsValid}
+use Rattle.nc_vet.specs.Chunk.{Piece, code_of, place, AreSpelled, AreSound, FollowsMask, instr_marks, marks_of, MarkedChunk, IsValid}
 use Rattle.nc_vet.specs.Steps.{HasReadAll}
 use Rattle.nc_vet.proofs.Splits.{split_none, split_push, flat_map-append}
 
@@ -53,7 +53,7 @@ length-marks_of (p ∷ ps) s =
     let more = length-marks_of ps (spelled_after p ps s) in
     omega (arith, length-append (instr_marks p.instr) (marks_of ps), length-append p.bytes (code_of ps), length-replicate (p.instr.len - 1) Unmarked, one.0, one.1, more)
 
-pub valid_len : (c : Chunk) → IsValid c → length c.marks ≡ length c.code
+pub valid_len : (c : MarkedChunk) → IsValid c → length c.marks ≡ length c.code
 valid_len c v = ap (λ (z : List Mark). length z) v.marks_are ∙ length-marks_of v.pieces v.sound.spelled ∙ ap (λ (z : List ℕ). length z) (sym v.parts)
 
 pub read_len : (code : List ℕ) (marks : List Mark) → HasReadAll code marks → length marks ≡ length code

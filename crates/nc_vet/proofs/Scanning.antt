@@ -1,9 +1,9 @@
 -- A run of the automaton over whole bundles finds sound instructions.
-use Rattle.std.proofs.Common.{◌≡◌, ◌≢◌, ℕ, zero, suc, ◌+◌, ◌-◌, ◌%◌, ◌<◌, ◌≤◌, Bool, true, false, List, [], ◌∷◌, ◌++◌, length, take, drop, get_or, Option, Some, None, refl, sym, subst, ◌∙◌, ap, arith, inl, inr, append_assoc, append-nil, ◌==◌, eqb-true, nat_lt, nat_le, All, le-leb, ltb-true, lt-ltb, leb-true, eq-eqb}
+use Rattle.std.proofs.Common.{◌≡◌, ◌≢◌, ℕ, zero, suc, ◌+◌, ◌-◌, ◌%◌, ◌<◌, ◌≤◌, Bool, true, false, List, [], ◌∷◌, ◌++◌, length, take, drop, get_or, Option, Some, None, refl, sym, subst, ◌∙◌, ap, arith, inl, inr, append_assoc, ◌==◌, eqb-true, nat_lt, nat_le, All, le-leb, ltb-true, lt-ltb, leb-true, eq-eqb}
 use Rattle.std.specs.Prelude.{IsTrue}
 use Rattle.std.specs.Int.{w8, w32, cast_signed, from_le_bytes}
 use Rattle.std.proofs.lemmas.Bool.{cases_lt, eqb-false}
-use Rattle.std.proofs.lemmas.List.{length-append, length-drop, length-take-le, take-append-drop, drop_more, get_or-take, get_or-drop, get_or_append_left, get_or-append_right, get_or-replicate, nil_from_length}
+use Rattle.std.proofs.lemmas.List.{length-drop, length-take-le, take-append-drop, drop_more, get_or-take, get_or-drop, get_or_append_left, get_or-append_right, get_or-replicate}
 use Rattle.nc_decode.specs.declared.instruction.Instr.{Instr}
 use Rattle.nc_decode.specs.declared.instruction.Mark.{Mark}
 use Rattle.nc_decode.specs.declared.instruction.Mark.TheVariants.{Unmarked, Plain, After}
@@ -34,26 +34,26 @@ before_first : (S : ℕ → ℕ) (k : ℕ) → k % 32 ≡ 0 → before S k ≡ 6
 before_first S k h = rw h refl
 
 -- each state is small
-state_small : (code : List ℕ) (S : ℕ → ℕ) (k : ℕ) → AreStates code S → k < length code → S k < 75
-state_small code S k a lt = omega (arith, a.next k lt, next_small (before S k) (get_or code k 0))
+state_small : (code : List ℕ) (to : ℕ) (S : ℕ → ℕ) (k : ℕ) → AreStates code to S → k < length code → S k < 75
+state_small code to S k a lt = omega (arith, a.next k lt, next_small (before S k) (get_or code k 0))
 
-before_small : (code : List ℕ) (S : ℕ → ℕ) (k : ℕ) → AreStates code S → k < length code → before S k < 75
-before_small code S k a lt = go (k % 32 == 0) refl
+before_small : (code : List ℕ) (to : ℕ) (S : ℕ → ℕ) (k : ℕ) → AreStates code to S → k < length code → before S k < 75
+before_small code to S k a lt = go (k % 32 == 0) refl
   where
     go : (b : Bool) → (k % 32 == 0) ≡ b → before S k < 75
     go true e = rw e (omega arith)
-    go false e = rw e (state_small code S (k - 1) a (omega (arith, lt)))
+    go false e = rw e (state_small code to S (k - 1) a (omega (arith, lt)))
 
 -- behind a state inside an instruction no bundle begins
-inner_place : (code : List ℕ) (S : ℕ → ℕ) (k : ℕ) → AreStates code S → k < length code → S k < 64 → k % 32 < 31
-inner_place code S k a lt inside = elim (cases_lt (k % 32) 31) [
+inner_place : (code : List ℕ) (to : ℕ) (S : ℕ → ℕ) (k : ℕ) → AreStates code to S → k < to → S k < 64 → k % 32 < 31
+inner_place code to S k a lt inside = elim (cases_lt (k % 32) 31) [
   | inl ok ↦ ok
   | inr last ↦ absurd (omega (arith, a.whole k lt (omega (arith, last)), inside))
 ]
 
 -- where an indirect transfer ends, the byte before is its first
-second_inside : (code : List ℕ) (S : ℕ → ℕ) (k : ℕ) → AreStates code S → k < length code → second S k ≡ true → (S k < 64) × (S (k + 1) ≡ 74) × (k + 1 < length code)
-second_inside code S k a lt e =
+second_inside : (code : List ℕ) (to : ℕ) (S : ℕ → ℕ) (k : ℕ) → AreStates code to S → k < length code → second S k ≡ true → (S k < 64) × (S (k + 1) ≡ 74) × (k + 1 < length code)
+second_inside code to S k a lt e =
     let w = both (nat_lt (k % 32) 31) (S (k + 1) == 74) e in
     let in_bundle : k % 32 < 31 = ltb-true (k % 32) 31 w.0 in
     let in_code : k + 1 < length code = omega (arith, in_bundle, a.bundles, lt) in
@@ -62,7 +62,7 @@ second_inside code S k a lt e =
     let same : S (k + 1 - 1) ≡ S k = ap S (omega arith) in (
       elim (cases_lt (S k) 64) [
         | inl inside ↦ inside
-        | inr ended ↦ absurd (none_is_paired (S k) (get_or code (k + 1) 0) ended (state_small code S k a lt) (a.bytes (k + 1) 0 in_code)
+        | inr ended ↦ absurd (none_is_paired (S k) (get_or code (k + 1) 0) ended (state_small code to S k a lt) (a.bytes (k + 1) 0 in_code)
             (ap (λ (s : ℕ). next_state s (get_or code (k + 1) 0)) (sym (inner ∙ same)) ∙ sym (a.next (k + 1) in_code) ∙ pair))
       ],
       pair,
@@ -77,21 +77,21 @@ leads_more s c e [] lt l = absurd l
 leads_more s c e (b ∷ bs) lt l = (lt, l)
 
 -- bytes from one end to the next
-leads_from : (code : List ℕ) (S : ℕ → ℕ) → AreStates code S → (n b s : ℕ) → b + n < length code → s ≡ before S b → ((k : ℕ) → b ≤ k → k < b + n → S k < 64) → 64 ≤ S (b + n)
+leads_from : (code : List ℕ) (to : ℕ) (S : ℕ → ℕ) → AreStates code to S → (n b s : ℕ) → b + n < to → s ≡ before S b → ((k : ℕ) → b ≤ k → k < b + n → S k < 64) → 64 ≤ S (b + n)
     → Leads s (take (suc n) (drop b code)) (S (b + n))
-leads_from code S a zero b s lt is inner ended =
+leads_from code to S a zero b s lt is inner ended =
     let here : b + 0 ≡ b = omega arith in
-    let first : drop b code ≡ get_or code b 0 ∷ drop (b + 1) code = drop_more code b 0 (omega (arith, lt)) in
+    let first : drop b code ≡ get_or code b 0 ∷ drop (b + 1) code = drop_more code b 0 (omega (arith, lt, a.within)) in
     subst (λ (z : List ℕ). Leads s (take (suc zero) z) (S (b + 0))) (sym first)
-    (ap S here ∙ a.next b (omega (arith, lt)) ∙ ap (λ (t : ℕ). next_state t (get_or code b 0)) (sym is), ended)
-leads_from code S a (suc n) b s lt is inner ended =
-    let b-lt : b < length code = omega (arith, lt) in
+    (ap S here ∙ a.next b (omega (arith, lt, a.within)) ∙ ap (λ (t : ℕ). next_state t (get_or code b 0)) (sym is), ended)
+leads_from code to S a (suc n) b s lt is inner ended =
+    let b-lt : b < length code = omega (arith, lt, a.within) in
     let first : drop b code ≡ get_or code b 0 ∷ drop (b + 1) code = drop_more code b 0 b-lt in
     let state : next_state s (get_or code b 0) ≡ S b = ap (λ (t : ℕ). next_state t (get_or code b 0)) is ∙ sym (a.next b b-lt) in
     let low : S b < 64 = inner b (omega arith) (omega arith) in
-    let next : S b ≡ before S (b + 1) = ap S {y = b + 1 - 1} (omega arith) ∙ sym (before_inner S (b + 1) (λ z. omega (arith, z, inner_place code S b a b-lt low))) in
+    let next : S b ≡ before S (b + 1) = ap S {y = b + 1 - 1} (omega arith) ∙ sym (before_inner S (b + 1) (λ z. omega (arith, z, inner_place code to S b a (omega (arith, lt)) low))) in
     let there : b + 1 + n ≡ b + suc n = omega arith in
-    let rest = leads_from code S a n (b + 1) (next_state s (get_or code b 0)) (omega (arith, lt)) (state ∙ next) (λ k lo hi. inner k (omega (arith, lo)) (omega (arith, hi))) (subst (λ (j : ℕ). 64 ≤ S j) (sym there) ended) in
+    let rest = leads_from code to S a n (b + 1) (next_state s (get_or code b 0)) (omega (arith, lt)) (state ∙ next) (λ k lo hi. inner k (omega (arith, lo)) (omega (arith, hi))) (subst (λ (j : ℕ). 64 ≤ S j) (sym there) ended) in
     subst (λ (z : List ℕ). Leads s (take (suc (suc n)) z) (S (b + suc n))) (sym first)
     (leads_more s (get_or code b 0) (S (b + suc n)) (take (suc n) (drop (b + 1) code)) (omega (arith, state, low)) (subst (λ (j : ℕ). Leads (next_state s (get_or code b 0)) (take (suc n) (drop (b + 1) code)) (S j)) there rest))
 
@@ -132,17 +132,17 @@ record Read (code : List ℕ) (S : ℕ → ℕ) (b at : ℕ) : Type 0 where
 abbrev AllInside : (ℕ → ℕ) → ℕ → ℕ → Type 0
 AllInside S b at = (k : ℕ) → b ≤ k → k < at → S k < 64
 
-read_from : (code : List ℕ) (S : ℕ → ℕ) (b at : ℕ) → AreStates code S → b ≤ at → at < length code → AllInside S b at → 64 ≤ before S b → 64 ≤ S at → Read code S b at
-read_from code S b at a le lt inner begins ended =
+read_from : (code : List ℕ) (to : ℕ) (S : ℕ → ℕ) (b at : ℕ) → AreStates code to S → b ≤ at → at < to → AllInside S b at → 64 ≤ before S b → 64 ≤ S at → Read code S b at
+read_from code to S b at a le lt inner begins ended =
     let sum : b + (at - b) ≡ at = omega arith in
-    let leads = leads_from code S a (at - b) b (before S b) (omega (arith, lt)) refl (λ k lo hi. inner k lo (omega (arith, hi))) (subst (λ (j : ℕ). 64 ≤ S j) (sym sum) ended) in
+    let leads = leads_from code to S a (at - b) b (before S b) (omega (arith, lt)) refl (λ k lo hi. inner k lo (omega (arith, hi))) (subst (λ (j : ℕ). 64 ≤ S j) (sym sum) ended) in
     let there : Leads (before S b) (take (suc (at - b)) (drop b code)) (S at) = subst (λ (j : ℕ). Leads (before S b) (take (suc (at - b)) (drop b code)) (S j)) sum leads in
-    let long : length (take (suc (at - b)) (drop b code)) ≡ suc (at - b) = length-take-le (suc (at - b)) (drop b code) (omega (arith, length-drop b code)) in
+    let long : length (take (suc (at - b)) (drop b code)) ≡ suc (at - b) = length-take-le (suc (at - b)) (drop b code) (omega (arith, length-drop b code, lt, a.within)) in
     let fits : All (λ x. x < 256) (take (suc (at - b)) (drop b code)) = λ k d k-lt. (
     let in_take : k < suc (at - b) = omega (arith, k-lt, long) in
     let is : get_or (take (suc (at - b)) (drop b code)) k d ≡ get_or code (b + k) d = get_or-take (suc (at - b)) (drop b code) k d in_take ∙ get_or-drop b code k d in
-    omega (arith, is, a.bytes (b + k) d (omega (arith, in_take)))) in
-    let r = reads_by_states (before S b) (S at) (take (suc (at - b)) (drop b code)) begins (before_small code S b a (omega (arith, lt))) fits there in
+    omega (arith, is, a.bytes (b + k) d (omega (arith, in_take, lt, a.within)))) in
+    let r = reads_by_states (before S b) (S at) (take (suc (at - b)) (drop b code)) begins (before_small code to S b a (omega (arith, lt, a.within))) fits there in
     record {
       instr = r.0;
       ends = r.1;
@@ -211,9 +211,9 @@ second_made : (S : ℕ → ℕ) (k : ℕ) → k % 32 < 31 → S (k + 1) ≡ 74 �
 second_made S k lt e = rw (lt-ltb (k % 32) 31 lt, eq-eqb (S (k + 1)) 74 e) refl
 
 -- only the first of two bytes begins an indirect transfer
-second_only : (code : List ℕ) (S : ℕ → ℕ) (b at k : ℕ) → AreStates code S → b ≤ at → at < length code → AllInside S b at → 64 ≤ S at → (r : Read code S b at) → b ≤ k → k ≤ at → second S k ≡ true → (k ≡ b) × (at ≡ b + 1) × (S at ≡ 74)
-second_only code S b at k a le lt inner ended r lo hi e =
-    let w = second_inside code S k a (omega (arith, hi, lt)) e in
+second_only : (code : List ℕ) (to : ℕ) (S : ℕ → ℕ) (b at k : ℕ) → AreStates code to S → b ≤ at → at < to → AllInside S b at → 64 ≤ S at → (r : Read code S b at) → b ≤ k → k ≤ at → second S k ≡ true → (k ≡ b) × (at ≡ b + 1) × (S at ≡ 74)
+second_only code to S b at k a le lt inner ended r lo hi e =
+    let w = second_inside code to S k a (omega (arith, hi, lt, a.within)) e in
     let before_end : k < at = elim (cases_lt k at) [ inl ok ↦ ok | inr past ↦ absurd (omega (arith, w.0, ap S {x = k} {y = at} (omega (arith, past, hi)), ended)) ] in
     let at_is : k + 1 ≡ at = elim (cases_lt (k + 1) at) [ inl early ↦ absurd (omega (arith, w.1, inner (k + 1) (omega (arith, lo)) early)) | inr ok ↦ omega (arith, ok, before_end) ] in
     let pair : S at ≡ 74 = ap S (sym at_is) ∙ w.1 in
@@ -221,8 +221,8 @@ second_only code S b at k a le lt inner ended r lo hi e =
     (omega (arith, two, r.long, at_is), omega (arith, two, r.long, le), pair)
 
 -- where it begins
-first_mark : (code : List ℕ) (S : ℕ → ℕ) (b at : ℕ) → AreStates code S → b ≤ at → at < length code → AllInside S b at → 64 ≤ before S b → 64 ≤ S at → (r : Read code S b at) → mark_of r.instr ≡ mark_by S code b
-first_mark code S b at a le lt inner begins ended r =
+first_mark : (code : List ℕ) (to : ℕ) (S : ℕ → ℕ) (b at : ℕ) → AreStates code to S → b ≤ at → at < to → AllInside S b at → 64 ≤ before S b → 64 ≤ S at → (r : Read code S b at) → mark_of r.instr ≡ mark_by S code b
+first_mark code to S b at a le lt inner begins ended r =
     elim (true_or_false (S at == 74)) [
       | inl is ↦
           (let pair : S at ≡ 74 = eqb-true (S at) 74 is in
@@ -232,30 +232,30 @@ first_mark code S b at a le lt inner begins ended r =
           let reg : r.instr.reg ≡ get_or code (b + 1) 0 % 8 = p.2 ∙ ap (λ (x : ℕ). x % 8) (read_byte code b (suc (at - b)) 1 (omega (arith, next))) in
           cond_is_true (is_indirect r.instr.flow) (After r.instr.reg) Plain (r.ends.indirect ∙ is) ∙ ap (λ (x : ℕ). After x) reg ∙ sym (after_by S code b sec))
       | inr other ↦
-          (let none : second S b ≡ false = not_true (second S b) (λ e. (let w = second_only code S b at b a le lt inner ended r (omega arith) le e in absurd (let f : true ≡ false = sym (eq-eqb (S at) 74 w.2) ∙ other in cc))) in
+          (let none : second S b ≡ false = not_true (second S b) (λ e. (let w = second_only code to S b at b a le lt inner ended r (omega arith) le e in absurd (let f : true ≡ false = sym (eq-eqb (S at) 74 w.2) ∙ other in cc))) in
           cond_is_false (is_indirect r.instr.flow) (After r.instr.reg) Plain (r.ends.indirect ∙ other) ∙ sym (plain_by S code b none begins))
     ]
 
 -- inside it
-later_mark : (code : List ℕ) (S : ℕ → ℕ) (b at k : ℕ) → AreStates code S → b ≤ at → at < length code → AllInside S b at → 64 ≤ S at → (r : Read code S b at) → b < k → k ≤ at → Unmarked ≡ mark_by S code k
-later_mark code S b at k a le lt inner ended r lo hi =
-    let none : second S k ≡ false = not_true (second S k) (λ e. absurd (omega (arith, (second_only code S b at k a le lt inner ended r (omega (arith, lo)) hi e).0, lo))) in
+later_mark : (code : List ℕ) (to : ℕ) (S : ℕ → ℕ) (b at k : ℕ) → AreStates code to S → b ≤ at → at < to → AllInside S b at → 64 ≤ S at → (r : Read code S b at) → b < k → k ≤ at → Unmarked ≡ mark_by S code k
+later_mark code to S b at k a le lt inner ended r lo hi =
+    let none : second S k ≡ false = not_true (second S k) (λ e. absurd (omega (arith, (second_only code to S b at k a le lt inner ended r (omega (arith, lo)) hi e).0, lo))) in
     let not_first : k % 32 ≢ 0 = λ z. omega (arith, z, r.inside, lo, hi) in
     let low : before S k < 64 = omega (arith, before_inner S k not_first, inner (k - 1) (omega (arith, lo)) (omega (arith, lo, hi))) in
     sym (unmarked_by S code k none low)
 
 -- the mark of each of its places
-mark_here : (code : List ℕ) (S : ℕ → ℕ) (b at k : ℕ) → AreStates code S → b ≤ at → at < length code → AllInside S b at → 64 ≤ before S b → 64 ≤ S at → (r : Read code S b at)
+mark_here : (code : List ℕ) (to : ℕ) (S : ℕ → ℕ) (b at k : ℕ) → AreStates code to S → b ≤ at → at < to → AllInside S b at → 64 ≤ before S b → 64 ≤ S at → (r : Read code S b at)
     → r.instr.len ≡ length (take (suc (at - b)) (drop b code)) → b ≤ k → k < at + 1 → get_or (instr_marks r.instr) (k - b) Unmarked ≡ mark_by S code k
-mark_here code S b at k a le lt inner begins ended r len lo hi =
+mark_here code to S b at k a le lt inner begins ended r len lo hi =
     elim (cases_lt b k) [
       | inl later ↦
           ap (λ (j : ℕ). get_or (instr_marks r.instr) j Unmarked) {y = suc (k - b - 1)} (omega (arith, later))
           ∙ get_or-replicate (r.instr.len - 1) (k - b - 1) Unmarked Unmarked (omega (arith, len, r.long, later, hi))
-          ∙ later_mark code S b at k a le lt inner ended r later (omega (arith, hi))
+          ∙ later_mark code to S b at k a le lt inner ended r later (omega (arith, hi))
       | inr here ↦
           ap (λ (j : ℕ). get_or (instr_marks r.instr) j Unmarked) {y = 0} (omega (arith, here))
-          ∙ first_mark code S b at a le lt inner begins ended r
+          ∙ first_mark code to S b at a le lt inner begins ended r
           ∙ ap (λ (j : ℕ). mark_by S code j) {x = b} {y = k} (omega (arith, here, lo))
     ]
 
@@ -286,10 +286,10 @@ masked_next code S at front r le q e =
 -- ---- the step
 
 -- one more instruction
-pushed : (code : List ℕ) (S : ℕ → ℕ) (at : ℕ) → AreStates code S → at < length code → (h : Scanned code S at) → 64 ≤ S at → Scanned code S (at + 1)
-pushed code S at a lt h ended =
+pushed : (code : List ℕ) (to : ℕ) (S : ℕ → ℕ) (at : ℕ) → AreStates code to S → at < to → (h : Scanned code S at) → 64 ≤ S at → Scanned code S (at + 1)
+pushed code to S at a lt h ended =
     let b : ℕ = place h.front in
-    let r = read_from code S (place h.front) at a h.here lt h.inner h.begins ended in
+    let r = read_from code to S (place h.front) at a h.here lt h.inner h.begins ended in
     let bytes : List ℕ = take (suc (at - place h.front)) (drop (place h.front) code) in
     let p : Piece = record { bytes = take (suc (at - place h.front)) (drop (place h.front) code); instr = r.instr } in
     let s = spells_some (take (suc (at - place h.front)) (drop (place h.front) code)) r.instr r.ends.spells in
@@ -312,7 +312,7 @@ pushed code S at a lt h ended =
       masks = λ q e. masked_next code S at h.front r h.here q (ap (λ (k : ℕ). masked_at (before S k)) (sym there) ∙ e);
       marks = λ k k-lt. ap (λ (z : List Mark). get_or z k Unmarked) (marks_of-push h.front p) ∙ (elim (cases_lt k (place h.front)) [
         | inl earlier ↦ get_or_append_left (marks_of h.front) (instr_marks r.instr) Unmarked k (omega (arith, marks_len, earlier)) ∙ h.marks k earlier
-        | inr here ↦ get_or-append_right (marks_of h.front) (instr_marks r.instr) (place h.front) k Unmarked marks_len here ∙ mark_here code S (place h.front) at k a h.here lt h.inner h.begins ended r s.0 here (omega (arith, k-lt, there))
+        | inr here ↦ get_or-append_right (marks_of h.front) (instr_marks r.instr) (place h.front) k Unmarked marks_len here ∙ mark_here code to S (place h.front) at k a h.here lt h.inner h.begins ended r s.0 here (omega (arith, k-lt, there))
       ]);
       direct = λ before2 after2 q e d. elim (split_push h.front before2 after2 p q e) [
         | inl w ↦ subst (λ (x : Piece). IsTrue (is_direct x.instr.flow) → IsDisplaced S code (place before2 + length x.bytes) x.instr) w.1
@@ -331,8 +331,8 @@ pushed code S at a lt h ended =
       | inr e ↦ rw e low
     ]
 
-scanned_more : (code : List ℕ) (S : ℕ → ℕ) (at : ℕ) → AreStates code S → at < length code → Scanned code S at → Scanned code S (at + 1)
-scanned_more code S at a lt h = elim (cases_lt (S at) 64) [
+scanned_more : (code : List ℕ) (to : ℕ) (S : ℕ → ℕ) (at : ℕ) → AreStates code to S → at < to → Scanned code S at → Scanned code S (at + 1)
+scanned_more code to S at a lt h = elim (cases_lt (S at) 64) [
   | inl inside ↦ record {
     front = h.front;
     rest = h.rest;
@@ -347,26 +347,26 @@ scanned_more code S at a lt h = elim (cases_lt (S at) 64) [
     marks = h.marks;
     direct = h.direct;
   }
-  | inr ended ↦ pushed code S at a lt h ended
+  | inr ended ↦ pushed code to S at a lt h ended
 ]
 
-scanned_to : (code : List ℕ) (S : ℕ → ℕ) → AreStates code S → (n : ℕ) → n ≤ length code → Scanned code S n
-scanned_to code S a zero le = none_scanned code S
-scanned_to code S a (suc n) le =
-    subst (λ (k : ℕ). Scanned code S k) {x = n + 1} {y = suc n} (omega arith) (scanned_more code S n a (omega (arith, le)) (scanned_to code S a n (omega (arith, le))))
+scanned_to : (code : List ℕ) (to : ℕ) (S : ℕ → ℕ) → AreStates code to S → (n : ℕ) → n ≤ to → Scanned code S n
+scanned_to code to S a zero le = none_scanned code S
+scanned_to code to S a (suc n) le =
+    subst (λ (k : ℕ). Scanned code S k) {x = n + 1} {y = suc n} (omega arith) (scanned_more code to S n a (omega (arith, le)) (scanned_to code to S a n (omega (arith, le))))
 
 pub scans : Scans
-scans code S a =
-    let h = scanned_to code S a (length code) (omega arith) in
-    let all : place h.front ≡ length code = elim (cases_lt (place h.front) (length code)) [
-      | inl short ↦ absurd (omega (arith, h.inner (length code - 1) (omega (arith, short)) (omega (arith, short)), a.whole (length code - 1) (omega (arith, short)) (omega (arith, a.bundles, short))))
+scans code to S a =
+    let h = scanned_to code to S a to (omega arith) in
+    let all : place h.front ≡ to = elim (cases_lt (place h.front) to) [
+      | inl short ↦ absurd (omega (arith, h.inner (to - 1) (omega (arith, short)) (omega (arith, short)), a.ended (to - 1) (omega (arith, short))))
       | inr whole ↦ omega (arith, whole, h.here)
     ] in
-    let none : h.rest ≡ [] = nil_from_length h.rest (omega (arith, ap (λ (z : List ℕ). length z) h.reads.parts, length-append (code_of h.front) h.rest, all)) in
     record {
       pieces = h.front;
-      parts = h.reads.parts ∙ ap (λ (z : List ℕ). code_of h.front ++ z) none ∙ append-nil (code_of h.front);
-      sound = h.reads.sound;
+      rest = h.rest;
+      reads = h.reads;
+      here = all;
       marks = λ k lt. h.marks k (omega (arith, lt, all));
       direct = h.direct;
     }

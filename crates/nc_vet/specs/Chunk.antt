@@ -87,14 +87,14 @@ abbrev pub IsInRange : ℕ → ℕ → ℕ → Type 0
 IsInRange base limit len = IsLawfulLimit limit × (base + len + 32 ≤ limit)
 
 -- what callers see of a vetted chunk
-pub record Chunk : Type 0 where
+pub record MarkedChunk : Type 0 where
   pub base : ℕ
   pub limit : ℕ
   pub code : List ℕ
   pub marks : List Mark
 
 -- The code is a list of whole instructions that keep the rules, and the marks are theirs.
-pub record IsValid (c : Chunk) : Type 0 where
+pub record IsValid (c : MarkedChunk) : Type 0 where
   pub base_is : IsBase c.base
   pub length_is : IsLength (length c.code)
   pub range : IsInRange c.base c.limit (length c.code)

@@ -2,7 +2,7 @@
 use Rattle.std.specs.Prelude.{◌≡◌, ◌≢◌, ℕ, List}
 use Rattle.nc_vet.specs.declared.fault.VetFault.{VetFault}
 use Rattle.nc_vet.specs.declared.fault.VetFault.TheVariants.{OutOfMemory}
-use Rattle.nc_vet.specs.Chunk.{Chunk, IsValid}
+use Rattle.nc_vet.specs.Chunk.{MarkedChunk, IsValid}
 use Rattle.nc_vet.specs.Faults.{HasFault}
 
 -- two faults of one chunk, neither of which is want of memory, are the same
@@ -11,8 +11,8 @@ HasOneFault = (base limit : ℕ) (code : List ℕ) (f g : VetFault) → HasFault
 
 -- a valid chunk has no fault but want of memory
 abbrev pub HasNoFault : Type 0
-HasNoFault = (c : Chunk) (fault : VetFault) → IsValid c → HasFault c.base c.limit c.code fault → fault ≡ OutOfMemory
+HasNoFault = (c : MarkedChunk) (fault : VetFault) → IsValid c → HasFault c.base c.limit c.code fault → fault ≡ OutOfMemory
 
 -- valid chunks with the same code have the same marks
 abbrev pub HasOneReading : Type 0
-HasOneReading = (c d : Chunk) → IsValid c → IsValid d → c.code ≡ d.code → c.marks ≡ d.marks
+HasOneReading = (c d : MarkedChunk) → IsValid c → IsValid d → c.code ≡ d.code → c.marks ≡ d.marks

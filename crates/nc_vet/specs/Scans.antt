@@ -1,4 +1,4 @@
--- What a run over bundles says of the code.
+-- What a run over bundles says of the code: machinery of the proofs, cited by no public contract.
 use Rattle.std.specs.Prelude.{◌≡◌, ℕ, ◌+◌, ◌-◌, ◌%◌, ◌<◌, ◌≤◌, ◌⊎◌, List, ◌∷◌, ◌++◌, length, drop, get_or, slice_index, ◌==◌, ◌&&◌, nat_le, nat_lt, Bool, if◌then◌else◌, All, IsTrue}
 use Rattle.std.specs.Int.{w8, w32, cast_signed, from_le_bytes}
 use Rattle.nc_decode.specs.declared.instruction.Instr.{Instr}
@@ -6,15 +6,18 @@ use Rattle.nc_decode.specs.declared.instruction.Mark.{Mark}
 use Rattle.nc_decode.specs.declared.instruction.Mark.TheVariants.{Unmarked, Plain, After}
 use Rattle.nc_decode.specs.Automaton.{next_state}
 use Rattle.nc_decode.specs.Transfers.{is_direct}
-use Rattle.nc_vet.specs.Chunk.{Piece, code_of, place, AreSound, marks_of}
+use Rattle.nc_vet.specs.Chunk.{Piece, place, marks_of}
+use Rattle.nc_vet.specs.Faults.{IsSoundFront}
 use Rattle.nc_vet.specs.Running.{before}
 
--- the states behind the places of whole bundles of bytes
-pub record AreStates (code : List ℕ) (S : ℕ → ℕ) : Type 0 where
+-- the states after the places of the code, of which an instruction ends with each bundle up to a place, and at that place
+pub record AreStates (code : List ℕ) (to : ℕ) (S : ℕ → ℕ) : Type 0 where
   pub next : (k : ℕ) → k < length code → S k ≡ next_state (before S k) (get_or code k 0)
-  pub whole : (k : ℕ) → k < length code → k % 32 ≡ 31 → 64 ≤ S k
+  pub whole : (k : ℕ) → k < to → k % 32 ≡ 31 → 64 ≤ S k
+  pub ended : (k : ℕ) → k + 1 ≡ to → 64 ≤ S k
   pub bytes : All (λ b. b < 256) code
   pub bundles : length code % 32 ≡ 0
+  pub within : to ≤ length code
 
 -- an indirect transfer begins at a place
 abbrev pub second : (ℕ → ℕ) → ℕ → Bool
@@ -30,13 +33,15 @@ IsDisplaced S code end i =
     ((S (end - 1) ≡ 72) × (i.rel ≡ cast_signed w8 (slice_index code (end - 1))))
     ⊎ ((S (end - 1) ≡ 73) × (4 ≤ end) × (i.rel ≡ cast_signed w32 (from_le_bytes w32 (drop (end - 4) code))))
 
--- the code is sound instructions, with marks and displacements by the states
-pub record IsScanned (code : List ℕ) (S : ℕ → ℕ) : Type 0 where
+-- the code up to a place is sound instructions, with marks and displacements by the states
+pub record IsScanned (code : List ℕ) (to : ℕ) (S : ℕ → ℕ) : Type 0 where
   pub pieces : List Piece
-  pub parts : code ≡ code_of pieces
-  pub sound : AreSound pieces
-  pub marks : (k : ℕ) → k < length code → get_or (marks_of pieces) k Unmarked ≡ mark_by S code k
+  pub rest : List ℕ
+  pub reads : IsSoundFront code rest pieces
+  pub here : place pieces ≡ to
+  pub marks : (k : ℕ) → k < to → get_or (marks_of pieces) k Unmarked ≡ mark_by S code k
   pub direct : (b a : List Piece) (p : Piece) → pieces ≡ b ++ p ∷ a → IsTrue (is_direct p.instr.flow) → IsDisplaced S code (place b + length p.bytes) p.instr
 
+-- so it is wherever the states say so
 abbrev pub Scans : Type 0
-Scans = (code : List ℕ) (S : ℕ → ℕ) → AreStates code S → IsScanned code S
+Scans = (code : List ℕ) (to : ℕ) (S : ℕ → ℕ) → AreStates code to S → IsScanned code to S

@@ -25,8 +25,8 @@ NoneMayFollow window masked address (NotPermitted at) = (at ≡ address) × ((i 
 NoneMayFollow window masked address _ = ⊥
 
 -- the register that an instruction has masked for the place behind it
-abbrev pub masked_behind : Instr → ℕ → Option ℕ
-masked_behind i place = if place % 32 == 0 then None else i.masks
+abbrev pub masked_after : Instr → ℕ → Option ℕ
+masked_after i place = if place % 32 == 0 then None else i.masks
 
 -- what has been read so far: the front of the code up to a place
 pub record HasRead (code : List ℕ) (at : ℕ) (masked : Option ℕ) (marks : List Mark) : Type 0 where
@@ -36,6 +36,10 @@ pub record HasRead (code : List ℕ) (at : ℕ) (masked : Option ℕ) (marks : L
   pub here : place front ≡ at
   pub behind : (r : ℕ) → (masked ≡ Some r) ↔ FollowsMask front r
   pub marks_are : marks ≡ marks_of front ++ replicate (length code - at) Unmarked
+
+-- the front of the code up to a place is sound instructions
+abbrev pub HasReadTo : List ℕ → ℕ → Option ℕ → Type 0
+HasReadTo code at masked = (marks : List Mark) × HasRead code at masked marks
 
 -- all of the code is sound instructions, with their marks
 pub record HasReadAll (code : List ℕ) (marks : List Mark) : Type 0 where

@@ -1,6 +1,6 @@
 //! The run of the automaton over one bundle.
 
-ghost use Rattle.std.specs.Prelude.{◌≡◌, ◌<◌, ◌≤◌, ℕ, ◌==◌, length, nat_le, slice_index, slice_set, replicate, IfSome};
+ghost use Rattle.std.specs.Prelude.{◌≡◌, ◌<◌, ◌≤◌, ℕ, ◌==◌, length, nat_le, slice_index, slice_set, replicate};
 ghost use Rattle.std.specs.Int.{bit_at};
 ghost use Rattle.nc_decode.specs.Automaton.{next_state};
 ghost use Rattle.nc_vet.specs.Running.{TellsStates};
@@ -9,22 +9,22 @@ use crate::bundle::Bundle;
 use nc_decode::advance;
 use std::simd::prelude::*;
 
-/// The state behind an instruction, with nothing masked: each bundle begins so.
+/// The state after an instruction that masks nothing: each bundle begins so.
 const BEGIN: usize = 64;
 
-/// The states from here on are those behind an instruction.
+/// The states from here on are those after an instruction.
 const FIRST_END: u8 = 64;
 
-/// The state behind a direct transfer with a displacement of one byte.
+/// The state after a direct transfer with a displacement of one byte.
 const SHORT: u8 = 72;
 
-/// The state behind a direct transfer with a displacement of four bytes.
+/// The state after a direct transfer with a displacement of four bytes.
 const NEAR: u8 = 73;
 
-/// The state behind an indirect transfer with its mask.
+/// The state after an indirect transfer with its mask.
 const PAIR: u8 = 74;
 
-/// The states behind the first bytes of a bundle, and the last of them.
+/// The states after the first bytes of a bundle, and the last of them.
 #[derive(Clone, Copy, Drop)]
 pub(crate) struct Lane {
     pub(crate) state: usize,
@@ -75,7 +75,7 @@ fn equal(states: u8x32, state: u8) -> u32
     bits(states.simd_eq(u8x32::splat(state)).to_bitmask())
 }
 
-/// Bit k says that lane k is a state behind an instruction.
+/// Bit k says that lane k is a state after an instruction.
 #[inline(always)]
 fn ended(states: u8x32) -> u32
     ensures { (k : ℕ) → k < 32 → (bit_at result k == 1) ≡ nat_le 64 (slice_index states k) }
@@ -83,19 +83,16 @@ fn ended(states: u8x32) -> u32
     bits(states.simd_ge(u8x32::splat(FIRST_END)).to_bitmask())
 }
 
-/// What the states behind all of a bundle's bytes tell, if its last instruction ends with it.
+/// What the states after a bundle's bytes tell.
 #[inline(always)]
-pub(crate) fn told(lane: &Lane) -> Option<Bundle>
-    ensures { IfSome result (TellsStates lane.now.states) }
+pub(crate) fn told(lane: &Lane) -> Bundle
+    ensures { TellsStates lane.now.states result }
 {
-    if lane.states[31] < FIRST_END {
-        return None;
-    }
     let states = u8x32::from_slice(&lane.states);
-    Some(Bundle {
+    Bundle {
         ends: ended(states),
         pairs: equal(states, PAIR),
         shorts: equal(states, SHORT),
         nears: equal(states, NEAR),
-    })
+    }
 }

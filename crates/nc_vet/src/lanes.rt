@@ -1,8 +1,9 @@
-//! The reading of bundles: the automaton runs over eight of them in lock step.
+//! The reading of bundles: the automaton runs over several of them in lock step.
 
-ghost use Rattle.std.specs.Prelude.{◌≡◌, ◌<◌, ◌≤◌, ◌+◌, ◌*◌, ◌%◌, ◌/◌, ◌^◌, ℕ, length, vec_len, get_or, IfSome};
+ghost use Rattle.std.specs.Prelude.{◌≡◌, ◌≢◌, ◌<◌, ◌≤◌, ◌+◌, ◌-◌, ◌*◌, ◌%◌, ◌^◌, ℕ, length, get_or, slice_index, IfSome};
+ghost use Rattle.std.specs.Int.{bit_at};
 ghost use Rattle.nc_vet.specs.Bits.{no_bits};
-ghost use Rattle.nc_vet.specs.Running.{IsTold, AreTold};
+ghost use Rattle.nc_vet.specs.Running.{Tells, EndsFront};
 
 use crate::bundle::Bundle;
 use crate::lane::{Lane, told};
@@ -11,12 +12,30 @@ use std::alloc::Global;
 /// The bundles that are read in lock step: no instruction crosses the end of one, so each can be read for itself.
 const LANES: usize = 8;
 
-/// The bits of the eight bundles from a place on, if an instruction ends with each.
+/// The same where fewer are left.
+const FEW_LANES: usize = 4;
+
+/// The last byte of a bundle.
+const LAST: u32 = 31;
+
+/// The last byte of each mask.
+const MASK_END: u8 = 0xE0;
+
+/// The front of a chunk that was read by bundles.
+#[derive(Drop)]
+pub(crate) struct Front {
+    /// The bits of its bundles, with each of which an instruction ends.
+    pub(crate) bundles: Vec<Bundle>,
+    /// Where reading goes on: an instruction ends there too, and masks nothing.
+    pub(crate) end: usize,
+}
+
+/// The bits of the eight bundles from a place on.
 #[inline(always)]
-fn eight(code: &[u8], at: usize) -> Option<[Bundle; 8]>
+fn eight(code: &[u8], at: usize) -> [Bundle; LANES]
     requires start { at % 32 ≡ 0 }
     requires room { at + 256 ≤ length code.now }
-    ensures { IfSome result (λ bundles. (n : ℕ) → n < 8 → IsTold code.now (at + 32 * n) (get_or bundles n no_bits)) }
+    ensures { (n : ℕ) → n < 8 → Tells code.now (at + 32 * n) (get_or result n no_bits) }
 {
     let mut a = Lane::new();
     let mut b = Lane::new();
@@ -36,49 +55,107 @@ fn eight(code: &[u8], at: usize) -> Option<[Bundle; 8]>
         g.step(i, code[at + 192 + i]);
         h.step(i, code[at + 224 + i]);
     }
-    Some([
-        told(&a)?,
-        told(&b)?,
-        told(&c)?,
-        told(&d)?,
-        told(&e)?,
-        told(&f)?,
-        told(&g)?,
-        told(&h)?,
-    ])
+    [
+        told(&a),
+        told(&b),
+        told(&c),
+        told(&d),
+        told(&e),
+        told(&f),
+        told(&g),
+        told(&h),
+    ]
 }
 
-/// The bits of one bundle, if an instruction ends with it.
-fn one(code: &[u8], at: usize) -> Option<Bundle>
+/// The bits of the four bundles from a place on. A lane whose bundle would lie after the end of the code reads the last
+/// bundle instead.
+#[inline(always)]
+fn four(code: &[u8], at: usize) -> [Bundle; FEW_LANES]
     requires start { at % 32 ≡ 0 }
-    requires room { at + 32 ≤ length code.now }
-    ensures { IfSome result (IsTold code.now at) }
+    requires bundles { length code.now % 32 ≡ 0 }
+    requires room { at < length code.now }
+    ensures { (n : ℕ) → n < 4 → at + 32 * n < length code.now → Tells code.now (at + 32 * n) (get_or result n no_bits) }
 {
-    let mut lane = Lane::new();
+    let last = code.len() - 32;
+    let second = last.min(at + 32);
+    let third = last.min(at + 64);
+    let fourth = last.min(at + 96);
+    let mut a = Lane::new();
+    let mut b = Lane::new();
+    let mut c = Lane::new();
+    let mut d = Lane::new();
     for i in 0..32 {
-        lane.step(i, code[at + i]);
+        a.step(i, code[at + i]);
+        b.step(i, code[second + i]);
+        c.step(i, code[third + i]);
+        d.step(i, code[fourth + i]);
     }
-    told(&lane)
+    [told(&a), told(&b), told(&c), told(&d)]
 }
 
-/// The bits of all bundles, if there is memory for them and an instruction ends with each.
+/// How many bundles at the front an instruction ends with.
+#[inline(always)]
+fn whole_front(bundles: &[Bundle]) -> usize
+    ensures within { result ≤ length bundles.now }
+    ensures whole { (n : ℕ) → n < result → bit_at (get_or bundles.now n no_bits).ends 31 ≡ 1 }
+{
+    let mut n = 0;
+    while n < bundles.len() && bundles[n].ends >> LAST & 1 == 1 {
+        n += 1;
+    }
+    n
+}
+
+/// Where reading may go on in a bundle that begins here and has these ends: after the last instruction that ends in it, or
+/// at its start, if none does or that may be a mask by its last byte.
+fn last_end(code: &[u8], start: usize, ends: u32) -> usize
+    requires start { start % 32 ≡ 0 }
+    requires room { start + 32 ≤ length code.now }
+    ensures low { start ≤ result }
+    ensures near { result ≤ start + 32 }
+    ensures ended { start < result
+        → (bit_at ends (result - start - 1) ≡ 1) × (slice_index code.now (result - 1) ≢ 0xE0) }
+{
+    let len = (u32::BITS - ends.leading_zeros()) as usize;
+    if len == 0 {
+        return start;
+    }
+    let end = start + len;
+    if code[end - 1] == MASK_END {
+        return start;
+    }
+    end
+}
+
+/// Reads the bundles of the code, if there is memory for their bits, up to the first bundle that no instruction ends with.
 #[inline(never)]
-pub(crate) fn read_bundles(alloc: Global, code: &[u8]) -> Option<Vec<Bundle>>
+pub(crate) fn read_bundles(alloc: Global, code: &[u8]) -> Option<Front>
     requires bundles { length code.now % 32 ≡ 0 }
     requires fits { length code.now < 2 ^ 32 }
-    ensures told { IfSome result (λ bundles. AreTold code.now bundles.items) }
-    ensures each { IfSome result (λ bundles. length code.now ≡ 32 * length bundles.items) }
+    ensures { IfSome result (λ front. EndsFront code.now front.bundles.items front.end) }
 {
     let count = code.len() / 32;
     let mut bundles = Vec::new(alloc);
     bundles.reserve(count).ok()?;
     while bundles.len() + LANES <= count {
-        let more = eight(code, 32 * bundles.len())?;
-        bundles.extend_from_slice(&more).ok()?;
+        let more = eight(code, 32 * bundles.len());
+        let whole = whole_front(&more);
+        bundles.extend_from_slice(&more[..whole]).ok()?;
+        if whole < LANES {
+            let end = last_end(code, 32 * bundles.len(), more[whole].ends);
+            return Some(Front { bundles, end });
+        }
     }
     while bundles.len() < count {
-        let more = one(code, 32 * bundles.len())?;
-        bundles.push(more).ok()?;
+        let more = four(code, 32 * bundles.len());
+        let few = FEW_LANES.min(count - bundles.len());
+        let whole = whole_front(&more[..few]);
+        bundles.extend_from_slice(&more[..whole]).ok()?;
+        if whole < few {
+            let end = last_end(code, 32 * bundles.len(), more[whole].ends);
+            return Some(Front { bundles, end });
+        }
     }
-    Some(bundles)
+    let end = 32 * bundles.len();
+    Some(Front { bundles, end })
 }

@@ -3,11 +3,10 @@
 
 mod bundle;
 mod fault;
-mod kept;
 mod lane;
 mod lanes;
 mod law;
-mod quick;
+mod marks;
 mod reading;
 mod targets;
 mod transfers;
@@ -16,8 +15,8 @@ mod vetting;
 
 pub use bundle::Bundle;
 pub use fault::VetFault;
-pub use kept::Kept;
 pub use law::law_of_verdicts;
+pub use marks::Marks;
 pub use nc_decode::Mark;
 pub use vetted::Vetted;
 pub use vetting::{judge, vet};

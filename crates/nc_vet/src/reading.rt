@@ -1,15 +1,20 @@
 //! The reading of a chunk: one instruction after the other, from the base.
 
-ghost use Rattle.std.specs.Prelude.{◌≡◌, ◌≤◌, take, ◌<◌, ◌+◌, ◌%◌, ◌^◌, length, replicate, IfOk, IfErr};
+ghost use Rattle.std.specs.Prelude.{◌≡◌, ◌≤◌, take, ◌<◌, ◌+◌, ◌%◌, ◌^◌, length, replicate, None, IfOk, IfErr, IfSome};
 ghost use Rattle.nc_decode.specs.Spelling.{IsAtFront, IsProperFront};
 ghost use Rattle.nc_decode.specs.Transfers.{is_indirect};
 ghost use Rattle.nc_vet.specs.Chunk.{mark_of};
-ghost use Rattle.nc_vet.specs.Steps.{MayFollow, NoneMayFollow, masked_behind, HasReadAll, EndsReading};
+ghost use Rattle.nc_vet.specs.Listed.{listed};
+ghost use Rattle.nc_vet.specs.Running.{AreBitsTold};
+ghost use Rattle.nc_vet.specs.Steps.{MayFollow, NoneMayFollow, masked_after, HasReadTo, HasReadAll, EndsReading};
 
 use crate::fault::VetFault;
+use crate::lanes::read_bundles;
+use crate::marks::Marks;
 use nc_decode::{DecodeFault, Flow, Instr, Mark, decode};
 use std::alloc::{AllocError, Global};
 
+/// A transfer to where a register points.
 fn is_indirect(flow: Flow) -> bool
     ensures { result ≡ is_indirect flow }
 {
@@ -27,9 +32,9 @@ fn mark_of(instr: Instr) -> Mark
     }
 }
 
-/// The register that an instruction has masked for the place behind it.
-fn masked_behind(instr: Instr, place: usize) -> Option<u8>
-    ensures { result ≡ masked_behind instr place }
+/// The register that an instruction has masked for the place after it.
+fn masked_after(instr: Instr, place: usize) -> Option<u8>
+    ensures { result ≡ masked_after instr place }
 {
     if place % 32 == 0 { None } else { instr.masks }
 }
@@ -95,8 +100,8 @@ fn unmarked(alloc: Global, n: usize) -> Result<Vec<Mark>, AllocError>
     Ok(marks)
 }
 
-/// Reads all of the code, and gives its marks.
-pub(crate) fn read(alloc: Global, base: u32, code: &[u8]) -> Result<Vec<Mark>, VetFault>
+/// The marks of all of the code, instruction by instruction.
+pub(crate) fn read_exactly(alloc: Global, base: u32, code: &[u8]) -> Result<Vec<Mark>, VetFault>
     requires bundles { length code.now % 32 ≡ 0 }
     requires fits { base + length code.now < 2 ^ 32 }
     ensures read { IfOk result (λ marks. HasReadAll code.now marks.items) }
@@ -112,7 +117,50 @@ pub(crate) fn read(alloc: Global, base: u32, code: &[u8]) -> Result<Vec<Mark>, V
         let instr = next(&code[at..], room, masked, base + at as u32)?;
         marks[at] = mark_of(instr);
         at += usize::from(instr.len);
-        masked = masked_behind(instr, at);
+        masked = masked_after(instr, at);
     }
     Ok(marks)
+}
+
+/// The fault of the first instruction that may not stand where it does, if there is one. All before the start has been read.
+#[inline(never)]
+fn stuck_from(base: u32, code: &[u8], start: usize) -> Option<VetFault>
+    requires bundles { length code.now % 32 ≡ 0 }
+    requires fits { base + length code.now < 2 ^ 32 }
+    requires within { start ≤ length code.now }
+    requires read { HasReadTo code.now start None }
+    ensures { IfSome result (EndsReading base code.now) }
+{
+    let mut at = start;
+    let mut masked = None;
+    while at < code.len() {
+        let room = 32 - at % 32;
+        let instr = match next(&code[at..], room, masked, base + at as u32) {
+            Ok(instr) => instr,
+            Err(fault) => return Some(fault),
+        };
+        at += usize::from(instr.len);
+        masked = masked_after(instr, at);
+    }
+    None
+}
+
+/// Reads all of the code, and gives its marks: bundle by bundle, and from the first one on in which that finds no end,
+/// instruction by instruction. What the first way accepts is proved; why it finds no end is the second way's to say.
+pub(crate) fn read(alloc: Global, base: u32, code: &[u8]) -> Result<Marks, VetFault>
+    requires bundles { length code.now % 32 ≡ 0 }
+    requires fits { base + length code.now < 2 ^ 32 }
+    ensures read { IfOk result (λ marks. HasReadAll code.now (listed code.now marks)) }
+    ensures told { IfOk result (AreBitsTold code.now) }
+    ensures stuck { IfErr result (EndsReading base code.now) }
+{
+    if let Some(front) = read_bundles(alloc, code) {
+        if 32 * front.bundles.len() == code.len() {
+            return Ok(Marks::Bits(front.bundles));
+        }
+        if let Some(fault) = stuck_from(base, code, front.end) {
+            return Err(fault);
+        }
+    }
+    Ok(Marks::Each(read_exactly(alloc, base, code)?))
 }

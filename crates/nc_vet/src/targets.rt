@@ -5,16 +5,22 @@ ghost use Rattle.nc_decode.specs.declared.instruction.Mark.{Mark};
 ghost use Rattle.nc_decode.specs.Transfers.{is_direct, target};
 ghost use Rattle.nc_vet.specs.Chunk.{IsTarget, Piece, marks_of, AreSpelled};
 ghost use Rattle.nc_vet.specs.Faults.{IsMistargeted};
-ghost use Rattle.nc_vet.specs.Steps.{HasReadAll, GoesWellAt, GoesAstrayAt, HasJudgedAll};
+ghost use Rattle.nc_vet.specs.Listed.{listed};
+ghost use Rattle.nc_vet.specs.Running.{AreBitsTold};
+ghost use Rattle.nc_vet.specs.Steps.{HasReadAll, GoesWellAt, GoesAstrayAt, HasJudged, HasJudgedAll};
 
+use crate::marks::Marks;
+use crate::transfers::judged_bundles;
 use nc_decode::{Flow, Instr, Mark, decode, may_transfer};
 
+/// A transfer to a target that the instruction itself names.
 fn is_direct(flow: Flow) -> bool
     ensures { result ≡ is_direct flow }
 {
     matches!(flow, Flow::Branch | Flow::Jump | Flow::Call)
 }
 
+/// An instruction begins there that is no second half of a pair.
 fn is_plain(mark: Mark) -> bool
     ensures { IsTrue result ↔ (mark ≡ Mark.Plain) }
 {
@@ -22,45 +28,49 @@ fn is_plain(mark: Mark) -> bool
 }
 
 /// A direct transfer may go to this address.
-fn is_good(base: u32, limit: u32, marks: &[Mark], to: u32) -> bool
-    ensures exact { (pieces : List Piece) → marks.now ≡ marks_of pieces → AreSpelled pieces
+fn is_good(base: u32, limit: u32, code: &[u8], marks: &Marks, to: u32) -> bool
+    requires each { length (listed code.now marks.now) ≡ length code.now }
+    ensures exact { (pieces : List Piece) → listed code.now marks.now ≡ marks_of pieces → AreSpelled pieces
         → IsTrue result ↔ IsTarget base limit pieces to }
 {
-    if base <= to && ((to - base) as usize) < marks.len() {
-        is_plain(marks[(to - base) as usize])
+    if base <= to && ((to - base) as usize) < code.len() {
+        is_plain(marks.at(code, (to - base) as usize))
     } else {
         to % 32 == 0 && to < limit
     }
 }
 
 /// The instruction at this address is a direct transfer that goes where it may not.
-fn is_misdirected(base: u32, limit: u32, marks: &[Mark], instr: Instr, at: u32) -> bool
-    requires { at + instr.len < 2 ^ 32 }
-    ensures bad { (pieces : List Piece) → marks.now ≡ marks_of pieces → AreSpelled pieces
+fn is_misdirected(base: u32, limit: u32, code: &[u8], marks: &Marks, instr: Instr, at: u32) -> bool
+    requires fits { at + instr.len < 2 ^ 32 }
+    requires each { length (listed code.now marks.now) ≡ length code.now }
+    ensures bad { (pieces : List Piece) → listed code.now marks.now ≡ marks_of pieces → AreSpelled pieces
         → IsTrue result → IsTrue (is_direct instr.flow) × ¬ IsTarget base limit pieces (target instr at) }
-    ensures good { (pieces : List Piece) → marks.now ≡ marks_of pieces → AreSpelled pieces
+    ensures good { (pieces : List Piece) → listed code.now marks.now ≡ marks_of pieces → AreSpelled pieces
         → IsFalse result → IsTrue (is_direct instr.flow) → IsTarget base limit pieces (target instr at) }
 {
     if !is_direct(instr.flow) {
         return false;
     }
-    !is_good(base, limit, marks, instr.target(at))
+    !is_good(base, limit, code, marks, instr.target(at))
 }
 
 /// A direct transfer begins at this place, and goes where it may not.
-fn goes_astray(base: u32, limit: u32, code: &[u8], marks: &[Mark], at: usize) -> bool
+fn goes_astray(base: u32, limit: u32, code: &[u8], marks: &Marks, at: usize) -> bool
     requires place { at < length code.now }
-    requires each { length marks.now ≡ length code.now }
+    requires each { length (listed code.now marks.now) ≡ length code.now }
     requires bundles { length code.now % 32 ≡ 0 }
     requires fits { base + length code.now < 2 ^ 32 }
-    ensures bad { (r : HasReadAll code.now marks.now) → IsTrue result → GoesAstrayAt base limit r.pieces at }
-    ensures good { (r : HasReadAll code.now marks.now) → IsFalse result → GoesWellAt base limit r.pieces at }
+    ensures bad { (r : HasReadAll code.now (listed code.now marks.now)) → IsTrue result
+        → GoesAstrayAt base limit r.pieces at }
+    ensures good { (r : HasReadAll code.now (listed code.now marks.now)) → IsFalse result
+        → GoesWellAt base limit r.pieces at }
 {
     // The byte comes first: few are such bytes, while the marks are hard to foresee for the processor.
     if !may_transfer(code[at]) {
         return false;
     }
-    if !is_plain(marks[at]) {
+    if !is_plain(marks.at(code, at)) {
         return false;
     }
     let end = at + (32 - at % 32);
@@ -68,22 +78,39 @@ fn goes_astray(base: u32, limit: u32, code: &[u8], marks: &[Mark], at: usize) ->
     let Ok(instr) = decode(&code[at..end]) else {
         return false;
     };
-    is_misdirected(base, limit, marks, instr, base + at as u32)
+    is_misdirected(base, limit, code, marks, instr, base + at as u32)
+}
+
+/// A place before which each direct transfer goes where it may: where marks are bits, all of the code is judged by them, up
+/// to two bundles of which one has a transfer that goes elsewhere.
+fn judged_front(base: u32, limit: u32, code: &[u8], marks: &Marks) -> usize
+    requires read { HasReadAll code.now (listed code.now marks.now) }
+    requires told { AreBitsTold code.now marks.now }
+    requires fits { base + length code.now < 2 ^ 32 }
+    ensures { HasJudged base limit code.now (listed code.now marks.now) result }
+{
+    match marks {
+        Marks::Bits(bundles) => 32 * judged_bundles(base, limit, code, bundles),
+        Marks::Each(_) => 0,
+    }
 }
 
 /// The address of the first direct transfer that goes where it may not. Only what may be a direct transfer by its first
 /// byte is decoded a second time.
-pub(crate) fn bad_target(base: u32, limit: u32, code: &[u8], marks: &[Mark]) -> Option<u32>
-    requires read { HasReadAll code.now marks.now }
+pub(crate) fn bad_target(base: u32, limit: u32, code: &[u8], marks: &Marks) -> Option<u32>
+    requires read { HasReadAll code.now (listed code.now marks.now) }
+    requires told { AreBitsTold code.now marks.now }
     requires bundles { length code.now % 32 ≡ 0 }
     requires fits { base + length code.now < 2 ^ 32 }
-    ensures good { IfNone result (HasJudgedAll base limit code.now marks.now) }
+    ensures good { IfNone result (HasJudgedAll base limit code.now (listed code.now marks.now)) }
     ensures bad { IfSome result (IsMistargeted base limit code.now) }
 {
-    for at in 0..code.len() {
+    let mut at = judged_front(base, limit, code, marks);
+    while at < code.len() {
         if goes_astray(base, limit, code, marks, at) {
             return Some(base + at as u32);
         }
+        at += 1;
     }
     None
 }

@@ -1,8 +1,13 @@
 //! Chunks with the answers that the rules give for them.
 
+ghost use Rattle.std.specs.Prelude.{◌≡◌, ◌<◌, ◌%◌, length};
+
 use crate::VetFault::{BadBase, BadLength, BadTarget, Bare, Crosses, NotPermitted, OutOfRange};
-use crate::quick::quick;
-use crate::{Mark, VetFault, vet};
+use crate::lanes::read_bundles;
+use crate::reading::read_exactly;
+use crate::targets::bad_target;
+use crate::transfers::judged_bundles;
+use crate::{Mark, Marks, VetFault, vet};
 use std::alloc::{AllocError, Global};
 use std::process::Abort;
 use std::test::Fail;
@@ -16,11 +21,11 @@ const LIMIT: u32 = 0x10080;
 type Parts = &'static [(usize, &'static [u8])];
 
 /// Marks of some places.
-type Marks = &'static [(usize, Mark)];
+type SomeMarks = &'static [(usize, Mark)];
 
 /// Chunks of so many bundles that are valid.
 #[rattlefmt::skip]
-static VALID: [(usize, Parts, Marks); 19] = [
+static VALID: [(usize, Parts, SomeMarks); 19] = [
     // Pairs.
     (1, &[(27, &[0x83, 0xE0, 0xE0, 0xFF, 0xE0])], &[(26, Mark::Plain), (27, Mark::Plain), (28, Mark::Unmarked), (30, Mark::After(0)), (31, Mark::Unmarked)]),
     (1, &[(0, &[0x83, 0xE0, 0xE0, 0x83, 0xE0, 0xE0, 0xFF, 0xE0])], &[(0, Mark::Plain), (3, Mark::Plain), (6, Mark::After(0))]),
@@ -144,20 +149,6 @@ fn valid_chunks(rt: HostRuntime) -> Result<(), Fail> {
     Ok(())
 }
 
-/// No contract says that the quick way finds valid chunks: it does.
-#[test]
-fn quick_chunks(rt: HostRuntime) -> Result<(), Fail> {
-    for (bundles, parts, _) in &VALID {
-        let code = filled(&rt, rt.alloc(), bundles.wrapping_mul(32), parts)?;
-        assert!(rt; code.len() % 32 == 0 && code.len() < 0x1_0000);
-        assert!(rt;
-            quick(rt.alloc(), BASE, LIMIT, &code).is_some(),
-            "{parts:?} is refused"
-        );
-    }
-    Ok(())
-}
-
 #[test]
 fn faulty_chunks(rt: HostRuntime) -> Result<(), Fail> {
     for (bundles, parts, fault) in &FAULTY {
@@ -182,6 +173,143 @@ fn spans(rt: HostRuntime) -> Result<(), Fail> {
                 assert_eq!(rt; vetted.code().len(), *len);
             }
             Err((_code, found)) => assert_eq!(rt; Some(found), *fault, "at {base:x}"),
+        }
+    }
+    Ok(())
+}
+
+/// Code that vetting by bundles accepts, with no instruction read by itself.
+fn is_quick(alloc: Global, code: &[u8]) -> bool
+    requires { (length code.now % 32 ≡ 0) × (length code.now < 0x10000) }
+{
+    let Some(front) = read_bundles(alloc, code) else {
+        return false;
+    };
+    32 * front.bundles.len() == code.len()
+        && judged_bundles(BASE, LIMIT, code, &front.bundles) >= front.bundles.len()
+}
+
+/// The verdict of vetting instruction by instruction.
+fn judge_exactly(alloc: Global, code: &[u8]) -> Result<(), VetFault>
+    requires { (length code.now % 32 ≡ 0) × (length code.now < 0x10000) }
+{
+    let marks = Marks::Each(read_exactly(alloc, BASE, code)?);
+    match bad_target(BASE, LIMIT, code, &marks) {
+        Some(at) => Err(BadTarget { at }),
+        None => Ok(()),
+    }
+}
+
+/// Both ways of vetting say the same of a chunk, and `vet` says it too.
+fn agree(rt: &impl Abort, alloc: Global, code: Vec<u8>) -> bool {
+    assert!(rt; code.len() % 32 == 0 && code.len() < 0x1_0000);
+    let quick = is_quick(alloc, &code);
+    let exact = judge_exactly(alloc, &code);
+    let verdict = vet(BASE, LIMIT, code).map(|_| ()).map_err(|e| e.1);
+    verdict == exact && quick == exact.is_ok()
+}
+
+/// No contract says that vetting by bundles finds valid chunks: it does.
+#[test]
+fn both_ways(rt: HostRuntime) -> Result<(), Fail> {
+    for (bundles, parts, _) in &VALID {
+        let code = filled(&rt, rt.alloc(), bundles.wrapping_mul(32), parts)?;
+        assert!(rt; agree(&rt, rt.alloc(), code), "{parts:?}");
+    }
+    for (bundles, parts, _) in &FAULTY {
+        let code = filled(&rt, rt.alloc(), bundles.wrapping_mul(32), parts)?;
+        assert!(rt; agree(&rt, rt.alloc(), code), "{parts:?}");
+    }
+    Ok(())
+}
+
+/// The same of a pair and nops, with each byte set to each value.
+#[test]
+fn both_ways_by_bytes(rt: HostRuntime) -> Result<(), Fail> {
+    for place in 0..32usize {
+        for value in 0..=255u8 {
+            let mut code = filled(&rt, rt.alloc(), 32, &[(0, &[0x83, 0xE3, 0xE0, 0xFF, 0xE3])])?;
+            if let Some(byte) = code.get_mut(place) {
+                *byte = value;
+            }
+            assert!(rt; agree(&rt, rt.alloc(), code), "{value:x} at {place}");
+        }
+    }
+    Ok(())
+}
+
+/// Writes bytes into code.
+fn write(code: &mut [u8], start: usize, bytes: &[u8]) {
+    for (i, byte) in bytes.iter().enumerate() {
+        if let Some(place) = code.get_mut(start.wrapping_add(i)) {
+            *place = *byte;
+        }
+    }
+}
+
+/// The fault of a chunk of so many bundles, in which these bytes stand.
+fn fault_with(
+    alloc: Global,
+    bundles: usize,
+    start: usize,
+    bytes: &[u8],
+) -> Result<Option<VetFault>, AllocError> {
+    let mut code = Vec::new(alloc);
+    code.resize(bundles.wrapping_mul(32), 0x90)?;
+    write(&mut code, start, bytes);
+    Ok(vet(BASE, 0x101_0000, code).err().map(|e| e.1))
+}
+
+/// Each bundle of a chunk is read and judged, however many there are.
+#[test]
+fn each_bundle(rt: HostRuntime) -> Result<(), Fail> {
+    for bundles in 1..=20usize {
+        for n in 0..bundles {
+            let last = n.wrapping_mul(32).wrapping_add(31);
+            let at = BASE.wrapping_add(last as u32);
+            let stuck = fault_with(rt.alloc(), bundles, last, &[0xC3])?;
+            assert_eq!(rt; stuck, Some(NotPermitted { at }), "{n} of {bundles}");
+            let crosses = fault_with(rt.alloc(), bundles, last, &[0xE8])?;
+            assert_eq!(rt; crosses, Some(Crosses { at }), "{n} of {bundles}");
+            let start = last.wrapping_sub(1);
+            let at = at.wrapping_sub(1);
+            let bare = fault_with(rt.alloc(), bundles, start, &[0xFF, 0xE0])?;
+            assert_eq!(rt; bare, Some(Bare { at }), "{n} of {bundles}");
+            let astray = fault_with(rt.alloc(), bundles, start, &[0xEB, 0xFF])?;
+            assert_eq!(rt; astray, Some(BadTarget { at }), "{n} of {bundles}");
+        }
+    }
+    Ok(())
+}
+
+/// Large chunks are accepted whole, with a mark for each byte.
+#[test]
+fn large_chunks(rt: HostRuntime) -> Result<(), Fail> {
+    for bundles in [129usize, 130, 1000, 4095, 32768] {
+        let len = bundles.wrapping_mul(32);
+        let mut code = Vec::new(rt.alloc());
+        code.resize(len, 0x90)?;
+        for n in 0..bundles {
+            write(
+                &mut code,
+                n.wrapping_mul(32),
+                &[0x83, 0xE1, 0xE0, 0xFF, 0xD1, 0xEB, 0xF9],
+            );
+        }
+        let Ok(vetted) = vet(BASE, 0x101_0000, code) else {
+            panic!(rt; "{bundles} bundles are refused");
+        };
+        assert_eq!(rt; vetted.code().len(), len);
+        assert_eq!(rt; vetted.bundles().map(<[_]>::len), Some(bundles));
+        let marks = vetted.marks(rt.alloc())?;
+        assert_eq!(rt; marks.len(), len);
+        for (i, mark) in marks.iter().enumerate() {
+            let wanted = match i % 32 {
+                1 | 2 | 4 | 6 => Mark::Unmarked,
+                3 => Mark::After(1),
+                _ => Mark::Plain,
+            };
+            assert_eq!(rt; *mark, wanted, "at {i} of {bundles} bundles");
         }
     }
     Ok(())

@@ -6,7 +6,7 @@ ghost use Rattle.nc_vet.specs.Bits.{no_bits, is_start, is_second};
 ghost use Rattle.nc_vet.specs.Judged.{short_to, near_to, IsGood, AreGoodShorts, AreGoodNears, AreJudged};
 
 use crate::bundle::Bundle;
-use crate::kept::bundle_at;
+use crate::marks::bundle_at;
 use byteorder::{ByteOrder, LittleEndian};
 
 /// An instruction begins at this byte of a bundle, and is no second half of a pair.
@@ -142,38 +142,29 @@ fn nears_good(
     true
 }
 
-/// All direct transfers may go where they go.
+/// So many bundles at the front have no direct transfer that may not go where it goes. They are judged two by two, and the
+/// count ends where one may not.
 #[inline(never)]
-pub(crate) fn all_good(base: u32, limit: u32, code: &[u8], bundles: &[Bundle]) -> bool
+pub(crate) fn judged_bundles(base: u32, limit: u32, code: &[u8], bundles: &[Bundle]) -> usize
     requires each { length code.now ≡ 32 * length bundles.now }
     requires fits { base + length code.now < 2 ^ 32 }
-    ensures { IsTrue result → AreJudged base limit code.now bundles.now (length bundles.now) }
+    ensures judged { AreJudged base limit code.now bundles.now result }
+    ensures within { result ≤ length bundles.now + 1 }
 {
     let mut n = 0;
     while n < bundles.len() {
         let first = bundles[n];
         let second = bundle_at(bundles, n + 1);
-        if !shorts_good(
-            base,
-            limit,
-            code,
-            bundles,
-            32 * n,
-            both(first.shorts, second.shorts),
-        ) {
-            return false;
+        let start = 32 * n;
+        let shorts = both(first.shorts, second.shorts);
+        let nears = both(first.nears, second.nears);
+        if !shorts_good(base, limit, code, bundles, start, shorts) {
+            return n;
         }
-        if !nears_good(
-            base,
-            limit,
-            code,
-            bundles,
-            32 * n,
-            both(first.nears, second.nears),
-        ) {
-            return false;
+        if !nears_good(base, limit, code, bundles, start, nears) {
+            return n;
         }
         n += 2;
     }
-    true
+    n
 }

@@ -1,8 +1,10 @@
 //! A chunk that is known to be valid.
 
-ghost use Rattle.std.specs.Prelude.{◌≡◌, ◌<◌, ◌≤◌, List, ℕ, length, slice_get, Some, IfOk};
+ghost use Rattle.std.specs.Prelude.{◌≡◌, ◌<◌, length, slice_get, Some, IfOk, IfSome};
+ghost use Rattle.nc_vet.specs.Bits.{marks_in};
 
-use crate::kept::{Kept, mark_at};
+use crate::bundle::Bundle;
+use crate::marks::Marks;
 use nc_decode::Mark;
 use std::alloc::{AllocError, Global};
 use std::marker::Model;
@@ -15,34 +17,34 @@ pub struct Vetted {
     base: u32,
     limit: u32,
     code: Vec<u8>,
-    kept: Kept,
+    marks: Marks,
 }
 
 impl Model for Vetted {
-    ghost use Rattle.nc_vet.specs.Chunk.{Chunk, IsValid};
-    ghost use Rattle.nc_vet.specs.Keeping.{marks_kept};
+    ghost use Rattle.nc_vet.specs.Chunk.{MarkedChunk, IsValid};
+    ghost use Rattle.nc_vet.specs.Listed.{listed};
 
-    ghost Value = { Chunk };
+    ghost Value = { MarkedChunk };
 
-    ghost view = { λ v. record { base = v.base; limit = v.limit; code = v.code.items; marks = marks_kept v.code.items v.kept } };
+    ghost view = { λ v. record { base = v.base; limit = v.limit; code = v.code.items; marks = listed v.code.items v.marks } };
 
-    ghost invariant = { λ v. IsValid (record { base = v.base; limit = v.limit; code = v.code.items; marks = marks_kept v.code.items v.kept }) };
+    ghost invariant = { λ v. IsValid (record { base = v.base; limit = v.limit; code = v.code.items; marks = listed v.code.items v.marks }) };
 }
 
 impl Vetted {
     ghost use Rattle.nc_vet.specs.Chunk.{IsValid};
-    ghost use Rattle.nc_vet.specs.Keeping.{marks_kept};
+    ghost use Rattle.nc_vet.specs.Listed.{listed};
 
     /// A chunk that is known to be valid.
-    pub fn new(base: u32, limit: u32, code: Vec<u8>, kept: Kept) -> Vetted
-        requires { IsValid (record { base = base; limit = limit; code = code.items; marks = marks_kept code.items kept }) }
-        ensures { result ≡ record { base = base; limit = limit; code = code.items; marks = marks_kept code.items kept } }
+    pub fn new(base: u32, limit: u32, code: Vec<u8>, marks: Marks) -> Vetted
+        requires { IsValid (record { base = base; limit = limit; code = code.items; marks = listed code.items marks }) }
+        ensures { result ≡ record { base = base; limit = limit; code = code.items; marks = listed code.items marks } }
     {
         Vetted {
             base,
             limit,
             code,
-            kept,
+            marks,
         }
     }
 
@@ -87,9 +89,16 @@ impl Vetted {
         requires { i < length self.now.code }
         ensures value { slice_get self.now.marks i ≡ Some result }
     {
-        match &self.kept {
-            Kept::Bits(bundles) => mark_at(&self.code, bundles, i),
-            Kept::Listed(marks) => marks[i],
+        self.marks.at(&self.code, i)
+    }
+
+    /// The bits of the chunk's bundles, if its marks are kept so: they are, where there was memory for them.
+    pub fn bundles(&self) -> Option<&[Bundle]>
+        ensures marks { IfSome result (λ b. self.now.marks ≡ marks_in self.now.code b.now) }
+    {
+        match &self.marks {
+            Marks::Bits(bundles) => Some(bundles),
+            Marks::Each(_) => None,
         }
     }
 }

@@ -5,16 +5,15 @@ ghost use Rattle.nc_decode.specs.declared.instruction.Mark.{Mark};
 ghost use Rattle.nc_decode.specs.Bundles.{IsLawfulLimit};
 ghost use Rattle.nc_vet.specs.Chunk.{IsValid, IsBase, IsLength, IsInRange};
 ghost use Rattle.nc_vet.specs.Faults.{HasFault, HasSpanFault, HasGoodSpan};
-ghost use Rattle.nc_vet.specs.Keeping.{marks_kept};
+ghost use Rattle.nc_vet.specs.Listed.{listed};
 ghost use Rattle.nc_vet.specs.Verdict.{IsVerdict};
 
 use crate::fault::VetFault;
-use crate::kept::Kept;
-use crate::quick::quick;
+use crate::marks::Marks;
 use crate::reading::read;
 use crate::targets::bad_target;
 use crate::vetted::Vetted;
-use nc_decode::{BUNDLE, MAX_BUNDLES, Mark, START};
+use nc_decode::{BUNDLE, MAX_BUNDLES, START};
 use std::alloc::Global;
 
 /// A region may end there.
@@ -43,32 +42,18 @@ fn check_span(base: u32, limit: u32, len: usize) -> Result<(), VetFault>
     Ok(())
 }
 
-/// The marks of a valid chunk whose span is good, or its fault, by an exact reading.
-#[inline(never)]
-fn judge_exactly(alloc: Global, base: u32, limit: u32, code: &[u8]) -> Result<Vec<Mark>, VetFault>
-    requires { HasGoodSpan base limit (length code.now) }
+/// Judges a chunk where it lies: the marks of a valid chunk, or its fault. `vet` answers by it.
+pub fn judge(alloc: Global, base: u32, limit: u32, code: &[u8]) -> Result<Marks, VetFault>
     ensures valid { IfOk result (λ marks.
-        IsValid (record { base = base; limit = limit; code = code.now; marks = marks.items })) }
+        IsValid (record { base = base; limit = limit; code = code.now; marks = listed code.now marks })) }
     ensures fault { IfErr result (HasFault base limit code.now) }
 {
+    check_span(base, limit, code.len())?;
     let marks = read(alloc, base, code)?;
     match bad_target(base, limit, code, &marks) {
         Some(at) => Err(VetFault::BadTarget { at }),
         None => Ok(marks),
     }
-}
-
-/// Judges a chunk where it lies: the marks of a valid chunk, or its fault. `vet` answers by it.
-pub fn judge(alloc: Global, base: u32, limit: u32, code: &[u8]) -> Result<Kept, VetFault>
-    ensures valid { IfOk result (λ kept.
-        IsValid (record { base = base; limit = limit; code = code.now; marks = marks_kept code.now kept })) }
-    ensures fault { IfErr result (HasFault base limit code.now) }
-{
-    check_span(base, limit, code.len())?;
-    if let Some(bundles) = quick(alloc, base, limit, code) {
-        return Ok(Kept::Bits(bundles));
-    }
-    Ok(Kept::Listed(judge_exactly(alloc, base, limit, code)?))
 }
 
 /// Vets a chunk: reads it from its base, instruction by instruction, and judges where its jumps, branches and calls go.
@@ -84,8 +69,7 @@ pub fn judge(alloc: Global, base: u32, limit: u32, code: &[u8]) -> Result<Kept, 
 /// instruction that breaks the first two rules; only where none does, targets are judged, and the first bad one is
 /// given. A chunk of the region's other code isn't looked at: any bundle start may be a target.
 ///
-/// It promises nothing of what the code does with data, and none of memory but that a valid chunk is refused for want
-/// of it alone. On each refusal the code comes back.
+/// It promises nothing of what the code does with data, and X. On each refusal the code comes back.
 ///
 /// The rules are C3 and C5 to C7 of table 1 of Yee et al., "Native Client: A Sandbox for Portable, Untrusted x86
 /// Native Code" (2009).
@@ -111,7 +95,7 @@ pub fn vet(base: u32, limit: u32, code: Vec<u8>) -> Result<Vetted, (Vec<u8>, Vet
         → IfErr result (λ e. e.1 ≡ VetFault.OutOfMemory) }
 {
     match judge(*code.allocator(), base, limit, &code) {
-        Ok(kept) => Ok(Vetted::new(base, limit, code, kept)),
+        Ok(marks) => Ok(Vetted::new(base, limit, code, marks)),
         Err(fault) => Err((code, fault)),
     }
 }

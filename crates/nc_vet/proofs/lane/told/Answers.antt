@@ -9,5 +9,4 @@ returns c = record {
   shorts = λ k lt. c.equal-2.ensures k lt ∙ ap (λ (x : ℕ). x == 72) (loaded c.args.lane.now.states k lt);
   nears = λ k lt. c.equal-3.ensures k lt ∙ ap (λ (x : ℕ). x == 73) (loaded c.args.lane.now.states k lt);
   small = omega (arith, c.equal.type_inv);
-  whole = c.if-lane-lt-FIRST_END.false;
 }

@@ -18,11 +18,11 @@ loop-i-preserved c =
 pub returns : goal.returns
 returns c =
     eight_told c.args.code.now c.args.at _ _ _ _ _ _ _ _
-    (run_told c.args.code.now c.args.at c.loop-i.i _ _ _ (omega arith) c.loop-i.invariant.a c.in_ok-told.ensures)
-    (run_told c.args.code.now (c.args.at + 32) c.loop-i.i _ _ _ (omega arith) c.loop-i.invariant.b c.in_ok-told-2.ensures)
-    (run_told c.args.code.now (c.args.at + 64) c.loop-i.i _ _ _ (omega arith) c.loop-i.invariant.c c.in_ok-told-3.ensures)
-    (run_told c.args.code.now (c.args.at + 96) c.loop-i.i _ _ _ (omega arith) c.loop-i.invariant.d c.in_ok-told-4.ensures)
-    (run_told c.args.code.now (c.args.at + 128) c.loop-i.i _ _ _ (omega arith) c.loop-i.invariant.e c.in_ok-told-5.ensures)
-    (run_told c.args.code.now (c.args.at + 160) c.loop-i.i _ _ _ (omega arith) c.loop-i.invariant.f c.in_ok-told-6.ensures)
-    (run_told c.args.code.now (c.args.at + 192) c.loop-i.i _ _ _ (omega arith) c.loop-i.invariant.g c.in_ok-told-7.ensures)
-    (run_told c.args.code.now (c.args.at + 224) c.loop-i.i _ _ _ (omega arith) c.loop-i.invariant.h c.in_ok-told-8.ensures)
+    (run_told c.args.code.now c.args.at c.loop-i.i _ _ _ (omega arith) c.loop-i.invariant.a c.told.ensures)
+    (run_told c.args.code.now (c.args.at + 32) c.loop-i.i _ _ _ (omega arith) c.loop-i.invariant.b c.told-2.ensures)
+    (run_told c.args.code.now (c.args.at + 64) c.loop-i.i _ _ _ (omega arith) c.loop-i.invariant.c c.told-3.ensures)
+    (run_told c.args.code.now (c.args.at + 96) c.loop-i.i _ _ _ (omega arith) c.loop-i.invariant.d c.told-4.ensures)
+    (run_told c.args.code.now (c.args.at + 128) c.loop-i.i _ _ _ (omega arith) c.loop-i.invariant.e c.told-5.ensures)
+    (run_told c.args.code.now (c.args.at + 160) c.loop-i.i _ _ _ (omega arith) c.loop-i.invariant.f c.told-6.ensures)
+    (run_told c.args.code.now (c.args.at + 192) c.loop-i.i _ _ _ (omega arith) c.loop-i.invariant.g c.told-7.ensures)
+    (run_told c.args.code.now (c.args.at + 224) c.loop-i.i _ _ _ (omega arith) c.loop-i.invariant.h c.told-8.ensures)

@@ -1,5 +1,4 @@
-use Rattle.std.proofs.Common.{◌≤◌, ◌-◌}
-use Rattle.std.proofs.Common.{vec_len}
+use Rattle.std.proofs.Common.{◌≤◌, ◌-◌, vec_len}
 use Rattle.nc_vet.specs.Running.{AreTold}
 use Rattle.nc_vet.proofs.lanes.read_bundles.Given as goal
 

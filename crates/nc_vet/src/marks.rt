@@ -1,18 +1,19 @@
-//! The marks of a chunk, as they are kept.
+//! The marks of a chunk, in the form in which they are kept.
 
-ghost use Rattle.std.specs.Prelude.{◌≡◌, ◌<◌, length, slice_index, get_or};
+ghost use Rattle.std.specs.Prelude.{◌≡◌, ◌<◌, length, slice_index, slice_get, get_or, Some};
 ghost use Rattle.nc_vet.specs.Bits.{no_bits, bit_mark, mark_at};
+ghost use Rattle.nc_vet.specs.Listed.{listed};
 
 use crate::bundle::Bundle;
 use nc_decode::Mark;
 
-/// The marks of a chunk.
+/// The marks of a chunk. They mean nothing without its code.
 #[derive(Drop)]
-pub enum Kept {
+pub enum Marks {
     /// By the bits of its bundles, from which a mark is made when it is asked for.
     Bits(Vec<Bundle>),
-    /// One for each byte: where the quick vetting found no memory for bits.
-    Listed(Vec<Mark>),
+    /// One for each byte: where there was no memory for bits.
+    Each(Vec<Mark>),
 }
 
 /// No instructions.
@@ -50,7 +51,7 @@ pub(crate) fn bundle_at(bundles: &[Bundle], n: usize) -> Bundle
     }
 }
 
-/// A byte, or 0 behind the last.
+/// A byte, or 0 after the last.
 #[inline(always)]
 fn byte_at(code: &[u8], k: usize) -> u8
     ensures { result ≡ slice_index code.now k }
@@ -60,9 +61,24 @@ fn byte_at(code: &[u8], k: usize) -> u8
 
 /// The mark of a place, by the bits of the bundles.
 #[inline(always)]
-pub(crate) fn mark_at(code: &[u8], bundles: &[Bundle], k: usize) -> Mark
+fn mark_at(code: &[u8], bundles: &[Bundle], k: usize) -> Mark
     requires { k < length code.now }
     ensures { result ≡ mark_at code.now bundles.now k }
 {
     bit_mark(bundle_at(bundles, k / 32), k % 32, byte_at(code, k + 1))
+}
+
+impl Marks {
+    /// The mark of a place of the code.
+    #[inline(always)]
+    pub(crate) fn at(&self, code: &[u8], k: usize) -> Mark
+        requires place { k < length code.now }
+        requires each { length (listed code.now self.now) ≡ length code.now }
+        ensures { slice_get (listed code.now self.now) k ≡ Some result }
+    {
+        match self {
+            Marks::Bits(bundles) => mark_at(code, bundles, k),
+            Marks::Each(marks) => marks[k],
+        }
+    }
 }

@@ -1,0 +1,11 @@
+-- The marks of a chunk, by the form in which they are kept.
+use Rattle.std.specs.Prelude.{ℕ, List}
+use Rattle.nc_decode.specs.declared.instruction.Mark.{Mark}
+use Rattle.nc_vet.specs.declared.marks.Marks.{Marks}
+use Rattle.nc_vet.specs.declared.marks.Marks.TheVariants.{Bits, Each}
+use Rattle.nc_vet.specs.Bits.{marks_in}
+
+-- the list of marks, one for each byte of the code, that is kept so
+abbrev pub listed : List ℕ → Marks → List Mark
+listed code (Bits bundles) = marks_in code bundles.items
+listed code (Each marks) = marks.items
