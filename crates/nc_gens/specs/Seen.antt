@@ -5,16 +5,22 @@ use Rattle.nc_gens.specs.declared.view.PassNumbers.{PassNumbers}
 use Rattle.nc_gens.specs.declared.view.KeeperNumbers.{KeeperNumbers}
 use Rattle.nc_gens.specs.Rule.{left_word, first_pass_numbers, first_keeper_numbers}
 
--- `table` is that of the `Gens` that was made with it
+-- a table has 1 to 64 seats
+abbrev pub AreSeats : ℕ → Type 0
+AreSeats seats = (1 ≤ seats) × (seats ≤ 64)
+
+-- What callers see of a pass. `table` is that of the `Gens` that was made with it.
 pub record PassState : Type 0 where
   pub table : TableId
   pub seat : ℕ
   pub numbers : PassNumbers
 
+-- what callers see of the keeper, in the same way
 pub record KeeperState : Type 0 where
   pub table : TableId
   pub numbers : KeeperNumbers
 
+-- the pass of a seat, as it is made
 abbrev pub first_pass : TableId → ℕ → PassState
 first_pass table seat = record { table = table; seat = seat; numbers = first_pass_numbers }
 
@@ -23,6 +29,7 @@ abbrev pub first_passes : TableId → ℕ → List PassState
 first_passes table zero = []
 first_passes table (suc n) = first_passes table n ++ first_pass table n ∷ []
 
+-- the keeper, as it is made
 abbrev pub first_keeper : TableId → ℕ → KeeperState
 first_keeper table seats = record { table = table; numbers = first_keeper_numbers seats }
 

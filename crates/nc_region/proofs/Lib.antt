@@ -2,6 +2,7 @@ pub mod EachMember
 pub mod SpanPlaces
 pub mod Told
 pub mod Puts
+pub mod Alone
 pub mod Joining
 pub mod Creating
 pub mod Replacing

@@ -4,7 +4,7 @@ ghost use Rattle.std.specs.Prelude.{◌≡◌, ℕ, List, [], ◌∷◌, Option,
 ghost use Rattle.nc_decode.specs.declared.instruction.Mark.{Mark};
 ghost use Rattle.nc_text.specs.Marks.{IsClosed, mark_at};
 ghost use Rattle.nc_text.specs.Places.{InRegion, SpanInRegion, byte_at, limit_of};
-ghost use Rattle.nc_text.specs.Code.{Code, IsText, with_byte, with_marks, without_marks, NamesRegister, KeepsMarks, AreStops};
+ghost use Rattle.nc_text.specs.MarkedText.{MarkedText, IsText, with_byte, with_marks, without_marks, NamesRegister, KeepsMarks, AreStops};
 ghost use Rattle.nc_region.specs.declared.acts.Act.{Act};
 ghost use Rattle.nc_region.specs.Acts.{Tells};
 
@@ -31,44 +31,44 @@ pub enum Act {
 /// that tells nothing says `None`, for good.
 pub trait Acts {
     /// Bytes and marks.
-    ghost code: { Self → Code };
+    ghost marked: { Self → MarkedText };
 
     /// The acts so far, while they are told.
     ghost told: { Self → Option (List Act) };
 
     fn put(&mut self, at: u32, byte: u8)
-        requires inside { InRegion (code self.old).bytes at }
-        requires closed { IsClosed (with_byte (code self.old) at byte).bytes (code self.old).marks }
-        ensures code { code self.new ≡ with_byte (code self.old) at byte }
-        ensures whole { IsText (code self.new) }
+        requires inside { InRegion (marked self.old).bytes at }
+        requires closed { IsClosed (with_byte (marked self.old) at byte).bytes (marked self.old).marks }
+        ensures marked { marked self.new ≡ with_byte (marked self.old) at byte }
+        ensures whole { IsText (marked self.new) }
         ensures told { Tells (told self.old) (told self.new) (Act.Put at byte ∷ []) };
 
     fn mark_span(&mut self, at: u32, marks: &[Mark])
-        requires inside { SpanInRegion (code self.old).bytes at (length marks.now) }
+        requires inside { SpanInRegion (marked self.old).bytes at (length marks.now) }
         requires registers { All NamesRegister marks.now }
-        requires keeps { KeepsMarks (code self.old).marks (with_marks (code self.old) at marks.now).marks }
-        requires closed { IsClosed (code self.old).bytes (with_marks (code self.old) at marks.now).marks }
-        ensures code { code self.new ≡ with_marks (code self.old) at marks.now }
-        ensures whole { IsText (code self.new) }
+        requires keeps { KeepsMarks (marked self.old).marks (with_marks (marked self.old) at marks.now).marks }
+        requires closed { IsClosed (marked self.old).bytes (with_marks (marked self.old) at marks.now).marks }
+        ensures marked { marked self.new ≡ with_marks (marked self.old) at marks.now }
+        ensures whole { IsText (marked self.new) }
         ensures told { Tells (told self.old) (told self.new) (Act.MarkSpan at (length marks.now) ∷ []) };
 
     fn unmark_span(&mut self, at: u32, len: u32)
-        requires inside { SpanInRegion (code self.old).bytes at len }
-        requires stops { AreStops (code self.old).bytes at len }
-        requires closed { IsClosed (code self.old).bytes (without_marks (code self.old) at len).marks }
-        ensures code { code self.new ≡ without_marks (code self.old) at len }
-        ensures whole { IsText (code self.new) }
+        requires inside { SpanInRegion (marked self.old).bytes at len }
+        requires stops { AreStops (marked self.old).bytes at len }
+        requires closed { IsClosed (marked self.old).bytes (without_marks (marked self.old) at len).marks }
+        ensures marked { marked self.new ≡ without_marks (marked self.old) at len }
+        ensures whole { IsText (marked self.new) }
         ensures told { Tells (told self.old) (told self.new) (Act.UnmarkSpan at len ∷ []) };
 
     fn byte(&self, at: u32) -> u8
-        requires { InRegion (code self.now).bytes at }
-        ensures { result ≡ byte_at (code self.now).bytes at };
+        requires { InRegion (marked self.now).bytes at }
+        ensures { result ≡ byte_at (marked self.now).bytes at };
 
     fn limit(&self) -> u32
-        ensures limit { result ≡ limit_of (code self.now).bytes }
-        ensures whole { IsText (code self.now) };
+        ensures limit { result ≡ limit_of (marked self.now).bytes }
+        ensures whole { IsText (marked self.now) };
 
     fn mark(&self, at: u32) -> Mark
-        requires { InRegion (code self.now).bytes at }
-        ensures { result ≡ mark_at (code self.now).marks at };
+        requires { InRegion (marked self.now).bytes at }
+        ensures { result ≡ mark_at (marked self.now).marks at };
 }

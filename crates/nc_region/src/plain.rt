@@ -1,7 +1,6 @@
 //! The acts of a region that tells nothing.
 
 ghost use Rattle.std.specs.Prelude.{◌≡◌, ℕ, IfOk, IfErr, None};
-ghost use Rattle.nc_text.specs.Code.{new_code};
 
 use crate::acts::Acts;
 use nc_decode::Mark;
@@ -15,9 +14,9 @@ pub struct Plain {
 }
 
 impl Model for Plain {
-    ghost use Rattle.nc_text.specs.Code.{Code, IsText};
+    ghost use Rattle.nc_text.specs.MarkedText.{MarkedText, IsText};
 
-    ghost Value = { Code };
+    ghost Value = { MarkedText };
 
     ghost view = { λ p. p.text };
 }
@@ -32,7 +31,7 @@ impl Plain {
 }
 
 impl Acts for Plain {
-    ghost code = { λ p. p };
+    ghost marked = { λ p. p };
 
     ghost told = { λ p. None };
 

@@ -1,8 +1,12 @@
 //! A recorder of acts, for tests and for whoever wants to see the order of single bytes.
 
-ghost use Rattle.std.specs.Prelude.{◌≡◌, ◌↔◌, ℕ, ◌+◌, ◌<◌, ◌≤◌, List, [], ◌∷◌, ◌++◌, Option, Some, None, IfOk, if◌then◌else◌, false};
+ghost use Rattle.std.specs.Prelude.{◌≡◌, ◌↔◌, ◌+◌, ◌<◌, ◌≤◌, [], ◌∷◌, Some, None, IfOk, length, All, if◌then◌else◌, false};
 ghost use Rattle.std.specs.Option.{option_map};
 ghost use Rattle.std.specs.Vec.{vec_len, vec_capacity};
+ghost use Rattle.nc_text.specs.MarkedText.{IsText, with_byte, with_marks, without_marks, NamesRegister, KeepsMarks, AreStops};
+ghost use Rattle.nc_text.specs.Marks.{IsClosed};
+ghost use Rattle.nc_text.specs.Places.{InRegion, SpanInRegion};
+ghost use Rattle.nc_region.specs.declared.acts.Act.{Act};
 ghost use Rattle.nc_region.specs.Acts.{Tells};
 
 use crate::acts::{Act, Acts};
@@ -12,7 +16,7 @@ use std::alloc::{AllocError, Global};
 /// Acts that are recorded, each at the end of a log as it is done.
 ///
 /// The log takes its room when it is made. From the first act on for which there is no room it tells nothing, for
-/// good; the acts themselves are done all the same.
+/// good; the acts themselves are done all the same. Each of its acts says so (`goes_on`).
 #[derive(Drop)]
 pub struct Recorder<A: Acts + Drop> {
     acts: A,
@@ -60,21 +64,45 @@ impl<A: Acts + Drop> Recorder<A> {
 }
 
 impl<A: Acts + Drop> Acts for Recorder<A> {
-    ghost code = { λ r. A.code r.acts };
+    ghost marked = { λ r. A.marked r.acts };
 
     ghost told = { λ r. if r.full then None else Some r.log.items };
 
-    fn put(&mut self, at: u32, byte: u8) {
+    fn put(&mut self, at: u32, byte: u8)
+        requires inside { InRegion (A.marked self.old.acts).bytes at }
+        requires closed { IsClosed (with_byte (A.marked self.old.acts) at byte).bytes (A.marked self.old.acts).marks }
+        ensures marked { A.marked self.new.acts ≡ with_byte (A.marked self.old.acts) at byte }
+        ensures whole { IsText (A.marked self.new.acts) }
+        ensures told { Tells (if self.old.full then None else Some self.old.log.items) (if self.new.full then None else Some self.new.log.items) (Act.Put at byte ∷ []) }
+        ensures goes_on { (self.new.full ≡ false) ↔ ((self.old.full ≡ false) × (vec_len self.old.log < vec_capacity self.old.log)) }
+    {
         self.acts.put(at, byte);
         self.record(Act::Put(at, byte));
     }
 
-    fn mark_span(&mut self, at: u32, marks: &[Mark]) {
+    fn mark_span(&mut self, at: u32, marks: &[Mark])
+        requires inside { SpanInRegion (A.marked self.old.acts).bytes at (length marks.now) }
+        requires registers { All NamesRegister marks.now }
+        requires keeps { KeepsMarks (A.marked self.old.acts).marks (with_marks (A.marked self.old.acts) at marks.now).marks }
+        requires closed { IsClosed (A.marked self.old.acts).bytes (with_marks (A.marked self.old.acts) at marks.now).marks }
+        ensures marked { A.marked self.new.acts ≡ with_marks (A.marked self.old.acts) at marks.now }
+        ensures whole { IsText (A.marked self.new.acts) }
+        ensures told { Tells (if self.old.full then None else Some self.old.log.items) (if self.new.full then None else Some self.new.log.items) (Act.MarkSpan at (length marks.now) ∷ []) }
+        ensures goes_on { (self.new.full ≡ false) ↔ ((self.old.full ≡ false) × (vec_len self.old.log < vec_capacity self.old.log)) }
+    {
         self.acts.mark_span(at, marks);
         self.record(Act::MarkSpan(at, marks.len() as u32));
     }
 
-    fn unmark_span(&mut self, at: u32, len: u32) {
+    fn unmark_span(&mut self, at: u32, len: u32)
+        requires inside { SpanInRegion (A.marked self.old.acts).bytes at len }
+        requires stops { AreStops (A.marked self.old.acts).bytes at len }
+        requires closed { IsClosed (A.marked self.old.acts).bytes (without_marks (A.marked self.old.acts) at len).marks }
+        ensures marked { A.marked self.new.acts ≡ without_marks (A.marked self.old.acts) at len }
+        ensures whole { IsText (A.marked self.new.acts) }
+        ensures told { Tells (if self.old.full then None else Some self.old.log.items) (if self.new.full then None else Some self.new.log.items) (Act.UnmarkSpan at len ∷ []) }
+        ensures goes_on { (self.new.full ≡ false) ↔ ((self.old.full ≡ false) × (vec_len self.old.log < vec_capacity self.old.log)) }
+    {
         self.acts.unmark_span(at, len);
         self.record(Act::UnmarkSpan(at, len));
     }

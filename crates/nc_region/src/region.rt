@@ -1,9 +1,10 @@
 //! A region: a text by its acts, and the list of its chunks.
 
-ghost use Rattle.std.specs.Prelude.{◌≡◌, ◌≤◌, ◌<◌, ◌⊎◌, ◌↔◌, List, length, [], None, OnOk, IfOk, IfErr, slice_get};
+ghost use Rattle.std.specs.Prelude.{◌≡◌, ◌+◌, ◌*◌, ◌↔◌, List, length, [], None, OnOk, IfOk, IfErr, slice_get};
 ghost use Rattle.nc_text.specs.Machine.{IsConfined};
 ghost use Rattle.nc_text.specs.Places.{InRegion, byte_at, limit_of};
-ghost use Rattle.nc_text.specs.Code.{new_code};
+ghost use Rattle.nc_decode.specs.Bundles.{IsLawfulLimit};
+ghost use Rattle.nc_text.specs.MarkedText.{unused_text};
 ghost use Rattle.nc_region.specs.Acts.{Tells, acts_of_create};
 ghost use Rattle.nc_region.specs.Region.{Region, IsRegion, IsNew, IsCreated, MayRefuse, Meets};
 ghost use Rattle.nc_vet.specs.Chunk.{Piece};
@@ -14,9 +15,9 @@ use crate::acts::Acts;
 use crate::chunk::{Chunk, ChunkState};
 use crate::create::put_chunk;
 use crate::fault::{CreateFault, ModifyFault, RegionFault, WalkFault};
-use crate::listing::{insert_chunk, room_for};
+use crate::listing::{holder, insert_chunk, room_for};
 use crate::modify::{
-    are_instructions, fits, holder, is_patch_span, keeps_targets, leaves_pairs, put_patch,
+    are_instructions, fits, is_patch_span, keeps_targets, leaves_pairs, put_patch,
 };
 use crate::plain::Plain;
 use crate::trace::Trace;
@@ -46,17 +47,17 @@ impl<A: Acts + Drop> Model for RegionOf<A> {
 
     ghost Value = { Region };
 
-    ghost view = { λ r. record { code = A.code r.acts; chunks = r.chunks.items; told = A.told r.acts } };
+    ghost view = { λ r. record { marked = A.marked r.acts; chunks = r.chunks.items; told = A.told r.acts } };
 
-    ghost invariant = { λ r. IsRegion (A.code r.acts) r.chunks.items };
+    ghost invariant = { λ r. IsRegion (A.marked r.acts) r.chunks.items };
 }
 
 impl RegionOf<Plain> {
     /// A region of this many bundles, without a chunk. Its last bundle is the guard, in which no chunk stands.
     pub fn new(alloc: Global, bundles: u32) -> Result<Region, RegionFault>
-        ensures size { (result ≡ Err RegionFault.BadSize) ↔ ((bundles < 2) ⊎ (524288 < bundles)) }
-        ensures region { IfOk result (λ r. r ≡ record { code = new_code bundles; chunks = []; told = None }) }
-        ensures confined { IfOk result (λ r. IsConfined r.code.bytes) }
+        ensures size { (result ≡ Err RegionFault.BadSize) ↔ ¬ IsLawfulLimit (0x10000 + 32 * bundles) }
+        ensures region { IfOk result (λ r. r ≡ record { marked = unused_text (0x10000 + 32 * bundles); chunks = []; told = None }) }
+        ensures confined { IfOk result (λ r. IsConfined r.marked.bytes) }
     {
         match Text::new(alloc, bundles) {
             Ok(text) => Ok(RegionOf::over(alloc, Plain::new(text))),
@@ -69,8 +70,8 @@ impl RegionOf<Plain> {
 impl<A: Acts + Drop> RegionOf<A> {
     /// A region over a new text, without a chunk. It takes no memory.
     pub fn over(alloc: Global, acts: A) -> RegionOf<A>
-        requires { IsNew (A.code acts) }
-        ensures { result ≡ record { code = A.code acts; chunks = []; told = A.told acts } }
+        requires { IsNew (A.marked acts) }
+        ensures { result ≡ record { marked = A.marked acts; chunks = []; told = A.told acts } }
     {
         RegionOf {
             acts,
@@ -80,7 +81,7 @@ impl<A: Acts + Drop> RegionOf<A> {
 
     /// What the region does its work by, to read what it tells.
     pub fn acts(&self) -> &A
-        ensures code { A.code result.now ≡ self.now.code }
+        ensures marked { A.marked result.now ≡ self.now.marked }
         ensures told { A.told result.now ≡ self.now.told }
     {
         &self.acts
@@ -88,16 +89,16 @@ impl<A: Acts + Drop> RegionOf<A> {
 
     /// The address behind the region's last byte.
     pub fn limit(&self) -> u32
-        ensures limit { result ≡ limit_of self.now.code.bytes }
-        ensures region { IsRegion self.now.code self.now.chunks }
+        ensures limit { result ≡ limit_of self.now.marked.bytes }
+        ensures region { IsRegion self.now.marked self.now.chunks }
     {
         self.acts.limit()
     }
 
     /// The byte at an address of the region.
     pub fn byte(&self, at: u32) -> u8
-        requires { InRegion self.now.code.bytes at }
-        ensures { result ≡ byte_at self.now.code.bytes at }
+        requires { InRegion self.now.marked.bytes at }
+        ensures { result ≡ byte_at self.now.marked.bytes at }
     {
         self.acts.byte(at)
     }
@@ -105,8 +106,8 @@ impl<A: Acts + Drop> RegionOf<A> {
     /// How many chunks there are, live and retired. Every path through the text is safe.
     pub fn chunk_count(&self) -> usize
         ensures count { result ≡ length self.now.chunks }
-        ensures confined { IsConfined self.now.code.bytes }
-        ensures region { IsRegion self.now.code self.now.chunks }
+        ensures confined { IsConfined self.now.marked.bytes }
+        ensures region { IsRegion self.now.marked self.now.chunks }
     {
         self.chunks.len()
     }
@@ -126,12 +127,12 @@ impl<A: Acts + Drop> RegionOf<A> {
         // Exactly the acts of a creation were done, where they are told.
         ensures acts { OnOk result (Tells self.old.told self.new.told (acts_of_create vetted.base vetted.code)) }
         // It is created only for this region's limit, where no chunk stands.
-        ensures free { OnOk result ((vetted.limit ≡ limit_of self.old.code.bytes) × ¬ Meets vetted.base (length vetted.code) self.old.chunks) }
+        ensures free { OnOk result ((vetted.limit ≡ limit_of self.old.marked.bytes) × ¬ Meets vetted.base (length vetted.code) self.old.chunks) }
         // Text, marks, chunks and acts are as before, and the chunk comes back.
         ensures unchanged { IfErr result (λ e. (e.0 ≡ vetted) × (self.new ≡ self.old)) }
         // Each refusal comes where it is due.
         ensures refused { IfErr result (λ e. MayRefuse self.old vetted e.1) }
-        ensures confined { IsConfined self.new.code.bytes }
+        ensures confined { IsConfined self.new.marked.bytes }
     {
         let base = vetted.base();
         if vetted.limit() != self.acts.limit() {
@@ -168,14 +169,14 @@ impl<A: Acts + Drop> RegionOf<A> {
         ensures modified { OnOk result (IsModified self.old self.new at new.now) }
         // Exactly the acts of a patch were done, where they are told.
         ensures acts { OnOk result ((news : List Piece) → AreBytesOf new.now news
-            → Tells self.old.told self.new.told (acts_of_modify self.old.code.bytes at news)) }
+            → Tells self.old.told self.new.told (acts_of_modify self.old.marked.bytes at news)) }
         // Lawful patches alone are made.
         ensures lawful { OnOk result (IsPatch self.old at new.now) }
         // Text, marks, chunks and acts are as before.
         ensures unchanged { IfErr result (λ e. self.new ≡ self.old) }
         // Each refusal comes exactly where it is due.
         ensures refused { IfErr result (MayRefusePatch self.old at new.now) }
-        ensures confined { IsConfined self.new.code.bytes }
+        ensures confined { IsConfined self.new.marked.bytes }
     {
         // Names a field, so that the first return is checked against the fields and not the whole.
         let _open = &self.chunks;
@@ -212,14 +213,14 @@ impl<A: Acts + Drop> RegionOf<A> {
     /// Nothing is executed: the choices stand for what data and flags would decide. `NotBundle` is answered without memory.
     pub fn walk(&self, start: u32, choices: &[u32]) -> Result<Trace, WalkFault>
         // Its places are those of a walk of the machine, and its end is the first that comes.
-        ensures trace { IfOk result (λ t. IsTrace self.now.code.bytes start choices.now t.places.items t.end) }
+        ensures trace { IfOk result (λ t. IsTrace self.now.marked.bytes start choices.now t.places.items t.end) }
         // The start and the choices determine them.
-        ensures only { IfOk result (λ t. IsOnlyTrace self.now.code.bytes start choices.now t.places.items t.end) }
+        ensures only { IfOk result (λ t. IsOnlyTrace self.now.marked.bytes start choices.now t.places.items t.end) }
         // The machine stands on safe states alone.
-        ensures safe { IfOk result (λ t. IsSafeWalk self.now.code.bytes start choices.now t.end) }
-        ensures begins { OnOk result (IsWalkStart self.now.code.bytes start) }
+        ensures safe { IfOk result (λ t. IsSafeWalk self.now.marked.bytes start choices.now t.end) }
+        ensures begins { OnOk result (IsWalkStart self.now.marked.bytes start) }
         // Each refusal comes where it is due.
-        ensures refused { IfErr result (MayRefuseWalk self.now.code.bytes start) }
+        ensures refused { IfErr result (MayRefuseWalk self.now.marked.bytes start) }
     {
         if start < START || start >= self.acts.limit() || start % BUNDLE != 0 {
             return Err(WalkFault::NotBundle);

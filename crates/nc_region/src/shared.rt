@@ -6,7 +6,7 @@ ghost use Rattle.nc_text.specs.Machine.{IsConfined};
 ghost use Rattle.nc_text.specs.Places.{limit_of};
 ghost use Rattle.nc_region.specs.Trace.{IsTrace, IsWalkStart, MayRefuseWalk};
 
-use crate::fault::{CreateFault, WalkFault};
+use crate::fault::{CreateFault, ModifyFault, WalkFault};
 use crate::region::Region;
 use crate::trace::Trace;
 use nc_vet::Vetted;
@@ -35,6 +35,11 @@ impl Shared {
         ensures given_back { IfErr result (λ e. e.0 ≡ vetted) }
     {
         self.region.lock(rt).create(vetted)
+    }
+
+    /// `Region::modify` under the lock.
+    pub fn modify(&self, rt: &impl Wait, at: u32, new: &[u8]) -> Result<(), ModifyFault> {
+        self.region.lock(rt).modify(at, new)
     }
 
     /// `Region::walk` under the lock: the trace through the text that stood there at that moment.

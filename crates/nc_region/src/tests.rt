@@ -295,7 +295,13 @@ static PATCHES: [(&[u8], u32, &[u8], Result<(), ModifyFault>, &[Act]); 31] = [
             Act::Put(0x10000, 0xB8),
         ],
     ),
-    (&[0x90, 0x90, 0x90], 0x10000, &[0x90, 0x40, 0x90], Ok(()), &[Act::Put(0x10001, 0x40)]),
+    (
+        &[0x90, 0x90, 0x90],
+        0x10000,
+        &[0x90, 0x40, 0x90],
+        Ok(()),
+        &[Act::Put(0x10001, 0x40)],
+    ),
     (
         &[0xEB, 0xFE],
         0x10000,
@@ -307,8 +313,20 @@ static PATCHES: [(&[u8], u32, &[u8], Result<(), ModifyFault>, &[Act]); 31] = [
             Act::Put(0x10000, 0xEB),
         ],
     ),
-    (&[0x90, 0x90], 0x10000, &[0x66, 0x90], Err(ModifyFault::Boundaries), &[]),
-    (&[0x90], 0x10000, &[0xF4], Ok(()), &[Act::Put(0x10000, 0xF4)]),
+    (
+        &[0x90, 0x90],
+        0x10000,
+        &[0x66, 0x90],
+        Err(ModifyFault::Boundaries),
+        &[],
+    ),
+    (
+        &[0x90],
+        0x10000,
+        &[0xF4],
+        Ok(()),
+        &[Act::Put(0x10000, 0xF4)],
+    ),
     (
         &[0x83, 0xE0, 0xE0, 0x83, 0xE0, 0xE0, 0xFF, 0xE0],
         0x10000,
@@ -328,13 +346,43 @@ static PATCHES: [(&[u8], u32, &[u8], Result<(), ModifyFault>, &[Act]); 31] = [
         Err(ModifyFault::PairTouched),
         &[],
     ),
-    (&[0xEB, 0xFE], 0x10000, &[0xFF, 0xE0], Err(ModifyFault::PairTouched), &[]),
+    (
+        &[0xEB, 0xFE],
+        0x10000,
+        &[0xFF, 0xE0],
+        Err(ModifyFault::PairTouched),
+        &[],
+    ),
     // nothing changes
-    (&[0xEB, 0xFE, 0x90], 0x10000, &[0xEB, 0xFE, 0x90], Ok(()), &[]),
+    (
+        &[0xEB, 0xFE, 0x90],
+        0x10000,
+        &[0xEB, 0xFE, 0x90],
+        Ok(()),
+        &[],
+    ),
     // a jump into itself, to a bundle start behind, to one that is none, to the limit
-    (&[0xEB, 0xFE], 0x10000, &[0xEB, 0xFF], Err(ModifyFault::BadTarget), &[]),
-    (&[0xEB, 0xFE], 0x10000, &[0xEB, 0x3F], Err(ModifyFault::BadTarget), &[]),
-    (&[0xEB, 0xFE], 0x10000, &[0xEB, 0x7E], Err(ModifyFault::BadTarget), &[]),
+    (
+        &[0xEB, 0xFE],
+        0x10000,
+        &[0xEB, 0xFF],
+        Err(ModifyFault::BadTarget),
+        &[],
+    ),
+    (
+        &[0xEB, 0xFE],
+        0x10000,
+        &[0xEB, 0x3F],
+        Err(ModifyFault::BadTarget),
+        &[],
+    ),
+    (
+        &[0xEB, 0xFE],
+        0x10000,
+        &[0xEB, 0x7E],
+        Err(ModifyFault::BadTarget),
+        &[],
+    ),
     // a second half as a target
     (
         &[0x83, 0xE0, 0xE0, 0xFF, 0xE0, 0xEB, 0xFE],
@@ -346,20 +394,74 @@ static PATCHES: [(&[u8], u32, &[u8], Result<(), ModifyFault>, &[Act]); 31] = [
     // spans
     (&[0x90], 0x10000, &[], Err(ModifyFault::BadSpan), &[]),
     (&[0x90], 0xFFFF_FFFF, &[], Err(ModifyFault::BadSpan), &[]),
-    (&[0x90], 0x1001F, &[0x90, 0x90], Err(ModifyFault::BadSpan), &[]),
-    (&[0x90], 0xFFFF_FFE0, &[0x90; 33], Err(ModifyFault::BadSpan), &[]),
-    (&[0x90], 0xFFFF_FFE0, &[0x90; 32], Err(ModifyFault::NotLive), &[]),
+    (
+        &[0x90],
+        0x1001F,
+        &[0x90, 0x90],
+        Err(ModifyFault::BadSpan),
+        &[],
+    ),
+    (
+        &[0x90],
+        0xFFFF_FFE0,
+        &[0x90; 33],
+        Err(ModifyFault::BadSpan),
+        &[],
+    ),
+    (
+        &[0x90],
+        0xFFFF_FFE0,
+        &[0x90; 32],
+        Err(ModifyFault::NotLive),
+        &[],
+    ),
     (&[0x90], 0x10020, &[0x90], Err(ModifyFault::NotLive), &[]),
     (&[0x90], 0xFFE0, &[0x90], Err(ModifyFault::NotLive), &[]),
     (&[0x90], 0x10080, &[0xC3], Err(ModifyFault::NotLive), &[]),
     (&[0x90], 0x10000, &[0x90; 32], Ok(()), &[]),
     // bytes
-    (&[0x90], 0x10000, &[0xC3], Err(ModifyFault::NotPermitted), &[]),
-    (&[0x90], 0x10000, &[0x90, 0xB8], Err(ModifyFault::NotPermitted), &[]),
-    (&[0xEB, 0xFE], 0x10001, &[0xC3], Err(ModifyFault::NotPermitted), &[]),
-    (&[0xEB, 0xFE], 0x10001, &[0x90], Err(ModifyFault::Boundaries), &[]),
-    (&[0xEB, 0xFE], 0x10000, &[0x90, 0x90], Err(ModifyFault::Boundaries), &[]),
-    (&[0xEB, 0xFE], 0x10001, &[0xFF, 0xE0], Err(ModifyFault::Boundaries), &[]),
+    (
+        &[0x90],
+        0x10000,
+        &[0xC3],
+        Err(ModifyFault::NotPermitted),
+        &[],
+    ),
+    (
+        &[0x90],
+        0x10000,
+        &[0x90, 0xB8],
+        Err(ModifyFault::NotPermitted),
+        &[],
+    ),
+    (
+        &[0xEB, 0xFE],
+        0x10001,
+        &[0xC3],
+        Err(ModifyFault::NotPermitted),
+        &[],
+    ),
+    (
+        &[0xEB, 0xFE],
+        0x10001,
+        &[0x90],
+        Err(ModifyFault::Boundaries),
+        &[],
+    ),
+    (
+        &[0xEB, 0xFE],
+        0x10000,
+        &[0x90, 0x90],
+        Err(ModifyFault::Boundaries),
+        &[],
+    ),
+    (
+        &[0xEB, 0xFE],
+        0x10001,
+        &[0xFF, 0xE0],
+        Err(ModifyFault::Boundaries),
+        &[],
+    ),
     // a pair that stays, and one on another register
     (
         &[0x83, 0xE0, 0xE0, 0xFF, 0xE0],
@@ -416,7 +518,11 @@ fn patched_walk(rt: HostRuntime) -> Result<(), Fail> {
         Ok(region) => region,
         Err(fault) => return Err(Fail::new(format_args!("{fault:?}"))),
     };
-    assert!(rt; region.create(chunk(alloc, 0x10000, LIMIT, 1, &[0xEB, 0x1E])?).is_ok());
+    assert!(rt;
+        region
+            .create(chunk(alloc, 0x10000, LIMIT, 1, &[0xEB, 0x1E])?)
+            .is_ok()
+    );
     assert_eq!(rt; region.modify(0x10000, &[0xEB, 0x3E]), Ok(()));
     let Ok(trace) = region.walk(0x10000, &[0, 0]) else {
         return Err(Fail::new("no walk"));
