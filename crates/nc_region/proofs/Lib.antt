@@ -18,6 +18,13 @@ pub mod Offsets
 pub mod Sound
 pub mod Pieces
 pub mod Rising
+pub mod AgreesOutside
+pub mod QuietSpans
+pub mod Freeing
+pub mod Freed
+pub mod Due
+pub mod Deleting
+pub mod Deleted
 pub mod Inserting
 pub mod Windows
 pub mod Walking

@@ -11,13 +11,9 @@ use Rattle.nc_region.specs.Chunks.{IsPlaced}
 use Rattle.nc_region.specs.Each.{Each}
 use Rattle.nc_region.specs.Region.{IsLive, IsInChunk, HoldsValid, IsRegion}
 use Rattle.nc_region.specs.Patch.{IsHeldBy}
-use Rattle.nc_region.proofs.EachMember.{each_get}
+use Rattle.nc_region.proofs.EachMember.{each_get, each_from}
 use Rattle.nc_region.proofs.SpanPlaces.{span_before, span_behind}
 use Rattle.nc_region.proofs.Runs.{apart_by_index}
-
-pub each_from : {X : Type 0} (P : X → Type 0) (xs : List X) (d : X) → ((k : ℕ) → k < length xs → P (get_or xs k d)) → Each P xs
-each_from P [] d h = tt
-each_from P (x ∷ xs) d h = (h 0 (omega arith), each_from P xs d (λ k lt. h (suc k) (omega (arith, lt))))
 
 pub record Patches (old new : MarkedText) (chunks : List Chunk) (c : Chunk) (at : ℕ) (bytes : List ℕ) : Type 0 where
   pub region : IsRegion old chunks

@@ -16,6 +16,9 @@ use Rattle.nc_region.specs.Patch.{IsHeldBy, IsHeld, AreBytesOf, lengths, IsRun, 
 use Rattle.nc_region.specs.PatchSteps.{Begins, Along, RunsAlong, NoneFirst, NoneIndirect}
 use Rattle.nc_region.proofs.Standing.{all_long, standing}
 use Rattle.nc_region.proofs.Turns.{no_half}
+use Rattle.nc_region.specs.Each.{Each}
+use Rattle.nc_region.specs.Deletion.{HasLive}
+use Rattle.nc_region.proofs.EachMember.{each_get}
 use Rattle.nc_region.proofs.Rising.{rises_get}
 
 -- where a place of the chunk is marked, an instruction begins
@@ -142,6 +145,14 @@ held_last chunks k at d rising inside below above h =
           (λ (late : k - 1 ≤ h.1.0.0). (let same : k - 1 ≡ h.1.0.0 = omega (arith, late, lt) in ap (λ (j : ℕ). get_or chunks j d) same ∙ (get_or_default chunks h.1.0.0 d c h.1.0.1 ∙ is_c)))
           (cases_lt h.1.0.0 (k - 1)),
     )
+
+-- a live chunk holds its base
+abbrev pub live_is_held : (chunks : List Chunk) (base : ℕ) → Each (λ (d : Chunk). 0 < d.length) chunks → HasLive chunks base → IsHeld chunks base
+live_is_held chunks base some h =
+    let c : Chunk = h.0 in
+    let is_c : get_or chunks h.1.0 c ≡ c = h.1.2 in
+    let long = each_get (λ (d : Chunk). 0 < d.length) chunks h.1.0 c h.1.1 some in
+    (h.0, (h.1, h.2, (omega (arith, h.3), omega (arith, h.3, long, ap (λ (x : Chunk). x.length) is_c))))
 
 pub pairs_back : (old after news : List Piece) (new : List ℕ) → AreBytesOf new news → 0 < length new → lengths old ≡ lengths news → AreNoHalves old after → AreNotIndirect news → NoneIndirect (old ++ after) news
 pairs_back old after [] new b some e halves fresh = absurd (omega (arith, some, ap (λ (z : List ℕ). length z) b.parts))

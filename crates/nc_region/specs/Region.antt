@@ -8,6 +8,7 @@ use Rattle.nc_decode.specs.Bundles.{IsLawfulLimit}
 use Rattle.nc_text.specs.Places.{InRegion, limit_of, byte_at}
 use Rattle.nc_text.specs.Marks.{mark_at}
 use Rattle.nc_text.specs.MarkedText.{MarkedText, IsText, with_span, unused_mark, unused_text}
+use Rattle.nc_gens.specs.Seen.{KeeperState}
 use Rattle.nc_region.specs.declared.acts.Act.{Act}
 use Rattle.nc_region.specs.declared.chunk.Chunk.{Chunk}
 use Rattle.nc_region.specs.declared.chunk.ChunkState.{ChunkState}
@@ -17,16 +18,25 @@ use Rattle.nc_region.specs.declared.fault.CreateFault.TheVariants.{WrongLimit, O
 use Rattle.nc_region.specs.Chunks.{IsPlaced}
 use Rattle.nc_region.specs.Each.{Each}
 
--- what contracts see of a region: bytes and marks, the chunks by rising base, and the acts told so far
+-- What contracts see of a region: bytes and marks, the chunks by rising base, the keeper with the generation and each
+-- seat's bound, and the acts told so far.
 pub record Region : Type 0 where
   pub marked : MarkedText
   pub chunks : List Chunk
+  pub keeper : KeeperState
   pub told : Option (List Act)
 
+-- what contracts see of a `Plain`
+pub record PlainState : Type 0 where
+  pub marked : MarkedText
+  pub keeper : KeeperState
+
+-- threads may enter it
 abbrev pub IsLive : ChunkState → Type 0
 IsLive Live = ⊤
 IsLive (Retired stamp) = ⊥
 
+-- the place lies in the chunk's span
 abbrev pub IsInChunk : Chunk → ℕ → Type 0
 IsInChunk c at = (c.base ≤ at) × (at < c.base + c.length)
 
@@ -58,10 +68,11 @@ pub record IsRegion (marked : MarkedText) (chunks : List Chunk) : Type 0 where
 abbrev pub IsNew : MarkedText → Type 0
 IsNew marked = (limit : ℕ) × IsLawfulLimit limit × (marked ≡ unused_text limit)
 
--- all of a chunk list above a place, and all of it below one
+-- all of a chunk list ends at or below a place
 abbrev pub IsAboveAll : ℕ → List Chunk → Type 0
 IsAboveAll base chunks = Each (λ (d : Chunk). d.base + d.length ≤ base) chunks
 
+-- all of it above the end of a span
 abbrev pub IsBelowAll : ℕ → List Chunk → Type 0
 IsBelowAll end chunks = Each (λ (d : Chunk). end ≤ d.base) chunks
 
@@ -78,6 +89,7 @@ Meets base len (d ∷ rest) = ((base < d.base + d.length) × (d.base < base + le
 abbrev pub IsInserted : List Chunk → List Chunk → Chunk → Type 0
 IsInserted old new c = (k : ℕ) × FitsAt c.base c.length old k × (new ≡ insert old k c)
 
+-- a vetted chunk in the list
 abbrev pub live_chunk : vet.Chunk → Chunk
 live_chunk v = record { base = v.base; length = length v.code; state = Live }
 

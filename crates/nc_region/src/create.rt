@@ -19,6 +19,7 @@ pub(crate) fn put_chunk<A: Acts>(acts: &mut A, base: u32, code: &[u8], marks: &[
     requires unused { IsUnused (A.marked acts.old) base (length code.now) }
     ensures marked { A.marked acts.new ≡ with_chunk (A.marked acts.old) base code.now marks.now }
     ensures whole { IsText (A.marked acts.new) }
+    ensures keeper { A.keeper acts.new ≡ A.keeper acts.old }
     ensures told { Tells (A.told acts.old) (A.told acts.new) (acts_of_create base code.now) }
 {
     put_inside(acts, base, code);
@@ -34,6 +35,7 @@ fn put_inside<A: Acts>(acts: &mut A, base: u32, code: &[u8])
     ensures bytes { HasPut is_inside base code.now (length code.now) (A.marked acts.old).bytes (A.marked acts.new).bytes }
     ensures marks { (A.marked acts.new).marks ≡ (A.marked acts.old).marks }
     ensures whole { IsText (A.marked acts.new) }
+    ensures keeper { A.keeper acts.new ≡ A.keeper acts.old }
     ensures told { Tells (A.told acts.old) (A.told acts.new) (puts_where is_inside base code.now) }
 {
     for i in 0..code.len() {
@@ -53,6 +55,7 @@ fn put_starts<A: Acts>(acts: &mut A, base: u32, code: &[u8])
     ensures bytes { (A.marked acts.new).bytes ≡ with_span (A.marked acts.old).bytes (base - 65536) code.now }
     ensures marks { (A.marked acts.new).marks ≡ (A.marked acts.old).marks }
     ensures whole { IsText (A.marked acts.new) }
+    ensures keeper { A.keeper acts.new ≡ A.keeper acts.old }
     ensures told { Tells (A.told acts.old) (A.told acts.new) (puts_where is_start base code.now) }
 {
     for i in 0..code.len() {

@@ -60,3 +60,14 @@ pub enum ModifyFault {
     #[error("bad target")]
     BadTarget,
 }
+
+/// Why a chunk isn't deleted. The first that holds is given, in this order.
+#[derive(Clone, Copy, Debug, PartialEq, Eq, Error)]
+pub enum DeleteFault {
+    /// No live chunk has this base.
+    #[error("no chunk")]
+    NoChunk,
+    /// The last generation is reached, so there is no stamp.
+    #[error("the last generation is reached")]
+    GensFull,
+}

@@ -1,10 +1,12 @@
 //! The list of chunks, by rising base.
 
-ghost use Rattle.std.specs.Prelude.{◌≡◌, ◌+◌, ◌-◌, ◌<◌, ◌≤◌, ◌^◌, ℕ, false, length, take, drop, slice_index_or, IsTrue, IfSome, IfNone};
+ghost use Rattle.std.specs.Prelude.{◌≡◌, ◌+◌, ◌-◌, ◌<◌, ◌≤◌, ◌^◌, ℕ, false, length, take, drop, slice_index_or, slice_get, slice_set, Some, IsTrue, IfSome, IfNone};
 ghost use Rattle.std.specs.Vec.{vec_len, vec_capacity};
 ghost use Rattle.std.specs.List.{insert};
 ghost use Rattle.nc_region.specs.Each.{Each};
 ghost use Rattle.nc_region.specs.declared.chunk.Chunk.{Chunk};
+ghost use Rattle.nc_region.specs.declared.chunk.ChunkState.{ChunkState};
+ghost use Rattle.nc_region.specs.Deletion.{HasLive};
 ghost use Rattle.nc_region.specs.Region.{IsRising, IsLive, IsInChunk, IsAboveAll, IsBelowAll, FitsAt, Meets};
 ghost use Rattle.nc_region.specs.Patch.{IsHeldBy, IsHeld};
 
@@ -104,6 +106,39 @@ fn is_held_by(chunk: Chunk, at: u32) -> bool
     ensures not { result ≡ false → IsLive chunk.state × IsInChunk chunk at → ⊥ }
 {
     chunk.state == ChunkState::Live && chunk.base <= at && at - chunk.base < chunk.length
+}
+
+/// The index of the live chunk with this base, by binary search.
+pub(crate) fn live_at(chunks: &[Chunk], base: u32) -> Option<usize>
+    requires rising { IsRising 0x10000 chunks.now }
+    requires some { Each (λ (d : Chunk). 0 < d.length) chunks.now }
+    ensures some { IfSome result (λ k. (c : Chunk) × (slice_get chunks.now k ≡ Some c) × (c.state ≡ ChunkState.Live) × (c.base ≡ base)) }
+    ensures none { IfNone result (¬ HasLive chunks.now base) }
+{
+    let k = count_to(chunks, base);
+    if k == 0 {
+        return None;
+    }
+    if !is_live_from(chunks[k - 1], base) {
+        return None;
+    }
+    Some(k - 1)
+}
+
+/// The chunk is live, and this is its base.
+fn is_live_from(chunk: Chunk, base: u32) -> bool
+    ensures live { IsTrue result → (chunk.state ≡ ChunkState.Live) × (chunk.base ≡ base) }
+    ensures not { result ≡ false → IsLive chunk.state × (chunk.base ≡ base) → ⊥ }
+{
+    chunk.state == ChunkState::Live && chunk.base == base
+}
+
+/// Puts a chunk in place of another.
+pub(crate) fn set_chunk(chunks: &mut Vec<Chunk>, k: usize, chunk: Chunk)
+    requires { k < length chunks.old.items }
+    ensures { chunks.new.items ≡ slice_set chunks.old.items k chunk }
+{
+    chunks[k] = chunk;
 }
 
 /// Inserts a chunk, for which there is room.

@@ -201,6 +201,7 @@ pub(crate) fn put_patch<A: Acts>(acts: &mut A, chunk: Chunk, at: u32, new: &[u8]
     ensures bytes { (A.marked acts.new).bytes ≡ with_span (A.marked acts.old).bytes (at - 65536) new.now }
     ensures marks { (A.marked acts.new).marks ≡ (A.marked acts.old).marks }
     ensures whole { IsText (A.marked acts.new) }
+    ensures keeper { A.keeper acts.new ≡ A.keeper acts.old }
     ensures holds { HoldsValid (A.marked acts.new) chunk }
     ensures told { (news : List Piece) → AreBytesOf new.now news
         → Tells (A.told acts.old) (A.told acts.new) (acts_of_modify (A.marked acts.old).bytes at news) }
@@ -224,6 +225,7 @@ fn put_where_new<A: Acts>(acts: &mut A, at: u32, bytes: &[u8])
     ensures bytes { (A.marked acts.new).bytes ≡ with_span (A.marked acts.old).bytes (at - 65536) bytes.now }
     ensures marks { (A.marked acts.new).marks ≡ (A.marked acts.old).marks }
     ensures whole { IsText (A.marked acts.new) }
+    ensures keeper { A.keeper acts.new ≡ A.keeper acts.old }
     ensures told { Tells (A.told acts.old) (A.told acts.new) (if stands_there (A.marked acts.old).bytes at bytes.now then [] else acts_of_instruction at bytes.now) }
 {
     if stands_there(acts, at, bytes) {
@@ -239,6 +241,7 @@ fn put_instruction<A: Acts>(acts: &mut A, at: u32, bytes: &[u8])
     ensures bytes { (A.marked acts.new).bytes ≡ with_span (A.marked acts.old).bytes (at - 65536) bytes.now }
     ensures marks { (A.marked acts.new).marks ≡ (A.marked acts.old).marks }
     ensures whole { IsText (A.marked acts.new) }
+    ensures keeper { A.keeper acts.new ≡ A.keeper acts.old }
     ensures told { Tells (A.told acts.old) (A.told acts.new) (acts_of_instruction at bytes.now) }
 {
     let first = bytes[0];
@@ -258,6 +261,7 @@ fn put_longer<A: Acts>(acts: &mut A, at: u32, first: u8, rest: &[u8])
     ensures bytes { (A.marked acts.new).bytes ≡ with_span (A.marked acts.old).bytes (at - 65536) (first ∷ rest.now) }
     ensures marks { (A.marked acts.new).marks ≡ (A.marked acts.old).marks }
     ensures whole { IsText (A.marked acts.new) }
+    ensures keeper { A.keeper acts.new ≡ A.keeper acts.old }
     ensures told { Tells (A.told acts.old) (A.told acts.new) (Act.Put at 244 ∷ (puts_where any_place (at + 1) rest.now ++ (Act.Put at first ∷ []))) }
 {
     acts.put(at, STOP);
@@ -275,6 +279,7 @@ fn put_rest<A: Acts>(acts: &mut A, at: u32, rest: &[u8])
     ensures bytes { HasPut any_place (at + 1) rest.now (length rest.now) (A.marked acts.old).bytes (A.marked acts.new).bytes }
     ensures marks { (A.marked acts.new).marks ≡ (A.marked acts.old).marks }
     ensures whole { IsText (A.marked acts.new) }
+    ensures keeper { A.keeper acts.new ≡ A.keeper acts.old }
     ensures told { Tells (A.told acts.old) (A.told acts.new) (puts_where any_place (at + 1) rest.now) }
 {
     for i in 0..rest.len() {

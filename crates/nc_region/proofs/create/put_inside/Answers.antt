@@ -1,4 +1,4 @@
-use Rattle.std.proofs.Common.{◌+◌, ◌-◌, List, get_or, set, arith, sym, subst}
+use Rattle.std.proofs.Common.{◌+◌, ◌-◌, ◌∙◌, List, get_or, set, arith, sym, subst}
 use Rattle.nc_decode.specs.declared.instruction.Mark.{Mark}
 use Rattle.nc_text.specs.Marks.{IsClosed}
 use Rattle.nc_region.specs.Acts.{is_inside}
@@ -33,6 +33,7 @@ loop-i-preserved g c =
             bytes = rw e (put_more is_inside base c.args.code.now i old.bytes now.bytes c.loop-i.invariant.bytes c.requires.placed.low (omega (arith, c.requires.placed.high)) is);
             marks = rw e c.loop-i.invariant.marks;
             whole = w.put.ensures.whole;
+            keeper = w.put.ensures.keeper ∙ c.loop-i.invariant.keeper;
             told = told_put is_inside base c.args.code.now i _ _ _ (omega arith) is c.loop-i.invariant.told w.put.ensures.told;
           })
       | else-at-ne0 w ↦
@@ -41,6 +42,7 @@ loop-i-preserved g c =
             bytes = put_passed is_inside base c.args.code.now i old.bytes now.bytes c.loop-i.invariant.bytes not;
             marks = c.loop-i.invariant.marks;
             whole = c.loop-i.invariant.whole;
+            keeper = c.loop-i.invariant.keeper;
             told = told_passed is_inside base c.args.code.now i _ _ (omega arith) not c.loop-i.invariant.told;
           })
     ]

@@ -1,4 +1,4 @@
-use Rattle.std.proofs.Common.{◌≡◌, ℕ, ◌+◌, ◌-◌, List, length, get_or, set, arith, sym, subst}
+use Rattle.std.proofs.Common.{◌∙◌, ◌≡◌, ℕ, ◌+◌, ◌-◌, List, length, get_or, set, arith, sym, subst}
 use Rattle.nc_decode.specs.declared.instruction.Mark.{Mark}
 use Rattle.nc_text.specs.Marks.{IsClosed}
 use Rattle.nc_text.specs.MarkedText.{with_span}
@@ -34,6 +34,7 @@ loop-i-preserved g c =
             bytes = rw e (start_put old.bytes now.bytes base c.args.code.now i c.requires.placed.low (omega (arith, c.requires.placed.high)) (omega arith) c.loop-i.invariant.bytes);
             marks = rw e c.loop-i.invariant.marks;
             whole = w.put.ensures.whole;
+            keeper = w.put.ensures.keeper ∙ c.loop-i.invariant.keeper;
             told = told_put is_start base c.args.code.now i _ _ _ (omega arith) is c.loop-i.invariant.told w.put.ensures.told;
           })
       | else-at-eq0 w ↦
@@ -42,6 +43,7 @@ loop-i-preserved g c =
             bytes = start_passed (with_span old.bytes (base - 65536) c.args.code.now) now.bytes base i (base + length c.args.code.now) w.if-at-eq0.false c.loop-i.invariant.bytes;
             marks = c.loop-i.invariant.marks;
             whole = c.loop-i.invariant.whole;
+            keeper = c.loop-i.invariant.keeper;
             told = told_passed is_start base c.args.code.now i _ _ (omega arith) not c.loop-i.invariant.told;
           })
     ]

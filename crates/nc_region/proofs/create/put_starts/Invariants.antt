@@ -10,5 +10,6 @@ invariant-loop-i g l =
       bytes : IsFinalBut (with_span (g.A.Acts.marked l.initial.acts).bytes (l.base - 65536) l.code) (g.A.Acts.marked l.acts).bytes (l.base + l.i) (l.base + length l.code);
       marks : (g.A.Acts.marked l.acts).marks ≡ (g.A.Acts.marked l.initial.acts).marks;
       whole : IsText (g.A.Acts.marked l.acts);
+      keeper : g.A.Acts.keeper l.acts ≡ g.A.Acts.keeper l.initial.acts;
       told : Tells (g.A.Acts.told l.initial.acts) (g.A.Acts.told l.acts) (puts_where is_start l.base (take l.i l.code));
     }

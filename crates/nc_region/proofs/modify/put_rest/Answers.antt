@@ -32,5 +32,6 @@ loop-i-preserved g c =
       bytes = rw e (put_more any_place (at + 1) c.args.rest.now i old.bytes now.bytes c.loop-i.invariant.bytes (omega arith) (omega (arith, c.requires.high)) refl);
       marks = rw e c.loop-i.invariant.marks;
       whole = c.put.ensures.whole;
+      keeper = c.put.ensures.keeper ∙ c.loop-i.invariant.keeper;
       told = told_put any_place (at + 1) c.args.rest.now i _ _ _ (omega arith) refl c.loop-i.invariant.told c.put.ensures.told;
     }

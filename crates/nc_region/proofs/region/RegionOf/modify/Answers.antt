@@ -55,7 +55,7 @@ returns-then-not-fits-clause-refused g c =
     let spans : c.is_patch_span.result ≡ true = c.if-not-is_patch_span.false in
     let news : c.are_instructions.result ≡ true = c.if-not-are_instructions.false in
     let held : IsHeldBy c.self.inside.chunks.items c.args.at c.in-Some.chunk = rw (← c.deref.ensures.value) c.in-Some.ensures.some in
-    let refused : MayRefusePatch (record { marked = g.A.Acts.marked c.self.inside.acts; chunks = c.self.inside.chunks.items; told = g.A.Acts.told c.self.inside.acts }) c.args.at c.args.new.now Boundaries = (
+    let refused : MayRefusePatch (record { marked = g.A.Acts.marked c.self.inside.acts; chunks = c.self.inside.chunks.items; keeper = g.A.Acts.keeper c.self.inside.acts; told = g.A.Acts.told c.self.inside.acts }) c.args.at c.args.new.now Boundaries = (
       c.is_patch_span.ensures.0 spans,
       (c.in-Some.chunk, held),
       c.are_instructions.ensures.0 news,
@@ -71,7 +71,7 @@ returns-then-not-leaves_pairs-clause-refused g c =
     let held : IsHeldBy c.self.inside.chunks.items c.args.at c.in-Some.chunk = rw (← c.deref.ensures.value) c.in-Some.ensures.some in
     let span = c.is_patch_span.ensures.0 spans in
     let run : IsRun (g.A.Acts.marked c.self.inside.acts) c.in-Some.chunk c.args.at c.args.new.now = c.fits.ensures.run fits in
-    let refused : MayRefusePatch (record { marked = g.A.Acts.marked c.self.inside.acts; chunks = c.self.inside.chunks.items; told = g.A.Acts.told c.self.inside.acts }) c.args.at c.args.new.now PairTouched = (
+    let refused : MayRefusePatch (record { marked = g.A.Acts.marked c.self.inside.acts; chunks = c.self.inside.chunks.items; keeper = g.A.Acts.keeper c.self.inside.acts; told = g.A.Acts.told c.self.inside.acts }) c.args.at c.args.new.now PairTouched = (
       span,
       (c.in-Some.chunk, held, run),
       λ f.
@@ -92,7 +92,7 @@ returns-then-not-keeps_targets-clause-refused g c =
     let run : IsRun (g.A.Acts.marked c.self.inside.acts) c.in-Some.chunk c.args.at c.args.new.now = c.fits.ensures.run fits in
     let apart : c.leaves_pairs.result ≡ true = c.if-not-leaves_pairs.false in
     let b = run_along (g.A.Acts.marked c.self.inside.acts) c.in-Some.chunk c.args.at c.args.new.now run in
-    let refused : MayRefusePatch (record { marked = g.A.Acts.marked c.self.inside.acts; chunks = c.self.inside.chunks.items; told = g.A.Acts.told c.self.inside.acts }) c.args.at c.args.new.now BadTarget = (
+    let refused : MayRefusePatch (record { marked = g.A.Acts.marked c.self.inside.acts; chunks = c.self.inside.chunks.items; keeper = g.A.Acts.keeper c.self.inside.acts; told = g.A.Acts.told c.self.inside.acts }) c.args.at c.args.new.now BadTarget = (
       span,
       (c.in-Some.chunk, held, (run, pairs_from run.old run.after run.news run.as_long ((c.leaves_pairs.ensures.exact b.begins b.news b.bytes b.runs).0 apart))),
       λ p.
@@ -126,5 +126,5 @@ returns-clause-lawful g c =
     let run : IsRun (g.A.Acts.marked c.self.inside.acts) c.in-Some.chunk c.args.at c.args.new.now = c.fits.ensures.run fits in
     let a = run_along marked c.in-Some.chunk c.args.at c.args.new.now run in
     let held : IsHeldBy c.self.inside.chunks.items c.args.at c.in-Some.chunk = rw (← c.deref.ensures.value) c.in-Some.ensures.some in
-    let lawful : IsPatch (record { marked = g.A.Acts.marked c.self.inside.acts; chunks = c.self.inside.chunks.items; told = g.A.Acts.told c.self.inside.acts }) c.args.at c.args.new.now = (c.is_patch_span.ensures.0 spans, (c.in-Some.chunk, held, (run, pairs_from run.old run.after run.news run.as_long ((c.leaves_pairs.ensures.exact a.begins a.news a.bytes a.runs).0 apart), (c.keeps_targets.ensures.exact run.holds run.news run.bytes).0 well))) in
+    let lawful : IsPatch (record { marked = g.A.Acts.marked c.self.inside.acts; chunks = c.self.inside.chunks.items; keeper = g.A.Acts.keeper c.self.inside.acts; told = g.A.Acts.told c.self.inside.acts }) c.args.at c.args.new.now = (c.is_patch_span.ensures.0 spans, (c.in-Some.chunk, held, (run, pairs_from run.old run.after run.news run.as_long ((c.leaves_pairs.ensures.exact a.begins a.news a.bytes a.runs).0 apart), (c.keeps_targets.ensures.exact run.holds run.news run.bytes).0 well))) in
     subst (λ (r : Region). IsPatch r c.args.at c.args.new.now) c.self.view_is lawful
