@@ -3,18 +3,24 @@ use Rattle.std.specs.Prelude.{◌≡◌, ℕ, zero, suc, ◌+◌, ◌++◌, ◌<
 use Rattle.atomic_table.specs.Seated.{TableId}
 use Rattle.nc_gens.specs.declared.view.PassNumbers.{PassNumbers}
 use Rattle.nc_gens.specs.declared.view.KeeperNumbers.{KeeperNumbers}
-use Rattle.nc_gens.specs.Rule.{left_word, first_pass_numbers, first_keeper_numbers}
+use Rattle.nc_gens.specs.Rule.{left_word, last_generation, first_pass_numbers, first_keeper_numbers, generation_seen, word_taken}
 
--- `table` is that of the `Gens` that was made with it
+-- a table has 1 to 64 seats
+abbrev pub AreSeats : ℕ → Type 0
+AreSeats seats = (1 ≤ seats) × (seats ≤ 64)
+
+-- What callers see of a pass. `table` is that of the `Gens` that was made with it.
 pub record PassState : Type 0 where
   pub table : TableId
   pub seat : ℕ
   pub numbers : PassNumbers
 
+-- what callers see of the keeper, in the same way
 pub record KeeperState : Type 0 where
   pub table : TableId
   pub numbers : KeeperNumbers
 
+-- the pass of a seat, as it is made
 abbrev pub first_pass : TableId → ℕ → PassState
 first_pass table seat = record { table = table; seat = seat; numbers = first_pass_numbers }
 
@@ -23,6 +29,7 @@ abbrev pub first_passes : TableId → ℕ → List PassState
 first_passes table zero = []
 first_passes table (suc n) = first_passes table n ++ first_pass table n ∷ []
 
+-- the keeper, as it is made
 abbrev pub first_keeper : TableId → ℕ → KeeperState
 first_keeper table seats = record { table = table; numbers = first_keeper_numbers seats }
 
@@ -46,3 +53,24 @@ Raised old new = (length new ≡ length old) × ((i : ℕ) → i < length old �
 -- each number is one more than before
 abbrev pub RaisedByOne : List ℕ → List ℕ → Type 0
 RaisedByOne old new = (length new ≡ length old) × ((i : ℕ) → i < length old → slice_index new i ≡ slice_index old i + 1)
+
+-- The keeper after a look: the generation stays, each seat's word was loaded once, and no bound fell.
+pub record HasLooked (old new : KeeperState) : Type 0 where
+  pub table : new.table ≡ old.table
+  pub generation : new.numbers.generation ≡ old.numbers.generation
+  pub looks : RaisedByOne old.numbers.looks new.numbers.looks
+  pub counted : length new.numbers.looks ≡ length new.numbers.bounds
+  pub raised : Raised old.numbers.bounds new.numbers.bounds
+
+-- A pass and the keeper after they met, and what they know of each other: the keeper's bound for the seat isn't lowered
+-- and is the pass's own word, which is at most its `since`; that is at most the generation, and `seen` is the generation.
+pub record HasMet (old : PassState) (before : KeeperState) (new : PassState) (after : KeeperState) : Type 0 where
+  pub pass : new ≡ record old { numbers = generation_seen before.numbers.generation old.numbers }
+  pub keeper : after ≡ record before { numbers = word_taken old.seat old.numbers.word before.numbers }
+  pub inside : old.seat < length before.numbers.bounds
+  pub raised : slice_index before.numbers.bounds old.seat ≤ new.numbers.word
+  pub bound : slice_index after.numbers.bounds old.seat ≡ new.numbers.word
+  pub word : new.numbers.word ≤ new.numbers.since
+  pub since : new.numbers.since ≤ after.numbers.generation
+  pub seen : new.numbers.seen ≡ after.numbers.generation
+  pub in_range : after.numbers.generation ≤ last_generation

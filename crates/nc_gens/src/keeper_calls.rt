@@ -1,14 +1,14 @@
 //! What the keeper does: it draws stamps, and it looks how far the seats have come.
 ghost use Rattle.std.specs.Prelude.{◌≡◌, ◌≢◌, ◌+◌, ◌^◌, ◌<◌, ◌≤◌, ◌↔◌, All, length, slice_index, IfOk, IsOk, OnOk, OnErr};
 ghost use Rattle.nc_gens.specs.Rule.{left_word, generation_raised, word_taken};
-ghost use Rattle.nc_gens.specs.Seen.{Raised, RaisedByOne, least_number, least_or, staying};
+ghost use Rattle.nc_gens.specs.Seen.{HasLooked, least_number, least_or, staying};
 
 use crate::fault::GensFull;
 use crate::steps::{AddOne, TakeWord};
 use crate::table::{Gens, Keeper, LEFT};
 
-/// The last generation, 2^62.
-const LAST: u64 = 1 << 62;
+/// The last generation, 2^62. After it no stamp is drawn.
+pub const LAST_GENERATION: u64 = 1 << 62;
 
 impl Gens {
     /// Adds one to the generation, and answers the new one: the stamp for what is retired now.
@@ -24,7 +24,7 @@ impl Gens {
         ensures raised { OnOk result (keeper.new ≡ record keeper.old { numbers = generation_raised keeper.old.numbers }) }
         ensures full { OnErr result ((keeper.old.numbers.generation ≡ 2 ^ 62) × (keeper.new ≡ keeper.old)) }
     {
-        if keeper.generation >= LAST {
+        if keeper.generation >= LAST_GENERATION {
             return Err(GensFull);
         }
         self.words
@@ -45,14 +45,9 @@ impl Gens {
     /// that the words stood so at one moment. They are loaded one after the other, and only rise.
     pub fn look(&self, keeper: &mut Keeper) -> u64
         requires { keeper.old.table ≡ self.now }
-        ensures same { (keeper.new.table ≡ keeper.old.table)
-            × (keeper.new.numbers.generation ≡ keeper.old.numbers.generation) }
-
-        // Each seat's word is loaded once, and no bound falls.
-        ensures seats { (self.now.words ≡ length keeper.new.numbers.bounds + 1)
-            × (length keeper.new.numbers.looks ≡ length keeper.new.numbers.bounds) }
-        ensures looks { RaisedByOne keeper.old.numbers.looks keeper.new.numbers.looks }
-        ensures raised { Raised keeper.old.numbers.bounds keeper.new.numbers.bounds }
+        // Each seat's word is loaded once, no bound falls, and the generation stays.
+        ensures looked { HasLooked keeper.old keeper.new }
+        ensures seats { self.now.words ≡ length keeper.new.numbers.bounds + 1 }
 
         ensures least { result ≡ least_number keeper.new.numbers }
         ensures below { All (λ b. b ≢ left_word → result ≤ b) keeper.new.numbers.bounds }

@@ -26,6 +26,7 @@ mod tests;
 mod view;
 
 pub use fault::{GensFault, GensFull};
+pub use keeper_calls::LAST_GENERATION;
 pub use opening::MOST_SEATS;
 pub use table::{Gens, Keeper, Pass};
 pub use view::{KeeperNumbers, PassNumbers};

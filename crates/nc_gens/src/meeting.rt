@@ -1,6 +1,6 @@
 //! A pass and the keeper meet.
-ghost use Rattle.std.specs.Prelude.{◌≡◌, ◌^◌, ◌<◌, ◌≤◌, length, slice_index};
-ghost use Rattle.nc_gens.specs.Rule.{generation_seen, word_taken};
+ghost use Rattle.std.specs.Prelude.{◌≡◌};
+ghost use Rattle.nc_gens.specs.Seen.{HasMet};
 
 use crate::steps::{PassIn, PassOut, SeeGeneration, TakeWord};
 use crate::table::{Gens, Keeper, Pass};
@@ -15,21 +15,7 @@ impl Gens {
     pub fn meet(&self, pass: &mut Pass, keeper: &mut Keeper)
         requires pass { pass.old.table ≡ self.now }
         requires keeper { keeper.old.table ≡ self.now }
-        ensures pass { pass.new ≡ record pass.old {
-          numbers = generation_seen keeper.old.numbers.generation pass.old.numbers;
-        } }
-        ensures keeper { keeper.new ≡ record keeper.old {
-          numbers = word_taken pass.old.seat pass.old.numbers.word keeper.old.numbers;
-        } }
-
-        // What they learn of each other.
-        ensures inside { pass.old.seat < length keeper.old.numbers.bounds }
-        ensures raised { slice_index keeper.old.numbers.bounds pass.old.seat ≤ pass.new.numbers.word }
-        ensures bound { slice_index keeper.new.numbers.bounds pass.old.seat ≡ pass.new.numbers.word }
-        ensures word { pass.new.numbers.word ≤ pass.new.numbers.since }
-        ensures since { pass.new.numbers.since ≤ keeper.new.numbers.generation }
-        ensures seen { pass.new.numbers.seen ≡ keeper.new.numbers.generation }
-        ensures in_range { keeper.new.numbers.generation ≤ 2 ^ 62 }
+        ensures { HasMet pass.old keeper.old pass.new keeper.new }
     {
         // A load tells nothing of another token's view. So the keeper's token takes in the pass's
         // view for the two loads, and gives it back.

@@ -1,7 +1,7 @@
 //! A table is made, with its keeper and its passes.
 ghost use Rattle.std.specs.Prelude.{◌≡◌, ◌+◌, ◌<◌, ◌≤◌, ◌↔◌, ◌⊎◌, [], All, IfOk, OnOk, IsErrOf, length, replicate};
 ghost use Rattle.nc_gens.specs.Rule.{giving_view};
-ghost use Rattle.nc_gens.specs.Seen.{first_passes, first_keeper};
+ghost use Rattle.nc_gens.specs.Seen.{AreSeats, first_passes, first_keeper};
 
 use crate::fault::GensFault;
 use crate::steps::GivePass;
@@ -17,12 +17,12 @@ impl Gens {
     /// The table, its keeper, and a pass for each seat, in the seats' order. The generation, every
     /// word and every `since` begin at 0.
     ///
-    /// Refusals, the first in this order: `BadSeats` exactly where `seats` isn't in 1 to 64, before
+    /// Refusals, the first in this order: `BadSeats` exactly where `seats` isn't in 1 to [`MOST_SEATS`], before
     /// anything is allocated; `OutOfMemory` where a growth was refused. No other call takes memory.
     ///
     /// Not promised: that memory is there.
     pub fn new(alloc: Global, seats: u32) -> Result<(Gens, Keeper, Vec<Pass>), GensFault>
-        ensures bad_seats { IsErrOf result GensFault.BadSeats ↔ ((seats ≡ 0) ⊎ (64 < seats)) }
+        ensures bad_seats { IsErrOf result GensFault.BadSeats ↔ ¬ AreSeats seats }
         ensures keeper { IfOk result (λ r. r.1 ≡ first_keeper r.0 seats) }
         ensures passes { IfOk result (λ r. r.2.items ≡ first_passes r.0 seats) }
 
@@ -38,7 +38,7 @@ impl Gens {
 }
 
 fn open(alloc: Global, seats: usize) -> Result<(Gens, Keeper, Vec<Pass>), AllocError>
-    requires { seats ≤ MOST_SEATS }
+    requires { AreSeats seats }
     ensures keeper { IfOk result (λ r. (r.1 ≡ first_keeper r.0 seats) × (r.1.table ≡ r.0)) }
     ensures passes { IfOk result (λ r. r.2.items ≡ first_passes r.0 seats) }
     ensures count { IfOk result (λ r. length r.2.items ≡ seats) }
@@ -55,7 +55,7 @@ fn open(alloc: Global, seats: usize) -> Result<(Gens, Keeper, Vec<Pass>), AllocE
 }
 
 fn lay_words(alloc: Global, seats: usize) -> Result<(WordTable, Token), AllocError>
-    requires { seats ≤ MOST_SEATS }
+    requires { AreSeats seats }
     ensures words { IfOk result (λ r. r.0.shared.table_id.words ≡ seats + 1) }
     ensures token { IfOk result (λ r. r.1.table_id ≡ r.0.shared.table_id) }
     ensures view { IfOk result (λ r. r.1.me ≡ (giving_view seats 0, [])) }
@@ -70,7 +70,7 @@ fn give_passes(
     keeper: &mut Token,
     seats: usize,
 ) -> Result<Vec<Pass>, AllocError>
-    requires few { seats ≤ MOST_SEATS }
+    requires few { AreSeats seats }
     requires table { keeper.old.table_id ≡ words.now.shared.table_id }
     requires words { keeper.old.table_id.words ≡ seats + 1 }
     requires view { keeper.old.me ≡ (giving_view seats 0, []) }
@@ -93,7 +93,7 @@ fn give_passes(
 }
 
 fn zero_bounds(seats: usize) -> ArrayVec<u64, MOST_SEATS>
-    requires { seats ≤ MOST_SEATS }
+    requires { AreSeats seats }
     ensures { result.items ≡ replicate seats 0 }
 {
     let mut bounds = ArrayVec::new();

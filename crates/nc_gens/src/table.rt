@@ -1,5 +1,5 @@
 //! The table, its passes and its keeper.
-ghost use Rattle.std.specs.Prelude.{◌≡◌};
+ghost use Rattle.std.specs.Prelude.{◌≡◌, ◌^◌, ◌≤◌};
 
 use crate::opening::MOST_SEATS;
 use crate::view::{Token, WordTable};
@@ -84,7 +84,8 @@ impl Pass {
 impl Keeper {
     /// The generation. None but the keeper changes it, so this needs no load.
     pub fn generation(&self) -> u64
-        ensures { result ≡ self.now.numbers.generation }
+        ensures generation { result ≡ self.now.numbers.generation }
+        ensures in_range { result ≤ 2 ^ 62 }
     {
         self.generation
     }

@@ -6,23 +6,23 @@ use Rattle.std.proofs.lemmas.List.{length-set, ext_get_or}
 use Rattle.nc_decode.specs.declared.instruction.Mark.{Mark}
 use Rattle.nc_text.specs.Places.{limit_of, byte_at}
 use Rattle.nc_text.specs.Marks.{IsClosed, Admits}
-use Rattle.nc_text.specs.Code.{Code, with_span}
+use Rattle.nc_text.specs.MarkedText.{MarkedText, with_span}
 use Rattle.nc_text.proofs.Closing.{closed_with_stops}
 use Rattle.nc_text.proofs.SpanElements.{length-with_span}
 use Rattle.nc_region.specs.Acts.{is_inside}
-use Rattle.nc_region.specs.Chunks.{IsPlaced, IsBare, HasPut, IsFinalBut}
+use Rattle.nc_region.specs.Chunks.{IsPlaced, IsUnused, HasPut, IsFinalBut}
 use Rattle.nc_region.proofs.Puts.{byte_at_other, byte_at_same}
-use Rattle.nc_region.proofs.SpanPlaces.{Before, Within, Behind, place_of, bare_is_start, is_inside_false, is_inside_true, start_or_not, span_within, span_before, span_behind, before_span}
+use Rattle.nc_region.proofs.SpanPlaces.{Before, Within, Behind, place_of, unused_is_start, is_inside_false, is_inside_true, start_or_not, span_within, span_before, span_behind, before_span}
 
--- the bytes that aren't bundle starts may be put while the span is bare
-pub inside_closed : (old : Code) (new : List ℕ) (base : ℕ) (bytes : List ℕ) (count : ℕ) → IsPlaced base (limit_of old.bytes) (length bytes) → count ≤ length bytes → IsClosed old.bytes old.marks → IsBare old base (length bytes) → HasPut is_inside base bytes count old.bytes new → IsClosed new old.marks
-inside_closed old new base bytes count placed le closed bare puts =
+-- the bytes that aren't bundle starts may be put while the span is unused
+pub inside_closed : (old : MarkedText) (new : List ℕ) (base : ℕ) (bytes : List ℕ) (count : ℕ) → IsPlaced base (limit_of old.bytes) (length bytes) → count ≤ length bytes → IsClosed old.bytes old.marks → IsUnused old base (length bytes) → HasPut is_inside base bytes count old.bytes new → IsClosed new old.marks
+inside_closed old new base bytes count placed le closed unused puts =
     closed_with_stops old.bytes new old.marks closed puts.as_long (λ now m.
     elim (place_of base (length bytes) now.place) [
       | Before l ↦ inr (λ i is fits k lt. puts.below (now.place + k) (omega (arith, m.0)) (before_span now.place i.len k base fits lt placed.start l))
       | Within low high ↦
-          inl (let start = bare_is_start now.place now.masked (subst (λ (mark : Mark). Admits mark now.masked) (bare.bare now.place low high) m.1) in
-          puts.passed now.place low (is_inside_false now.place start) ∙ bare.stops now.place low high)
+          inl (let start = unused_is_start now.place now.masked (subst (λ (mark : Mark). Admits mark now.masked) (unused.unused now.place low high) m.1) in
+          puts.passed now.place low (is_inside_false now.place start) ∙ unused.stops now.place low high)
       | Behind p ↦ inr (λ i is fits k lt. puts.above (now.place + k) (omega arith))
     ])
 
@@ -91,13 +91,13 @@ final_all final now at f =
     (⊎_elim (λ (b : 65536 + i < at). f.before (65536 + i) (omega arith) b) (λ (p : at ≤ 65536 + i). f.behind (65536 + i) p) (cases_lt (65536 + i) at)))
 
 -- once all but the bundle starts are put, the text is the final one but for stops at the bundle starts
-pub final_but_starts : (old : Code) (now : List ℕ) (base : ℕ) (bytes : List ℕ) → IsPlaced base (limit_of old.bytes) (length bytes) → IsBare old base (length bytes) → HasPut is_inside base bytes (length bytes) old.bytes now → IsFinalBut (with_span old.bytes (base - 65536) bytes) now base (base + length bytes)
-final_but_starts old now base bytes placed bare puts =
+pub final_but_starts : (old : MarkedText) (now : List ℕ) (base : ℕ) (bytes : List ℕ) → IsPlaced base (limit_of old.bytes) (length bytes) → IsUnused old base (length bytes) → HasPut is_inside base bytes (length bytes) old.bytes now → IsFinalBut (with_span old.bytes (base - 65536) bytes) now base (base + length bytes)
+final_but_starts old now base bytes placed unused puts =
     let fits : base + length bytes ≤ 65536 + length old.bytes = omega (arith, placed.high) in
     let long : length (with_span old.bytes (base - 65536) bytes) ≡ length old.bytes = length-with_span old.bytes (base - 65536) bytes (omega (arith, fits, placed.low)) in
     record {
       as_long = puts.as_long ∙ sym long;
-      stops = λ at a b start. puts.passed at a (is_inside_false at start) ∙ bare.stops at a b;
+      stops = λ at a b start. puts.passed at a (is_inside_false at start) ∙ unused.stops at a b;
       before = λ at low lt. puts.below at low lt ∙ sym (span_before old.bytes base bytes at 0 placed.low fits low lt);
       behind = λ at past. puts.above at past ∙ sym (span_behind old.bytes base bytes at 0 placed.low fits past);
       inside = λ at low not.
@@ -141,7 +141,7 @@ same_final old now base bytes low fits puts =
     ]))
 
 -- two texts of the same bytes and marks
-pub same_code : (a b : Code) → a.bytes ≡ b.bytes → a.marks ≡ b.marks → a ≡ b
+pub same_code : (a b : MarkedText) → a.bytes ≡ b.bytes → a.marks ≡ b.marks → a ≡ b
 same_code a b bytes marks =
     let one : a ≡ record { bytes = b.bytes; marks = a.marks } = ap (λ (x : List ℕ). record { bytes = x; marks = a.marks }) bytes in
     let two : record { bytes = b.bytes; marks = a.marks } ≡ b = ap (λ (x : List Mark). record { bytes = b.bytes; marks = x }) marks in

@@ -1,5 +1,5 @@
 -- What holds of each member of a list.
-use Rattle.std.proofs.Common.{ℕ, ◌<◌, List, [], ◌∷◌, ◌++◌, length, get_or, set, take, drop, replicate, arith, zero, suc}
+use Rattle.std.proofs.Common.{ℕ, ◌≢◌, ◌<◌, List, [], ◌∷◌, ◌++◌, length, get_or, set, take, drop, replicate, arith, zero, suc}
 use Rattle.std.specs.List.{remove}
 use Rattle.nc_region.specs.Each.{Each}
 
@@ -41,3 +41,41 @@ each_append P (x ∷ xs) ys h g = (h.0, each_append P xs ys h.1 g)
 
 pub each_remove : {X : Type 0} (P : X → Type 0) (xs : List X) (k : ℕ) → Each P xs → Each P (remove xs k)
 each_remove P xs k h = each_append P (take k xs) (drop (suc k) xs) (each_take P k xs h) (each_drop P (suc k) xs h)
+
+-- what holds of the element at each index holds of each member
+pub each_from : {X : Type 0} (P : X → Type 0) (xs : List X) (d : X) → ((k : ℕ) → k < length xs → P (get_or xs k d)) → Each P xs
+each_from P [] d h = tt
+each_from P (x ∷ xs) d h = (h 0 (omega arith), each_from P xs d (λ k lt. h (suc k) (omega (arith, lt))))
+
+-- a member set, where the others have P
+pub each_set_but : {X : Type 0} (P : X → Type 0) (xs : List X) (k : ℕ) (y d : X) → ((i : ℕ) → i < length xs → i ≢ k → P (get_or xs i d)) → P y → Each P (set xs k y)
+each_set_but P [] k y d h p = tt
+each_set_but P (x ∷ xs) zero y d h p = (p, each_from P xs d (λ i lt. h (suc i) (omega (arith, lt)) (λ e. omega (arith, e))))
+each_set_but P (x ∷ xs) (suc k) y d h p = (h 0 (omega arith) (λ e. omega (arith, e)), each_set_but P xs k y d (λ i lt ne. h (suc i) (omega (arith, lt)) (λ e. ne (omega (arith, e)))) p)
+
+-- the member that was set
+pub each_at_set : {X : Type 0} (P : X → Type 0) (xs : List X) (k : ℕ) (y : X) → k < length xs → Each P (set xs k y) → P y
+each_at_set P [] k y lt h = absurd (omega arith)
+each_at_set P (x ∷ xs) zero y lt h = h.0
+each_at_set P (x ∷ xs) (suc k) y lt h = each_at_set P xs k y (omega (arith, lt)) h.1
+
+-- a member set back
+pub each_unset : {X : Type 0} (P : X → Type 0) (xs : List X) (k : ℕ) (y d : X) → k < length xs → Each P (set xs k y) → P (get_or xs k d) → Each P xs
+each_unset P [] k y d lt h p = tt
+each_unset P (x ∷ xs) zero y d lt h p = (p, h.1)
+each_unset P (x ∷ xs) (suc k) y d lt h p = (h.0, each_unset P xs k y d (omega (arith, lt)) h.1 p)
+
+-- the member in the middle
+pub each_middle : {X : Type 0} (P : X → Type 0) (xs ys : List X) (y : X) → Each P (xs ++ y ∷ ys) → P y
+each_middle P [] ys y h = h.0
+each_middle P (x ∷ xs) ys y h = each_middle P xs ys y h.1
+
+-- it is taken out
+pub each_out : {X : Type 0} (P : X → Type 0) (xs ys : List X) (y : X) → Each P (xs ++ y ∷ ys) → Each P (xs ++ ys)
+each_out P [] ys y h = h.1
+each_out P (x ∷ xs) ys y h = (h.0, each_out P xs ys y h.1)
+
+-- it is put in
+pub each_in : {X : Type 0} (P : X → Type 0) (xs ys : List X) (y : X) → Each P (xs ++ ys) → P y → Each P (xs ++ y ∷ ys)
+each_in P [] ys y h p = (p, h)
+each_in P (x ∷ xs) ys y h p = (h.0, each_in P xs ys y h.1 p)

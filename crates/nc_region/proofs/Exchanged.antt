@@ -11,130 +11,93 @@ use Rattle.nc_decode.proofs.Readings.{spells_some}
 use Rattle.nc_vet.specs.Chunk.{Piece, code_of, place, marks_of}
 use Rattle.nc_vet.specs.Chunk as vet
 use Rattle.nc_vet.proofs.Pieces.{code_of-append, place-append, length-marks_of}
-use Rattle.nc_vet.proofs.MarkedPlaces.{marked}
+use Rattle.nc_vet.proofs.MarkedPlaces as places
 use Rattle.nc_text.specs.Places.{InRegion, limit_of, byte_at, instruction_at}
 use Rattle.nc_text.specs.Machine.{State}
 use Rattle.nc_text.specs.Marks.{IsMarked, IsClosed, mark_at, Admits}
-use Rattle.nc_text.specs.Code.{Code, IsText, with_span, bare_mark}
+use Rattle.nc_text.specs.MarkedText.{MarkedText, IsText, with_span, unused_mark, unused_text}
 use Rattle.nc_text.proofs.Closing.{closed_by_parts, executes}
 use Rattle.nc_text.proofs.Fresh.{marked_within}
 use Rattle.nc_text.proofs.SpanElements.{length-with_span, get_or-with_span_in, get_or-with_span_below, get_or-with_span_above}
 use Rattle.nc_region.specs.declared.chunk.Chunk.{Chunk}
-use Rattle.nc_region.specs.Chunks.{IsSound, with_chunk, empty_code}
+use Rattle.nc_region.specs.Chunks.{IsClosedChunk, with_chunk}
 use Rattle.nc_region.specs.Region.{IsInChunk, HoldsValid}
 use Rattle.nc_region.specs.PatchSteps.{Begins, IsReplacing}
-use Rattle.nc_region.proofs.SpanPlaces.{Before, Within, Behind, place_of, bare_is_start, span_within, span_before, span_behind, before_span, within_span}
-use Rattle.nc_region.proofs.Joining.{alone}
-use Rattle.nc_region.proofs.Pieces.{valid_chunk_is_sound}
+use Rattle.nc_region.proofs.SpanPlaces.{Before, Within, Behind, place_of, unused_is_start, span_within, span_before, span_behind, before_span, within_span}
+use Rattle.nc_region.proofs.Alone.{alone, alone_fits_bytes, alone_within, alone_before, alone_behind, alone_bytes_long, alone_marks_long}
+use Rattle.nc_region.proofs.Pieces.{valid_chunk_is_closed}
 use Rattle.nc_region.proofs.NewInstructions.{take_seam, some_same}
 use Rattle.nc_region.proofs.Standing.{Lies, lies, Standing, stands_with}
 use Rattle.nc_region.proofs.Exchanging.{Exchanges, exchanged, exchanged_valid, code_long, Where, where_is, Here, Earlier, Later}
 
--- ---- the chunk alone, in an otherwise empty text
-
-empty_bytes : (code : Code) → length (empty_code (limit_of code.bytes)).bytes ≡ length code.bytes
-empty_bytes code = omega (arith, length-replicate {A = ℕ} (limit_of code.bytes - 65536) 244)
-
-empty_marks : (code : Code) → length (empty_code (limit_of code.bytes)).marks ≡ length code.bytes
-empty_marks code = omega (arith, length-map-range_with_len bare_mark 65536 (limit_of code.bytes - 65536))
-
-alone_fits_bytes : (code : Code) (base : ℕ) (bytes : List ℕ) (marks : List Mark) → IsSound base (limit_of code.bytes) bytes marks → base + length bytes ≤ 65536 + length (empty_code (limit_of code.bytes)).bytes
-alone_fits_bytes code base bytes marks j = omega (arith, empty_bytes code, j.placed.high)
-
-alone_fits_marks : (code : Code) (base : ℕ) (bytes : List ℕ) (marks : List Mark) → IsSound base (limit_of code.bytes) bytes marks → base + length marks ≤ 65536 + length (empty_code (limit_of code.bytes)).marks
-alone_fits_marks code base bytes marks j = omega (arith, empty_marks code, j.placed.high, j.as_long)
-
-alone_within : (code : Code) (base : ℕ) (bytes : List ℕ) (marks : List Mark) (at : ℕ) → IsSound base (limit_of code.bytes) bytes marks → base ≤ at → at < base + length bytes → mark_at (alone code base bytes marks).marks at ≡ get_or marks (at - base) Unmarked
-alone_within code base bytes marks at j low high =
-    span_within (empty_code (limit_of code.bytes)).marks base marks at Unmarked j.placed.low (alone_fits_marks code base bytes marks j) low (omega (arith, j.as_long))
-
-empty_mark : (code : Code) (at : ℕ) → InRegion code.bytes at → mark_at (empty_code (limit_of code.bytes)).marks at ≡ bare_mark at
-empty_mark code at inside = get_or-map-range_with_len bare_mark 65536 (limit_of code.bytes - 65536) (at - 65536) at Unmarked (omega (arith, inside.0, inside.1)) (omega (arith, inside.0))
-
-alone_before : (code : Code) (base : ℕ) (bytes : List ℕ) (marks : List Mark) (at : ℕ) → IsSound base (limit_of code.bytes) bytes marks → InRegion code.bytes at → at < base → mark_at (alone code base bytes marks).marks at ≡ bare_mark at
-alone_before code base bytes marks at j inside high =
-    span_before (empty_code (limit_of code.bytes)).marks base marks at Unmarked j.placed.low (alone_fits_marks code base bytes marks j) inside.0 high ∙ empty_mark code at inside
-
-alone_behind : (code : Code) (base : ℕ) (bytes : List ℕ) (marks : List Mark) (at : ℕ) → IsSound base (limit_of code.bytes) bytes marks → InRegion code.bytes at → base + length bytes ≤ at → mark_at (alone code base bytes marks).marks at ≡ bare_mark at
-alone_behind code base bytes marks at j inside past =
-    span_behind (empty_code (limit_of code.bytes)).marks base marks at Unmarked j.placed.low (alone_fits_marks code base bytes marks j) (omega (arith, past, j.as_long)) ∙ empty_mark code at inside
-
-alone_bytes_long : (code : Code) (base : ℕ) (bytes : List ℕ) (marks : List Mark) → IsSound base (limit_of code.bytes) bytes marks → length (alone code base bytes marks).bytes ≡ length code.bytes
-alone_bytes_long code base bytes marks j =
-    length-with_span (empty_code (limit_of code.bytes)).bytes (base - 65536) bytes (omega (arith, alone_fits_bytes code base bytes marks j, j.placed.low)) ∙ empty_bytes code
-
-alone_marks_long : (code : Code) (base : ℕ) (bytes : List ℕ) (marks : List Mark) → IsSound base (limit_of code.bytes) bytes marks → length (alone code base bytes marks).marks ≡ length code.bytes
-alone_marks_long code base bytes marks j =
-    length-with_span (empty_code (limit_of code.bytes)).marks (base - 65536) marks (omega (arith, alone_fits_marks code base bytes marks j, j.placed.low)) ∙ empty_marks code
-
 -- ---- a chunk's bytes set anew under the marks that stand there
 
 -- other bytes of a sound chunk with the marks that stand in its span
-pub record Renews (code : Code) (c : Chunk) (bytes : List ℕ) (marks : List Mark) : Type 0 where
-  pub whole : IsText code
-  pub lies : Lies code c
-  pub sound : IsSound c.base (limit_of code.bytes) bytes marks
+pub record Renews (marked : MarkedText) (c : Chunk) (bytes : List ℕ) (marks : List Mark) : Type 0 where
+  pub whole : IsText marked
+  pub lies : Lies marked c
+  pub chunk : IsClosedChunk c.base (limit_of marked.bytes) bytes marks
   pub long : length bytes ≡ c.length
-  pub marks_are : (at : ℕ) → IsInChunk c at → mark_at code.marks at ≡ get_or marks (at - c.base) Unmarked
+  pub marks_are : (at : ℕ) → IsInChunk c at → mark_at marked.marks at ≡ get_or marks (at - c.base) Unmarked
 
-abbrev renewed : Code → Chunk → List ℕ → List ℕ
-renewed code c bytes = with_span code.bytes (c.base - 65536) bytes
+abbrev renewed : MarkedText → Chunk → List ℕ → List ℕ
+renewed marked c bytes = with_span marked.bytes (c.base - 65536) bytes
 
-renewed_long : (code : Code) (c : Chunk) (bytes : List ℕ) (marks : List Mark) → Renews code c bytes marks → length (renewed code c bytes) ≡ length code.bytes
-renewed_long code c bytes marks r = length-with_span code.bytes (c.base - 65536) bytes (omega (arith, r.lies.low, r.lies.high, r.long))
+renewed_long : (marked : MarkedText) (c : Chunk) (bytes : List ℕ) (marks : List Mark) → Renews marked c bytes marks → length (renewed marked c bytes) ≡ length marked.bytes
+renewed_long marked c bytes marks r = length-with_span marked.bytes (c.base - 65536) bytes (omega (arith, r.lies.low, r.lies.high, r.long))
 
 -- what is marked for the chunk alone is marked
-alone_marked : (code : Code) (c : Chunk) (bytes : List ℕ) (marks : List Mark) → Renews code c bytes marks → (now : State) → IsMarked (alone code c.base bytes marks).marks now → IsMarked code.marks now
-alone_marked code c bytes marks r now m =
-    let inside : InRegion code.bytes now.place = (m.0, omega (arith, marked_within (alone code c.base bytes marks).marks now m, alone_marks_long code c.base bytes marks r.sound)) in
-    let at_start : mark_at (alone code c.base bytes marks).marks now.place ≡ bare_mark now.place → IsMarked code.marks now = λ is.
-    (m.0, subst (λ (mark : Mark). Admits mark now.masked) (sym (r.whole.closed.starts now.place inside (bare_is_start now.place now.masked (subst (λ (mark : Mark). Admits mark now.masked) is m.1)))) tt) in
+alone_marked : (marked : MarkedText) (c : Chunk) (bytes : List ℕ) (marks : List Mark) → Renews marked c bytes marks → (now : State) → IsMarked (alone marked c.base bytes marks).marks now → IsMarked marked.marks now
+alone_marked marked c bytes marks r now m =
+    let inside : InRegion marked.bytes now.place = (m.0, omega (arith, marked_within (alone marked c.base bytes marks).marks now m, alone_marks_long marked c.base bytes marks r.chunk)) in
+    let at_start : mark_at (alone marked c.base bytes marks).marks now.place ≡ unused_mark now.place → IsMarked marked.marks now = λ is.
+    (m.0, subst (λ (mark : Mark). Admits mark now.masked) (sym (r.whole.closed.starts now.place inside (unused_is_start now.place now.masked (subst (λ (mark : Mark). Admits mark now.masked) is m.1)))) tt) in
     elim (place_of c.base c.length now.place) [
-      | Before l ↦ at_start (alone_before code c.base bytes marks now.place r.sound inside l)
-      | Within low high ↦ (m.0, subst (λ (mark : Mark). Admits mark now.masked) (alone_within code c.base bytes marks now.place r.sound low (omega (arith, high, r.long)) ∙ sym (r.marks_are now.place (low, high))) m.1)
-      | Behind p ↦ at_start (alone_behind code c.base bytes marks now.place r.sound inside (omega (arith, p, r.long)))
+      | Before l ↦ at_start (alone_before marked c.base bytes marks now.place r.chunk inside l)
+      | Within low high ↦ (m.0, subst (λ (mark : Mark). Admits mark now.masked) (alone_within marked c.base bytes marks now.place r.chunk low (omega (arith, high, r.long)) ∙ sym (r.marks_are now.place (low, high))) m.1)
+      | Behind p ↦ at_start (alone_behind marked c.base bytes marks now.place r.chunk inside (omega (arith, p, r.long)))
     ]
 
-pub renewed_closed : (code : Code) (c : Chunk) (bytes : List ℕ) (marks : List Mark) → Renews code c bytes marks → IsClosed (renewed code c bytes) code.marks
-renewed_closed code c bytes marks r =
-    let long = renewed_long code c bytes marks r in
-    let fits : c.base + length bytes ≤ 65536 + length code.bytes = omega (arith, r.lies.high, r.long) in
-    closed_by_parts (renewed code c bytes) code.marks
+pub renewed_closed : (marked : MarkedText) (c : Chunk) (bytes : List ℕ) (marks : List Mark) → Renews marked c bytes marks → IsClosed (renewed marked c bytes) marked.marks
+renewed_closed marked c bytes marks r =
+    let long = renewed_long marked c bytes marks r in
+    let fits : c.base + length bytes ≤ 65536 + length marked.bytes = omega (arith, r.lies.high, r.long) in
+    closed_by_parts (renewed marked c bytes) marked.marks
     (λ at inside start. r.whole.closed.starts at (inside.0, omega (arith, inside.1, long)) start)
     (λ now m.
     elim (place_of c.base c.length now.place) [
       | Before l ↦
           inr (record {
-            old = code.bytes;
-            old_marks = code.marks;
+            old = marked.bytes;
+            old_marks = marked.marks;
             closed = r.whole.closed;
             as_long = long;
             was_marked = m;
-            kept = λ i is within k lt. span_before code.bytes c.base bytes (now.place + k) 0 r.lies.low fits (omega (arith, m.0)) (before_span now.place i.len k c.base within lt r.lies.start l);
+            kept = λ i is within k lt. span_before marked.bytes c.base bytes (now.place + k) 0 r.lies.low fits (omega (arith, m.0)) (before_span now.place i.len k c.base within lt r.lies.start l);
             more = λ next n. n;
           })
       | Within low high ↦
           inr (record {
-            old = (alone code c.base bytes marks).bytes;
-            old_marks = (alone code c.base bytes marks).marks;
-            closed = r.sound.closed;
-            as_long = long ∙ sym (alone_bytes_long code c.base bytes marks r.sound);
-            was_marked = (m.0, subst (λ (mark : Mark). Admits mark now.masked) (r.marks_are now.place (low, high) ∙ sym (alone_within code c.base bytes marks now.place r.sound low (omega (arith, high, r.long)))) m.1);
+            old = (alone marked c.base bytes marks).bytes;
+            old_marks = (alone marked c.base bytes marks).marks;
+            closed = r.chunk.closed;
+            as_long = long ∙ sym (alone_bytes_long marked c.base bytes marks r.chunk);
+            was_marked = (m.0, subst (λ (mark : Mark). Admits mark now.masked) (r.marks_are now.place (low, high) ∙ sym (alone_within marked c.base bytes marks now.place r.chunk low (omega (arith, high, r.long)))) m.1);
             kept = λ i is within k lt.
                 let from : c.base ≤ now.place + k = omega arith in
                 let to : now.place + k < c.base + length bytes = omega (arith, r.long, within_span now.place i.len k c.base c.length within lt r.lies.start r.lies.whole high) in
-                span_within code.bytes c.base bytes (now.place + k) 0 r.lies.low fits from to
-                ∙ sym (span_within (empty_code (limit_of code.bytes)).bytes c.base bytes (now.place + k) 0 r.lies.low (alone_fits_bytes code c.base bytes marks r.sound) from to);
-            more = alone_marked code c bytes marks r;
+                span_within marked.bytes c.base bytes (now.place + k) 0 r.lies.low fits from to
+                ∙ sym (span_within (unused_text (limit_of marked.bytes)).bytes c.base bytes (now.place + k) 0 r.lies.low (alone_fits_bytes marked c.base bytes marks r.chunk) from to);
+            more = alone_marked marked c bytes marks r;
           })
       | Behind p ↦
           inr (record {
-            old = code.bytes;
-            old_marks = code.marks;
+            old = marked.bytes;
+            old_marks = marked.marks;
             closed = r.whole.closed;
             as_long = long;
             was_marked = m;
-            kept = λ i is within k lt. span_behind code.bytes c.base bytes (now.place + k) 0 r.lies.low fits (omega (arith, p, r.long));
+            kept = λ i is within k lt. span_behind marked.bytes c.base bytes (now.place + k) 0 r.lies.low fits (omega (arith, p, r.long));
             more = λ next n. n;
           })
     ])
@@ -142,9 +105,9 @@ renewed_closed code c bytes marks r =
 -- ---- one instruction exchanged
 
 -- an instruction of the chunk that stands at the address, and the one that comes in its place
-pub record Changes (code : Code) (c : Chunk) (at : ℕ) (before after : List Piece) (o n : Piece) : Type 0 where
-  pub whole : IsText code
-  pub holds : HoldsValid code c
+pub record Changes (marked : MarkedText) (c : Chunk) (at : ℕ) (before after : List Piece) (o n : Piece) : Type 0 where
+  pub whole : IsText marked
+  pub holds : HoldsValid marked c
   pub exchange : Exchanges holds.vetted before after o n
   pub here : c.base + place before ≡ at
 
@@ -157,96 +120,96 @@ middle xs ys zs ws e =
     drop_two : (xs ys zs : List ℕ) (k : ℕ) → k ≡ length xs + length ys → drop k (xs ++ (ys ++ zs)) ≡ zs
     drop_two xs ys zs k e = ap (λ (m : ℕ). drop m (xs ++ (ys ++ zs))) (e ∙ sym (length-append xs ys)) ∙ (ap (λ (a : List ℕ). drop (length (xs ++ ys)) a) (sym (append_assoc xs ys zs)) ∙ drop-append_seam (xs ++ ys) zs)
 
-new_code_is : (code : Code) (c : Chunk) (at : ℕ) (before after : List Piece) (o n : Piece) (x : Changes code c at before after o n) → code_of (before ++ n ∷ after) ≡ with_span x.holds.vetted.code (place before) n.bytes
-new_code_is code c at before after o n x =
+new_code_is : (marked : MarkedText) (c : Chunk) (at : ℕ) (before after : List Piece) (o n : Piece) (x : Changes marked c at before after o n) → code_of (before ++ n ∷ after) ≡ with_span x.holds.vetted.code (place before) n.bytes
+new_code_is marked c at before after o n x =
     let old : x.holds.vetted.code ≡ code_of before ++ (o.bytes ++ code_of after) = x.exchange.valid.parts ∙ (ap (λ (z : List Piece). code_of z) x.exchange.parts ∙ code_of-append before (o ∷ after)) in
     code_of-append before (n ∷ after) ∙ (middle (code_of before) o.bytes (code_of after) n.bytes x.exchange.as_long ∙ ap (λ (z : List ℕ). with_span z (place before) n.bytes) (sym old))
 
-place_in : (code : Code) (c : Chunk) (at : ℕ) (before after : List Piece) (o n : Piece) (x : Changes code c at before after o n) → place before + length n.bytes ≤ length x.holds.vetted.code
-place_in code c at before after o n x =
+place_in : (marked : MarkedText) (c : Chunk) (at : ℕ) (before after : List Piece) (o n : Piece) (x : Changes marked c at before after o n) → place before + length n.bytes ≤ length x.holds.vetted.code
+place_in marked c at before after o n x =
     omega (arith, ap (λ (z : List ℕ). length z) x.exchange.valid.parts, ap place x.exchange.parts, place-append before (o ∷ after), length-append o.bytes (code_of after), x.exchange.as_long)
 
 -- the text with the chunk set anew is the text with the instruction set anew
-pub same_text : (code : Code) (c : Chunk) (at : ℕ) (before after : List Piece) (o n : Piece) → Changes code c at before after o n → renewed code c (code_of (before ++ n ∷ after)) ≡ with_span code.bytes (at - 65536) n.bytes
-same_text code c at before after o n x =
-    let l = lies code c x.whole x.holds in
+pub same_text : (marked : MarkedText) (c : Chunk) (at : ℕ) (before after : List Piece) (o n : Piece) → Changes marked c at before after o n → renewed marked c (code_of (before ++ n ∷ after)) ≡ with_span marked.bytes (at - 65536) n.bytes
+same_text marked c at before after o n x =
+    let l = lies marked c x.whole x.holds in
     let bytes : List ℕ = code_of (before ++ n ∷ after) in
     let long : length (code_of (before ++ n ∷ after)) ≡ c.length = code_long x.holds.vetted before after o n x.exchange ∙ x.holds.long in
-    let ends = place_in code c at before after o n x in
+    let ends = place_in marked c at before after o n x in
     let low : 65536 ≤ at = omega (arith, l.low, x.here) in
-    let fits : c.base + length (code_of (before ++ n ∷ after)) ≤ 65536 + length code.bytes = omega (arith, l.high, long) in
-    let fits2 : at + length n.bytes ≤ 65536 + length code.bytes = omega (arith, l.high, x.here, ends, x.holds.long) in
-    ext_get_or 0 (renewed code c (code_of (before ++ n ∷ after))) (with_span code.bytes (at - 65536) n.bytes)
-    (length-with_span code.bytes (c.base - 65536) (code_of (before ++ n ∷ after)) (omega (arith, l.low, fits)) ∙ sym (length-with_span code.bytes (at - 65536) n.bytes (omega (arith, low, fits2))))
+    let fits : c.base + length (code_of (before ++ n ∷ after)) ≤ 65536 + length marked.bytes = omega (arith, l.high, long) in
+    let fits2 : at + length n.bytes ≤ 65536 + length marked.bytes = omega (arith, l.high, x.here, ends, x.holds.long) in
+    ext_get_or 0 (renewed marked c (code_of (before ++ n ∷ after))) (with_span marked.bytes (at - 65536) n.bytes)
+    (length-with_span marked.bytes (c.base - 65536) (code_of (before ++ n ∷ after)) (omega (arith, l.low, fits)) ∙ sym (length-with_span marked.bytes (at - 65536) n.bytes (omega (arith, low, fits2))))
     (λ j lt.
     let e : 65536 + j - 65536 ≡ j = omega arith in
-    subst (λ (k : ℕ). get_or (renewed code c (code_of (before ++ n ∷ after))) k 0 ≡ get_or (with_span code.bytes (at - 65536) n.bytes) k 0) e
+    subst (λ (k : ℕ). get_or (renewed marked c (code_of (before ++ n ∷ after))) k 0 ≡ get_or (with_span marked.bytes (at - 65536) n.bytes) k 0) e
     (elim (place_of c.base c.length (65536 + j)) [
-      | Before b ↦ span_before code.bytes c.base (code_of (before ++ n ∷ after)) (65536 + j) 0 l.low fits (omega arith) b ∙ sym (span_before code.bytes at n.bytes (65536 + j) 0 low fits2 (omega arith) (omega (arith, b, x.here)))
-      | Behind b ↦ span_behind code.bytes c.base (code_of (before ++ n ∷ after)) (65536 + j) 0 l.low fits (omega (arith, b, long)) ∙ sym (span_behind code.bytes at n.bytes (65536 + j) 0 low fits2 (omega (arith, b, x.here, ends, x.holds.long)))
+      | Before b ↦ span_before marked.bytes c.base (code_of (before ++ n ∷ after)) (65536 + j) 0 l.low fits (omega arith) b ∙ sym (span_before marked.bytes at n.bytes (65536 + j) 0 low fits2 (omega arith) (omega (arith, b, x.here)))
+      | Behind b ↦ span_behind marked.bytes c.base (code_of (before ++ n ∷ after)) (65536 + j) 0 l.low fits (omega (arith, b, long)) ∙ sym (span_behind marked.bytes at n.bytes (65536 + j) 0 low fits2 (omega (arith, b, x.here, ends, x.holds.long)))
       | Within a b ↦
-          let there = span_within code.bytes c.base (code_of (before ++ n ∷ after)) (65536 + j) 0 l.low fits a (omega (arith, b, long)) ∙ ap (λ (z : List ℕ). get_or z (65536 + j - c.base) 0) (new_code_is code c at before after o n x) in
+          let there = span_within marked.bytes c.base (code_of (before ++ n ∷ after)) (65536 + j) 0 l.low fits a (omega (arith, b, long)) ∙ ap (λ (z : List ℕ). get_or z (65536 + j - c.base) 0) (new_code_is marked c at before after o n x) in
           let old = x.holds.bytes_are (65536 + j) (a, b) in
           elim (place_of at (length n.bytes) (65536 + j)) [
-            | Before f ↦ there ∙ (get_or-with_span_below x.holds.vetted.code (place before) n.bytes (65536 + j - c.base) 0 (omega (arith, ends)) (omega (arith, f, a, x.here)) ∙ (sym old ∙ sym (span_before code.bytes at n.bytes (65536 + j) 0 low fits2 (omega arith) f)))
+            | Before f ↦ there ∙ (get_or-with_span_below x.holds.vetted.code (place before) n.bytes (65536 + j - c.base) 0 (omega (arith, ends)) (omega (arith, f, a, x.here)) ∙ (sym old ∙ sym (span_before marked.bytes at n.bytes (65536 + j) 0 low fits2 (omega arith) f)))
             | Within f h ↦
                 let d : 65536 + j - c.base - place before ≡ 65536 + j - at = omega (arith, f, x.here) in
-                there ∙ (get_or-with_span_in x.holds.vetted.code (place before) n.bytes (65536 + j - c.base) 0 ends (omega (arith, f, x.here)) (omega (arith, h, a, x.here)) ∙ (ap (λ (k : ℕ). get_or n.bytes k 0) d ∙ sym (span_within code.bytes at n.bytes (65536 + j) 0 low fits2 f h)))
-            | Behind f ↦ there ∙ (get_or-with_span_above x.holds.vetted.code (place before) n.bytes (65536 + j - c.base) 0 ends (omega (arith, f, x.here)) ∙ (sym old ∙ sym (span_behind code.bytes at n.bytes (65536 + j) 0 low fits2 f)))
+                there ∙ (get_or-with_span_in x.holds.vetted.code (place before) n.bytes (65536 + j - c.base) 0 ends (omega (arith, f, x.here)) (omega (arith, h, a, x.here)) ∙ (ap (λ (k : ℕ). get_or n.bytes k 0) d ∙ sym (span_within marked.bytes at n.bytes (65536 + j) 0 low fits2 f h)))
+            | Behind f ↦ there ∙ (get_or-with_span_above x.holds.vetted.code (place before) n.bytes (65536 + j - c.base) 0 ends (omega (arith, f, x.here)) ∙ (sym old ∙ sym (span_behind marked.bytes at n.bytes (65536 + j) 0 low fits2 f)))
           ]
     ]))
 
 -- the text with the instruction set anew
-abbrev pub changed : Code → ℕ → List ℕ → Code
-changed code at bytes = record { bytes = with_span code.bytes (at - 65536) bytes; marks = code.marks }
+abbrev pub changed : MarkedText → ℕ → List ℕ → MarkedText
+changed marked at bytes = record { bytes = with_span marked.bytes (at - 65536) bytes; marks = marked.marks }
 
-pub renews_of : (code : Code) (c : Chunk) (at : ℕ) (before after : List Piece) (o n : Piece) (x : Changes code c at before after o n) → Renews code c (code_of (before ++ n ∷ after)) x.holds.vetted.marks
-renews_of code c at before after o n x =
+pub renews_of : (marked : MarkedText) (c : Chunk) (at : ℕ) (before after : List Piece) (o n : Piece) (x : Changes marked c at before after o n) → Renews marked c (code_of (before ++ n ∷ after)) x.holds.vetted.marks
+renews_of marked c at before after o n x =
     let v = x.holds.vetted in
     record {
       whole = x.whole;
-      lies = lies code c x.whole x.holds;
-      sound =
-          subst (λ (b : ℕ). IsSound b (limit_of code.bytes) (code_of (before ++ n ∷ after)) x.holds.vetted.marks) x.holds.base_is
-          (subst (λ (l : ℕ). IsSound x.holds.vetted.base l (code_of (before ++ n ∷ after)) x.holds.vetted.marks) x.holds.limit_is
-          (valid_chunk_is_sound (exchanged x.holds.vetted before after n) (exchanged_valid x.holds.vetted before after o n x.exchange)));
+      lies = lies marked c x.whole x.holds;
+      chunk =
+          subst (λ (b : ℕ). IsClosedChunk b (limit_of marked.bytes) (code_of (before ++ n ∷ after)) x.holds.vetted.marks) x.holds.base_is
+          (subst (λ (l : ℕ). IsClosedChunk x.holds.vetted.base l (code_of (before ++ n ∷ after)) x.holds.vetted.marks) x.holds.limit_is
+          (valid_chunk_is_closed (exchanged x.holds.vetted before after n) (exchanged_valid x.holds.vetted before after o n x.exchange)));
       long = code_long x.holds.vetted before after o n x.exchange ∙ x.holds.long;
       marks_are = x.holds.marks_are;
     }
 
-pub changed_closed : (code : Code) (c : Chunk) (at : ℕ) (before after : List Piece) (o n : Piece) → Changes code c at before after o n → IsClosed (with_span code.bytes (at - 65536) n.bytes) code.marks
-changed_closed code c at before after o n x =
-    subst (λ (z : List ℕ). IsClosed z code.marks) (same_text code c at before after o n x) (renewed_closed code c (code_of (before ++ n ∷ after)) x.holds.vetted.marks (renews_of code c at before after o n x))
+pub changed_closed : (marked : MarkedText) (c : Chunk) (at : ℕ) (before after : List Piece) (o n : Piece) → Changes marked c at before after o n → IsClosed (with_span marked.bytes (at - 65536) n.bytes) marked.marks
+changed_closed marked c at before after o n x =
+    subst (λ (z : List ℕ). IsClosed z marked.marks) (same_text marked c at before after o n x) (renewed_closed marked c (code_of (before ++ n ∷ after)) x.holds.vetted.marks (renews_of marked c at before after o n x))
 
-pub changed_long : (code : Code) (c : Chunk) (at : ℕ) (before after : List Piece) (o n : Piece) → Changes code c at before after o n → length (with_span code.bytes (at - 65536) n.bytes) ≡ length code.bytes
-changed_long code c at before after o n x = ap (λ (z : List ℕ). length z) (sym (same_text code c at before after o n x)) ∙ renewed_long code c (code_of (before ++ n ∷ after)) x.holds.vetted.marks (renews_of code c at before after o n x)
+pub changed_long : (marked : MarkedText) (c : Chunk) (at : ℕ) (before after : List Piece) (o n : Piece) → Changes marked c at before after o n → length (with_span marked.bytes (at - 65536) n.bytes) ≡ length marked.bytes
+changed_long marked c at before after o n x = ap (λ (z : List ℕ). length z) (sym (same_text marked c at before after o n x)) ∙ renewed_long marked c (code_of (before ++ n ∷ after)) x.holds.vetted.marks (renews_of marked c at before after o n x)
 
-pub changed_text : (code : Code) (c : Chunk) (at : ℕ) (before after : List Piece) (o n : Piece) → Changes code c at before after o n → IsText (changed code at n.bytes)
-changed_text code c at before after o n x =
-    let long = changed_long code c at before after o n x in
+pub changed_text : (marked : MarkedText) (c : Chunk) (at : ℕ) (before after : List Piece) (o n : Piece) → Changes marked c at before after o n → IsText (changed marked at n.bytes)
+changed_text marked c at before after o n x =
+    let long = changed_long marked c at before after o n x in
     record {
       lawful = subst IsLawfulLimit (ap (λ (k : ℕ). 65536 + k) (sym long)) x.whole.lawful;
       as_long = x.whole.as_long ∙ sym long;
-      closed = changed_closed code c at before after o n x;
+      closed = changed_closed marked c at before after o n x;
     }
 
-pub changed_bytes : (code : Code) (c : Chunk) (at : ℕ) (before after : List Piece) (o n : Piece) → Changes code c at before after o n → (k : ℕ) → IsInChunk c k → byte_at (changed code at n.bytes).bytes k ≡ get_or (code_of (before ++ n ∷ after)) (k - c.base) 0
-changed_bytes code c at before after o n x k inside =
-    let r = renews_of code c at before after o n x in
-    ap (λ (z : List ℕ). byte_at z k) (sym (same_text code c at before after o n x))
-    ∙ span_within code.bytes c.base (code_of (before ++ n ∷ after)) k 0 r.lies.low (omega (arith, r.lies.high, r.long)) inside.0 (omega (arith, inside.1, r.long))
+pub changed_bytes : (marked : MarkedText) (c : Chunk) (at : ℕ) (before after : List Piece) (o n : Piece) → Changes marked c at before after o n → (k : ℕ) → IsInChunk c k → byte_at (changed marked at n.bytes).bytes k ≡ get_or (code_of (before ++ n ∷ after)) (k - c.base) 0
+changed_bytes marked c at before after o n x k inside =
+    let r = renews_of marked c at before after o n x in
+    ap (λ (z : List ℕ). byte_at z k) (sym (same_text marked c at before after o n x))
+    ∙ span_within marked.bytes c.base (code_of (before ++ n ∷ after)) k 0 r.lies.low (omega (arith, r.lies.high, r.long)) inside.0 (omega (arith, inside.1, r.long))
 
 -- the chunk is held as before, with the new instruction in it
-abbrev pub changed_holds : (code : Code) (c : Chunk) (at : ℕ) (before after : List Piece) (o n : Piece) → Changes code c at before after o n → HoldsValid (changed code at n.bytes) c
-changed_holds code c at before after o n x =
-    let r = renews_of code c at before after o n x in
+abbrev pub changed_holds : (marked : MarkedText) (c : Chunk) (at : ℕ) (before after : List Piece) (o n : Piece) → Changes marked c at before after o n → HoldsValid (changed marked at n.bytes) c
+changed_holds marked c at before after o n x =
+    let r = renews_of marked c at before after o n x in
     record {
       vetted = exchanged x.holds.vetted before after n;
       valid = exchanged_valid x.holds.vetted before after o n x.exchange;
       base_is = x.holds.base_is;
-      limit_is = x.holds.limit_is ∙ ap (λ (k : ℕ). 65536 + k) (sym (changed_long code c at before after o n x));
+      limit_is = x.holds.limit_is ∙ ap (λ (k : ℕ). 65536 + k) (sym (changed_long marked c at before after o n x));
       long = r.long;
-      bytes_are = changed_bytes code c at before after o n x;
+      bytes_are = changed_bytes marked c at before after o n x;
       marks_are = x.holds.marks_are;
     }
 
@@ -257,30 +220,30 @@ NewBegins pieces k = (b : List Piece) × (p : Piece) × (a : List Piece) × (pie
 is_marked : (mark : Mark) (masked : Option ℕ) → Admits mark masked → mark ≡ Unmarked → ⊥
 is_marked mark masked m e = subst (λ (x : Mark). Admits x masked) e m
 
-begins_there : (code : Code) (c : Chunk) (at : ℕ) (before after : List Piece) (o n : Piece) (x : Changes code c at before after o n) (now : State) → IsMarked code.marks now → c.base ≤ now.place → now.place < c.base + c.length → NewBegins (before ++ n ∷ after) (now.place - c.base)
-begins_there code c at before after o n x now m low high =
+begins_there : (marked : MarkedText) (c : Chunk) (at : ℕ) (before after : List Piece) (o n : Piece) (x : Changes marked c at before after o n) (now : State) → IsMarked marked.marks now → c.base ≤ now.place → now.place < c.base + c.length → NewBegins (before ++ n ∷ after) (now.place - c.base)
+begins_there marked c at before after o n x now m low high =
     let v : vet.IsValid (exchanged x.holds.vetted before after n) = exchanged_valid x.holds.vetted before after o n x.exchange in
     let marks_long : length (marks_of v.pieces) ≡ c.length = length-marks_of v.pieces v.sound.spelled ∙ (ap (λ (z : List ℕ). length z) (sym v.parts) ∙ (code_long x.holds.vetted before after o n x.exchange ∙ x.holds.long)) in
-    let there : mark_at code.marks now.place ≡ get_or (marks_of v.pieces) (now.place - c.base) Unmarked = x.holds.marks_are now.place (low, high) ∙ ap (λ (z : List Mark). get_or z (now.place - c.base) Unmarked) v.marks_are in
-    let found = marked v.pieces v.sound.spelled (now.place - c.base) (mark_at code.marks now.place) (omega (arith, marks_long, low, high)) (sym there) (is_marked (mark_at code.marks now.place) now.masked m.1) in
+    let there : mark_at marked.marks now.place ≡ get_or (marks_of v.pieces) (now.place - c.base) Unmarked = x.holds.marks_are now.place (low, high) ∙ ap (λ (z : List Mark). get_or z (now.place - c.base) Unmarked) v.marks_are in
+    let found = places.marked v.pieces v.sound.spelled (now.place - c.base) (mark_at marked.marks now.place) (omega (arith, marks_long, low, high)) (sym there) (is_marked (mark_at marked.marks now.place) now.masked m.1) in
     (found.before, found.piece, found.after, found.parts, found.here)
 
-changed_apart : (code : Code) (c : Chunk) (at : ℕ) (before after : List Piece) (o n : Piece) (x : Changes code c at before after o n) (now : State) (i : Instr) → IsMarked code.marks now → now.place ≢ at → instruction_at (with_span code.bytes (at - 65536) n.bytes) now.place ≡ Some i → (now.place + i.len ≤ at) ⊎ (at + length n.bytes ≤ now.place)
-changed_apart code c at before after o n x now i m other is =
-    let l = lies code c x.whole x.holds in
-    let ends = place_in code c at before after o n x in
+changed_apart : (marked : MarkedText) (c : Chunk) (at : ℕ) (before after : List Piece) (o n : Piece) (x : Changes marked c at before after o n) (now : State) (i : Instr) → IsMarked marked.marks now → now.place ≢ at → instruction_at (with_span marked.bytes (at - 65536) n.bytes) now.place ≡ Some i → (now.place + i.len ≤ at) ⊎ (at + length n.bytes ≤ now.place)
+changed_apart marked c at before after o n x now i m other is =
+    let l = lies marked c x.whole x.holds in
+    let ends = place_in marked c at before after o n x in
     elim (place_of c.base c.length now.place) [
       | Before b ↦
-          let closed = changed_closed code c at before after o n x in
-          let e = executes (with_span code.bytes (at - 65536) n.bytes) now m.0 (closed.safe now m) in
-          let same : e.i ≡ i = some_same (instruction_at (with_span code.bytes (at - 65536) n.bytes) now.place) e.i i e.is is in
+          let closed = changed_closed marked c at before after o n x in
+          let e = executes (with_span marked.bytes (at - 65536) n.bytes) now m.0 (closed.safe now m) in
+          let same : e.i ≡ i = some_same (instruction_at (with_span marked.bytes (at - 65536) n.bytes) now.place) e.i i e.is is in
           inl (omega (arith, b, e.permitted.0, ap (λ (j : Instr). j.len) same, l.start, x.here))
       | Within low high ↦
-          let f = begins_there code c at before after o n x now m low high in
-          let begins : Begins (changed code at n.bytes) c now.place = record { holds = changed_holds code c at before after o n x; before = f.0; rest = f.1 ∷ f.2; parts = f.3; here = omega (arith, f.4, low) } in
-          let s = stands_with (changed code at n.bytes) c now.place (changed_text code c at before after o n x) begins f.1 f.2 refl in
+          let f = begins_there marked c at before after o n x now m low high in
+          let begins : Begins (changed marked at n.bytes) c now.place = record { holds = changed_holds marked c at before after o n x; before = f.0; rest = f.1 ∷ f.2; parts = f.3; here = omega (arith, f.4, low) } in
+          let s = stands_with (changed marked at n.bytes) c now.place (changed_text marked c at before after o n x) begins f.1 f.2 refl in
           let piece : s.piece ≡ f.1 = first_of_same s.piece f.1 s.rest f.2 (sym s.is) in
-          let same : s.piece.instr ≡ i = some_same (instruction_at (with_span code.bytes (at - 65536) n.bytes) now.place) s.piece.instr i s.instr is in
+          let same : s.piece.instr ≡ i = some_same (instruction_at (with_span marked.bytes (at - 65536) n.bytes) now.place) s.piece.instr i s.instr is in
           let len : i.len ≡ length f.1.bytes = ap (λ (j : Instr). j.len) (sym same) ∙ (s.len ∙ ap (λ (p : Piece). length p.bytes) piece) in
           elim (where_is before after f.0 f.2 n f.1 f.3) [
             | Here a g k ↦ absurd (other (omega (arith, ap place a, f.4, low, x.here)))
@@ -294,14 +257,14 @@ changed_apart code c at before after o n x now i m other is =
     first_of_same p q xs ys e = cc
 
 -- the instruction may be replaced
-pub changes_replace : (code : Code) (c : Chunk) (at : ℕ) (before after : List Piece) (o n : Piece) → Changes code c at before after o n → IsReplacing code at n.bytes
-changes_replace code c at before after o n x =
-    let l = lies code c x.whole x.holds in
-    let ends = place_in code c at before after o n x in
+pub changes_replace : (marked : MarkedText) (c : Chunk) (at : ℕ) (before after : List Piece) (o n : Piece) → Changes marked c at before after o n → IsReplacing marked at n.bytes
+changes_replace marked c at before after o n x =
+    let l = lies marked c x.whole x.holds in
+    let ends = place_in marked c at before after o n x in
     record {
       some = (let s = spells_some n.bytes n.instr x.exchange.spells in omega (arith, s.0, s.1));
       low = omega (arith, l.low, x.here);
       high = omega (arith, l.high, x.here, ends, x.holds.long);
-      closed = changed_closed code c at before after o n x;
-      apart = changed_apart code c at before after o n x;
+      closed = changed_closed marked c at before after o n x;
+      apart = changed_apart marked c at before after o n x;
     }

@@ -8,12 +8,12 @@ use Rattle.nc_text.specs.Places.{limit_of, byte_at}
 use Rattle.nc_text.specs.Marks.{mark_at}
 use Rattle.std.proofs.lemmas.List.{get_or-replicate, length-replicate}
 use Rattle.std.proofs.lemmas.List.FromFn.{get_or-map-range_with_len}
-use Rattle.nc_text.specs.Code.{Code, IsText, bare_mark}
+use Rattle.nc_text.specs.MarkedText.{MarkedText, IsText, unused_mark}
 use Rattle.nc_text.proofs.Fresh.{new_is_text}
 use Rattle.nc_text.proofs.SpanElements.{length-with_span}
 use Rattle.nc_vet.specs.Chunk as vet
 use Rattle.nc_region.specs.declared.chunk.Chunk.{Chunk}
-use Rattle.nc_region.specs.Chunks.{IsPlaced, IsSound, IsBare, with_chunk}
+use Rattle.nc_region.specs.Chunks.{IsPlaced, IsClosedChunk, IsUnused, with_chunk}
 use Rattle.nc_region.specs.Each.{Each}
 use Rattle.nc_region.specs.Region.{IsNew, IsLive, IsInChunk, IsRising, HoldsValid, IsRegion, IsAboveAll, IsBelowAll}
 use Rattle.nc_region.proofs.EachMember.{each_map, each_both, each_take, each_drop, each_append}
@@ -42,105 +42,105 @@ rising_insert from [] (suc k) c rising low above below = (low, tt)
 rising_insert from (d ∷ rest) (suc k) c rising low above below = (rising.0, rising_insert (d.base + d.length) rest k c rising.1 above.0 above.1 below)
 
 -- what a new chunk's place and bytes keep
-pub record Inserts (code : Code) (chunks : List Chunk) (k : ℕ) (c : Chunk) (bytes : List ℕ) (marks : List Mark) : Type 0 where
-  pub region : IsRegion code chunks
+pub record Inserts (marked : MarkedText) (chunks : List Chunk) (k : ℕ) (c : Chunk) (bytes : List ℕ) (marks : List Mark) : Type 0 where
+  pub region : IsRegion marked chunks
   pub vetted : vet.Chunk
   pub valid : vet.IsValid vetted
   pub base_is : vetted.base ≡ c.base
-  pub limit_is : vetted.limit ≡ limit_of code.bytes
+  pub limit_is : vetted.limit ≡ limit_of marked.bytes
   pub code_is : vetted.code ≡ bytes
   pub marks_is : vetted.marks ≡ marks
-  pub sound : IsSound c.base (limit_of code.bytes) bytes marks
+  pub chunk : IsClosedChunk c.base (limit_of marked.bytes) bytes marks
   pub long : length bytes ≡ c.length
   pub above : IsAboveAll c.base (take k chunks)
   pub below : IsBelowAll (c.base + c.length) (drop k chunks)
 
-fits_bytes : (code : Code) (chunks : List Chunk) (k : ℕ) (c : Chunk) (bytes : List ℕ) (marks : List Mark) → Inserts code chunks k c bytes marks → c.base + length bytes ≤ 65536 + length code.bytes
-fits_bytes code chunks k c bytes marks n = omega (arith, n.sound.placed.high)
+fits_bytes : (marked : MarkedText) (chunks : List Chunk) (k : ℕ) (c : Chunk) (bytes : List ℕ) (marks : List Mark) → Inserts marked chunks k c bytes marks → c.base + length bytes ≤ 65536 + length marked.bytes
+fits_bytes marked chunks k c bytes marks n = omega (arith, n.chunk.placed.high)
 
-fits_marks : (code : Code) (chunks : List Chunk) (k : ℕ) (c : Chunk) (bytes : List ℕ) (marks : List Mark) → Inserts code chunks k c bytes marks → c.base + length marks ≤ 65536 + length code.marks
-fits_marks code chunks k c bytes marks n = omega (arith, n.sound.placed.high, n.sound.as_long, n.region.whole.as_long)
+fits_marks : (marked : MarkedText) (chunks : List Chunk) (k : ℕ) (c : Chunk) (bytes : List ℕ) (marks : List Mark) → Inserts marked chunks k c bytes marks → c.base + length marks ≤ 65536 + length marked.marks
+fits_marks marked chunks k c bytes marks n = omega (arith, n.chunk.placed.high, n.chunk.as_long, n.region.whole.as_long)
 
 -- outside the new chunk nothing changes
-other_byte : (code : Code) (chunks : List Chunk) (k : ℕ) (c : Chunk) (bytes : List ℕ) (marks : List Mark) (at : ℕ) → Inserts code chunks k c bytes marks → 65536 ≤ at → (at < c.base) ⊎ (c.base + c.length ≤ at) → byte_at (with_chunk code c.base bytes marks).bytes at ≡ byte_at code.bytes at
-other_byte code chunks k c bytes marks at n low out =
+other_byte : (marked : MarkedText) (chunks : List Chunk) (k : ℕ) (c : Chunk) (bytes : List ℕ) (marks : List Mark) (at : ℕ) → Inserts marked chunks k c bytes marks → 65536 ≤ at → (at < c.base) ⊎ (c.base + c.length ≤ at) → byte_at (with_chunk marked c.base bytes marks).bytes at ≡ byte_at marked.bytes at
+other_byte marked chunks k c bytes marks at n low out =
     elim out [
-      | inl l ↦ span_before code.bytes c.base bytes at 0 n.sound.placed.low (fits_bytes code chunks k c bytes marks n) low l
-      | inr p ↦ span_behind code.bytes c.base bytes at 0 n.sound.placed.low (fits_bytes code chunks k c bytes marks n) (omega (arith, p, n.long))
+      | inl l ↦ span_before marked.bytes c.base bytes at 0 n.chunk.placed.low (fits_bytes marked chunks k c bytes marks n) low l
+      | inr p ↦ span_behind marked.bytes c.base bytes at 0 n.chunk.placed.low (fits_bytes marked chunks k c bytes marks n) (omega (arith, p, n.long))
     ]
 
-other_mark : (code : Code) (chunks : List Chunk) (k : ℕ) (c : Chunk) (bytes : List ℕ) (marks : List Mark) (at : ℕ) → Inserts code chunks k c bytes marks → 65536 ≤ at → (at < c.base) ⊎ (c.base + c.length ≤ at) → mark_at (with_chunk code c.base bytes marks).marks at ≡ mark_at code.marks at
-other_mark code chunks k c bytes marks at n low out =
+other_mark : (marked : MarkedText) (chunks : List Chunk) (k : ℕ) (c : Chunk) (bytes : List ℕ) (marks : List Mark) (at : ℕ) → Inserts marked chunks k c bytes marks → 65536 ≤ at → (at < c.base) ⊎ (c.base + c.length ≤ at) → mark_at (with_chunk marked c.base bytes marks).marks at ≡ mark_at marked.marks at
+other_mark marked chunks k c bytes marks at n low out =
     elim out [
-      | inl l ↦ span_before code.marks c.base marks at Unmarked n.sound.placed.low (fits_marks code chunks k c bytes marks n) low l
-      | inr p ↦ span_behind code.marks c.base marks at Unmarked n.sound.placed.low (fits_marks code chunks k c bytes marks n) (omega (arith, p, n.long, n.sound.as_long))
+      | inl l ↦ span_before marked.marks c.base marks at Unmarked n.chunk.placed.low (fits_marks marked chunks k c bytes marks n) low l
+      | inr p ↦ span_behind marked.marks c.base marks at Unmarked n.chunk.placed.low (fits_marks marked chunks k c bytes marks n) (omega (arith, p, n.long, n.chunk.as_long))
     ]
 
-same_limit : (code : Code) (chunks : List Chunk) (k : ℕ) (c : Chunk) (bytes : List ℕ) (marks : List Mark) → Inserts code chunks k c bytes marks → limit_of (with_chunk code c.base bytes marks).bytes ≡ limit_of code.bytes
-same_limit code chunks k c bytes marks n = ap (λ (m : ℕ). 65536 + m) (length-with_span code.bytes (c.base - 65536) bytes (omega (arith, n.sound.placed.low, fits_bytes code chunks k c bytes marks n)))
+same_limit : (marked : MarkedText) (chunks : List Chunk) (k : ℕ) (c : Chunk) (bytes : List ℕ) (marks : List Mark) → Inserts marked chunks k c bytes marks → limit_of (with_chunk marked c.base bytes marks).bytes ≡ limit_of marked.bytes
+same_limit marked chunks k c bytes marks n = ap (λ (m : ℕ). 65536 + m) (length-with_span marked.bytes (c.base - 65536) bytes (omega (arith, n.chunk.placed.low, fits_bytes marked chunks k c bytes marks n)))
 
-holds_still : (code : Code) (chunks : List Chunk) (k : ℕ) (c : Chunk) (bytes : List ℕ) (marks : List Mark) → Inserts code chunks k c bytes marks → (d : Chunk) → (d.base + d.length ≤ c.base) ⊎ (c.base + c.length ≤ d.base) → HoldsValid code d → HoldsValid (with_chunk code c.base bytes marks) d
-holds_still code chunks k c bytes marks n d apart h =
+holds_still : (marked : MarkedText) (chunks : List Chunk) (k : ℕ) (c : Chunk) (bytes : List ℕ) (marks : List Mark) → Inserts marked chunks k c bytes marks → (d : Chunk) → (d.base + d.length ≤ c.base) ⊎ (c.base + c.length ≤ d.base) → HoldsValid marked d → HoldsValid (with_chunk marked c.base bytes marks) d
+holds_still marked chunks k c bytes marks n d apart h =
     let out : (at : ℕ) → IsInChunk d at → (at < c.base) ⊎ (c.base + c.length ≤ at) = λ at inside. elim apart [ inl l ↦ inl (omega (arith, l, inside.1)) | inr p ↦ inr (omega (arith, p, inside.0)) ] in
     let low : 65536 ≤ d.base = subst (λ (b : ℕ). 65536 ≤ b) h.base_is h.valid.base_is.1 in
     record {
       vetted = h.vetted;
       valid = h.valid;
       base_is = h.base_is;
-      limit_is = h.limit_is ∙ sym (same_limit code chunks k c bytes marks n);
+      limit_is = h.limit_is ∙ sym (same_limit marked chunks k c bytes marks n);
       long = h.long;
-      bytes_are = λ at inside. other_byte code chunks k c bytes marks at n (omega (arith, inside.0, low)) (out at inside) ∙ h.bytes_are at inside;
-      marks_are = λ at inside. other_mark code chunks k c bytes marks at n (omega (arith, inside.0, low)) (out at inside) ∙ h.marks_are at inside;
+      bytes_are = λ at inside. other_byte marked chunks k c bytes marks at n (omega (arith, inside.0, low)) (out at inside) ∙ h.bytes_are at inside;
+      marks_are = λ at inside. other_mark marked chunks k c bytes marks at n (omega (arith, inside.0, low)) (out at inside) ∙ h.marks_are at inside;
     }
 
-holds_new : (code : Code) (chunks : List Chunk) (k : ℕ) (c : Chunk) (bytes : List ℕ) (marks : List Mark) → Inserts code chunks k c bytes marks → HoldsValid (with_chunk code c.base bytes marks) c
-holds_new code chunks k c bytes marks n =
+holds_new : (marked : MarkedText) (chunks : List Chunk) (k : ℕ) (c : Chunk) (bytes : List ℕ) (marks : List Mark) → Inserts marked chunks k c bytes marks → HoldsValid (with_chunk marked c.base bytes marks) c
+holds_new marked chunks k c bytes marks n =
     record {
       vetted = n.vetted;
       valid = n.valid;
       base_is = n.base_is;
-      limit_is = n.limit_is ∙ sym (same_limit code chunks k c bytes marks n);
+      limit_is = n.limit_is ∙ sym (same_limit marked chunks k c bytes marks n);
       long = ap (λ (bs : List ℕ). length bs) n.code_is ∙ n.long;
-      bytes_are = λ at inside. span_within code.bytes c.base bytes at 0 n.sound.placed.low (fits_bytes code chunks k c bytes marks n) inside.0 (omega (arith, inside.1, n.long)) ∙ ap (λ (bs : List ℕ). get_or bs (at - c.base) 0) (sym n.code_is);
-      marks_are = λ at inside. span_within code.marks c.base marks at Unmarked n.sound.placed.low (fits_marks code chunks k c bytes marks n) inside.0 (omega (arith, inside.1, n.long, n.sound.as_long)) ∙ ap (λ (ms : List Mark). get_or ms (at - c.base) Unmarked) (sym n.marks_is);
+      bytes_are = λ at inside. span_within marked.bytes c.base bytes at 0 n.chunk.placed.low (fits_bytes marked chunks k c bytes marks n) inside.0 (omega (arith, inside.1, n.long)) ∙ ap (λ (bs : List ℕ). get_or bs (at - c.base) 0) (sym n.code_is);
+      marks_are = λ at inside. span_within marked.marks c.base marks at Unmarked n.chunk.placed.low (fits_marks marked chunks k c bytes marks n) inside.0 (omega (arith, inside.1, n.long, n.chunk.as_long)) ∙ ap (λ (ms : List Mark). get_or ms (at - c.base) Unmarked) (sym n.marks_is);
     }
 
-pub region_with_chunk : (code : Code) (chunks : List Chunk) (k : ℕ) (c : Chunk) (bytes : List ℕ) (marks : List Mark) → Inserts code chunks k c bytes marks → IsLive c.state → IsText (with_chunk code c.base bytes marks) → IsRegion (with_chunk code c.base bytes marks) (insert chunks k c)
-region_with_chunk code chunks k c bytes marks n live whole =
-    let limit = same_limit code chunks k c bytes marks n in
+pub region_with_chunk : (marked : MarkedText) (chunks : List Chunk) (k : ℕ) (c : Chunk) (bytes : List ℕ) (marks : List Mark) → Inserts marked chunks k c bytes marks → IsLive c.state → IsText (with_chunk marked c.base bytes marks) → IsRegion (with_chunk marked c.base bytes marks) (insert chunks k c)
+region_with_chunk marked chunks k c bytes marks n live whole =
+    let limit = same_limit marked chunks k c bytes marks n in
     record {
       whole = whole;
-      rising = rising_insert 65536 chunks k c n.region.rising n.sound.placed.low n.above n.below;
+      rising = rising_insert 65536 chunks k c n.region.rising n.chunk.placed.low n.above n.below;
       placed =
           subst (λ (l : ℕ). Each (λ (d : Chunk). IsPlaced d.base l d.length) (insert chunks k c)) (sym limit)
-          (each_insert (λ (d : Chunk). IsPlaced d.base (limit_of code.bytes) d.length) chunks k c
-          (subst (λ (l : ℕ). IsPlaced c.base (limit_of code.bytes) l) n.long n.sound.placed)
-          (each_take (λ (d : Chunk). IsPlaced d.base (limit_of code.bytes) d.length) k chunks n.region.placed)
-          (each_drop (λ (d : Chunk). IsPlaced d.base (limit_of code.bytes) d.length) k chunks n.region.placed));
+          (each_insert (λ (d : Chunk). IsPlaced d.base (limit_of marked.bytes) d.length) chunks k c
+          (subst (λ (l : ℕ). IsPlaced c.base (limit_of marked.bytes) l) n.long n.chunk.placed)
+          (each_take (λ (d : Chunk). IsPlaced d.base (limit_of marked.bytes) d.length) k chunks n.region.placed)
+          (each_drop (λ (d : Chunk). IsPlaced d.base (limit_of marked.bytes) d.length) k chunks n.region.placed));
       live =
-          each_insert (λ (d : Chunk). IsLive d.state → HoldsValid (with_chunk code c.base bytes marks) d) chunks k c
-          (λ x. holds_new code chunks k c bytes marks n)
-          (each_both (λ (d : Chunk). d.base + d.length ≤ c.base) (λ (d : Chunk). IsLive d.state → HoldsValid code d) (λ (d : Chunk). IsLive d.state → HoldsValid (with_chunk code c.base bytes marks) d)
-          (λ d apart holds x. holds_still code chunks k c bytes marks n d (inl apart) (holds x)) (take k chunks) n.above (each_take (λ (d : Chunk). IsLive d.state → HoldsValid code d) k chunks n.region.live))
-          (each_both (λ (d : Chunk). c.base + c.length ≤ d.base) (λ (d : Chunk). IsLive d.state → HoldsValid code d) (λ (d : Chunk). IsLive d.state → HoldsValid (with_chunk code c.base bytes marks) d)
-          (λ d apart holds x. holds_still code chunks k c bytes marks n d (inr apart) (holds x)) (drop k chunks) n.below (each_drop (λ (d : Chunk). IsLive d.state → HoldsValid code d) k chunks n.region.live));
+          each_insert (λ (d : Chunk). IsLive d.state → HoldsValid (with_chunk marked c.base bytes marks) d) chunks k c
+          (λ x. holds_new marked chunks k c bytes marks n)
+          (each_both (λ (d : Chunk). d.base + d.length ≤ c.base) (λ (d : Chunk). IsLive d.state → HoldsValid marked d) (λ (d : Chunk). IsLive d.state → HoldsValid (with_chunk marked c.base bytes marks) d)
+          (λ d apart holds x. holds_still marked chunks k c bytes marks n d (inl apart) (holds x)) (take k chunks) n.above (each_take (λ (d : Chunk). IsLive d.state → HoldsValid marked d) k chunks n.region.live))
+          (each_both (λ (d : Chunk). c.base + c.length ≤ d.base) (λ (d : Chunk). IsLive d.state → HoldsValid marked d) (λ (d : Chunk). IsLive d.state → HoldsValid (with_chunk marked c.base bytes marks) d)
+          (λ d apart holds x. holds_still marked chunks k c bytes marks n d (inr apart) (holds x)) (drop k chunks) n.below (each_drop (λ (d : Chunk). IsLive d.state → HoldsValid marked d) k chunks n.region.live));
       stops = λ at inside free.
           let f = each_but (λ (d : Chunk). IsLive d.state → IsInChunk d at → ⊥) chunks k c free in
           elim (place_of c.base c.length at) [
-            | Before l ↦ other_byte code chunks k c bytes marks at n inside.0 (inl l) ∙ n.region.stops at (inside.0, omega (arith, inside.1, limit)) f.1
+            | Before l ↦ other_byte marked chunks k c bytes marks at n inside.0 (inl l) ∙ n.region.stops at (inside.0, omega (arith, inside.1, limit)) f.1
             | Within a b ↦ absurd (f.0 live (a, b))
-            | Behind p ↦ other_byte code chunks k c bytes marks at n inside.0 (inr p) ∙ n.region.stops at (inside.0, omega (arith, inside.1, limit)) f.1
+            | Behind p ↦ other_byte marked chunks k c bytes marks at n inside.0 (inr p) ∙ n.region.stops at (inside.0, omega (arith, inside.1, limit)) f.1
           ];
-      bare = λ at inside free.
+      unused = λ at inside free.
           let f = each_but (λ (d : Chunk). IsInChunk d at → ⊥) chunks k c free in
           elim (place_of c.base c.length at) [
-            | Before l ↦ other_mark code chunks k c bytes marks at n inside.0 (inl l) ∙ n.region.bare at (inside.0, omega (arith, inside.1, limit)) f.1
+            | Before l ↦ other_mark marked chunks k c bytes marks at n inside.0 (inl l) ∙ n.region.unused at (inside.0, omega (arith, inside.1, limit)) f.1
             | Within a b ↦ absurd (f.0 (a, b))
-            | Behind p ↦ other_mark code chunks k c bytes marks at n inside.0 (inr p) ∙ n.region.bare at (inside.0, omega (arith, inside.1, limit)) f.1
+            | Behind p ↦ other_mark marked chunks k c bytes marks at n inside.0 (inr p) ∙ n.region.unused at (inside.0, omega (arith, inside.1, limit)) f.1
           ];
     }
 
--- a span that meets no chunk is bare
+-- a span that meets no chunk is unused
 free_if_apart : (chunks : List Chunk) (k base len at : ℕ) → IsAboveAll base (take k chunks) → IsBelowAll (base + len) (drop k chunks) → base ≤ at → at < base + len → Each (λ (d : Chunk). IsInChunk d at → ⊥) chunks
 free_if_apart chunks k base len at above below low high =
     subst (Each (λ (d : Chunk). IsInChunk d at → ⊥)) (take-append-drop k chunks)
@@ -148,25 +148,24 @@ free_if_apart chunks k base len at above below low high =
     (each_map (λ (d : Chunk). d.base + d.length ≤ base) (λ (d : Chunk). IsInChunk d at → ⊥) (λ d h inside. omega (arith, h, inside.1, low)) (take k chunks) above)
     (each_map (λ (d : Chunk). base + len ≤ d.base) (λ (d : Chunk). IsInChunk d at → ⊥) (λ d h inside. omega (arith, h, inside.0, high)) (drop k chunks) below))
 
-pub bare_if_apart : (code : Code) (chunks : List Chunk) (k base len : ℕ) → IsRegion code chunks → IsPlaced base (limit_of code.bytes) len → IsAboveAll base (take k chunks) → IsBelowAll (base + len) (drop k chunks) → IsBare code base len
-bare_if_apart code chunks k base len region placed above below =
+pub unused_if_apart : (marked : MarkedText) (chunks : List Chunk) (k base len : ℕ) → IsRegion marked chunks → IsPlaced base (limit_of marked.bytes) len → IsAboveAll base (take k chunks) → IsBelowAll (base + len) (drop k chunks) → IsUnused marked base len
+unused_if_apart marked chunks k base len region placed above below =
     record {
       stops = λ at a b.
           let free = free_if_apart chunks k base len at above below a b in
           region.stops at (omega (arith, a, placed.low), omega (arith, b, placed.high)) (each_map (λ (d : Chunk). IsInChunk d at → ⊥) (λ (d : Chunk). IsLive d.state → IsInChunk d at → ⊥) (λ d out live. out) chunks free);
-      bare = λ at a b. region.bare at (omega (arith, a, placed.low), omega (arith, b, placed.high)) (free_if_apart chunks k base len at above below a b);
+      unused = λ at a b. region.unused at (omega (arith, a, placed.low), omega (arith, b, placed.high)) (free_if_apart chunks k base len at above below a b);
     }
 
 -- a new text is a region without a chunk
-pub region_of_new : (code : Code) → IsNew code → IsRegion code []
-region_of_new code new =
-    let n : ℕ = 32 * new.0 in
-    subst (λ (c : Code). IsRegion c []) (sym new.3)
+pub region_of_new : (marked : MarkedText) → IsNew marked → IsRegion marked []
+region_of_new marked new =
+    subst (λ (c : MarkedText). IsRegion c []) (sym new.2)
     (record {
-      whole = new_is_text new.0 new.1 new.2;
+      whole = new_is_text new.0 new.1;
       rising = tt;
       placed = tt;
       live = tt;
-      stops = λ at inside free. get_or-replicate {A = ℕ} (32 * new.0) (at - 65536) 244 0 (omega (arith, inside.0, inside.1, length-replicate {A = ℕ} (32 * new.0) 244));
-      bare = λ at inside free. get_or-map-range_with_len bare_mark 65536 (32 * new.0) (at - 65536) at Unmarked (omega (arith, inside.0, inside.1, length-replicate {A = ℕ} (32 * new.0) 244)) (omega (arith, inside.0));
+      stops = λ at inside free. get_or-replicate {A = ℕ} (new.0 - 65536) (at - 65536) 244 0 (omega (arith, inside.0, inside.1, length-replicate {A = ℕ} (new.0 - 65536) 244));
+      unused = λ at inside free. get_or-map-range_with_len unused_mark 65536 (new.0 - 65536) (at - 65536) at Unmarked (omega (arith, inside.0, inside.1, length-replicate {A = ℕ} (new.0 - 65536) 244)) (omega (arith, inside.0));
     })

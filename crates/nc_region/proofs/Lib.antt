@@ -2,6 +2,7 @@ pub mod EachMember
 pub mod SpanPlaces
 pub mod Told
 pub mod Puts
+pub mod Alone
 pub mod Joining
 pub mod Creating
 pub mod Replacing
@@ -17,6 +18,13 @@ pub mod Offsets
 pub mod Sound
 pub mod Pieces
 pub mod Rising
+pub mod AgreesOutside
+pub mod QuietSpans
+pub mod Freeing
+pub mod Freed
+pub mod Due
+pub mod Deleting
+pub mod Deleted
 pub mod Inserting
 pub mod Windows
 pub mod Walking

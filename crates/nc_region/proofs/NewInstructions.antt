@@ -98,11 +98,13 @@ pub one_more : (bytes : List ℕ) (i : Instr) → first_instruction bytes ≡ So
 one_more bytes i is others =
     let f = (exact bytes i).0 is in
     let n = spells_some f.front i f.spells in
-    let behind : drop i.len bytes ≡ f.rest = ap (λ (k : ℕ). drop k bytes) n.0 ∙ (ap (λ (z : List ℕ). drop (length f.front) z) f.parts ∙ drop-append_seam f.front f.rest) in
-    ((record { bytes = f.front; instr = i }) ∷ others.0, record {
-      spelled = spelled_cons (record { bytes = f.front; instr = i }) others.0 f.spells others.1.spelled;
-      parts = f.parts ∙ ap (λ (z : List ℕ). f.front ++ z) (sym behind ∙ (sym (slice_rest bytes i.len) ∙ others.1.parts));
-    })
+    let behind : drop i.len bytes ≡ f.rest = ap (λ (k : ℕ). drop k bytes) n.0 ∙ (ap (λ (z : List ℕ). drop (length f.front) z) f.parts ∙ drop-append_seam f.front f.rest) in (
+      (record { bytes = f.front; instr = i }) ∷ others.0,
+      record {
+        spelled = spelled_cons (record { bytes = f.front; instr = i }) others.0 f.spells others.1.spelled;
+        parts = f.parts ∙ ap (λ (z : List ℕ). f.front ++ z) (sym behind ∙ (sym (slice_rest bytes i.len) ∙ others.1.parts));
+      },
+    )
 
 pub rest_are : (bytes : List ℕ) (i : Instr) → first_instruction bytes ≡ Some i → AreInstructions bytes → AreInstructions (take (length bytes - i.len) (drop i.len bytes))
 rest_are bytes i is all = let p = parted bytes all.0 i all.1 is in (p.rest, p.behind)

@@ -3,7 +3,7 @@ use Rattle.std.proofs.Common.{◌≡◌, ℕ, zero, suc, ◌+◌, ◌-◌, ◌<�
 use Rattle.std.proofs.lemmas.Bool.{cases_lt}
 use Rattle.nc_text.specs.Places.{limit_of, byte_at}
 use Rattle.nc_text.specs.Marks.{mark_at}
-use Rattle.nc_text.specs.Code.{Code, IsText, with_span}
+use Rattle.nc_text.specs.MarkedText.{MarkedText, IsText, with_span}
 use Rattle.nc_text.proofs.SpanElements.{length-with_span}
 use Rattle.nc_decode.specs.declared.instruction.Mark.{Mark}
 use Rattle.nc_region.specs.declared.chunk.Chunk.{Chunk}
@@ -11,15 +11,11 @@ use Rattle.nc_region.specs.Chunks.{IsPlaced}
 use Rattle.nc_region.specs.Each.{Each}
 use Rattle.nc_region.specs.Region.{IsLive, IsInChunk, HoldsValid, IsRegion}
 use Rattle.nc_region.specs.Patch.{IsHeldBy}
-use Rattle.nc_region.proofs.EachMember.{each_get}
+use Rattle.nc_region.proofs.EachMember.{each_get, each_from}
 use Rattle.nc_region.proofs.SpanPlaces.{span_before, span_behind}
 use Rattle.nc_region.proofs.Runs.{apart_by_index}
 
-pub each_from : {X : Type 0} (P : X → Type 0) (xs : List X) (d : X) → ((k : ℕ) → k < length xs → P (get_or xs k d)) → Each P xs
-each_from P [] d h = tt
-each_from P (x ∷ xs) d h = (h 0 (omega arith), each_from P xs d (λ k lt. h (suc k) (omega (arith, lt))))
-
-pub record Patches (old new : Code) (chunks : List Chunk) (c : Chunk) (at : ℕ) (bytes : List ℕ) : Type 0 where
+pub record Patches (old new : MarkedText) (chunks : List Chunk) (c : Chunk) (at : ℕ) (bytes : List ℕ) : Type 0 where
   pub region : IsRegion old chunks
   pub held : IsHeldBy chunks at c
   pub holds : HoldsValid new c
@@ -30,10 +26,10 @@ pub record Patches (old new : Code) (chunks : List Chunk) (c : Chunk) (at : ℕ)
   pub high : c.base + c.length ≤ 65536 + length old.bytes
   pub ends : at + length bytes ≤ c.base + c.length
 
-same_long : (old new : Code) (chunks : List Chunk) (c : Chunk) (at : ℕ) (bytes : List ℕ) → Patches old new chunks c at bytes → length new.bytes ≡ length old.bytes
+same_long : (old new : MarkedText) (chunks : List Chunk) (c : Chunk) (at : ℕ) (bytes : List ℕ) → Patches old new chunks c at bytes → length new.bytes ≡ length old.bytes
 same_long old new chunks c at bytes p = ap (λ (z : List ℕ). length z) p.bytes_are ∙ length-with_span old.bytes (at - 65536) bytes (omega (arith, p.low, p.high, p.ends, p.held.2.0))
 
-outside : (old new : Code) (chunks : List Chunk) (c : Chunk) (at : ℕ) (bytes : List ℕ) → Patches old new chunks c at bytes → (k : ℕ) → 65536 ≤ k → (k < c.base) ⊎ (c.base + c.length ≤ k) → byte_at new.bytes k ≡ byte_at old.bytes k
+outside : (old new : MarkedText) (chunks : List Chunk) (c : Chunk) (at : ℕ) (bytes : List ℕ) → Patches old new chunks c at bytes → (k : ℕ) → 65536 ≤ k → (k < c.base) ⊎ (c.base + c.length ≤ k) → byte_at new.bytes k ≡ byte_at old.bytes k
 outside old new chunks c at bytes p k low out =
     ap (λ (z : List ℕ). byte_at z k) p.bytes_are
     ∙ elim out [
@@ -41,7 +37,7 @@ outside old new chunks c at bytes p k low out =
       | inr b ↦ span_behind old.bytes at bytes k 0 (omega (arith, p.low, p.held.2.0)) (omega (arith, p.ends, p.high)) (omega (arith, b, p.ends))
     ]
 
-other_holds : (old new : Code) (chunks : List Chunk) (c : Chunk) (at : ℕ) (bytes : List ℕ) → Patches old new chunks c at bytes → (d : Chunk) → (d.base + d.length ≤ c.base) ⊎ (c.base + c.length ≤ d.base) → HoldsValid old d → HoldsValid new d
+other_holds : (old new : MarkedText) (chunks : List Chunk) (c : Chunk) (at : ℕ) (bytes : List ℕ) → Patches old new chunks c at bytes → (d : Chunk) → (d.base + d.length ≤ c.base) ⊎ (c.base + c.length ≤ d.base) → HoldsValid old d → HoldsValid new d
 other_holds old new chunks c at bytes p d apart h =
     let out : (k : ℕ) → IsInChunk d k → (k < c.base) ⊎ (c.base + c.length ≤ k) = λ k inside. elim apart [ inl l ↦ inl (omega (arith, l, inside.1)) | inr b ↦ inr (omega (arith, b, inside.0)) ] in
     let low : 65536 ≤ d.base = subst (λ (b : ℕ). 65536 ≤ b) h.base_is h.valid.base_is.1 in
@@ -55,7 +51,7 @@ other_holds old new chunks c at bytes p d apart h =
       marks_are = λ k inside. ap (λ (z : List Mark). mark_at z k) p.marks_are ∙ h.marks_are k inside;
     }
 
-pub region_patched : (old new : Code) (chunks : List Chunk) (c : Chunk) (at : ℕ) (bytes : List ℕ) → Patches old new chunks c at bytes → IsRegion new chunks
+pub region_patched : (old new : MarkedText) (chunks : List Chunk) (c : Chunk) (at : ℕ) (bytes : List ℕ) → Patches old new chunks c at bytes → IsRegion new chunks
 region_patched old new chunks c at bytes p =
     let i = p.held.0 in
     let long = same_long old new chunks c at bytes p in
@@ -78,5 +74,5 @@ region_patched old new chunks c at bytes p =
           let not : IsInChunk c k → ⊥ = subst (λ (x : Chunk). IsLive x.state → IsInChunk x k → ⊥) is (each_get (λ (d : Chunk). IsLive d.state → IsInChunk d k → ⊥) chunks p.held.0.0 c p.held.0.1 free) p.held.1 in
           let out : (k < c.base) ⊎ (c.base + c.length ≤ k) = ⊎_elim (λ (l : k < c.base). inl l) (λ (f : c.base ≤ k). ⊎_elim (λ (l : k < c.base + c.length). absurd (not (f, l))) (λ (b : c.base + c.length ≤ k). inr b) (cases_lt k (c.base + c.length))) (cases_lt k c.base) in
           outside old new chunks c at bytes p k inside.0 out ∙ p.region.stops k (inside.0, omega (arith, inside.1, long)) free;
-      bare = λ k inside free. ap (λ (z : List Mark). mark_at z k) p.marks_are ∙ p.region.bare k (inside.0, omega (arith, inside.1, long)) free;
+      unused = λ k inside free. ap (λ (z : List Mark). mark_at z k) p.marks_are ∙ p.region.unused k (inside.0, omega (arith, inside.1, long)) free;
     }

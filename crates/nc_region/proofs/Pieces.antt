@@ -11,14 +11,14 @@ use Rattle.nc_decode.specs.declared.instruction.Mark.TheVariants.{Unmarked, Plai
 use Rattle.nc_decode.specs.Transfers.{is_direct, is_indirect, target}
 use Rattle.nc_decode.proofs.FrontLaws.{exact, names_registers}
 use Rattle.nc_decode.proofs.Readings.{spells_some}
-use Rattle.nc_text.specs.Code.{NamesRegister}
+use Rattle.nc_text.specs.MarkedText.{NamesRegister}
 use Rattle.nc_vet.specs.Chunk.{Piece, code_of, place}
 use Rattle.nc_vet.specs.Chunk as vet
-use Rattle.nc_region.specs.Chunks.{IsPlaced, IsSound}
+use Rattle.nc_region.specs.Chunks.{IsPlaced, IsClosedChunk}
 use Rattle.nc_region.specs.Each.{Each}
 use Rattle.nc_region.proofs.EachMember.{each_append, each_replicate, each_get}
 use Rattle.nc_region.proofs.Instructions.{IsReading, NoneCrosses, FollowsMask, PairsHold, IsDirect, IsIndirect, BeginsAt, IsTarget, TargetsHold, IsValid, mark_by, marks_of}
-use Rattle.nc_region.proofs.Sound.{valid_is_sound}
+use Rattle.nc_region.proofs.Sound.{valid_is_closed}
 
 -- what the pieces say, without their bytes
 abbrev pub instrs : List Piece → List Instr
@@ -184,9 +184,9 @@ valid_of c v =
       targets = subst (λ (at : ℕ). TargetsHold (IsTarget c.base c.limit (length c.code) (instrs v.pieces)) at (instrs v.pieces)) none (targets_of c v [] v.pieces refl);
     }
 
-pub valid_chunk_is_sound : (c : vet.Chunk) → vet.IsValid c → IsSound c.base c.limit c.code c.marks
-valid_chunk_is_sound c v =
-    subst (λ (marks : List Mark). IsSound c.base c.limit c.code marks) (sym (v.marks_are ∙ same_marks v.pieces)) (valid_is_sound c.base c.limit c.code (instrs v.pieces) (valid_of c v))
+pub valid_chunk_is_closed : (c : vet.Chunk) → vet.IsValid c → IsClosedChunk c.base c.limit c.code c.marks
+valid_chunk_is_closed c v =
+    subst (λ (marks : List Mark). IsClosedChunk c.base c.limit c.code marks) (sym (v.marks_are ∙ same_marks v.pieces)) (valid_is_closed c.base c.limit c.code (instrs v.pieces) (valid_of c v))
 
 -- ---- registers
 

@@ -7,7 +7,7 @@ use Rattle.nc_decode.specs.declared.instruction.Mark.{Mark}
 use Rattle.nc_text.specs.Places.{limit_of, byte_at}
 use Rattle.nc_text.specs.Machine.{State}
 use Rattle.nc_text.specs.Marks.{IsMarked, IsClosed}
-use Rattle.nc_text.specs.Code.{Code, with_span}
+use Rattle.nc_text.specs.MarkedText.{MarkedText, with_span}
 use Rattle.nc_text.proofs.Closing.{closed_with_stops}
 use Rattle.nc_text.proofs.SpanElements.{length-with_span}
 use Rattle.nc_region.specs.Patch.{any_place}
@@ -16,9 +16,9 @@ use Rattle.nc_region.specs.PatchSteps.{IsReplacing, IsInterim}
 use Rattle.nc_region.proofs.Puts.{byte_at_other, byte_at_same}
 use Rattle.nc_region.proofs.SpanPlaces.{place_of, Before, Within, Behind, span_before, span_within, span_behind}
 
-pub patching_closed : (code : Code) (at : ℕ) (new now : List ℕ) → IsReplacing code at new → IsInterim (with_span code.bytes (at - 65536) new) now at (length new) → IsClosed now code.marks
-patching_closed code at new now patch p =
-    closed_with_stops (with_span code.bytes (at - 65536) new) now code.marks patch.closed p.as_long (λ s m.
+pub patching_closed : (marked : MarkedText) (at : ℕ) (new now : List ℕ) → IsReplacing marked at new → IsInterim (with_span marked.bytes (at - 65536) new) now at (length new) → IsClosed now marked.marks
+patching_closed marked at new now patch p =
+    closed_with_stops (with_span marked.bytes (at - 65536) new) now marked.marks patch.closed p.as_long (λ s m.
     elim (eqb_tells s.place at) [
       | inl here ↦ inl (ap (byte_at now) here.1 ∙ p.stop)
       | inr other ↦ inr (λ i is fits k lt.
@@ -28,17 +28,17 @@ patching_closed code at new now patch p =
           ])
     ])
 
-patch_long : (code : Code) (at : ℕ) (new : List ℕ) → IsReplacing code at new → length (with_span code.bytes (at - 65536) new) ≡ length code.bytes
-patch_long code at new patch = length-with_span code.bytes (at - 65536) new (omega (arith, patch.low, patch.high))
+patch_long : (marked : MarkedText) (at : ℕ) (new : List ℕ) → IsReplacing marked at new → length (with_span marked.bytes (at - 65536) new) ≡ length marked.bytes
+patch_long marked at new patch = length-with_span marked.bytes (at - 65536) new (omega (arith, patch.low, patch.high))
 
 -- with a stop at the start
-pub patch_started : (code : Code) (at : ℕ) (new : List ℕ) → IsReplacing code at new → IsInterim (with_span code.bytes (at - 65536) new) (set code.bytes (at - 65536) 244) at (length new)
-patch_started code at new patch =
+pub patch_started : (marked : MarkedText) (at : ℕ) (new : List ℕ) → IsReplacing marked at new → IsInterim (with_span marked.bytes (at - 65536) new) (set marked.bytes (at - 65536) 244) at (length new)
+patch_started marked at new patch =
     record {
-      as_long = length-set code.bytes (at - 65536) 244 ∙ sym (patch_long code at new patch);
-      stop = byte_at_same code.bytes at 244 patch.low (omega (arith, patch.high, patch.some));
-      before = λ k low lt. byte_at_other code.bytes at k 244 patch.low low (λ same. omega (arith, same, lt)) ∙ sym (span_before code.bytes at new k 0 patch.low (omega (arith, patch.high)) low lt);
-      behind = λ k past. byte_at_other code.bytes at k 244 patch.low (omega (arith, past, patch.low)) (λ same. omega (arith, same, past, patch.some)) ∙ sym (span_behind code.bytes at new k 0 patch.low (omega (arith, patch.high)) past);
+      as_long = length-set marked.bytes (at - 65536) 244 ∙ sym (patch_long marked at new patch);
+      stop = byte_at_same marked.bytes at 244 patch.low (omega (arith, patch.high, patch.some));
+      before = λ k low lt. byte_at_other marked.bytes at k 244 patch.low low (λ same. omega (arith, same, lt)) ∙ sym (span_before marked.bytes at new k 0 patch.low (omega (arith, patch.high)) low lt);
+      behind = λ k past. byte_at_other marked.bytes at k 244 patch.low (omega (arith, past, patch.low)) (λ same. omega (arith, same, past, patch.some)) ∙ sym (span_behind marked.bytes at new k 0 patch.low (omega (arith, patch.high)) past);
     }
 
 -- some of the further bytes put
@@ -52,9 +52,9 @@ patching_from_put old now at rest count len low le stop puts =
     }
 
 -- what goes on from the text with the stop
-pub patching_over : (code : Code) (at : ℕ) (new now : List ℕ) (len : ℕ) → len ≡ length new → IsReplacing code at new → IsInterim (set code.bytes (at - 65536) 244) now at len → IsInterim (with_span code.bytes (at - 65536) new) now at (length new)
-patching_over code at new now len is patch p =
-    let s = patch_started code at new patch in
+pub patching_over : (marked : MarkedText) (at : ℕ) (new now : List ℕ) (len : ℕ) → len ≡ length new → IsReplacing marked at new → IsInterim (set marked.bytes (at - 65536) 244) now at len → IsInterim (with_span marked.bytes (at - 65536) new) now at (length new)
+patching_over marked at new now len is patch p =
+    let s = patch_started marked at new patch in
     record {
       as_long = p.as_long ∙ s.as_long;
       stop = p.stop;
@@ -63,37 +63,37 @@ patching_over code at new now len is patch p =
     }
 
 -- with all bytes put it is the final text
-pub patch_final : (code : Code) (at first : ℕ) (rest now : List ℕ) → IsReplacing code at (first ∷ rest) → HasPut any_place (at + 1) rest (length rest) (set code.bytes (at - 65536) 244) now → set now (at - 65536) first ≡ with_span code.bytes (at - 65536) (first ∷ rest)
-patch_final code at first rest now patch puts =
-    let fits : at + length (first ∷ rest) ≤ 65536 + length code.bytes = patch.high in
-    let long : length now ≡ length code.bytes = puts.as_long ∙ length-set code.bytes (at - 65536) 244 in
-    ext_get_or 0 (set now (at - 65536) first) (with_span code.bytes (at - 65536) (first ∷ rest)) (length-set now (at - 65536) first ∙ (long ∙ sym (patch_long code at (first ∷ rest) patch))) (λ j lt.
+pub patch_final : (marked : MarkedText) (at first : ℕ) (rest now : List ℕ) → IsReplacing marked at (first ∷ rest) → HasPut any_place (at + 1) rest (length rest) (set marked.bytes (at - 65536) 244) now → set now (at - 65536) first ≡ with_span marked.bytes (at - 65536) (first ∷ rest)
+patch_final marked at first rest now patch puts =
+    let fits : at + length (first ∷ rest) ≤ 65536 + length marked.bytes = patch.high in
+    let long : length now ≡ length marked.bytes = puts.as_long ∙ length-set marked.bytes (at - 65536) 244 in
+    ext_get_or 0 (set now (at - 65536) first) (with_span marked.bytes (at - 65536) (first ∷ rest)) (length-set now (at - 65536) first ∙ (long ∙ sym (patch_long marked at (first ∷ rest) patch))) (λ j lt.
     let e : 65536 + j - 65536 ≡ j = omega arith in
-    subst (λ (n : ℕ). get_or (set now (at - 65536) first) n 0 ≡ get_or (with_span code.bytes (at - 65536) (first ∷ rest)) n 0) e
+    subst (λ (n : ℕ). get_or (set now (at - 65536) first) n 0 ≡ get_or (with_span marked.bytes (at - 65536) (first ∷ rest)) n 0) e
     (elim (place_of at (suc (length rest)) (65536 + j)) [
       | Before l ↦
           byte_at_other now at (65536 + j) first patch.low (omega arith) (λ same. omega (arith, same, l))
           ∙ (puts.below (65536 + j) (omega arith) (omega (arith, l))
-          ∙ (byte_at_other code.bytes at (65536 + j) 244 patch.low (omega arith) (λ same. omega (arith, same, l))
-          ∙ sym (span_before code.bytes at (first ∷ rest) (65536 + j) 0 patch.low fits (omega arith) l)))
+          ∙ (byte_at_other marked.bytes at (65536 + j) 244 patch.low (omega arith) (λ same. omega (arith, same, l))
+          ∙ sym (span_before marked.bytes at (first ∷ rest) (65536 + j) 0 patch.low fits (omega arith) l)))
       | Within a b ↦
           elim (eqb_tells (65536 + j) at) [
             | inl here ↦
                 let z : at - at ≡ 0 = omega arith in
-                subst (λ (n : ℕ). byte_at (set now (at - 65536) first) n ≡ byte_at (with_span code.bytes (at - 65536) (first ∷ rest)) n) (sym here.1)
+                subst (λ (n : ℕ). byte_at (set now (at - 65536) first) n ≡ byte_at (with_span marked.bytes (at - 65536) (first ∷ rest)) n) (sym here.1)
                 (byte_at_same now at first patch.low (omega (arith, long, fits))
-                ∙ sym (span_within code.bytes at (first ∷ rest) at 0 patch.low fits (omega arith) (omega arith) ∙ ap (λ (n : ℕ). get_or (first ∷ rest) n 0) z))
+                ∙ sym (span_within marked.bytes at (first ∷ rest) at 0 patch.low fits (omega arith) (omega arith) ∙ ap (λ (n : ℕ). get_or (first ∷ rest) n 0) z))
             | inr later ↦
                 let z : 65536 + j - at ≡ suc (65536 + j - (at + 1)) = omega (arith, later.1, a) in
                 byte_at_other now at (65536 + j) first patch.low (omega arith) later.1
                 ∙ (puts.put (65536 + j) (omega (arith, later.1, a)) (omega (arith, b)) refl
-                ∙ sym (span_within code.bytes at (first ∷ rest) (65536 + j) 0 patch.low fits a b ∙ ap (λ (n : ℕ). get_or (first ∷ rest) n 0) z))
+                ∙ sym (span_within marked.bytes at (first ∷ rest) (65536 + j) 0 patch.low fits a b ∙ ap (λ (n : ℕ). get_or (first ∷ rest) n 0) z))
           ]
       | Behind p ↦
           byte_at_other now at (65536 + j) first patch.low (omega arith) (λ same. omega (arith, same, p))
           ∙ (puts.above (65536 + j) (omega (arith, p))
-          ∙ (byte_at_other code.bytes at (65536 + j) 244 patch.low (omega arith) (λ same. omega (arith, same, p))
-          ∙ sym (span_behind code.bytes at (first ∷ rest) (65536 + j) 0 patch.low fits p)))
+          ∙ (byte_at_other marked.bytes at (65536 + j) 244 patch.low (omega arith) (λ same. omega (arith, same, p))
+          ∙ sym (span_behind marked.bytes at (first ∷ rest) (65536 + j) 0 patch.low fits p)))
     ]))
 
 -- one byte put is a span of one

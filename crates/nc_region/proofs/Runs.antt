@@ -7,23 +7,26 @@ use Rattle.nc_decode.specs.declared.instruction.Mark.TheVariants.{Unmarked, Plai
 use Rattle.nc_decode.specs.Transfers.{is_indirect}
 use Rattle.nc_vet.specs.Chunk.{Piece, place, marks_of, mark_of}
 use Rattle.nc_vet.proofs.Pieces.{length-marks_of}
-use Rattle.nc_vet.proofs.MarkedPlaces.{marked}
+use Rattle.nc_vet.proofs.MarkedPlaces as places
 use Rattle.nc_text.specs.Marks.{mark_at}
-use Rattle.nc_text.specs.Code.{Code, IsText}
+use Rattle.nc_text.specs.MarkedText.{MarkedText, IsText}
 use Rattle.nc_region.specs.declared.chunk.Chunk.{Chunk}
 use Rattle.nc_region.specs.Region.{IsInChunk, IsRising, HoldsValid}
-use Rattle.nc_region.specs.Patch.{IsHeldBy, AreBytesOf, lengths, IsRun, IsHalf, AreNoHalves, AreNotIndirect}
+use Rattle.nc_region.specs.Patch.{IsHeldBy, IsHeld, AreBytesOf, lengths, IsRun, IsHalf, AreNoHalves, AreNotIndirect}
 use Rattle.nc_region.specs.PatchSteps.{Begins, Along, RunsAlong, NoneFirst, NoneIndirect}
 use Rattle.nc_region.proofs.Standing.{all_long, standing}
 use Rattle.nc_region.proofs.Turns.{no_half}
+use Rattle.nc_region.specs.Each.{Each}
+use Rattle.nc_region.specs.Deletion.{HasLive}
+use Rattle.nc_region.proofs.EachMember.{each_get}
 use Rattle.nc_region.proofs.Rising.{rises_get}
 
 -- where a place of the chunk is marked, an instruction begins
-pub begins_marked : (code : Code) (c : Chunk) (at : ℕ) → HoldsValid code c → IsInChunk c at → (mark_at code.marks at ≡ Unmarked → ⊥) → Begins code c at
-begins_marked code c at h inside some =
-    let marks_long : length (marks_of h.valid.pieces) ≡ c.length = length-marks_of h.valid.pieces h.valid.sound.spelled ∙ all_long code c h in
-    let there : mark_at code.marks at ≡ get_or (marks_of h.valid.pieces) (at - c.base) Unmarked = h.marks_are at inside ∙ ap (λ (z : List Mark). get_or z (at - c.base) Unmarked) h.valid.marks_are in
-    let found = marked h.valid.pieces h.valid.sound.spelled (at - c.base) (mark_at code.marks at) (omega (arith, marks_long, inside.0, inside.1)) (sym there) some in
+pub begins_marked : (marked : MarkedText) (c : Chunk) (at : ℕ) → HoldsValid marked c → IsInChunk c at → (mark_at marked.marks at ≡ Unmarked → ⊥) → Begins marked c at
+begins_marked marked c at h inside some =
+    let marks_long : length (marks_of h.valid.pieces) ≡ c.length = length-marks_of h.valid.pieces h.valid.sound.spelled ∙ all_long marked c h in
+    let there : mark_at marked.marks at ≡ get_or (marks_of h.valid.pieces) (at - c.base) Unmarked = h.marks_are at inside ∙ ap (λ (z : List Mark). get_or z (at - c.base) Unmarked) h.valid.marks_are in
+    let found = places.marked h.valid.pieces h.valid.sound.spelled (at - c.base) (mark_at marked.marks at) (omega (arith, marks_long, inside.0, inside.1)) (sym there) some in
     record { holds = h; before = found.before; rest = found.piece ∷ found.after; parts = found.parts; here = omega (arith, found.here, inside.0) }
 
 -- instructions that run along parted from those behind them
@@ -46,17 +49,17 @@ joined [] after (n ∷ news) e = absurd cc
 joined (p ∷ old) after (n ∷ news) e = (cc, (let tail : lengths old ≡ lengths news = cc in joined old after news tail))
 
 -- what runs along is a run
-pub run_of : (code : Code) (c : Chunk) (at : ℕ) (new : List ℕ) (b : Begins code c at) (news : List Piece) → AreBytesOf new news → RunsAlong b.rest news → IsRun code c at new
-run_of code c at new b news bytes runs =
+pub run_of : (marked : MarkedText) (c : Chunk) (at : ℕ) (new : List ℕ) (b : Begins marked c at) (news : List Piece) → AreBytesOf new news → RunsAlong b.rest news → IsRun marked c at new
+run_of marked c at new b news bytes runs =
     let k = cut b.rest news runs in
     record { holds = b.holds; before = b.before; old = k.old; after = k.after; parts = b.parts ∙ ap (λ (z : List Piece). b.before ++ z) k.parts; here = b.here; news = news; bytes = bytes; as_long = k.as_long }
 
 -- and a run runs along
-abbrev pub run_begins : (code : Code) (c : Chunk) (at : ℕ) (new : List ℕ) → IsRun code c at new → Begins code c at
-run_begins code c at new r = record { holds = r.holds; before = r.before; rest = r.old ++ r.after; parts = r.parts; here = r.here }
+abbrev pub run_begins : (marked : MarkedText) (c : Chunk) (at : ℕ) (new : List ℕ) → IsRun marked c at new → Begins marked c at
+run_begins marked c at new r = record { holds = r.holds; before = r.before; rest = r.old ++ r.after; parts = r.parts; here = r.here }
 
-abbrev pub run_along : (code : Code) (c : Chunk) (at : ℕ) (new : List ℕ) → IsRun code c at new → Along code c at new
-run_along code c at new r = record {
+abbrev pub run_along : (marked : MarkedText) (c : Chunk) (at : ℕ) (new : List ℕ) → IsRun marked c at new → Along marked c at new
+run_along marked c at new r = record {
   begins = record { holds = r.holds; before = r.before; rest = r.old ++ r.after; parts = r.parts; here = r.here };
   news = r.news;
   bytes = r.bytes;
@@ -68,10 +71,10 @@ some_mark true r e = cc
 some_mark false r e = cc
 
 -- where a run begins, a mark stands
-pub run_marked : (code : Code) (c : Chunk) (at : ℕ) (new : List ℕ) → IsText code → IsInChunk c at → IsRun code c at new → mark_at code.marks at ≡ Unmarked → ⊥
-run_marked code c at new t inside r e =
-    let b = run_begins code c at new r in
-    let s = standing code c at t b inside.1 in
+pub run_marked : (marked : MarkedText) (c : Chunk) (at : ℕ) (new : List ℕ) → IsText marked → IsInChunk c at → IsRun marked c at new → mark_at marked.marks at ≡ Unmarked → ⊥
+run_marked marked c at new t inside r e =
+    let b = run_begins marked c at new r in
+    let s = standing marked c at t b inside.1 in
     some_mark (is_indirect s.piece.instr.flow) s.piece.instr.reg (sym s.mark ∙ e)
 
 -- ---- no half is replaced and no indirect transfer comes, where none is found on the way
@@ -126,6 +129,30 @@ held_same chunks at c d rising a b =
     (λ (ge : a.0.0 ≤ b.0.0). (let same : b.0.0 ≡ a.0.0 = omega (arith, le, ge) in sym is_d ∙ (ap (λ (k : ℕ). get_or chunks k c) same ∙ is_c)))
     (cases_lt b.0.0 a.0.0))
     (cases_lt a.0.0 b.0.0)
+
+-- a live chunk that holds a place is the last of those whose base is at most the place
+pub held_last : (chunks : List Chunk) (k at : ℕ) (d : Chunk) → IsRising 65536 chunks → k ≤ length chunks
+    → ((i : ℕ) (e : Chunk) → i < k → (get_or chunks i e).base ≤ at)
+    → ((i : ℕ) (e : Chunk) → k ≤ i → i < length chunks → at < (get_or chunks i e).base)
+    → (h : IsHeld chunks at) → (0 < k) × (get_or chunks (k - 1) d ≡ h.0)
+held_last chunks k at d rising inside below above h =
+    let c : Chunk = h.0 in
+    let is_c : get_or chunks h.1.0.0 c ≡ c = h.1.0.2 in
+    let lt : h.1.0.0 < k = ⊎_elim (λ (lt : h.1.0.0 < k). lt) (λ (past : k ≤ h.1.0.0). absurd (omega (arith, above h.1.0.0 c past h.1.0.1, ap (λ (x : Chunk). x.base) is_c, h.1.2.0))) (cases_lt h.1.0.0 k) in (
+      omega (arith, lt),
+      ⊎_elim
+          (λ (early : h.1.0.0 < k - 1). absurd (omega (arith, apart_by_index 65536 chunks c rising h.1.0.0 (k - 1) early (omega (arith, inside, lt)), below (k - 1) c (omega (arith, lt)), ap (λ (x : Chunk). x.base + x.length) is_c, h.1.2.1)))
+          (λ (late : k - 1 ≤ h.1.0.0). (let same : k - 1 ≡ h.1.0.0 = omega (arith, late, lt) in ap (λ (j : ℕ). get_or chunks j d) same ∙ (get_or_default chunks h.1.0.0 d c h.1.0.1 ∙ is_c)))
+          (cases_lt h.1.0.0 (k - 1)),
+    )
+
+-- a live chunk holds its base
+abbrev pub live_is_held : (chunks : List Chunk) (base : ℕ) → Each (λ (d : Chunk). 0 < d.length) chunks → HasLive chunks base → IsHeld chunks base
+live_is_held chunks base some h =
+    let c : Chunk = h.0 in
+    let is_c : get_or chunks h.1.0 c ≡ c = h.1.2 in
+    let long = each_get (λ (d : Chunk). 0 < d.length) chunks h.1.0 c h.1.1 some in
+    (h.0, (h.1, h.2, (omega (arith, h.3), omega (arith, h.3, long, ap (λ (x : Chunk). x.length) is_c))))
 
 pub pairs_back : (old after news : List Piece) (new : List ℕ) → AreBytesOf new news → 0 < length new → lengths old ≡ lengths news → AreNoHalves old after → AreNotIndirect news → NoneIndirect (old ++ after) news
 pairs_back old after [] new b some e halves fresh = absurd (omega (arith, some, ap (λ (z : List ℕ). length z) b.parts))

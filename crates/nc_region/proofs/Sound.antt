@@ -15,14 +15,14 @@ use Rattle.nc_text.specs.Machine.{State, state, LeadsBy, IsSafe, IsMaskedFor}
 use Rattle.nc_decode.specs.Transfers.{target}
 use Rattle.nc_decode.specs.Bundles.{IsInOneBundle}
 use Rattle.nc_text.specs.Marks.{IsMarked, mark_at, Admits}
-use Rattle.nc_text.specs.Code.{with_span, bare_mark, bare_marks}
+use Rattle.nc_text.specs.MarkedText.{with_span, unused_mark, unused_marks}
 use Rattle.nc_text.proofs.Closing.{safe_if_executes, executes_stop, no_step_from_stop, leads_of}
 use Rattle.nc_text.proofs.Fresh.{marked_within}
 use Rattle.nc_text.proofs.SpanElements.{length-with_span}
-use Rattle.nc_region.specs.Chunks.{IsSound}
+use Rattle.nc_region.specs.Chunks.{IsClosedChunk}
 use Rattle.nc_region.proofs.Instructions.{IsValid, IsReading, NoneCrosses, FollowsMask, PairsHold, IsDirect, IsIndirect, BeginsAt, IsTarget, mark_by, marks_of}
 use Rattle.nc_region.proofs.Offsets.{Stands, stands_at, marks_long, marks_behind}
-use Rattle.nc_region.proofs.SpanPlaces.{place_of, Before, Within, Behind, span_before, span_within, span_behind, bare_at_start}
+use Rattle.nc_region.proofs.SpanPlaces.{place_of, Before, Within, Behind, span_before, span_within, span_behind, unused_at_start}
 
 -- an instruction of the chunk stands in the text with the chunk
 instruction_in : (text code : List ℕ) (base k : ℕ) (i : Instr) → 65536 ≤ base → base + length code ≤ 65536 + length text → first_instruction (drop k code) ≡ Some i → k + i.len ≤ length code → instruction_at (with_span text (base - 65536) code) (base + k) ≡ Some i
@@ -94,13 +94,13 @@ abbrev text_of : ℕ → ℕ → List ℕ → List ℕ
 text_of base limit code = with_span (replicate (limit - 65536) 244) (base - 65536) code
 
 abbrev alone_marks : ℕ → ℕ → List Instr → List Mark
-alone_marks base limit chunk = with_span (bare_marks 65536 (limit - 65536)) (base - 65536) (marks_of chunk)
+alone_marks base limit chunk = with_span (unused_marks 65536 (limit - 65536)) (base - 65536) (marks_of chunk)
 
 fits_text : (base limit : ℕ) (code : List ℕ) (chunk : List Instr) → IsValid base limit code chunk → base + length code ≤ 65536 + length (replicate {A = ℕ} (limit - 65536) 244)
 fits_text base limit code chunk v = omega (arith, v.placed.high, length-replicate {A = ℕ} (limit - 65536) 244)
 
-fits_marks : (base limit : ℕ) (code : List ℕ) (chunk : List Instr) → IsValid base limit code chunk → base + length (marks_of chunk) ≤ 65536 + length (bare_marks 65536 (limit - 65536))
-fits_marks base limit code chunk v = omega (arith, v.placed.high, marks_long chunk code v.reading, length-map-range_with_len bare_mark 65536 (limit - 65536))
+fits_marks : (base limit : ℕ) (code : List ℕ) (chunk : List Instr) → IsValid base limit code chunk → base + length (marks_of chunk) ≤ 65536 + length (unused_marks 65536 (limit - 65536))
+fits_marks base limit code chunk v = omega (arith, v.placed.high, marks_long chunk code v.reading, length-map-range_with_len unused_mark 65536 (limit - 65536))
 
 text_long : (base limit : ℕ) (code : List ℕ) (chunk : List Instr) → IsValid base limit code chunk → limit_of (text_of base limit code) ≡ limit
 text_long base limit code chunk v =
@@ -108,19 +108,19 @@ text_long base limit code chunk v =
 
 marks_all_long : (base limit : ℕ) (code : List ℕ) (chunk : List Instr) → IsValid base limit code chunk → 65536 + length (alone_marks base limit chunk) ≡ limit
 marks_all_long base limit code chunk v =
-    omega (arith, v.placed.high, v.placed.low, length-with_span (bare_marks 65536 (limit - 65536)) (base - 65536) (marks_of chunk) (omega (arith, fits_marks base limit code chunk v, v.placed.low)), length-map-range_with_len bare_mark 65536 (limit - 65536))
+    omega (arith, v.placed.high, v.placed.low, length-with_span (unused_marks 65536 (limit - 65536)) (base - 65536) (marks_of chunk) (omega (arith, fits_marks base limit code chunk v, v.placed.low)), length-map-range_with_len unused_mark 65536 (limit - 65536))
 
 within_mark : (base limit : ℕ) (code : List ℕ) (chunk : List Instr) (at : ℕ) → IsValid base limit code chunk → base ≤ at → at < base + length code → mark_at (alone_marks base limit chunk) at ≡ get_or (marks_of chunk) (at - base) Unmarked
 within_mark base limit code chunk at v a b =
-    span_within (bare_marks 65536 (limit - 65536)) base (marks_of chunk) at Unmarked v.placed.low (fits_marks base limit code chunk v) a (omega (arith, b, marks_long chunk code v.reading))
+    span_within (unused_marks 65536 (limit - 65536)) base (marks_of chunk) at Unmarked v.placed.low (fits_marks base limit code chunk v) a (omega (arith, b, marks_long chunk code v.reading))
 
--- outside the chunk: bare, and stops
-outside_mark : (base limit : ℕ) (code : List ℕ) (chunk : List Instr) (at : ℕ) → IsValid base limit code chunk → 65536 ≤ at → at < limit → (at < base) ⊎ (base + length code ≤ at) → mark_at (alone_marks base limit chunk) at ≡ bare_mark at
+-- outside the chunk: unused, and stops
+outside_mark : (base limit : ℕ) (code : List ℕ) (chunk : List Instr) (at : ℕ) → IsValid base limit code chunk → 65536 ≤ at → at < limit → (at < base) ⊎ (base + length code ≤ at) → mark_at (alone_marks base limit chunk) at ≡ unused_mark at
 outside_mark base limit code chunk at v low high out =
-    let bare = get_or-map-range_with_len bare_mark 65536 (limit - 65536) (at - 65536) at Unmarked (omega arith) (omega arith) in
+    let unused = get_or-map-range_with_len unused_mark 65536 (limit - 65536) (at - 65536) at Unmarked (omega arith) (omega arith) in
     elim out [
-      | inl l ↦ span_before (bare_marks 65536 (limit - 65536)) base (marks_of chunk) at Unmarked v.placed.low (fits_marks base limit code chunk v) low l ∙ bare
-      | inr p ↦ span_behind (bare_marks 65536 (limit - 65536)) base (marks_of chunk) at Unmarked v.placed.low (fits_marks base limit code chunk v) (omega (arith, p, marks_long chunk code v.reading)) ∙ bare
+      | inl l ↦ span_before (unused_marks 65536 (limit - 65536)) base (marks_of chunk) at Unmarked v.placed.low (fits_marks base limit code chunk v) low l ∙ unused
+      | inr p ↦ span_behind (unused_marks 65536 (limit - 65536)) base (marks_of chunk) at Unmarked v.placed.low (fits_marks base limit code chunk v) (omega (arith, p, marks_long chunk code v.reading)) ∙ unused
     ]
 
 outside_byte : (base limit : ℕ) (code : List ℕ) (chunk : List Instr) (at : ℕ) → IsValid base limit code chunk → 65536 ≤ at → at < limit → (at < base) ⊎ (base + length code ≤ at) → byte_at (text_of base limit code) at ≡ 244
@@ -134,11 +134,11 @@ outside_byte base limit code chunk at v low high out =
 alone_start : (base limit : ℕ) (code : List ℕ) (chunk : List Instr) (at : ℕ) → IsValid base limit code chunk → 65536 ≤ at → at < limit → at % 32 ≡ 0 → mark_at (alone_marks base limit chunk) at ≡ Plain
 alone_start base limit code chunk at v low high start =
     elim (place_of base (length code) at) [
-      | Before l ↦ outside_mark base limit code chunk at v low high (inl l) ∙ bare_at_start at start
+      | Before l ↦ outside_mark base limit code chunk at v low high (inl l) ∙ unused_at_start at start
       | Within a b ↦
           let e : base + (at - base) ≡ at = omega (arith, a) in
           within_mark base limit code chunk at v a b ∙ starts_plain chunk base None code v.reading v.crossing v.pairs (at - base) (omega (arith, a, b)) (ap (λ (n : ℕ). n % 32) e ∙ start)
-      | Behind p ↦ outside_mark base limit code chunk at v low high (inr p) ∙ bare_at_start at start
+      | Behind p ↦ outside_mark base limit code chunk at v low high (inr p) ∙ unused_at_start at start
     ]
 
 plain_marked : (marks : List Mark) (now : State) → 65536 ≤ now.place → mark_at marks now.place ≡ Plain → IsMarked marks now
@@ -194,12 +194,12 @@ leads_land base limit code chunk k masked v s next Call is leads = subst (IsLand
 leads_land base limit code chunk k masked v s next IndirectJump is leads =
     elim leads [
       | inl to ↦ start_lands base limit code chunk next v to.2 to.1
-      | inr bare ↦ absurd (bare (subst (λ (flow : Flow). IsMaskedFor flow s.i.reg masked) is s.may))
+      | inr unused ↦ absurd (unused (subst (λ (flow : Flow). IsMaskedFor flow s.i.reg masked) is s.may))
     ]
 leads_land base limit code chunk k masked v s next IndirectCall is leads =
     elim leads [
       | inl to ↦ start_lands base limit code chunk next v to.2 to.1
-      | inr bare ↦ absurd (bare (subst (λ (flow : Flow). IsMaskedFor flow s.i.reg masked) is s.may))
+      | inr unused ↦ absurd (unused (subst (λ (flow : Flow). IsMaskedFor flow s.i.reg masked) is s.may))
     ]
 leads_land base limit code chunk k masked v s next Stop is leads = absurd leads
 
@@ -219,8 +219,8 @@ instruction_here base limit code chunk now v a b m =
 marked_inside : (base limit : ℕ) (code : List ℕ) (chunk : List Instr) (now : State) → IsValid base limit code chunk → IsMarked (alone_marks base limit chunk) now → InRegion (text_of base limit code) now.place
 marked_inside base limit code chunk now v m = (m.0, omega (arith, marked_within (alone_marks base limit chunk) now m, marks_all_long base limit code chunk v, text_long base limit code chunk v))
 
-pub valid_is_sound : (base limit : ℕ) (code : List ℕ) (chunk : List Instr) → IsValid base limit code chunk → IsSound base limit code (marks_of chunk)
-valid_is_sound base limit code chunk v =
+pub valid_is_closed : (base limit : ℕ) (code : List ℕ) (chunk : List Instr) → IsValid base limit code chunk → IsClosedChunk base limit code (marks_of chunk)
+valid_is_closed base limit code chunk v =
     record {
       placed = v.placed;
       as_long = marks_long chunk code v.reading;

@@ -6,7 +6,7 @@ use Rattle.nc_decode.specs.declared.instruction.Mark.TheVariants.{Unmarked, Plai
 use Rattle.nc_decode.specs.Bundles.{IsBundleStart}
 use Rattle.nc_decode.specs.Bundles.{IsInOneBundle}
 use Rattle.nc_text.specs.Marks.{Admits}
-use Rattle.nc_text.specs.Code.{with_span, bare_mark}
+use Rattle.nc_text.specs.MarkedText.{with_span, unused_mark}
 use Rattle.nc_text.proofs.SpanElements.{get_or-with_span_in, get_or-with_span_below, get_or-with_span_above}
 use Rattle.nc_region.specs.Acts.{is_start, is_inside}
 
@@ -26,9 +26,9 @@ plain_if_admitted : (b : Bool) (masked : Option ℕ) → Admits (cond b Plain Un
 plain_if_admitted true masked m = refl
 plain_if_admitted false masked m = absurd m
 
--- a bare mark stands for states at bundle starts alone
-pub bare_is_start : (at : ℕ) (masked : Option ℕ) → Admits (bare_mark at) masked → IsBundleStart at
-bare_is_start at masked m = eqb-true (at % 32) 0 (plain_if_admitted (eqb (at % 32) 0) masked m)
+-- an unused mark stands for states at bundle starts alone
+pub unused_is_start : (at : ℕ) (masked : Option ℕ) → Admits (unused_mark at) masked → IsBundleStart at
+unused_is_start at masked m = eqb-true (at % 32) 0 (plain_if_admitted (eqb (at % 32) 0) masked m)
 
 -- the two tests of a place, by what it is
 pub is_start_true : (at : ℕ) → IsBundleStart at → is_start at ≡ true
@@ -40,9 +40,9 @@ is_inside_false at start = grind (arith, nat_tests)
 pub is_inside_true : (at : ℕ) → at % 32 ≢ 0 → is_inside at ≡ true
 is_inside_true at not = grind (arith, nat_tests)
 
--- a bare mark at a bundle start is plain
-pub bare_at_start : (at : ℕ) → IsBundleStart at → bare_mark at ≡ Plain
-bare_at_start at start = grind (arith, nat_tests)
+-- an unused mark at a bundle start is plain
+pub unused_at_start : (at : ℕ) → IsBundleStart at → unused_mark at ≡ Plain
+unused_at_start at start = grind (arith, nat_tests)
 
 -- an element of a list with a span set, by addresses
 pub span_within : {X : Type 0} (xs : List X) (base : ℕ) (ys : List X) (at : ℕ) (d : X) → 65536 ≤ base → base + length ys ≤ 65536 + length xs → base ≤ at → at < base + length ys → get_or (with_span xs (base - 65536) ys) (at - 65536) d ≡ get_or ys (at - base) d

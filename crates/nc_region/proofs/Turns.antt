@@ -6,7 +6,7 @@ use Rattle.nc_decode.specs.Transfers.{is_direct, is_indirect, target}
 use Rattle.nc_vet.specs.Chunk.{Piece, place, IsTarget}
 use Rattle.nc_vet.proofs.Pieces.{place-push}
 use Rattle.nc_text.specs.Places.{limit_of, byte_at}
-use Rattle.nc_text.specs.Code.{Code, IsText, with_span}
+use Rattle.nc_text.specs.MarkedText.{MarkedText, IsText, with_span}
 use Rattle.nc_text.proofs.SpanElements.{length-with_span}
 use Rattle.nc_region.specs.declared.acts.Act.{Act}
 use Rattle.nc_region.specs.declared.chunk.Chunk.{Chunk}
@@ -36,21 +36,21 @@ well_map P Q f at [] w = tt
 well_map P Q f at (n ∷ ns) w = (λ d. f (target n.instr at) (w.0 d), well_map P Q f (at + length n.bytes) ns w.1)
 
 -- the first instruction of a patch, and the one that it replaces
-pub record Turn (code : Code) (c : Chunk) (at : ℕ) (new : List ℕ) (patch : CanPatch code c at new) (n : Piece) (ns : List Piece) : Type 0 where
+pub record Turn (marked : MarkedText) (c : Chunk) (at : ℕ) (new : List ℕ) (patch : CanPatch marked c at new) (n : Piece) (ns : List Piece) : Type 0 where
   pub o : Piece
   pub os : List Piece
   pub old : patch.run.old ≡ o ∷ os
-  pub change : Changes code c at patch.run.before (os ++ patch.run.after) o n
+  pub change : Changes marked c at patch.run.before (os ++ patch.run.after) o n
   pub lens : lengths os ≡ lengths ns
   pub halves : AreNoHalves os patch.run.after
   pub fresh : AreNotIndirect ns
-  pub well : GoWell (IsTarget c.base (limit_of code.bytes) patch.run.holds.valid.pieces) (at + length n.bytes) ns
+  pub well : GoWell (IsTarget c.base (limit_of marked.bytes) patch.run.holds.valid.pieces) (at + length n.bytes) ns
   pub parts : patch.run.holds.valid.pieces ≡ patch.run.before ++ o ∷ (os ++ patch.run.after)
 
-pub turn : (code : Code) (c : Chunk) (at : ℕ) (new : List ℕ) (patch : CanPatch code c at new) (n : Piece) (ns : List Piece) → IsText code → patch.run.news ≡ n ∷ ns → Turn code c at new patch n ns
-turn code c at new patch n ns t is = go patch.run.old refl
+pub turn : (marked : MarkedText) (c : Chunk) (at : ℕ) (new : List ℕ) (patch : CanPatch marked c at new) (n : Piece) (ns : List Piece) → IsText marked → patch.run.news ≡ n ∷ ns → Turn marked c at new patch n ns
+turn marked c at new patch n ns t is = go patch.run.old refl
   where
-    go : (old : List Piece) → patch.run.old ≡ old → Turn code c at new patch n ns
+    go : (old : List Piece) → patch.run.old ≡ old → Turn marked c at new patch n ns
     go [] e = absurd (lengths_none n ns (ap lengths (sym e) ∙ (patch.run.as_long ∙ ap lengths is)))
     go (o ∷ os) e =
         let run = patch.run in
@@ -60,7 +60,7 @@ turn code c at new patch n ns t is = go patch.run.old refl
         let halves : AreNoHalves (o ∷ os) patch.run.after = subst (λ (z : List Piece). AreNoHalves z patch.run.after) e patch.pairs.0 in
         let plain = no_half o (os ++ patch.run.after) halves.0 in
         let fresh : AreNotIndirect (n ∷ ns) = subst AreNotIndirect is patch.pairs.1 in
-        let well : GoWell (IsTarget c.base (limit_of code.bytes) patch.run.holds.valid.pieces) at (n ∷ ns) = subst (GoWell (IsTarget c.base (limit_of code.bytes) patch.run.holds.valid.pieces) at) is patch.targets in
+        let well : GoWell (IsTarget c.base (limit_of marked.bytes) patch.run.holds.valid.pieces) at (n ∷ ns) = subst (GoWell (IsTarget c.base (limit_of marked.bytes) patch.run.holds.valid.pieces) at) is patch.targets in
         let place_is : at ≡ patch.run.holds.vetted.base + place patch.run.before = omega (arith, patch.run.here, patch.run.holds.base_is) in
         record {
           o = o;
@@ -80,7 +80,7 @@ turn code c at new patch n ns t is = go patch.run.old refl
               good = λ d.
                   subst (λ (b : ℕ). IsTarget b patch.run.holds.vetted.limit patch.run.holds.valid.pieces (target n.instr (patch.run.holds.vetted.base + place patch.run.before))) (sym patch.run.holds.base_is)
                   (subst (λ (l : ℕ). IsTarget c.base l patch.run.holds.valid.pieces (target n.instr (patch.run.holds.vetted.base + place patch.run.before))) (sym patch.run.holds.limit_is)
-                  (subst (λ (k : ℕ). IsTarget c.base (limit_of code.bytes) patch.run.holds.valid.pieces (target n.instr k)) place_is (well.0 d)));
+                  (subst (λ (k : ℕ). IsTarget c.base (limit_of marked.bytes) patch.run.holds.valid.pieces (target n.instr k)) place_is (well.0 d)));
             };
             here = patch.run.here;
           };
@@ -92,12 +92,12 @@ turn code c at new patch n ns t is = go patch.run.old refl
         }
 
 -- the patch that is left
-pub next_patch : (code : Code) (c : Chunk) (at : ℕ) (new : List ℕ) (patch : CanPatch code c at new) (n : Piece) (ns : List Piece) (t : Turn code c at new patch n ns) (len : ℕ) (rest : List ℕ) → len ≡ length n.bytes → AreBytesOf rest ns → CanPatch (changed code at n.bytes) c (at + len) rest
-next_patch code c at new patch n ns t len rest e bytes =
+pub next_patch : (marked : MarkedText) (c : Chunk) (at : ℕ) (new : List ℕ) (patch : CanPatch marked c at new) (n : Piece) (ns : List Piece) (t : Turn marked c at new patch n ns) (len : ℕ) (rest : List ℕ) → len ≡ length n.bytes → AreBytesOf rest ns → CanPatch (changed marked at n.bytes) c (at + len) rest
+next_patch marked c at new patch n ns t len rest e bytes =
     let x = t.change in
     record {
       run = record {
-        holds = changed_holds code c at patch.run.before (t.os ++ patch.run.after) t.o n t.change;
+        holds = changed_holds marked c at patch.run.before (t.os ++ patch.run.after) t.o n t.change;
         before = patch.run.before ++ n ∷ [];
         old = t.os;
         after = patch.run.after;
@@ -109,11 +109,11 @@ next_patch code c at new patch n ns t len rest e bytes =
       };
       pairs = (t.halves, t.fresh);
       targets =
-          subst (λ (k : ℕ). GoWell (IsTarget c.base (limit_of (with_span code.bytes (at - 65536) n.bytes)) (patch.run.before ++ n ∷ (t.os ++ patch.run.after))) (at + k) ns) (sym e)
-          (well_map (IsTarget c.base (limit_of code.bytes) patch.run.holds.valid.pieces) (IsTarget c.base (limit_of (with_span code.bytes (at - 65536) n.bytes)) (patch.run.before ++ n ∷ (t.os ++ patch.run.after)))
-          (λ to g. subst (λ (l : ℕ). IsTarget c.base l (patch.run.before ++ n ∷ (t.os ++ patch.run.after)) to) (ap (λ (k : ℕ). 65536 + k) (sym (changed_long code c at patch.run.before (t.os ++ patch.run.after) t.o n t.change)))
-          (target_stays c.base (limit_of code.bytes) patch.run.before (t.os ++ patch.run.after) t.o n to x.exchange.as_long x.exchange.new_plain
-          (subst (λ (z : List Piece). IsTarget c.base (limit_of code.bytes) z to) t.parts g)))
+          subst (λ (k : ℕ). GoWell (IsTarget c.base (limit_of (with_span marked.bytes (at - 65536) n.bytes)) (patch.run.before ++ n ∷ (t.os ++ patch.run.after))) (at + k) ns) (sym e)
+          (well_map (IsTarget c.base (limit_of marked.bytes) patch.run.holds.valid.pieces) (IsTarget c.base (limit_of (with_span marked.bytes (at - 65536) n.bytes)) (patch.run.before ++ n ∷ (t.os ++ patch.run.after)))
+          (λ to g. subst (λ (l : ℕ). IsTarget c.base l (patch.run.before ++ n ∷ (t.os ++ patch.run.after)) to) (ap (λ (k : ℕ). 65536 + k) (sym (changed_long marked c at patch.run.before (t.os ++ patch.run.after) t.o n t.change)))
+          (target_stays c.base (limit_of marked.bytes) patch.run.before (t.os ++ patch.run.after) t.o n to x.exchange.as_long x.exchange.new_plain
+          (subst (λ (z : List Piece). IsTarget c.base (limit_of marked.bytes) z to) t.parts g)))
           (at + length n.bytes) ns t.well);
     }
 

@@ -1,7 +1,10 @@
 -- The acts that a value tells, each at the end as it is done.
-use Rattle.std.specs.Prelude.{◌≡◌, ℕ, ◌+◌, ◌%◌, Bool, not, ◌==◌, if◌then◌else◌, List, [], ◌∷◌, ◌++◌, Option, IfSome, IsSomeAnd, length}
+use Rattle.std.specs.Prelude.{◌≡◌, ℕ, ◌+◌, ◌%◌, Bool, not, ◌==◌, if◌then◌else◌, true, false, List, [], ◌∷◌, ◌++◌, Option, IfSome, IsSomeAnd, length, replicate}
+use Rattle.nc_decode.specs.declared.instruction.Mark.{Mark}
+use Rattle.nc_decode.specs.declared.instruction.Mark.TheVariants.{Unmarked, Plain, After}
+use Rattle.nc_text.specs.Marks.{mark_at}
 use Rattle.nc_region.specs.declared.acts.Act.{Act}
-use Rattle.nc_region.specs.declared.acts.Act.TheVariants.{Put, MarkSpan}
+use Rattle.nc_region.specs.declared.acts.Act.TheVariants.{Put, MarkSpan, Bump}
 
 -- where it still tells, it told before, and these acts have come to the end of the list
 abbrev pub Tells : Option (List Act) → Option (List Act) → List Act → Type 0
@@ -13,13 +16,36 @@ puts_where chosen at [] = []
 puts_where chosen at (byte ∷ rest) =
     if chosen at then Put at byte ∷ puts_where chosen (at + 1) rest else puts_where chosen (at + 1) rest
 
+-- the place is a bundle start
 abbrev pub is_start : ℕ → Bool
 is_start at = at % 32 == 0
 
+-- the place is none
 abbrev pub is_inside : ℕ → Bool
 is_inside at = not (is_start at)
 
--- A chunk is created: the bytes that aren't bundle starts, then the marks of the whole chunk, then the bundle starts; each rising, and each put is made
+-- A chunk is created: the bytes that aren't bundle starts, then the marks of the whole chunk, then the bundle starts;
+-- each rising. Each put is made.
 abbrev pub acts_of_create : ℕ → List ℕ → List Act
 acts_of_create base code =
     puts_where is_inside base code ++ (MarkSpan base (length code) ∷ puts_where is_start base code)
+
+-- the mark stands for some state
+abbrev pub is_mark : Mark → Bool
+is_mark Unmarked = false
+is_mark Plain = true
+is_mark (After register) = true
+
+-- the place is marked
+abbrev pub is_marked_at : List Mark → ℕ → Bool
+is_marked_at marks at = is_mark (mark_at marks at)
+
+-- the place is not marked
+abbrev pub is_unmarked_at : List Mark → ℕ → Bool
+is_unmarked_at marks at = not (is_marked_at marks at)
+
+-- A chunk is deleted: stops at its marked places, then at its other places, each rising; then the stamp is drawn. Each
+-- put is made.
+abbrev pub acts_of_delete : List Mark → ℕ → ℕ → List Act
+acts_of_delete marks base len =
+    puts_where (is_marked_at marks) base (replicate len 0xF4) ++ (puts_where (is_unmarked_at marks) base (replicate len 0xF4) ++ Bump ∷ [])

@@ -1,10 +1,10 @@
 -- A chunk of code by itself, and in a text.
-use Rattle.std.specs.Prelude.{◌≡◌, ◌≢◌, ℕ, ◌+◌, ◌-◌, ◌%◌, ◌<◌, ◌≤◌, Bool, true, false, List, length, replicate, slice_index}
+use Rattle.std.specs.Prelude.{◌≡◌, ◌≢◌, ℕ, ◌+◌, ◌-◌, ◌%◌, ◌<◌, ◌≤◌, Bool, true, false, List, length, slice_index}
 use Rattle.nc_decode.specs.declared.instruction.Mark.{Mark}
 use Rattle.nc_text.specs.Places.{byte_at}
 use Rattle.nc_decode.specs.Bundles.{IsBundleStart, IsLawfulLimit}
 use Rattle.nc_text.specs.Marks.{IsClosed, mark_at}
-use Rattle.nc_text.specs.Code.{Code, with_span, bare_mark, bare_marks}
+use Rattle.nc_text.specs.MarkedText.{MarkedText, with_span, unused_mark, unused_text}
 
 -- a chunk is whole bundles of the region below the guard
 pub record IsPlaced (base limit length : ℕ) : Type 0 where
@@ -15,25 +15,21 @@ pub record IsPlaced (base limit length : ℕ) : Type 0 where
   pub low : 0x10000 ≤ base
   pub high : base + length + 32 ≤ limit
 
--- the code with its marks set
-abbrev pub with_chunk : Code → ℕ → List ℕ → List Mark → Code
-with_chunk code base bytes marks =
-    record { bytes = with_span code.bytes (base - 0x10000) bytes; marks = with_span code.marks (base - 0x10000) marks }
+-- the text with a chunk's bytes and marks set
+abbrev pub with_chunk : MarkedText → ℕ → List ℕ → List Mark → MarkedText
+with_chunk marked base bytes marks =
+    record marked { bytes = with_span marked.bytes (base - 0x10000) bytes; marks = with_span marked.marks (base - 0x10000) marks }
 
--- a text of stops with bundle starts alone marked
-abbrev pub empty_code : ℕ → Code
-empty_code limit = record { bytes = replicate (limit - 0x10000) 0xF4; marks = bare_marks 0x10000 (limit - 0x10000) }
-
--- a chunk that is closed by itself, in a text that is otherwise empty
-pub record IsSound (base limit : ℕ) (bytes : List ℕ) (marks : List Mark) : Type 0 where
+-- A chunk that is closed by itself: in a text that is otherwise unused.
+pub record IsClosedChunk (base limit : ℕ) (bytes : List ℕ) (marks : List Mark) : Type 0 where
   pub placed : IsPlaced base limit (length bytes)
   pub as_long : length marks ≡ length bytes
-  pub closed : IsClosed (with_chunk (empty_code limit) base bytes marks).bytes (with_chunk (empty_code limit) base bytes marks).marks
+  pub closed : IsClosed (with_chunk (unused_text limit) base bytes marks).bytes (with_chunk (unused_text limit) base bytes marks).marks
 
--- the span is unused: stops, with bundle starts alone marked
-pub record IsBare (code : Code) (base length : ℕ) : Type 0 where
-  pub stops : (at : ℕ) → base ≤ at → at < base + length → byte_at code.bytes at ≡ 0xF4
-  pub bare : (at : ℕ) → base ≤ at → at < base + length → mark_at code.marks at ≡ bare_mark at
+-- the span is unused: stops, with only bundle starts marked
+pub record IsUnused (marked : MarkedText) (base length : ℕ) : Type 0 where
+  pub stops : (at : ℕ) → base ≤ at → at < base + length → byte_at marked.bytes at ≡ 0xF4
+  pub unused : (at : ℕ) → base ≤ at → at < base + length → mark_at marked.marks at ≡ unused_mark at
 
 -- The first bytes of the list are put at the chosen places from base on, and nothing else is changed.
 pub record HasPut (chosen : ℕ → Bool) (base : ℕ) (bytes : List ℕ) (count : ℕ) (old new : List ℕ) : Type 0 where
@@ -43,7 +39,7 @@ pub record HasPut (chosen : ℕ → Bool) (base : ℕ) (bytes : List ℕ) (count
   pub below : (at : ℕ) → 0x10000 ≤ at → at < base → byte_at new at ≡ byte_at old at
   pub above : (at : ℕ) → base + count ≤ at → byte_at new at ≡ byte_at old at
 
--- The text is the final one, but that stops stand at the bundle starts from the one address to below the other.
+-- The text is the final one, except that stops stand at the bundle starts from the one address to below the other.
 pub record IsFinalBut (final now : List ℕ) (from to : ℕ) : Type 0 where
   pub as_long : length now ≡ length final
   pub stops : (at : ℕ) → from ≤ at → at < to → IsBundleStart at → byte_at now at ≡ 0xF4

@@ -2,6 +2,8 @@ pub mod Each
 pub mod Acts
 pub mod Chunks
 pub mod Region
+pub mod Quiet
+pub mod Deletion
 pub mod Patch
 pub mod PatchSteps
 pub mod Trace

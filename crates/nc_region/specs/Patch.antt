@@ -4,7 +4,7 @@ use Rattle.nc_decode.specs.Bundles.{IsInOneBundle}
 use Rattle.nc_decode.specs.Transfers.{is_direct, is_indirect, target}
 use Rattle.nc_vet.specs.Chunk.{Piece, code_of, place, AreSpelled, IsTarget}
 use Rattle.nc_text.specs.Places.{limit_of, byte_at}
-use Rattle.nc_text.specs.Code.{Code, with_span}
+use Rattle.nc_text.specs.MarkedText.{MarkedText, with_span}
 use Rattle.nc_region.specs.declared.acts.Act.{Act}
 use Rattle.nc_region.specs.declared.acts.Act.TheVariants.{Put}
 use Rattle.nc_region.specs.declared.chunk.Chunk.{Chunk}
@@ -25,12 +25,12 @@ IsHeldBy chunks at c = Contains chunks c × IsLive c.state × IsInChunk c at
 abbrev pub IsHeld : List Chunk → ℕ → Type 0
 IsHeld chunks at = (c : Chunk) × IsHeldBy chunks at c
 
--- the bytes are these instructions, one behind the other
+-- the bytes are these instructions, one after the other
 pub record AreBytesOf (bytes : List ℕ) (pieces : List Piece) : Type 0 where
   pub spelled : AreSpelled pieces
   pub parts : bytes ≡ code_of pieces
 
--- the bytes are whole instructions, one behind the other
+-- the bytes are whole instructions, one after the other
 abbrev pub AreInstructions : List ℕ → Type 0
 AreInstructions bytes = (pieces : List Piece) × AreBytesOf bytes pieces
 
@@ -40,8 +40,8 @@ lengths pieces = map (λ p. length p.bytes) pieces
 
 -- The new bytes are instructions, and from the address on stand as many of the chunk's, each as long as the new one in
 -- its place.
-pub record IsRun (code : Code) (c : Chunk) (at : ℕ) (new : List ℕ) : Type 0 where
-  pub holds : HoldsValid code c
+pub record IsRun (marked : MarkedText) (c : Chunk) (at : ℕ) (new : List ℕ) : Type 0 where
+  pub holds : HoldsValid marked c
   pub before : List Piece
   pub old : List Piece
   pub after : List Piece
@@ -57,7 +57,7 @@ abbrev pub IsHalf : Piece → List Piece → Type 0
 IsHalf p [] = IsTrue (is_indirect p.instr.flow)
 IsHalf p (next ∷ rest) = IsTrue (is_indirect p.instr.flow) ⊎ IsTrue (is_indirect next.instr.flow)
 
--- none of these instructions is a half, with what follows behind them
+-- none of these instructions is a half, with what follows them
 abbrev pub AreNoHalves : List Piece → List Piece → Type 0
 AreNoHalves [] after = ⊤
 AreNoHalves (p ∷ rest) after = ¬ IsHalf p (rest ++ after) × AreNoHalves rest after
@@ -73,26 +73,26 @@ GoWell good at [] = ⊤
 GoWell good at (p ∷ rest) = (IsTrue (is_direct p.instr.flow) → good (target p.instr at)) × GoWell good (at + length p.bytes) rest
 
 -- no half of a pair is replaced, and no indirect transfer comes
-abbrev pub LeavesPairs : (code : Code) (c : Chunk) (at : ℕ) (new : List ℕ) → IsRun code c at new → Type 0
-LeavesPairs code c at new run = AreNoHalves run.old run.after × AreNotIndirect run.news
+abbrev pub LeavesPairs : (marked : MarkedText) (c : Chunk) (at : ℕ) (new : List ℕ) → IsRun marked c at new → Type 0
+LeavesPairs marked c at new run = AreNoHalves run.old run.after × AreNotIndirect run.news
 
 -- the direct transfers that come go where those of a valid chunk may
-abbrev pub KeepsTargets : (code : Code) (c : Chunk) (at : ℕ) (new : List ℕ) → IsRun code c at new → Type 0
-KeepsTargets code c at new run = GoWell (IsTarget c.base (limit_of code.bytes) run.holds.valid.pieces) at run.news
+abbrev pub KeepsTargets : (marked : MarkedText) (c : Chunk) (at : ℕ) (new : List ℕ) → IsRun marked c at new → Type 0
+KeepsTargets marked c at new run = GoWell (IsTarget c.base (limit_of marked.bytes) run.holds.valid.pieces) at run.news
 
 -- The new bytes take the place of whole instructions of a live chunk; they leave its pairs alone; and they go where it
 -- may. Each of the three says what the one before says too.
 abbrev pub Fits : Region → ℕ → List ℕ → Type 0
-Fits r at new = (c : Chunk) × IsHeldBy r.chunks at c × IsRun r.code c at new
+Fits r at new = (c : Chunk) × IsHeldBy r.chunks at c × IsRun r.marked c at new
 
 abbrev pub FitsBesidePairs : Region → ℕ → List ℕ → Type 0
-FitsBesidePairs r at new = (c : Chunk) × IsHeldBy r.chunks at c × ((run : IsRun r.code c at new) × LeavesPairs r.code c at new run)
+FitsBesidePairs r at new = (c : Chunk) × IsHeldBy r.chunks at c × ((run : IsRun r.marked c at new) × LeavesPairs r.marked c at new run)
 
 -- a lawful patch
 abbrev pub IsPatch : Region → ℕ → List ℕ → Type 0
 IsPatch r at new =
     IsPatchSpan at (length new)
-    × ((c : Chunk) × IsHeldBy r.chunks at c × ((run : IsRun r.code c at new) × LeavesPairs r.code c at new run × KeepsTargets r.code c at new run))
+    × ((c : Chunk) × IsHeldBy r.chunks at c × ((run : IsRun r.marked c at new) × LeavesPairs r.marked c at new run × KeepsTargets r.marked c at new run))
 
 -- The first of these that doesn't hold is the refusal: the bytes lie in one bundle; that is part of a live chunk; they
 -- are whole instructions; they fit; they leave pairs alone; their targets are good.
@@ -104,11 +104,10 @@ MayRefusePatch r at new Boundaries = IsPatchSpan at (length new) × IsHeld r.chu
 MayRefusePatch r at new PairTouched = IsPatchSpan at (length new) × Fits r at new × ¬ FitsBesidePairs r at new
 MayRefusePatch r at new BadTarget = IsPatchSpan at (length new) × FitsBesidePairs r at new × ¬ IsPatch r at new
 
--- The region after a patch: the new bytes stand there, and nothing else of text, marks and list is changed.
+-- The region after a patch: the new bytes stand there. All else that a region has is as before, except for the acts told.
 pub record IsModified (old new : Region) (at : ℕ) (bytes : List ℕ) : Type 0 where
-  pub patched : new.code.bytes ≡ with_span old.code.bytes (at - 0x10000) bytes
-  pub marks : new.code.marks ≡ old.code.marks
-  pub chunks : new.chunks ≡ old.chunks
+  pub patched : new.marked.bytes ≡ with_span old.marked.bytes (at - 0x10000) bytes
+  pub others : new ≡ record old { marked = record old.marked { bytes = new.marked.bytes }; told = new.told }
 
 -- these bytes stand there already
 abbrev pub stands_there : List ℕ → ℕ → List ℕ → Bool

@@ -8,14 +8,14 @@ use Rattle.nc_vet.specs.Chunk.{Piece, place}
 use Rattle.nc_text.specs.Places.{limit_of, byte_at, instruction_at}
 use Rattle.nc_text.specs.Machine.{State}
 use Rattle.nc_text.specs.Marks.{IsMarked, IsClosed}
-use Rattle.nc_text.specs.Code.{Code, with_span}
+use Rattle.nc_text.specs.MarkedText.{MarkedText, with_span}
 use Rattle.nc_region.specs.declared.chunk.Chunk.{Chunk}
 use Rattle.nc_region.specs.Region.{HoldsValid}
 use Rattle.nc_region.specs.Patch.{AreBytesOf, IsRun, LeavesPairs, KeepsTargets}
 
 -- an instruction of the chunk begins at the address, or the chunk ends there
-pub record Begins (code : Code) (c : Chunk) (at : ℕ) : Type 0 where
-  pub holds : HoldsValid code c
+pub record Begins (marked : MarkedText) (c : Chunk) (at : ℕ) : Type 0 where
+  pub holds : HoldsValid marked c
   pub before : List Piece
   pub rest : List Piece
   pub parts : holds.valid.pieces ≡ before ++ rest
@@ -28,8 +28,8 @@ RunsAlong [] (n ∷ news) = ⊥
 RunsAlong (p ∷ rest) (n ∷ news) = (length p.bytes ≡ length n.bytes) × RunsAlong rest news
 
 -- the new bytes are instructions that run along those of the chunk
-pub record Along (code : Code) (c : Chunk) (at : ℕ) (new : List ℕ) : Type 0 where
-  pub begins : Begins code c at
+pub record Along (marked : MarkedText) (c : Chunk) (at : ℕ) (new : List ℕ) : Type 0 where
+  pub begins : Begins marked c at
   pub news : List Piece
   pub bytes : AreBytesOf new news
   pub runs : RunsAlong begins.rest news
@@ -51,19 +51,19 @@ is_after Plain = false
 is_after (After register) = true
 
 -- a lawful patch of a chunk, but for the list of chunks
-pub record CanPatch (code : Code) (c : Chunk) (at : ℕ) (new : List ℕ) : Type 0 where
-  pub run : IsRun code c at new
-  pub pairs : LeavesPairs code c at new run
-  pub targets : KeepsTargets code c at new run
+pub record CanPatch (marked : MarkedText) (c : Chunk) (at : ℕ) (new : List ℕ) : Type 0 where
+  pub run : IsRun marked c at new
+  pub pairs : LeavesPairs marked c at new run
+  pub targets : KeepsTargets marked c at new run
 
 -- An instruction is to be replaced by these bytes: afterwards the text is closed, and no other marked state's
 -- instruction has a byte of the span.
-pub record IsReplacing (code : Code) (at : ℕ) (new : List ℕ) : Type 0 where
+pub record IsReplacing (marked : MarkedText) (at : ℕ) (new : List ℕ) : Type 0 where
   pub some : 0 < length new
   pub low : 0x10000 ≤ at
-  pub high : at + length new ≤ limit_of code.bytes
-  pub closed : IsClosed (with_span code.bytes (at - 0x10000) new) code.marks
-  pub apart : (now : State) (i : Instr) → IsMarked code.marks now → now.place ≢ at → instruction_at (with_span code.bytes (at - 0x10000) new) now.place ≡ Some i → (now.place + i.len ≤ at) ⊎ (at + length new ≤ now.place)
+  pub high : at + length new ≤ limit_of marked.bytes
+  pub closed : IsClosed (with_span marked.bytes (at - 0x10000) new) marked.marks
+  pub apart : (now : State) (i : Instr) → IsMarked marked.marks now → now.place ≢ at → instruction_at (with_span marked.bytes (at - 0x10000) new) now.place ≡ Some i → (now.place + i.len ≤ at) ⊎ (at + length new ≤ now.place)
 
 -- the text while an instruction is replaced: a stop at its start, and outside it the final bytes
 pub record IsInterim (final now : List ℕ) (at len : ℕ) : Type 0 where

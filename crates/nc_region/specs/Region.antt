@@ -4,28 +4,39 @@ use Rattle.std.specs.List.{insert}
 use Rattle.nc_decode.specs.declared.instruction.Mark.TheVariants.{Unmarked}
 use Rattle.nc_vet.specs.Chunk.{IsValid}
 use Rattle.nc_vet.specs.Chunk as vet
+use Rattle.nc_decode.specs.Bundles.{IsLawfulLimit}
 use Rattle.nc_text.specs.Places.{InRegion, limit_of, byte_at}
 use Rattle.nc_text.specs.Marks.{mark_at}
-use Rattle.nc_text.specs.Code.{Code, IsText, bare_mark, new_code}
+use Rattle.nc_text.specs.MarkedText.{MarkedText, IsText, with_span, unused_mark, unused_text}
+use Rattle.nc_gens.specs.Seen.{KeeperState}
 use Rattle.nc_region.specs.declared.acts.Act.{Act}
 use Rattle.nc_region.specs.declared.chunk.Chunk.{Chunk}
 use Rattle.nc_region.specs.declared.chunk.ChunkState.{ChunkState}
 use Rattle.nc_region.specs.declared.chunk.ChunkState.TheVariants.{Live, Retired}
 use Rattle.nc_region.specs.declared.fault.CreateFault.{CreateFault}
 use Rattle.nc_region.specs.declared.fault.CreateFault.TheVariants.{WrongLimit, Occupied, OutOfMemory}
-use Rattle.nc_region.specs.Chunks.{IsPlaced, with_chunk}
+use Rattle.nc_region.specs.Chunks.{IsPlaced}
 use Rattle.nc_region.specs.Each.{Each}
 
--- what contracts see of a region: bytes and marks, the chunks by rising base, and the acts told so far
+-- What contracts see of a region: bytes and marks, the chunks by rising base, the keeper with the generation and each
+-- seat's bound, and the acts told so far.
 pub record Region : Type 0 where
-  pub code : Code
+  pub marked : MarkedText
   pub chunks : List Chunk
+  pub keeper : KeeperState
   pub told : Option (List Act)
 
+-- what contracts see of a `Plain`
+pub record PlainState : Type 0 where
+  pub marked : MarkedText
+  pub keeper : KeeperState
+
+-- threads may enter it
 abbrev pub IsLive : ChunkState → Type 0
 IsLive Live = ⊤
 IsLive (Retired stamp) = ⊥
 
+-- the place lies in the chunk's span
 abbrev pub IsInChunk : Chunk → ℕ → Type 0
 IsInChunk c at = (c.base ≤ at) × (at < c.base + c.length)
 
@@ -35,32 +46,33 @@ IsRising from [] = ⊤
 IsRising from (c ∷ rest) = (from ≤ c.base) × IsRising (c.base + c.length) rest
 
 -- in the chunk's span stand the bytes and the marks of a valid chunk of this base, for the text's limit
-pub record HoldsValid (code : Code) (c : Chunk) : Type 0 where
+pub record HoldsValid (marked : MarkedText) (c : Chunk) : Type 0 where
   pub vetted : vet.Chunk
   pub valid : IsValid vetted
   pub base_is : vetted.base ≡ c.base
-  pub limit_is : vetted.limit ≡ limit_of code.bytes
+  pub limit_is : vetted.limit ≡ limit_of marked.bytes
   pub long : length vetted.code ≡ c.length
-  pub bytes_are : (at : ℕ) → IsInChunk c at → byte_at code.bytes at ≡ slice_index vetted.code (at - c.base)
-  pub marks_are : (at : ℕ) → IsInChunk c at → mark_at code.marks at ≡ slice_index_or vetted.marks (at - c.base) Unmarked
+  pub bytes_are : (at : ℕ) → IsInChunk c at → byte_at marked.bytes at ≡ slice_index vetted.code (at - c.base)
+  pub marks_are : (at : ℕ) → IsInChunk c at → mark_at marked.marks at ≡ slice_index_or vetted.marks (at - c.base) Unmarked
 
--- What every region keeps. Outside live chunks all bytes are F4; outside all chunks bundle starts alone are marked.
-pub record IsRegion (code : Code) (chunks : List Chunk) : Type 0 where
-  pub whole : IsText code
+-- What every region keeps. Outside live chunks all bytes are F4; outside all chunks only bundle starts are marked.
+pub record IsRegion (marked : MarkedText) (chunks : List Chunk) : Type 0 where
+  pub whole : IsText marked
   pub rising : IsRising 0x10000 chunks
-  pub placed : Each (λ (c : Chunk). IsPlaced c.base (limit_of code.bytes) c.length) chunks
-  pub live : Each (λ (c : Chunk). IsLive c.state → HoldsValid code c) chunks
-  pub stops : (at : ℕ) → InRegion code.bytes at → Each (λ (c : Chunk). IsLive c.state → IsInChunk c at → ⊥) chunks → byte_at code.bytes at ≡ 0xF4
-  pub bare : (at : ℕ) → InRegion code.bytes at → Each (λ (c : Chunk). IsInChunk c at → ⊥) chunks → mark_at code.marks at ≡ bare_mark at
+  pub placed : Each (λ (c : Chunk). IsPlaced c.base (limit_of marked.bytes) c.length) chunks
+  pub live : Each (λ (c : Chunk). IsLive c.state → HoldsValid marked c) chunks
+  pub stops : (at : ℕ) → InRegion marked.bytes at → Each (λ (c : Chunk). IsLive c.state → IsInChunk c at → ⊥) chunks → byte_at marked.bytes at ≡ 0xF4
+  pub unused : (at : ℕ) → InRegion marked.bytes at → Each (λ (c : Chunk). IsInChunk c at → ⊥) chunks → mark_at marked.marks at ≡ unused_mark at
 
 -- a text in which nothing was changed yet
-abbrev pub IsNew : Code → Type 0
-IsNew code = (bundles : ℕ) × (2 ≤ bundles) × (bundles ≤ 524288) × (code ≡ new_code bundles)
+abbrev pub IsNew : MarkedText → Type 0
+IsNew marked = (limit : ℕ) × IsLawfulLimit limit × (marked ≡ unused_text limit)
 
--- all of a chunk list above a place, and all of it below one
+-- all of a chunk list ends at or below a place
 abbrev pub IsAboveAll : ℕ → List Chunk → Type 0
 IsAboveAll base chunks = Each (λ (d : Chunk). d.base + d.length ≤ base) chunks
 
+-- all of it above the end of a span
 abbrev pub IsBelowAll : ℕ → List Chunk → Type 0
 IsBelowAll end chunks = Each (λ (d : Chunk). end ≤ d.base) chunks
 
@@ -77,17 +89,20 @@ Meets base len (d ∷ rest) = ((base < d.base + d.length) × (d.base < base + le
 abbrev pub IsInserted : List Chunk → List Chunk → Chunk → Type 0
 IsInserted old new c = (k : ℕ) × FitsAt c.base c.length old k × (new ≡ insert old k c)
 
+-- a vetted chunk in the list
 abbrev pub live_chunk : vet.Chunk → Chunk
 live_chunk v = record { base = v.base; length = length v.code; state = Live }
 
--- The region after the chunk was created: the span holds its code and its marks, and it is in the list. Nothing else
--- of text, marks and list is changed.
+-- The region after the chunk was created: the span holds its code and its marks, and it is in the list. All else that
+-- a region has is as before, except for the acts told.
 pub record IsCreated (old new : Region) (v : vet.Chunk) : Type 0 where
-  pub code : new.code ≡ with_chunk old.code v.base v.code v.marks
+  pub bytes : new.marked.bytes ≡ with_span old.marked.bytes (v.base - 0x10000) v.code
+  pub marks : new.marked.marks ≡ with_span old.marked.marks (v.base - 0x10000) v.marks
   pub chunks : IsInserted old.chunks new.chunks (live_chunk v)
+  pub others : new ≡ record old { marked = new.marked; chunks = new.chunks; told = new.told }
 
 -- when each refusal of `create` comes; only the last one depends on the memory that is there
 abbrev pub MayRefuse : Region → vet.Chunk → CreateFault → Type 0
-MayRefuse r v WrongLimit = v.limit ≢ limit_of r.code.bytes
-MayRefuse r v Occupied = (v.limit ≡ limit_of r.code.bytes) × Meets v.base (length v.code) r.chunks
-MayRefuse r v OutOfMemory = (v.limit ≡ limit_of r.code.bytes) × ¬ Meets v.base (length v.code) r.chunks
+MayRefuse r v WrongLimit = v.limit ≢ limit_of r.marked.bytes
+MayRefuse r v Occupied = (v.limit ≡ limit_of r.marked.bytes) × Meets v.base (length v.code) r.chunks
+MayRefuse r v OutOfMemory = (v.limit ≡ limit_of r.marked.bytes) × ¬ Meets v.base (length v.code) r.chunks

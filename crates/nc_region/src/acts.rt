@@ -1,14 +1,17 @@
-//! The text behind a region, by its acts.
+//! The text and the generations behind a region, by its acts.
 
-ghost use Rattle.std.specs.Prelude.{◌≡◌, ℕ, List, [], ◌∷◌, Option, length, All};
+ghost use Rattle.std.specs.Prelude.{◌≡◌, ◌+◌, ◌^◌, ◌<◌, ◌≤◌, ◌↔◌, ℕ, List, [], ◌∷◌, Option, length, All, IsOk, IfOk, OnOk, OnErr};
 ghost use Rattle.nc_decode.specs.declared.instruction.Mark.{Mark};
 ghost use Rattle.nc_text.specs.Marks.{IsClosed, mark_at};
 ghost use Rattle.nc_text.specs.Places.{InRegion, SpanInRegion, byte_at, limit_of};
-ghost use Rattle.nc_text.specs.Code.{Code, IsText, with_byte, with_marks, without_marks, NamesRegister, KeepsMarks, AreStops};
+ghost use Rattle.nc_text.specs.MarkedText.{MarkedText, IsText, with_byte, with_marks, without_marks, NamesRegister, KeepsMarks, AreStops};
+ghost use Rattle.nc_gens.specs.Rule.{generation_raised};
+ghost use Rattle.nc_gens.specs.Seen.{KeeperState, HasLooked, HasMet, least_number};
 ghost use Rattle.nc_region.specs.declared.acts.Act.{Act};
 ghost use Rattle.nc_region.specs.Acts.{Tells};
 
 use nc_decode::Mark;
+use nc_gens::{GensFull, Pass};
 
 /// One atomic change that a region makes, or one look at its generations.
 #[derive(Clone, Copy, Debug, PartialEq, Eq)]
@@ -25,50 +28,92 @@ pub enum Act {
     Look,
 }
 
-/// What a region does its work by: a text, changed one act at a time.
+/// What a region does its work by: a text, changed one act at a time, and the keeper of a table of generations.
 ///
-/// Conditions and promises are those of `nc_text::Text`. A value may tell its acts; each adds itself at the end. One
-/// that tells nothing says `None`, for good.
+/// Conditions and promises are those of `nc_text::Text` and `nc_gens::Gens`; an act on the text leaves the keeper as it is,
+/// and the other way round. A value may tell its puts, spans marked and unmarked, bumps and looks; each adds itself at the
+/// end. One that tells nothing says `None`, for good.
 pub trait Acts {
     /// Bytes and marks.
-    ghost code: { Self → Code };
+    ghost marked: { Self → MarkedText };
+
+    /// The keeper.
+    ghost keeper: { Self → KeeperState };
 
     /// The acts so far, while they are told.
     ghost told: { Self → Option (List Act) };
 
+    /// Puts one byte.
     fn put(&mut self, at: u32, byte: u8)
-        requires inside { InRegion (code self.old).bytes at }
-        requires closed { IsClosed (with_byte (code self.old) at byte).bytes (code self.old).marks }
-        ensures code { code self.new ≡ with_byte (code self.old) at byte }
-        ensures whole { IsText (code self.new) }
+        requires inside { InRegion (marked self.old).bytes at }
+        requires closed { IsClosed (with_byte (marked self.old) at byte).bytes (marked self.old).marks }
+        ensures marked { marked self.new ≡ with_byte (marked self.old) at byte }
+        ensures whole { IsText (marked self.new) }
+        ensures keeper { keeper self.new ≡ keeper self.old }
         ensures told { Tells (told self.old) (told self.new) (Act.Put at byte ∷ []) };
 
+    /// Sets the marks of a span.
     fn mark_span(&mut self, at: u32, marks: &[Mark])
-        requires inside { SpanInRegion (code self.old).bytes at (length marks.now) }
+        requires inside { SpanInRegion (marked self.old).bytes at (length marks.now) }
         requires registers { All NamesRegister marks.now }
-        requires keeps { KeepsMarks (code self.old).marks (with_marks (code self.old) at marks.now).marks }
-        requires closed { IsClosed (code self.old).bytes (with_marks (code self.old) at marks.now).marks }
-        ensures code { code self.new ≡ with_marks (code self.old) at marks.now }
-        ensures whole { IsText (code self.new) }
+        requires keeps { KeepsMarks (marked self.old).marks (with_marks (marked self.old) at marks.now).marks }
+        requires closed { IsClosed (marked self.old).bytes (with_marks (marked self.old) at marks.now).marks }
+        ensures marked { marked self.new ≡ with_marks (marked self.old) at marks.now }
+        ensures whole { IsText (marked self.new) }
+        ensures keeper { keeper self.new ≡ keeper self.old }
         ensures told { Tells (told self.old) (told self.new) (Act.MarkSpan at (length marks.now) ∷ []) };
 
+    /// Takes the marks of a span back, except for its bundle starts.
     fn unmark_span(&mut self, at: u32, len: u32)
-        requires inside { SpanInRegion (code self.old).bytes at len }
-        requires stops { AreStops (code self.old).bytes at len }
-        requires closed { IsClosed (code self.old).bytes (without_marks (code self.old) at len).marks }
-        ensures code { code self.new ≡ without_marks (code self.old) at len }
-        ensures whole { IsText (code self.new) }
+        requires inside { SpanInRegion (marked self.old).bytes at len }
+        requires stops { AreStops (marked self.old).bytes at len }
+        requires closed { IsClosed (marked self.old).bytes (without_marks (marked self.old) at len).marks }
+        ensures marked { marked self.new ≡ without_marks (marked self.old) at len }
+        ensures whole { IsText (marked self.new) }
+        ensures keeper { keeper self.new ≡ keeper self.old }
         ensures told { Tells (told self.old) (told self.new) (Act.UnmarkSpan at len ∷ []) };
 
+    /// The byte at an address.
     fn byte(&self, at: u32) -> u8
-        requires { InRegion (code self.now).bytes at }
-        ensures { result ≡ byte_at (code self.now).bytes at };
+        requires { InRegion (marked self.now).bytes at }
+        ensures { result ≡ byte_at (marked self.now).bytes at };
 
+    /// The address after the last byte.
     fn limit(&self) -> u32
-        ensures limit { result ≡ limit_of (code self.now).bytes }
-        ensures whole { IsText (code self.now) };
+        ensures limit { result ≡ limit_of (marked self.now).bytes }
+        ensures whole { IsText (marked self.now) };
 
+    /// The mark at an address.
     fn mark(&self, at: u32) -> Mark
-        requires { InRegion (code self.now).bytes at }
-        ensures { result ≡ mark_at (code self.now).marks at };
+        requires { InRegion (marked self.now).bytes at }
+        ensures { result ≡ mark_at (marked self.now).marks at };
+
+    /// Adds one to the generation, and answers the new one.
+    fn bump(&mut self) -> Result<u64, GensFull>
+        ensures room { IsOk result ↔ ((keeper self.old).numbers.generation < 2 ^ 62) }
+        ensures stamp { IfOk result (λ n. n ≡ (keeper self.old).numbers.generation + 1) }
+        ensures raised { OnOk result (keeper self.new ≡ record (keeper self.old) { numbers = generation_raised (keeper self.old).numbers }) }
+        ensures told { OnOk result (Tells (told self.old) (told self.new) (Act.Bump ∷ [])) }
+        ensures marked { marked self.new ≡ marked self.old }
+        ensures full { OnErr result (((keeper self.old).numbers.generation ≡ 2 ^ 62) × (keeper self.new ≡ keeper self.old)) }
+        ensures silent { OnErr result (told self.new ≡ told self.old) };
+
+    /// Loads each seat's word, and answers the keeper's least number.
+    fn look(&mut self) -> u64
+        ensures looked { HasLooked (keeper self.old) (keeper self.new) }
+        ensures least { result ≡ least_number (keeper self.new).numbers }
+        ensures marked { marked self.new ≡ marked self.old }
+        ensures told { Tells (told self.old) (told self.new) (Act.Look ∷ []) };
+
+    /// A pass and the keeper learn where the other stands. It is no act that is told.
+    fn meet(&mut self, pass: &mut Pass)
+        requires { pass.old.table ≡ (keeper self.old).table }
+        ensures met { HasMet pass.old (keeper self.old) pass.new (keeper self.new) }
+        ensures marked { marked self.new ≡ marked self.old }
+        ensures told { told self.new ≡ told self.old };
+
+    /// The generation.
+    fn generation(&self) -> u64
+        ensures generation { result ≡ (keeper self.now).numbers.generation }
+        ensures in_range { result ≤ 2 ^ 62 };
 }

@@ -4,21 +4,22 @@ ghost use Rattle.std.specs.Prelude.{◌≡◌, ◌+◌, ◌-◌, ◌<◌, ◌≤
 ghost use Rattle.nc_decode.specs.declared.instruction.Mark.{Mark};
 ghost use Rattle.nc_text.specs.Marks.{IsClosed};
 ghost use Rattle.nc_text.specs.Places.{limit_of};
-ghost use Rattle.nc_text.specs.Code.{Code, IsText, with_span, NamesRegister};
+ghost use Rattle.nc_text.specs.MarkedText.{MarkedText, IsText, with_span, NamesRegister};
 ghost use Rattle.nc_region.specs.Acts.{Tells, puts_where, is_inside, is_start, acts_of_create};
-ghost use Rattle.nc_region.specs.Chunks.{IsPlaced, IsBare, IsSound, HasPut, IsFinalBut, with_chunk};
+ghost use Rattle.nc_region.specs.Chunks.{IsPlaced, IsUnused, IsClosedChunk, HasPut, IsFinalBut, with_chunk};
 
 use crate::acts::Acts;
 use nc_decode::Mark;
 
-/// Creates a sound chunk in a bare span.
+/// Creates a chunk that is closed by itself in an unused span.
 pub(crate) fn put_chunk<A: Acts>(acts: &mut A, base: u32, code: &[u8], marks: &[Mark])
-    requires whole { IsText (A.code acts.old) }
-    requires sound { IsSound base (limit_of (A.code acts.old).bytes) code.now marks.now }
+    requires whole { IsText (A.marked acts.old) }
+    requires chunk { IsClosedChunk base (limit_of (A.marked acts.old).bytes) code.now marks.now }
     requires registers { All NamesRegister marks.now }
-    requires bare { IsBare (A.code acts.old) base (length code.now) }
-    ensures code { A.code acts.new ≡ with_chunk (A.code acts.old) base code.now marks.now }
-    ensures whole { IsText (A.code acts.new) }
+    requires unused { IsUnused (A.marked acts.old) base (length code.now) }
+    ensures marked { A.marked acts.new ≡ with_chunk (A.marked acts.old) base code.now marks.now }
+    ensures whole { IsText (A.marked acts.new) }
+    ensures keeper { A.keeper acts.new ≡ A.keeper acts.old }
     ensures told { Tells (A.told acts.old) (A.told acts.new) (acts_of_create base code.now) }
 {
     put_inside(acts, base, code);
@@ -28,12 +29,13 @@ pub(crate) fn put_chunk<A: Acts>(acts: &mut A, base: u32, code: &[u8], marks: &[
 
 /// Puts the bytes that aren't bundle starts, rising.
 fn put_inside<A: Acts>(acts: &mut A, base: u32, code: &[u8])
-    requires whole { IsText (A.code acts.old) }
-    requires placed { IsPlaced base (limit_of (A.code acts.old).bytes) (length code.now) }
-    requires bare { IsBare (A.code acts.old) base (length code.now) }
-    ensures bytes { HasPut is_inside base code.now (length code.now) (A.code acts.old).bytes (A.code acts.new).bytes }
-    ensures marks { (A.code acts.new).marks ≡ (A.code acts.old).marks }
-    ensures whole { IsText (A.code acts.new) }
+    requires whole { IsText (A.marked acts.old) }
+    requires placed { IsPlaced base (limit_of (A.marked acts.old).bytes) (length code.now) }
+    requires unused { IsUnused (A.marked acts.old) base (length code.now) }
+    ensures bytes { HasPut is_inside base code.now (length code.now) (A.marked acts.old).bytes (A.marked acts.new).bytes }
+    ensures marks { (A.marked acts.new).marks ≡ (A.marked acts.old).marks }
+    ensures whole { IsText (A.marked acts.new) }
+    ensures keeper { A.keeper acts.new ≡ A.keeper acts.old }
     ensures told { Tells (A.told acts.old) (A.told acts.new) (puts_where is_inside base code.now) }
 {
     for i in 0..code.len() {
@@ -46,13 +48,14 @@ fn put_inside<A: Acts>(acts: &mut A, base: u32, code: &[u8])
 
 /// Puts the bundle starts, rising.
 fn put_starts<A: Acts>(acts: &mut A, base: u32, code: &[u8])
-    requires whole { IsText (A.code acts.old) }
-    requires placed { IsPlaced base (limit_of (A.code acts.old).bytes) (length code.now) }
-    requires closed { IsClosed (with_span (A.code acts.old).bytes (base - 65536) code.now) (A.code acts.old).marks }
-    requires almost { IsFinalBut (with_span (A.code acts.old).bytes (base - 65536) code.now) (A.code acts.old).bytes base (base + length code.now) }
-    ensures bytes { (A.code acts.new).bytes ≡ with_span (A.code acts.old).bytes (base - 65536) code.now }
-    ensures marks { (A.code acts.new).marks ≡ (A.code acts.old).marks }
-    ensures whole { IsText (A.code acts.new) }
+    requires whole { IsText (A.marked acts.old) }
+    requires placed { IsPlaced base (limit_of (A.marked acts.old).bytes) (length code.now) }
+    requires closed { IsClosed (with_span (A.marked acts.old).bytes (base - 65536) code.now) (A.marked acts.old).marks }
+    requires almost { IsFinalBut (with_span (A.marked acts.old).bytes (base - 65536) code.now) (A.marked acts.old).bytes base (base + length code.now) }
+    ensures bytes { (A.marked acts.new).bytes ≡ with_span (A.marked acts.old).bytes (base - 65536) code.now }
+    ensures marks { (A.marked acts.new).marks ≡ (A.marked acts.old).marks }
+    ensures whole { IsText (A.marked acts.new) }
+    ensures keeper { A.keeper acts.new ≡ A.keeper acts.old }
     ensures told { Tells (A.told acts.old) (A.told acts.new) (puts_where is_start base code.now) }
 {
     for i in 0..code.len() {

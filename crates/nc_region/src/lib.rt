@@ -4,11 +4,13 @@
 mod acts;
 mod chunk;
 mod create;
+mod delete;
 mod fault;
 mod law;
 mod listing;
 mod modify;
 mod plain;
+mod reclaim;
 mod recorder;
 mod region;
 mod shared;
@@ -17,7 +19,7 @@ mod walk;
 
 pub use acts::{Act, Acts};
 pub use chunk::{Chunk, ChunkState};
-pub use fault::{CreateFault, ModifyFault, RegionFault, WalkFault};
+pub use fault::{CreateFault, DeleteFault, ModifyFault, RegionFault, WalkFault};
 pub use law::law_of_chunks;
 pub use plain::Plain;
 pub use recorder::Recorder;

@@ -1,13 +1,16 @@
 //! The list of chunks, by rising base.
 
-ghost use Rattle.std.specs.Prelude.{◌≡◌, ◌+◌, ◌-◌, ◌<◌, ◌≤◌, ◌^◌, ℕ, false, length, take, drop, slice_index_or, IsTrue, IfSome, IfNone};
+ghost use Rattle.std.specs.Prelude.{◌≡◌, ◌+◌, ◌-◌, ◌<◌, ◌≤◌, ◌^◌, ℕ, false, length, take, drop, slice_index_or, slice_get, slice_set, Some, IsTrue, IfSome, IfNone};
 ghost use Rattle.std.specs.Vec.{vec_len, vec_capacity};
 ghost use Rattle.std.specs.List.{insert};
 ghost use Rattle.nc_region.specs.Each.{Each};
 ghost use Rattle.nc_region.specs.declared.chunk.Chunk.{Chunk};
-ghost use Rattle.nc_region.specs.Region.{IsRising, IsAboveAll, IsBelowAll, FitsAt, Meets};
+ghost use Rattle.nc_region.specs.declared.chunk.ChunkState.{ChunkState};
+ghost use Rattle.nc_region.specs.Deletion.{HasLive};
+ghost use Rattle.nc_region.specs.Region.{IsRising, IsLive, IsInChunk, IsAboveAll, IsBelowAll, FitsAt, Meets};
+ghost use Rattle.nc_region.specs.Patch.{IsHeldBy, IsHeld};
 
-use crate::chunk::Chunk;
+use crate::chunk::{Chunk, ChunkState};
 
 /// The index of the first chunk whose base isn't below this one, by binary search.
 fn first_from(chunks: &[Chunk], base: u32) -> usize
@@ -35,7 +38,7 @@ fn ends_below(chunks: &[Chunk], k: usize, base: u32) -> bool
     last.base + last.length <= base
 }
 
-/// All but the first k chunks begin at or behind the end of a span.
+/// All but the first k chunks begin at or after the end of a span.
 fn begins_above(chunks: &[Chunk], k: usize, base: u32, len: u32) -> bool
     requires inside { k ≤ length chunks.now }
     requires rising { IsRising 0x10000 chunks.now }
@@ -68,6 +71,74 @@ pub(crate) fn room_for(chunks: &[Chunk], base: u32, len: u32) -> Option<usize>
         return None;
     }
     Some(k)
+}
+
+/// The number of chunks whose base is at most this address, by binary search.
+fn count_to(chunks: &[Chunk], at: u32) -> usize
+    requires { IsRising 0x10000 chunks.now }
+    ensures bound { result ≤ length chunks.now }
+    ensures below { (i : ℕ) (d : Chunk) → i < result → (slice_index_or chunks.now i d).base ≤ at }
+    ensures above { (i : ℕ) (d : Chunk) → result ≤ i → i < length chunks.now → at < (slice_index_or chunks.now i d).base }
+{
+    chunks.partition_point(|c| c.base <= at)
+}
+
+/// The live chunk in which the place lies, by binary search.
+pub(crate) fn holder(chunks: &[Chunk], at: u32) -> Option<Chunk>
+    requires rising { IsRising 0x10000 chunks.now }
+    ensures some { IfSome result (IsHeldBy chunks.now at) }
+    ensures none { IfNone result (¬ IsHeld chunks.now at) }
+{
+    let k = count_to(chunks, at);
+    if k == 0 {
+        return None;
+    }
+    let chunk = chunks[k - 1];
+    if !is_held_by(chunk, at) {
+        return None;
+    }
+    Some(chunk)
+}
+
+/// The chunk is live, and the place lies in it.
+fn is_held_by(chunk: Chunk, at: u32) -> bool
+    ensures live { IsTrue result → IsLive chunk.state × IsInChunk chunk at }
+    ensures not { result ≡ false → IsLive chunk.state × IsInChunk chunk at → ⊥ }
+{
+    chunk.state == ChunkState::Live && chunk.base <= at && at - chunk.base < chunk.length
+}
+
+/// The index of the live chunk with this base, by binary search.
+pub(crate) fn live_at(chunks: &[Chunk], base: u32) -> Option<usize>
+    requires rising { IsRising 0x10000 chunks.now }
+    requires some { Each (λ (d : Chunk). 0 < d.length) chunks.now }
+    ensures some { IfSome result (λ k. (c : Chunk) × (slice_get chunks.now k ≡ Some c) × (c.state ≡ ChunkState.Live) × (c.base ≡ base)) }
+    ensures none { IfNone result (¬ HasLive chunks.now base) }
+{
+    let k = count_to(chunks, base);
+    if k == 0 {
+        return None;
+    }
+    if !is_live_from(chunks[k - 1], base) {
+        return None;
+    }
+    Some(k - 1)
+}
+
+/// The chunk is live, and this is its base.
+fn is_live_from(chunk: Chunk, base: u32) -> bool
+    ensures live { IsTrue result → (chunk.state ≡ ChunkState.Live) × (chunk.base ≡ base) }
+    ensures not { result ≡ false → IsLive chunk.state × (chunk.base ≡ base) → ⊥ }
+{
+    chunk.state == ChunkState::Live && chunk.base == base
+}
+
+/// Puts a chunk in place of another.
+pub(crate) fn set_chunk(chunks: &mut Vec<Chunk>, k: usize, chunk: Chunk)
+    requires { k < length chunks.old.items }
+    ensures { chunks.new.items ≡ slice_set chunks.old.items k chunk }
+{
+    chunks[k] = chunk;
 }
 
 /// Inserts a chunk, for which there is room.

@@ -1,23 +1,23 @@
 //! Instructions of a chunk replaced in a text that threads are running.
 
-ghost use Rattle.std.specs.Prelude.{◌≡◌, ◌≢◌, ◌+◌, ◌-◌, ◌<◌, ◌≤◌, ◌↔◌, ◌^◌, ◌%◌, ℕ, Bool, false, List, [], ◌∷◌, ◌++◌, length, IsTrue, IsFalse, IfSome, IfNone, if◌then◌else◌};
+ghost use Rattle.std.specs.Prelude.{◌≡◌, ◌≢◌, ◌+◌, ◌-◌, ◌<◌, ◌≤◌, ◌↔◌, ◌^◌, ◌%◌, ℕ, Bool, false, List, [], ◌∷◌, ◌++◌, length, IsTrue, IsFalse, if◌then◌else◌};
 ghost use Rattle.nc_decode.specs.declared.instruction.Mark.{Mark};
 ghost use Rattle.nc_decode.specs.Bundles.{IsInOneBundle};
 ghost use Rattle.nc_decode.specs.Transfers.{is_direct, is_indirect, target};
 ghost use Rattle.nc_vet.specs.Chunk.{Piece, IsTarget};
 ghost use Rattle.nc_text.specs.Marks.{IsClosed};
 ghost use Rattle.nc_text.specs.Places.{byte_at, limit_of};
-ghost use Rattle.nc_text.specs.Code.{Code, IsText, with_span};
+ghost use Rattle.nc_text.specs.MarkedText.{MarkedText, IsText, with_span};
 ghost use Rattle.nc_region.specs.declared.chunk.Chunk.{Chunk};
 ghost use Rattle.nc_region.specs.Acts.{Tells, puts_where};
 ghost use Rattle.nc_region.specs.Chunks.{HasPut};
 ghost use Rattle.nc_region.specs.declared.acts.Act.{Act};
 ghost use Rattle.nc_region.specs.Region.{HoldsValid, IsInChunk};
-ghost use Rattle.nc_region.specs.Patch.{IsPatchSpan, IsHeldBy, IsHeld, AreBytesOf, AreInstructions, IsRun, GoWell, stands_there, any_place, acts_of_instruction, acts_of_modify};
+ghost use Rattle.nc_region.specs.Patch.{IsPatchSpan, AreBytesOf, AreInstructions, IsRun, GoWell, stands_there, any_place, acts_of_instruction, acts_of_modify};
 ghost use Rattle.nc_region.specs.PatchSteps.{IsReplacing, IsInterim, Begins, Along, RunsAlong, NoneIndirect, is_after, CanPatch};
 
 use crate::acts::Acts;
-use crate::chunk::{Chunk, ChunkState};
+use crate::chunk::Chunk;
 use crate::walk::instruction;
 use nc_decode::{BUNDLE, Flow, Instr, Mark, decode};
 
@@ -62,20 +62,7 @@ pub(crate) fn is_patch_span(at: u32, len: usize) -> bool
     0 < len && len <= (BUNDLE - at % BUNDLE) as usize
 }
 
-/// The live chunk in which the place lies.
-pub(crate) fn holder(chunks: &[Chunk], at: u32) -> Option<Chunk>
-    ensures some { IfSome result (IsHeldBy chunks.now at) }
-    ensures none { IfNone result (¬ IsHeld chunks.now at) }
-{
-    for chunk in chunks {
-        if chunk.base <= at && at - chunk.base < chunk.length && chunk.state == ChunkState::Live {
-            return Some(*chunk);
-        }
-    }
-    None
-}
-
-/// The bytes are whole instructions, one behind the other.
+/// The bytes are whole instructions, one after the other.
 pub(crate) fn are_instructions(bytes: &[u8]) -> bool
     ensures { IsTrue result ↔ AreInstructions bytes.now }
 {
@@ -90,10 +77,10 @@ pub(crate) fn are_instructions(bytes: &[u8]) -> bool
 
 /// As long instructions stand from the place on as the new ones are. An instruction of the chunk begins there.
 fn fits_from<A: Acts>(acts: &A, chunk: Chunk, at: u32, new: &[u8]) -> bool
-    requires whole { IsText (A.code acts.now) }
-    requires begins { Begins (A.code acts.now) chunk at }
+    requires whole { IsText (A.marked acts.now) }
+    requires begins { Begins (A.marked acts.now) chunk at }
     requires ends { at + length new.now ≤ chunk.base + chunk.length }
-    ensures exact { (b : Begins (A.code acts.now) chunk at) (news : List Piece) → AreBytesOf new.now news → IsTrue result ↔ RunsAlong b.rest news }
+    ensures exact { (b : Begins (A.marked acts.now) chunk at) (news : List Piece) → AreBytesOf new.now news → IsTrue result ↔ RunsAlong b.rest news }
 {
     if new.is_empty() {
         return true;
@@ -110,13 +97,13 @@ fn fits_from<A: Acts>(acts: &A, chunk: Chunk, at: u32, new: &[u8]) -> bool
 
 /// The new bytes take the place of whole instructions of the chunk, each as long as the new one.
 pub(crate) fn fits<A: Acts>(acts: &A, chunk: Chunk, at: u32, new: &[u8]) -> bool
-    requires whole { IsText (A.code acts.now) }
-    requires holds { HoldsValid (A.code acts.now) chunk }
+    requires whole { IsText (A.marked acts.now) }
+    requires holds { HoldsValid (A.marked acts.now) chunk }
     requires from { IsInChunk chunk at }
     requires ends { at + length new.now ≤ chunk.base + chunk.length }
     requires some { AreInstructions new.now }
-    ensures run { IsTrue result → IsRun (A.code acts.now) chunk at new.now }
-    ensures none { IsFalse result → ¬ IsRun (A.code acts.now) chunk at new.now }
+    ensures run { IsTrue result → IsRun (A.marked acts.now) chunk at new.now }
+    ensures none { IsFalse result → ¬ IsRun (A.marked acts.now) chunk at new.now }
 {
     if !is_marked(acts.mark(at)) {
         return false;
@@ -126,10 +113,10 @@ pub(crate) fn fits<A: Acts>(acts: &A, chunk: Chunk, at: u32, new: &[u8]) -> bool
 
 /// Neither a half of a pair nor an indirect transfer is among these instructions, old and new.
 pub(crate) fn leaves_pairs<A: Acts>(acts: &A, chunk: Chunk, at: u32, new: &[u8]) -> bool
-    requires whole { IsText (A.code acts.now) }
-    requires along { Along (A.code acts.now) chunk at new.now }
+    requires whole { IsText (A.marked acts.now) }
+    requires along { Along (A.marked acts.now) chunk at new.now }
     requires ends { at + length new.now ≤ chunk.base + chunk.length }
-    ensures exact { (b : Begins (A.code acts.now) chunk at) (news : List Piece) → AreBytesOf new.now news → RunsAlong b.rest news → IsTrue result ↔ NoneIndirect b.rest news }
+    ensures exact { (b : Begins (A.marked acts.now) chunk at) (news : List Piece) → AreBytesOf new.now news → RunsAlong b.rest news → IsTrue result ↔ NoneIndirect b.rest news }
 {
     if new.is_empty() {
         return !is_after(acts.mark(at));
@@ -149,9 +136,9 @@ pub(crate) fn leaves_pairs<A: Acts>(acts: &A, chunk: Chunk, at: u32, new: &[u8])
 
 /// A direct transfer of the chunk may go to this address.
 fn is_good<A: Acts>(acts: &A, chunk: Chunk, to: u32) -> bool
-    requires whole { IsText (A.code acts.now) }
-    requires holds { HoldsValid (A.code acts.now) chunk }
-    ensures exact { (h : HoldsValid (A.code acts.now) chunk) → IsTrue result ↔ IsTarget chunk.base (limit_of (A.code acts.now).bytes) h.valid.pieces to }
+    requires whole { IsText (A.marked acts.now) }
+    requires holds { HoldsValid (A.marked acts.now) chunk }
+    ensures exact { (h : HoldsValid (A.marked acts.now) chunk) → IsTrue result ↔ IsTarget chunk.base (limit_of (A.marked acts.now).bytes) h.valid.pieces to }
 {
     if chunk.base <= to && to - chunk.base < chunk.length {
         is_plain(acts.mark(to))
@@ -162,10 +149,10 @@ fn is_good<A: Acts>(acts: &A, chunk: Chunk, to: u32) -> bool
 
 /// The instruction is no direct transfer, or goes where one of the chunk may.
 fn goes_well<A: Acts>(acts: &A, chunk: Chunk, instr: Instr, at: u32) -> bool
-    requires whole { IsText (A.code acts.now) }
-    requires holds { HoldsValid (A.code acts.now) chunk }
+    requires whole { IsText (A.marked acts.now) }
+    requires holds { HoldsValid (A.marked acts.now) chunk }
     requires fits { at + instr.len < 2 ^ 32 }
-    ensures exact { (h : HoldsValid (A.code acts.now) chunk) → IsTrue result ↔ (IsTrue (is_direct instr.flow) → IsTarget chunk.base (limit_of (A.code acts.now).bytes) h.valid.pieces (target instr at)) }
+    ensures exact { (h : HoldsValid (A.marked acts.now) chunk) → IsTrue result ↔ (IsTrue (is_direct instr.flow) → IsTarget chunk.base (limit_of (A.marked acts.now).bytes) h.valid.pieces (target instr at)) }
 {
     if !is_direct(instr.flow) {
         return true;
@@ -175,10 +162,10 @@ fn goes_well<A: Acts>(acts: &A, chunk: Chunk, instr: Instr, at: u32) -> bool
 
 /// Each direct transfer of these instructions goes where one of the chunk may.
 pub(crate) fn keeps_targets<A: Acts>(acts: &A, chunk: Chunk, at: u32, new: &[u8]) -> bool
-    requires whole { IsText (A.code acts.now) }
-    requires holds { HoldsValid (A.code acts.now) chunk }
+    requires whole { IsText (A.marked acts.now) }
+    requires holds { HoldsValid (A.marked acts.now) chunk }
     requires ends { at + length new.now ≤ chunk.base + chunk.length }
-    ensures exact { (h : HoldsValid (A.code acts.now) chunk) (news : List Piece) → AreBytesOf new.now news → IsTrue result ↔ GoWell (IsTarget chunk.base (limit_of (A.code acts.now).bytes) h.valid.pieces) at news }
+    ensures exact { (h : HoldsValid (A.marked acts.now) chunk) (news : List Piece) → AreBytesOf new.now news → IsTrue result ↔ GoWell (IsTarget chunk.base (limit_of (A.marked acts.now).bytes) h.valid.pieces) at news }
 {
     if new.is_empty() {
         return true;
@@ -195,10 +182,10 @@ pub(crate) fn keeps_targets<A: Acts>(acts: &A, chunk: Chunk, at: u32, new: &[u8]
 
 /// These bytes stand there already.
 fn stands_there<A: Acts>(acts: &A, at: u32, bytes: &[u8]) -> bool
-    requires whole { IsText (A.code acts.now) }
+    requires whole { IsText (A.marked acts.now) }
     requires low { 0x10000 ≤ at }
-    requires high { at + length bytes.now ≤ limit_of (A.code acts.now).bytes }
-    ensures { result ≡ stands_there (A.code acts.now).bytes at bytes.now }
+    requires high { at + length bytes.now ≤ limit_of (A.marked acts.now).bytes }
+    ensures { result ≡ stands_there (A.marked acts.now).bytes at bytes.now }
 {
     if bytes.is_empty() {
         return true;
@@ -208,15 +195,16 @@ fn stands_there<A: Acts>(acts: &A, at: u32, bytes: &[u8]) -> bool
 
 /// Replaces the instructions from an address on, rising, by others that are as long. One whose bytes stay gets no put.
 pub(crate) fn put_patch<A: Acts>(acts: &mut A, chunk: Chunk, at: u32, new: &[u8])
-    requires whole { IsText (A.code acts.old) }
-    requires patch { CanPatch (A.code acts.old) chunk at new.now }
+    requires whole { IsText (A.marked acts.old) }
+    requires patch { CanPatch (A.marked acts.old) chunk at new.now }
     requires ends { at + length new.now ≤ chunk.base + chunk.length }
-    ensures bytes { (A.code acts.new).bytes ≡ with_span (A.code acts.old).bytes (at - 65536) new.now }
-    ensures marks { (A.code acts.new).marks ≡ (A.code acts.old).marks }
-    ensures whole { IsText (A.code acts.new) }
-    ensures holds { HoldsValid (A.code acts.new) chunk }
+    ensures bytes { (A.marked acts.new).bytes ≡ with_span (A.marked acts.old).bytes (at - 65536) new.now }
+    ensures marks { (A.marked acts.new).marks ≡ (A.marked acts.old).marks }
+    ensures whole { IsText (A.marked acts.new) }
+    ensures keeper { A.keeper acts.new ≡ A.keeper acts.old }
+    ensures holds { HoldsValid (A.marked acts.new) chunk }
     ensures told { (news : List Piece) → AreBytesOf new.now news
-        → Tells (A.told acts.old) (A.told acts.new) (acts_of_modify (A.code acts.old).bytes at news) }
+        → Tells (A.told acts.old) (A.told acts.new) (acts_of_modify (A.marked acts.old).bytes at news) }
 {
     if new.is_empty() {
         return;
@@ -232,12 +220,13 @@ pub(crate) fn put_patch<A: Acts>(acts: &mut A, chunk: Chunk, at: u32, new: &[u8]
 
 /// Replaces an instruction by one that is as long, unless its bytes stand there already.
 fn put_where_new<A: Acts>(acts: &mut A, at: u32, bytes: &[u8])
-    requires whole { IsText (A.code acts.old) }
-    requires replacing { IsReplacing (A.code acts.old) at bytes.now }
-    ensures bytes { (A.code acts.new).bytes ≡ with_span (A.code acts.old).bytes (at - 65536) bytes.now }
-    ensures marks { (A.code acts.new).marks ≡ (A.code acts.old).marks }
-    ensures whole { IsText (A.code acts.new) }
-    ensures told { Tells (A.told acts.old) (A.told acts.new) (if stands_there (A.code acts.old).bytes at bytes.now then [] else acts_of_instruction at bytes.now) }
+    requires whole { IsText (A.marked acts.old) }
+    requires replacing { IsReplacing (A.marked acts.old) at bytes.now }
+    ensures bytes { (A.marked acts.new).bytes ≡ with_span (A.marked acts.old).bytes (at - 65536) bytes.now }
+    ensures marks { (A.marked acts.new).marks ≡ (A.marked acts.old).marks }
+    ensures whole { IsText (A.marked acts.new) }
+    ensures keeper { A.keeper acts.new ≡ A.keeper acts.old }
+    ensures told { Tells (A.told acts.old) (A.told acts.new) (if stands_there (A.marked acts.old).bytes at bytes.now then [] else acts_of_instruction at bytes.now) }
 {
     if stands_there(acts, at, bytes) {
         return;
@@ -247,11 +236,12 @@ fn put_where_new<A: Acts>(acts: &mut A, at: u32, bytes: &[u8])
 
 /// Replaces an instruction by one that is as long.
 fn put_instruction<A: Acts>(acts: &mut A, at: u32, bytes: &[u8])
-    requires whole { IsText (A.code acts.old) }
-    requires replacing { IsReplacing (A.code acts.old) at bytes.now }
-    ensures bytes { (A.code acts.new).bytes ≡ with_span (A.code acts.old).bytes (at - 65536) bytes.now }
-    ensures marks { (A.code acts.new).marks ≡ (A.code acts.old).marks }
-    ensures whole { IsText (A.code acts.new) }
+    requires whole { IsText (A.marked acts.old) }
+    requires replacing { IsReplacing (A.marked acts.old) at bytes.now }
+    ensures bytes { (A.marked acts.new).bytes ≡ with_span (A.marked acts.old).bytes (at - 65536) bytes.now }
+    ensures marks { (A.marked acts.new).marks ≡ (A.marked acts.old).marks }
+    ensures whole { IsText (A.marked acts.new) }
+    ensures keeper { A.keeper acts.new ≡ A.keeper acts.old }
     ensures told { Tells (A.told acts.old) (A.told acts.new) (acts_of_instruction at bytes.now) }
 {
     let first = bytes[0];
@@ -265,12 +255,13 @@ fn put_instruction<A: Acts>(acts: &mut A, at: u32, bytes: &[u8])
 
 /// Replaces an instruction of more than one byte: a stop at its first byte, then its further bytes, then its first.
 fn put_longer<A: Acts>(acts: &mut A, at: u32, first: u8, rest: &[u8])
-    requires whole { IsText (A.code acts.old) }
+    requires whole { IsText (A.marked acts.old) }
     requires some { 0 < length rest.now }
-    requires replacing { IsReplacing (A.code acts.old) at (first ∷ rest.now) }
-    ensures bytes { (A.code acts.new).bytes ≡ with_span (A.code acts.old).bytes (at - 65536) (first ∷ rest.now) }
-    ensures marks { (A.code acts.new).marks ≡ (A.code acts.old).marks }
-    ensures whole { IsText (A.code acts.new) }
+    requires replacing { IsReplacing (A.marked acts.old) at (first ∷ rest.now) }
+    ensures bytes { (A.marked acts.new).bytes ≡ with_span (A.marked acts.old).bytes (at - 65536) (first ∷ rest.now) }
+    ensures marks { (A.marked acts.new).marks ≡ (A.marked acts.old).marks }
+    ensures whole { IsText (A.marked acts.new) }
+    ensures keeper { A.keeper acts.new ≡ A.keeper acts.old }
     ensures told { Tells (A.told acts.old) (A.told acts.new) (Act.Put at 244 ∷ (puts_where any_place (at + 1) rest.now ++ (Act.Put at first ∷ []))) }
 {
     acts.put(at, STOP);
@@ -280,14 +271,15 @@ fn put_longer<A: Acts>(acts: &mut A, at: u32, first: u8, rest: &[u8])
 
 /// Puts all bytes but the first, rising, while a stop stands at the first.
 fn put_rest<A: Acts>(acts: &mut A, at: u32, rest: &[u8])
-    requires whole { IsText (A.code acts.old) }
+    requires whole { IsText (A.marked acts.old) }
     requires low { 65536 ≤ at }
-    requires high { at + 1 + length rest.now ≤ limit_of (A.code acts.old).bytes }
-    requires stopped { byte_at (A.code acts.old).bytes at ≡ 244 }
-    requires closed { (now : List ℕ) → IsInterim (A.code acts.old).bytes now at (1 + length rest.now) → IsClosed now (A.code acts.old).marks }
-    ensures bytes { HasPut any_place (at + 1) rest.now (length rest.now) (A.code acts.old).bytes (A.code acts.new).bytes }
-    ensures marks { (A.code acts.new).marks ≡ (A.code acts.old).marks }
-    ensures whole { IsText (A.code acts.new) }
+    requires high { at + 1 + length rest.now ≤ limit_of (A.marked acts.old).bytes }
+    requires stopped { byte_at (A.marked acts.old).bytes at ≡ 244 }
+    requires closed { (now : List ℕ) → IsInterim (A.marked acts.old).bytes now at (1 + length rest.now) → IsClosed now (A.marked acts.old).marks }
+    ensures bytes { HasPut any_place (at + 1) rest.now (length rest.now) (A.marked acts.old).bytes (A.marked acts.new).bytes }
+    ensures marks { (A.marked acts.new).marks ≡ (A.marked acts.old).marks }
+    ensures whole { IsText (A.marked acts.new) }
+    ensures keeper { A.keeper acts.new ≡ A.keeper acts.old }
     ensures told { Tells (A.told acts.old) (A.told acts.new) (puts_where any_place (at + 1) rest.now) }
 {
     for i in 0..rest.len() {

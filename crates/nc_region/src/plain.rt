@@ -1,38 +1,53 @@
 //! The acts of a region that tells nothing.
 
-ghost use Rattle.std.specs.Prelude.{◌≡◌, ℕ, IfOk, IfErr, None};
-ghost use Rattle.nc_text.specs.Code.{new_code};
+ghost use Rattle.std.specs.Prelude.{◌≡◌, None};
 
 use crate::acts::Acts;
 use nc_decode::Mark;
+use nc_gens::{Gens, GensFull, Keeper, Pass};
 use nc_text::Text;
 use std::marker::Model;
 
-/// A text alone. It tells nothing of its acts.
+/// A text beside a table of generations and its keeper. It tells nothing of its acts.
 #[derive(Drop)]
-pub struct Plain {
+pub struct Plain<'g> {
     text: Text,
+    gens: &'g Gens,
+    keeper: Keeper,
 }
 
-impl Model for Plain {
-    ghost use Rattle.nc_text.specs.Code.{Code, IsText};
+impl<'g> Model for Plain<'g> {
+    ghost use Rattle.std.specs.Prelude.{◌≡◌};
+    ghost use Rattle.nc_region.specs.Region.{PlainState};
 
-    ghost Value = { Code };
+    ghost Value = { PlainState };
 
-    ghost view = { λ p. p.text };
+    ghost view = { λ p. record { marked = p.text; keeper = p.keeper } };
+
+    ghost invariant = { λ p. p.keeper.table ≡ p.gens.now };
 }
 
-impl Plain {
-    /// This text, changed by its own calls alone.
-    pub fn new(text: Text) -> Plain
-        ensures { result ≡ text }
+impl<'g> Plain<'g> {
+    /// This text, beside this table and its keeper, each changed only by its own calls.
+    pub fn new(text: Text, gens: &'g Gens, keeper: Keeper) -> Plain<'g>
+        requires { keeper.table ≡ gens.now }
+        ensures { result ≡ record { marked = text; keeper = keeper } }
     {
-        Plain { text }
+        Plain { text, gens, keeper }
+    }
+
+    /// The table of generations.
+    pub(crate) fn gens(&self) -> &'g Gens
+        ensures { result.now ≡ self.now.keeper.table }
+    {
+        self.gens
     }
 }
 
-impl Acts for Plain {
-    ghost code = { λ p. p };
+impl<'g> Acts for Plain<'g> {
+    ghost marked = { λ p. p.marked };
+
+    ghost keeper = { λ p. p.keeper };
 
     ghost told = { λ p. None };
 
@@ -58,5 +73,21 @@ impl Acts for Plain {
 
     fn mark(&self, at: u32) -> Mark {
         self.text.mark(at)
+    }
+
+    fn bump(&mut self) -> Result<u64, GensFull> {
+        self.gens.bump(&mut self.keeper)
+    }
+
+    fn look(&mut self) -> u64 {
+        self.gens.look(&mut self.keeper)
+    }
+
+    fn meet(&mut self, pass: &mut Pass) {
+        self.gens.meet(pass, &mut self.keeper);
+    }
+
+    fn generation(&self) -> u64 {
+        self.keeper.generation()
     }
 }

@@ -1,18 +1,25 @@
 //! A recorder of acts, for tests and for whoever wants to see the order of single bytes.
 
-ghost use Rattle.std.specs.Prelude.{◌≡◌, ◌↔◌, ℕ, ◌+◌, ◌<◌, ◌≤◌, List, [], ◌∷◌, ◌++◌, Option, Some, None, IfOk, if◌then◌else◌, false};
+ghost use Rattle.std.specs.Prelude.{◌≡◌, ◌↔◌, ◌+◌, ◌<◌, ◌≤◌, [], ◌∷◌, Some, None, IfOk, IsOk, OnOk, OnErr, ◌^◌, length, All, if◌then◌else◌, false};
 ghost use Rattle.std.specs.Option.{option_map};
 ghost use Rattle.std.specs.Vec.{vec_len, vec_capacity};
+ghost use Rattle.nc_text.specs.MarkedText.{IsText, with_byte, with_marks, without_marks, NamesRegister, KeepsMarks, AreStops};
+ghost use Rattle.nc_text.specs.Marks.{IsClosed};
+ghost use Rattle.nc_text.specs.Places.{InRegion, SpanInRegion};
+ghost use Rattle.nc_region.specs.declared.acts.Act.{Act};
+ghost use Rattle.nc_gens.specs.Rule.{generation_raised};
+ghost use Rattle.nc_gens.specs.Seen.{HasLooked, least_number};
 ghost use Rattle.nc_region.specs.Acts.{Tells};
 
 use crate::acts::{Act, Acts};
 use nc_decode::Mark;
+use nc_gens::{GensFull, Pass};
 use std::alloc::{AllocError, Global};
 
 /// Acts that are recorded, each at the end of a log as it is done.
 ///
 /// The log takes its room when it is made. From the first act on for which there is no room it tells nothing, for
-/// good; the acts themselves are done all the same.
+/// good; the acts themselves are done all the same. Each of its acts says so (`goes_on`).
 #[derive(Drop)]
 pub struct Recorder<A: Acts + Drop> {
     acts: A,
@@ -60,21 +67,50 @@ impl<A: Acts + Drop> Recorder<A> {
 }
 
 impl<A: Acts + Drop> Acts for Recorder<A> {
-    ghost code = { λ r. A.code r.acts };
+    ghost marked = { λ r. A.marked r.acts };
+
+    ghost keeper = { λ r. A.keeper r.acts };
 
     ghost told = { λ r. if r.full then None else Some r.log.items };
 
-    fn put(&mut self, at: u32, byte: u8) {
+    fn put(&mut self, at: u32, byte: u8)
+        requires inside { InRegion (A.marked self.old.acts).bytes at }
+        requires closed { IsClosed (with_byte (A.marked self.old.acts) at byte).bytes (A.marked self.old.acts).marks }
+        ensures marked { A.marked self.new.acts ≡ with_byte (A.marked self.old.acts) at byte }
+        ensures whole { IsText (A.marked self.new.acts) }
+        ensures keeper { A.keeper self.new.acts ≡ A.keeper self.old.acts }
+        ensures told { Tells (if self.old.full then None else Some self.old.log.items) (if self.new.full then None else Some self.new.log.items) (Act.Put at byte ∷ []) }
+        ensures goes_on { (self.new.full ≡ false) ↔ ((self.old.full ≡ false) × (vec_len self.old.log < vec_capacity self.old.log)) }
+    {
         self.acts.put(at, byte);
         self.record(Act::Put(at, byte));
     }
 
-    fn mark_span(&mut self, at: u32, marks: &[Mark]) {
+    fn mark_span(&mut self, at: u32, marks: &[Mark])
+        requires inside { SpanInRegion (A.marked self.old.acts).bytes at (length marks.now) }
+        requires registers { All NamesRegister marks.now }
+        requires keeps { KeepsMarks (A.marked self.old.acts).marks (with_marks (A.marked self.old.acts) at marks.now).marks }
+        requires closed { IsClosed (A.marked self.old.acts).bytes (with_marks (A.marked self.old.acts) at marks.now).marks }
+        ensures marked { A.marked self.new.acts ≡ with_marks (A.marked self.old.acts) at marks.now }
+        ensures whole { IsText (A.marked self.new.acts) }
+        ensures keeper { A.keeper self.new.acts ≡ A.keeper self.old.acts }
+        ensures told { Tells (if self.old.full then None else Some self.old.log.items) (if self.new.full then None else Some self.new.log.items) (Act.MarkSpan at (length marks.now) ∷ []) }
+        ensures goes_on { (self.new.full ≡ false) ↔ ((self.old.full ≡ false) × (vec_len self.old.log < vec_capacity self.old.log)) }
+    {
         self.acts.mark_span(at, marks);
         self.record(Act::MarkSpan(at, marks.len() as u32));
     }
 
-    fn unmark_span(&mut self, at: u32, len: u32) {
+    fn unmark_span(&mut self, at: u32, len: u32)
+        requires inside { SpanInRegion (A.marked self.old.acts).bytes at len }
+        requires stops { AreStops (A.marked self.old.acts).bytes at len }
+        requires closed { IsClosed (A.marked self.old.acts).bytes (without_marks (A.marked self.old.acts) at len).marks }
+        ensures marked { A.marked self.new.acts ≡ without_marks (A.marked self.old.acts) at len }
+        ensures whole { IsText (A.marked self.new.acts) }
+        ensures keeper { A.keeper self.new.acts ≡ A.keeper self.old.acts }
+        ensures told { Tells (if self.old.full then None else Some self.old.log.items) (if self.new.full then None else Some self.new.log.items) (Act.UnmarkSpan at len ∷ []) }
+        ensures goes_on { (self.new.full ≡ false) ↔ ((self.old.full ≡ false) × (vec_len self.old.log < vec_capacity self.old.log)) }
+    {
         self.acts.unmark_span(at, len);
         self.record(Act::UnmarkSpan(at, len));
     }
@@ -89,5 +125,42 @@ impl<A: Acts + Drop> Acts for Recorder<A> {
 
     fn mark(&self, at: u32) -> Mark {
         self.acts.mark(at)
+    }
+
+    fn bump(&mut self) -> Result<u64, GensFull>
+        ensures room { IsOk result ↔ ((A.keeper self.old.acts).numbers.generation < 2 ^ 62) }
+        ensures stamp { IfOk result (λ n. n ≡ (A.keeper self.old.acts).numbers.generation + 1) }
+        ensures raised { OnOk result (A.keeper self.new.acts ≡ record (A.keeper self.old.acts) { numbers = generation_raised (A.keeper self.old.acts).numbers }) }
+        ensures told { OnOk result (Tells (if self.old.full then None else Some self.old.log.items) (if self.new.full then None else Some self.new.log.items) (Act.Bump ∷ [])) }
+        ensures goes_on { OnOk result ((self.new.full ≡ false) ↔ ((self.old.full ≡ false) × (vec_len self.old.log < vec_capacity self.old.log))) }
+        ensures marked { A.marked self.new.acts ≡ A.marked self.old.acts }
+        ensures full { OnErr result (((A.keeper self.old.acts).numbers.generation ≡ 2 ^ 62) × (A.keeper self.new.acts ≡ A.keeper self.old.acts)) }
+        ensures silent { OnErr result ((self.new.full ≡ self.old.full) × (self.new.log.items ≡ self.old.log.items)) }
+    {
+        let answer = self.acts.bump();
+        if answer.is_ok() {
+            self.record(Act::Bump);
+        }
+        answer
+    }
+
+    fn look(&mut self) -> u64
+        ensures looked { HasLooked (A.keeper self.old.acts) (A.keeper self.new.acts) }
+        ensures least { result ≡ least_number (A.keeper self.new.acts).numbers }
+        ensures marked { A.marked self.new.acts ≡ A.marked self.old.acts }
+        ensures told { Tells (if self.old.full then None else Some self.old.log.items) (if self.new.full then None else Some self.new.log.items) (Act.Look ∷ []) }
+        ensures goes_on { (self.new.full ≡ false) ↔ ((self.old.full ≡ false) × (vec_len self.old.log < vec_capacity self.old.log)) }
+    {
+        let least = self.acts.look();
+        self.record(Act::Look);
+        least
+    }
+
+    fn meet(&mut self, pass: &mut Pass) {
+        self.acts.meet(pass);
+    }
+
+    fn generation(&self) -> u64 {
+        self.acts.generation()
     }
 }

@@ -1,10 +1,14 @@
 //! A region: a text by its acts, and the list of its chunks.
 
-ghost use Rattle.std.specs.Prelude.{◌≡◌, ◌≤◌, ◌<◌, ◌⊎◌, ◌↔◌, List, length, [], None, OnOk, IfOk, IfErr, slice_get};
+ghost use Rattle.std.specs.Prelude.{◌≡◌, ◌+◌, ◌*◌, ◌↔◌, List, length, [], None, OnOk, OnErr, IfOk, IfErr, slice_get};
 ghost use Rattle.nc_text.specs.Machine.{IsConfined};
 ghost use Rattle.nc_text.specs.Places.{InRegion, byte_at, limit_of};
-ghost use Rattle.nc_text.specs.Code.{new_code};
+ghost use Rattle.nc_decode.specs.Bundles.{IsLawfulLimit};
+ghost use Rattle.nc_text.specs.MarkedText.{unused_text};
 ghost use Rattle.nc_region.specs.Acts.{Tells, acts_of_create};
+ghost use Rattle.nc_gens.specs.Seen.{HasMet};
+ghost use Rattle.nc_region.specs.Quiet.{AreQuiet};
+ghost use Rattle.nc_region.specs.Deletion.{IsDeleted, MayRefuseDelete, IsReclaimed};
 ghost use Rattle.nc_region.specs.Region.{Region, IsRegion, IsNew, IsCreated, MayRefuse, Meets};
 ghost use Rattle.nc_vet.specs.Chunk.{Piece};
 ghost use Rattle.nc_region.specs.Patch.{IsPatch, MayRefusePatch, IsModified, AreBytesOf, acts_of_modify};
@@ -13,28 +17,31 @@ ghost use Rattle.nc_region.specs.Trace.{IsTrace, IsOnlyTrace, IsSafeWalk, IsWalk
 use crate::acts::Acts;
 use crate::chunk::{Chunk, ChunkState};
 use crate::create::put_chunk;
-use crate::fault::{CreateFault, ModifyFault, RegionFault, WalkFault};
-use crate::listing::{insert_chunk, room_for};
+use crate::delete::put_stops;
+use crate::fault::{CreateFault, DeleteFault, ModifyFault, RegionFault, WalkFault};
+use crate::listing::{holder, insert_chunk, live_at, room_for, set_chunk};
 use crate::modify::{
-    are_instructions, fits, holder, is_patch_span, keeps_targets, leaves_pairs, put_patch,
+    are_instructions, fits, is_patch_span, keeps_targets, leaves_pairs, put_patch,
 };
 use crate::plain::Plain;
+use crate::reclaim::{remove_due, unmark_due};
 use crate::trace::Trace;
 use crate::walk::walk_from;
 use nc_decode::{BUNDLE, START};
+use nc_gens::{Gens, Keeper, LAST_GENERATION, Pass};
 use nc_text::{Text, TextFault};
 use nc_vet::Vetted;
 use std::alloc::{AllocError, Global};
 use std::marker::Model;
 
 /// A region over a text that tells nothing of its acts.
-pub type Region = RegionOf<Plain>;
+pub type Region<'g> = RegionOf<Plain<'g>>;
 
 /// A region of code from 00010000 to its limit, reached through `A` alone.
 ///
 /// Every value of the type is confined: each path through its text that begins at a bundle start stands on safe states
-/// alone. A live chunk's bytes and marks are those of a valid chunk; all other bytes are F4, and outside chunks bundle
-/// starts alone are marked. Chunks are listed by rising base and never overlap.
+/// alone. A live chunk's bytes and marks are those of a valid chunk; all other bytes are F4, and outside chunks only bundle
+/// starts are marked. Chunks are listed by rising base and never overlap.
 #[derive(Drop)]
 pub struct RegionOf<A: Acts + Drop> {
     acts: A,
@@ -46,31 +53,49 @@ impl<A: Acts + Drop> Model for RegionOf<A> {
 
     ghost Value = { Region };
 
-    ghost view = { λ r. record { code = A.code r.acts; chunks = r.chunks.items; told = A.told r.acts } };
+    ghost view = { λ r. record { marked = A.marked r.acts; chunks = r.chunks.items; keeper = A.keeper r.acts; told = A.told r.acts } };
 
-    ghost invariant = { λ r. IsRegion (A.code r.acts) r.chunks.items };
+    ghost invariant = { λ r. IsRegion (A.marked r.acts) r.chunks.items };
 }
 
-impl RegionOf<Plain> {
-    /// A region of this many bundles, without a chunk. Its last bundle is the guard, in which no chunk stands.
-    pub fn new(alloc: Global, bundles: u32) -> Result<Region, RegionFault>
-        ensures size { (result ≡ Err RegionFault.BadSize) ↔ ((bundles < 2) ⊎ (524288 < bundles)) }
-        ensures region { IfOk result (λ r. r ≡ record { code = new_code bundles; chunks = []; told = None }) }
-        ensures confined { IfOk result (λ r. IsConfined r.code.bytes) }
+impl<'g> RegionOf<Plain<'g>> {
+    /// A region of this many bundles over a table of generations, without a chunk. Its last bundle is the guard, in which no
+    /// chunk stands. A refusal gives the keeper back.
+    pub fn new(
+        alloc: Global,
+        bundles: u32,
+        gens: &'g Gens,
+        keeper: Keeper,
+    ) -> Result<Region<'g>, (Keeper, RegionFault)>
+        requires { keeper.table ≡ gens.now }
+        // The wrong size is found exactly where it is one.
+        ensures lawful { OnOk result (IsLawfulLimit (0x10000 + 32 * bundles)) }
+        ensures size { IfErr result (λ e. (e.1 ≡ RegionFault.BadSize) ↔ ¬ IsLawfulLimit (0x10000 + 32 * bundles)) }
+        ensures given_back { IfErr result (λ e. e.0 ≡ keeper) }
+        ensures region { IfOk result (λ r. r ≡ record { marked = unused_text (0x10000 + 32 * bundles); chunks = []; keeper = keeper; told = None }) }
+        ensures confined { IfOk result (λ r. IsConfined r.marked.bytes) }
     {
         match Text::new(alloc, bundles) {
-            Ok(text) => Ok(RegionOf::over(alloc, Plain::new(text))),
-            Err(TextFault::BadSize) => Err(RegionFault::BadSize),
-            Err(TextFault::OutOfMemory) => Err(RegionFault::OutOfMemory),
+            Ok(text) => Ok(RegionOf::over(alloc, Plain::new(text, gens, keeper))),
+            Err(TextFault::BadSize) => Err((keeper, RegionFault::BadSize)),
+            Err(TextFault::OutOfMemory) => Err((keeper, RegionFault::OutOfMemory)),
         }
+    }
+
+    /// The table of generations.
+    pub(crate) fn gens(&self) -> &'g Gens
+        ensures { result.now ≡ self.now.keeper.table }
+    {
+        let acts = &self.acts;
+        acts.gens()
     }
 }
 
 impl<A: Acts + Drop> RegionOf<A> {
     /// A region over a new text, without a chunk. It takes no memory.
     pub fn over(alloc: Global, acts: A) -> RegionOf<A>
-        requires { IsNew (A.code acts) }
-        ensures { result ≡ record { code = A.code acts; chunks = []; told = A.told acts } }
+        requires { IsNew (A.marked acts) }
+        ensures { result ≡ record { marked = A.marked acts; chunks = []; keeper = A.keeper acts; told = A.told acts } }
     {
         RegionOf {
             acts,
@@ -78,9 +103,10 @@ impl<A: Acts + Drop> RegionOf<A> {
         }
     }
 
-    /// What the region does its work by, to read what it tells.
+    /// The `Acts` behind this region, for example to read its log.
     pub fn acts(&self) -> &A
-        ensures code { A.code result.now ≡ self.now.code }
+        ensures marked { A.marked result.now ≡ self.now.marked }
+        ensures keeper { A.keeper result.now ≡ self.now.keeper }
         ensures told { A.told result.now ≡ self.now.told }
     {
         &self.acts
@@ -88,25 +114,27 @@ impl<A: Acts + Drop> RegionOf<A> {
 
     /// The address behind the region's last byte.
     pub fn limit(&self) -> u32
-        ensures limit { result ≡ limit_of self.now.code.bytes }
-        ensures region { IsRegion self.now.code self.now.chunks }
+        ensures limit { result ≡ limit_of self.now.marked.bytes }
+        ensures region { IsRegion self.now.marked self.now.chunks }
     {
         self.acts.limit()
     }
 
     /// The byte at an address of the region.
     pub fn byte(&self, at: u32) -> u8
-        requires { InRegion self.now.code.bytes at }
-        ensures { result ≡ byte_at self.now.code.bytes at }
+        requires { InRegion self.now.marked.bytes at }
+        ensures { result ≡ byte_at self.now.marked.bytes at }
     {
         self.acts.byte(at)
     }
 
-    /// How many chunks there are, live and retired. Every path through the text is safe.
+    /// How many chunks there are, live and retired. Every path through the text is safe, and every retired span is quiet:
+    /// its bytes are stops, and no thread outside it can come into it but at a bundle start.
     pub fn chunk_count(&self) -> usize
         ensures count { result ≡ length self.now.chunks }
-        ensures confined { IsConfined self.now.code.bytes }
-        ensures region { IsRegion self.now.code self.now.chunks }
+        ensures confined { IsConfined self.now.marked.bytes }
+        ensures quiet { AreQuiet self.now.marked self.now.chunks }
+        ensures region { IsRegion self.now.marked self.now.chunks }
     {
         self.chunks.len()
     }
@@ -126,12 +154,12 @@ impl<A: Acts + Drop> RegionOf<A> {
         // Exactly the acts of a creation were done, where they are told.
         ensures acts { OnOk result (Tells self.old.told self.new.told (acts_of_create vetted.base vetted.code)) }
         // It is created only for this region's limit, where no chunk stands.
-        ensures free { OnOk result ((vetted.limit ≡ limit_of self.old.code.bytes) × ¬ Meets vetted.base (length vetted.code) self.old.chunks) }
+        ensures free { OnOk result ((vetted.limit ≡ limit_of self.old.marked.bytes) × ¬ Meets vetted.base (length vetted.code) self.old.chunks) }
         // Text, marks, chunks and acts are as before, and the chunk comes back.
         ensures unchanged { IfErr result (λ e. (e.0 ≡ vetted) × (self.new ≡ self.old)) }
         // Each refusal comes where it is due.
         ensures refused { IfErr result (λ e. MayRefuse self.old vetted e.1) }
-        ensures confined { IsConfined self.new.code.bytes }
+        ensures confined { IsConfined self.new.marked.bytes }
     {
         let base = vetted.base();
         if vetted.limit() != self.acts.limit() {
@@ -168,14 +196,14 @@ impl<A: Acts + Drop> RegionOf<A> {
         ensures modified { OnOk result (IsModified self.old self.new at new.now) }
         // Exactly the acts of a patch were done, where they are told.
         ensures acts { OnOk result ((news : List Piece) → AreBytesOf new.now news
-            → Tells self.old.told self.new.told (acts_of_modify self.old.code.bytes at news)) }
+            → Tells self.old.told self.new.told (acts_of_modify self.old.marked.bytes at news)) }
         // Lawful patches alone are made.
         ensures lawful { OnOk result (IsPatch self.old at new.now) }
         // Text, marks, chunks and acts are as before.
         ensures unchanged { IfErr result (λ e. self.new ≡ self.old) }
         // Each refusal comes exactly where it is due.
         ensures refused { IfErr result (MayRefusePatch self.old at new.now) }
-        ensures confined { IsConfined self.new.code.bytes }
+        ensures confined { IsConfined self.new.marked.bytes }
     {
         // Names a field, so that the first return is checked against the fields and not the whole.
         let _open = &self.chunks;
@@ -201,6 +229,61 @@ impl<A: Acts + Drop> RegionOf<A> {
         Ok(())
     }
 
+    /// Deletes the live chunk of this base: puts stops at its marked places, rising, then at its other places, rising; then
+    /// draws a stamp, and answers it. The chunk stays in the list, retired with that stamp, and its marks stay, until every
+    /// seat has checked in since or has left (`reclaim`). A refusal changes nothing. It takes no memory.
+    pub fn delete(&mut self, base: u32) -> Result<u64, DeleteFault>
+        // The chunk's bytes are stops, and it is retired with the answer as its stamp; all else is as before. Exactly the
+        // acts of a deletion were done, where they are told.
+        ensures deleted { IfOk result (IsDeleted self.old self.new base) }
+        // Text, marks, chunks, keeper and acts are as before.
+        ensures unchanged { OnErr result (self.new ≡ self.old) }
+        // Each refusal comes exactly where it is due.
+        ensures refused { IfErr result (MayRefuseDelete self.old base) }
+        ensures confined { IsConfined self.new.marked.bytes }
+    {
+        let Some(k) = live_at(&self.chunks, base) else {
+            return Err(DeleteFault::NoChunk);
+        };
+        if self.acts.generation() >= LAST_GENERATION {
+            return Err(DeleteFault::GensFull);
+        }
+        let length = self.chunks[k].length;
+        let stamp = put_stops(&mut self.acts, base, length);
+        let retired = Chunk {
+            base,
+            length,
+            state: ChunkState::Retired(stamp),
+        };
+        set_chunk(&mut self.chunks, k, retired);
+        Ok(stamp)
+    }
+
+    /// Looks how far the seats have come; unmarks and takes out of the list every retired chunk with a stamp of at most the
+    /// answer, rising; and answers how many these were. Their spans may be used again. It takes no memory and has no refusal.
+    ///
+    /// Not promised: that any chunk is ever freed. A seat that neither checks in nor leaves holds back each later stamp.
+    pub fn reclaim(&mut self) -> u32
+        // Exactly the chunks that are due are gone; the keeper has looked, and all else is as before. Exactly the acts of a
+        // reclaiming were done, where they are told.
+        ensures reclaimed { IsReclaimed self.old self.new result }
+        ensures confined { IsConfined self.new.marked.bytes }
+    {
+        let least = self.acts.look();
+        unmark_due(&mut self.acts, &self.chunks, least);
+        remove_due(&mut self.chunks, least)
+    }
+
+    /// A pass and the region's keeper learn where the other stands, as by `Gens::meet`. It takes no memory, and changes
+    /// nothing else.
+    pub fn meet(&mut self, pass: &mut Pass)
+        requires { pass.old.table ≡ self.old.keeper.table }
+        ensures met { HasMet pass.old self.old.keeper pass.new self.new.keeper }
+        ensures others { self.new ≡ record self.old { keeper = self.new.keeper } }
+    {
+        self.acts.meet(pass);
+    }
+
     /// A walk from a bundle start of the region, as these choices pick its steps: the places over which it goes, and how
     /// it ends.
     ///
@@ -212,14 +295,14 @@ impl<A: Acts + Drop> RegionOf<A> {
     /// Nothing is executed: the choices stand for what data and flags would decide. `NotBundle` is answered without memory.
     pub fn walk(&self, start: u32, choices: &[u32]) -> Result<Trace, WalkFault>
         // Its places are those of a walk of the machine, and its end is the first that comes.
-        ensures trace { IfOk result (λ t. IsTrace self.now.code.bytes start choices.now t.places.items t.end) }
+        ensures trace { IfOk result (λ t. IsTrace self.now.marked.bytes start choices.now t.places.items t.end) }
         // The start and the choices determine them.
-        ensures only { IfOk result (λ t. IsOnlyTrace self.now.code.bytes start choices.now t.places.items t.end) }
+        ensures only { IfOk result (λ t. IsOnlyTrace self.now.marked.bytes start choices.now t.places.items t.end) }
         // The machine stands on safe states alone.
-        ensures safe { IfOk result (λ t. IsSafeWalk self.now.code.bytes start choices.now t.end) }
-        ensures begins { OnOk result (IsWalkStart self.now.code.bytes start) }
+        ensures safe { IfOk result (λ t. IsSafeWalk self.now.marked.bytes start choices.now t.end) }
+        ensures begins { OnOk result (IsWalkStart self.now.marked.bytes start) }
         // Each refusal comes where it is due.
-        ensures refused { IfErr result (MayRefuseWalk self.now.code.bytes start) }
+        ensures refused { IfErr result (MayRefuseWalk self.now.marked.bytes start) }
     {
         if start < START || start >= self.acts.limit() || start % BUNDLE != 0 {
             return Err(WalkFault::NotBundle);

@@ -1,16 +1,18 @@
 //! What no clause says: that calls succeed, and what the clauses' words come to on examples.
-ghost use Rattle.std.specs.Prelude.{◌≤◌};
+ghost use Rattle.std.specs.Prelude.{◌≡◌, ◌≤◌, All, IfOk};
+ghost use Rattle.std.specs.Thread.{IsSync};
 
 use crate::{
-    Act, Chunk, ChunkState, CreateFault, End, ModifyFault, Plain, Recorder, Region, RegionFault,
-    RegionOf, Shared, Trace, WalkFault,
+    Act, Chunk, ChunkState, CreateFault, DeleteFault, End, ModifyFault, Plain, Recorder, Region,
+    RegionFault, RegionOf, Shared, Trace, WalkFault,
 };
+use nc_gens::{Gens, Keeper, Pass};
 use nc_text::Text;
 use nc_vet::{Vetted, vet};
 use std::alloc::Global;
 use std::sync::Wait;
 use std::test::Fail;
-use std::thread::{Threads, join};
+use std::thread::{Threads, for_each_mut, join, join_mut};
 
 const LIMIT: u32 = 0x10080;
 
@@ -31,30 +33,54 @@ fn chunk(
     }
 }
 
-/// The acts that a creation of nops owes: the puts that aren't bundle starts, the marks, the bundle starts.
-fn owed(alloc: Global, base: u32, len: u32) -> Result<Vec<Act>, Fail> {
+/// A region of so many bundles.
+fn region<'g>(
+    alloc: Global,
+    bundles: u32,
+    gens: &'g Gens,
+    keeper: Keeper,
+) -> Result<Region<'g>, Fail>
+    requires { keeper.table ≡ gens.now }
+    ensures { IfOk result (λ r. r.keeper.table ≡ gens.now) }
+{
+    match Region::new(alloc, bundles, gens, keeper) {
+        Ok(region) => Ok(region),
+        Err((_, fault)) => Err(Fail::new(format_args!("{fault:?}"))),
+    }
+}
+
+/// The acts that a creation of this code owes: the puts that aren't bundle starts, the marks, the bundle starts.
+fn owed(alloc: Global, base: u32, code: &[u8]) -> Result<Vec<Act>, Fail> {
     let mut acts = Vec::new(alloc);
-    for i in 0..len {
+    for (i, byte) in code.iter().enumerate() {
         if i % 32 != 0 {
-            acts.push(Act::Put(base.wrapping_add(i), 0x90))?;
+            acts.push(Act::Put(base.wrapping_add(i as u32), *byte))?;
         }
     }
-    acts.push(Act::MarkSpan(base, len))?;
-    for i in 0..len {
+    acts.push(Act::MarkSpan(base, code.len() as u32))?;
+    for (i, byte) in code.iter().enumerate() {
         if i % 32 == 0 {
-            acts.push(Act::Put(base.wrapping_add(i), 0x90))?;
+            acts.push(Act::Put(base.wrapping_add(i as u32), *byte))?;
         }
     }
     Ok(acts)
 }
 
-/// A region of 8 bundles that tells so many acts.
-fn telling(alloc: Global, room: usize) -> Result<RegionOf<Recorder<Plain>>, Fail> {
-    let text = match Text::new(alloc, 8) {
+/// A region of so many bundles that tells so many acts.
+fn telling<'g>(
+    alloc: Global,
+    gens: &'g Gens,
+    keeper: Keeper,
+    bundles: u32,
+    room: usize,
+) -> Result<RegionOf<Recorder<Plain<'g>>>, Fail>
+    requires { keeper.table ≡ gens.now }
+{
+    let text = match Text::new(alloc, bundles) {
         Ok(text) => text,
         Err(fault) => return Err(Fail::new(format_args!("{fault:?}"))),
     };
-    let recorder = Recorder::new(alloc, Plain::new(text), room)?;
+    let recorder = Recorder::new(alloc, Plain::new(text, gens, keeper), room)?;
     Ok(RegionOf::over(alloc, recorder))
 }
 
@@ -62,14 +88,45 @@ fn telling(alloc: Global, room: usize) -> Result<RegionOf<Recorder<Plain>>, Fail
 fn order_of_acts(rt: HostRuntime) -> Result<(), Fail> {
     for bundles in [1usize, 2, 3] {
         let alloc = rt.alloc();
-        let mut region = telling(alloc, 200)?;
-        let vetted = chunk(alloc, 0x10020, 0x10100, bundles, &[])?;
+        let (gens, keeper, mut passes) = Gens::new(alloc, 1)?;
+        let mut pass = passes.remove(0);
+        let mut region = telling(alloc, &gens, keeper, 8, 300)?;
+        // a stop, then an instruction of two bytes
+        let vetted = chunk(alloc, 0x10020, 0x10100, bundles, &[0xF4, 0xEB, 0xFE])?;
+        let owed = owed(alloc, 0x10020, vetted.code())?;
+        let len = owed.len();
+        assert_eq!(rt; len, [0usize, 33, 65, 97][bundles]);
         let created = region.create(vetted);
         assert!(rt; created.is_ok());
+        assert_eq!(rt; region.acts().told().unwrap_or(&[]), owed.as_slice());
+
+        assert_eq!(rt; region.delete(0x10020), Ok(1));
         let told = region.acts().told().unwrap_or(&[]);
-        let owed = owed(alloc, 0x10020, [0, 32, 64, 96][bundles])?;
-        assert_eq!(rt; told.len(), [0usize, 33, 65, 97][bundles]);
-        assert_eq!(rt; told, owed.as_slice());
+        let size = len.saturating_sub(1);
+        assert_eq!(rt; told.len(), len.saturating_add(size).saturating_add(1));
+        // the marked places first: all but that of the two bytes' second
+        assert_eq!(rt; told.get(len), Some(&Act::Put(0x10020, 0xF4)));
+        assert_eq!(rt;
+            told.get(len.saturating_add(1)),
+            Some(&Act::Put(0x10021, 0xF4))
+        );
+        assert_eq!(rt;
+            told.get(len.saturating_add(2)),
+            Some(&Act::Put(0x10023, 0xF4))
+        );
+        let last = len.saturating_add(size);
+        assert_eq!(rt;
+            told.get(last.saturating_sub(1)),
+            Some(&Act::Put(0x10022, 0xF4))
+        );
+        assert_eq!(rt; told.get(last), Some(&Act::Bump));
+
+        assert_eq!(rt; region.reclaim(), 0);
+        gens.check_in(&mut pass);
+        assert_eq!(rt; region.reclaim(), 1);
+        let told = region.acts().told().unwrap_or(&[]);
+        let rest = [Act::Look, Act::Look, Act::UnmarkSpan(0x10020, size as u32)];
+        assert_eq!(rt; told.get(last.saturating_add(1)..), Some(rest.as_slice()));
     }
     Ok(())
 }
@@ -77,7 +134,8 @@ fn order_of_acts(rt: HostRuntime) -> Result<(), Fail> {
 #[test]
 fn full_recorder(rt: HostRuntime) -> Result<(), Fail> {
     let alloc = rt.alloc();
-    let mut region = telling(alloc, 33)?;
+    let (gens, keeper, _passes) = Gens::new(alloc, 1)?;
+    let mut region = telling(alloc, &gens, keeper, 8, 33)?;
     let first = region.create(chunk(alloc, 0x10000, 0x10100, 1, &[])?);
     assert!(rt; first.is_ok() && region.acts().told().is_some());
     let second = region.create(chunk(alloc, 0x10020, 0x10100, 1, &[])?);
@@ -89,48 +147,50 @@ fn full_recorder(rt: HostRuntime) -> Result<(), Fail> {
 }
 
 #[test]
-fn sizes(rt: HostRuntime) {
+fn sizes(rt: HostRuntime) -> Result<(), Fail> {
     for bundles in [0, 1, 524_289, u32::MAX] {
-        assert_eq!(rt;
-            Region::new(rt.alloc(), bundles).err(),
-            Some(RegionFault::BadSize)
-        );
+        let (gens, keeper, _passes) = Gens::new(rt.alloc(), 1)?;
+        let refused = Region::new(rt.alloc(), bundles, &gens, keeper);
+        let Err((keeper, fault)) = refused else {
+            return Err(Fail::new("a region of a size that there is not"));
+        };
+        assert_eq!(rt; (keeper.generation(), fault), (0, RegionFault::BadSize));
     }
     for (bundles, limit) in [(2, 0x10040), (4, LIMIT), (524_288, 0x101_0000)] {
-        assert_eq!(rt;
-            Region::new(rt.alloc(), bundles)
-                .map(|region| region.limit())
-                .ok(),
-            Some(limit)
-        );
+        let (gens, keeper, _passes) = Gens::new(rt.alloc(), 1)?;
+        assert_eq!(rt; region(rt.alloc(), bundles, &gens, keeper)?.limit(), limit);
     }
+    Ok(())
 }
 
 #[test]
 fn created_twice(rt: HostRuntime) -> Result<(), Fail> {
     let alloc = rt.alloc();
-    let mut region = match Region::new(alloc, 4) {
-        Ok(region) => region,
-        Err(fault) => return Err(Fail::new(format_args!("{fault:?}"))),
-    };
-    assert!(rt;
-        region
-            .create(chunk(alloc, 0x10000, LIMIT, 1, &[0xEB, 0x1E])?)
-            .is_ok()
-    );
+    let (gens, keeper, _passes) = Gens::new(alloc, 1)?;
+    let mut region = region(alloc, 8, &gens, keeper)?;
+    let first = region.create(chunk(alloc, 0x10020, 0x10100, 2, &[0xEB, 0x1E])?);
+    assert!(rt; first.is_ok());
     let only = Chunk {
-        base: 0x10000,
-        length: 32,
+        base: 0x10020,
+        length: 64,
         state: ChunkState::Live,
     };
-    // the same place, a chunk that ends in it, and one for another limit
-    let again = region.create(chunk(alloc, 0x10000, LIMIT, 1, &[0x40])?);
-    let Err((back, fault)) = again else {
-        return Err(Fail::new("created where a chunk stands"));
-    };
-    assert_eq!(rt; fault, CreateFault::Occupied);
-    assert_eq!(rt; back.code().first(), Some(&0x40));
-    let wide = region.create(chunk(alloc, 0x10000, 0x100A0, 4, &[])?);
+    // the same place; chunks that end in it, begin in it, lie round it and in it
+    for (base, bundles) in [
+        (0x10020, 2),
+        (0x10000, 2),
+        (0x10040, 2),
+        (0x10000, 4),
+        (0x10040, 1),
+    ] {
+        let again = region.create(chunk(alloc, base, 0x10100, bundles, &[0x40])?);
+        let Err((back, fault)) = again else {
+            return Err(Fail::new("created where a chunk stands"));
+        };
+        assert_eq!(rt; fault, CreateFault::Occupied);
+        assert_eq!(rt; back.code().first(), Some(&0x40));
+    }
+    let wide = region.create(chunk(alloc, 0x10000, 0x10120, 4, &[])?);
     assert_eq!(rt;
         wide.map_err(|refused| refused.1),
         Err(CreateFault::WrongLimit)
@@ -138,17 +198,152 @@ fn created_twice(rt: HostRuntime) -> Result<(), Fail> {
     assert_eq!(rt; region.chunk_count(), 1);
     assert_eq!(rt; region.chunk(0), Some(only));
     assert_eq!(rt; region.chunk(1), None);
-    assert!(rt; region.create(chunk(alloc, 0x10020, LIMIT, 2, &[])?).is_ok());
-    assert_eq!(rt;
-        region.chunk(1).map(|c| (c.base, c.length)),
-        Some((0x10020, 64))
+    // directly before it and directly after it
+    assert!(rt;
+        region
+            .create(chunk(alloc, 0x10000, 0x10100, 1, &[])?)
+            .is_ok()
     );
-    assert_eq!(rt; (region.limit(), region.chunk_count()), (LIMIT, 2));
+    assert!(rt;
+        region
+            .create(chunk(alloc, 0x10060, 0x10100, 2, &[])?)
+            .is_ok()
+    );
+    assert_eq!(rt; region.chunk(1), Some(only));
+    assert_eq!(rt; (region.limit(), region.chunk_count()), (0x10100, 3));
+    Ok(())
+}
+
+#[test]
+fn many_chunks(rt: HostRuntime) -> Result<(), Fail> {
+    let alloc = rt.alloc();
+    let (gens, keeper, mut passes) = Gens::new(alloc, 1)?;
+    let mut pass = passes.remove(0);
+    let mut region = region(alloc, 128, &gens, keeper)?;
+    // 100 chunks, every other one downwards
+    for i in 0..50u32 {
+        let up = 0x10000u32.wrapping_add(i.wrapping_mul(64));
+        let down = 0x10C60u32.wrapping_sub(i.wrapping_mul(64));
+        assert!(rt; region.create(chunk(alloc, up, 0x11000, 1, &[])?).is_ok());
+        assert!(rt; region.create(chunk(alloc, down, 0x11000, 1, &[])?).is_ok());
+    }
+    assert_eq!(rt; region.chunk_count(), 100);
+    for i in 0..100u32 {
+        let base = 0x10000u32.wrapping_add(i.wrapping_mul(32));
+        assert_eq!(rt; region.chunk(i as usize).map(|c| c.base), Some(base));
+        if i % 3 == 0 {
+            assert!(rt; region.delete(base).is_ok());
+            assert_eq!(rt; region.delete(base), Err(DeleteFault::NoChunk));
+        }
+    }
+    gens.check_in(&mut pass);
+    assert_eq!(rt; (region.reclaim(), region.chunk_count()), (34, 66));
+    assert_eq!(rt; region.chunk(0).map(|c| c.base), Some(0x10020));
+    assert_eq!(rt; region.chunk(2).map(|c| c.base), Some(0x10080));
+    Ok(())
+}
+
+#[test]
+fn long_walk(rt: HostRuntime) -> Result<(), Fail> {
+    let alloc = rt.alloc();
+    let (gens, keeper, _passes) = Gens::new(alloc, 1)?;
+    let mut region = region(alloc, 4, &gens, keeper)?;
+    assert!(rt;
+        region
+            .create(chunk(alloc, 0x10000, LIMIT, 1, &[0xEB, 0xFE])?)
+            .is_ok()
+    );
+    let choices = Vec::from_elem(alloc, 0u32, 1500)?;
+    let Ok(trace) = region.walk(0x10000, &choices) else {
+        return Err(Fail::new("no walk"));
+    };
+    assert_eq!(rt; (trace.places.len(), trace.end), (1501, End::More));
+    assert_eq!(rt; trace.places.as_slice().last(), Some(&0x10000));
+    Ok(())
+}
+
+#[test]
+fn deleted_and_reclaimed(rt: HostRuntime) -> Result<(), Fail> {
+    let alloc = rt.alloc();
+    let (gens, keeper, mut passes) = Gens::new(alloc, 1)?;
+    let mut pass = passes.remove(0);
+    let mut region = region(alloc, 4, &gens, keeper)?;
+    for base in [0x10000, 0x10010, 0x10020, 0x10080] {
+        assert_eq!(rt; region.delete(base), Err(DeleteFault::NoChunk));
+    }
+    let first = region.create(chunk(alloc, 0x10000, LIMIT, 1, &[0xEB, 0x1E])?);
+    assert!(rt; first.is_ok());
+    assert_eq!(rt; region.delete(0x10010), Err(DeleteFault::NoChunk));
+    assert_eq!(rt; region.delete(0x10000), Ok(1));
+    assert_eq!(rt; region.delete(0x10000), Err(DeleteFault::NoChunk));
+    assert_eq!(rt;
+        region.chunk(0).map(|c| c.state),
+        Some(ChunkState::Retired(1))
+    );
+    let Ok(trace) = region.walk(0x10000, &[0]) else {
+        return Err(Fail::new("no walk"));
+    };
+    assert!(rt; is_trace(&trace, &[0x10000], End::Stop));
+    assert_eq!(rt; region.modify(0x10000, &[0x90]), Err(ModifyFault::NotLive));
+    let again = region.create(chunk(alloc, 0x10000, LIMIT, 1, &[])?);
+    assert_eq!(rt;
+        again.map_err(|refused| refused.1),
+        Err(CreateFault::Occupied)
+    );
+    assert_eq!(rt; region.reclaim(), 0);
+    gens.check_in(&mut pass);
+    assert_eq!(rt; (region.reclaim(), region.chunk_count()), (1, 0));
+    assert!(rt; region.create(chunk(alloc, 0x10000, LIMIT, 1, &[])?).is_ok());
+    // the next stamp, which the seat hasn't seen
+    assert_eq!(rt; (region.delete(0x10000), region.reclaim()), (Ok(2), 0));
+    gens.leave(pass);
+    assert_eq!(rt; region.reclaim(), 1);
+    Ok(())
+}
+
+#[test]
+fn a_seat_that_leaves(rt: HostRuntime) -> Result<(), Fail> {
+    let alloc = rt.alloc();
+    let (gens, keeper, mut passes) = Gens::new(alloc, 2)?;
+    let second = passes.remove(1);
+    let mut first = passes.remove(0);
+    let mut region = region(alloc, 4, &gens, keeper)?;
+    assert!(rt; region.create(chunk(alloc, 0x10000, LIMIT, 1, &[])?).is_ok());
+    assert_eq!(rt; region.delete(0x10000), Ok(1));
+    gens.check_in(&mut first);
+    assert_eq!(rt; region.reclaim(), 0);
+    gens.leave(second);
+    assert_eq!(rt; region.reclaim(), 1);
+    Ok(())
+}
+
+#[test]
+fn patch_beside_a_retired_chunk(rt: HostRuntime) -> Result<(), Fail> {
+    let alloc = rt.alloc();
+    let (gens, keeper, _passes) = Gens::new(alloc, 1)?;
+    let mut region = telling(alloc, &gens, keeper, 8, 200)?;
+    let one = region.create(chunk(alloc, 0x10000, 0x10100, 1, &[0xEB, 0xFE])?);
+    let other = region.create(chunk(alloc, 0x10020, 0x10100, 1, &[])?);
+    assert!(rt; one.is_ok() && other.is_ok());
+    assert_eq!(rt; region.delete(0x10020), Ok(1));
+    assert_eq!(rt; region.modify(0x10000, &[0xEB, 0x1E]), Ok(()));
+    let told = region.acts().told().unwrap_or(&[]);
+    let puts = [
+        Act::Put(0x10000, 0xF4),
+        Act::Put(0x10001, 0x1E),
+        Act::Put(0x10000, 0xEB),
+    ];
+    assert_eq!(rt; told.get(99..), Some(puts.as_slice()));
     Ok(())
 }
 
 /// Creates a chunk of a shared region, and walks from its base.
-fn create_and_walk<R: Wait>(rt: &R, shared: &Shared, base: u32, vetted: Vetted) -> Option<Trace> {
+fn create_and_walk<R: Wait>(
+    rt: &R,
+    shared: &Shared<'_>,
+    base: u32,
+    vetted: Vetted,
+) -> Option<Trace> {
     if shared.create(rt, vetted).is_err() {
         return None;
     }
@@ -163,7 +358,7 @@ fn is_trace(trace: &Trace, places: &[u32], end: End) -> bool {
 /// Two threads create and walk, each its own chunk.
 fn run_two<R: Threads + Wait + Sync>(
     rt: &R,
-    shared: &Shared,
+    shared: &Shared<'_>,
     one: Vetted,
     other: Vetted,
 ) -> (Option<Trace>, Option<Trace>) {
@@ -177,11 +372,8 @@ fn run_two<R: Threads + Wait + Sync>(
 #[test]
 fn two_threads(rt: HostRuntime) -> Result<(), Fail> {
     let alloc = rt.alloc();
-    let region = match Region::new(alloc, 4) {
-        Ok(region) => region,
-        Err(fault) => return Err(Fail::new(format_args!("{fault:?}"))),
-    };
-    let shared = Shared::new(region);
+    let (gens, keeper, _passes) = Gens::new(alloc, 1)?;
+    let shared = Shared::new(region(alloc, 4, &gens, keeper)?);
     // a jump to 00010020, and one to 00010000
     let one = chunk(alloc, 0x10000, LIMIT, 1, &[0xEB, 0x1E])?;
     let other = chunk(alloc, 0x10020, LIMIT, 1, &[0xEB, 0xDE])?;
@@ -256,10 +448,8 @@ static WALKS: [(&[u8], &[u32], &[u32], End); 11] = [
 fn walks(rt: HostRuntime) -> Result<(), Fail> {
     for (front, choices, places, end) in &WALKS {
         let alloc = rt.alloc();
-        let mut region = match Region::new(alloc, 4) {
-            Ok(region) => region,
-            Err(fault) => return Err(Fail::new(format_args!("{fault:?}"))),
-        };
+        let (gens, keeper, _passes) = Gens::new(alloc, 1)?;
+        let mut region = region(alloc, 4, &gens, keeper)?;
         assert!(rt;
             region
                 .create(chunk(alloc, 0x10000, LIMIT, 1, front)?)
@@ -295,7 +485,13 @@ static PATCHES: [(&[u8], u32, &[u8], Result<(), ModifyFault>, &[Act]); 31] = [
             Act::Put(0x10000, 0xB8),
         ],
     ),
-    (&[0x90, 0x90, 0x90], 0x10000, &[0x90, 0x40, 0x90], Ok(()), &[Act::Put(0x10001, 0x40)]),
+    (
+        &[0x90, 0x90, 0x90],
+        0x10000,
+        &[0x90, 0x40, 0x90],
+        Ok(()),
+        &[Act::Put(0x10001, 0x40)],
+    ),
     (
         &[0xEB, 0xFE],
         0x10000,
@@ -307,8 +503,20 @@ static PATCHES: [(&[u8], u32, &[u8], Result<(), ModifyFault>, &[Act]); 31] = [
             Act::Put(0x10000, 0xEB),
         ],
     ),
-    (&[0x90, 0x90], 0x10000, &[0x66, 0x90], Err(ModifyFault::Boundaries), &[]),
-    (&[0x90], 0x10000, &[0xF4], Ok(()), &[Act::Put(0x10000, 0xF4)]),
+    (
+        &[0x90, 0x90],
+        0x10000,
+        &[0x66, 0x90],
+        Err(ModifyFault::Boundaries),
+        &[],
+    ),
+    (
+        &[0x90],
+        0x10000,
+        &[0xF4],
+        Ok(()),
+        &[Act::Put(0x10000, 0xF4)],
+    ),
     (
         &[0x83, 0xE0, 0xE0, 0x83, 0xE0, 0xE0, 0xFF, 0xE0],
         0x10000,
@@ -328,13 +536,43 @@ static PATCHES: [(&[u8], u32, &[u8], Result<(), ModifyFault>, &[Act]); 31] = [
         Err(ModifyFault::PairTouched),
         &[],
     ),
-    (&[0xEB, 0xFE], 0x10000, &[0xFF, 0xE0], Err(ModifyFault::PairTouched), &[]),
+    (
+        &[0xEB, 0xFE],
+        0x10000,
+        &[0xFF, 0xE0],
+        Err(ModifyFault::PairTouched),
+        &[],
+    ),
     // nothing changes
-    (&[0xEB, 0xFE, 0x90], 0x10000, &[0xEB, 0xFE, 0x90], Ok(()), &[]),
+    (
+        &[0xEB, 0xFE, 0x90],
+        0x10000,
+        &[0xEB, 0xFE, 0x90],
+        Ok(()),
+        &[],
+    ),
     // a jump into itself, to a bundle start behind, to one that is none, to the limit
-    (&[0xEB, 0xFE], 0x10000, &[0xEB, 0xFF], Err(ModifyFault::BadTarget), &[]),
-    (&[0xEB, 0xFE], 0x10000, &[0xEB, 0x3F], Err(ModifyFault::BadTarget), &[]),
-    (&[0xEB, 0xFE], 0x10000, &[0xEB, 0x7E], Err(ModifyFault::BadTarget), &[]),
+    (
+        &[0xEB, 0xFE],
+        0x10000,
+        &[0xEB, 0xFF],
+        Err(ModifyFault::BadTarget),
+        &[],
+    ),
+    (
+        &[0xEB, 0xFE],
+        0x10000,
+        &[0xEB, 0x3F],
+        Err(ModifyFault::BadTarget),
+        &[],
+    ),
+    (
+        &[0xEB, 0xFE],
+        0x10000,
+        &[0xEB, 0x7E],
+        Err(ModifyFault::BadTarget),
+        &[],
+    ),
     // a second half as a target
     (
         &[0x83, 0xE0, 0xE0, 0xFF, 0xE0, 0xEB, 0xFE],
@@ -346,20 +584,74 @@ static PATCHES: [(&[u8], u32, &[u8], Result<(), ModifyFault>, &[Act]); 31] = [
     // spans
     (&[0x90], 0x10000, &[], Err(ModifyFault::BadSpan), &[]),
     (&[0x90], 0xFFFF_FFFF, &[], Err(ModifyFault::BadSpan), &[]),
-    (&[0x90], 0x1001F, &[0x90, 0x90], Err(ModifyFault::BadSpan), &[]),
-    (&[0x90], 0xFFFF_FFE0, &[0x90; 33], Err(ModifyFault::BadSpan), &[]),
-    (&[0x90], 0xFFFF_FFE0, &[0x90; 32], Err(ModifyFault::NotLive), &[]),
+    (
+        &[0x90],
+        0x1001F,
+        &[0x90, 0x90],
+        Err(ModifyFault::BadSpan),
+        &[],
+    ),
+    (
+        &[0x90],
+        0xFFFF_FFE0,
+        &[0x90; 33],
+        Err(ModifyFault::BadSpan),
+        &[],
+    ),
+    (
+        &[0x90],
+        0xFFFF_FFE0,
+        &[0x90; 32],
+        Err(ModifyFault::NotLive),
+        &[],
+    ),
     (&[0x90], 0x10020, &[0x90], Err(ModifyFault::NotLive), &[]),
     (&[0x90], 0xFFE0, &[0x90], Err(ModifyFault::NotLive), &[]),
     (&[0x90], 0x10080, &[0xC3], Err(ModifyFault::NotLive), &[]),
     (&[0x90], 0x10000, &[0x90; 32], Ok(()), &[]),
     // bytes
-    (&[0x90], 0x10000, &[0xC3], Err(ModifyFault::NotPermitted), &[]),
-    (&[0x90], 0x10000, &[0x90, 0xB8], Err(ModifyFault::NotPermitted), &[]),
-    (&[0xEB, 0xFE], 0x10001, &[0xC3], Err(ModifyFault::NotPermitted), &[]),
-    (&[0xEB, 0xFE], 0x10001, &[0x90], Err(ModifyFault::Boundaries), &[]),
-    (&[0xEB, 0xFE], 0x10000, &[0x90, 0x90], Err(ModifyFault::Boundaries), &[]),
-    (&[0xEB, 0xFE], 0x10001, &[0xFF, 0xE0], Err(ModifyFault::Boundaries), &[]),
+    (
+        &[0x90],
+        0x10000,
+        &[0xC3],
+        Err(ModifyFault::NotPermitted),
+        &[],
+    ),
+    (
+        &[0x90],
+        0x10000,
+        &[0x90, 0xB8],
+        Err(ModifyFault::NotPermitted),
+        &[],
+    ),
+    (
+        &[0xEB, 0xFE],
+        0x10001,
+        &[0xC3],
+        Err(ModifyFault::NotPermitted),
+        &[],
+    ),
+    (
+        &[0xEB, 0xFE],
+        0x10001,
+        &[0x90],
+        Err(ModifyFault::Boundaries),
+        &[],
+    ),
+    (
+        &[0xEB, 0xFE],
+        0x10000,
+        &[0x90, 0x90],
+        Err(ModifyFault::Boundaries),
+        &[],
+    ),
+    (
+        &[0xEB, 0xFE],
+        0x10001,
+        &[0xFF, 0xE0],
+        Err(ModifyFault::Boundaries),
+        &[],
+    ),
     // a pair that stays, and one on another register
     (
         &[0x83, 0xE0, 0xE0, 0xFF, 0xE0],
@@ -394,11 +686,8 @@ static PATCHES: [(&[u8], u32, &[u8], Result<(), ModifyFault>, &[Act]); 31] = [
 fn patches(rt: HostRuntime) -> Result<(), Fail> {
     for (front, at, new, answer, owed) in &PATCHES {
         let alloc = rt.alloc();
-        let text = match Text::new(alloc, 4) {
-            Ok(text) => text,
-            Err(fault) => return Err(Fail::new(format_args!("{fault:?}"))),
-        };
-        let mut region = RegionOf::over(alloc, Recorder::new(alloc, Plain::new(text), 100)?);
+        let (gens, keeper, _passes) = Gens::new(alloc, 1)?;
+        let mut region = telling(alloc, &gens, keeper, 4, 100)?;
         let created = region.create(chunk(alloc, 0x10000, LIMIT, 1, front)?);
         assert!(rt; created.is_ok());
         assert_eq!(rt; region.modify(*at, new), *answer);
@@ -416,7 +705,11 @@ fn patched_walk(rt: HostRuntime) -> Result<(), Fail> {
         Ok(region) => region,
         Err(fault) => return Err(Fail::new(format_args!("{fault:?}"))),
     };
-    assert!(rt; region.create(chunk(alloc, 0x10000, LIMIT, 1, &[0xEB, 0x1E])?).is_ok());
+    assert!(rt;
+        region
+            .create(chunk(alloc, 0x10000, LIMIT, 1, &[0xEB, 0x1E])?)
+            .is_ok()
+    );
     assert_eq!(rt; region.modify(0x10000, &[0xEB, 0x3E]), Ok(()));
     let Ok(trace) = region.walk(0x10000, &[0, 0]) else {
         return Err(Fail::new("no walk"));
@@ -424,5 +717,180 @@ fn patched_walk(rt: HostRuntime) -> Result<(), Fail> {
     assert!(rt; is_trace(&trace, &[0x10000, 0x10040], End::Stop));
     assert_eq!(rt; region.modify(0x10002, &[0xF4]), Ok(()));
     assert_eq!(rt; (region.byte(0x10002), region.byte(0x10001)), (0xF4, 0x3E));
+    Ok(())
+}
+
+#[test]
+fn shared_calls(rt: HostRuntime) -> Result<(), Fail> {
+    let alloc = rt.alloc();
+    let (gens, keeper, mut passes) = Gens::new(alloc, 1)?;
+    let mut pass = passes.remove(0);
+    let shared = Shared::new(region(alloc, 4, &gens, keeper)?);
+    // a jump to 00010020 in a chunk of two bundles
+    assert!(rt;
+        shared
+            .create(&rt, chunk(alloc, 0x10000, LIMIT, 2, &[0xEB, 0x1E])?)
+            .is_ok()
+    );
+    let refused = shared.create(&rt, chunk(alloc, 0x10020, LIMIT, 1, &[0x40])?);
+    let Err((back, fault)) = refused else {
+        return Err(Fail::new("created where a chunk stands"));
+    };
+    assert_eq!(rt;
+        (back.code().first(), fault),
+        (Some(&0x40), CreateFault::Occupied)
+    );
+    assert_eq!(rt; shared.modify(&rt, 0x10000, &[0xEB, 0x3E]), Ok(()));
+    assert_eq!(rt;
+        shared.modify(&rt, 0x10002, &[0xC3]),
+        Err(ModifyFault::NotPermitted)
+    );
+    let Ok(trace) = shared.walk(&rt, 0x10000, &[0, 0]) else {
+        return Err(Fail::new("no walk"));
+    };
+    assert!(rt; is_trace(&trace, &[0x10000, 0x10040], End::Stop));
+    assert_eq!(rt;
+        shared.walk(&rt, 0x10010, &[]).err(),
+        Some(WalkFault::NotBundle)
+    );
+    assert_eq!(rt; shared.delete(&rt, 0x10020), Err(DeleteFault::NoChunk));
+    assert_eq!(rt;
+        (shared.delete(&rt, 0x10000), shared.chunk_count(&rt)),
+        (Ok(1), 1)
+    );
+    assert_eq!(rt; shared.reclaim(&rt), 0);
+    shared.check_in(&mut pass);
+    assert_eq!(rt; (shared.reclaim(&rt), shared.chunk_count(&rt)), (1, 0));
+    shared.leave(pass);
+    Ok(())
+}
+
+/// Checks in so many times, beside the lock.
+fn check_in_often(shared: &Shared<'_>, pass: &mut Pass, times: usize)
+    requires { pass.old.table ≡ shared.now }
+    ensures { pass.new.table ≡ pass.old.table }
+{
+    for _ in 0..times {
+        shared.check_in(pass);
+    }
+}
+
+/// Each pass in a thread of its own.
+fn all_check_in<R: Threads + Sync>(rt: &R, shared: &Shared<'_>, passes: &mut [Pass], times: usize)
+    requires { All (λ p. p.table ≡ shared.now) passes.old }
+    ensures { All (λ p. p.table ≡ shared.now) passes.new }
+{
+    for_each_mut(
+        rt,
+        passes,
+        4,
+        &|_, pass| check_in_often(shared, pass, times),
+    );
+}
+
+/// Creates 32 nops, deletes them and reclaims; the stamp has to be one more than the index. Answers how many were freed.
+fn write_one<R: Wait>(rt: &R, alloc: Global, shared: &Shared<'_>, i: u32) -> Result<u32, Fail> {
+    let base = 0x10000u32.wrapping_add(i.wrapping_mul(32));
+    if shared
+        .create(rt, chunk(alloc, base, 0x11000, 1, &[])?)
+        .is_err()
+    {
+        return Err(Fail::new("not created"));
+    }
+    if shared.delete(rt, base) != Ok(u64::from(i).wrapping_add(1)) {
+        return Err(Fail::new("another stamp"));
+    }
+    Ok(shared.reclaim(rt))
+}
+
+/// A hundred times.
+fn write_all<R: Wait>(rt: &R, alloc: Global, shared: &Shared<'_>) -> Result<u32, Fail> {
+    let mut freed = 0u32;
+    for i in 0..100 {
+        freed = freed.wrapping_add(write_one(rt, alloc, shared, i)?);
+    }
+    Ok(freed)
+}
+
+/// Four passes check in a thousand times each while a writer works.
+fn check_in_beside<R: Threads + Wait + Sync>(
+    rt: &R,
+    alloc: Global,
+    shared: &Shared<'_>,
+    passes: &mut [Pass],
+) -> Result<u32, Fail>
+    requires { All (λ p. p.table ≡ shared.now) passes.old }
+    ensures { All (λ p. p.table ≡ shared.now) passes.new }
+{
+    let (_, wrote) = join_mut(
+        rt,
+        &mut ||
+            requires { IsSync R.row × All (λ p. p.table ≡ shared.now) passes.now }
+            ensures { All (λ p. p.table ≡ shared.entry.now) passes.exit.now }
+        { all_check_in(rt, shared, passes, 1000) },
+        &mut || write_all(rt, alloc, shared),
+    );
+    wrote
+}
+
+#[test]
+fn check_in_beside_writer(rt: HostRuntime) -> Result<(), Fail> {
+    let alloc = rt.alloc();
+    let (gens, keeper, mut passes) = Gens::new(alloc, 4)?;
+    let shared = Shared::new(region(alloc, 128, &gens, keeper)?);
+    let freed = check_in_beside(&rt, alloc, &shared, passes.as_mut_slice())?;
+    assert!(rt;
+        shared
+            .create(&rt, chunk(alloc, 0x10C80, 0x11000, 1, &[])?)
+            .is_ok()
+    );
+    assert_eq!(rt; shared.delete(&rt, 0x10C80), Ok(101));
+    assert!(rt; shared.chunk_count(&rt) >= 1);
+    let last = passes.remove(3);
+    all_check_in(&rt, &shared, passes.as_mut_slice(), 1);
+    shared.leave(last);
+    assert_eq!(rt; freed.wrapping_add(shared.reclaim(&rt)), 101);
+    assert_eq!(rt; shared.chunk_count(&rt), 0);
+    Ok(())
+}
+
+/// It is allowed to start threads and not to wait, so nothing that it calls waits.
+fn no_wait<T: Threads>(
+    _rt: &T,
+    gens: &Gens,
+    shared: &Shared<'_>,
+    keeper: &mut Keeper,
+    mut pass: Pass,
+    own: Pass,
+) -> u64
+    requires { (keeper.old.table ≡ gens.now) × (own.table ≡ gens.now) × (pass.table ≡ shared.now) }
+{
+    let mut own = own;
+    let stamp = gens.bump(keeper).unwrap_or(0);
+    gens.check_in(&mut own);
+    gens.meet(&mut own, keeper);
+    gens.leave(own);
+    shared.check_in(&mut pass);
+    shared.leave(pass);
+    stamp.wrapping_add(gens.look(keeper))
+}
+
+#[test]
+fn calls_that_never_wait(rt: HostRuntime) -> Result<(), Fail> {
+    let alloc = rt.alloc();
+    let (gens, keeper, mut passes) = Gens::new(alloc, 1)?;
+    let (others, mut writer, mut seats) = Gens::new(alloc, 1)?;
+    let shared = Shared::new(region(alloc, 4, &gens, keeper)?);
+    assert_eq!(rt;
+        no_wait(
+            &rt,
+            &others,
+            &shared,
+            &mut writer,
+            passes.remove(0),
+            seats.remove(0)
+        ),
+        2
+    );
     Ok(())
 }

@@ -5,7 +5,7 @@ ghost use Rattle.nc_decode.specs.Bundles.{IsBundleStart, IsInOneBundle};
 ghost use Rattle.nc_decode.specs.Transfers.{is_indirect};
 ghost use Rattle.nc_text.specs.Places.{InRegion, byte_at, instruction_at, limit_of};
 ghost use Rattle.nc_text.specs.Machine.{IsMaskedFor, IsSafe, Leads, state};
-ghost use Rattle.nc_text.specs.Code.{IsText};
+ghost use Rattle.nc_text.specs.MarkedText.{IsText};
 ghost use Rattle.nc_region.specs.Trace.{EndsBy, GoesOn, IsOnlyTrace, IsSafeWalk, IsTrace, Moves, Picks, IsWalkStart, bundle_of};
 
 use crate::acts::Acts;
@@ -39,11 +39,11 @@ pub(crate) fn walk_from<A: Acts>(
     start: u32,
     choices: &[u32],
 ) -> Result<Trace, AllocError>
-    requires whole { IsText (A.code acts.now) }
-    requires begins { IsWalkStart (A.code acts.now).bytes start }
-    ensures trace { IfOk result (λ t. IsTrace (A.code acts.now).bytes start choices.now t.places.items t.end) }
-    ensures only { IfOk result (λ t. IsOnlyTrace (A.code acts.now).bytes start choices.now t.places.items t.end) }
-    ensures safe { IfOk result (λ t. IsSafeWalk (A.code acts.now).bytes start choices.now t.end) }
+    requires whole { IsText (A.marked acts.now) }
+    requires begins { IsWalkStart (A.marked acts.now).bytes start }
+    ensures trace { IfOk result (λ t. IsTrace (A.marked acts.now).bytes start choices.now t.places.items t.end) }
+    ensures only { IfOk result (λ t. IsOnlyTrace (A.marked acts.now).bytes start choices.now t.places.items t.end) }
+    ensures safe { IfOk result (λ t. IsSafeWalk (A.marked acts.now).bytes start choices.now t.end) }
 {
     let mut places = Vec::new(alloc);
     let mut now = Thread::at(start);
@@ -66,12 +66,12 @@ pub(crate) fn walk_from<A: Acts>(
 
 /// The state to which a choice leads from a safe one, or how the walk ends there.
 fn step<A: Acts>(acts: &A, now: Thread, choice: u32) -> Result<Thread, End>
-    requires whole { IsText (A.code acts.now) }
-    requires safe { IsSafe (A.code acts.now).bytes (state now.place now.masked) }
-    ensures moves { IfOk result (λ next. GoesOn (A.code acts.now).bytes (state now.place now.masked)
-        × Moves (A.code acts.now).bytes (state now.place now.masked) choice (state next.place next.masked)) }
+    requires whole { IsText (A.marked acts.now) }
+    requires safe { IsSafe (A.marked acts.now).bytes (state now.place now.masked) }
+    ensures moves { IfOk result (λ next. GoesOn (A.marked acts.now).bytes (state now.place now.masked)
+        × Moves (A.marked acts.now).bytes (state now.place now.masked) choice (state next.place next.masked)) }
     ensures ends { IfErr result (λ end. (rest : List ℕ)
-        → EndsBy (A.code acts.now).bytes (state now.place now.masked) (choice ∷ rest) end) }
+        → EndsBy (A.marked acts.now).bytes (state now.place now.masked) (choice ∷ rest) end) }
 {
     let instr = instruction_or_end(acts, now)?;
     next(instr, now, choice, acts.limit()).ok_or(End::Beyond)
@@ -79,12 +79,12 @@ fn step<A: Acts>(acts: &A, now: Thread, choice: u32) -> Result<Thread, End>
 
 /// The instruction that leads on from a safe state, or how the walk ends there whatever the choices are.
 fn instruction_or_end<A: Acts>(acts: &A, now: Thread) -> Result<Instr, End>
-    requires whole { IsText (A.code acts.now) }
-    requires safe { IsSafe (A.code acts.now).bytes (state now.place now.masked) }
-    ensures goes { IfOk result (λ i. GoesOn (A.code acts.now).bytes (state now.place now.masked)
-        × (instruction_at (A.code acts.now).bytes now.place ≡ Some i)) }
+    requires whole { IsText (A.marked acts.now) }
+    requires safe { IsSafe (A.marked acts.now).bytes (state now.place now.masked) }
+    ensures goes { IfOk result (λ i. GoesOn (A.marked acts.now).bytes (state now.place now.masked)
+        × (instruction_at (A.marked acts.now).bytes now.place ≡ Some i)) }
     ensures ends { IfErr result (λ end. (choices : List ℕ)
-        → EndsBy (A.code acts.now).bytes (state now.place now.masked) choices end) }
+        → EndsBy (A.marked acts.now).bytes (state now.place now.masked) choices end) }
 {
     if now.place < START {
         return Err(End::Trampoline);
@@ -98,10 +98,10 @@ fn instruction_or_end<A: Acts>(acts: &A, now: Thread) -> Result<Instr, End>
 
 /// The instruction that stands at a place, wholly inside its bundle.
 pub(crate) fn instruction<A: Acts>(acts: &A, at: u32) -> Instr
-    requires whole { IsText (A.code acts.now) }
-    requires inside { InRegion (A.code acts.now).bytes at }
-    requires stands { IsSomeAnd (instruction_at (A.code acts.now).bytes at) (λ i. IsInOneBundle at i.len) }
-    ensures { instruction_at (A.code acts.now).bytes at ≡ Some result }
+    requires whole { IsText (A.marked acts.now) }
+    requires inside { InRegion (A.marked acts.now).bytes at }
+    requires stands { IsSomeAnd (instruction_at (A.marked acts.now).bytes at) (λ i. IsInOneBundle at i.len) }
+    ensures { instruction_at (A.marked acts.now).bytes at ≡ Some result }
 {
     let bytes = read_bundle(acts, at);
     let Ok(instr) = decode(&bytes[..(BUNDLE - at % BUNDLE) as usize]) else {
@@ -112,9 +112,9 @@ pub(crate) fn instruction<A: Acts>(acts: &A, at: u32) -> Instr
 
 /// The bytes from a place to the end of its bundle, and zeros behind them.
 fn read_bundle<A: Acts>(acts: &A, at: u32) -> [u8; 32]
-    requires whole { IsText (A.code acts.now) }
-    requires inside { InRegion (A.code acts.now).bytes at }
-    ensures { (k : ℕ) → k < 32 - at % 32 → slice_index result k ≡ byte_at (A.code acts.now).bytes (at + k) }
+    requires whole { IsText (A.marked acts.now) }
+    requires inside { InRegion (A.marked acts.now).bytes at }
+    ensures { (k : ℕ) → k < 32 - at % 32 → slice_index result k ≡ byte_at (A.marked acts.now).bytes (at + k) }
 {
     let mut bytes = [0; 32];
     for k in 0..BUNDLE - at % BUNDLE {

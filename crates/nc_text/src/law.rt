@@ -16,8 +16,9 @@ pub fn law_of_closed()
 /// What confined is worth, and which paths there are. It does nothing when it is called.
 ///
 /// A path may begin at each bundle start of the region with nothing masked, and goes on by each step. In a confined text
-/// each state of it stands on a permitted instruction wholly inside its bundle, on an indirect transfer only with that
-/// register just masked, or on a bundle start below 00010000.
+/// each state of it stands on a permitted instruction wholly inside its bundle, which is not barred (no return, no
+/// interrupt, no segment override), on an indirect transfer only with that register just masked, or on a bundle start
+/// below 00010000.
 pub fn law_of_paths()
     ensures stands { (text : List ℕ) (before after : List State) (now : State) → IsConfined text
         → IsPath text (before ++ now ∷ after) → Stands text now }

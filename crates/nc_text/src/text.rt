@@ -1,24 +1,28 @@
 //! A text: the bytes of a region and their marks.
 
 ghost use Rattle.std.specs.Prelude.{◌≡◌, ◌+◌, ◌%◌, ◌-◌, ◌*◌, ◌≤◌, ◌<◌, ℕ, List, length, IfOk, All, ◌↔◌, ◌⊎◌};
+ghost use Rattle.nc_decode.specs.Bundles.{IsLawfulLimit};
 ghost use Rattle.nc_text.specs.Marks.{IsClosed, mark_at};
 ghost use Rattle.nc_text.specs.Places.{InRegion, SpanInRegion, byte_at, limit_of};
-ghost use Rattle.nc_text.specs.Code.{Code, IsText, with_byte, with_marks, without_marks, new_code, NamesRegister, KeepsMarks, AreStops};
+ghost use Rattle.nc_text.specs.MarkedText.{MarkedText, IsText, with_byte, with_marks, without_marks, unused_text, NamesRegister, KeepsMarks, AreStops};
 
-use crate::spans::{bare, set_span, unmark};
+use crate::spans::{set_span, unmark, unused_marks};
 use nc_decode::{MAX_BUNDLES, Mark, START};
 use std::alloc::Global;
 use std::marker::Model;
+use thiserror::Error;
 
 /// The byte of the instruction hlt, with which all unused text is filled.
 const STOP: u8 = 0xF4;
 
 /// Why no text is made.
-#[derive(Clone, Copy, Debug, PartialEq, Eq)]
+#[derive(Clone, Copy, Debug, PartialEq, Eq, Error)]
 pub enum TextFault {
-    /// The number of bundles isn't in 2 to 524288.
+    /// The number of bundles isn't that of a lawful limit.
+    #[error("bad size")]
     BadSize,
     /// A growth was refused.
+    #[error("out of memory")]
     OutOfMemory,
 }
 
@@ -40,9 +44,9 @@ pub struct Text {
 }
 
 impl Model for Text {
-    ghost use Rattle.nc_text.specs.Code.{Code, IsText};
+    ghost use Rattle.nc_text.specs.MarkedText.{MarkedText, IsText};
 
-    ghost Value = { Code };
+    ghost Value = { MarkedText };
 
     ghost view = { λ t. record { bytes = t.bytes.items; marks = t.marks.items } };
 
@@ -55,11 +59,10 @@ impl Text {
     ///
     /// # Errors
     ///
-    /// `BadSize` exactly where `bundles` isn't in 2 to 524288, before any growth, and `OutOfMemory` only where a growth was
-    /// refused.
+    /// `BadSize` exactly where that is no lawful limit, before any growth, and `OutOfMemory` only where a growth was refused.
     pub fn new(alloc: Global, bundles: u32) -> Result<Self, TextFault>
-        ensures size { (result ≡ Err TextFault.BadSize) ↔ ((bundles < 2) ⊎ (524288 < bundles)) }
-        ensures code { IfOk result (λ t. t ≡ new_code bundles) }
+        ensures size { (result ≡ Err TextFault.BadSize) ↔ ¬ IsLawfulLimit (0x10000 + 32 * bundles) }
+        ensures marked { IfOk result (λ t. t ≡ unused_text (0x10000 + 32 * bundles)) }
         ensures whole { IfOk result IsText }
     {
         if bundles < 2 || bundles > MAX_BUNDLES {
@@ -70,7 +73,7 @@ impl Text {
         let Ok(()) = bytes.resize(n, STOP) else {
             return Err(TextFault::OutOfMemory);
         };
-        let Ok(marks) = bare(alloc, n) else {
+        let Ok(marks) = unused_marks(alloc, n) else {
             return Err(TextFault::OutOfMemory);
         };
         Ok(Text { bytes, marks })
@@ -106,7 +109,7 @@ impl Text {
     pub fn put(&mut self, at: u32, byte: u8)
         requires inside { InRegion self.old.bytes at }
         requires closed { IsClosed (with_byte self.old at byte).bytes self.old.marks }
-        ensures code { self.new ≡ with_byte self.old at byte }
+        ensures marked { self.new ≡ with_byte self.old at byte }
         ensures whole { IsText self.new }
     {
         let index = (at - START) as usize;
@@ -123,7 +126,7 @@ impl Text {
         requires registers { All NamesRegister marks.now }
         requires keeps { KeepsMarks self.old.marks (with_marks self.old at marks.now).marks }
         requires closed { IsClosed self.old.bytes (with_marks self.old at marks.now).marks }
-        ensures code { self.new ≡ with_marks self.old at marks.now }
+        ensures marked { self.new ≡ with_marks self.old at marks.now }
         ensures whole { IsText self.new }
     {
         // Names a field, so that the early return is checked against the fields and not the whole.
@@ -143,7 +146,7 @@ impl Text {
         requires inside { SpanInRegion self.old.bytes at len }
         requires stops { AreStops self.old.bytes at len }
         requires closed { IsClosed self.old.bytes (without_marks self.old at len).marks }
-        ensures code { self.new ≡ without_marks self.old at len }
+        ensures marked { self.new ≡ without_marks self.old at len }
         ensures whole { IsText self.new }
     {
         // Names a field, so that the early return is checked against the fields and not the whole.

@@ -1,4 +1,4 @@
-use Rattle.std.proofs.Common.{◌+◌, ◌-◌, List, get_or, set, arith, sym, subst}
+use Rattle.std.proofs.Common.{◌+◌, ◌-◌, ◌∙◌, List, get_or, set, arith, sym, subst}
 use Rattle.nc_decode.specs.declared.instruction.Mark.{Mark}
 use Rattle.nc_text.specs.Marks.{IsClosed}
 use Rattle.nc_region.specs.Acts.{is_inside}
@@ -13,26 +13,27 @@ pub put-requires-clause-closed : goal.put-requires-clause-closed
 put-requires-clause-closed g c =
     let base = c.args.base in
     let i = c.loop-i.i in
-    let old = g.A.Acts.code c.args.acts.now in
-    let now = g.A.Acts.code c.loop-i.acts in
+    let old = g.A.Acts.marked c.args.acts.now in
+    let now = g.A.Acts.marked c.loop-i.acts in
     let next = put_more is_inside base c.args.code.now i old.bytes now.bytes c.loop-i.invariant.bytes c.requires.placed.low (omega (arith, c.requires.placed.high)) (is_inside_true (base + i) c.if-at-ne0.true) in
     subst (λ (marks : List Mark). IsClosed (set now.bytes (base + i - 65536) (get_or c.args.code.now i 0)) marks) (sym c.loop-i.invariant.marks)
-    (inside_closed old (set now.bytes (base + i - 65536) (get_or c.args.code.now i 0)) base c.args.code.now (i + 1) c.requires.placed (omega arith) c.requires.whole.closed c.requires.bare next)
+    (inside_closed old (set now.bytes (base + i - 65536) (get_or c.args.code.now i 0)) base c.args.code.now (i + 1) c.requires.placed (omega arith) c.requires.whole.closed c.requires.unused next)
 
 pub loop-i-preserved : goal.loop-i-preserved
 loop-i-preserved g c =
     let base = c.args.base in
     let i = c.loop-i.i in
-    let old = g.A.Acts.code c.args.acts.now in
-    let now = g.A.Acts.code c.loop-i.acts in
+    let old = g.A.Acts.marked c.args.acts.now in
+    let now = g.A.Acts.marked c.loop-i.acts in
     elim c.if-at-ne0.branch [
       | then-at-ne0 w ↦
           let is = is_inside_true (base + i) w.if-at-ne0.true in
-          let e = w.put.ensures.code in
+          let e = w.put.ensures.marked in
           rw w.acts-is (record {
             bytes = rw e (put_more is_inside base c.args.code.now i old.bytes now.bytes c.loop-i.invariant.bytes c.requires.placed.low (omega (arith, c.requires.placed.high)) is);
             marks = rw e c.loop-i.invariant.marks;
             whole = w.put.ensures.whole;
+            keeper = w.put.ensures.keeper ∙ c.loop-i.invariant.keeper;
             told = told_put is_inside base c.args.code.now i _ _ _ (omega arith) is c.loop-i.invariant.told w.put.ensures.told;
           })
       | else-at-ne0 w ↦
@@ -41,6 +42,7 @@ loop-i-preserved g c =
             bytes = put_passed is_inside base c.args.code.now i old.bytes now.bytes c.loop-i.invariant.bytes not;
             marks = c.loop-i.invariant.marks;
             whole = c.loop-i.invariant.whole;
+            keeper = c.loop-i.invariant.keeper;
             told = told_passed is_inside base c.args.code.now i _ _ (omega arith) not c.loop-i.invariant.told;
           })
     ]

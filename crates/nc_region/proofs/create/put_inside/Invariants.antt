@@ -1,5 +1,5 @@
 use Rattle.std.proofs.Common.{◌≡◌, take}
-use Rattle.nc_text.specs.Code.{IsText}
+use Rattle.nc_text.specs.MarkedText.{IsText}
 use Rattle.nc_region.specs.Acts.{Tells, puts_where, is_inside}
 use Rattle.nc_region.specs.Chunks.{HasPut}
 use Rattle.nc_region.proofs.create.put_inside.Given as goal
@@ -7,8 +7,9 @@ use Rattle.nc_region.proofs.create.put_inside.Given as goal
 abbrev pub invariant-loop-i : goal.invariant-loop-i
 invariant-loop-i g l =
     record {
-      bytes : HasPut is_inside l.base l.code l.i (g.A.Acts.code l.initial.acts).bytes (g.A.Acts.code l.acts).bytes;
-      marks : (g.A.Acts.code l.acts).marks ≡ (g.A.Acts.code l.initial.acts).marks;
-      whole : IsText (g.A.Acts.code l.acts);
+      bytes : HasPut is_inside l.base l.code l.i (g.A.Acts.marked l.initial.acts).bytes (g.A.Acts.marked l.acts).bytes;
+      marks : (g.A.Acts.marked l.acts).marks ≡ (g.A.Acts.marked l.initial.acts).marks;
+      whole : IsText (g.A.Acts.marked l.acts);
+      keeper : g.A.Acts.keeper l.acts ≡ g.A.Acts.keeper l.initial.acts;
       told : Tells (g.A.Acts.told l.initial.acts) (g.A.Acts.told l.acts) (puts_where is_inside l.base (take l.i l.code));
     }

@@ -27,45 +27,47 @@ pub instruction-requires-clause-stands : goal.instruction-requires-clause-stands
 instruction-requires-clause-stands g t c =
     let some = eqb-false (length c.args.new.now) 0 (sym c.is_empty.ensures ∙ c.if-is_empty.false) in
     let b = c.requires.begins in
-    let s = standing (g.A.Acts.code c.args.acts.now) c.args.chunk c.args.at c.requires.whole b (omega (arith, some, c.requires.ends)) in
-    stands_some (g.A.Acts.code c.args.acts.now) c.args.chunk c.args.at b s
+    let s = standing (g.A.Acts.marked c.args.acts.now) c.args.chunk c.args.at c.requires.whole b (omega (arith, some, c.requires.ends)) in
+    stands_some (g.A.Acts.marked c.args.acts.now) c.args.chunk c.args.at b s
 
 pub returns-then-instruction-instr : goal.returns-then-instruction-instr
 returns-then-instruction-instr g t c = record {
   exact = λ b news bytes.
-      let code = g.A.Acts.code c.args.acts.now in
+      let marked = g.A.Acts.marked c.args.acts.now in
       let some = eqb-false (length c.args.new.now) 0 (sym c.is_empty.ensures ∙ c.if-is_empty.false) in
       let is = sym c.decode.ensures.first ∙ ap result_ok c.in-Ok.is in
       let p = parted c.args.new.now news c.in-Ok.instr bytes is in
-      let s = standing code c.args.chunk c.args.at c.requires.whole b (omega (arith, some, c.requires.ends)) in
-      let same : c.instruction.result ≡ s.piece.instr = some_same _ _ _ c.instruction.ensures s.instr in
-      (λ true. absurd cc, λ runs.
-      let r = runs_to b.rest news s.piece p.first s.rest p.rest s.is p.is runs in
-      absurd (c.if-instruction-instr.true (ap (λ (i : Instr). i.len) same ∙ (s.len ∙ (r.0 ∙ sym p.len)))));
+      let s = standing marked c.args.chunk c.args.at c.requires.whole b (omega (arith, some, c.requires.ends)) in
+      let same : c.instruction.result ≡ s.piece.instr = some_same _ _ _ c.instruction.ensures s.instr in (
+        λ true. absurd cc,
+        λ runs.
+            let r = runs_to b.rest news s.piece p.first s.rest p.rest s.is p.is runs in
+            absurd (c.if-instruction-instr.true (ap (λ (i : Instr). i.len) same ∙ (s.len ∙ (r.0 ∙ sym p.len)))),
+      );
 }
 
 pub fits_from-requires : goal.fits_from-requires
 fits_from-requires g t c =
-    let code = g.A.Acts.code c.args.acts.now in
+    let marked = g.A.Acts.marked c.args.acts.now in
     let some = eqb-false (length c.args.new.now) 0 (sym c.is_empty.ensures ∙ c.if-is_empty.false) in
     let b = c.requires.begins in
-    let s = standing code c.args.chunk c.args.at c.requires.whole b (omega (arith, some, c.requires.ends)) in
+    let s = standing marked c.args.chunk c.args.at c.requires.whole b (omega (arith, some, c.requires.ends)) in
     let same : c.instruction.result ≡ s.piece.instr = some_same _ _ _ c.instruction.ensures s.instr in
     let sized = c.decode.ensures.sized in
-    let nb : Begins (g.A.Acts.code c.args.acts.now) c.args.chunk (c.args.at + c.from.result) = next_begins code c.args.chunk c.args.at b s c.from.result (c.from.ensures ∙ (sym c.if-instruction-instr.false ∙ ap (λ (i : Instr). i.len) same)) in
+    let nb : Begins (g.A.Acts.marked c.args.acts.now) c.args.chunk (c.args.at + c.from.result) = next_begins marked c.args.chunk c.args.at b s c.from.result (c.from.ensures ∙ (sym c.if-instruction-instr.false ∙ ap (λ (i : Instr). i.len) same)) in
     search rules
 
 pub returns : goal.returns
 returns g t c = record {
   exact = λ b news bytes.
-      let code = g.A.Acts.code c.args.acts.now in
+      let marked = g.A.Acts.marked c.args.acts.now in
       let some = eqb-false (length c.args.new.now) 0 (sym c.is_empty.ensures ∙ c.if-is_empty.false) in
       let is = sym c.decode.ensures.first ∙ ap result_ok c.in-Ok.is in
       let p = parted c.args.new.now news c.in-Ok.instr bytes is in
-      let s = standing code c.args.chunk c.args.at c.requires.whole b (omega (arith, some, c.requires.ends)) in
+      let s = standing marked c.args.chunk c.args.at c.requires.whole b (omega (arith, some, c.requires.ends)) in
       let same : c.instruction.result ≡ s.piece.instr = some_same _ _ _ c.instruction.ensures s.instr in
       let len : length s.piece.bytes ≡ length p.first.bytes = sym s.len ∙ (ap (λ (i : Instr). i.len) (sym same) ∙ (c.if-instruction-instr.false ∙ p.len)) in
-      let nb = next_begins code c.args.chunk c.args.at b s c.from.result (c.from.ensures ∙ (sym c.if-instruction-instr.false ∙ ap (λ (i : Instr). i.len) same)) in
+      let nb = next_begins marked c.args.chunk c.args.at b s c.from.result (c.from.ensures ∙ (sym c.if-instruction-instr.false ∙ ap (λ (i : Instr). i.len) same)) in
       let inner = c.fits_from.ensures.exact nb p.rest p.behind in
       (λ true. runs_from b.rest news s.piece p.first s.rest p.rest s.is p.is len (inner.0 true), λ runs. inner.1 (runs_to b.rest news s.piece p.first s.rest p.rest s.is p.is runs).1);
 }

@@ -2,7 +2,7 @@ use Rattle.std.proofs.Common.{◌≡◌, ℕ, ◌+◌, ◌-◌, ◌<◌, ◌≤�
 use Rattle.nc_decode.specs.declared.instruction.Mark.{Mark}
 use Rattle.nc_text.specs.Marks.{IsClosed}
 use Rattle.nc_text.specs.Places.{byte_at}
-use Rattle.nc_text.specs.Code.{Code, IsText, with_span}
+use Rattle.nc_text.specs.MarkedText.{MarkedText, IsText, with_span}
 use Rattle.nc_region.specs.declared.acts.Act.TheVariants.{Put}
 use Rattle.nc_region.specs.Patch.{any_place}
 use Rattle.nc_region.specs.Chunks.{HasPut}
@@ -13,31 +13,31 @@ use Rattle.nc_region.proofs.modify.put_longer.Goals as goal
 
 pub put-requires-clause-closed : goal.put-requires-clause-closed
 put-requires-clause-closed g c =
-    let old = g.A.Acts.code c.args.acts.now in
+    let old = g.A.Acts.marked c.args.acts.now in
     patching_closed old c.args.at (c.args.first ∷ c.args.rest.now) (set old.bytes (c.args.at - 65536) 244) c.requires.replacing (patch_started old c.args.at (c.args.first ∷ c.args.rest.now) c.requires.replacing)
 
 pub put_rest-requires-clause-stopped : goal.put_rest-requires-clause-stopped
 put_rest-requires-clause-stopped g c =
-    rw c.put.ensures.code (patch_started (g.A.Acts.code c.args.acts.now) c.args.at (c.args.first ∷ c.args.rest.now) c.requires.replacing).stop
+    rw c.put.ensures.marked (patch_started (g.A.Acts.marked c.args.acts.now) c.args.at (c.args.first ∷ c.args.rest.now) c.requires.replacing).stop
 
 pub put_rest-requires-clause-closed : goal.put_rest-requires-clause-closed
 put_rest-requires-clause-closed g c =
-    let old = g.A.Acts.code c.args.acts.now in
-    rw c.put.ensures.code (λ now p. patching_closed old c.args.at (c.args.first ∷ c.args.rest.now) now c.requires.replacing (patching_over old c.args.at (c.args.first ∷ c.args.rest.now) now (1 + length c.args.rest.now) (omega arith) c.requires.replacing p))
+    let old = g.A.Acts.marked c.args.acts.now in
+    rw c.put.ensures.marked (λ now p. patching_closed old c.args.at (c.args.first ∷ c.args.rest.now) now c.requires.replacing (patching_over old c.args.at (c.args.first ∷ c.args.rest.now) now (1 + length c.args.rest.now) (omega arith) c.requires.replacing p))
 
 pub put-requires-2-clause-closed : goal.put-requires-2-clause-closed
 put-requires-2-clause-closed g c =
-    let old = g.A.Acts.code c.args.acts.now in
-    let mid = g.A.Acts.code c.put_rest.new.acts in
-    let puts = rw c.put.ensures.code at c.put_rest.ensures.bytes in
-    rw (c.put_rest.ensures.marks, c.put.ensures.code, patch_final old c.args.at c.args.first c.args.rest.now mid.bytes c.requires.replacing puts) c.requires.replacing.closed
+    let old = g.A.Acts.marked c.args.acts.now in
+    let mid = g.A.Acts.marked c.put_rest.new.acts in
+    let puts = rw c.put.ensures.marked at c.put_rest.ensures.bytes in
+    rw (c.put_rest.ensures.marks, c.put.ensures.marked, patch_final old c.args.at c.args.first c.args.rest.now mid.bytes c.requires.replacing puts) c.requires.replacing.closed
 
 pub returns-clause-bytes : goal.returns-clause-bytes
 returns-clause-bytes g c =
-    let old = g.A.Acts.code c.args.acts.now in
-    let mid = g.A.Acts.code c.put_rest.new.acts in
-    let puts = rw c.put.ensures.code at c.put_rest.ensures.bytes in
-    rw c.put-2.ensures.code (patch_final old c.args.at c.args.first c.args.rest.now mid.bytes c.requires.replacing puts)
+    let old = g.A.Acts.marked c.args.acts.now in
+    let mid = g.A.Acts.marked c.put_rest.new.acts in
+    let puts = rw c.put.ensures.marked at c.put_rest.ensures.bytes in
+    rw c.put-2.ensures.marked (patch_final old c.args.at c.args.first c.args.rest.now mid.bytes c.requires.replacing puts)
 
 pub returns-clause-told : goal.returns-clause-told
 returns-clause-told g c =

@@ -1,7 +1,7 @@
 use Rattle.std.proofs.Common.{◌≡◌, ℕ, ◌+◌, ◌-◌, ◌<◌, ◌≤◌, List, length, get_or, set, arith, sym, ap, subst, ◌∙◌, refl}
 use Rattle.nc_decode.specs.declared.instruction.Mark.{Mark}
 use Rattle.nc_text.specs.Marks.{IsClosed}
-use Rattle.nc_text.specs.Code.{Code, IsText}
+use Rattle.nc_text.specs.MarkedText.{MarkedText, IsText}
 use Rattle.nc_region.specs.Patch.{any_place}
 use Rattle.nc_region.specs.Chunks.{HasPut}
 use Rattle.nc_region.specs.PatchSteps.{IsInterim}
@@ -14,8 +14,8 @@ pub put-requires-clause-closed : goal.put-requires-clause-closed
 put-requires-clause-closed g c =
     let at = c.args.at in
     let i = c.loop-i.i in
-    let old = g.A.Acts.code c.args.acts.now in
-    let now = g.A.Acts.code c.loop-i.acts in
+    let old = g.A.Acts.marked c.args.acts.now in
+    let now = g.A.Acts.marked c.loop-i.acts in
     let next = put_more any_place (at + 1) c.args.rest.now i old.bytes now.bytes c.loop-i.invariant.bytes (omega arith) (omega (arith, c.requires.high)) refl in
     subst (λ (marks : List Mark). IsClosed (set now.bytes (at + 1 + i - 65536) (get_or c.args.rest.now i 0)) marks) (sym c.loop-i.invariant.marks)
     (c.requires.closed (set now.bytes (at + 1 + i - 65536) (get_or c.args.rest.now i 0))
@@ -25,12 +25,13 @@ pub loop-i-preserved : goal.loop-i-preserved
 loop-i-preserved g c =
     let at = c.args.at in
     let i = c.loop-i.i in
-    let old = g.A.Acts.code c.args.acts.now in
-    let now = g.A.Acts.code c.loop-i.acts in
-    let e = c.put.ensures.code in
+    let old = g.A.Acts.marked c.args.acts.now in
+    let now = g.A.Acts.marked c.loop-i.acts in
+    let e = c.put.ensures.marked in
     record {
       bytes = rw e (put_more any_place (at + 1) c.args.rest.now i old.bytes now.bytes c.loop-i.invariant.bytes (omega arith) (omega (arith, c.requires.high)) refl);
       marks = rw e c.loop-i.invariant.marks;
       whole = c.put.ensures.whole;
+      keeper = c.put.ensures.keeper ∙ c.loop-i.invariant.keeper;
       told = told_put any_place (at + 1) c.args.rest.now i _ _ _ (omega arith) refl c.loop-i.invariant.told c.put.ensures.told;
     }

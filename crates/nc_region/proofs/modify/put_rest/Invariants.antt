@@ -1,5 +1,5 @@
 use Rattle.std.proofs.Common.{◌≡◌, ◌+◌, take}
-use Rattle.nc_text.specs.Code.{IsText}
+use Rattle.nc_text.specs.MarkedText.{IsText}
 use Rattle.nc_region.specs.Acts.{Tells, puts_where}
 use Rattle.nc_region.specs.Patch.{any_place}
 use Rattle.nc_region.specs.Chunks.{HasPut}
@@ -8,8 +8,9 @@ use Rattle.nc_region.proofs.modify.put_rest.Given as goal
 abbrev pub invariant-loop-i : goal.invariant-loop-i
 invariant-loop-i g l =
     record {
-      bytes : HasPut any_place (l.at + 1) l.rest l.i (g.A.Acts.code l.initial.acts).bytes (g.A.Acts.code l.acts).bytes;
-      marks : (g.A.Acts.code l.acts).marks ≡ (g.A.Acts.code l.initial.acts).marks;
-      whole : IsText (g.A.Acts.code l.acts);
+      bytes : HasPut any_place (l.at + 1) l.rest l.i (g.A.Acts.marked l.initial.acts).bytes (g.A.Acts.marked l.acts).bytes;
+      marks : (g.A.Acts.marked l.acts).marks ≡ (g.A.Acts.marked l.initial.acts).marks;
+      whole : IsText (g.A.Acts.marked l.acts);
+      keeper : g.A.Acts.keeper l.acts ≡ g.A.Acts.keeper l.initial.acts;
       told : Tells (g.A.Acts.told l.initial.acts) (g.A.Acts.told l.acts) (puts_where any_place (l.at + 1) (take l.i l.rest));
     }

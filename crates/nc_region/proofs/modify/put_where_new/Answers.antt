@@ -9,7 +9,7 @@ use Rattle.nc_region.proofs.modify.put_where_new.Goals as goal
 pub returns-then-stands_there-clause-bytes : goal.returns-then-stands_there-clause-bytes
 returns-then-stands_there-clause-bytes g c =
     let r = c.requires.replacing in
-    stands_same (g.A.Acts.code c.args.acts.now).bytes c.args.at c.args.bytes.now r.low r.high (sym c.stands_there.ensures ∙ c.if-stands_there.true)
+    stands_same (g.A.Acts.marked c.args.acts.now).bytes c.args.at c.args.bytes.now r.low r.high (sym c.stands_there.ensures ∙ c.if-stands_there.true)
 
 pub returns-then-stands_there-clause-told : goal.returns-then-stands_there-clause-told
 returns-then-stands_there-clause-told g c =

@@ -6,7 +6,7 @@ use Rattle.nc_region.proofs.walk.read_bundle.Goals as goal
 
 pub loop-k-preserved : goal.loop-k-preserved
 loop-k-preserved g c =
-    let text = (g.A.Acts.code c.args.acts.now).bytes in
+    let text = (g.A.Acts.marked c.args.acts.now).bytes in
     let k = c.loop-k.k in
     let at = c.args.at in
     let short : k < length c.loop-k.bytes = omega (arith, c.loop-k.invariant.as_long) in

@@ -6,5 +6,5 @@ abbrev pub invariant-loop-k : goal.invariant-loop-k
 invariant-loop-k g l =
     record {
       as_long : length l.bytes ≡ 32;
-      read : (k : ℕ) → k < l.k → get_or l.bytes k 0 ≡ byte_at (g.A.Acts.code l.acts).bytes (l.at + k);
+      read : (k : ℕ) → k < l.k → get_or l.bytes k 0 ≡ byte_at (g.A.Acts.marked l.acts).bytes (l.at + k);
     }

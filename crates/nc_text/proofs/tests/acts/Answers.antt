@@ -7,7 +7,7 @@ use Rattle.nc_decode.specs.declared.instruction.Mark.{Mark}
 use Rattle.nc_decode.specs.declared.instruction.Mark.TheVariants.{Unmarked, Plain, After}
 use Rattle.nc_text.specs.Places.{byte_at}
 use Rattle.nc_text.specs.Marks.{IsClosed, Admits}
-use Rattle.nc_text.specs.Code.{Code, bare_mark, bare_marks, with_byte, with_span, with_marks, without_marks, new_code}
+use Rattle.nc_text.specs.MarkedText.{MarkedText, unused_mark, unused_marks, with_byte, with_span, with_marks, without_marks, unused_text}
 use Rattle.nc_text.proofs.Fresh.{unused_closed, marked_within}
 use Rattle.nc_text.proofs.Closing.{closed_after_put}
 use Rattle.nc_text.proofs.SpanElements.{length-with_span, get_or-with_span_in, get_or-with_span_below, get_or-with_span_above}
@@ -25,54 +25,54 @@ spanned xs ys s k m fits out within =
     ]
 
 -- the marks of a new text
-bare_at : (n k : ℕ) → k < n → get_or (bare_marks 65536 n) k Unmarked ≡ bare_mark (65536 + k)
-bare_at n k lt = get_or-map-range_with_len bare_mark 65536 n k (65536 + k) Unmarked lt refl
+unused_at : (n k : ℕ) → k < n → get_or (unused_marks 65536 n) k Unmarked ≡ unused_mark (65536 + k)
+unused_at n k lt = get_or-map-range_with_len unused_mark 65536 n k (65536 + k) Unmarked lt refl
 
 -- bundle starts are plain in it
-bare_start : (n k : ℕ) → k < n → k % 32 ≡ 0 → get_or (bare_marks 65536 n) k Unmarked ≡ Plain
-bare_start n k lt start = bare_at n k lt ∙ (let e : (65536 + k) % 32 ≡ 0 = omega (arith, start) in grind (arith, nat_tests, e))
+unused_start : (n k : ℕ) → k < n → k % 32 ≡ 0 → get_or (unused_marks 65536 n) k Unmarked ≡ Plain
+unused_start n k lt start = unused_at n k lt ∙ (let e : (65536 + k) % 32 ≡ 0 = omega (arith, start) in grind (arith, nat_tests, e))
 
 -- the marks that are set
 abbrev two_marks : List Mark
 two_marks = Plain ∷ After 3 ∷ []
 
 -- the new text
-abbrev first : Code
-first = new_code 2
+abbrev first : MarkedText
+first = unused_text 65600
 
 -- with two marks set
-abbrev second : Code
+abbrev second : MarkedText
 second = with_marks first 65537 two_marks
 
 -- with them taken back
-abbrev third : Code
+abbrev third : MarkedText
 third = without_marks second 65536 3
 
 -- as many marks as bytes, each time
 long_first : length first.marks ≡ 64
-long_first = length-map-range_with_len bare_mark 65536 64
+long_first = length-map-range_with_len unused_mark 65536 64
 
 -- with the span set
 long_second : length second.marks ≡ 64
 long_second = length-with_span first.marks 1 two_marks (omega (arith, long_first)) ∙ long_first
 
 -- in the span
-long_three : length (bare_marks 65536 3) ≡ 3
-long_three = length-map-range_with_len bare_mark 65536 3
+long_three : length (unused_marks 65536 3) ≡ 3
+long_three = length-map-range_with_len unused_mark 65536 3
 
 -- with the span taken back
 long_third : length third.marks ≡ 64
-long_third = length-with_span second.marks 0 (bare_marks 65536 3) (omega (arith, long_second, long_three)) ∙ long_second
+long_third = length-with_span second.marks 0 (unused_marks 65536 3) (omega (arith, long_second, long_three)) ∙ long_second
 
 -- bundle starts stay plain
 start_second : (k : ℕ) → k < 64 → k % 32 ≡ 0 → get_or second.marks k Unmarked ≡ Plain
-start_second k lt start = spanned first.marks two_marks 1 k Plain (omega (arith, long_first)) (bare_start 64 k lt start) (λ low high. absurd (omega (arith, start, low, high)))
+start_second k lt start = spanned first.marks two_marks 1 k Plain (omega (arith, long_first)) (unused_start 64 k lt start) (λ low high. absurd (omega (arith, start, low, high)))
 
 -- also when the span is taken back
 start_third : (k : ℕ) → k < 64 → k % 32 ≡ 0 → get_or third.marks k Unmarked ≡ Plain
 start_third k lt start =
-    spanned second.marks (bare_marks 65536 3) 0 k Plain (omega (arith, long_second, long_three)) (start_second k lt start)
-    (λ low high. bare_start 3 (k - 0) (omega (arith, high, long_three)) (omega (arith, start)))
+    spanned second.marks (unused_marks 65536 3) 0 k Plain (omega (arith, long_second, long_three)) (start_second k lt start)
+    (λ low high. unused_start 3 (k - 0) (omega (arith, high, long_three)) (omega (arith, start)))
 
 -- the text with two marks is closed
 closed_second : IsClosed second.bytes second.marks
@@ -85,8 +85,8 @@ closed_third = unused_closed 64 third.bytes third.marks refl long_third start_th
 -- the byte that is put stands at no mark
 unmarked_third : get_or third.marks 3 Unmarked ≡ Unmarked
 unmarked_third =
-    spanned second.marks (bare_marks 65536 3) 0 3 Unmarked (omega (arith, long_second, long_three))
-    (spanned first.marks two_marks 1 3 Unmarked (omega (arith, long_first)) (bare_at 64 3 (omega arith)) (λ low high. absurd (omega (arith, high))))
+    spanned second.marks (unused_marks 65536 3) 0 3 Unmarked (omega (arith, long_second, long_three))
+    (spanned first.marks two_marks 1 3 Unmarked (omega (arith, long_first)) (unused_at 64 3 (omega arith)) (λ low high. absurd (omega (arith, high))))
     (λ low high. absurd (omega (arith, high, long_three)))
 
 -- each of its bytes is a stop
@@ -102,10 +102,10 @@ closed_fourth =
     inr (inl (other, stop_third now.place m.0 (omega (arith, marked_within third.marks now m, long_third)))))
 
 pub mark_span-requires-clause-closed : goal.mark_span-requires-clause-closed
-mark_span-requires-clause-closed g c = subst (λ (t : Code). IsClosed t.bytes (with_marks t 65537 two_marks).marks) (sym c.in_ok-text.ensures.code) closed_second
+mark_span-requires-clause-closed g c = subst (λ (t : MarkedText). IsClosed t.bytes (with_marks t 65537 two_marks).marks) (sym c.in_ok-text.ensures.marked) closed_second
 
 pub unmark_span-requires-clause-closed : goal.unmark_span-requires-clause-closed
-unmark_span-requires-clause-closed g c = subst (λ (t : Code). IsClosed t.bytes (without_marks t 65536 3).marks) (sym (c.mark_span.ensures.code ∙ ap (λ (t : Code). with_marks t 65537 two_marks) c.in_ok-text.ensures.code)) closed_third
+unmark_span-requires-clause-closed g c = subst (λ (t : MarkedText). IsClosed t.bytes (without_marks t 65536 3).marks) (sym (c.mark_span.ensures.marked ∙ ap (λ (t : MarkedText). with_marks t 65537 two_marks) c.in_ok-text.ensures.marked)) closed_third
 
 pub put-requires-clause-closed : goal.put-requires-clause-closed
-put-requires-clause-closed g c = subst (λ (t : Code). IsClosed (with_byte t 65539 0x90).bytes t.marks) (sym (c.unmark_span.ensures.code ∙ ap (λ (t : Code). without_marks t 65536 3) (c.mark_span.ensures.code ∙ ap (λ (t : Code). with_marks t 65537 two_marks) c.in_ok-text.ensures.code))) closed_fourth
+put-requires-clause-closed g c = subst (λ (t : MarkedText). IsClosed (with_byte t 65539 0x90).bytes t.marks) (sym (c.unmark_span.ensures.marked ∙ ap (λ (t : MarkedText). without_marks t 65536 3) (c.mark_span.ensures.marked ∙ ap (λ (t : MarkedText). with_marks t 65537 two_marks) c.in_ok-text.ensures.marked))) closed_fourth

@@ -34,16 +34,16 @@ returns-clause-confined g c = confined_if_closed _ _ c.put_patch.ensures.whole.c
 pub leaves_pairs-requires-clause-along : goal.leaves_pairs-requires-clause-along
 leaves_pairs-requires-clause-along g c =
     let yes : c.fits.result ≡ true = c.if-not-fits.false in
-    run_along (g.A.Acts.code c.self.inside.acts) c.in-Some.chunk c.args.at c.args.new.now (c.fits.ensures.run yes)
+    run_along (g.A.Acts.marked c.self.inside.acts) c.in-Some.chunk c.args.at c.args.new.now (c.fits.ensures.run yes)
 
 pub put_patch-requires-clause-patch : goal.put_patch-requires-clause-patch
 put_patch-requires-clause-patch g c =
-    let code = g.A.Acts.code c.self.inside.acts in
+    let marked = g.A.Acts.marked c.self.inside.acts in
     let fits : c.fits.result ≡ true = c.if-not-fits.false in
     let apart : c.leaves_pairs.result ≡ true = c.if-not-leaves_pairs.false in
     let well : c.keeps_targets.result ≡ true = c.if-not-keeps_targets.false in
-    let run : IsRun (g.A.Acts.code c.self.inside.acts) c.in-Some.chunk c.args.at c.args.new.now = c.fits.ensures.run fits in
-    let a = run_along code c.in-Some.chunk c.args.at c.args.new.now run in
+    let run : IsRun (g.A.Acts.marked c.self.inside.acts) c.in-Some.chunk c.args.at c.args.new.now = c.fits.ensures.run fits in
+    let a = run_along marked c.in-Some.chunk c.args.at c.args.new.now run in
     record {
       run = run;
       pairs = pairs_from run.old run.after run.news run.as_long ((c.leaves_pairs.ensures.exact a.begins a.news a.bytes a.runs).0 apart);
@@ -55,9 +55,13 @@ returns-then-not-fits-clause-refused g c =
     let spans : c.is_patch_span.result ≡ true = c.if-not-is_patch_span.false in
     let news : c.are_instructions.result ≡ true = c.if-not-are_instructions.false in
     let held : IsHeldBy c.self.inside.chunks.items c.args.at c.in-Some.chunk = rw (← c.deref.ensures.value) c.in-Some.ensures.some in
-    let refused : MayRefusePatch (record { code = g.A.Acts.code c.self.inside.acts; chunks = c.self.inside.chunks.items; told = g.A.Acts.told c.self.inside.acts }) c.args.at c.args.new.now Boundaries =
-    (c.is_patch_span.ensures.0 spans, (c.in-Some.chunk, held), c.are_instructions.ensures.0 news, λ f.
-    c.fits.ensures.none c.if-not-fits.true (subst (λ (d : Chunk). IsRun (g.A.Acts.code c.self.inside.acts) d c.args.at c.args.new.now) (held_same c.self.inside.chunks.items c.args.at c.in-Some.chunk f.0 c.self.invariant.rising held f.1) f.2)) in
+    let refused : MayRefusePatch (record { marked = g.A.Acts.marked c.self.inside.acts; chunks = c.self.inside.chunks.items; keeper = g.A.Acts.keeper c.self.inside.acts; told = g.A.Acts.told c.self.inside.acts }) c.args.at c.args.new.now Boundaries = (
+      c.is_patch_span.ensures.0 spans,
+      (c.in-Some.chunk, held),
+      c.are_instructions.ensures.0 news,
+      λ f.
+          c.fits.ensures.none c.if-not-fits.true (subst (λ (d : Chunk). IsRun (g.A.Acts.marked c.self.inside.acts) d c.args.at c.args.new.now) (held_same c.self.inside.chunks.items c.args.at c.in-Some.chunk f.0 c.self.invariant.rising held f.1) f.2),
+    ) in
     subst (λ (r : Region). MayRefusePatch r c.args.at c.args.new.now Boundaries) c.self.view_is refused
 
 pub returns-then-not-leaves_pairs-clause-refused : goal.returns-then-not-leaves_pairs-clause-refused
@@ -66,14 +70,17 @@ returns-then-not-leaves_pairs-clause-refused g c =
     let fits : c.fits.result ≡ true = c.if-not-fits.false in
     let held : IsHeldBy c.self.inside.chunks.items c.args.at c.in-Some.chunk = rw (← c.deref.ensures.value) c.in-Some.ensures.some in
     let span = c.is_patch_span.ensures.0 spans in
-    let run : IsRun (g.A.Acts.code c.self.inside.acts) c.in-Some.chunk c.args.at c.args.new.now = c.fits.ensures.run fits in
-    let refused : MayRefusePatch (record { code = g.A.Acts.code c.self.inside.acts; chunks = c.self.inside.chunks.items; told = g.A.Acts.told c.self.inside.acts }) c.args.at c.args.new.now PairTouched =
-    (span, (c.in-Some.chunk, held, run), λ f.
-    let x = subst (λ (d : Chunk). (r : IsRun (g.A.Acts.code c.self.inside.acts) d c.args.at c.args.new.now) × LeavesPairs (g.A.Acts.code c.self.inside.acts) d c.args.at c.args.new.now r) (held_same c.self.inside.chunks.items c.args.at c.in-Some.chunk f.0 c.self.invariant.rising held f.1) f.2 in
-    let a = run_along (g.A.Acts.code c.self.inside.acts) c.in-Some.chunk c.args.at c.args.new.now x.0 in
-    let yes : c.leaves_pairs.result ≡ true = (c.leaves_pairs.ensures.exact a.begins a.news a.bytes a.runs).1 (pairs_back x.0.old x.0.after x.0.news c.args.new.now x.0.bytes span.0 x.0.as_long x.1.0 x.1.1) in
-    let differ : true ≡ false = sym yes ∙ c.if-not-leaves_pairs.true in
-    cc) in
+    let run : IsRun (g.A.Acts.marked c.self.inside.acts) c.in-Some.chunk c.args.at c.args.new.now = c.fits.ensures.run fits in
+    let refused : MayRefusePatch (record { marked = g.A.Acts.marked c.self.inside.acts; chunks = c.self.inside.chunks.items; keeper = g.A.Acts.keeper c.self.inside.acts; told = g.A.Acts.told c.self.inside.acts }) c.args.at c.args.new.now PairTouched = (
+      span,
+      (c.in-Some.chunk, held, run),
+      λ f.
+          let x = subst (λ (d : Chunk). (r : IsRun (g.A.Acts.marked c.self.inside.acts) d c.args.at c.args.new.now) × LeavesPairs (g.A.Acts.marked c.self.inside.acts) d c.args.at c.args.new.now r) (held_same c.self.inside.chunks.items c.args.at c.in-Some.chunk f.0 c.self.invariant.rising held f.1) f.2 in
+          let a = run_along (g.A.Acts.marked c.self.inside.acts) c.in-Some.chunk c.args.at c.args.new.now x.0 in
+          let yes : c.leaves_pairs.result ≡ true = (c.leaves_pairs.ensures.exact a.begins a.news a.bytes a.runs).1 (pairs_back x.0.old x.0.after x.0.news c.args.new.now x.0.bytes span.0 x.0.as_long x.1.0 x.1.1) in
+          let differ : true ≡ false = sym yes ∙ c.if-not-leaves_pairs.true in
+          cc,
+    ) in
     subst (λ (r : Region). MayRefusePatch r c.args.at c.args.new.now PairTouched) c.self.view_is refused
 
 pub returns-then-not-keeps_targets-clause-refused : goal.returns-then-not-keeps_targets-clause-refused
@@ -82,39 +89,42 @@ returns-then-not-keeps_targets-clause-refused g c =
     let fits : c.fits.result ≡ true = c.if-not-fits.false in
     let held : IsHeldBy c.self.inside.chunks.items c.args.at c.in-Some.chunk = rw (← c.deref.ensures.value) c.in-Some.ensures.some in
     let span = c.is_patch_span.ensures.0 spans in
-    let run : IsRun (g.A.Acts.code c.self.inside.acts) c.in-Some.chunk c.args.at c.args.new.now = c.fits.ensures.run fits in
+    let run : IsRun (g.A.Acts.marked c.self.inside.acts) c.in-Some.chunk c.args.at c.args.new.now = c.fits.ensures.run fits in
     let apart : c.leaves_pairs.result ≡ true = c.if-not-leaves_pairs.false in
-    let b = run_along (g.A.Acts.code c.self.inside.acts) c.in-Some.chunk c.args.at c.args.new.now run in
-    let refused : MayRefusePatch (record { code = g.A.Acts.code c.self.inside.acts; chunks = c.self.inside.chunks.items; told = g.A.Acts.told c.self.inside.acts }) c.args.at c.args.new.now BadTarget =
-    (span, (c.in-Some.chunk, held, (run, pairs_from run.old run.after run.news run.as_long ((c.leaves_pairs.ensures.exact b.begins b.news b.bytes b.runs).0 apart))), λ p.
-    let f = p.1 in
-    let x = subst (λ (d : Chunk). (r : IsRun (g.A.Acts.code c.self.inside.acts) d c.args.at c.args.new.now) × LeavesPairs (g.A.Acts.code c.self.inside.acts) d c.args.at c.args.new.now r × KeepsTargets (g.A.Acts.code c.self.inside.acts) d c.args.at c.args.new.now r) (held_same c.self.inside.chunks.items c.args.at c.in-Some.chunk f.0 c.self.invariant.rising held f.1) f.2 in
-    let yes : c.keeps_targets.result ≡ true = (c.keeps_targets.ensures.exact x.0.holds x.0.news x.0.bytes).1 x.2 in
-    let differ : true ≡ false = sym yes ∙ c.if-not-keeps_targets.true in
-    cc) in
+    let b = run_along (g.A.Acts.marked c.self.inside.acts) c.in-Some.chunk c.args.at c.args.new.now run in
+    let refused : MayRefusePatch (record { marked = g.A.Acts.marked c.self.inside.acts; chunks = c.self.inside.chunks.items; keeper = g.A.Acts.keeper c.self.inside.acts; told = g.A.Acts.told c.self.inside.acts }) c.args.at c.args.new.now BadTarget = (
+      span,
+      (c.in-Some.chunk, held, (run, pairs_from run.old run.after run.news run.as_long ((c.leaves_pairs.ensures.exact b.begins b.news b.bytes b.runs).0 apart))),
+      λ p.
+          let f = p.1 in
+          let x = subst (λ (d : Chunk). (r : IsRun (g.A.Acts.marked c.self.inside.acts) d c.args.at c.args.new.now) × LeavesPairs (g.A.Acts.marked c.self.inside.acts) d c.args.at c.args.new.now r × KeepsTargets (g.A.Acts.marked c.self.inside.acts) d c.args.at c.args.new.now r) (held_same c.self.inside.chunks.items c.args.at c.in-Some.chunk f.0 c.self.invariant.rising held f.1) f.2 in
+          let yes : c.keeps_targets.result ≡ true = (c.keeps_targets.ensures.exact x.0.holds x.0.news x.0.bytes).1 x.2 in
+          let differ : true ≡ false = sym yes ∙ c.if-not-keeps_targets.true in
+          cc,
+    ) in
     subst (λ (r : Region). MayRefusePatch r c.args.at c.args.new.now BadTarget) c.self.view_is refused
 
 pub invariant_of-self : goal.invariant_of-self
 invariant_of-self g c =
-    let code = g.A.Acts.code c.self.inside.acts in
+    let marked = g.A.Acts.marked c.self.inside.acts in
     let fits : c.fits.result ≡ true = c.if-not-fits.false in
     let held : IsHeldBy c.self.inside.chunks.items c.args.at c.in-Some.chunk = rw (← c.deref.ensures.value) c.in-Some.ensures.some in
-    let run : IsRun (g.A.Acts.code c.self.inside.acts) c.in-Some.chunk c.args.at c.args.new.now = c.fits.ensures.run fits in
-    let l = lies code c.in-Some.chunk c.self.invariant.whole run.holds in
+    let run : IsRun (g.A.Acts.marked c.self.inside.acts) c.in-Some.chunk c.args.at c.args.new.now = c.fits.ensures.run fits in
+    let l = lies marked c.in-Some.chunk c.self.invariant.whole run.holds in
     let spans : c.is_patch_span.result ≡ true = c.if-not-is_patch_span.false in
     let span = c.is_patch_span.ensures.0 spans in
-    region_patched code (g.A.Acts.code c.put_patch.new.acts) c.self.inside.chunks.items c.in-Some.chunk c.args.at c.args.new.now
+    region_patched marked (g.A.Acts.marked c.put_patch.new.acts) c.self.inside.chunks.items c.in-Some.chunk c.args.at c.args.new.now
     (record { region = c.self.invariant; held = held; holds = c.put_patch.ensures.holds; whole = c.put_patch.ensures.whole; bytes_are = c.put_patch.ensures.bytes; marks_are = c.put_patch.ensures.marks; low = l.low; high = omega (arith, l.high); ends = omega (arith, span.1, held.2.0, held.2.1, l.start, l.whole) })
 
 pub returns-clause-lawful : goal.returns-clause-lawful
 returns-clause-lawful g c =
-    let code = g.A.Acts.code c.self.inside.acts in
+    let marked = g.A.Acts.marked c.self.inside.acts in
     let spans : c.is_patch_span.result ≡ true = c.if-not-is_patch_span.false in
     let fits : c.fits.result ≡ true = c.if-not-fits.false in
     let apart : c.leaves_pairs.result ≡ true = c.if-not-leaves_pairs.false in
     let well : c.keeps_targets.result ≡ true = c.if-not-keeps_targets.false in
-    let run : IsRun (g.A.Acts.code c.self.inside.acts) c.in-Some.chunk c.args.at c.args.new.now = c.fits.ensures.run fits in
-    let a = run_along code c.in-Some.chunk c.args.at c.args.new.now run in
+    let run : IsRun (g.A.Acts.marked c.self.inside.acts) c.in-Some.chunk c.args.at c.args.new.now = c.fits.ensures.run fits in
+    let a = run_along marked c.in-Some.chunk c.args.at c.args.new.now run in
     let held : IsHeldBy c.self.inside.chunks.items c.args.at c.in-Some.chunk = rw (← c.deref.ensures.value) c.in-Some.ensures.some in
-    let lawful : IsPatch (record { code = g.A.Acts.code c.self.inside.acts; chunks = c.self.inside.chunks.items; told = g.A.Acts.told c.self.inside.acts }) c.args.at c.args.new.now = (c.is_patch_span.ensures.0 spans, (c.in-Some.chunk, held, (run, pairs_from run.old run.after run.news run.as_long ((c.leaves_pairs.ensures.exact a.begins a.news a.bytes a.runs).0 apart), (c.keeps_targets.ensures.exact run.holds run.news run.bytes).0 well))) in
+    let lawful : IsPatch (record { marked = g.A.Acts.marked c.self.inside.acts; chunks = c.self.inside.chunks.items; keeper = g.A.Acts.keeper c.self.inside.acts; told = g.A.Acts.told c.self.inside.acts }) c.args.at c.args.new.now = (c.is_patch_span.ensures.0 spans, (c.in-Some.chunk, held, (run, pairs_from run.old run.after run.news run.as_long ((c.leaves_pairs.ensures.exact a.begins a.news a.bytes a.runs).0 apart), (c.keeps_targets.ensures.exact run.holds run.news run.bytes).0 well))) in
     subst (λ (r : Region). IsPatch r c.args.at c.args.new.now) c.self.view_is lawful

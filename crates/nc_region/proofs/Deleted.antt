@@ -1,0 +1,143 @@
+-- A region stays one when a chunk of it becomes stops and is retired.
+use Rattle.std.proofs.Common.{◌≡◌, ◌≢◌, ℕ, zero, suc, ◌+◌, ◌-◌, ◌<◌, ◌≤◌, ◌⊎◌, List, [], ◌∷◌, length, get_or, set, replicate, Option, Some, None, inl, inr, arith, refl, ◌∙◌, sym, ap, subst, ⊎_elim}
+use Rattle.std.specs.List.{slice_get}
+use Rattle.std.proofs.lemmas.Bool.{cases_lt}
+use Rattle.std.proofs.lemmas.Option.{slice_get_cases, get_or_from_slice_get}
+use Rattle.std.proofs.lemmas.List.{length-replicate, get_or-replicate}
+use Rattle.nc_decode.specs.declared.instruction.Mark.{Mark}
+use Rattle.nc_text.specs.Places.{InRegion, limit_of, byte_at}
+use Rattle.nc_text.specs.Marks.{mark_at}
+use Rattle.nc_text.specs.MarkedText.{MarkedText, IsText, with_span, unused_mark}
+use Rattle.nc_text.proofs.SpanElements.{length-with_span}
+use Rattle.nc_region.specs.declared.chunk.Chunk.{Chunk}
+use Rattle.nc_region.specs.declared.chunk.ChunkState.TheVariants.{Live, Retired}
+use Rattle.nc_region.specs.Chunks.{IsPlaced}
+use Rattle.nc_region.specs.Each.{Each}
+use Rattle.nc_gens.specs.Rule.{generation_raised}
+use Rattle.nc_region.specs.Acts.{Tells, acts_of_delete}
+use Rattle.nc_region.specs.Deletion.{IsDeleted}
+use Rattle.nc_region.specs.Region.{Region, IsLive, IsInChunk, IsRising, HoldsValid, IsRegion}
+use Rattle.nc_region.proofs.AgreesOutside.{AgreesOutside, LiesBeside, still_holds}
+use Rattle.nc_region.proofs.EachMember.{each_get, each_set, each_set_but, each_at_set, each_unset}
+use Rattle.nc_region.proofs.Runs.{apart_by_index}
+use Rattle.nc_region.proofs.SpanPlaces.{place_of, Before, Within, Behind, span_within, span_before, span_behind}
+
+-- one chunk of a rising list put in place of another of the same span
+rising_set : (from : ℕ) (chunks : List Chunk) (k : ℕ) (c d : Chunk) → IsRising from chunks → k < length chunks → get_or chunks k c ≡ c → d.base ≡ c.base → d.length ≡ c.length → IsRising from (set chunks k d)
+rising_set from [] k c d rising lt here b l = absurd (omega arith)
+rising_set from (x ∷ rest) zero c d rising lt here b l =
+    (omega (arith, rising.0, ap (λ (y : Chunk). y.base) here, b), (let end : x.base + x.length ≡ d.base + d.length = omega (arith, ap (λ (y : Chunk). y.base) here, ap (λ (y : Chunk). y.length) here, b, l) in subst (λ (n : ℕ). IsRising n rest) end rising.1))
+rising_set from (x ∷ rest) (suc k) c d rising lt here b l = (rising.0, rising_set (x.base + x.length) rest k c d rising.1 (omega (arith, lt)) here b l)
+
+-- where a chunk stands in the list
+pub listed_there : (chunks : List Chunk) (k : ℕ) (c : Chunk) → slice_get chunks k ≡ Some c → (k < length chunks) × (get_or chunks k c ≡ c)
+listed_there chunks k c is =
+    elim (slice_get_cases chunks k).1 [
+      | inl there ↦ (there.1, get_or_from_slice_get chunks k c c is)
+      | inr past ↦ absurd (let no : None ≡ Some c = sym past.1 ∙ is in cc)
+    ]
+
+-- a live chunk of the list, whose bytes have become stops
+pub record Deletes (old new : MarkedText) (chunks : List Chunk) (k : ℕ) (c : Chunk) : Type 0 where
+  pub region : IsRegion old chunks
+  pub inside : k < length chunks
+  pub here : get_or chunks k c ≡ c
+  pub live : IsLive c.state
+  pub whole : IsText new
+  pub bytes_are : new.bytes ≡ with_span old.bytes (c.base - 65536) (replicate c.length 244)
+  pub marks_are : new.marks ≡ old.marks
+
+-- it lies in the region
+placed_there : (old new : MarkedText) (chunks : List Chunk) (k : ℕ) (c : Chunk) → Deletes old new chunks k c → IsPlaced c.base (limit_of old.bytes) c.length
+placed_there old new chunks k c r = subst (λ (d : Chunk). IsPlaced d.base (limit_of old.bytes) d.length) r.here (each_get (λ (d : Chunk). IsPlaced d.base (limit_of old.bytes) d.length) chunks k c r.inside r.region.placed)
+
+-- outside it nothing is changed
+agrees : (old new : MarkedText) (chunks : List Chunk) (k : ℕ) (c : Chunk) → Deletes old new chunks k c → AgreesOutside old new c.base c.length
+agrees old new chunks k c r =
+    let p = placed_there old new chunks k c r in
+    let n = length-replicate {A = ℕ} c.length 244 in
+    record {
+      as_long = ap (λ (z : List ℕ). length z) r.bytes_are ∙ length-with_span old.bytes (c.base - 65536) (replicate c.length 244) (omega (arith, n, p.low, p.high));
+      bytes = λ at low out.
+          ap (λ (z : List ℕ). byte_at z at) r.bytes_are
+          ∙ elim out [
+            | inl l ↦ span_before old.bytes c.base (replicate c.length 244) at 0 p.low (omega (arith, n, p.high)) low l
+            | inr b ↦ span_behind old.bytes c.base (replicate c.length 244) at 0 p.low (omega (arith, n, p.high)) (omega (arith, b, n))
+          ];
+      marks = λ at low out. ap (λ (z : List Mark). mark_at z at) r.marks_are;
+    }
+
+-- in it stand stops
+stops_there : (old new : MarkedText) (chunks : List Chunk) (k : ℕ) (c : Chunk) → Deletes old new chunks k c → (at : ℕ) → IsInChunk c at → byte_at new.bytes at ≡ 244
+stops_there old new chunks k c r at inside =
+    let p = placed_there old new chunks k c r in
+    let n = length-replicate {A = ℕ} c.length 244 in
+    ap (λ (z : List ℕ). byte_at z at) r.bytes_are
+    ∙ (span_within old.bytes c.base (replicate c.length 244) at 0 p.low (omega (arith, n, p.high)) inside.0 (omega (arith, inside.1, n)) ∙ get_or-replicate c.length (at - c.base) 244 0 (omega (arith, inside.0, inside.1)))
+
+-- each other chunk of the list lies beside it
+others_beside : (old : MarkedText) (chunks : List Chunk) (k : ℕ) (c : Chunk) → IsRising 65536 chunks → k < length chunks → get_or chunks k c ≡ c → (i : ℕ) → i < length chunks → i ≢ k → LiesBeside c (get_or chunks i c)
+others_beside old chunks k c rising inside here i lt other =
+    ⊎_elim
+    (λ (before : i < k). inl (omega (arith, apart_by_index 65536 chunks c rising i k before inside, ap (λ (x : Chunk). x.base) here)))
+    (λ (from : k ≤ i). inr (omega (arith, apart_by_index 65536 chunks c rising k i (⊎_elim (λ (l : k < i). l) (λ (e : i ≤ k). absurd (other (omega (arith, e, from)))) (cases_lt k i)) lt, ap (λ (x : Chunk). x.base + x.length) here)))
+    (cases_lt i k)
+
+-- the region with the chunk retired
+pub region_deleted : (old new : MarkedText) (chunks : List Chunk) (k : ℕ) (c : Chunk) (stamp : ℕ) → Deletes old new chunks k c → IsRegion new (set chunks k (record c { state = Retired stamp }))
+region_deleted old new chunks k c stamp r =
+    let p = placed_there old new chunks k c r in
+    let a = agrees old new chunks k c r in
+    record {
+      whole = r.whole;
+      rising = rising_set 65536 chunks k c (record c { state = Retired stamp }) r.region.rising r.inside r.here refl refl;
+      placed = subst (λ (l : ℕ). Each (λ (x : Chunk). IsPlaced x.base l x.length) (set chunks k (record c { state = Retired stamp }))) (ap (λ (n : ℕ). 65536 + n) (sym a.as_long))
+          (each_set (λ (x : Chunk). IsPlaced x.base (limit_of old.bytes) x.length) chunks k (record c { state = Retired stamp }) r.region.placed p);
+      live = each_set_but (λ (x : Chunk). IsLive x.state → HoldsValid new x) chunks k (record c { state = Retired stamp }) c
+          (λ i lt other live. still_holds old new c (get_or chunks i c) a (others_beside old chunks k c r.region.rising r.inside r.here i lt other) (each_get (λ (x : Chunk). IsLive x.state → HoldsValid old x) chunks i c lt r.region.live live))
+          (λ live. absurd live);
+      stops = λ at inside free.
+          let old_inside : InRegion old.bytes at = (inside.0, omega (arith, inside.1, a.as_long)) in
+          let all : ((at < c.base) ⊎ (c.base + c.length ≤ at)) → Each (λ (x : Chunk). IsLive x.state → IsInChunk x at → ⊥) chunks = λ out.
+          each_unset (λ (x : Chunk). IsLive x.state → IsInChunk x at → ⊥) chunks k (record c { state = Retired stamp }) c r.inside free
+          (subst (λ (x : Chunk). IsLive x.state → IsInChunk x at → ⊥) (sym r.here) (λ live in_c. elim out [ inl l ↦ omega (arith, l, in_c.0) | inr b ↦ omega (arith, b, in_c.1) ])) in
+          elim (place_of c.base c.length at) [
+            | Before l ↦ a.bytes at inside.0 (inl l) ∙ r.region.stops at old_inside (all (inl l))
+            | Within low high ↦ stops_there old new chunks k c r at (low, high)
+            | Behind b ↦ a.bytes at inside.0 (inr b) ∙ r.region.stops at old_inside (all (inr b))
+          ];
+      unused = λ at inside free.
+          ap (λ (z : List Mark). mark_at z at) r.marks_are
+          ∙ r.region.unused at (inside.0, omega (arith, inside.1, a.as_long))
+          (each_unset (λ (x : Chunk). IsInChunk x at → ⊥) chunks k (record c { state = Retired stamp }) c r.inside free
+          (subst (λ (x : Chunk). IsInChunk x at → ⊥) (sym r.here) (each_at_set (λ (x : Chunk). IsInChunk x at → ⊥) chunks k (record c { state = Retired stamp }) r.inside free)));
+    }
+
+-- the chunk that takes its place, by its fields
+pub retired_is : (chunk : Chunk) (base len stamp : ℕ) → chunk.base ≡ base → len ≡ chunk.length → record { base = base; length = len; state = Retired stamp } ≡ record chunk { state = Retired stamp }
+retired_is chunk base len stamp base_is len_is =
+    ap (λ (b : ℕ). let c : Chunk = record { base = b; length = len; state = Retired stamp } in c) (sym base_is)
+    ∙ ap (λ (n : ℕ). let c : Chunk = record { base = chunk.base; length = n; state = Retired stamp } in c) len_is
+
+-- what a deletion leaves, by its parts
+pub deleted_is : (old new : Region) (k base len stamp : ℕ) (chunk : Chunk) → slice_get old.chunks k ≡ Some chunk → chunk.state ≡ Live → chunk.base ≡ base → len ≡ chunk.length
+    → old.keeper.numbers.generation < 4611686018427387904 → stamp ≡ old.keeper.numbers.generation + 1
+    → new.marked.bytes ≡ with_span old.marked.bytes (base - 65536) (replicate len 244) → new.marked.marks ≡ old.marked.marks
+    → new.chunks ≡ set old.chunks k (record { base = base; length = len; state = Retired stamp })
+    → new.keeper ≡ record old.keeper { numbers = generation_raised old.keeper.numbers }
+    → Tells old.told new.told (acts_of_delete old.marked.marks base len) → IsDeleted old new base stamp
+deleted_is old new k base len stamp chunk listed live base_is len_is room stamp_is bytes marks chunks keeper told =
+    record {
+      index = k;
+      chunk = chunk;
+      listed = listed;
+      live = live;
+      base_is = base_is;
+      room = room;
+      stamp_is = stamp_is;
+      bytes = bytes ∙ ap (λ (n : ℕ). with_span old.marked.bytes (base - 65536) (replicate n 244)) len_is;
+      chunks = chunks ∙ ap (λ (d : Chunk). set old.chunks k d) (retired_is chunk base len stamp base_is len_is);
+      keeper = keeper;
+      others = ap (λ (m : List Mark). let r : Region = record { marked = record { bytes = new.marked.bytes; marks = m }; chunks = new.chunks; keeper = new.keeper; told = new.told } in r) marks;
+      acts = subst (λ (n : ℕ). Tells old.told new.told (acts_of_delete old.marked.marks base n)) len_is told;
+    }

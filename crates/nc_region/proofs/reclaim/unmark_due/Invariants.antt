@@ -1,0 +1,14 @@
+use Rattle.std.proofs.Common.{◌≡◌, ◌++◌, take, drop}
+use Rattle.nc_region.specs.Acts.{Tells}
+use Rattle.nc_region.specs.Region.{IsRegion}
+use Rattle.nc_region.specs.Deletion.{freed, kept, unmarked, unmarkings}
+use Rattle.nc_region.proofs.reclaim.unmark_due.Given as goal
+
+abbrev pub invariant-loop-i : goal.invariant-loop-i
+invariant-loop-i g l =
+    record {
+      region : IsRegion (g.A.Acts.marked l.acts) (kept l.least (take l.i l.chunks) ++ drop l.i l.chunks);
+      marked : g.A.Acts.marked l.acts ≡ unmarked (g.A.Acts.marked l.initial.acts) (freed l.least (take l.i l.chunks));
+      keeper : g.A.Acts.keeper l.acts ≡ g.A.Acts.keeper l.initial.acts;
+      told : Tells (g.A.Acts.told l.initial.acts) (g.A.Acts.told l.acts) (unmarkings (freed l.least (take l.i l.chunks)));
+    }

@@ -1,0 +1,74 @@
+-- The region after a chunk was deleted, and after retired chunks were reclaimed.
+use Rattle.std.specs.Prelude.{◌≡◌, ℕ, ◌+◌, ◌-◌, ◌^◌, ◌<◌, Bool, false, not, nat_le, List, [], ◌∷◌, ◌++◌, length, filter, map, replicate, Contains, Some, slice_get, slice_set}
+use Rattle.nc_gens.specs.Rule.{generation_raised}
+use Rattle.nc_gens.specs.Seen.{HasLooked, least_number}
+use Rattle.nc_text.specs.MarkedText.{MarkedText, with_span, without_marks}
+use Rattle.nc_region.specs.declared.acts.Act.{Act}
+use Rattle.nc_region.specs.declared.acts.Act.TheVariants.{UnmarkSpan, Look}
+use Rattle.nc_region.specs.declared.chunk.Chunk.{Chunk}
+use Rattle.nc_region.specs.declared.chunk.ChunkState.{ChunkState}
+use Rattle.nc_region.specs.declared.chunk.ChunkState.TheVariants.{Live, Retired}
+use Rattle.nc_region.specs.declared.fault.DeleteFault.{DeleteFault}
+use Rattle.nc_region.specs.declared.fault.DeleteFault.TheVariants.{NoChunk, GensFull}
+use Rattle.nc_region.specs.Acts.{Tells, acts_of_delete}
+use Rattle.nc_region.specs.Region.{Region, IsLive}
+
+-- some live chunk of the list has this base
+abbrev pub HasLive : List Chunk → ℕ → Type 0
+HasLive chunks base = (c : Chunk) × Contains chunks c × IsLive c.state × (c.base ≡ base)
+
+-- The region after the chunk of this base was deleted: it was live, its bytes are stops, it is retired, and its stamp is
+-- the next generation, which is the keeper's now. All else that a region has is as before. Where acts are told, they are
+-- those of the deletion, in their order.
+pub record IsDeleted (old new : Region) (base stamp : ℕ) : Type 0 where
+  pub index : ℕ
+  pub chunk : Chunk
+  pub listed : slice_get old.chunks index ≡ Some chunk
+  pub live : chunk.state ≡ Live
+  pub base_is : chunk.base ≡ base
+  pub room : old.keeper.numbers.generation < 2 ^ 62
+  pub stamp_is : stamp ≡ old.keeper.numbers.generation + 1
+  pub bytes : new.marked.bytes ≡ with_span old.marked.bytes (base - 0x10000) (replicate chunk.length 0xF4)
+  pub chunks : new.chunks ≡ slice_set old.chunks index (record chunk { state = Retired stamp })
+  pub keeper : new.keeper ≡ record old.keeper { numbers = generation_raised old.keeper.numbers }
+  pub others : new ≡ record old { marked = record old.marked { bytes = new.marked.bytes }; chunks = new.chunks; keeper = new.keeper; told = new.told }
+  pub acts : Tells old.told new.told (acts_of_delete old.marked.marks base chunk.length)
+
+-- when each refusal of `delete` comes: the first of the two that holds
+abbrev pub MayRefuseDelete : Region → ℕ → DeleteFault → Type 0
+MayRefuseDelete r base NoChunk = ¬ HasLive r.chunks base
+MayRefuseDelete r base GensFull = HasLive r.chunks base × (r.keeper.numbers.generation ≡ 2 ^ 62)
+
+-- retired, with a stamp of at most this number
+abbrev pub is_due : ℕ → ChunkState → Bool
+is_due least Live = false
+is_due least (Retired stamp) = nat_le stamp least
+
+-- the chunks that such a number frees, by rising base
+abbrev pub freed : ℕ → List Chunk → List Chunk
+freed least chunks = filter (λ (c : Chunk). is_due least c.state) chunks
+
+-- the chunks that stay in the list
+abbrev pub kept : ℕ → List Chunk → List Chunk
+kept least chunks = filter (λ (c : Chunk). not (is_due least c.state)) chunks
+
+-- the text with the spans of these chunks unmarked, except for bundle starts
+abbrev pub unmarked : MarkedText → List Chunk → MarkedText
+unmarked marked [] = marked
+unmarked marked (c ∷ rest) = unmarked (without_marks marked c.base c.length) rest
+
+-- one unmarking for each of these chunks
+abbrev pub unmarkings : List Chunk → List Act
+unmarkings chunks = map (λ (c : Chunk). UnmarkSpan c.base c.length) chunks
+
+-- The region after retired chunks were reclaimed, so many as `count` says: the keeper has looked, exactly the chunks with
+-- a stamp of at most its least number have left the list, and their spans are unmarked. All else that a region has is as
+-- before; no byte changed. Where acts are told, they are one look and then one unmarking for each chunk freed, rising.
+pub record IsReclaimed (old new : Region) (count : ℕ) : Type 0 where
+  pub looked : HasLooked old.keeper new.keeper
+  pub chunks : new.chunks ≡ kept (least_number new.keeper.numbers) old.chunks
+  pub count_is : count ≡ length (freed (least_number new.keeper.numbers) old.chunks)
+  pub marked : new.marked ≡ unmarked old.marked (freed (least_number new.keeper.numbers) old.chunks)
+  pub bytes : new.marked.bytes ≡ old.marked.bytes
+  pub others : new ≡ record old { marked = new.marked; chunks = new.chunks; keeper = new.keeper; told = new.told }
+  pub acts : Tells old.told new.told (Look ∷ unmarkings (freed (least_number new.keeper.numbers) old.chunks))

@@ -1,0 +1,82 @@
+//! A chunk of a text that threads are running turned into stops.
+
+ghost use Rattle.std.specs.Prelude.{◌≡◌, ◌+◌, ◌-◌, ◌<◌, ◌≤◌, ◌^◌, ℕ, List, [], ◌∷◌, ◌++◌, length, replicate, true};
+ghost use Rattle.nc_decode.specs.declared.instruction.Mark.{Mark};
+ghost use Rattle.nc_text.specs.Places.{limit_of, byte_at};
+ghost use Rattle.nc_text.specs.MarkedText.{MarkedText, IsText, with_span};
+ghost use Rattle.nc_gens.specs.Rule.{generation_raised};
+ghost use Rattle.nc_region.specs.Acts.{Tells, puts_where, is_mark, is_marked_at, is_unmarked_at, acts_of_delete};
+ghost use Rattle.nc_region.specs.Chunks.{IsPlaced, HasPut};
+
+use crate::acts::Acts;
+use nc_decode::Mark;
+
+/// The byte of the instruction hlt.
+const STOP: u8 = 0xF4;
+
+/// Puts stops at all places of a chunk, and draws the stamp.
+pub(crate) fn put_stops<A: Acts>(acts: &mut A, base: u32, len: u32) -> u64
+    requires whole { IsText (A.marked acts.old) }
+    requires placed { IsPlaced base (limit_of (A.marked acts.old).bytes) len }
+    requires room { (A.keeper acts.old).numbers.generation < 2 ^ 62 }
+    ensures bytes { (A.marked acts.new).bytes ≡ with_span (A.marked acts.old).bytes (base - 65536) (replicate len 244) }
+    ensures marks { (A.marked acts.new).marks ≡ (A.marked acts.old).marks }
+    ensures whole { IsText (A.marked acts.new) }
+    ensures stamp { result ≡ (A.keeper acts.old).numbers.generation + 1 }
+    ensures keeper { A.keeper acts.new ≡ record (A.keeper acts.old) { numbers = generation_raised (A.keeper acts.old).numbers } }
+    ensures told { Tells (A.told acts.old) (A.told acts.new) (acts_of_delete (A.marked acts.old).marks base len) }
+{
+    stop_marked(acts, base, len);
+    stop_others(acts, base, len);
+    match acts.bump() {
+        Ok(stamp) => stamp,
+        Err(_) => unreachable!(),
+    }
+}
+
+/// The mark stands for some state.
+fn is_mark(mark: Mark) -> bool
+    ensures { result ≡ is_mark mark }
+{
+    match mark {
+        Mark::Unmarked => false,
+        Mark::Plain | Mark::After(_) => true,
+    }
+}
+
+/// Puts stops at the marked places, rising.
+fn stop_marked<A: Acts>(acts: &mut A, base: u32, len: u32)
+    requires whole { IsText (A.marked acts.old) }
+    requires placed { IsPlaced base (limit_of (A.marked acts.old).bytes) len }
+    ensures bytes { HasPut (is_marked_at (A.marked acts.old).marks) base (replicate len 244) len (A.marked acts.old).bytes (A.marked acts.new).bytes }
+    ensures marks { (A.marked acts.new).marks ≡ (A.marked acts.old).marks }
+    ensures whole { IsText (A.marked acts.new) }
+    ensures keeper { A.keeper acts.new ≡ A.keeper acts.old }
+    ensures told { Tells (A.told acts.old) (A.told acts.new) (puts_where (is_marked_at (A.marked acts.old).marks) base (replicate len 244)) }
+{
+    for i in 0..len {
+        let at = base + i;
+        if is_mark(acts.mark(at)) {
+            acts.put(at, STOP);
+        }
+    }
+}
+
+/// Puts stops at the other places, rising.
+fn stop_others<A: Acts>(acts: &mut A, base: u32, len: u32)
+    requires whole { IsText (A.marked acts.old) }
+    requires placed { IsPlaced base (limit_of (A.marked acts.old).bytes) len }
+    requires stopped { (at : ℕ) → base ≤ at → at < base + len → is_marked_at (A.marked acts.old).marks at ≡ true → byte_at (A.marked acts.old).bytes at ≡ 244 }
+    ensures bytes { HasPut (is_unmarked_at (A.marked acts.old).marks) base (replicate len 244) len (A.marked acts.old).bytes (A.marked acts.new).bytes }
+    ensures marks { (A.marked acts.new).marks ≡ (A.marked acts.old).marks }
+    ensures whole { IsText (A.marked acts.new) }
+    ensures keeper { A.keeper acts.new ≡ A.keeper acts.old }
+    ensures told { Tells (A.told acts.old) (A.told acts.new) (puts_where (is_unmarked_at (A.marked acts.old).marks) base (replicate len 244)) }
+{
+    for i in 0..len {
+        let at = base + i;
+        if !is_mark(acts.mark(at)) {
+            acts.put(at, STOP);
+        }
+    }
+}
