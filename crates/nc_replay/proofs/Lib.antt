@@ -9,3 +9,6 @@ pub mod Creating
 pub mod Serving
 pub mod OneAnswer
 pub mod OneText
+pub mod Kept
+pub mod Gathering
+pub mod Replies

@@ -1,17 +1,9 @@
 -- The lines of a script have one text of answers.
-use Rattle.std.proofs.Common.{◌≡◌, ◌++◌, ℕ, List, [], ◌∷◌, Bool, true, false, refl, sym, ap, ◌∙◌, subst, append_assoc}
-use Rattle.std.specs.Bool.{MatchBool}
-use Rattle.nc_replay.specs.Lines.{is_long, bad_line}
+use Rattle.std.proofs.Common.{◌≡◌, ◌++◌, ℕ, List, [], ◌∷◌, refl, sym, ap, ◌∙◌, subst, append_assoc}
 use Rattle.nc_replay.specs.Answering.{AnswersLines}
-use Rattle.nc_replay.specs.Answers.{AnswersOnly, ServesLine}
+use Rattle.nc_replay.specs.Answers.{ServesLine}
 use Rattle.nc_replay.specs.Laws.{HasOneText, BeginsAll}
 use Rattle.nc_replay.specs.Script.{Script}
-
--- a long line is a bad line alone
-long_or_only : (long : Bool) (old : Script) (line text other : List ℕ) (new next : Script) → MatchBool long ((text ≡ bad_line) × (new ≡ old)) (AnswersOnly old line text new)
-    → MatchBool long ((other ≡ bad_line) × (next ≡ old)) (ServesLine old line other next) → (other ≡ text) × (next ≡ new)
-long_or_only true old line text other new next a b = (b.0 ∙ sym a.0, b.1 ∙ sym a.1)
-long_or_only false old line text other new next a b = a.only other next b
 
 -- lines have one text of answers, one line after the other
 pub one_text : HasOneText
@@ -19,7 +11,7 @@ one_text old [] text other new next a b = (b.0 ∙ sym a.0, b.1 ∙ sym a.1)
 one_text old (line ∷ lines) text other new next a b =
     let (mid, answer, rest, one, e, more) = a in
     let (also, second, others, two, f, same_so) = b in
-    let same = long_or_only (is_long line) old line answer second mid also one two in
+    let same = one.only second also two in
     let on = one_text mid lines rest others new next more (subst (λ (s : Script). AnswersLines ServesLine s lines others next) same.1 same_so) in
     (f ∙ (ap (λ (t : List ℕ). t ++ others) same.0 ∙ (ap (λ (t : List ℕ). answer ++ t) on.0 ∙ sym e)), on.1)
 

@@ -92,3 +92,8 @@ as_asked v base bytes text old new base_is code_is served =
 pub added : {T E : Type 0} (r : Result T E) (new old bytes : List ℕ) (P : List ℕ → Type 0) → new ≡ cond (is_ok r) (old ++ bytes) old → P bytes → OnOk r ((text : List ℕ) × (new ≡ old ++ text) × P text)
 added (Ok x) new old bytes P e p = (bytes, e, p)
 added (Err x) new old bytes P e p = tt
+
+-- where all bytes were added, they stand at the end
+pub added_all : {T E : Type 0} (r : Result T E) (new old bytes : List ℕ) → new ≡ cond (is_ok r) (old ++ bytes) old → OnOk r (new ≡ old ++ bytes)
+added_all (Ok x) new old bytes e = e
+added_all (Err x) new old bytes e = tt

@@ -4,10 +4,10 @@ use Rattle.std.specs.List.{flat_map}
 use Rattle.std.specs.Io.KnownBytes.{Appends, Keeps}
 use Rattle.std.proofs.KnownBytes.{Appends-trans, Appends-kept, Appends-nil}
 use Rattle.nc_replay.specs.Lines.{lines_of, ended_lines, line_limit}
-use Rattle.nc_replay.specs.Answering.{AnswersLine, AnswersLines, IsAnswered, IsBegun, IsCutShort}
+use Rattle.nc_replay.specs.Answering.{AnswersLines, IsAnswered, IsBegun, IsCutShort}
 use Rattle.nc_replay.specs.Progress.{ended, Stands, AnswersKept, Feeds, Finishes}
 use Rattle.nc_replay.specs.declared.fault.ReplayFault.{ReplayFault}
-use Rattle.nc_replay.specs.declared.fault.ReplayFault.TheVariants.{ReadFailed, WriteFailed, OutOfMemory, BadSize, BadSeats}
+use Rattle.nc_replay.specs.declared.fault.ReplayFault.TheVariants.{ReadFailed, WriteFailed, OutOfMemory, BadSize, BadSeats, BadWorkers}
 use Rattle.nc_replay.proofs.Cuts.{more_to_come, lines_of-some, lines_of-cut, lines_of-open, lines_of-next, last_line, ended_lines-cut, cut-ended, IsOpen-push, AreOpen-push, kept_push, kept_full}
 use Rattle.nc_replay.proofs.Answered.{runs_more}
 
@@ -40,7 +40,7 @@ module _ {S : Type 0} (answers : S → List ℕ → List ℕ → S → Type 0) (
 
   -- one more line is answered
   answered_more : (now : S) (after : Option (List ℕ)) (lines : List (List ℕ)) (line text : List ℕ) (new : S) (later : Option (List ℕ))
-      → IsAnswered answers start now before after lines → AnswersLine answers now line text new → Appends after later text → IsAnswered answers start new before later (lines ++ line ∷ [])
+      → IsAnswered answers start now before after lines → answers now line text new → Appends after later text → IsAnswered answers start new before later (lines ++ line ∷ [])
   answered_more now after lines line text new later a answered_so written = record {
     text = a.text ++ text;
     runs = runs_more answers start lines a.text now line text new a.runs answered_so;
@@ -49,7 +49,7 @@ module _ {S : Type 0} (answers : S → List ℕ → List ℕ → S → Type 0) (
 
   -- the end of a line, which is answered
   pub stands_line : (bytes : List ℕ) (now : S) (after : Option (List ℕ)) (kept text : List ℕ) (new : S) (later : Option (List ℕ)) (left : List ℕ) (s : Stands answers start before bytes now after kept)
-      → left ≡ [] → AnswersLine answers now s.part text new → Appends after later text → Stands answers start before (bytes ++ 10 ∷ []) new later left
+      → left ≡ [] → answers now s.part text new → Appends after later text → Stands answers start before (bytes ++ 10 ∷ []) new later left
   stands_line bytes now after kept text new later left s none answered_so written = record {
     lines = s.lines ++ s.part ∷ [];
     part = [];
@@ -62,7 +62,7 @@ module _ {S : Type 0} (answers : S → List ℕ → List ℕ → S → Type 0) (
 
   -- the answer to the line was written in part
   begun_more : (bytes : List ℕ) (now : S) (after : Option (List ℕ)) (kept text : List ℕ) (n : ℕ) (new : S) (later : Option (List ℕ)) (s : Stands answers start before bytes now after kept) (all others : List (List ℕ))
-      → AnswersLine answers now s.part text new → Appends after later (take n text) → all ≡ s.lines ++ (s.part ∷ others) → IsBegun answers start before later all
+      → answers now s.part text new → Appends after later (take n text) → all ≡ s.lines ++ (s.part ∷ others) → IsBegun answers start before later all
   begun_more bytes now after kept text n new later s all others answered_so written e = record {
     first = s.lines ++ s.part ∷ [];
     others = others;
@@ -78,7 +78,7 @@ module _ {S : Type 0} (answers : S → List ℕ → List ℕ → S → Type 0) (
 
   -- where writing the answer to a line fails, a beginning of the answers went out
   pub begun_line : (bytes : List ℕ) (now : S) (after : Option (List ℕ)) (kept text : List ℕ) (n : ℕ) (new : S) (later : Option (List ℕ)) (s : Stands answers start before bytes now after kept) (more : List ℕ)
-      → AnswersLine answers now s.part text new → Appends after later (take n text) → IsBegun answers start before later (lines_of (bytes ++ 10 ∷ more))
+      → answers now s.part text new → Appends after later (take n text) → IsBegun answers start before later (lines_of (bytes ++ 10 ∷ more))
   begun_line bytes now after kept text n new later s more answered_so written =
       begun_more bytes now after kept text n new later s (lines_of (bytes ++ 10 ∷ more)) (lines_of more) answered_so written
       (ap (λ (xs : List ℕ). lines_of (xs ++ 10 ∷ more)) s.split ∙ lines_of-next s.lines s.part more s.closed s.open_part)
@@ -125,7 +125,7 @@ module _ {S : Type 0} (answers : S → List ℕ → List ℕ → S → Type 0) (
 
   -- at the end the last line is answered too
   pub finish_line : (bytes : List ℕ) (now : S) (after : Option (List ℕ)) (kept text : List ℕ) (new : S) (later : Option (List ℕ)) (s : Stands answers start before bytes now after kept) → 0 < length s.part
-      → AnswersLine answers now s.part text new → Appends after later text → IsAnswered answers start new before later (lines_of bytes)
+      → answers now s.part text new → Appends after later text → IsAnswered answers start new before later (lines_of bytes)
   finish_line bytes now after kept text new later s some answered_so written =
       subst (λ (ls : List (List ℕ)). IsAnswered answers start new before later ls)
       (sym (lines_at_end bytes now after kept s ∙ ap (λ (ls : List (List ℕ)). s.lines ++ ls) (last_line_some s.part some)))
@@ -133,7 +133,7 @@ module _ {S : Type 0} (answers : S → List ℕ → List ℕ → S → Type 0) (
 
   -- at the end, where writing fails, a beginning of the answers went out
   pub finish_begun : (bytes : List ℕ) (now : S) (after : Option (List ℕ)) (kept text : List ℕ) (n : ℕ) (new : S) (later : Option (List ℕ)) (s : Stands answers start before bytes now after kept) → 0 < length s.part
-      → AnswersLine answers now s.part text new → Appends after later (take n text) → IsBegun answers start before later (lines_of bytes)
+      → answers now s.part text new → Appends after later (take n text) → IsBegun answers start before later (lines_of bytes)
   finish_begun bytes now after kept text n new later s some answered_so written =
       begun_more bytes now after kept text n new later s (lines_of bytes) [] answered_so written
       (lines_at_end bytes now after kept s ∙ ap (λ (ls : List (List ℕ)). s.lines ++ ls) (last_line_some s.part some))
@@ -165,6 +165,7 @@ module _ {S : Type 0} (T : Type 0) (answers : S → List ℕ → List ℕ → S 
   feeds_line bytes now after kept new later left s (Err ReadFailed) h = absurd h
   feeds_line bytes now after kept new later left s (Err BadSize) h = absurd h
   feeds_line bytes now after kept new later left s (Err BadSeats) h = absurd h
+  feeds_line bytes now after kept new later left s (Err BadWorkers) h = absurd h
 
   -- a failure, however the input answers on
   pub feeds_failed : (bytes : List ℕ) (now : S) (after : Option (List ℕ)) (kept piece : List ℕ) (fault : ReplayFault)
@@ -176,6 +177,7 @@ module _ {S : Type 0} (T : Type 0) (answers : S → List ℕ → List ℕ → S 
   feeds_failed bytes now after kept piece ReadFailed h = absurd h
   feeds_failed bytes now after kept piece BadSize h = absurd h
   feeds_failed bytes now after kept piece BadSeats h = absurd h
+  feeds_failed bytes now after kept piece BadWorkers h = absurd h
 
   -- what a failed write means, however the input goes on
   pub fed_write_failed : (bytes : List ℕ) (now : S) (after : Option (List ℕ)) (kept : List ℕ) (fault : ReplayFault)
@@ -185,6 +187,7 @@ module _ {S : Type 0} (T : Type 0) (answers : S → List ℕ → List ℕ → S 
   fed_write_failed bytes now after kept ReadFailed h e = absurd h
   fed_write_failed bytes now after kept BadSize h e = absurd h
   fed_write_failed bytes now after kept BadSeats h e = absurd h
+  fed_write_failed bytes now after kept BadWorkers h e = absurd h
 
   -- what want of memory means, however the input goes on
   pub fed_out_of_memory : (bytes : List ℕ) (now : S) (after : Option (List ℕ)) (kept : List ℕ) (fault : ReplayFault)
@@ -194,6 +197,7 @@ module _ {S : Type 0} (T : Type 0) (answers : S → List ℕ → List ℕ → S 
   fed_out_of_memory bytes now after kept ReadFailed h e = absurd h
   fed_out_of_memory bytes now after kept BadSize h e = absurd h
   fed_out_of_memory bytes now after kept BadSeats h e = absurd h
+  fed_out_of_memory bytes now after kept BadWorkers h e = absurd h
 
   -- no call for a piece fails by a read
   pub fed_read_failed : (bytes : List ℕ) (now : S) (after : Option (List ℕ)) (kept : List ℕ) (fault : ReplayFault)
@@ -203,15 +207,17 @@ module _ {S : Type 0} (T : Type 0) (answers : S → List ℕ → List ℕ → S 
   fed_read_failed bytes now after kept ReadFailed h e = h
   fed_read_failed bytes now after kept BadSize h e = absurd h
   fed_read_failed bytes now after kept BadSeats h e = absurd h
+  fed_read_failed bytes now after kept BadWorkers h e = absurd h
 
   -- no failure is one of the sizes
   pub fed_no_size : (bytes : List ℕ) (now : S) (after : Option (List ℕ)) (kept : List ℕ) (fault : ReplayFault)
-      → Feeds {T = T} answers start before bytes now after kept (Err fault) → (fault ≢ BadSize) × (fault ≢ BadSeats)
-  fed_no_size bytes now after kept WriteFailed h = (λ e. cc, λ e. cc)
-  fed_no_size bytes now after kept OutOfMemory h = (λ e. cc, λ e. cc)
+      → Feeds {T = T} answers start before bytes now after kept (Err fault) → (fault ≢ BadSize) × (fault ≢ BadSeats) × (fault ≢ BadWorkers)
+  fed_no_size bytes now after kept WriteFailed h = (λ e. cc, λ e. cc, λ e. cc)
+  fed_no_size bytes now after kept OutOfMemory h = (λ e. cc, λ e. cc, λ e. cc)
   fed_no_size bytes now after kept ReadFailed h = absurd h
   fed_no_size bytes now after kept BadSize h = absurd h
   fed_no_size bytes now after kept BadSeats h = absurd h
+  fed_no_size bytes now after kept BadWorkers h = absurd h
 
   -- a call that answers the last line
   pub finishes_line : (bytes : List ℕ) (now : S) (after : Option (List ℕ)) (kept : List ℕ) (new : S) (later : Option (List ℕ)) (left : List ℕ) (s : Stands answers start before bytes now after kept) → 0 < length s.part → (r : Result T ReplayFault)
@@ -224,6 +230,7 @@ module _ {S : Type 0} (T : Type 0) (answers : S → List ℕ → List ℕ → S 
   finishes_line bytes now after kept new later left s some (Err ReadFailed) h = absurd h
   finishes_line bytes now after kept new later left s some (Err BadSize) h = absurd h
   finishes_line bytes now after kept new later left s some (Err BadSeats) h = absurd h
+  finishes_line bytes now after kept new later left s some (Err BadWorkers) h = absurd h
 
   -- a failure has nothing to do with the state
   pub finishes_failed : (bytes : List ℕ) (now new : S) (after : Option (List ℕ)) (fault : ReplayFault)
@@ -233,6 +240,7 @@ module _ {S : Type 0} (T : Type 0) (answers : S → List ℕ → List ℕ → S 
   finishes_failed bytes now new after ReadFailed h = h
   finishes_failed bytes now new after BadSize h = h
   finishes_failed bytes now new after BadSeats h = h
+  finishes_failed bytes now new after BadWorkers h = h
 
 -- what is written stays written
 pub answered_kept : {S : Type 0} (answers : S → List ℕ → List ℕ → S → Type 0) (start new : S) (before after later : Option (List ℕ)) (lines : List (List ℕ)) → IsAnswered answers start new before after lines → Keeps after later → IsAnswered answers start new before later lines

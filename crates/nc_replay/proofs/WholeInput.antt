@@ -6,7 +6,7 @@ use Rattle.nc_replay.specs.Lines.{lines_of}
 use Rattle.nc_replay.specs.Answering.{IsAnswered, IsBegun, IsCutShort}
 use Rattle.nc_replay.specs.Progress.{Finishes}
 use Rattle.nc_replay.specs.declared.fault.ReplayFault.{ReplayFault}
-use Rattle.nc_replay.specs.declared.fault.ReplayFault.TheVariants.{ReadFailed, WriteFailed, OutOfMemory, BadSize, BadSeats}
+use Rattle.nc_replay.specs.declared.fault.ReplayFault.TheVariants.{ReadFailed, WriteFailed, OutOfMemory, BadSize, BadSeats, BadWorkers}
 
 -- what holds whatever is still to come holds of the input
 pub known_more : (old new : Option (List ℕ)) (front : List ℕ) (P : List ℕ → Type 0) → Consumes old new front → ((more : List ℕ) → P (front ++ more)) → IfSome old P
@@ -16,13 +16,14 @@ known_more (Some xs) (Some ys) front P c h = subst P (sym c) (h ys)
 
 -- no failure at the end is one of the sizes
 pub finished_no_size : {S : Type 0} (T : Type 0) (answers : S → List ℕ → List ℕ → S → Type 0) (start : S) (before : Option (List ℕ)) (bytes : List ℕ) (now : S) (after : Option (List ℕ)) (r : Result T ReplayFault)
-    → Finishes answers start before bytes now after r → IfErr r (λ fault. (fault ≢ BadSize) × (fault ≢ BadSeats))
+    → Finishes answers start before bytes now after r → IfErr r (λ fault. (fault ≢ BadSize) × (fault ≢ BadSeats) × (fault ≢ BadWorkers))
 finished_no_size T answers start before bytes now after (Ok x) h = tt
-finished_no_size T answers start before bytes now after (Err WriteFailed) h = (λ e. cc, λ e. cc)
-finished_no_size T answers start before bytes now after (Err OutOfMemory) h = (λ e. cc, λ e. cc)
+finished_no_size T answers start before bytes now after (Err WriteFailed) h = (λ e. cc, λ e. cc, λ e. cc)
+finished_no_size T answers start before bytes now after (Err OutOfMemory) h = (λ e. cc, λ e. cc, λ e. cc)
 finished_no_size T answers start before bytes now after (Err ReadFailed) h = absurd h
 finished_no_size T answers start before bytes now after (Err BadSize) h = absurd h
 finished_no_size T answers start before bytes now after (Err BadSeats) h = absurd h
+finished_no_size T answers start before bytes now after (Err BadWorkers) h = absurd h
 
 -- at the end of the input, whose bytes were all read
 module _ {S : Type 0} (T : Type 0) (answers : S → List ℕ → List ℕ → S → Type 0) (start : S) (before : Option (List ℕ)) (old new : Option (List ℕ)) (front : List ℕ) (consumed : Consumes old new front) (at_end : IsAtEnd new) where
@@ -39,6 +40,7 @@ module _ {S : Type 0} (T : Type 0) (answers : S → List ℕ → List ℕ → S 
   whole_write_failed now after (Err ReadFailed) h e = absurd h
   whole_write_failed now after (Err BadSize) h e = absurd h
   whole_write_failed now after (Err BadSeats) h e = absurd h
+  whole_write_failed now after (Err BadWorkers) h e = absurd h
 
   -- the answers before the line that failed went out
   pub whole_out_of_memory : (now : S) (after : Option (List ℕ)) (r : Result T ReplayFault) → Finishes answers start before front now after r → IsErrOf r OutOfMemory → IfSome old (λ input. IsCutShort answers start before after (lines_of input))
@@ -48,6 +50,7 @@ module _ {S : Type 0} (T : Type 0) (answers : S → List ℕ → List ℕ → S 
   whole_out_of_memory now after (Err ReadFailed) h e = absurd h
   whole_out_of_memory now after (Err BadSize) h e = absurd h
   whole_out_of_memory now after (Err BadSeats) h e = absurd h
+  whole_out_of_memory now after (Err BadWorkers) h e = absurd h
 
   -- at the end no read has failed
   pub whole_read_failed : (now : S) (after : Option (List ℕ)) (r : Result T ReplayFault) → Finishes answers start before front now after r → IsErrOf r ReadFailed → ⊥
@@ -57,3 +60,4 @@ module _ {S : Type 0} (T : Type 0) (answers : S → List ℕ → List ℕ → S 
   whole_read_failed now after (Err ReadFailed) h e = h
   whole_read_failed now after (Err BadSize) h e = absurd h
   whole_read_failed now after (Err BadSeats) h e = absurd h
+  whole_read_failed now after (Err BadWorkers) h e = absurd h

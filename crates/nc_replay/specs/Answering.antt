@@ -2,19 +2,13 @@
 -- Everything here is said of any relation `answers`: from the state old this may be the answer to the
 -- line, and new is the state after it.
 use Rattle.std.specs.Prelude.{◌≡◌, ◌++◌, ℕ, List, [], ◌∷◌, Option}
-use Rattle.std.specs.Bool.{MatchBool}
 use Rattle.std.specs.Io.KnownBytes.{Appends}
-use Rattle.nc_replay.specs.Lines.{is_long, bad_line}
-
--- The answer to one line: a line that is too long is a bad line, and nothing changes.
-abbrev pub AnswersLine : {S : Type 0} → (S → List ℕ → List ℕ → S → Type 0) → S → List ℕ → List ℕ → S → Type 0
-AnswersLine answers old line text new = MatchBool (is_long line) ((text ≡ bad_line) × (new ≡ old)) (answers old line text new)
 
 -- The answers to lines, one after the other.
 abbrev pub AnswersLines : {S : Type 0} → (S → List ℕ → List ℕ → S → Type 0) → S → List (List ℕ) → List ℕ → S → Type 0
 AnswersLines answers old [] text new = (text ≡ []) × (new ≡ old)
 AnswersLines {S} answers old (line ∷ lines) text new =
-    (mid : S) × (answer : List ℕ) × (rest : List ℕ) × AnswersLine answers old line answer mid × (text ≡ answer ++ rest) × AnswersLines answers mid lines rest new
+    (mid : S) × (answer : List ℕ) × (rest : List ℕ) × answers old line answer mid × (text ≡ answer ++ rest) × AnswersLines answers mid lines rest new
 
 -- exactly the answers to these lines were written
 pub record IsAnswered {S : Type 0} (answers : S → List ℕ → List ℕ → S → Type 0) (old new : S) (before after : Option (List ℕ)) (lines : List (List ℕ)) : Type 0 where

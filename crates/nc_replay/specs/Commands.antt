@@ -5,7 +5,7 @@ use Rattle.std.specs.Option.{option_map, option_and_then}
 use Rattle.std.specs.Result.{result_ok}
 use Rattle.std.specs.Int.{w32, from_be_bytes}
 use Rattle.hex.specs.Hex.{decode_of, decode_sized}
-use Rattle.nc_replay.specs.Lines.{words_in}
+use Rattle.nc_replay.specs.Lines.{words_in, is_long}
 
 pub data Request : Type 0 where
   Create : (at : ℕ) (bytes : List ℕ) → Request
@@ -30,10 +30,18 @@ addresses_in (word ∷ words) = option_and_then (λ a. option_map (λ rest. a �
 abbrev pub is_word : List ℕ → List ℕ → Bool
 is_word word text = pointwise nat_eq word text
 
+-- an address, and the bytes that are to stand there
+abbrev pub placed_in : List (List ℕ) → Option (ℕ × List ℕ)
+placed_in (at ∷ bytes ∷ []) = option_and_then (λ a. option_map (λ found. (a, found)) (bytes_in bytes)) (address_in at)
+placed_in _ = None
+
+-- the chunk that a line names which is only to be vetted: an address and bytes; every other line is a bad line
+abbrev pub chunk_in : List ℕ → Option (ℕ × List ℕ)
+chunk_in line = if is_long line then None else placed_in (words_in line)
+
 -- what follows the word `create`: an address and bytes
 abbrev pub create_in : List (List ℕ) → Option Request
-create_in (at ∷ bytes ∷ []) = option_and_then (λ a. option_map (Create a) (bytes_in bytes)) (address_in at)
-create_in _ = None
+create_in words = option_map (λ placed. Create placed.0 placed.1) (placed_in words)
 
 -- what follows the word `walk`: an address and any number of choices
 abbrev pub walk_in : List (List ℕ) → Option Request
@@ -53,6 +61,6 @@ request_of (word ∷ words) =
     else if is_word word (codes "dump") then alone Dump words
     else None
 
--- what a line asks for; a line of no such form is a bad line
+-- what a line asks for; a line that is too long or has no such form asks for nothing, and is a bad line
 abbrev pub request_in : List ℕ → Option Request
-request_in line = request_of (words_in line)
+request_in line = if is_long line then None else request_of (words_in line)

@@ -8,5 +8,7 @@ pub mod Texts
 pub mod Answers
 pub mod Session
 pub mod Run
-pub mod CommandLine
 pub mod Laws
+pub mod Vetting
+pub mod Batch
+pub mod Start

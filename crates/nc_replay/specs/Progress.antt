@@ -3,9 +3,9 @@ use Rattle.std.specs.Prelude.{◌≡◌, ◌≢◌, ◌++◌, ℕ, List, [], ◌
 use Rattle.std.specs.List.{flat_map}
 use Rattle.std.specs.Io.KnownBytes.{Appends}
 use Rattle.nc_replay.specs.declared.fault.ReplayFault.{ReplayFault}
-use Rattle.nc_replay.specs.declared.fault.ReplayFault.TheVariants.{ReadFailed, WriteFailed, OutOfMemory, BadSize, BadSeats}
+use Rattle.nc_replay.specs.declared.fault.ReplayFault.TheVariants.{ReadFailed, WriteFailed, OutOfMemory, BadSize, BadSeats, BadWorkers}
 use Rattle.nc_replay.specs.Lines.{kept_of, lines_of}
-use Rattle.nc_replay.specs.Answering.{AnswersLine, IsAnswered, IsBegun, IsCutShort}
+use Rattle.nc_replay.specs.Answering.{IsAnswered, IsBegun, IsCutShort}
 
 -- no byte ends a line
 abbrev pub IsOpen : List ℕ → Type 0
@@ -22,12 +22,13 @@ ended line = line ++ 10 ∷ []
 
 -- One line was answered, of which a part was kept.
 abbrev pub AnswersKept : {S T : Type 0} → (S → List ℕ → List ℕ → S → Type 0) → S → S → Option (List ℕ) → Option (List ℕ) → List ℕ → List ℕ → Result T ReplayFault → Type 0
-AnswersKept answers old new before after left line (Ok _) = (left ≡ []) × (text : List ℕ) × AnswersLine answers old line text new × Appends before after text
-AnswersKept {S} answers old new before after left line (Err WriteFailed) = (text : List ℕ) × (n : ℕ) × (mid : S) × AnswersLine answers old line text mid × Appends before after (take n text)
+AnswersKept answers old new before after left line (Ok _) = (left ≡ []) × (text : List ℕ) × answers old line text new × Appends before after text
+AnswersKept {S} answers old new before after left line (Err WriteFailed) = (text : List ℕ) × (n : ℕ) × (mid : S) × answers old line text mid × Appends before after (take n text)
 AnswersKept answers old new before after left line (Err OutOfMemory) = after ≡ before
 AnswersKept answers old new before after left line (Err ReadFailed) = ⊥
 AnswersKept answers old new before after left line (Err BadSize) = ⊥
 AnswersKept answers old new before after left line (Err BadSeats) = ⊥
+AnswersKept answers old new before after left line (Err BadWorkers) = ⊥
 
 -- After these bytes: the lines that have ended are answered, and what is to be kept of the last one is kept.
 pub record Stands {S : Type 0} (answers : S → List ℕ → List ℕ → S → Type 0) (start : S) (before : Option (List ℕ)) (bytes : List ℕ) (now : S) (after : Option (List ℕ)) (kept : List ℕ) : Type 0 where
@@ -47,6 +48,7 @@ Feeds answers start before bytes now after kept (Err OutOfMemory) = (more : List
 Feeds answers start before bytes now after kept (Err ReadFailed) = ⊥
 Feeds answers start before bytes now after kept (Err BadSize) = ⊥
 Feeds answers start before bytes now after kept (Err BadSeats) = ⊥
+Feeds answers start before bytes now after kept (Err BadWorkers) = ⊥
 
 -- At the end of the bytes: all lines are answered.
 abbrev pub Finishes : {S T : Type 0} → (S → List ℕ → List ℕ → S → Type 0) → S → Option (List ℕ) → List ℕ → S → Option (List ℕ) → Result T ReplayFault → Type 0
@@ -56,3 +58,4 @@ Finishes answers start before bytes now after (Err OutOfMemory) = IsCutShort ans
 Finishes answers start before bytes now after (Err ReadFailed) = ⊥
 Finishes answers start before bytes now after (Err BadSize) = ⊥
 Finishes answers start before bytes now after (Err BadSeats) = ⊥
+Finishes answers start before bytes now after (Err BadWorkers) = ⊥

@@ -2,9 +2,10 @@
 
 ghost use Rattle.std.specs.Prelude.{◌≡◌, ℕ, IfOk, map, Some, None, ◌∷◌};
 ghost use Rattle.std.specs.Option.{option_map};
-ghost use Rattle.nc_replay.specs.Commands.{request_in, create_in, walk_in, addresses_in, alone};
-ghost use Rattle.nc_replay.specs.Shown.{shown};
+ghost use Rattle.nc_replay.specs.Commands.{request_in, placed_in, chunk_in, create_in, walk_in, addresses_in, alone};
+ghost use Rattle.nc_replay.specs.Shown.{shown, plain};
 
+use crate::lines::LINE_LIMIT;
 use crate::words::{address_of, bytes_of, words_of};
 use std::alloc::{AllocError, Global};
 
@@ -19,9 +20,9 @@ pub(crate) enum Command {
     Dump,
 }
 
-/// What follows the word `create`.
-fn create_of(alloc: Global, words: &[&[u8]]) -> Result<Option<Command>, AllocError>
-    ensures { IfOk result (λ found. option_map shown found ≡ create_in (map (λ word. word.now) words.now)) }
+/// An address, and the bytes that are to stand there.
+fn placed_of(alloc: Global, words: &[&[u8]]) -> Result<Option<(u32, Vec<u8>)>, AllocError>
+    ensures { IfOk result (λ found. option_map plain found ≡ placed_in (map (λ word. word.now) words.now)) }
 {
     match words {
         [at, bytes] => {
@@ -29,11 +30,35 @@ fn create_of(alloc: Global, words: &[&[u8]]) -> Result<Option<Command>, AllocErr
                 return Ok(None);
             };
             match bytes_of(alloc, bytes)? {
-                Some(bytes) => Ok(Some(Command::Create { at, bytes })),
+                Some(bytes) => Ok(Some((at, bytes))),
                 None => Ok(None),
             }
         }
         _ => Ok(None),
+    }
+}
+
+/// The address and bytes of a line that names a chunk to be vetted, or nothing where it is a bad line.
+pub(crate) fn placed_in_line(
+    alloc: Global,
+    line: &[u8],
+) -> Result<Option<(u32, Vec<u8>)>, AllocError>
+    ensures { IfOk result (λ found. option_map plain found ≡ chunk_in line.now) }
+{
+    if line.len() > LINE_LIMIT {
+        return Ok(None);
+    }
+    let words = words_of(alloc, line)?;
+    placed_of(alloc, words.as_slice())
+}
+
+/// What follows the word `create`.
+fn create_of(alloc: Global, words: &[&[u8]]) -> Result<Option<Command>, AllocError>
+    ensures { IfOk result (λ found. option_map shown found ≡ create_in (map (λ word. word.now) words.now)) }
+{
+    match placed_of(alloc, words)? {
+        Some((at, bytes)) => Ok(Some(Command::Create { at, bytes })),
+        None => Ok(None),
     }
 }
 
@@ -82,6 +107,9 @@ fn walk_of(alloc: Global, words: &[&[u8]]) -> Result<Option<Command>, AllocError
 pub(crate) fn command_of(alloc: Global, line: &[u8]) -> Result<Option<Command>, AllocError>
     ensures { IfOk result (λ found. option_map shown found ≡ request_in line.now) }
 {
+    if line.len() > LINE_LIMIT {
+        return Ok(None);
+    }
     let words = words_of(alloc, line)?;
     let Some((key, rest)) = words.as_slice().split_first() else {
         return Ok(None);

@@ -20,4 +20,7 @@ pub enum ReplayFault {
     /// The number of seats isn't in 1 to 64.
     #[error("bad seats")]
     BadSeats,
+    /// The number of workers isn't in 1 to 16.
+    #[error("bad workers")]
+    BadWorkers,
 }

@@ -1,7 +1,6 @@
 //! Bytes gathered into lines, each answered as it ends. No more is kept of a line than shows that it is too long.
 
 ghost use Rattle.std.specs.Prelude.{◌≡◌, ◌++◌, ◌∷◌, [], ℕ, List, Option, OnOk};
-ghost use Rattle.nc_replay.specs.Answering.{AnswersLine};
 ghost use Rattle.nc_replay.specs.Lines.{kept_of};
 ghost use Rattle.nc_replay.specs.Progress.{AnswersKept, Stands, Feeds};
 
@@ -12,7 +11,7 @@ use std::alloc::{AllocError, Global};
 use std::io::Write;
 
 /// The longest line that is read, in bytes, without its end.
-const LINE_LIMIT: usize = 1_048_576;
+pub(crate) const LINE_LIMIT: usize = 1_048_576;
 
 /// Answers a line, of which `line` has what is kept, and then keeps nothing.
 pub(crate) fn answer_line<S: Responder, W: Write>(
@@ -25,7 +24,7 @@ pub(crate) fn answer_line<S: Responder, W: Write>(
         AnswersKept S.answers responder.old responder.new (W.contents writer.old) (W.contents writer.new) line.new.items part result }
 {
     let mut out = Vec::new(alloc);
-    match answer_kept(responder, line.as_slice(), &mut out) {
+    match responder.answer(line.as_slice(), &mut out) {
         Ok(()) => {}
         Err(_) => return Err(ReplayFault::OutOfMemory),
     }
@@ -35,22 +34,6 @@ pub(crate) fn answer_line<S: Responder, W: Write>(
     }
     line.clear();
     Ok(())
-}
-
-/// Adds the answer to a line, of which this is kept.
-fn answer_kept<S: Responder>(
-    responder: &mut S,
-    kept: &[u8],
-    out: &mut Vec<u8>,
-) -> Result<(), AllocError>
-    ensures { OnOk result ((part : List ℕ) → kept.now ≡ kept_of part → (text : List ℕ)
-        × (out.new.items ≡ out.old.items ++ text) × AnswersLine S.answers responder.old part text responder.new) }
-{
-    if kept.len() > LINE_LIMIT {
-        out.extend_from_slice(b"bad line\n")?;
-        return Ok(());
-    }
-    responder.answer(kept, out)
 }
 
 /// Takes the next byte, and answers the line if the byte ends it.

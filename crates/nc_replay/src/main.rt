@@ -1,84 +1,104 @@
-//! Scripts for a code region: lines of commands in, one answer line for each out.
+//! Scripts for a code region, and chunks to be vetted: lines in, one reply line for each out.
 //!
-//! `run` answers a script over any reader and writer. `stream` reads lines of any length in pieces and writes the
-//! answers, over whatever answers one line (`responder`); `session` answers by a region's calls, and `command` reads
-//! what a line asks for. The program runs a script on standard input and output.
+//! The program `nc_replay` has two subcommands, which read standard input and write standard output. `replay` runs a
+//! script: it creates chunks in a code region, walks through them and shows them. `vet` only vets chunks, several at a
+//! time. `start` does both over any reader and writer, by `replay::run` and `vetting::vet_lines`.
+//!
+//! Below them `stream` reads lines of any length in pieces, and hands each to whatever replies to one line
+//! (`responder`): `session` replies by a region's calls, and `batch` gathers lines that are to be vetted. `command` reads
+//! what a line asks for.
 #![tactic(auto)]
 
-ghost use Rattle.std.specs.Prelude.{◌≡◌, map};
-ghost use Rattle.std.specs.String.{string_bytes};
-ghost use Rattle.nc_replay.specs.CommandLine.{is_replay};
-
 mod answer;
+pub mod asked;
+mod batch;
 mod command;
+pub mod command_line;
 pub mod fault;
 mod lines;
 mod output;
+pub mod program;
 pub mod replay;
 mod responder;
 mod session;
 mod stream;
+mod verdicts;
+pub mod vetting;
 mod words;
 
+use clap::error::ErrorKind as ClapKind;
+use command_line::no_text;
 use fault::ReplayFault;
-use replay::run;
-use std::io::ErrorKind;
+use program::{Halt, start};
+use std::io::{ErrorKind, Input};
 use std::process::ExitCode;
 use std::rt::Env;
+use std::sync::Wait;
+use std::thread::Threads;
 use std::{env, io};
 
 #[cfg(test)]
 mod tests;
 
-/// How many bundles the program's region has.
-const BUNDLES: u32 = 2048;
-
-/// How many seats the program has for threads.
-const SEATS: u32 = 4;
-
-/// Whether these words are the program's own name and the word `replay`.
-fn is_replay(words: &[String]) -> bool
-    ensures { result ≡ is_replay (map string_bytes words.now) }
-{
-    match words {
-        [_, word] => word.as_bytes() == b"replay".as_slice(),
-        _ => false,
+/// The words of the command line, the program's own name first.
+fn command_words<R: Env + AllocGlobal>(rt: &R) -> Result<Vec<String>, Halt> {
+    let out_of_memory = Halt::Fault(ReplayFault::OutOfMemory);
+    match env::args(rt) {
+        Ok(words) => match words.collect::<Vec<String>>(rt.alloc()) {
+            Ok(words) => Ok(words),
+            Err(_) => Err(out_of_memory),
+        },
+        Err(error) if error.kind() == ErrorKind::OutOfMemory => Err(out_of_memory),
+        Err(_) => Err(Halt::Words(no_text(rt.alloc()))),
     }
 }
 
-/// Whether the command line is the single word `replay`.
-fn asks_for_replay<R: Env + AllocGlobal>(rt: &R) -> Result<bool, ReplayFault> {
-    match env::args(rt) {
-        Ok(words) => match words.collect::<Vec<String>>(rt.alloc()) {
-            Ok(words) => Ok(is_replay(&words)),
-            Err(_) => Err(ReplayFault::OutOfMemory),
-        },
-        Err(error) if error.kind() == ErrorKind::OutOfMemory => Err(ReplayFault::OutOfMemory),
-        // a word that is no text
-        Err(_) => Ok(false),
+/// Does what the command line asks for.
+fn run_words<R: Threads + Wait + Sync + Env + AllocGlobal + Input + Print>(
+    rt: &R,
+) -> Result<(), Halt> {
+    let words = command_words(rt)?;
+    let mut texts = Vec::new(rt.alloc());
+    for word in words.iter().skip(1) {
+        match texts.push(word.as_str()) {
+            Ok(()) => {}
+            Err(_) => return Err(Halt::Fault(ReplayFault::OutOfMemory)),
+        }
     }
+    start(
+        rt,
+        rt.alloc(),
+        texts.as_slice(),
+        &mut rt.reader(),
+        &mut io::writer(rt),
+    )
+}
+
+/// Prints a fault as one line on standard error. Where that can't be done nothing else is left to do.
+fn say<R: Eprint>(rt: &R, fault: ReplayFault) {
+    let _ = eprintln!(rt; "nc_replay: {fault}");
+}
+
+/// Prints why the program stops, and gives the status to end with.
+fn stop<R: Print + Eprint>(rt: &R, halt: &Halt) -> u8 {
+    match halt {
+        Halt::Fault(fault) => say(rt, *fault),
+        Halt::Words(error) if error.kind() == ClapKind::OutOfMemory => {
+            say(rt, ReplayFault::OutOfMemory);
+        }
+        Halt::Words(error) => {
+            if error.print(rt).is_err() && !error.use_stderr() {
+                say(rt, ReplayFault::WriteFailed);
+                return Halt::Fault(ReplayFault::WriteFailed).status();
+            }
+        }
+    }
+    halt.status()
 }
 
 fn main(rt: HostRuntime) -> ExitCode {
-    let result = match asks_for_replay(&rt) {
-        Ok(true) => run(
-            rt.alloc(),
-            &mut rt.reader(),
-            &mut io::writer(&rt),
-            BUNDLES,
-            SEATS,
-        ),
-        Ok(false) => {
-            let _ = eprintln!(rt; "usage: nc_replay replay");
-            return ExitCode::from(2);
-        }
-        Err(fault) => Err(fault),
-    };
-    match result {
+    match run_words(&rt) {
         Ok(()) => ExitCode::SUCCESS,
-        Err(fault) => {
-            let _ = eprintln!(rt; "nc_replay: {fault}");
-            ExitCode::FAILURE
-        }
+        Err(halt) => ExitCode::from(stop(&rt, &halt)),
     }
 }

@@ -1,6 +1,6 @@
 //! A script from a reader's bytes to a writer's.
 
-ghost use Rattle.std.specs.Prelude.{◌≡◌, ◌++◌, ◌⊎◌, ◌↔◌, ℕ, List, OnOk, IfSome, IsErrOf};
+ghost use Rattle.std.specs.Prelude.{◌≡◌, ◌++◌, ◌⊎◌, ◌↔◌, ◌≢◌, ℕ, List, OnOk, IfErr, IfSome, IsErrOf};
 ghost use Rattle.std.specs.Io.KnownBytes.{Consumes, IsAtEnd};
 ghost use Rattle.nc_replay.specs.Lines.{lines_of, ended_lines};
 ghost use Rattle.nc_replay.specs.Answering.{IsBegun, IsCutShort};
@@ -32,6 +32,7 @@ pub fn run<R: Read, W: Write>(
     // The two numbers are tested first, in this order, before anything is read or written.
     ensures bad_size { IsErrOf result ReplayFault.BadSize ↔ ¬ IsSize bundles }
     ensures bad_seats { IsErrOf result ReplayFault.BadSeats ↔ (IsSize bundles × ¬ AreSeats seats) }
+    ensures no_workers { IfErr result (λ fault. fault ≢ ReplayFault.BadWorkers) }
     ensures untouched { ¬ (IsSize bundles × AreSeats seats) → (reader.new ≡ reader.old) × (writer.new ≡ writer.old) }
 
     // The whole input was read, and exactly its answers were written.

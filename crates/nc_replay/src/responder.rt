@@ -1,7 +1,7 @@
 //! What answers one line of a script.
 
-ghost use Rattle.std.specs.Prelude.{◌≡◌, ◌≤◌, ◌++◌, ℕ, List, length, OnOk};
-ghost use Rattle.nc_replay.specs.Lines.{line_limit};
+ghost use Rattle.std.specs.Prelude.{◌≡◌, ◌++◌, ℕ, List, OnOk};
+ghost use Rattle.nc_replay.specs.Lines.{kept_of};
 
 use std::alloc::AllocError;
 
@@ -10,9 +10,9 @@ pub trait Responder {
     /// From old, this may be the answer to the line, and new is the state after it.
     ghost answers: { Self → List ℕ → List ℕ → Self → Type 0 };
 
-    /// Adds the answer to `out`, with its end. After an error nothing is promised of the state.
-    fn answer(&mut self, line: &[u8], out: &mut Vec<u8>) -> Result<(), AllocError>
-        requires { length line.now ≤ line_limit }
-        ensures { OnOk result ((text : List ℕ) × (out.new.items ≡ out.old.items ++ text)
-            × answers self.old line.now text self.new) };
+    /// Adds the answer to a line to `out`, with its end, by what is kept of the line. After an error nothing is
+    /// promised of the state.
+    fn answer(&mut self, kept: &[u8], out: &mut Vec<u8>) -> Result<(), AllocError>
+        ensures { OnOk result ((line : List ℕ) → kept.now ≡ kept_of line → (text : List ℕ)
+            × (out.new.items ≡ out.old.items ++ text) × answers self.old line text self.new) };
 }

@@ -45,8 +45,8 @@ impl Session {
 impl Responder for Session {
     ghost answers = { AnswersOnly };
 
-    fn answer(&mut self, line: &[u8], out: &mut Vec<u8>) -> Result<(), AllocError> {
-        match command_of(self.alloc, line)? {
+    fn answer(&mut self, kept: &[u8], out: &mut Vec<u8>) -> Result<(), AllocError> {
+        match command_of(self.alloc, kept)? {
             Some(Command::Create { at, bytes }) => {
                 return answer_create(&mut self.region, at, bytes, out);
             }

@@ -76,7 +76,8 @@ pub fn answer_all<S: Responder, R: Read, W: Write>(
         IsCutShort S.answers responder.old (W.contents writer.old) (W.contents writer.new) (lines_of input)) }
 
     // No other fault comes.
-    ensures faults { IfErr result (λ fault. (fault ≢ ReplayFault.BadSize) × (fault ≢ ReplayFault.BadSeats)) }
+    ensures faults { IfErr result (λ fault. (fault ≢ ReplayFault.BadSize) × (fault ≢ ReplayFault.BadSeats)
+        × (fault ≢ ReplayFault.BadWorkers)) }
 {
     let mut line = Vec::new(alloc);
     let mut piece = [0u8; 4096];

@@ -1,3 +1,6 @@
 mod fakes;
+mod filled;
+mod program;
 mod script;
 mod stream;
+mod vetting;

@@ -1,5 +1,6 @@
 //! A responder that repeats its lines, and readers and writers that stop or fail.
 ghost use Rattle.std.specs.Prelude.{◌≡◌, ◌++◌, ◌∷◌, [], ℕ, List, None};
+ghost use Rattle.nc_replay.specs.Lines.{kept_of};
 
 use crate::responder::Responder;
 use std::alloc::AllocError;
@@ -12,10 +13,10 @@ pub const NEVER: usize = usize::MAX;
 pub struct Echo;
 
 impl Responder for Echo {
-    ghost answers = { λ old line text new. (text ≡ line ++ 10 ∷ []) };
+    ghost answers = { λ old line text new. (text ≡ kept_of line ++ 10 ∷ []) };
 
-    fn answer(&mut self, line: &[u8], out: &mut Vec<u8>) -> std::result::Result<(), AllocError> {
-        out.extend_from_slice(line)?;
+    fn answer(&mut self, kept: &[u8], out: &mut Vec<u8>) -> std::result::Result<(), AllocError> {
+        out.extend_from_slice(kept)?;
         out.push(b'\n')?;
         Ok(())
     }
@@ -43,7 +44,7 @@ impl Read for Pieces<'_> {
     }
 }
 
-/// Takes at most so many bytes in a write, and fails or takes none at the given one; a flush may fail.
+/// Takes at most so many bytes in a write, and fails or takes none at the given one; a flush is counted and may fail.
 #[derive(Drop)]
 pub struct Slow<'a> {
     pub out: &'a mut Vec<u8>,
@@ -52,6 +53,7 @@ pub struct Slow<'a> {
     pub fails_at: usize,
     pub with_error: bool,
     pub flushes: bool,
+    pub flushed: usize,
 }
 
 impl Write for Slow<'_> {
@@ -69,6 +71,7 @@ impl Write for Slow<'_> {
     }
 
     fn flush(&mut self) -> Result<()> {
+        self.flushed = self.flushed.wrapping_add(1);
         if self.flushes {
             Ok(())
         } else {

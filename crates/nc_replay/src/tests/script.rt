@@ -3,7 +3,8 @@
 use crate::fault::ReplayFault;
 use crate::replay::run;
 use crate::tests::fakes::{NEVER, Pieces, Slow};
-use std::alloc::{AllocError, Global};
+use crate::tests::filled::push_filled;
+use std::alloc::Global;
 use std::test::Fail;
 
 /// A line and its answer; in both a `*` stands for nops, of which there are as many as fill the word up to 32 bytes.
@@ -136,26 +137,6 @@ const BAD_LINES: [&[u8]; 36] = [
     b"leave 0",
 ];
 
-/// Adds a text with its end, and nops for each `*`.
-fn push_filled(out: &mut Vec<u8>, text: &[u8]) -> Result<(), AllocError> {
-    let mut digits = 0usize;
-    for byte in text {
-        if *byte == b'*' {
-            for _ in digits / 2..32 {
-                out.extend_from_slice(b"90")?;
-            }
-        } else {
-            digits = digits.wrapping_add(1);
-            out.push(*byte)?;
-        }
-        if *byte == b' ' {
-            digits = 0;
-        }
-    }
-    out.push(b'\n')?;
-    Ok(())
-}
-
 /// What these lines write as one script on four bundles for one seat, and what they have to.
 fn written_and_owed(alloc: Global, rows: &[Row]) -> Result<(Vec<u8>, Vec<u8>), Fail> {
     let mut input = Vec::new(alloc);
@@ -285,6 +266,7 @@ fn failed_writes(rt: HostRuntime) -> Result<(), Fail> {
             fails_at,
             with_error: fails_at % 2 == 0,
             flushes: true,
+            flushed: 0,
         };
         let result = run(rt.alloc(), &mut reader, &mut writer, 4, 1);
         assert_eq!(rt; result, Err(ReplayFault::WriteFailed));

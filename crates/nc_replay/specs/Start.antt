@@ -1,0 +1,55 @@
+-- What the program has done.
+use Rattle.std.specs.Prelude.{◌≢◌, ◌⊎◌, ℕ, List, Option, Result, Ok, Err, OnOk, IfErr, IfSome, IsErrOf, ⊤}
+use Rattle.std.specs.Io.KnownBytes.{Consumes, IsAtEnd}
+use Rattle.nc_work.specs.Verdicts.{IsStaff}
+use Rattle.nc_replay.specs.declared.asked.Ask.{Ask}
+use Rattle.nc_replay.specs.declared.asked.Ask.TheVariants.{Replay, Vet}
+use Rattle.nc_replay.specs.declared.fault.ReplayFault.{ReplayFault}
+use Rattle.nc_replay.specs.declared.fault.ReplayFault.TheVariants.{ReadFailed, WriteFailed, OutOfMemory}
+use Rattle.nc_replay.specs.declared.program.Halt.{Halt}
+use Rattle.nc_replay.specs.declared.program.Halt.TheVariants.{Words, Fault}
+use Rattle.nc_replay.specs.Lines.{lines_of, ended_lines}
+use Rattle.nc_replay.specs.Answering.{IsBegun, IsCutShort}
+use Rattle.nc_replay.specs.Answers.{AnswersOnly, new_script}
+use Rattle.nc_replay.specs.Run.{IsSize, AreSeats, limit_for, HasAnswered}
+use Rattle.nc_replay.specs.Vetting.{HasVetted, HasBegunVetted}
+
+-- the numbers that are asked for are those of a region, of seats, of workers
+abbrev pub IsInRange : Ask → Type 0
+IsInRange (Replay bundles seats) = IsSize bundles × AreSeats seats
+IsInRange (Vet bundles workers) = IsSize bundles × IsStaff workers
+
+-- what holds where the program stopped at its command line
+abbrev pub IfWords : {T : Type 0} → Result T Halt → Type 0 → Type 0
+IfWords (Ok x) P = ⊤
+IfWords (Err (Words error)) P = P
+IfWords (Err (Fault fault)) P = ⊤
+
+-- what holds of the outcome where it went on from there
+abbrev pub IfRun : {T : Type 0} → Result T Halt → (Result T ReplayFault → Type 0) → Type 0
+IfRun (Ok x) P = P (Ok x)
+IfRun (Err (Words error)) P = ⊤
+IfRun (Err (Fault fault)) P = P (Err fault)
+
+-- A script was run, with this outcome: what `run` ensures. Before and after it the reader and the writer had these bytes.
+pub record HasReplayed {T : Type 0} (untouched : Type 0) (input left before after : Option (List ℕ)) (outcome : Result T ReplayFault) : Type 0 where
+  pub bundles : ℕ
+  pub seats : ℕ
+  pub size : IsSize bundles
+  pub seats_in_range : AreSeats seats
+  pub ok : OnOk outcome (IfSome input (λ bytes. HasAnswered bundles before after (lines_of bytes)))
+  pub read : OnOk outcome (IsAtEnd left)
+  pub write_failed : IsErrOf outcome WriteFailed → IfSome input (λ bytes. IsBegun AnswersOnly (new_script bundles) before after (lines_of bytes))
+  pub read_failed : IsErrOf outcome ReadFailed → (front : List ℕ) × Consumes input left front × HasAnswered bundles before after (ended_lines front)
+  pub out_of_memory : IsErrOf outcome OutOfMemory → untouched ⊎ IfSome input (λ bytes. IsCutShort AnswersOnly (new_script bundles) before after (lines_of bytes))
+
+-- Lines of chunks were vetted, with this outcome: what `vet_lines` ensures.
+pub record HasVettedLines {T : Type 0} (unwritten : Type 0) (input left before after : Option (List ℕ)) (outcome : Result T ReplayFault) : Type 0 where
+  pub bundles : ℕ
+  pub workers : ℕ
+  pub size : IsSize bundles
+  pub workers_in_range : IsStaff workers
+  pub ok : OnOk outcome (IfSome input (λ bytes. HasVetted (limit_for bundles) before after (lines_of bytes)))
+  pub read : OnOk outcome (IsAtEnd left)
+  pub write_failed : IsErrOf outcome WriteFailed → IfSome input (λ bytes. HasBegunVetted (limit_for bundles) before after (lines_of bytes))
+  pub nothing : IfErr outcome (λ fault. fault ≢ WriteFailed → unwritten)

@@ -1,0 +1,79 @@
+//! The program over any words, reader and writer.
+
+ghost use Rattle.std.specs.Prelude.{◌≡◌, ◌⊎◌};
+ghost use Rattle.nc_replay.specs.Start.{IfWords, IfRun, HasReplayed, HasVettedLines};
+
+use crate::asked::Ask;
+use crate::command_line::ask;
+use crate::fault::ReplayFault;
+use crate::replay::run;
+use crate::vetting::vet_lines;
+use clap::error::ErrorKind;
+use nc_work::Open;
+use std::alloc::Global;
+use std::io::{Read, Write};
+use std::sync::Wait;
+use std::thread::Threads;
+use thiserror::Error;
+
+/// Why the program stops before its work is done.
+#[derive(Debug, Drop, Error)]
+pub enum Halt {
+    /// The words of the command line ask for nothing that can be done, or for help.
+    #[error("{0}")]
+    Words(clap::Error),
+    /// A script or the lines of chunks could not be answered whole.
+    #[error("{0}")]
+    Fault(ReplayFault),
+}
+
+impl Halt {
+    /// The status that the program ends with: 0 after help, 2 for a fault of the command line, and 1 for any other fault,
+    /// also for lack of memory.
+    pub fn status(&self) -> u8 {
+        match self {
+            Halt::Words(error) => match error.kind() {
+                ErrorKind::DisplayHelp | ErrorKind::DisplayVersion => 0,
+                ErrorKind::OutOfMemory => 1,
+                _ => 2,
+            },
+            Halt::Fault(_) => 1,
+        }
+    }
+}
+
+/// Does what the words of a command line ask for, without the program's own name: runs a script, or vets lines of
+/// chunks by workers.
+pub fn start<'a, T: Threads + Wait + Sync, R: Read, W: Write>(
+    rt: &T,
+    alloc: Global,
+    words: &'a [&'a str],
+    reader: &mut R,
+    writer: &mut W,
+) -> Result<(), Halt>
+    // A fault of the command line: nothing was read or written.
+    ensures words { IfWords result ((reader.new ≡ reader.old) × (writer.new ≡ writer.old)) }
+
+    // Otherwise a script was run, or lines were vetted, with numbers in range.
+    ensures ran { IfRun result (λ outcome.
+        HasReplayed ((reader.new ≡ reader.old) × (writer.new ≡ writer.old)) (R.remaining reader.old) (R.remaining reader.new)
+        (W.contents writer.old) (W.contents writer.new) outcome
+        ⊎ HasVettedLines (writer.new ≡ writer.old) (R.remaining reader.old) (R.remaining reader.new)
+        (W.contents writer.old) (W.contents writer.new) outcome) }
+{
+    match ask(alloc, words) {
+        Ok(Ask::Replay { bundles, seats }) => {
+            match run(alloc, reader, writer, bundles, seats) {
+                Ok(()) => Ok(()),
+                Err(fault) => Err(Halt::Fault(fault)),
+            }
+        }
+        Ok(Ask::Vet { bundles, workers }) => {
+            match vet_lines(rt, alloc, reader, writer, bundles, workers, &Open) {
+                Ok(()) => Ok(()),
+                Err(fault) => Err(Halt::Fault(fault)),
+            }
+        }
+        Err(error) => Err(Halt::Words(error)),
+    }
+}
