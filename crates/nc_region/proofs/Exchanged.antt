@@ -7,7 +7,7 @@ use Rattle.nc_decode.specs.declared.instruction.Instr.{Instr}
 use Rattle.nc_decode.specs.declared.instruction.Mark.{Mark}
 use Rattle.nc_decode.specs.declared.instruction.Mark.TheVariants.{Unmarked, Plain}
 use Rattle.nc_decode.specs.Bundles.{IsLawfulLimit}
-use Rattle.nc_decode.proofs.Readings.{spells_some}
+use Rattle.nc_decode.proofs.Offered.{spells_some}
 use Rattle.nc_vet.specs.Chunk.{Piece, code_of, place, marks_of}
 use Rattle.nc_vet.specs.Chunk as vet
 use Rattle.nc_vet.proofs.Pieces.{code_of-append, place-append, length-marks_of}

@@ -5,8 +5,8 @@ use Rattle.nc_decode.specs.declared.instruction.Mark.{Mark}
 use Rattle.nc_decode.specs.declared.instruction.Mark.TheVariants.{Unmarked, Plain, After}
 use Rattle.nc_decode.specs.Spelling.{Spells}
 use Rattle.nc_decode.specs.Transfers.{is_direct, is_indirect, target}
-use Rattle.nc_decode.proofs.Readings.{spells_some}
-use Rattle.nc_vet.specs.Chunk.{Piece, Chunk, code_of, place, FollowsMask, IsEntry, IsTarget, IsValid, AreSound, AreTargets, IsLength, IsInRange, mark_of, instr_marks, marks_of}
+use Rattle.nc_decode.proofs.Offered.{spells_some}
+use Rattle.nc_vet.specs.Chunk.{Piece, MarkedChunk, code_of, place, FollowsMask, IsEntry, IsTarget, IsValid, AreSound, AreTargets, IsLength, IsInRange, mark_of, instr_marks, marks_of}
 use Rattle.nc_vet.proofs.Pieces.{place-append, marks_of-append}
 use Rattle.nc_vet.proofs.MarkedPlaces.{first_plain}
 use Rattle.nc_region.specs.PatchSteps.{NoneFirst}
@@ -31,7 +31,7 @@ where_is (y ∷ before) after (x ∷ b) a n p e =
     ]
 
 -- an instruction of a valid chunk, and the one that comes in its place
-pub record Exchanges (c : Chunk) (before after : List Piece) (o n : Piece) : Type 0 where
+pub record Exchanges (c : MarkedChunk) (before after : List Piece) (o n : Piece) : Type 0 where
   pub valid : IsValid c
   pub parts : valid.pieces ≡ before ++ o ∷ after
   pub spells : Spells n.bytes n.instr
@@ -92,27 +92,27 @@ same_marks before after o n len a b =
     one = ap (λ (x : Mark). x ∷ replicate (o.instr.len - 1) Unmarked) (first_plain (is_indirect o.instr.flow) o.instr.reg a ∙ sym (first_plain (is_indirect n.instr.flow) n.instr.reg b)) ∙ ap (λ (k : ℕ). mark_of n.instr ∷ replicate (k - 1) Unmarked) len
 
 -- the chunk afterwards
-abbrev pub exchanged : Chunk → List Piece → List Piece → Piece → Chunk
+abbrev pub exchanged : MarkedChunk → List Piece → List Piece → Piece → MarkedChunk
 exchanged c before after n = record { base = c.base; limit = c.limit; code = code_of (before ++ n ∷ after); marks = c.marks }
 
-pub code_long : (c : Chunk) (before after : List Piece) (o n : Piece) → Exchanges c before after o n → length (code_of (before ++ n ∷ after)) ≡ length c.code
+pub code_long : (c : MarkedChunk) (before after : List Piece) (o n : Piece) → Exchanges c before after o n → length (code_of (before ++ n ∷ after)) ≡ length c.code
 code_long c before after o n x = sym (same_place before after o n x.as_long) ∙ (ap place (sym x.parts) ∙ ap (λ (z : List ℕ). length z) (sym x.valid.parts))
 
 -- where an instruction of the new chunk stands in the old one
-earlier_parts : (c : Chunk) (before after b m : List Piece) (o n p : Piece) (x : Exchanges c before after o n) → before ≡ b ++ p ∷ m → x.valid.pieces ≡ b ++ p ∷ (m ++ o ∷ after)
+earlier_parts : (c : MarkedChunk) (before after b m : List Piece) (o n p : Piece) (x : Exchanges c before after o n) → before ≡ b ++ p ∷ m → x.valid.pieces ≡ b ++ p ∷ (m ++ o ∷ after)
 earlier_parts c before after b m o n p x f = x.parts ∙ (ap (λ (z : List Piece). z ++ o ∷ after) f ∙ append_assoc b (p ∷ m) (o ∷ after))
 
-later_parts : (c : Chunk) (before after m a : List Piece) (o n p : Piece) (x : Exchanges c before after o n) → after ≡ m ++ p ∷ a → x.valid.pieces ≡ (before ++ o ∷ m) ++ p ∷ a
+later_parts : (c : MarkedChunk) (before after m a : List Piece) (o n p : Piece) (x : Exchanges c before after o n) → after ≡ m ++ p ∷ a → x.valid.pieces ≡ (before ++ o ∷ m) ++ p ∷ a
 later_parts c before after m a o n p x g = x.parts ∙ (ap (λ (z : List Piece). before ++ o ∷ z) g ∙ sym (append_assoc before (o ∷ m) (p ∷ a)))
 
-paired_later : (c : Chunk) (before after m a : List Piece) (o n p : Piece) (x : Exchanges c before after o n) → after ≡ m ++ p ∷ a → IsTrue (is_indirect p.instr.flow) → FollowsMask (before ++ n ∷ m) p.instr.reg
+paired_later : (c : MarkedChunk) (before after m a : List Piece) (o n p : Piece) (x : Exchanges c before after o n) → after ≡ m ++ p ∷ a → IsTrue (is_indirect p.instr.flow) → FollowsMask (before ++ n ∷ m) p.instr.reg
 paired_later c before after [] a o n p x g indirect = absurd (let none : is_indirect p.instr.flow ≡ false = subst NoneFirst g x.no_mask in let differ : true ≡ false = sym indirect ∙ none in cc)
 paired_later c before after (y ∷ m) a o n p x g indirect = mask_stays before o n y m p.instr.reg x.as_long (x.valid.sound.paired (before ++ o ∷ y ∷ m) a p (later_parts c before after (y ∷ m) a o n p x g) indirect)
 
-target_new : (c : Chunk) (before after : List Piece) (o n : Piece) (x : Exchanges c before after o n) (to : ℕ) → IsTarget c.base c.limit x.valid.pieces to → IsTarget c.base c.limit (before ++ n ∷ after) to
+target_new : (c : MarkedChunk) (before after : List Piece) (o n : Piece) (x : Exchanges c before after o n) (to : ℕ) → IsTarget c.base c.limit x.valid.pieces to → IsTarget c.base c.limit (before ++ n ∷ after) to
 target_new c before after o n x to t = target_stays c.base c.limit before after o n to x.as_long x.new_plain (subst (λ (z : List Piece). IsTarget c.base c.limit z to) x.parts t)
 
-pub exchanged_sound : (c : Chunk) (before after : List Piece) (o n : Piece) → Exchanges c before after o n → AreSound (before ++ n ∷ after)
+pub exchanged_sound : (c : MarkedChunk) (before after : List Piece) (o n : Piece) → Exchanges c before after o n → AreSound (before ++ n ∷ after)
 exchanged_sound c before after o n x =
     let v = x.valid in
     record {
@@ -133,7 +133,7 @@ exchanged_sound c before after o n x =
       ];
     }
 
-pub exchanged_targets : (c : Chunk) (before after : List Piece) (o n : Piece) → Exchanges c before after o n → AreTargets c.base c.limit (before ++ n ∷ after)
+pub exchanged_targets : (c : MarkedChunk) (before after : List Piece) (o n : Piece) → Exchanges c before after o n → AreTargets c.base c.limit (before ++ n ∷ after)
 exchanged_targets c before after o n x = λ b a p e direct. elim (where_is before after b a n p e) [
   | Here f g k ↦
       target_new c before after o n x (target p.instr (c.base + place b))
@@ -145,7 +145,7 @@ exchanged_targets c before after o n x = λ b a p e direct. elim (where_is befor
       (subst (λ (k : ℕ). IsTarget c.base c.limit x.valid.pieces (target p.instr (c.base + k))) (same_place before m o n x.as_long ∙ ap place (sym f)) (x.valid.targets (before ++ o ∷ m) a p (later_parts c before after m a o n p x g) direct))
 ]
 
-pub exchanged_marks : (c : Chunk) (before after : List Piece) (o n : Piece) → Exchanges c before after o n → c.marks ≡ marks_of (before ++ n ∷ after)
+pub exchanged_marks : (c : MarkedChunk) (before after : List Piece) (o n : Piece) → Exchanges c before after o n → c.marks ≡ marks_of (before ++ n ∷ after)
 exchanged_marks c before after o n x = x.valid.marks_are ∙ (ap (λ (z : List Piece). marks_of z) x.parts ∙ same_marks before after o n (old_len ∙ (x.as_long ∙ sym new_len)) x.old_plain x.new_plain)
   where
     old_len : o.instr.len ≡ length o.bytes
@@ -154,15 +154,15 @@ exchanged_marks c before after o n x = x.valid.marks_are ∙ (ap (λ (z : List P
     new_len : n.instr.len ≡ length n.bytes
     new_len = (spells_some n.bytes n.instr x.spells).0
 
-pub exchanged_length : (c : Chunk) (before after : List Piece) (o n : Piece) → Exchanges c before after o n → IsLength (length (code_of (before ++ n ∷ after)))
+pub exchanged_length : (c : MarkedChunk) (before after : List Piece) (o n : Piece) → Exchanges c before after o n → IsLength (length (code_of (before ++ n ∷ after)))
 exchanged_length c before after o n x =
     let long = code_long c before after o n x in
     (omega (arith, long, x.valid.length_is.0), ap (λ (k : ℕ). k % 32) long ∙ x.valid.length_is.1)
 
-pub exchanged_range : (c : Chunk) (before after : List Piece) (o n : Piece) → Exchanges c before after o n → IsInRange c.base c.limit (length (code_of (before ++ n ∷ after)))
+pub exchanged_range : (c : MarkedChunk) (before after : List Piece) (o n : Piece) → Exchanges c before after o n → IsInRange c.base c.limit (length (code_of (before ++ n ∷ after)))
 exchanged_range c before after o n x = (x.valid.range.0, omega (arith, code_long c before after o n x, x.valid.range.1))
 
-abbrev pub exchanged_valid : (c : Chunk) (before after : List Piece) (o n : Piece) → Exchanges c before after o n → IsValid (exchanged c before after n)
+abbrev pub exchanged_valid : (c : MarkedChunk) (before after : List Piece) (o n : Piece) → Exchanges c before after o n → IsValid (exchanged c before after n)
 exchanged_valid c before after o n x =
     record {
       base_is = x.valid.base_is;

@@ -44,7 +44,7 @@ rising_insert from (d ∷ rest) (suc k) c rising low above below = (rising.0, ri
 -- what a new chunk's place and bytes keep
 pub record Inserts (marked : MarkedText) (chunks : List Chunk) (k : ℕ) (c : Chunk) (bytes : List ℕ) (marks : List Mark) : Type 0 where
   pub region : IsRegion marked chunks
-  pub vetted : vet.Chunk
+  pub vetted : vet.MarkedChunk
   pub valid : vet.IsValid vetted
   pub base_is : vetted.base ≡ c.base
   pub limit_is : vetted.limit ≡ limit_of marked.bytes

@@ -8,7 +8,7 @@ use Rattle.nc_decode.specs.declared.instruction.Flow.TheVariants.{Next, Branch, 
 use Rattle.nc_decode.specs.declared.instruction.Mark.{Mark}
 use Rattle.nc_decode.specs.declared.instruction.Mark.TheVariants.{Unmarked}
 use Rattle.nc_decode.specs.Front.{first_instruction}
-use Rattle.nc_decode.proofs.FrontLaws.{has_its_length}
+use Rattle.nc_decode.proofs.Offered.{has_its_length}
 use Rattle.nc_text.specs.Machine.{IsMaskedFor}
 use Rattle.nc_decode.specs.Transfers.{target}
 use Rattle.nc_decode.specs.Bundles.{IsInOneBundle}

@@ -9,8 +9,8 @@ use Rattle.nc_decode.specs.declared.instruction.Flow.TheVariants.{Next, Branch, 
 use Rattle.nc_decode.specs.declared.instruction.Mark.{Mark}
 use Rattle.nc_decode.specs.declared.instruction.Mark.TheVariants.{Unmarked, Plain, After}
 use Rattle.nc_decode.specs.Transfers.{is_direct, is_indirect, target}
-use Rattle.nc_decode.proofs.FrontLaws.{exact, names_registers}
-use Rattle.nc_decode.proofs.Readings.{spells_some}
+use Rattle.nc_decode.proofs.Offered.{exact, names_registers}
+use Rattle.nc_decode.proofs.Offered.{spells_some}
 use Rattle.nc_text.specs.MarkedText.{NamesRegister}
 use Rattle.nc_vet.specs.Chunk.{Piece, code_of, place}
 use Rattle.nc_vet.specs.Chunk as vet
@@ -26,7 +26,7 @@ instrs [] = []
 instrs (p ∷ rest) = p.instr ∷ instrs rest
 
 -- each piece behind some others is a whole instruction, as long as its bytes
-spelled_at : (c : vet.Chunk) (v : vet.IsValid c) (done more : List Piece) (p : Piece) → v.pieces ≡ done ++ p ∷ more → (p.instr.len ≡ length p.bytes) × (0 < p.instr.len)
+spelled_at : (c : vet.MarkedChunk) (v : vet.IsValid c) (done more : List Piece) (p : Piece) → v.pieces ≡ done ++ p ∷ more → (p.instr.len ≡ length p.bytes) × (0 < p.instr.len)
 spelled_at c v done more p e = spells_some p.bytes p.instr (v.sound.spelled done more p e)
 
 -- one piece further
@@ -40,7 +40,7 @@ code_append (x ∷ xs) ys = ap (λ (bs : List ℕ). x.bytes ++ bs) (code_append 
 place_more : (done : List Piece) (p : Piece) → place (done ++ p ∷ []) ≡ place done + length p.bytes
 place_more done p = ap (λ (bs : List ℕ). length bs) (code_append done (p ∷ [])) ∙ (length-append (code_of done) (p.bytes ++ []) ∙ omega (arith, length-append p.bytes []))
 
-reading_of : (c : vet.Chunk) (v : vet.IsValid c) (done rest : List Piece) → v.pieces ≡ done ++ rest → IsReading (code_of rest) (instrs rest)
+reading_of : (c : vet.MarkedChunk) (v : vet.IsValid c) (done rest : List Piece) → v.pieces ≡ done ++ rest → IsReading (code_of rest) (instrs rest)
 reading_of c v done [] e = refl
 reading_of c v done (p ∷ more) e =
     let n = spelled_at c v done more p e in (
@@ -48,7 +48,7 @@ reading_of c v done (p ∷ more) e =
       subst (λ (bytes : List ℕ). IsReading bytes (instrs more)) (sym (ap (λ (k : ℕ). drop k (p.bytes ++ code_of more)) n.0 ∙ drop-append_seam p.bytes (code_of more))) (reading_of c v (done ++ p ∷ []) more (further v.pieces done more p e)),
     )
 
-crossing_of : (c : vet.Chunk) (v : vet.IsValid c) (done rest : List Piece) → v.pieces ≡ done ++ rest → NoneCrosses (c.base + place done) (instrs rest)
+crossing_of : (c : vet.MarkedChunk) (v : vet.IsValid c) (done rest : List Piece) → v.pieces ≡ done ++ rest → NoneCrosses (c.base + place done) (instrs rest)
 crossing_of c v done [] e = tt
 crossing_of c v done (p ∷ more) e =
     let n = spelled_at c v done more p e in
@@ -69,7 +69,7 @@ last_masks_of (q ∷ []) p = refl
 last_masks_of (q ∷ r ∷ rest) p = last_masks_of (r ∷ rest) p
 
 -- a second half follows its mask, not at a bundle start
-follows_of : (c : vet.Chunk) (v : vet.IsValid c) (done more : List Piece) (p : Piece) → v.pieces ≡ done ++ p ∷ more → (reg : ℕ) → vet.FollowsMask done reg → (last_masks done ≡ Some reg) × ((c.base + place done) % 32 ≢ 0)
+follows_of : (c : vet.MarkedChunk) (v : vet.IsValid c) (done more : List Piece) (p : Piece) → v.pieces ≡ done ++ p ∷ more → (reg : ℕ) → vet.FollowsMask done reg → (last_masks done ≡ Some reg) × ((c.base + place done) % 32 ≢ 0)
 follows_of c v done more p e reg f =
     let last = ap last_masks f.last ∙ (last_masks_of f.earlier f.mask ∙ f.masks) in
     let whole : v.pieces ≡ f.earlier ++ f.mask ∷ (p ∷ more) = e ∙ (ap (λ (xs : List Piece). xs ++ p ∷ more) f.last ∙ append_assoc f.earlier (f.mask ∷ []) (p ∷ more)) in
@@ -86,7 +86,7 @@ follows_by IndirectJump reg before at h = h refl
 follows_by IndirectCall reg before at h = h refl
 follows_by Stop reg before at h = tt
 
-pairs_of : (c : vet.Chunk) (v : vet.IsValid c) (done rest : List Piece) → v.pieces ≡ done ++ rest → PairsHold (last_masks done) (c.base + place done) (instrs rest)
+pairs_of : (c : vet.MarkedChunk) (v : vet.IsValid c) (done rest : List Piece) → v.pieces ≡ done ++ rest → PairsHold (last_masks done) (c.base + place done) (instrs rest)
 pairs_of c v done [] e = tt
 pairs_of c v done (p ∷ more) e =
     let n = spelled_at c v done more p e in
@@ -119,7 +119,7 @@ abbrev AreSized : List Piece → Type 0
 AreSized [] = ⊤
 AreSized (p ∷ rest) = (p.instr.len ≡ length p.bytes) × AreSized rest
 
-sized_of : (c : vet.Chunk) (v : vet.IsValid c) (done rest : List Piece) → v.pieces ≡ done ++ rest → AreSized rest
+sized_of : (c : vet.MarkedChunk) (v : vet.IsValid c) (done rest : List Piece) → v.pieces ≡ done ++ rest → AreSized rest
 sized_of c v done [] e = tt
 sized_of c v done (p ∷ more) e = ((spelled_at c v done more p e).0, sized_of c v (done ++ p ∷ []) more (further v.pieces done more p e))
 
@@ -129,7 +129,7 @@ begins_at (q ∷ before) after p base sized first =
     let e : base + q.instr.len + place before ≡ base + place (q ∷ before) = omega (arith, sized.0, length-append q.bytes (code_of before)) in
     inr (subst (λ (at : ℕ). BeginsAt at (base + q.instr.len) (instrs (before ++ p ∷ after))) e (begins_at before after p (base + q.instr.len) sized.1 first))
 
-target_of : (c : vet.Chunk) (v : vet.IsValid c) (t : ℕ) → vet.IsTarget c.base c.limit v.pieces t → IsTarget c.base c.limit (length c.code) (instrs v.pieces) t
+target_of : (c : vet.MarkedChunk) (v : vet.IsValid c) (t : ℕ) → vet.IsTarget c.base c.limit v.pieces t → IsTarget c.base c.limit (length c.code) (instrs v.pieces) t
 target_of c v t good =
     let long : place v.pieces ≡ length c.code = ap (λ (bs : List ℕ). length bs) (sym v.parts) in
     elim good [
@@ -146,7 +146,7 @@ target_of c v t good =
       | inr outside ↦ inr (elim outside.0 [ inl l ↦ inl l | inr p ↦ inr (omega (arith, p, long)) ], outside.1, outside.2)
     ]
 
-targets_of : (c : vet.Chunk) (v : vet.IsValid c) (done rest : List Piece) → v.pieces ≡ done ++ rest → TargetsHold (IsTarget c.base c.limit (length c.code) (instrs v.pieces)) (c.base + place done) (instrs rest)
+targets_of : (c : vet.MarkedChunk) (v : vet.IsValid c) (done rest : List Piece) → v.pieces ≡ done ++ rest → TargetsHold (IsTarget c.base c.limit (length c.code) (instrs v.pieces)) (c.base + place done) (instrs rest)
 targets_of c v done [] e = tt
 targets_of c v done (p ∷ more) e =
     let n = spelled_at c v done more p e in
@@ -170,10 +170,10 @@ same_marks (p ∷ rest) =
     ap (λ (m : Mark). m ∷ (replicate (p.instr.len - 1) Unmarked ++ vet.marks_of rest)) (mark_is p.instr.flow p.instr.reg)
     ∙ ap (λ (ms : List Mark). mark_by p.instr.flow p.instr.reg ∷ (replicate (p.instr.len - 1) Unmarked ++ ms)) (same_marks rest)
 
-placed_of : (c : vet.Chunk) → vet.IsValid c → IsPlaced c.base c.limit (length c.code)
+placed_of : (c : vet.MarkedChunk) → vet.IsValid c → IsPlaced c.base c.limit (length c.code)
 placed_of c v = record { lawful = v.range.0; start = v.base_is.0; whole = v.length_is.1; some = v.length_is.0; low = v.base_is.1; high = v.range.1 }
 
-valid_of : (c : vet.Chunk) (v : vet.IsValid c) → IsValid c.base c.limit c.code (instrs v.pieces)
+valid_of : (c : vet.MarkedChunk) (v : vet.IsValid c) → IsValid c.base c.limit c.code (instrs v.pieces)
 valid_of c v =
     let none : c.base + place [] ≡ c.base = omega arith in
     record {
@@ -184,7 +184,7 @@ valid_of c v =
       targets = subst (λ (at : ℕ). TargetsHold (IsTarget c.base c.limit (length c.code) (instrs v.pieces)) at (instrs v.pieces)) none (targets_of c v [] v.pieces refl);
     }
 
-pub valid_chunk_is_closed : (c : vet.Chunk) → vet.IsValid c → IsClosedChunk c.base c.limit c.code c.marks
+pub valid_chunk_is_closed : (c : vet.MarkedChunk) → vet.IsValid c → IsClosedChunk c.base c.limit c.code c.marks
 valid_chunk_is_closed c v =
     subst (λ (marks : List Mark). IsClosedChunk c.base c.limit c.code marks) (sym (v.marks_are ∙ same_marks v.pieces)) (valid_is_closed c.base c.limit c.code (instrs v.pieces) (valid_of c v))
 
@@ -199,7 +199,7 @@ named_by IndirectJump reg lt = lt
 named_by IndirectCall reg lt = lt
 named_by Stop reg lt = tt
 
-marks_named : (c : vet.Chunk) (v : vet.IsValid c) (done rest : List Piece) → v.pieces ≡ done ++ rest → Each NamesRegister (vet.marks_of rest)
+marks_named : (c : vet.MarkedChunk) (v : vet.IsValid c) (done rest : List Piece) → v.pieces ≡ done ++ rest → Each NamesRegister (vet.marks_of rest)
 marks_named c v done [] e = tt
 marks_named c v done (p ∷ more) e =
     let found = (exact (p.bytes ++ []) p.instr).1 (record { front = p.bytes; rest = []; parts = refl; spells = v.sound.spelled done more p e }) in (
@@ -208,6 +208,6 @@ marks_named c v done (p ∷ more) e =
     )
 
 -- the marks of a valid chunk name registers from 0 to 7
-pub chunk_names_registers : (c : vet.Chunk) → vet.IsValid c → All NamesRegister c.marks
+pub chunk_names_registers : (c : vet.MarkedChunk) → vet.IsValid c → All NamesRegister c.marks
 chunk_names_registers c v = λ k d lt.
     each_get NamesRegister c.marks k d lt (subst (Each NamesRegister) (sym v.marks_are) (marks_named c v [] v.pieces refl))

@@ -9,7 +9,7 @@ use Rattle.nc_decode.specs.declared.instruction.Flow.TheVariants.{Next, Branch, 
 use Rattle.nc_decode.specs.declared.instruction.Mark.{Mark}
 use Rattle.nc_decode.specs.declared.instruction.Mark.TheVariants.{Unmarked, Plain}
 use Rattle.nc_decode.specs.Front.{first_instruction}
-use Rattle.nc_decode.proofs.FrontLaws.{has_its_length, depends_on_its_bytes, masks_only_before_next}
+use Rattle.nc_decode.proofs.Offered.{has_its_length, depends_on_its_bytes, masks_only_before_next}
 use Rattle.nc_text.specs.Places.{InRegion, IsTrampoline, limit_of, byte_at, instruction_at}
 use Rattle.nc_text.specs.Machine.{State, state, LeadsBy, IsSafe, IsMaskedFor}
 use Rattle.nc_decode.specs.Transfers.{target}

@@ -8,8 +8,8 @@ use Rattle.nc_decode.specs.declared.instruction.Mark.TheVariants.{Unmarked, Plai
 use Rattle.nc_decode.specs.Bundles.{IsInOneBundle}
 use Rattle.nc_decode.specs.Transfers.{is_indirect}
 use Rattle.nc_decode.specs.Front.{first_instruction}
-use Rattle.nc_decode.proofs.FrontLaws.{exact, depends_on_its_bytes}
-use Rattle.nc_decode.proofs.Readings.{spells_some}
+use Rattle.nc_decode.proofs.Offered.{exact, depends_on_its_bytes}
+use Rattle.nc_decode.proofs.Offered.{spells_some}
 use Rattle.nc_vet.specs.Chunk.{Piece, code_of, place, mark_of, AreSpelled}
 use Rattle.nc_vet.proofs.Pieces.{code_of-append, place-append, place-push}
 use Rattle.nc_vet.proofs.MarkedPlaces as places

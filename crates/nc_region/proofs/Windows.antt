@@ -5,7 +5,7 @@ use Rattle.std.proofs.lemmas.List.{length-take, length-drop, get_or-take, get_or
 use Rattle.nc_decode.specs.declared.instruction.Instr.{Instr}
 use Rattle.nc_decode.specs.Bundles.{IsInOneBundle}
 use Rattle.nc_decode.specs.Front.{first_instruction}
-use Rattle.nc_decode.proofs.FrontLaws.{depends_on_its_bytes}
+use Rattle.nc_decode.proofs.Offered.{depends_on_its_bytes}
 use Rattle.nc_text.specs.Places.{InRegion, byte_at, instruction_at}
 use Rattle.nc_text.proofs.Fetch.{length_at}
 

@@ -47,7 +47,7 @@ IsRising from (c ∷ rest) = (from ≤ c.base) × IsRising (c.base + c.length) r
 
 -- in the chunk's span stand the bytes and the marks of a valid chunk of this base, for the text's limit
 pub record HoldsValid (marked : MarkedText) (c : Chunk) : Type 0 where
-  pub vetted : vet.Chunk
+  pub vetted : vet.MarkedChunk
   pub valid : IsValid vetted
   pub base_is : vetted.base ≡ c.base
   pub limit_is : vetted.limit ≡ limit_of marked.bytes
@@ -90,19 +90,19 @@ abbrev pub IsInserted : List Chunk → List Chunk → Chunk → Type 0
 IsInserted old new c = (k : ℕ) × FitsAt c.base c.length old k × (new ≡ insert old k c)
 
 -- a vetted chunk in the list
-abbrev pub live_chunk : vet.Chunk → Chunk
+abbrev pub live_chunk : vet.MarkedChunk → Chunk
 live_chunk v = record { base = v.base; length = length v.code; state = Live }
 
 -- The region after the chunk was created: the span holds its code and its marks, and it is in the list. All else that
 -- a region has is as before, except for the acts told.
-pub record IsCreated (old new : Region) (v : vet.Chunk) : Type 0 where
+pub record IsCreated (old new : Region) (v : vet.MarkedChunk) : Type 0 where
   pub bytes : new.marked.bytes ≡ with_span old.marked.bytes (v.base - 0x10000) v.code
   pub marks : new.marked.marks ≡ with_span old.marked.marks (v.base - 0x10000) v.marks
   pub chunks : IsInserted old.chunks new.chunks (live_chunk v)
   pub others : new ≡ record old { marked = new.marked; chunks = new.chunks; told = new.told }
 
 -- when each refusal of `create` comes; only the last one depends on the memory that is there
-abbrev pub MayRefuse : Region → vet.Chunk → CreateFault → Type 0
+abbrev pub MayRefuse : Region → vet.MarkedChunk → CreateFault → Type 0
 MayRefuse r v WrongLimit = v.limit ≢ limit_of r.marked.bytes
 MayRefuse r v Occupied = (v.limit ≡ limit_of r.marked.bytes) × Meets v.base (length v.code) r.chunks
 MayRefuse r v OutOfMemory = (v.limit ≡ limit_of r.marked.bytes) × ¬ Meets v.base (length v.code) r.chunks

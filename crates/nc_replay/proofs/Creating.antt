@@ -4,7 +4,7 @@ use Rattle.std.specs.Prelude.{All}
 use Rattle.std.specs.List.{insert}
 use Rattle.std.proofs.lemmas.List.{map-append, ext_get_or}
 use Rattle.nc_text.specs.Places.{limit_of}
-use Rattle.nc_text.specs.Code.{with_span}
+use Rattle.nc_text.specs.MarkedText.{with_span}
 use Rattle.nc_text.proofs.SpanElements.{length-with_span, get_or-with_span_in, get_or-with_span_below, get_or-with_span_above}
 use Rattle.nc_region.specs.Each.{Each}
 use Rattle.nc_region.proofs.EachMember.{each_map, each_both, each_take, each_drop}

@@ -4,7 +4,7 @@ use Rattle.std.specs.Prelude.{MatchOption}
 use Rattle.std.specs.List.{flat_map, AllZip}
 use Rattle.std.specs.Global.{Vec}
 use Rattle.std.proofs.lemmas.List.{map-append}
-use Rattle.nc_vet.specs.Chunk.{Chunk}
+use Rattle.nc_vet.specs.Chunk.{MarkedChunk}
 use Rattle.nc_vet.specs.Faults.{HasFault}
 use Rattle.nc_vet.specs.declared.fault.VetFault.{VetFault}
 use Rattle.nc_work.specs.Verdicts.{IsVerdictOn}
@@ -65,19 +65,19 @@ gathered old (line ∷ lines) text new h =
     }
 
 -- a verdict on a job is one on its chunk
-found_of : (limit : ℕ) (placed : ℕ × List ℕ) (job : Job) (verdict : Result Chunk (Vec ℕ × VetFault)) → value_of job ≡ record { base = placed.0; limit = limit; code = placed.1 }
+found_of : (limit : ℕ) (placed : ℕ × List ℕ) (job : Job) (verdict : Result MarkedChunk (Vec ℕ × VetFault)) → value_of job ≡ record { base = placed.0; limit = limit; code = placed.1 }
     → IsVerdictOn job verdict → IsFound limit placed verdict
 found_of limit placed job (Ok v) is h =
     (h.0 ∙ ap (λ (j : JobValue). j.base) is, h.1 ∙ ap (λ (j : JobValue). j.limit) is, h.2 ∙ ap (λ (j : JobValue). j.code) is, h.3)
 found_of limit placed job (Err e) is h = subst (λ (j : JobValue). HasFault j.base j.limit j.code e.1) is h.1
 
 -- of a line and the lines after it, where those after it have their verdicts
-found_more : (limit : ℕ) (line : List ℕ) (lines : List (List ℕ)) (chunk : Option (ℕ × List ℕ)) (named : List Bool) (jobs : List Job) (verdicts : List (Result Chunk (Vec ℕ × VetFault))) (others : List JobValue) (rest : List Bool)
-    → ((left : List Job) (later : List (Result Chunk (Vec ℕ × VetFault))) → map value_of left ≡ others → AllZip IsVerdictOn left later → AreFound limit lines rest later)
+found_more : (limit : ℕ) (line : List ℕ) (lines : List (List ℕ)) (chunk : Option (ℕ × List ℕ)) (named : List Bool) (jobs : List Job) (verdicts : List (Result MarkedChunk (Vec ℕ × VetFault))) (others : List JobValue) (rest : List Bool)
+    → ((left : List Job) (later : List (Result MarkedChunk (Vec ℕ × VetFault))) → map value_of left ≡ others → AllZip IsVerdictOn left later → AreFound limit lines rest later)
     → named ≡ is_some chunk ∷ rest → map value_of jobs ≡ jobs_for limit chunk ++ others → AllZip IsVerdictOn jobs verdicts
     → MatchOption chunk
     ((after : List Bool) × (named ≡ false ∷ after) × AreFound limit lines after verdicts)
-    (λ placed. (after : List Bool) × (verdict : Result Chunk (Vec ℕ × VetFault)) × (later : List (Result Chunk (Vec ℕ × VetFault)))
+    (λ placed. (after : List Bool) × (verdict : Result MarkedChunk (Vec ℕ × VetFault)) × (later : List (Result MarkedChunk (Vec ℕ × VetFault)))
     × (named ≡ true ∷ after) × (verdicts ≡ verdict ∷ later) × IsFound limit placed verdict × AreFound limit lines after later)
 found_more limit line lines None named jobs verdicts others rest more n j h = (rest, n, more jobs verdicts j h)
 found_more limit line lines (Some placed) named [] verdicts others rest more n j h = absurd (cc)
@@ -88,7 +88,7 @@ found_more limit line lines (Some placed) named (job ∷ jobs) (verdict ∷ verd
     (rest, verdict, verdicts, n, refl, found_of limit placed job verdict here h.0, more jobs verdicts left h.1)
 
 -- the verdicts on the jobs of lines are the verdicts on their chunks
-pub all_found : (limit : ℕ) (lines : List (List ℕ)) (named : List Bool) (jobs : List Job) (verdicts : List (Result Chunk (Vec ℕ × VetFault)))
+pub all_found : (limit : ℕ) (lines : List (List ℕ)) (named : List Bool) (jobs : List Job) (verdicts : List (Result MarkedChunk (Vec ℕ × VetFault)))
     → named ≡ map (λ line. is_some (chunk_in line)) lines → map value_of jobs ≡ flat_map (λ line. jobs_for limit (chunk_in line)) lines
     → AllZip IsVerdictOn jobs verdicts → AreFound limit lines named verdicts
 all_found limit [] named [] [] n j h = (n, refl)

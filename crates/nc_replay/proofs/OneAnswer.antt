@@ -68,17 +68,17 @@ pub dump_only : (old : Script) (text : List ℕ) (new : Script) → Serves Dump 
 dump_only old text new a other next b = (b.0 ∙ sym a.0, b.1 ∙ sym a.1)
 
 -- a walk has one answer, since there is one trace
-pub walk_only : (region : Region) (start : ℕ) (choices places : List ℕ) (end : End) → IsRegion region.code region.chunks → IsWalkStart region.code.bytes start → IsTrace region.code.bytes start choices places end
+pub walk_only : (region : Region) (start : ℕ) (choices places : List ℕ) (end : End) → IsRegion region.marked region.chunks → IsWalkStart region.marked.bytes start → IsTrace region.marked.bytes start choices places end
     → IsOnly (Walk start choices) (script_of region) (line_text (walk_text places end)) (script_of region)
 walk_only region start choices places end is at trace other next (inl w) =
     let shown = subst (λ (text : List ℕ). IsTrace text start choices w.places w.end) (text_of-script_of region is) w.trace in
-    let same = one_trace region.code.bytes region.code.marks start choices places w.places end w.end is.whole.closed at trace shown in
+    let same = one_trace region.marked.bytes region.marked.marks start choices places w.places end w.end is.whole.closed at trace shown in
     (w.text_is ∙ (ap (λ (ps : List ℕ). line_text (walk_text ps w.end)) same.0 ∙ ap (λ (e : End). line_text (walk_text places e)) same.1), w.same)
 walk_only region start choices places end is at trace other next (inr n) =
     absurd (n.begins_not (subst (λ (text : List ℕ). IsWalkStart text start) (sym (text_of-script_of region is)) at))
 
 -- a walk from elsewhere is refused alone
-pub no_start_only : (region : Region) (start : ℕ) (choices : List ℕ) → IsRegion region.code region.chunks → ¬ IsWalkStart region.code.bytes start
+pub no_start_only : (region : Region) (start : ℕ) (choices : List ℕ) → IsRegion region.marked region.chunks → ¬ IsWalkStart region.marked.bytes start
     → IsOnly (Walk start choices) (script_of region) (line_text (refused_text (codes "NotBundle"))) (script_of region)
 no_start_only region start choices is not other next (inl w) = absurd (not (subst (λ (text : List ℕ). IsWalkStart text start) (text_of-script_of region is) w.begins))
 no_start_only region start choices is not other next (inr n) = (n.text_is, n.same)

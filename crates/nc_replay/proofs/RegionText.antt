@@ -71,9 +71,9 @@ byte_in-chunks bytes at from (c ∷ rest) rising placed stops =
     (λ others. stops (λ live inside. out inside.0 (omega (arith, long, inside.1)), others)))
 
 -- so the text of the script's state is the region's
-pub text_of-script_of : (region : Region) → IsRegion region.code region.chunks → text_of (script_of region) ≡ region.code.bytes
+pub text_of-script_of : (region : Region) → IsRegion region.marked region.chunks → text_of (script_of region) ≡ region.marked.bytes
 text_of-script_of region is =
-    let bytes = region.code.bytes in
+    let bytes = region.marked.bytes in
     let n = limit_of bytes - 0x10000 in
     let same : n ≡ length bytes = omega arith in
     let chunks = map (chunk_in bytes) region.chunks in

@@ -3,7 +3,7 @@ use Rattle.std.proofs.Common.{◌≡◌, ℕ, ◌++◌, Bool, true, false, List,
 use Rattle.std.specs.Prelude.{MatchOption}
 use Rattle.std.specs.List.{flat_map, AllZip}
 use Rattle.std.specs.Global.{Vec}
-use Rattle.nc_vet.specs.Chunk.{Chunk}
+use Rattle.nc_vet.specs.Chunk.{MarkedChunk}
 use Rattle.nc_vet.specs.declared.fault.VetFault.{VetFault}
 use Rattle.nc_replay.specs.Lines.{bad_line}
 use Rattle.nc_replay.specs.Commands.{chunk_in}
@@ -15,10 +15,10 @@ use Rattle.nc_replay.specs.declared.batch.Batch.{Batch}
 use Rattle.nc_replay.proofs.Gathering.{all_found}
 
 -- where a line names no chunk, it is a bad line, and no verdict is used up
-bad_here : (limit : ℕ) (lines : List (List ℕ)) (chunk : Option (ℕ × List ℕ)) (rest : List Bool) (verdicts : List (Result Chunk (Vec ℕ × VetFault)))
+bad_here : (limit : ℕ) (lines : List (List ℕ)) (chunk : Option (ℕ × List ℕ)) (rest : List Bool) (verdicts : List (Result MarkedChunk (Vec ℕ × VetFault)))
     → MatchOption chunk
     ((after : List Bool) × (false ∷ rest ≡ false ∷ after) × AreFound limit lines after verdicts)
-    (λ placed. (after : List Bool) × (verdict : Result Chunk (Vec ℕ × VetFault)) × (later : List (Result Chunk (Vec ℕ × VetFault)))
+    (λ placed. (after : List Bool) × (verdict : Result MarkedChunk (Vec ℕ × VetFault)) × (later : List (Result MarkedChunk (Vec ℕ × VetFault)))
     × (false ∷ rest ≡ true ∷ after) × (verdicts ≡ verdict ∷ later) × IsFound limit placed verdict × AreFound limit lines after later)
     → MatchOption chunk (bad_line ≡ bad_line) (λ placed. SaysVerdict limit placed.0 placed.1 bad_line) × AreFound limit lines rest verdicts
 bad_here limit lines None rest verdicts h =
@@ -26,17 +26,17 @@ bad_here limit lines None rest verdicts h =
     (refl, subst (λ (bs : List Bool). AreFound limit lines bs verdicts) same h.2)
 bad_here limit lines (Some placed) rest verdicts h = let e = h.3 in absurd (cc)
 
-pub bad_next : (limit : ℕ) (line : List ℕ) (lines : List (List ℕ)) (is_named : Bool) (rest : List Bool) (verdicts : List (Result Chunk (Vec ℕ × VetFault)))
+pub bad_next : (limit : ℕ) (line : List ℕ) (lines : List (List ℕ)) (is_named : Bool) (rest : List Bool) (verdicts : List (Result MarkedChunk (Vec ℕ × VetFault)))
     → is_named ≡ false → AreFound limit (line ∷ lines) (is_named ∷ rest) verdicts → VetsLine limit line bad_line × AreFound limit lines rest verdicts
 bad_next limit line lines is_named rest verdicts e h =
     bad_here limit lines (chunk_in line) rest verdicts (subst (λ (b : Bool). AreFound limit (line ∷ lines) (b ∷ rest) verdicts) e h)
 
 -- where a line names a chunk, the next verdict is on it
-named_here : (limit : ℕ) (lines : List (List ℕ)) (chunk : Option (ℕ × List ℕ)) (rest : List Bool) (verdict : Result Chunk (Vec ℕ × VetFault)) (later : List (Result Chunk (Vec ℕ × VetFault))) (Reply : List ℕ → Type 0)
+named_here : (limit : ℕ) (lines : List (List ℕ)) (chunk : Option (ℕ × List ℕ)) (rest : List Bool) (verdict : Result MarkedChunk (Vec ℕ × VetFault)) (later : List (Result MarkedChunk (Vec ℕ × VetFault))) (Reply : List ℕ → Type 0)
     → ((limit base : ℕ) (bytes : List ℕ) → IsFound limit (base, bytes) verdict → (reply : List ℕ) × Reply reply × SaysVerdict limit base bytes reply)
     → MatchOption chunk
     ((after : List Bool) × (true ∷ rest ≡ false ∷ after) × AreFound limit lines after (verdict ∷ later))
-    (λ placed. (after : List Bool) × (first : Result Chunk (Vec ℕ × VetFault)) × (others : List (Result Chunk (Vec ℕ × VetFault)))
+    (λ placed. (after : List Bool) × (first : Result MarkedChunk (Vec ℕ × VetFault)) × (others : List (Result MarkedChunk (Vec ℕ × VetFault)))
     × (true ∷ rest ≡ true ∷ after) × (verdict ∷ later ≡ first ∷ others) × IsFound limit placed first × AreFound limit lines after others)
     → (reply : List ℕ) × Reply reply × MatchOption chunk (reply ≡ bad_line) (λ placed. SaysVerdict limit placed.0 placed.1 reply) × AreFound limit lines rest later
 named_here limit lines None rest verdict later Reply says h = let e = h.1 in absurd (cc)
@@ -49,49 +49,49 @@ named_here limit lines (Some placed) rest verdict later Reply says h =
       said.0,
       said.1,
       said.2,
-      subst (λ (bs : List Bool). AreFound limit lines bs later) same_rest (subst (λ (vs : List (Result Chunk (Vec ℕ × VetFault))). AreFound limit lines after vs) same_others more),
+      subst (λ (bs : List Bool). AreFound limit lines bs later) same_rest (subst (λ (vs : List (Result MarkedChunk (Vec ℕ × VetFault))). AreFound limit lines after vs) same_others more),
     )
 
-pub named_next : (limit : ℕ) (line : List ℕ) (lines : List (List ℕ)) (is_named : Bool) (rest : List Bool) (verdicts later : List (Result Chunk (Vec ℕ × VetFault))) (verdict : Result Chunk (Vec ℕ × VetFault)) (Reply : List ℕ → Type 0)
+pub named_next : (limit : ℕ) (line : List ℕ) (lines : List (List ℕ)) (is_named : Bool) (rest : List Bool) (verdicts later : List (Result MarkedChunk (Vec ℕ × VetFault))) (verdict : Result MarkedChunk (Vec ℕ × VetFault)) (Reply : List ℕ → Type 0)
     → is_named ≡ true → verdicts ≡ verdict ∷ later
     → ((limit base : ℕ) (bytes : List ℕ) → IsFound limit (base, bytes) verdict → (reply : List ℕ) × Reply reply × SaysVerdict limit base bytes reply)
     → AreFound limit (line ∷ lines) (is_named ∷ rest) verdicts
     → (reply : List ℕ) × Reply reply × VetsLine limit line reply × AreFound limit lines rest later
 named_next limit line lines is_named rest verdicts later verdict Reply e f says h =
     named_here limit lines (chunk_in line) rest verdict later Reply says
-    (subst (λ (vs : List (Result Chunk (Vec ℕ × VetFault))). AreFound limit (line ∷ lines) (true ∷ rest) vs) f
+    (subst (λ (vs : List (Result MarkedChunk (Vec ℕ × VetFault))). AreFound limit (line ∷ lines) (true ∷ rest) vs) f
     (subst (λ (b : Bool). AreFound limit (line ∷ lines) (b ∷ rest) verdicts) e h))
 
 -- so where no verdict is left, no line names a chunk
-none_here : (limit : ℕ) (lines : List (List ℕ)) (chunk : Option (ℕ × List ℕ)) (rest : List Bool) (verdicts : List (Result Chunk (Vec ℕ × VetFault)))
+none_here : (limit : ℕ) (lines : List (List ℕ)) (chunk : Option (ℕ × List ℕ)) (rest : List Bool) (verdicts : List (Result MarkedChunk (Vec ℕ × VetFault)))
     → verdicts ≡ [] → MatchOption chunk
     ((after : List Bool) × (true ∷ rest ≡ false ∷ after) × AreFound limit lines after verdicts)
-    (λ placed. (after : List Bool) × (first : Result Chunk (Vec ℕ × VetFault)) × (others : List (Result Chunk (Vec ℕ × VetFault)))
+    (λ placed. (after : List Bool) × (first : Result MarkedChunk (Vec ℕ × VetFault)) × (others : List (Result MarkedChunk (Vec ℕ × VetFault)))
     × (true ∷ rest ≡ true ∷ after) × (verdicts ≡ first ∷ others) × IsFound limit placed first × AreFound limit lines after others) → ⊥
 none_here limit lines None rest verdicts none h = let e = h.1 in cc
 none_here limit lines (Some placed) rest verdicts none h = let e = h.4 in cc
 
-pub none_next : (limit : ℕ) (line : List ℕ) (lines : List (List ℕ)) (is_named : Bool) (rest : List Bool) (verdicts : List (Result Chunk (Vec ℕ × VetFault)))
+pub none_next : (limit : ℕ) (line : List ℕ) (lines : List (List ℕ)) (is_named : Bool) (rest : List Bool) (verdicts : List (Result MarkedChunk (Vec ℕ × VetFault)))
     → is_named ≡ true → verdicts ≡ [] → AreFound limit (line ∷ lines) (is_named ∷ rest) verdicts → ⊥
 none_next limit line lines is_named rest verdicts e none h =
     none_here limit lines (chunk_in line) rest verdicts none (subst (λ (b : Bool). AreFound limit (line ∷ lines) (b ∷ rest) verdicts) e h)
 
 -- where a flag is left, a line is left
-left_here : (limit : ℕ) (lines : List (List ℕ)) (is_named : Bool) (named : List Bool) (verdicts : List (Result Chunk (Vec ℕ × VetFault)))
+left_here : (limit : ℕ) (lines : List (List ℕ)) (is_named : Bool) (named : List Bool) (verdicts : List (Result MarkedChunk (Vec ℕ × VetFault)))
     → AreFound limit lines (is_named ∷ named) verdicts → (line : List ℕ) × (others : List (List ℕ)) × (lines ≡ line ∷ others)
 left_here limit [] is_named named verdicts h = let e = h.0 in absurd (cc)
 left_here limit (line ∷ lines) is_named named verdicts h = (line, lines, refl)
 
 -- where no flag is left, no line is left: at a line a flag is used up
-no_flag : (limit : ℕ) (lines : List (List ℕ)) (chunk : Option (ℕ × List ℕ)) (verdicts : List (Result Chunk (Vec ℕ × VetFault)))
+no_flag : (limit : ℕ) (lines : List (List ℕ)) (chunk : Option (ℕ × List ℕ)) (verdicts : List (Result MarkedChunk (Vec ℕ × VetFault)))
     → MatchOption chunk
     ((after : List Bool) × ([] ≡ false ∷ after) × AreFound limit lines after verdicts)
-    (λ placed. (after : List Bool) × (first : Result Chunk (Vec ℕ × VetFault)) × (others : List (Result Chunk (Vec ℕ × VetFault)))
+    (λ placed. (after : List Bool) × (first : Result MarkedChunk (Vec ℕ × VetFault)) × (others : List (Result MarkedChunk (Vec ℕ × VetFault)))
     × ([] ≡ true ∷ after) × (verdicts ≡ first ∷ others) × IsFound limit placed first × AreFound limit lines after others) → ⊥
 no_flag limit lines None verdicts h = let e = h.1 in cc
 no_flag limit lines (Some placed) verdicts h = let e = h.3 in cc
 
-none_left : (limit : ℕ) (lines : List (List ℕ)) (verdicts : List (Result Chunk (Vec ℕ × VetFault))) → AreFound limit lines [] verdicts → lines ≡ []
+none_left : (limit : ℕ) (lines : List (List ℕ)) (verdicts : List (Result MarkedChunk (Vec ℕ × VetFault))) → AreFound limit lines [] verdicts → lines ≡ []
 none_left limit [] verdicts h = refl
 none_left limit (line ∷ lines) verdicts h = absurd (no_flag limit lines (chunk_in line) verdicts h)
 
@@ -112,7 +112,7 @@ vets_more limit lines text line reply h v =
     (h.0 ++ reply ∷ [], all_more limit lines h.0 line reply h.1 v, ap (λ (xs : List ℕ). xs ++ reply) h.2 ∙ sym (text_more h.0 reply))
 
 -- how far the replies have come: some lines have theirs, and the flags and verdicts that are left are of the others
-pub record AreReplied (limit : ℕ) (lines : List (List ℕ)) (named : List Bool) (verdicts : List (Result Chunk (Vec ℕ × VetFault))) (start now : List ℕ) : Type 0 where
+pub record AreReplied (limit : ℕ) (lines : List (List ℕ)) (named : List Bool) (verdicts : List (Result MarkedChunk (Vec ℕ × VetFault))) (start now : List ℕ) : Type 0 where
   pub done : List (List ℕ)
   pub left : List (List ℕ)
   pub split : lines ≡ done ++ left
@@ -122,12 +122,12 @@ pub record AreReplied (limit : ℕ) (lines : List (List ℕ)) (named : List Bool
   pub vetted : VetsLines limit done text
 
 -- at first no line has its reply
-pub replied_start : (limit : ℕ) (lines : List (List ℕ)) (named : List Bool) (verdicts : List (Result Chunk (Vec ℕ × VetFault))) (start : List ℕ) → AreFound limit lines named verdicts → AreReplied limit lines named verdicts start start
+pub replied_start : (limit : ℕ) (lines : List (List ℕ)) (named : List Bool) (verdicts : List (Result MarkedChunk (Vec ℕ × VetFault))) (start : List ℕ) → AreFound limit lines named verdicts → AreReplied limit lines named verdicts start start
 replied_start limit lines named verdicts start h =
     record { done = []; left = lines; split = refl; found = h; text = []; added = sym (append-nil start); vetted = ([], tt, refl) }
 
 -- the next line has its reply
-pub replied_more : (limit : ℕ) (lines : List (List ℕ)) (is_named : Bool) (flags named : List Bool) (verdicts later : List (Result Chunk (Vec ℕ × VetFault))) (start now new : List ℕ)
+pub replied_more : (limit : ℕ) (lines : List (List ℕ)) (is_named : Bool) (flags named : List Bool) (verdicts later : List (Result MarkedChunk (Vec ℕ × VetFault))) (start now new : List ℕ)
     → AreReplied limit lines flags verdicts start now → flags ≡ is_named ∷ named
     → ((limit : ℕ) (line : List ℕ) (lines : List (List ℕ)) (rest : List Bool) → AreFound limit (line ∷ lines) (is_named ∷ rest) verdicts → (reply : List ℕ) × (new ≡ now ++ reply) × VetsLine limit line reply × AreFound limit lines rest later)
     → AreReplied limit lines named later start new
@@ -146,7 +146,7 @@ replied_more limit lines is_named flags named verdicts later start now new r e s
     }
 
 -- at the end all lines have theirs
-pub replied_all : (limit : ℕ) (lines : List (List ℕ)) (named : List Bool) (verdicts : List (Result Chunk (Vec ℕ × VetFault))) (start now : List ℕ)
+pub replied_all : (limit : ℕ) (lines : List (List ℕ)) (named : List Bool) (verdicts : List (Result MarkedChunk (Vec ℕ × VetFault))) (start now : List ℕ)
     → AreReplied limit lines named verdicts start now → named ≡ [] → (text : List ℕ) × (now ≡ start ++ text) × VetsLines limit lines text
 replied_all limit lines named verdicts start now r e =
     let none = none_left limit r.left verdicts (subst (λ (bs : List Bool). AreFound limit r.left bs verdicts) e r.found) in
@@ -154,7 +154,7 @@ replied_all limit lines named verdicts start now r e =
     (r.text, r.added, subst (λ (ls : List (List ℕ)). VetsLines limit ls r.text) (sym same) r.vetted)
 
 -- what was added to nothing is the replies to the lines that were gathered in an empty batch
-pub whole_text : (start batch : Batch) (limit : ℕ) (lines : List (List ℕ)) (verdicts : List (Result Chunk (Vec ℕ × VetFault))) (old new : List ℕ)
+pub whole_text : (start batch : Batch) (limit : ℕ) (lines : List (List ℕ)) (verdicts : List (Result MarkedChunk (Vec ℕ × VetFault))) (old new : List ℕ)
     → start.limit ≡ limit → start.named.items ≡ [] → start.jobs.items ≡ [] → HasGathered start batch lines → AllZip IsVerdictOn batch.jobs.items verdicts → old ≡ []
     → ((limit : ℕ) (lines : List (List ℕ)) → AreFound limit lines batch.named.items verdicts → (text : List ℕ) × (new ≡ old ++ text) × VetsLines limit lines text)
     → VetsLines limit lines new

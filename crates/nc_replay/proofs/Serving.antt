@@ -3,7 +3,7 @@ use Rattle.std.proofs.Common.{◌≡◌, ◌≢◌, ◌++◌, ℕ, ◌+◌, ◌-
 use Rattle.std.specs.Prelude.{codes}
 use Rattle.nc_region.specs.Region.{Region, IsRegion, IsCreated, Meets}
 use Rattle.nc_region.specs.declared.chunk.Chunk.{Chunk}
-use Rattle.nc_text.specs.Code.{Code, with_span}
+use Rattle.nc_text.specs.MarkedText.{MarkedText, with_span}
 use Rattle.nc_text.proofs.SpanElements.{length-with_span}
 use Rattle.nc_vet.specs.Chunk as vet
 use Rattle.nc_vet.specs.Chunk.{IsValid}
@@ -22,11 +22,11 @@ use Rattle.nc_replay.specs.Texts.{line_text, refused_text, fault_text, walk_text
 use Rattle.nc_replay.proofs.RegionText.{text_of-script_of}
 
 -- a valid chunk for this limit
-valid_here : (v : vet.Chunk) (limit : ℕ) → v.limit ≡ limit → IsValid v → IsValidAt v.base limit v.code
+valid_here : (v : vet.MarkedChunk) (limit : ℕ) → v.limit ≡ limit → IsValid v → IsValidAt v.base limit v.code
 valid_here v limit e valid = (v.marks, subst (λ (l : ℕ). IsValid (record { base = v.base; limit = l; code = v.code; marks = v.marks })) e valid)
 
 -- a trace through the region serves a walk
-pub walk_serves : (region : Region) (start : ℕ) (choices places : List ℕ) (end : End) → IsRegion region.code region.chunks → IsWalkStart region.code.bytes start → IsTrace region.code.bytes start choices places end
+pub walk_serves : (region : Region) (start : ℕ) (choices places : List ℕ) (end : End) → IsRegion region.marked region.chunks → IsWalkStart region.marked.bytes start → IsTrace region.marked.bytes start choices places end
     → Serves (Walk start choices) (script_of region) (line_text (walk_text places end)) (script_of region)
 walk_serves region start choices places end is at trace = inl (record {
   begins = subst (λ (text : List ℕ). IsWalkStart text start) (sym (text_of-script_of region is)) at;
@@ -38,12 +38,12 @@ walk_serves region start choices places end is at trace = inl (record {
 })
 
 -- a fault of the chunk serves its creation
-pub fault_serves : (region : Region) (base : ℕ) (bytes : List ℕ) (fault : VetFault) → HasFault base (limit_of region.code.bytes) bytes fault → fault ≢ OutOfMemory
+pub fault_serves : (region : Region) (base : ℕ) (bytes : List ℕ) (fault : VetFault) → HasFault base (limit_of region.marked.bytes) bytes fault → fault ≢ OutOfMemory
     → Serves (Create base bytes) (script_of region) (line_text (refused_text (fault_text fault))) (script_of region)
 fault_serves region base bytes fault has known = inr (inl (record { fault = fault; has = has; known = known; text_is = refl; same = refl }))
 
 -- a walk from elsewhere is refused
-pub no_start_serves : (region : Region) (start : ℕ) (choices : List ℕ) → IsRegion region.code region.chunks → ¬ IsWalkStart region.code.bytes start
+pub no_start_serves : (region : Region) (start : ℕ) (choices : List ℕ) → IsRegion region.marked region.chunks → ¬ IsWalkStart region.marked.bytes start
     → Serves (Walk start choices) (script_of region) (line_text (refused_text (codes "NotBundle"))) (script_of region)
 no_start_serves region start choices is not = inr (record {
   begins_not = subst (λ (text : List ℕ). ¬ IsWalkStart text start) (sym (text_of-script_of region is)) not;
@@ -52,16 +52,16 @@ no_start_serves region start choices is not = inr (record {
 })
 
 -- a chunk created in the region is one put into the script's list
-pub created_serves : (old new : Region) (v : vet.Chunk) → IsRegion old.code old.chunks → v.limit ≡ limit_of old.code.bytes → IsValid v
+pub created_serves : (old new : Region) (v : vet.MarkedChunk) → IsRegion old.marked old.chunks → v.limit ≡ limit_of old.marked.bytes → IsValid v
     → IsCreated old new v → ¬ Meets v.base (length v.code) old.chunks
     → Serves (Create v.base v.code) (script_of old) (line_text (codes "ok")) (script_of new)
 created_serves old new v is limit_is valid created apart =
-    let text = old.code.bytes in
+    let text = old.marked.bytes in
     let (k, fits, listed) = created.chunks in
     let low : 0x10000 ≤ v.base = valid.base_is.1 in
     let high : v.base + length v.code ≤ limit_of text = omega (arith, valid.range.1, limit_is) in
     let span = with_span text (v.base - 0x10000) v.code in
-    let bytes_are : new.code.bytes ≡ span = ap (λ (c : Code). c.bytes) created.code in
+    let bytes_are : new.marked.bytes ≡ span = created.bytes in
     inl (record {
       valid = valid_here v (limit_of text) limit_is valid;
       free = λ taken. apart (meets_occupied text v.base (length v.code) old.chunks is.placed taken);
@@ -73,18 +73,18 @@ created_serves old new v is limit_is valid created apart =
     })
 
 -- a chunk that meets another in the region meets one in the script
-pub crowded_serves : (old : Region) (v : vet.Chunk) → IsRegion old.code old.chunks → v.limit ≡ limit_of old.code.bytes → IsValid v
+pub crowded_serves : (old : Region) (v : vet.MarkedChunk) → IsRegion old.marked old.chunks → v.limit ≡ limit_of old.marked.bytes → IsValid v
     → Meets v.base (length v.code) old.chunks
     → Serves (Create v.base v.code) (script_of old) (line_text (refused_text (codes "Occupied"))) (script_of old)
 crowded_serves old v is limit_is valid meets = inr (inr (record {
-  valid = valid_here v (limit_of old.code.bytes) limit_is valid;
-  taken = occupied_meets old.code.bytes v.base (length v.code) old.chunks is.placed meets;
+  valid = valid_here v (limit_of old.marked.bytes) limit_is valid;
+  taken = occupied_meets old.marked.bytes v.base (length v.code) old.chunks is.placed meets;
   text_is = refl;
   same = refl;
 }))
 
 -- what serves the chunk serves what was asked for
-pub as_asked : (v : vet.Chunk) (base : ℕ) (bytes text : List ℕ) (old new : Script) → v.base ≡ base → v.code ≡ bytes → Serves (Create v.base v.code) old text new → Serves (Create base bytes) old text new
+pub as_asked : (v : vet.MarkedChunk) (base : ℕ) (bytes text : List ℕ) (old new : Script) → v.base ≡ base → v.code ≡ bytes → Serves (Create v.base v.code) old text new → Serves (Create base bytes) old text new
 as_asked v base bytes text old new base_is code_is served =
     subst (λ (b : ℕ). Serves (Create b bytes) old text new) base_is (subst (λ (bs : List ℕ). Serves (Create v.base bs) old text new) code_is served)
 

@@ -2,7 +2,7 @@
 use Rattle.std.specs.Prelude.{◌≡◌, ◌++◌, ℕ, Bool, true, false, List, [], ◌∷◌, map, MatchOption, Option, Some, None, Result, Ok, Err, is_some}
 use Rattle.std.specs.List.{flat_map}
 use Rattle.std.specs.Global.{Vec}
-use Rattle.nc_vet.specs.Chunk.{Chunk, IsValid}
+use Rattle.nc_vet.specs.Chunk.{MarkedChunk, IsValid}
 use Rattle.nc_vet.specs.Faults.{HasFault}
 use Rattle.nc_vet.specs.declared.fault.VetFault.{VetFault}
 use Rattle.nc_work.specs.declared.job.Job.{Job}
@@ -31,16 +31,16 @@ pub record Gathers (old : Batch) (line reply : List ℕ) (new : Batch) : Type 0 
   pub jobs : map value_of new.jobs.items ≡ map value_of old.jobs.items ++ jobs_for old.limit (chunk_in line)
 
 -- a verdict on this chunk
-abbrev pub IsFound : ℕ → (ℕ × List ℕ) → Result Chunk (Vec ℕ × VetFault) → Type 0
+abbrev pub IsFound : ℕ → (ℕ × List ℕ) → Result MarkedChunk (Vec ℕ × VetFault) → Type 0
 IsFound limit placed (Ok v) = (v.base ≡ placed.0) × (v.limit ≡ limit) × (v.code ≡ placed.1) × IsValid v
 IsFound limit placed (Err e) = HasFault placed.0 limit placed.1 e.1
 
 -- which of the lines name a chunk, and the verdicts on these in order
-abbrev pub AreFound : ℕ → List (List ℕ) → List Bool → List (Result Chunk (Vec ℕ × VetFault)) → Type 0
+abbrev pub AreFound : ℕ → List (List ℕ) → List Bool → List (Result MarkedChunk (Vec ℕ × VetFault)) → Type 0
 AreFound limit [] named verdicts = (named ≡ []) × (verdicts ≡ [])
 AreFound limit (line ∷ lines) named verdicts = MatchOption (chunk_in line)
     ((rest : List Bool) × (named ≡ false ∷ rest) × AreFound limit lines rest verdicts)
-    (λ placed. (rest : List Bool) × (verdict : Result Chunk (Vec ℕ × VetFault)) × (others : List (Result Chunk (Vec ℕ × VetFault)))
+    (λ placed. (rest : List Bool) × (verdict : Result MarkedChunk (Vec ℕ × VetFault)) × (others : List (Result MarkedChunk (Vec ℕ × VetFault)))
     × (named ≡ true ∷ rest) × (verdicts ≡ verdict ∷ others) × IsFound limit placed verdict × AreFound limit lines rest others)
 
 -- these lines were gathered after the others

@@ -20,4 +20,4 @@ abbrev pub chunk_in : List ℕ → Chunk → script.Chunk
 chunk_in bytes c = record { base = c.base; state = state_in bytes c.base c.length c.state }
 
 abbrev pub script_of : Region → Script
-script_of region = record { limit = limit_of region.code.bytes; chunks = map (chunk_in region.code.bytes) region.chunks }
+script_of region = record { limit = limit_of region.marked.bytes; chunks = map (chunk_in region.marked.bytes) region.chunks }

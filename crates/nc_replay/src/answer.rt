@@ -109,9 +109,9 @@ pub(crate) fn push_trace(out: &mut Vec<u8>, trace: &Trace) -> Result<(), AllocEr
 /// Adds the bytes of a span of the region.
 fn push_span(region: &Region, base: u32, length: u32, out: &mut Vec<u8>) -> Result<(), AllocError>
     requires low { 0x10000 ≤ base }
-    requires high { base + length ≤ limit_of region.now.code.bytes }
+    requires high { base + length ≤ limit_of region.now.marked.bytes }
     requires fits { base + length < 2 ^ 32 }
-    ensures { OnOk result (out.new.items ≡ out.old.items ++ encode_lower (bytes_at region.now.code.bytes base length)) }
+    ensures { OnOk result (out.new.items ≡ out.old.items ++ encode_lower (bytes_at region.now.marked.bytes base length)) }
 {
     for at in base..base + length {
         push_byte(out, region.byte(at))?;
@@ -127,9 +127,9 @@ pub(crate) fn push_chunk(
     out: &mut Vec<u8>,
 ) -> Result<(), AllocError>
     requires low { 0x10000 ≤ chunk.base }
-    requires high { chunk.base + chunk.length ≤ limit_of region.now.code.bytes }
+    requires high { chunk.base + chunk.length ≤ limit_of region.now.marked.bytes }
     requires fits { chunk.base + chunk.length < 2 ^ 32 }
-    ensures { OnOk result (out.new.items ≡ out.old.items ++ chunk_text (chunk_in region.now.code.bytes chunk)) }
+    ensures { OnOk result (out.new.items ≡ out.old.items ++ chunk_text (chunk_in region.now.marked.bytes chunk)) }
 {
     out.push(b' ')?;
     push_address(out, chunk.base)?;

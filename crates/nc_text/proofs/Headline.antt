@@ -4,8 +4,8 @@ use Rattle.nc_decode.specs.declared.instruction.Instr.{Instr}
 use Rattle.nc_decode.specs.declared.instruction.Flow.{Flow}
 use Rattle.nc_decode.specs.declared.instruction.Flow.TheVariants.{Next, Branch, Jump, Call, IndirectJump, IndirectCall, Stop}
 use Rattle.nc_decode.specs.Transfers.{is_indirect}
-use Rattle.nc_decode.proofs.FrontLaws.{exact}
-use Rattle.nc_decode.proofs.NeverBarred.{spelling_is_allowed}
+use Rattle.nc_decode.proofs.Offered.{exact}
+use Rattle.nc_decode.proofs.Offered.{never_barred}
 use Rattle.nc_text.specs.Places.{InRegion, instruction_at}
 use Rattle.nc_text.specs.Machine.{State, Step, Joined, IsPath, IsSafe, AllSafe, IsConfined, IsMaskedFor, IsPermitted}
 use Rattle.nc_text.specs.Headline.{StandsInRegion, Stands}
@@ -28,7 +28,7 @@ stands_in_region text now (Some i) e is inside = record {
   high = inside.1;
   instr = i;
   permitted = (exact _ i).0 e;
-  allowed = spelling_is_allowed ((exact _ i).0 e).front i ((exact _ i).0 e).spells;
+  allowed = never_barred ((exact _ i).0 e).front i ((exact _ i).0 e).spells;
   inside = is.0;
   masked = masked_for i.flow i.reg now.masked is.1;
 }

@@ -4,7 +4,7 @@ use Rattle.std.specs.Int.{bit_at, trailing_zeros, bit_not}
 use Rattle.std.proofs.lemmas.Bool.{cases_lt, eqb-false}
 use Rattle.std.proofs.lemmas.Nat.{and_le_l}
 use Rattle.std.proofs.lemmas.Nat.Bits.{bit_at-suc, bit_at-trailing_zeros, bit_at_clear_same, bit_at_clear_other, shr_and_one, bit_at_cat_low, bit_at_cat_high}
-use Rattle.nc_decode.proofs.BoolTests.{true_or_false}
+use Rattle.nc_decode.proofs.Offered.{true_or_false}
 use Rattle.nc_decode.specs.declared.instruction.Mark.TheVariants.{Plain}
 use Rattle.nc_vet.specs.declared.bundle.Bundle.{Bundle}
 use Rattle.nc_vet.specs.Bits.{is_start, is_second, bit_mark, no_bits}

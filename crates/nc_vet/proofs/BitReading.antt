@@ -12,9 +12,9 @@ use Rattle.nc_decode.specs.declared.instruction.Mark.{Mark}
 use Rattle.nc_decode.specs.declared.instruction.Mark.TheVariants.{Unmarked}
 use Rattle.nc_decode.specs.Transfers.{target}
 use Rattle.nc_decode.specs.Spelling.{mask}
-use Rattle.nc_decode.proofs.BoolTests.{true_or_false}
-use Rattle.nc_decode.proofs.FrontLaws.{exact, masks_exactly}
-use Rattle.nc_decode.proofs.Readings.{spells_some}
+use Rattle.nc_decode.proofs.Offered.{true_or_false}
+use Rattle.nc_decode.proofs.Offered.{exact, masks_exactly}
+use Rattle.nc_decode.proofs.Offered.{spells_some}
 use Rattle.nc_vet.specs.declared.bundle.Bundle.{Bundle}
 use Rattle.nc_vet.specs.Chunk.{Piece, code_of, place, AreSpelled, FollowsMask, marks_of, IsTarget}
 use Rattle.nc_vet.specs.Steps.{HasReadTo, HasReadAll, HasJudged}

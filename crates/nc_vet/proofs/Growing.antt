@@ -5,7 +5,7 @@ use Rattle.std.proofs.lemmas.List.{length-append, length-take, length-drop, take
 use Rattle.nc_decode.specs.declared.instruction.Instr.{Instr}
 use Rattle.nc_decode.specs.declared.instruction.Mark.{Mark}
 use Rattle.nc_decode.specs.declared.instruction.Mark.TheVariants.{Unmarked}
-use Rattle.nc_decode.proofs.Readings.{spells_some}
+use Rattle.nc_decode.proofs.Offered.{spells_some}
 use Rattle.nc_vet.specs.Chunk.{Piece, code_of, place, FollowsMask, mark_of, instr_marks, marks_of}
 use Rattle.nc_vet.specs.Steps.{MayFollow, masked_after, HasRead, HasReadAll}
 use Rattle.nc_vet.proofs.Splits.{split_none, split_last}

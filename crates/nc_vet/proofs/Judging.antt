@@ -10,7 +10,7 @@ use Rattle.nc_decode.specs.declared.instruction.Mark.{Mark}
 use Rattle.nc_decode.specs.declared.instruction.Mark.TheVariants.{Unmarked, Plain}
 use Rattle.nc_decode.specs.Spelling.{Spells, IsAtFront}
 use Rattle.nc_decode.specs.Transfers.{is_direct, is_indirect, target, may_transfer}
-use Rattle.nc_decode.proofs.TransferBytes.{direct_begins}
+use Rattle.nc_decode.proofs.Offered.{direct_begins}
 use Rattle.nc_vet.specs.Chunk.{Piece, code_of, place, AreSpelled, AreSound, IsTarget, marks_of}
 use Rattle.nc_vet.specs.Faults.{IsMistargeted}
 use Rattle.nc_vet.specs.Steps.{HasReadAll, GoesWellAt, GoesAstrayAt, HasJudged, HasJudgedAll}

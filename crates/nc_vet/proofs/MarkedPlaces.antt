@@ -5,7 +5,7 @@ use Rattle.std.proofs.lemmas.List.{get_or_at, get_or_append_left, get_or-append-
 use Rattle.nc_decode.specs.declared.instruction.Mark.{Mark}
 use Rattle.nc_decode.specs.declared.instruction.Mark.TheVariants.{Unmarked, Plain, After}
 use Rattle.nc_decode.specs.Transfers.{is_indirect}
-use Rattle.nc_decode.proofs.Readings.{spells_some}
+use Rattle.nc_decode.proofs.Offered.{spells_some}
 use Rattle.nc_vet.specs.Chunk.{Piece, code_of, place, AreSpelled, IsEntry, IsTarget, mark_of, marks_of}
 use Rattle.nc_vet.proofs.Pieces.{length-marks_of, marks_of-append, spelled_before, spelled_after}
 

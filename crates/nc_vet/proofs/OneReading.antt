@@ -3,8 +3,8 @@ use Rattle.std.proofs.Common.{◌≡◌, ℕ, List, [], ◌∷◌, ◌++◌, len
 use Rattle.std.proofs.lemmas.List.{length-append, take_at, append_cancel_left}
 use Rattle.nc_decode.specs.declared.instruction.Instr.{Instr}
 use Rattle.nc_decode.specs.Spelling.{Spells, IsAtFront}
-use Rattle.nc_decode.proofs.Readings.{spells_some}
-use Rattle.nc_decode.proofs.FrontLaws.{exact}
+use Rattle.nc_decode.proofs.Offered.{spells_some}
+use Rattle.nc_decode.proofs.Offered.{exact}
 use Rattle.nc_vet.specs.Chunk.{Piece, code_of, place, AreSpelled}
 use Rattle.nc_vet.proofs.Pieces.{spelled_after, place-append}
 

@@ -8,7 +8,7 @@ use Rattle.nc_decode.specs.declared.instruction.Mark.{Mark}
 use Rattle.nc_decode.specs.declared.instruction.Mark.TheVariants.{Unmarked}
 use Rattle.nc_decode.specs.Spelling.{Spells, IsAtFront}
 use Rattle.nc_decode.specs.Transfers.{is_indirect}
-use Rattle.nc_decode.proofs.Readings.{spells_some}
+use Rattle.nc_decode.proofs.Offered.{spells_some}
 use Rattle.nc_vet.specs.Chunk.{Piece, code_of, place, AreSpelled, AreSound, FollowsMask, instr_marks, marks_of, MarkedChunk, IsValid}
 use Rattle.nc_vet.specs.Steps.{HasReadAll}
 use Rattle.nc_vet.proofs.Splits.{split_none, split_push, flat_map-append}

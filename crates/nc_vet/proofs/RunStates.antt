@@ -8,7 +8,7 @@ use Rattle.std.proofs.Math.Nat.{div-eq_of_lt-le, pow-succ'}
 use Rattle.std.proofs.lemmas.Bool.{cases_lt, eqb-false}
 use Rattle.std.proofs.lemmas.List.{length-drop, length-take-le, take_more, get_or-take, get_or-drop, get_or-set_same, get_or-set_other, length-set, get_or_append_left, get_or-append_right, length-append}
 use Rattle.nc_decode.specs.Automaton.{next_state}
-use Rattle.nc_decode.proofs.BoolTests.{true_or_false}
+use Rattle.nc_decode.proofs.Offered.{true_or_false}
 use Rattle.nc_vet.specs.declared.bundle.Bundle.{Bundle}
 use Rattle.nc_vet.specs.Bits.{no_bits}
 use Rattle.nc_vet.specs.Running.{run, state_after, before, TellsStates, entered, HasRun, Tells, AreTold, EndsFront}

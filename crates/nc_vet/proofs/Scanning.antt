@@ -9,10 +9,10 @@ use Rattle.nc_decode.specs.declared.instruction.Mark.{Mark}
 use Rattle.nc_decode.specs.declared.instruction.Mark.TheVariants.{Unmarked, Plain, After}
 use Rattle.nc_decode.specs.Automaton.{next_state, masked_at, Leads, Ends}
 use Rattle.nc_decode.specs.Transfers.{is_direct, is_indirect}
-use Rattle.nc_decode.proofs.Readings.{spells_some}
-use Rattle.nc_decode.proofs.BoolTests.{true_or_false, both, cond_is_true, cond_is_false}
-use Rattle.nc_decode.proofs.Runs.{reads_by_states, none_is_paired}
-use Rattle.nc_decode.proofs.Stages.{next_small}
+use Rattle.nc_decode.proofs.Offered.{spells_some}
+use Rattle.nc_decode.proofs.Offered.{true_or_false, both, cond_is_true, cond_is_false}
+use Rattle.nc_decode.proofs.Offered.{reads_by_states, none_is_paired}
+use Rattle.nc_decode.proofs.Offered.{next_small}
 use Rattle.nc_vet.specs.Chunk.{Piece, code_of, place, FollowsMask, mark_of, instr_marks, marks_of}
 use Rattle.nc_vet.specs.Faults.{IsSoundFront}
 use Rattle.nc_vet.specs.Running.{before}

@@ -6,7 +6,7 @@ use Rattle.nc_decode.specs.declared.instruction.Instr.{Instr}
 use Rattle.nc_decode.specs.declared.instruction.Mark.{Mark}
 use Rattle.nc_decode.specs.Spelling.{Spells, IsAtFront, IsProperFront}
 use Rattle.nc_decode.specs.Transfers.{is_indirect}
-use Rattle.nc_decode.proofs.FrontLaws.{prefix_free}
+use Rattle.nc_decode.proofs.Offered.{prefix_free}
 use Rattle.nc_vet.specs.declared.fault.VetFault.{VetFault}
 use Rattle.nc_vet.specs.declared.fault.VetFault.TheVariants.{BadBase, BadLength, OutOfRange, NotPermitted, Crosses, Bare, BadTarget, OutOfMemory}
 use Rattle.nc_vet.specs.Chunk.{Piece, code_of, place, FollowsMask}

@@ -5,7 +5,7 @@ use Rattle.std.specs.Global.{Vec}
 use Rattle.std.specs.Option.{ForSome}
 use Rattle.std.proofs.lemmas.List.Elements.{All-push, All-head, All-rest, All-take, All-append, All-drop}
 use Rattle.std.proofs.lemmas.Option.{slice_get_read, get_or_from_slice_get, same_Some}
-use Rattle.nc_vet.specs.declared.kept.Kept.{Kept}
+use Rattle.nc_vet.specs.declared.marks.Marks.{Marks}
 use Rattle.nc_vet.specs.declared.fault.VetFault.{VetFault}
 use Rattle.nc_work.specs.declared.job.Job.{Job}
 use Rattle.nc_work.specs.declared.work.Done.{Done}
@@ -19,22 +19,22 @@ set_each P (x ∷ xs) zero y d h p (suc k) = h (suc k)
 set_each P (x ∷ xs) (suc i) y d h p zero = h zero
 set_each P (x ∷ xs) (suc i) y d h p (suc k) = set_each (λ j. P (suc j)) xs i y d (λ j. h (suc j)) p k
 
-pub answers_set : (jobs : List Job) (answers : List (Option (Result (Kept) VetFault))) (at : ℕ) (answer : Option (Result (Kept) VetFault))
+pub answers_set : (jobs : List Job) (answers : List (Option (Result (Marks) VetFault))) (at : ℕ) (answer : Option (Result (Marks) VetFault))
     → AreAnswers jobs answers → FitsPlace jobs at answer → AreAnswers jobs (set answers at answer)
 answers_set jobs answers at answer h p = record { each = set_each (FitsPlace jobs) answers at answer None h.each p }
 
 pub none_done : (jobs : List Job) (done : List Done) → done ≡ [] → AreDone jobs done
 none_done jobs done e = record { each = λ k d below. absurd (omega (arith, ap (λ (z : List Done). length z) e)) }
 
-pub done_more : (jobs : List Job) (done : List Done) (n : ℕ) (job : Job) (answer : Result (Kept) VetFault)
+pub done_more : (jobs : List Job) (done : List Done) (n : ℕ) (job : Job) (answer : Result (Marks) VetFault)
     → AreDone jobs done → n < length jobs → job ≡ get_or jobs n job → IsJudged job answer → AreDone jobs (done ++ record { job = n; answer = answer } ∷ [])
 done_more jobs done n job answer h below is judged =
     record { each = All-push (λ d. FitsPlace jobs d.job (Some d.answer)) done (record { job = n; answer = answer }) h.each (job, slice_get_read jobs (length jobs) n job refl below is, judged) }
 
 -- the answer in the place of a job is that on it
-pub fits_job : (jobs : List Job) (n : ℕ) (job : Job) (found : Option (Result (Kept) VetFault)) → slice_get jobs n ≡ Some job → FitsPlace jobs n found → ForSome found (IsJudged job)
+pub fits_job : (jobs : List Job) (n : ℕ) (job : Job) (found : Option (Result (Marks) VetFault)) → slice_get jobs n ≡ Some job → FitsPlace jobs n found → ForSome found (IsJudged job)
 fits_job jobs n job None is h = λ a e. absurd (cc)
-fits_job jobs n job (Some answer) is h = λ a e. subst (λ (r : Result (Kept) VetFault). IsJudged job r) (same_Some answer a e) (subst (λ (j : Job). IsJudged j answer) (same_Some h.0 job (sym h.1 ∙ is)) h.2)
+fits_job jobs n job (Some answer) is h = λ a e. subst (λ (r : Result (Marks) VetFault). IsJudged job r) (same_Some answer a e) (subst (λ (j : Job). IsJudged j answer) (same_Some h.0 job (sym h.1 ∙ is)) h.2)
 
 pub done_head : (jobs : List Job) (all : List Done) (one : Done) (rest : List Done) → all ≡ one ∷ rest → AreDone jobs all → FitsPlace jobs one.job (Some one.answer)
 done_head jobs all one rest e h = All-head (λ (d : Done). FitsPlace jobs d.job (Some d.answer)) one rest (subst (λ (z : List Done). All (λ d. FitsPlace jobs d.job (Some d.answer)) z) e h.each)
@@ -68,7 +68,7 @@ hands_back jobs old new n none done =
     All-take P n (new ++ drop (length new) old) (All-append P new (drop (length new) old) done (All-drop P (length new) old still))
 
 -- what is read in the place of the next job is the answer on it
-pub found_fits : (jobs : List Job) (answers : List (Option (Result (Kept) VetFault))) (n m : ℕ) (job : Job) (at found : Option (Result (Kept) VetFault))
+pub found_fits : (jobs : List Job) (answers : List (Option (Result (Marks) VetFault))) (n m : ℕ) (job : Job) (at found : Option (Result (Marks) VetFault))
     → AreAnswers jobs answers → m ≡ n → m < length answers → at ≡ get_or answers m at → found ≡ at → slice_get jobs n ≡ Some job → ForSome found (IsJudged job)
 found_fits jobs answers n m job at found h same below is e here =
     let read : get_or answers m None ≡ at = get_or_from_slice_get answers m at None (slice_get_read answers (length answers) m at refl below is) in

@@ -1,8 +1,8 @@
 -- Answers on jobs, and the places where they are put: machinery of the proofs, cited by no public contract.
 use Rattle.std.specs.Prelude.{◌≡◌, ℕ, List, All, slice_get, slice_index_or, Option, Some, None, Result, Ok, Err, ⊤}
 use Rattle.std.specs.Global.{Vec}
-use Rattle.nc_vet.specs.declared.kept.Kept.{Kept}
-use Rattle.nc_vet.specs.Keeping.{marks_kept}
+use Rattle.nc_vet.specs.declared.marks.Marks.{Marks}
+use Rattle.nc_vet.specs.Listed.{listed}
 use Rattle.nc_vet.specs.declared.fault.VetFault.{VetFault}
 use Rattle.nc_vet.specs.Chunk.{IsValid}
 use Rattle.nc_vet.specs.Faults.{HasFault}
@@ -10,12 +10,12 @@ use Rattle.nc_work.specs.declared.job.Job.{Job}
 use Rattle.nc_work.specs.declared.work.Done.{Done}
 
 -- what judging a job's chunk where it lies answers: the marks of a valid chunk, or its fault
-abbrev pub IsJudged : Job → Result Kept VetFault → Type 0
-IsJudged job (Ok kept) = IsValid (record { base = job.base; limit = job.limit; code = job.code.items; marks = marks_kept job.code.items kept })
+abbrev pub IsJudged : Job → Result Marks VetFault → Type 0
+IsJudged job (Ok kept) = IsValid (record { base = job.base; limit = job.limit; code = job.code.items; marks = listed job.code.items kept })
 IsJudged job (Err fault) = HasFault job.base job.limit job.code.items fault
 
 -- the answer in a place, if there is one, is that on the job of this number
-abbrev pub FitsPlace : List Job → ℕ → Option (Result Kept VetFault) → Type 0
+abbrev pub FitsPlace : List Job → ℕ → Option (Result Marks VetFault) → Type 0
 FitsPlace jobs at None = ⊤
 FitsPlace jobs at (Some answer) = (job : Job) × (slice_get jobs at ≡ Some job) × IsJudged job answer
 
@@ -24,5 +24,5 @@ pub record AreDone (jobs : List Job) (done : List Done) : Type 0 where
   pub each : All (λ d. FitsPlace jobs d.job (Some d.answer)) done
 
 -- each place has no answer, or that on the job of its number
-pub record AreAnswers (jobs : List Job) (answers : List (Option (Result Kept VetFault))) : Type 0 where
+pub record AreAnswers (jobs : List Job) (answers : List (Option (Result Marks VetFault))) : Type 0 where
   pub each : (k : ℕ) → FitsPlace jobs k (slice_index_or answers k None)

@@ -2,12 +2,12 @@
 use Rattle.std.specs.Prelude.{ℕ, ◌≤◌, Result}
 use Rattle.std.specs.Global.{Vec}
 use Rattle.nc_vet.specs.declared.fault.VetFault.{VetFault}
-use Rattle.nc_vet.specs.Chunk.{Chunk}
+use Rattle.nc_vet.specs.Chunk.{MarkedChunk}
 use Rattle.nc_vet.specs.Verdict.{IsVerdict}
 use Rattle.nc_work.specs.declared.job.Job.{Job}
 
 -- the verdict is what vetting answers for the job's chunk
-abbrev pub IsVerdictOn : Job → Result Chunk (Vec ℕ × VetFault) → Type 0
+abbrev pub IsVerdictOn : Job → Result MarkedChunk (Vec ℕ × VetFault) → Type 0
 IsVerdictOn job verdict = IsVerdict job.base job.limit job.code verdict
 
 -- the numbers of workers that are allowed

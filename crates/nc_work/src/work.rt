@@ -4,11 +4,11 @@ ghost use Rattle.nc_work.specs.Answers.{IsJudged, AreDone};
 
 use crate::gate::Gate;
 use crate::job::Job;
-use nc_vet::{Kept, VetFault, judge};
+use nc_vet::{Marks, VetFault, judge};
 use std::sync::atomic::{AtomicUsize, Ordering};
 
 /// The marks of a valid chunk, or a chunk's fault.
-pub type Answer = Result<Kept, VetFault>;
+pub type Answer = Result<Marks, VetFault>;
 
 /// A job's number, and the answer.
 #[derive(Drop)]

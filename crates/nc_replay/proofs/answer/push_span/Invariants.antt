@@ -5,4 +5,4 @@ use Rattle.nc_replay.specs.Session.{bytes_at}
 use Rattle.nc_replay.proofs.answer.push_span.Given as goal
 
 abbrev pub invariant-loop-at : goal.invariant-loop-at
-invariant-loop-at l = l.out.items ≡ l.initial.out.items ++ encode_lower (bytes_at l.region.code.bytes l.base (l.at - l.base))
+invariant-loop-at l = l.out.items ≡ l.initial.out.items ++ encode_lower (bytes_at l.region.marked.bytes l.base (l.at - l.base))

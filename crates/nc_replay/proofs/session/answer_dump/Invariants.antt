@@ -6,4 +6,4 @@ use Rattle.nc_replay.specs.Texts.{chunk_text}
 use Rattle.nc_replay.proofs.session.answer_dump.Given as goal
 
 abbrev pub invariant-loop-i : goal.invariant-loop-i
-invariant-loop-i l = l.out.items ≡ l.initial.out.items ++ flat_map chunk_text (map (chunk_in l.region.code.bytes) (take l.i l.region.chunks))
+invariant-loop-i l = l.out.items ≡ l.initial.out.items ++ flat_map chunk_text (map (chunk_in l.region.marked.bytes) (take l.i l.region.chunks))

@@ -26,7 +26,7 @@ returns-in-Ok c =
 pub returns-in-Err-NotBundle : goal.returns-in-Err-NotBundle
 returns-in-Err-NotBundle c =
     let region = c.args.region.now in
-    let not = subst (MayRefuseWalk region.code.bytes c.args.start) c.in-Err-NotBundle.field-0-is c.in-Err-NotBundle.ensures.refused in
+    let not = subst (MayRefuseWalk region.marked.bytes c.args.start) c.in-Err-NotBundle.field-0-is c.in-Err-NotBundle.ensures.refused in
     added c.extend_from_slice.result _ _ (line_text (refused_text (codes "NotBundle")))
     (λ text. ServesOnly (Walk c.args.start c.args.choices.now) (script_of region) text (script_of region))
     c.extend_from_slice.ensures.items
