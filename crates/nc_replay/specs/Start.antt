@@ -1,6 +1,8 @@
 -- What the program has done.
 use Rattle.std.specs.Prelude.{◌≢◌, ◌⊎◌, ℕ, List, Option, Result, Ok, Err, OnOk, IfErr, IfSome, IsErrOf, ⊤}
 use Rattle.std.specs.Io.KnownBytes.{Consumes, IsAtEnd}
+use Rattle.nc_gens.specs.Seen.{AreSeats}
+use Rattle.nc_decode.specs.Bundles.{IsRegionSize, limit_after}
 use Rattle.nc_work.specs.Verdicts.{IsStaff}
 use Rattle.nc_replay.specs.declared.asked.Ask.{Ask}
 use Rattle.nc_replay.specs.declared.asked.Ask.TheVariants.{Replay, Vet}
@@ -11,13 +13,13 @@ use Rattle.nc_replay.specs.declared.program.Halt.TheVariants.{Words, Fault}
 use Rattle.nc_replay.specs.Lines.{lines_of, ended_lines}
 use Rattle.nc_replay.specs.Answering.{IsBegun, IsCutShort}
 use Rattle.nc_replay.specs.Answers.{AnswersOnly, new_script}
-use Rattle.nc_replay.specs.Run.{IsSize, AreSeats, limit_for, HasAnswered}
+use Rattle.nc_replay.specs.Run.{HasAnswered}
 use Rattle.nc_replay.specs.Vetting.{HasVetted, HasBegunVetted}
 
 -- the numbers that are asked for are those of a region, of seats, of workers
 abbrev pub IsInRange : Ask → Type 0
-IsInRange (Replay bundles seats) = IsSize bundles × AreSeats seats
-IsInRange (Vet bundles workers) = IsSize bundles × IsStaff workers
+IsInRange (Replay bundles seats) = IsRegionSize bundles × AreSeats seats
+IsInRange (Vet bundles workers) = IsRegionSize bundles × IsStaff workers
 
 -- what holds where the program stopped at its command line
 abbrev pub IfWords : {T : Type 0} → Result T Halt → Type 0 → Type 0
@@ -35,7 +37,7 @@ IfRun (Err (Fault fault)) P = P (Err fault)
 pub record HasReplayed {T : Type 0} (untouched : Type 0) (input left before after : Option (List ℕ)) (outcome : Result T ReplayFault) : Type 0 where
   pub bundles : ℕ
   pub seats : ℕ
-  pub size : IsSize bundles
+  pub size : IsRegionSize bundles
   pub seats_in_range : AreSeats seats
   pub ok : OnOk outcome (IfSome input (λ bytes. HasAnswered bundles before after (lines_of bytes)))
   pub read : OnOk outcome (IsAtEnd left)
@@ -47,9 +49,9 @@ pub record HasReplayed {T : Type 0} (untouched : Type 0) (input left before afte
 pub record HasVettedLines {T : Type 0} (unwritten : Type 0) (input left before after : Option (List ℕ)) (outcome : Result T ReplayFault) : Type 0 where
   pub bundles : ℕ
   pub workers : ℕ
-  pub size : IsSize bundles
+  pub size : IsRegionSize bundles
   pub workers_in_range : IsStaff workers
-  pub ok : OnOk outcome (IfSome input (λ bytes. HasVetted (limit_for bundles) before after (lines_of bytes)))
+  pub ok : OnOk outcome (IfSome input (λ bytes. HasVetted (limit_after bundles) before after (lines_of bytes)))
   pub read : OnOk outcome (IsAtEnd left)
-  pub write_failed : IsErrOf outcome WriteFailed → IfSome input (λ bytes. HasBegunVetted (limit_for bundles) before after (lines_of bytes))
+  pub write_failed : IsErrOf outcome WriteFailed → IfSome input (λ bytes. HasBegunVetted (limit_after bundles) before after (lines_of bytes))
   pub nothing : IfErr outcome (λ fault. fault ≢ WriteFailed → unwritten)

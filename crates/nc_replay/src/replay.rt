@@ -2,16 +2,19 @@
 
 ghost use Rattle.std.specs.Prelude.{◌≡◌, ◌++◌, ◌⊎◌, ◌↔◌, ◌≢◌, ℕ, List, OnOk, IfErr, IfSome, IsErrOf};
 ghost use Rattle.std.specs.Io.KnownBytes.{Consumes, IsAtEnd};
+ghost use Rattle.nc_gens.specs.Seen.{AreSeats};
+ghost use Rattle.nc_decode.specs.Bundles.{IsRegionSize};
 ghost use Rattle.nc_replay.specs.Lines.{lines_of, ended_lines};
 ghost use Rattle.nc_replay.specs.Answering.{IsBegun, IsCutShort};
 ghost use Rattle.nc_replay.specs.Answers.{AnswersOnly, new_script};
 ghost use Rattle.nc_replay.specs.Laws.{BeginsAll, HasOneText};
-ghost use Rattle.nc_replay.specs.Run.{AreSeats, HasAnswered, IsSize};
+ghost use Rattle.nc_replay.specs.Run.{HasAnswered};
 
 use crate::fault::ReplayFault;
 use crate::session::Session;
 use crate::stream::answer_all;
-use nc_decode::MAX_BUNDLES;
+use nc_decode::is_region_size;
+use nc_gens::{Gens, MOST_SEATS};
 use std::alloc::Global;
 use std::io::{Read, Write};
 
@@ -30,10 +33,10 @@ pub fn run<R: Read, W: Write>(
     seats: u32,
 ) -> Result<(), ReplayFault>
     // The two numbers are tested first, in this order, before anything is read or written.
-    ensures bad_size { IsErrOf result ReplayFault.BadSize ↔ ¬ IsSize bundles }
-    ensures bad_seats { IsErrOf result ReplayFault.BadSeats ↔ (IsSize bundles × ¬ AreSeats seats) }
+    ensures bad_size { IsErrOf result ReplayFault.BadSize ↔ ¬ IsRegionSize bundles }
+    ensures bad_seats { IsErrOf result ReplayFault.BadSeats ↔ (IsRegionSize bundles × ¬ AreSeats seats) }
     ensures no_workers { IfErr result (λ fault. fault ≢ ReplayFault.BadWorkers) }
-    ensures untouched { ¬ (IsSize bundles × AreSeats seats) → (reader.new ≡ reader.old) × (writer.new ≡ writer.old) }
+    ensures untouched { ¬ (IsRegionSize bundles × AreSeats seats) → (reader.new ≡ reader.old) × (writer.new ≡ writer.old) }
 
     // The whole input was read, and exactly its answers were written.
     ensures ok { OnOk result (IfSome (R.remaining reader.old) (λ input.
@@ -54,13 +57,16 @@ pub fn run<R: Read, W: Write>(
         → ((reader.new ≡ reader.old) × (writer.new ≡ writer.old)) ⊎ IfSome (R.remaining reader.old) (λ input.
         IsCutShort AnswersOnly (new_script bundles) (W.contents writer.old) (W.contents writer.new) (lines_of input)) }
 {
-    if !(2..=MAX_BUNDLES).contains(&bundles) {
+    if !is_region_size(bundles) {
         return Err(ReplayFault::BadSize);
     }
-    if !(1..=64).contains(&seats) {
+    if seats == 0 || seats as usize > MOST_SEATS {
         return Err(ReplayFault::BadSeats);
     }
-    match Session::new(alloc, bundles) {
+    let Ok((gens, keeper, _passes)) = Gens::new(alloc, seats) else {
+        return Err(ReplayFault::OutOfMemory);
+    };
+    match Session::new(alloc, bundles, &gens, keeper) {
         Ok(mut session) => return answer_all(alloc, &mut session, reader, writer),
         Err(_) => return Err(ReplayFault::OutOfMemory),
     }

@@ -1,6 +1,6 @@
 //! Answers to a script's lines by the calls of a region.
 
-ghost use Rattle.std.specs.Prelude.{◌≡◌, ◌++◌, List, ℕ, OnOk, IfOk, ◌↔◌, ◌⊎◌, ◌<◌};
+ghost use Rattle.std.specs.Prelude.{◌≡◌, ◌++◌, List, ℕ, OnOk, IfOk};
 ghost use Rattle.nc_replay.specs.Commands.{Create, Walk, Dump};
 ghost use Rattle.nc_replay.specs.Answers.{AnswersOnly, Serves, ServesOnly, new_script};
 ghost use Rattle.nc_replay.specs.Session.{script_of};
@@ -8,6 +8,7 @@ ghost use Rattle.nc_replay.specs.Session.{script_of};
 use crate::answer::{push_chunk, push_fault, push_trace};
 use crate::command::{Command, command_of};
 use crate::responder::Responder;
+use nc_gens::{Gens, Keeper};
 use nc_region::{CreateFault, Region, RegionFault, WalkFault};
 use nc_vet::vet;
 use std::alloc::{AllocError, Global};
@@ -15,12 +16,12 @@ use std::marker::Model;
 
 /// A region, and what answers a script's lines by its calls. Contracts see it as the state of the script.
 #[derive(Drop)]
-pub struct Session {
+pub struct Session<'g> {
     alloc: Global,
-    region: Region,
+    region: Region<'g>,
 }
 
-impl Model for Session {
+impl Model for Session<'_> {
     ghost use Rattle.nc_replay.specs.Script.{Script};
     ghost use Rattle.nc_replay.specs.Session.{script_of};
 
@@ -29,20 +30,25 @@ impl Model for Session {
     ghost view = { λ s. script_of s.region };
 }
 
-impl Session {
-    /// A script over a new region of this many bundles.
-    pub fn new(alloc: Global, bundles: u32) -> Result<Session, RegionFault>
-        ensures size { (result ≡ Err RegionFault.BadSize) ↔ ((bundles < 2) ⊎ (524288 < bundles)) }
+impl<'g> Session<'g> {
+    /// A script over a new region of this many bundles, whose deletions draw their stamps from this table.
+    pub fn new(
+        alloc: Global,
+        bundles: u32,
+        gens: &'g Gens,
+        keeper: Keeper,
+    ) -> Result<Session<'g>, RegionFault>
+        requires { keeper.table ≡ gens.now }
         ensures script { IfOk result (λ s. s ≡ new_script bundles) }
     {
-        match Region::new(alloc, bundles) {
+        match Region::new(alloc, bundles, gens, keeper) {
             Ok(region) => Ok(Session { alloc, region }),
-            Err(fault) => Err(fault),
+            Err((_keeper, fault)) => Err(fault),
         }
     }
 }
 
-impl Responder for Session {
+impl Responder for Session<'_> {
     ghost answers = { AnswersOnly };
 
     fn answer(&mut self, kept: &[u8], out: &mut Vec<u8>) -> Result<(), AllocError> {

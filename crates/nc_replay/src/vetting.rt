@@ -2,9 +2,9 @@
 
 ghost use Rattle.std.specs.Prelude.{◌≡◌, ◌≢◌, ◌↔◌, ◌⊎◌, OnOk, IfErr, IfSome, IsErrOf};
 ghost use Rattle.std.specs.Io.KnownBytes.{IsAtEnd};
+ghost use Rattle.nc_decode.specs.Bundles.{IsRegionSize, limit_after};
 ghost use Rattle.nc_work.specs.Verdicts.{IsStaff};
 ghost use Rattle.nc_replay.specs.Lines.{lines_of};
-ghost use Rattle.nc_replay.specs.Run.{IsSize, limit_for};
 ghost use Rattle.nc_replay.specs.Vetting.{HasVetted, HasBegunVetted};
 ghost use Rattle.nc_replay.specs.Batch.{HasGathered};
 
@@ -13,7 +13,7 @@ use crate::fault::ReplayFault;
 use crate::output::write_out;
 use crate::stream::answer_all;
 use crate::verdicts::push_verdicts;
-use nc_decode::{BUNDLE, MAX_BUNDLES, START};
+use nc_decode::{BUNDLE, START, is_region_size};
 use nc_work::{Gate, vet_all};
 use std::alloc::Global;
 use std::io::{Read, Write};
@@ -36,24 +36,24 @@ pub fn vet_lines<R: Read, W: Write, G: Gate, T: Threads + Wait + Sync>(
     gate: &G,
 ) -> Result<(), ReplayFault>
     // The two numbers are tested first, in this order, before anything is read or written.
-    ensures bad_size { IsErrOf result ReplayFault.BadSize ↔ ¬ IsSize bundles }
-    ensures bad_workers { IsErrOf result ReplayFault.BadWorkers ↔ (IsSize bundles × ¬ IsStaff workers) }
+    ensures bad_size { IsErrOf result ReplayFault.BadSize ↔ ¬ IsRegionSize bundles }
+    ensures bad_workers { IsErrOf result ReplayFault.BadWorkers ↔ (IsRegionSize bundles × ¬ IsStaff workers) }
     ensures no_seats { IfErr result (λ fault. fault ≢ ReplayFault.BadSeats) }
-    ensures untouched { ¬ (IsSize bundles × IsStaff workers) → (reader.new ≡ reader.old) × (writer.new ≡ writer.old) }
+    ensures untouched { ¬ (IsRegionSize bundles × IsStaff workers) → (reader.new ≡ reader.old) × (writer.new ≡ writer.old) }
 
     // The whole input was read, and exactly its verdicts were written.
     ensures ok { OnOk result (IfSome (R.remaining reader.old) (λ input.
-        HasVetted (limit_for bundles) (W.contents writer.old) (W.contents writer.new) (lines_of input))) }
+        HasVetted (limit_after bundles) (W.contents writer.old) (W.contents writer.new) (lines_of input))) }
     ensures read { OnOk result (IsAtEnd (R.remaining reader.new)) }
 
     // A beginning of the verdicts was written.
     ensures write_failed { IsErrOf result ReplayFault.WriteFailed → IfSome (R.remaining reader.old) (λ input.
-        HasBegunVetted (limit_for bundles) (W.contents writer.old) (W.contents writer.new) (lines_of input)) }
+        HasBegunVetted (limit_after bundles) (W.contents writer.old) (W.contents writer.new) (lines_of input)) }
 
     // On any other fault nothing was written.
     ensures unwritten { IfErr result (λ fault. fault ≢ ReplayFault.WriteFailed → writer.new ≡ writer.old) }
 {
-    if !(2..=MAX_BUNDLES).contains(&bundles) {
+    if !is_region_size(bundles) {
         return Err(ReplayFault::BadSize);
     }
     if !(1..=16).contains(&workers) {
