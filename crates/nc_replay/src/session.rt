@@ -21,7 +21,7 @@ pub struct Session<'g> {
     region: Region<'g>,
 }
 
-impl Model for Session<'_> {
+impl<'g> Model for Session<'g> {
     ghost use Rattle.nc_replay.specs.Script.{Script};
     ghost use Rattle.nc_replay.specs.Session.{script_of};
 
@@ -48,7 +48,7 @@ impl<'g> Session<'g> {
     }
 }
 
-impl Responder for Session<'_> {
+impl<'g> Responder for Session<'g> {
     ghost answers = { AnswersOnly };
 
     fn answer(&mut self, kept: &[u8], out: &mut Vec<u8>) -> Result<(), AllocError> {
