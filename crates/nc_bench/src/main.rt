@@ -1,11 +1,11 @@
 //! How fast vetting is: `nc_bench FILE ADDRESS ROUNDS [KIND [BUNDLES]]`.
 //!
 //! The first bundles of the file (all of it, if none are named) are vetted as a chunk at that address (hexadecimal), again
-//! and again, and the time of the best round is printed. A small chunk is vetted many times in a round. Only `vet` and the
-//! dropping of its answer are timed. KIND says what is vetted:
+//! and again, and the time of the best round is printed. Of a small chunk many copies are vetted in a round. Only `vet` is
+//! timed. KIND says what is vetted:
 //! - `accepted` (what is measured where none is named): the bundles, with nops for each direct transfer to a bad target;
-//! - `stuck`: the same, but that the last bundle is nops and ends with a byte that isn't permitted;
-//! - `astray`: the same, but that the last bundle is nops and ends with a jump to a bad target.
+//! - `stuck`: the same, except that the last bundle is nops and ends with a byte that isn't permitted;
+//! - `astray`: the same, except that the last bundle is nops and ends with a jump to a bad target.
 //!
 //! Without the first three words it says how to call it.
 #![tactic(auto)]
@@ -30,6 +30,7 @@ const BUNDLE: usize = 32;
 
 /// The last bytes of a chunk that is stuck there, and of one that goes astray there.
 const STUCK: [u8; 2] = [NOP, 0xC3];
+
 const ASTRAY: [u8; 2] = [0xEB, 0xFF];
 
 /// What is measured.
@@ -102,23 +103,34 @@ fn end_with(code: &mut [u8], last: [u8; 2]) {
     }
 }
 
-/// Vets copies of the code until a round's bytes are used up, with the time that only that takes.
-fn vet_round(rt: &HostRuntime, task: &Task) -> io::Result<Round> {
-    let mut chunks = Vec::new(rt.alloc());
-    let count = (ROUND / task.code.len().max(1)).max(1);
+/// Copies of the code, for one round.
+fn chunks(alloc: Global, code: &[u8]) -> io::Result<Vec<Vec<u8>>> {
+    let count = (ROUND / code.len().max(1)).max(1);
+    let mut chunks = Vec::with_capacity(alloc, count)?;
     for _ in 0..count {
-        chunks.push(copy(rt.alloc(), &task.code)?)?;
+        chunks.push(copy(alloc, code)?)?;
     }
-    let mut accepted = 0usize;
+    Ok(chunks)
+}
+
+/// Vets copies of the code, and takes the time of that and of nothing else.
+fn vet_round(rt: &HostRuntime, task: &Task) -> io::Result<Round> {
+    let chunks = chunks(rt.alloc(), &task.code)?;
+    let count = chunks.len();
+    let mut verdicts = Vec::with_capacity(rt.alloc(), count)?;
     let start = Instant::now(rt)?;
     for code in chunks {
-        if vet(task.base, LIMIT, code).is_ok() {
+        verdicts.push(vet(task.base, LIMIT, code))?;
+    }
+    let took = start.elapsed(rt)?;
+    let mut accepted = 0usize;
+    for verdict in &verdicts {
+        if verdict.is_ok() {
             accepted = accepted.saturating_add(1);
         }
     }
-    let took = start.elapsed(rt)?;
     Ok(Round {
-        took: took / u32::try_from(count).unwrap_or(1),
+        took: took / u32::try_from(count).unwrap_or(1).max(1),
         accepted,
     })
 }
@@ -188,6 +200,8 @@ fn asked(rt: &HostRuntime) -> io::Result<Option<Task>> {
 fn main(rt: HostRuntime) -> io::Result<()> {
     match asked(&rt)? {
         Some(task) => measure(&rt, &task),
-        None => println!(rt; "usage: nc_bench FILE ADDRESS ROUNDS [accepted|stuck|astray [BUNDLES]]"),
+        None => println!(rt;
+            "usage: nc_bench FILE ADDRESS ROUNDS [accepted|stuck|astray [BUNDLES]]"
+        ),
     }
 }

@@ -140,11 +140,13 @@ pub(crate) fn read_bundles(alloc: Global, code: &[u8]) -> Option<Front>
     while bundles.len() + LANES <= count {
         let more = eight(code, 32 * bundles.len());
         let whole = whole_front(&more);
-        bundles.extend_from_slice(&more[..whole]).ok()?;
         if whole < LANES {
+            bundles.extend_from_slice(&more[..whole]).ok()?;
             let end = last_end(code, 32 * bundles.len(), more[whole].ends);
             return Some(Front { bundles, end });
         }
+        // All eight, whose number is known here, are copied without a call.
+        bundles.extend_from_slice(&more).ok()?;
     }
     while bundles.len() < count {
         let more = four(code, 32 * bundles.len());

@@ -1,6 +1,6 @@
-use Rattle.std.proofs.Common.{rules, arith, sym, ap, ◌∙◌, length, ◌≡◌, ◌≤◌, ◌+◌, ◌*◌, ◌++◌, take, get_or}
+use Rattle.std.proofs.Common.{rules, arith, sym, ap, ◌∙◌, List, length, ◌≡◌, ◌≤◌, ◌+◌, ◌*◌, ◌++◌, take, get_or}
 use Rattle.std.specs.Int.{bit_at}
-use Rattle.std.proofs.lemmas.List.{get_or-take, length-take}
+use Rattle.std.proofs.lemmas.List.{get_or-take, length-take, take_all}
 use Rattle.nc_vet.specs.declared.bundle.Bundle.{Bundle}
 use Rattle.nc_vet.specs.Bits.{no_bits}
 use Rattle.nc_vet.proofs.RunStates.{told_more, moved, stopped}
@@ -22,13 +22,16 @@ returns-then-whole-lt-LANES c =
 
 pub loop-bundles-preserved : goal.loop-bundles-preserved
 loop-bundles-preserved c =
-    let items : c.extend_from_slice.new.self.items ≡ c.loop-bundles.bundles.items ++ take c.whole_front-whole.result c.eight-more.result = search (rules, c.extend_from_slice.ensures.items) in
     let eight : length c.eight-more.result ≡ 8 = search rules in
-    let w = told_more c.args.code.now c.loop-bundles.bundles.items c.eight-more.result c.extend_from_slice.new.self.items c.whole_front-whole.result c.loop-bundles.invariant.told items (omega (arith, eight, c.whole_front-whole.ensures.within))
-    (λ n lt. moved c.args.code.now _ _ _ (omega (arith, c.len-in-loop-bundles.ensures, c.loop-bundles.bundles.ok.0)) (c.eight-more.ensures n (omega (arith, lt, eight, c.whole_front-whole.ensures.within))))
-    c.whole_front-whole.ensures.whole in
+    let all : c.whole_front-whole.result ≡ 8 = omega (arith, eight, c.whole_front-whole.ensures.within, c.if-whole-lt-LANES.false) in
+    let items : c.extend_from_slice-in-loop-bundles.new.self.items ≡ c.loop-bundles.bundles.items ++ c.eight-more.result = search (rules, c.extend_from_slice-in-loop-bundles.ensures.items) in
+    let taken : c.extend_from_slice-in-loop-bundles.new.self.items ≡ c.loop-bundles.bundles.items ++ take c.whole_front-whole.result c.eight-more.result =
+    items ∙ ap (λ (z : List Bundle). c.loop-bundles.bundles.items ++ z) (sym (take_all c.whole_front-whole.result c.eight-more.result (omega (arith, eight, all)))) in
+    let w = told_more c.args.code.now c.loop-bundles.bundles.items c.eight-more.result c.extend_from_slice-in-loop-bundles.new.self.items c.whole_front-whole.result c.loop-bundles.invariant.told taken (omega (arith, eight, all))
+        (λ n lt. moved c.args.code.now _ _ _ (omega (arith, c.len-in-loop-bundles.ensures, c.loop-bundles.bundles.ok.0)) (c.eight-more.ensures n (omega (arith, lt, all))))
+        c.whole_front-whole.ensures.whole in
     record {
-      within = omega (arith, w.1, eight, c.whole_front-whole.ensures.within, c.extend_from_slice.new.self.ok.0, c.loop-bundles.bundles.ok.0, c.loop-bundles-test.true, c.len.ensures);
+      within = omega (arith, w.1, all, c.extend_from_slice-in-loop-bundles.new.self.ok.0, c.loop-bundles.bundles.ok.0, c.loop-bundles-test.true, c.len.ensures);
       told = w.0;
     }
 
