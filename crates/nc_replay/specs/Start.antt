@@ -1,7 +1,7 @@
 -- What the program has done.
 use Rattle.std.specs.Prelude.{◌≢◌, ◌⊎◌, ℕ, List, Option, Result, Ok, Err, OnOk, IfErr, IfSome, IsErrOf, ⊤}
 use Rattle.std.specs.Io.KnownBytes.{Consumes, IsAtEnd}
-use Rattle.nc_work.specs.Verdicts.{IsStaff}
+use Rattle.nc_work.specs.Verdicts.{AreWorkers}
 use Rattle.nc_replay.specs.declared.asked.Ask.{Ask}
 use Rattle.nc_replay.specs.declared.asked.Ask.TheVariants.{Replay, Vet}
 use Rattle.nc_replay.specs.declared.fault.ReplayFault.{ReplayFault}
@@ -17,7 +17,7 @@ use Rattle.nc_replay.specs.Vetting.{HasVetted, HasBegunVetted}
 -- the numbers that are asked for are those of a region, of seats, of workers
 abbrev pub IsInRange : Ask → Type 0
 IsInRange (Replay bundles seats) = IsSize bundles × AreSeats seats
-IsInRange (Vet bundles workers) = IsSize bundles × IsStaff workers
+IsInRange (Vet bundles workers) = IsSize bundles × AreWorkers workers
 
 -- what holds where the program stopped at its command line
 abbrev pub IfWords : {T : Type 0} → Result T Halt → Type 0 → Type 0
@@ -48,7 +48,7 @@ pub record HasVettedLines {T : Type 0} (unwritten : Type 0) (input left before a
   pub bundles : ℕ
   pub workers : ℕ
   pub size : IsSize bundles
-  pub workers_in_range : IsStaff workers
+  pub workers_in_range : AreWorkers workers
   pub ok : OnOk outcome (IfSome input (λ bytes. HasVetted (limit_for bundles) before after (lines_of bytes)))
   pub read : OnOk outcome (IsAtEnd left)
   pub write_failed : IsErrOf outcome WriteFailed → IfSome input (λ bytes. HasBegunVetted (limit_for bundles) before after (lines_of bytes))
