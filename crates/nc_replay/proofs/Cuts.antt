@@ -1,8 +1,10 @@
 -- Lines of bytes that are cut at their ends, and what is kept of a line.
-use Rattle.std.proofs.Common.{◌≡◌, ◌≢◌, ◌++◌, ◌+◌, ◌<◌, ◌≤◌, ℕ, Bool, true, false, eqb, cond, List, [], ◌∷◌, length, take, refl, sym, ap, ◌∙◌, append_assoc, append-nil, arith}
+use Rattle.std.proofs.Common.{◌≡◌, ◌≢◌, ◌++◌, ◌+◌, ◌<◌, ◌≤◌, ◌-◌, min, ℕ, Bool, true, false, eqb, cond, List, [], ◌∷◌, length, take, refl, sym, ap, ◌∙◌, append_assoc, append-nil, arith}
 use Rattle.std.proofs.lemmas.Bool.Decides.{eqb_tells}
 use Rattle.std.proofs.Common.{⊎_elim}
-use Rattle.std.proofs.lemmas.List.{take_all, take-append-le, length-take, length-append}
+use Rattle.std.proofs.Math.Seq.{take-append-add}
+use Rattle.std.proofs.lemmas.Bool.{cases_lt}
+use Rattle.std.proofs.lemmas.List.{take_all, take-append-le, length-take, length-take-le, length-append}
 use Rattle.std.specs.List.{flat_map}
 use Rattle.nc_replay.specs.Lines.{onto_line, lines_of, onto_ended, ended_lines}
 use Rattle.nc_replay.specs.Progress.{IsOpen, AreOpen, ended}
@@ -90,6 +92,11 @@ pub IsOpen-push : (part : List ℕ) (b : ℕ) → IsOpen part → b ≢ 10 → I
 IsOpen-push [] b h ne = (ne, tt)
 IsOpen-push (c ∷ part) b h ne = (h.0, IsOpen-push part b h.1 ne)
 
+-- a part goes on by bytes of which none is an end
+pub IsOpen-append : (part more : List ℕ) → IsOpen part → IsOpen more → IsOpen (part ++ more)
+IsOpen-append [] more h o = o
+IsOpen-append (c ∷ part) more h o = (h.0, IsOpen-append part more h.1 o)
+
 -- lines go on by one more
 pub AreOpen-push : (lines : List (List ℕ)) (line : List ℕ) → AreOpen lines → IsOpen line → AreOpen (lines ++ line ∷ [])
 AreOpen-push [] line h o = (o, tt)
@@ -133,18 +140,29 @@ kept_is_short = kept_fits
 pub kept_is_long : (n : ℕ) (kept part : List ℕ) → kept ≡ take (n + 1) part → n < length kept → n < length part
 kept_is_long n kept part e l = omega (arith, ap length e ∙ length-take (n + 1) part)
 
--- what is kept goes on by a byte
-pub kept_push : (n : ℕ) (kept part : List ℕ) (b : ℕ) → kept ≡ take (n + 1) part → length kept ≤ n → kept ++ b ∷ [] ≡ take (n + 1) (part ++ b ∷ [])
-kept_push n kept part b e l =
-    let fits = kept_fits n kept part e l in
-    ap (λ (xs : List ℕ). xs ++ b ∷ []) (kept_is_all n kept part e l)
-    ∙ sym (take_all (n + 1) (part ++ b ∷ []) (omega (arith, length-append part (b ∷ []))))
+-- no more bytes are taken than there are
+take-min : (k : ℕ) (xs : List ℕ) → take (min k (length xs)) xs ≡ take k xs
+take-min k xs = ⊎_elim
+    (λ (l : k < length xs). ap (λ (n : ℕ). take n xs) (omega arith))
+    (λ (l : length xs ≤ k). take_all (min k (length xs)) xs (omega arith) ∙ sym (take_all k xs l))
+    (cases_lt k (length xs))
 
--- what is kept of a long part stays as it is
-pub kept_full : (n : ℕ) (kept part : List ℕ) (b : ℕ) → kept ≡ take (n + 1) part → n < length kept → kept ≡ take (n + 1) (part ++ b ∷ [])
-kept_full n kept part b e l =
-    let long = kept_is_long n kept part e l in
-    e ∙ sym (take-append-le (n + 1) part (b ∷ []) (omega arith))
+-- what is kept goes on by as many bytes as there is room for
+pub kept_append : (n : ℕ) (kept part more : List ℕ) (m : ℕ) → kept ≡ take n part → m ≡ min (n - length kept) (length more) → kept ++ take m more ≡ take n (part ++ more)
+kept_append n kept part more m e c =
+    ⊎_elim
+    (λ (long : n < length part).
+    let full : length kept ≡ n = ap length e ∙ length-take-le n part (omega arith) in
+    let none : m ≡ 0 = omega (arith, c) in
+    ap (λ (k : ℕ). kept ++ take k more) none ∙ append-nil kept ∙ e ∙ sym (take-append-le n part more (omega arith)))
+    (λ (short : length part ≤ n).
+    let whole : kept ≡ part = e ∙ take_all n part short in
+    let room : n - length kept ≡ n - length part = ap (λ (xs : List ℕ). n - length xs) whole in
+    let exact : length part + (n - length part) ≡ n = omega arith in
+    ap (λ (k : ℕ). kept ++ take k more) c ∙ ap (λ (xs : List ℕ). kept ++ xs) (take-min (n - length kept) more)
+    ∙ ap (λ (k : ℕ). kept ++ take k more) room ∙ ap (λ (xs : List ℕ). xs ++ take (n - length part) more) whole
+    ∙ sym (take-append-add part more (n - length part)) ∙ ap (λ (k : ℕ). take k (part ++ more)) exact)
+    (cases_lt n (length part))
 
 -- where some bytes are kept there are some
 pub kept_some : (n : ℕ) (kept part : List ℕ) → kept ≡ take (n + 1) part → 0 < length kept → 0 < length part

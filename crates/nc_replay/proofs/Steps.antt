@@ -1,40 +1,27 @@
 -- How a run answers on by a byte, by a line and at the end.
-use Rattle.std.proofs.Common.{◌≡◌, ◌≢◌, ◌++◌, ◌<◌, ◌≤◌, ℕ, List, [], ◌∷◌, Option, Result, Ok, Err, length, take, drop, refl, sym, ap, ◌∙◌, subst, append_assoc, append-nil, take-append-drop, arith}
+use Rattle.std.proofs.Common.{◌≡◌, ◌≢◌, ◌++◌, ◌<◌, ℕ, List, [], ◌∷◌, Option, Result, Ok, Err, length, take, drop, refl, sym, ap, ◌∙◌, subst, append_assoc, append-nil, take-append-drop, arith}
 use Rattle.std.specs.List.{flat_map}
 use Rattle.std.specs.Io.KnownBytes.{Appends, Keeps}
 use Rattle.std.proofs.KnownBytes.{Appends-trans, Appends-kept, Appends-nil}
-use Rattle.nc_replay.specs.Lines.{lines_of, ended_lines, line_limit}
+use Rattle.nc_replay.specs.Lines.{lines_of, ended_lines, kept_of}
 use Rattle.nc_replay.specs.Answering.{AnswersLines, IsAnswered, IsBegun, IsCutShort}
-use Rattle.nc_replay.specs.Progress.{ended, Stands, AnswersKept, Feeds, Finishes}
+use Rattle.nc_replay.specs.Progress.{IsOpen, ended, Stands, AnswersKept, Feeds, Finishes}
 use Rattle.nc_replay.specs.declared.fault.ReplayFault.{ReplayFault}
 use Rattle.nc_replay.specs.declared.fault.ReplayFault.TheVariants.{ReadFailed, WriteFailed, OutOfMemory, BadSize, BadSeats, BadWorkers}
-use Rattle.nc_replay.proofs.Cuts.{more_to_come, lines_of-some, lines_of-cut, lines_of-open, lines_of-next, last_line, ended_lines-cut, cut-ended, IsOpen-push, AreOpen-push, kept_push, kept_full}
+use Rattle.nc_replay.proofs.Cuts.{more_to_come, lines_of-some, lines_of-cut, lines_of-open, lines_of-next, last_line, ended_lines-cut, cut-ended, IsOpen-append, AreOpen-push}
 use Rattle.nc_replay.proofs.Answered.{runs_more}
 
 module _ {S : Type 0} (answers : S → List ℕ → List ℕ → S → Type 0) (start : S) (before : Option (List ℕ)) where
-  -- a byte that ends no line
-  pub stands_byte : (bytes : List ℕ) (now : S) (after : Option (List ℕ)) (kept : List ℕ) (b : ℕ) → Stands answers start before bytes now after kept → b ≢ 10 → length kept ≤ line_limit
-      → Stands answers start before (bytes ++ b ∷ []) now after (kept ++ b ∷ [])
-  stands_byte bytes now after kept b s ne short = record {
+  -- bytes of which none ends a line
+  pub stands_part : (bytes : List ℕ) (now : S) (after : Option (List ℕ)) (kept more new : List ℕ) (s : Stands answers start before bytes now after kept) → IsOpen more → new ≡ kept_of (s.part ++ more)
+      → Stands answers start before (bytes ++ more) now after new
+  stands_part bytes now after kept more new s no_end e = record {
     lines = s.lines;
-    part = s.part ++ b ∷ [];
-    split = ap (λ (xs : List ℕ). xs ++ b ∷ []) s.split ∙ append_assoc (flat_map ended s.lines) s.part (b ∷ []);
+    part = s.part ++ more;
+    split = ap (λ (xs : List ℕ). xs ++ more) s.split ∙ append_assoc (flat_map ended s.lines) s.part more;
     closed = s.closed;
-    open_part = IsOpen-push s.part b s.open_part ne;
-    is_kept = kept_push line_limit kept s.part b s.is_kept short;
-    answered = s.answered;
-  }
-
-  -- a byte of a line that is too long already
-  pub stands_long : (bytes : List ℕ) (now : S) (after : Option (List ℕ)) (kept : List ℕ) (b : ℕ) → Stands answers start before bytes now after kept → b ≢ 10 → line_limit < length kept
-      → Stands answers start before (bytes ++ b ∷ []) now after kept
-  stands_long bytes now after kept b s ne long = record {
-    lines = s.lines;
-    part = s.part ++ b ∷ [];
-    split = ap (λ (xs : List ℕ). xs ++ b ∷ []) s.split ∙ append_assoc (flat_map ended s.lines) s.part (b ∷ []);
-    closed = s.closed;
-    open_part = IsOpen-push s.part b s.open_part ne;
-    is_kept = kept_full line_limit kept s.part b s.is_kept long;
+    open_part = IsOpen-append s.part more s.open_part no_end;
+    is_kept = e;
     answered = s.answered;
   }
 

@@ -50,6 +50,11 @@ Feeds answers start before bytes now after kept (Err BadSize) = ⊥
 Feeds answers start before bytes now after kept (Err BadSeats) = ⊥
 Feeds answers start before bytes now after kept (Err BadWorkers) = ⊥
 
+-- The same after a call that takes some of the bytes, and says how many; on a failure, whatever bytes are still to come.
+abbrev pub FeedsPart : {S : Type 0} → (S → List ℕ → List ℕ → S → Type 0) → S → Option (List ℕ) → List ℕ → List ℕ → S → Option (List ℕ) → List ℕ → Result ℕ ReplayFault → Type 0
+FeedsPart answers start before bytes rest now after kept (Ok count) = Stands answers start before (bytes ++ take count rest) now after kept
+FeedsPart answers start before bytes rest now after kept (Err fault) = Feeds {T = Unit {0}} answers start before (bytes ++ rest) now after kept (Err fault)
+
 -- At the end of the bytes: all lines are answered.
 abbrev pub Finishes : {S T : Type 0} → (S → List ℕ → List ℕ → S → Type 0) → S → Option (List ℕ) → List ℕ → S → Option (List ℕ) → Result T ReplayFault → Type 0
 Finishes answers start before bytes now after (Ok _) = IsAnswered answers start now before after (lines_of bytes)

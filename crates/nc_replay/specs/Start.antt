@@ -3,7 +3,7 @@ use Rattle.std.specs.Prelude.{◌≢◌, ◌⊎◌, ℕ, List, Option, Result, O
 use Rattle.std.specs.Io.KnownBytes.{Consumes, IsAtEnd}
 use Rattle.nc_gens.specs.Seen.{AreSeats}
 use Rattle.nc_decode.specs.Bundles.{IsRegionSize, limit_after}
-use Rattle.nc_work.specs.Verdicts.{IsStaff}
+use Rattle.nc_work.specs.Verdicts.{AreWorkers}
 use Rattle.nc_replay.specs.declared.asked.Ask.{Ask}
 use Rattle.nc_replay.specs.declared.asked.Ask.TheVariants.{Replay, Vet}
 use Rattle.nc_replay.specs.declared.fault.ReplayFault.{ReplayFault}
@@ -19,7 +19,7 @@ use Rattle.nc_replay.specs.Vetting.{HasVetted, HasBegunVetted}
 -- the numbers that are asked for are those of a region, of seats, of workers
 abbrev pub IsInRange : Ask → Type 0
 IsInRange (Replay bundles seats) = IsRegionSize bundles × AreSeats seats
-IsInRange (Vet bundles workers) = IsRegionSize bundles × IsStaff workers
+IsInRange (Vet bundles workers) = IsRegionSize bundles × AreWorkers workers
 
 -- what holds where the program stopped at its command line
 abbrev pub IfWords : {T : Type 0} → Result T Halt → Type 0 → Type 0
@@ -50,7 +50,7 @@ pub record HasVettedLines {T : Type 0} (unwritten : Type 0) (input left before a
   pub bundles : ℕ
   pub workers : ℕ
   pub size : IsRegionSize bundles
-  pub workers_in_range : IsStaff workers
+  pub workers_in_range : AreWorkers workers
   pub ok : OnOk outcome (IfSome input (λ bytes. HasVetted (limit_after bundles) before after (lines_of bytes)))
   pub read : OnOk outcome (IsAtEnd left)
   pub write_failed : IsErrOf outcome WriteFailed → IfSome input (λ bytes. HasBegunVetted (limit_after bundles) before after (lines_of bytes))

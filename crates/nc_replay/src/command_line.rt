@@ -75,6 +75,7 @@ fn vet_command<'a>(alloc: Global) -> Result<Command<'a>, AllocError> {
 /// The whole command line, without the program's own name.
 fn program<'a>(alloc: Global) -> Result<Command<'a>, AllocError> {
     Command::new(alloc, "nc_replay")
+        .bin_name("nc_replay")?
         .version("0.1.0")
         .about("Validator and code region for untrusted 32-bit x86 code")
         .no_binary_name(true)

@@ -1,8 +1,8 @@
 //! Bytes gathered into lines, each answered as it ends. No more is kept of a line than shows that it is too long.
 
-ghost use Rattle.std.specs.Prelude.{◌≡◌, ◌++◌, ◌∷◌, [], ℕ, List, Option, OnOk};
+ghost use Rattle.std.specs.Prelude.{◌≡◌, ◌++◌, ◌<◌, ◌≤◌, ℕ, List, Option, OnOk, IfOk, length, take, slice_index};
 ghost use Rattle.nc_replay.specs.Lines.{kept_of};
-ghost use Rattle.nc_replay.specs.Progress.{AnswersKept, Stands, Feeds};
+ghost use Rattle.nc_replay.specs.Progress.{AnswersKept, IsOpen, Stands, FeedsPart, Feeds};
 
 use crate::fault::ReplayFault;
 use crate::output::write_out;
@@ -36,27 +36,55 @@ pub(crate) fn answer_line<S: Responder, W: Write>(
     Ok(())
 }
 
-/// Takes the next byte, and answers the line if the byte ends it.
-fn feed_byte<S: Responder, W: Write>(
+/// The place of the first end of a line, or how many bytes there are if none of them is one.
+fn first_end(bytes: &[u8]) -> usize
+    ensures within { result ≤ length bytes.now }
+    ensures open { IsOpen (take result bytes.now) }
+    ensures end { result < length bytes.now → slice_index bytes.now result ≡ 10 }
+{
+    for i in 0..bytes.len() {
+        if bytes[i] == b'\n' {
+            return i;
+        }
+    }
+    bytes.len()
+}
+
+/// Adds what is to be kept of more bytes of a line.
+fn keep(line: &mut Vec<u8>, part: &[u8]) -> Result<(), AllocError>
+    ensures { OnOk result ((whole : List ℕ) → line.old.items ≡ kept_of whole → line.new.items ≡ kept_of (whole ++ part.now)) }
+{
+    let room = (LINE_LIMIT + 1).saturating_sub(line.len());
+    let count = room.min(part.len());
+    line.extend_from_slice(&part[..count])
+}
+
+/// Takes the next bytes up to the first end of a line, or all of them, and answers the line if it has ended. The answer
+/// is how many bytes were taken.
+fn feed_part<S: Responder, W: Write>(
     alloc: Global,
     responder: &mut S,
     writer: &mut W,
     line: &mut Vec<u8>,
-    byte: u8,
-) -> Result<(), ReplayFault>
-    ensures { (start : S) (before : Option (List ℕ)) (bytes : List ℕ)
+    rest: &[u8],
+) -> Result<usize, ReplayFault>
+    requires { 0 < length rest.now }
+    ensures count { IfOk result (λ count. (0 < count) × (count ≤ length rest.now)) }
+    ensures feeds { (start : S) (before : Option (List ℕ)) (bytes : List ℕ)
         → Stands S.answers start before bytes responder.old (W.contents writer.old) line.old.items
-        → Feeds S.answers start before (bytes ++ byte ∷ []) responder.new (W.contents writer.new) line.new.items result }
+        → FeedsPart S.answers start before bytes rest.now responder.new (W.contents writer.new) line.new.items result }
 {
-    if byte == b'\n' {
-        return answer_line(alloc, responder, writer, line);
+    let end = first_end(rest);
+    match keep(line, &rest[..end]) {
+        Ok(()) => {}
+        Err(_) => return Err(ReplayFault::OutOfMemory),
     }
-    if line.len() > LINE_LIMIT {
-        return Ok(());
+    if end == rest.len() {
+        return Ok(end);
     }
-    match line.push(byte) {
-        Ok(()) => Ok(()),
-        Err(_) => Err(ReplayFault::OutOfMemory),
+    match answer_line(alloc, responder, writer, line) {
+        Ok(()) => Ok(end + 1),
+        Err(fault) => Err(fault),
     }
 }
 
@@ -72,9 +100,10 @@ pub(crate) fn feed<S: Responder, W: Write>(
         → Stands S.answers start before bytes responder.old (W.contents writer.old) line.old.items
         → Feeds S.answers start before (bytes ++ piece.now) responder.new (W.contents writer.new) line.new.items result }
 {
-    for byte in piece {
-        match feed_byte(alloc, responder, writer, line, *byte) {
-            Ok(()) => {}
+    let mut rest = piece;
+    while !rest.is_empty() {
+        match feed_part(alloc, responder, writer, line, rest) {
+            Ok(count) => rest = &rest[count..],
             Err(fault) => return Err(fault),
         }
     }

@@ -1,6 +1,6 @@
 //! Answers to a script's lines by the calls of a region.
 
-ghost use Rattle.std.specs.Prelude.{◌≡◌, ◌++◌, List, ℕ, OnOk, IfOk};
+ghost use Rattle.std.specs.Prelude.{◌≡◌, ◌++◌, List, ℕ, OnOk, IfOk, ◌↔◌, ◌⊎◌, ◌<◌};
 ghost use Rattle.nc_replay.specs.Commands.{Create, Walk, Dump};
 ghost use Rattle.nc_replay.specs.Answers.{AnswersOnly, Serves, ServesOnly, new_script};
 ghost use Rattle.nc_replay.specs.Session.{script_of};

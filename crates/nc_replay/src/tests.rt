@@ -1,5 +1,6 @@
 mod fakes;
 mod filled;
+mod long;
 mod program;
 mod script;
 mod stream;

@@ -3,7 +3,7 @@
 ghost use Rattle.std.specs.Prelude.{◌≡◌, ◌≢◌, ◌↔◌, ◌⊎◌, OnOk, IfErr, IfSome, IsErrOf};
 ghost use Rattle.std.specs.Io.KnownBytes.{IsAtEnd};
 ghost use Rattle.nc_decode.specs.Bundles.{IsRegionSize, limit_after};
-ghost use Rattle.nc_work.specs.Verdicts.{IsStaff};
+ghost use Rattle.nc_work.specs.Verdicts.{AreWorkers};
 ghost use Rattle.nc_replay.specs.Lines.{lines_of};
 ghost use Rattle.nc_replay.specs.Vetting.{HasVetted, HasBegunVetted};
 ghost use Rattle.nc_replay.specs.Batch.{HasGathered};
@@ -37,9 +37,9 @@ pub fn vet_lines<R: Read, W: Write, G: Gate, T: Threads + Wait + Sync>(
 ) -> Result<(), ReplayFault>
     // The two numbers are tested first, in this order, before anything is read or written.
     ensures bad_size { IsErrOf result ReplayFault.BadSize ↔ ¬ IsRegionSize bundles }
-    ensures bad_workers { IsErrOf result ReplayFault.BadWorkers ↔ (IsRegionSize bundles × ¬ IsStaff workers) }
+    ensures bad_workers { IsErrOf result ReplayFault.BadWorkers ↔ (IsRegionSize bundles × ¬ AreWorkers workers) }
     ensures no_seats { IfErr result (λ fault. fault ≢ ReplayFault.BadSeats) }
-    ensures untouched { ¬ (IsRegionSize bundles × IsStaff workers) → (reader.new ≡ reader.old) × (writer.new ≡ writer.old) }
+    ensures untouched { ¬ (IsRegionSize bundles × AreWorkers workers) → (reader.new ≡ reader.old) × (writer.new ≡ writer.old) }
 
     // The whole input was read, and exactly its verdicts were written.
     ensures ok { OnOk result (IfSome (R.remaining reader.old) (λ input.

@@ -1,4 +1,4 @@
--- Answers on jobs, and the places where they are put: machinery of the proofs, cited by no public contract.
+-- Machinery: answers on jobs, and the places where they are put. No public contract cites it.
 use Rattle.std.specs.Prelude.{◌≡◌, ℕ, List, All, slice_get, slice_index_or, Option, Some, None, Result, Ok, Err, ⊤}
 use Rattle.std.specs.Global.{Vec}
 use Rattle.nc_vet.specs.declared.marks.Marks.{Marks}

@@ -11,5 +11,5 @@ abbrev pub IsVerdictOn : Job → Result MarkedChunk (Vec ℕ × VetFault) → Ty
 IsVerdictOn job verdict = IsVerdict job.base job.limit job.code verdict
 
 -- the numbers of workers that are allowed
-abbrev pub IsStaff : ℕ → Type 0
-IsStaff workers = (1 ≤ workers) × (workers ≤ 16)
+abbrev pub AreWorkers : ℕ → Type 0
+AreWorkers workers = (1 ≤ workers) × (workers ≤ 16)

@@ -9,23 +9,23 @@ use std::alloc::{AllocError, Global};
 /// Room for what each worker answers, for the answers in the jobs' order, and for the verdicts.
 #[derive(Drop)]
 pub struct Room {
-    pub hands: Vec<Vec<Done>>,
+    pub lists: Vec<Vec<Done>>,
     pub answers: Vec<Option<Answer>>,
     pub verdicts: Vec<Verdict>,
 }
 
 /// A list for each worker. A worker's share is the jobs split evenly; it may do twice as many, and all others together
 /// can then do the rest.
-fn make_hands(alloc: Global, jobs: usize, workers: usize) -> Result<Vec<Vec<Done>>, AllocError>
-    ensures { IfOk result (λ v. All (λ h. h.items ≡ []) v.items) }
+fn make_lists(alloc: Global, jobs: usize, workers: usize) -> Result<Vec<Vec<Done>>, AllocError>
+    ensures { IfOk result (λ v. All (λ list. list.items ≡ []) v.items) }
 {
     let count = workers.min(jobs).max(1);
     let room = jobs.div_ceil(count).saturating_mul(2).min(jobs);
-    let mut hands = Vec::with_capacity(alloc, count)?;
+    let mut lists = Vec::with_capacity(alloc, count)?;
     for _ in 0..count {
-        hands.push(Vec::with_capacity(alloc, room)?)?;
+        lists.push(Vec::with_capacity(alloc, room)?)?;
     }
-    Ok(hands)
+    Ok(lists)
 }
 
 /// A place for each job's answer.
@@ -43,12 +43,12 @@ fn make_answers(alloc: Global, jobs: usize) -> Result<Vec<Option<Answer>>, Alloc
 impl Room {
     /// Room for so many jobs and workers.
     pub fn new(alloc: Global, jobs: usize, workers: usize) -> Result<Room, AllocError>
-        ensures hands { IfOk result (λ r. All (λ h. h.items ≡ []) r.hands.items) }
+        ensures lists { IfOk result (λ r. All (λ list. list.items ≡ []) r.lists.items) }
         ensures answers { IfOk result (λ r. (vec_len r.answers ≡ jobs) × All (λ a. a ≡ None) r.answers.items) }
         ensures verdicts { IfOk result (λ r. (r.verdicts.items ≡ []) × (vec_capacity r.verdicts ≡ jobs)) }
     {
         Ok(Room {
-            hands: make_hands(alloc, jobs, workers)?,
+            lists: make_lists(alloc, jobs, workers)?,
             answers: make_answers(alloc, jobs)?,
             verdicts: Vec::with_capacity(alloc, jobs)?,
         })

@@ -3,7 +3,7 @@
 ghost use Rattle.std.specs.Prelude.{◌≡◌, ◌↔◌, [], All, Some, length, vec_len, vec_capacity, IfOk, IfErr, Err};
 ghost use Rattle.std.specs.List.{AllZip};
 ghost use Rattle.std.specs.Option.{ForSome};
-ghost use Rattle.nc_work.specs.Verdicts.{IsVerdictOn, IsStaff};
+ghost use Rattle.nc_work.specs.Verdicts.{IsVerdictOn, AreWorkers};
 ghost use Rattle.nc_work.specs.Answers.{IsJudged, FitsPlace, AreDone, AreAnswers};
 
 use crate::fault::WorkFault;
@@ -20,15 +20,15 @@ use std::thread::{Threads, for_each_mut};
 const MOST: u32 = 16;
 
 /// Judges jobs by as many workers as there are lists. Each worker begins with the job of its own number.
-fn work_all<G: Gate, T: Threads + Sync>(rt: &T, jobs: &[Job], hands: &mut [Vec<Done>], gate: &G)
-    requires { All (λ h. AreDone jobs.now h.items) hands.old }
-    ensures { All (λ h. AreDone jobs.now h.items) hands.new }
+fn work_all<G: Gate, T: Threads + Sync>(rt: &T, jobs: &[Job], lists: &mut [Vec<Done>], gate: &G)
+    requires { All (λ list. AreDone jobs.now list.items) lists.old }
+    ensures { All (λ list. AreDone jobs.now list.items) lists.new }
 {
-    let count = hands.len();
+    let count = lists.len();
     let next = AtomicUsize::new(count);
     for_each_mut(
         rt,
-        hands,
+        lists,
         count.max(1),
         &|own: usize, done: &mut Vec<Done>|
             requires { AreDone jobs.now done.old.items }
@@ -63,13 +63,13 @@ fn put_all(jobs: &[Job], done: Vec<Done>, answers: &mut [Option<Answer>])
 }
 
 /// Puts what all workers answered into its places.
-fn gather(jobs: &[Job], hands: Vec<Vec<Done>>, answers: &mut [Option<Answer>])
-    requires hands { All (λ h. AreDone jobs.now h.items) hands.items }
+fn gather(jobs: &[Job], lists: Vec<Vec<Done>>, answers: &mut [Option<Answer>])
+    requires lists { All (λ list. AreDone jobs.now list.items) lists.items }
     requires answers { AreAnswers jobs.now answers.old }
     ensures len { length answers.new ≡ length answers.old }
     ensures answers { AreAnswers jobs.now answers.new }
 {
-    for done in hands {
+    for done in lists {
         put_all(jobs, done, answers);
     }
 }
@@ -132,7 +132,7 @@ pub fn vet_all<G: Gate, T: Threads + Wait + Sync>(
 ) -> Result<Vec<Verdict>, (Vec<Job>, WorkFault)>
     ensures verdicts { IfOk result (λ v. AllZip IsVerdictOn jobs.items v.items) }
     ensures given_back { IfErr result (λ e. e.0 ≡ jobs) }
-    ensures bad_workers { (result ≡ Err (jobs, WorkFault.BadWorkers)) ↔ ¬ IsStaff workers }
+    ensures bad_workers { (result ≡ Err (jobs, WorkFault.BadWorkers)) ↔ ¬ AreWorkers workers }
 {
     if workers < 1 || MOST < workers {
         return Err((jobs, WorkFault::BadWorkers));
@@ -141,11 +141,11 @@ pub fn vet_all<G: Gate, T: Threads + Wait + Sync>(
         return Err((jobs, WorkFault::OutOfMemory));
     };
     let Room {
-        mut hands,
+        mut lists,
         mut answers,
         verdicts,
     } = room;
-    work_all(rt, &jobs, &mut hands, gate);
-    gather(&jobs, hands, &mut answers);
+    work_all(rt, &jobs, &mut lists, gate);
+    gather(&jobs, lists, &mut answers);
     Ok(conclude(jobs, &mut answers, verdicts, gate))
 }

@@ -1,40 +1,44 @@
-use Rattle.std.proofs.Common.{◌≡◌, ◌++◌, ◌+◌, ◌<◌, ℕ, List, [], ◌∷◌, Err, length, take, drop, get_or, sym, ap, ◌∙◌, subst, append_assoc, append-nil, take-append-drop, arith}
-use Rattle.std.proofs.lemmas.List.{take_more, take_all}
+use Rattle.std.proofs.Common.{◌≡◌, ◌++◌, ◌-◌, ℕ, List, [], Err, length, take, drop, refl, sym, ap, ◌∙◌, subst, append_assoc, append-nil, take-append-drop, rules}
+use Rattle.std.proofs.lemmas.List.{take_rest, drop_all}
 use Rattle.nc_replay.specs.Progress.{Stands, Feeds}
-use Rattle.nc_replay.proofs.Steps.{feeds_failed}
 use Rattle.nc_replay.proofs.lines.feed.Goals as goal
 
-one_more : (bytes piece : List ℕ) (i : ℕ) → i < length piece → (bytes ++ take i piece) ++ get_or piece i 0 ∷ [] ≡ bytes ++ take (i + 1) piece
-one_more bytes piece i l = append_assoc bytes (take i piece) (get_or piece i 0 ∷ []) ∙ ap (λ (xs : List ℕ). bytes ++ xs) (sym (take_more piece i 0 l))
+moves_front : (all done rest : List ℕ) (n : ℕ) → all ≡ done ++ rest → all ≡ (done ++ take n rest) ++ take (length rest - n) (drop n rest)
+moves_front all done rest n e =
+    e ∙ ap (λ (l : List ℕ). done ++ l) (sym (take-append-drop n rest)) ∙ sym (append_assoc done (take n rest) (drop n rest)) ∙ ap (λ (l : List ℕ). (done ++ take n rest) ++ l) (sym (take_rest rest n))
 
-all_again : (bytes piece : List ℕ) (i : ℕ) → (bytes ++ take i piece) ++ drop i piece ≡ bytes ++ piece
-all_again bytes piece i = append_assoc bytes (take i piece) (drop i piece) ∙ ap (λ (xs : List ℕ). bytes ++ xs) (take-append-drop i piece)
+pub loop-rest-init : goal.loop-rest-init
+loop-rest-init g c = (
+  [],
+  refl,
+  λ start before bytes s.
+      subst (λ (xs : List ℕ). Stands g.S.Responder.answers start before xs c.args.responder.now (g.W.Write.contents c.args.writer.now) c.args.line.now.items) (sym (append-nil bytes)) s,
+)
 
-pub loop-byte-init : goal.loop-byte-init
-loop-byte-init g c = λ start before bytes s.
-    subst (λ (xs : List ℕ). Stands g.S.Responder.answers start before xs c.args.responder.now (g.W.Write.contents c.args.writer.now) c.args.line.now.items) (sym (append-nil bytes)) s
-
-pub loop-byte-preserved : goal.loop-byte-preserved
-loop-byte-preserved g c = λ start before bytes s.
-    let piece = c.args.piece.now in
-    let i = c.loop-byte.byte-index in
-    subst (λ (xs : List ℕ). Stands g.S.Responder.answers start before xs c.feed_byte.new.responder (g.W.Write.contents c.feed_byte.new.writer) c.feed_byte.new.line.items) (one_more bytes piece i (omega arith))
-    (c.in-Ok.ensures start before (bytes ++ take i piece) (c.loop-byte.invariant start before bytes s))
+pub loop-rest-preserved : goal.loop-rest-preserved
+loop-rest-preserved g c =
+    let (done, split, so_far) = c.loop-rest.invariant in
+    let rest = c.loop-rest.rest.now in
+    let n = c.in-Ok.count in (
+      done ++ take n rest,
+      moves_front _ done rest n split,
+      λ start before bytes s.
+          subst (λ (xs : List ℕ). Stands g.S.Responder.answers start before xs c.feed_part.new.responder (g.W.Write.contents c.feed_part.new.writer) c.feed_part.new.line.items)
+          (append_assoc bytes done (take n rest)) (c.in-Ok.ensures.feeds start before (bytes ++ done) (so_far start before bytes s)),
+    )
 
 pub returns-in-Err : goal.returns-in-Err
 returns-in-Err g c = λ start before bytes s.
-    let piece = c.args.piece.now in
-    let i = c.loop-byte.byte-index in
-    let answers = g.S.Responder.answers in
-    let after = g.W.Write.contents c.feed_byte.new.writer in
-    let one = get_or piece i 0 ∷ [] in
-    subst (λ (xs : List ℕ). Feeds {T = Unit {0}} answers start before xs c.feed_byte.new.responder after c.feed_byte.new.line.items (Err c.in-Err.fault))
-    (ap (λ (xs : List ℕ). xs ++ drop (i + 1) piece) (one_more bytes piece i (omega arith)) ∙ all_again bytes piece (i + 1))
-    (feeds_failed (Unit {0}) answers start before ((bytes ++ take i piece) ++ get_or piece i 0 ∷ []) c.feed_byte.new.responder after c.feed_byte.new.line.items (drop (i + 1) piece) c.in-Err.fault
-    (c.in-Err.ensures start before (bytes ++ take i piece) (c.loop-byte.invariant start before bytes s)))
+    let (done, split, so_far) = c.loop-rest.invariant in
+    let rest = c.loop-rest.rest.now in
+    subst (λ (xs : List ℕ). Feeds {T = Unit {0}} g.S.Responder.answers start before xs c.feed_part.new.responder (g.W.Write.contents c.feed_part.new.writer) c.feed_part.new.line.items (Err c.in-Err.fault))
+    (append_assoc bytes done rest ∙ ap (λ (xs : List ℕ). bytes ++ xs) (sym split))
+    (c.in-Err.ensures.feeds start before (bytes ++ done) (so_far start before bytes s))
 
 pub returns : goal.returns
 returns g c = λ start before bytes s.
-    subst (λ (xs : List ℕ). Stands g.S.Responder.answers start before xs c.loop-byte.responder (g.W.Write.contents c.loop-byte.writer) c.loop-byte.line.items)
-    (ap (λ (xs : List ℕ). bytes ++ xs) (take_all c.loop-byte.byte-index c.args.piece.now (omega arith)))
-    (c.loop-byte.invariant start before bytes s)
+    let (done, split, so_far) = c.loop-rest.invariant in
+    let empty : c.loop-rest.rest.now ≡ [] = drop_all 0 c.loop-rest.rest.now (search rules) in
+    subst (λ (xs : List ℕ). Stands g.S.Responder.answers start before xs c.loop-rest.responder (g.W.Write.contents c.loop-rest.writer) c.loop-rest.line.items)
+    (ap (λ (xs : List ℕ). bytes ++ xs) (sym (split ∙ ap (λ (l : List ℕ). done ++ l) empty ∙ append-nil done)))
+    (so_far start before bytes s)

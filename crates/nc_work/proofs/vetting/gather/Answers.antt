@@ -9,9 +9,9 @@ use Rattle.nc_work.proofs.vetting.gather.Goals as goal
 pub put_all-requires-clause-done : goal.put_all-requires-clause-done
 put_all-requires-clause-done c =
     let P : Vec Done → Type 0 = λ h. AreDone c.args.jobs.now h.items in
-    All-head P c.in-Some.done _ (subst (λ (z : List (Vec Done)). All P z) c.in-Some.ensures.steps.0 c.loop-done.invariant.hands)
+    All-head P c.in-Some.done _ (subst (λ (z : List (Vec Done)). All P z) c.in-Some.ensures.steps.0 c.loop-done.invariant.lists)
 
 pub loop-done-preserved : goal.loop-done-preserved
 loop-done-preserved c =
     let P : Vec Done → Type 0 = λ h. AreDone c.args.jobs.now h.items in
-    record { hands = All-rest P c.in-Some.done _ _ c.in-Some.ensures.steps.0 c.loop-done.invariant.hands; answers = c.put_all.ensures.answers }
+    record { lists = All-rest P c.in-Some.done _ _ c.in-Some.ensures.steps.0 c.loop-done.invariant.lists; answers = c.put_all.ensures.answers }

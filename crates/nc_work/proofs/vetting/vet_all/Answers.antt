@@ -2,11 +2,11 @@ use Rattle.std.proofs.Common.{◌≡◌, List, subst, sym, ◌∙◌}
 use Rattle.std.specs.Prelude.{All}
 use Rattle.nc_work.specs.declared.job.Job.{Job}
 use Rattle.nc_work.specs.Answers.{AreDone}
-use Rattle.nc_work.proofs.Places.{hands_back}
+use Rattle.nc_work.proofs.Places.{lists_back}
 use Rattle.nc_work.proofs.vetting.vet_all.Goals as goal
 
-pub gather-requires-clause-hands : goal.gather-requires-clause-hands
-gather-requires-clause-hands g c =
+pub gather-requires-clause-lists : goal.gather-requires-clause-lists
+gather-requires-clause-lists g c =
     let same : c.deref.result.now ≡ c.deref-2.result.now = c.deref.ensures.value ∙ sym c.deref-2.ensures.value in
-    hands_back c.deref-2.result.now c.in-Ok.room.hands.items c.work_all.new.hands c.in-Ok.room.hands.len c.in-Ok.ensures.hands
-    (subst (λ (j : List Job). All (λ h. AreDone j h.items) c.work_all.new.hands) same c.work_all.ensures)
+    lists_back c.deref-2.result.now c.in-Ok.room.lists.items c.work_all.new.lists c.in-Ok.room.lists.len c.in-Ok.ensures.lists
+    (subst (λ (j : List Job). All (λ h. AreDone j h.items) c.work_all.new.lists) same c.work_all.ensures)
