@@ -1,5 +1,6 @@
 -- The rule of the words holds of a new table, and what the first passes are.
-use Rattle.std.proofs.Common.{◌≡◌, ℕ, zero, suc, ◌+◌, true, false, List, [], ◌∷◌, ◌++◌, All, length, replicate, get_or, sym, refl, ap, ◌∙◌, subst, inr, rules, arith, zero-le}
+use Rattle.std.proofs.Common.{◌≡◌, ℕ, zero, suc, ◌+◌, true, false, List, [], ◌∷◌, ◌++◌, All, length, replicate, get_or, sym, refl, ap}
+use Rattle.std.proofs.Common.{◌∙◌, subst, inr, rules, arith, zero-le}
 use Rattle.std.proofs.lemmas.List.Elements.{All-append}
 use mathlib.Core.Option.{some, some-injective, some-ne-none}
 use lib.ListN.{get_elem?, length-replicate}

@@ -1,5 +1,6 @@
 -- A pass goes from one view to another, and the rule of the words stays.
-use Rattle.std.proofs.Common.{◌≡◌, ◌≢◌, ℕ, ◌+◌, ◌<◌, ◌≤◌, true, false, List, length, set, sym, refl, slice_index, ap, ◌∙◌, subst, ⊎_elim, inl, inr, arith, le_refl, zero-le}
+use Rattle.std.proofs.Common.{◌≡◌, ◌≢◌, ℕ, ◌+◌, ◌<◌, ◌≤◌, true, false, List, length, set, sym, refl, slice_index, ap, ◌∙◌, subst, ⊎_elim}
+use Rattle.std.proofs.Common.{inl, inr, arith, le_refl, zero-le}
 use mathlib.Core.Logic.{dite}
 use native.Mathlib.Decide.{ℕ_discrete}
 use Rattle.atomic_table.specs.Table.{Splits, Joins}
@@ -7,7 +8,8 @@ use Rattle.atomic_table.proofs.Lists.{set_else}
 use Rattle.nc_gens.specs.declared.view.PassNumbers.{PassNumbers}
 use Rattle.nc_gens.specs.declared.view.KeeperNumbers.{KeeperNumbers}
 use Rattle.nc_gens.specs.declared.view.View.{View}
-use Rattle.nc_gens.specs.Rule.{FitsPass, FitsKeeper, Fits, HasKeeper, HasSeat, StandsAt, Ruled, given_one_more, new_pass_view, without_pass, without_keeper, with_pass_of, spent_view}
+use Rattle.nc_gens.specs.Rule.{FitsPass, FitsKeeper, Fits, HasKeeper, HasSeat, StandsAt, Ruled, given_one_more, new_pass_view}
+use Rattle.nc_gens.specs.Rule.{without_pass, without_keeper, with_pass_of, spent_view}
 use Rattle.nc_gens.proofs.Views.{views_stay, set_there, still_there, split_views_stay, split_still_there, added_there}
 
 -- the first number where P holds, and the second where it doesn't
@@ -38,7 +40,8 @@ by_else owner i at k other = go (ℕ_discrete k i)
     go (no _) = refl
 
 -- the numbers of a pass fit wherever its view is, if that owns the pass's word
-moved_pass : (words : List ℕ) (owner owner' : ℕ → ℕ) (at at' seat : ℕ) (p : PassNumbers) → owner' (seat + 1) ≡ at' → FitsPass words owner at seat p → FitsPass words owner' at' seat p
+moved_pass : (words : List ℕ) (owner owner' : ℕ → ℕ) (at at' seat : ℕ) (p : PassNumbers) → owner' (seat + 1) ≡ at'
+    → FitsPass words owner at seat p → FitsPass words owner' at' seat p
 moved_pass words owner owner' at at' seat p owns f = record { inside = f.inside; owns = owns; own_word = f.own_word; published = f.published; saw = f.saw; current = f.current }
 
 -- and so do the keeper's, if its view owns the generation and the words of the seats that are not given out
@@ -48,7 +51,8 @@ moved_keeper words owner owner' at at' given given' k owns not_given f =
     record { owns = owns; generation_is = f.generation_is; wide = f.wide; below = f.below; held_for_left = f.held_for_left; not_given = not_given }
 
 -- a view that doesn't own the word i still fits when another gets it
-others_fit : (words : List ℕ) (owner : ℕ → ℕ) (i at j : ℕ) (v : View) → 0 < i → owner i ≢ j → Fits words owner j v → Fits words (owned_by owner i at) j v
+others_fit : (words : List ℕ) (owner : ℕ → ℕ) (i at j : ℕ) (v : View) → 0 < i → owner i ≢ j → Fits words owner j v
+    → Fits words (owned_by owner i at) j v
 others_fit words owner i at j v high other f =
     let stays : (k : ℕ) → owner k ≡ j → owned_by owner i at k ≡ j = λ k e. by_else owner i at k (λ same. other (ap owner (sym same) ∙ e)) ∙ e in record {
       pass = λ h. let p = f.pass h in moved_pass words owner (owned_by owner i at) j j v.seat v.pass (stays (v.seat + 1) p.owns) p;
@@ -57,17 +61,20 @@ others_fit words owner i at j v high other f =
     }
 
 -- each seat is still there, once the seat i went to the view at a place
-seats_there : (vs : List View) (owner : ℕ → ℕ) (i at k : ℕ) → StandsAt vs at (HasSeat i) → (k ≢ i → StandsAt vs (owner (k + 1)) (HasSeat k)) → StandsAt vs (owned_by owner (i + 1) at (k + 1)) (HasSeat k)
+seats_there : (vs : List View) (owner : ℕ → ℕ) (i at k : ℕ) → StandsAt vs at (HasSeat i)
+    → (k ≢ i → StandsAt vs (owner (k + 1)) (HasSeat k)) → StandsAt vs (owned_by owner (i + 1) at (k + 1)) (HasSeat k)
 seats_there vs owner i at k here others = dite (ℕ_discrete k i)
     (λ e. subst (λ (z : ℕ). StandsAt vs z (HasSeat k)) (sym (by_here owner (i + 1) at (k + 1) (ap (λ (z : ℕ). z + 1) e))) (subst (λ (z : ℕ). StandsAt vs at (HasSeat z)) (sym e) here))
     (λ ne. subst (λ (z : ℕ). StandsAt vs z (HasSeat k)) (sym (by_else owner (i + 1) at (k + 1) (λ z. ne (omega arith)))) (others ne))
 
 -- and so is the keeper
-keeper_there : (vs : List View) (owner : ℕ → ℕ) (i at : ℕ) → StandsAt vs (owner 0) HasKeeper → StandsAt vs (owned_by owner (i + 1) at 0) HasKeeper
+keeper_there : (vs : List View) (owner : ℕ → ℕ) (i at : ℕ) → StandsAt vs (owner 0) HasKeeper
+    → StandsAt vs (owned_by owner (i + 1) at 0) HasKeeper
 keeper_there vs owner i at = subst (λ (z : ℕ). StandsAt vs z HasKeeper) (sym (by_else owner (i + 1) at 0 (λ z. omega arith)))
 
 -- the pass of a view goes to a new token
-pub passes_out : (id : ℕ) (v : View) → v.is_pass ≡ true → (v.is_keeper ≡ true → length v.keeper.bounds ≤ v.given) → Splits Ruled id v (without_pass v) (without_keeper v)
+pub passes_out : (id : ℕ) (v : View) → v.is_pass ≡ true → (v.is_keeper ≡ true → length v.keeper.bounds ≤ v.given)
+    → Splits Ruled id v (without_pass v) (without_keeper v)
 passes_out id v is all_given s r at =
     let f = r.each_view id v at in
     let p = f.pass is in
@@ -95,7 +102,8 @@ passes_out id v is all_given s r at =
     }
 
 -- a new pass comes from the keeper
-pub gives_pass : (id : ℕ) (v : View) → v.is_pass ≡ false → v.is_keeper ≡ true → v.given < length v.keeper.bounds → Splits Ruled id v (given_one_more v) (new_pass_view v)
+pub gives_pass : (id : ℕ) (v : View) → v.is_pass ≡ false → v.is_keeper ≡ true → v.given < length v.keeper.bounds
+    → Splits Ruled id v (given_one_more v) (new_pass_view v)
 gives_pass id v bare is room s r at =
     let q = (r.each_view id v at).keeper is in
     let i : ℕ = v.given + 1 in
@@ -124,7 +132,8 @@ gives_pass id v bare is room s r at =
     }
 
 -- the pass of another view goes into this one, which has none
-pub passes_in : (id : ℕ) (v : View) (other : ℕ) (w : View) → v.is_pass ≡ false → w.is_pass ≡ true → w.is_keeper ≡ false → Joins Ruled id v other w (with_pass_of v w) spent_view
+pub passes_in : (id : ℕ) (v : View) (other : ℕ) (w : View) → v.is_pass ≡ false → w.is_pass ≡ true → w.is_keeper ≡ false
+    → Joins Ruled id v other w (with_pass_of v w) spent_view
 passes_in id v other w bare is alone s r at apart there =
     let f = r.each_view id v at in
     let both : View = with_pass_of v w in

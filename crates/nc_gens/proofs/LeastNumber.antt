@@ -1,5 +1,6 @@
 -- The keeper's least number, found by going through the bounds from the front.
-use Rattle.std.proofs.Common.{◌≡◌, ◌≢◌, ℕ, zero, suc, ◌<◌, ◌≤◌, ◌==◌, not, min, Bool, true, false, cond, List, [], ◌∷◌, fold, length, get_or, refl, sym, eq-eqb, ap, ◌∙◌, subst, ne_eqb, le_trans, arith}
+use Rattle.std.proofs.Common.{◌≡◌, ◌≢◌, ℕ, zero, suc, ◌<◌, ◌≤◌, ◌==◌, not, min, Bool, true, false, cond, List, [], ◌∷◌, fold, length}
+use Rattle.std.proofs.Common.{get_or, refl, sym, eq-eqb, ap, ◌∙◌, subst, ne_eqb, le_trans, arith}
 use mathlib.Core.Logic.{dite}
 use native.Mathlib.Decide.{ℕ_discrete}
 use Rattle.nc_gens.specs.Rule.{left_word}
@@ -14,7 +15,8 @@ fold-staying : (a : ℕ) (bs : List ℕ) → fold min a (staying bs) ≡ fold lo
 fold-staying a [] = refl
 fold-staying a (b ∷ bs) = go (not (b == left_word)) (fold-staying (min a b) bs) (fold-staying a bs)
   where
-    go : (t : Bool) → fold min (min a b) (staying bs) ≡ fold lower (min a b) bs → fold min a (staying bs) ≡ fold lower a bs → fold min a (cond t (b ∷ staying bs) (staying bs)) ≡ fold lower (cond t (min a b) a) bs
+    go : (t : Bool) → fold min (min a b) (staying bs) ≡ fold lower (min a b) bs → fold min a (staying bs) ≡ fold lower a bs
+        → fold min a (cond t (b ∷ staying bs) (staying bs)) ≡ fold lower (cond t (min a b) a) bs
     go true counted _ = counted
     go false _ passed = passed
 

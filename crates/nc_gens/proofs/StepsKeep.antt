@@ -1,5 +1,6 @@
 -- Each kind of step keeps the rule of the words.
-use Rattle.std.proofs.Common.{◌≡◌, ◌≢◌, ℕ, ◌+◌, ◌-◌, ◌%◌, ◌^◌, ◌<◌, ◌≤◌, true, false, List, length, get_or, set, sym, refl, ap, ◌∙◌, subst, ⊎_elim, arith, le_refl, le_trans, length-set, get_or-set_other, get_or-set_same}
+use Rattle.std.proofs.Common.{◌≡◌, ◌≢◌, ℕ, ◌+◌, ◌-◌, ◌%◌, ◌^◌, ◌<◌, ◌≤◌, true, false, List, length, get_or, set, sym, refl, ap, ◌∙◌}
+use Rattle.std.proofs.Common.{subst, ⊎_elim, arith, le_refl, le_trans, length-set, get_or-set_other, get_or-set_same}
 use mathlib.Core.Logic.{dite}
 use mathlib.Core.Option.{none, some}
 use native.Mathlib.Decide.{ℕ_discrete}
@@ -8,7 +9,9 @@ use lib.Seq.{set-get_or}
 use Rattle.atomic_table.specs.Table.{State, step, keeps, stepped, Allows}
 use Rattle.nc_gens.specs.declared.view.PassNumbers.{PassNumbers}
 use Rattle.nc_gens.specs.declared.view.View.{View}
-use Rattle.nc_gens.specs.Rule.{left_word, last_generation, generation_taken, generation_seen, since_stored, left_stored, generation_raised, word_taken, FitsPass, Fits, HasKeeper, HasSeat, Ruled, Known, TakesGeneration, SeesGeneration, StoresSince, StoresLeft, AddsOne, TakesWord}
+use Rattle.nc_gens.specs.Rule.{left_word, last_generation, generation_taken, generation_seen, since_stored, left_stored}
+use Rattle.nc_gens.specs.Rule.{generation_raised, word_taken, FitsPass, Fits, HasKeeper, HasSeat, Ruled, Known, TakesGeneration}
+use Rattle.nc_gens.specs.Rule.{SeesGeneration, StoresSince, StoresLeft, AddsOne, TakesWord}
 use Rattle.nc_gens.proofs.Views.{views_stay, still_there}
 
 -- the table as the rule sees it
@@ -16,7 +19,8 @@ abbrev Words : Type 0
 Words = State (Unit {0}) View
 
 -- a load changes the view alone
-loaded : (s : Words) (r : Ruled s) (i id : ℕ) (me : Known) (w : View) → get_elem? s.views id ≡ some me.0 → (HasKeeper me.0 → HasKeeper w) → ((k : ℕ) → HasSeat k me.0 → HasSeat k w)
+loaded : (s : Words) (r : Ruled s) (i id : ℕ) (me : Known) (w : View) → get_elem? s.views id ≡ some me.0 → (HasKeeper me.0 → HasKeeper w)
+    → ((k : ℕ) → HasSeat k me.0 → HasSeat k w)
     → Fits s.words r.owner id w → Ruled (stepped s i (get_or s.words i 0) id me.1 w keeps)
 loaded s r i id me w at keeper seat fits = subst (λ (ws : List ℕ). Ruled record { words = ws; homes = s.homes; views = set s.views id w }) (sym (set-get_or s.words i 0)) record {
   owner = r.owner;
@@ -27,13 +31,15 @@ loaded s r i id me w at keeper seat fits = subst (λ (ws : List ℕ). Ruled reco
 }
 
 -- the numbers of a pass still fit where its word stays and the generation doesn't fall
-pass_fits : (old new : List ℕ) (owner : ℕ → ℕ) (at seat : ℕ) (p : PassNumbers) → length new ≡ length old → get_or new (seat + 1) 0 ≡ get_or old (seat + 1) 0 → get_or old 0 0 ≤ get_or new 0 0
+pass_fits : (old new : List ℕ) (owner : ℕ → ℕ) (at seat : ℕ) (p : PassNumbers) → length new ≡ length old
+    → get_or new (seat + 1) 0 ≡ get_or old (seat + 1) 0 → get_or old 0 0 ≤ get_or new 0 0
     → FitsPass old owner at seat p → FitsPass new owner at seat p
 pass_fits old new owner at seat p long same rises f =
     record { inside = let h = f.inside in omega arith; owns = f.owns; own_word = same ∙ f.own_word; published = f.published; saw = f.saw; current = le_trans f.current rises }
 
 -- a pass loads the generation, and takes it
-pub takes_generation : (slots id : ℕ) (me : Known) → me.0.is_pass ≡ true → Allows Ruled slots id me 0 (λ n. n) (TakesGeneration (step slots 0 0 0 none) me)
+pub takes_generation : (slots id : ℕ) (me : Known) → me.0.is_pass ≡ true
+    → Allows Ruled slots id me 0 (λ n. n) (TakesGeneration (step slots 0 0 0 none) me)
 takes_generation slots id me is s r _ at _ =
     let n : ℕ = get_or s.words 0 0 in
     let f = r.each_view id me.0 at in
@@ -57,7 +63,8 @@ takes_generation slots id me is s r _ at _ =
     )
 
 -- a pass loads the generation, and its `since` stays
-pub sees_generation : (slots id : ℕ) (me : Known) → me.0.is_pass ≡ true → Allows Ruled slots id me 0 (λ n. n) (SeesGeneration (step slots 0 0 0 none) me)
+pub sees_generation : (slots id : ℕ) (me : Known) → me.0.is_pass ≡ true
+    → Allows Ruled slots id me 0 (λ n. n) (SeesGeneration (step slots 0 0 0 none) me)
 sees_generation slots id me is s r _ at _ =
     let n : ℕ = get_or s.words 0 0 in
     let f = r.each_view id me.0 at in
@@ -74,7 +81,8 @@ sees_generation slots id me is s r _ at _ =
     )
 
 -- a pass stores x in its own word
-stores : (s : Words) (r : Ruled s) (id i x : ℕ) (me : Known) → get_elem? s.views id ≡ some me.0 → me.0.is_pass ≡ true → me.0.is_keeper ≡ false → me.0.seat + 1 ≡ i
+stores : (s : Words) (r : Ruled s) (id i x : ℕ) (me : Known) → get_elem? s.views id ≡ some me.0 → me.0.is_pass ≡ true
+    → me.0.is_keeper ≡ false → me.0.seat + 1 ≡ i
     → me.0.pass.word ≤ x → (x ≢ left_word → x ≤ me.0.pass.since) → me.0.pass.word ≢ left_word
     → Ruled (stepped s i x id me.1 (record me.0 { pass = record me.0.pass { word = x } }) keeps)
 stores s r id i x me at is apart here above below unheld =
@@ -126,7 +134,8 @@ stores s r id i x me at is apart here above below unheld =
     }
 
 -- a pass stores its `since`
-pub stores_since : (slots id i x : ℕ) (me : Known) → me.0.is_pass ≡ true → me.0.is_keeper ≡ false → me.0.seat + 1 ≡ i → x ≡ me.0.pass.since → me.0.pass.word ≤ x → x ≤ last_generation
+pub stores_since : (slots id i x : ℕ) (me : Known) → me.0.is_pass ≡ true → me.0.is_keeper ≡ false → me.0.seat + 1 ≡ i
+    → x ≡ me.0.pass.since → me.0.pass.word ≤ x → x ≤ last_generation
     → Allows Ruled slots id me i (λ _. x) (λ _. StoresSince (step slots i x 0 none) me x)
 stores_since slots id i x me is apart here same above small s r _ at _ = (
   record me.0 { pass = since_stored me.0.pass },
@@ -138,7 +147,8 @@ stores_since slots id i x me is apart here same above small s r _ at _ = (
 )
 
 -- a pass stores "left"
-pub stores_left : (slots id i x : ℕ) (me : Known) → me.0.is_pass ≡ true → me.0.is_keeper ≡ false → me.0.seat + 1 ≡ i → x ≡ left_word → me.0.pass.word ≤ last_generation
+pub stores_left : (slots id i x : ℕ) (me : Known) → me.0.is_pass ≡ true → me.0.is_keeper ≡ false → me.0.seat + 1 ≡ i → x ≡ left_word
+    → me.0.pass.word ≤ last_generation
     → Allows Ruled slots id me i (λ _. x) (λ _. StoresLeft (step slots i x 0 none) me x)
 stores_left slots id i x me is apart here same small s r _ at _ = (
   record me.0 { pass = left_stored me.0.pass },
@@ -195,7 +205,8 @@ adds_one slots id me is room s r _ at _ =
     )
 
 -- the word of a seat that hasn't left is at most the generation
-word_in_range : (s : Words) (r : Ruled s) (i : ℕ) → i + 1 < length s.words → get_or s.words (i + 1) 0 ≢ left_word → get_or s.words (i + 1) 0 ≤ get_or s.words 0 0
+word_in_range : (s : Words) (r : Ruled s) (i : ℕ) → i + 1 < length s.words → get_or s.words (i + 1) 0 ≢ left_word
+    → get_or s.words (i + 1) 0 ≤ get_or s.words 0 0
 word_in_range s r i inside ne =
     let has = r.has_seat i inside in
     let f = r.each_view (r.owner (i + 1)) has.0 has.1 in

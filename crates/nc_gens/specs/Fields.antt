@@ -38,4 +38,5 @@ pub record IsKeeper (a : keeper.Inside) : Type 0 where
   pub few : AreSeats (a.token.table_id.words - 1)
   pub counted : length a.token.me.0.keeper.looks ≡ length a.bounds.items
   pub in_range : a.generation ≤ last_generation
-  pub each_bound : (i : ℕ) → i < length a.bounds.items → slice_index a.bounds.items i ≢ left_word → slice_index a.bounds.items i ≤ a.generation
+  pub each_bound : (i : ℕ) → i < length a.bounds.items → slice_index a.bounds.items i ≢ left_word
+      → slice_index a.bounds.items i ≤ a.generation

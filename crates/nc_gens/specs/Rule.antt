@@ -1,5 +1,6 @@
 -- The rule of the words, and the five kinds of step on them.
--- Word 0 is the generation, and word i + 1 is the word of seat i. Who may step on the words has a token, and each token has a view: what it knows of them.
+-- Word 0 is the generation, and word i + 1 is the word of seat i. Who may step on the words has a token, and each token
+-- has a view: what it knows of them.
 use Rattle.std.specs.Prelude.{◌≡◌, ◌≢◌, ℕ, ◌+◌, ◌-◌, ◌<◌, ◌≤◌, ◌⊎◌, true, false, List, length, replicate, slice_index, slice_set}
 use mathlib.Core.Option.{some}
 use lib.ListN.{get_elem?}
@@ -49,7 +50,8 @@ first_pass_numbers = record { word = 0; since = 0; seen = 0; loads = 0 }
 abbrev pub first_keeper_numbers : ℕ → KeeperNumbers
 first_keeper_numbers seats = record { generation = 0; bounds = replicate seats 0; looks = replicate seats 0 }
 
--- What ties a view to the words. `at` is its place in the list of all views, and `owner` gives, for each word, the place of the one view that may store it.
+-- What ties a view to the words. `at` is its place in the list of all views, and `owner` gives, for each word, the
+-- place of the one view that may store it.
 
 module _ (words : List ℕ) (owner : ℕ → ℕ) (at : ℕ) where
   -- the pass of a seat: its own word is what it knows; unless that is "left", it is at most `since`; `since` is at most the generation
@@ -61,7 +63,8 @@ module _ (words : List ℕ) (owner : ℕ → ℕ) (at : ℕ) where
     pub saw : p.since ≤ p.seen
     pub current : p.seen ≤ slice_index words 0
 
-  -- the keeper, who has given out the passes of the seats below `given`: the generation is its own; each bound is at most the seat's word, and "left" only where the word is
+  -- the keeper, who has given out the passes of the seats below `given`: the generation is its own; each bound is at
+  -- most the seat's word, and "left" only where the word is
   pub record FitsKeeper (given : ℕ) (k : KeeperNumbers) : Type 0 where
     pub owns : owner 0 ≡ at
     pub generation_is : slice_index words 0 ≡ k.generation
@@ -100,7 +103,8 @@ giving_view seats i = record { is_pass = false; seat = 0; pass = first_pass_numb
 abbrev pub first_view : ℕ → View
 first_view seats = giving_view seats 0
 
--- The five kinds of step. Each says which word `st.word` is stepped on, by whom, and of the token before (m) and after (m') and the number n that it found, or stored, what is known.
+-- The five kinds of step. Each says which word `st.word` is stepped on, by whom, and of the token before (m) and after
+-- (m') and the number n that it found, or stored, what is known.
 
 -- what a token knows: its view (and slots, which this table has none of)
 abbrev pub Known : Type 0

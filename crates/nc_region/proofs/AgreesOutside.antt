@@ -21,7 +21,8 @@ pub beside : (c d : Chunk) (at : ℕ) → LiesBeside c d → IsInChunk d at → 
 beside c d at apart inside = elim apart [ inl l ↦ inl (omega (arith, l, inside.1)) | inr b ↦ inr (omega (arith, b, inside.0)) ]
 
 -- a chunk beside the span still stands in the text
-pub still_holds : (old new : MarkedText) (c d : Chunk) → AgreesOutside old new c.base c.length → LiesBeside c d → HoldsValid old d → HoldsValid new d
+pub still_holds : (old new : MarkedText) (c d : Chunk) → AgreesOutside old new c.base c.length → LiesBeside c d → HoldsValid old d
+    → HoldsValid new d
 still_holds old new c d agrees apart h =
     let low : 65536 ≤ d.base = subst (λ (b : ℕ). 65536 ≤ b) h.base_is h.valid.base_is.1 in
     record {

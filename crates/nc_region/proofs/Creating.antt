@@ -1,5 +1,6 @@
 -- While a chunk is created, the text stays closed.
-use Rattle.std.proofs.Common.{◌≡◌, ◌≢◌, ℕ, ◌+◌, ◌-◌, ◌%◌, ◌<◌, ◌≤◌, not, List, length, get_or, set, inl, inr, arith, ◌∙◌, sym, ap, subst, ⊎_elim}
+use Rattle.std.proofs.Common.{◌≡◌, ◌≢◌, ℕ, ◌+◌, ◌-◌, ◌%◌, ◌<◌, ◌≤◌, not, List, length, get_or, set, inl, inr, arith, ◌∙◌, sym, ap, subst}
+use Rattle.std.proofs.Common.{⊎_elim}
 use Rattle.std.proofs.lemmas.Bool.{cases_lt}
 use Rattle.std.proofs.lemmas.Bool.Decides.{eqb_tells}
 use Rattle.std.proofs.lemmas.List.{length-set, ext_get_or}
@@ -12,10 +13,13 @@ use Rattle.nc_text.proofs.SpanElements.{length-with_span}
 use Rattle.nc_region.specs.Acts.{is_inside}
 use Rattle.nc_region.specs.Chunks.{IsPlaced, IsUnused, HasPut, IsFinalBut}
 use Rattle.nc_region.proofs.Puts.{byte_at_other, byte_at_same}
-use Rattle.nc_region.proofs.SpanPlaces.{Before, Within, Behind, place_of, unused_is_start, is_inside_false, is_inside_true, start_or_not, span_within, span_before, span_behind, before_span}
+use Rattle.nc_region.proofs.SpanPlaces.{Before, Within, Behind, place_of, unused_is_start, is_inside_false, is_inside_true, start_or_not}
+use Rattle.nc_region.proofs.SpanPlaces.{span_within, span_before, span_behind, before_span}
 
 -- the bytes that aren't bundle starts may be put while the span is unused
-pub inside_closed : (old : MarkedText) (new : List ℕ) (base : ℕ) (bytes : List ℕ) (count : ℕ) → IsPlaced base (limit_of old.bytes) (length bytes) → count ≤ length bytes → IsClosed old.bytes old.marks → IsUnused old base (length bytes) → HasPut is_inside base bytes count old.bytes new → IsClosed new old.marks
+pub inside_closed : (old : MarkedText) (new : List ℕ) (base : ℕ) (bytes : List ℕ) (count : ℕ)
+    → IsPlaced base (limit_of old.bytes) (length bytes) → count ≤ length bytes → IsClosed old.bytes old.marks
+    → IsUnused old base (length bytes) → HasPut is_inside base bytes count old.bytes new → IsClosed new old.marks
 inside_closed old new base bytes count placed le closed unused puts =
     closed_with_stops old.bytes new old.marks closed puts.as_long (λ now m.
     elim (place_of base (length bytes) now.place) [
@@ -27,7 +31,8 @@ inside_closed old new base bytes count placed le closed unused puts =
     ])
 
 -- a final text in which some bundle starts are still stops is closed
-pub final_but_closed : (final now : List ℕ) (marks : List Mark) (from to : ℕ) → from ≤ to → IsClosed final marks → IsFinalBut final now from to → IsClosed now marks
+pub final_but_closed : (final now : List ℕ) (marks : List Mark) (from to : ℕ) → from ≤ to → IsClosed final marks
+    → IsFinalBut final now from to → IsClosed now marks
 final_but_closed final now marks from to order closed f =
     closed_with_stops final now marks closed f.as_long (λ s m.
     elim (place_of from (to - from) s.place) [
@@ -45,7 +50,8 @@ final_but_closed final now marks from to order closed f =
     ])
 
 -- a bundle start gets its final byte
-pub final_more : (final now : List ℕ) (from to : ℕ) → 65536 ≤ from → from < to → to ≤ 65536 + length final → IsFinalBut final now from to → IsFinalBut final (set now (from - 65536) (byte_at final from)) (from + 1) to
+pub final_more : (final now : List ℕ) (from to : ℕ) → 65536 ≤ from → from < to → to ≤ 65536 + length final → IsFinalBut final now from to
+    → IsFinalBut final (set now (from - 65536) (byte_at final from)) (from + 1) to
 final_more final now from to low order fits f =
     let elsewhere : (at : ℕ) → 65536 ≤ at → at ≢ from → byte_at (set now (from - 65536) (byte_at final from)) at ≡ byte_at now at = λ at low' differ. byte_at_other now from at (byte_at final from) low low' differ in
     let here : byte_at (set now (from - 65536) (byte_at final from)) from ≡ byte_at final from = byte_at_same now from (byte_at final from) low (omega (arith, f.as_long)) in
@@ -91,7 +97,9 @@ final_all final now at f =
     (⊎_elim (λ (b : 65536 + i < at). f.before (65536 + i) (omega arith) b) (λ (p : at ≤ 65536 + i). f.behind (65536 + i) p) (cases_lt (65536 + i) at)))
 
 -- once all but the bundle starts are put, the text is the final one but for stops at the bundle starts
-pub final_but_starts : (old : MarkedText) (now : List ℕ) (base : ℕ) (bytes : List ℕ) → IsPlaced base (limit_of old.bytes) (length bytes) → IsUnused old base (length bytes) → HasPut is_inside base bytes (length bytes) old.bytes now → IsFinalBut (with_span old.bytes (base - 65536) bytes) now base (base + length bytes)
+pub final_but_starts : (old : MarkedText) (now : List ℕ) (base : ℕ) (bytes : List ℕ) → IsPlaced base (limit_of old.bytes) (length bytes)
+    → IsUnused old base (length bytes) → HasPut is_inside base bytes (length bytes) old.bytes now
+    → IsFinalBut (with_span old.bytes (base - 65536) bytes) now base (base + length bytes)
 final_but_starts old now base bytes placed unused puts =
     let fits : base + length bytes ≤ 65536 + length old.bytes = omega (arith, placed.high) in
     let long : length (with_span old.bytes (base - 65536) bytes) ≡ length old.bytes = length-with_span old.bytes (base - 65536) bytes (omega (arith, fits, placed.low)) in
@@ -109,7 +117,9 @@ final_but_starts old now base bytes placed unused puts =
     }
 
 -- one more bundle start gets the chunk's byte
-pub start_put : (old now : List ℕ) (base : ℕ) (bytes : List ℕ) (i : ℕ) → 65536 ≤ base → base + length bytes ≤ 65536 + length old → i < length bytes → IsFinalBut (with_span old (base - 65536) bytes) now (base + i) (base + length bytes) → IsFinalBut (with_span old (base - 65536) bytes) (set now (base + i - 65536) (get_or bytes i 0)) (base + (i + 1)) (base + length bytes)
+pub start_put : (old now : List ℕ) (base : ℕ) (bytes : List ℕ) (i : ℕ) → 65536 ≤ base → base + length bytes ≤ 65536 + length old
+    → i < length bytes → IsFinalBut (with_span old (base - 65536) bytes) now (base + i) (base + length bytes)
+    → IsFinalBut (with_span old (base - 65536) bytes) (set now (base + i - 65536) (get_or bytes i 0)) (base + (i + 1)) (base + length bytes)
 start_put old now base bytes i low fits lt f =
     let final = with_span old (base - 65536) bytes in
     let long : length (with_span old (base - 65536) bytes) ≡ length old = length-with_span old (base - 65536) bytes (omega arith) in
@@ -120,13 +130,16 @@ start_put old now base bytes i low fits lt f =
     (subst (λ (b : ℕ). IsFinalBut (with_span old (base - 65536) bytes) (set now (base + i - 65536) b) (base + i + 1) (base + length bytes)) byte
     (final_more (with_span old (base - 65536) bytes) now (base + i) (base + length bytes) (omega arith) (omega arith) (omega (arith, long)) f))
 
-pub start_passed : (final now : List ℕ) (base i to : ℕ) → (base + i) % 32 ≢ 0 → IsFinalBut final now (base + i) to → IsFinalBut final now (base + (i + 1)) to
+-- a place that is no bundle start is passed
+pub start_passed : (final now : List ℕ) (base i to : ℕ) → (base + i) % 32 ≢ 0 → IsFinalBut final now (base + i) to
+    → IsFinalBut final now (base + (i + 1)) to
 start_passed final now base i to not f =
     let next : base + i + 1 ≡ base + (i + 1) = omega arith in
     subst (λ (n : ℕ). IsFinalBut final now n to) next (final_passed final now (base + i) to not f)
 
 -- the span set hides what was put in it before
-pub same_final : (old now : List ℕ) (base : ℕ) (bytes : List ℕ) → 65536 ≤ base → base + length bytes ≤ 65536 + length old → HasPut is_inside base bytes (length bytes) old now → with_span now (base - 65536) bytes ≡ with_span old (base - 65536) bytes
+pub same_final : (old now : List ℕ) (base : ℕ) (bytes : List ℕ) → 65536 ≤ base → base + length bytes ≤ 65536 + length old
+    → HasPut is_inside base bytes (length bytes) old now → with_span now (base - 65536) bytes ≡ with_span old (base - 65536) bytes
 same_final old now base bytes low fits puts =
     let fits' : base + length bytes ≤ 65536 + length now = omega (arith, puts.as_long) in
     let long = length-with_span now (base - 65536) bytes (omega arith) in

@@ -1,5 +1,6 @@
 -- A region stays one when a chunk of it becomes stops and is retired.
-use Rattle.std.proofs.Common.{◌≡◌, ◌≢◌, ℕ, zero, suc, ◌+◌, ◌-◌, ◌<◌, ◌≤◌, ◌⊎◌, List, [], ◌∷◌, length, get_or, set, replicate, Option, Some, None, inl, inr, arith, refl, ◌∙◌, sym, ap, subst, ⊎_elim}
+use Rattle.std.proofs.Common.{◌≡◌, ◌≢◌, ℕ, zero, suc, ◌+◌, ◌-◌, ◌<◌, ◌≤◌, ◌⊎◌, List, [], ◌∷◌, length, get_or, set, replicate, Option}
+use Rattle.std.proofs.Common.{Some, None, inl, inr, arith, refl, ◌∙◌, sym, ap, subst, ⊎_elim}
 use Rattle.std.specs.List.{slice_get}
 use Rattle.std.proofs.lemmas.Bool.{cases_lt}
 use Rattle.std.proofs.lemmas.Option.{slice_get_cases, get_or_from_slice_get}
@@ -23,7 +24,8 @@ use Rattle.nc_region.proofs.Runs.{apart_by_index}
 use Rattle.nc_region.proofs.SpanPlaces.{place_of, Before, Within, Behind, span_within, span_before, span_behind}
 
 -- one chunk of a rising list put in place of another of the same span
-rising_set : (from : ℕ) (chunks : List Chunk) (k : ℕ) (c d : Chunk) → IsRising from chunks → k < length chunks → get_or chunks k c ≡ c → d.base ≡ c.base → d.length ≡ c.length → IsRising from (set chunks k d)
+rising_set : (from : ℕ) (chunks : List Chunk) (k : ℕ) (c d : Chunk) → IsRising from chunks → k < length chunks → get_or chunks k c ≡ c
+    → d.base ≡ c.base → d.length ≡ c.length → IsRising from (set chunks k d)
 rising_set from [] k c d rising lt here b l = absurd (omega arith)
 rising_set from (x ∷ rest) zero c d rising lt here b l =
     (omega (arith, rising.0, ap (λ (y : Chunk). y.base) here, b), (let end : x.base + x.length ≡ d.base + d.length = omega (arith, ap (λ (y : Chunk). y.base) here, ap (λ (y : Chunk). y.length) here, b, l) in subst (λ (n : ℕ). IsRising n rest) end rising.1))
@@ -48,11 +50,13 @@ pub record Deletes (old new : MarkedText) (chunks : List Chunk) (k : ℕ) (c : C
   pub marks_are : new.marks ≡ old.marks
 
 -- it lies in the region
-placed_there : (old new : MarkedText) (chunks : List Chunk) (k : ℕ) (c : Chunk) → Deletes old new chunks k c → IsPlaced c.base (limit_of old.bytes) c.length
+placed_there : (old new : MarkedText) (chunks : List Chunk) (k : ℕ) (c : Chunk) → Deletes old new chunks k c
+    → IsPlaced c.base (limit_of old.bytes) c.length
 placed_there old new chunks k c r = subst (λ (d : Chunk). IsPlaced d.base (limit_of old.bytes) d.length) r.here (each_get (λ (d : Chunk). IsPlaced d.base (limit_of old.bytes) d.length) chunks k c r.inside r.region.placed)
 
 -- outside it nothing is changed
-agrees : (old new : MarkedText) (chunks : List Chunk) (k : ℕ) (c : Chunk) → Deletes old new chunks k c → AgreesOutside old new c.base c.length
+agrees : (old new : MarkedText) (chunks : List Chunk) (k : ℕ) (c : Chunk) → Deletes old new chunks k c
+    → AgreesOutside old new c.base c.length
 agrees old new chunks k c r =
     let p = placed_there old new chunks k c r in
     let n = length-replicate {A = ℕ} c.length 244 in
@@ -68,7 +72,8 @@ agrees old new chunks k c r =
     }
 
 -- in it stand stops
-stops_there : (old new : MarkedText) (chunks : List Chunk) (k : ℕ) (c : Chunk) → Deletes old new chunks k c → (at : ℕ) → IsInChunk c at → byte_at new.bytes at ≡ 244
+stops_there : (old new : MarkedText) (chunks : List Chunk) (k : ℕ) (c : Chunk) → Deletes old new chunks k c → (at : ℕ) → IsInChunk c at
+    → byte_at new.bytes at ≡ 244
 stops_there old new chunks k c r at inside =
     let p = placed_there old new chunks k c r in
     let n = length-replicate {A = ℕ} c.length 244 in
@@ -76,7 +81,8 @@ stops_there old new chunks k c r at inside =
     ∙ (span_within old.bytes c.base (replicate c.length 244) at 0 p.low (omega (arith, n, p.high)) inside.0 (omega (arith, inside.1, n)) ∙ get_or-replicate c.length (at - c.base) 244 0 (omega (arith, inside.0, inside.1)))
 
 -- each other chunk of the list lies beside it
-others_beside : (old : MarkedText) (chunks : List Chunk) (k : ℕ) (c : Chunk) → IsRising 65536 chunks → k < length chunks → get_or chunks k c ≡ c → (i : ℕ) → i < length chunks → i ≢ k → LiesBeside c (get_or chunks i c)
+others_beside : (old : MarkedText) (chunks : List Chunk) (k : ℕ) (c : Chunk) → IsRising 65536 chunks → k < length chunks
+    → get_or chunks k c ≡ c → (i : ℕ) → i < length chunks → i ≢ k → LiesBeside c (get_or chunks i c)
 others_beside old chunks k c rising inside here i lt other =
     ⊎_elim
     (λ (before : i < k). inl (omega (arith, apart_by_index 65536 chunks c rising i k before inside, ap (λ (x : Chunk). x.base) here)))
@@ -84,7 +90,8 @@ others_beside old chunks k c rising inside here i lt other =
     (cases_lt i k)
 
 -- the region with the chunk retired
-pub region_deleted : (old new : MarkedText) (chunks : List Chunk) (k : ℕ) (c : Chunk) (stamp : ℕ) → Deletes old new chunks k c → IsRegion new (set chunks k (record c { state = Retired stamp }))
+pub region_deleted : (old new : MarkedText) (chunks : List Chunk) (k : ℕ) (c : Chunk) (stamp : ℕ) → Deletes old new chunks k c
+    → IsRegion new (set chunks k (record c { state = Retired stamp }))
 region_deleted old new chunks k c stamp r =
     let p = placed_there old new chunks k c r in
     let a = agrees old new chunks k c r in
@@ -114,13 +121,15 @@ region_deleted old new chunks k c stamp r =
     }
 
 -- the chunk that takes its place, by its fields
-pub retired_is : (chunk : Chunk) (base len stamp : ℕ) → chunk.base ≡ base → len ≡ chunk.length → record { base = base; length = len; state = Retired stamp } ≡ record chunk { state = Retired stamp }
+pub retired_is : (chunk : Chunk) (base len stamp : ℕ) → chunk.base ≡ base → len ≡ chunk.length
+    → record { base = base; length = len; state = Retired stamp } ≡ record chunk { state = Retired stamp }
 retired_is chunk base len stamp base_is len_is =
     ap (λ (b : ℕ). let c : Chunk = record { base = b; length = len; state = Retired stamp } in c) (sym base_is)
     ∙ ap (λ (n : ℕ). let c : Chunk = record { base = chunk.base; length = n; state = Retired stamp } in c) len_is
 
 -- what a deletion leaves, by its parts
-pub deleted_is : (old new : Region) (k base len stamp : ℕ) (chunk : Chunk) → slice_get old.chunks k ≡ Some chunk → chunk.state ≡ Live → chunk.base ≡ base → len ≡ chunk.length
+pub deleted_is : (old new : Region) (k base len stamp : ℕ) (chunk : Chunk) → slice_get old.chunks k ≡ Some chunk → chunk.state ≡ Live
+    → chunk.base ≡ base → len ≡ chunk.length
     → old.keeper.numbers.generation < 4611686018427387904 → stamp ≡ old.keeper.numbers.generation + 1
     → new.marked.bytes ≡ with_span old.marked.bytes (base - 65536) (replicate len 244) → new.marked.marks ≡ old.marked.marks
     → new.chunks ≡ set old.chunks k (record { base = base; length = len; state = Retired stamp })

@@ -1,5 +1,6 @@
 -- While a chunk is turned into stops, the text stays closed.
-use Rattle.std.proofs.Common.{◌≡◌, ◌≢◌, ℕ, ◌+◌, ◌-◌, ◌%◌, ◌<◌, ◌≤◌, ◌⊎◌, Bool, true, false, not, List, length, get_or, replicate, Option, inl, inr, arith, refl, ◌∙◌, sym, ap, subst, ⊎_elim}
+use Rattle.std.proofs.Common.{◌≡◌, ◌≢◌, ℕ, ◌+◌, ◌-◌, ◌%◌, ◌<◌, ◌≤◌, ◌⊎◌, Bool, true, false, not, List, length, get_or, replicate, Option}
+use Rattle.std.proofs.Common.{inl, inr, arith, refl, ◌∙◌, sym, ap, subst, ⊎_elim}
 use Rattle.std.proofs.lemmas.Bool.{cases_lt, false≢true}
 use Rattle.std.proofs.lemmas.List.{get_or-replicate, length-replicate, ext_get_or}
 use Rattle.nc_decode.specs.declared.instruction.Mark.{Mark}
@@ -20,10 +21,13 @@ admits_is_mark Unmarked masked m = absurd m
 admits_is_mark Plain masked m = refl
 admits_is_mark (After register) masked m = refl
 
+-- each byte is a stop
 stop_byte : (base len at : ℕ) → base ≤ at → at < base + len → get_or (replicate {A = ℕ} len 244) (at - base) 0 ≡ 244
 stop_byte base len at low high = get_or-replicate len (at - base) 244 0 (omega arith)
 
-pub marked_closed : (old : MarkedText) (now : List ℕ) (base len count : ℕ) → IsPlaced base (limit_of old.bytes) len → count ≤ len → IsClosed old.bytes old.marks → HasPut (is_marked_at old.marks) base (replicate len 244) count old.bytes now → IsClosed now old.marks
+-- while stops are put at marked places the text is closed
+pub marked_closed : (old : MarkedText) (now : List ℕ) (base len count : ℕ) → IsPlaced base (limit_of old.bytes) len → count ≤ len
+    → IsClosed old.bytes old.marks → HasPut (is_marked_at old.marks) base (replicate len 244) count old.bytes now → IsClosed now old.marks
 marked_closed old now base len count placed le closed puts =
     closed_with_stops old.bytes now old.marks closed puts.as_long (λ s m.
     elim (place_of base count s.place) [
@@ -32,7 +36,10 @@ marked_closed old now base len count placed le closed puts =
       | Behind p ↦ inr (λ i is fits k lt. puts.above (s.place + k) (omega arith))
     ])
 
-pub others_closed : (old : MarkedText) (now : List ℕ) (base len count : ℕ) → IsPlaced base (limit_of old.bytes) len → count ≤ len → IsClosed old.bytes old.marks → ((at : ℕ) → base ≤ at → at < base + len → is_marked_at old.marks at ≡ true → byte_at old.bytes at ≡ 244) → HasPut (is_unmarked_at old.marks) base (replicate len 244) count old.bytes now → IsClosed now old.marks
+-- and while they are put at the others
+pub others_closed : (old : MarkedText) (now : List ℕ) (base len count : ℕ) → IsPlaced base (limit_of old.bytes) len → count ≤ len
+    → IsClosed old.bytes old.marks → ((at : ℕ) → base ≤ at → at < base + len → is_marked_at old.marks at ≡ true
+    → byte_at old.bytes at ≡ 244) → HasPut (is_unmarked_at old.marks) base (replicate len 244) count old.bytes now → IsClosed now old.marks
 others_closed old now base len count placed le closed stopped puts =
     closed_with_stops old.bytes now old.marks closed puts.as_long (λ s m.
     elim (place_of base len s.place) [
@@ -43,12 +50,17 @@ others_closed old now base len count placed le closed stopped puts =
       | Behind p ↦ inr (λ i is fits k lt. puts.above (s.place + k) (omega arith))
     ])
 
-within_stop : (marks : List Mark) (at : ℕ) (b : Bool) → is_marked_at marks at ≡ b → (now : List ℕ) (byte : ℕ) → (is_marked_at marks at ≡ true → byte_at now at ≡ byte) → (is_marked_at marks at ≡ false → byte_at now at ≡ byte) → byte_at now at ≡ byte
+-- by either of the two a stop stands there
+within_stop : (marks : List Mark) (at : ℕ) (b : Bool) → is_marked_at marks at ≡ b → (now : List ℕ) (byte : ℕ)
+    → (is_marked_at marks at ≡ true → byte_at now at ≡ byte) → (is_marked_at marks at ≡ false → byte_at now at ≡ byte)
+    → byte_at now at ≡ byte
 within_stop marks at true is now byte marked other = marked is
 within_stop marks at false is now byte marked other = other is
 
 -- after both every byte is a stop
-pub all_stops : (old mid now : List ℕ) (marks : List Mark) (base len : ℕ) → 65536 ≤ base → base + len ≤ 65536 + length old → HasPut (is_marked_at marks) base (replicate len 244) len old mid → HasPut (is_unmarked_at marks) base (replicate len 244) len mid now → now ≡ with_span old (base - 65536) (replicate len 244)
+pub all_stops : (old mid now : List ℕ) (marks : List Mark) (base len : ℕ) → 65536 ≤ base → base + len ≤ 65536 + length old
+    → HasPut (is_marked_at marks) base (replicate len 244) len old mid
+    → HasPut (is_unmarked_at marks) base (replicate len 244) len mid now → now ≡ with_span old (base - 65536) (replicate len 244)
 all_stops old mid now marks base len low fits first second =
     let n = length-replicate {A = ℕ} len 244 in
     let long = length-with_span old (base - 65536) (replicate len 244) (omega (arith, n)) in

@@ -1,5 +1,6 @@
 -- The chunks that are due, one after the other: what is left of the list and of the marks.
-use Rattle.std.proofs.Common.{◌≡◌, ℕ, zero, suc, ◌+◌, ◌-◌, ◌<◌, ◌≤◌, Bool, true, false, not, cond, List, [], ◌∷◌, ◌++◌, length, filter, map, take, drop, get_or, Option, arith, refl, ◌∙◌, sym, ap, subst, append_assoc, append-nil}
+use Rattle.std.proofs.Common.{◌≡◌, ℕ, zero, suc, ◌+◌, ◌-◌, ◌<◌, ◌≤◌, Bool, true, false, not, cond, List, [], ◌∷◌, ◌++◌, length, filter}
+use Rattle.std.proofs.Common.{map, take, drop, get_or, Option, arith, refl, ◌∙◌, sym, ap, subst, append_assoc, append-nil}
 use Rattle.std.proofs.lemmas.List.{map-append}
 use Rattle.std.proofs.lemmas.List.Elements.{filter-append}
 use Rattle.std.proofs.Math.Seq.{take-suc, drop-cons}
@@ -30,7 +31,8 @@ one : (p : Chunk → Bool) (c : Chunk) (b : Bool) → p c ≡ b → filter p (c 
 one p c b is = ap (λ (x : Bool). cond x (c ∷ []) []) is
 
 -- one more chunk that is due is freed
-pub freed_due : (least : ℕ) (done : List Chunk) (c : Chunk) → is_due least c.state ≡ true → freed least (done ++ c ∷ []) ≡ freed least done ++ c ∷ []
+pub freed_due : (least : ℕ) (done : List Chunk) (c : Chunk) → is_due least c.state ≡ true
+    → freed least (done ++ c ∷ []) ≡ freed least done ++ c ∷ []
 freed_due least done c is = filter-append (λ (x : Chunk). is_due least x.state) done (c ∷ []) ∙ ap (λ (z : List Chunk). freed least done ++ z) (one (λ (x : Chunk). is_due least x.state) c true is)
 
 -- and isn't kept
@@ -40,17 +42,20 @@ kept_due least done c is =
     ∙ (ap (λ (z : List Chunk). kept least done ++ z) (one (λ (x : Chunk). not (is_due least x.state)) c false (ap not is)) ∙ append-nil (kept least done))
 
 -- one more that isn't due isn't freed
-pub freed_other : (least : ℕ) (done : List Chunk) (c : Chunk) → is_due least c.state ≡ false → freed least (done ++ c ∷ []) ≡ freed least done
+pub freed_other : (least : ℕ) (done : List Chunk) (c : Chunk) → is_due least c.state ≡ false
+    → freed least (done ++ c ∷ []) ≡ freed least done
 freed_other least done c is =
     filter-append (λ (x : Chunk). is_due least x.state) done (c ∷ [])
     ∙ (ap (λ (z : List Chunk). freed least done ++ z) (one (λ (x : Chunk). is_due least x.state) c false is) ∙ append-nil (freed least done))
 
 -- and is kept
-pub kept_other : (least : ℕ) (done : List Chunk) (c : Chunk) → is_due least c.state ≡ false → kept least (done ++ c ∷ []) ≡ kept least done ++ c ∷ []
+pub kept_other : (least : ℕ) (done : List Chunk) (c : Chunk) → is_due least c.state ≡ false
+    → kept least (done ++ c ∷ []) ≡ kept least done ++ c ∷ []
 kept_other least done c is = filter-append (λ (x : Chunk). not (is_due least x.state)) done (c ∷ []) ∙ ap (λ (z : List Chunk). kept least done ++ z) (one (λ (x : Chunk). not (is_due least x.state)) c true (ap not is))
 
 -- one more span unmarked
-pub unmarked_more : (marked : MarkedText) (done : List Chunk) (c : Chunk) → unmarked marked (done ++ c ∷ []) ≡ without_marks (unmarked marked done) c.base c.length
+pub unmarked_more : (marked : MarkedText) (done : List Chunk) (c : Chunk)
+    → unmarked marked (done ++ c ∷ []) ≡ without_marks (unmarked marked done) c.base c.length
 unmarked_more marked [] c = refl
 unmarked_more marked (d ∷ done) c = unmarked_more (without_marks marked d.base d.length) done c
 
@@ -64,20 +69,25 @@ pub unmarkings_more : (done : List Chunk) (c : Chunk) → unmarkings (done ++ c 
 unmarkings_more done c = map-append (λ (x : Chunk). UnmarkSpan x.base x.length) done (c ∷ [])
 
 -- the list that is left, with the next chunk at the seam
-at_seam : (least : ℕ) (chunks : List Chunk) (i : ℕ) (d : Chunk) → i < length chunks → kept least (take i chunks) ++ drop i chunks ≡ kept least (take i chunks) ++ get_or chunks i d ∷ drop (suc i) chunks
+at_seam : (least : ℕ) (chunks : List Chunk) (i : ℕ) (d : Chunk) → i < length chunks
+    → kept least (take i chunks) ++ drop i chunks ≡ kept least (take i chunks) ++ get_or chunks i d ∷ drop (suc i) chunks
 at_seam least chunks i d lt = ap (λ (z : List Chunk). kept least (take i chunks) ++ z) (drop-cons chunks i d lt)
 
 -- the list up to the next index
-pub take_more : (chunks : List Chunk) (i : ℕ) (d : Chunk) → i < length chunks → take (i + 1) chunks ≡ take i chunks ++ get_or chunks i d ∷ []
+pub take_more : (chunks : List Chunk) (i : ℕ) (d : Chunk) → i < length chunks
+    → take (i + 1) chunks ≡ take i chunks ++ get_or chunks i d ∷ []
 take_more chunks i d lt = let next : suc i ≡ i + 1 = omega arith in subst (λ (k : ℕ). take k chunks ≡ take i chunks ++ get_or chunks i d ∷ []) next (take-suc chunks i d lt)
 
 -- the next chunk's span may be freed, if it is due
-pub next_frees : (marked : MarkedText) (least : ℕ) (chunks : List Chunk) (i : ℕ) (d : Chunk) → i < length chunks → is_due least (get_or chunks i d).state ≡ true → IsRegion marked (kept least (take i chunks) ++ drop i chunks) → Frees marked (span_of (get_or chunks i d))
+pub next_frees : (marked : MarkedText) (least : ℕ) (chunks : List Chunk) (i : ℕ) (d : Chunk) → i < length chunks
+    → is_due least (get_or chunks i d).state ≡ true → IsRegion marked (kept least (take i chunks) ++ drop i chunks)
+    → Frees marked (span_of (get_or chunks i d))
 next_frees marked least chunks i d lt is region =
     frees marked (kept least (take i chunks)) (drop (suc i) chunks) (get_or chunks i d) (subst (IsRegion marked) (at_seam least chunks i d lt) region) (due_dead least (get_or chunks i d).state is)
 
 -- the region once it is freed
-pub next_freed : (marked : MarkedText) (least : ℕ) (chunks : List Chunk) (i : ℕ) (d : Chunk) → i < length chunks → is_due least (get_or chunks i d).state ≡ true → IsRegion marked (kept least (take i chunks) ++ drop i chunks)
+pub next_freed : (marked : MarkedText) (least : ℕ) (chunks : List Chunk) (i : ℕ) (d : Chunk) → i < length chunks
+    → is_due least (get_or chunks i d).state ≡ true → IsRegion marked (kept least (take i chunks) ++ drop i chunks)
     → IsRegion (without_marks marked (get_or chunks i d).base (get_or chunks i d).length) (kept least (take (i + 1) chunks) ++ drop (i + 1) chunks)
 next_freed marked least chunks i d lt is region =
     let next : suc i ≡ i + 1 = omega arith in
@@ -87,7 +97,8 @@ next_freed marked least chunks i d lt is region =
     (region_freed marked (kept least (take i chunks)) (drop (suc i) chunks) (get_or chunks i d) (subst (IsRegion marked) (at_seam least chunks i d lt) region) (due_dead least (get_or chunks i d).state is)))
 
 -- a chunk that isn't due stays
-pub next_kept : (marked : MarkedText) (least : ℕ) (chunks : List Chunk) (i : ℕ) (d : Chunk) → i < length chunks → is_due least (get_or chunks i d).state ≡ false → IsRegion marked (kept least (take i chunks) ++ drop i chunks)
+pub next_kept : (marked : MarkedText) (least : ℕ) (chunks : List Chunk) (i : ℕ) (d : Chunk) → i < length chunks
+    → is_due least (get_or chunks i d).state ≡ false → IsRegion marked (kept least (take i chunks) ++ drop i chunks)
     → IsRegion marked (kept least (take (i + 1) chunks) ++ drop (i + 1) chunks)
 next_kept marked least chunks i d lt is region =
     let next : suc i ≡ i + 1 = omega arith in
@@ -99,7 +110,9 @@ next_kept marked least chunks i d lt is region =
     region)
 
 -- one more chunk is one or the other
-one_more : (least : ℕ) (c : Chunk) (rest : List Chunk) (b : Bool) → is_due least c.state ≡ b → length (kept least rest) + length (freed least rest) ≡ length rest → length (kept least (c ∷ rest)) + length (freed least (c ∷ rest)) ≡ suc (length rest)
+one_more : (least : ℕ) (c : Chunk) (rest : List Chunk) (b : Bool) → is_due least c.state ≡ b
+    → length (kept least rest) + length (freed least rest) ≡ length rest
+    → length (kept least (c ∷ rest)) + length (freed least (c ∷ rest)) ≡ suc (length rest)
 one_more least c rest true is e = rw is (omega (arith, e))
 one_more least c rest false is e = rw is (omega (arith, e))
 
@@ -109,13 +122,15 @@ kept_and_freed least [] = refl
 kept_and_freed least (c ∷ rest) = one_more least c rest (is_due least c.state) refl (kept_and_freed least rest)
 
 -- a list of chunks below a limit is no longer than the places there
-pub few : (limit from : ℕ) (chunks : List Chunk) → IsRising from chunks → Each (λ (c : Chunk). IsPlaced c.base limit c.length) chunks → from ≤ limit → from + length chunks ≤ limit
+pub few : (limit from : ℕ) (chunks : List Chunk) → IsRising from chunks → Each (λ (c : Chunk). IsPlaced c.base limit c.length) chunks
+    → from ≤ limit → from + length chunks ≤ limit
 few limit from [] rising placed le = omega (arith, le)
 few limit from (c ∷ rest) rising placed le =
     omega (arith, rising.0, placed.0.some, few limit (c.base + c.length) rest rising.1 placed.1 (omega (arith, placed.0.high)))
 
 -- what reclaiming leaves, by its parts
-pub reclaimed_is : (old new : Region) (between : Option (List Act)) (count least : ℕ) → HasLooked old.keeper new.keeper → least ≡ least_number new.keeper.numbers
+pub reclaimed_is : (old new : Region) (between : Option (List Act)) (count least : ℕ) → HasLooked old.keeper new.keeper
+    → least ≡ least_number new.keeper.numbers
     → new.chunks ≡ kept least old.chunks → count ≡ length (freed least old.chunks) → new.marked ≡ unmarked old.marked (freed least old.chunks)
     → Tells old.told between (Look ∷ []) → Tells between new.told (unmarkings (freed least old.chunks)) → IsReclaimed old new count
 reclaimed_is old new between count least looked is chunks count_is marked first second =

@@ -3,42 +3,51 @@ use Rattle.std.proofs.Common.{ℕ, ◌≢◌, ◌<◌, List, [], ◌∷◌, ◌+
 use Rattle.std.specs.List.{remove}
 use Rattle.nc_region.specs.Each.{Each}
 
+-- what follows from P for each holds of each
 pub each_map : {X : Type 0} (P Q : X → Type 0) → ((x : X) → P x → Q x) → (xs : List X) → Each P xs → Each Q xs
 each_map P Q f [] h = tt
 each_map P Q f (x ∷ xs) h = (f x h.0, each_map P Q f xs h.1)
 
+-- what follows from both
 pub each_both : {X : Type 0} (P Q R : X → Type 0) → ((x : X) → P x → Q x → R x) → (xs : List X) → Each P xs → Each Q xs → Each R xs
 each_both P Q R f [] p q = tt
 each_both P Q R f (x ∷ xs) p q = (f x p.0 q.0, each_both P Q R f xs p.1 q.1)
 
+-- the member at an index
 pub each_get : {X : Type 0} (P : X → Type 0) (xs : List X) (k : ℕ) (d : X) → k < length xs → Each P xs → P (get_or xs k d)
 each_get P [] k d lt h = absurd (omega arith)
 each_get P (x ∷ xs) zero d lt h = h.0
 each_get P (x ∷ xs) (suc k) d lt h = each_get P xs k d (omega arith) h.1
 
+-- one member set
 pub each_set : {X : Type 0} (P : X → Type 0) (xs : List X) (k : ℕ) (y : X) → Each P xs → P y → Each P (set xs k y)
 each_set P [] k y h p = tt
 each_set P (x ∷ xs) zero y h p = (p, h.1)
 each_set P (x ∷ xs) (suc k) y h p = (h.0, each_set P xs k y h.1 p)
 
+-- the same member so many times
 pub each_replicate : {X : Type 0} (P : X → Type 0) (n : ℕ) (x : X) → P x → Each P (replicate n x)
 each_replicate P zero x p = tt
 each_replicate P (suc n) x p = (p, each_replicate P n x p)
 
+-- the first members
 pub each_take : {X : Type 0} (P : X → Type 0) (k : ℕ) (xs : List X) → Each P xs → Each P (take k xs)
 each_take P zero xs h = tt
 each_take P (suc k) [] h = tt
 each_take P (suc k) (x ∷ xs) h = (h.0, each_take P k xs h.1)
 
+-- all but the first members
 pub each_drop : {X : Type 0} (P : X → Type 0) (k : ℕ) (xs : List X) → Each P xs → Each P (drop k xs)
 each_drop P zero xs h = h
 each_drop P (suc k) [] h = tt
 each_drop P (suc k) (x ∷ xs) h = each_drop P k xs h.1
 
+-- two lists after each other
 pub each_append : {X : Type 0} (P : X → Type 0) (xs ys : List X) → Each P xs → Each P ys → Each P (xs ++ ys)
 each_append P [] ys h g = g
 each_append P (x ∷ xs) ys h g = (h.0, each_append P xs ys h.1 g)
 
+-- one member removed
 pub each_remove : {X : Type 0} (P : X → Type 0) (xs : List X) (k : ℕ) → Each P xs → Each P (remove xs k)
 each_remove P xs k h = each_append P (take k xs) (drop (suc k) xs) (each_take P k xs h) (each_drop P (suc k) xs h)
 
@@ -48,7 +57,8 @@ each_from P [] d h = tt
 each_from P (x ∷ xs) d h = (h 0 (omega arith), each_from P xs d (λ k lt. h (suc k) (omega (arith, lt))))
 
 -- a member set, where the others have P
-pub each_set_but : {X : Type 0} (P : X → Type 0) (xs : List X) (k : ℕ) (y d : X) → ((i : ℕ) → i < length xs → i ≢ k → P (get_or xs i d)) → P y → Each P (set xs k y)
+pub each_set_but : {X : Type 0} (P : X → Type 0) (xs : List X) (k : ℕ) (y d : X) → ((i : ℕ) → i < length xs → i ≢ k → P (get_or xs i d))
+    → P y → Each P (set xs k y)
 each_set_but P [] k y d h p = tt
 each_set_but P (x ∷ xs) zero y d h p = (p, each_from P xs d (λ i lt. h (suc i) (omega (arith, lt)) (λ e. omega (arith, e))))
 each_set_but P (x ∷ xs) (suc k) y d h p = (h 0 (omega arith) (λ e. omega (arith, e)), each_set_but P xs k y d (λ i lt ne. h (suc i) (omega (arith, lt)) (λ e. ne (omega (arith, e)))) p)
@@ -60,7 +70,8 @@ each_at_set P (x ∷ xs) zero y lt h = h.0
 each_at_set P (x ∷ xs) (suc k) y lt h = each_at_set P xs k y (omega (arith, lt)) h.1
 
 -- a member set back
-pub each_unset : {X : Type 0} (P : X → Type 0) (xs : List X) (k : ℕ) (y d : X) → k < length xs → Each P (set xs k y) → P (get_or xs k d) → Each P xs
+pub each_unset : {X : Type 0} (P : X → Type 0) (xs : List X) (k : ℕ) (y d : X) → k < length xs → Each P (set xs k y) → P (get_or xs k d)
+    → Each P xs
 each_unset P [] k y d lt h p = tt
 each_unset P (x ∷ xs) zero y d lt h p = (p, h.1)
 each_unset P (x ∷ xs) (suc k) y d lt h p = (h.0, each_unset P xs k y d (omega (arith, lt)) h.1 p)

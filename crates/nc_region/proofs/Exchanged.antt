@@ -1,5 +1,6 @@
 -- A text in which one instruction of a live chunk is exchanged is closed, and holds the chunk.
-use Rattle.std.proofs.Common.{◌≡◌, ◌≢◌, ℕ, ◌+◌, ◌-◌, ◌%◌, ◌<◌, ◌≤◌, ◌⊎◌, List, [], ◌∷◌, ◌++◌, length, take, drop, get_or, Option, Some, inl, inr, arith, refl, ◌∙◌, sym, ap, subst, append_assoc}
+use Rattle.std.proofs.Common.{◌≡◌, ◌≢◌, ℕ, ◌+◌, ◌-◌, ◌%◌, ◌<◌, ◌≤◌, ◌⊎◌, List, [], ◌∷◌, ◌++◌, length, take, drop, get_or, Option, Some}
+use Rattle.std.proofs.Common.{inl, inr, arith, refl, ◌∙◌, sym, ap, subst, append_assoc}
 use Rattle.std.proofs.lemmas.List.{length-replicate, length-append, ext_get_or}
 use Rattle.std.proofs.lemmas.List.FromFn.{length-map-range_with_len, get_or-map-range_with_len}
 use Rattle.std.proofs.Math.Seq.{drop-append_seam}
@@ -23,7 +24,8 @@ use Rattle.nc_region.specs.declared.chunk.Chunk.{Chunk}
 use Rattle.nc_region.specs.Chunks.{IsClosedChunk, with_chunk}
 use Rattle.nc_region.specs.Region.{IsInChunk, HoldsValid}
 use Rattle.nc_region.specs.PatchSteps.{Begins, IsReplacing}
-use Rattle.nc_region.proofs.SpanPlaces.{Before, Within, Behind, place_of, unused_is_start, span_within, span_before, span_behind, before_span, within_span}
+use Rattle.nc_region.proofs.SpanPlaces.{Before, Within, Behind, place_of, unused_is_start, span_within, span_before, span_behind}
+use Rattle.nc_region.proofs.SpanPlaces.{before_span, within_span}
 use Rattle.nc_region.proofs.Alone.{alone, alone_fits_bytes, alone_within, alone_before, alone_behind, alone_bytes_long, alone_marks_long}
 use Rattle.nc_region.proofs.Pieces.{valid_chunk_is_closed}
 use Rattle.nc_region.proofs.NewInstructions.{take_seam, some_same}
@@ -40,14 +42,18 @@ pub record Renews (marked : MarkedText) (c : Chunk) (bytes : List ℕ) (marks : 
   pub long : length bytes ≡ c.length
   pub marks_are : (at : ℕ) → IsInChunk c at → mark_at marked.marks at ≡ get_or marks (at - c.base) Unmarked
 
+-- the text with other bytes in the chunk's span
 abbrev renewed : MarkedText → Chunk → List ℕ → List ℕ
 renewed marked c bytes = with_span marked.bytes (c.base - 65536) bytes
 
-renewed_long : (marked : MarkedText) (c : Chunk) (bytes : List ℕ) (marks : List Mark) → Renews marked c bytes marks → length (renewed marked c bytes) ≡ length marked.bytes
+-- it is as long
+renewed_long : (marked : MarkedText) (c : Chunk) (bytes : List ℕ) (marks : List Mark) → Renews marked c bytes marks
+    → length (renewed marked c bytes) ≡ length marked.bytes
 renewed_long marked c bytes marks r = length-with_span marked.bytes (c.base - 65536) bytes (omega (arith, r.lies.low, r.lies.high, r.long))
 
 -- what is marked for the chunk alone is marked
-alone_marked : (marked : MarkedText) (c : Chunk) (bytes : List ℕ) (marks : List Mark) → Renews marked c bytes marks → (now : State) → IsMarked (alone marked c.base bytes marks).marks now → IsMarked marked.marks now
+alone_marked : (marked : MarkedText) (c : Chunk) (bytes : List ℕ) (marks : List Mark) → Renews marked c bytes marks → (now : State)
+    → IsMarked (alone marked c.base bytes marks).marks now → IsMarked marked.marks now
 alone_marked marked c bytes marks r now m =
     let inside : InRegion marked.bytes now.place = (m.0, omega (arith, marked_within (alone marked c.base bytes marks).marks now m, alone_marks_long marked c.base bytes marks r.chunk)) in
     let at_start : mark_at (alone marked c.base bytes marks).marks now.place ≡ unused_mark now.place → IsMarked marked.marks now = λ is.
@@ -58,7 +64,9 @@ alone_marked marked c bytes marks r now m =
       | Behind p ↦ at_start (alone_behind marked c.base bytes marks now.place r.chunk inside (omega (arith, p, r.long)))
     ]
 
-pub renewed_closed : (marked : MarkedText) (c : Chunk) (bytes : List ℕ) (marks : List Mark) → Renews marked c bytes marks → IsClosed (renewed marked c bytes) marked.marks
+-- it is closed
+pub renewed_closed : (marked : MarkedText) (c : Chunk) (bytes : List ℕ) (marks : List Mark) → Renews marked c bytes marks
+    → IsClosed (renewed marked c bytes) marked.marks
 renewed_closed marked c bytes marks r =
     let long = renewed_long marked c bytes marks r in
     let fits : c.base + length bytes ≤ 65536 + length marked.bytes = omega (arith, r.lies.high, r.long) in
@@ -120,17 +128,20 @@ middle xs ys zs ws e =
     drop_two : (xs ys zs : List ℕ) (k : ℕ) → k ≡ length xs + length ys → drop k (xs ++ (ys ++ zs)) ≡ zs
     drop_two xs ys zs k e = ap (λ (m : ℕ). drop m (xs ++ (ys ++ zs))) (e ∙ sym (length-append xs ys)) ∙ (ap (λ (a : List ℕ). drop (length (xs ++ ys)) a) (sym (append_assoc xs ys zs)) ∙ drop-append_seam (xs ++ ys) zs)
 
+-- the new code is the old one with the new instruction in it
 new_code_is : (marked : MarkedText) (c : Chunk) (at : ℕ) (before after : List Piece) (o n : Piece) (x : Changes marked c at before after o n) → code_of (before ++ n ∷ after) ≡ with_span x.holds.vetted.code (place before) n.bytes
 new_code_is marked c at before after o n x =
     let old : x.holds.vetted.code ≡ code_of before ++ (o.bytes ++ code_of after) = x.exchange.valid.parts ∙ (ap (λ (z : List Piece). code_of z) x.exchange.parts ∙ code_of-append before (o ∷ after)) in
     code_of-append before (n ∷ after) ∙ (middle (code_of before) o.bytes (code_of after) n.bytes x.exchange.as_long ∙ ap (λ (z : List ℕ). with_span z (place before) n.bytes) (sym old))
 
+-- the instruction lies in the chunk
 place_in : (marked : MarkedText) (c : Chunk) (at : ℕ) (before after : List Piece) (o n : Piece) (x : Changes marked c at before after o n) → place before + length n.bytes ≤ length x.holds.vetted.code
 place_in marked c at before after o n x =
     omega (arith, ap (λ (z : List ℕ). length z) x.exchange.valid.parts, ap place x.exchange.parts, place-append before (o ∷ after), length-append o.bytes (code_of after), x.exchange.as_long)
 
 -- the text with the chunk set anew is the text with the instruction set anew
-pub same_text : (marked : MarkedText) (c : Chunk) (at : ℕ) (before after : List Piece) (o n : Piece) → Changes marked c at before after o n → renewed marked c (code_of (before ++ n ∷ after)) ≡ with_span marked.bytes (at - 65536) n.bytes
+pub same_text : (marked : MarkedText) (c : Chunk) (at : ℕ) (before after : List Piece) (o n : Piece)
+    → Changes marked c at before after o n → renewed marked c (code_of (before ++ n ∷ after)) ≡ with_span marked.bytes (at - 65536) n.bytes
 same_text marked c at before after o n x =
     let l = lies marked c x.whole x.holds in
     let bytes : List ℕ = code_of (before ++ n ∷ after) in
@@ -163,6 +174,7 @@ same_text marked c at before after o n x =
 abbrev pub changed : MarkedText → ℕ → List ℕ → MarkedText
 changed marked at bytes = record { bytes = with_span marked.bytes (at - 65536) bytes; marks = marked.marks }
 
+-- one instruction exchanged renews the chunk
 pub renews_of : (marked : MarkedText) (c : Chunk) (at : ℕ) (before after : List Piece) (o n : Piece) (x : Changes marked c at before after o n) → Renews marked c (code_of (before ++ n ∷ after)) x.holds.vetted.marks
 renews_of marked c at before after o n x =
     let v = x.holds.vetted in
@@ -177,14 +189,20 @@ renews_of marked c at before after o n x =
       marks_are = x.holds.marks_are;
     }
 
-pub changed_closed : (marked : MarkedText) (c : Chunk) (at : ℕ) (before after : List Piece) (o n : Piece) → Changes marked c at before after o n → IsClosed (with_span marked.bytes (at - 65536) n.bytes) marked.marks
+-- the text with the new instruction is closed
+pub changed_closed : (marked : MarkedText) (c : Chunk) (at : ℕ) (before after : List Piece) (o n : Piece)
+    → Changes marked c at before after o n → IsClosed (with_span marked.bytes (at - 65536) n.bytes) marked.marks
 changed_closed marked c at before after o n x =
     subst (λ (z : List ℕ). IsClosed z marked.marks) (same_text marked c at before after o n x) (renewed_closed marked c (code_of (before ++ n ∷ after)) x.holds.vetted.marks (renews_of marked c at before after o n x))
 
-pub changed_long : (marked : MarkedText) (c : Chunk) (at : ℕ) (before after : List Piece) (o n : Piece) → Changes marked c at before after o n → length (with_span marked.bytes (at - 65536) n.bytes) ≡ length marked.bytes
+-- it is as long
+pub changed_long : (marked : MarkedText) (c : Chunk) (at : ℕ) (before after : List Piece) (o n : Piece)
+    → Changes marked c at before after o n → length (with_span marked.bytes (at - 65536) n.bytes) ≡ length marked.bytes
 changed_long marked c at before after o n x = ap (λ (z : List ℕ). length z) (sym (same_text marked c at before after o n x)) ∙ renewed_long marked c (code_of (before ++ n ∷ after)) x.holds.vetted.marks (renews_of marked c at before after o n x)
 
-pub changed_text : (marked : MarkedText) (c : Chunk) (at : ℕ) (before after : List Piece) (o n : Piece) → Changes marked c at before after o n → IsText (changed marked at n.bytes)
+-- it is a text
+pub changed_text : (marked : MarkedText) (c : Chunk) (at : ℕ) (before after : List Piece) (o n : Piece)
+    → Changes marked c at before after o n → IsText (changed marked at n.bytes)
 changed_text marked c at before after o n x =
     let long = changed_long marked c at before after o n x in
     record {
@@ -193,14 +211,18 @@ changed_text marked c at before after o n x =
       closed = changed_closed marked c at before after o n x;
     }
 
-pub changed_bytes : (marked : MarkedText) (c : Chunk) (at : ℕ) (before after : List Piece) (o n : Piece) → Changes marked c at before after o n → (k : ℕ) → IsInChunk c k → byte_at (changed marked at n.bytes).bytes k ≡ get_or (code_of (before ++ n ∷ after)) (k - c.base) 0
+-- the bytes of the chunk in it
+pub changed_bytes : (marked : MarkedText) (c : Chunk) (at : ℕ) (before after : List Piece) (o n : Piece)
+    → Changes marked c at before after o n → (k : ℕ) → IsInChunk c k
+    → byte_at (changed marked at n.bytes).bytes k ≡ get_or (code_of (before ++ n ∷ after)) (k - c.base) 0
 changed_bytes marked c at before after o n x k inside =
     let r = renews_of marked c at before after o n x in
     ap (λ (z : List ℕ). byte_at z k) (sym (same_text marked c at before after o n x))
     ∙ span_within marked.bytes c.base (code_of (before ++ n ∷ after)) k 0 r.lies.low (omega (arith, r.lies.high, r.long)) inside.0 (omega (arith, inside.1, r.long))
 
 -- the chunk is held as before, with the new instruction in it
-abbrev pub changed_holds : (marked : MarkedText) (c : Chunk) (at : ℕ) (before after : List Piece) (o n : Piece) → Changes marked c at before after o n → HoldsValid (changed marked at n.bytes) c
+abbrev pub changed_holds : (marked : MarkedText) (c : Chunk) (at : ℕ) (before after : List Piece) (o n : Piece)
+    → Changes marked c at before after o n → HoldsValid (changed marked at n.bytes) c
 changed_holds marked c at before after o n x =
     let r = renews_of marked c at before after o n x in
     record {
@@ -217,9 +239,11 @@ changed_holds marked c at before after o n x =
 abbrev NewBegins : List Piece → ℕ → Type 0
 NewBegins pieces k = (b : List Piece) × (p : Piece) × (a : List Piece) × (pieces ≡ b ++ p ∷ a) × (place b ≡ k)
 
+-- a mark that admits something is a mark
 is_marked : (mark : Mark) (masked : Option ℕ) → Admits mark masked → mark ≡ Unmarked → ⊥
 is_marked mark masked m e = subst (λ (x : Mark). Admits x masked) e m
 
+-- where a mark of the chunk stands a piece begins
 begins_there : (marked : MarkedText) (c : Chunk) (at : ℕ) (before after : List Piece) (o n : Piece) (x : Changes marked c at before after o n) (now : State) → IsMarked marked.marks now → c.base ≤ now.place → now.place < c.base + c.length → NewBegins (before ++ n ∷ after) (now.place - c.base)
 begins_there marked c at before after o n x now m low high =
     let v : vet.IsValid (exchanged x.holds.vetted before after n) = exchanged_valid x.holds.vetted before after o n x.exchange in
@@ -228,6 +252,7 @@ begins_there marked c at before after o n x now m low high =
     let found = places.marked v.pieces v.sound.spelled (now.place - c.base) (mark_at marked.marks now.place) (omega (arith, marks_long, low, high)) (sym there) (is_marked (mark_at marked.marks now.place) now.masked m.1) in
     (found.before, found.piece, found.after, found.parts, found.here)
 
+-- no other instruction has a byte of the span
 changed_apart : (marked : MarkedText) (c : Chunk) (at : ℕ) (before after : List Piece) (o n : Piece) (x : Changes marked c at before after o n) (now : State) (i : Instr) → IsMarked marked.marks now → now.place ≢ at → instruction_at (with_span marked.bytes (at - 65536) n.bytes) now.place ≡ Some i → (now.place + i.len ≤ at) ⊎ (at + length n.bytes ≤ now.place)
 changed_apart marked c at before after o n x now i m other is =
     let l = lies marked c x.whole x.holds in
@@ -257,7 +282,8 @@ changed_apart marked c at before after o n x now i m other is =
     first_of_same p q xs ys e = cc
 
 -- the instruction may be replaced
-pub changes_replace : (marked : MarkedText) (c : Chunk) (at : ℕ) (before after : List Piece) (o n : Piece) → Changes marked c at before after o n → IsReplacing marked at n.bytes
+pub changes_replace : (marked : MarkedText) (c : Chunk) (at : ℕ) (before after : List Piece) (o n : Piece)
+    → Changes marked c at before after o n → IsReplacing marked at n.bytes
 changes_replace marked c at before after o n x =
     let l = lies marked c x.whole x.holds in
     let ends = place_in marked c at before after o n x in

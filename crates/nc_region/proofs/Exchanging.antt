@@ -1,12 +1,14 @@
 -- One instruction of a valid chunk exchanged for another that is as long: the chunk is valid, with the same marks.
-use Rattle.std.proofs.Common.{◌≡◌, ◌≢◌, ℕ, ◌+◌, ◌-◌, ◌%◌, ◌/◌, ◌<◌, ◌≤◌, Bool, true, false, cond, List, [], ◌∷◌, ◌++◌, length, replicate, refl, sym, subst, ◌∙◌, ap, arith, inl, inr, append_assoc, append-nil}
+use Rattle.std.proofs.Common.{◌≡◌, ◌≢◌, ℕ, ◌+◌, ◌-◌, ◌%◌, ◌/◌, ◌<◌, ◌≤◌, Bool, true, false, cond, List, [], ◌∷◌, ◌++◌, length, replicate}
+use Rattle.std.proofs.Common.{refl, sym, subst, ◌∙◌, ap, arith, inl, inr, append_assoc, append-nil}
 use Rattle.std.specs.Prelude.{IsTrue}
 use Rattle.nc_decode.specs.declared.instruction.Mark.{Mark}
 use Rattle.nc_decode.specs.declared.instruction.Mark.TheVariants.{Unmarked, Plain, After}
 use Rattle.nc_decode.specs.Spelling.{Spells}
 use Rattle.nc_decode.specs.Transfers.{is_direct, is_indirect, target}
 use Rattle.nc_decode.proofs.Offered.{spells_some}
-use Rattle.nc_vet.specs.Chunk.{Piece, MarkedChunk, code_of, place, FollowsMask, IsEntry, IsTarget, IsValid, AreSound, AreTargets, IsLength, IsInRange, mark_of, instr_marks, marks_of}
+use Rattle.nc_vet.specs.Chunk.{Piece, MarkedChunk, code_of, place, FollowsMask, IsEntry, IsTarget, IsValid, AreSound, AreTargets, IsLength}
+use Rattle.nc_vet.specs.Chunk.{IsInRange, mark_of, instr_marks, marks_of}
 use Rattle.nc_vet.proofs.Pieces.{place-append, marks_of-append}
 use Rattle.nc_vet.proofs.MarkedPlaces.{first_plain}
 use Rattle.nc_region.specs.PatchSteps.{NoneFirst}
@@ -17,6 +19,7 @@ pub data Where (before after b a : List Piece) (n p : Piece) : Type 0 where
   Earlier : (m : List Piece) → before ≡ b ++ p ∷ m → a ≡ m ++ n ∷ after → Where before after b a n p
   Later : (m : List Piece) → b ≡ before ++ n ∷ m → after ≡ m ++ p ∷ a → Where before after b a n p
 
+-- where a piece of a list stands beside another one
 pub where_is : (before after b a : List Piece) (n p : Piece) → before ++ n ∷ after ≡ b ++ p ∷ a → Where before after b a n p
 where_is [] after [] a n p e = let f : n ≡ p = cc in let g : after ≡ a = cc in Here refl f g
 where_is [] after (x ∷ b) a n p e = let f : x ∷ b ≡ n ∷ b = (let h : n ≡ x = cc in rw h refl) in let g : after ≡ b ++ p ∷ a = cc in Later b f g
@@ -42,7 +45,8 @@ pub record Exchanges (c : MarkedChunk) (before after : List Piece) (o n : Piece)
   pub good : IsTrue (is_direct n.instr.flow) → IsTarget c.base c.limit valid.pieces (target n.instr (c.base + place before))
 
 -- places stay
-pub same_place : (before m : List Piece) (o n : Piece) → length o.bytes ≡ length n.bytes → place (before ++ o ∷ m) ≡ place (before ++ n ∷ m)
+pub same_place : (before m : List Piece) (o n : Piece) → length o.bytes ≡ length n.bytes
+    → place (before ++ o ∷ m) ≡ place (before ++ n ∷ m)
 same_place before m o n e =
     place-append before (o ∷ m) ∙ (ap (λ (k : ℕ). place before + k) (place-append (o ∷ []) m ∙ (ap (λ (k : ℕ). k + place m) (one o ∙ (e ∙ sym (one n))) ∙ sym (place-append (n ∷ []) m))) ∙ sym (place-append before (n ∷ m)))
   where
@@ -50,7 +54,8 @@ same_place before m o n e =
     one p = ap (λ (z : List ℕ). length z) (append-nil p.bytes)
 
 -- so do the starts of instructions that are no second halves
-entry_stays : (before after : List Piece) (o n : Piece) (at : ℕ) → length o.bytes ≡ length n.bytes → is_indirect n.instr.flow ≡ false → IsEntry (before ++ o ∷ after) at → IsEntry (before ++ n ∷ after) at
+entry_stays : (before after : List Piece) (o n : Piece) (at : ℕ) → length o.bytes ≡ length n.bytes → is_indirect n.instr.flow ≡ false
+    → IsEntry (before ++ o ∷ after) at → IsEntry (before ++ n ∷ after) at
 entry_stays before after o n at len plain e =
     elim (where_is before after e.before e.after o e.piece e.parts) [
       | Here f g k ↦ record { before = before; after = after; piece = n; parts = refl; here = ap place f ∙ e.here; first = plain }
@@ -59,17 +64,20 @@ entry_stays before after o n at len plain e =
     ]
 
 -- and good targets
-pub target_stays : (base limit : ℕ) (before after : List Piece) (o n : Piece) (to : ℕ) → length o.bytes ≡ length n.bytes → is_indirect n.instr.flow ≡ false → IsTarget base limit (before ++ o ∷ after) to → IsTarget base limit (before ++ n ∷ after) to
+pub target_stays : (base limit : ℕ) (before after : List Piece) (o n : Piece) (to : ℕ) → length o.bytes ≡ length n.bytes
+    → is_indirect n.instr.flow ≡ false → IsTarget base limit (before ++ o ∷ after) to → IsTarget base limit (before ++ n ∷ after) to
 target_stays base limit before after o n to len plain (inl t) = inl (t.0, t.1, omega (arith, t.2, same_place before after o n len), entry_stays before after o n t.0 len plain t.3)
 target_stays base limit before after o n to len plain (inr (inl under, start, below)) = inr (inl under, start, below)
 target_stays base limit before after o n to len plain (inr (inr past, start, below)) = inr (inr (omega (arith, past, same_place before after o n len)), start, below)
 
+-- no list ends in a piece of its own
 none_here : (m : List Piece) (p : Piece) (rest : List Piece) → [] ≡ m ++ p ∷ rest → ⊥
 none_here [] p rest e = cc
 none_here (x ∷ m) p rest e = cc
 
 -- the mask in front of a further instruction stays
-mask_stays : (before : List Piece) (o n x : Piece) (m : List Piece) (reg : ℕ) → length o.bytes ≡ length n.bytes → FollowsMask (before ++ o ∷ x ∷ m) reg → FollowsMask (before ++ n ∷ x ∷ m) reg
+mask_stays : (before : List Piece) (o n x : Piece) (m : List Piece) (reg : ℕ) → length o.bytes ≡ length n.bytes
+    → FollowsMask (before ++ o ∷ x ∷ m) reg → FollowsMask (before ++ n ∷ x ∷ m) reg
 mask_stays before o n x m reg len f =
     elim (where_is before (x ∷ m) f.earlier [] o f.mask f.last) [
       | Here a b c ↦ absurd cc
@@ -84,7 +92,8 @@ mask_stays before o n x m reg len f =
     ]
 
 -- marks stay
-same_marks : (before after : List Piece) (o n : Piece) → o.instr.len ≡ n.instr.len → is_indirect o.instr.flow ≡ false → is_indirect n.instr.flow ≡ false → marks_of (before ++ o ∷ after) ≡ marks_of (before ++ n ∷ after)
+same_marks : (before after : List Piece) (o n : Piece) → o.instr.len ≡ n.instr.len → is_indirect o.instr.flow ≡ false
+    → is_indirect n.instr.flow ≡ false → marks_of (before ++ o ∷ after) ≡ marks_of (before ++ n ∷ after)
 same_marks before after o n len a b =
     marks_of-append before (o ∷ after) ∙ (ap (λ (z : List Mark). marks_of before ++ (z ++ marks_of after)) one ∙ sym (marks_of-append before (n ∷ after)))
   where
@@ -95,23 +104,33 @@ same_marks before after o n len a b =
 abbrev pub exchanged : MarkedChunk → List Piece → List Piece → Piece → MarkedChunk
 exchanged c before after n = record { base = c.base; limit = c.limit; code = code_of (before ++ n ∷ after); marks = c.marks }
 
-pub code_long : (c : MarkedChunk) (before after : List Piece) (o n : Piece) → Exchanges c before after o n → length (code_of (before ++ n ∷ after)) ≡ length c.code
+-- the code is as long
+pub code_long : (c : MarkedChunk) (before after : List Piece) (o n : Piece) → Exchanges c before after o n
+    → length (code_of (before ++ n ∷ after)) ≡ length c.code
 code_long c before after o n x = sym (same_place before after o n x.as_long) ∙ (ap place (sym x.parts) ∙ ap (λ (z : List ℕ). length z) (sym x.valid.parts))
 
 -- where an instruction of the new chunk stands in the old one
-earlier_parts : (c : MarkedChunk) (before after b m : List Piece) (o n p : Piece) (x : Exchanges c before after o n) → before ≡ b ++ p ∷ m → x.valid.pieces ≡ b ++ p ∷ (m ++ o ∷ after)
+earlier_parts : (c : MarkedChunk) (before after b m : List Piece) (o n p : Piece) (x : Exchanges c before after o n) → before ≡ b ++ p ∷ m
+    → x.valid.pieces ≡ b ++ p ∷ (m ++ o ∷ after)
 earlier_parts c before after b m o n p x f = x.parts ∙ (ap (λ (z : List Piece). z ++ o ∷ after) f ∙ append_assoc b (p ∷ m) (o ∷ after))
 
-later_parts : (c : MarkedChunk) (before after m a : List Piece) (o n p : Piece) (x : Exchanges c before after o n) → after ≡ m ++ p ∷ a → x.valid.pieces ≡ (before ++ o ∷ m) ++ p ∷ a
+-- the pieces after the exchanged one
+later_parts : (c : MarkedChunk) (before after m a : List Piece) (o n p : Piece) (x : Exchanges c before after o n) → after ≡ m ++ p ∷ a
+    → x.valid.pieces ≡ (before ++ o ∷ m) ++ p ∷ a
 later_parts c before after m a o n p x g = x.parts ∙ (ap (λ (z : List Piece). before ++ o ∷ z) g ∙ sym (append_assoc before (o ∷ m) (p ∷ a)))
 
-paired_later : (c : MarkedChunk) (before after m a : List Piece) (o n p : Piece) (x : Exchanges c before after o n) → after ≡ m ++ p ∷ a → IsTrue (is_indirect p.instr.flow) → FollowsMask (before ++ n ∷ m) p.instr.reg
+-- a later pair stays one
+paired_later : (c : MarkedChunk) (before after m a : List Piece) (o n p : Piece) (x : Exchanges c before after o n) → after ≡ m ++ p ∷ a
+    → IsTrue (is_indirect p.instr.flow) → FollowsMask (before ++ n ∷ m) p.instr.reg
 paired_later c before after [] a o n p x g indirect = absurd (let none : is_indirect p.instr.flow ≡ false = subst NoneFirst g x.no_mask in let differ : true ≡ false = sym indirect ∙ none in cc)
 paired_later c before after (y ∷ m) a o n p x g indirect = mask_stays before o n y m p.instr.reg x.as_long (x.valid.sound.paired (before ++ o ∷ y ∷ m) a p (later_parts c before after (y ∷ m) a o n p x g) indirect)
 
-target_new : (c : MarkedChunk) (before after : List Piece) (o n : Piece) (x : Exchanges c before after o n) (to : ℕ) → IsTarget c.base c.limit x.valid.pieces to → IsTarget c.base c.limit (before ++ n ∷ after) to
+-- a good target stays one
+target_new : (c : MarkedChunk) (before after : List Piece) (o n : Piece) (x : Exchanges c before after o n) (to : ℕ)
+    → IsTarget c.base c.limit x.valid.pieces to → IsTarget c.base c.limit (before ++ n ∷ after) to
 target_new c before after o n x to t = target_stays c.base c.limit before after o n to x.as_long x.new_plain (subst (λ (z : List Piece). IsTarget c.base c.limit z to) x.parts t)
 
+-- the exchanged pieces keep the rules of bundles and pairs
 pub exchanged_sound : (c : MarkedChunk) (before after : List Piece) (o n : Piece) → Exchanges c before after o n → AreSound (before ++ n ∷ after)
 exchanged_sound c before after o n x =
     let v = x.valid in
@@ -133,7 +152,9 @@ exchanged_sound c before after o n x =
       ];
     }
 
-pub exchanged_targets : (c : MarkedChunk) (before after : List Piece) (o n : Piece) → Exchanges c before after o n → AreTargets c.base c.limit (before ++ n ∷ after)
+-- they go where they may
+pub exchanged_targets : (c : MarkedChunk) (before after : List Piece) (o n : Piece) → Exchanges c before after o n
+    → AreTargets c.base c.limit (before ++ n ∷ after)
 exchanged_targets c before after o n x = λ b a p e direct. elim (where_is before after b a n p e) [
   | Here f g k ↦
       target_new c before after o n x (target p.instr (c.base + place b))
@@ -145,7 +166,9 @@ exchanged_targets c before after o n x = λ b a p e direct. elim (where_is befor
       (subst (λ (k : ℕ). IsTarget c.base c.limit x.valid.pieces (target p.instr (c.base + k))) (same_place before m o n x.as_long ∙ ap place (sym f)) (x.valid.targets (before ++ o ∷ m) a p (later_parts c before after m a o n p x g) direct))
 ]
 
-pub exchanged_marks : (c : MarkedChunk) (before after : List Piece) (o n : Piece) → Exchanges c before after o n → c.marks ≡ marks_of (before ++ n ∷ after)
+-- they have the same marks
+pub exchanged_marks : (c : MarkedChunk) (before after : List Piece) (o n : Piece) → Exchanges c before after o n
+    → c.marks ≡ marks_of (before ++ n ∷ after)
 exchanged_marks c before after o n x = x.valid.marks_are ∙ (ap (λ (z : List Piece). marks_of z) x.parts ∙ same_marks before after o n (old_len ∙ (x.as_long ∙ sym new_len)) x.old_plain x.new_plain)
   where
     old_len : o.instr.len ≡ length o.bytes
@@ -154,15 +177,21 @@ exchanged_marks c before after o n x = x.valid.marks_are ∙ (ap (λ (z : List P
     new_len : n.instr.len ≡ length n.bytes
     new_len = (spells_some n.bytes n.instr x.spells).0
 
-pub exchanged_length : (c : MarkedChunk) (before after : List Piece) (o n : Piece) → Exchanges c before after o n → IsLength (length (code_of (before ++ n ∷ after)))
+-- the code has whole bundles
+pub exchanged_length : (c : MarkedChunk) (before after : List Piece) (o n : Piece) → Exchanges c before after o n
+    → IsLength (length (code_of (before ++ n ∷ after)))
 exchanged_length c before after o n x =
     let long = code_long c before after o n x in
     (omega (arith, long, x.valid.length_is.0), ap (λ (k : ℕ). k % 32) long ∙ x.valid.length_is.1)
 
-pub exchanged_range : (c : MarkedChunk) (before after : List Piece) (o n : Piece) → Exchanges c before after o n → IsInRange c.base c.limit (length (code_of (before ++ n ∷ after)))
+-- the chunk stays below the guard
+pub exchanged_range : (c : MarkedChunk) (before after : List Piece) (o n : Piece) → Exchanges c before after o n
+    → IsInRange c.base c.limit (length (code_of (before ++ n ∷ after)))
 exchanged_range c before after o n x = (x.valid.range.0, omega (arith, code_long c before after o n x, x.valid.range.1))
 
-abbrev pub exchanged_valid : (c : MarkedChunk) (before after : List Piece) (o n : Piece) → Exchanges c before after o n → IsValid (exchanged c before after n)
+-- the exchanged chunk is valid
+abbrev pub exchanged_valid : (c : MarkedChunk) (before after : List Piece) (o n : Piece) → Exchanges c before after o n
+    → IsValid (exchanged c before after n)
 exchanged_valid c before after o n x =
     record {
       base_is = x.valid.base_is;

@@ -27,7 +27,8 @@ rises_without from [] after c rising = rises_from from (c.base + c.length) after
 rises_without from (b ∷ before) after c rising = (rising.0, rises_without (b.base + b.length) before after c rising.1)
 
 -- the others lie beside it
-lie_beside : (from : ℕ) (before after : List Chunk) (c : Chunk) → IsRising from (before ++ c ∷ after) → Each (LiesBeside c) (before ++ after)
+lie_beside : (from : ℕ) (before after : List Chunk) (c : Chunk) → IsRising from (before ++ c ∷ after)
+    → Each (LiesBeside c) (before ++ after)
 lie_beside from [] after c rising = each_map (λ (d : Chunk). c.base + c.length ≤ d.base) (LiesBeside c) (λ d h. inr h) after (rises_above (c.base + c.length) after rising.1)
 lie_beside from (b ∷ before) after c rising =
     (inl (each_middle (λ (d : Chunk). b.base + b.length ≤ d.base) before after c (rises_above (b.base + b.length) (before ++ c ∷ after) rising.1)), lie_beside (b.base + b.length) before after c rising.1)
@@ -37,7 +38,8 @@ abbrev pub span_of : Chunk → Span
 span_of c = record { base = c.base; length = c.length; stamp = 0 }
 
 -- a retired chunk's span may be freed
-pub frees : (marked : MarkedText) (before after : List Chunk) (c : Chunk) → IsRegion marked (before ++ c ∷ after) → (IsLive c.state → ⊥) → Frees marked (span_of c)
+pub frees : (marked : MarkedText) (before after : List Chunk) (c : Chunk) → IsRegion marked (before ++ c ∷ after) → (IsLive c.state → ⊥)
+    → Frees marked (span_of c)
 frees marked before after c region dead =
     record {
       as_long = region.whole.as_long;
@@ -49,7 +51,8 @@ frees marked before after c region dead =
     }
 
 -- outside it nothing is changed
-agrees : (marked : MarkedText) (c : Chunk) → Frees marked (span_of c) → AgreesOutside marked (without_marks marked c.base c.length) c.base c.length
+agrees : (marked : MarkedText) (c : Chunk) → Frees marked (span_of c)
+    → AgreesOutside marked (without_marks marked c.base c.length) c.base c.length
 agrees marked c f =
     record {
       as_long = refl;
@@ -58,7 +61,8 @@ agrees marked c f =
     }
 
 -- the region without the chunk
-pub region_freed : (marked : MarkedText) (before after : List Chunk) (c : Chunk) → IsRegion marked (before ++ c ∷ after) → (IsLive c.state → ⊥) → IsRegion (without_marks marked c.base c.length) (before ++ after)
+pub region_freed : (marked : MarkedText) (before after : List Chunk) (c : Chunk) → IsRegion marked (before ++ c ∷ after)
+    → (IsLive c.state → ⊥) → IsRegion (without_marks marked c.base c.length) (before ++ after)
 region_freed marked before after c region dead =
     let f = frees marked before after c region dead in
     let a = agrees marked c f in

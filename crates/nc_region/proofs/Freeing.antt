@@ -1,5 +1,6 @@
 -- A quiet span may be unmarked.
-use Rattle.std.proofs.Common.{◌≡◌, ◌≢◌, ℕ, ◌+◌, ◌-◌, ◌%◌, ◌<◌, ◌≤◌, ◌⊎◌, List, length, get_or, Option, inl, inr, arith, refl, ◌∙◌, sym, ap, subst, ⊎_elim}
+use Rattle.std.proofs.Common.{◌≡◌, ◌≢◌, ℕ, ◌+◌, ◌-◌, ◌%◌, ◌<◌, ◌≤◌, ◌⊎◌, List, length, get_or, Option, inl, inr, arith, refl, ◌∙◌, sym}
+use Rattle.std.proofs.Common.{ap, subst, ⊎_elim}
 use Rattle.std.proofs.lemmas.List.FromFn.{length-map-range_with_len, get_or-map-range_with_len}
 use Rattle.nc_decode.specs.declared.instruction.Mark.{Mark}
 use Rattle.nc_decode.specs.declared.instruction.Mark.TheVariants.{Unmarked, Plain}
@@ -13,10 +14,12 @@ use Rattle.nc_text.proofs.Fresh.{marked_within}
 use Rattle.nc_text.proofs.SpanElements.{length-with_span}
 use Rattle.nc_region.specs.Chunks.{IsPlaced}
 use Rattle.nc_region.specs.Quiet.{Span, IsInSpan, IsWithin, IsQuiet}
-use Rattle.nc_region.proofs.SpanPlaces.{place_of, Before, Within, Behind, span_before, span_within, span_behind, start_or_not, unused_is_start, unused_at_start}
+use Rattle.nc_region.proofs.SpanPlaces.{place_of, Before, Within, Behind, span_before, span_within, span_behind, start_or_not}
+use Rattle.nc_region.proofs.SpanPlaces.{unused_is_start, unused_at_start}
 
 -- no step leads into a quiet span but to a bundle start
-pub none_steps_in : (text : List ℕ) (marks : List Mark) (span : Span) → IsQuiet text marks span → (now next : State) → IsMarked marks now → Step text now next → IsWithin span next.place → ⊥
+pub none_steps_in : (text : List ℕ) (marks : List Mark) (span : Span) → IsQuiet text marks span → (now next : State) → IsMarked marks now
+    → Step text now next → IsWithin span next.place → ⊥
 none_steps_in text marks span quiet now next m step within =
     elim (place_of span.base span.length now.place) [
       | Before l ↦ quiet.unreached now next m (λ inside. omega (arith, inside.0, l)) step within
@@ -35,31 +38,42 @@ pub record Frees (marked : MarkedText) (span : Span) : Type 0 where
 abbrev pub freed_marks : MarkedText → Span → List Mark
 freed_marks marked span = (without_marks marked span.base span.length).marks
 
+-- how long the marks of a span are
 unused_long : (span : Span) → length (unused_marks span.base span.length) ≡ span.length
 unused_long span = length-map-range_with_len unused_mark span.base span.length
 
+-- they fit into the marks
 fits : (marked : MarkedText) (span : Span) → Frees marked span → span.base + length (unused_marks span.base span.length) ≤ 65536 + length marked.marks
 fits marked span f = omega (arith, unused_long span, f.placed.high, f.as_long)
 
-pub freed_within : (marked : MarkedText) (span : Span) (at : ℕ) → Frees marked span → span.base ≤ at → at < span.base + span.length → mark_at (freed_marks marked span) at ≡ unused_mark at
+-- in the span only bundle starts are marked
+pub freed_within : (marked : MarkedText) (span : Span) (at : ℕ) → Frees marked span → span.base ≤ at → at < span.base + span.length
+    → mark_at (freed_marks marked span) at ≡ unused_mark at
 freed_within marked span at f a b =
     span_within marked.marks span.base (unused_marks span.base span.length) at Unmarked f.placed.low (fits marked span f) a (omega (arith, unused_long span))
     ∙ get_or-map-range_with_len unused_mark span.base span.length (at - span.base) at Unmarked (omega arith) (omega arith)
 
-pub freed_before : (marked : MarkedText) (span : Span) (at : ℕ) → Frees marked span → 65536 ≤ at → at < span.base → mark_at (freed_marks marked span) at ≡ mark_at marked.marks at
+-- before it the marks stay
+pub freed_before : (marked : MarkedText) (span : Span) (at : ℕ) → Frees marked span → 65536 ≤ at → at < span.base
+    → mark_at (freed_marks marked span) at ≡ mark_at marked.marks at
 freed_before marked span at f low l = span_before marked.marks span.base (unused_marks span.base span.length) at Unmarked f.placed.low (fits marked span f) low l
 
-pub freed_behind : (marked : MarkedText) (span : Span) (at : ℕ) → Frees marked span → span.base + span.length ≤ at → mark_at (freed_marks marked span) at ≡ mark_at marked.marks at
+-- after it too
+pub freed_behind : (marked : MarkedText) (span : Span) (at : ℕ) → Frees marked span → span.base + span.length ≤ at
+    → mark_at (freed_marks marked span) at ≡ mark_at marked.marks at
 freed_behind marked span at f p = span_behind marked.marks span.base (unused_marks span.base span.length) at Unmarked f.placed.low (fits marked span f) (omega (arith, unused_long span))
 
+-- there are as many marks
 pub freed_long : (marked : MarkedText) (span : Span) → Frees marked span → length (freed_marks marked span) ≡ length marked.marks
 freed_long marked span f = length-with_span marked.marks (span.base - 65536) (unused_marks span.base span.length) (omega (arith, fits marked span f, f.placed.low))
 
+-- a plain place is marked
 plain_is_marked : (marks : List Mark) (now : State) → 65536 ≤ now.place → mark_at marks now.place ≡ Plain → IsMarked marks now
 plain_is_marked marks now low plain = (low, subst (λ (mark : Mark). Admits mark now.masked) (sym plain) tt)
 
 -- what is marked afterwards was marked before
-pub freed_was : (marked : MarkedText) (span : Span) → Frees marked span → (now : State) → IsMarked (freed_marks marked span) now → IsMarked marked.marks now
+pub freed_was : (marked : MarkedText) (span : Span) → Frees marked span → (now : State) → IsMarked (freed_marks marked span) now
+    → IsMarked marked.marks now
 freed_was marked span f now m =
     elim (place_of span.base span.length now.place) [
       | Before l ↦ (m.0, subst (λ (mark : Mark). Admits mark now.masked) (freed_before marked span now.place f m.0 l) m.1)
@@ -71,7 +85,8 @@ freed_was marked span f now m =
     ]
 
 -- what was marked and isn't within the span stays marked
-pub freed_stays : (marked : MarkedText) (span : Span) → Frees marked span → (now : State) → IsMarked marked.marks now → (IsWithin span now.place → ⊥) → IsMarked (freed_marks marked span) now
+pub freed_stays : (marked : MarkedText) (span : Span) → Frees marked span → (now : State) → IsMarked marked.marks now
+    → (IsWithin span now.place → ⊥) → IsMarked (freed_marks marked span) now
 freed_stays marked span f now m out =
     elim (place_of span.base span.length now.place) [
       | Before l ↦ (m.0, subst (λ (mark : Mark). Admits mark now.masked) (sym (freed_before marked span now.place f m.0 l)) m.1)
@@ -83,6 +98,7 @@ freed_stays marked span f now m out =
       | Behind p ↦ (m.0, subst (λ (mark : Mark). Admits mark now.masked) (sym (freed_behind marked span now.place f p)) m.1)
     ]
 
+-- the text is closed under these marks
 pub freed_closed : (marked : MarkedText) (span : Span) → Frees marked span → IsClosed marked.bytes (freed_marks marked span)
 freed_closed marked span f =
     record {
@@ -101,7 +117,9 @@ freed_closed marked span f =
           ];
     }
 
-pub freed_quiet : (marked : MarkedText) (span other : Span) → Frees marked span → IsQuiet marked.bytes marked.marks other → IsQuiet marked.bytes (freed_marks marked span) other
+-- another quiet span stays quiet
+pub freed_quiet : (marked : MarkedText) (span other : Span) → Frees marked span → IsQuiet marked.bytes marked.marks other
+    → IsQuiet marked.bytes (freed_marks marked span) other
 freed_quiet marked span other f quiet =
     record {
       stops = quiet.stops;

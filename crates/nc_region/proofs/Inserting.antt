@@ -1,5 +1,6 @@
 -- A region with one more chunk.
-use Rattle.std.proofs.Common.{◌≡◌, ℕ, ◌+◌, ◌-◌, ◌*◌, ◌<◌, ◌≤◌, ◌⊎◌, List, [], ◌∷◌, ◌++◌, length, get_or, take, drop, inl, inr, arith, ◌∙◌, sym, ap, subst, zero, suc}
+use Rattle.std.proofs.Common.{◌≡◌, ℕ, ◌+◌, ◌-◌, ◌*◌, ◌<◌, ◌≤◌, ◌⊎◌, List, [], ◌∷◌, ◌++◌, length, get_or, take, drop, inl, inr, arith}
+use Rattle.std.proofs.Common.{◌∙◌, sym, ap, subst, zero, suc}
 use Rattle.std.specs.List.{insert}
 use Rattle.std.proofs.lemmas.List.{take-append-drop}
 use Rattle.nc_decode.specs.declared.instruction.Mark.{Mark}
@@ -19,6 +20,7 @@ use Rattle.nc_region.specs.Region.{IsNew, IsLive, IsInChunk, IsRising, HoldsVali
 use Rattle.nc_region.proofs.EachMember.{each_map, each_both, each_take, each_drop, each_append}
 use Rattle.nc_region.proofs.SpanPlaces.{place_of, Before, Within, Behind, span_before, span_within, span_behind}
 
+-- both parts of a list
 each_split : {X : Type 0} (P : X → Type 0) (xs ys : List X) → Each P (xs ++ ys) → Each P xs × Each P ys
 each_split P [] ys h = (tt, h)
 each_split P (x ∷ xs) ys h = let r = each_split P xs ys h.1 in ((h.0, r.0), r.1)
@@ -29,14 +31,19 @@ each_but P xs k x h =
     let r = each_split P (take k xs) (x ∷ drop k xs) h in
     (r.1.0, subst (Each P) (take-append-drop k xs) (each_append P (take k xs) (drop k xs) r.0 r.1.1))
 
-each_insert : {X : Type 0} (P : X → Type 0) (xs : List X) (k : ℕ) (x : X) → P x → Each P (take k xs) → Each P (drop k xs) → Each P (insert xs k x)
+-- one member inserted
+each_insert : {X : Type 0} (P : X → Type 0) (xs : List X) (k : ℕ) (x : X) → P x → Each P (take k xs) → Each P (drop k xs)
+    → Each P (insert xs k x)
 each_insert P xs k x p front back = each_append P (take k xs) (x ∷ drop k xs) front (p, back)
 
+-- chunks that all begin later rise from there
 rising_from : (from to : ℕ) (chunks : List Chunk) → IsRising from chunks → IsBelowAll to chunks → IsRising to chunks
 rising_from from to [] rising below = tt
 rising_from from to (c ∷ rest) rising below = (below.0, rising.1)
 
-rising_insert : (from : ℕ) (chunks : List Chunk) (k : ℕ) (c : Chunk) → IsRising from chunks → from ≤ c.base → IsAboveAll c.base (take k chunks) → IsBelowAll (c.base + c.length) (drop k chunks) → IsRising from (insert chunks k c)
+-- a list with a chunk inserted rises
+rising_insert : (from : ℕ) (chunks : List Chunk) (k : ℕ) (c : Chunk) → IsRising from chunks → from ≤ c.base
+    → IsAboveAll c.base (take k chunks) → IsBelowAll (c.base + c.length) (drop k chunks) → IsRising from (insert chunks k c)
 rising_insert from chunks zero c rising low above below = (low, rising_from from (c.base + c.length) chunks rising below)
 rising_insert from [] (suc k) c rising low above below = (low, tt)
 rising_insert from (d ∷ rest) (suc k) c rising low above below = (rising.0, rising_insert (d.base + d.length) rest k c rising.1 above.0 above.1 below)
@@ -55,31 +62,45 @@ pub record Inserts (marked : MarkedText) (chunks : List Chunk) (k : ℕ) (c : Ch
   pub above : IsAboveAll c.base (take k chunks)
   pub below : IsBelowAll (c.base + c.length) (drop k chunks)
 
-fits_bytes : (marked : MarkedText) (chunks : List Chunk) (k : ℕ) (c : Chunk) (bytes : List ℕ) (marks : List Mark) → Inserts marked chunks k c bytes marks → c.base + length bytes ≤ 65536 + length marked.bytes
+-- the chunk fits into the bytes
+fits_bytes : (marked : MarkedText) (chunks : List Chunk) (k : ℕ) (c : Chunk) (bytes : List ℕ) (marks : List Mark)
+    → Inserts marked chunks k c bytes marks → c.base + length bytes ≤ 65536 + length marked.bytes
 fits_bytes marked chunks k c bytes marks n = omega (arith, n.chunk.placed.high)
 
-fits_marks : (marked : MarkedText) (chunks : List Chunk) (k : ℕ) (c : Chunk) (bytes : List ℕ) (marks : List Mark) → Inserts marked chunks k c bytes marks → c.base + length marks ≤ 65536 + length marked.marks
+-- its marks fit
+fits_marks : (marked : MarkedText) (chunks : List Chunk) (k : ℕ) (c : Chunk) (bytes : List ℕ) (marks : List Mark)
+    → Inserts marked chunks k c bytes marks → c.base + length marks ≤ 65536 + length marked.marks
 fits_marks marked chunks k c bytes marks n = omega (arith, n.chunk.placed.high, n.chunk.as_long, n.region.whole.as_long)
 
 -- outside the new chunk nothing changes
-other_byte : (marked : MarkedText) (chunks : List Chunk) (k : ℕ) (c : Chunk) (bytes : List ℕ) (marks : List Mark) (at : ℕ) → Inserts marked chunks k c bytes marks → 65536 ≤ at → (at < c.base) ⊎ (c.base + c.length ≤ at) → byte_at (with_chunk marked c.base bytes marks).bytes at ≡ byte_at marked.bytes at
+other_byte : (marked : MarkedText) (chunks : List Chunk) (k : ℕ) (c : Chunk) (bytes : List ℕ) (marks : List Mark) (at : ℕ)
+    → Inserts marked chunks k c bytes marks → 65536 ≤ at → (at < c.base) ⊎ (c.base + c.length ≤ at)
+    → byte_at (with_chunk marked c.base bytes marks).bytes at ≡ byte_at marked.bytes at
 other_byte marked chunks k c bytes marks at n low out =
     elim out [
       | inl l ↦ span_before marked.bytes c.base bytes at 0 n.chunk.placed.low (fits_bytes marked chunks k c bytes marks n) low l
       | inr p ↦ span_behind marked.bytes c.base bytes at 0 n.chunk.placed.low (fits_bytes marked chunks k c bytes marks n) (omega (arith, p, n.long))
     ]
 
-other_mark : (marked : MarkedText) (chunks : List Chunk) (k : ℕ) (c : Chunk) (bytes : List ℕ) (marks : List Mark) (at : ℕ) → Inserts marked chunks k c bytes marks → 65536 ≤ at → (at < c.base) ⊎ (c.base + c.length ≤ at) → mark_at (with_chunk marked c.base bytes marks).marks at ≡ mark_at marked.marks at
+-- a mark beside the chunk stays
+other_mark : (marked : MarkedText) (chunks : List Chunk) (k : ℕ) (c : Chunk) (bytes : List ℕ) (marks : List Mark) (at : ℕ)
+    → Inserts marked chunks k c bytes marks → 65536 ≤ at → (at < c.base) ⊎ (c.base + c.length ≤ at)
+    → mark_at (with_chunk marked c.base bytes marks).marks at ≡ mark_at marked.marks at
 other_mark marked chunks k c bytes marks at n low out =
     elim out [
       | inl l ↦ span_before marked.marks c.base marks at Unmarked n.chunk.placed.low (fits_marks marked chunks k c bytes marks n) low l
       | inr p ↦ span_behind marked.marks c.base marks at Unmarked n.chunk.placed.low (fits_marks marked chunks k c bytes marks n) (omega (arith, p, n.long, n.chunk.as_long))
     ]
 
-same_limit : (marked : MarkedText) (chunks : List Chunk) (k : ℕ) (c : Chunk) (bytes : List ℕ) (marks : List Mark) → Inserts marked chunks k c bytes marks → limit_of (with_chunk marked c.base bytes marks).bytes ≡ limit_of marked.bytes
+-- the limit stays
+same_limit : (marked : MarkedText) (chunks : List Chunk) (k : ℕ) (c : Chunk) (bytes : List ℕ) (marks : List Mark)
+    → Inserts marked chunks k c bytes marks → limit_of (with_chunk marked c.base bytes marks).bytes ≡ limit_of marked.bytes
 same_limit marked chunks k c bytes marks n = ap (λ (m : ℕ). 65536 + m) (length-with_span marked.bytes (c.base - 65536) bytes (omega (arith, n.chunk.placed.low, fits_bytes marked chunks k c bytes marks n)))
 
-holds_still : (marked : MarkedText) (chunks : List Chunk) (k : ℕ) (c : Chunk) (bytes : List ℕ) (marks : List Mark) → Inserts marked chunks k c bytes marks → (d : Chunk) → (d.base + d.length ≤ c.base) ⊎ (c.base + c.length ≤ d.base) → HoldsValid marked d → HoldsValid (with_chunk marked c.base bytes marks) d
+-- another chunk still stands
+holds_still : (marked : MarkedText) (chunks : List Chunk) (k : ℕ) (c : Chunk) (bytes : List ℕ) (marks : List Mark)
+    → Inserts marked chunks k c bytes marks → (d : Chunk) → (d.base + d.length ≤ c.base) ⊎ (c.base + c.length ≤ d.base)
+    → HoldsValid marked d → HoldsValid (with_chunk marked c.base bytes marks) d
 holds_still marked chunks k c bytes marks n d apart h =
     let out : (at : ℕ) → IsInChunk d at → (at < c.base) ⊎ (c.base + c.length ≤ at) = λ at inside. elim apart [ inl l ↦ inl (omega (arith, l, inside.1)) | inr p ↦ inr (omega (arith, p, inside.0)) ] in
     let low : 65536 ≤ d.base = subst (λ (b : ℕ). 65536 ≤ b) h.base_is h.valid.base_is.1 in
@@ -93,7 +114,9 @@ holds_still marked chunks k c bytes marks n d apart h =
       marks_are = λ at inside. other_mark marked chunks k c bytes marks at n (omega (arith, inside.0, low)) (out at inside) ∙ h.marks_are at inside;
     }
 
-holds_new : (marked : MarkedText) (chunks : List Chunk) (k : ℕ) (c : Chunk) (bytes : List ℕ) (marks : List Mark) → Inserts marked chunks k c bytes marks → HoldsValid (with_chunk marked c.base bytes marks) c
+-- the new one stands
+holds_new : (marked : MarkedText) (chunks : List Chunk) (k : ℕ) (c : Chunk) (bytes : List ℕ) (marks : List Mark)
+    → Inserts marked chunks k c bytes marks → HoldsValid (with_chunk marked c.base bytes marks) c
 holds_new marked chunks k c bytes marks n =
     record {
       vetted = n.vetted;
@@ -105,7 +128,10 @@ holds_new marked chunks k c bytes marks n =
       marks_are = λ at inside. span_within marked.marks c.base marks at Unmarked n.chunk.placed.low (fits_marks marked chunks k c bytes marks n) inside.0 (omega (arith, inside.1, n.long, n.chunk.as_long)) ∙ ap (λ (ms : List Mark). get_or ms (at - c.base) Unmarked) (sym n.marks_is);
     }
 
-pub region_with_chunk : (marked : MarkedText) (chunks : List Chunk) (k : ℕ) (c : Chunk) (bytes : List ℕ) (marks : List Mark) → Inserts marked chunks k c bytes marks → IsLive c.state → IsText (with_chunk marked c.base bytes marks) → IsRegion (with_chunk marked c.base bytes marks) (insert chunks k c)
+-- the region with the chunk
+pub region_with_chunk : (marked : MarkedText) (chunks : List Chunk) (k : ℕ) (c : Chunk) (bytes : List ℕ) (marks : List Mark)
+    → Inserts marked chunks k c bytes marks → IsLive c.state → IsText (with_chunk marked c.base bytes marks)
+    → IsRegion (with_chunk marked c.base bytes marks) (insert chunks k c)
 region_with_chunk marked chunks k c bytes marks n live whole =
     let limit = same_limit marked chunks k c bytes marks n in
     record {
@@ -141,14 +167,18 @@ region_with_chunk marked chunks k c bytes marks n live whole =
     }
 
 -- a span that meets no chunk is unused
-free_if_apart : (chunks : List Chunk) (k base len at : ℕ) → IsAboveAll base (take k chunks) → IsBelowAll (base + len) (drop k chunks) → base ≤ at → at < base + len → Each (λ (d : Chunk). IsInChunk d at → ⊥) chunks
+free_if_apart : (chunks : List Chunk) (k base len at : ℕ) → IsAboveAll base (take k chunks) → IsBelowAll (base + len) (drop k chunks)
+    → base ≤ at → at < base + len → Each (λ (d : Chunk). IsInChunk d at → ⊥) chunks
 free_if_apart chunks k base len at above below low high =
     subst (Each (λ (d : Chunk). IsInChunk d at → ⊥)) (take-append-drop k chunks)
     (each_append (λ (d : Chunk). IsInChunk d at → ⊥) (take k chunks) (drop k chunks)
     (each_map (λ (d : Chunk). d.base + d.length ≤ base) (λ (d : Chunk). IsInChunk d at → ⊥) (λ d h inside. omega (arith, h, inside.1, low)) (take k chunks) above)
     (each_map (λ (d : Chunk). base + len ≤ d.base) (λ (d : Chunk). IsInChunk d at → ⊥) (λ d h inside. omega (arith, h, inside.0, high)) (drop k chunks) below))
 
-pub unused_if_apart : (marked : MarkedText) (chunks : List Chunk) (k base len : ℕ) → IsRegion marked chunks → IsPlaced base (limit_of marked.bytes) len → IsAboveAll base (take k chunks) → IsBelowAll (base + len) (drop k chunks) → IsUnused marked base len
+-- a span that meets no chunk is unused
+pub unused_if_apart : (marked : MarkedText) (chunks : List Chunk) (k base len : ℕ) → IsRegion marked chunks
+    → IsPlaced base (limit_of marked.bytes) len → IsAboveAll base (take k chunks) → IsBelowAll (base + len) (drop k chunks)
+    → IsUnused marked base len
 unused_if_apart marked chunks k base len region placed above below =
     record {
       stops = λ at a b.

@@ -1,5 +1,6 @@
 -- A valid chunk as the list of its instructions, by recursion over them.
-use Rattle.std.specs.Prelude.{◌≡◌, ◌≢◌, ℕ, ◌+◌, ◌-◌, ◌%◌, ◌<◌, ◌≤◌, ◌⊎◌, ⊤, List, [], ◌∷◌, ◌++◌, length, drop, replicate, Option, Some, None}
+use Rattle.std.specs.Prelude.{◌≡◌, ◌≢◌, ℕ, ◌+◌, ◌-◌, ◌%◌, ◌<◌, ◌≤◌, ◌⊎◌, ⊤, List, [], ◌∷◌, ◌++◌, length, drop, replicate, Option, Some}
+use Rattle.std.specs.Prelude.{None}
 use Rattle.nc_decode.specs.declared.instruction.Instr.{Instr}
 use Rattle.nc_decode.specs.declared.instruction.Flow.{Flow}
 use Rattle.nc_decode.specs.declared.instruction.Flow.TheVariants.{Branch, Jump, Call, IndirectJump, IndirectCall}
@@ -59,6 +60,7 @@ abbrev pub TargetsHold : (ℕ → Type 0) → ℕ → List Instr → Type 0
 TargetsHold good at [] = ⊤
 TargetsHold good at (i ∷ rest) = (IsDirect i.flow → good (target i at)) × TargetsHold good (at + i.len) rest
 
+-- a valid chunk, by the list of its instructions
 pub record IsValid (base limit : ℕ) (code : List ℕ) (chunk : List Instr) : Type 0 where
   pub placed : IsPlaced base limit (length code)
   pub reading : IsReading code chunk
@@ -66,6 +68,7 @@ pub record IsValid (base limit : ℕ) (code : List ℕ) (chunk : List Instr) : T
   pub pairs : PairsHold None base chunk
   pub targets : TargetsHold (IsTarget base limit (length code) chunk) base chunk
 
+-- the mark of an instruction, by its flow
 abbrev pub mark_by : Flow → ℕ → Mark
 mark_by IndirectJump register = After register
 mark_by IndirectCall register = After register

@@ -15,7 +15,8 @@ use Rattle.nc_text.proofs.SpanElements.{length-with_span}
 use Rattle.nc_text.proofs.Fresh.{marked_within}
 use Rattle.nc_region.specs.Chunks.{IsClosedChunk, IsUnused, with_chunk}
 use Rattle.nc_region.proofs.Alone.{alone, alone_fits_bytes, alone_within, alone_before, alone_behind, alone_bytes_long, alone_marks_long}
-use Rattle.nc_region.proofs.SpanPlaces.{Before, Within, Behind, place_of, unused_is_start, start_or_not, unused_at_start, span_within, span_before, span_behind, before_span, within_span}
+use Rattle.nc_region.proofs.SpanPlaces.{Before, Within, Behind, place_of, unused_is_start, start_or_not, unused_at_start, span_within}
+use Rattle.nc_region.proofs.SpanPlaces.{span_before, span_behind, before_span, within_span}
 
 -- a chunk that is closed by itself may stand in an unused span
 pub record Joins (marked : MarkedText) (base : ℕ) (bytes : List ℕ) (marks : List Mark) : Type 0 where
@@ -25,27 +26,36 @@ pub record Joins (marked : MarkedText) (base : ℕ) (bytes : List ℕ) (marks : 
   pub unused : IsUnused marked base (length bytes)
 
 -- the chunk fits into bytes and marks
-fits_bytes : (marked : MarkedText) (base : ℕ) (bytes : List ℕ) (marks : List Mark) → Joins marked base bytes marks → base + length bytes ≤ 65536 + length marked.bytes
+fits_bytes : (marked : MarkedText) (base : ℕ) (bytes : List ℕ) (marks : List Mark) → Joins marked base bytes marks
+    → base + length bytes ≤ 65536 + length marked.bytes
 fits_bytes marked base bytes marks j = omega (arith, j.chunk.placed.high)
 
-fits_marks : (marked : MarkedText) (base : ℕ) (bytes : List ℕ) (marks : List Mark) → Joins marked base bytes marks → base + length marks ≤ 65536 + length marked.marks
+-- the chunk's marks fit
+fits_marks : (marked : MarkedText) (base : ℕ) (bytes : List ℕ) (marks : List Mark) → Joins marked base bytes marks
+    → base + length marks ≤ 65536 + length marked.marks
 fits_marks marked base bytes marks j = omega (arith, j.chunk.placed.high, j.as_long, j.chunk.as_long)
 
 -- the mark that the text with the chunk has, by the place
-marks_within : (marked : MarkedText) (base : ℕ) (bytes : List ℕ) (marks : List Mark) (at : ℕ) → Joins marked base bytes marks → base ≤ at → at < base + length bytes → mark_at (with_chunk marked base bytes marks).marks at ≡ get_or marks (at - base) Unmarked
+marks_within : (marked : MarkedText) (base : ℕ) (bytes : List ℕ) (marks : List Mark) (at : ℕ) → Joins marked base bytes marks → base ≤ at
+    → at < base + length bytes → mark_at (with_chunk marked base bytes marks).marks at ≡ get_or marks (at - base) Unmarked
 marks_within marked base bytes marks at j low high =
     span_within marked.marks base marks at Unmarked j.chunk.placed.low (fits_marks marked base bytes marks j) low (omega (arith, j.chunk.as_long))
 
-marks_before : (marked : MarkedText) (base : ℕ) (bytes : List ℕ) (marks : List Mark) (at : ℕ) → Joins marked base bytes marks → 65536 ≤ at → at < base → mark_at (with_chunk marked base bytes marks).marks at ≡ mark_at marked.marks at
+-- the marks before the chunk
+marks_before : (marked : MarkedText) (base : ℕ) (bytes : List ℕ) (marks : List Mark) (at : ℕ) → Joins marked base bytes marks
+    → 65536 ≤ at → at < base → mark_at (with_chunk marked base bytes marks).marks at ≡ mark_at marked.marks at
 marks_before marked base bytes marks at j low high =
     span_before marked.marks base marks at Unmarked j.chunk.placed.low (fits_marks marked base bytes marks j) low high
 
-marks_behind : (marked : MarkedText) (base : ℕ) (bytes : List ℕ) (marks : List Mark) (at : ℕ) → Joins marked base bytes marks → base + length bytes ≤ at → mark_at (with_chunk marked base bytes marks).marks at ≡ mark_at marked.marks at
+-- the marks after it
+marks_behind : (marked : MarkedText) (base : ℕ) (bytes : List ℕ) (marks : List Mark) (at : ℕ) → Joins marked base bytes marks
+    → base + length bytes ≤ at → mark_at (with_chunk marked base bytes marks).marks at ≡ mark_at marked.marks at
 marks_behind marked base bytes marks at j past =
     span_behind marked.marks base marks at Unmarked j.chunk.placed.low (fits_marks marked base bytes marks j) (omega (arith, j.chunk.as_long))
 
 -- in the text with the chunk every bundle start is plain
-chunk_starts : (marked : MarkedText) (base : ℕ) (bytes : List ℕ) (marks : List Mark) → Joins marked base bytes marks → (at : ℕ) → InRegion marked.bytes at → IsBundleStart at → mark_at (with_chunk marked base bytes marks).marks at ≡ Plain
+chunk_starts : (marked : MarkedText) (base : ℕ) (bytes : List ℕ) (marks : List Mark) → Joins marked base bytes marks → (at : ℕ)
+    → InRegion marked.bytes at → IsBundleStart at → mark_at (with_chunk marked base bytes marks).marks at ≡ Plain
 chunk_starts marked base bytes marks j at inside start =
     elim (place_of base (length bytes) at) [
       | Before l ↦ marks_before marked base bytes marks at j inside.0 l ∙ j.closed.starts at inside start
@@ -60,7 +70,8 @@ marked_if_plain : (marks : List Mark) (now : State) → 65536 ≤ now.place → 
 marked_if_plain marks now low plain = (low, subst (λ (mark : Mark). Admits mark now.masked) (sym plain) tt)
 
 -- what was marked in the old text is marked in the text with the chunk
-old_marked : (marked : MarkedText) (base : ℕ) (bytes : List ℕ) (marks : List Mark) → Joins marked base bytes marks → (now : State) → IsMarked marked.marks now → IsMarked (with_chunk marked base bytes marks).marks now
+old_marked : (marked : MarkedText) (base : ℕ) (bytes : List ℕ) (marks : List Mark) → Joins marked base bytes marks → (now : State)
+    → IsMarked marked.marks now → IsMarked (with_chunk marked base bytes marks).marks now
 old_marked marked base bytes marks j now m =
     elim (place_of base (length bytes) now.place) [
       | Before l ↦ (m.0, subst (λ (mark : Mark). Admits mark now.masked) (sym (marks_before marked base bytes marks now.place j m.0 l)) m.1)
@@ -72,7 +83,8 @@ old_marked marked base bytes marks j now m =
     ]
 
 -- what is marked for the chunk alone is marked in the text with the chunk
-alone_marked : (marked : MarkedText) (base : ℕ) (bytes : List ℕ) (marks : List Mark) → Joins marked base bytes marks → (now : State) → IsMarked (alone marked base bytes marks).marks now → IsMarked (with_chunk marked base bytes marks).marks now
+alone_marked : (marked : MarkedText) (base : ℕ) (bytes : List ℕ) (marks : List Mark) → Joins marked base bytes marks → (now : State)
+    → IsMarked (alone marked base bytes marks).marks now → IsMarked (with_chunk marked base bytes marks).marks now
 alone_marked marked base bytes marks j now m =
     let inside : InRegion marked.bytes now.place = (m.0, omega (arith, marked_within (alone marked base bytes marks).marks now m, alone_marks_long marked base bytes marks j.chunk)) in
     let at_start : mark_at (alone marked base bytes marks).marks now.place ≡ unused_mark now.place → IsMarked (with_chunk marked base bytes marks).marks now = λ is.
@@ -85,11 +97,14 @@ alone_marked marked base bytes marks j now m =
     ]
 
 -- how long the text with the chunk is
-chunk_bytes_long : (marked : MarkedText) (base : ℕ) (bytes : List ℕ) (marks : List Mark) → Joins marked base bytes marks → length (with_chunk marked base bytes marks).bytes ≡ length marked.bytes
+chunk_bytes_long : (marked : MarkedText) (base : ℕ) (bytes : List ℕ) (marks : List Mark) → Joins marked base bytes marks
+    → length (with_chunk marked base bytes marks).bytes ≡ length marked.bytes
 chunk_bytes_long marked base bytes marks j = length-with_span marked.bytes (base - 65536) bytes (omega (arith, fits_bytes marked base bytes marks j, j.chunk.placed.low))
 
 -- a state in the span borrows from the chunk alone
-borrows_alone : (marked : MarkedText) (base : ℕ) (bytes : List ℕ) (marks : List Mark) → Joins marked base bytes marks → (now : State) → base ≤ now.place → now.place < base + length bytes → IsMarked (with_chunk marked base bytes marks).marks now → Borrows (with_chunk marked base bytes marks).bytes (with_chunk marked base bytes marks).marks now
+borrows_alone : (marked : MarkedText) (base : ℕ) (bytes : List ℕ) (marks : List Mark) → Joins marked base bytes marks → (now : State)
+    → base ≤ now.place → now.place < base + length bytes → IsMarked (with_chunk marked base bytes marks).marks now
+    → Borrows (with_chunk marked base bytes marks).bytes (with_chunk marked base bytes marks).marks now
 borrows_alone marked base bytes marks j now low high m =
     record {
       old = (alone marked base bytes marks).bytes;
@@ -106,7 +121,8 @@ borrows_alone marked base bytes marks j now low high m =
     }
 
 -- the text with the chunk is closed
-pub chunk_joins : (marked : MarkedText) (base : ℕ) (bytes : List ℕ) (marks : List Mark) → Joins marked base bytes marks → IsClosed (with_chunk marked base bytes marks).bytes (with_chunk marked base bytes marks).marks
+pub chunk_joins : (marked : MarkedText) (base : ℕ) (bytes : List ℕ) (marks : List Mark) → Joins marked base bytes marks
+    → IsClosed (with_chunk marked base bytes marks).bytes (with_chunk marked base bytes marks).marks
 chunk_joins marked base bytes marks j =
     closed_by_parts (with_chunk marked base bytes marks).bytes (with_chunk marked base bytes marks).marks
     (λ at inside start. chunk_starts marked base bytes marks j at (inside.0, omega (arith, inside.1, chunk_bytes_long marked base bytes marks j)) start)
@@ -141,11 +157,13 @@ stays_same Unmarked = tt
 stays_same Plain = refl
 stays_same (After register) = inl refl
 
+-- inside a bundle an unused place is unmarked
 not_unused : (at : ℕ) → at % 32 ≢ 0 → unused_mark at ≡ Unmarked
 not_unused at not = grind (arith, nat_tests)
 
 -- no state loses its mark to the chunk
-pub chunk_keeps : (marked : MarkedText) (base : ℕ) (bytes : List ℕ) (marks : List Mark) → Joins marked base bytes marks → KeepsMarks marked.marks (with_chunk marked base bytes marks).marks
+pub chunk_keeps : (marked : MarkedText) (base : ℕ) (bytes : List ℕ) (marks : List Mark) → Joins marked base bytes marks
+    → KeepsMarks marked.marks (with_chunk marked base bytes marks).marks
 chunk_keeps marked base bytes marks j k =
     let e : 65536 + k - 65536 ≡ k = omega arith in
     subst (λ (n : ℕ). StaysOrPlain (get_or marked.marks n Unmarked) (get_or (with_chunk marked base bytes marks).marks n Unmarked)) e

@@ -1,3 +1,4 @@
+-- Proofs of crates above may import `EachMember` and `OneWalk`; the others are private to this crate.
 pub mod EachMember
 pub mod SpanPlaces
 pub mod Told

@@ -1,5 +1,6 @@
 -- Bytes that are whole instructions, the first of them taken off.
-use Rattle.std.proofs.Common.{◌≡◌, ℕ, zero, suc, ◌+◌, ◌-◌, ◌<◌, ◌≤◌, List, [], ◌∷◌, ◌++◌, length, take, drop, Option, Some, None, refl, sym, subst, ◌∙◌, ap, arith, append-nil}
+use Rattle.std.proofs.Common.{◌≡◌, ℕ, zero, suc, ◌+◌, ◌-◌, ◌<◌, ◌≤◌, List, [], ◌∷◌, ◌++◌, length, take, drop, Option, Some, None, refl}
+use Rattle.std.proofs.Common.{sym, subst, ◌∙◌, ap, arith, append-nil}
 use Rattle.std.proofs.lemmas.List.{length-append, length-drop, take-append-drop}
 use Rattle.std.proofs.Math.Seq.{drop-append_seam}
 use Rattle.nc_decode.specs.declared.instruction.Instr.{Instr}
@@ -17,16 +18,20 @@ use Rattle.nc_region.specs.Patch.{AreBytesOf, AreInstructions}
 pub no_bytes : AreBytesOf [] []
 no_bytes = record { spelled = λ before after p e. absurd (split_none before after p e); parts = refl }
 
+-- a list of no length
 pub empty_list : {X : Type 0} (xs : List X) → length xs ≡ 0 → xs ≡ []
 empty_list [] e = refl
 empty_list (x ∷ xs) e = absurd (omega arith)
 
+-- no bytes are no instructions
 pub none_of_none : (bytes : List ℕ) (news : List Piece) → length bytes ≡ 0 → AreBytesOf bytes news → news ≡ []
 none_of_none bytes news none b = none_behind news b.spelled (sym (ap (λ (z : List ℕ). length z) b.parts) ∙ none)
 
+-- no bytes are whole instructions
 pub instructions_none : (bytes : List ℕ) → length bytes ≡ 0 → AreInstructions bytes
 instructions_none bytes none = ([], subst (λ (z : List ℕ). AreBytesOf z []) (sym (empty_list bytes none)) no_bytes)
 
+-- all of a list
 take_all : (xs : List ℕ) (k : ℕ) → length xs ≡ k → take k xs ≡ xs
 take_all xs zero e = sym (empty_list xs e)
 take_all [] (suc k) e = refl
@@ -53,14 +58,18 @@ pub record Parted (bytes : List ℕ) (news : List Piece) (i : Instr) : Type 0 wh
 pub found_first : (bytes : List ℕ) (p : Piece) (rest : List Piece) → AreBytesOf bytes (p ∷ rest) → first_instruction bytes ≡ Some p.instr
 found_first bytes p rest b = (exact bytes p.instr).1 (record { front = p.bytes; rest = code_of rest; parts = b.parts; spells = b.spelled [] rest p refl })
 
+-- two instructions of one place are one
 pub some_same : (o : Option Instr) (i j : Instr) → o ≡ Some i → o ≡ Some j → i ≡ j
 some_same o i j e f = cc
 
+-- the first of two parts
 pub take_seam : (xs ys : List ℕ) → take (length xs) (xs ++ ys) ≡ xs
 take_seam [] ys = refl
 take_seam (x ∷ xs) ys = ap (λ (z : List ℕ). x ∷ z) (take_seam xs ys)
 
-pub parted : (bytes : List ℕ) (news : List Piece) (i : Instr) → AreBytesOf bytes news → first_instruction bytes ≡ Some i → Parted bytes news i
+-- the first instruction of the new bytes
+pub parted : (bytes : List ℕ) (news : List Piece) (i : Instr) → AreBytesOf bytes news → first_instruction bytes ≡ Some i
+    → Parted bytes news i
 parted bytes [] i b is = absurd (let own = has_its_length bytes i is in omega (arith, own.0, own.1, ap (λ (z : List ℕ). length z) b.parts))
 parted bytes (p ∷ rest) i b is =
     let same : p.instr ≡ i = some_same (first_instruction bytes) p.instr i (found_first bytes p rest b) is in
@@ -89,12 +98,14 @@ not_found bytes some none (p ∷ rest) b = let f = found_first bytes p rest b in
     differ : (o : Option Instr) (i : Instr) → o ≡ None → o ≡ Some i → ⊥
     differ o i e f = cc
 
+-- one more spelled piece
 spelled_cons : (p : Piece) (rest : List Piece) → Spells p.bytes p.instr → AreSpelled rest → AreSpelled (p ∷ rest)
 spelled_cons p rest one others [] after q e = let h : p ≡ q = cc in subst (λ (x : Piece). Spells x.bytes x.instr) h one
 spelled_cons p rest one others (b ∷ before) after q e = others before after q (cc)
 
 -- an instruction with others behind it
-pub one_more : (bytes : List ℕ) (i : Instr) → first_instruction bytes ≡ Some i → AreInstructions (take (length bytes - i.len) (drop i.len bytes)) → AreInstructions bytes
+pub one_more : (bytes : List ℕ) (i : Instr) → first_instruction bytes ≡ Some i
+    → AreInstructions (take (length bytes - i.len) (drop i.len bytes)) → AreInstructions bytes
 one_more bytes i is others =
     let f = (exact bytes i).0 is in
     let n = spells_some f.front i f.spells in
@@ -106,7 +117,9 @@ one_more bytes i is others =
       },
     )
 
-pub rest_are : (bytes : List ℕ) (i : Instr) → first_instruction bytes ≡ Some i → AreInstructions bytes → AreInstructions (take (length bytes - i.len) (drop i.len bytes))
+-- the bytes after the first instruction are instructions
+pub rest_are : (bytes : List ℕ) (i : Instr) → first_instruction bytes ≡ Some i → AreInstructions bytes
+    → AreInstructions (take (length bytes - i.len) (drop i.len bytes))
 rest_are bytes i is all = let p = parted bytes all.0 i all.1 is in (p.rest, p.behind)
 
 -- bytes are instructions in one way
@@ -114,5 +127,6 @@ pub same_news : (bytes : List ℕ) (xs ys : List Piece) → AreBytesOf bytes xs 
 same_news bytes xs ys a b = same_pieces xs ys a.spelled b.spelled (sym a.parts ∙ b.parts)
 
 -- the first and the others are all
-pub whole_again : (bytes : List ℕ) (news : List Piece) (i : Instr) (p : Parted bytes news i) → p.first.bytes ++ take (length bytes - i.len) (drop i.len bytes) ≡ bytes
+pub whole_again : (bytes : List ℕ) (news : List Piece) (i : Instr) (p : Parted bytes news i)
+    → p.first.bytes ++ take (length bytes - i.len) (drop i.len bytes) ≡ bytes
 whole_again bytes news i p = ap (λ (z : List ℕ). z ++ take (length bytes - i.len) (drop i.len bytes)) (sym p.front) ∙ (ap (λ (z : List ℕ). take i.len bytes ++ z) (slice_rest bytes i.len) ∙ take-append-drop i.len bytes)

@@ -1,7 +1,9 @@
 -- A valid chunk is closed by itself.
-use Rattle.std.proofs.Common.{◌≡◌, ℕ, ◌+◌, ◌-◌, ◌<◌, ◌≤◌, ◌⊎◌, List, [], ◌∷◌, length, get_or, drop, replicate, Option, Some, inl, inr, arith, ◌∙◌, sym, ap, subst, ⊎_elim, zero, suc, add-zero}
+use Rattle.std.proofs.Common.{◌≡◌, ℕ, ◌+◌, ◌-◌, ◌<◌, ◌≤◌, ◌⊎◌, List, [], ◌∷◌, length, get_or, drop, replicate, Option, Some, inl, inr}
+use Rattle.std.proofs.Common.{arith, ◌∙◌, sym, ap, subst, ⊎_elim, zero, suc, add-zero}
 use Rattle.std.proofs.lemmas.Bool.{cases_lt}
-use Rattle.std.proofs.lemmas.List.{length-drop, length-append, length-replicate, get_or-replicate, get_or_append_left, get_or-append_right, drop-drop}
+use Rattle.std.proofs.lemmas.List.{length-drop, length-append, length-replicate, get_or-replicate, get_or_append_left}
+use Rattle.std.proofs.lemmas.List.{get_or-append_right, drop-drop}
 use Rattle.nc_decode.specs.declared.instruction.Instr.{Instr}
 use Rattle.nc_decode.specs.declared.instruction.Flow.{Flow}
 use Rattle.nc_decode.specs.declared.instruction.Flow.TheVariants.{Next, Branch, Jump, Call, IndirectJump, IndirectCall, Stop}
@@ -26,6 +28,7 @@ pub record Stands (good : ℕ → Type 0) (base : ℕ) (bytes : List ℕ) (marks
   pub behind : (k + i.len ≡ length bytes) ⊎ Admits (get_or marks (k + i.len) Unmarked) i.masks
   pub targets : IsDirect i.flow → good (target i (base + k))
 
+-- what a mark admits may be executed there
 may_from_mark : (flow : Flow) (register : ℕ) (masked : Option ℕ) → Admits (mark_by flow register) masked → IsMaskedFor flow register masked
 may_from_mark Next register masked m = tt
 may_from_mark Branch register masked m = tt
@@ -35,7 +38,9 @@ may_from_mark IndirectJump register masked m = m
 may_from_mark IndirectCall register masked m = m
 may_from_mark Stop register masked m = tt
 
-mark_from_pair : (flow : Flow) (register : ℕ) (before : Option ℕ) (at : ℕ) → FollowsMask flow register before at → Admits (mark_by flow register) before
+-- what follows its mask is admitted by its mark
+mark_from_pair : (flow : Flow) (register : ℕ) (before : Option ℕ) (at : ℕ) → FollowsMask flow register before at
+    → Admits (mark_by flow register) before
 mark_from_pair Next register before at m = tt
 mark_from_pair Branch register before at m = tt
 mark_from_pair Jump register before at m = tt
@@ -45,17 +50,20 @@ mark_from_pair IndirectCall register before at m = m.0
 mark_from_pair Stop register before at m = tt
 
 -- the marks behind those of the first instruction
-pub marks_behind : (i : Instr) (rest : List Instr) (k : ℕ) → 1 ≤ i.len → i.len ≤ k → get_or (marks_of (i ∷ rest)) k Unmarked ≡ get_or (marks_of rest) (k - i.len) Unmarked
+pub marks_behind : (i : Instr) (rest : List Instr) (k : ℕ) → 1 ≤ i.len → i.len ≤ k
+    → get_or (marks_of (i ∷ rest)) k Unmarked ≡ get_or (marks_of rest) (k - i.len) Unmarked
 marks_behind i rest zero some far = absurd (omega (arith, some, far))
 marks_behind i rest (suc k) some far =
     let e : k - (i.len - 1) ≡ suc k - i.len = omega (arith, some, far) in
     get_or-append_right (replicate (i.len - 1) Unmarked) (marks_of rest) (i.len - 1) k Unmarked (length-replicate (i.len - 1) Unmarked) (omega (arith, far)) ∙ ap (λ (n : ℕ). get_or (marks_of rest) n Unmarked) e
 
+-- inside an instruction nothing is marked
 pub marks_inside : (i : Instr) (rest : List Instr) (k : ℕ) → 1 ≤ k → k < i.len → get_or (marks_of (i ∷ rest)) k Unmarked ≡ Unmarked
 marks_inside i rest zero some short = absurd (omega (arith, some))
 marks_inside i rest (suc k) some short =
     get_or_append_left (replicate (i.len - 1) Unmarked) (marks_of rest) Unmarked k (omega (arith, short, length-replicate (i.len - 1) Unmarked)) ∙ get_or-replicate (i.len - 1) k Unmarked Unmarked (omega (arith, short))
 
+-- there are as many marks as bytes
 pub marks_long : (chunk : List Instr) (bytes : List ℕ) → IsReading bytes chunk → length (marks_of chunk) ≡ length bytes
 marks_long [] bytes reading = sym (ap length reading)
 marks_long (i ∷ rest) bytes reading =
@@ -63,7 +71,9 @@ marks_long (i ∷ rest) bytes reading =
     omega (arith, own.0, own.1, marks_long rest (drop i.len bytes) reading.1, length-drop i.len bytes, length-append (replicate (i.len - 1) Unmarked) (marks_of rest), length-replicate (i.len - 1) Unmarked)
 
 -- the first instruction of a reading
-first_stands : (good : ℕ → Type 0) (base : ℕ) (before : Option ℕ) (i : Instr) (rest : List Instr) (bytes : List ℕ) → IsReading bytes (i ∷ rest) → NoneCrosses base (i ∷ rest) → PairsHold before base (i ∷ rest) → TargetsHold good base (i ∷ rest) → (masked : Option ℕ) → Admits (mark_by i.flow i.reg) masked → Stands good base bytes (marks_of (i ∷ rest)) 0 masked
+first_stands : (good : ℕ → Type 0) (base : ℕ) (before : Option ℕ) (i : Instr) (rest : List Instr) (bytes : List ℕ)
+    → IsReading bytes (i ∷ rest) → NoneCrosses base (i ∷ rest) → PairsHold before base (i ∷ rest) → TargetsHold good base (i ∷ rest)
+    → (masked : Option ℕ) → Admits (mark_by i.flow i.reg) masked → Stands good base bytes (marks_of (i ∷ rest)) 0 masked
 first_stands good base before i [] bytes reading crossing pairs targets masked m =
     let own = has_its_length bytes i reading.0 in
     let none : length (drop i.len bytes) ≡ 0 = ap length reading.1 in
@@ -93,7 +103,9 @@ first_stands good base before i (j ∷ rest) bytes reading crossing pairs target
     }
 
 -- what stands further on in a chunk, from what stands behind its first instruction
-further : (good : ℕ → Type 0) (base : ℕ) (i : Instr) (rest : List Instr) (bytes : List ℕ) (k : ℕ) (masked : Option ℕ) → 1 ≤ i.len → i.len ≤ length bytes → i.len ≤ k → Stands good (base + i.len) (drop i.len bytes) (marks_of rest) (k - i.len) masked → Stands good base bytes (marks_of (i ∷ rest)) k masked
+further : (good : ℕ → Type 0) (base : ℕ) (i : Instr) (rest : List Instr) (bytes : List ℕ) (k : ℕ) (masked : Option ℕ) → 1 ≤ i.len
+    → i.len ≤ length bytes → i.len ≤ k → Stands good (base + i.len) (drop i.len bytes) (marks_of rest) (k - i.len) masked
+    → Stands good base bytes (marks_of (i ∷ rest)) k masked
 further good base i rest bytes k masked some whole far s =
     let back : i.len + (k - i.len) ≡ k = omega (arith, far) in
     let place : base + i.len + (k - i.len) ≡ base + k = omega (arith, far) in
@@ -112,7 +124,10 @@ further good base i rest bytes k masked some whole far s =
       targets = λ direct. subst (λ (n : ℕ). good (target s.i n)) place (s.targets direct);
     }
 
-pub stands_at : (good : ℕ → Type 0) (chunk : List Instr) (base : ℕ) (before : Option ℕ) (bytes : List ℕ) → IsReading bytes chunk → NoneCrosses base chunk → PairsHold before base chunk → TargetsHold good base chunk → (k : ℕ) (masked : Option ℕ) → Admits (get_or (marks_of chunk) k Unmarked) masked → Stands good base bytes (marks_of chunk) k masked
+-- what stands at a marked offset
+pub stands_at : (good : ℕ → Type 0) (chunk : List Instr) (base : ℕ) (before : Option ℕ) (bytes : List ℕ) → IsReading bytes chunk
+    → NoneCrosses base chunk → PairsHold before base chunk → TargetsHold good base chunk → (k : ℕ) (masked : Option ℕ)
+    → Admits (get_or (marks_of chunk) k Unmarked) masked → Stands good base bytes (marks_of chunk) k masked
 stands_at good [] base before bytes reading crossing pairs targets k masked m = absurd m
 stands_at good (i ∷ rest) base before bytes reading crossing pairs targets zero masked m = first_stands good base before i rest bytes reading crossing pairs targets masked m
 stands_at good (i ∷ rest) base before bytes reading crossing pairs targets (suc k) masked m =

@@ -22,7 +22,8 @@ same_instr : (o : Option Instr) (i j : Instr) → o ≡ Some i → o ≡ Some j 
 same_instr o i j a b = cc
 
 -- a choice picks one step
-one_step : (kind : Flow) (limit : ℕ) (i : Instr) (now : State) (choice : ℕ) (a b : State) → LeadsBy kind limit i now a → LeadsBy kind limit i now b → Picks kind i now choice a → Picks kind i now choice b → a ≡ b
+one_step : (kind : Flow) (limit : ℕ) (i : Instr) (now : State) (choice : ℕ) (a b : State) → LeadsBy kind limit i now a
+    → LeadsBy kind limit i now b → Picks kind i now choice a → Picks kind i now choice b → a ≡ b
 one_step Next limit i now choice a b la lb pa pb = la ∙ sym lb
 one_step Branch limit i now choice a b la lb pa pb = pa ∙ sym pb
 one_step Jump limit i now choice a b la lb pa pb = la ∙ sym lb
@@ -43,7 +44,8 @@ not_both : false ≡ true → ⊥
 not_both e = cc
 
 -- where the register is masked, no choice both moves on and leaves
-below : (kind : Flow) (limit : ℕ) (i : Instr) (now next : State) (choice : ℕ) → IsTrue (is_indirect kind) → IsMaskedFor kind i.reg now.masked → LeadsBy kind limit i now next → Picks kind i now choice next → bundle_of choice < limit
+below : (kind : Flow) (limit : ℕ) (i : Instr) (now next : State) (choice : ℕ) → IsTrue (is_indirect kind)
+    → IsMaskedFor kind i.reg now.masked → LeadsBy kind limit i now next → Picks kind i now choice next → bundle_of choice < limit
 below Next limit i now next choice is may leads picks = absurd (not_both is)
 below Branch limit i now next choice is may leads picks = absurd (not_both is)
 below Jump limit i now next choice is may leads picks = absurd (not_both is)
@@ -55,7 +57,8 @@ below IndirectCall limit i now next choice is may leads picks =
 below flow.Stop limit i now next choice is may leads picks = absurd (not_both is)
 
 -- in a safe state no choice both moves on and leaves
-leaves_or_moves : (text : List ℕ) (now next : State) (choice : ℕ) → IsSafe text now → GoesOn text now → LeavesBy text now choice → Moves text now choice next → ⊥
+leaves_or_moves : (text : List ℕ) (now next : State) (choice : ℕ) → IsSafe text now → GoesOn text now → LeavesBy text now choice
+    → Moves text now choice next → ⊥
 leaves_or_moves text now next choice safe goes leaves moves =
     let e = executes text now goes.0 safe in
     let same = same_instr (instruction_at text now.place) e.i moves.instr e.is moves.is in
@@ -65,7 +68,8 @@ leaves_or_moves text now next choice safe goes leaves moves =
     omega (arith, low, leaves.1)
 
 -- a walk that ends in a safe state doesn't move on from there
-ends_or_moves : (text : List ℕ) (now next : State) (choice : ℕ) (rest : List ℕ) (end : End) → IsSafe text now → EndsBy text now (choice ∷ rest) end → GoesOn text now → Moves text now choice next → ⊥
+ends_or_moves : (text : List ℕ) (now next : State) (choice : ℕ) (rest : List ℕ) (end : End) → IsSafe text now
+    → EndsBy text now (choice ∷ rest) end → GoesOn text now → Moves text now choice next → ⊥
 ends_or_moves text now next choice rest Trampoline safe ends goes moves = omega (arith, ends, goes.0)
 ends_or_moves text now next choice rest Stop safe ends goes moves = goes.1 ends
 ends_or_moves text now next choice rest More safe ends goes moves = cc (ends.1)
@@ -95,7 +99,8 @@ one_end text now (c ∷ cs) Beyond More ea eb = let e = eb.1 in cc
 one_end text now (c ∷ cs) Beyond Beyond ea eb = refl
 
 -- from a known state the choices lead over one list of states to one end
-one_way : (text : List ℕ) (marks : List Mark) → IsClosed text marks → (now : State) (choices : List ℕ) (xs ys : List State) (a b : End) → IsKnown marks now → Walks text now choices xs a → Walks text now choices ys b → (xs ≡ ys) × (a ≡ b)
+one_way : (text : List ℕ) (marks : List Mark) → IsClosed text marks → (now : State) (choices : List ℕ) (xs ys : List State) (a b : End)
+    → IsKnown marks now → Walks text now choices xs a → Walks text now choices ys b → (xs ≡ ys) × (a ≡ b)
 one_way text marks closed now choices [] [] a b known wa wb = (refl, one_end text now choices a b wa wb)
 one_way text marks closed now [] [] (n ∷ ns) a b known wa wb = absurd wb
 one_way text marks closed now (c ∷ cs) [] (n ∷ ns) a b known wa wb = absurd (ends_or_moves text now n c cs a (safe_if_known text marks closed now known) wa wb.0 wb.1)
@@ -109,7 +114,8 @@ one_way text marks closed now (c ∷ cs) (n ∷ ns) (m ∷ ms) a b known wa wb =
     (cc, rest.1)
 
 -- from a bundle start of the region there is one trace
-pub one_trace : (text : List ℕ) (marks : List Mark) (start : ℕ) (choices places others : List ℕ) (a b : End) → IsClosed text marks → IsWalkStart text start → IsTrace text start choices places a → IsTrace text start choices others b → (others ≡ places) × (b ≡ a)
+pub one_trace : (text : List ℕ) (marks : List Mark) (start : ℕ) (choices places others : List ℕ) (a b : End) → IsClosed text marks
+    → IsWalkStart text start → IsTrace text start choices places a → IsTrace text start choices others b → (others ≡ places) × (b ≡ a)
 one_trace text marks start choices places others a b closed begins ta tb =
     let known : IsKnown marks (state start None) = inl (start_is_marked text marks closed (state start None) begins.0 begins.1) in
     let same = one_way text marks closed (state start None) choices tb.states ta.states b a known tb.walks ta.walks in

@@ -1,5 +1,6 @@
 -- A region in which a live chunk was patched.
-use Rattle.std.proofs.Common.{◌≡◌, ℕ, zero, suc, ◌+◌, ◌-◌, ◌<◌, ◌≤◌, ◌⊎◌, List, [], ◌∷◌, length, get_or, inl, inr, arith, ◌∙◌, sym, ap, subst, ⊎_elim, refl}
+use Rattle.std.proofs.Common.{◌≡◌, ℕ, zero, suc, ◌+◌, ◌-◌, ◌<◌, ◌≤◌, ◌⊎◌, List, [], ◌∷◌, length, get_or, inl, inr, arith, ◌∙◌, sym, ap}
+use Rattle.std.proofs.Common.{subst, ⊎_elim, refl}
 use Rattle.std.proofs.lemmas.Bool.{cases_lt}
 use Rattle.nc_text.specs.Places.{limit_of, byte_at}
 use Rattle.nc_text.specs.Marks.{mark_at}
@@ -15,6 +16,7 @@ use Rattle.nc_region.proofs.EachMember.{each_get, each_from}
 use Rattle.nc_region.proofs.SpanPlaces.{span_before, span_behind}
 use Rattle.nc_region.proofs.Runs.{apart_by_index}
 
+-- a chunk of the list is patched
 pub record Patches (old new : MarkedText) (chunks : List Chunk) (c : Chunk) (at : ℕ) (bytes : List ℕ) : Type 0 where
   pub region : IsRegion old chunks
   pub held : IsHeldBy chunks at c
@@ -26,10 +28,14 @@ pub record Patches (old new : MarkedText) (chunks : List Chunk) (c : Chunk) (at 
   pub high : c.base + c.length ≤ 65536 + length old.bytes
   pub ends : at + length bytes ≤ c.base + c.length
 
-same_long : (old new : MarkedText) (chunks : List Chunk) (c : Chunk) (at : ℕ) (bytes : List ℕ) → Patches old new chunks c at bytes → length new.bytes ≡ length old.bytes
+-- the text is as long
+same_long : (old new : MarkedText) (chunks : List Chunk) (c : Chunk) (at : ℕ) (bytes : List ℕ) → Patches old new chunks c at bytes
+    → length new.bytes ≡ length old.bytes
 same_long old new chunks c at bytes p = ap (λ (z : List ℕ). length z) p.bytes_are ∙ length-with_span old.bytes (at - 65536) bytes (omega (arith, p.low, p.high, p.ends, p.held.2.0))
 
-outside : (old new : MarkedText) (chunks : List Chunk) (c : Chunk) (at : ℕ) (bytes : List ℕ) → Patches old new chunks c at bytes → (k : ℕ) → 65536 ≤ k → (k < c.base) ⊎ (c.base + c.length ≤ k) → byte_at new.bytes k ≡ byte_at old.bytes k
+-- outside the chunk no byte is changed
+outside : (old new : MarkedText) (chunks : List Chunk) (c : Chunk) (at : ℕ) (bytes : List ℕ) → Patches old new chunks c at bytes
+    → (k : ℕ) → 65536 ≤ k → (k < c.base) ⊎ (c.base + c.length ≤ k) → byte_at new.bytes k ≡ byte_at old.bytes k
 outside old new chunks c at bytes p k low out =
     ap (λ (z : List ℕ). byte_at z k) p.bytes_are
     ∙ elim out [
@@ -37,7 +43,9 @@ outside old new chunks c at bytes p k low out =
       | inr b ↦ span_behind old.bytes at bytes k 0 (omega (arith, p.low, p.held.2.0)) (omega (arith, p.ends, p.high)) (omega (arith, b, p.ends))
     ]
 
-other_holds : (old new : MarkedText) (chunks : List Chunk) (c : Chunk) (at : ℕ) (bytes : List ℕ) → Patches old new chunks c at bytes → (d : Chunk) → (d.base + d.length ≤ c.base) ⊎ (c.base + c.length ≤ d.base) → HoldsValid old d → HoldsValid new d
+-- another chunk still stands
+other_holds : (old new : MarkedText) (chunks : List Chunk) (c : Chunk) (at : ℕ) (bytes : List ℕ) → Patches old new chunks c at bytes
+    → (d : Chunk) → (d.base + d.length ≤ c.base) ⊎ (c.base + c.length ≤ d.base) → HoldsValid old d → HoldsValid new d
 other_holds old new chunks c at bytes p d apart h =
     let out : (k : ℕ) → IsInChunk d k → (k < c.base) ⊎ (c.base + c.length ≤ k) = λ k inside. elim apart [ inl l ↦ inl (omega (arith, l, inside.1)) | inr b ↦ inr (omega (arith, b, inside.0)) ] in
     let low : 65536 ≤ d.base = subst (λ (b : ℕ). 65536 ≤ b) h.base_is h.valid.base_is.1 in
@@ -51,7 +59,9 @@ other_holds old new chunks c at bytes p d apart h =
       marks_are = λ k inside. ap (λ (z : List Mark). mark_at z k) p.marks_are ∙ h.marks_are k inside;
     }
 
-pub region_patched : (old new : MarkedText) (chunks : List Chunk) (c : Chunk) (at : ℕ) (bytes : List ℕ) → Patches old new chunks c at bytes → IsRegion new chunks
+-- the region after a patch
+pub region_patched : (old new : MarkedText) (chunks : List Chunk) (c : Chunk) (at : ℕ) (bytes : List ℕ)
+    → Patches old new chunks c at bytes → IsRegion new chunks
 region_patched old new chunks c at bytes p =
     let i = p.held.0 in
     let long = same_long old new chunks c at bytes p in

@@ -1,5 +1,6 @@
 -- A valid chunk, as its definition has it, is one by recursion over its instructions.
-use Rattle.std.proofs.Common.{◌≡◌, ◌≢◌, ℕ, ◌+◌, ◌-◌, ◌%◌, ◌<◌, false, List, [], ◌∷◌, ◌++◌, length, drop, replicate, Option, Some, None, inl, inr, arith, refl, ◌∙◌, sym, ap, subst, append_assoc, cond, All}
+use Rattle.std.proofs.Common.{◌≡◌, ◌≢◌, ℕ, ◌+◌, ◌-◌, ◌%◌, ◌<◌, false, List, [], ◌∷◌, ◌++◌, length, drop, replicate, Option, Some, None}
+use Rattle.std.proofs.Common.{inl, inr, arith, refl, ◌∙◌, sym, ap, subst, append_assoc, cond, All}
 use Rattle.std.specs.Prelude.{⊤, IsTrue}
 use Rattle.std.proofs.lemmas.List.{length-append}
 use Rattle.std.proofs.Math.Seq.{drop-append_seam}
@@ -17,7 +18,8 @@ use Rattle.nc_vet.specs.Chunk as vet
 use Rattle.nc_region.specs.Chunks.{IsPlaced, IsClosedChunk}
 use Rattle.nc_region.specs.Each.{Each}
 use Rattle.nc_region.proofs.EachMember.{each_append, each_replicate, each_get}
-use Rattle.nc_region.proofs.Instructions.{IsReading, NoneCrosses, FollowsMask, PairsHold, IsDirect, IsIndirect, BeginsAt, IsTarget, TargetsHold, IsValid, mark_by, marks_of}
+use Rattle.nc_region.proofs.Instructions.{IsReading, NoneCrosses, FollowsMask, PairsHold, IsDirect, IsIndirect, BeginsAt, IsTarget}
+use Rattle.nc_region.proofs.Instructions.{TargetsHold, IsValid, mark_by, marks_of}
 use Rattle.nc_region.proofs.Sound.{valid_is_closed}
 
 -- what the pieces say, without their bytes
@@ -26,21 +28,26 @@ instrs [] = []
 instrs (p ∷ rest) = p.instr ∷ instrs rest
 
 -- each piece behind some others is a whole instruction, as long as its bytes
-spelled_at : (c : vet.MarkedChunk) (v : vet.IsValid c) (done more : List Piece) (p : Piece) → v.pieces ≡ done ++ p ∷ more → (p.instr.len ≡ length p.bytes) × (0 < p.instr.len)
+spelled_at : (c : vet.MarkedChunk) (v : vet.IsValid c) (done more : List Piece) (p : Piece) → v.pieces ≡ done ++ p ∷ more
+    → (p.instr.len ≡ length p.bytes) × (0 < p.instr.len)
 spelled_at c v done more p e = spells_some p.bytes p.instr (v.sound.spelled done more p e)
 
 -- one piece further
 further : (all done more : List Piece) (p : Piece) → all ≡ done ++ p ∷ more → all ≡ (done ++ p ∷ []) ++ more
 further all done more p e = e ∙ sym (append_assoc done (p ∷ []) more)
 
+-- the code of two lists of pieces
 code_append : (xs ys : List Piece) → code_of (xs ++ ys) ≡ code_of xs ++ code_of ys
 code_append [] ys = refl
 code_append (x ∷ xs) ys = ap (λ (bs : List ℕ). x.bytes ++ bs) (code_append xs ys) ∙ sym (append_assoc x.bytes (code_of xs) (code_of ys))
 
+-- the place after one more piece
 place_more : (done : List Piece) (p : Piece) → place (done ++ p ∷ []) ≡ place done + length p.bytes
 place_more done p = ap (λ (bs : List ℕ). length bs) (code_append done (p ∷ [])) ∙ (length-append (code_of done) (p.bytes ++ []) ∙ omega (arith, length-append p.bytes []))
 
-reading_of : (c : vet.MarkedChunk) (v : vet.IsValid c) (done rest : List Piece) → v.pieces ≡ done ++ rest → IsReading (code_of rest) (instrs rest)
+-- the pieces are a reading of the code
+reading_of : (c : vet.MarkedChunk) (v : vet.IsValid c) (done rest : List Piece) → v.pieces ≡ done ++ rest
+    → IsReading (code_of rest) (instrs rest)
 reading_of c v done [] e = refl
 reading_of c v done (p ∷ more) e =
     let n = spelled_at c v done more p e in (
@@ -48,7 +55,9 @@ reading_of c v done (p ∷ more) e =
       subst (λ (bytes : List ℕ). IsReading bytes (instrs more)) (sym (ap (λ (k : ℕ). drop k (p.bytes ++ code_of more)) n.0 ∙ drop-append_seam p.bytes (code_of more))) (reading_of c v (done ++ p ∷ []) more (further v.pieces done more p e)),
     )
 
-crossing_of : (c : vet.MarkedChunk) (v : vet.IsValid c) (done rest : List Piece) → v.pieces ≡ done ++ rest → NoneCrosses (c.base + place done) (instrs rest)
+-- none of them crosses the end of a bundle
+crossing_of : (c : vet.MarkedChunk) (v : vet.IsValid c) (done rest : List Piece) → v.pieces ≡ done ++ rest
+    → NoneCrosses (c.base + place done) (instrs rest)
 crossing_of c v done [] e = tt
 crossing_of c v done (p ∷ more) e =
     let n = spelled_at c v done more p e in
@@ -63,13 +72,15 @@ last_masks [] = None
 last_masks (p ∷ []) = p.instr.masks
 last_masks (p ∷ q ∷ rest) = last_masks (q ∷ rest)
 
+-- what the last piece masks
 last_masks_of : (done : List Piece) (p : Piece) → last_masks (done ++ p ∷ []) ≡ p.instr.masks
 last_masks_of [] p = refl
 last_masks_of (q ∷ []) p = refl
 last_masks_of (q ∷ r ∷ rest) p = last_masks_of (r ∷ rest) p
 
 -- a second half follows its mask, not at a bundle start
-follows_of : (c : vet.MarkedChunk) (v : vet.IsValid c) (done more : List Piece) (p : Piece) → v.pieces ≡ done ++ p ∷ more → (reg : ℕ) → vet.FollowsMask done reg → (last_masks done ≡ Some reg) × ((c.base + place done) % 32 ≢ 0)
+follows_of : (c : vet.MarkedChunk) (v : vet.IsValid c) (done more : List Piece) (p : Piece) → v.pieces ≡ done ++ p ∷ more → (reg : ℕ)
+    → vet.FollowsMask done reg → (last_masks done ≡ Some reg) × ((c.base + place done) % 32 ≢ 0)
 follows_of c v done more p e reg f =
     let last = ap last_masks f.last ∙ (last_masks_of f.earlier f.mask ∙ f.masks) in
     let whole : v.pieces ≡ f.earlier ++ f.mask ∷ (p ∷ more) = e ∙ (ap (λ (xs : List Piece). xs ++ p ∷ more) f.last ∙ append_assoc f.earlier (f.mask ∷ []) (p ∷ more)) in
@@ -77,7 +88,9 @@ follows_of c v done more p e reg f =
     let here : place done ≡ place f.earlier + length f.mask.bytes = ap place f.last ∙ place_more f.earlier f.mask in
     (last, λ start. omega (arith, n.0, n.1, here, f.together, v.base_is.0, start))
 
-follows_by : (flow : Flow) (reg : ℕ) (before : Option ℕ) (at : ℕ) → (IsTrue (is_indirect flow) → (before ≡ Some reg) × (at % 32 ≢ 0)) → FollowsMask flow reg before at
+-- an indirect transfer follows its mask
+follows_by : (flow : Flow) (reg : ℕ) (before : Option ℕ) (at : ℕ) → (IsTrue (is_indirect flow) → (before ≡ Some reg) × (at % 32 ≢ 0))
+    → FollowsMask flow reg before at
 follows_by Next reg before at h = tt
 follows_by Branch reg before at h = tt
 follows_by Jump reg before at h = tt
@@ -86,7 +99,9 @@ follows_by IndirectJump reg before at h = h refl
 follows_by IndirectCall reg before at h = h refl
 follows_by Stop reg before at h = tt
 
-pairs_of : (c : vet.MarkedChunk) (v : vet.IsValid c) (done rest : List Piece) → v.pieces ≡ done ++ rest → PairsHold (last_masks done) (c.base + place done) (instrs rest)
+-- so does each of them
+pairs_of : (c : vet.MarkedChunk) (v : vet.IsValid c) (done rest : List Piece) → v.pieces ≡ done ++ rest
+    → PairsHold (last_masks done) (c.base + place done) (instrs rest)
 pairs_of c v done [] e = tt
 pairs_of c v done (p ∷ more) e =
     let n = spelled_at c v done more p e in
@@ -96,6 +111,7 @@ pairs_of c v done (p ∷ more) e =
           (subst (λ (at : ℕ). PairsHold (last_masks (done ++ p ∷ [])) at (instrs more)) next (pairs_of c v (done ++ p ∷ []) more (further v.pieces done more p e))),
     )
 
+-- a flow that is not indirect
 not_indirect : (flow : Flow) → is_indirect flow ≡ false → IsIndirect flow → ⊥
 not_indirect Next e h = h
 not_indirect Branch e h = h
@@ -105,6 +121,7 @@ not_indirect IndirectJump e h = absurd cc
 not_indirect IndirectCall e h = absurd cc
 not_indirect Stop e h = h
 
+-- a flow that is direct
 direct_is : (flow : Flow) → IsDirect flow → IsTrue (is_direct flow)
 direct_is Next h = absurd h
 direct_is Branch h = refl
@@ -119,17 +136,22 @@ abbrev AreSized : List Piece → Type 0
 AreSized [] = ⊤
 AreSized (p ∷ rest) = (p.instr.len ≡ length p.bytes) × AreSized rest
 
+-- each piece is as long as its instruction
 sized_of : (c : vet.MarkedChunk) (v : vet.IsValid c) (done rest : List Piece) → v.pieces ≡ done ++ rest → AreSized rest
 sized_of c v done [] e = tt
 sized_of c v done (p ∷ more) e = ((spelled_at c v done more p e).0, sized_of c v (done ++ p ∷ []) more (further v.pieces done more p e))
 
-begins_at : (before after : List Piece) (p : Piece) (base : ℕ) → AreSized (before ++ p ∷ after) → is_indirect p.instr.flow ≡ false → BeginsAt (base + place before) base (instrs (before ++ p ∷ after))
+-- where a piece begins
+begins_at : (before after : List Piece) (p : Piece) (base : ℕ) → AreSized (before ++ p ∷ after) → is_indirect p.instr.flow ≡ false
+    → BeginsAt (base + place before) base (instrs (before ++ p ∷ after))
 begins_at [] after p base sized first = inl (omega arith, not_indirect p.instr.flow first)
 begins_at (q ∷ before) after p base sized first =
     let e : base + q.instr.len + place before ≡ base + place (q ∷ before) = omega (arith, sized.0, length-append q.bytes (code_of before)) in
     inr (subst (λ (at : ℕ). BeginsAt at (base + q.instr.len) (instrs (before ++ p ∷ after))) e (begins_at before after p (base + q.instr.len) sized.1 first))
 
-target_of : (c : vet.MarkedChunk) (v : vet.IsValid c) (t : ℕ) → vet.IsTarget c.base c.limit v.pieces t → IsTarget c.base c.limit (length c.code) (instrs v.pieces) t
+-- a good target is one of the reading too
+target_of : (c : vet.MarkedChunk) (v : vet.IsValid c) (t : ℕ) → vet.IsTarget c.base c.limit v.pieces t
+    → IsTarget c.base c.limit (length c.code) (instrs v.pieces) t
 target_of c v t good =
     let long : place v.pieces ≡ length c.code = ap (λ (bs : List ℕ). length bs) (sym v.parts) in
     elim good [
@@ -146,7 +168,9 @@ target_of c v t good =
       | inr outside ↦ inr (elim outside.0 [ inl l ↦ inl l | inr p ↦ inr (omega (arith, p, long)) ], outside.1, outside.2)
     ]
 
-targets_of : (c : vet.MarkedChunk) (v : vet.IsValid c) (done rest : List Piece) → v.pieces ≡ done ++ rest → TargetsHold (IsTarget c.base c.limit (length c.code) (instrs v.pieces)) (c.base + place done) (instrs rest)
+-- each direct transfer goes to one
+targets_of : (c : vet.MarkedChunk) (v : vet.IsValid c) (done rest : List Piece) → v.pieces ≡ done ++ rest
+    → TargetsHold (IsTarget c.base c.limit (length c.code) (instrs v.pieces)) (c.base + place done) (instrs rest)
 targets_of c v done [] e = tt
 targets_of c v done (p ∷ more) e =
     let n = spelled_at c v done more p e in
@@ -155,6 +179,7 @@ targets_of c v done (p ∷ more) e =
       subst (λ (at : ℕ). TargetsHold (IsTarget c.base c.limit (length c.code) (instrs v.pieces)) at (instrs more)) next (targets_of c v (done ++ p ∷ []) more (further v.pieces done more p e)),
     )
 
+-- the mark of an instruction
 mark_is : (flow : Flow) (reg : ℕ) → cond (is_indirect flow) (After reg) Plain ≡ mark_by flow reg
 mark_is Next reg = refl
 mark_is Branch reg = refl
@@ -164,15 +189,18 @@ mark_is IndirectJump reg = refl
 mark_is IndirectCall reg = refl
 mark_is Stop reg = refl
 
+-- the marks of the pieces are those of the reading
 same_marks : (pieces : List Piece) → vet.marks_of pieces ≡ marks_of (instrs pieces)
 same_marks [] = refl
 same_marks (p ∷ rest) =
     ap (λ (m : Mark). m ∷ (replicate (p.instr.len - 1) Unmarked ++ vet.marks_of rest)) (mark_is p.instr.flow p.instr.reg)
     ∙ ap (λ (ms : List Mark). mark_by p.instr.flow p.instr.reg ∷ (replicate (p.instr.len - 1) Unmarked ++ ms)) (same_marks rest)
 
+-- a valid chunk is whole bundles of the region below the guard
 placed_of : (c : vet.MarkedChunk) → vet.IsValid c → IsPlaced c.base c.limit (length c.code)
 placed_of c v = record { lawful = v.range.0; start = v.base_is.0; whole = v.length_is.1; some = v.length_is.0; low = v.base_is.1; high = v.range.1 }
 
+-- a valid chunk by its reading
 valid_of : (c : vet.MarkedChunk) (v : vet.IsValid c) → IsValid c.base c.limit c.code (instrs v.pieces)
 valid_of c v =
     let none : c.base + place [] ≡ c.base = omega arith in
@@ -184,12 +212,14 @@ valid_of c v =
       targets = subst (λ (at : ℕ). TargetsHold (IsTarget c.base c.limit (length c.code) (instrs v.pieces)) at (instrs v.pieces)) none (targets_of c v [] v.pieces refl);
     }
 
+-- a valid chunk is closed by itself
 pub valid_chunk_is_closed : (c : vet.MarkedChunk) → vet.IsValid c → IsClosedChunk c.base c.limit c.code c.marks
 valid_chunk_is_closed c v =
     subst (λ (marks : List Mark). IsClosedChunk c.base c.limit c.code marks) (sym (v.marks_are ∙ same_marks v.pieces)) (valid_is_closed c.base c.limit c.code (instrs v.pieces) (valid_of c v))
 
 -- ---- registers
 
+-- the mark of an instruction names a register
 named_by : (flow : Flow) (reg : ℕ) → reg < 8 → NamesRegister (cond (is_indirect flow) (After reg) Plain)
 named_by Next reg lt = tt
 named_by Branch reg lt = tt
@@ -199,7 +229,9 @@ named_by IndirectJump reg lt = lt
 named_by IndirectCall reg lt = lt
 named_by Stop reg lt = tt
 
-marks_named : (c : vet.MarkedChunk) (v : vet.IsValid c) (done rest : List Piece) → v.pieces ≡ done ++ rest → Each NamesRegister (vet.marks_of rest)
+-- each mark of the pieces names a register
+marks_named : (c : vet.MarkedChunk) (v : vet.IsValid c) (done rest : List Piece) → v.pieces ≡ done ++ rest
+    → Each NamesRegister (vet.marks_of rest)
 marks_named c v done [] e = tt
 marks_named c v done (p ∷ more) e =
     let found = (exact (p.bytes ++ []) p.instr).1 (record { front = p.bytes; rest = []; parts = refl; spells = v.sound.spelled done more p e }) in (

@@ -1,5 +1,6 @@
 -- In a region every retired span is quiet.
-use Rattle.std.proofs.Common.{◌≡◌, ◌≢◌, ℕ, ◌+◌, ◌-◌, ◌%◌, ◌<◌, ◌≤◌, ◌⊎◌, List, [], ◌∷◌, length, get_or, inl, inr, arith, refl, ◌∙◌, sym, ap, subst, ⊎_elim}
+use Rattle.std.proofs.Common.{◌≡◌, ◌≢◌, ℕ, ◌+◌, ◌-◌, ◌%◌, ◌<◌, ◌≤◌, ◌⊎◌, List, [], ◌∷◌, length, get_or, inl, inr, arith, refl, ◌∙◌, sym}
+use Rattle.std.proofs.Common.{ap, subst, ⊎_elim}
 use Rattle.nc_decode.specs.declared.instruction.Mark.{Mark}
 use Rattle.nc_text.specs.Places.{IsTrampoline, limit_of}
 use Rattle.nc_text.specs.Machine.{State, Step}
@@ -31,7 +32,8 @@ live_or_dead Live = inl tt
 live_or_dead (Retired stamp) = inr (λ live. live)
 
 -- one more chunk, which doesn't hold the place
-with_head : (P : Chunk → Type 0) (c : Chunk) (rest : List Chunk) (at : ℕ) → (IsLive c.state → IsInChunk c at → ⊥) → Held P rest at → Held P (c ∷ rest) at
+with_head : (P : Chunk → Type 0) (c : Chunk) (rest : List Chunk) (at : ℕ) → (IsLive c.state → IsInChunk c at → ⊥) → Held P rest at
+    → Held P (c ∷ rest) at
 with_head P c rest at out held = elim held [ In d live inside p ↦ In d live inside p | Free f ↦ Free (out, f) ]
 
 -- which of the two it is
@@ -53,7 +55,8 @@ abbrev pub IsFree : List Chunk → ℕ → Type 0
 IsFree chunks at = Each (λ (c : Chunk). IsLive c.state → IsInChunk c at → ⊥) chunks
 
 -- no live chunk has a place of a retired one
-retired_free : (from : ℕ) (chunks : List Chunk) → IsRising from chunks → Each (λ (r : Chunk). (IsLive r.state → ⊥) → (at : ℕ) → IsInChunk r at → IsFree chunks at) chunks
+retired_free : (from : ℕ) (chunks : List Chunk) → IsRising from chunks
+    → Each (λ (r : Chunk). (IsLive r.state → ⊥) → (at : ℕ) → IsInChunk r at → IsFree chunks at) chunks
 retired_free from [] rising = tt
 retired_free from (c ∷ rest) rising =
     let above = rises_above (c.base + c.length) rest rising.1 in (
@@ -63,13 +66,15 @@ retired_free from (c ∷ rest) rising =
     )
 
 -- a live chunk is closed by itself
-chunk_of : (marked : MarkedText) (c : Chunk) (h : HoldsValid marked c) → IsClosedChunk c.base (limit_of marked.bytes) h.vetted.code h.vetted.marks
+chunk_of : (marked : MarkedText) (c : Chunk) (h : HoldsValid marked c)
+    → IsClosedChunk c.base (limit_of marked.bytes) h.vetted.code h.vetted.marks
 chunk_of marked c h =
     subst (λ (b : ℕ). IsClosedChunk b (limit_of marked.bytes) h.vetted.code h.vetted.marks) h.base_is
     (subst (λ (l : ℕ). IsClosedChunk h.vetted.base l h.vetted.code h.vetted.marks) h.limit_is (valid_chunk_is_closed h.vetted h.valid))
 
 -- a step from a mark of a live chunk leads to a mark of the text with only that chunk, or to the trampoline
-alone_step : (marked : MarkedText) (c : Chunk) (h : HoldsValid marked c) (now next : State) → IsMarked marked.marks now → IsInChunk c now.place → Step marked.bytes now next
+alone_step : (marked : MarkedText) (c : Chunk) (h : HoldsValid marked c) (now next : State) → IsMarked marked.marks now
+    → IsInChunk c now.place → Step marked.bytes now next
     → IsMarked (alone marked c.base h.vetted.code h.vetted.marks).marks next ⊎ IsTrampoline next.place
 alone_step marked c h now next m inside step =
     let j = chunk_of marked c h in
@@ -89,7 +94,8 @@ alone_step marked c h now next m inside step =
     step
 
 -- where the chunk alone is marked: in the chunk, or at a bundle start
-alone_inside : (marked : MarkedText) (c : Chunk) (h : HoldsValid marked c) (now : State) → IsMarked (alone marked c.base h.vetted.code h.vetted.marks).marks now → IsInChunk c now.place ⊎ (now.place % 32 ≡ 0)
+alone_inside : (marked : MarkedText) (c : Chunk) (h : HoldsValid marked c) (now : State)
+    → IsMarked (alone marked c.base h.vetted.code h.vetted.marks).marks now → IsInChunk c now.place ⊎ (now.place % 32 ≡ 0)
 alone_inside marked c h now m =
     let j = chunk_of marked c h in
     let high : now.place < 65536 + length marked.bytes = omega (arith, alone_marks_long marked c.base h.vetted.code h.vetted.marks j, marked_within (alone marked c.base h.vetted.code h.vetted.marks).marks now m) in
@@ -100,7 +106,8 @@ alone_inside marked c h now m =
     ]
 
 -- the span of a retired chunk is quiet
-quiet_one : (marked : MarkedText) (chunks : List Chunk) → IsRegion marked chunks → (c : Chunk) → IsPlaced c.base (limit_of marked.bytes) c.length → ((at : ℕ) → IsInChunk c at → IsFree chunks at)
+quiet_one : (marked : MarkedText) (chunks : List Chunk) → IsRegion marked chunks → (c : Chunk)
+    → IsPlaced c.base (limit_of marked.bytes) c.length → ((at : ℕ) → IsInChunk c at → IsFree chunks at)
     → (stamp : ℕ) → IsQuiet marked.bytes marked.marks (record { base = c.base; length = c.length; stamp = stamp })
 quiet_one marked chunks region c placed free stamp =
     record {
@@ -126,12 +133,15 @@ quiet_chunks marked chunks region =
     (λ c placed free dead stamp. quiet_one marked chunks region c placed (free dead) stamp) chunks region.placed (retired_free 65536 chunks region.rising)
 
 -- one more chunk, whose span is quiet if it is retired
-with_one : (Q : Span → Type 0) (c : Chunk) (s : ChunkState) (spans : List Span) → c.state ≡ s → ((IsLive c.state → ⊥) → (stamp : ℕ) → Q (record { base = c.base; length = c.length; stamp = stamp })) → Each Q spans → Each Q (with_retired c s spans)
+with_one : (Q : Span → Type 0) (c : Chunk) (s : ChunkState) (spans : List Span) → c.state ≡ s
+    → ((IsLive c.state → ⊥) → (stamp : ℕ) → Q (record { base = c.base; length = c.length; stamp = stamp })) → Each Q spans
+    → Each Q (with_retired c s spans)
 with_one Q c Live spans is q h = h
 with_one Q c (Retired stamp) spans is q h = (q (λ live. subst IsLive is live) stamp, h)
 
 -- each retired span
-retired_each : (Q : Span → Type 0) (chunks : List Chunk) → Each (λ (c : Chunk). (IsLive c.state → ⊥) → (stamp : ℕ) → Q (record { base = c.base; length = c.length; stamp = stamp })) chunks → Each Q (retired_spans chunks)
+retired_each : (Q : Span → Type 0) (chunks : List Chunk) → Each (λ (c : Chunk). (IsLive c.state → ⊥) → (stamp : ℕ)
+    → Q (record { base = c.base; length = c.length; stamp = stamp })) chunks → Each Q (retired_spans chunks)
 retired_each Q [] h = tt
 retired_each Q (c ∷ rest) h = with_one Q c c.state (retired_spans rest) refl h.0 (retired_each Q rest h.1)
 

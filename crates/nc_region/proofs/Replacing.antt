@@ -1,5 +1,6 @@
 -- While an instruction is replaced, the text stays closed.
-use Rattle.std.proofs.Common.{◌≡◌, ◌≢◌, ℕ, ◌+◌, ◌-◌, ◌<◌, ◌≤◌, ◌⊎◌, List, [], ◌∷◌, length, get_or, set, drop, Some, true, inl, inr, arith, refl, ◌∙◌, sym, ap, subst, ⊎_elim, suc}
+use Rattle.std.proofs.Common.{◌≡◌, ◌≢◌, ℕ, ◌+◌, ◌-◌, ◌<◌, ◌≤◌, ◌⊎◌, List, [], ◌∷◌, length, get_or, set, drop, Some, true, inl, inr}
+use Rattle.std.proofs.Common.{arith, refl, ◌∙◌, sym, ap, subst, ⊎_elim, suc}
 use Rattle.std.proofs.lemmas.Bool.{cases_lt}
 use Rattle.std.proofs.lemmas.Bool.Decides.{eqb_tells}
 use Rattle.std.proofs.lemmas.List.{length-set, ext_get_or}
@@ -16,7 +17,9 @@ use Rattle.nc_region.specs.PatchSteps.{IsReplacing, IsInterim}
 use Rattle.nc_region.proofs.Puts.{byte_at_other, byte_at_same}
 use Rattle.nc_region.proofs.SpanPlaces.{place_of, Before, Within, Behind, span_before, span_within, span_behind}
 
-pub patching_closed : (marked : MarkedText) (at : ℕ) (new now : List ℕ) → IsReplacing marked at new → IsInterim (with_span marked.bytes (at - 65536) new) now at (length new) → IsClosed now marked.marks
+-- while an instruction is replaced the text is closed
+pub patching_closed : (marked : MarkedText) (at : ℕ) (new now : List ℕ) → IsReplacing marked at new
+    → IsInterim (with_span marked.bytes (at - 65536) new) now at (length new) → IsClosed now marked.marks
 patching_closed marked at new now patch p =
     closed_with_stops (with_span marked.bytes (at - 65536) new) now marked.marks patch.closed p.as_long (λ s m.
     elim (eqb_tells s.place at) [
@@ -28,11 +31,14 @@ patching_closed marked at new now patch p =
           ])
     ])
 
-patch_long : (marked : MarkedText) (at : ℕ) (new : List ℕ) → IsReplacing marked at new → length (with_span marked.bytes (at - 65536) new) ≡ length marked.bytes
+-- the text stays as long
+patch_long : (marked : MarkedText) (at : ℕ) (new : List ℕ) → IsReplacing marked at new
+    → length (with_span marked.bytes (at - 65536) new) ≡ length marked.bytes
 patch_long marked at new patch = length-with_span marked.bytes (at - 65536) new (omega (arith, patch.low, patch.high))
 
 -- with a stop at the start
-pub patch_started : (marked : MarkedText) (at : ℕ) (new : List ℕ) → IsReplacing marked at new → IsInterim (with_span marked.bytes (at - 65536) new) (set marked.bytes (at - 65536) 244) at (length new)
+pub patch_started : (marked : MarkedText) (at : ℕ) (new : List ℕ) → IsReplacing marked at new
+    → IsInterim (with_span marked.bytes (at - 65536) new) (set marked.bytes (at - 65536) 244) at (length new)
 patch_started marked at new patch =
     record {
       as_long = length-set marked.bytes (at - 65536) 244 ∙ sym (patch_long marked at new patch);
@@ -42,7 +48,8 @@ patch_started marked at new patch =
     }
 
 -- some of the further bytes put
-pub patching_from_put : (old now : List ℕ) (at : ℕ) (rest : List ℕ) (count len : ℕ) → 65536 ≤ at → count ≤ len → byte_at old at ≡ 244 → HasPut any_place (at + 1) rest count old now → IsInterim old now at (1 + len)
+pub patching_from_put : (old now : List ℕ) (at : ℕ) (rest : List ℕ) (count len : ℕ) → 65536 ≤ at → count ≤ len → byte_at old at ≡ 244
+    → HasPut any_place (at + 1) rest count old now → IsInterim old now at (1 + len)
 patching_from_put old now at rest count len low le stop puts =
     record {
       as_long = puts.as_long;
@@ -52,7 +59,8 @@ patching_from_put old now at rest count len low le stop puts =
     }
 
 -- what goes on from the text with the stop
-pub patching_over : (marked : MarkedText) (at : ℕ) (new now : List ℕ) (len : ℕ) → len ≡ length new → IsReplacing marked at new → IsInterim (set marked.bytes (at - 65536) 244) now at len → IsInterim (with_span marked.bytes (at - 65536) new) now at (length new)
+pub patching_over : (marked : MarkedText) (at : ℕ) (new now : List ℕ) (len : ℕ) → len ≡ length new → IsReplacing marked at new
+    → IsInterim (set marked.bytes (at - 65536) 244) now at len → IsInterim (with_span marked.bytes (at - 65536) new) now at (length new)
 patching_over marked at new now len is patch p =
     let s = patch_started marked at new patch in
     record {
@@ -63,7 +71,9 @@ patching_over marked at new now len is patch p =
     }
 
 -- with all bytes put it is the final text
-pub patch_final : (marked : MarkedText) (at first : ℕ) (rest now : List ℕ) → IsReplacing marked at (first ∷ rest) → HasPut any_place (at + 1) rest (length rest) (set marked.bytes (at - 65536) 244) now → set now (at - 65536) first ≡ with_span marked.bytes (at - 65536) (first ∷ rest)
+pub patch_final : (marked : MarkedText) (at first : ℕ) (rest now : List ℕ) → IsReplacing marked at (first ∷ rest)
+    → HasPut any_place (at + 1) rest (length rest) (set marked.bytes (at - 65536) 244) now
+    → set now (at - 65536) first ≡ with_span marked.bytes (at - 65536) (first ∷ rest)
 patch_final marked at first rest now patch puts =
     let fits : at + length (first ∷ rest) ≤ 65536 + length marked.bytes = patch.high in
     let long : length now ≡ length marked.bytes = puts.as_long ∙ length-set marked.bytes (at - 65536) 244 in
@@ -97,7 +107,8 @@ patch_final marked at first rest now patch puts =
     ]))
 
 -- one byte put is a span of one
-pub single_span : (text : List ℕ) (at : ℕ) (bytes : List ℕ) → 65536 ≤ at → at + length bytes ≤ 65536 + length text → length bytes ≡ 1 → set text (at - 65536) (get_or bytes 0 0) ≡ with_span text (at - 65536) bytes
+pub single_span : (text : List ℕ) (at : ℕ) (bytes : List ℕ) → 65536 ≤ at → at + length bytes ≤ 65536 + length text → length bytes ≡ 1
+    → set text (at - 65536) (get_or bytes 0 0) ≡ with_span text (at - 65536) bytes
 single_span text at bytes low fits one =
     ext_get_or 0 (set text (at - 65536) (get_or bytes 0 0)) (with_span text (at - 65536) bytes) (length-set text (at - 65536) (get_or bytes 0 0) ∙ sym (length-with_span text (at - 65536) bytes (omega (arith, low, fits)))) (λ j lt.
     let e : 65536 + j - 65536 ≡ j = omega arith in

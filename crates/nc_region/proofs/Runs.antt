@@ -1,5 +1,6 @@
 -- A run of instructions of a chunk, by what stands from its first one on.
-use Rattle.std.proofs.Common.{◌≡◌, ℕ, ◌+◌, ◌-◌, ◌<◌, ◌≤◌, zero, suc, Bool, true, false, cond, List, [], ◌∷◌, ◌++◌, length, get_or, refl, sym, subst, ◌∙◌, ap, arith, inl, inr, ⊎_elim}
+use Rattle.std.proofs.Common.{◌≡◌, ℕ, ◌+◌, ◌-◌, ◌<◌, ◌≤◌, zero, suc, Bool, true, false, cond, List, [], ◌∷◌, ◌++◌, length, get_or, refl}
+use Rattle.std.proofs.Common.{sym, subst, ◌∙◌, ap, arith, inl, inr, ⊎_elim}
 use Rattle.std.proofs.lemmas.Bool.{cases_lt}
 use Rattle.std.proofs.lemmas.List.{get_or_default}
 use Rattle.nc_decode.specs.declared.instruction.Mark.{Mark}
@@ -22,7 +23,8 @@ use Rattle.nc_region.proofs.EachMember.{each_get}
 use Rattle.nc_region.proofs.Rising.{rises_get}
 
 -- where a place of the chunk is marked, an instruction begins
-pub begins_marked : (marked : MarkedText) (c : Chunk) (at : ℕ) → HoldsValid marked c → IsInChunk c at → (mark_at marked.marks at ≡ Unmarked → ⊥) → Begins marked c at
+pub begins_marked : (marked : MarkedText) (c : Chunk) (at : ℕ) → HoldsValid marked c → IsInChunk c at
+    → (mark_at marked.marks at ≡ Unmarked → ⊥) → Begins marked c at
 begins_marked marked c at h inside some =
     let marks_long : length (marks_of h.valid.pieces) ≡ c.length = length-marks_of h.valid.pieces h.valid.sound.spelled ∙ all_long marked c h in
     let there : mark_at marked.marks at ≡ get_or (marks_of h.valid.pieces) (at - c.base) Unmarked = h.marks_are at inside ∙ ap (λ (z : List Mark). get_or z (at - c.base) Unmarked) h.valid.marks_are in
@@ -36,6 +38,7 @@ pub record Cut (rest news : List Piece) : Type 0 where
   pub parts : rest ≡ old ++ after
   pub as_long : lengths old ≡ lengths news
 
+-- a list that runs along another is cut where that one ends
 pub cut : (rest news : List Piece) → RunsAlong rest news → Cut rest news
 cut rest [] runs = record { old = []; after = rest; parts = refl; as_long = refl }
 cut [] (n ∷ news) runs = absurd runs
@@ -43,13 +46,15 @@ cut (p ∷ rest) (n ∷ news) runs =
     let k = cut rest news runs.1 in
     record { old = p ∷ k.old; after = k.after; parts = ap (λ (z : List Piece). p ∷ z) k.parts; as_long = ap (λ (x : ℕ). x ∷ lengths k.old) runs.0 ∙ ap (λ (z : List ℕ). length n.bytes ∷ z) k.as_long }
 
+-- lists of the same lengths run along each other, whatever follows
 pub joined : (old after news : List Piece) → lengths old ≡ lengths news → RunsAlong (old ++ after) news
 joined old after [] e = tt
 joined [] after (n ∷ news) e = absurd cc
 joined (p ∷ old) after (n ∷ news) e = (cc, (let tail : lengths old ≡ lengths news = cc in joined old after news tail))
 
 -- what runs along is a run
-pub run_of : (marked : MarkedText) (c : Chunk) (at : ℕ) (new : List ℕ) (b : Begins marked c at) (news : List Piece) → AreBytesOf new news → RunsAlong b.rest news → IsRun marked c at new
+pub run_of : (marked : MarkedText) (c : Chunk) (at : ℕ) (new : List ℕ) (b : Begins marked c at) (news : List Piece) → AreBytesOf new news
+    → RunsAlong b.rest news → IsRun marked c at new
 run_of marked c at new b news bytes runs =
     let k = cut b.rest news runs in
     record { holds = b.holds; before = b.before; old = k.old; after = k.after; parts = b.parts ∙ ap (λ (z : List Piece). b.before ++ z) k.parts; here = b.here; news = news; bytes = bytes; as_long = k.as_long }
@@ -58,6 +63,7 @@ run_of marked c at new b news bytes runs =
 abbrev pub run_begins : (marked : MarkedText) (c : Chunk) (at : ℕ) (new : List ℕ) → IsRun marked c at new → Begins marked c at
 run_begins marked c at new r = record { holds = r.holds; before = r.before; rest = r.old ++ r.after; parts = r.parts; here = r.here }
 
+-- a run is a list of new instructions along those of the chunk
 abbrev pub run_along : (marked : MarkedText) (c : Chunk) (at : ℕ) (new : List ℕ) → IsRun marked c at new → Along marked c at new
 run_along marked c at new r = record {
   begins = record { holds = r.holds; before = r.before; rest = r.old ++ r.after; parts = r.parts; here = r.here };
@@ -66,12 +72,14 @@ run_along marked c at new r = record {
   runs = joined r.old r.after r.news r.as_long;
 }
 
+-- a mark of an instruction is a mark
 some_mark : (b : Bool) (r : ℕ) → cond b (After r) Plain ≡ Unmarked → ⊥
 some_mark true r e = cc
 some_mark false r e = cc
 
 -- where a run begins, a mark stands
-pub run_marked : (marked : MarkedText) (c : Chunk) (at : ℕ) (new : List ℕ) → IsText marked → IsInChunk c at → IsRun marked c at new → mark_at marked.marks at ≡ Unmarked → ⊥
+pub run_marked : (marked : MarkedText) (c : Chunk) (at : ℕ) (new : List ℕ) → IsText marked → IsInChunk c at → IsRun marked c at new
+    → mark_at marked.marks at ≡ Unmarked → ⊥
 run_marked marked c at new t inside r e =
     let b = run_begins marked c at new r in
     let s = standing marked c at t b inside.1 in
@@ -79,16 +87,20 @@ run_marked marked c at new t inside r e =
 
 -- ---- no half is replaced and no indirect transfer comes, where none is found on the way
 
+-- where none is an indirect transfer, the one after the run is none
 first_found : (rest news : List Piece) → RunsAlong rest news → NoneIndirect rest news → NoneFirst rest
 first_found rest [] runs none = none
 first_found [] (n ∷ news) runs none = tt
 first_found (p ∷ rest) (n ∷ news) runs none = none.0
 
+-- an instruction that is none, before one that is none, is no half
 no_half_from : (o : Piece) (rest : List Piece) → is_indirect o.instr.flow ≡ false → NoneFirst rest → IsHalf o rest → ⊥
 no_half_from o [] a b h = (let differ : true ≡ false = sym h ∙ a in cc)
 no_half_from o (next ∷ rest) a b h = elim h [ inl x ↦ (let differ : true ≡ false = sym x ∙ a in cc) | inr x ↦ (let differ : true ≡ false = sym x ∙ b in cc) ]
 
-pub pairs_from : (old after news : List Piece) → lengths old ≡ lengths news → NoneIndirect (old ++ after) news → AreNoHalves old after × AreNotIndirect news
+-- where none is an indirect transfer, no half is touched
+pub pairs_from : (old after news : List Piece) → lengths old ≡ lengths news → NoneIndirect (old ++ after) news
+    → AreNoHalves old after × AreNotIndirect news
 pairs_from [] after [] e none = (tt, tt)
 pairs_from [] after (n ∷ news) e none = absurd cc
 pairs_from (o ∷ old) after [] e none = absurd cc
@@ -97,7 +109,9 @@ pairs_from (o ∷ old) after (n ∷ news) e none =
     let r = pairs_from old after news tail none.2 in
     ((no_half_from o (old ++ after) none.0 (first_found (old ++ after) news (joined old after news tail) none.2), r.0), (none.1, r.1))
 
-pub pairs_to : (o : Piece) (old after : List Piece) (n : Piece) (news : List Piece) → lengths old ≡ lengths news → AreNoHalves (o ∷ old) after → AreNotIndirect (n ∷ news) → NoneIndirect (o ∷ (old ++ after)) (n ∷ news)
+-- where no half is touched, none of some is an indirect transfer
+pub pairs_to : (o : Piece) (old after : List Piece) (n : Piece) (news : List Piece) → lengths old ≡ lengths news
+    → AreNoHalves (o ∷ old) after → AreNotIndirect (n ∷ news) → NoneIndirect (o ∷ (old ++ after)) (n ∷ news)
 pairs_to o [] after n [] e halves fresh = (let h = no_half o after halves.0 in (h.0, fresh.0, h.1))
 pairs_to o [] after n (m ∷ news) e halves fresh = absurd cc
 pairs_to o (p ∷ old) after n [] e halves fresh = absurd cc
@@ -107,7 +121,9 @@ pairs_to o (p ∷ old) after n (m ∷ news) e halves fresh =
 
 -- ---- a place lies in one chunk
 
-pub apart_by_index : (from : ℕ) (chunks : List Chunk) (d : Chunk) → IsRising from chunks → (i j : ℕ) → i < j → j < length chunks → (get_or chunks i d).base + (get_or chunks i d).length ≤ (get_or chunks j d).base
+-- a chunk ends at or below each later one
+pub apart_by_index : (from : ℕ) (chunks : List Chunk) (d : Chunk) → IsRising from chunks → (i j : ℕ) → i < j → j < length chunks
+    → (get_or chunks i d).base + (get_or chunks i d).length ≤ (get_or chunks j d).base
 apart_by_index from [] d rising i j le lt = absurd (omega arith)
 apart_by_index from (c ∷ rest) d rising zero zero le lt = absurd (omega arith)
 apart_by_index from (c ∷ rest) d rising (suc i) zero le lt = absurd (omega arith)
@@ -147,14 +163,17 @@ held_last chunks k at d rising inside below above h =
     )
 
 -- a live chunk holds its base
-abbrev pub live_is_held : (chunks : List Chunk) (base : ℕ) → Each (λ (d : Chunk). 0 < d.length) chunks → HasLive chunks base → IsHeld chunks base
+abbrev pub live_is_held : (chunks : List Chunk) (base : ℕ) → Each (λ (d : Chunk). 0 < d.length) chunks → HasLive chunks base
+    → IsHeld chunks base
 live_is_held chunks base some h =
     let c : Chunk = h.0 in
     let is_c : get_or chunks h.1.0 c ≡ c = h.1.2 in
     let long = each_get (λ (d : Chunk). 0 < d.length) chunks h.1.0 c h.1.1 some in
     (h.0, (h.1, h.2, (omega (arith, h.3), omega (arith, h.3, long, ap (λ (x : Chunk). x.length) is_c))))
 
-pub pairs_back : (old after news : List Piece) (new : List ℕ) → AreBytesOf new news → 0 < length new → lengths old ≡ lengths news → AreNoHalves old after → AreNotIndirect news → NoneIndirect (old ++ after) news
+-- where no half is touched, none is an indirect transfer
+pub pairs_back : (old after news : List Piece) (new : List ℕ) → AreBytesOf new news → 0 < length new → lengths old ≡ lengths news
+    → AreNoHalves old after → AreNotIndirect news → NoneIndirect (old ++ after) news
 pairs_back old after [] new b some e halves fresh = absurd (omega (arith, some, ap (λ (z : List ℕ). length z) b.parts))
 pairs_back [] after (n ∷ news) new b some e halves fresh = absurd cc
 pairs_back (o ∷ old) after (n ∷ news) new b some e halves fresh = (let tail : lengths old ≡ lengths news = cc in pairs_to o old after n news tail halves fresh)

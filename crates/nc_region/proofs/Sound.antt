@@ -1,5 +1,6 @@
 -- A valid chunk is sound: with its marks it is closed in an otherwise empty text.
-use Rattle.std.proofs.Common.{◌≡◌, ℕ, ◌+◌, ◌-◌, ◌%◌, ◌<◌, ◌≤◌, ◌⊎◌, List, [], ◌∷◌, length, get_or, take, drop, replicate, Option, Some, None, inl, inr, arith, refl, ◌∙◌, sym, ap, subst, ⊎_elim, zero, suc}
+use Rattle.std.proofs.Common.{◌≡◌, ℕ, ◌+◌, ◌-◌, ◌%◌, ◌<◌, ◌≤◌, ◌⊎◌, List, [], ◌∷◌, length, get_or, take, drop, replicate, Option, Some}
+use Rattle.std.proofs.Common.{None, inl, inr, arith, refl, ◌∙◌, sym, ap, subst, ⊎_elim, zero, suc}
 use Rattle.std.proofs.lemmas.Bool.{cases_lt}
 use Rattle.std.proofs.lemmas.List.{length-drop, length-take, length-replicate, get_or-replicate, get_or-take, get_or-drop, ext_get_or}
 use Rattle.std.proofs.lemmas.List.FromFn.{length-map-range_with_len, get_or-map-range_with_len}
@@ -20,12 +21,15 @@ use Rattle.nc_text.proofs.Closing.{safe_if_executes, executes_stop, no_step_from
 use Rattle.nc_text.proofs.Fresh.{marked_within}
 use Rattle.nc_text.proofs.SpanElements.{length-with_span}
 use Rattle.nc_region.specs.Chunks.{IsClosedChunk}
-use Rattle.nc_region.proofs.Instructions.{IsValid, IsReading, NoneCrosses, FollowsMask, PairsHold, IsDirect, IsIndirect, BeginsAt, IsTarget, mark_by, marks_of}
+use Rattle.nc_region.proofs.Instructions.{IsValid, IsReading, NoneCrosses, FollowsMask, PairsHold, IsDirect, IsIndirect, BeginsAt}
+use Rattle.nc_region.proofs.Instructions.{IsTarget, mark_by, marks_of}
 use Rattle.nc_region.proofs.Offsets.{Stands, stands_at, marks_long, marks_behind}
 use Rattle.nc_region.proofs.SpanPlaces.{place_of, Before, Within, Behind, span_before, span_within, span_behind, unused_at_start}
 
 -- an instruction of the chunk stands in the text with the chunk
-instruction_in : (text code : List ℕ) (base k : ℕ) (i : Instr) → 65536 ≤ base → base + length code ≤ 65536 + length text → first_instruction (drop k code) ≡ Some i → k + i.len ≤ length code → instruction_at (with_span text (base - 65536) code) (base + k) ≡ Some i
+instruction_in : (text code : List ℕ) (base k : ℕ) (i : Instr) → 65536 ≤ base → base + length code ≤ 65536 + length text
+    → first_instruction (drop k code) ≡ Some i → k + i.len ≤ length code
+    → instruction_at (with_span text (base - 65536) code) (base + k) ≡ Some i
 instruction_in text code base k i low fits is short =
     let all = with_span text (base - 65536) code in
     let long = length-with_span text (base - 65536) code (omega (arith, low, fits)) in
@@ -42,6 +46,7 @@ instruction_in text code base k i low fits is short =
     ∙ (sym (ap (λ (n : ℕ). get_or (with_span text (base - 65536) code) n 0) e)
     ∙ (byte ∙ (ap (λ (n : ℕ). get_or code n 0) f ∙ (sym (get_or-drop k code j 0) ∙ sym (get_or-take i.len (drop k code) j 0 near))))))))
 
+-- the mark of an instruction that is no indirect transfer is plain
 plain_unless_indirect : (flow : Flow) (register : ℕ) → (IsIndirect flow → ⊥) → mark_by flow register ≡ Plain
 plain_unless_indirect Next register not = refl
 plain_unless_indirect Branch register not = refl
@@ -51,7 +56,9 @@ plain_unless_indirect IndirectJump register not = absurd (not tt)
 plain_unless_indirect IndirectCall register not = absurd (not tt)
 plain_unless_indirect Stop register not = refl
 
-plain_at_start : (flow : Flow) (register : ℕ) (before : Option ℕ) (at : ℕ) → FollowsMask flow register before at → at % 32 ≡ 0 → mark_by flow register ≡ Plain
+-- at a bundle start it is plain
+plain_at_start : (flow : Flow) (register : ℕ) (before : Option ℕ) (at : ℕ) → FollowsMask flow register before at → at % 32 ≡ 0
+    → mark_by flow register ≡ Plain
 plain_at_start Next register before at m start = refl
 plain_at_start Branch register before at m start = refl
 plain_at_start Jump register before at m start = refl
@@ -61,7 +68,8 @@ plain_at_start IndirectCall register before at m start = absurd (m.1 start)
 plain_at_start Stop register before at m start = refl
 
 -- every bundle start of a chunk begins an instruction that is no second half
-starts_plain : (chunk : List Instr) (base : ℕ) (before : Option ℕ) (bytes : List ℕ) → IsReading bytes chunk → NoneCrosses base chunk → PairsHold before base chunk → (k : ℕ) → k < length bytes → (base + k) % 32 ≡ 0 → get_or (marks_of chunk) k Unmarked ≡ Plain
+starts_plain : (chunk : List Instr) (base : ℕ) (before : Option ℕ) (bytes : List ℕ) → IsReading bytes chunk → NoneCrosses base chunk
+    → PairsHold before base chunk → (k : ℕ) → k < length bytes → (base + k) % 32 ≡ 0 → get_or (marks_of chunk) k Unmarked ≡ Plain
 starts_plain [] base before bytes reading crossing pairs k lt start = absurd (omega (arith, lt, ap length reading))
 starts_plain (i ∷ rest) base before bytes reading crossing pairs zero lt start = plain_at_start i.flow i.reg before base pairs.0 (omega (arith, start))
 starts_plain (i ∷ rest) base before bytes reading crossing pairs (suc k) lt start =
@@ -75,7 +83,8 @@ starts_plain (i ∷ rest) base before bytes reading crossing pairs (suc k) lt st
     (cases_lt (suc k) i.len)
 
 -- where an instruction begins that is no second half, the mark is plain
-begins_plain : (chunk : List Instr) (base place : ℕ) (bytes : List ℕ) → IsReading bytes chunk → BeginsAt place base chunk → (base ≤ place) × (get_or (marks_of chunk) (place - base) Unmarked ≡ Plain)
+begins_plain : (chunk : List Instr) (base place : ℕ) (bytes : List ℕ) → IsReading bytes chunk → BeginsAt place base chunk
+    → (base ≤ place) × (get_or (marks_of chunk) (place - base) Unmarked ≡ Plain)
 begins_plain [] base place bytes reading begins = absurd begins
 begins_plain (i ∷ rest) base place bytes reading begins =
     let own = has_its_length bytes i reading.0 in
@@ -93,29 +102,41 @@ begins_plain (i ∷ rest) base place bytes reading begins =
 abbrev text_of : ℕ → ℕ → List ℕ → List ℕ
 text_of base limit code = with_span (replicate (limit - 65536) 244) (base - 65536) code
 
+-- the marks of the text with only the chunk
 abbrev alone_marks : ℕ → ℕ → List Instr → List Mark
 alone_marks base limit chunk = with_span (unused_marks 65536 (limit - 65536)) (base - 65536) (marks_of chunk)
 
-fits_text : (base limit : ℕ) (code : List ℕ) (chunk : List Instr) → IsValid base limit code chunk → base + length code ≤ 65536 + length (replicate {A = ℕ} (limit - 65536) 244)
+-- the chunk fits into the text
+fits_text : (base limit : ℕ) (code : List ℕ) (chunk : List Instr) → IsValid base limit code chunk
+    → base + length code ≤ 65536 + length (replicate {A = ℕ} (limit - 65536) 244)
 fits_text base limit code chunk v = omega (arith, v.placed.high, length-replicate {A = ℕ} (limit - 65536) 244)
 
-fits_marks : (base limit : ℕ) (code : List ℕ) (chunk : List Instr) → IsValid base limit code chunk → base + length (marks_of chunk) ≤ 65536 + length (unused_marks 65536 (limit - 65536))
+-- its marks fit too
+fits_marks : (base limit : ℕ) (code : List ℕ) (chunk : List Instr) → IsValid base limit code chunk
+    → base + length (marks_of chunk) ≤ 65536 + length (unused_marks 65536 (limit - 65536))
 fits_marks base limit code chunk v = omega (arith, v.placed.high, marks_long chunk code v.reading, length-map-range_with_len unused_mark 65536 (limit - 65536))
 
-text_long : (base limit : ℕ) (code : List ℕ) (chunk : List Instr) → IsValid base limit code chunk → limit_of (text_of base limit code) ≡ limit
+-- how long that text is
+text_long : (base limit : ℕ) (code : List ℕ) (chunk : List Instr) → IsValid base limit code chunk
+    → limit_of (text_of base limit code) ≡ limit
 text_long base limit code chunk v =
     omega (arith, v.placed.high, v.placed.low, length-with_span (replicate (limit - 65536) 244) (base - 65536) code (omega (arith, fits_text base limit code chunk v, v.placed.low)), length-replicate {A = ℕ} (limit - 65536) 244)
 
-marks_all_long : (base limit : ℕ) (code : List ℕ) (chunk : List Instr) → IsValid base limit code chunk → 65536 + length (alone_marks base limit chunk) ≡ limit
+-- how many marks it has
+marks_all_long : (base limit : ℕ) (code : List ℕ) (chunk : List Instr) → IsValid base limit code chunk
+    → 65536 + length (alone_marks base limit chunk) ≡ limit
 marks_all_long base limit code chunk v =
     omega (arith, v.placed.high, v.placed.low, length-with_span (unused_marks 65536 (limit - 65536)) (base - 65536) (marks_of chunk) (omega (arith, fits_marks base limit code chunk v, v.placed.low)), length-map-range_with_len unused_mark 65536 (limit - 65536))
 
-within_mark : (base limit : ℕ) (code : List ℕ) (chunk : List Instr) (at : ℕ) → IsValid base limit code chunk → base ≤ at → at < base + length code → mark_at (alone_marks base limit chunk) at ≡ get_or (marks_of chunk) (at - base) Unmarked
+-- the mark of a place of the chunk
+within_mark : (base limit : ℕ) (code : List ℕ) (chunk : List Instr) (at : ℕ) → IsValid base limit code chunk → base ≤ at
+    → at < base + length code → mark_at (alone_marks base limit chunk) at ≡ get_or (marks_of chunk) (at - base) Unmarked
 within_mark base limit code chunk at v a b =
     span_within (unused_marks 65536 (limit - 65536)) base (marks_of chunk) at Unmarked v.placed.low (fits_marks base limit code chunk v) a (omega (arith, b, marks_long chunk code v.reading))
 
 -- outside the chunk: unused, and stops
-outside_mark : (base limit : ℕ) (code : List ℕ) (chunk : List Instr) (at : ℕ) → IsValid base limit code chunk → 65536 ≤ at → at < limit → (at < base) ⊎ (base + length code ≤ at) → mark_at (alone_marks base limit chunk) at ≡ unused_mark at
+outside_mark : (base limit : ℕ) (code : List ℕ) (chunk : List Instr) (at : ℕ) → IsValid base limit code chunk → 65536 ≤ at → at < limit
+    → (at < base) ⊎ (base + length code ≤ at) → mark_at (alone_marks base limit chunk) at ≡ unused_mark at
 outside_mark base limit code chunk at v low high out =
     let unused = get_or-map-range_with_len unused_mark 65536 (limit - 65536) (at - 65536) at Unmarked (omega arith) (omega arith) in
     elim out [
@@ -123,7 +144,9 @@ outside_mark base limit code chunk at v low high out =
       | inr p ↦ span_behind (unused_marks 65536 (limit - 65536)) base (marks_of chunk) at Unmarked v.placed.low (fits_marks base limit code chunk v) (omega (arith, p, marks_long chunk code v.reading)) ∙ unused
     ]
 
-outside_byte : (base limit : ℕ) (code : List ℕ) (chunk : List Instr) (at : ℕ) → IsValid base limit code chunk → 65536 ≤ at → at < limit → (at < base) ⊎ (base + length code ≤ at) → byte_at (text_of base limit code) at ≡ 244
+-- outside stand stops
+outside_byte : (base limit : ℕ) (code : List ℕ) (chunk : List Instr) (at : ℕ) → IsValid base limit code chunk → 65536 ≤ at → at < limit
+    → (at < base) ⊎ (base + length code ≤ at) → byte_at (text_of base limit code) at ≡ 244
 outside_byte base limit code chunk at v low high out =
     let stop = get_or-replicate {A = ℕ} (limit - 65536) (at - 65536) 244 0 (omega arith) in
     elim out [
@@ -131,7 +154,9 @@ outside_byte base limit code chunk at v low high out =
       | inr p ↦ span_behind (replicate (limit - 65536) 244) base code at 0 v.placed.low (fits_text base limit code chunk v) p ∙ stop
     ]
 
-alone_start : (base limit : ℕ) (code : List ℕ) (chunk : List Instr) (at : ℕ) → IsValid base limit code chunk → 65536 ≤ at → at < limit → at % 32 ≡ 0 → mark_at (alone_marks base limit chunk) at ≡ Plain
+-- every bundle start is plain
+alone_start : (base limit : ℕ) (code : List ℕ) (chunk : List Instr) (at : ℕ) → IsValid base limit code chunk → 65536 ≤ at → at < limit
+    → at % 32 ≡ 0 → mark_at (alone_marks base limit chunk) at ≡ Plain
 alone_start base limit code chunk at v low high start =
     elim (place_of base (length code) at) [
       | Before l ↦ outside_mark base limit code chunk at v low high (inl l) ∙ unused_at_start at start
@@ -141,6 +166,7 @@ alone_start base limit code chunk at v low high start =
       | Behind p ↦ outside_mark base limit code chunk at v low high (inr p) ∙ unused_at_start at start
     ]
 
+-- a plain place is marked
 plain_marked : (marks : List Mark) (now : State) → 65536 ≤ now.place → mark_at marks now.place ≡ Plain → IsMarked marks now
 plain_marked marks now low plain = (low, subst (λ (mark : Mark). Admits mark now.masked) (sym plain) tt)
 
@@ -149,7 +175,8 @@ abbrev IsLanding : List Mark → State → Type 0
 IsLanding marks next = IsMarked marks next ⊎ IsTrampoline next.place
 
 -- any bundle start below the limit is a landing
-start_lands : (base limit : ℕ) (code : List ℕ) (chunk : List Instr) (next : State) → IsValid base limit code chunk → next.place < limit → next.place % 32 ≡ 0 → IsLanding (alone_marks base limit chunk) next
+start_lands : (base limit : ℕ) (code : List ℕ) (chunk : List Instr) (next : State) → IsValid base limit code chunk → next.place < limit
+    → next.place % 32 ≡ 0 → IsLanding (alone_marks base limit chunk) next
 start_lands base limit code chunk next v high start =
     ⊎_elim
     (λ (zone : next.place < 65536). inr (zone, start))
@@ -157,7 +184,8 @@ start_lands base limit code chunk next v high start =
     (cases_lt next.place 65536)
 
 -- a good target is a landing
-target_lands : (base limit : ℕ) (code : List ℕ) (chunk : List Instr) (place : ℕ) → IsValid base limit code chunk → IsTarget base limit (length code) chunk place → IsLanding (alone_marks base limit chunk) (state place None)
+target_lands : (base limit : ℕ) (code : List ℕ) (chunk : List Instr) (place : ℕ) → IsValid base limit code chunk
+    → IsTarget base limit (length code) chunk place → IsLanding (alone_marks base limit chunk) (state place None)
 target_lands base limit code chunk place v good =
     elim good [
       | inl inside ↦
@@ -167,7 +195,9 @@ target_lands base limit code chunk place v good =
     ]
 
 -- behind an instruction of the chunk is a landing
-behind_lands : (base limit : ℕ) (code : List ℕ) (chunk : List Instr) (k : ℕ) (masked : Option ℕ) → IsValid base limit code chunk → (s : Stands (IsTarget base limit (length code) chunk) base code (marks_of chunk) k masked) → IsLanding (alone_marks base limit chunk) (state (base + k + s.i.len) s.i.masks)
+behind_lands : (base limit : ℕ) (code : List ℕ) (chunk : List Instr) (k : ℕ) (masked : Option ℕ) → IsValid base limit code chunk
+    → (s : Stands (IsTarget base limit (length code) chunk) base code (marks_of chunk) k masked)
+    → IsLanding (alone_marks base limit chunk) (state (base + k + s.i.len) s.i.masks)
 behind_lands base limit code chunk k masked v s =
     elim s.behind [
       | inl end ↦ start_lands base limit code chunk (state (base + k + s.i.len) s.i.masks) v (omega (arith, end, v.placed.high)) (omega (arith, end, v.placed.start, v.placed.whole))
@@ -181,7 +211,9 @@ behind_lands base limit code chunk k masked v s =
     ]
 
 -- each step of an instruction of the chunk lands
-leads_land : (base limit : ℕ) (code : List ℕ) (chunk : List Instr) (k : ℕ) (masked : Option ℕ) → IsValid base limit code chunk → (s : Stands (IsTarget base limit (length code) chunk) base code (marks_of chunk) k masked) → (next : State) (flow : Flow) → s.i.flow ≡ flow → LeadsBy flow limit s.i (state (base + k) masked) next → IsLanding (alone_marks base limit chunk) next
+leads_land : (base limit : ℕ) (code : List ℕ) (chunk : List Instr) (k : ℕ) (masked : Option ℕ) → IsValid base limit code chunk
+    → (s : Stands (IsTarget base limit (length code) chunk) base code (marks_of chunk) k masked) → (next : State) (flow : Flow)
+    → s.i.flow ≡ flow → LeadsBy flow limit s.i (state (base + k) masked) next → IsLanding (alone_marks base limit chunk) next
 leads_land base limit code chunk k masked v s next Next is leads = subst (IsLanding (alone_marks base limit chunk)) (sym leads) (behind_lands base limit code chunk k masked v s)
 leads_land base limit code chunk k masked v s next Branch is leads =
     let none : s.i.masks ≡ None = masks_only_before_next (drop k code) s.i s.is (λ e. cc (e, is)) in
@@ -204,22 +236,31 @@ leads_land base limit code chunk k masked v s next IndirectCall is leads =
 leads_land base limit code chunk k masked v s next Stop is leads = absurd leads
 
 -- what stands at a marked place of the chunk
-stands_here : (base limit : ℕ) (code : List ℕ) (chunk : List Instr) (now : State) → IsValid base limit code chunk → base ≤ now.place → now.place < base + length code → IsMarked (alone_marks base limit chunk) now → Stands (IsTarget base limit (length code) chunk) base code (marks_of chunk) (now.place - base) now.masked
+stands_here : (base limit : ℕ) (code : List ℕ) (chunk : List Instr) (now : State) → IsValid base limit code chunk → base ≤ now.place
+    → now.place < base + length code → IsMarked (alone_marks base limit chunk) now
+    → Stands (IsTarget base limit (length code) chunk) base code (marks_of chunk) (now.place - base) now.masked
 stands_here base limit code chunk now v a b m =
     stands_at (IsTarget base limit (length code) chunk) chunk base None code v.reading v.crossing v.pairs v.targets (now.place - base) now.masked
     (subst (λ (mark : Mark). Admits mark now.masked) (within_mark base limit code chunk now.place v a b) m.1)
 
-instruction_here : (base limit : ℕ) (code : List ℕ) (chunk : List Instr) (now : State) → (v : IsValid base limit code chunk) → (a : base ≤ now.place) → (b : now.place < base + length code) → (m : IsMarked (alone_marks base limit chunk) now) → instruction_at (text_of base limit code) now.place ≡ Some (stands_here base limit code chunk now v a b m).i
+-- the instruction at a marked place of the chunk
+instruction_here : (base limit : ℕ) (code : List ℕ) (chunk : List Instr) (now : State) → (v : IsValid base limit code chunk)
+    → (a : base ≤ now.place) → (b : now.place < base + length code) → (m : IsMarked (alone_marks base limit chunk) now)
+    → instruction_at (text_of base limit code) now.place ≡ Some (stands_here base limit code chunk now v a b m).i
 instruction_here base limit code chunk now v a b m =
     let s = stands_here base limit code chunk now v a b m in
     let e : base + (now.place - base) ≡ now.place = omega (arith, a) in
     subst (λ (n : ℕ). instruction_at (text_of base limit code) n ≡ Some (stands_here base limit code chunk now v a b m).i) e
     (instruction_in (replicate (limit - 65536) 244) code base (now.place - base) (stands_here base limit code chunk now v a b m).i v.placed.low (fits_text base limit code chunk v) s.is s.short)
 
-marked_inside : (base limit : ℕ) (code : List ℕ) (chunk : List Instr) (now : State) → IsValid base limit code chunk → IsMarked (alone_marks base limit chunk) now → InRegion (text_of base limit code) now.place
+-- a marked place is one of the region
+marked_inside : (base limit : ℕ) (code : List ℕ) (chunk : List Instr) (now : State) → IsValid base limit code chunk
+    → IsMarked (alone_marks base limit chunk) now → InRegion (text_of base limit code) now.place
 marked_inside base limit code chunk now v m = (m.0, omega (arith, marked_within (alone_marks base limit chunk) now m, marks_all_long base limit code chunk v, text_long base limit code chunk v))
 
-pub valid_is_closed : (base limit : ℕ) (code : List ℕ) (chunk : List Instr) → IsValid base limit code chunk → IsClosedChunk base limit code (marks_of chunk)
+-- a chunk that is valid by its reading is closed by itself
+pub valid_is_closed : (base limit : ℕ) (code : List ℕ) (chunk : List Instr) → IsValid base limit code chunk
+    → IsClosedChunk base limit code (marks_of chunk)
 valid_is_closed base limit code chunk v =
     record {
       placed = v.placed;

@@ -1,5 +1,6 @@
 -- Places beside a span, and the elements of a list of which a span was set.
-use Rattle.std.proofs.Common.{◌≡◌, ◌≢◌, ℕ, ◌+◌, ◌-◌, ◌%◌, ◌<◌, ◌≤◌, ◌⊎◌, Bool, true, false, not, eqb, cond, List, length, get_or, Option, arith, refl, ◌∙◌, ap, ⊎_elim}
+use Rattle.std.proofs.Common.{◌≡◌, ◌≢◌, ℕ, ◌+◌, ◌-◌, ◌%◌, ◌<◌, ◌≤◌, ◌⊎◌, Bool, true, false, not, eqb, cond, List, length, get_or, Option}
+use Rattle.std.proofs.Common.{arith, refl, ◌∙◌, ap, ⊎_elim}
 use Rattle.std.proofs.lemmas.Bool.{cases_lt, eqb-true}
 use Rattle.std.proofs.lemmas.Bool.Decides.{nat_tests, eqb_tells}
 use Rattle.nc_decode.specs.declared.instruction.Mark.TheVariants.{Unmarked, Plain}
@@ -34,9 +35,11 @@ unused_is_start at masked m = eqb-true (at % 32) 0 (plain_if_admitted (eqb (at %
 pub is_start_true : (at : ℕ) → IsBundleStart at → is_start at ≡ true
 is_start_true at start = grind (arith, nat_tests)
 
+-- a bundle start is not inside a bundle
 pub is_inside_false : (at : ℕ) → IsBundleStart at → is_inside at ≡ false
 is_inside_false at start = grind (arith, nat_tests)
 
+-- any other place is
 pub is_inside_true : (at : ℕ) → at % 32 ≢ 0 → is_inside at ≡ true
 is_inside_true at not = grind (arith, nat_tests)
 
@@ -45,22 +48,32 @@ pub unused_at_start : (at : ℕ) → IsBundleStart at → unused_mark at ≡ Pla
 unused_at_start at start = grind (arith, nat_tests)
 
 -- an element of a list with a span set, by addresses
-pub span_within : {X : Type 0} (xs : List X) (base : ℕ) (ys : List X) (at : ℕ) (d : X) → 65536 ≤ base → base + length ys ≤ 65536 + length xs → base ≤ at → at < base + length ys → get_or (with_span xs (base - 65536) ys) (at - 65536) d ≡ get_or ys (at - base) d
+pub span_within : {X : Type 0} (xs : List X) (base : ℕ) (ys : List X) (at : ℕ) (d : X) → 65536 ≤ base
+    → base + length ys ≤ 65536 + length xs → base ≤ at → at < base + length ys
+    → get_or (with_span xs (base - 65536) ys) (at - 65536) d ≡ get_or ys (at - base) d
 span_within xs base ys at d low fits from to =
     let e : at - 65536 - (base - 65536) ≡ at - base = omega arith in
     get_or-with_span_in xs (base - 65536) ys (at - 65536) d (omega arith) (omega arith) (omega arith) ∙ ap (λ (k : ℕ). get_or ys k d) e
 
-pub span_before : {X : Type 0} (xs : List X) (base : ℕ) (ys : List X) (at : ℕ) (d : X) → 65536 ≤ base → base + length ys ≤ 65536 + length xs → 65536 ≤ at → at < base → get_or (with_span xs (base - 65536) ys) (at - 65536) d ≡ get_or xs (at - 65536) d
+-- an element before the span
+pub span_before : {X : Type 0} (xs : List X) (base : ℕ) (ys : List X) (at : ℕ) (d : X) → 65536 ≤ base
+    → base + length ys ≤ 65536 + length xs → 65536 ≤ at → at < base
+    → get_or (with_span xs (base - 65536) ys) (at - 65536) d ≡ get_or xs (at - 65536) d
 span_before xs base ys at d low fits from to = get_or-with_span_below xs (base - 65536) ys (at - 65536) d (omega arith) (omega arith)
 
-pub span_behind : {X : Type 0} (xs : List X) (base : ℕ) (ys : List X) (at : ℕ) (d : X) → 65536 ≤ base → base + length ys ≤ 65536 + length xs → base + length ys ≤ at → get_or (with_span xs (base - 65536) ys) (at - 65536) d ≡ get_or xs (at - 65536) d
+-- an element after the span
+pub span_behind : {X : Type 0} (xs : List X) (base : ℕ) (ys : List X) (at : ℕ) (d : X) → 65536 ≤ base
+    → base + length ys ≤ 65536 + length xs → base + length ys ≤ at
+    → get_or (with_span xs (base - 65536) ys) (at - 65536) d ≡ get_or xs (at - 65536) d
 span_behind xs base ys at d low fits past = get_or-with_span_above xs (base - 65536) ys (at - 65536) d (omega arith) (omega arith)
 
 -- an instruction within one bundle, before or behind a span of whole bundles, doesn't reach into it
 pub before_span : (at len k base : ℕ) → IsInOneBundle at len → k < len → IsBundleStart base → at < base → at + k < base
 before_span at len k base fits lt start before = omega arith
 
-pub within_span : (at len k base size : ℕ) → IsInOneBundle at len → k < len → IsBundleStart base → size % 32 ≡ 0 → at < base + size → at + k < base + size
+-- an instruction within one bundle that begins in a span of whole bundles lies in it
+pub within_span : (at len k base size : ℕ) → IsInOneBundle at len → k < len → IsBundleStart base → size % 32 ≡ 0 → at < base + size
+    → at + k < base + size
 within_span at len k base size fits lt start whole before = omega arith
 
 -- the test of a place that is no bundle start

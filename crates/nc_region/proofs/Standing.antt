@@ -1,5 +1,6 @@
 -- Which instruction of a chunk stands at a place of the text.
-use Rattle.std.proofs.Common.{◌≡◌, ◌≢◌, ℕ, ◌+◌, ◌*◌, ◌-◌, ◌%◌, ◌<◌, ◌≤◌, Bool, true, false, not, cond, List, [], ◌∷◌, ◌++◌, length, take, drop, get_or, Option, Some, None, refl, sym, subst, ◌∙◌, ap, arith, append_assoc, append-nil}
+use Rattle.std.proofs.Common.{◌≡◌, ◌≢◌, ℕ, ◌+◌, ◌*◌, ◌-◌, ◌%◌, ◌<◌, ◌≤◌, Bool, true, false, not, cond, List, [], ◌∷◌, ◌++◌, length, take}
+use Rattle.std.proofs.Common.{drop, get_or, Option, Some, None, refl, sym, subst, ◌∙◌, ap, arith, append_assoc, append-nil}
 use Rattle.std.specs.Prelude.{IsSomeAnd, ◌↔◌}
 use Rattle.std.proofs.lemmas.List.{length-append, length-take, length-drop, get_or-take, get_or-drop, get_or-append-add, ext_get_or}
 use Rattle.nc_decode.specs.declared.instruction.Instr.{Instr}
@@ -28,6 +29,7 @@ pub record Lies (marked : MarkedText) (c : Chunk) : Type 0 where
   pub whole : c.length % 32 ≡ 0
   pub small : limit_of marked.bytes < 0x80000000
 
+-- a live chunk lies there
 pub lies : (marked : MarkedText) (c : Chunk) → IsText marked → HoldsValid marked c → Lies marked c
 lies marked c t h =
     record {
@@ -60,7 +62,9 @@ pub record Standing (marked : MarkedText) (c : Chunk) (at : ℕ) (b : Begins mar
 code_at : (before rest : List Piece) (p : Piece) (k : ℕ) → get_or (code_of (before ++ p ∷ rest)) (place before + k) 0 ≡ get_or (p.bytes ++ code_of rest) k 0
 code_at before rest p k = ap (λ (z : List ℕ). get_or z (place before + k) 0) (code_of-append before (p ∷ rest)) ∙ get_or-append-add (code_of before) (p.bytes ++ code_of rest) k 0
 
-pub stands_with : (marked : MarkedText) (c : Chunk) (at : ℕ) → IsText marked → (b : Begins marked c at) → (p : Piece) (rest : List Piece) → b.rest ≡ p ∷ rest → Standing marked c at b
+-- the instruction at a place, by the piece that begins there
+pub stands_with : (marked : MarkedText) (c : Chunk) (at : ℕ) → IsText marked → (b : Begins marked c at) → (p : Piece) (rest : List Piece)
+    → b.rest ≡ p ∷ rest → Standing marked c at b
 stands_with marked c at t b p rest is =
     let h = b.holds in
     let l = lies marked c t h in
@@ -96,7 +100,9 @@ stands_with marked c at t b p rest is =
       ends = fits;
     }
 
-pub standing : (marked : MarkedText) (c : Chunk) (at : ℕ) → IsText marked → (b : Begins marked c at) → at < c.base + c.length → Standing marked c at b
+-- the instruction at a place of the chunk
+pub standing : (marked : MarkedText) (c : Chunk) (at : ℕ) → IsText marked → (b : Begins marked c at) → at < c.base + c.length
+    → Standing marked c at b
 standing marked c at t b lt = go b.rest refl
   where
     go : (rest : List Piece) → b.rest ≡ rest → Standing marked c at b
@@ -104,19 +110,26 @@ standing marked c at t b lt = go b.rest refl
     go (p ∷ rest) e = stands_with marked c at t b p rest e
 
 -- the next instruction
-abbrev pub next_begins : (marked : MarkedText) (c : Chunk) (at : ℕ) (b : Begins marked c at) → (s : Standing marked c at b) → (len : ℕ) → len ≡ s.piece.instr.len → Begins marked c (at + len)
+abbrev pub next_begins : (marked : MarkedText) (c : Chunk) (at : ℕ) (b : Begins marked c at) → (s : Standing marked c at b) → (len : ℕ)
+    → len ≡ s.piece.instr.len → Begins marked c (at + len)
 next_begins marked c at b s len e = record { holds = b.holds; before = b.before ++ s.piece ∷ []; rest = s.rest; parts = s.parts; here = omega (arith, s.behind, e) }
 
-pub stands_some : (marked : MarkedText) (c : Chunk) (at : ℕ) (b : Begins marked c at) (s : Standing marked c at b) → IsSomeAnd (instruction_at marked.bytes at) (λ i. IsInOneBundle at i.len)
+-- some instruction stands there, wholly inside its bundle
+pub stands_some : (marked : MarkedText) (c : Chunk) (at : ℕ) (b : Begins marked c at) (s : Standing marked c at b)
+    → IsSomeAnd (instruction_at marked.bytes at) (λ i. IsInOneBundle at i.len)
 stands_some marked c at b s = subst (λ (o : Option Instr). IsSomeAnd o (λ i. IsInOneBundle at i.len)) (sym s.instr) s.inside
 
 -- the first of both lists, and the others
-pub runs_from : (rest news : List Piece) (p n : Piece) (others more : List Piece) → rest ≡ p ∷ others → news ≡ n ∷ more → length p.bytes ≡ length n.bytes → RunsAlong others more → RunsAlong rest news
+pub runs_from : (rest news : List Piece) (p n : Piece) (others more : List Piece) → rest ≡ p ∷ others → news ≡ n ∷ more
+    → length p.bytes ≡ length n.bytes → RunsAlong others more → RunsAlong rest news
 runs_from rest news p n others more e f len runs = rw (e, f) (len, runs)
 
-pub runs_to : (rest news : List Piece) (p n : Piece) (others more : List Piece) → rest ≡ p ∷ others → news ≡ n ∷ more → RunsAlong rest news → (length p.bytes ≡ length n.bytes) × RunsAlong others more
+-- lists run along each other, after their first members
+pub runs_to : (rest news : List Piece) (p n : Piece) (others more : List Piece) → rest ≡ p ∷ others → news ≡ n ∷ more
+    → RunsAlong rest news → (length p.bytes ≡ length n.bytes) × RunsAlong others more
 runs_to rest news p n others more e f runs = subst (λ (z : List Piece). RunsAlong (p ∷ others) z) f (subst (λ (z : List Piece). RunsAlong z news) e runs)
 
+-- no list runs along any
 pub runs_none : (rest news : List Piece) → news ≡ [] → RunsAlong rest news
 runs_none rest news e = rw e tt
 
@@ -125,17 +138,23 @@ after_cond : (b : Bool) (r : ℕ) → is_after (cond b (After r) Plain) ≡ b
 after_cond true r = refl
 after_cond false r = refl
 
+-- the mark of an indirect transfer
 pub after_is : (i : Instr) → is_after (mark_of i) ≡ is_indirect i.flow
 after_is i = after_cond (is_indirect i.flow) i.reg
 
-pub none_from : (rest news : List Piece) (p n : Piece) (others more : List Piece) → rest ≡ p ∷ others → news ≡ n ∷ more → is_indirect p.instr.flow ≡ false → is_indirect n.instr.flow ≡ false → NoneIndirect others more → NoneIndirect rest news
+-- none is an indirect transfer, from the first one on
+pub none_from : (rest news : List Piece) (p n : Piece) (others more : List Piece) → rest ≡ p ∷ others → news ≡ n ∷ more
+    → is_indirect p.instr.flow ≡ false → is_indirect n.instr.flow ≡ false → NoneIndirect others more → NoneIndirect rest news
 none_from rest news p n others more e f a b none = rw (e, f) (a, b, none)
 
-pub none_to : (rest news : List Piece) (p n : Piece) (others more : List Piece) → rest ≡ p ∷ others → news ≡ n ∷ more → NoneIndirect rest news → (is_indirect p.instr.flow ≡ false) × (is_indirect n.instr.flow ≡ false) × NoneIndirect others more
+-- nor is the first
+pub none_to : (rest news : List Piece) (p n : Piece) (others more : List Piece) → rest ≡ p ∷ others → news ≡ n ∷ more
+    → NoneIndirect rest news → (is_indirect p.instr.flow ≡ false) × (is_indirect n.instr.flow ≡ false) × NoneIndirect others more
 none_to rest news p n others more e f none = subst (λ (z : List Piece). NoneIndirect (p ∷ others) z) f (subst (λ (z : List Piece). NoneIndirect z news) e none)
 
 -- the mark where the chunk goes on tells whether an indirect transfer stands there
-pub first_none : (marked : MarkedText) (c : Chunk) (at : ℕ) → IsText marked → (b : Begins marked c at) → (is_after (mark_at marked.marks at) ≡ false) ↔ NoneFirst b.rest
+pub first_none : (marked : MarkedText) (c : Chunk) (at : ℕ) → IsText marked → (b : Begins marked c at)
+    → (is_after (mark_at marked.marks at) ≡ false) ↔ NoneFirst b.rest
 first_none marked c at t b = go b.rest refl
   where
     go : (rest : List Piece) → b.rest ≡ rest → (is_after (mark_at marked.marks at) ≡ false) ↔ NoneFirst b.rest
@@ -149,10 +168,12 @@ first_none marked c at t b = go b.rest refl
         let same : is_after (mark_at marked.marks at) ≡ is_indirect s.piece.instr.flow = ap is_after s.mark ∙ after_is s.piece.instr in
         (λ x. subst NoneFirst (sym s.is) (sym same ∙ x), λ n. same ∙ subst NoneFirst s.is n)
 
+-- a negated test that is true
 pub negated : (b : Bool) → not b ≡ true → b ≡ false
 negated true e = absurd cc
 negated false e = refl
 
+-- a test that is false, negated
 pub not_false : (b : Bool) → b ≡ false → not b ≡ true
 not_false true e = absurd cc
 not_false false e = refl

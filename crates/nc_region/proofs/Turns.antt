@@ -1,5 +1,6 @@
 -- A patch is made one instruction after the other.
-use Rattle.std.proofs.Common.{◌≡◌, ℕ, ◌+◌, ◌-◌, ◌<◌, ◌≤◌, Bool, true, false, cond, List, [], ◌∷◌, ◌++◌, length, get_or, zero, suc, ◌&&◌, ◌==◌, refl, sym, subst, ◌∙◌, ap, arith, inl, inr, append_assoc, eqb-true}
+use Rattle.std.proofs.Common.{◌≡◌, ℕ, ◌+◌, ◌-◌, ◌<◌, ◌≤◌, Bool, true, false, cond, List, [], ◌∷◌, ◌++◌, length, get_or, zero, suc, ◌&&◌}
+use Rattle.std.proofs.Common.{◌==◌, refl, sym, subst, ◌∙◌, ap, arith, inl, inr, append_assoc, eqb-true}
 use Rattle.std.specs.Prelude.{IsTrue}
 use Rattle.std.proofs.lemmas.List.{length-append, get_or_append_left, get_or-append_right, ext_get_or}
 use Rattle.nc_decode.specs.Transfers.{is_direct, is_indirect, target}
@@ -10,18 +11,23 @@ use Rattle.nc_text.specs.MarkedText.{MarkedText, IsText, with_span}
 use Rattle.nc_text.proofs.SpanElements.{length-with_span}
 use Rattle.nc_region.specs.declared.acts.Act.{Act}
 use Rattle.nc_region.specs.declared.chunk.Chunk.{Chunk}
-use Rattle.nc_region.specs.Patch.{AreBytesOf, lengths, IsHalf, AreNoHalves, AreNotIndirect, GoWell, stands_there, acts_of_instruction, acts_of_modify}
+use Rattle.nc_region.specs.Patch.{AreBytesOf, lengths, IsHalf, AreNoHalves, AreNotIndirect, GoWell, stands_there, acts_of_instruction}
+use Rattle.nc_region.specs.Patch.{acts_of_modify}
 use Rattle.nc_region.specs.PatchSteps.{NoneFirst, CanPatch}
 use Rattle.nc_region.proofs.SpanPlaces.{place_of, Before, Within, Behind, span_within, span_before, span_behind}
 use Rattle.nc_region.proofs.Exchanging.{target_stays}
 use Rattle.nc_region.proofs.Exchanged.{Changes, changed, changed_holds, changed_long}
 
-lengths_first : (o n : Piece) (os ns : List Piece) → lengths (o ∷ os) ≡ lengths (n ∷ ns) → (length o.bytes ≡ length n.bytes) × (lengths os ≡ lengths ns)
+-- the first lengths agree
+lengths_first : (o n : Piece) (os ns : List Piece) → lengths (o ∷ os) ≡ lengths (n ∷ ns)
+    → (length o.bytes ≡ length n.bytes) × (lengths os ≡ lengths ns)
 lengths_first o n os ns e = (cc, cc)
 
+-- no list is as long as none
 lengths_none : (n : Piece) (ns : List Piece) → lengths [] ≡ lengths (n ∷ ns) → ⊥
 lengths_none n ns e = cc
 
+-- what is not true is false
 not_true : (b : Bool) → (b ≡ true → ⊥) → b ≡ false
 not_true true h = absurd (h refl)
 not_true false h = refl
@@ -31,6 +37,7 @@ pub no_half : (o : Piece) (rest : List Piece) → (IsHalf o rest → ⊥) → (i
 no_half o [] h = (not_true (is_indirect o.instr.flow) h, tt)
 no_half o (next ∷ rest) h = (not_true (is_indirect o.instr.flow) (λ t. h (inl t)), not_true (is_indirect next.instr.flow) (λ t. h (inr t)))
 
+-- targets that are good in one way are good in another
 well_map : (P Q : ℕ → Type 0) → ((to : ℕ) → P to → Q to) → (at : ℕ) (ns : List Piece) → GoWell P at ns → GoWell Q at ns
 well_map P Q f at [] w = tt
 well_map P Q f at (n ∷ ns) w = (λ d. f (target n.instr at) (w.0 d), well_map P Q f (at + length n.bytes) ns w.1)
@@ -47,7 +54,9 @@ pub record Turn (marked : MarkedText) (c : Chunk) (at : ℕ) (new : List ℕ) (p
   pub well : GoWell (IsTarget c.base (limit_of marked.bytes) patch.run.holds.valid.pieces) (at + length n.bytes) ns
   pub parts : patch.run.holds.valid.pieces ≡ patch.run.before ++ o ∷ (os ++ patch.run.after)
 
-pub turn : (marked : MarkedText) (c : Chunk) (at : ℕ) (new : List ℕ) (patch : CanPatch marked c at new) (n : Piece) (ns : List Piece) → IsText marked → patch.run.news ≡ n ∷ ns → Turn marked c at new patch n ns
+-- the next instruction of a patch
+pub turn : (marked : MarkedText) (c : Chunk) (at : ℕ) (new : List ℕ) (patch : CanPatch marked c at new) (n : Piece) (ns : List Piece)
+    → IsText marked → patch.run.news ≡ n ∷ ns → Turn marked c at new patch n ns
 turn marked c at new patch n ns t is = go patch.run.old refl
   where
     go : (old : List Piece) → patch.run.old ≡ old → Turn marked c at new patch n ns
@@ -118,7 +127,8 @@ next_patch marked c at new patch n ns t len rest e bytes =
     }
 
 -- two spans, one behind the other
-pub spans_join : (text : List ℕ) (at : ℕ) (xs ys : List ℕ) → 65536 ≤ at → at + length xs + length ys ≤ 65536 + length text → with_span (with_span text (at - 65536) xs) (at + length xs - 65536) ys ≡ with_span text (at - 65536) (xs ++ ys)
+pub spans_join : (text : List ℕ) (at : ℕ) (xs ys : List ℕ) → 65536 ≤ at → at + length xs + length ys ≤ 65536 + length text
+    → with_span (with_span text (at - 65536) xs) (at + length xs - 65536) ys ≡ with_span text (at - 65536) (xs ++ ys)
 spans_join text at xs ys low fits =
     let first : length (with_span text (at - 65536) xs) ≡ length text = length-with_span text (at - 65536) xs (omega (arith, low, fits)) in
     let both : length (xs ++ ys) ≡ length xs + length ys = length-append xs ys in
@@ -148,11 +158,14 @@ spans_join text at xs ys low fits =
           ∙ (span_behind text at xs (65536 + j) 0 low fits1 (omega (arith, f)) ∙ sym (span_behind text at (xs ++ ys) (65536 + j) 0 low fits3 (omega (arith, f, both))))
     ]))
 
+-- both tests are true
 both_true : (a b : Bool) → (a && b) ≡ true → (a ≡ true) × (b ≡ true)
 both_true true b e = (refl, e)
 both_true false b e = absurd cc
 
-stands_bytes : (text : List ℕ) (at : ℕ) (bytes : List ℕ) → stands_there text at bytes ≡ true → (k : ℕ) → k < length bytes → byte_at text (at + k) ≡ get_or bytes k 0
+-- the bytes that stand there
+stands_bytes : (text : List ℕ) (at : ℕ) (bytes : List ℕ) → stands_there text at bytes ≡ true → (k : ℕ) → k < length bytes
+    → byte_at text (at + k) ≡ get_or bytes k 0
 stands_bytes text at [] e k lt = absurd (omega arith)
 stands_bytes text at (b ∷ rest) e zero lt =
     let z : at + 0 ≡ at = omega arith in
@@ -162,7 +175,8 @@ stands_bytes text at (b ∷ rest) e (suc k) lt =
     ap (byte_at text) z ∙ stands_bytes text (at + 1) rest (both_true (byte_at text at == b) (stands_there text (at + 1) rest) e).1 k (omega arith)
 
 -- bytes that stand there already change nothing
-pub stands_same : (text : List ℕ) (at : ℕ) (bytes : List ℕ) → 65536 ≤ at → at + length bytes ≤ 65536 + length text → stands_there text at bytes ≡ true → text ≡ with_span text (at - 65536) bytes
+pub stands_same : (text : List ℕ) (at : ℕ) (bytes : List ℕ) → 65536 ≤ at → at + length bytes ≤ 65536 + length text
+    → stands_there text at bytes ≡ true → text ≡ with_span text (at - 65536) bytes
 stands_same text at bytes low fits e =
     ext_get_or 0 text (with_span text (at - 65536) bytes) (sym (length-with_span text (at - 65536) bytes (omega (arith, low, fits))))
     (λ j lt.
@@ -177,11 +191,14 @@ stands_same text at bytes low fits e =
     ]))
 
 -- what stands from a place on is the same in texts that agree there
-same_stands : (a b : List ℕ) (at : ℕ) (bytes : List ℕ) → ((k : ℕ) → at ≤ k → byte_at a k ≡ byte_at b k) → stands_there a at bytes ≡ stands_there b at bytes
+same_stands : (a b : List ℕ) (at : ℕ) (bytes : List ℕ) → ((k : ℕ) → at ≤ k → byte_at a k ≡ byte_at b k)
+    → stands_there a at bytes ≡ stands_there b at bytes
 same_stands a b at [] h = refl
 same_stands a b at (x ∷ rest) h = ap (λ (z : ℕ). (z == x) && stands_there a (at + 1) rest) (h at (omega arith)) ∙ ap (λ (z : Bool). (byte_at b at == x) && z) (same_stands a b (at + 1) rest (λ k le. h k (omega (arith, le))))
 
-pub same_acts : (a b : List ℕ) (at : ℕ) (ns : List Piece) → ((k : ℕ) → at ≤ k → byte_at a k ≡ byte_at b k) → acts_of_modify a at ns ≡ acts_of_modify b at ns
+-- the acts of what is left are the same over a text that agrees from there on
+pub same_acts : (a b : List ℕ) (at : ℕ) (ns : List Piece) → ((k : ℕ) → at ≤ k → byte_at a k ≡ byte_at b k)
+    → acts_of_modify a at ns ≡ acts_of_modify b at ns
 same_acts a b at [] h = refl
 same_acts a b at (n ∷ ns) h =
     ap (λ (z : Bool). cond z [] (acts_of_instruction at n.bytes) ++ acts_of_modify a (at + length n.bytes) ns) (same_stands a b at n.bytes h)

@@ -14,7 +14,8 @@ abbrev pub Shows : List ℕ → List ℕ → ℕ → ℕ → Type 0
 Shows window text at n = (k : ℕ) → k < n → get_or window k 0 ≡ byte_at text (at + k)
 
 -- an instruction as long as the front of the window, or shorter, is at its front too
-pub found_in_window : (text window : List ℕ) (at n : ℕ) (i : Instr) → InRegion text at → instruction_at text at ≡ Some i → i.len ≤ n → n ≤ length window → Shows window text at n → first_instruction (take n window) ≡ Some i
+pub found_in_window : (text window : List ℕ) (at n : ℕ) (i : Instr) → InRegion text at → instruction_at text at ≡ Some i → i.len ≤ n
+    → n ≤ length window → Shows window text at n → first_instruction (take n window) ≡ Some i
 found_in_window text window at n i inside is short long shows =
     let low : 65536 ≤ at = inside.0 in
     let fits = (length_at text at i inside is).1 in
@@ -33,7 +34,8 @@ from_some None at h = absurd h
 from_some (Some i) at h = (i, refl, h)
 
 -- the instruction of a place where one stands in one bundle
-pub standing : (text : List ℕ) (at : ℕ) → IsSomeAnd (instruction_at text at) (λ i. IsInOneBundle at i.len) → (i : Instr) × (instruction_at text at ≡ Some i) × IsInOneBundle at i.len
+pub standing : (text : List ℕ) (at : ℕ) → IsSomeAnd (instruction_at text at) (λ i. IsInOneBundle at i.len)
+    → (i : Instr) × (instruction_at text at ≡ Some i) × IsInOneBundle at i.len
 standing text at stands = from_some (instruction_at text at) at stands
 
 -- there is one or there is none

@@ -1,5 +1,6 @@
 -- The acts that a value tells, each at the end as it is done.
-use Rattle.std.specs.Prelude.{◌≡◌, ℕ, ◌+◌, ◌%◌, Bool, not, ◌==◌, if◌then◌else◌, true, false, List, [], ◌∷◌, ◌++◌, Option, IfSome, IsSomeAnd, length, replicate}
+use Rattle.std.specs.Prelude.{◌≡◌, ℕ, ◌+◌, ◌%◌, Bool, not, ◌==◌, if◌then◌else◌, true, false, List, [], ◌∷◌, ◌++◌, Option, IfSome}
+use Rattle.std.specs.Prelude.{IsSomeAnd, length, replicate}
 use Rattle.nc_decode.specs.declared.instruction.Mark.{Mark}
 use Rattle.nc_decode.specs.declared.instruction.Mark.TheVariants.{Unmarked, Plain, After}
 use Rattle.nc_text.specs.Marks.{mark_at}

@@ -26,6 +26,8 @@ pub record IsClosedChunk (base limit : ℕ) (bytes : List ℕ) (marks : List Mar
   pub as_long : length marks ≡ length bytes
   pub closed : IsClosed (with_chunk (unused_text limit) base bytes marks).bytes (with_chunk (unused_text limit) base bytes marks).marks
 
+-- ---- texts between two acts: machinery, cited by no public contract
+
 -- the span is unused: stops, with only bundle starts marked
 pub record IsUnused (marked : MarkedText) (base length : ℕ) : Type 0 where
   pub stops : (at : ℕ) → base ≤ at → at < base + length → byte_at marked.bytes at ≡ 0xF4

@@ -63,7 +63,9 @@ pub record IsReplacing (marked : MarkedText) (at : ℕ) (new : List ℕ) : Type 
   pub low : 0x10000 ≤ at
   pub high : at + length new ≤ limit_of marked.bytes
   pub closed : IsClosed (with_span marked.bytes (at - 0x10000) new) marked.marks
-  pub apart : (now : State) (i : Instr) → IsMarked marked.marks now → now.place ≢ at → instruction_at (with_span marked.bytes (at - 0x10000) new) now.place ≡ Some i → (now.place + i.len ≤ at) ⊎ (at + length new ≤ now.place)
+  pub apart : (now : State) (i : Instr) → IsMarked marked.marks now → now.place ≢ at
+      → instruction_at (with_span marked.bytes (at - 0x10000) new) now.place ≡ Some i
+      → (now.place + i.len ≤ at) ⊎ (at + length new ≤ now.place)
 
 -- the text while an instruction is replaced: a stop at its start, and outside it the final bytes
 pub record IsInterim (final now : List ℕ) (at len : ℕ) : Type 0 where

@@ -1,5 +1,6 @@
 -- A region: a text and the chunks in it.
-use Rattle.std.specs.Prelude.{◌≡◌, ◌≢◌, ℕ, ◌+◌, ◌-◌, ◌<◌, ◌≤◌, ◌⊎◌, ⊤, List, [], ◌∷◌, Option, length, take, drop, slice_index, slice_index_or}
+use Rattle.std.specs.Prelude.{◌≡◌, ◌≢◌, ℕ, ◌+◌, ◌-◌, ◌<◌, ◌≤◌, ◌⊎◌, ⊤, List, [], ◌∷◌, Option, length, take, drop, slice_index}
+use Rattle.std.specs.Prelude.{slice_index_or}
 use Rattle.std.specs.List.{insert}
 use Rattle.nc_decode.specs.declared.instruction.Mark.TheVariants.{Unmarked}
 use Rattle.nc_vet.specs.Chunk.{IsValid}
@@ -61,8 +62,10 @@ pub record IsRegion (marked : MarkedText) (chunks : List Chunk) : Type 0 where
   pub rising : IsRising 0x10000 chunks
   pub placed : Each (λ (c : Chunk). IsPlaced c.base (limit_of marked.bytes) c.length) chunks
   pub live : Each (λ (c : Chunk). IsLive c.state → HoldsValid marked c) chunks
-  pub stops : (at : ℕ) → InRegion marked.bytes at → Each (λ (c : Chunk). IsLive c.state → IsInChunk c at → ⊥) chunks → byte_at marked.bytes at ≡ 0xF4
-  pub unused : (at : ℕ) → InRegion marked.bytes at → Each (λ (c : Chunk). IsInChunk c at → ⊥) chunks → mark_at marked.marks at ≡ unused_mark at
+  pub stops : (at : ℕ) → InRegion marked.bytes at → Each (λ (c : Chunk). IsLive c.state → IsInChunk c at → ⊥) chunks
+      → byte_at marked.bytes at ≡ 0xF4
+  pub unused : (at : ℕ) → InRegion marked.bytes at → Each (λ (c : Chunk). IsInChunk c at → ⊥) chunks
+      → mark_at marked.marks at ≡ unused_mark at
 
 -- a text in which nothing was changed yet
 abbrev pub IsNew : MarkedText → Type 0

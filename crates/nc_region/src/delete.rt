@@ -66,7 +66,8 @@ fn stop_marked<A: Acts>(acts: &mut A, base: u32, len: u32)
 fn stop_others<A: Acts>(acts: &mut A, base: u32, len: u32)
     requires whole { IsText (A.marked acts.old) }
     requires placed { IsPlaced base (limit_of (A.marked acts.old).bytes) len }
-    requires stopped { (at : ℕ) → base ≤ at → at < base + len → is_marked_at (A.marked acts.old).marks at ≡ true → byte_at (A.marked acts.old).bytes at ≡ 244 }
+    requires stopped { (at : ℕ) → base ≤ at → at < base + len → is_marked_at (A.marked acts.old).marks at ≡ true
+        → byte_at (A.marked acts.old).bytes at ≡ 244 }
     ensures bytes { HasPut (is_unmarked_at (A.marked acts.old).marks) base (replicate len 244) len (A.marked acts.old).bytes (A.marked acts.new).bytes }
     ensures marks { (A.marked acts.new).marks ≡ (A.marked acts.old).marks }
     ensures whole { IsText (A.marked acts.new) }

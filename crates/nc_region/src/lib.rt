@@ -1,4 +1,33 @@
-//! A region of code: chunks created in a text that threads may be running, each path through it confined.
+//! A region of code: chunks created, patched, deleted and reclaimed while threads may be running in it.
+//!
+//! A host adds untrusted code to a region and takes it away again without stopping the threads that run there. Two things
+//! must never happen: that a thread leaves the paths of vetted code, and that a span is used again while a thread may still
+//! stand in it.
+//!
+//! A *chunk* is whole bundles of vetted code (`nc_vet`). While it is *live* threads may enter it. A deleted chunk is
+//! *retired*: its bytes are stops, and it carries a *stamp*, the generation that was drawn after its last byte. Each thread
+//! holds a pass of the table of generations (`nc_gens`) and checks in while it is outside the region; once every seat has
+//! checked in since the stamp, or has left, the chunk is *reclaimed* and its span may be used again. A region keeps its text
+//! closed (`nc_text`), and so confined, between any two bytes that it changes.
+//!
+//! [`Region::new`](RegionOf::new) makes a region, [`create`](RegionOf::create) adds a vetted chunk,
+//! [`modify`](RegionOf::modify) replaces instructions of a live one by others of the same lengths,
+//! [`delete`](RegionOf::delete) retires one, [`reclaim`](RegionOf::reclaim) frees what is due, and
+//! [`walk`](RegionOf::walk) shows where a path goes. [`Shared`] is a region behind a lock, with check-in beside the lock.
+//! [`RegionOf`] over a [`Recorder`] writes each act down.
+//!
+//! ```text
+//! let (gens, keeper, mut passes) = Gens::new(alloc, 1)?;
+//! let mut region = Region::new(alloc, 4, &gens, keeper)?;
+//! region.create(vet(0x1_0000, region.limit(), code)?)?;
+//! let stamp = region.delete(0x1_0000)?;   // 1
+//! region.reclaim();                       // 0: the seat hasn't checked in
+//! gens.check_in(&mut passes[0]);
+//! region.reclaim();                       // 1
+//! ```
+//!
+//! The order of puts and the generations are those of Ansel et al. 2011, "Language-independent sandboxing of just-in-time
+//! compilation and self-modifying code".
 #![tactic(auto)]
 
 mod acts;

@@ -1,6 +1,7 @@
 //! The list of chunks, by rising base.
 
-ghost use Rattle.std.specs.Prelude.{◌≡◌, ◌+◌, ◌-◌, ◌<◌, ◌≤◌, ◌^◌, ℕ, false, length, take, drop, slice_index_or, slice_get, slice_set, Some, IsTrue, IfSome, IfNone};
+ghost use Rattle.std.specs.Prelude.{◌≡◌, ◌+◌, ◌-◌, ◌<◌, ◌≤◌, ◌^◌, ℕ, false, length, take, drop, slice_index_or, slice_get, slice_set};
+ghost use Rattle.std.specs.Prelude.{Some, IsTrue, IfSome, IfNone};
 ghost use Rattle.std.specs.Vec.{vec_len, vec_capacity};
 ghost use Rattle.std.specs.List.{insert};
 ghost use Rattle.nc_region.specs.Each.{Each};
@@ -147,5 +148,6 @@ pub(crate) fn insert_chunk(chunks: &mut Vec<Chunk>, k: usize, chunk: Chunk)
     requires room { vec_len chunks.old < vec_capacity chunks.old }
     ensures { chunks.new.items ≡ insert chunks.old.items k chunk }
 {
+    // There is room, so it isn't refused.
     let _ = chunks.insert(k, chunk);
 }

@@ -1,6 +1,7 @@
 //! Instructions of a chunk replaced in a text that threads are running.
 
-ghost use Rattle.std.specs.Prelude.{◌≡◌, ◌≢◌, ◌+◌, ◌-◌, ◌<◌, ◌≤◌, ◌↔◌, ◌^◌, ◌%◌, ℕ, Bool, false, List, [], ◌∷◌, ◌++◌, length, IsTrue, IsFalse, if◌then◌else◌};
+ghost use Rattle.std.specs.Prelude.{◌≡◌, ◌≢◌, ◌+◌, ◌-◌, ◌<◌, ◌≤◌, ◌↔◌, ◌^◌, ◌%◌, ℕ, Bool, false, List, [], ◌∷◌, ◌++◌, length, IsTrue};
+ghost use Rattle.std.specs.Prelude.{IsFalse, if◌then◌else◌};
 ghost use Rattle.nc_decode.specs.declared.instruction.Mark.{Mark};
 ghost use Rattle.nc_decode.specs.Bundles.{IsInOneBundle};
 ghost use Rattle.nc_decode.specs.Transfers.{is_direct, is_indirect, target};
@@ -13,7 +14,8 @@ ghost use Rattle.nc_region.specs.Acts.{Tells, puts_where};
 ghost use Rattle.nc_region.specs.Chunks.{HasPut};
 ghost use Rattle.nc_region.specs.declared.acts.Act.{Act};
 ghost use Rattle.nc_region.specs.Region.{HoldsValid, IsInChunk};
-ghost use Rattle.nc_region.specs.Patch.{IsPatchSpan, AreBytesOf, AreInstructions, IsRun, GoWell, stands_there, any_place, acts_of_instruction, acts_of_modify};
+ghost use Rattle.nc_region.specs.Patch.{IsPatchSpan, AreBytesOf, AreInstructions, IsRun, GoWell, stands_there, any_place};
+ghost use Rattle.nc_region.specs.Patch.{acts_of_instruction, acts_of_modify};
 ghost use Rattle.nc_region.specs.PatchSteps.{IsReplacing, IsInterim, Begins, Along, RunsAlong, NoneIndirect, is_after, CanPatch};
 
 use crate::acts::Acts;
@@ -80,7 +82,8 @@ fn fits_from<A: Acts>(acts: &A, chunk: Chunk, at: u32, new: &[u8]) -> bool
     requires whole { IsText (A.marked acts.now) }
     requires begins { Begins (A.marked acts.now) chunk at }
     requires ends { at + length new.now ≤ chunk.base + chunk.length }
-    ensures exact { (b : Begins (A.marked acts.now) chunk at) (news : List Piece) → AreBytesOf new.now news → IsTrue result ↔ RunsAlong b.rest news }
+    ensures exact { (b : Begins (A.marked acts.now) chunk at) (news : List Piece) → AreBytesOf new.now news → IsTrue result
+        ↔ RunsAlong b.rest news }
 {
     if new.is_empty() {
         return true;
@@ -116,7 +119,8 @@ pub(crate) fn leaves_pairs<A: Acts>(acts: &A, chunk: Chunk, at: u32, new: &[u8])
     requires whole { IsText (A.marked acts.now) }
     requires along { Along (A.marked acts.now) chunk at new.now }
     requires ends { at + length new.now ≤ chunk.base + chunk.length }
-    ensures exact { (b : Begins (A.marked acts.now) chunk at) (news : List Piece) → AreBytesOf new.now news → RunsAlong b.rest news → IsTrue result ↔ NoneIndirect b.rest news }
+    ensures exact { (b : Begins (A.marked acts.now) chunk at) (news : List Piece) → AreBytesOf new.now news → RunsAlong b.rest news
+        → IsTrue result ↔ NoneIndirect b.rest news }
 {
     if new.is_empty() {
         return !is_after(acts.mark(at));
@@ -138,7 +142,8 @@ pub(crate) fn leaves_pairs<A: Acts>(acts: &A, chunk: Chunk, at: u32, new: &[u8])
 fn is_good<A: Acts>(acts: &A, chunk: Chunk, to: u32) -> bool
     requires whole { IsText (A.marked acts.now) }
     requires holds { HoldsValid (A.marked acts.now) chunk }
-    ensures exact { (h : HoldsValid (A.marked acts.now) chunk) → IsTrue result ↔ IsTarget chunk.base (limit_of (A.marked acts.now).bytes) h.valid.pieces to }
+    ensures exact { (h : HoldsValid (A.marked acts.now) chunk) → IsTrue result
+        ↔ IsTarget chunk.base (limit_of (A.marked acts.now).bytes) h.valid.pieces to }
 {
     if chunk.base <= to && to - chunk.base < chunk.length {
         is_plain(acts.mark(to))
@@ -152,7 +157,8 @@ fn goes_well<A: Acts>(acts: &A, chunk: Chunk, instr: Instr, at: u32) -> bool
     requires whole { IsText (A.marked acts.now) }
     requires holds { HoldsValid (A.marked acts.now) chunk }
     requires fits { at + instr.len < 2 ^ 32 }
-    ensures exact { (h : HoldsValid (A.marked acts.now) chunk) → IsTrue result ↔ (IsTrue (is_direct instr.flow) → IsTarget chunk.base (limit_of (A.marked acts.now).bytes) h.valid.pieces (target instr at)) }
+    ensures exact { (h : HoldsValid (A.marked acts.now) chunk) → IsTrue result
+        ↔ (IsTrue (is_direct instr.flow) → IsTarget chunk.base (limit_of (A.marked acts.now).bytes) h.valid.pieces (target instr at)) }
 {
     if !is_direct(instr.flow) {
         return true;
@@ -165,7 +171,8 @@ pub(crate) fn keeps_targets<A: Acts>(acts: &A, chunk: Chunk, at: u32, new: &[u8]
     requires whole { IsText (A.marked acts.now) }
     requires holds { HoldsValid (A.marked acts.now) chunk }
     requires ends { at + length new.now ≤ chunk.base + chunk.length }
-    ensures exact { (h : HoldsValid (A.marked acts.now) chunk) (news : List Piece) → AreBytesOf new.now news → IsTrue result ↔ GoWell (IsTarget chunk.base (limit_of (A.marked acts.now).bytes) h.valid.pieces) at news }
+    ensures exact { (h : HoldsValid (A.marked acts.now) chunk) (news : List Piece) → AreBytesOf new.now news → IsTrue result
+        ↔ GoWell (IsTarget chunk.base (limit_of (A.marked acts.now).bytes) h.valid.pieces) at news }
 {
     if new.is_empty() {
         return true;
@@ -275,7 +282,8 @@ fn put_rest<A: Acts>(acts: &mut A, at: u32, rest: &[u8])
     requires low { 65536 ≤ at }
     requires high { at + 1 + length rest.now ≤ limit_of (A.marked acts.old).bytes }
     requires stopped { byte_at (A.marked acts.old).bytes at ≡ 244 }
-    requires closed { (now : List ℕ) → IsInterim (A.marked acts.old).bytes now at (1 + length rest.now) → IsClosed now (A.marked acts.old).marks }
+    requires closed { (now : List ℕ) → IsInterim (A.marked acts.old).bytes now at (1 + length rest.now)
+        → IsClosed now (A.marked acts.old).marks }
     ensures bytes { HasPut any_place (at + 1) rest.now (length rest.now) (A.marked acts.old).bytes (A.marked acts.new).bytes }
     ensures marks { (A.marked acts.new).marks ≡ (A.marked acts.old).marks }
     ensures whole { IsText (A.marked acts.new) }

@@ -1,6 +1,7 @@
 //! A recorder of acts, for tests and for whoever wants to see the order of single bytes.
 
-ghost use Rattle.std.specs.Prelude.{◌≡◌, ◌↔◌, ◌+◌, ◌<◌, ◌≤◌, [], ◌∷◌, Some, None, IfOk, IsOk, OnOk, OnErr, ◌^◌, length, All, if◌then◌else◌, false};
+ghost use Rattle.std.specs.Prelude.{◌≡◌, ◌↔◌, ◌+◌, ◌<◌, ◌≤◌, [], ◌∷◌, Some, None, IfOk, IsOk, OnOk, OnErr, ◌^◌, length, All};
+ghost use Rattle.std.specs.Prelude.{if◌then◌else◌, false};
 ghost use Rattle.std.specs.Option.{option_map};
 ghost use Rattle.std.specs.Vec.{vec_len, vec_capacity};
 ghost use Rattle.nc_text.specs.MarkedText.{IsText, with_byte, with_marks, without_marks, NamesRegister, KeepsMarks, AreStops};
@@ -132,9 +133,11 @@ impl<A: Acts + Drop> Acts for Recorder<A> {
         ensures stamp { IfOk result (λ n. n ≡ (A.keeper self.old.acts).numbers.generation + 1) }
         ensures raised { OnOk result (A.keeper self.new.acts ≡ record (A.keeper self.old.acts) { numbers = generation_raised (A.keeper self.old.acts).numbers }) }
         ensures told { OnOk result (Tells (if self.old.full then None else Some self.old.log.items) (if self.new.full then None else Some self.new.log.items) (Act.Bump ∷ [])) }
-        ensures goes_on { OnOk result ((self.new.full ≡ false) ↔ ((self.old.full ≡ false) × (vec_len self.old.log < vec_capacity self.old.log))) }
+        ensures goes_on { OnOk result ((self.new.full ≡ false) ↔ ((self.old.full ≡ false)
+            × (vec_len self.old.log < vec_capacity self.old.log))) }
         ensures marked { A.marked self.new.acts ≡ A.marked self.old.acts }
-        ensures full { OnErr result (((A.keeper self.old.acts).numbers.generation ≡ 2 ^ 62) × (A.keeper self.new.acts ≡ A.keeper self.old.acts)) }
+        ensures full { OnErr result (((A.keeper self.old.acts).numbers.generation ≡ 2 ^ 62)
+            × (A.keeper self.new.acts ≡ A.keeper self.old.acts)) }
         ensures silent { OnErr result ((self.new.full ≡ self.old.full) × (self.new.log.items ≡ self.old.log.items)) }
     {
         let answer = self.acts.bump();

@@ -154,7 +154,8 @@ impl<A: Acts + Drop> RegionOf<A> {
         // Exactly the acts of a creation were done, where they are told.
         ensures acts { OnOk result (Tells self.old.told self.new.told (acts_of_create vetted.base vetted.code)) }
         // It is created only for this region's limit, where no chunk stands.
-        ensures free { OnOk result ((vetted.limit ≡ limit_of self.old.marked.bytes) × ¬ Meets vetted.base (length vetted.code) self.old.chunks) }
+        ensures free { OnOk result ((vetted.limit ≡ limit_of self.old.marked.bytes)
+            × ¬ Meets vetted.base (length vetted.code) self.old.chunks) }
         // Text, marks, chunks and acts are as before, and the chunk comes back.
         ensures unchanged { IfErr result (λ e. (e.0 ≡ vetted) × (self.new ≡ self.old)) }
         // Each refusal comes where it is due.

@@ -103,7 +103,8 @@ impl<'g> Shared<'g> {
     /// `Region::walk` under the lock: the trace through the text that stood there at that moment.
     pub fn walk(&self, rt: &impl Wait, start: u32, choices: &[u32]) -> Result<Trace, WalkFault>
         // Whatever text was found under the lock, it is confined, and this is a walk through it from a bundle start of it.
-        ensures trace { IfOk result (λ t. (text : List ℕ) × IsConfined text × IsWalkStart text start × IsTrace text start choices.now t.places.items t.end) }
+        ensures trace { IfOk result (λ t. (text : List ℕ) × IsConfined text × IsWalkStart text start
+            × IsTrace text start choices.now t.places.items t.end) }
         // A refusal is one that a text of a lawful size gives.
         ensures refused { IfErr result (λ e. (text : List ℕ) × IsLawfulLimit (limit_of text) × MayRefuseWalk text start e) }
     {
@@ -113,7 +114,8 @@ impl<'g> Shared<'g> {
 
 /// A walk through a region's text, which is confined.
 fn walk_confined(region: &Region<'_>, start: u32, choices: &[u32]) -> Result<Trace, WalkFault>
-    ensures trace { IfOk result (λ t. (text : List ℕ) × IsConfined text × IsWalkStart text start × IsTrace text start choices.now t.places.items t.end) }
+    ensures trace { IfOk result (λ t. (text : List ℕ) × IsConfined text × IsWalkStart text start
+        × IsTrace text start choices.now t.places.items t.end) }
     ensures refused { IfErr result (λ e. (text : List ℕ) × IsLawfulLimit (limit_of text) × MayRefuseWalk text start e) }
 {
     // Called for what it ensures.

@@ -50,20 +50,43 @@ fn region<'g>(
 }
 
 /// The acts that a creation of this code owes: the puts that aren't bundle starts, the marks, the bundle starts.
-fn owed(alloc: Global, base: u32, code: &[u8]) -> Result<Vec<Act>, Fail> {
-    let mut acts = Vec::new(alloc);
-    for (i, byte) in code.iter().enumerate() {
-        if i % 32 != 0 {
-            acts.push(Act::Put(base.wrapping_add(i as u32), *byte))?;
+fn owe_create(acts: &mut Vec<Act>, base: u32, code: &[u8]) -> Result<(), Fail> {
+    let mut at = base;
+    for byte in code {
+        if at % 32 != 0 {
+            acts.push(Act::Put(at, *byte))?;
+        }
+        at = at.wrapping_add(1);
+    }
+    acts.push(Act::MarkSpan(base, at.wrapping_sub(base)))?;
+    at = base;
+    for byte in code {
+        if at % 32 == 0 {
+            acts.push(Act::Put(at, *byte))?;
+        }
+        at = at.wrapping_add(1);
+    }
+    Ok(())
+}
+
+/// The acts that its deletion and its freeing owe, where all places but one are marked: the marked ones, then the other, the
+/// stamp; a look in vain, and one that frees.
+fn owe_delete(acts: &mut Vec<Act>, base: u32, len: u32, unmarked: u32) -> Result<(), Fail> {
+    for i in 0..len {
+        if base.wrapping_add(i) != unmarked {
+            acts.push(Act::Put(base.wrapping_add(i), 0xF4))?;
         }
     }
-    acts.push(Act::MarkSpan(base, code.len() as u32))?;
-    for (i, byte) in code.iter().enumerate() {
-        if i % 32 == 0 {
-            acts.push(Act::Put(base.wrapping_add(i as u32), *byte))?;
-        }
+    for act in [
+        Act::Put(unmarked, 0xF4),
+        Act::Bump,
+        Act::Look,
+        Act::Look,
+        Act::UnmarkSpan(base, len),
+    ] {
+        acts.push(act)?;
     }
-    Ok(acts)
+    Ok(())
 }
 
 /// A region of so many bundles that tells so many acts.
@@ -84,49 +107,32 @@ fn telling<'g>(
     Ok(RegionOf::over(alloc, recorder))
 }
 
+/// Creates a chunk at 00010020, deletes it, reclaims in vain, checks in and reclaims: the acts told.
+fn life(alloc: Global, vetted: Vetted) -> Result<Vec<Act>, Fail> {
+    let (gens, keeper, mut passes) = Gens::new(alloc, 1)?;
+    let mut pass = passes.remove(0);
+    let mut region = telling(alloc, &gens, keeper, 8, 300)?;
+    let _created = region.create(vetted);
+    let _stamp = region.delete(0x10020);
+    let _none = region.reclaim();
+    gens.check_in(&mut pass);
+    let _one = region.reclaim();
+    let mut acts = Vec::new(alloc);
+    acts.extend_from_slice(region.acts().told().unwrap_or(&[]))?;
+    Ok(acts)
+}
+
 #[test]
 fn order_of_acts(rt: HostRuntime) -> Result<(), Fail> {
-    for bundles in [1usize, 2, 3] {
-        let alloc = rt.alloc();
-        let (gens, keeper, mut passes) = Gens::new(alloc, 1)?;
-        let mut pass = passes.remove(0);
-        let mut region = telling(alloc, &gens, keeper, 8, 300)?;
+    let alloc = rt.alloc();
+    for (bundles, len) in [(1usize, 32u32), (2, 64), (3, 96)] {
         // a stop, then an instruction of two bytes
         let vetted = chunk(alloc, 0x10020, 0x10100, bundles, &[0xF4, 0xEB, 0xFE])?;
-        let owed = owed(alloc, 0x10020, vetted.code())?;
-        let len = owed.len();
-        assert_eq!(rt; len, [0usize, 33, 65, 97][bundles]);
-        let created = region.create(vetted);
-        assert!(rt; created.is_ok());
-        assert_eq!(rt; region.acts().told().unwrap_or(&[]), owed.as_slice());
-
-        assert_eq!(rt; region.delete(0x10020), Ok(1));
-        let told = region.acts().told().unwrap_or(&[]);
-        let size = len.saturating_sub(1);
-        assert_eq!(rt; told.len(), len.saturating_add(size).saturating_add(1));
-        // the marked places first: all but that of the two bytes' second
-        assert_eq!(rt; told.get(len), Some(&Act::Put(0x10020, 0xF4)));
-        assert_eq!(rt;
-            told.get(len.saturating_add(1)),
-            Some(&Act::Put(0x10021, 0xF4))
-        );
-        assert_eq!(rt;
-            told.get(len.saturating_add(2)),
-            Some(&Act::Put(0x10023, 0xF4))
-        );
-        let last = len.saturating_add(size);
-        assert_eq!(rt;
-            told.get(last.saturating_sub(1)),
-            Some(&Act::Put(0x10022, 0xF4))
-        );
-        assert_eq!(rt; told.get(last), Some(&Act::Bump));
-
-        assert_eq!(rt; region.reclaim(), 0);
-        gens.check_in(&mut pass);
-        assert_eq!(rt; region.reclaim(), 1);
-        let told = region.acts().told().unwrap_or(&[]);
-        let rest = [Act::Look, Act::Look, Act::UnmarkSpan(0x10020, size as u32)];
-        assert_eq!(rt; told.get(last.saturating_add(1)..), Some(rest.as_slice()));
+        let mut owed = Vec::new(alloc);
+        owe_create(&mut owed, 0x10020, vetted.code())?;
+        owe_delete(&mut owed, 0x10020, len, 0x10022)?;
+        let told = life(alloc, vetted)?;
+        assert_eq!(rt; told.as_slice(), owed.as_slice());
     }
     Ok(())
 }
@@ -163,18 +169,27 @@ fn sizes(rt: HostRuntime) -> Result<(), Fail> {
     Ok(())
 }
 
+/// The refusal of a chunk of these bundles at this base, which comes back as it was.
+fn refused(
+    region: &mut Region<'_>,
+    alloc: Global,
+    base: u32,
+    limit: u32,
+    bundles: usize,
+) -> Result<Option<CreateFault>, Fail> {
+    match region.create(chunk(alloc, base, limit, bundles, &[0x40])?) {
+        Ok(()) => Ok(None),
+        Err((back, fault)) if back.code().first() == Some(&0x40) => Ok(Some(fault)),
+        Err(_) => Err(Fail::new("another chunk came back")),
+    }
+}
+
 #[test]
 fn created_twice(rt: HostRuntime) -> Result<(), Fail> {
     let alloc = rt.alloc();
     let (gens, keeper, _passes) = Gens::new(alloc, 1)?;
     let mut region = region(alloc, 8, &gens, keeper)?;
-    let first = region.create(chunk(alloc, 0x10020, 0x10100, 2, &[0xEB, 0x1E])?);
-    assert!(rt; first.is_ok());
-    let only = Chunk {
-        base: 0x10020,
-        length: 64,
-        state: ChunkState::Live,
-    };
+    assert_eq!(rt; refused(&mut region, alloc, 0x10020, 0x10100, 2)?, None);
     // the same place; chunks that end in it, begin in it, lie round it and in it
     for (base, bundles) in [
         (0x10020, 2),
@@ -183,35 +198,50 @@ fn created_twice(rt: HostRuntime) -> Result<(), Fail> {
         (0x10000, 4),
         (0x10040, 1),
     ] {
-        let again = region.create(chunk(alloc, base, 0x10100, bundles, &[0x40])?);
-        let Err((back, fault)) = again else {
-            return Err(Fail::new("created where a chunk stands"));
-        };
-        assert_eq!(rt; fault, CreateFault::Occupied);
-        assert_eq!(rt; back.code().first(), Some(&0x40));
+        let fault = refused(&mut region, alloc, base, 0x10100, bundles)?;
+        assert_eq!(rt; fault, Some(CreateFault::Occupied));
     }
-    let wide = region.create(chunk(alloc, 0x10000, 0x10120, 4, &[])?);
+    let wide = refused(&mut region, alloc, 0x10000, 0x10120, 4)?;
+    let only = Chunk {
+        base: 0x10020,
+        length: 64,
+        state: ChunkState::Live,
+    };
     assert_eq!(rt;
-        wide.map_err(|refused| refused.1),
-        Err(CreateFault::WrongLimit)
+        (wide, region.chunk(0), region.chunk(1)),
+        (Some(CreateFault::WrongLimit), Some(only), None)
     );
-    assert_eq!(rt; region.chunk_count(), 1);
-    assert_eq!(rt; region.chunk(0), Some(only));
-    assert_eq!(rt; region.chunk(1), None);
     // directly before it and directly after it
-    assert!(rt;
-        region
-            .create(chunk(alloc, 0x10000, 0x10100, 1, &[])?)
-            .is_ok()
-    );
-    assert!(rt;
-        region
-            .create(chunk(alloc, 0x10060, 0x10100, 2, &[])?)
-            .is_ok()
-    );
-    assert_eq!(rt; region.chunk(1), Some(only));
+    let before = refused(&mut region, alloc, 0x10000, 0x10100, 1)?;
+    let after = refused(&mut region, alloc, 0x10060, 0x10100, 2)?;
+    assert_eq!(rt; (before, after, region.chunk(1)), (None, None, Some(only)));
     assert_eq!(rt; (region.limit(), region.chunk_count()), (0x10100, 3));
     Ok(())
+}
+
+/// Creates 100 chunks of one bundle, from both ends of 00010000 to 00010c80 in turn.
+fn create_hundred(region: &mut Region<'_>, alloc: Global) -> Result<(), Fail> {
+    for i in 0..50u32 {
+        let step = i.wrapping_mul(64);
+        let _low = refused(region, alloc, 0x10000u32.wrapping_add(step), 0x11000, 1)?;
+        let _high = refused(region, alloc, 0x10C60u32.wrapping_sub(step), 0x11000, 1)?;
+    }
+    Ok(())
+}
+
+/// Deletes every third chunk from 00010000 on, each twice; answers how often the first answer was a stamp and the second
+/// that there is none.
+fn delete_thirds(region: &mut Region<'_>) -> u32 {
+    let mut right = 0u32;
+    for i in 0..34u32 {
+        let base = 0x10000u32.wrapping_add(i.wrapping_mul(96));
+        let first = region.delete(base).is_ok();
+        let second = region.delete(base);
+        if first && second == Err(DeleteFault::NoChunk) {
+            right = right.wrapping_add(1);
+        }
+    }
+    right
 }
 
 #[test]
@@ -220,26 +250,23 @@ fn many_chunks(rt: HostRuntime) -> Result<(), Fail> {
     let (gens, keeper, mut passes) = Gens::new(alloc, 1)?;
     let mut pass = passes.remove(0);
     let mut region = region(alloc, 128, &gens, keeper)?;
-    // 100 chunks, every other one downwards
-    for i in 0..50u32 {
-        let up = 0x10000u32.wrapping_add(i.wrapping_mul(64));
-        let down = 0x10C60u32.wrapping_sub(i.wrapping_mul(64));
-        assert!(rt; region.create(chunk(alloc, up, 0x11000, 1, &[])?).is_ok());
-        assert!(rt; region.create(chunk(alloc, down, 0x11000, 1, &[])?).is_ok());
-    }
-    assert_eq!(rt; region.chunk_count(), 100);
-    for i in 0..100u32 {
-        let base = 0x10000u32.wrapping_add(i.wrapping_mul(32));
-        assert_eq!(rt; region.chunk(i as usize).map(|c| c.base), Some(base));
-        if i % 3 == 0 {
-            assert!(rt; region.delete(base).is_ok());
-            assert_eq!(rt; region.delete(base), Err(DeleteFault::NoChunk));
-        }
-    }
+    create_hundred(&mut region, alloc)?;
+    let bases = (
+        region.chunk(1).map(|c| c.base),
+        region.chunk(98).map(|c| c.base),
+    );
+    assert_eq!(rt;
+        (region.chunk_count(), bases),
+        (100, (Some(0x10020), Some(0x10C40)))
+    );
+    assert_eq!(rt; delete_thirds(&mut region), 34);
     gens.check_in(&mut pass);
     assert_eq!(rt; (region.reclaim(), region.chunk_count()), (34, 66));
-    assert_eq!(rt; region.chunk(0).map(|c| c.base), Some(0x10020));
-    assert_eq!(rt; region.chunk(2).map(|c| c.base), Some(0x10080));
+    let bases = (
+        region.chunk(0).map(|c| c.base),
+        region.chunk(2).map(|c| c.base),
+    );
+    assert_eq!(rt; bases, (Some(0x10020), Some(0x10080)));
     Ok(())
 }
 
@@ -268,36 +295,35 @@ fn deleted_and_reclaimed(rt: HostRuntime) -> Result<(), Fail> {
     let (gens, keeper, mut passes) = Gens::new(alloc, 1)?;
     let mut pass = passes.remove(0);
     let mut region = region(alloc, 4, &gens, keeper)?;
-    for base in [0x10000, 0x10010, 0x10020, 0x10080] {
-        assert_eq!(rt; region.delete(base), Err(DeleteFault::NoChunk));
-    }
-    let first = region.create(chunk(alloc, 0x10000, LIMIT, 1, &[0xEB, 0x1E])?);
-    assert!(rt; first.is_ok());
-    assert_eq!(rt; region.delete(0x10010), Err(DeleteFault::NoChunk));
-    assert_eq!(rt; region.delete(0x10000), Ok(1));
-    assert_eq!(rt; region.delete(0x10000), Err(DeleteFault::NoChunk));
+    let none = region.delete(0x10000);
+    let created = refused(&mut region, alloc, 0x10000, LIMIT, 1)?;
+    let inside = region.delete(0x10010);
+    let first = region.delete(0x10000);
+    let again = region.delete(0x10000);
+    let missing = Err(DeleteFault::NoChunk);
     assert_eq!(rt;
-        region.chunk(0).map(|c| c.state),
-        Some(ChunkState::Retired(1))
+        [none, inside, first, again],
+        [missing, missing, Ok(1), missing]
     );
-    let Ok(trace) = region.walk(0x10000, &[0]) else {
-        return Err(Fail::new("no walk"));
-    };
-    assert!(rt; is_trace(&trace, &[0x10000], End::Stop));
-    assert_eq!(rt; region.modify(0x10000, &[0x90]), Err(ModifyFault::NotLive));
-    let again = region.create(chunk(alloc, 0x10000, LIMIT, 1, &[])?);
-    assert_eq!(rt;
-        again.map_err(|refused| refused.1),
-        Err(CreateFault::Occupied)
-    );
-    assert_eq!(rt; region.reclaim(), 0);
+    let patched = region.modify(0x10000, &[0x90]);
+    let early = region.reclaim();
+    let crowded = refused(&mut region, alloc, 0x10000, LIMIT, 1)?;
     gens.check_in(&mut pass);
-    assert_eq!(rt; (region.reclaim(), region.chunk_count()), (1, 0));
-    assert!(rt; region.create(chunk(alloc, 0x10000, LIMIT, 1, &[])?).is_ok());
+    let due = region.reclaim();
+    let anew = refused(&mut region, alloc, 0x10000, LIMIT, 1)?;
+    assert_eq!(rt;
+        (patched, [created, crowded, anew]),
+        (
+            Err(ModifyFault::NotLive),
+            [None, Some(CreateFault::Occupied), None]
+        )
+    );
     // the next stamp, which the seat hasn't seen
-    assert_eq!(rt; (region.delete(0x10000), region.reclaim()), (Ok(2), 0));
+    let second = region.delete(0x10000);
+    let held = region.reclaim();
     gens.leave(pass);
-    assert_eq!(rt; region.reclaim(), 1);
+    let left = region.reclaim();
+    assert_eq!(rt; (second, [early, due, held, left]), (Ok(2), [0, 1, 0, 1]));
     Ok(())
 }
 
@@ -322,17 +348,17 @@ fn patch_beside_a_retired_chunk(rt: HostRuntime) -> Result<(), Fail> {
     let alloc = rt.alloc();
     let (gens, keeper, _passes) = Gens::new(alloc, 1)?;
     let mut region = telling(alloc, &gens, keeper, 8, 200)?;
-    let one = region.create(chunk(alloc, 0x10000, 0x10100, 1, &[0xEB, 0xFE])?);
-    let other = region.create(chunk(alloc, 0x10020, 0x10100, 1, &[])?);
-    assert!(rt; one.is_ok() && other.is_ok());
-    assert_eq!(rt; region.delete(0x10020), Ok(1));
-    assert_eq!(rt; region.modify(0x10000, &[0xEB, 0x1E]), Ok(()));
-    let told = region.acts().told().unwrap_or(&[]);
+    let _one = region.create(chunk(alloc, 0x10000, 0x10100, 1, &[0xEB, 0xFE])?);
+    let _other = region.create(chunk(alloc, 0x10020, 0x10100, 1, &[])?);
+    let stamp = region.delete(0x10020);
+    let patched = region.modify(0x10000, &[0xEB, 0x1E]);
+    assert_eq!(rt; (stamp, patched), (Ok(1), Ok(())));
     let puts = [
         Act::Put(0x10000, 0xF4),
         Act::Put(0x10001, 0x1E),
         Act::Put(0x10000, 0xEB),
     ];
+    let told = region.acts().told().unwrap_or(&[]);
     assert_eq!(rt; told.get(99..), Some(puts.as_slice()));
     Ok(())
 }
@@ -701,10 +727,8 @@ fn patches(rt: HostRuntime) -> Result<(), Fail> {
 #[test]
 fn patched_walk(rt: HostRuntime) -> Result<(), Fail> {
     let alloc = rt.alloc();
-    let mut region = match Region::new(alloc, 4) {
-        Ok(region) => region,
-        Err(fault) => return Err(Fail::new(format_args!("{fault:?}"))),
-    };
+    let (gens, keeper, _passes) = Gens::new(alloc, 1)?;
+    let mut region = region(alloc, 4, &gens, keeper)?;
     assert!(rt;
         region
             .create(chunk(alloc, 0x10000, LIMIT, 1, &[0xEB, 0x1E])?)
@@ -727,40 +751,29 @@ fn shared_calls(rt: HostRuntime) -> Result<(), Fail> {
     let mut pass = passes.remove(0);
     let shared = Shared::new(region(alloc, 4, &gens, keeper)?);
     // a jump to 00010020 in a chunk of two bundles
-    assert!(rt;
-        shared
-            .create(&rt, chunk(alloc, 0x10000, LIMIT, 2, &[0xEB, 0x1E])?)
-            .is_ok()
-    );
-    let refused = shared.create(&rt, chunk(alloc, 0x10020, LIMIT, 1, &[0x40])?);
-    let Err((back, fault)) = refused else {
-        return Err(Fail::new("created where a chunk stands"));
-    };
+    let first = shared.create(&rt, chunk(alloc, 0x10000, LIMIT, 2, &[0xEB, 0x1E])?);
+    let second = shared.create(&rt, chunk(alloc, 0x10020, LIMIT, 1, &[0x40])?);
+    assert!(rt; first.is_ok());
     assert_eq!(rt;
-        (back.code().first(), fault),
-        (Some(&0x40), CreateFault::Occupied)
+        second.map_err(|refused| refused.1),
+        Err(CreateFault::Occupied)
     );
-    assert_eq!(rt; shared.modify(&rt, 0x10000, &[0xEB, 0x3E]), Ok(()));
-    assert_eq!(rt;
-        shared.modify(&rt, 0x10002, &[0xC3]),
-        Err(ModifyFault::NotPermitted)
-    );
+    let patched = shared.modify(&rt, 0x10000, &[0xEB, 0x3E]);
+    let barred = shared.modify(&rt, 0x10002, &[0xC3]);
+    assert_eq!(rt; (patched, barred), (Ok(()), Err(ModifyFault::NotPermitted)));
     let Ok(trace) = shared.walk(&rt, 0x10000, &[0, 0]) else {
         return Err(Fail::new("no walk"));
     };
     assert!(rt; is_trace(&trace, &[0x10000, 0x10040], End::Stop));
-    assert_eq!(rt;
-        shared.walk(&rt, 0x10010, &[]).err(),
-        Some(WalkFault::NotBundle)
-    );
-    assert_eq!(rt; shared.delete(&rt, 0x10020), Err(DeleteFault::NoChunk));
-    assert_eq!(rt;
-        (shared.delete(&rt, 0x10000), shared.chunk_count(&rt)),
-        (Ok(1), 1)
-    );
-    assert_eq!(rt; shared.reclaim(&rt), 0);
+    let inside = shared.delete(&rt, 0x10020);
+    let stamp = shared.delete(&rt, 0x10000);
+    let counts = (shared.reclaim(&rt), shared.chunk_count(&rt));
     shared.check_in(&mut pass);
-    assert_eq!(rt; (shared.reclaim(&rt), shared.chunk_count(&rt)), (1, 0));
+    let later = (shared.reclaim(&rt), shared.chunk_count(&rt));
+    assert_eq!(rt;
+        (inside, stamp, counts, later),
+        (Err(DeleteFault::NoChunk), Ok(1), (0, 1), (1, 0))
+    );
     shared.leave(pass);
     Ok(())
 }

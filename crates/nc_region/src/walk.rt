@@ -1,6 +1,7 @@
 //! Walks through a text: one state after the other, each transfer as a choice picks it.
 
-ghost use Rattle.std.specs.Prelude.{◌≡◌, ◌≢◌, ℕ, ◌+◌, ◌-◌, ◌%◌, ◌^◌, ◌<◌, ◌≤◌, List, ◌∷◌, Some, IsTrue, IsSomeAnd, IfOk, IfErr, IfSome, IfNone, slice_index};
+ghost use Rattle.std.specs.Prelude.{◌≡◌, ◌≢◌, ℕ, ◌+◌, ◌-◌, ◌%◌, ◌^◌, ◌<◌, ◌≤◌, List, ◌∷◌, Some, IsTrue, IsSomeAnd, IfOk, IfErr, IfSome};
+ghost use Rattle.std.specs.Prelude.{IfNone, slice_index};
 ghost use Rattle.nc_decode.specs.Bundles.{IsBundleStart, IsInOneBundle};
 ghost use Rattle.nc_decode.specs.Transfers.{is_indirect};
 ghost use Rattle.nc_text.specs.Places.{InRegion, byte_at, instruction_at, limit_of};
@@ -15,17 +16,17 @@ use std::alloc::{AllocError, Global};
 
 /// Where a thread stands, and the register that the instruction just executed has masked.
 #[derive(Clone, Copy, Debug, Drop)]
-struct Thread {
+struct State {
     place: u32,
     masked: Option<u8>,
 }
 
-impl Thread {
-    /// A thread that comes to a place by a transfer, which masks nothing.
-    fn at(place: u32) -> Thread
+impl State {
+    /// The state of a thread that comes to a place by a transfer, which masks nothing.
+    fn at(place: u32) -> State
         ensures { result ≡ record { place = place; masked = None } }
     {
-        Thread {
+        State {
             place,
             masked: None,
         }
@@ -46,7 +47,7 @@ pub(crate) fn walk_from<A: Acts>(
     ensures safe { IfOk result (λ t. IsSafeWalk (A.marked acts.now).bytes start choices.now t.end) }
 {
     let mut places = Vec::new(alloc);
-    let mut now = Thread::at(start);
+    let mut now = State::at(start);
     places.push(start)?;
     for choice in choices {
         match step(acts, now, *choice) {
@@ -65,7 +66,7 @@ pub(crate) fn walk_from<A: Acts>(
 }
 
 /// The state to which a choice leads from a safe one, or how the walk ends there.
-fn step<A: Acts>(acts: &A, now: Thread, choice: u32) -> Result<Thread, End>
+fn step<A: Acts>(acts: &A, now: State, choice: u32) -> Result<State, End>
     requires whole { IsText (A.marked acts.now) }
     requires safe { IsSafe (A.marked acts.now).bytes (state now.place now.masked) }
     ensures moves { IfOk result (λ next. GoesOn (A.marked acts.now).bytes (state now.place now.masked)
@@ -78,7 +79,7 @@ fn step<A: Acts>(acts: &A, now: Thread, choice: u32) -> Result<Thread, End>
 }
 
 /// The instruction that leads on from a safe state, or how the walk ends there whatever the choices are.
-fn instruction_or_end<A: Acts>(acts: &A, now: Thread) -> Result<Instr, End>
+fn instruction_or_end<A: Acts>(acts: &A, now: State) -> Result<Instr, End>
     requires whole { IsText (A.marked acts.now) }
     requires safe { IsSafe (A.marked acts.now).bytes (state now.place now.masked) }
     ensures goes { IfOk result (λ i. GoesOn (A.marked acts.now).bytes (state now.place now.masked)
@@ -124,7 +125,7 @@ fn read_bundle<A: Acts>(acts: &A, at: u32) -> [u8; 32]
 }
 
 /// The state to which a choice leads by an instruction, if that isn't at the limit or above it.
-fn next(instr: Instr, now: Thread, choice: u32, limit: u32) -> Option<Thread>
+fn next(instr: Instr, now: State, choice: u32, limit: u32) -> Option<State>
     requires goes { instr.flow ≢ Flow.Stop }
     requires masked { IsMaskedFor instr.flow instr.reg now.masked }
     requires fits { now.place + instr.len < 2 ^ 32 }
@@ -134,12 +135,12 @@ fn next(instr: Instr, now: Thread, choice: u32, limit: u32) -> Option<Thread>
 {
     let behind = now.place + u32::from(instr.len);
     match instr.flow {
-        Flow::Next => Some(Thread {
+        Flow::Next => Some(State {
             place: behind,
             masked: instr.masks,
         }),
-        Flow::Branch if choice == 0 => Some(Thread::at(behind)),
-        Flow::Branch | Flow::Jump | Flow::Call => Some(Thread::at(instr.target(now.place))),
+        Flow::Branch if choice == 0 => Some(State::at(behind)),
+        Flow::Branch | Flow::Jump | Flow::Call => Some(State::at(instr.target(now.place))),
         Flow::IndirectJump | Flow::IndirectCall => masked_target(choice, limit),
         Flow::Stop => unreachable!(),
     }
@@ -147,13 +148,14 @@ fn next(instr: Instr, now: Thread, choice: u32, limit: u32) -> Option<Thread>
 
 /// Where an indirect transfer goes on this choice: to the choice with its low five bits cleared, if that is below the
 /// limit.
-fn masked_target(choice: u32, limit: u32) -> Option<Thread>
-    ensures below { IfSome result (λ next. (next.place ≡ bundle_of choice) × (next.masked ≡ None) × IsBundleStart next.place × (next.place < limit)) }
+fn masked_target(choice: u32, limit: u32) -> Option<State>
+    ensures below { IfSome result (λ next. (next.place ≡ bundle_of choice) × (next.masked ≡ None) × IsBundleStart next.place
+        × (next.place < limit)) }
     ensures beyond { IfNone result (limit ≤ bundle_of choice) }
 {
     let place = choice - choice % BUNDLE;
     if place >= limit {
         return None;
     }
-    Some(Thread::at(place))
+    Some(State::at(place))
 }

@@ -4,7 +4,8 @@ ghost use Rattle.std.specs.Prelude.{◌≡◌, ◌+◌, ◌%◌, ◌-◌, ◌*�
 ghost use Rattle.nc_decode.specs.Bundles.{IsLawfulLimit};
 ghost use Rattle.nc_text.specs.Marks.{IsClosed, mark_at};
 ghost use Rattle.nc_text.specs.Places.{InRegion, SpanInRegion, byte_at, limit_of};
-ghost use Rattle.nc_text.specs.MarkedText.{MarkedText, IsText, with_byte, with_marks, without_marks, unused_text, NamesRegister, KeepsMarks, AreStops};
+ghost use Rattle.nc_text.specs.MarkedText.{MarkedText, IsText, with_byte, with_marks, without_marks, unused_text, NamesRegister};
+ghost use Rattle.nc_text.specs.MarkedText.{KeepsMarks, AreStops};
 
 use crate::spans::{set_span, unmark, unused_marks};
 use nc_decode::{MAX_BUNDLES, Mark, START};

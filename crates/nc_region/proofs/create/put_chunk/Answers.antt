@@ -10,7 +10,8 @@ use Rattle.nc_region.proofs.Joining.{Joins, chunk_joins, chunk_keeps}
 use Rattle.nc_region.proofs.Creating.{final_but_closed, final_but_starts, same_final, same_code}
 use Rattle.nc_region.proofs.create.put_chunk.Goals as goal
 
-joins : (marked : MarkedText) (base : ℕ) (bytes : List ℕ) (marks : List Mark) → IsText marked → IsClosedChunk base (limit_of marked.bytes) bytes marks → IsUnused marked base (length bytes) → Joins marked base bytes marks
+joins : (marked : MarkedText) (base : ℕ) (bytes : List ℕ) (marks : List Mark) → IsText marked
+    → IsClosedChunk base (limit_of marked.bytes) bytes marks → IsUnused marked base (length bytes) → Joins marked base bytes marks
 joins marked base bytes marks whole chunk unused = record { closed = whole.closed; as_long = whole.as_long; chunk = chunk; unused = unused }
 
 pub mark_span-requires-clause-keeps : goal.mark_span-requires-clause-keeps

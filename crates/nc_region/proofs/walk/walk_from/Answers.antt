@@ -12,7 +12,9 @@ use Rattle.nc_region.proofs.walk.walk_from.Goals as goal
 use Rattle.nc_region.proofs.walk.walk_from.Goals.{in-Ok-instruction_or_end, in-Err-instruction_or_end}
 
 -- what is promised of a trace
-meets : (text : List ℕ) (marks : List Mark) (start : ℕ) (choices places : List ℕ) (end : End) → IsClosed text marks → IsWalkStart text start → IsTrace text start choices places end → record { trace : IsTrace text start choices places end; only : IsOnlyTrace text start choices places end; safe : IsSafeWalk text start choices end }
+meets : (text : List ℕ) (marks : List Mark) (start : ℕ) (choices places : List ℕ) (end : End) → IsClosed text marks
+    → IsWalkStart text start → IsTrace text start choices places end
+    → record { trace : IsTrace text start choices places end; only : IsOnlyTrace text start choices places end; safe : IsSafeWalk text start choices end }
 meets text marks start choices places end closed begins trace =
     record {
       trace = trace;

@@ -1,4 +1,5 @@
-use Rattle.std.proofs.Common.{◌≡◌, ◌≢◌, ℕ, ◌+◌, ◌-◌, ◌%◌, ◌<◌, ◌≤◌, List, [], ◌∷◌, length, get_or, arith, inl, inr, refl, sym, subst, ◌∙◌, ap}
+use Rattle.std.proofs.Common.{◌≡◌, ◌≢◌, ℕ, ◌+◌, ◌-◌, ◌%◌, ◌<◌, ◌≤◌, List, [], ◌∷◌, length, get_or, arith, inl, inr, refl, sym, subst}
+use Rattle.std.proofs.Common.{◌∙◌, ap}
 use Rattle.std.proofs.lemmas.Bool.{cases_lt}
 use Rattle.std.proofs.lemmas.Bool.Decides.{nat_tests}
 use Rattle.std.proofs.lemmas.List.{get_or-replicate, length-replicate}
@@ -14,7 +15,8 @@ use Rattle.nc_text.proofs.SpanElements.{length-with_span, get_or-with_span_in, g
 use Rattle.nc_text.proofs.tests.acts.Goals as goal
 
 -- a mark that the span has, or that stood there outside it
-spanned : (xs ys : List Mark) (s k : ℕ) (m : Mark) → s + length ys ≤ length xs → get_or xs k Unmarked ≡ m → (s ≤ k → k < s + length ys → get_or ys (k - s) Unmarked ≡ m) → get_or (with_span xs s ys) k Unmarked ≡ m
+spanned : (xs ys : List Mark) (s k : ℕ) (m : Mark) → s + length ys ≤ length xs → get_or xs k Unmarked ≡ m
+    → (s ≤ k → k < s + length ys → get_or ys (k - s) Unmarked ≡ m) → get_or (with_span xs s ys) k Unmarked ≡ m
 spanned xs ys s k m fits out within =
     elim (cases_lt k s) [
       | inl below ↦ get_or-with_span_below xs s ys k Unmarked fits below ∙ out
