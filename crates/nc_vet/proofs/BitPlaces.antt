@@ -8,7 +8,7 @@ use Rattle.nc_decode.proofs.Offered.{true_or_false}
 use Rattle.nc_decode.specs.declared.instruction.Mark.TheVariants.{Plain}
 use Rattle.nc_vet.specs.declared.bundle.Bundle.{Bundle}
 use Rattle.nc_vet.specs.Bits.{is_start, is_second, bit_mark, no_bits}
-use Rattle.nc_vet.specs.Judged.{short_to, near_to, IsGood, AreGoodShorts, AreGoodNears, IsJudged, AreJudged}
+use Rattle.nc_vet.specs.machinery.Judged.{short_to, near_to, IsGood, AreGoodShorts, AreGoodNears, IsJudged, AreJudged}
 
 -- a start, by the word that is shifted by one
 pub start_bit : (w : Bundle) (k starts : ℕ) → starts ≡ 2 * w.ends + 1 → bit_and (starts / 2 ^ k) 1 ≡ 1 → is_start w k ≡ true

@@ -17,11 +17,11 @@ use Rattle.nc_decode.proofs.Offered.{exact, masks_exactly}
 use Rattle.nc_decode.proofs.Offered.{spells_some}
 use Rattle.nc_vet.specs.declared.bundle.Bundle.{Bundle}
 use Rattle.nc_vet.specs.Chunk.{Piece, code_of, place, AreSpelled, FollowsMask, marks_of, IsTarget}
-use Rattle.nc_vet.specs.Steps.{HasReadTo, HasReadAll, HasJudged}
+use Rattle.nc_vet.specs.machinery.Steps.{HasReadTo, HasReadAll, HasJudged}
 use Rattle.nc_vet.specs.Bits.{is_start, is_second, no_bits, mark_at, marks_in}
-use Rattle.nc_vet.specs.Running.{state_after, before, Tells, AreTold, EndsFront}
-use Rattle.nc_vet.specs.Scans.{AreStates, second, mark_by, IsDisplaced, IsScanned}
-use Rattle.nc_vet.specs.Judged.{short_to, near_to, IsGood, AreJudged}
+use Rattle.nc_vet.specs.machinery.Running.{state_after, before, Tells, AreTold, EndsFront}
+use Rattle.nc_vet.specs.machinery.Scans.{AreStates, second, mark_by, IsDisplaced, IsScanned}
+use Rattle.nc_vet.specs.machinery.Judged.{short_to, near_to, IsGood, AreJudged}
 use Rattle.nc_vet.proofs.Pieces.{code_of-push, length-marks_of, piece_some, place-push}
 use Rattle.nc_vet.proofs.Judging.{code_at}
 use Rattle.nc_vet.proofs.MarkedPlaces.{target_inside, target_outside}
@@ -88,7 +88,7 @@ read_front code bundles at fits even e =
         rest = s.rest;
         reads = s.reads;
         here = s.here;
-        behind = λ r. (
+        masked_is = λ r. (
           λ is. absurd cc,
           λ f. elim (cases_lt (32 * length bundles) at) [
             | inl later ↦ absurd ((e.ended later).1 (mask_ends s.pieces s.rest code at r s.reads.parts s.reads.sound.spelled s.here f))

@@ -7,7 +7,7 @@ use Rattle.nc_decode.specs.declared.instruction.Mark.{Mark}
 use Rattle.nc_decode.specs.declared.instruction.Mark.TheVariants.{Unmarked}
 use Rattle.nc_decode.proofs.Offered.{spells_some}
 use Rattle.nc_vet.specs.Chunk.{Piece, code_of, place, FollowsMask, mark_of, instr_marks, marks_of}
-use Rattle.nc_vet.specs.Steps.{MayFollow, masked_after, HasRead, HasReadAll}
+use Rattle.nc_vet.specs.machinery.Steps.{MayFollow, masked_after, HasRead, HasReadAll}
 use Rattle.nc_vet.proofs.Splits.{split_none, split_last}
 use Rattle.nc_vet.proofs.Pieces.{code_of-push, place-push, marks_of-push, length-marks_of, none_sound, sound_push, rest_is}
 
@@ -18,11 +18,11 @@ begun code marks is = record {
   rest = code;
   reads = record { parts = refl; sound = none_sound };
   here = refl;
-  behind = λ r. (λ e. absurd cc, λ f. absurd (split_none f.earlier [] f.mask f.last));
+  masked_is = λ r. (λ e. absurd cc, λ f. absurd (split_none f.earlier [] f.mask f.last));
   marks_are = is ∙ ap (λ (k : ℕ). replicate k Unmarked) (omega arith);
 }
 
--- the marks of one more instruction, where all places behind were unmarked
+-- the marks of one more instruction, where all places after were unmarked
 marks_grow : (before : List Mark) (i : Instr) (at n : ℕ) → length before ≡ at → 0 < i.len → i.len ≤ n
     → set (before ++ replicate n Unmarked) at (mark_of i) ≡ (before ++ instr_marks i) ++ replicate (n - i.len) Unmarked
 marks_grow before i at n len some long =
@@ -38,7 +38,7 @@ marks_grow before i at n len some long =
 abbrev some_mask : ℕ → Option ℕ
 some_mask r = Some r
 
--- a register is masked behind an instruction where it masks it and no bundle begins there
+-- a register is masked after an instruction where it masks it and no bundle begins there
 masked_from : (b : Bool) (m : Option ℕ) (r : ℕ) → cond b None m ≡ Some r → (b ≡ false) × (m ≡ Some r)
 masked_from true m r e = absurd cc
 masked_from false m r e = (refl, e)
@@ -54,7 +54,7 @@ not_start n h = go (n == 0) refl
     go true e = absurd (h (eqb-true n 0 e))
     go false e = refl
 
--- the places of an instruction and of the one behind it lie in one bundle, unless that begins one
+-- the places of an instruction and of the one after it lie in one bundle, unless that begins one
 same_bundle : (at len : ℕ) → at % 32 + len ≤ 32 → (at + len) % 32 ≢ 0 → at / 32 ≡ (at + len) / 32
 same_bundle at len inside inner = omega (arith, inside, inner)
 
@@ -72,17 +72,17 @@ mask_left front p at r here some inside = (
         mask = p;
         last = refl;
         masks = n.1;
-        together = ap (λ (k : ℕ). k / 32) here ∙ same_bundle at (length p.bytes) inside (eqb-false _ _ n.0) ∙ ap (λ (k : ℕ). k / 32) (sym behind);
+        together = ap (λ (k : ℕ). k / 32) here ∙ same_bundle at (length p.bytes) inside (eqb-false _ _ n.0) ∙ ap (λ (k : ℕ). k / 32) (sym there);
       }),
   λ f. (
       let w = split_last front f.earlier p f.mask f.last in
       let together : at / 32 ≡ (at + length p.bytes) / 32
-      = ap (λ (k : ℕ). k / 32) (sym here) ∙ ap (λ (z : List Piece). place z / 32) w.0 ∙ f.together ∙ ap (λ (k : ℕ). k / 32) behind in
+      = ap (λ (k : ℕ). k / 32) (sym here) ∙ ap (λ (z : List Piece). place z / 32) w.0 ∙ f.together ∙ ap (λ (k : ℕ). k / 32) there in
       masked_by ((at + length p.bytes) % 32 == 0) p.instr.masks r (not_start _ (bundle_begun at (length p.bytes) some together)) (ap (λ (q : Piece). q.instr.masks) w.1 ∙ f.masks)),
 )
   where
-    behind : place (front ++ p ∷ []) ≡ at + length p.bytes
-    behind = place-push front p ∙ ap (λ (k : ℕ). k + length p.bytes) here
+    there : place (front ++ p ∷ []) ≡ at + length p.bytes
+    there = place-push front p ∙ ap (λ (k : ℕ). k + length p.bytes) here
 
 -- one more instruction is read
 pub grown : (code : List ℕ) (at w n : ℕ) (masked : Option ℕ) (marks : List Mark) (i : Instr) → HasRead code at masked marks → w + at % 32 ≡ 32 → at ≤ length code → MayFollow (take w (drop at code)) masked i → n ≡ i.len
@@ -108,10 +108,10 @@ grown code at w n masked marks i h w-is in_code f n-is =
             ∙ sym (append_assoc (code_of h.front) f.front.front (f.front.rest ++ drop w h.rest))
             ∙ ap (λ (z : List ℕ). z ++ (f.front.rest ++ drop w h.rest)) (sym (code_of-push h.front (record { bytes = f.front.front; instr = i })));
         sound = sound_push h.front (record { bytes = f.front.front; instr = i }) h.reads.sound f.front.spells (subst (λ (k : ℕ). k % 32 + length f.front.front ≤ 32) (sym h.here) inside)
-            (λ indirect. (h.behind i.reg).0 (f.paired indirect));
+            (λ indirect. (h.masked_is i.reg).0 (f.paired indirect));
       };
       here = place-push h.front (record { bytes = f.front.front; instr = i }) ∙ ap (λ (k : ℕ). k + length f.front.front) h.here;
-      behind = λ r. mask_left h.front (record { bytes = f.front.front; instr = i }) at r h.here (omega (arith, l.0, l.1)) inside;
+      masked_is = λ r. mask_left h.front (record { bytes = f.front.front; instr = i }) at r h.here (omega (arith, l.0, l.1)) inside;
       marks_are = ap (λ (z : List Mark). set z at (mark_of i)) h.marks_are
           ∙ marks_grow (marks_of h.front) i at (length code - at) marks_len l.1 in_rest
           ∙ ap (λ (z : List Mark). z ++ replicate (length code - at - i.len) Unmarked) (sym (marks_of-push h.front (record { bytes = f.front.front; instr = i })))

@@ -13,7 +13,7 @@ use Rattle.nc_decode.specs.Transfers.{is_direct, is_indirect, target, may_transf
 use Rattle.nc_decode.proofs.Offered.{direct_begins}
 use Rattle.nc_vet.specs.Chunk.{Piece, code_of, place, AreSpelled, AreSound, IsTarget, marks_of}
 use Rattle.nc_vet.specs.Faults.{IsMistargeted}
-use Rattle.nc_vet.specs.Steps.{HasReadAll, GoesWellAt, GoesAstrayAt, HasJudged, HasJudgedAll}
+use Rattle.nc_vet.specs.machinery.Steps.{HasReadAll, GoesWellAt, GoesAstrayAt, HasJudged, HasJudgedAll}
 use Rattle.nc_vet.proofs.Pieces.{code_of-append, place-append, piece_some, rest_is, front_within}
 use Rattle.nc_vet.proofs.OneReading.{one_at_front}
 use Rattle.nc_vet.proofs.MarkedPlaces.{marked, mark_at, first_plain}

@@ -18,8 +18,8 @@ pub record Begins (pieces : List Piece) (k : ℕ) (m : Mark) : Type 0 where
   pub here : place before ≡ k
   pub mark : m ≡ mark_of piece.instr
 
-behind_first : (p : Piece) (ps : List Piece) (k : ℕ) (m : Mark) (j : ℕ) → j ≡ length p.bytes → Begins ps k m → Begins (p ∷ ps) (j + k) m
-behind_first p ps k m j len b = record {
+after_first : (p : Piece) (ps : List Piece) (k : ℕ) (m : Mark) (j : ℕ) → j ≡ length p.bytes → Begins ps k m → Begins (p ∷ ps) (j + k) m
+after_first p ps k m j len b = record {
   before = p ∷ b.before;
   piece = b.piece;
   after = b.after;
@@ -42,7 +42,7 @@ marked (p ∷ ps) s (suc k) m lt is some =
           (let at : k ≡ length (replicate (p.instr.len - 1) Unmarked) + (k - (p.instr.len - 1)) = omega (arith, rep) in
           let is2 : get_or (marks_of ps) (k - (p.instr.len - 1)) Unmarked ≡ m = sym (ap (λ (j : ℕ). get_or (replicate (p.instr.len - 1) Unmarked ++ marks_of ps) j Unmarked) at ∙ get_or-append-add (replicate (p.instr.len - 1) Unmarked) (marks_of ps) (k - (p.instr.len - 1)) Unmarked) ∙ is in
           let rest = marked ps (spelled_after p ps s) (k - (p.instr.len - 1)) m (omega (arith, length-append (replicate (p.instr.len - 1) Unmarked) (marks_of ps), rep)) is2 some in
-          let b = behind_first p ps (k - (p.instr.len - 1)) m p.instr.len one.0 rest in
+          let b = after_first p ps (k - (p.instr.len - 1)) m p.instr.len one.0 rest in
           subst (λ (j : ℕ). Begins (p ∷ ps) j m) (omega (arith, one.1)) b)
     ]
 

@@ -7,7 +7,7 @@ use Rattle.nc_vet.specs.declared.fault.VetFault.{VetFault}
 use Rattle.nc_vet.specs.declared.fault.VetFault.TheVariants.{BadBase, BadLength, OutOfRange, NotPermitted, Crosses, Bare, BadTarget, OutOfMemory}
 use Rattle.nc_vet.specs.Chunk.{Piece, code_of, place, IsBase, IsLength, IsInRange, IsTarget, MarkedChunk, IsValid}
 use Rattle.nc_vet.specs.Faults.{IsStuck, IsMistargeted, HasGoodSpan, HasSpanFault, HasFault}
-use Rattle.nc_vet.specs.Steps.{EndsReading, HasJudgedAll}
+use Rattle.nc_vet.specs.machinery.Steps.{EndsReading, HasJudgedAll}
 use Rattle.nc_vet.proofs.OneReading.{same_pieces}
 
 -- ---- what the parts of the vetting find
@@ -68,7 +68,7 @@ not_mistargeted c at v m =
     m.bad
     (subst (λ (z : List Piece). IsTarget c.base c.limit z (target m.piece.instr (c.base + place m.before))) same (v.targets m.before m.after m.piece same m.direct))
 
--- a valid chunk is refused for want of memory alone
+-- a valid chunk is refused only for lack of memory
 pub none_valid : (base limit : ℕ) (code : List ℕ) (marks : List Mark) (fault : VetFault) → IsValid (record { base = base; limit = limit; code = code; marks = marks }) → HasFault base limit code fault → fault ≡ OutOfMemory
 none_valid base limit code marks BadBase v f = absurd (f v.base_is)
 none_valid base limit code marks BadLength v f = absurd (f.1 v.length_is)

@@ -27,12 +27,12 @@ same_front xs ys r s i j a b e =
     let l : length xs ≡ length ys = sym n.0 ∙ ap (λ (x : Instr). x.len) k ∙ m.0 in
     (sym (take_at xs r (length xs) refl) ∙ ap (λ (z : List ℕ). take (length xs) z) e ∙ take_at ys s (length xs) (sym l), k)
 
--- the second list goes on behind the first
+-- the second list goes on after the first
 pub record GoesOn (xs ys : List Piece) : Type 0 where
   pub more : List Piece
   pub parts : ys ≡ xs ++ more
 
--- one of two lists of instructions at the beginning of the same bytes goes on behind the other
+-- one of two lists of instructions at the beginning of the same bytes goes on after the other
 pub agree : (xs ys : List Piece) (r s : List ℕ) → AreSpelled xs → AreSpelled ys → code_of xs ++ r ≡ code_of ys ++ s → GoesOn xs ys ⊎ GoesOn ys xs
 agree [] ys r s a b e = inl (record { more = ys; parts = refl })
 agree (x ∷ xs) [] r s a b e = inr (record { more = x ∷ xs; parts = refl })
@@ -50,9 +50,9 @@ agree (x ∷ xs) (y ∷ ys) r s a b e =
     same_piece p q e f = ap (λ (z : List ℕ). record { bytes = z; instr = p.instr }) e ∙ ap (λ (z : Instr). record { bytes = q.bytes; instr = z }) f
 
 -- instructions without bytes are none
-pub none_behind : (more : List Piece) → AreSpelled more → length (code_of more) ≡ 0 → more ≡ []
-none_behind [] s e = refl
-none_behind (p ∷ ps) s e =
+pub none_after : (more : List Piece) → AreSpelled more → length (code_of more) ≡ 0 → more ≡ []
+none_after [] s e = refl
+none_after (p ∷ ps) s e =
     let one = spells_some p.bytes p.instr (s [] ps p refl) in
     absurd (omega (arith, one.0, one.1, e, length-append p.bytes (code_of ps)))
 
@@ -66,5 +66,5 @@ same_pieces xs ys a b e =
   where
     all : (us vs more : List Piece) → AreSpelled vs → vs ≡ us ++ more → code_of vs ≡ code_of us → more ≡ []
     all us vs more s f g =
-        none_behind more (λ before after p h. s (us ++ before) after p (f ∙ ap (λ (z : List Piece). us ++ z) h ∙ sym (append_assoc us before (p ∷ after))))
+        none_after more (λ before after p h. s (us ++ before) after p (f ∙ ap (λ (z : List Piece). us ++ z) h ∙ sym (append_assoc us before (p ∷ after))))
         (omega (arith, ap (λ (z : List ℕ). length z) g, ap (λ (z : List Piece). place z) f, place-append us more))

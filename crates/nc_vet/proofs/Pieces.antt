@@ -10,24 +10,24 @@ use Rattle.nc_decode.specs.Spelling.{Spells, IsAtFront}
 use Rattle.nc_decode.specs.Transfers.{is_indirect}
 use Rattle.nc_decode.proofs.Offered.{spells_some}
 use Rattle.nc_vet.specs.Chunk.{Piece, code_of, place, AreSpelled, AreSound, FollowsMask, instr_marks, marks_of, MarkedChunk, IsValid}
-use Rattle.nc_vet.specs.Steps.{HasReadAll}
+use Rattle.nc_vet.specs.machinery.Steps.{HasReadAll}
 use Rattle.nc_vet.proofs.Splits.{split_none, split_push, flat_map-append}
 
--- the bytes of instructions and of more behind them
+-- the bytes of instructions and of more after them
 pub code_of-append : (xs ys : List Piece) → code_of (xs ++ ys) ≡ code_of xs ++ code_of ys
 code_of-append xs ys = flat_map-append (λ (p : Piece). p.bytes) xs ys
 
 pub code_of-push : (front : List Piece) (p : Piece) → code_of (front ++ p ∷ []) ≡ code_of front ++ p.bytes
 code_of-push front p = code_of-append front (p ∷ []) ∙ ap (λ (z : List ℕ). code_of front ++ z) (append-nil p.bytes)
 
--- the place behind instructions and one more
+-- the place after instructions and one more
 pub place-push : (front : List Piece) (p : Piece) → place (front ++ p ∷ []) ≡ place front + length p.bytes
 place-push front p = ap (λ (z : List ℕ). length z) (code_of-push front p) ∙ length-append (code_of front) p.bytes
 
 pub place-append : (xs ys : List Piece) → place (xs ++ ys) ≡ place xs + place ys
 place-append xs ys = ap (λ (z : List ℕ). length z) (code_of-append xs ys) ∙ length-append (code_of xs) (code_of ys)
 
--- the marks of instructions and of more behind them
+-- the marks of instructions and of more after them
 pub marks_of-append : (xs ys : List Piece) → marks_of (xs ++ ys) ≡ marks_of xs ++ marks_of ys
 marks_of-append xs ys = flat_map-append (λ (p : Piece). instr_marks p.instr) xs ys
 
@@ -84,7 +84,7 @@ sound_push front p s spells inside paired = record {
   ];
 }
 
--- the rest of the code, where it is counted from the place behind the front
+-- the rest of the code, where it is counted from the place after the front
 pub rest_is : (code rest : List ℕ) (front : List Piece) (at : ℕ) → code ≡ code_of front ++ rest → place front ≡ at → drop at code ≡ rest
 rest_is code rest front at parts here =
     ap (λ (n : ℕ). drop n code) (sym here) ∙ ap (λ (z : List ℕ). drop (place front) z) parts ∙ drop-append_seam (code_of front) rest

@@ -1,4 +1,4 @@
--- The states behind the bytes of bundles, one by one.
+-- The states after the bytes of bundles, one by one.
 use Rattle.std.proofs.Common.{◌≡◌, ◌≢◌, ℕ, zero, suc, ◌+◌, ◌-◌, ◌*◌, ◌/◌, ◌%◌, ◌^◌, ◌<◌, ◌≤◌, Bool, true, false, List, [], ◌∷◌, ◌++◌, length, take, drop, get_or, set, refl, sym, subst, ◌∙◌, ap, arith, inl, inr, ◌==◌, eqb-true, eq-eqb, leb-true, nat_le, replicate}
 use Rattle.std.specs.Prelude.{slice_set, slice_index}
 use Rattle.std.specs.Int.{bit_at, w32, leading_zeros}
@@ -11,7 +11,7 @@ use Rattle.nc_decode.specs.Automaton.{next_state}
 use Rattle.nc_decode.proofs.Offered.{true_or_false}
 use Rattle.nc_vet.specs.declared.bundle.Bundle.{Bundle}
 use Rattle.nc_vet.specs.Bits.{no_bits}
-use Rattle.nc_vet.specs.Running.{run, state_after, before, TellsStates, entered, HasRun, Tells, AreTold, EndsFront}
+use Rattle.nc_vet.specs.machinery.Running.{run, state_after, before, TellsStates, entered, HasRun, Tells, AreTold, EndsFront}
 
 -- one more byte of a run
 run_more : (s : ℕ) (bs : List ℕ) (b : ℕ) → run s (bs ++ b ∷ []) ≡ next_state (run s bs) b

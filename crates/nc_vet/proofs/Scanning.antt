@@ -15,8 +15,8 @@ use Rattle.nc_decode.proofs.Offered.{reads_by_states, none_is_paired}
 use Rattle.nc_decode.proofs.Offered.{next_small}
 use Rattle.nc_vet.specs.Chunk.{Piece, code_of, place, FollowsMask, mark_of, instr_marks, marks_of}
 use Rattle.nc_vet.specs.Faults.{IsSoundFront}
-use Rattle.nc_vet.specs.Running.{before}
-use Rattle.nc_vet.specs.Scans.{AreStates, second, mark_by, IsDisplaced, Scans}
+use Rattle.nc_vet.specs.machinery.Running.{before}
+use Rattle.nc_vet.specs.machinery.Scans.{AreStates, second, mark_by, IsDisplaced, Scans}
 use Rattle.nc_vet.proofs.Splits.{split_none, split_push}
 use Rattle.nc_vet.proofs.Pieces.{code_of-push, place-push, marks_of-push, length-marks_of, none_sound, sound_push, rest_is}
 
@@ -44,7 +44,7 @@ before_small code to S k a lt = go (k % 32 == 0) refl
     go true e = rw e (omega arith)
     go false e = rw e (state_small code to S (k - 1) a (omega (arith, lt)))
 
--- behind a state inside an instruction no bundle begins
+-- after a state inside an instruction no bundle begins
 inner_place : (code : List ℕ) (to : ℕ) (S : ℕ → ℕ) (k : ℕ) → AreStates code to S → k < to → S k < 64 → k % 32 < 31
 inner_place code to S k a lt inside = elim (cases_lt (k % 32) 31) [
   | inl ok ↦ ok

@@ -34,7 +34,7 @@ split_last {A} (x ∷ xs) (b ∷ before) y q e =
     let w = split_last xs before y q t in
     (rw (h, w.0) refl, w.1)
 
--- what is made of each element, one behind the other, parts with the list
+-- what is made of each element, one after the other, parts with the list
 pub flat_map-append : {A B : Type 0} (f : A → List B) (xs ys : List A) → flat_map f (xs ++ ys) ≡ flat_map f xs ++ flat_map f ys
 flat_map-append f [] ys = refl
 flat_map-append f (x ∷ xs) ys = ap (λ zs. f x ++ zs) (flat_map-append f xs ys) ∙ sym (append_assoc (f x) (flat_map f xs) (flat_map f ys))

@@ -1,4 +1,4 @@
--- What a valid chunk is: a list of whole instructions, one behind the other, that keeps four rules.
+-- What a valid chunk is: a list of whole instructions, one after the other, that keeps four rules.
 -- Places are counted from the chunk's base. A valid chunk's base is a bundle start, so a place lies in its bundle
 -- as its address does.
 use Rattle.std.specs.Prelude.{◌≡◌, ℕ, ◌+◌, ◌-◌, ◌/◌, ◌%◌, ◌<◌, ◌≤◌, ◌⊎◌, false, List, [], ◌∷◌, ◌++◌, length, replicate, Some, IsTrue, if◌then◌else◌}
@@ -15,11 +15,11 @@ pub record Piece : Type 0 where
   pub bytes : List ℕ
   pub instr : Instr
 
--- the bytes of some instructions, one behind the other
+-- the bytes of some instructions, one after the other
 abbrev pub code_of : List Piece → List ℕ
 code_of pieces = flat_map (λ p. p.bytes) pieces
 
--- the place behind some instructions
+-- the place after some instructions
 abbrev pub place : List Piece → ℕ
 place before = length (code_of before)
 
@@ -72,7 +72,7 @@ mark_of i = if is_indirect i.flow then After i.reg else Plain
 abbrev pub instr_marks : Instr → List Mark
 instr_marks i = mark_of i ∷ replicate (i.len - 1) Unmarked
 
--- the marks of some instructions, one behind the other
+-- the marks of some instructions, one after the other
 abbrev pub marks_of : List Piece → List Mark
 marks_of pieces = flat_map (λ p. instr_marks p.instr) pieces
 

@@ -28,8 +28,8 @@ loop-bundles-preserved c =
     let taken : c.extend_from_slice-in-loop-bundles.new.self.items ≡ c.loop-bundles.bundles.items ++ take c.whole_front-whole.result c.eight-more.result =
     items ∙ ap (λ (z : List Bundle). c.loop-bundles.bundles.items ++ z) (sym (take_all c.whole_front-whole.result c.eight-more.result (omega (arith, eight, all)))) in
     let w = told_more c.args.code.now c.loop-bundles.bundles.items c.eight-more.result c.extend_from_slice-in-loop-bundles.new.self.items c.whole_front-whole.result c.loop-bundles.invariant.told taken (omega (arith, eight, all))
-        (λ n lt. moved c.args.code.now _ _ _ (omega (arith, c.len-in-loop-bundles.ensures, c.loop-bundles.bundles.ok.0)) (c.eight-more.ensures n (omega (arith, lt, all))))
-        c.whole_front-whole.ensures.whole in
+    (λ n lt. moved c.args.code.now _ _ _ (omega (arith, c.len-in-loop-bundles.ensures, c.loop-bundles.bundles.ok.0)) (c.eight-more.ensures n (omega (arith, lt, all))))
+    c.whole_front-whole.ensures.whole in
     record {
       within = omega (arith, w.1, all, c.extend_from_slice-in-loop-bundles.new.self.ok.0, c.loop-bundles.bundles.ok.0, c.loop-bundles-test.true, c.len.ensures);
       told = w.0;

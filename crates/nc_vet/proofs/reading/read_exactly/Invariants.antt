@@ -1,5 +1,5 @@
 use Rattle.std.proofs.Common.{◌≡◌, ◌≤◌, ◌-◌, length}
-use Rattle.nc_vet.specs.Steps.{HasRead}
+use Rattle.nc_vet.specs.machinery.Steps.{HasRead}
 use Rattle.nc_vet.proofs.reading.read_exactly.Given as goal
 
 abbrev pub invariant-loop-at : goal.invariant-loop-at

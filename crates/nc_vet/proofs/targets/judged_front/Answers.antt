@@ -1,10 +1,10 @@
 use Rattle.std.proofs.Common.{◌*◌, List, subst, sym}
 use Rattle.nc_vet.specs.declared.bundle.Bundle.{Bundle}
 use Rattle.nc_vet.specs.declared.marks.Marks.{Marks}
-use Rattle.nc_vet.specs.Judged.{AreJudged}
+use Rattle.nc_vet.specs.machinery.Judged.{AreJudged}
 use Rattle.nc_vet.specs.Listed.{listed}
-use Rattle.nc_vet.specs.Running.{AreBitsTold}
-use Rattle.nc_vet.specs.Steps.{HasJudged}
+use Rattle.nc_vet.specs.machinery.Running.{AreBitsTold}
+use Rattle.nc_vet.specs.machinery.Steps.{HasJudged}
 use Rattle.nc_vet.proofs.BitReading.{judged_bits}
 use Rattle.nc_vet.proofs.targets.judged_front.Goals as goal
 

@@ -1,6 +1,6 @@
 use Rattle.std.proofs.Common.{◌≡◌, ℕ, ◌<◌, ◌+◌, ◌⊎◌}
 use Rattle.std.specs.Int.{bit_at}
-use Rattle.nc_vet.specs.Judged.{near_to, IsGood}
+use Rattle.nc_vet.specs.machinery.Judged.{near_to, IsGood}
 use Rattle.nc_vet.proofs.transfers.nears_good.Given as goal
 
 abbrev pub invariant-loop-left : goal.invariant-loop-left

@@ -1,5 +1,5 @@
 use Rattle.std.proofs.Common.{ℕ, ◌+◌, subst, rules}
-use Rattle.nc_vet.specs.Judged.{short_to, IsGood}
+use Rattle.nc_vet.specs.machinery.Judged.{short_to, IsGood}
 use Rattle.nc_vet.proofs.BitPlaces.{one_done}
 use Rattle.nc_vet.proofs.transfers.shorts_good.Goals as goal
 

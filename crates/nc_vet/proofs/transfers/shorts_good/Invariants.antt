@@ -1,6 +1,6 @@
 use Rattle.std.proofs.Common.{◌≡◌, ℕ, ◌<◌, ◌+◌, ◌⊎◌}
 use Rattle.std.specs.Int.{bit_at}
-use Rattle.nc_vet.specs.Judged.{short_to, IsGood}
+use Rattle.nc_vet.specs.machinery.Judged.{short_to, IsGood}
 use Rattle.nc_vet.proofs.transfers.shorts_good.Given as goal
 
 abbrev pub invariant-loop-left : goal.invariant-loop-left

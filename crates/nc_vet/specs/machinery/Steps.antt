@@ -24,7 +24,7 @@ NoneMayFollow window masked address (Crosses at) = (at ≡ address) × IsProperF
 NoneMayFollow window masked address (NotPermitted at) = (at ≡ address) × ((i : Instr) → ¬ IsAtFront window i) × ¬ IsProperFront window
 NoneMayFollow window masked address _ = ⊥
 
--- the register that an instruction has masked for the place behind it
+-- the register that an instruction has masked for the place after it
 abbrev pub masked_after : Instr → ℕ → Option ℕ
 masked_after i place = if place % 32 == 0 then None else i.masks
 
@@ -34,7 +34,7 @@ pub record HasRead (code : List ℕ) (at : ℕ) (masked : Option ℕ) (marks : L
   pub rest : List ℕ
   pub reads : IsSoundFront code rest front
   pub here : place front ≡ at
-  pub behind : (r : ℕ) → (masked ≡ Some r) ↔ FollowsMask front r
+  pub masked_is : (r : ℕ) → (masked ≡ Some r) ↔ FollowsMask front r
   pub marks_are : marks ≡ marks_of front ++ replicate (length code - at) Unmarked
 
 -- the front of the code up to a place is sound instructions
