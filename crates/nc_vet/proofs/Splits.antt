@@ -8,7 +8,8 @@ split_none [] after q e = cc
 split_none (b ∷ before) after q e = cc
 
 -- an element of a list with one more at its end is that one, or stands in the list
-pub split_push : {A : Type 0} (xs before after : List A) (y q : A) → xs ++ y ∷ [] ≡ before ++ q ∷ after → ((before ≡ xs) × (y ≡ q)) ⊎ ((rest : List A) × (xs ≡ before ++ q ∷ rest))
+pub split_push : {A : Type 0} (xs before after : List A) (y q : A) → xs ++ y ∷ [] ≡ before ++ q ∷ after → ((before ≡ xs) × (y ≡ q))
+    ⊎ ((rest : List A) × (xs ≡ before ++ q ∷ rest))
 split_push [] [] after y q e = inl (refl, cc)
 split_push [] (b ∷ []) after y q e = absurd cc
 split_push [] (b ∷ c ∷ before) after y q e = absurd cc

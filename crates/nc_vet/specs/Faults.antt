@@ -4,7 +4,8 @@ use Rattle.nc_decode.specs.declared.instruction.Instr.{Instr}
 use Rattle.nc_decode.specs.Spelling.{IsAtFront, IsProperFront}
 use Rattle.nc_decode.specs.Transfers.{is_direct, target}
 use Rattle.nc_vet.specs.declared.fault.VetFault.{VetFault}
-use Rattle.nc_vet.specs.declared.fault.VetFault.TheVariants.{BadBase, BadLength, OutOfRange, NotPermitted, Crosses, Bare, BadTarget, OutOfMemory}
+use Rattle.nc_vet.specs.declared.fault.VetFault.TheVariants.{BadBase, BadLength, OutOfRange, NotPermitted, Crosses, Bare, BadTarget}
+use Rattle.nc_vet.specs.declared.fault.VetFault.TheVariants.{OutOfMemory}
 use Rattle.nc_vet.specs.Chunk.{Piece, code_of, place, AreSound, IsTarget, IsBase, IsLength, IsInRange}
 
 -- the code begins with these sound instructions, and this is the rest of it
@@ -26,7 +27,8 @@ abbrev pub StandsAfter : ℕ → List Piece → List ℕ → VetFault → Type 0
 StandsAfter base front rest (Bare at) = (at ≡ base + place front) × ((i : Instr) × IsAtFront (bundle_rest (place front) rest) i)
 StandsAfter base front rest (Crosses at) = (at ≡ base + place front) × IsProperFront (bundle_rest (place front) rest)
 StandsAfter base front rest (NotPermitted at) =
-    (at ≡ base + place front) × ((i : Instr) → ¬ IsAtFront (bundle_rest (place front) rest) i) × ¬ IsProperFront (bundle_rest (place front) rest)
+    (at ≡ base + place front) × ((i : Instr) → ¬ IsAtFront (bundle_rest (place front) rest) i)
+    × ¬ IsProperFront (bundle_rest (place front) rest)
 StandsAfter base front rest _ = ⊥
 
 -- the longest sound front isn't all of the code, and this fault stands after it
@@ -49,7 +51,8 @@ pub record IsMistargeted (base limit : ℕ) (code : List ℕ) (at : ℕ) : Type 
   pub here : at ≡ base + place before
   pub direct : IsTrue (is_direct piece.instr.flow)
   pub bad : ¬ IsTarget base limit (before ++ piece ∷ after) (target piece.instr (base + place before))
-  pub least : (b a : List Piece) (p : Piece) → before ≡ b ++ p ∷ a → IsTrue (is_direct p.instr.flow) → IsTarget base limit (before ++ piece ∷ after) (target p.instr (base + place b))
+  pub least : (b a : List Piece) (p : Piece) → before ≡ b ++ p ∷ a → IsTrue (is_direct p.instr.flow)
+      → IsTarget base limit (before ++ piece ∷ after) (target p.instr (base + place b))
 
 -- base, length and limit show by themselves no fault
 pub record HasGoodSpan (base limit len : ℕ) : Type 0 where

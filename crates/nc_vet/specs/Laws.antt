@@ -7,7 +7,8 @@ use Rattle.nc_vet.specs.Faults.{HasFault}
 
 -- two faults of one chunk, neither of which is lack of memory, are the same
 abbrev pub HasOneFault : Type 0
-HasOneFault = (base limit : ℕ) (code : List ℕ) (f g : VetFault) → HasFault base limit code f → HasFault base limit code g → f ≢ OutOfMemory → g ≢ OutOfMemory → f ≡ g
+HasOneFault = (base limit : ℕ) (code : List ℕ) (f g : VetFault) → HasFault base limit code f → HasFault base limit code g
+    → f ≢ OutOfMemory → g ≢ OutOfMemory → f ≡ g
 
 -- a valid chunk has no fault except lack of memory
 abbrev pub HasNoFault : Type 0

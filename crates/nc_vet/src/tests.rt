@@ -27,7 +27,8 @@ type SomeMarks = &'static [(usize, Mark)];
 #[rattlefmt::skip]
 static VALID: [(usize, Parts, SomeMarks); 19] = [
     // Pairs.
-    (1, &[(27, &[0x83, 0xE0, 0xE0, 0xFF, 0xE0])], &[(26, Mark::Plain), (27, Mark::Plain), (28, Mark::Unmarked), (30, Mark::After(0)), (31, Mark::Unmarked)]),
+    (1, &[(27, &[0x83, 0xE0, 0xE0, 0xFF, 0xE0])],
+        &[(26, Mark::Plain), (27, Mark::Plain), (28, Mark::Unmarked), (30, Mark::After(0)), (31, Mark::Unmarked)]),
     (1, &[(0, &[0x83, 0xE0, 0xE0, 0x83, 0xE0, 0xE0, 0xFF, 0xE0])], &[(0, Mark::Plain), (3, Mark::Plain), (6, Mark::After(0))]),
     (1, &[(0, &[0x83, 0xE7, 0xE0, 0xFF, 0xD7])], &[(3, Mark::After(7))]),
     (1, &[(0, &[0x83, 0xE3, 0xE0, 0xFF, 0xE3])], &[(3, Mark::After(3))]),

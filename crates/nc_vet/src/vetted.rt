@@ -28,7 +28,8 @@ impl Model for Vetted {
 
     ghost view = { λ v. record { base = v.base; limit = v.limit; code = v.code.items; marks = listed v.code.items v.marks } };
 
-    ghost invariant = { λ v. IsValid (record { base = v.base; limit = v.limit; code = v.code.items; marks = listed v.code.items v.marks }) };
+    ghost invariant = { λ v.
+        IsValid (record { base = v.base; limit = v.limit; code = v.code.items; marks = listed v.code.items v.marks }) };
 }
 
 impl Vetted {

@@ -1,5 +1,6 @@
 -- Running the automaton over bundles: machinery of the proofs, cited by no public contract.
-use Rattle.std.specs.Prelude.{◌≡◌, ◌≢◌, ℕ, ◌+◌, ◌-◌, ◌*◌, ◌%◌, ◌^◌, ◌<◌, ◌≤◌, List, [], ◌∷◌, length, take, drop, get_or, slice_index, ◌==◌, nat_le, if◌then◌else◌, ⊤}
+use Rattle.std.specs.Prelude.{◌≡◌, ◌≢◌, ℕ, ◌+◌, ◌-◌, ◌*◌, ◌%◌, ◌^◌, ◌<◌, ◌≤◌, List, [], ◌∷◌, length, take, drop, get_or, slice_index}
+use Rattle.std.specs.Prelude.{◌==◌, nat_le, if◌then◌else◌, ⊤}
 use Rattle.std.specs.Int.{bit_at}
 use Rattle.nc_decode.specs.declared.automaton.TheConstants.{STATES, END, AFTER_SHORT, AFTER_NEAR, AFTER_PAIR}
 use Rattle.nc_decode.specs.Automaton.{next_state}
@@ -50,7 +51,8 @@ pub record Tells (code : List ℕ) (at : ℕ) (w : Bundle) : Type 0 where
 
 -- so it is of each of these bundles, and an instruction ends with each
 abbrev pub AreTold : List ℕ → List Bundle → Type 0
-AreTold code bundles = (n : ℕ) → n < length bundles → Tells code (32 * n) (get_or bundles n no_bits) × (END ≤ state_after code (32 * n + 31))
+AreTold code bundles = (n : ℕ) → n < length bundles → Tells code (32 * n) (get_or bundles n no_bits)
+    × (END ≤ state_after code (32 * n + 31))
 
 -- Bundles of the code are told, and reading may go on at a place: after them, or where an instruction ends in the next one that
 -- is no mask, by its last byte.

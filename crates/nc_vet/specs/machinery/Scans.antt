@@ -1,5 +1,6 @@
 -- What a run over bundles says of the code: machinery of the proofs, cited by no public contract.
-use Rattle.std.specs.Prelude.{◌≡◌, ℕ, ◌+◌, ◌-◌, ◌%◌, ◌<◌, ◌≤◌, ◌⊎◌, List, ◌∷◌, ◌++◌, length, drop, get_or, slice_index, ◌==◌, ◌&&◌, nat_le, nat_lt, Bool, if◌then◌else◌, All, IsTrue}
+use Rattle.std.specs.Prelude.{◌≡◌, ℕ, ◌+◌, ◌-◌, ◌%◌, ◌<◌, ◌≤◌, ◌⊎◌, List, ◌∷◌, ◌++◌, length, drop, get_or, slice_index, ◌==◌, ◌&&◌}
+use Rattle.std.specs.Prelude.{nat_le, nat_lt, Bool, if◌then◌else◌, All, IsTrue}
 use Rattle.std.specs.Int.{w8, w32, cast_signed, from_le_bytes}
 use Rattle.nc_decode.specs.declared.instruction.Instr.{Instr}
 use Rattle.nc_decode.specs.declared.instruction.Mark.{Mark}
@@ -41,7 +42,8 @@ pub record IsScanned (code : List ℕ) (to : ℕ) (S : ℕ → ℕ) : Type 0 whe
   pub reads : IsSoundFront code rest pieces
   pub here : place pieces ≡ to
   pub marks : (k : ℕ) → k < to → get_or (marks_of pieces) k Unmarked ≡ mark_by S code k
-  pub direct : (b a : List Piece) (p : Piece) → pieces ≡ b ++ p ∷ a → IsTrue (is_direct p.instr.flow) → IsDisplaced S code (place b + length p.bytes) p.instr
+  pub direct : (b a : List Piece) (p : Piece) → pieces ≡ b ++ p ∷ a → IsTrue (is_direct p.instr.flow)
+      → IsDisplaced S code (place b + length p.bytes) p.instr
 
 -- so it is wherever the states say so
 abbrev pub Scans : Type 0
