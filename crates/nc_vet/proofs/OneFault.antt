@@ -41,9 +41,9 @@ read_fault base limit code OutOfMemory g e = g
 pub judged_valid : (base limit : ℕ) (code : List ℕ) (marks : List Mark) → HasGoodSpan base limit (length code)
     → HasJudgedAll base limit code marks → IsValid (record { base = base; limit = limit; code = code; marks = marks })
 judged_valid base limit code marks g h = record {
-  base_is = g.base_is;
-  length_is = g.length_is;
-  range = g.range;
+  base_is = (g.start, g.low);
+  length_is = (g.some, g.whole);
+  range = (g.lawful, g.high);
   pieces = h.read.pieces;
   parts = h.read.parts;
   sound = h.read.sound;
@@ -105,9 +105,9 @@ pub record AreDue (base limit len : ℕ) (fault : VetFault) : Type 0 where
 none_due : (base limit len : ℕ) (fault : VetFault) → HasGoodSpan base limit len → fault ≢ BadBase → fault ≢ BadLength → fault ≢ OutOfRange
     → AreDue base limit len fault
 none_due base limit len fault g a b c = record {
-  bad_base = (λ e. absurd (a e), λ n. absurd (n g.base_is));
-  bad_length = (λ e. absurd (b e), λ n. absurd (n.1 g.length_is));
-  out_of_range = (λ e. absurd (c e), λ n. absurd (n.2 g.range));
+  bad_base = (λ e. absurd (a e), λ n. absurd (n (g.start, g.low)));
+  bad_length = (λ e. absurd (b e), λ n. absurd (n.1 (g.some, g.whole)));
+  out_of_range = (λ e. absurd (c e), λ n. absurd (n.2 (g.lawful, g.high)));
 }
 
 -- so it is of each fault of a chunk

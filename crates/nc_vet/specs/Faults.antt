@@ -1,6 +1,7 @@
 -- Which fault a chunk has.
-use Rattle.std.specs.Prelude.{◌≡◌, ◌≢◌, ℕ, ◌+◌, ◌-◌, ◌%◌, ◌≤◌, List, [], ◌∷◌, ◌++◌, length, take, IsTrue}
+use Rattle.std.specs.Prelude.{◌≡◌, ◌≢◌, ℕ, ◌+◌, ◌-◌, ◌%◌, ◌<◌, ◌≤◌, List, [], ◌∷◌, ◌++◌, length, take, IsTrue}
 use Rattle.nc_decode.specs.declared.instruction.Instr.{Instr}
+use Rattle.nc_decode.specs.Bundles.{IsBundleStart, IsLawfulLimit}
 use Rattle.nc_decode.specs.Spelling.{IsAtFront, IsProperFront}
 use Rattle.nc_decode.specs.Transfers.{is_direct, target}
 use Rattle.nc_vet.specs.declared.fault.VetFault.{VetFault}
@@ -54,11 +55,14 @@ pub record IsMistargeted (base limit : ℕ) (code : List ℕ) (at : ℕ) : Type 
   pub least : (b a : List Piece) (p : Piece) → before ≡ b ++ p ∷ a → IsTrue (is_direct p.instr.flow)
       → IsTarget base limit (before ++ piece ∷ after) (target p.instr (base + place b))
 
--- base, length and limit show by themselves no fault
+-- whole bundles of a region below its guard: base, length and limit show no fault by themselves
 pub record HasGoodSpan (base limit len : ℕ) : Type 0 where
-  pub base_is : IsBase base
-  pub length_is : IsLength len
-  pub range : IsInRange base limit len
+  pub lawful : IsLawfulLimit limit
+  pub start : IsBundleStart base
+  pub whole : len % 32 ≡ 0
+  pub some : 0 < len
+  pub low : 0x10000 ≤ base
+  pub high : base + len + 32 ≤ limit
 
 -- the first of the faults that base, length and limit show by themselves
 abbrev pub HasSpanFault : ℕ → ℕ → ℕ → VetFault → Type 0
