@@ -11,7 +11,7 @@ use Rattle.nc_decode.specs.Bundles.{IsLawfulLimit}
 use Rattle.nc_decode.proofs.Offered.{spells_some}
 use Rattle.nc_vet.specs.Chunk.{Piece, code_of, place, marks_of}
 use Rattle.nc_vet.specs.Chunk as vet
-use Rattle.nc_vet.proofs.Pieces.{code_of-append, place-append, length-marks_of}
+use Rattle.nc_vet.proofs.Offered.{code_of-append, place-append, length-marks_of}
 use Rattle.nc_vet.proofs.MarkedPlaces as places
 use Rattle.nc_text.specs.Places.{InRegion, limit_of, byte_at, instruction_at}
 use Rattle.nc_text.specs.Machine.{State}

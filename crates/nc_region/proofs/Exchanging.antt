@@ -9,8 +9,8 @@ use Rattle.nc_decode.specs.Transfers.{is_direct, is_indirect, target}
 use Rattle.nc_decode.proofs.Offered.{spells_some}
 use Rattle.nc_vet.specs.Chunk.{Piece, MarkedChunk, code_of, place, FollowsMask, IsEntry, IsTarget, IsValid, AreSound, AreTargets, IsLength}
 use Rattle.nc_vet.specs.Chunk.{IsInRange, mark_of, instr_marks, marks_of}
-use Rattle.nc_vet.proofs.Pieces.{place-append, marks_of-append}
-use Rattle.nc_vet.proofs.MarkedPlaces.{first_plain}
+use Rattle.nc_vet.proofs.Offered.{place-append, marks_of-append}
+use Rattle.nc_vet.proofs.Offered.{first_plain}
 use Rattle.nc_region.specs.PatchSteps.{NoneFirst}
 
 -- of a list parted at two elements: they are the same, or one stands before the other

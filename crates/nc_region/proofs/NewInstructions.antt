@@ -9,9 +9,9 @@ use Rattle.nc_decode.specs.Spelling.{Spells}
 use Rattle.nc_decode.proofs.Offered.{exact, has_its_length}
 use Rattle.nc_decode.proofs.Offered.{spells_some}
 use Rattle.nc_vet.specs.Chunk.{Piece, code_of, AreSpelled}
-use Rattle.nc_vet.proofs.Pieces.{spelled_after}
-use Rattle.nc_vet.proofs.Splits.{split_none}
-use Rattle.nc_vet.proofs.OneReading.{none_behind, same_pieces}
+use Rattle.nc_vet.proofs.Offered.{spelled_after}
+use Rattle.nc_vet.proofs.Offered.{split_none}
+use Rattle.nc_vet.proofs.Offered.{none_after, same_pieces}
 use Rattle.nc_region.specs.Patch.{AreBytesOf, AreInstructions}
 
 -- no bytes are no instructions
@@ -25,7 +25,7 @@ empty_list (x ∷ xs) e = absurd (omega arith)
 
 -- no bytes are no instructions
 pub none_of_none : (bytes : List ℕ) (news : List Piece) → length bytes ≡ 0 → AreBytesOf bytes news → news ≡ []
-none_of_none bytes news none b = none_behind news b.spelled (sym (ap (λ (z : List ℕ). length z) b.parts) ∙ none)
+none_of_none bytes news none b = none_after news b.spelled (sym (ap (λ (z : List ℕ). length z) b.parts) ∙ none)
 
 -- no bytes are whole instructions
 pub instructions_none : (bytes : List ℕ) → length bytes ≡ 0 → AreInstructions bytes

@@ -7,7 +7,7 @@ use Rattle.nc_decode.specs.declared.instruction.Mark.{Mark}
 use Rattle.nc_decode.specs.declared.instruction.Mark.TheVariants.{Unmarked, Plain, After}
 use Rattle.nc_decode.specs.Transfers.{is_indirect}
 use Rattle.nc_vet.specs.Chunk.{Piece, place, marks_of, mark_of}
-use Rattle.nc_vet.proofs.Pieces.{length-marks_of}
+use Rattle.nc_vet.proofs.Offered.{length-marks_of}
 use Rattle.nc_vet.proofs.MarkedPlaces as places
 use Rattle.nc_text.specs.Marks.{mark_at}
 use Rattle.nc_text.specs.MarkedText.{MarkedText, IsText}

@@ -12,7 +12,7 @@ use Rattle.nc_decode.specs.Front.{first_instruction}
 use Rattle.nc_decode.proofs.Offered.{exact, depends_on_its_bytes}
 use Rattle.nc_decode.proofs.Offered.{spells_some}
 use Rattle.nc_vet.specs.Chunk.{Piece, code_of, place, mark_of, AreSpelled}
-use Rattle.nc_vet.proofs.Pieces.{code_of-append, place-append, place-push}
+use Rattle.nc_vet.proofs.Offered.{code_of-append, place-append, place-push}
 use Rattle.nc_vet.proofs.MarkedPlaces as places
 use Rattle.nc_text.specs.Places.{InRegion, limit_of, byte_at, instruction_at}
 use Rattle.nc_text.specs.Marks.{mark_at}

@@ -5,7 +5,7 @@ use Rattle.std.specs.Prelude.{IsTrue}
 use Rattle.std.proofs.lemmas.List.{length-append, get_or_append_left, get_or-append_right, ext_get_or}
 use Rattle.nc_decode.specs.Transfers.{is_direct, is_indirect, target}
 use Rattle.nc_vet.specs.Chunk.{Piece, place, IsTarget}
-use Rattle.nc_vet.proofs.Pieces.{place-push}
+use Rattle.nc_vet.proofs.Offered.{place-push}
 use Rattle.nc_text.specs.Places.{limit_of, byte_at}
 use Rattle.nc_text.specs.MarkedText.{MarkedText, IsText, with_span}
 use Rattle.nc_text.proofs.SpanElements.{length-with_span}

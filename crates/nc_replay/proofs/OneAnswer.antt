@@ -4,8 +4,8 @@ use Rattle.std.specs.Prelude.{All, MatchOption, codes}
 use Rattle.nc_vet.specs.Faults.{HasFault}
 use Rattle.nc_vet.specs.declared.fault.VetFault.{VetFault}
 use Rattle.nc_vet.specs.declared.fault.VetFault.TheVariants.{OutOfMemory}
-use Rattle.nc_vet.proofs.OneFault.{none_valid}
-use Rattle.nc_vet.proofs.OneVerdict.{one_fault}
+use Rattle.nc_vet.proofs.Offered.{none_valid}
+use Rattle.nc_vet.proofs.Offered.{one_fault}
 use Rattle.nc_region.specs.Region.{Region, IsRegion}
 use Rattle.nc_region.specs.Trace.{IsTrace, IsWalkStart}
 use Rattle.nc_region.specs.declared.trace.End.{End}

@@ -1,5 +1,6 @@
 -- The judging of targets, place by place.
-use Rattle.std.proofs.Common.{◌≡◌, ◌≢◌, ℕ, ◌+◌, ◌%◌, ◌<◌, ◌≤◌, true, false, List, [], ◌∷◌, ◌++◌, length, take, drop, get_or, refl, sym, subst, ◌∙◌, ap, arith, inl, inr, append_assoc}
+use Rattle.std.proofs.Common.{◌≡◌, ◌≢◌, ℕ, ◌+◌, ◌%◌, ◌<◌, ◌≤◌, true, false, List, [], ◌∷◌, ◌++◌, length, take, drop, get_or, refl, sym}
+use Rattle.std.proofs.Common.{subst, ◌∙◌, ap, arith, inl, inr, append_assoc}
 use Rattle.std.specs.Prelude.{IsTrue}
 use Rattle.std.proofs.Math.Nat.{eq-or-lt_of_le}
 use Rattle.std.proofs.lemmas.List.{length-append, get_or_at, get_or_default}
@@ -13,17 +14,19 @@ use Rattle.nc_decode.specs.Transfers.{is_direct, is_indirect, target, may_transf
 use Rattle.nc_decode.proofs.Offered.{direct_begins}
 use Rattle.nc_vet.specs.Chunk.{Piece, code_of, place, AreSpelled, AreSound, IsTarget, marks_of}
 use Rattle.nc_vet.specs.Faults.{IsMistargeted}
-use Rattle.nc_vet.specs.Steps.{HasReadAll, GoesWellAt, GoesAstrayAt, HasJudged, HasJudgedAll}
+use Rattle.nc_vet.specs.machinery.Steps.{HasReadAll, GoesWellAt, GoesAstrayAt, HasJudged, HasJudgedAll}
 use Rattle.nc_vet.proofs.Pieces.{code_of-append, place-append, piece_some, rest_is, front_within}
 use Rattle.nc_vet.proofs.OneReading.{one_at_front}
 use Rattle.nc_vet.proofs.MarkedPlaces.{marked, mark_at, first_plain}
 
 -- the code parts at the place of an instruction
-pub code_at : (code : List ℕ) (pieces before after : List Piece) (p : Piece) → code ≡ code_of pieces → pieces ≡ before ++ p ∷ after → code ≡ code_of before ++ (p.bytes ++ code_of after)
+pub code_at : (code : List ℕ) (pieces before after : List Piece) (p : Piece) → code ≡ code_of pieces → pieces ≡ before ++ p ∷ after
+    → code ≡ code_of before ++ (p.bytes ++ code_of after)
 code_at code pieces before after p c e = c ∙ ap (λ (z : List Piece). code_of z) e ∙ code_of-append before (p ∷ after)
 
 -- an instruction stands at the front of the rest of its bundle
-pub front_at : (code : List ℕ) (marks : List Mark) (at w : ℕ) (r : HasReadAll code marks) (before after : List Piece) (p : Piece) → r.pieces ≡ before ++ p ∷ after → place before ≡ at → w + at % 32 ≡ 32 → IsAtFront (take w (drop at code)) p.instr
+pub front_at : (code : List ℕ) (marks : List Mark) (at w : ℕ) (r : HasReadAll code marks) (before after : List Piece) (p : Piece)
+    → r.pieces ≡ before ++ p ∷ after → place before ≡ at → w + at % 32 ≡ 32 → IsAtFront (take w (drop at code)) p.instr
 front_at code marks at w r before after p e here w-is =
     let tail = rest_is code (p.bytes ++ code_of after) before at (code_at code r.pieces before after p r.parts e) here in
     let inside = r.sound.inside before after p e in
@@ -33,7 +36,8 @@ front_at code marks at w r before after p e here w-is =
 -- ---- what is no direct transfer goes well
 
 -- a direct transfer begins with one of its bytes
-byte_at : (code : List ℕ) (marks : List Mark) (at d : ℕ) (r : HasReadAll code marks) (before after : List Piece) (p : Piece) → r.pieces ≡ before ++ p ∷ after → place before ≡ at → is_direct p.instr.flow ≡ true → may_transfer (get_or code at d) ≡ true
+byte_at : (code : List ℕ) (marks : List Mark) (at d : ℕ) (r : HasReadAll code marks) (before after : List Piece) (p : Piece)
+    → r.pieces ≡ before ++ p ∷ after → place before ≡ at → is_direct p.instr.flow ≡ true → may_transfer (get_or code at d) ≡ true
 byte_at code marks at d r before after p e here direct = go p.bytes refl
   where
     go : (bytes : List ℕ) → p.bytes ≡ bytes → may_transfer (get_or code at d) ≡ true
@@ -43,14 +47,18 @@ byte_at code marks at d r before after p e here direct = go p.bytes refl
     go (b ∷ bytes) f =
         let spells : Spells (b ∷ bytes) p.instr = subst (λ (z : List ℕ). Spells z p.instr) f (r.sound.spelled before after p e) in
         let here_is : get_or code at d ≡ b
-        = ap (λ (z : List ℕ). get_or z at d) (code_at code r.pieces before after p r.parts e ∙ ap (λ (z : List ℕ). code_of before ++ (z ++ code_of after)) f)
+        = ap (λ (z : List ℕ). get_or z at d) (code_at code r.pieces before after p r.parts e
+        ∙ ap (λ (z : List ℕ). code_of before ++ (z ++ code_of after)) f)
         ∙ get_or_at (code_of before) b (bytes ++ code_of after) d at here in
         subst (λ (k : ℕ). may_transfer k ≡ true) (sym here_is) (direct_begins b bytes p.instr spells direct)
 
-pub other_byte : (base limit : ℕ) (code : List ℕ) (marks : List Mark) (at d : ℕ) (r : HasReadAll code marks) → may_transfer (get_or code at d) ≡ false → GoesWellAt base limit r.pieces at
+-- another byte begins none
+pub other_byte : (base limit : ℕ) (code : List ℕ) (marks : List Mark) (at d : ℕ) (r : HasReadAll code marks)
+    → may_transfer (get_or code at d) ≡ false → GoesWellAt base limit r.pieces at
 other_byte base limit code marks at d r none before after p e here direct =
     absurd (let f : true ≡ false = sym (byte_at code marks at d r before after p e here direct) ∙ none in cc)
 
+-- a direct transfer is no indirect one
 not_indirect : (f : Flow) → is_direct f ≡ true → is_indirect f ≡ false
 not_indirect Next e = absurd cc
 not_indirect Branch e = refl
@@ -61,7 +69,8 @@ not_indirect IndirectCall e = absurd cc
 not_indirect Stop e = absurd cc
 
 -- a direct transfer's mark is plain
-pub other_mark : (base limit : ℕ) (code : List ℕ) (marks : List Mark) (at : ℕ) (d : Mark) (r : HasReadAll code marks) → get_or marks at d ≢ Plain → GoesWellAt base limit r.pieces at
+pub other_mark : (base limit : ℕ) (code : List ℕ) (marks : List Mark) (at : ℕ) (d : Mark) (r : HasReadAll code marks)
+    → get_or marks at d ≢ Plain → GoesWellAt base limit r.pieces at
 other_mark base limit code marks at d r other before after p e here direct =
     absurd (other
     (ap (λ (k : ℕ). get_or marks k d) (sym here)
@@ -70,27 +79,32 @@ other_mark base limit code marks at d r other before after p e here direct =
     ∙ first_plain (is_indirect p.instr.flow) p.instr.reg (not_indirect p.instr.flow direct)))
 
 -- where nothing is read, nothing begins
-pub none_read : (base limit : ℕ) (code : List ℕ) (marks : List Mark) (at w : ℕ) (r : HasReadAll code marks) → w + at % 32 ≡ 32 → ((i : Instr) → IsAtFront (take w (drop at code)) i → ⊥) → GoesWellAt base limit r.pieces at
+pub none_read : (base limit : ℕ) (code : List ℕ) (marks : List Mark) (at w : ℕ) (r : HasReadAll code marks) → w + at % 32 ≡ 32
+    → ((i : Instr) → IsAtFront (take w (drop at code)) i → ⊥) → GoesWellAt base limit r.pieces at
 none_read base limit code marks at w r w-is none before after p e here direct =
     absurd (none p.instr (front_at code marks at w r before after p e here w-is))
 
 -- ---- what is read there
 
 -- it goes well where it is no direct transfer, or has a good target
-pub good_at : (base limit : ℕ) (code : List ℕ) (marks : List Mark) (at w : ℕ) (i : Instr) (r : HasReadAll code marks) → w + at % 32 ≡ 32 → IsAtFront (take w (drop at code)) i → (IsTrue (is_direct i.flow) → IsTarget base limit r.pieces (target i (base + at)))
+pub good_at : (base limit : ℕ) (code : List ℕ) (marks : List Mark) (at w : ℕ) (i : Instr) (r : HasReadAll code marks) → w + at % 32 ≡ 32
+    → IsAtFront (take w (drop at code)) i → (IsTrue (is_direct i.flow) → IsTarget base limit r.pieces (target i (base + at)))
     → GoesWellAt base limit r.pieces at
 good_at base limit code marks at w i r w-is f good before after p e here direct =
     let same : i ≡ p.instr = one_at_front (take w (drop at code)) i p.instr f (front_at code marks at w r before after p e here w-is) in
     subst (λ (j : Instr). IsTrue (is_direct j.flow) → IsTarget base limit r.pieces (target j (base + at))) same good direct
 
 -- and astray otherwise
-pub astray_at : (base limit : ℕ) (code : List ℕ) (marks : List Mark) (at w : ℕ) (d : Mark) (i : Instr) (r : HasReadAll code marks) → w + at % 32 ≡ 32 → at < length marks → get_or marks at d ≡ Plain → IsAtFront (take w (drop at code)) i → IsTrue (is_direct i.flow)
+pub astray_at : (base limit : ℕ) (code : List ℕ) (marks : List Mark) (at w : ℕ) (d : Mark) (i : Instr) (r : HasReadAll code marks)
+    → w + at % 32 ≡ 32 → at < length marks → get_or marks at d ≡ Plain → IsAtFront (take w (drop at code)) i → IsTrue (is_direct i.flow)
     → (IsTarget base limit r.pieces (target i (base + at)) → ⊥) → GoesAstrayAt base limit r.pieces at
 astray_at base limit code marks at w d i r w-is lt plain f direct bad =
     let in_marks : at < length (marks_of r.pieces) = omega (arith, lt, ap (λ (z : List Mark). length z) r.marks_are) in
-    let plain_there : get_or (marks_of r.pieces) at Unmarked ≡ Plain = ap (λ (z : List Mark). get_or z at Unmarked) (sym r.marks_are) ∙ get_or_default marks at Unmarked d lt ∙ plain in
+    let plain_there : get_or (marks_of r.pieces) at Unmarked ≡ Plain = ap (λ (z : List Mark). get_or z at Unmarked) (sym r.marks_are)
+    ∙ get_or_default marks at Unmarked d lt ∙ plain in
     let b = marked r.pieces r.sound.spelled at Plain in_marks plain_there (λ e. cc) in
-    let same : i ≡ b.piece.instr = one_at_front (take w (drop at code)) i b.piece.instr f (front_at code marks at w r b.before b.after b.piece b.parts b.here w-is) in
+    let same : i ≡ b.piece.instr = one_at_front (take w (drop at code)) i b.piece.instr f
+    (front_at code marks at w r b.before b.after b.piece b.parts b.here w-is) in
     record {
       before = b.before;
       after = b.after;
@@ -108,7 +122,8 @@ pub judged_none : (base limit : ℕ) (code : List ℕ) (marks : List Mark) → H
 judged_none base limit code marks r = record { read = r; good = λ k lt. absurd (omega (arith, lt)) }
 
 -- one more place is judged
-pub judged_more : (base limit : ℕ) (code : List ℕ) (marks : List Mark) (at : ℕ) (h : HasJudged base limit code marks at) → GoesWellAt base limit h.read.pieces at → HasJudged base limit code marks (at + 1)
+pub judged_more : (base limit : ℕ) (code : List ℕ) (marks : List Mark) (at : ℕ) (h : HasJudged base limit code marks at)
+    → GoesWellAt base limit h.read.pieces at → HasJudged base limit code marks (at + 1)
 judged_more base limit code marks at h well = record {
   read = h.read;
   good = λ k lt. elim (eq-or-lt_of_le {n = k} {m = at} (omega (arith, lt))) [
@@ -118,14 +133,16 @@ judged_more base limit code marks at h well = record {
 }
 
 -- an instruction before another begins at a lower place
-lower : (pieces before b a after : List Piece) (p q : Piece) → AreSpelled pieces → pieces ≡ before ++ q ∷ after → before ≡ b ++ p ∷ a → (pieces ≡ b ++ p ∷ (a ++ q ∷ after)) × (place b < place before)
+lower : (pieces before b a after : List Piece) (p q : Piece) → AreSpelled pieces → pieces ≡ before ++ q ∷ after → before ≡ b ++ p ∷ a
+    → (pieces ≡ b ++ p ∷ (a ++ q ∷ after)) × (place b < place before)
 lower pieces before b a after p q s e f =
     let parts : pieces ≡ b ++ p ∷ (a ++ q ∷ after) = e ∙ ap (λ (z : List Piece). z ++ q ∷ after) f ∙ append_assoc b (p ∷ a) (q ∷ after) in
     let one = piece_some pieces b (a ++ q ∷ after) p s parts in
     (parts, omega (arith, one.0, one.1, ap (λ (z : List Piece). place z) f, place-append b (p ∷ a), length-append p.bytes (code_of a)))
 
 -- the first that goes astray
-pub mistargeted : (base limit : ℕ) (code : List ℕ) (marks : List Mark) (at : ℕ) (h : HasJudged base limit code marks at) → GoesAstrayAt base limit h.read.pieces at → IsMistargeted base limit code (base + at)
+pub mistargeted : (base limit : ℕ) (code : List ℕ) (marks : List Mark) (at : ℕ) (h : HasJudged base limit code marks at)
+    → GoesAstrayAt base limit h.read.pieces at → IsMistargeted base limit code (base + at)
 mistargeted base limit code marks at h g = record {
   before = g.before;
   piece = g.piece;
@@ -144,11 +161,21 @@ mistargeted base limit code marks at h g = record {
 }
 
 -- all have been judged
-pub judged_all : (base limit : ℕ) (code : List ℕ) (marks : List Mark) (at : ℕ) → HasJudged base limit code marks at → length code ≤ at → HasJudgedAll base limit code marks
+pub judged_all : (base limit : ℕ) (code : List ℕ) (marks : List Mark) (at : ℕ) → HasJudged base limit code marks at → length code ≤ at
+    → HasJudgedAll base limit code marks
 judged_all base limit code marks at h end = record {
   read = h.read;
   targets = λ before after p e direct. (
       let one = piece_some h.read.pieces before after p h.read.sound.spelled e in
       let whole = ap (λ (z : List ℕ). length z) (code_at code h.read.pieces before after p h.read.parts e) in
-      h.good (place before) (omega (arith, one.0, one.1, whole, end, length-append (code_of before) (p.bytes ++ code_of after), length-append p.bytes (code_of after))) before after p e refl direct);
+      h.good (place before) (omega (
+        arith,
+        one.0,
+        one.1,
+        whole,
+        end,
+        length-append (code_of before) (p.bytes ++ code_of after),
+        length-append p.bytes
+            (code_of after),
+      )) before after p e refl direct);
 }

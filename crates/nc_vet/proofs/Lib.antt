@@ -12,3 +12,4 @@ pub mod LaneBits
 pub mod RunStates
 pub mod BitPlaces
 pub mod BitReading
+pub mod Offered

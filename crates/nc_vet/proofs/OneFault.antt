@@ -4,16 +4,18 @@ use Rattle.std.proofs.lemmas.List.{length-append}
 use Rattle.nc_decode.specs.declared.instruction.Mark.{Mark}
 use Rattle.nc_decode.specs.Transfers.{target}
 use Rattle.nc_vet.specs.declared.fault.VetFault.{VetFault}
-use Rattle.nc_vet.specs.declared.fault.VetFault.TheVariants.{BadBase, BadLength, OutOfRange, NotPermitted, Crosses, Bare, BadTarget, OutOfMemory}
+use Rattle.nc_vet.specs.declared.fault.VetFault.TheVariants.{BadBase, BadLength, OutOfRange, NotPermitted, Crosses, Bare, BadTarget}
+use Rattle.nc_vet.specs.declared.fault.VetFault.TheVariants.{OutOfMemory}
 use Rattle.nc_vet.specs.Chunk.{Piece, code_of, place, IsBase, IsLength, IsInRange, IsTarget, MarkedChunk, IsValid}
 use Rattle.nc_vet.specs.Faults.{IsStuck, IsMistargeted, HasGoodSpan, HasSpanFault, HasFault}
-use Rattle.nc_vet.specs.Steps.{EndsReading, HasJudgedAll}
+use Rattle.nc_vet.specs.machinery.Steps.{EndsReading, HasJudgedAll}
 use Rattle.nc_vet.proofs.OneReading.{same_pieces}
 
 -- ---- what the parts of the vetting find
 
 -- the fault of base, length and limit is the chunk's
-pub span_fault : (base limit : ℕ) (code : List ℕ) (fault : VetFault) → HasSpanFault base limit (length code) fault → HasFault base limit code fault
+pub span_fault : (base limit : ℕ) (code : List ℕ) (fault : VetFault) → HasSpanFault base limit (length code) fault
+    → HasFault base limit code fault
 span_fault base limit code BadBase f = f
 span_fault base limit code BadLength f = f
 span_fault base limit code OutOfRange f = f
@@ -24,7 +26,8 @@ span_fault base limit code (BadTarget at) f = absurd f
 span_fault base limit code OutOfMemory f = absurd f
 
 -- so is the fault that ended the reading
-pub read_fault : (base limit : ℕ) (code : List ℕ) (fault : VetFault) → HasGoodSpan base limit (length code) → EndsReading base code fault → HasFault base limit code fault
+pub read_fault : (base limit : ℕ) (code : List ℕ) (fault : VetFault) → HasGoodSpan base limit (length code) → EndsReading base code fault
+    → HasFault base limit code fault
 read_fault base limit code BadBase g e = absurd e.why
 read_fault base limit code BadLength g e = absurd e.why
 read_fault base limit code OutOfRange g e = absurd e.why
@@ -35,11 +38,12 @@ read_fault base limit code (BadTarget at) g e = absurd e.why
 read_fault base limit code OutOfMemory g e = g
 
 -- a chunk that was read and judged is valid
-pub judged_valid : (base limit : ℕ) (code : List ℕ) (marks : List Mark) → HasGoodSpan base limit (length code) → HasJudgedAll base limit code marks → IsValid (record { base = base; limit = limit; code = code; marks = marks })
+pub judged_valid : (base limit : ℕ) (code : List ℕ) (marks : List Mark) → HasGoodSpan base limit (length code)
+    → HasJudgedAll base limit code marks → IsValid (record { base = base; limit = limit; code = code; marks = marks })
 judged_valid base limit code marks g h = record {
-  base_is = g.base_is;
-  length_is = g.length_is;
-  range = g.range;
+  base_is = (g.start, g.low);
+  length_is = (g.some, g.whole);
+  range = (g.lawful, g.high);
   pieces = h.read.pieces;
   parts = h.read.parts;
   sound = h.read.sound;
@@ -55,7 +59,14 @@ not_stuck c fault v s =
     let long = s.longest v.pieces [] (record { parts = v.parts ∙ sym (append-nil (code_of v.pieces)); sound = v.sound }) in
     s.some
     (none s.rest
-    (omega (arith, long, ap (λ (z : List ℕ). length z) v.parts, ap (λ (z : List ℕ). length z) s.reads.parts, length-append (code_of s.front) s.rest)))
+    (omega (
+      arith,
+      long,
+      ap (λ (z : List ℕ). length z) v.parts,
+      ap (λ (z : List ℕ). length z) s.reads.parts,
+      length-append
+          (code_of s.front) s.rest,
+    )))
   where
     none : (xs : List ℕ) → length xs ≡ 0 → xs ≡ []
     none [] e = refl
@@ -64,12 +75,15 @@ not_stuck c fault v s =
 -- a valid chunk's transfers have good targets
 not_mistargeted : (c : MarkedChunk) (at : ℕ) → IsValid c → IsMistargeted c.base c.limit c.code at → ⊥
 not_mistargeted c at v m =
-    let same : v.pieces ≡ m.before ++ m.piece ∷ m.after = same_pieces v.pieces (m.before ++ m.piece ∷ m.after) v.sound.spelled m.sound.spelled (sym v.parts ∙ m.parts) in
+    let same : v.pieces ≡ m.before ++ m.piece ∷ m.after = same_pieces v.pieces
+    (m.before ++ m.piece ∷ m.after) v.sound.spelled m.sound.spelled (sym v.parts ∙ m.parts) in
     m.bad
-    (subst (λ (z : List Piece). IsTarget c.base c.limit z (target m.piece.instr (c.base + place m.before))) same (v.targets m.before m.after m.piece same m.direct))
+    (subst (λ (z : List Piece). IsTarget c.base c.limit z (target m.piece.instr (c.base + place m.before))) same
+    (v.targets m.before m.after m.piece same m.direct))
 
--- a valid chunk is refused for want of memory alone
-pub none_valid : (base limit : ℕ) (code : List ℕ) (marks : List Mark) (fault : VetFault) → IsValid (record { base = base; limit = limit; code = code; marks = marks }) → HasFault base limit code fault → fault ≡ OutOfMemory
+-- a valid chunk is refused only for lack of memory
+pub none_valid : (base limit : ℕ) (code : List ℕ) (marks : List Mark) (fault : VetFault)
+    → IsValid (record { base = base; limit = limit; code = code; marks = marks }) → HasFault base limit code fault → fault ≡ OutOfMemory
 none_valid base limit code marks BadBase v f = absurd (f v.base_is)
 none_valid base limit code marks BadLength v f = absurd (f.1 v.length_is)
 none_valid base limit code marks OutOfRange v f = absurd (f.2 v.range)
@@ -81,18 +95,22 @@ none_valid base limit code marks OutOfMemory v f = refl
 
 -- ---- the first three faults are given exactly when they are due
 
+-- a fault is one of the three exactly when it is due
 pub record AreDue (base limit len : ℕ) (fault : VetFault) : Type 0 where
   pub bad_base : (fault ≡ BadBase) ↔ ¬ IsBase base
   pub bad_length : (fault ≡ BadLength) ↔ (IsBase base × ¬ IsLength len)
   pub out_of_range : (fault ≡ OutOfRange) ↔ (IsBase base × IsLength len × ¬ IsInRange base limit len)
 
-none_due : (base limit len : ℕ) (fault : VetFault) → HasGoodSpan base limit len → fault ≢ BadBase → fault ≢ BadLength → fault ≢ OutOfRange → AreDue base limit len fault
+-- any other fault comes only where the span is good
+none_due : (base limit len : ℕ) (fault : VetFault) → HasGoodSpan base limit len → fault ≢ BadBase → fault ≢ BadLength → fault ≢ OutOfRange
+    → AreDue base limit len fault
 none_due base limit len fault g a b c = record {
-  bad_base = (λ e. absurd (a e), λ n. absurd (n g.base_is));
-  bad_length = (λ e. absurd (b e), λ n. absurd (n.1 g.length_is));
-  out_of_range = (λ e. absurd (c e), λ n. absurd (n.2 g.range));
+  bad_base = (λ e. absurd (a e), λ n. absurd (n (g.start, g.low)));
+  bad_length = (λ e. absurd (b e), λ n. absurd (n.1 (g.some, g.whole)));
+  out_of_range = (λ e. absurd (c e), λ n. absurd (n.2 (g.lawful, g.high)));
 }
 
+-- so it is of each fault of a chunk
 pub due : (base limit : ℕ) (code : List ℕ) (fault : VetFault) → HasFault base limit code fault → AreDue base limit (length code) fault
 due base limit code BadBase f = record {
   bad_base = (λ e. f, λ n. refl);

@@ -1,20 +1,23 @@
--- A chunk has one verdict: at most one fault beside want of memory, and one list of marks.
-use Rattle.std.proofs.Common.{◌≡◌, ℕ, ◌+◌, List, [], ◌∷◌, ◌++◌, length, refl, sym, subst, ◌∙◌, ap, arith, inl, inr, append-nil, append_assoc}
+-- A chunk has one verdict: at most one fault besides lack of memory, and one list of marks.
+use Rattle.std.proofs.Common.{◌≡◌, ℕ, ◌+◌, List, [], ◌∷◌, ◌++◌, length, refl, sym, subst, ◌∙◌, ap, arith, inl, inr, append-nil}
+use Rattle.std.proofs.Common.{append_assoc}
 use Rattle.std.proofs.lemmas.List.{length-append, append_cancel_left}
 use Rattle.nc_decode.specs.Transfers.{target}
 use Rattle.nc_vet.specs.declared.fault.VetFault.{VetFault}
-use Rattle.nc_vet.specs.declared.fault.VetFault.TheVariants.{BadBase, BadLength, OutOfRange, NotPermitted, Crosses, Bare, BadTarget, OutOfMemory}
+use Rattle.nc_vet.specs.declared.fault.VetFault.TheVariants.{BadBase, BadLength, OutOfRange, NotPermitted, Crosses, Bare, BadTarget}
+use Rattle.nc_vet.specs.declared.fault.VetFault.TheVariants.{OutOfMemory}
 use Rattle.nc_vet.specs.Chunk.{Piece, code_of, place, marks_of, AreSpelled, IsTarget}
-use Rattle.nc_vet.specs.Faults.{IsSoundFront, IsStuck, StandsBehind, IsMistargeted}
+use Rattle.nc_vet.specs.Faults.{IsSoundFront, IsStuck, StandsAfter, IsMistargeted}
 use Rattle.nc_vet.specs.Laws.{HasOneFault, HasOneReading}
 use Rattle.nc_vet.proofs.Splits.{split_two}
 use Rattle.nc_vet.proofs.Pieces.{place-append}
-use Rattle.nc_vet.proofs.OneReading.{agree, none_behind, same_pieces}
+use Rattle.nc_vet.proofs.OneReading.{agree, none_after, same_pieces}
 use Rattle.nc_vet.proofs.Stuck.{none_cut}
 use Rattle.nc_vet.proofs.OneFault.{due}
 
 -- the longest sound fronts of one code are the same
-same_front : (code rest others : List ℕ) (front other : List Piece) → IsSoundFront code rest front → IsSoundFront code others other → place front ≡ place other → (front ≡ other) × (rest ≡ others)
+same_front : (code rest others : List ℕ) (front other : List Piece) → IsSoundFront code rest front → IsSoundFront code others other
+    → place front ≡ place other → (front ≡ other) × (rest ≡ others)
 same_front code rest others front other s t e =
     let same : front ≡ other = elim (agree front other rest others s.sound.spelled t.sound.spelled (sym s.parts ∙ t.parts)) [
       | inl on ↦ sym (all front other on.more t.sound.spelled on.parts (sym e))
@@ -25,45 +28,57 @@ same_front code rest others front other s t e =
     all : (us vs more : List Piece) → AreSpelled vs → vs ≡ us ++ more → place vs ≡ place us → vs ≡ us
     all us vs more spelled f g =
         f ∙ ap (λ (z : List Piece). us ++ z)
-        (none_behind more (λ before after p h. spelled (us ++ before) after p (f ∙ ap (λ (z : List Piece). us ++ z) h ∙ sym (append_assoc us before (p ∷ after))))
+        (none_after more (λ before after p h. spelled (us ++ before) after p
+        (f ∙ ap (λ (z : List Piece). us ++ z) h ∙ sym (append_assoc us before (p ∷ after))))
         (omega (arith, g, ap (λ (z : List Piece). place z) f, place-append us more)))
         ∙ append-nil us
 
--- one thing stands behind a front
-one_behind : (base : ℕ) (front : List Piece) (rest : List ℕ) (f g : VetFault) → StandsBehind base front rest f → StandsBehind base front rest g → f ≡ g
-one_behind base front rest (Bare a) (Bare b) s t = ap (λ (k : ℕ). Bare k) (s.0 ∙ sym t.0)
-one_behind base front rest (Bare a) (Crosses b) s t = absurd (none_cut _ s.1.0 s.1.1 t.1)
-one_behind base front rest (Bare a) (NotPermitted b) s t = absurd (t.1 s.1.0 s.1.1)
-one_behind base front rest (Crosses a) (Bare b) s t = absurd (none_cut _ t.1.0 t.1.1 s.1)
-one_behind base front rest (Crosses a) (Crosses b) s t = ap (λ (k : ℕ). Crosses k) (s.0 ∙ sym t.0)
-one_behind base front rest (Crosses a) (NotPermitted b) s t = absurd (t.2 s.1)
-one_behind base front rest (NotPermitted a) (Bare b) s t = absurd (s.1 t.1.0 t.1.1)
-one_behind base front rest (NotPermitted a) (Crosses b) s t = absurd (s.2 t.1)
-one_behind base front rest (NotPermitted a) (NotPermitted b) s t = ap (λ (k : ℕ). NotPermitted k) (s.0 ∙ sym t.0)
-one_behind base front rest BadBase g s t = absurd s
-one_behind base front rest BadLength g s t = absurd s
-one_behind base front rest OutOfRange g s t = absurd s
-one_behind base front rest (BadTarget a) g s t = absurd s
-one_behind base front rest OutOfMemory g s t = absurd s
-one_behind base front rest f BadBase s t = absurd t
-one_behind base front rest f BadLength s t = absurd t
-one_behind base front rest f OutOfRange s t = absurd t
-one_behind base front rest f (BadTarget b) s t = absurd t
-one_behind base front rest f OutOfMemory s t = absurd t
+-- one thing stands after a front
+one_after : (base : ℕ) (front : List Piece) (rest : List ℕ) (f g : VetFault) → StandsAfter base front rest f
+    → StandsAfter base front rest g → f ≡ g
+one_after base front rest (Bare a) (Bare b) s t = ap (λ (k : ℕ). Bare k) (s.0 ∙ sym t.0)
+one_after base front rest (Bare a) (Crosses b) s t = absurd (none_cut _ s.1.0 s.1.1 t.1)
+one_after base front rest (Bare a) (NotPermitted b) s t = absurd (t.1 s.1.0 s.1.1)
+one_after base front rest (Crosses a) (Bare b) s t = absurd (none_cut _ t.1.0 t.1.1 s.1)
+one_after base front rest (Crosses a) (Crosses b) s t = ap (λ (k : ℕ). Crosses k) (s.0 ∙ sym t.0)
+one_after base front rest (Crosses a) (NotPermitted b) s t = absurd (t.2 s.1)
+one_after base front rest (NotPermitted a) (Bare b) s t = absurd (s.1 t.1.0 t.1.1)
+one_after base front rest (NotPermitted a) (Crosses b) s t = absurd (s.2 t.1)
+one_after base front rest (NotPermitted a) (NotPermitted b) s t = ap (λ (k : ℕ). NotPermitted k) (s.0 ∙ sym t.0)
+one_after base front rest BadBase g s t = absurd s
+one_after base front rest BadLength g s t = absurd s
+one_after base front rest OutOfRange g s t = absurd s
+one_after base front rest (BadTarget a) g s t = absurd s
+one_after base front rest OutOfMemory g s t = absurd s
+one_after base front rest f BadBase s t = absurd t
+one_after base front rest f BadLength s t = absurd t
+one_after base front rest f OutOfRange s t = absurd t
+one_after base front rest f (BadTarget b) s t = absurd t
+one_after base front rest f OutOfMemory s t = absurd t
 
+-- a code is stuck with one fault
 same_stuck : (base : ℕ) (code : List ℕ) (f g : VetFault) → IsStuck base code f → IsStuck base code g → f ≡ g
 same_stuck base code f g s t =
     let long = s.longest t.front t.rest t.reads in
     let short = t.longest s.front s.rest s.reads in
     let same = same_front code s.rest t.rest s.front t.front s.reads t.reads (omega (arith, long, short)) in
-    one_behind base t.front t.rest f g (subst (λ (z : List ℕ). StandsBehind base t.front z f) same.1 (subst (λ (z : List Piece). StandsBehind base z s.rest f) same.0 s.why)) t.why
+    one_after base t.front t.rest f g (subst (λ (z : List ℕ). StandsAfter base t.front z f) same.1
+    (subst (λ (z : List Piece). StandsAfter base z s.rest f) same.0 s.why)) t.why
 
 -- a code that is all sound isn't stuck
 stuck_or_sound : (base limit at : ℕ) (code : List ℕ) (f : VetFault) → IsStuck base code f → IsMistargeted base limit code at → ⊥
 stuck_or_sound base limit at code f s m =
     let pieces : List Piece = m.before ++ m.piece ∷ m.after in
-    let long = s.longest (m.before ++ m.piece ∷ m.after) [] (record { parts = m.parts ∙ sym (append-nil (code_of (m.before ++ m.piece ∷ m.after))); sound = m.sound }) in
-    s.some (none s.rest (omega (arith, long, ap (λ (z : List ℕ). length z) m.parts, ap (λ (z : List ℕ). length z) s.reads.parts, length-append (code_of s.front) s.rest)))
+    let long = s.longest (m.before ++ m.piece ∷ m.after) []
+    (record { parts = m.parts ∙ sym (append-nil (code_of (m.before ++ m.piece ∷ m.after))); sound = m.sound }) in
+    s.some (none s.rest (omega (
+      arith,
+      long,
+      ap (λ (z : List ℕ). length z) m.parts,
+      ap (λ (z : List ℕ). length z) s.reads.parts,
+      length-append
+          (code_of s.front) s.rest,
+    )))
   where
     none : (xs : List ℕ) → length xs ≡ 0 → xs ≡ []
     none [] e = refl
@@ -73,16 +88,19 @@ stuck_or_sound base limit at code f s m =
 same_transfer : (base limit : ℕ) (code : List ℕ) (a b : ℕ) → IsMistargeted base limit code a → IsMistargeted base limit code b → a ≡ b
 same_transfer base limit code a b m n =
     let same : m.before ++ m.piece ∷ m.after ≡ n.before ++ n.piece ∷ n.after
-    = same_pieces (m.before ++ m.piece ∷ m.after) (n.before ++ n.piece ∷ n.after) m.sound.spelled n.sound.spelled (sym m.parts ∙ n.parts) in
+    = same_pieces (m.before ++ m.piece ∷ m.after) (n.before ++ n.piece ∷ n.after) m.sound.spelled n.sound.spelled
+    (sym m.parts ∙ n.parts) in
     elim (split_two m.before m.after n.before n.after m.piece n.piece same) [
       | inl e ↦ m.here ∙ ap (λ (z : List Piece). base + place z) e ∙ sym n.here
       | inr (inl e) ↦
-          absurd (m.bad (subst (λ (z : List Piece). IsTarget base limit z (target m.piece.instr (base + place m.before))) (sym same) (n.least m.before e.0 m.piece e.1 m.direct)))
+          absurd (m.bad (subst (λ (z : List Piece). IsTarget base limit z (target m.piece.instr (base + place m.before))) (sym same)
+          (n.least m.before e.0 m.piece e.1 m.direct)))
       | inr (inr e) ↦
-          absurd (n.bad (subst (λ (z : List Piece). IsTarget base limit z (target n.piece.instr (base + place n.before))) same (m.least n.before e.0 n.piece e.1 n.direct)))
+          absurd (n.bad (subst (λ (z : List Piece). IsTarget base limit z (target n.piece.instr (base + place n.before))) same
+          (m.least n.before e.0 n.piece e.1 n.direct)))
     ]
 
--- a chunk has at most one fault beside want of memory
+-- a chunk has at most one fault besides lack of memory
 pub one_fault : HasOneFault
 one_fault base limit code BadBase g f h nf ng = sym ((due base limit code g h).bad_base.1 f)
 one_fault base limit code BadLength g f h nf ng = sym ((due base limit code g h).bad_length.1 f)

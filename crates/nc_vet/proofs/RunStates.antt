@@ -1,17 +1,20 @@
--- The states behind the bytes of bundles, one by one.
-use Rattle.std.proofs.Common.{◌≡◌, ◌≢◌, ℕ, zero, suc, ◌+◌, ◌-◌, ◌*◌, ◌/◌, ◌%◌, ◌^◌, ◌<◌, ◌≤◌, Bool, true, false, List, [], ◌∷◌, ◌++◌, length, take, drop, get_or, set, refl, sym, subst, ◌∙◌, ap, arith, inl, inr, ◌==◌, eqb-true, eq-eqb, leb-true, nat_le, replicate}
+-- The states after the bytes of bundles, one by one.
+use Rattle.std.proofs.Common.{◌≡◌, ◌≢◌, ℕ, zero, suc, ◌+◌, ◌-◌, ◌*◌, ◌/◌, ◌%◌, ◌^◌, ◌<◌, ◌≤◌, Bool, true, false, List, [], ◌∷◌, ◌++◌}
+use Rattle.std.proofs.Common.{length, take, drop, get_or, set, refl, sym, subst, ◌∙◌, ap, arith, inl, inr, ◌==◌, eqb-true, eq-eqb}
+use Rattle.std.proofs.Common.{leb-true, nat_le, replicate}
 use Rattle.std.specs.Prelude.{slice_set, slice_index}
 use Rattle.std.specs.Int.{bit_at, w32, leading_zeros}
 use Rattle.std.specs.Int.Count.{leading_of_zero}
 use Rattle.std.proofs.lemmas.Nat.{leading_top}
 use Rattle.std.proofs.Math.Nat.{div-eq_of_lt-le, pow-succ'}
 use Rattle.std.proofs.lemmas.Bool.{cases_lt, eqb-false}
-use Rattle.std.proofs.lemmas.List.{length-drop, length-take-le, take_more, get_or-take, get_or-drop, get_or-set_same, get_or-set_other, length-set, get_or_append_left, get_or-append_right, length-append}
+use Rattle.std.proofs.lemmas.List.{length-drop, length-take-le, take_more, get_or-take, get_or-drop, get_or-set_same, get_or-set_other}
+use Rattle.std.proofs.lemmas.List.{length-set, get_or_append_left, get_or-append_right, length-append}
 use Rattle.nc_decode.specs.Automaton.{next_state}
 use Rattle.nc_decode.proofs.Offered.{true_or_false}
 use Rattle.nc_vet.specs.declared.bundle.Bundle.{Bundle}
 use Rattle.nc_vet.specs.Bits.{no_bits}
-use Rattle.nc_vet.specs.Running.{run, state_after, before, TellsStates, entered, HasRun, Tells, AreTold, EndsFront}
+use Rattle.nc_vet.specs.machinery.Running.{run, state_after, before, TellsStates, entered, HasRun, Tells, AreTold, EndsFront}
 
 -- one more byte of a run
 run_more : (s : ℕ) (bs : List ℕ) (b : ℕ) → run s (bs ++ b ∷ []) ≡ next_state (run s bs) b
@@ -31,7 +34,8 @@ run_before code k = elim (true_or_false (k % 32 == 0)) [
 ]
 
 -- each state is the next
-pub state_next : (code : List ℕ) (k : ℕ) → k < length code → state_after code k ≡ next_state (before (state_after code) k) (get_or code k 0)
+pub state_next : (code : List ℕ) (k : ℕ) → k < length code → state_after code k ≡ next_state (before (state_after code) k)
+    (get_or code k 0)
 unfolding state_after
 state_next code k lt =
     let rest : List ℕ = drop (k - k % 32) code in
@@ -39,7 +43,8 @@ state_next code k lt =
     ap (λ (z : List ℕ). run 64 z) (take_more (drop (k - k % 32) code) (k % 32) 0 in_rest)
     ∙ run_more 64 (take (k % 32) (drop (k - k % 32) code)) (get_or (drop (k - k % 32) code) (k % 32) 0)
     ∙ ap (λ (s : ℕ). next_state s (get_or (drop (k - k % 32) code) (k % 32) 0)) (run_before code k)
-    ∙ ap (λ (b : ℕ). next_state (before (state_after code) k) b) (get_or-drop (k - k % 32) code (k % 32) 0 ∙ ap (λ (j : ℕ). get_or code j 0) (omega arith))
+    ∙ ap (λ (b : ℕ). next_state (before (state_after code) k) b)
+    (get_or-drop (k - k % 32) code (k % 32) 0 ∙ ap (λ (j : ℕ). get_or code j 0) (omega arith))
 
 -- ---- a lane
 
@@ -67,7 +72,8 @@ pub run_begun : (code : List ℕ) (at : ℕ) → HasRun code at 0 64 (replicate 
 run_begun code at = record { now = refl; each = λ k lt. absurd (omega (arith, lt)); long = refl; small = omega arith }
 
 -- one more byte
-pub run_on : (code : List ℕ) (at i state byte : ℕ) (states : List ℕ) → at % 32 ≡ 0 → i < 32 → at + i < length code → HasRun code at i state states → byte ≡ get_or code (at + i) 0 → next_state state byte < 75
+pub run_on : (code : List ℕ) (at i state byte : ℕ) (states : List ℕ) → at % 32 ≡ 0 → i < 32 → at + i < length code
+    → HasRun code at i state states → byte ≡ get_or code (at + i) 0 → next_state state byte < 75
     → HasRun code at (i + 1) (next_state state byte) (slice_set states i (next_state state byte))
 run_on code at i state byte states start lt in_code h is small =
     let next : next_state state byte ≡ state_after code (at + i) =
@@ -80,7 +86,9 @@ run_on code at i state byte states start lt in_code h is small =
         | inl earlier ↦ get_or-set_other states i k (next_state state byte) 0 (λ e. omega (arith, e, earlier)) ∙ h.each k earlier
         | inr here ↦
             (let same : k ≡ i = omega (arith, here, k-lt) in
-            ap (λ (j : ℕ). get_or (set states i (next_state state byte)) j 0) same ∙ get_or-set_same states i (next_state state byte) 0 (omega (arith, h.long, lt)) ∙ next ∙ ap (λ (j : ℕ). state_after code (at + j)) (sym same))
+            ap (λ (j : ℕ). get_or (set states i (next_state state byte)) j 0) same
+            ∙ get_or-set_same states i (next_state state byte) 0 (omega (arith, h.long, lt)) ∙ next
+            ∙ ap (λ (j : ℕ). state_after code (at + j)) (sym same))
       ];
       long = length-set states i (next_state state byte) ∙ h.long;
       small = small;
@@ -93,14 +101,17 @@ run_on code at i state byte states start lt in_code h is small =
     ]
 
 -- the same of what a step has left
-pub run_stepped : (code : List ℕ) (at i state byte after : ℕ) (states more : List ℕ) → at % 32 ≡ 0 → i < 32 → at + i < length code → HasRun code at i state states → byte ≡ get_or code (at + i) 0
+pub run_stepped : (code : List ℕ) (at i state byte after : ℕ) (states more : List ℕ) → at % 32 ≡ 0 → i < 32 → at + i < length code
+    → HasRun code at i state states → byte ≡ get_or code (at + i) 0
     → after ≡ next_state state byte → more ≡ slice_set states i (next_state state byte) → after < 75 → HasRun code at (i + 1) after more
 run_stepped code at i state byte after states more start lt in_code h is to set_is small =
     let w = run_on code at i state byte states start lt in_code h is (omega (arith, to, small)) in
-    subst (λ (z : List ℕ). HasRun code at (i + 1) after z) (sym set_is) (subst (λ (s : ℕ). HasRun code at (i + 1) s (slice_set states i (next_state state byte))) (sym to) w)
+    subst (λ (z : List ℕ). HasRun code at (i + 1) after z) (sym set_is)
+    (subst (λ (s : ℕ). HasRun code at (i + 1) s (slice_set states i (next_state state byte))) (sym to) w)
 
 -- all of a bundle
-pub run_told : (code : List ℕ) (at i state : ℕ) (states : List ℕ) (w : Bundle) → i ≡ 32 → HasRun code at i state states → TellsStates states w → Tells code at w
+pub run_told : (code : List ℕ) (at i state : ℕ) (states : List ℕ) (w : Bundle) → i ≡ 32 → HasRun code at i state states
+    → TellsStates states w → Tells code at w
 run_told code at i state states w end h t = record {
   ends = λ k lt. t.ends k lt ∙ ap (λ (s : ℕ). nat_le 64 s) (h.each k (omega (arith, lt, end)));
   pairs = λ k lt. t.pairs k lt ∙ ap (λ (s : ℕ). s == 74) (h.each k (omega (arith, lt, end)));
@@ -114,27 +125,37 @@ pub moved : (code : List ℕ) (j k : ℕ) (w : Bundle) → j ≡ k → Tells cod
 moved code j k w e i = subst (λ (m : ℕ). Tells code m w) e i
 
 -- eight bundles
-pub eight_told : (code : List ℕ) (at : ℕ) (a b c d e f g h : Bundle) → Tells code at a → Tells code (at + 32) b → Tells code (at + 64) c → Tells code (at + 96) d
+pub eight_told : (code : List ℕ) (at : ℕ) (a b c d e f g h : Bundle) → Tells code at a → Tells code (at + 32) b → Tells code (at + 64) c
+    → Tells code (at + 96) d
     → Tells code (at + 128) e → Tells code (at + 160) f → Tells code (at + 192) g → Tells code (at + 224) h
     → (n : ℕ) → n < 8 → Tells code (at + 32 * n) (get_or (a ∷ b ∷ c ∷ d ∷ e ∷ f ∷ g ∷ h ∷ []) n no_bits)
 eight_told code at a b c d e f g h p q r s t u v w zero lt = moved code at (at + 32 * zero) a (omega arith) p
 eight_told code at a b c d e f g h p q r s t u v w (suc zero) lt = moved code (at + 32) (at + 32 * suc zero) b (omega arith) q
 eight_told code at a b c d e f g h p q r s t u v w (suc (suc zero)) lt = moved code (at + 64) (at + 32 * suc (suc zero)) c (omega arith) r
-eight_told code at a b c d e f g h p q r s t u v w (suc (suc (suc zero))) lt = moved code (at + 96) (at + 32 * suc (suc (suc zero))) d (omega arith) s
-eight_told code at a b c d e f g h p q r s t u v w (suc (suc (suc (suc zero)))) lt = moved code (at + 128) (at + 32 * suc (suc (suc (suc zero)))) e (omega arith) t
-eight_told code at a b c d e f g h p q r s t u v w (suc (suc (suc (suc (suc zero))))) lt = moved code (at + 160) (at + 32 * suc (suc (suc (suc (suc zero))))) f (omega arith) u
-eight_told code at a b c d e f g h p q r s t u v w (suc (suc (suc (suc (suc (suc zero)))))) lt = moved code (at + 192) (at + 32 * suc (suc (suc (suc (suc (suc zero)))))) g (omega arith) v
-eight_told code at a b c d e f g h p q r s t u v w (suc (suc (suc (suc (suc (suc (suc zero))))))) lt = moved code (at + 224) (at + 32 * suc (suc (suc (suc (suc (suc (suc zero))))))) h (omega arith) w
+eight_told code at a b c d e f g h p q r s t u v w (suc (suc (suc zero))) lt = moved code (at + 96) (at + 32 * suc (suc (suc zero))) d
+    (omega arith) s
+eight_told code at a b c d e f g h p q r s t u v w (suc (suc (suc (suc zero)))) lt = moved code (at + 128)
+    (at + 32 * suc (suc (suc (suc zero)))) e (omega arith) t
+eight_told code at a b c d e f g h p q r s t u v w (suc (suc (suc (suc (suc zero))))) lt = moved code (at + 160)
+    (at + 32 * suc (suc (suc (suc (suc zero))))) f (omega arith) u
+eight_told code at a b c d e f g h p q r s t u v w (suc (suc (suc (suc (suc (suc zero)))))) lt = moved code (at + 192)
+    (at + 32 * suc (suc (suc (suc (suc (suc zero)))))) g (omega arith) v
+eight_told code at a b c d e f g h p q r s t u v w (suc (suc (suc (suc (suc (suc (suc zero))))))) lt = moved code (at + 224)
+    (at + 32 * suc (suc (suc (suc (suc (suc (suc zero))))))) h (omega arith) w
 eight_told code at a b c d e f g h p q r s t u v w (suc (suc (suc (suc (suc (suc (suc (suc n)))))))) lt = absurd (omega (arith, lt))
 
 -- four bundles, of which those in the code are looked at
 pub four_told : (code : List ℕ) (at : ℕ) (v w x y : Bundle) → Tells code at v
-    → (at + 32 < length code → Tells code (at + 32) w) → (at + 64 < length code → Tells code (at + 64) x) → (at + 96 < length code → Tells code (at + 96) y)
+    → (at + 32 < length code → Tells code (at + 32) w) → (at + 64 < length code → Tells code (at + 64) x)
+    → (at + 96 < length code → Tells code (at + 96) y)
     → (n : ℕ) → n < 4 → at + 32 * n < length code → Tells code (at + 32 * n) (get_or (v ∷ w ∷ x ∷ y ∷ []) n no_bits)
 four_told code at v w x y p q r s zero lt in_code = moved code at (at + 32 * zero) v (omega arith) p
-four_told code at v w x y p q r s (suc zero) lt in_code = moved code (at + 32) (at + 32 * suc zero) w (omega arith) (q (omega (arith, in_code)))
-four_told code at v w x y p q r s (suc (suc zero)) lt in_code = moved code (at + 64) (at + 32 * suc (suc zero)) x (omega arith) (r (omega (arith, in_code)))
-four_told code at v w x y p q r s (suc (suc (suc zero))) lt in_code = moved code (at + 96) (at + 32 * suc (suc (suc zero))) y (omega arith) (s (omega (arith, in_code)))
+four_told code at v w x y p q r s (suc zero) lt in_code = moved code (at + 32) (at + 32 * suc zero) w (omega arith)
+    (q (omega (arith, in_code)))
+four_told code at v w x y p q r s (suc (suc zero)) lt in_code = moved code (at + 64) (at + 32 * suc (suc zero)) x (omega arith)
+    (r (omega (arith, in_code)))
+four_told code at v w x y p q r s (suc (suc (suc zero))) lt in_code = moved code (at + 96) (at + 32 * suc (suc (suc zero))) y
+    (omega arith) (s (omega (arith, in_code)))
 four_told code at v w x y p q r s (suc (suc (suc (suc n)))) lt in_code = absurd (omega (arith, lt))
 
 -- ---- all bundles
@@ -144,31 +165,40 @@ whole_told : (code : List ℕ) (at : ℕ) (w : Bundle) → Tells code at w → b
 whole_told code at w t last = leb-true 64 (state_after code (at + 31)) (sym (t.ends 31 (omega arith)) ∙ eq-eqb (bit_at w.ends 31) 1 last)
 
 -- more bundles after those that were read, of which the first are whole
-pub told_more : (code : List ℕ) (bundles more items : List Bundle) (count : ℕ) → AreTold code bundles → items ≡ bundles ++ take count more → count ≤ length more
-    → ((n : ℕ) → n < count → Tells code (32 * length bundles + 32 * n) (get_or more n no_bits)) → ((n : ℕ) → n < count → bit_at (get_or more n no_bits).ends 31 ≡ 1)
+pub told_more : (code : List ℕ) (bundles more items : List Bundle) (count : ℕ) → AreTold code bundles → items ≡ bundles ++ take count more
+    → count ≤ length more
+    → ((n : ℕ) → n < count → Tells code (32 * length bundles + 32 * n) (get_or more n no_bits))
+    → ((n : ℕ) → n < count → bit_at (get_or more n no_bits).ends 31 ≡ 1)
     → AreTold code items × (length items ≡ length bundles + count)
-told_more code bundles more items count t is le f whole =
-    (subst (λ (z : List Bundle). AreTold code z) (sym is) all, ap (λ (z : List Bundle). length z) is ∙ length-append bundles (take count more) ∙ ap (λ (n : ℕ). length bundles + n) long)
+told_more code bundles more items count t is le f whole = (
+  subst (λ (z : List Bundle). AreTold code z) (sym is) all,
+  ap (λ (z : List Bundle). length z) is
+      ∙ length-append bundles (take count more) ∙ ap (λ (n : ℕ). length bundles + n) long,
+)
   where
     long : length (take count more) ≡ count
     long = length-take-le count more le
 
     all : AreTold code (bundles ++ take count more)
     all n lt = elim (cases_lt n (length bundles)) [
-      | inl earlier ↦ subst (λ (w : Bundle). Tells code (32 * n) w × (64 ≤ state_after code (32 * n + 31))) (sym (get_or_append_left bundles (take count more) no_bits n earlier)) (t n earlier)
+      | inl earlier ↦ subst (λ (w : Bundle). Tells code (32 * n) w × (64 ≤ state_after code (32 * n + 31)))
+          (sym (get_or_append_left bundles (take count more) no_bits n earlier)) (t n earlier)
       | inr later ↦
           (let m : ℕ = n - length bundles in
           let m-lt : n - length bundles < count = omega (arith, later, lt, long, length-append bundles (take count more)) in
           let here : 32 * length bundles + 32 * (n - length bundles) ≡ 32 * n = omega (arith, later) in
           let word : get_or (bundles ++ take count more) n no_bits ≡ get_or more (n - length bundles) no_bits =
-          get_or-append_right bundles (take count more) (length bundles) n no_bits refl later ∙ get_or-take count more (n - length bundles) no_bits m-lt in
-          let tells = moved code (32 * length bundles + 32 * (n - length bundles)) (32 * n) (get_or more (n - length bundles) no_bits) here (f (n - length bundles) m-lt) in
+          get_or-append_right bundles (take count more) (length bundles) n no_bits refl later
+          ∙ get_or-take count more (n - length bundles) no_bits m-lt in
+          let tells = moved code (32 * length bundles + 32 * (n - length bundles)) (32 * n)
+          (get_or more (n - length bundles) no_bits) here (f (n - length bundles) m-lt) in
           subst (λ (w : Bundle). Tells code (32 * n) w × (64 ≤ state_after code (32 * n + 31))) (sym word)
           (tells, whole_told code (32 * n) (get_or more (n - length bundles) no_bits) tells (whole (n - length bundles) m-lt)))
     ]
 
 -- where reading stops in a bundle
-pub stopped : (code : List ℕ) (bundles : List Bundle) (w : Bundle) (at end : ℕ) → AreTold code bundles → at ≡ 32 * length bundles → at + 32 ≤ length code → Tells code at w → at ≤ end → end ≤ at + 32
+pub stopped : (code : List ℕ) (bundles : List Bundle) (w : Bundle) (at end : ℕ) → AreTold code bundles → at ≡ 32 * length bundles
+    → at + 32 ≤ length code → Tells code at w → at ≤ end → end ≤ at + 32
     → (at < end → (bit_at w.ends (end - at - 1) ≡ 1) × (slice_index code (end - 1) ≢ 0xE0)) → EndsFront code bundles end
 stopped code bundles w at end told here room t low near ended = record {
   told = told;
@@ -179,14 +209,24 @@ stopped code bundles w at end told here room t low near ended = record {
       let e = ended (omega (arith, later, here)) in
       let k-lt : end - at - 1 < 32 = omega (arith, near, later, here) in (
         subst (λ (k : ℕ). 64 ≤ state_after code k) {x = at + (end - at - 1)} {y = end - 1} (omega (arith, later, here, low))
-            (leb-true 64 (state_after code (at + (end - at - 1))) (sym (t.ends (end - at - 1) k-lt) ∙ eq-eqb (bit_at w.ends (end - at - 1)) 1 e.0)),
+            (leb-true 64 (state_after code (at + (end - at - 1)))
+            (sym (t.ends (end - at - 1) k-lt) ∙ eq-eqb (bit_at w.ends (end - at - 1)) 1 e.0)),
         e.1,
       ));
 }
 
 -- all bundles are read
-pub all_read : (code : List ℕ) (bundles : List Bundle) (at : ℕ) → AreTold code bundles → at ≡ 32 * length bundles → at ≤ length code → EndsFront code bundles at
-all_read code bundles at told here high = record { told = told; low = omega (arith, here); near = omega (arith, here); high = high; ended = λ later. absurd (omega (arith, later, here)) }
+pub all_read : (code : List ℕ) (bundles : List Bundle) (at : ℕ) → AreTold code bundles → at ≡ 32 * length bundles → at ≤ length code
+    → EndsFront code bundles at
+all_read code bundles at told here high =
+    record {
+      told = told;
+      low = omega (arith, here);
+      near = omega (arith, here);
+      high = high;
+      ended = λ later. absurd
+          (omega (arith, later, here));
+    }
 
 -- the highest bit
 pub top_bit : (n len : ℕ) → n < 2 ^ 32 → len + leading_zeros w32 n ≡ 32 → len ≢ 0 → bit_at n (len - 1) ≡ 1
@@ -194,5 +234,6 @@ top_bit zero len fits is some = absurd (some (omega (arith, is, leading_of_zero 
 top_bit (suc m) len fits is some =
     let top = leading_top 32 (suc m) (omega arith) fits in
     let place : top.0 ≡ len - 1 = omega (arith, top.1, is) in
-    let one_is : suc m / 2 ^ top.0 ≡ 1 = div-eq_of_lt-le {k = 1} (2 ^ top.0) {m = suc m} (omega (arith, top.2)) (omega (arith, top.3, pow-succ' 2 top.0)) in
+    let one_is : suc m / 2 ^ top.0 ≡ 1 = div-eq_of_lt-le {k = 1} (2 ^ top.0) {m = suc m} (omega (arith, top.2))
+    (omega (arith, top.3, pow-succ' 2 top.0)) in
     ap (λ (k : ℕ). bit_at (suc m) k) (sym place) ∙ ap (λ (k : ℕ). k % 2) one_is

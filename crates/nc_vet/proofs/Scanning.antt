@@ -1,9 +1,12 @@
 -- A run of the automaton over whole bundles finds sound instructions.
-use Rattle.std.proofs.Common.{◌≡◌, ◌≢◌, ℕ, zero, suc, ◌+◌, ◌-◌, ◌%◌, ◌<◌, ◌≤◌, Bool, true, false, List, [], ◌∷◌, ◌++◌, length, take, drop, get_or, Option, Some, None, refl, sym, subst, ◌∙◌, ap, arith, inl, inr, append_assoc, ◌==◌, eqb-true, nat_lt, nat_le, All, le-leb, ltb-true, lt-ltb, leb-true, eq-eqb}
+use Rattle.std.proofs.Common.{◌≡◌, ◌≢◌, ℕ, zero, suc, ◌+◌, ◌-◌, ◌%◌, ◌<◌, ◌≤◌, Bool, true, false, List, [], ◌∷◌, ◌++◌, length, take}
+use Rattle.std.proofs.Common.{drop, get_or, Option, Some, None, refl, sym, subst, ◌∙◌, ap, arith, inl, inr, append_assoc, ◌==◌, eqb-true}
+use Rattle.std.proofs.Common.{nat_lt, nat_le, All, le-leb, ltb-true, lt-ltb, leb-true, eq-eqb}
 use Rattle.std.specs.Prelude.{IsTrue}
 use Rattle.std.specs.Int.{w8, w32, cast_signed, from_le_bytes}
 use Rattle.std.proofs.lemmas.Bool.{cases_lt, eqb-false}
-use Rattle.std.proofs.lemmas.List.{length-drop, length-take-le, take-append-drop, drop_more, get_or-take, get_or-drop, get_or_append_left, get_or-append_right, get_or-replicate}
+use Rattle.std.proofs.lemmas.List.{length-drop, length-take-le, take-append-drop, drop_more, get_or-take, get_or-drop}
+use Rattle.std.proofs.lemmas.List.{get_or_append_left, get_or-append_right, get_or-replicate}
 use Rattle.nc_decode.specs.declared.instruction.Instr.{Instr}
 use Rattle.nc_decode.specs.declared.instruction.Mark.{Mark}
 use Rattle.nc_decode.specs.declared.instruction.Mark.TheVariants.{Unmarked, Plain, After}
@@ -15,8 +18,8 @@ use Rattle.nc_decode.proofs.Offered.{reads_by_states, none_is_paired}
 use Rattle.nc_decode.proofs.Offered.{next_small}
 use Rattle.nc_vet.specs.Chunk.{Piece, code_of, place, FollowsMask, mark_of, instr_marks, marks_of}
 use Rattle.nc_vet.specs.Faults.{IsSoundFront}
-use Rattle.nc_vet.specs.Running.{before}
-use Rattle.nc_vet.specs.Scans.{AreStates, second, mark_by, IsDisplaced, Scans}
+use Rattle.nc_vet.specs.machinery.Running.{before}
+use Rattle.nc_vet.specs.machinery.Scans.{AreStates, second, mark_by, IsDisplaced, Scans}
 use Rattle.nc_vet.proofs.Splits.{split_none, split_push}
 use Rattle.nc_vet.proofs.Pieces.{code_of-push, place-push, marks_of-push, length-marks_of, none_sound, sound_push, rest_is}
 
@@ -30,6 +33,7 @@ before_inner S k h = go (k % 32 == 0) refl
     go true e = absurd (h (eqb-true _ 0 e))
     go false e = rw e refl
 
+-- the state before a bundle
 before_first : (S : ℕ → ℕ) (k : ℕ) → k % 32 ≡ 0 → before S k ≡ 64
 before_first S k h = rw h refl
 
@@ -37,6 +41,7 @@ before_first S k h = rw h refl
 state_small : (code : List ℕ) (to : ℕ) (S : ℕ → ℕ) (k : ℕ) → AreStates code to S → k < length code → S k < 75
 state_small code to S k a lt = omega (arith, a.next k lt, next_small (before S k) (get_or code k 0))
 
+-- so is the state before each place
 before_small : (code : List ℕ) (to : ℕ) (S : ℕ → ℕ) (k : ℕ) → AreStates code to S → k < length code → before S k < 75
 before_small code to S k a lt = go (k % 32 == 0) refl
   where
@@ -44,7 +49,7 @@ before_small code to S k a lt = go (k % 32 == 0) refl
     go true e = rw e (omega arith)
     go false e = rw e (state_small code to S (k - 1) a (omega (arith, lt)))
 
--- behind a state inside an instruction no bundle begins
+-- after a state inside an instruction no bundle begins
 inner_place : (code : List ℕ) (to : ℕ) (S : ℕ → ℕ) (k : ℕ) → AreStates code to S → k < to → S k < 64 → k % 32 < 31
 inner_place code to S k a lt inside = elim (cases_lt (k % 32) 31) [
   | inl ok ↦ ok
@@ -52,7 +57,8 @@ inner_place code to S k a lt inside = elim (cases_lt (k % 32) 31) [
 ]
 
 -- where an indirect transfer ends, the byte before is its first
-second_inside : (code : List ℕ) (to : ℕ) (S : ℕ → ℕ) (k : ℕ) → AreStates code to S → k < length code → second S k ≡ true → (S k < 64) × (S (k + 1) ≡ 74) × (k + 1 < length code)
+second_inside : (code : List ℕ) (to : ℕ) (S : ℕ → ℕ) (k : ℕ) → AreStates code to S → k < length code → second S k ≡ true → (S k < 64)
+    × (S (k + 1) ≡ 74) × (k + 1 < length code)
 second_inside code to S k a lt e =
     let w = both (nat_lt (k % 32) 31) (S (k + 1) == 74) e in
     let in_bundle : k % 32 < 31 = ltb-true (k % 32) 31 w.0 in
@@ -77,7 +83,8 @@ leads_more s c e [] lt l = absurd l
 leads_more s c e (b ∷ bs) lt l = (lt, l)
 
 -- bytes from one end to the next
-leads_from : (code : List ℕ) (to : ℕ) (S : ℕ → ℕ) → AreStates code to S → (n b s : ℕ) → b + n < to → s ≡ before S b → ((k : ℕ) → b ≤ k → k < b + n → S k < 64) → 64 ≤ S (b + n)
+leads_from : (code : List ℕ) (to : ℕ) (S : ℕ → ℕ) → AreStates code to S → (n b s : ℕ) → b + n < to → s ≡ before S b
+    → ((k : ℕ) → b ≤ k → k < b + n → S k < 64) → 64 ≤ S (b + n)
     → Leads s (take (suc n) (drop b code)) (S (b + n))
 leads_from code to S a zero b s lt is inner ended =
     let here : b + 0 ≡ b = omega arith in
@@ -89,11 +96,14 @@ leads_from code to S a (suc n) b s lt is inner ended =
     let first : drop b code ≡ get_or code b 0 ∷ drop (b + 1) code = drop_more code b 0 b-lt in
     let state : next_state s (get_or code b 0) ≡ S b = ap (λ (t : ℕ). next_state t (get_or code b 0)) is ∙ sym (a.next b b-lt) in
     let low : S b < 64 = inner b (omega arith) (omega arith) in
-    let next : S b ≡ before S (b + 1) = ap S {y = b + 1 - 1} (omega arith) ∙ sym (before_inner S (b + 1) (λ z. omega (arith, z, inner_place code to S b a (omega (arith, lt)) low))) in
+    let next : S b ≡ before S (b + 1) = ap S {y = b + 1 - 1} (omega arith)
+    ∙ sym (before_inner S (b + 1) (λ z. omega (arith, z, inner_place code to S b a (omega (arith, lt)) low))) in
     let there : b + 1 + n ≡ b + suc n = omega arith in
-    let rest = leads_from code to S a n (b + 1) (next_state s (get_or code b 0)) (omega (arith, lt)) (state ∙ next) (λ k lo hi. inner k (omega (arith, lo)) (omega (arith, hi))) (subst (λ (j : ℕ). 64 ≤ S j) (sym there) ended) in
+    let rest = leads_from code to S a n (b + 1) (next_state s (get_or code b 0)) (omega (arith, lt)) (state ∙ next)
+    (λ k lo hi. inner k (omega (arith, lo)) (omega (arith, hi))) (subst (λ (j : ℕ). 64 ≤ S j) (sym there) ended) in
     subst (λ (z : List ℕ). Leads s (take (suc (suc n)) z) (S (b + suc n))) (sym first)
-    (leads_more s (get_or code b 0) (S (b + suc n)) (take (suc n) (drop (b + 1) code)) (omega (arith, state, low)) (subst (λ (j : ℕ). Leads (next_state s (get_or code b 0)) (take (suc n) (drop (b + 1) code)) (S j)) there rest))
+    (leads_more s (get_or code b 0) (S (b + suc n)) (take (suc n) (drop (b + 1) code)) (omega (arith, state, low))
+    (subst (λ (j : ℕ). Leads (next_state s (get_or code b 0)) (take (suc n) (drop (b + 1) code)) (S j)) there rest))
 
 -- what has been scanned so far
 record Scanned (code : List ℕ) (S : ℕ → ℕ) (at : ℕ) : Type 0 where
@@ -105,8 +115,10 @@ record Scanned (code : List ℕ) (S : ℕ → ℕ) (at : ℕ) : Type 0 where
   begins : 64 ≤ before S (place front)
   masks : (r : ℕ) → masked_at (before S (place front)) ≡ Some r → FollowsMask front r
   marks : (k : ℕ) → k < place front → get_or (marks_of front) k Unmarked ≡ mark_by S code k
-  direct : (b a : List Piece) (p : Piece) → front ≡ b ++ p ∷ a → IsTrue (is_direct p.instr.flow) → IsDisplaced S code (place b + length p.bytes) p.instr
+  direct : (b a : List Piece) (p : Piece) → front ≡ b ++ p ∷ a → IsTrue (is_direct p.instr.flow)
+      → IsDisplaced S code (place b + length p.bytes) p.instr
 
+-- before the first place nothing has been scanned
 none_scanned : (code : List ℕ) (S : ℕ → ℕ) → Scanned code S 0
 none_scanned code S = record {
   front = [];
@@ -129,20 +141,28 @@ record Read (code : List ℕ) (S : ℕ → ℕ) (b at : ℕ) : Type 0 where
   inside : b % 32 + suc (at - b) ≤ 32
   long : length (take (suc (at - b)) (drop b code)) ≡ suc (at - b)
 
+-- the states from one place to before another are inside an instruction
 abbrev AllInside : (ℕ → ℕ) → ℕ → ℕ → Type 0
 AllInside S b at = (k : ℕ) → b ≤ k → k < at → S k < 64
 
-read_from : (code : List ℕ) (to : ℕ) (S : ℕ → ℕ) (b at : ℕ) → AreStates code to S → b ≤ at → at < to → AllInside S b at → 64 ≤ before S b → 64 ≤ S at → Read code S b at
+-- what ends there is an instruction
+read_from : (code : List ℕ) (to : ℕ) (S : ℕ → ℕ) (b at : ℕ) → AreStates code to S → b ≤ at → at < to → AllInside S b at → 64 ≤ before S b
+    → 64 ≤ S at → Read code S b at
 read_from code to S b at a le lt inner begins ended =
     let sum : b + (at - b) ≡ at = omega arith in
-    let leads = leads_from code to S a (at - b) b (before S b) (omega (arith, lt)) refl (λ k lo hi. inner k lo (omega (arith, hi))) (subst (λ (j : ℕ). 64 ≤ S j) (sym sum) ended) in
-    let there : Leads (before S b) (take (suc (at - b)) (drop b code)) (S at) = subst (λ (j : ℕ). Leads (before S b) (take (suc (at - b)) (drop b code)) (S j)) sum leads in
-    let long : length (take (suc (at - b)) (drop b code)) ≡ suc (at - b) = length-take-le (suc (at - b)) (drop b code) (omega (arith, length-drop b code, lt, a.within)) in
+    let leads = leads_from code to S a (at - b) b (before S b) (omega (arith, lt)) refl (λ k lo hi. inner k lo (omega (arith, hi)))
+    (subst (λ (j : ℕ). 64 ≤ S j) (sym sum) ended) in
+    let there : Leads (before S b) (take (suc (at - b)) (drop b code)) (S at) = subst
+    (λ (j : ℕ). Leads (before S b) (take (suc (at - b)) (drop b code)) (S j)) sum leads in
+    let long : length (take (suc (at - b)) (drop b code)) ≡ suc (at - b) = length-take-le (suc (at - b)) (drop b code)
+    (omega (arith, length-drop b code, lt, a.within)) in
     let fits : All (λ x. x < 256) (take (suc (at - b)) (drop b code)) = λ k d k-lt. (
     let in_take : k < suc (at - b) = omega (arith, k-lt, long) in
-    let is : get_or (take (suc (at - b)) (drop b code)) k d ≡ get_or code (b + k) d = get_or-take (suc (at - b)) (drop b code) k d in_take ∙ get_or-drop b code k d in
+    let is : get_or (take (suc (at - b)) (drop b code)) k d ≡ get_or code (b + k) d = get_or-take (suc (at - b)) (drop b code) k d in_take
+    ∙ get_or-drop b code k d in
     omega (arith, is, a.bytes (b + k) d (omega (arith, in_take, lt, a.within)))) in
-    let r = reads_by_states (before S b) (S at) (take (suc (at - b)) (drop b code)) begins (before_small code to S b a (omega (arith, lt, a.within))) fits there in
+    let r = reads_by_states (before S b) (S at) (take (suc (at - b)) (drop b code)) begins
+    (before_small code to S b a (omega (arith, lt, a.within))) fits there in
     record {
       instr = r.0;
       ends = r.1;
@@ -162,10 +182,13 @@ read_byte : (code : List ℕ) (b n k : ℕ) → k < n → get_or (take n (drop b
 read_byte code b n k lt = get_or-take n (drop b code) k 0 lt ∙ get_or-drop b code k 0
 
 -- four bytes are a number
-four_bytes : (xs ys : List ℕ) → get_or xs 0 0 ≡ get_or ys 0 0 → get_or xs 1 0 ≡ get_or ys 1 0 → get_or xs 2 0 ≡ get_or ys 2 0 → get_or xs 3 0 ≡ get_or ys 3 0 → from_le_bytes w32 xs ≡ from_le_bytes w32 ys
+four_bytes : (xs ys : List ℕ) → get_or xs 0 0 ≡ get_or ys 0 0 → get_or xs 1 0 ≡ get_or ys 1 0 → get_or xs 2 0 ≡ get_or ys 2 0
+    → get_or xs 3 0 ≡ get_or ys 3 0 → from_le_bytes w32 xs ≡ from_le_bytes w32 ys
 four_bytes xs ys p q r s = rw (p, q, r, s) refl
 
-displaced : (code : List ℕ) (S : ℕ → ℕ) (b at : ℕ) → b ≤ at → (r : Read code S b at) → IsTrue (is_direct r.instr.flow) → IsDisplaced S code (b + suc (at - b)) r.instr
+-- its displacement, where it is a direct transfer
+displaced : (code : List ℕ) (S : ℕ → ℕ) (b at : ℕ) → b ≤ at → (r : Read code S b at) → IsTrue (is_direct r.instr.flow)
+    → IsDisplaced S code (b + suc (at - b)) r.instr
 displaced code S b at le r d =
     let n : ℕ = suc (at - b) in
     let end : b + suc (at - b) - 1 ≡ at = omega arith in
@@ -173,18 +196,23 @@ displaced code S b at le r d =
     elim (r.ends.direct d) [
       | inl near ↦ inl (
         ap S end ∙ near.0,
-        near.1 ∙ ap (λ (x : ℕ). cast_signed w8 x) (ap (λ (k : ℕ). get_or (take (suc (at - b)) (drop b code)) k 0) {y = at - b} (omega (arith, r.long)) ∙ read_byte code b (suc (at - b)) (at - b) (omega arith) ∙ ap (λ (k : ℕ). get_or code k 0) (omega arith)),
+        near.1 ∙ ap (λ (x : ℕ). cast_signed w8 x) (ap (λ (k : ℕ). get_or (take (suc (at - b)) (drop b code)) k 0) {y = at - b}
+            (omega (arith, r.long)) ∙ read_byte code b (suc (at - b)) (at - b) (omega arith)
+            ∙ ap (λ (k : ℕ). get_or code k 0) (omega arith)),
       )
       | inr far ↦ inr (
         ap S end ∙ far.0,
         omega (arith, far.1, r.long),
-        far.2 ∙ ap (λ (x : ℕ). cast_signed w32 x) (four_bytes (drop (length (take (suc (at - b)) (drop b code)) - 4) (take (suc (at - b)) (drop b code))) (drop (b + suc (at - b) - 4) code)
-            (byte_of 0 far.1 (omega arith)) (byte_of 1 far.1 (omega arith)) (byte_of 2 far.1 (omega arith)) (byte_of 3 far.1 (omega arith))),
+        far.2 ∙ ap (λ (x : ℕ). cast_signed w32 x) (four_bytes (drop (length (take (suc (at - b)) (drop b code)) - 4)
+            (take (suc (at - b)) (drop b code))) (drop (b + suc (at - b) - 4) code)
+            (byte_of 0 far.1 (omega arith)) (byte_of 1 far.1 (omega arith)) (byte_of 2 far.1 (omega arith))
+            (byte_of 3 far.1 (omega arith))),
       )
     ]
   where
     byte_of : (j : ℕ) → 4 ≤ length (take (suc (at - b)) (drop b code)) → j < 4
-        → get_or (drop (length (take (suc (at - b)) (drop b code)) - 4) (take (suc (at - b)) (drop b code))) j 0 ≡ get_or (drop (b + suc (at - b) - 4) code) j 0
+        → get_or (drop (length (take (suc (at - b)) (drop b code)) - 4) (take (suc (at - b)) (drop b code))) j 0 ≡ get_or
+        (drop (b + suc (at - b) - 4) code) j 0
     byte_of j four lt =
         get_or-drop (length (take (suc (at - b)) (drop b code)) - 4) (take (suc (at - b)) (drop b code)) j 0
         ∙ read_byte code b (suc (at - b)) (length (take (suc (at - b)) (drop b code)) - 4 + j) (omega (arith, r.long, four, lt))
@@ -198,30 +226,44 @@ not_true : (b : Bool) → (b ≡ true → ⊥) → b ≡ false
 not_true true h = absurd (h refl)
 not_true false h = refl
 
+-- a mark by the states is plain
 plain_by : (S : ℕ → ℕ) (code : List ℕ) (k : ℕ) → second S k ≡ false → 64 ≤ before S k → mark_by S code k ≡ Plain
 plain_by S code k e low = rw (e, le-leb 64 (before S k) low) refl
 
+-- or there is none
 unmarked_by : (S : ℕ → ℕ) (code : List ℕ) (k : ℕ) → second S k ≡ false → before S k < 64 → mark_by S code k ≡ Unmarked
 unmarked_by S code k e low = rw (e, not_true (nat_le 64 (before S k)) (λ h. omega (arith, leb-true 64 (before S k) h, low))) refl
 
+-- or it is that of a second half
 after_by : (S : ℕ → ℕ) (code : List ℕ) (k : ℕ) → second S k ≡ true → mark_by S code k ≡ After (get_or code (k + 1) 0 % 8)
 after_by S code k e = rw e refl
 
+-- a second half is one by its state
 second_made : (S : ℕ → ℕ) (k : ℕ) → k % 32 < 31 → S (k + 1) ≡ 74 → second S k ≡ true
 second_made S k lt e = rw (lt-ltb (k % 32) 31 lt, eq-eqb (S (k + 1)) 74 e) refl
 
 -- only the first of two bytes begins an indirect transfer
-second_only : (code : List ℕ) (to : ℕ) (S : ℕ → ℕ) (b at k : ℕ) → AreStates code to S → b ≤ at → at < to → AllInside S b at → 64 ≤ S at → (r : Read code S b at) → b ≤ k → k ≤ at → second S k ≡ true → (k ≡ b) × (at ≡ b + 1) × (S at ≡ 74)
+second_only : (code : List ℕ) (to : ℕ) (S : ℕ → ℕ) (b at k : ℕ) → AreStates code to S → b ≤ at → at < to → AllInside S b at → 64 ≤ S at
+    → (r : Read code S b at) → b ≤ k → k ≤ at → second S k ≡ true → (k ≡ b) × (at ≡ b + 1) × (S at ≡ 74)
 second_only code to S b at k a le lt inner ended r lo hi e =
     let w = second_inside code to S k a (omega (arith, hi, lt, a.within)) e in
-    let before_end : k < at = elim (cases_lt k at) [ inl ok ↦ ok | inr past ↦ absurd (omega (arith, w.0, ap S {x = k} {y = at} (omega (arith, past, hi)), ended)) ] in
-    let at_is : k + 1 ≡ at = elim (cases_lt (k + 1) at) [ inl early ↦ absurd (omega (arith, w.1, inner (k + 1) (omega (arith, lo)) early)) | inr ok ↦ omega (arith, ok, before_end) ] in
+    let before_end : k < at = elim (cases_lt k at) [
+      | inl ok ↦ ok
+      | inr past ↦ absurd
+          (omega (arith, w.0, ap S {x = k} {y = at} (omega (arith, past, hi)), ended))
+    ] in
+    let at_is : k + 1 ≡ at = elim (cases_lt (k + 1) at) [
+      | inl early ↦ absurd
+          (omega (arith, w.1, inner (k + 1) (omega (arith, lo)) early))
+      | inr ok ↦ omega (arith, ok, before_end)
+    ] in
     let pair : S at ≡ 74 = ap S (sym at_is) ∙ w.1 in
     let two : length (take (suc (at - b)) (drop b code)) ≡ 2 = (r.ends.paired pair).1 in
     (omega (arith, two, r.long, at_is), omega (arith, two, r.long, le), pair)
 
 -- where it begins
-first_mark : (code : List ℕ) (to : ℕ) (S : ℕ → ℕ) (b at : ℕ) → AreStates code to S → b ≤ at → at < to → AllInside S b at → 64 ≤ before S b → 64 ≤ S at → (r : Read code S b at) → mark_of r.instr ≡ mark_by S code b
+first_mark : (code : List ℕ) (to : ℕ) (S : ℕ → ℕ) (b at : ℕ) → AreStates code to S → b ≤ at → at < to → AllInside S b at → 64 ≤ before S b
+    → 64 ≤ S at → (r : Read code S b at) → mark_of r.instr ≡ mark_by S code b
 first_mark code to S b at a le lt inner begins ended r =
     elim (true_or_false (S at == 74)) [
       | inl is ↦
@@ -229,24 +271,33 @@ first_mark code to S b at a le lt inner begins ended r =
           let p = r.ends.paired pair in
           let next : at ≡ b + 1 = omega (arith, p.1, r.long, le) in
           let sec : second S b ≡ true = second_made S b (omega (arith, r.inside, next)) (ap S (sym next) ∙ pair) in
-          let reg : r.instr.reg ≡ get_or code (b + 1) 0 % 8 = p.2 ∙ ap (λ (x : ℕ). x % 8) (read_byte code b (suc (at - b)) 1 (omega (arith, next))) in
-          cond_is_true (is_indirect r.instr.flow) (After r.instr.reg) Plain (r.ends.indirect ∙ is) ∙ ap (λ (x : ℕ). After x) reg ∙ sym (after_by S code b sec))
+          let reg : r.instr.reg ≡ get_or code (b + 1) 0 % 8 = p.2
+          ∙ ap (λ (x : ℕ). x % 8) (read_byte code b (suc (at - b)) 1 (omega (arith, next))) in
+          cond_is_true (is_indirect r.instr.flow) (After r.instr.reg) Plain (r.ends.indirect ∙ is) ∙ ap (λ (x : ℕ). After x) reg
+          ∙ sym (after_by S code b sec))
       | inr other ↦
-          (let none : second S b ≡ false = not_true (second S b) (λ e. (let w = second_only code to S b at b a le lt inner ended r (omega arith) le e in absurd (let f : true ≡ false = sym (eq-eqb (S at) 74 w.2) ∙ other in cc))) in
-          cond_is_false (is_indirect r.instr.flow) (After r.instr.reg) Plain (r.ends.indirect ∙ other) ∙ sym (plain_by S code b none begins))
+          (let none : second S b ≡ false = not_true (second S b)
+          (λ e. (let w = second_only code to S b at b a le lt inner ended r (omega arith) le e in
+          absurd (let f : true ≡ false = sym (eq-eqb (S at) 74 w.2) ∙ other in cc))) in
+          cond_is_false (is_indirect r.instr.flow) (After r.instr.reg) Plain (r.ends.indirect ∙ other)
+          ∙ sym (plain_by S code b none begins))
     ]
 
 -- inside it
-later_mark : (code : List ℕ) (to : ℕ) (S : ℕ → ℕ) (b at k : ℕ) → AreStates code to S → b ≤ at → at < to → AllInside S b at → 64 ≤ S at → (r : Read code S b at) → b < k → k ≤ at → Unmarked ≡ mark_by S code k
+later_mark : (code : List ℕ) (to : ℕ) (S : ℕ → ℕ) (b at k : ℕ) → AreStates code to S → b ≤ at → at < to → AllInside S b at → 64 ≤ S at
+    → (r : Read code S b at) → b < k → k ≤ at → Unmarked ≡ mark_by S code k
 later_mark code to S b at k a le lt inner ended r lo hi =
-    let none : second S k ≡ false = not_true (second S k) (λ e. absurd (omega (arith, (second_only code to S b at k a le lt inner ended r (omega (arith, lo)) hi e).0, lo))) in
+    let none : second S k ≡ false = not_true (second S k) (λ e. absurd
+    (omega (arith, (second_only code to S b at k a le lt inner ended r (omega (arith, lo)) hi e).0, lo))) in
     let not_first : k % 32 ≢ 0 = λ z. omega (arith, z, r.inside, lo, hi) in
     let low : before S k < 64 = omega (arith, before_inner S k not_first, inner (k - 1) (omega (arith, lo)) (omega (arith, lo, hi))) in
     sym (unmarked_by S code k none low)
 
 -- the mark of each of its places
-mark_here : (code : List ℕ) (to : ℕ) (S : ℕ → ℕ) (b at k : ℕ) → AreStates code to S → b ≤ at → at < to → AllInside S b at → 64 ≤ before S b → 64 ≤ S at → (r : Read code S b at)
-    → r.instr.len ≡ length (take (suc (at - b)) (drop b code)) → b ≤ k → k < at + 1 → get_or (instr_marks r.instr) (k - b) Unmarked ≡ mark_by S code k
+mark_here : (code : List ℕ) (to : ℕ) (S : ℕ → ℕ) (b at k : ℕ) → AreStates code to S → b ≤ at → at < to → AllInside S b at
+    → 64 ≤ before S b → 64 ≤ S at → (r : Read code S b at)
+    → r.instr.len ≡ length (take (suc (at - b)) (drop b code)) → b ≤ k → k < at + 1
+    → get_or (instr_marks r.instr) (k - b) Unmarked ≡ mark_by S code k
 mark_here code to S b at k a le lt inner begins ended r len lo hi =
     elim (cases_lt b k) [
       | inl later ↦
@@ -260,7 +311,8 @@ mark_here code to S b at k a le lt inner begins ended r len lo hi =
     ]
 
 -- the mask that it leaves
-masked_next : (code : List ℕ) (S : ℕ → ℕ) (at : ℕ) (front : List Piece) (r : Read code S (place front) at) → place front ≤ at → (q : ℕ) → masked_at (before S (at + 1)) ≡ Some q
+masked_next : (code : List ℕ) (S : ℕ → ℕ) (at : ℕ) (front : List Piece) (r : Read code S (place front) at) → place front ≤ at → (q : ℕ)
+    → masked_at (before S (at + 1)) ≡ Some q
     → FollowsMask (front ++ (record { bytes = take (suc (at - place front)) (drop (place front) code); instr = r.instr }) ∷ []) q
 masked_next code S at front r le q e =
     elim (true_or_false ((at + 1) % 32 == 0)) [
@@ -273,7 +325,15 @@ masked_next code S at front r le q e =
             mask = record { bytes = take (suc (at - place front)) (drop (place front) code); instr = r.instr };
             last = refl;
             masks = r.ends.masks q (ap masked_at (sym state) ∙ e);
-            together = omega (arith, inner, r.inside, r.long, le, place-push front (record { bytes = take (suc (at - place front)) (drop (place front) code); instr = r.instr }));
+            together = omega (
+              arith,
+              inner,
+              r.inside,
+              r.long,
+              le,
+              place-push front
+                  (record { bytes = take (suc (at - place front)) (drop (place front) code); instr = r.instr }),
+            );
           })
     ]
   where
@@ -286,7 +346,8 @@ masked_next code S at front r le q e =
 -- ---- the step
 
 -- one more instruction
-pushed : (code : List ℕ) (to : ℕ) (S : ℕ → ℕ) (at : ℕ) → AreStates code to S → at < to → (h : Scanned code S at) → 64 ≤ S at → Scanned code S (at + 1)
+pushed : (code : List ℕ) (to : ℕ) (S : ℕ → ℕ) (at : ℕ) → AreStates code to S → at < to → (h : Scanned code S at) → 64 ≤ S at
+    → Scanned code S (at + 1)
 pushed code to S at a lt h ended =
     let b : ℕ = place h.front in
     let r = read_from code to S (place h.front) at a h.here lt h.inner h.begins ended in
@@ -301,22 +362,31 @@ pushed code to S at a lt h ended =
       rest = drop (suc (at - place h.front)) h.rest;
       reads = record {
         parts = h.reads.parts
-            ∙ ap (λ (z : List ℕ). code_of h.front ++ z) (sym (take-append-drop (suc (at - place h.front)) h.rest) ∙ ap (λ (z : List ℕ). take (suc (at - place h.front)) z ++ drop (suc (at - place h.front)) h.rest) (sym rest_here))
-            ∙ sym (append_assoc (code_of h.front) (take (suc (at - place h.front)) (drop (place h.front) code)) (drop (suc (at - place h.front)) h.rest))
+            ∙ ap (λ (z : List ℕ). code_of h.front ++ z) (sym (take-append-drop (suc (at - place h.front)) h.rest)
+            ∙ ap (λ (z : List ℕ). take (suc (at - place h.front)) z ++ drop (suc (at - place h.front)) h.rest) (sym rest_here))
+            ∙ sym (append_assoc (code_of h.front) (take (suc (at - place h.front)) (drop (place h.front) code))
+            (drop (suc (at - place h.front)) h.rest))
             ∙ ap (λ (z : List ℕ). z ++ drop (suc (at - place h.front)) h.rest) (sym (code_of-push h.front p));
-        sound = sound_push h.front p h.reads.sound r.ends.spells (omega (arith, r.inside, r.long)) (λ indirect. h.masks r.instr.reg (r.ends.paired (eqb-true (S at) 74 (sym r.ends.indirect ∙ is_true (is_indirect r.instr.flow) indirect))).0);
+        sound = sound_push h.front p h.reads.sound r.ends.spells (omega (arith, r.inside, r.long))
+            (λ indirect. h.masks r.instr.reg (r.ends.paired (eqb-true (S at) 74
+            (sym r.ends.indirect ∙ is_true (is_indirect r.instr.flow) indirect))).0);
       };
       here = omega (arith, there);
       inner = λ k lo hi. absurd (omega (arith, there, lo, hi));
-      begins = subst (λ (k : ℕ). 64 ≤ before S k) (sym there) (begins_next (at + 1) (omega arith) (subst (λ (k : ℕ). 64 ≤ S k) {x = at} {y = at + 1 - 1} (omega arith) ended));
+      begins = subst (λ (k : ℕ). 64 ≤ before S k) (sym there) (begins_next (at + 1) (omega arith)
+          (subst (λ (k : ℕ). 64 ≤ S k) {x = at} {y = at + 1 - 1} (omega arith) ended));
       masks = λ q e. masked_next code S at h.front r h.here q (ap (λ (k : ℕ). masked_at (before S k)) (sym there) ∙ e);
       marks = λ k k-lt. ap (λ (z : List Mark). get_or z k Unmarked) (marks_of-push h.front p) ∙ (elim (cases_lt k (place h.front)) [
-        | inl earlier ↦ get_or_append_left (marks_of h.front) (instr_marks r.instr) Unmarked k (omega (arith, marks_len, earlier)) ∙ h.marks k earlier
-        | inr here ↦ get_or-append_right (marks_of h.front) (instr_marks r.instr) (place h.front) k Unmarked marks_len here ∙ mark_here code to S (place h.front) at k a h.here lt h.inner h.begins ended r s.0 here (omega (arith, k-lt, there))
+        | inl earlier ↦ get_or_append_left (marks_of h.front) (instr_marks r.instr) Unmarked k (omega (arith, marks_len, earlier))
+            ∙ h.marks k earlier
+        | inr here ↦ get_or-append_right (marks_of h.front) (instr_marks r.instr) (place h.front) k Unmarked marks_len here
+            ∙ mark_here code to S (place h.front) at k a h.here lt h.inner h.begins ended r s.0 here (omega (arith, k-lt, there))
       ]);
       direct = λ before2 after2 q e d. elim (split_push h.front before2 after2 p q e) [
         | inl w ↦ subst (λ (x : Piece). IsTrue (is_direct x.instr.flow) → IsDisplaced S code (place before2 + length x.bytes) x.instr) w.1
-            (λ d2. subst (λ (n : ℕ). IsDisplaced S code n r.instr) {x = place h.front + suc (at - place h.front)} {y = place before2 + length (take (suc (at - place h.front)) (drop (place h.front) code))} (omega (arith, ap (λ (z : List Piece). place z) w.0, r.long)) (displaced code S (place h.front) at h.here r d2)) d
+            (λ d2. subst (λ (n : ℕ). IsDisplaced S code n r.instr) {x = place h.front + suc
+            (at - place h.front)} {y = place before2 + length (take (suc (at - place h.front)) (drop (place h.front) code))}
+            (omega (arith, ap (λ (z : List Piece). place z) w.0, r.long)) (displaced code S (place h.front) at h.here r d2)) d
         | inr w ↦ h.direct before2 w.0 q w.1 d
       ];
     }
@@ -331,6 +401,7 @@ pushed code to S at a lt h ended =
       | inr e ↦ rw e low
     ]
 
+-- one more place
 scanned_more : (code : List ℕ) (to : ℕ) (S : ℕ → ℕ) (at : ℕ) → AreStates code to S → at < to → Scanned code S at → Scanned code S (at + 1)
 scanned_more code to S at a lt h = elim (cases_lt (S at) 64) [
   | inl inside ↦ record {
@@ -350,16 +421,20 @@ scanned_more code to S at a lt h = elim (cases_lt (S at) 64) [
   | inr ended ↦ pushed code to S at a lt h ended
 ]
 
+-- all places up to one
 scanned_to : (code : List ℕ) (to : ℕ) (S : ℕ → ℕ) → AreStates code to S → (n : ℕ) → n ≤ to → Scanned code S n
 scanned_to code to S a zero le = none_scanned code S
 scanned_to code to S a (suc n) le =
-    subst (λ (k : ℕ). Scanned code S k) {x = n + 1} {y = suc n} (omega arith) (scanned_more code to S n a (omega (arith, le)) (scanned_to code to S a n (omega (arith, le))))
+    subst (λ (k : ℕ). Scanned code S k) {x = n + 1} {y = suc n} (omega arith)
+    (scanned_more code to S n a (omega (arith, le)) (scanned_to code to S a n (omega (arith, le))))
 
+-- wherever the states say so, code is scanned
 pub scans : Scans
 scans code to S a =
     let h = scanned_to code to S a to (omega arith) in
     let all : place h.front ≡ to = elim (cases_lt (place h.front) to) [
-      | inl short ↦ absurd (omega (arith, h.inner (to - 1) (omega (arith, short)) (omega (arith, short)), a.ended (to - 1) (omega (arith, short))))
+      | inl short ↦ absurd (omega
+          (arith, h.inner (to - 1) (omega (arith, short)) (omega (arith, short)), a.ended (to - 1) (omega (arith, short))))
       | inr whole ↦ omega (arith, whole, h.here)
     ] in
     record {

@@ -8,7 +8,8 @@ split_none [] after q e = cc
 split_none (b ∷ before) after q e = cc
 
 -- an element of a list with one more at its end is that one, or stands in the list
-pub split_push : {A : Type 0} (xs before after : List A) (y q : A) → xs ++ y ∷ [] ≡ before ++ q ∷ after → ((before ≡ xs) × (y ≡ q)) ⊎ ((rest : List A) × (xs ≡ before ++ q ∷ rest))
+pub split_push : {A : Type 0} (xs before after : List A) (y q : A) → xs ++ y ∷ [] ≡ before ++ q ∷ after → ((before ≡ xs) × (y ≡ q))
+    ⊎ ((rest : List A) × (xs ≡ before ++ q ∷ rest))
 split_push [] [] after y q e = inl (refl, cc)
 split_push [] (b ∷ []) after y q e = absurd cc
 split_push [] (b ∷ c ∷ before) after y q e = absurd cc
@@ -34,7 +35,7 @@ split_last {A} (x ∷ xs) (b ∷ before) y q e =
     let w = split_last xs before y q t in
     (rw (h, w.0) refl, w.1)
 
--- what is made of each element, one behind the other, parts with the list
+-- what is made of each element, one after the other, parts with the list
 pub flat_map-append : {A B : Type 0} (f : A → List B) (xs ys : List A) → flat_map f (xs ++ ys) ≡ flat_map f xs ++ flat_map f ys
 flat_map-append f [] ys = refl
 flat_map-append f (x ∷ xs) ys = ap (λ zs. f x ++ zs) (flat_map-append f xs ys) ∙ sym (append_assoc (f x) (flat_map f xs) (flat_map f ys))

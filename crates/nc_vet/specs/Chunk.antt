@@ -1,7 +1,8 @@
--- What a valid chunk is: a list of whole instructions, one behind the other, that keeps four rules.
+-- What a valid chunk is: a list of whole instructions, one after the other, that keeps four rules.
 -- Places are counted from the chunk's base. A valid chunk's base is a bundle start, so a place lies in its bundle
 -- as its address does.
-use Rattle.std.specs.Prelude.{◌≡◌, ℕ, ◌+◌, ◌-◌, ◌/◌, ◌%◌, ◌<◌, ◌≤◌, ◌⊎◌, false, List, [], ◌∷◌, ◌++◌, length, replicate, Some, IsTrue, if◌then◌else◌}
+use Rattle.std.specs.Prelude.{◌≡◌, ℕ, ◌+◌, ◌-◌, ◌/◌, ◌%◌, ◌<◌, ◌≤◌, ◌⊎◌, false, List, [], ◌∷◌, ◌++◌, length, replicate, Some, IsTrue}
+use Rattle.std.specs.Prelude.{if◌then◌else◌}
 use Rattle.std.specs.List.{flat_map}
 use Rattle.nc_decode.specs.declared.instruction.Instr.{Instr}
 use Rattle.nc_decode.specs.declared.instruction.Mark.{Mark}
@@ -15,11 +16,11 @@ pub record Piece : Type 0 where
   pub bytes : List ℕ
   pub instr : Instr
 
--- the bytes of some instructions, one behind the other
+-- the bytes of some instructions, one after the other
 abbrev pub code_of : List Piece → List ℕ
 code_of pieces = flat_map (λ p. p.bytes) pieces
 
--- the place behind some instructions
+-- the place after some instructions
 abbrev pub place : List Piece → ℕ
 place before = length (code_of before)
 
@@ -40,7 +41,8 @@ AreSpelled pieces = (before after : List Piece) (p : Piece) → pieces ≡ befor
 pub record AreSound (pieces : List Piece) : Type 0 where
   pub spelled : AreSpelled pieces
   pub inside : (before after : List Piece) (p : Piece) → pieces ≡ before ++ p ∷ after → IsInOneBundle (place before) (length p.bytes)
-  pub paired : (before after : List Piece) (p : Piece) → pieces ≡ before ++ p ∷ after → IsTrue (is_indirect p.instr.flow) → FollowsMask before p.instr.reg
+  pub paired : (before after : List Piece) (p : Piece) → pieces ≡ before ++ p ∷ after → IsTrue (is_indirect p.instr.flow)
+      → FollowsMask before p.instr.reg
 
 -- An instruction that is no second half of a pair begins at the place. In sound code the second halves are the
 -- indirect transfers.
@@ -62,7 +64,8 @@ IsTarget base limit pieces to =
 -- each direct transfer goes to such an address
 abbrev pub AreTargets : ℕ → ℕ → List Piece → Type 0
 AreTargets base limit pieces =
-    (before after : List Piece) (p : Piece) → pieces ≡ before ++ p ∷ after → IsTrue (is_direct p.instr.flow) → IsTarget base limit pieces (target p.instr (base + place before))
+    (before after : List Piece) (p : Piece) → pieces ≡ before ++ p ∷ after → IsTrue (is_direct p.instr.flow)
+    → IsTarget base limit pieces (target p.instr (base + place before))
 
 -- the mark where an instruction begins
 abbrev pub mark_of : Instr → Mark
@@ -72,13 +75,15 @@ mark_of i = if is_indirect i.flow then After i.reg else Plain
 abbrev pub instr_marks : Instr → List Mark
 instr_marks i = mark_of i ∷ replicate (i.len - 1) Unmarked
 
--- the marks of some instructions, one behind the other
+-- the marks of some instructions, one after the other
 abbrev pub marks_of : List Piece → List Mark
 marks_of pieces = flat_map (λ p. instr_marks p.instr) pieces
 
+-- a bundle start from the first byte of regions on
 abbrev pub IsBase : ℕ → Type 0
 IsBase base = IsBundleStart base × (0x10000 ≤ base)
 
+-- whole bundles, at least one
 abbrev pub IsLength : ℕ → Type 0
 IsLength len = (0 < len) × (len % 32 ≡ 0)
 

@@ -1,10 +1,12 @@
 -- Which fault a chunk has.
-use Rattle.std.specs.Prelude.{◌≡◌, ◌≢◌, ℕ, ◌+◌, ◌-◌, ◌%◌, ◌≤◌, List, [], ◌∷◌, ◌++◌, length, take, IsTrue}
+use Rattle.std.specs.Prelude.{◌≡◌, ◌≢◌, ℕ, ◌+◌, ◌-◌, ◌%◌, ◌<◌, ◌≤◌, List, [], ◌∷◌, ◌++◌, length, take, IsTrue}
 use Rattle.nc_decode.specs.declared.instruction.Instr.{Instr}
+use Rattle.nc_decode.specs.Bundles.{IsBundleStart, IsLawfulLimit}
 use Rattle.nc_decode.specs.Spelling.{IsAtFront, IsProperFront}
 use Rattle.nc_decode.specs.Transfers.{is_direct, target}
 use Rattle.nc_vet.specs.declared.fault.VetFault.{VetFault}
-use Rattle.nc_vet.specs.declared.fault.VetFault.TheVariants.{BadBase, BadLength, OutOfRange, NotPermitted, Crosses, Bare, BadTarget, OutOfMemory}
+use Rattle.nc_vet.specs.declared.fault.VetFault.TheVariants.{BadBase, BadLength, OutOfRange, NotPermitted, Crosses, Bare, BadTarget}
+use Rattle.nc_vet.specs.declared.fault.VetFault.TheVariants.{OutOfMemory}
 use Rattle.nc_vet.specs.Chunk.{Piece, code_of, place, AreSound, IsTarget, IsBase, IsLength, IsInRange}
 
 -- the code begins with these sound instructions, and this is the rest of it
@@ -20,23 +22,24 @@ IsLongest code front = (other : List Piece) (rest : List ℕ) → IsSoundFront c
 abbrev pub bundle_rest : ℕ → List ℕ → List ℕ
 bundle_rest at rest = take (32 - at % 32) rest
 
--- What stands behind a sound front: an instruction inside the bundle, the beginning of one alone, or neither.
+-- What stands after a sound front: an instruction inside the bundle, only the beginning of one, or neither.
 -- The fault has the address of that place.
-abbrev pub StandsBehind : ℕ → List Piece → List ℕ → VetFault → Type 0
-StandsBehind base front rest (Bare at) = (at ≡ base + place front) × ((i : Instr) × IsAtFront (bundle_rest (place front) rest) i)
-StandsBehind base front rest (Crosses at) = (at ≡ base + place front) × IsProperFront (bundle_rest (place front) rest)
-StandsBehind base front rest (NotPermitted at) =
-    (at ≡ base + place front) × ((i : Instr) → ¬ IsAtFront (bundle_rest (place front) rest) i) × ¬ IsProperFront (bundle_rest (place front) rest)
-StandsBehind base front rest _ = ⊥
+abbrev pub StandsAfter : ℕ → List Piece → List ℕ → VetFault → Type 0
+StandsAfter base front rest (Bare at) = (at ≡ base + place front) × ((i : Instr) × IsAtFront (bundle_rest (place front) rest) i)
+StandsAfter base front rest (Crosses at) = (at ≡ base + place front) × IsProperFront (bundle_rest (place front) rest)
+StandsAfter base front rest (NotPermitted at) =
+    (at ≡ base + place front) × ((i : Instr) → ¬ IsAtFront (bundle_rest (place front) rest) i)
+    × ¬ IsProperFront (bundle_rest (place front) rest)
+StandsAfter base front rest _ = ⊥
 
--- the longest sound front isn't all of the code, and this fault stands behind it
+-- the longest sound front isn't all of the code, and this fault stands after it
 pub record IsStuck (base : ℕ) (code : List ℕ) (fault : VetFault) : Type 0 where
   pub front : List Piece
   pub rest : List ℕ
   pub reads : IsSoundFront code rest front
   pub longest : IsLongest code front
   pub some : rest ≢ []
-  pub why : StandsBehind base front rest fault
+  pub why : StandsAfter base front rest fault
 
 -- All of the code is sound, a direct transfer with a bad target stands at the address, and each direct transfer before
 -- it has a good one.
@@ -49,22 +52,26 @@ pub record IsMistargeted (base limit : ℕ) (code : List ℕ) (at : ℕ) : Type 
   pub here : at ≡ base + place before
   pub direct : IsTrue (is_direct piece.instr.flow)
   pub bad : ¬ IsTarget base limit (before ++ piece ∷ after) (target piece.instr (base + place before))
-  pub least : (b a : List Piece) (p : Piece) → before ≡ b ++ p ∷ a → IsTrue (is_direct p.instr.flow) → IsTarget base limit (before ++ piece ∷ after) (target p.instr (base + place b))
+  pub least : (b a : List Piece) (p : Piece) → before ≡ b ++ p ∷ a → IsTrue (is_direct p.instr.flow)
+      → IsTarget base limit (before ++ piece ∷ after) (target p.instr (base + place b))
 
--- base, length and limit alone show no fault
+-- whole bundles of a region below its guard: base, length and limit show no fault by themselves
 pub record HasGoodSpan (base limit len : ℕ) : Type 0 where
-  pub base_is : IsBase base
-  pub length_is : IsLength len
-  pub range : IsInRange base limit len
+  pub lawful : IsLawfulLimit limit
+  pub start : IsBundleStart base
+  pub whole : len % 32 ≡ 0
+  pub some : 0 < len
+  pub low : 0x10000 ≤ base
+  pub high : base + len + 32 ≤ limit
 
--- the first of the faults that base, length and limit alone show
+-- the first of the faults that base, length and limit show by themselves
 abbrev pub HasSpanFault : ℕ → ℕ → ℕ → VetFault → Type 0
 HasSpanFault base limit len BadBase = ¬ IsBase base
 HasSpanFault base limit len BadLength = IsBase base × ¬ IsLength len
 HasSpanFault base limit len OutOfRange = IsBase base × IsLength len × ¬ IsInRange base limit len
 HasSpanFault base limit len _ = ⊥
 
--- A chunk has this fault. Want of memory says nothing of the code.
+-- A chunk has this fault. Lack of memory says nothing of the code.
 abbrev pub HasFault : ℕ → ℕ → List ℕ → VetFault → Type 0
 HasFault base limit code (NotPermitted at) = HasGoodSpan base limit (length code) × IsStuck base code (NotPermitted at)
 HasFault base limit code (Crosses at) = HasGoodSpan base limit (length code) × IsStuck base code (Crosses at)

@@ -1,18 +1,23 @@
--- A chunk has one verdict.
+-- A chunk has one verdict, and a code parts into instructions in one way.
 use Rattle.std.specs.Prelude.{◌≡◌, ◌≢◌, ℕ, List}
 use Rattle.nc_vet.specs.declared.fault.VetFault.{VetFault}
 use Rattle.nc_vet.specs.declared.fault.VetFault.TheVariants.{OutOfMemory}
-use Rattle.nc_vet.specs.Chunk.{MarkedChunk, IsValid}
+use Rattle.nc_vet.specs.Chunk.{Piece, code_of, AreSpelled, MarkedChunk, IsValid}
 use Rattle.nc_vet.specs.Faults.{HasFault}
 
--- two faults of one chunk, neither of which is want of memory, are the same
+-- two faults of one chunk, neither of which is lack of memory, are the same
 abbrev pub HasOneFault : Type 0
-HasOneFault = (base limit : ℕ) (code : List ℕ) (f g : VetFault) → HasFault base limit code f → HasFault base limit code g → f ≢ OutOfMemory → g ≢ OutOfMemory → f ≡ g
+HasOneFault = (base limit : ℕ) (code : List ℕ) (f g : VetFault) → HasFault base limit code f → HasFault base limit code g
+    → f ≢ OutOfMemory → g ≢ OutOfMemory → f ≡ g
 
--- a valid chunk has no fault but want of memory
+-- a valid chunk has no fault except lack of memory
 abbrev pub HasNoFault : Type 0
 HasNoFault = (c : MarkedChunk) (fault : VetFault) → IsValid c → HasFault c.base c.limit c.code fault → fault ≡ OutOfMemory
 
 -- valid chunks with the same code have the same marks
 abbrev pub HasOneReading : Type 0
 HasOneReading = (c d : MarkedChunk) → IsValid c → IsValid d → c.code ≡ d.code → c.marks ≡ d.marks
+
+-- a code parts into whole instructions in one way: two lists of them with the same bytes are the same list
+abbrev pub HasOneParting : Type 0
+HasOneParting = (xs ys : List Piece) → AreSpelled xs → AreSpelled ys → code_of xs ≡ code_of ys → xs ≡ ys

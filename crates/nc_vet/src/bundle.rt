@@ -5,7 +5,7 @@
 pub struct Bundle {
     /// One ends there.
     pub ends: u32,
-    /// An indirect transfer ends there, directly behind its mask.
+    /// An indirect transfer ends there, directly after its mask.
     pub pairs: u32,
     /// A direct transfer ends there whose displacement is one byte.
     pub shorts: u32,

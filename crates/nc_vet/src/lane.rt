@@ -3,26 +3,11 @@
 ghost use Rattle.std.specs.Prelude.{◌≡◌, ◌<◌, ◌≤◌, ℕ, ◌==◌, length, nat_le, slice_index, slice_set, replicate};
 ghost use Rattle.std.specs.Int.{bit_at};
 ghost use Rattle.nc_decode.specs.Automaton.{next_state};
-ghost use Rattle.nc_vet.specs.Running.{TellsStates};
+ghost use Rattle.nc_vet.specs.machinery.Running.{TellsStates};
 
 use crate::bundle::Bundle;
-use nc_decode::advance;
+use nc_decode::{AFTER_NEAR, AFTER_PAIR, AFTER_SHORT, END, STATES, advance};
 use std::simd::prelude::*;
-
-/// The state after an instruction that masks nothing: each bundle begins so.
-const BEGIN: usize = 64;
-
-/// The states from here on are those after an instruction.
-const FIRST_END: u8 = 64;
-
-/// The state after a direct transfer with a displacement of one byte.
-const SHORT: u8 = 72;
-
-/// The state after a direct transfer with a displacement of four bytes.
-const NEAR: u8 = 73;
-
-/// The state after an indirect transfer with its mask.
-const PAIR: u8 = 74;
 
 /// The states after the first bytes of a bundle, and the last of them.
 #[derive(Clone, Copy, Drop)]
@@ -32,13 +17,13 @@ pub(crate) struct Lane {
 }
 
 impl Lane {
-    /// Before the first byte.
+    /// Before the first byte: each bundle begins as after an instruction that masks nothing.
     #[inline(always)]
     pub(crate) fn new() -> Lane
-        ensures { result ≡ record { state = 64; states = replicate 32 0 } }
+        ensures { result ≡ record { state = END; states = replicate 32 0 } }
     {
         Lane {
-            state: BEGIN,
+            state: END as usize,
             states: [0; 32],
         }
     }
@@ -47,10 +32,10 @@ impl Lane {
     #[inline(always)]
     pub(crate) fn step(&mut self, i: usize, byte: u8)
         requires place { i < 32 }
-        requires state { self.old.state < 75 }
+        requires state { self.old.state < STATES }
         ensures state { self.new.state ≡ next_state self.old.state byte }
         ensures states { self.new.states ≡ slice_set self.old.states i (next_state self.old.state byte) }
-        ensures small { self.new.state < 75 }
+        ensures small { self.new.state < STATES }
     {
         let state = advance(self.state, byte);
         self.states[i] = state;
@@ -78,9 +63,9 @@ fn equal(states: u8x32, state: u8) -> u32
 /// Bit k says that lane k is a state after an instruction.
 #[inline(always)]
 fn ended(states: u8x32) -> u32
-    ensures { (k : ℕ) → k < 32 → (bit_at result k == 1) ≡ nat_le 64 (slice_index states k) }
+    ensures { (k : ℕ) → k < 32 → (bit_at result k == 1) ≡ nat_le END (slice_index states k) }
 {
-    bits(states.simd_ge(u8x32::splat(FIRST_END)).to_bitmask())
+    bits(states.simd_ge(u8x32::splat(END)).to_bitmask())
 }
 
 /// What the states after a bundle's bytes tell.
@@ -91,8 +76,8 @@ pub(crate) fn told(lane: &Lane) -> Bundle
     let states = u8x32::from_slice(&lane.states);
     Bundle {
         ends: ended(states),
-        pairs: equal(states, PAIR),
-        shorts: equal(states, SHORT),
-        nears: equal(states, NEAR),
+        pairs: equal(states, AFTER_PAIR),
+        shorts: equal(states, AFTER_SHORT),
+        nears: equal(states, AFTER_NEAR),
     }
 }

@@ -3,7 +3,7 @@
 ghost use Rattle.std.specs.Prelude.{◌≡◌, ◌≢◌, ◌<◌, ◌≤◌, ◌+◌, ◌-◌, ◌*◌, ◌%◌, ◌^◌, ℕ, length, get_or, slice_index, IfSome};
 ghost use Rattle.std.specs.Int.{bit_at};
 ghost use Rattle.nc_vet.specs.Bits.{no_bits};
-ghost use Rattle.nc_vet.specs.Running.{Tells, EndsFront};
+ghost use Rattle.nc_vet.specs.machinery.Running.{Tells, EndsFront};
 
 use crate::bundle::Bundle;
 use crate::lane::{Lane, told};

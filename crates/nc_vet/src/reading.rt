@@ -2,30 +2,22 @@
 
 ghost use Rattle.std.specs.Prelude.{◌≡◌, ◌≤◌, take, ◌<◌, ◌+◌, ◌%◌, ◌^◌, length, replicate, None, IfOk, IfErr, IfSome};
 ghost use Rattle.nc_decode.specs.Spelling.{IsAtFront, IsProperFront};
-ghost use Rattle.nc_decode.specs.Transfers.{is_indirect};
 ghost use Rattle.nc_vet.specs.Chunk.{mark_of};
 ghost use Rattle.nc_vet.specs.Listed.{listed};
-ghost use Rattle.nc_vet.specs.Running.{AreBitsTold};
-ghost use Rattle.nc_vet.specs.Steps.{MayFollow, NoneMayFollow, masked_after, HasReadTo, HasReadAll, EndsReading};
+ghost use Rattle.nc_vet.specs.machinery.Running.{AreBitsTold};
+ghost use Rattle.nc_vet.specs.machinery.Steps.{MayFollow, NoneMayFollow, masked_after, HasReadTo, HasReadAll, EndsReading};
 
 use crate::fault::VetFault;
 use crate::lanes::read_bundles;
 use crate::marks::Marks;
-use nc_decode::{DecodeFault, Flow, Instr, Mark, decode};
+use nc_decode::{BUNDLE, DecodeFault, Instr, Mark, bundle_rest, decode};
 use std::alloc::{AllocError, Global};
-
-/// A transfer to where a register points.
-fn is_indirect(flow: Flow) -> bool
-    ensures { result ≡ is_indirect flow }
-{
-    matches!(flow, Flow::IndirectJump | Flow::IndirectCall)
-}
 
 /// The mark where an instruction begins.
 fn mark_of(instr: Instr) -> Mark
     ensures { result ≡ mark_of instr }
 {
-    if is_indirect(instr.flow) {
+    if instr.flow.is_indirect() {
         Mark::After(instr.reg)
     } else {
         Mark::Plain
@@ -36,7 +28,11 @@ fn mark_of(instr: Instr) -> Mark
 fn masked_after(instr: Instr, place: usize) -> Option<u8>
     ensures { result ≡ masked_after instr place }
 {
-    if place % 32 == 0 { None } else { instr.masks }
+    if place % BUNDLE as usize == 0 {
+        None
+    } else {
+        instr.masks
+    }
 }
 
 /// The instruction at the front of a window of few bytes.
@@ -80,7 +76,7 @@ fn next(rest: &[u8], room: usize, masked: Option<u8>, at: u32) -> Result<Instr, 
 {
     match decode_within(rest, room) {
         Ok(instr) => {
-            if is_indirect(instr.flow) && masked != Some(instr.reg) {
+            if instr.flow.is_indirect() && masked != Some(instr.reg) {
                 Err(VetFault::Bare { at })
             } else {
                 Ok(instr)
@@ -113,7 +109,7 @@ pub(crate) fn read_exactly(alloc: Global, base: u32, code: &[u8]) -> Result<Vec<
     let mut at = 0usize;
     let mut masked = None;
     while at < code.len() {
-        let room = 32 - at % 32;
+        let room = bundle_rest(at as u32) as usize;
         let instr = next(&code[at..], room, masked, base + at as u32)?;
         marks[at] = mark_of(instr);
         at += usize::from(instr.len);
@@ -134,7 +130,7 @@ fn stuck_from(base: u32, code: &[u8], start: usize) -> Option<VetFault>
     let mut at = start;
     let mut masked = None;
     while at < code.len() {
-        let room = 32 - at % 32;
+        let room = bundle_rest(at as u32) as usize;
         let instr = match next(&code[at..], room, masked, base + at as u32) {
             Ok(instr) => instr,
             Err(fault) => return Some(fault),
@@ -155,7 +151,7 @@ pub(crate) fn read(alloc: Global, base: u32, code: &[u8]) -> Result<Marks, VetFa
     ensures stuck { IfErr result (EndsReading base code.now) }
 {
     if let Some(front) = read_bundles(alloc, code) {
-        if 32 * front.bundles.len() == code.len() {
+        if BUNDLE as usize * front.bundles.len() == code.len() {
             return Ok(Marks::Bits(front.bundles));
         }
         if let Some(fault) = stuck_from(base, code, front.end) {

@@ -6,19 +6,12 @@ ghost use Rattle.nc_decode.specs.Transfers.{is_direct, target};
 ghost use Rattle.nc_vet.specs.Chunk.{IsTarget, Piece, marks_of, AreSpelled};
 ghost use Rattle.nc_vet.specs.Faults.{IsMistargeted};
 ghost use Rattle.nc_vet.specs.Listed.{listed};
-ghost use Rattle.nc_vet.specs.Running.{AreBitsTold};
-ghost use Rattle.nc_vet.specs.Steps.{HasReadAll, GoesWellAt, GoesAstrayAt, HasJudged, HasJudgedAll};
+ghost use Rattle.nc_vet.specs.machinery.Running.{AreBitsTold};
+ghost use Rattle.nc_vet.specs.machinery.Steps.{HasReadAll, GoesWellAt, GoesAstrayAt, HasJudged, HasJudgedAll};
 
 use crate::marks::Marks;
 use crate::transfers::judged_bundles;
-use nc_decode::{Flow, Instr, Mark, decode, may_transfer};
-
-/// A transfer to a target that the instruction itself names.
-fn is_direct(flow: Flow) -> bool
-    ensures { result ≡ is_direct flow }
-{
-    matches!(flow, Flow::Branch | Flow::Jump | Flow::Call)
-}
+use nc_decode::{BUNDLE, Instr, Mark, bundle_rest, decode, is_bundle_start, may_transfer};
 
 /// An instruction begins there that is no second half of a pair.
 fn is_plain(mark: Mark) -> bool
@@ -36,7 +29,7 @@ fn is_good(base: u32, limit: u32, code: &[u8], marks: &Marks, to: u32) -> bool
     if base <= to && ((to - base) as usize) < code.len() {
         is_plain(marks.at(code, (to - base) as usize))
     } else {
-        to % 32 == 0 && to < limit
+        is_bundle_start(to) && to < limit
     }
 }
 
@@ -49,7 +42,7 @@ fn is_misdirected(base: u32, limit: u32, code: &[u8], marks: &Marks, instr: Inst
     ensures good { (pieces : List Piece) → listed code.now marks.now ≡ marks_of pieces → AreSpelled pieces
         → IsFalse result → IsTrue (is_direct instr.flow) → IsTarget base limit pieces (target instr at) }
 {
-    if !is_direct(instr.flow) {
+    if !instr.flow.is_direct() {
         return false;
     }
     !is_good(base, limit, code, marks, instr.target(at))
@@ -73,7 +66,7 @@ fn goes_astray(base: u32, limit: u32, code: &[u8], marks: &Marks, at: usize) -> 
     if !is_plain(marks.at(code, at)) {
         return false;
     }
-    let end = at + (32 - at % 32);
+    let end = at + bundle_rest(at as u32) as usize;
     // Where the mark is plain an instruction has been read, so this one is read again.
     let Ok(instr) = decode(&code[at..end]) else {
         return false;
@@ -90,7 +83,7 @@ fn judged_front(base: u32, limit: u32, code: &[u8], marks: &Marks) -> usize
     ensures { HasJudged base limit code.now (listed code.now marks.now) result }
 {
     match marks {
-        Marks::Bits(bundles) => 32 * judged_bundles(base, limit, code, bundles),
+        Marks::Bits(bundles) => BUNDLE as usize * judged_bundles(base, limit, code, bundles),
         Marks::Each(_) => 0,
     }
 }

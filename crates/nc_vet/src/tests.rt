@@ -27,12 +27,13 @@ type SomeMarks = &'static [(usize, Mark)];
 #[rattlefmt::skip]
 static VALID: [(usize, Parts, SomeMarks); 19] = [
     // Pairs.
-    (1, &[(27, &[0x83, 0xE0, 0xE0, 0xFF, 0xE0])], &[(26, Mark::Plain), (27, Mark::Plain), (28, Mark::Unmarked), (30, Mark::After(0)), (31, Mark::Unmarked)]),
+    (1, &[(27, &[0x83, 0xE0, 0xE0, 0xFF, 0xE0])],
+        &[(26, Mark::Plain), (27, Mark::Plain), (28, Mark::Unmarked), (30, Mark::After(0)), (31, Mark::Unmarked)]),
     (1, &[(0, &[0x83, 0xE0, 0xE0, 0x83, 0xE0, 0xE0, 0xFF, 0xE0])], &[(0, Mark::Plain), (3, Mark::Plain), (6, Mark::After(0))]),
     (1, &[(0, &[0x83, 0xE7, 0xE0, 0xFF, 0xD7])], &[(3, Mark::After(7))]),
     (1, &[(0, &[0x83, 0xE3, 0xE0, 0xFF, 0xE3])], &[(3, Mark::After(3))]),
     (2, &[(32, &[0x83, 0xE1, 0xE0, 0xFF, 0xE1])], &[(32, Mark::Plain), (35, Mark::After(1))]),
-    // A mask alone is an instruction like any other.
+    // A mask by itself is an instruction like any other.
     (2, &[(29, &[0x83, 0xE0, 0xE0])], &[(29, Mark::Plain), (32, Mark::Plain)]),
     // Targets in the chunk: the mask of a pair, a mask before it, the last instruction, the instruction itself.
     (1, &[(0, &[0xEB, 0x00, 0x83, 0xE0, 0xE0, 0xFF, 0xE0])], &[(2, Mark::Plain), (5, Mark::After(0))]),
@@ -77,7 +78,7 @@ static FAULTY: [(usize, Parts, VetFault); 31] = [
     (1, &[(30, &[0xCD, 0x80])], NotPermitted { at: 0x1001E }),
     (1, &[(28, &[0xF0, 0x83, 0x38])], NotPermitted { at: 0x1001C }),
     (3, &[(64, &[0xFF, 0x20])], NotPermitted { at: 0x10040 }),
-    // The first of several, and bad targets only behind a reading without a fault.
+    // The first of several, and bad targets only after a reading without a fault.
     (1, &[(0, &[0xFF, 0xE0, 0xC3]), (31, &[0xFF])], Bare { at: 0x10000 }),
     (1, &[(0, &[0xC3, 0xFF, 0xE0]), (31, &[0xFF])], NotPermitted { at: 0x10000 }),
     (2, &[(31, &[0xFF, 0xC3])], Crosses { at: 0x1001F }),
@@ -89,13 +90,13 @@ static FAULTY: [(usize, Parts, VetFault); 31] = [
     (1, &[(0, &[0xEB, 0x01, 0x83, 0xE0, 0xE0, 0xFF, 0xE0])], BadTarget { at: 0x10000 }),
     (2, &[(0, &[0xEB, 0x3D]), (62, &[0xEB, 0xC0])], BadTarget { at: 0x10000 }),
     (2, &[(0, &[0xEB, 0x3C]), (62, &[0xEB, 0xC1])], BadTarget { at: 0x1003E }),
-    // Outside the chunk: inside another bundle, the limit, and an address behind the end of all addresses.
+    // Outside the chunk: inside another bundle, the limit, and an address after the end of all addresses.
     (1, &[(0, &[0xEB, 0x1F])], BadTarget { at: 0x10000 }),
     (1, &[(0, &[0xE9, 0x7B, 0x00, 0x00, 0x00])], BadTarget { at: 0x10000 }),
     (1, &[(5, &[0xE9, 0xD6, 0xFF, 0xFE, 0xFF])], BadTarget { at: 0x10005 }),
 ];
 
-/// Base, limit and length of chunks of nops, and the fault that these alone show.
+/// Base, limit and length of chunks of nops, and the fault that these show by themselves.
 static SPANS: [(u32, u32, usize, Option<VetFault>); 20] = [
     (0x10000, LIMIT, 32, None),
     (0x10040, LIMIT, 32, None),

@@ -3,11 +3,12 @@
 ghost use Rattle.std.specs.Prelude.{◌≡◌, ◌≢◌, ◌<◌, ◌≤◌, ◌+◌, ◌*◌, ◌%◌, ◌^◌, ℕ, length, get_or, true, false, IsTrue};
 ghost use Rattle.std.specs.Int.{bit_at};
 ghost use Rattle.nc_vet.specs.Bits.{no_bits, is_start, is_second};
-ghost use Rattle.nc_vet.specs.Judged.{short_to, near_to, IsGood, AreGoodShorts, AreGoodNears, AreJudged};
+ghost use Rattle.nc_vet.specs.machinery.Judged.{short_to, near_to, IsGood, AreGoodShorts, AreGoodNears, AreJudged};
 
 use crate::bundle::Bundle;
 use crate::marks::bundle_at;
 use byteorder::{ByteOrder, LittleEndian};
+use nc_decode::{BUNDLE, is_bundle_start};
 
 /// An instruction begins at this byte of a bundle, and is no second half of a pair.
 #[inline(always)]
@@ -28,10 +29,10 @@ fn is_good(base: u32, limit: u32, code: &[u8], bundles: &[Bundle], to: u32) -> b
     ensures { IsTrue result → IsGood base limit code.now bundles.now to }
 {
     let at = to.wrapping_sub(base);
-    if ((at / 32) as usize) < bundles.len() {
-        is_plain(bundles[(at / 32) as usize], at % 32)
+    if ((at / BUNDLE) as usize) < bundles.len() {
+        is_plain(bundles[(at / BUNDLE) as usize], at % BUNDLE)
     } else {
-        to % 32 == 0 && to < limit
+        is_bundle_start(to) && to < limit
     }
 }
 

@@ -28,7 +28,8 @@ impl Model for Vetted {
 
     ghost view = { λ v. record { base = v.base; limit = v.limit; code = v.code.items; marks = listed v.code.items v.marks } };
 
-    ghost invariant = { λ v. IsValid (record { base = v.base; limit = v.limit; code = v.code.items; marks = listed v.code.items v.marks }) };
+    ghost invariant = { λ v.
+        IsValid (record { base = v.base; limit = v.limit; code = v.code.items; marks = listed v.code.items v.marks }) };
 }
 
 impl Vetted {
@@ -84,7 +85,7 @@ impl Vetted {
         Ok(marks)
     }
 
-    /// The mark of the place that lies so many bytes behind the base.
+    /// The mark of the place that lies so many bytes after the base.
     pub fn mark(&self, i: usize) -> Mark
         requires { i < length self.now.code }
         ensures value { slice_get self.now.marks i ≡ Some result }

@@ -1,8 +1,7 @@
 //! The vetting of a chunk.
 
-ghost use Rattle.std.specs.Prelude.{◌≡◌, ◌<◌, ◌^◌, ◌↔◌, List, length, vec_len, IsTrue, IfOk, IfErr, OnOk};
+ghost use Rattle.std.specs.Prelude.{◌≡◌, ◌<◌, ◌^◌, ◌↔◌, List, length, vec_len, IfOk, IfErr, OnOk};
 ghost use Rattle.nc_decode.specs.declared.instruction.Mark.{Mark};
-ghost use Rattle.nc_decode.specs.Bundles.{IsLawfulLimit};
 ghost use Rattle.nc_vet.specs.Chunk.{IsValid, IsBase, IsLength, IsInRange};
 ghost use Rattle.nc_vet.specs.Faults.{HasFault, HasSpanFault, HasGoodSpan};
 ghost use Rattle.nc_vet.specs.Listed.{listed};
@@ -13,30 +12,23 @@ use crate::marks::Marks;
 use crate::reading::read;
 use crate::targets::bad_target;
 use crate::vetted::Vetted;
-use nc_decode::{BUNDLE, MAX_BUNDLES, START};
+use nc_decode::{BUNDLE, START, is_bundle_start, is_lawful_limit};
 use std::alloc::Global;
 
-/// A region may end there.
-fn is_lawful(limit: u32) -> bool
-    ensures { IsTrue result ↔ IsLawfulLimit limit }
-{
-    limit % BUNDLE == 0 && START + 2 * BUNDLE <= limit && limit <= START + MAX_BUNDLES * BUNDLE
-}
-
-/// The first of the faults that base, length and limit alone show.
+/// The first of the faults that base, length and limit show by themselves.
 fn check_span(base: u32, limit: u32, len: usize) -> Result<(), VetFault>
     requires { len < 2 ^ 63 }
     ensures fine { OnOk result (HasGoodSpan base limit len) }
     ensures fault { IfErr result (HasSpanFault base limit len) }
 {
-    if base % BUNDLE != 0 || base < START {
+    if !is_bundle_start(base) || base < START {
         return Err(VetFault::BadBase);
     }
     if len == 0 || len % BUNDLE as usize != 0 {
         return Err(VetFault::BadLength);
     }
     // The last bundle below the limit is the guard, which no chunk covers.
-    if !is_lawful(limit) || base as usize + len + BUNDLE as usize > limit as usize {
+    if !is_lawful_limit(limit) || base as usize + len + BUNDLE as usize > limit as usize {
         return Err(VetFault::OutOfRange);
     }
     Ok(())
@@ -79,7 +71,7 @@ pub fn vet(base: u32, limit: u32, code: Vec<u8>) -> Result<Vetted, (Vec<u8>, Vet
     // What is vetted is the code that was given, for that base and limit, and it is valid.
     ensures vetted { IfOk result (λ v.
         (v.base ≡ base) × (v.limit ≡ limit) × (v.code ≡ code.items) × IsValid v) }
-    // A refusal names the chunk's fault; want of memory comes only where none of the first three holds.
+    // A refusal names the chunk's fault; lack of memory comes only where none of the first three holds.
     ensures fault { IfErr result (λ e. HasFault base limit code.items e.1) }
     // The code comes back as it was.
     ensures given_back { IfErr result (λ e. e.0 ≡ code) }
@@ -89,7 +81,7 @@ pub fn vet(base: u32, limit: u32, code: Vec<u8>) -> Result<Vetted, (Vec<u8>, Vet
         ↔ (IsBase base × ¬ IsLength (vec_len code)) }
     ensures out_of_range { (result ≡ Err (code, VetFault.OutOfRange))
         ↔ (IsBase base × IsLength (vec_len code) × ¬ IsInRange base limit (vec_len code)) }
-    // A valid chunk is refused for want of memory alone.
+    // A valid chunk is refused only for lack of memory.
     ensures valid { (marks : List Mark)
         → IsValid (record { base = base; limit = limit; code = code.items; marks = marks })
         → IfErr result (λ e. e.1 ≡ VetFault.OutOfMemory) }

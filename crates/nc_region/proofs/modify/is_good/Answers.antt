@@ -1,7 +1,7 @@
 use Rattle.std.proofs.Common.{◌≡◌, ◌-◌, ◌<◌, length, sym, ◌∙◌, arith}
 use Rattle.nc_text.specs.Places.{limit_of}
-use Rattle.nc_vet.proofs.Pieces.{valid_len}
-use Rattle.nc_vet.proofs.MarkedPlaces.{target_inside, plain_inside}
+use Rattle.nc_vet.proofs.Offered.{valid_len}
+use Rattle.nc_vet.proofs.Offered.{target_inside, plain_inside}
 use Rattle.nc_region.proofs.modify.is_good.Goals as goal
 
 pub returns-then-to-chunk : goal.returns-then-to-chunk

@@ -5,14 +5,29 @@ use Rattle.nc_vet.proofs.lanes.eight.Goals as goal
 pub loop-i-preserved : goal.loop-i-preserved
 loop-i-preserved c =
     record {
-      a = run_stepped _ c.args.at _ _ _ _ _ _ (omega (arith, c.requires.start)) (omega arith) (omega (arith, c.requires.room)) c.loop-i.invariant.a refl c.step.ensures.state c.step.ensures.states c.step.ensures.small;
-      b = run_stepped _ (c.args.at + 32) _ _ _ _ _ _ (omega (arith, c.requires.start)) (omega arith) (omega (arith, c.requires.room)) c.loop-i.invariant.b refl c.step-in-loop-i.ensures.state c.step-in-loop-i.ensures.states c.step-in-loop-i.ensures.small;
-      c = run_stepped _ (c.args.at + 64) _ _ _ _ _ _ (omega (arith, c.requires.start)) (omega arith) (omega (arith, c.requires.room)) c.loop-i.invariant.c refl c.step-in-loop-i-2.ensures.state c.step-in-loop-i-2.ensures.states c.step-in-loop-i-2.ensures.small;
-      d = run_stepped _ (c.args.at + 96) _ _ _ _ _ _ (omega (arith, c.requires.start)) (omega arith) (omega (arith, c.requires.room)) c.loop-i.invariant.d refl c.step-in-loop-i-3.ensures.state c.step-in-loop-i-3.ensures.states c.step-in-loop-i-3.ensures.small;
-      e = run_stepped _ (c.args.at + 128) _ _ _ _ _ _ (omega (arith, c.requires.start)) (omega arith) (omega (arith, c.requires.room)) c.loop-i.invariant.e refl c.step-in-loop-i-4.ensures.state c.step-in-loop-i-4.ensures.states c.step-in-loop-i-4.ensures.small;
-      f = run_stepped _ (c.args.at + 160) _ _ _ _ _ _ (omega (arith, c.requires.start)) (omega arith) (omega (arith, c.requires.room)) c.loop-i.invariant.f refl c.step-in-loop-i-5.ensures.state c.step-in-loop-i-5.ensures.states c.step-in-loop-i-5.ensures.small;
-      g = run_stepped _ (c.args.at + 192) _ _ _ _ _ _ (omega (arith, c.requires.start)) (omega arith) (omega (arith, c.requires.room)) c.loop-i.invariant.g refl c.step-in-loop-i-6.ensures.state c.step-in-loop-i-6.ensures.states c.step-in-loop-i-6.ensures.small;
-      h = run_stepped _ (c.args.at + 224) _ _ _ _ _ _ (omega (arith, c.requires.start)) (omega arith) (omega (arith, c.requires.room)) c.loop-i.invariant.h refl c.step-in-loop-i-7.ensures.state c.step-in-loop-i-7.ensures.states c.step-in-loop-i-7.ensures.small;
+      a = run_stepped _ c.args.at _ _ _ _ _ _ (omega (arith, c.requires.start)) (omega arith)
+          (omega (arith, c.requires.room)) c.loop-i.invariant.a refl c.step.ensures.state c.step.ensures.states c.step.ensures.small;
+      b = run_stepped _ (c.args.at + 32) _ _ _ _ _ _ (omega (arith, c.requires.start)) (omega arith)
+          (omega (arith, c.requires.room)) c.loop-i.invariant.b refl c.step-in-loop-i.ensures.state c.step-in-loop-i.ensures.states
+          c.step-in-loop-i.ensures.small;
+      c = run_stepped _ (c.args.at + 64) _ _ _ _ _ _ (omega (arith, c.requires.start)) (omega arith)
+          (omega (arith, c.requires.room)) c.loop-i.invariant.c refl c.step-in-loop-i-2.ensures.state c.step-in-loop-i-2.ensures.states
+          c.step-in-loop-i-2.ensures.small;
+      d = run_stepped _ (c.args.at + 96) _ _ _ _ _ _ (omega (arith, c.requires.start)) (omega arith)
+          (omega (arith, c.requires.room)) c.loop-i.invariant.d refl c.step-in-loop-i-3.ensures.state c.step-in-loop-i-3.ensures.states
+          c.step-in-loop-i-3.ensures.small;
+      e = run_stepped _ (c.args.at + 128) _ _ _ _ _ _ (omega (arith, c.requires.start)) (omega arith)
+          (omega (arith, c.requires.room)) c.loop-i.invariant.e refl c.step-in-loop-i-4.ensures.state c.step-in-loop-i-4.ensures.states
+          c.step-in-loop-i-4.ensures.small;
+      f = run_stepped _ (c.args.at + 160) _ _ _ _ _ _ (omega (arith, c.requires.start)) (omega arith)
+          (omega (arith, c.requires.room)) c.loop-i.invariant.f refl c.step-in-loop-i-5.ensures.state c.step-in-loop-i-5.ensures.states
+          c.step-in-loop-i-5.ensures.small;
+      g = run_stepped _ (c.args.at + 192) _ _ _ _ _ _ (omega (arith, c.requires.start)) (omega arith)
+          (omega (arith, c.requires.room)) c.loop-i.invariant.g refl c.step-in-loop-i-6.ensures.state c.step-in-loop-i-6.ensures.states
+          c.step-in-loop-i-6.ensures.small;
+      h = run_stepped _ (c.args.at + 224) _ _ _ _ _ _ (omega (arith, c.requires.start)) (omega arith)
+          (omega (arith, c.requires.room)) c.loop-i.invariant.h refl c.step-in-loop-i-7.ensures.state c.step-in-loop-i-7.ensures.states
+          c.step-in-loop-i-7.ensures.small;
     }
 
 pub returns : goal.returns

@@ -1,5 +1,5 @@
 use Rattle.std.proofs.Common.{◌+◌}
-use Rattle.nc_vet.specs.Running.{HasRun}
+use Rattle.nc_vet.specs.machinery.Running.{HasRun}
 use Rattle.nc_vet.proofs.lanes.eight.Given as goal
 
 abbrev pub invariant-loop-i : goal.invariant-loop-i

@@ -5,16 +5,26 @@ use Rattle.nc_vet.proofs.lanes.four.Goals as goal
 pub loop-i-preserved : goal.loop-i-preserved
 loop-i-preserved c =
     record {
-      a = run_stepped _ c.args.at _ _ _ _ _ _ (omega (arith, c.requires.start)) (omega arith) (omega (arith, c.requires.room)) c.loop-i.invariant.a refl c.step.ensures.state c.step.ensures.states c.step.ensures.small;
-      b = run_stepped _ _ _ _ _ _ _ _ (omega (arith, c.requires.start)) (omega arith) (omega (arith, c.requires.room)) c.loop-i.invariant.b refl c.step-in-loop-i.ensures.state c.step-in-loop-i.ensures.states c.step-in-loop-i.ensures.small;
-      c = run_stepped _ _ _ _ _ _ _ _ (omega (arith, c.requires.start)) (omega arith) (omega (arith, c.requires.room)) c.loop-i.invariant.c refl c.step-in-loop-i-2.ensures.state c.step-in-loop-i-2.ensures.states c.step-in-loop-i-2.ensures.small;
-      d = run_stepped _ _ _ _ _ _ _ _ (omega (arith, c.requires.start)) (omega arith) (omega (arith, c.requires.room)) c.loop-i.invariant.d refl c.step-in-loop-i-3.ensures.state c.step-in-loop-i-3.ensures.states c.step-in-loop-i-3.ensures.small;
+      a = run_stepped _ c.args.at _ _ _ _ _ _ (omega (arith, c.requires.start)) (omega arith)
+          (omega (arith, c.requires.room)) c.loop-i.invariant.a refl c.step.ensures.state c.step.ensures.states c.step.ensures.small;
+      b = run_stepped _ _ _ _ _ _ _ _ (omega (arith, c.requires.start)) (omega arith)
+          (omega (arith, c.requires.room)) c.loop-i.invariant.b refl c.step-in-loop-i.ensures.state c.step-in-loop-i.ensures.states
+          c.step-in-loop-i.ensures.small;
+      c = run_stepped _ _ _ _ _ _ _ _ (omega (arith, c.requires.start)) (omega arith)
+          (omega (arith, c.requires.room)) c.loop-i.invariant.c refl c.step-in-loop-i-2.ensures.state c.step-in-loop-i-2.ensures.states
+          c.step-in-loop-i-2.ensures.small;
+      d = run_stepped _ _ _ _ _ _ _ _ (omega (arith, c.requires.start)) (omega arith)
+          (omega (arith, c.requires.room)) c.loop-i.invariant.d refl c.step-in-loop-i-3.ensures.state c.step-in-loop-i-3.ensures.states
+          c.step-in-loop-i-3.ensures.small;
     }
 
 pub returns : goal.returns
 returns c =
     four_told c.args.code.now c.args.at _ _ _ _
     (run_told c.args.code.now c.args.at c.loop-i.i _ _ _ (omega arith) c.loop-i.invariant.a c.told.ensures)
-    (λ lt. moved c.args.code.now _ (c.args.at + 32) _ (omega (arith, lt, c.requires.start, c.requires.bundles, c.min-second.ensures)) (run_told c.args.code.now _ c.loop-i.i _ _ _ (omega arith) c.loop-i.invariant.b c.told-2.ensures))
-    (λ lt. moved c.args.code.now _ (c.args.at + 64) _ (omega (arith, lt, c.requires.start, c.requires.bundles, c.min-third.ensures)) (run_told c.args.code.now _ c.loop-i.i _ _ _ (omega arith) c.loop-i.invariant.c c.told-3.ensures))
-    (λ lt. moved c.args.code.now _ (c.args.at + 96) _ (omega (arith, lt, c.requires.start, c.requires.bundles, c.min-fourth.ensures)) (run_told c.args.code.now _ c.loop-i.i _ _ _ (omega arith) c.loop-i.invariant.d c.told-4.ensures))
+    (λ lt. moved c.args.code.now _ (c.args.at + 32) _ (omega (arith, lt, c.requires.start, c.requires.bundles, c.min-second.ensures))
+    (run_told c.args.code.now _ c.loop-i.i _ _ _ (omega arith) c.loop-i.invariant.b c.told-2.ensures))
+    (λ lt. moved c.args.code.now _ (c.args.at + 64) _ (omega (arith, lt, c.requires.start, c.requires.bundles, c.min-third.ensures))
+    (run_told c.args.code.now _ c.loop-i.i _ _ _ (omega arith) c.loop-i.invariant.c c.told-3.ensures))
+    (λ lt. moved c.args.code.now _ (c.args.at + 96) _ (omega (arith, lt, c.requires.start, c.requires.bundles, c.min-fourth.ensures))
+    (run_told c.args.code.now _ c.loop-i.i _ _ _ (omega arith) c.loop-i.invariant.d c.told-4.ensures))

@@ -1,4 +1,4 @@
-use Rattle.nc_vet.specs.Running.{HasRun}
+use Rattle.nc_vet.specs.machinery.Running.{HasRun}
 use Rattle.nc_vet.proofs.lanes.four.Given as goal
 
 abbrev pub invariant-loop-i : goal.invariant-loop-i

@@ -1,5 +1,5 @@
 use Rattle.std.proofs.Common.{◌≤◌, ◌-◌, vec_len}
-use Rattle.nc_vet.specs.Running.{AreTold}
+use Rattle.nc_vet.specs.machinery.Running.{AreTold}
 use Rattle.nc_vet.proofs.lanes.read_bundles.Given as goal
 
 abbrev pub invariant-loop-bundles : goal.invariant-loop-bundles

@@ -1,4 +1,5 @@
 use Rattle.nc_vet.proofs.OneFault.{none_valid}
+use Rattle.nc_vet.proofs.OneReading.{same_pieces}
 use Rattle.nc_vet.proofs.OneVerdict.{one_fault, one_reading}
 use Rattle.nc_vet.proofs.law.law_of_verdicts.Goals as goal
 
@@ -10,3 +11,6 @@ returns-clause-no_fault c = λ chunk fault v f. none_valid chunk.base chunk.limi
 
 pub returns-clause-one_reading : goal.returns-clause-one_reading
 returns-clause-one_reading c = one_reading
+
+pub returns-clause-one_parting : goal.returns-clause-one_parting
+returns-clause-one_parting c = same_pieces

@@ -8,4 +8,5 @@ returns-then-len-code-clause-read c =
     (omega (arith, c.if-len-code.true, c.len.ensures, c.in-Some.front.bundles.ok.0))
 
 pub stuck_from-requires-clause-read : goal.stuck_from-requires-clause-read
-stuck_from-requires-clause-read c = read_front c.args.code.now c.in-Some.front.bundles.items c.in-Some.front.end c.type_inv.code c.requires.bundles c.in-Some.ensures
+stuck_from-requires-clause-read c =
+    read_front c.args.code.now c.in-Some.front.bundles.items c.in-Some.front.end c.type_inv.code c.requires.bundles c.in-Some.ensures

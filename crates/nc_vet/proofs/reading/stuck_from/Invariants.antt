@@ -1,5 +1,5 @@
 use Rattle.std.proofs.Common.{◌≤◌, ◌-◌, length}
-use Rattle.nc_vet.specs.Steps.{HasReadTo}
+use Rattle.nc_vet.specs.machinery.Steps.{HasReadTo}
 use Rattle.nc_vet.proofs.reading.stuck_from.Given as goal
 
 abbrev pub invariant-loop-at : goal.invariant-loop-at

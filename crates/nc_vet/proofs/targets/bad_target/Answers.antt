@@ -10,12 +10,15 @@ goes_astray-requires-clause-each c = read_len c.args.code.now (listed c.args.cod
 pub returns-then-goes_astray-clause-bad : goal.returns-then-goes_astray-clause-bad
 returns-then-goes_astray-clause-bad c =
     let h = c.loop-at.invariant in
-    mistargeted c.args.base c.args.limit c.args.code.now (listed c.args.code.now c.args.marks.now) c.loop-at.at h (c.goes_astray.ensures.bad h.read c.if-goes_astray.true)
+    mistargeted c.args.base c.args.limit c.args.code.now (listed c.args.code.now c.args.marks.now) c.loop-at.at h
+    (c.goes_astray.ensures.bad h.read c.if-goes_astray.true)
 
 pub loop-at-preserved : goal.loop-at-preserved
 loop-at-preserved c =
     let h = c.loop-at.invariant in
-    judged_more c.args.base c.args.limit c.args.code.now (listed c.args.code.now c.args.marks.now) c.loop-at.at h (c.goes_astray.ensures.good h.read c.if-goes_astray.false)
+    judged_more c.args.base c.args.limit c.args.code.now (listed c.args.code.now c.args.marks.now) c.loop-at.at h
+    (c.goes_astray.ensures.good h.read c.if-goes_astray.false)
 
 pub returns-clause-good : goal.returns-clause-good
-returns-clause-good c = judged_all c.args.base c.args.limit c.args.code.now (listed c.args.code.now c.args.marks.now) c.loop-at.at c.loop-at.invariant (omega arith)
+returns-clause-good c = judged_all c.args.base c.args.limit c.args.code.now
+    (listed c.args.code.now c.args.marks.now) c.loop-at.at c.loop-at.invariant (omega arith)

@@ -1,6 +1,6 @@
 use Rattle.std.proofs.Common.{◌-◌, length}
 use Rattle.nc_vet.specs.Listed.{listed}
-use Rattle.nc_vet.specs.Steps.{HasJudged}
+use Rattle.nc_vet.specs.machinery.Steps.{HasJudged}
 use Rattle.nc_vet.proofs.targets.bad_target.Given as goal
 
 abbrev pub invariant-loop-at : goal.invariant-loop-at

@@ -1,6 +1,6 @@
 use Rattle.std.proofs.lemmas.Option.{get_or_from_slice_get}
 use Rattle.nc_decode.specs.declared.instruction.Mark.TheVariants.{Unmarked}
-use Rattle.std.proofs.Common.{◌≡◌, ◌∙◌, sym, get_or, arith, ltb-true, lt-ltb, eqb-true, ◌<◌, ◌≤◌, ◌-◌, length}
+use Rattle.std.proofs.Common.{◌≡◌, ◌∙◌, sym, get_or, arith, ltb-true, lt-ltb, true, false, ◌<◌, ◌≤◌, ◌-◌, length}
 use Rattle.nc_vet.specs.Listed.{listed}
 use Rattle.nc_vet.proofs.MarkedPlaces.{target_inside, plain_inside, target_outside, starts_outside}
 use Rattle.nc_vet.proofs.targets.is_good.Goals as goal
@@ -8,33 +8,45 @@ use Rattle.nc_vet.proofs.targets.is_good.Goals.{else-base-to-via-then-base-to+el
 
 pub returns-then-to-base : goal.returns-then-to-base
 returns-then-to-base c =
-    let mark : get_or (listed c.args.code.now c.args.marks.now) (c.args.to - c.args.base) Unmarked ≡ c.at.result = get_or_from_slice_get (listed c.args.code.now c.args.marks.now) (c.args.to - c.args.base) c.at.result Unmarked c.at.ensures in
+    let mark : get_or (listed c.args.code.now c.args.marks.now) (c.args.to - c.args.base) Unmarked ≡ c.at.result = get_or_from_slice_get
+    (listed c.args.code.now c.args.marks.now) (c.args.to - c.args.base) c.at.result Unmarked c.at.ensures in
     let inside : c.args.to - c.args.base < length (listed c.args.code.now c.args.marks.now) = omega (arith, c.requires) in
     record {
       exact = λ pieces is s. (
-        λ t. target_inside c.args.base c.args.limit c.args.to pieces (listed c.args.code.now c.args.marks.now) is s (omega arith) inside (mark ∙ c.is_plain.ensures.0 t),
-        λ t. c.is_plain.ensures.1 (sym mark ∙ plain_inside c.args.base c.args.limit c.args.to pieces (listed c.args.code.now c.args.marks.now) is s (omega arith) inside t),
+        λ t. target_inside c.args.base c.args.limit c.args.to pieces (listed c.args.code.now c.args.marks.now) is s (omega arith) inside
+            (mark ∙ c.is_plain.ensures.0 t),
+        λ t. c.is_plain.ensures.1 (sym mark ∙ plain_inside c.args.base c.args.limit c.args.to pieces
+            (listed c.args.code.now c.args.marks.now) is s (omega arith) inside t),
       );
     }
 
-pub returns-then-to-eq0 : goal.returns-then-to-eq0
-returns-then-to-eq0 c =
+pub returns-then-is_bundle_start : goal.returns-then-is_bundle_start
+returns-then-is_bundle_start c =
     let outside : c.args.base ≤ c.args.to → c.args.to - c.args.base < length (listed c.args.code.now c.args.marks.now) → ⊥
-    = λ low lt. elim c.else-base-to.branch [ else-base-to-via-then-base-to+else-to-base w ↦ omega arith | else-base-to-via-else-base-to w ↦ omega arith ] in
+    = λ low lt. elim c.else-base-to.branch [
+      | else-base-to-via-then-base-to+else-to-base w ↦ omega arith
+      | else-base-to-via-else-base-to w ↦ omega arith
+    ] in
     record {
       exact = λ pieces is s. (
-        λ t. target_outside c.args.base c.args.limit c.args.to pieces (listed c.args.code.now c.args.marks.now) is s outside c.if-to-eq0.true (ltb-true _ _ t),
-        λ t. lt-ltb _ _ (starts_outside c.args.base c.args.limit c.args.to pieces (listed c.args.code.now c.args.marks.now) is s outside t).1,
+        λ t. target_outside c.args.base c.args.limit c.args.to pieces (listed c.args.code.now c.args.marks.now) is s outside
+            (c.is_bundle_start.ensures.0 c.if-is_bundle_start.true) (ltb-true _ _ t),
+        λ t. lt-ltb _ _ (starts_outside c.args.base c.args.limit c.args.to pieces
+            (listed c.args.code.now c.args.marks.now) is s outside t).1,
       );
     }
 
-pub returns-else-to-eq0 : goal.returns-else-to-eq0
-returns-else-to-eq0 c =
+pub returns-else-is_bundle_start : goal.returns-else-is_bundle_start
+returns-else-is_bundle_start c =
     let outside : c.args.base ≤ c.args.to → c.args.to - c.args.base < length (listed c.args.code.now c.args.marks.now) → ⊥
-    = λ low lt. elim c.else-base-to.branch [ else-base-to-via-then-base-to+else-to-base w ↦ omega arith | else-base-to-via-else-base-to w ↦ omega arith ] in
+    = λ low lt. elim c.else-base-to.branch [
+      | else-base-to-via-then-base-to+else-to-base w ↦ omega arith
+      | else-base-to-via-else-base-to w ↦ omega arith
+    ] in
     record {
       exact = λ pieces is s. (
-        λ t. absurd (c.if-to-eq0.false (eqb-true _ _ t)),
-        λ t. absurd (c.if-to-eq0.false (starts_outside c.args.base c.args.limit c.args.to pieces (listed c.args.code.now c.args.marks.now) is s outside t).0),
+        λ t. absurd (let f : true ≡ false = sym t ∙ c.if-is_bundle_start.false in cc),
+        λ t. c.is_bundle_start.ensures.1 (starts_outside c.args.base c.args.limit c.args.to pieces
+            (listed c.args.code.now c.args.marks.now) is s outside t).0,
       );
     }

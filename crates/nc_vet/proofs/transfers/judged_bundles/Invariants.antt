@@ -1,5 +1,5 @@
 use Rattle.std.proofs.Common.{◌-◌, ◌+◌, ◌≤◌, length}
-use Rattle.nc_vet.specs.Judged.{AreJudged}
+use Rattle.nc_vet.specs.machinery.Judged.{AreJudged}
 use Rattle.nc_vet.proofs.transfers.judged_bundles.Given as goal
 
 abbrev pub invariant-loop-n : goal.invariant-loop-n

@@ -18,10 +18,13 @@ returns-in-Bits c =
     let is : c.mark_at.result ≡ get_or (marks_in c.args.code.now c.in-Bits.bundles.items) c.args.k c.mark_at.result =
     read ∙ sym (marks_in-at c.args.code.now c.in-Bits.bundles.items c.args.k c.mark_at.result c.requires.place) in
     subst (λ (m : Marks). slice_get (listed c.args.code.now m) c.args.k ≡ Some c.mark_at.result) (sym c.in-Bits.is)
-    (slice_get_read (marks_in c.args.code.now c.in-Bits.bundles.items) (length (marks_in c.args.code.now c.in-Bits.bundles.items)) c.args.k c.mark_at.result refl (omega (arith, length-marks_in c.args.code.now c.in-Bits.bundles.items, c.requires.place)) is)
+    (slice_get_read (marks_in c.args.code.now c.in-Bits.bundles.items)
+    (length (marks_in c.args.code.now c.in-Bits.bundles.items)) c.args.k c.mark_at.result refl
+    (omega (arith, length-marks_in c.args.code.now c.in-Bits.bundles.items, c.requires.place)) is)
 
 pub returns-in-Each : goal.returns-in-Each
 returns-in-Each c =
-    let long : c.args.k < length c.in-Each.marks.items = omega (arith, c.requires.place, c.requires.each, ap (λ (m : Marks). length (listed c.args.code.now m)) c.in-Each.is) in
+    let long : c.args.k < length c.in-Each.marks.items = omega
+    (arith, c.requires.place, c.requires.each, ap (λ (m : Marks). length (listed c.args.code.now m)) c.in-Each.is) in
     subst (λ (m : Marks). slice_get (listed c.args.code.now m) c.args.k ≡ Some c.index.result.now) (sym c.in-Each.is)
     (slice_get_read c.in-Each.marks.items (length c.in-Each.marks.items) c.args.k c.index.result.now refl long c.index.ensures)

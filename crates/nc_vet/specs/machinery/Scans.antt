@@ -1,37 +1,39 @@
 -- What a run over bundles says of the code: machinery of the proofs, cited by no public contract.
-use Rattle.std.specs.Prelude.{◌≡◌, ℕ, ◌+◌, ◌-◌, ◌%◌, ◌<◌, ◌≤◌, ◌⊎◌, List, ◌∷◌, ◌++◌, length, drop, get_or, slice_index, ◌==◌, ◌&&◌, nat_le, nat_lt, Bool, if◌then◌else◌, All, IsTrue}
+use Rattle.std.specs.Prelude.{◌≡◌, ℕ, ◌+◌, ◌-◌, ◌%◌, ◌<◌, ◌≤◌, ◌⊎◌, List, ◌∷◌, ◌++◌, length, drop, get_or, slice_index, ◌==◌, ◌&&◌}
+use Rattle.std.specs.Prelude.{nat_le, nat_lt, Bool, if◌then◌else◌, All, IsTrue}
 use Rattle.std.specs.Int.{w8, w32, cast_signed, from_le_bytes}
 use Rattle.nc_decode.specs.declared.instruction.Instr.{Instr}
 use Rattle.nc_decode.specs.declared.instruction.Mark.{Mark}
 use Rattle.nc_decode.specs.declared.instruction.Mark.TheVariants.{Unmarked, Plain, After}
+use Rattle.nc_decode.specs.declared.automaton.TheConstants.{END, AFTER_SHORT, AFTER_NEAR, AFTER_PAIR}
 use Rattle.nc_decode.specs.Automaton.{next_state}
 use Rattle.nc_decode.specs.Transfers.{is_direct}
 use Rattle.nc_vet.specs.Chunk.{Piece, place, marks_of}
 use Rattle.nc_vet.specs.Faults.{IsSoundFront}
-use Rattle.nc_vet.specs.Running.{before}
+use Rattle.nc_vet.specs.machinery.Running.{before}
 
 -- the states after the places of the code, of which an instruction ends with each bundle up to a place, and at that place
 pub record AreStates (code : List ℕ) (to : ℕ) (S : ℕ → ℕ) : Type 0 where
   pub next : (k : ℕ) → k < length code → S k ≡ next_state (before S k) (get_or code k 0)
-  pub whole : (k : ℕ) → k < to → k % 32 ≡ 31 → 64 ≤ S k
-  pub ended : (k : ℕ) → k + 1 ≡ to → 64 ≤ S k
+  pub whole : (k : ℕ) → k < to → k % 32 ≡ 31 → END ≤ S k
+  pub ended : (k : ℕ) → k + 1 ≡ to → END ≤ S k
   pub bytes : All (λ b. b < 256) code
   pub bundles : length code % 32 ≡ 0
   pub within : to ≤ length code
 
 -- an indirect transfer begins at a place
 abbrev pub second : (ℕ → ℕ) → ℕ → Bool
-second S k = nat_lt (k % 32) 31 && (S (k + 1) == 74)
+second S k = nat_lt (k % 32) 31 && (S (k + 1) == AFTER_PAIR)
 
 -- the mark of a place, by the states
 abbrev pub mark_by : (ℕ → ℕ) → List ℕ → ℕ → Mark
-mark_by S code k = if second S k then After (get_or code (k + 1) 0 % 8) else (if nat_le 64 (before S k) then Plain else Unmarked)
+mark_by S code k = if second S k then After (get_or code (k + 1) 0 % 8) else (if nat_le END (before S k) then Plain else Unmarked)
 
 -- where the displacement of a direct transfer stands that ends before a place
 abbrev pub IsDisplaced : (ℕ → ℕ) → List ℕ → ℕ → Instr → Type 0
 IsDisplaced S code end i =
-    ((S (end - 1) ≡ 72) × (i.rel ≡ cast_signed w8 (slice_index code (end - 1))))
-    ⊎ ((S (end - 1) ≡ 73) × (4 ≤ end) × (i.rel ≡ cast_signed w32 (from_le_bytes w32 (drop (end - 4) code))))
+    ((S (end - 1) ≡ AFTER_SHORT) × (i.rel ≡ cast_signed w8 (slice_index code (end - 1))))
+    ⊎ ((S (end - 1) ≡ AFTER_NEAR) × (4 ≤ end) × (i.rel ≡ cast_signed w32 (from_le_bytes w32 (drop (end - 4) code))))
 
 -- the code up to a place is sound instructions, with marks and displacements by the states
 pub record IsScanned (code : List ℕ) (to : ℕ) (S : ℕ → ℕ) : Type 0 where
@@ -40,7 +42,8 @@ pub record IsScanned (code : List ℕ) (to : ℕ) (S : ℕ → ℕ) : Type 0 whe
   pub reads : IsSoundFront code rest pieces
   pub here : place pieces ≡ to
   pub marks : (k : ℕ) → k < to → get_or (marks_of pieces) k Unmarked ≡ mark_by S code k
-  pub direct : (b a : List Piece) (p : Piece) → pieces ≡ b ++ p ∷ a → IsTrue (is_direct p.instr.flow) → IsDisplaced S code (place b + length p.bytes) p.instr
+  pub direct : (b a : List Piece) (p : Piece) → pieces ≡ b ++ p ∷ a → IsTrue (is_direct p.instr.flow)
+      → IsDisplaced S code (place b + length p.bytes) p.instr
 
 -- so it is wherever the states say so
 abbrev pub Scans : Type 0

@@ -1,6 +1,8 @@
 -- Running the automaton over bundles: machinery of the proofs, cited by no public contract.
-use Rattle.std.specs.Prelude.{◌≡◌, ◌≢◌, ℕ, ◌+◌, ◌-◌, ◌*◌, ◌%◌, ◌^◌, ◌<◌, ◌≤◌, List, [], ◌∷◌, length, take, drop, get_or, slice_index, ◌==◌, nat_le, if◌then◌else◌, ⊤}
+use Rattle.std.specs.Prelude.{◌≡◌, ◌≢◌, ℕ, ◌+◌, ◌-◌, ◌*◌, ◌%◌, ◌^◌, ◌<◌, ◌≤◌, List, [], ◌∷◌, length, take, drop, get_or, slice_index}
+use Rattle.std.specs.Prelude.{◌==◌, nat_le, if◌then◌else◌, ⊤}
 use Rattle.std.specs.Int.{bit_at}
+use Rattle.nc_decode.specs.declared.automaton.TheConstants.{STATES, END, AFTER_SHORT, AFTER_NEAR, AFTER_PAIR}
 use Rattle.nc_decode.specs.Automaton.{next_state}
 use Rattle.nc_vet.specs.declared.bundle.Bundle.{Bundle}
 use Rattle.nc_vet.specs.declared.marks.Marks.{Marks}
@@ -14,42 +16,43 @@ run s (b ∷ bs) = run (next_state s b) bs
 
 -- the state after the byte at a place, where each bundle is begun anew
 unfoldable pub state_after : List ℕ → ℕ → ℕ
-state_after code k = run 64 (take (k % 32 + 1) (drop (k - k % 32) code))
+state_after code k = run END (take (k % 32 + 1) (drop (k - k % 32) code))
 
 -- the state before a place, by those after the places
 abbrev pub before : (ℕ → ℕ) → ℕ → ℕ
-before S k = if k % 32 == 0 then 64 else S (k - 1)
+before S k = if k % 32 == 0 then END else S (k - 1)
 
 -- bits tell the states after a bundle's bytes
 pub record TellsStates (states : List ℕ) (w : Bundle) : Type 0 where
-  pub ends : (k : ℕ) → k < 32 → (bit_at w.ends k == 1) ≡ nat_le 64 (get_or states k 0)
-  pub pairs : (k : ℕ) → k < 32 → (bit_at w.pairs k == 1) ≡ (get_or states k 0 == 74)
-  pub shorts : (k : ℕ) → k < 32 → (bit_at w.shorts k == 1) ≡ (get_or states k 0 == 72)
-  pub nears : (k : ℕ) → k < 32 → (bit_at w.nears k == 1) ≡ (get_or states k 0 == 73)
+  pub ends : (k : ℕ) → k < 32 → (bit_at w.ends k == 1) ≡ nat_le END (get_or states k 0)
+  pub pairs : (k : ℕ) → k < 32 → (bit_at w.pairs k == 1) ≡ (get_or states k 0 == AFTER_PAIR)
+  pub shorts : (k : ℕ) → k < 32 → (bit_at w.shorts k == 1) ≡ (get_or states k 0 == AFTER_SHORT)
+  pub nears : (k : ℕ) → k < 32 → (bit_at w.nears k == 1) ≡ (get_or states k 0 == AFTER_NEAR)
   pub small : w.pairs < 2 ^ 32
 
 -- the state after the first i bytes of the bundle that begins at a place
 abbrev pub entered : List ℕ → ℕ → ℕ → ℕ
-entered code at i = if i == 0 then 64 else state_after code (at + i - 1)
+entered code at i = if i == 0 then END else state_after code (at + i - 1)
 
 -- the states after the first i bytes of that bundle
 pub record HasRun (code : List ℕ) (at i state : ℕ) (states : List ℕ) : Type 0 where
   pub now : state ≡ entered code at i
   pub each : (k : ℕ) → k < i → get_or states k 0 ≡ state_after code (at + k)
   pub long : length states ≡ 32
-  pub small : state < 75
+  pub small : state < STATES
 
 -- the bits tell the states after the bytes of the bundle that begins at this place
 pub record Tells (code : List ℕ) (at : ℕ) (w : Bundle) : Type 0 where
-  pub ends : (k : ℕ) → k < 32 → (bit_at w.ends k == 1) ≡ nat_le 64 (state_after code (at + k))
-  pub pairs : (k : ℕ) → k < 32 → (bit_at w.pairs k == 1) ≡ (state_after code (at + k) == 74)
-  pub shorts : (k : ℕ) → k < 32 → (bit_at w.shorts k == 1) ≡ (state_after code (at + k) == 72)
-  pub nears : (k : ℕ) → k < 32 → (bit_at w.nears k == 1) ≡ (state_after code (at + k) == 73)
+  pub ends : (k : ℕ) → k < 32 → (bit_at w.ends k == 1) ≡ nat_le END (state_after code (at + k))
+  pub pairs : (k : ℕ) → k < 32 → (bit_at w.pairs k == 1) ≡ (state_after code (at + k) == AFTER_PAIR)
+  pub shorts : (k : ℕ) → k < 32 → (bit_at w.shorts k == 1) ≡ (state_after code (at + k) == AFTER_SHORT)
+  pub nears : (k : ℕ) → k < 32 → (bit_at w.nears k == 1) ≡ (state_after code (at + k) == AFTER_NEAR)
   pub small : w.pairs < 2 ^ 32
 
 -- so it is of each of these bundles, and an instruction ends with each
 abbrev pub AreTold : List ℕ → List Bundle → Type 0
-AreTold code bundles = (n : ℕ) → n < length bundles → Tells code (32 * n) (get_or bundles n no_bits) × (64 ≤ state_after code (32 * n + 31))
+AreTold code bundles = (n : ℕ) → n < length bundles → Tells code (32 * n) (get_or bundles n no_bits)
+    × (END ≤ state_after code (32 * n + 31))
 
 -- Bundles of the code are told, and reading may go on at a place: after them, or where an instruction ends in the next one that
 -- is no mask, by its last byte.
@@ -58,7 +61,7 @@ pub record EndsFront (code : List ℕ) (bundles : List Bundle) (at : ℕ) : Type
   pub low : 32 * length bundles ≤ at
   pub near : at ≤ 32 * length bundles + 32
   pub high : at ≤ length code
-  pub ended : 32 * length bundles < at → (64 ≤ state_after code (at - 1)) × (slice_index code (at - 1) ≢ 0xE0)
+  pub ended : 32 * length bundles < at → (END ≤ state_after code (at - 1)) × (slice_index code (at - 1) ≢ 0xE0)
 
 -- so it is of all bundles of the code, where its marks are bits
 abbrev pub AreBitsTold : List ℕ → Marks → Type 0

@@ -1,5 +1,6 @@
 -- One step of the reading and one of the judging of targets: machinery of the proofs, cited by no public contract.
-use Rattle.std.specs.Prelude.{◌≡◌, ◌≢◌, ℕ, ◌+◌, ◌-◌, ◌%◌, ◌<◌, ◌≤◌, ◌↔◌, true, List, ◌∷◌, ◌++◌, length, replicate, Option, Some, None, IsTrue, ⊤, ◌==◌, if◌then◌else◌}
+use Rattle.std.specs.Prelude.{◌≡◌, ◌≢◌, ℕ, ◌+◌, ◌-◌, ◌%◌, ◌<◌, ◌≤◌, ◌↔◌, true, List, ◌∷◌, ◌++◌, length, replicate, Option, Some, None}
+use Rattle.std.specs.Prelude.{IsTrue, ⊤, ◌==◌, if◌then◌else◌}
 use Rattle.nc_decode.specs.declared.instruction.Instr.{Instr}
 use Rattle.nc_decode.specs.declared.instruction.Mark.{Mark}
 use Rattle.nc_decode.specs.declared.instruction.Mark.TheVariants.{Unmarked}
@@ -19,12 +20,13 @@ pub record MayFollow (window : List ℕ) (masked : Option ℕ) (i : Instr) : Typ
 
 -- why none may
 abbrev pub NoneMayFollow : List ℕ → Option ℕ → ℕ → VetFault → Type 0
-NoneMayFollow window masked address (Bare at) = (at ≡ address) × ((i : Instr) × IsAtFront window i × (is_indirect i.flow ≡ true) × (masked ≢ Some i.reg))
+NoneMayFollow window masked address (Bare at) = (at ≡ address) × ((i : Instr) × IsAtFront window i × (is_indirect i.flow ≡ true)
+    × (masked ≢ Some i.reg))
 NoneMayFollow window masked address (Crosses at) = (at ≡ address) × IsProperFront window
 NoneMayFollow window masked address (NotPermitted at) = (at ≡ address) × ((i : Instr) → ¬ IsAtFront window i) × ¬ IsProperFront window
 NoneMayFollow window masked address _ = ⊥
 
--- the register that an instruction has masked for the place behind it
+-- the register that an instruction has masked for the place after it
 abbrev pub masked_after : Instr → ℕ → Option ℕ
 masked_after i place = if place % 32 == 0 then None else i.masks
 
@@ -34,7 +36,7 @@ pub record HasRead (code : List ℕ) (at : ℕ) (masked : Option ℕ) (marks : L
   pub rest : List ℕ
   pub reads : IsSoundFront code rest front
   pub here : place front ≡ at
-  pub behind : (r : ℕ) → (masked ≡ Some r) ↔ FollowsMask front r
+  pub masked_is : (r : ℕ) → (masked ≡ Some r) ↔ FollowsMask front r
   pub marks_are : marks ≡ marks_of front ++ replicate (length code - at) Unmarked
 
 -- the front of the code up to a place is sound instructions
@@ -55,7 +57,8 @@ EndsReading base code fault = IsStuck base code fault
 
 -- the instruction that begins at a place, if one does, goes well: it is no direct transfer, or its target is good
 abbrev pub GoesWellAt : ℕ → ℕ → List Piece → ℕ → Type 0
-GoesWellAt base limit pieces at = (before after : List Piece) (p : Piece) → pieces ≡ before ++ p ∷ after → place before ≡ at → IsTrue (is_direct p.instr.flow) → IsTarget base limit pieces (target p.instr (base + at))
+GoesWellAt base limit pieces at = (before after : List Piece) (p : Piece) → pieces ≡ before ++ p ∷ after → place before ≡ at
+    → IsTrue (is_direct p.instr.flow) → IsTarget base limit pieces (target p.instr (base + at))
 
 -- a direct transfer with a bad target begins at a place
 pub record GoesAstrayAt (base limit : ℕ) (pieces : List Piece) (at : ℕ) : Type 0 where

@@ -20,16 +20,20 @@ pub record IsGood (base limit : ℕ) (code : List ℕ) (bundles : List Bundle) (
 
 -- the transfers may go where they go whose displacement is one byte, and of which these are the last bytes, counted from a place
 abbrev pub AreGoodShorts : ℕ → ℕ → List ℕ → List Bundle → ℕ → ℕ → Type 0
-AreGoodShorts base limit code bundles start ends = (k : ℕ) → k < 64 → bit_at ends k ≡ 1 → IsGood base limit code bundles (short_to base code (start + k))
+AreGoodShorts base limit code bundles start ends = (k : ℕ) → k < 64 → bit_at ends k ≡ 1
+    → IsGood base limit code bundles (short_to base code (start + k))
 
 -- the same of a displacement of four bytes
 abbrev pub AreGoodNears : ℕ → ℕ → List ℕ → List Bundle → ℕ → ℕ → Type 0
-AreGoodNears base limit code bundles start ends = (k : ℕ) → k < 64 → bit_at ends k ≡ 1 → IsGood base limit code bundles (near_to base code (start + k))
+AreGoodNears base limit code bundles start ends = (k : ℕ) → k < 64 → bit_at ends k ≡ 1
+    → IsGood base limit code bundles (near_to base code (start + k))
 
 -- all direct transfers of a bundle may go where they go
 pub record IsJudged (base limit : ℕ) (code : List ℕ) (bundles : List Bundle) (n : ℕ) : Type 0 where
-  pub shorts : (k : ℕ) → k < 32 → bit_at (get_or bundles n no_bits).shorts k ≡ 1 → IsGood base limit code bundles (short_to base code (32 * n + k))
-  pub nears : (k : ℕ) → k < 32 → bit_at (get_or bundles n no_bits).nears k ≡ 1 → IsGood base limit code bundles (near_to base code (32 * n + k))
+  pub shorts : (k : ℕ) → k < 32 → bit_at (get_or bundles n no_bits).shorts k ≡ 1
+      → IsGood base limit code bundles (short_to base code (32 * n + k))
+  pub nears : (k : ℕ) → k < 32 → bit_at (get_or bundles n no_bits).nears k ≡ 1
+      → IsGood base limit code bundles (near_to base code (32 * n + k))
 
 -- so it is of the first bundles
 abbrev pub AreJudged : ℕ → ℕ → List ℕ → List Bundle → ℕ → Type 0

@@ -1,0 +1,5 @@
+-- Machinery of the proofs, cited by no public contract: what a run over bundles tells, and one step of reading and of judging.
+pub mod Running
+pub mod Scans
+pub mod Judged
+pub mod Steps
