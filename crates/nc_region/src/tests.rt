@@ -846,6 +846,17 @@ fn check_in_beside<R: Threads + Wait + Sync>(
     wrote
 }
 
+/// All passes but the last check in once more, and the last one leaves.
+fn last_leaves<R: Threads + Sync>(rt: &R, shared: &Shared<'_>, passes: Vec<Pass>)
+    requires { All (λ p. p.table ≡ shared.now) passes.items }
+{
+    let mut passes = passes;
+    if let Some(last) = passes.pop() {
+        all_check_in(rt, shared, passes.as_mut_slice(), 1);
+        shared.leave(last);
+    }
+}
+
 #[test]
 fn check_in_beside_writer(rt: HostRuntime) -> Result<(), Fail> {
     let alloc = rt.alloc();
@@ -859,9 +870,7 @@ fn check_in_beside_writer(rt: HostRuntime) -> Result<(), Fail> {
     );
     assert_eq!(rt; shared.delete(&rt, 0x10C80), Ok(101));
     assert!(rt; shared.chunk_count(&rt) >= 1);
-    let last = passes.remove(3);
-    all_check_in(&rt, &shared, passes.as_mut_slice(), 1);
-    shared.leave(last);
+    last_leaves(&rt, &shared, passes);
     assert_eq!(rt; freed.wrapping_add(shared.reclaim(&rt)), 101);
     assert_eq!(rt; shared.chunk_count(&rt), 0);
     Ok(())
