@@ -1,4 +1,4 @@
--- A chunk has one verdict, and a code parts into instructions in one way.
+-- A chunk has one verdict, and a code parts into instructions in at most one way.
 use Rattle.std.specs.Prelude.{◌≡◌, ◌≢◌, ℕ, List}
 use Rattle.nc_vet.specs.declared.fault.VetFault.{VetFault}
 use Rattle.nc_vet.specs.declared.fault.VetFault.TheVariants.{OutOfMemory}
@@ -18,6 +18,6 @@ HasNoFault = (c : MarkedChunk) (fault : VetFault) → IsValid c → HasFault c.b
 abbrev pub HasOneReading : Type 0
 HasOneReading = (c d : MarkedChunk) → IsValid c → IsValid d → c.code ≡ d.code → c.marks ≡ d.marks
 
--- a code parts into whole instructions in one way: two lists of them with the same bytes are the same list
+-- a code parts into whole instructions in at most one way: two lists of them with the same bytes are the same list
 abbrev pub HasOneParting : Type 0
 HasOneParting = (xs ys : List Piece) → AreSpelled xs → AreSpelled ys → code_of xs ≡ code_of ys → xs ≡ ys

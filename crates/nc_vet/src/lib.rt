@@ -2,7 +2,7 @@
 //!
 //! Code that isn't trusted may run in a region only if it can't leave it: control must stand only at instructions that were
 //! read beforehand, and none of them may be a forbidden one. x86 instructions have many lengths, so a jump into the middle of one
-//! would run bytes that nobody has read. Vetting looks at one chunk of such code before it is put into the region, and says yes
+//! would run instructions that nobody has read. Vetting looks at one chunk of such code before it is put into the region, and says yes
 //! only where that can't happen.
 //!
 //! - A *chunk* is some bundles of 32 bytes from a base on, below the *guard*, which is the region's last bundle.
@@ -14,7 +14,7 @@
 //!
 //! Which call to use: [`vet`] takes a chunk and gives a [`Vetted`], which is valid and stays so, or its [`VetFault`] and the chunk.
 //! [`judge`] does the same where the bytes lie, for callers that keep them. `law_of_verdicts` does nothing; its contract says that
-//! a chunk has one verdict, and that its code parts into instructions in one way.
+//! a chunk has one verdict, and that its code parts into instructions in at most one way.
 //!
 //! ```
 //! // One bundle of nops in a region that ends at 00010040.
