@@ -3,10 +3,24 @@ use Rattle.std.proofs.Common.{◌++◌, ℕ, List, [], ◌∷◌, refl, sym, ap,
 use Rattle.nc_replay.specs.Answering.{AnswersLines}
 
 -- answers to lines go on by the answer to one more
-pub runs_more : {S : Type 0} (answers : S → List ℕ → List ℕ → S → Type 0) (old : S) (lines : List (List ℕ)) (text : List ℕ) (mid : S) (line answer : List ℕ) (new : S)
-    → AnswersLines answers old lines text mid → answers mid line answer new → AnswersLines answers old (lines ++ line ∷ []) (text ++ answer) new
-runs_more {S} answers old [] text mid line answer new h a =
-    (new, answer, [], subst (λ (m : S). answers m line answer new) h.1 a, ap (λ (t : List ℕ). t ++ answer) h.0 ∙ sym (append-nil answer), (refl, refl))
-runs_more answers old (l ∷ lines) text mid line answer new h a =
-    let (next, first, rest, answered_so, e, runs) = h in
-    (next, first, rest ++ answer, answered_so, ap (λ (t : List ℕ). t ++ answer) e ∙ append_assoc first rest answer, runs_more answers next lines rest mid line answer new runs a)
+pub runs_more : {S : Type 0} (answers : S → List ℕ → List ℕ → S → Type 0) (old : S) (lines : List (List ℕ)) (reply : List ℕ) (mid : S)
+    (line answer : List ℕ) (new : S)
+    → AnswersLines answers old lines reply mid → answers mid line answer new
+    → AnswersLines answers old (lines ++ line ∷ []) (reply ++ answer) new
+runs_more {S} answers old [] reply mid line answer new h a = (
+  new,
+  answer,
+  [],
+  subst (λ (m : S). answers m line answer new) h.1 a,
+  ap (λ (t : List ℕ). t ++ answer) h.0 ∙ sym (append-nil answer),
+  (refl, refl),
+)
+runs_more answers old (l ∷ lines) reply mid line answer new h a =
+    let (next, first, rest, answered_so, e, runs) = h in (
+      next,
+      first,
+      rest ++ answer,
+      answered_so,
+      ap (λ (t : List ℕ). t ++ answer) e ∙ append_assoc first rest answer,
+      runs_more answers next lines rest mid line answer new runs a,
+    )

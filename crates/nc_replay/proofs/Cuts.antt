@@ -1,5 +1,6 @@
 -- Lines of bytes that are cut at their ends, and what is kept of a line.
-use Rattle.std.proofs.Common.{◌≡◌, ◌≢◌, ◌++◌, ◌+◌, ◌<◌, ◌≤◌, ◌-◌, min, ℕ, Bool, true, false, eqb, cond, List, [], ◌∷◌, length, take, refl, sym, ap, ◌∙◌, append_assoc, append-nil, arith}
+use Rattle.std.proofs.Common.{◌≡◌, ◌≢◌, ◌++◌, ◌+◌, ◌<◌, ◌≤◌, ◌-◌, min, ℕ, Bool, true, false, eqb, cond, List, [], ◌∷◌, length, take, refl}
+use Rattle.std.proofs.Common.{sym, ap, ◌∙◌, append_assoc, append-nil, arith}
 use Rattle.std.proofs.lemmas.Bool.Decides.{eqb_tells}
 use Rattle.std.proofs.Common.{⊎_elim}
 use Rattle.std.proofs.Math.Seq.{take-append-add}
@@ -7,13 +8,13 @@ use Rattle.std.proofs.lemmas.Bool.{cases_lt}
 use Rattle.std.proofs.lemmas.List.{take_all, take-append-le, length-take, length-take-le, length-append}
 use Rattle.std.specs.List.{flat_map}
 use Rattle.nc_replay.specs.Lines.{onto_line, lines_of, onto_ended, ended_lines}
-use Rattle.nc_replay.specs.Progress.{IsOpen, AreOpen, ended}
+use Rattle.nc_replay.specs.machinery.Progress.{IsOpen, AreOpen, ended}
 
 -- bytes that differ are told apart
 pub eqb_no : (a b : ℕ) → a ≢ b → eqb a b ≡ false
 eqb_no a b ne = ⊎_elim (λ h. absurd (ne h.1)) (λ h. h.0) (eqb_tells a b)
 
--- what is behind the last end is one line, or none
+-- what is after the last end is one line, or none
 abbrev pub last_line : List ℕ → List (List ℕ)
 last_line [] = []
 last_line (b ∷ bytes) = (b ∷ bytes) ∷ []
@@ -43,7 +44,8 @@ onto_line-some b [] = (b ∷ [], [], refl)
 onto_line-some b (line ∷ lines) = (b ∷ line, lines, refl)
 
 -- either of two lists has a line
-either_some : (v : Bool) (xs ys : List (List ℕ)) → ((line : List ℕ) × (others : List (List ℕ)) × xs ≡ line ∷ others) → ((line : List ℕ) × (others : List (List ℕ)) × ys ≡ line ∷ others)
+either_some : (v : Bool) (xs ys : List (List ℕ)) → ((line : List ℕ) × (others : List (List ℕ)) × xs ≡ line ∷ others)
+    → ((line : List ℕ) × (others : List (List ℕ)) × ys ≡ line ∷ others)
     → (line : List ℕ) × (others : List (List ℕ)) × cond v xs ys ≡ line ∷ others
 either_some true xs ys h k = h
 either_some false xs ys h k = k
@@ -51,14 +53,17 @@ either_some false xs ys h k = k
 -- some bytes make some line
 pub lines_of-some : (bytes : List ℕ) → 0 < length bytes → (line : List ℕ) × (others : List (List ℕ)) × lines_of bytes ≡ line ∷ others
 lines_of-some [] h = absurd (omega arith)
-lines_of-some (b ∷ bytes) h = either_some (eqb b 10) ([] ∷ lines_of bytes) (onto_line b (lines_of bytes)) ([], lines_of bytes, refl) (onto_line-some b (lines_of bytes))
+lines_of-some (b ∷ bytes) h =
+    either_some (eqb b 10) ([] ∷ lines_of bytes) (onto_line b (lines_of bytes)) ([], lines_of bytes, refl)
+    (onto_line-some b (lines_of bytes))
 
--- behind a part a byte is still to come
+-- after a part a byte is still to come
 pub more_to_come : (part : List ℕ) (b : ℕ) (more : List ℕ) → 0 < length (part ++ (b ∷ more))
 more_to_come part b more = omega (arith, length-append part (b ∷ more))
 
 -- lines with their ends are the first lines of what they begin
-pub lines_of-cut : (lines : List (List ℕ)) (more : List ℕ) → AreOpen lines → lines_of (flat_map ended lines ++ more) ≡ lines ++ lines_of more
+pub lines_of-cut : (lines : List (List ℕ)) (more : List ℕ) → AreOpen lines
+    → lines_of (flat_map ended lines ++ more) ≡ lines ++ lines_of more
 lines_of-cut [] more h = refl
 lines_of-cut (line ∷ lines) more h =
     ap lines_of (append_assoc (ended line) (flat_map ended lines) more)
@@ -80,7 +85,8 @@ ended_lines-ended (b ∷ line) more h =
     ∙ ap (onto_ended b) (ended_lines-ended line more h.1)
 
 -- these are the lines that have ended
-pub ended_lines-cut : (lines : List (List ℕ)) (part : List ℕ) → AreOpen lines → IsOpen part → ended_lines (flat_map ended lines ++ part) ≡ lines
+pub ended_lines-cut : (lines : List (List ℕ)) (part : List ℕ) → AreOpen lines → IsOpen part
+    → ended_lines (flat_map ended lines ++ part) ≡ lines
 ended_lines-cut [] part h o = ended_lines-open part o
 ended_lines-cut (line ∷ lines) part h o =
     ap ended_lines (append_assoc (ended line) (flat_map ended lines) part)
@@ -109,12 +115,15 @@ flat_map-push (l ∷ lines) line =
     ap (λ (xs : List ℕ). ended l ++ xs) (flat_map-push lines line) ∙ sym (append_assoc (ended l) (flat_map ended lines) (ended line))
 
 -- an end after a part makes a line of it
-pub cut-ended : (lines : List (List ℕ)) (part : List ℕ) → (flat_map ended lines ++ part) ++ 10 ∷ [] ≡ flat_map ended (lines ++ part ∷ []) ++ []
+pub cut-ended : (lines : List (List ℕ)) (part : List ℕ) → (flat_map ended lines ++ part) ++ 10 ∷ [] ≡ flat_map ended (lines ++ part ∷ [])
+    ++ []
 cut-ended lines part =
-    append_assoc (flat_map ended lines) part (10 ∷ []) ∙ sym (flat_map-push lines part) ∙ sym (append-nil (flat_map ended (lines ++ part ∷ [])))
+    append_assoc (flat_map ended lines) part (10 ∷ []) ∙ sym (flat_map-push lines part)
+    ∙ sym (append-nil (flat_map ended (lines ++ part ∷ [])))
 
 -- a line whose end is still to come, or comes next
-pub lines_of-next : (lines : List (List ℕ)) (part more : List ℕ) → AreOpen lines → IsOpen part → lines_of ((flat_map ended lines ++ part) ++ 10 ∷ more) ≡ lines ++ (part ∷ lines_of more)
+pub lines_of-next : (lines : List (List ℕ)) (part more : List ℕ) → AreOpen lines → IsOpen part
+    → lines_of ((flat_map ended lines ++ part) ++ 10 ∷ more) ≡ lines ++ (part ∷ lines_of more)
 lines_of-next lines part more h o =
     ap lines_of (append_assoc (flat_map ended lines) part (10 ∷ more))
     ∙ lines_of-cut lines (part ++ 10 ∷ more) h
@@ -148,7 +157,8 @@ take-min k xs = ⊎_elim
     (cases_lt k (length xs))
 
 -- what is kept goes on by as many bytes as there is room for
-pub kept_append : (n : ℕ) (kept part more : List ℕ) (m : ℕ) → kept ≡ take n part → m ≡ min (n - length kept) (length more) → kept ++ take m more ≡ take n (part ++ more)
+pub kept_append : (n : ℕ) (kept part more : List ℕ) (m : ℕ) → kept ≡ take n part → m ≡ min (n - length kept) (length more)
+    → kept ++ take m more ≡ take n (part ++ more)
 kept_append n kept part more m e c =
     ⊎_elim
     (λ (long : n < length part).

@@ -2,7 +2,7 @@
 use Rattle.std.proofs.Common.{◌≡◌, ◌<◌, ◌≤◌, ℕ, Bool, cond, List, Option, None, length, sym, ap, ◌∙◌, ⊎_elim}
 use Rattle.std.proofs.lemmas.Bool.{lt-ltb, cases_lt}
 use Rattle.nc_replay.specs.Lines.{is_long, kept_of, line_limit}
-use Rattle.nc_replay.specs.Commands.{request_in, request_of, chunk_in, placed_in}
+use Rattle.nc_replay.specs.Requests.{request_in, request_of, chunk_in, placed_in}
 use Rattle.nc_replay.specs.Lines.{words_in}
 use Rattle.nc_replay.proofs.Cuts.{kept_is_all, kept_is_long}
 

@@ -3,12 +3,12 @@ pub mod Answered
 pub mod Steps
 pub mod WholeInput
 pub mod RegionText
-pub mod SpanText
-pub mod ChunkText
+pub mod SpanDigits
+pub mod DumpReply
 pub mod Creating
 pub mod Serving
 pub mod OneAnswer
-pub mod OneText
+pub mod OneReply
 pub mod Kept
 pub mod Gathering
-pub mod Replies
+pub mod VetReplies

@@ -1,4 +1,4 @@
--- A script has one text of answers.
+-- Lines have no other replies than those that a run wrote.
 use Rattle.std.specs.Prelude.{◌≡◌, ◌++◌, ℕ, List, Option}
 use Rattle.std.specs.Io.KnownBytes.{Appends}
 use Rattle.nc_replay.specs.Answering.{AnswersLines, IsBegun}
@@ -7,15 +7,16 @@ use Rattle.nc_replay.specs.Script.{Script}
 
 -- what was written is a beginning of whatever answers all of these lines
 pub record IsBeginning (old : Script) (before after : Option (List ℕ)) (lines : List (List ℕ)) : Type 0 where
-  pub text : List ℕ
-  pub written : Appends before after text
-  pub begins : (all : List ℕ) (last : Script) → AnswersLines ServesLine old lines all last → (rest : List ℕ) × (all ≡ text ++ rest)
+  pub reply : List ℕ
+  pub written : Appends before after reply
+  pub begins : (all : List ℕ) (last : Script) → AnswersLines ServesLine old lines all last → (rest : List ℕ) × (all ≡ reply ++ rest)
 
 -- where each answer is the only one to its line, the lines have no other answers, and lead to no other state
-abbrev pub HasOneText : Type 0
-HasOneText = (old : Script) (lines : List (List ℕ)) (text other : List ℕ) (new next : Script)
-    → AnswersLines AnswersOnly old lines text new → AnswersLines ServesLine old lines other next → (other ≡ text) × (next ≡ new)
+abbrev pub HasOneReply : Type 0
+HasOneReply = (old : Script) (lines : List (List ℕ)) (reply other : List ℕ) (new next : Script)
+    → AnswersLines AnswersOnly old lines reply new → AnswersLines ServesLine old lines other next → (other ≡ reply) × (next ≡ new)
 
 -- a beginning of such answers to some first lines is one of the answers to all lines
 abbrev pub BeginsAll : Type 0
-BeginsAll = (old : Script) (before after : Option (List ℕ)) (lines : List (List ℕ)) → IsBegun AnswersOnly old before after lines → IsBeginning old before after lines
+BeginsAll = (old : Script) (before after : Option (List ℕ)) (lines : List (List ℕ)) → IsBegun AnswersOnly old before after lines
+    → IsBeginning old before after lines

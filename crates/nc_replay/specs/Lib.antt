@@ -1,14 +1,11 @@
+pub mod machinery
 pub mod Lines
 pub mod Answering
-pub mod Progress
-pub mod Commands
-pub mod Shown
+pub mod Requests
 pub mod Script
-pub mod Texts
+pub mod Replies
 pub mod Answers
-pub mod Session
 pub mod Run
 pub mod Laws
 pub mod Vetting
-pub mod Batch
 pub mod Start

@@ -7,7 +7,7 @@ abbrev pub onto_line : ℕ → List (List ℕ) → List (List ℕ)
 onto_line b [] = (b ∷ []) ∷ []
 onto_line b (line ∷ lines) = (b ∷ line) ∷ lines
 
--- the lines of an input; behind a last 0A there is none
+-- the lines of an input; after a last 0A there is none
 abbrev pub lines_of : List ℕ → List (List ℕ)
 lines_of [] = []
 lines_of (b ∷ bytes) = if b == 10 then [] ∷ lines_of bytes else onto_line b (lines_of bytes)
@@ -26,6 +26,7 @@ ended_lines (b ∷ bytes) = if b == 10 then [] ∷ ended_lines bytes else onto_e
 abbrev pub line_limit : ℕ
 line_limit = 1048576
 
+-- the line has more bytes than the limit
 abbrev pub is_long : List ℕ → Bool
 is_long line = nat_lt line_limit (length line)
 

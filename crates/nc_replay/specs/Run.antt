@@ -1,5 +1,5 @@
 -- What a run of a script has read and written.
-use Rattle.std.specs.Prelude.{ℕ, ◌≤◌, ◌+◌, ◌*◌, List, Option}
+use Rattle.std.specs.Prelude.{ℕ, List, Option}
 use Rattle.nc_replay.specs.Answering.{IsAnswered}
 use Rattle.nc_replay.specs.Answers.{AnswersOnly, new_script}
 use Rattle.nc_replay.specs.Script.{Script}

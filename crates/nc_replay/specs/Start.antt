@@ -34,24 +34,30 @@ IfRun (Err (Words error)) P = ⊤
 IfRun (Err (Fault fault)) P = P (Err fault)
 
 -- A script was run, with this outcome: what `run` ensures. Before and after it the reader and the writer had these bytes.
-pub record HasReplayed {T : Type 0} (untouched : Type 0) (input left before after : Option (List ℕ)) (outcome : Result T ReplayFault) : Type 0 where
+pub record HasReplayed {T : Type 0} (untouched : Type 0) (input left before after : Option (List ℕ))
+    (outcome : Result T ReplayFault) : Type 0 where
   pub bundles : ℕ
   pub seats : ℕ
   pub size : IsRegionSize bundles
   pub seats_in_range : AreSeats seats
   pub ok : OnOk outcome (IfSome input (λ bytes. HasAnswered bundles before after (lines_of bytes)))
   pub read : OnOk outcome (IsAtEnd left)
-  pub write_failed : IsErrOf outcome WriteFailed → IfSome input (λ bytes. IsBegun AnswersOnly (new_script bundles) before after (lines_of bytes))
-  pub read_failed : IsErrOf outcome ReadFailed → (front : List ℕ) × Consumes input left front × HasAnswered bundles before after (ended_lines front)
-  pub out_of_memory : IsErrOf outcome OutOfMemory → untouched ⊎ IfSome input (λ bytes. IsCutShort AnswersOnly (new_script bundles) before after (lines_of bytes))
+  pub write_failed : IsErrOf outcome WriteFailed
+      → IfSome input (λ bytes. IsBegun AnswersOnly (new_script bundles) before after (lines_of bytes))
+  pub read_failed : IsErrOf outcome ReadFailed → (front : List ℕ) × Consumes input left front
+      × HasAnswered bundles before after (ended_lines front)
+  pub out_of_memory : IsErrOf outcome OutOfMemory → untouched
+      ⊎ IfSome input (λ bytes. IsCutShort AnswersOnly (new_script bundles) before after (lines_of bytes))
 
 -- Lines of chunks were vetted, with this outcome: what `vet_lines` ensures.
-pub record HasVettedLines {T : Type 0} (unwritten : Type 0) (input left before after : Option (List ℕ)) (outcome : Result T ReplayFault) : Type 0 where
+pub record HasVettedLines {T : Type 0} (unwritten : Type 0) (input left before after : Option (List ℕ))
+    (outcome : Result T ReplayFault) : Type 0 where
   pub bundles : ℕ
   pub workers : ℕ
   pub size : IsRegionSize bundles
   pub workers_in_range : AreWorkers workers
   pub ok : OnOk outcome (IfSome input (λ bytes. HasVetted (limit_after bundles) before after (lines_of bytes)))
   pub read : OnOk outcome (IsAtEnd left)
-  pub write_failed : IsErrOf outcome WriteFailed → IfSome input (λ bytes. HasBegunVetted (limit_after bundles) before after (lines_of bytes))
+  pub write_failed : IsErrOf outcome WriteFailed
+      → IfSome input (λ bytes. HasBegunVetted (limit_after bundles) before after (lines_of bytes))
   pub nothing : IfErr outcome (λ fault. fault ≢ WriteFailed → unwritten)

@@ -1,12 +1,13 @@
-//! How answers are written: single spaces, decimal numbers, addresses and bytes in lower-case hexadecimal.
+//! How replies are written: single spaces, decimal numbers, addresses and bytes in lower-case hexadecimal.
 
 ghost use Rattle.std.specs.Prelude.{◌≡◌, ◌≢◌, ◌++◌, ◌∷◌, [], ◌+◌, ◌<◌, ◌≤◌, ◌^◌, OnOk};
 ghost use Rattle.std.specs.Fmt.{decimal};
 ghost use Rattle.hex.specs.Hex.{encode_lower};
 ghost use Rattle.nc_text.specs.Places.{limit_of};
 ghost use Rattle.nc_vet.specs.declared.fault.VetFault.TheVariants as vet;
-ghost use Rattle.nc_replay.specs.Session.{bytes_at, chunk_in};
-ghost use Rattle.nc_replay.specs.Texts.{address_text, places_text, line_text, refused_text, fault_text, end_text, walk_text, chunk_text};
+ghost use Rattle.nc_replay.specs.machinery.Session.{bytes_at, chunk_in};
+ghost use Rattle.nc_replay.specs.Replies.{address_digits, places_words, reply_line, refused_reply, fault_words, end_word, walk_reply};
+ghost use Rattle.nc_replay.specs.Replies.{chunk_words};
 
 use nc_region::{Chunk, ChunkState, End, Region, Trace};
 use nc_vet::VetFault;
@@ -14,7 +15,7 @@ use std::alloc::{AllocError, Global};
 
 /// Adds the eight digits of an address.
 pub(crate) fn push_address(out: &mut Vec<u8>, at: u32) -> Result<(), AllocError>
-    ensures { OnOk result (out.new.items ≡ out.old.items ++ address_text at) }
+    ensures { OnOk result (out.new.items ≡ out.old.items ++ address_digits at) }
 {
     let mut digits = [0u8; 8];
     hex::encode_to_slice(at.to_be_bytes(), &mut digits).unwrap();
@@ -34,13 +35,13 @@ pub(crate) fn push_byte(out: &mut Vec<u8>, byte: u8) -> Result<(), AllocError>
 pub(crate) fn push_number(alloc: Global, out: &mut Vec<u8>, number: u64) -> Result<(), AllocError>
     ensures { OnOk result (out.new.items ≡ out.old.items ++ decimal number) }
 {
-    let text = number.to_string(alloc)?;
-    out.extend_from_slice(text.as_bytes())
+    let digits = number.to_string(alloc)?;
+    out.extend_from_slice(digits.as_bytes())
 }
 
-/// Adds the places of a walk, each behind a space.
+/// Adds the places of a walk, each after a space.
 pub(crate) fn push_places(out: &mut Vec<u8>, places: &[u32]) -> Result<(), AllocError>
-    ensures { OnOk result (out.new.items ≡ out.old.items ++ places_text places.now) }
+    ensures { OnOk result (out.new.items ≡ out.old.items ++ places_words places.now) }
 {
     for place in places {
         out.push(b' ')?;
@@ -49,33 +50,33 @@ pub(crate) fn push_places(out: &mut Vec<u8>, places: &[u32]) -> Result<(), Alloc
     Ok(())
 }
 
-/// Adds a fault's name, with its place where it has one. It is no answer that memory is wanting.
+/// Adds a fault's name, with its place where it has one. Lack of memory is no answer.
 fn push_name(out: &mut Vec<u8>, fault: VetFault) -> Result<(), AllocError>
-    ensures { OnOk result ((fault ≢ vet.OutOfMemory) × (out.new.items ≡ out.old.items ++ fault_text fault)) }
+    ensures { OnOk result ((fault ≢ vet.OutOfMemory) × (out.new.items ≡ out.old.items ++ fault_words fault)) }
 {
     match fault {
-        VetFault::BadBase => return out.extend_from_slice(b"BadBase"),
-        VetFault::BadLength => return out.extend_from_slice(b"BadLength"),
-        VetFault::OutOfRange => return out.extend_from_slice(b"OutOfRange"),
-        VetFault::NotPermitted { at } => return push_placed(out, b"NotPermitted ", at),
-        VetFault::Crosses { at } => return push_placed(out, b"Crosses ", at),
-        VetFault::Bare { at } => return push_placed(out, b"Bare ", at),
-        VetFault::BadTarget { at } => return push_placed(out, b"BadTarget ", at),
-        VetFault::OutOfMemory => return Err(AllocError),
+        VetFault::BadBase => out.extend_from_slice(b"BadBase"),
+        VetFault::BadLength => out.extend_from_slice(b"BadLength"),
+        VetFault::OutOfRange => out.extend_from_slice(b"OutOfRange"),
+        VetFault::NotPermitted { at } => push_placed(out, b"NotPermitted ", at),
+        VetFault::Crosses { at } => push_placed(out, b"Crosses ", at),
+        VetFault::Bare { at } => push_placed(out, b"Bare ", at),
+        VetFault::BadTarget { at } => push_placed(out, b"BadTarget ", at),
+        VetFault::OutOfMemory => Err(AllocError),
     }
 }
 
 /// Adds a name and a place.
 fn push_placed(out: &mut Vec<u8>, name: &[u8], at: u32) -> Result<(), AllocError>
-    ensures { OnOk result (out.new.items ≡ out.old.items ++ (name.now ++ address_text at)) }
+    ensures { OnOk result (out.new.items ≡ out.old.items ++ (name.now ++ address_digits at)) }
 {
     out.extend_from_slice(name)?;
     push_address(out, at)
 }
 
-/// Adds the answer to a chunk that has a fault, which is no want of memory.
+/// Adds the answer to a chunk that has a fault, which is no lack of memory.
 pub(crate) fn push_fault(out: &mut Vec<u8>, fault: VetFault) -> Result<(), AllocError>
-    ensures { OnOk result ((fault ≢ vet.OutOfMemory) × (out.new.items ≡ out.old.items ++ line_text (refused_text (fault_text fault)))) }
+    ensures { OnOk result ((fault ≢ vet.OutOfMemory) × (out.new.items ≡ out.old.items ++ reply_line (refused_reply (fault_words fault)))) }
 {
     out.extend_from_slice(b"refused ")?;
     push_name(out, fault)?;
@@ -85,19 +86,19 @@ pub(crate) fn push_fault(out: &mut Vec<u8>, fault: VetFault) -> Result<(), Alloc
 
 /// Adds the end of a walk.
 fn push_end(out: &mut Vec<u8>, end: End) -> Result<(), AllocError>
-    ensures { OnOk result (out.new.items ≡ out.old.items ++ end_text end) }
+    ensures { OnOk result (out.new.items ≡ out.old.items ++ end_word end) }
 {
     match end {
-        End::Stop => return out.extend_from_slice(b" stop"),
-        End::Trampoline => return out.extend_from_slice(b" trampoline"),
-        End::Beyond => return out.extend_from_slice(b" beyond"),
-        End::More => return out.extend_from_slice(b" more"),
+        End::Stop => out.extend_from_slice(b" stop"),
+        End::Trampoline => out.extend_from_slice(b" trampoline"),
+        End::Beyond => out.extend_from_slice(b" beyond"),
+        End::More => out.extend_from_slice(b" more"),
     }
 }
 
 /// Adds the answer to a walk.
 pub(crate) fn push_trace(out: &mut Vec<u8>, trace: &Trace) -> Result<(), AllocError>
-    ensures { OnOk result (out.new.items ≡ out.old.items ++ line_text (walk_text trace.now.places.items trace.now.end)) }
+    ensures { OnOk result (out.new.items ≡ out.old.items ++ reply_line (walk_reply trace.now.places.items trace.now.end)) }
 {
     out.extend_from_slice(b"walk")?;
     push_places(out, &trace.places)?;
@@ -129,20 +130,20 @@ pub(crate) fn push_chunk(
     requires low { 0x10000 ≤ chunk.base }
     requires high { chunk.base + chunk.length ≤ limit_of region.now.marked.bytes }
     requires fits { chunk.base + chunk.length < 2 ^ 32 }
-    ensures { OnOk result (out.new.items ≡ out.old.items ++ chunk_text (chunk_in region.now.marked.bytes chunk)) }
+    ensures { OnOk result (out.new.items ≡ out.old.items ++ chunk_words (chunk_in region.now.marked.bytes chunk)) }
 {
     out.push(b' ')?;
     push_address(out, chunk.base)?;
     match chunk.state {
         ChunkState::Live => {
             out.extend_from_slice(b" live ")?;
-            return push_span(region, chunk.base, chunk.length, out);
+            push_span(region, chunk.base, chunk.length, out)
         }
         ChunkState::Retired(stamp) => {
             out.extend_from_slice(b" retired ")?;
             push_number(alloc, out, u64::from(chunk.length))?;
             out.push(b' ')?;
-            return push_number(alloc, out, stamp);
+            push_number(alloc, out, stamp)
         }
     }
 }

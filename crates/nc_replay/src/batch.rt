@@ -1,9 +1,9 @@
 //! Lines gathered to be vetted.
 
 ghost use Rattle.std.specs.Prelude.{◌≡◌, [], IfOk};
-ghost use Rattle.nc_replay.specs.Batch.{Gathers};
+ghost use Rattle.nc_replay.specs.machinery.Batch.{Gathers};
 
-use crate::command::placed_in_line;
+use crate::request::placed_in_line;
 use crate::responder::Responder;
 use nc_work::Job;
 use std::alloc::{AllocError, Global};

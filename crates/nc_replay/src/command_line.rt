@@ -120,8 +120,8 @@ pub fn ask<'a>(alloc: Global, words: &'a [&'a str]) -> Result<Ask, Error>
     Err(program.error(ErrorKind::MissingSubcommand, "a subcommand is missing")?)
 }
 
-/// The fault of a command line with a word that is no text.
-pub(crate) fn no_text(alloc: Global) -> Error {
+/// The fault of a command line with a word that is not valid UTF-8.
+pub(crate) fn not_utf8(alloc: Global) -> Error {
     match program(alloc) {
         Ok(mut program) => {
             match program.error(ErrorKind::InvalidValue, "a word is not valid UTF-8 text") {

@@ -2,7 +2,7 @@
 
 ghost use Rattle.std.specs.Prelude.{◌≡◌, ◌++◌, ◌<◌, ◌≤◌, ℕ, List, Option, OnOk, IfOk, length, take, slice_index};
 ghost use Rattle.nc_replay.specs.Lines.{kept_of};
-ghost use Rattle.nc_replay.specs.Progress.{AnswersKept, IsOpen, Stands, FeedsPart, Feeds};
+ghost use Rattle.nc_replay.specs.machinery.Progress.{AnswersKept, IsOpen, Stands, FeedsPart, Feeds};
 
 use crate::fault::ReplayFault;
 use crate::output::write_out;

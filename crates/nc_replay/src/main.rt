@@ -5,20 +5,20 @@
 //! time. `start` does both over any reader and writer, by `replay::run` and `vetting::vet_lines`.
 //!
 //! Below them `stream` reads lines of any length in pieces, and hands each to whatever replies to one line
-//! (`responder`): `session` replies by a region's calls, and `batch` gathers lines that are to be vetted. `command` reads
+//! (`responder`): `session` replies by a region's calls, and `batch` gathers lines that are to be vetted. `request` reads
 //! what a line asks for.
 #![tactic(auto)]
 
 mod answer;
 pub mod asked;
 mod batch;
-mod command;
 pub mod command_line;
 pub mod fault;
 mod lines;
 mod output;
 pub mod program;
 pub mod replay;
+mod request;
 mod responder;
 mod session;
 mod stream;
@@ -27,7 +27,7 @@ pub mod vetting;
 mod words;
 
 use clap::error::ErrorKind as ClapKind;
-use command_line::no_text;
+use command_line::not_utf8;
 use fault::ReplayFault;
 use program::{Halt, start};
 use std::io::{ErrorKind, Input};
@@ -49,7 +49,7 @@ fn command_words<R: Env + AllocGlobal>(rt: &R) -> Result<Vec<String>, Halt> {
             Err(_) => Err(out_of_memory),
         },
         Err(error) if error.kind() == ErrorKind::OutOfMemory => Err(out_of_memory),
-        Err(_) => Err(Halt::Words(no_text(rt.alloc()))),
+        Err(_) => Err(Halt::Words(not_utf8(rt.alloc()))),
     }
 }
 
@@ -58,9 +58,9 @@ fn run_words<R: Threads + Wait + Sync + Env + AllocGlobal + Input + Print>(
     rt: &R,
 ) -> Result<(), Halt> {
     let words = command_words(rt)?;
-    let mut texts = Vec::new(rt.alloc());
+    let mut arguments = Vec::new(rt.alloc());
     for word in words.iter().skip(1) {
-        match texts.push(word.as_str()) {
+        match arguments.push(word.as_str()) {
             Ok(()) => {}
             Err(_) => return Err(Halt::Fault(ReplayFault::OutOfMemory)),
         }
@@ -68,7 +68,7 @@ fn run_words<R: Threads + Wait + Sync + Env + AllocGlobal + Input + Print>(
     start(
         rt,
         rt.alloc(),
-        texts.as_slice(),
+        arguments.as_slice(),
         &mut rt.reader(),
         &mut io::writer(rt),
     )

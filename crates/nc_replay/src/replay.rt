@@ -7,7 +7,7 @@ ghost use Rattle.nc_decode.specs.Bundles.{IsRegionSize};
 ghost use Rattle.nc_replay.specs.Lines.{lines_of, ended_lines};
 ghost use Rattle.nc_replay.specs.Answering.{IsBegun, IsCutShort};
 ghost use Rattle.nc_replay.specs.Answers.{AnswersOnly, new_script};
-ghost use Rattle.nc_replay.specs.Laws.{BeginsAll, HasOneText};
+ghost use Rattle.nc_replay.specs.Laws.{BeginsAll, HasOneReply};
 ghost use Rattle.nc_replay.specs.Run.{HasAnswered};
 
 use crate::fault::ReplayFault;
@@ -67,14 +67,14 @@ pub fn run<R: Read, W: Write>(
         return Err(ReplayFault::OutOfMemory);
     };
     match Session::new(alloc, bundles, &gens, keeper) {
-        Ok(mut session) => return answer_all(alloc, &mut session, reader, writer),
-        Err(_) => return Err(ReplayFault::OutOfMemory),
+        Ok(mut session) => answer_all(alloc, &mut session, reader, writer),
+        Err(_) => Err(ReplayFault::OutOfMemory),
     }
 }
 
 /// What makes the answers of a run the script's own: lines have no other answers than those that a run wrote, and what
 /// it wrote of some is a beginning of the answers to all. It does nothing when it is called.
 pub fn law_of_answers()
-    ensures one_text { HasOneText }
+    ensures one_text { HasOneReply }
     ensures begins_all { BeginsAll }
 {}

@@ -13,6 +13,6 @@ pub trait Responder {
     /// Adds the answer to a line to `out`, with its end, by what is kept of the line. After an error nothing is
     /// promised of the state.
     fn answer(&mut self, kept: &[u8], out: &mut Vec<u8>) -> Result<(), AllocError>
-        ensures { OnOk result ((line : List ℕ) → kept.now ≡ kept_of line → (text : List ℕ)
-            × (out.new.items ≡ out.old.items ++ text) × answers self.old line text self.new) };
+        ensures { OnOk result ((line : List ℕ) → kept.now ≡ kept_of line → (reply : List ℕ)
+            × (out.new.items ≡ out.old.items ++ reply) × answers self.old line reply self.new) };
 }

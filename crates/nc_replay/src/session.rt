@@ -1,12 +1,12 @@
 //! Answers to a script's lines by the calls of a region.
 
 ghost use Rattle.std.specs.Prelude.{◌≡◌, ◌++◌, List, ℕ, OnOk, IfOk, ◌↔◌, ◌⊎◌, ◌<◌};
-ghost use Rattle.nc_replay.specs.Commands.{Create, Walk, Dump};
+ghost use Rattle.nc_replay.specs.Requests.{Create, Walk, Dump};
 ghost use Rattle.nc_replay.specs.Answers.{AnswersOnly, Serves, ServesOnly, new_script};
-ghost use Rattle.nc_replay.specs.Session.{script_of};
+ghost use Rattle.nc_replay.specs.machinery.Session.{script_of};
 
 use crate::answer::{push_chunk, push_fault, push_trace};
-use crate::command::{Command, command_of};
+use crate::request::{Request, request_of};
 use crate::responder::Responder;
 use nc_gens::{Gens, Keeper};
 use nc_region::{CreateFault, Region, RegionFault, WalkFault};
@@ -23,7 +23,7 @@ pub struct Session<'g> {
 
 impl<'g> Model for Session<'g> {
     ghost use Rattle.nc_replay.specs.Script.{Script};
-    ghost use Rattle.nc_replay.specs.Session.{script_of};
+    ghost use Rattle.nc_replay.specs.machinery.Session.{script_of};
 
     ghost Value = { Script };
 
@@ -52,15 +52,15 @@ impl<'g> Responder for Session<'g> {
     ghost answers = { AnswersOnly };
 
     fn answer(&mut self, kept: &[u8], out: &mut Vec<u8>) -> Result<(), AllocError> {
-        match command_of(self.alloc, kept)? {
-            Some(Command::Create { at, bytes }) => {
-                return answer_create(&mut self.region, at, bytes, out);
+        match request_of(self.alloc, kept)? {
+            Some(Request::Create { at, bytes }) => {
+                answer_create(&mut self.region, at, bytes, out)
             }
-            Some(Command::Walk { start, choices }) => {
-                return answer_walk(&self.region, start, &choices, out);
+            Some(Request::Walk { start, choices }) => {
+                answer_walk(&self.region, start, &choices, out)
             }
-            Some(Command::Dump) => return answer_dump(self.alloc, &self.region, out),
-            None => return out.extend_from_slice(b"bad line\n"),
+            Some(Request::Dump) => answer_dump(self.alloc, &self.region, out),
+            None => out.extend_from_slice(b"bad line\n"),
         }
     }
 }
@@ -72,8 +72,8 @@ fn answer_create(
     bytes: Vec<u8>,
     out: &mut Vec<u8>,
 ) -> Result<(), AllocError>
-    ensures { OnOk result ((text : List ℕ) × (out.new.items ≡ out.old.items ++ text)
-        × Serves (Create base bytes.items) (script_of region.old) text (script_of region.new)) }
+    ensures { OnOk result ((reply : List ℕ) × (out.new.items ≡ out.old.items ++ reply)
+        × Serves (Create base bytes.items) (script_of region.old) reply (script_of region.new)) }
 {
     let limit = region.limit();
     let vetted = match vet(base, limit, bytes) {
@@ -81,9 +81,11 @@ fn answer_create(
         Err((_, fault)) => return push_fault(out, fault),
     };
     match region.create(vetted) {
-        Ok(()) => return out.extend_from_slice(b"ok\n"),
-        Err((_, CreateFault::Occupied)) => return out.extend_from_slice(b"refused Occupied\n"),
-        Err((_, _)) => return Err(AllocError),
+        Ok(()) => out.extend_from_slice(b"ok\n"),
+        Err((_, CreateFault::Occupied)) => out.extend_from_slice(b"refused Occupied\n"),
+        Err((_, CreateFault::OutOfMemory)) => Err(AllocError),
+        // this doesn't come: the chunk was vetted for the region's own limit
+        Err((_, CreateFault::WrongLimit)) => Err(AllocError),
     }
 }
 
@@ -94,22 +96,22 @@ fn answer_walk(
     choices: &[u32],
     out: &mut Vec<u8>,
 ) -> Result<(), AllocError>
-    ensures { OnOk result ((text : List ℕ) × (out.new.items ≡ out.old.items ++ text)
-        × ServesOnly (Walk start choices.now) (script_of region.now) text (script_of region.now)) }
+    ensures { OnOk result ((reply : List ℕ) × (out.new.items ≡ out.old.items ++ reply)
+        × ServesOnly (Walk start choices.now) (script_of region.now) reply (script_of region.now)) }
 {
-    // what every region keeps: its chunks, and stops beside them, are its text
-    let _ = region.limit();
+    // Called for what it ensures.
+    let _facts = region.limit();
     match region.walk(start, choices) {
-        Ok(trace) => return push_trace(out, &trace),
-        Err(WalkFault::NotBundle) => return out.extend_from_slice(b"refused NotBundle\n"),
-        Err(WalkFault::OutOfMemory) => return Err(AllocError),
+        Ok(trace) => push_trace(out, &trace),
+        Err(WalkFault::NotBundle) => out.extend_from_slice(b"refused NotBundle\n"),
+        Err(WalkFault::OutOfMemory) => Err(AllocError),
     }
 }
 
 /// Shows every chunk of the region.
 fn answer_dump(alloc: Global, region: &Region, out: &mut Vec<u8>) -> Result<(), AllocError>
-    ensures { OnOk result ((text : List ℕ) × (out.new.items ≡ out.old.items ++ text)
-        × Serves Dump (script_of region.now) text (script_of region.now)) }
+    ensures { OnOk result ((reply : List ℕ) × (out.new.items ≡ out.old.items ++ reply)
+        × Serves Dump (script_of region.now) reply (script_of region.now)) }
 {
     out.extend_from_slice(b"dump")?;
     for i in 0..region.chunk_count() {

@@ -4,7 +4,7 @@ ghost use Rattle.std.specs.Prelude.{◌≡◌, ◌≢◌, ◌++◌, ℕ, List, O
 ghost use Rattle.std.specs.Io.KnownBytes.{Consumes, IsAtEnd};
 ghost use Rattle.nc_replay.specs.Lines.{lines_of, ended_lines};
 ghost use Rattle.nc_replay.specs.Answering.{IsAnswered, IsBegun, IsCutShort};
-ghost use Rattle.nc_replay.specs.Progress.{Stands, Finishes};
+ghost use Rattle.nc_replay.specs.machinery.Progress.{Stands, Finishes};
 
 use crate::fault::ReplayFault;
 use crate::lines::{answer_line, feed};

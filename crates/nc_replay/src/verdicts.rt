@@ -3,14 +3,14 @@
 ghost use Rattle.std.specs.Prelude.{◌≡◌, ◌++◌, ◌∷◌, Bool, List, ℕ, OnOk};
 ghost use Rattle.std.specs.Vec.Iter.{into_iter_items};
 ghost use Rattle.nc_replay.specs.Vetting.{SaysVerdict, VetsLine, VetsLines};
-ghost use Rattle.nc_replay.specs.Batch.{IsFound, AreFound};
+ghost use Rattle.nc_replay.specs.machinery.Batch.{IsFound, AreFound};
 
 use crate::answer::push_fault;
 use nc_work::Verdict;
 use std::alloc::{AllocError, Global};
 use std::vec::IntoIter;
 
-/// Adds the reply to a line whose chunk has this verdict. It is no verdict that memory is lacking.
+/// Adds the reply to a line whose chunk has this verdict. Lack of memory is no verdict.
 fn push_verdict(out: &mut Vec<u8>, verdict: Verdict) -> Result<(), AllocError>
     ensures { OnOk result ((limit base : ℕ) (bytes : List ℕ) → IsFound limit (base, bytes) verdict → (reply : List ℕ)
         × (out.new.items ≡ out.old.items ++ reply) × SaysVerdict limit base bytes reply) }
@@ -47,8 +47,8 @@ pub(crate) fn push_verdicts(
     named: Vec<bool>,
     verdicts: Vec<Verdict>,
 ) -> Result<(), AllocError>
-    ensures { OnOk result ((limit : ℕ) (lines : List (List ℕ)) → AreFound limit lines named.items verdicts.items → (text : List ℕ)
-        × (out.new.items ≡ out.old.items ++ text) × VetsLines limit lines text) }
+    ensures { OnOk result ((limit : ℕ) (lines : List (List ℕ)) → AreFound limit lines named.items verdicts.items → (replies : List ℕ)
+        × (out.new.items ≡ out.old.items ++ replies) × VetsLines limit lines replies) }
 {
     let mut left = verdicts.into_iter();
     for is_named in named {

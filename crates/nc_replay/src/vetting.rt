@@ -6,7 +6,7 @@ ghost use Rattle.nc_decode.specs.Bundles.{IsRegionSize, limit_after};
 ghost use Rattle.nc_work.specs.Verdicts.{AreWorkers};
 ghost use Rattle.nc_replay.specs.Lines.{lines_of};
 ghost use Rattle.nc_replay.specs.Vetting.{HasVetted, HasBegunVetted};
-ghost use Rattle.nc_replay.specs.Batch.{HasGathered};
+ghost use Rattle.nc_replay.specs.machinery.Batch.{HasGathered};
 
 use crate::batch::Batch;
 use crate::fault::ReplayFault;

@@ -3,7 +3,7 @@
 ghost use Rattle.std.specs.Prelude.{◌≡◌, ℕ, IfOk, map};
 ghost use Rattle.std.specs.Option.{option_map};
 ghost use Rattle.nc_replay.specs.Lines.{words_in};
-ghost use Rattle.nc_replay.specs.Commands.{address_in, bytes_in};
+ghost use Rattle.nc_replay.specs.Requests.{address_in, bytes_in};
 
 use hex::FromHexError;
 use std::alloc::{AllocError, Global};

@@ -13,7 +13,7 @@ pub const NEVER: usize = usize::MAX;
 pub struct Echo;
 
 impl Responder for Echo {
-    ghost answers = { λ old line text new. (text ≡ kept_of line ++ 10 ∷ []) };
+    ghost answers = { λ old line reply new. (reply ≡ kept_of line ++ 10 ∷ []) };
 
     fn answer(&mut self, kept: &[u8], out: &mut Vec<u8>) -> std::result::Result<(), AllocError> {
         out.extend_from_slice(kept)?;

@@ -2,10 +2,10 @@
 
 use std::alloc::AllocError;
 
-/// Adds a text with its end, and nops for each `*`.
-pub fn push_filled(out: &mut Vec<u8>, text: &[u8]) -> Result<(), AllocError> {
+/// Adds a line with its end, and nops for each `*`.
+pub fn push_filled(out: &mut Vec<u8>, line: &[u8]) -> Result<(), AllocError> {
     let mut digits = 0usize;
-    for byte in text {
+    for byte in line {
         if *byte == b'*' {
             for _ in digits / 2..32 {
                 out.extend_from_slice(b"90")?;

@@ -97,7 +97,7 @@ const FAULTS: [Row; 10] = [
     (b"dump", b"dump"),
 ];
 
-/// Lines of no known form: other words, other spaces, digits too few or too many, bytes that are no text.
+/// Lines of no known form: other words, other spaces, digits too few or too many, bytes that are not valid UTF-8.
 const BAD_LINES: [&[u8]; 36] = [
     b"",
     b" ",

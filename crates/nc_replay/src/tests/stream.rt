@@ -5,7 +5,7 @@ use crate::stream::answer_all;
 use crate::tests::fakes::{Echo, NEVER, Pieces, Slow};
 use std::test::Fail;
 
-/// An input and its answers: empty lines, bytes that are no text, with and without an end.
+/// An input and its answers: empty lines, bytes that are not valid UTF-8, with and without an end.
 const INPUTS: [(&[u8], &[u8]); 5] = [
     (b"", b""),
     (b"\n", b"\n"),

@@ -1,7 +1,7 @@
 -- The digits of the bytes so far are written.
 use Rattle.std.proofs.Common.{◌≡◌, ◌++◌, ◌-◌}
 use Rattle.hex.specs.Hex.{encode_lower}
-use Rattle.nc_replay.specs.Session.{bytes_at}
+use Rattle.nc_replay.specs.machinery.Session.{bytes_at}
 use Rattle.nc_replay.proofs.answer.push_span.Given as goal
 
 abbrev pub invariant-loop-at : goal.invariant-loop-at

@@ -11,4 +11,5 @@ returns c =
     let room : c.min-count.result ≡ min (1048577 - length line) (length part) = search rules in
     on_ok_weaker c.extend_from_slice.result
     (λ e whole is. e ∙ kept_append 1048577 line whole part c.min-count.result is room)
-    (added_all c.extend_from_slice.result c.extend_from_slice.new.self.items line (take c.min-count.result part) c.extend_from_slice.ensures.items)
+    (added_all c.extend_from_slice.result c.extend_from_slice.new.self.items line
+    (take c.min-count.result part) c.extend_from_slice.ensures.items)

@@ -1,4 +1,4 @@
-use Rattle.nc_replay.proofs.OneText.{one_text, begins_all}
+use Rattle.nc_replay.proofs.OneReply.{one_text, begins_all}
 use Rattle.nc_replay.proofs.replay.law_of_answers.Goals as goal
 
 pub returns-clause-one_text : goal.returns-clause-one_text

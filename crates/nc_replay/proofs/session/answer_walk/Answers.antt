@@ -2,10 +2,10 @@ use Rattle.std.proofs.Common.{subst}
 use Rattle.std.specs.Prelude.{codes}
 use Rattle.std.proofs.lemmas.Result.{on_ok_weaker}
 use Rattle.nc_region.specs.Trace.{MayRefuseWalk}
-use Rattle.nc_replay.specs.Commands.{Walk}
+use Rattle.nc_replay.specs.Requests.{Walk}
 use Rattle.nc_replay.specs.Answers.{ServesOnly}
-use Rattle.nc_replay.specs.Session.{script_of}
-use Rattle.nc_replay.specs.Texts.{line_text, refused_text, walk_text}
+use Rattle.nc_replay.specs.machinery.Session.{script_of}
+use Rattle.nc_replay.specs.Replies.{reply_line, refused_reply, walk_reply}
 use Rattle.nc_replay.proofs.OneAnswer.{walk_only, no_start_only}
 use Rattle.nc_replay.proofs.Serving.{walk_serves, no_start_serves, added}
 use Rattle.nc_replay.proofs.session.answer_walk.Goals as goal
@@ -14,11 +14,13 @@ pub returns-in-Ok : goal.returns-in-Ok
 returns-in-Ok c =
     on_ok_weaker c.push_trace.result
     (λ e. (
-      line_text (walk_text c.in-Ok.trace.places.items c.in-Ok.trace.end),
+      reply_line (walk_reply c.in-Ok.trace.places.items c.in-Ok.trace.end),
       e,
       record {
-        serves = walk_serves c.args.region.now c.args.start c.args.choices.now c.in-Ok.trace.places.items c.in-Ok.trace.end c.limit.ensures.region c.in-Ok.ensures.begins c.in-Ok.ensures.trace;
-        only = walk_only c.args.region.now c.args.start c.args.choices.now c.in-Ok.trace.places.items c.in-Ok.trace.end c.limit.ensures.region c.in-Ok.ensures.begins c.in-Ok.ensures.trace;
+        serves = walk_serves c.args.region.now c.args.start c.args.choices.now c.in-Ok.trace.places.items c.in-Ok.trace.end
+            c.limit-facts.ensures.region c.in-Ok.ensures.begins c.in-Ok.ensures.trace;
+        only = walk_only c.args.region.now c.args.start c.args.choices.now c.in-Ok.trace.places.items c.in-Ok.trace.end
+            c.limit-facts.ensures.region c.in-Ok.ensures.begins c.in-Ok.ensures.trace;
       },
     ))
     c.push_trace.ensures
@@ -27,10 +29,10 @@ pub returns-in-Err-NotBundle : goal.returns-in-Err-NotBundle
 returns-in-Err-NotBundle c =
     let region = c.args.region.now in
     let not = subst (MayRefuseWalk region.marked.bytes c.args.start) c.in-Err-NotBundle.field-0-is c.in-Err-NotBundle.ensures.refused in
-    added c.extend_from_slice.result _ _ (line_text (refused_text (codes "NotBundle")))
-    (λ text. ServesOnly (Walk c.args.start c.args.choices.now) (script_of region) text (script_of region))
+    added c.extend_from_slice.result _ _ (reply_line (refused_reply (codes "NotBundle")))
+    (λ reply. ServesOnly (Walk c.args.start c.args.choices.now) (script_of region) reply (script_of region))
     c.extend_from_slice.ensures.items
     record {
-      serves = no_start_serves region c.args.start c.args.choices.now c.limit.ensures.region not;
-      only = no_start_only region c.args.start c.args.choices.now c.limit.ensures.region not;
+      serves = no_start_serves region c.args.start c.args.choices.now c.limit-facts.ensures.region not;
+      only = no_start_only region c.args.start c.args.choices.now c.limit-facts.ensures.region not;
     }

@@ -10,8 +10,11 @@ use Rattle.nc_replay.proofs.stream.answer_all.Goals as goal
 
 pub returns-in-Err-clause-read_failed : goal.returns-in-Err-clause-read_failed
 returns-in-Err-clause-read_failed g c = λ _.
-    let (front, consumed, stands, _) = c.loop.invariant in
-    (front, Consumes-kept _ _ _ front consumed c.in-Err.ensures.bytes, stands_ended g.S.Responder.answers _ _ front _ _ c.loop.line.items stands)
+    let (front, consumed, stands, _) = c.loop.invariant in (
+      front,
+      Consumes-kept _ _ _ front consumed c.in-Err.ensures.bytes,
+      stands_ended g.S.Responder.answers _ _ front _ _ c.loop.line.items stands,
+    )
 
 pub loop-preserved : goal.loop-preserved
 loop-preserved g c =
@@ -38,7 +41,8 @@ returns-in-Err-feed-clause-write_failed g c = λ e.
     let is : c.in-Err-feed.fault ≡ WriteFailed = cc in
     known_more _ _ (front ++ take n buf) (λ input. IsBegun answers m before (g.W.Write.contents c.feed.new.writer) (lines_of input))
     (Consumes-trans _ _ _ front (take n buf) consumed c.in-Ok.ensures.bytes.0)
-    (fed_write_failed (Unit {0}) answers m before (front ++ take n buf) c.feed.new.responder (g.W.Write.contents c.feed.new.writer) c.feed.new.line.items c.in-Err-feed.fault
+    (fed_write_failed (Unit {0}) answers m before (front ++ take n buf) c.feed.new.responder
+    (g.W.Write.contents c.feed.new.writer) c.feed.new.line.items c.in-Err-feed.fault
     (c.in-Err-feed.ensures m before front stands)
     is)
 
@@ -53,7 +57,8 @@ returns-in-Err-feed-clause-out_of_memory g c = λ e.
     let is : c.in-Err-feed.fault ≡ OutOfMemory = cc in
     known_more _ _ (front ++ take n buf) (λ input. IsCutShort answers m before (g.W.Write.contents c.feed.new.writer) (lines_of input))
     (Consumes-trans _ _ _ front (take n buf) consumed c.in-Ok.ensures.bytes.0)
-    (fed_out_of_memory (Unit {0}) answers m before (front ++ take n buf) c.feed.new.responder (g.W.Write.contents c.feed.new.writer) c.feed.new.line.items c.in-Err-feed.fault
+    (fed_out_of_memory (Unit {0}) answers m before (front ++ take n buf) c.feed.new.responder
+    (g.W.Write.contents c.feed.new.writer) c.feed.new.line.items c.in-Err-feed.fault
     (c.in-Err-feed.ensures m before front stands)
     is)
 
@@ -67,7 +72,8 @@ returns-in-Err-feed-clause-read_failed g c = λ e.
     let buf = c.read.new.buf in
     let is : c.in-Err-feed.fault ≡ ReadFailed = cc in
     absurd
-    (fed_read_failed (Unit {0}) answers m before (front ++ take n buf) c.feed.new.responder (g.W.Write.contents c.feed.new.writer) c.feed.new.line.items c.in-Err-feed.fault
+    (fed_read_failed (Unit {0}) answers m before (front ++ take n buf) c.feed.new.responder
+    (g.W.Write.contents c.feed.new.writer) c.feed.new.line.items c.in-Err-feed.fault
     (c.in-Err-feed.ensures m before front stands)
     is)
 
@@ -80,7 +86,8 @@ returns-then-count-eq0-clause-ok g c =
     let n = c.in-Ok.count in
     let buf = c.read.new.buf in
     whole_ok (Unit {0}) answers m before _ _ front
-    (subst (Consumes _ _) (ap (λ (k : ℕ). front ++ take k buf) c.if-count-eq0.true ∙ append-nil front) (Consumes-trans _ _ _ front (take n buf) consumed c.in-Ok.ensures.bytes.0))
+    (subst (Consumes _ _) (ap (λ (k : ℕ). front ++ take k buf) c.if-count-eq0.true ∙ append-nil front)
+    (Consumes-trans _ _ _ front (take n buf) consumed c.in-Ok.ensures.bytes.0))
     (c.in-Ok.ensures.bytes.1 c.if-count-eq0.true (omega arith))
     c.finish.new.responder (g.W.Write.contents c.finish.new.writer) c.finish.result (c.finish.ensures m before front stands)
 
@@ -93,7 +100,8 @@ returns-then-count-eq0-clause-write_failed g c = λ e.
     let n = c.in-Ok.count in
     let buf = c.read.new.buf in
     whole_write_failed (Unit {0}) answers m before _ _ front
-    (subst (Consumes _ _) (ap (λ (k : ℕ). front ++ take k buf) c.if-count-eq0.true ∙ append-nil front) (Consumes-trans _ _ _ front (take n buf) consumed c.in-Ok.ensures.bytes.0))
+    (subst (Consumes _ _) (ap (λ (k : ℕ). front ++ take k buf) c.if-count-eq0.true ∙ append-nil front)
+    (Consumes-trans _ _ _ front (take n buf) consumed c.in-Ok.ensures.bytes.0))
     (c.in-Ok.ensures.bytes.1 c.if-count-eq0.true (omega arith))
     c.finish.new.responder (g.W.Write.contents c.finish.new.writer) c.finish.result (c.finish.ensures m before front stands) e
 
@@ -106,7 +114,8 @@ returns-then-count-eq0-clause-out_of_memory g c = λ e.
     let n = c.in-Ok.count in
     let buf = c.read.new.buf in
     whole_out_of_memory (Unit {0}) answers m before _ _ front
-    (subst (Consumes _ _) (ap (λ (k : ℕ). front ++ take k buf) c.if-count-eq0.true ∙ append-nil front) (Consumes-trans _ _ _ front (take n buf) consumed c.in-Ok.ensures.bytes.0))
+    (subst (Consumes _ _) (ap (λ (k : ℕ). front ++ take k buf) c.if-count-eq0.true ∙ append-nil front)
+    (Consumes-trans _ _ _ front (take n buf) consumed c.in-Ok.ensures.bytes.0))
     (c.in-Ok.ensures.bytes.1 c.if-count-eq0.true (omega arith))
     c.finish.new.responder (g.W.Write.contents c.finish.new.writer) c.finish.result (c.finish.ensures m before front stands) e
 
@@ -119,7 +128,8 @@ returns-then-count-eq0-clause-read_failed g c = λ e.
     let n = c.in-Ok.count in
     let buf = c.read.new.buf in
     absurd (whole_read_failed (Unit {0}) answers m before _ _ front
-    (subst (Consumes _ _) (ap (λ (k : ℕ). front ++ take k buf) c.if-count-eq0.true ∙ append-nil front) (Consumes-trans _ _ _ front (take n buf) consumed c.in-Ok.ensures.bytes.0))
+    (subst (Consumes _ _) (ap (λ (k : ℕ). front ++ take k buf) c.if-count-eq0.true ∙ append-nil front)
+    (Consumes-trans _ _ _ front (take n buf) consumed c.in-Ok.ensures.bytes.0))
     (c.in-Ok.ensures.bytes.1 c.if-count-eq0.true (omega arith))
     c.finish.new.responder (g.W.Write.contents c.finish.new.writer) c.finish.result (c.finish.ensures m before front stands) e)
 
@@ -133,7 +143,8 @@ returns-in-Err-feed-clause-faults g c =
     let m = c.args.responder.now in
     let before = g.W.Write.contents c.args.writer.now in
     let (front, consumed, stands, long) = c.loop.invariant in
-    fed_no_size (Unit {0}) g.S.Responder.answers m before (front ++ take c.in-Ok.count c.read.new.buf) c.feed.new.responder (g.W.Write.contents c.feed.new.writer) c.feed.new.line.items c.in-Err-feed.fault
+    fed_no_size (Unit {0}) g.S.Responder.answers m before (front ++ take c.in-Ok.count c.read.new.buf) c.feed.new.responder
+    (g.W.Write.contents c.feed.new.writer) c.feed.new.line.items c.in-Err-feed.fault
     (c.in-Err-feed.ensures m before front stands)
 
 pub returns-then-count-eq0-clause-faults : goal.returns-then-count-eq0-clause-faults
@@ -141,4 +152,5 @@ returns-then-count-eq0-clause-faults g c =
     let m = c.args.responder.now in
     let before = g.W.Write.contents c.args.writer.now in
     let (front, consumed, stands, long) = c.loop.invariant in
-    finished_no_size (Unit {0}) g.S.Responder.answers m before front c.finish.new.responder (g.W.Write.contents c.finish.new.writer) c.finish.result (c.finish.ensures m before front stands)
+    finished_no_size (Unit {0}) g.S.Responder.answers m before front c.finish.new.responder
+    (g.W.Write.contents c.finish.new.writer) c.finish.result (c.finish.ensures m before front stands)

@@ -11,4 +11,6 @@ returns-in-Ok-flush g c = λ start before bytes s.
 
 pub returns-in-Err-flush : goal.returns-in-Err-flush
 returns-in-Err-flush g c = λ start before bytes s.
-    begun_whole g.S.Responder.answers start before c.answer_rest.new.responder _ (lines_of bytes) (answered_kept g.S.Responder.answers start _ before _ _ (lines_of bytes) (c.in-Ok.ensures start before bytes s) c.flush.ensures.bytes)
+    begun_whole g.S.Responder.answers start before c.answer_rest.new.responder _ (lines_of bytes)
+    (answered_kept g.S.Responder.answers start _ before _ _ (lines_of bytes)
+    (c.in-Ok.ensures start before bytes s) c.flush.ensures.bytes)

@@ -3,14 +3,15 @@ use Rattle.std.proofs.lemmas.Result.{on_ok_weaker}
 use Rattle.std.proofs.lemmas.List.{drop_all}
 use Rattle.nc_replay.specs.Lines.{bad_line}
 use Rattle.nc_replay.proofs.Serving.{added_all}
-use Rattle.nc_replay.proofs.Replies.{bad_next, named_next, none_next}
+use Rattle.nc_replay.proofs.VetReplies.{bad_next, named_next, none_next}
 use Rattle.nc_replay.proofs.verdicts.push_reply.Goals as goal
 
 pub returns-in-Some : goal.returns-in-Some
 returns-in-Some c =
     on_ok_weaker c.push_verdict.result
     (λ says limit line lines rest h.
-    named_next limit line lines c.args.is_named rest _ _ c.in-Some.verdict (λ (reply : List ℕ). c.push_verdict.new.out.items ≡ c.args.out.now.items ++ reply)
+    named_next limit line lines c.args.is_named rest _ _ c.in-Some.verdict
+    (λ (reply : List ℕ). c.push_verdict.new.out.items ≡ c.args.out.now.items ++ reply)
     (search rules) c.in-Some.ensures.items says h) c.push_verdict.ensures
 
 pub returns-in-None : goal.returns-in-None

@@ -1,13 +1,13 @@
 use Rattle.std.proofs.Common.{ℕ, List, None, ◌≡◌, ◌∙◌, Some, sym, ap, subst}
 use Rattle.std.specs.Option.{option_map}
 use Rattle.std.proofs.lemmas.Result.{on_ok_weaker}
-use Rattle.nc_replay.specs.Commands.{Create, Walk, Dump, request_in}
+use Rattle.nc_replay.specs.Requests.{Create, Walk, Dump, request_in}
 use Rattle.nc_replay.specs.Lines.{bad_line}
-use Rattle.nc_replay.specs.Shown.{shown}
-use Rattle.nc_replay.specs.declared.command.Command.{Command}
+use Rattle.nc_replay.specs.machinery.Shown.{shown}
+use Rattle.nc_replay.specs.declared.request.Request.{Request}
 use Rattle.nc_replay.specs.Script.{Script}
 use Rattle.nc_replay.specs.Answers.{AnswersOnly, ServesOnly}
-use Rattle.nc_replay.specs.Session.{script_of}
+use Rattle.nc_replay.specs.machinery.Session.{script_of}
 use Rattle.nc_replay.proofs.Serving.{added_all}
 use Rattle.nc_replay.proofs.OneAnswer.{create_only, dump_only, line_only, bad_only}
 use Rattle.nc_replay.proofs.Kept.{request_of_kept}
@@ -16,7 +16,9 @@ use Rattle.nc_replay.proofs.session.SessionResponder.answer.Goals as goal
 pub returns-in-Some-Create : goal.returns-in-Some-Create
 returns-in-Some-Create c =
     let request = Create c.in-Some-Create.at c.in-Some-Create.bytes.items in
-    let asked : request_in c.args.kept.now ≡ Some request = sym c.in_ok-at.ensures ∙ ap (option_map shown) c.in-Some-Create.is ∙ ap (λ (command : Command). Some (shown command)) c.in-Some-Create.field-0-is in
+    let asked : request_in c.args.kept.now ≡ Some request =
+    sym c.in_ok-at.ensures ∙ ap (option_map shown) c.in-Some-Create.is
+    ∙ ap (λ (r : Request). Some (shown r)) c.in-Some-Create.field-0-is in
     let old = script_of c.self.inside.region in
     let new = script_of c.answer_create.new.region in
     on_ok_weaker c.answer_create.result
@@ -24,13 +26,16 @@ returns-in-Some-Create c =
       h.0,
       h.1,
       subst (λ (s : Script). AnswersOnly s line h.0 new) c.self.view_is
-          (line_only request old new line h.0 (sym (request_of_kept c.args.kept.now line e) ∙ asked) h.2 (create_only c.in-Some-Create.at c.in-Some-Create.bytes.items old h.0 new h.2)),
+          (line_only request old new line h.0 (sym (request_of_kept c.args.kept.now line e) ∙ asked) h.2
+          (create_only c.in-Some-Create.at c.in-Some-Create.bytes.items old h.0 new h.2)),
     )) c.answer_create.ensures
 
 pub returns-in-Some-Walk : goal.returns-in-Some-Walk
 returns-in-Some-Walk c =
     let request = Walk c.in-Some-Walk.start c.in-Some-Walk.choices.items in
-    let asked : request_in c.args.kept.now ≡ Some request = sym c.in_ok-at.ensures ∙ ap (option_map shown) c.in-Some-Walk.is ∙ ap (λ (command : Command). Some (shown command)) c.in-Some-Walk.field-0-is in
+    let asked : request_in c.args.kept.now ≡ Some request =
+    sym c.in_ok-at.ensures ∙ ap (option_map shown) c.in-Some-Walk.is
+    ∙ ap (λ (r : Request). Some (shown r)) c.in-Some-Walk.field-0-is in
     let old = script_of c.self.inside.region in
     on_ok_weaker c.answer_walk.result
     (λ h line e.
@@ -43,7 +48,9 @@ returns-in-Some-Walk c =
 
 pub returns-in-Some-Dump : goal.returns-in-Some-Dump
 returns-in-Some-Dump c =
-    let asked : request_in c.args.kept.now ≡ Some Dump = sym c.in_ok-at.ensures ∙ ap (option_map shown) c.in-Some-Dump.is ∙ ap (λ (command : Command). Some (shown command)) c.in-Some-Dump.field-0-is in
+    let asked : request_in c.args.kept.now ≡ Some Dump =
+    sym c.in_ok-at.ensures ∙ ap (option_map shown) c.in-Some-Dump.is
+    ∙ ap (λ (r : Request). Some (shown r)) c.in-Some-Dump.field-0-is in
     let old = script_of c.self.inside.region in
     on_ok_weaker c.answer_dump.result
     (λ h line e. (
@@ -58,5 +65,10 @@ returns-in-None c =
     let asked : request_in c.args.kept.now ≡ None = sym c.in_ok-at.ensures ∙ ap (option_map shown) c.in-None.is in
     let old = script_of c.self.inside.region in
     on_ok_weaker c.extend_from_slice.result
-    (λ h line e. (bad_line, h, subst (λ (s : Script). AnswersOnly s line bad_line s) c.self.view_is (bad_only old line (sym (request_of_kept c.args.kept.now line e) ∙ asked))))
+    (λ h line e. (
+      bad_line,
+      h,
+      subst (λ (s : Script). AnswersOnly s line bad_line s) c.self.view_is
+          (bad_only old line (sym (request_of_kept c.args.kept.now line e) ∙ asked)),
+    ))
     (added_all c.extend_from_slice.result _ _ bad_line c.extend_from_slice.ensures.items)

@@ -7,6 +7,7 @@ use Rattle.std.specs.Int.{w32, from_be_bytes}
 use Rattle.hex.specs.Hex.{decode_of, decode_sized}
 use Rattle.nc_replay.specs.Lines.{words_in, is_long}
 
+-- what a line of a script asks for
 pub data Request : Type 0 where
   Create : (at : ℕ) (bytes : List ℕ) → Request
   Walk : (start : ℕ) (choices : List ℕ) → Request
@@ -23,12 +24,14 @@ bytes_in word =
     else if (length word == 1) && (slice_index word 0 == 45) then Some []
     else result_ok (decode_of word)
 
+-- words that are addresses, all of them
 abbrev pub addresses_in : List (List ℕ) → Option (List ℕ)
 addresses_in [] = Some []
 addresses_in (word ∷ words) = option_and_then (λ a. option_map (λ rest. a ∷ rest) (addresses_in words)) (address_in word)
 
+-- the word is spelled so
 abbrev pub is_word : List ℕ → List ℕ → Bool
-is_word word text = pointwise nat_eq word text
+is_word word spelling = pointwise nat_eq word spelling
 
 -- an address, and the bytes that are to stand there
 abbrev pub placed_in : List (List ℕ) → Option (ℕ × List ℕ)
@@ -49,16 +52,17 @@ walk_in (start ∷ choices) = option_and_then (λ a. option_map (Walk a) (addres
 walk_in [] = None
 
 -- a word that nothing follows
-abbrev pub alone : Request → List (List ℕ) → Option Request
-alone request [] = Some request
-alone request (word ∷ words) = None
+abbrev pub single_in : Request → List (List ℕ) → Option Request
+single_in request [] = Some request
+single_in request (word ∷ words) = None
 
+-- what the words of a line ask for
 abbrev pub request_of : List (List ℕ) → Option Request
 request_of [] = None
 request_of (word ∷ words) =
     if is_word word (codes "create") then create_in words
     else if is_word word (codes "walk") then walk_in words
-    else if is_word word (codes "dump") then alone Dump words
+    else if is_word word (codes "dump") then single_in Dump words
     else None
 
 -- what a line asks for; a line that is too long or has no such form asks for nothing, and is a bad line

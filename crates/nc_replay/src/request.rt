@@ -2,8 +2,8 @@
 
 ghost use Rattle.std.specs.Prelude.{◌≡◌, ℕ, IfOk, map, Some, None, ◌∷◌};
 ghost use Rattle.std.specs.Option.{option_map};
-ghost use Rattle.nc_replay.specs.Commands.{request_in, placed_in, chunk_in, create_in, walk_in, addresses_in, alone};
-ghost use Rattle.nc_replay.specs.Shown.{shown, plain};
+ghost use Rattle.nc_replay.specs.Requests.{request_in, placed_in, chunk_in, create_in, walk_in, addresses_in, single_in};
+ghost use Rattle.nc_replay.specs.machinery.Shown.{shown, plain};
 
 use crate::lines::LINE_LIMIT;
 use crate::words::{address_of, bytes_of, words_of};
@@ -11,7 +11,7 @@ use std::alloc::{AllocError, Global};
 
 /// What a line asks for.
 #[derive(Drop)]
-pub(crate) enum Command {
+pub(crate) enum Request {
     /// A chunk of these bytes at this address.
     Create { at: u32, bytes: Vec<u8> },
     /// A walk from this address, which uses up one choice at each instruction.
@@ -53,21 +53,21 @@ pub(crate) fn placed_in_line(
 }
 
 /// What follows the word `create`.
-fn create_of(alloc: Global, words: &[&[u8]]) -> Result<Option<Command>, AllocError>
+fn create_of(alloc: Global, words: &[&[u8]]) -> Result<Option<Request>, AllocError>
     ensures { IfOk result (λ found. option_map shown found ≡ create_in (map (λ word. word.now) words.now)) }
 {
     match placed_of(alloc, words)? {
-        Some((at, bytes)) => Ok(Some(Command::Create { at, bytes })),
+        Some((at, bytes)) => Ok(Some(Request::Create { at, bytes })),
         None => Ok(None),
     }
 }
 
-/// A command whose word stands alone.
-fn alone_of(command: Command, words: &[&[u8]]) -> Option<Command>
-    ensures { option_map shown result ≡ alone (shown command) (map (λ word. word.now) words.now) }
+/// A request whose word nothing follows.
+fn single_of(request: Request, words: &[&[u8]]) -> Option<Request>
+    ensures { option_map shown result ≡ single_in (shown request) (map (λ word. word.now) words.now) }
 {
     if words.is_empty() {
-        Some(command)
+        Some(request)
     } else {
         None
     }
@@ -88,7 +88,7 @@ fn addresses_of(alloc: Global, words: &[&[u8]]) -> Result<Option<Vec<u32>>, Allo
 }
 
 /// What follows the word `walk`.
-fn walk_of(alloc: Global, words: &[&[u8]]) -> Result<Option<Command>, AllocError>
+fn walk_of(alloc: Global, words: &[&[u8]]) -> Result<Option<Request>, AllocError>
     ensures { IfOk result (λ found. option_map shown found ≡ walk_in (map (λ word. word.now) words.now)) }
 {
     let Some((start, choices)) = words.split_first() else {
@@ -98,13 +98,13 @@ fn walk_of(alloc: Global, words: &[&[u8]]) -> Result<Option<Command>, AllocError
         return Ok(None);
     };
     match addresses_of(alloc, choices)? {
-        Some(choices) => Ok(Some(Command::Walk { start, choices })),
+        Some(choices) => Ok(Some(Request::Walk { start, choices })),
         None => Ok(None),
     }
 }
 
 /// What a line asks for, or nothing where it is a bad line.
-pub(crate) fn command_of(alloc: Global, line: &[u8]) -> Result<Option<Command>, AllocError>
+pub(crate) fn request_of(alloc: Global, line: &[u8]) -> Result<Option<Request>, AllocError>
     ensures { IfOk result (λ found. option_map shown found ≡ request_in line.now) }
 {
     if line.len() > LINE_LIMIT {
@@ -121,7 +121,7 @@ pub(crate) fn command_of(alloc: Global, line: &[u8]) -> Result<Option<Command>, 
         return walk_of(alloc, rest);
     }
     if *key == b"dump".as_slice() {
-        return Ok(alone_of(Command::Dump, rest));
+        return Ok(single_of(Request::Dump, rest));
     }
     Ok(None)
 }

@@ -1,12 +1,13 @@
--- Machinery: lines gathered to be vetted, and their verdicts in order. No public contract cites it.
-use Rattle.std.specs.Prelude.{◌≡◌, ◌++◌, ℕ, Bool, true, false, List, [], ◌∷◌, map, MatchOption, Option, Some, None, Result, Ok, Err, is_some}
+-- Machinery of the proofs, cited by no public contract: lines gathered to be vetted, and their verdicts in order.
+use Rattle.std.specs.Prelude.{◌≡◌, ◌++◌, ℕ, Bool, true, false, List, [], ◌∷◌, map, MatchOption, Option, Some, None, Result, Ok, Err}
+use Rattle.std.specs.Prelude.{is_some}
 use Rattle.std.specs.List.{flat_map}
 use Rattle.std.specs.Global.{Vec}
 use Rattle.nc_vet.specs.Chunk.{MarkedChunk, IsValid}
 use Rattle.nc_vet.specs.Faults.{HasFault}
 use Rattle.nc_vet.specs.declared.fault.VetFault.{VetFault}
 use Rattle.nc_work.specs.declared.job.Job.{Job}
-use Rattle.nc_replay.specs.Commands.{chunk_in}
+use Rattle.nc_replay.specs.Requests.{chunk_in}
 use Rattle.nc_replay.specs.declared.batch.Batch.{Batch}
 
 -- a job without where its bytes lie in memory
@@ -15,6 +16,7 @@ pub record JobValue : Type 0 where
   pub limit : ℕ
   pub code : List ℕ
 
+-- what a job says, without where its bytes lie in memory
 abbrev pub value_of : Job → JobValue
 value_of job = record { base = job.base; limit = job.limit; code = job.code.items }
 
@@ -40,7 +42,8 @@ abbrev pub AreFound : ℕ → List (List ℕ) → List Bool → List (Result Mar
 AreFound limit [] named verdicts = (named ≡ []) × (verdicts ≡ [])
 AreFound limit (line ∷ lines) named verdicts = MatchOption (chunk_in line)
     ((rest : List Bool) × (named ≡ false ∷ rest) × AreFound limit lines rest verdicts)
-    (λ placed. (rest : List Bool) × (verdict : Result MarkedChunk (Vec ℕ × VetFault)) × (others : List (Result MarkedChunk (Vec ℕ × VetFault)))
+    (λ placed. (rest : List Bool) × (verdict : Result MarkedChunk (Vec ℕ × VetFault))
+    × (others : List (Result MarkedChunk (Vec ℕ × VetFault)))
     × (named ≡ true ∷ rest) × (verdicts ≡ verdict ∷ others) × IsFound limit placed verdict × AreFound limit lines rest others)
 
 -- these lines were gathered after the others

@@ -1,0 +1,20 @@
+-- The words of a dump, one chunk more at a time.
+use Rattle.std.proofs.Common.{◌≡◌, ℕ, ◌+◌, List, [], ◌∷◌, ◌++◌, take, map, Some, sym, ap, ◌∙◌, append_assoc, append-nil}
+use Rattle.std.specs.List.{flat_map, slice_get}
+use Rattle.std.proofs.lemmas.Grind.{flat_map-append}
+use Rattle.std.proofs.lemmas.List.{map-append, take_more}
+use Rattle.std.proofs.lemmas.Option.{get_or_from_slice_get, slice_get_within}
+
+-- the words of the next element comes after those of the elements before
+pub dump_more : {X Y : Type 0} (shown : X → Y) (words : Y → List ℕ) (xs : List X) (i : ℕ) (x : X) (start now new : List ℕ)
+    → slice_get xs i ≡ Some x
+    → now ≡ start ++ flat_map words (map shown (take i xs)) → new ≡ now ++ words (shown x)
+    → new ≡ start ++ flat_map words (map shown (take (i + 1) xs))
+dump_more shown words xs i x start now new is e f =
+    let front = map shown (take i xs) in
+    let longer = take_more xs i x (slice_get_within xs i x is) ∙ ap (λ y. take i xs ++ y ∷ []) (get_or_from_slice_get xs i x x is) in
+    let shown_longer = ap (map shown) longer ∙ map-append shown (take i xs) (x ∷ []) in
+    f ∙ ap (λ (ys : List ℕ). ys ++ words (shown x)) e
+    ∙ append_assoc start (flat_map words front) (words (shown x))
+    ∙ ap (λ (ys : List ℕ). start ++ (flat_map words front ++ ys)) (sym (append-nil (words (shown x))))
+    ∙ ap (λ (ys : List ℕ). start ++ ys) (sym (ap (flat_map words) shown_longer ∙ flat_map-append words front (shown x ∷ [])))
