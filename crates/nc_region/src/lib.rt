@@ -50,6 +50,7 @@ pub use acts::{Act, Acts};
 pub use chunk::{Chunk, ChunkState};
 pub use fault::{CreateFault, DeleteFault, ModifyFault, RegionFault, WalkFault};
 pub use law::law_of_chunks;
+pub use nc_schedule::law_of_schedules;
 pub use plain::Plain;
 pub use recorder::Recorder;
 pub use region::{Region, RegionOf};

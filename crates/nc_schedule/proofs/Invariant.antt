@@ -1,0 +1,86 @@
+-- What every event keeps.
+use Rattle.std.proofs.Common.{◌≡◌, ℕ, ◌<◌, ◌≤◌, true, false, All, List, length, get_or, set, Option, Some, None, inl, inr, arith, ◌∙◌}
+use Rattle.std.proofs.Common.{sym, subst}
+use Rattle.std.specs.Prelude.{IfSome, slice_index}
+use Rattle.std.proofs.lemmas.Bool.Decides.{eqb_tells}
+use Rattle.std.proofs.lemmas.List.{length-set, get_or-set_same, get_or-set_other}
+use Rattle.nc_decode.specs.declared.instruction.Mark.{Mark}
+use Rattle.nc_text.specs.Machine.{State}
+use Rattle.nc_text.specs.Marks.{IsClosed}
+use Rattle.nc_text.proofs.Confined.{IsKnown}
+use Rattle.nc_schedule.specs.Quiet.{Span, IsWithin, IsQuiet}
+use Rattle.nc_schedule.specs.World.{World, Seat, first_seat, seat_at, IsWhole}
+use Rattle.nc_schedule.specs.Events.{with_seat}
+
+-- whoever stands within a retired span came before its stamp
+abbrev pub CameBefore : ℕ → List Span → State → Type 0
+CameBefore since retired now = All (λ (span : Span). IsWithin span now.place → since < span.stamp) retired
+
+-- What is kept of a seat, over the world's marks, spans and generation and the keeper's bound for it: its thread stands
+-- where a mark is or in the zone, and not within a span that was retired before it came; until it leaves its word is at
+-- most its `since`, and a seat that has left is outside; until the keeper finds that, its bound is at most `since`.
+pub record SeatKeeps (marks : List Mark) (retired : List Span) (generation bound : ℕ) (seat : Seat) : Type 0 where
+  pub stands : IfSome seat.inside (IsKnown marks)
+  pub early : IfSome seat.inside (CameBefore seat.pass.since retired)
+  pub since : seat.pass.since ≤ generation
+  pub word : seat.has_left ≡ false → seat.pass.word ≤ seat.pass.since
+  pub out : seat.has_left ≡ true → seat.inside ≡ None
+  pub found : seat.found_left ≡ true → seat.has_left ≡ true
+  pub bound_is : seat.found_left ≡ false → bound ≤ seat.pass.since
+
+-- of each seat
+abbrev pub SeatsKeep : World → List Mark → List Span → ℕ → Type 0
+SeatsKeep w marks retired generation =
+    (k : ℕ) → k < length w.seats → SeatKeeps marks retired generation (slice_index w.keeper.bounds k) (seat_at w k)
+
+-- what is kept of a world
+pub record Keeps (w : World) : Type 0 where
+  pub as_long : length w.marked.marks ≡ length w.marked.bytes
+  pub closed : IsClosed w.marked.bytes w.marked.marks
+  pub quiet : All (IsQuiet w.marked.bytes w.marked.marks) w.retired
+  pub whole : All (IsWhole w.marked.bytes) w.retired
+  pub bounds : length w.keeper.bounds ≡ length w.seats
+  pub seats : SeatsKeep w w.marked.marks w.retired w.keeper.generation
+
+-- what follows from P holds of what is there
+pub if_map : {X : Type 0} (o : Option X) (P Q : X → Type 0) → ((x : X) → P x → Q x) → IfSome o P → IfSome o Q
+if_map None P Q f h = tt
+if_map (Some x) P Q f h = f x h
+
+-- nothing is there
+pub if_none : {X : Type 0} (o : Option X) (P : X → Type 0) → o ≡ None → IfSome o P
+if_none {X} o P is = subst (λ (z : Option X). IfSome z P) (sym is) tt
+
+-- this is there
+pub some_at : {X : Type 0} (o : Option X) (P : X → Type 0) (x : X) → o ≡ Some x → IfSome o P → P x
+some_at {X} o P x is h = subst (λ (z : Option X). IfSome z P) is h
+
+-- something is not nothing
+pub none_is_some : {X : Type 0} (x : X) → None ≡ Some x → ⊥
+none_is_some x is = cc is
+
+-- of a seat list with one seat set, the seat of a number is the new one or the old
+set_seat : (P : ℕ → Seat → Type 0) (seats : List Seat) (k : ℕ) (seat : Seat) → P k seat
+    → ((j : ℕ) → j < length seats → P j (get_or seats j first_seat)) → (j : ℕ) → j < length (set seats k seat)
+    → P j (get_or (set seats k seat) j first_seat)
+set_seat P seats k seat p each j lt =
+    let inside : j < length seats = omega (arith, length-set seats k seat) in
+    elim (eqb_tells j k) [
+      | inl same ↦
+          subst (λ (i : ℕ). P i (get_or (set seats k seat) i first_seat)) (sym same.1)
+          (subst (P k) (sym (get_or-set_same seats k seat first_seat (omega (arith, inside, same.1)))) p)
+      | inr other ↦ subst (P j) (sym (get_or-set_other seats k j seat first_seat other.1)) (each j inside)
+    ]
+
+-- one seat is changed
+pub with_seat_keeps : (w : World) (k : ℕ) (seat : Seat) → Keeps w
+    → SeatKeeps w.marked.marks w.retired w.keeper.generation (slice_index w.keeper.bounds k) seat → Keeps (with_seat w k seat)
+with_seat_keeps w k seat keeps s =
+    record {
+      as_long = keeps.as_long;
+      closed = keeps.closed;
+      quiet = keeps.quiet;
+      whole = keeps.whole;
+      bounds = keeps.bounds ∙ sym (length-set w.seats k seat);
+      seats = set_seat (λ j t. SeatKeeps w.marked.marks w.retired w.keeper.generation (slice_index w.keeper.bounds j) t) w.seats k seat s keeps.seats;
+    }

@@ -1,0 +1,215 @@
+-- What the writer does keeps the world.
+use Rattle.std.proofs.Common.{◌≡◌, ℕ, ◌+◌, ◌-◌, ◌<◌, ◌≤◌, ◌⊎◌, Bool, true, false, not, All, List, [], ◌∷◌, ◌++◌, length, get_or, set, take, drop}
+use Rattle.std.proofs.Common.{Option, Some, None, inl, inr, arith, refl, ◌∙◌, sym, ap, subst}
+use Rattle.std.specs.Prelude.{IfSome, Contains, filter, slice_index}
+use Rattle.std.proofs.lemmas.Bool.Decides.{eqb_tells}
+use Rattle.std.proofs.lemmas.List.{length-set, get_or-set_same, get_or-set_other, take-append-drop}
+use Rattle.std.proofs.lemmas.List.Elements.{All-weaker, All-cons, All-filter, All-contains, All-from_get_or}
+use Rattle.nc_decode.specs.declared.instruction.Mark.{Mark}
+use Rattle.nc_decode.specs.declared.instruction.Mark.TheVariants.{Unmarked, Plain, After}
+use Rattle.nc_text.specs.Machine.{State}
+use Rattle.nc_text.specs.Marks.{Admits, mark_at}
+use Rattle.nc_text.specs.MarkedText.{with_marks, with_span, StaysOrPlain}
+use Rattle.nc_text.proofs.Confined.{IsKnown}
+use Rattle.nc_text.proofs.SpanElements.{length-with_span}
+use Rattle.nc_schedule.specs.Quiet.{Span, IsWithin, IsQuiet}
+use Rattle.nc_schedule.specs.World.{World, Seat, first_seat, seat_at, IsWhole, is_same_span, NoneIsWithin}
+use Rattle.nc_schedule.specs.Events.{Puts, Marks, Bumps, Retires, Frees, Looks, IsAllowed, after, new_span}
+use Rattle.nc_schedule.proofs.Invariant.{Keeps, SeatKeeps, CameBefore, if_map, some_at, none_is_some}
+use Rattle.nc_schedule.proofs.Unmarking.{MayFree, freed_marks, freed_long, freed_stays, freed_closed, freed_quiet}
+
+-- a byte is put
+pub keeps_puts : (w : World) (at byte : ℕ) → Keeps w → IsAllowed w (Puts at byte) → Keeps (after w (Puts at byte))
+keeps_puts w at byte keeps allowed =
+    let long = length-set w.marked.bytes (at - 65536) byte in
+    record {
+      as_long = keeps.as_long ∙ sym long;
+      closed = allowed.1.0;
+      quiet = allowed.1.1;
+      whole = All-weaker (IsWhole w.marked.bytes) (IsWhole (set w.marked.bytes (at - 65536) byte))
+          (λ span h. record { start = h.start; bundles = h.bundles; low = h.low; high = omega (arith, h.high, long) }) w.retired keeps.whole;
+      bounds = keeps.bounds;
+      seats = keeps.seats;
+    }
+
+-- a mark that stays or becomes plain stands for what it stood for
+still_admits : (old new : Mark) (masked : Option ℕ) → StaysOrPlain old new → Admits old masked → Admits new masked
+still_admits Unmarked new masked stays m = absurd m
+still_admits Plain new masked stays m = subst (λ (mark : Mark). Admits mark masked) (sym stays) m
+still_admits (After register) new masked stays m =
+    elim stays [
+      | inl same ↦ subst (λ (mark : Mark). Admits mark masked) (sym same) m
+      | inr plain ↦ subst (λ (mark : Mark). Admits mark masked) (sym plain) tt
+    ]
+
+-- a span set leaves the list as long, also an empty one
+span_long : {X : Type 0} (xs : List X) (start : ℕ) (ys : List X) → (0 < length ys → start + length ys ≤ length xs)
+    → length (with_span xs start ys) ≡ length xs
+span_long {X} xs start [] fits =
+    let e : start + 0 ≡ start = omega arith in
+    ap (λ (n : ℕ). length (take start xs ++ drop n xs)) e ∙ ap (λ (z : List X). length z) (take-append-drop start xs)
+span_long xs start (y ∷ ys) fits = length-with_span xs start (y ∷ ys) (fits (omega arith))
+
+-- what a seat keeps while marks and spans change
+seat_moves : (old marks : List Mark) (before retired : List Span) (from to bound : ℕ) (seat : Seat) → from ≤ to
+    → IfSome seat.inside (IsKnown marks) → IfSome seat.inside (CameBefore seat.pass.since retired)
+    → SeatKeeps old before from bound seat → SeatKeeps marks retired to bound seat
+seat_moves old marks before retired from to bound seat le stands early s =
+    record { stands = stands; early = early; since = omega (arith, s.since, le); word = s.word; out = s.out; found = s.found; bound_is = s.bound_is }
+
+-- marks are added
+pub keeps_marks : (w : World) (at : ℕ) (marks : List Mark) → Keeps w → IsAllowed w (Marks at marks) → Keeps (after w (Marks at marks))
+keeps_marks w at marks keeps allowed =
+    let new = (with_marks w.marked at marks).marks in
+    let still : (now : State) → IsKnown w.marked.marks now → IsKnown (with_marks w.marked at marks).marks now = λ now known.
+    elim known [
+      | inl m ↦ inl (m.0, still_admits (mark_at w.marked.marks now.place) (mark_at (with_marks w.marked at marks).marks now.place) now.masked (allowed.1 (now.place - 65536)) m.1)
+      | inr zone ↦ inr zone
+    ] in
+    record {
+      as_long =
+          span_long w.marked.marks (at - 65536) marks
+          (λ some. let first = allowed.0 0 some in let last = allowed.0 (length marks - 1) (omega (arith, some)) in omega (arith, some, first.0, last.1, keeps.as_long))
+          ∙ keeps.as_long;
+      closed = allowed.2.0;
+      quiet = allowed.2.1;
+      whole = keeps.whole;
+      bounds = keeps.bounds;
+      seats = λ k lt.
+          let s = keeps.seats k lt in
+          seat_moves w.marked.marks (with_marks w.marked at marks).marks w.retired w.retired w.keeper.generation w.keeper.generation (slice_index w.keeper.bounds k) (seat_at w k) (omega arith)
+          (if_map (seat_at w k).inside (IsKnown w.marked.marks) (IsKnown (with_marks w.marked at marks).marks) still s.stands) s.early s;
+    }
+
+-- the generation grows
+pub keeps_bumps : (w : World) → Keeps w → Keeps (after w Bumps)
+keeps_bumps w keeps =
+    record {
+      as_long = keeps.as_long;
+      closed = keeps.closed;
+      quiet = keeps.quiet;
+      whole = keeps.whole;
+      bounds = keeps.bounds;
+      seats = λ k lt.
+          let s = keeps.seats k lt in
+          seat_moves w.marked.marks w.marked.marks w.retired w.retired w.keeper.generation (w.keeper.generation + 1) (slice_index w.keeper.bounds k) (seat_at w k) (omega arith) s.stands s.early s;
+    }
+
+-- a span is retired
+pub keeps_retires : (w : World) (base len : ℕ) → Keeps w → IsAllowed w (Retires base len) → Keeps (after w (Retires base len))
+keeps_retires w base len keeps allowed =
+    record {
+      as_long = keeps.as_long;
+      closed = keeps.closed;
+      quiet = All-cons (IsQuiet w.marked.bytes w.marked.marks) (new_span w base len) w.retired allowed.2 keeps.quiet;
+      whole = All-cons (IsWhole w.marked.bytes) (new_span w base len) w.retired allowed.0 keeps.whole;
+      bounds = keeps.bounds;
+      seats = λ k lt.
+          let s = keeps.seats k lt in
+          seat_moves w.marked.marks w.marked.marks w.retired (new_span w base len ∷ w.retired) w.keeper.generation (w.keeper.generation + 1) (slice_index w.keeper.bounds k) (seat_at w k) (omega arith) s.stands
+          (if_map (seat_at w k).inside (CameBefore (seat_at w k).pass.since w.retired) (CameBefore (seat_at w k).pass.since (new_span w base len ∷ w.retired))
+          (λ now came. All-cons (λ (span : Span). IsWithin span now.place → (seat_at w k).pass.since < span.stamp) (new_span w base len) w.retired (λ within. omega (arith, s.since)) came) s.early)
+          s;
+    }
+
+-- what holds of each thing that is there
+for_some : {X : Type 0} (o : Option X) (P : X → Type 0) → ((x : X) → o ≡ Some x → P x) → IfSome o P
+for_some None P f = tt
+for_some (Some x) P f = f x refl
+
+-- a seat by which a span's stamp has passed has no thread within the span
+seat_is_out : (marks : List Mark) (retired : List Span) (generation bound : ℕ) (span : Span) (seat : Seat) → Contains retired span
+    → SeatKeeps marks retired generation bound seat → (found : Bool) → seat.found_left ≡ found
+    → (span.stamp ≤ bound) ⊎ (seat.found_left ≡ true) → (now : State) → seat.inside ≡ Some now → IsWithin span now.place → ⊥
+seat_is_out marks retired generation bound span seat has s true is passed now inside within =
+    none_is_some now (sym (s.out (s.found is)) ∙ inside)
+seat_is_out marks retired generation bound span seat has s false is passed now inside within =
+    let came = some_at seat.inside (CameBefore seat.pass.since retired) now inside s.early in
+    let before = All-contains (λ (other : Span). IsWithin other now.place → seat.pass.since < other.stamp) retired span came has within in
+    elim passed [
+      | inl reaches ↦ omega (arith, before, reaches, s.bound_is is)
+      | inr left ↦ none_is_some now (sym (s.out (s.found left)) ∙ inside)
+    ]
+
+-- so for every seat
+seats_are_out : (w : World) (span : Span) → Keeps w → IsAllowed w (Frees span) → (k : ℕ) → k < length w.seats
+    → IfSome (seat_at w k).inside (λ now. IsWithin span now.place → ⊥)
+seats_are_out w span keeps allowed k lt =
+    for_some (seat_at w k).inside (λ now. IsWithin span now.place → ⊥)
+    (seat_is_out w.marked.marks w.retired w.keeper.generation (slice_index w.keeper.bounds k) span (seat_at w k) allowed.0 (keeps.seats k lt) (seat_at w k).found_left refl (allowed.1 k lt))
+
+-- what a thread out of the span stands on is marked afterwards
+known_after : (w : World) (span : Span) → MayFree w.marked span → (inside : Option State) → IfSome inside (IsKnown w.marked.marks)
+    → IfSome inside (λ now. IsWithin span now.place → ⊥) → IfSome inside (IsKnown (freed_marks w.marked span))
+known_after w span f None known out = tt
+known_after w span f (Some now) known out = elim known [ inl m ↦ inl (freed_stays w.marked span f now m out) | inr zone ↦ inr zone ]
+
+-- what a span in the list keeps
+may_free : (w : World) (span : Span) → Keeps w → Contains w.retired span → MayFree w.marked span
+may_free w span keeps has =
+    record {
+      as_long = keeps.as_long;
+      closed = keeps.closed;
+      whole = All-contains (IsWhole w.marked.bytes) w.retired span keeps.whole has;
+      quiet = All-contains (IsQuiet w.marked.bytes w.marked.marks) w.retired span keeps.quiet has;
+    }
+
+-- a span is freed
+pub keeps_frees : (w : World) (span : Span) → Keeps w → IsAllowed w (Frees span) → Keeps (after w (Frees span))
+keeps_frees w span keeps allowed =
+    let f = may_free w span keeps allowed.0 in
+    let others : Span → Bool = λ other. not (is_same_span span other) in
+    record {
+      as_long = freed_long w.marked span f ∙ keeps.as_long;
+      closed = freed_closed w.marked span f;
+      quiet = All-filter (λ other. not (is_same_span span other)) (IsQuiet w.marked.bytes (freed_marks w.marked span)) w.retired
+          (All-weaker (IsQuiet w.marked.bytes w.marked.marks) (IsQuiet w.marked.bytes (freed_marks w.marked span)) (λ other quiet. freed_quiet w.marked span other f quiet) w.retired keeps.quiet);
+      whole = All-filter (λ other. not (is_same_span span other)) (IsWhole w.marked.bytes) w.retired keeps.whole;
+      bounds = keeps.bounds;
+      seats = λ k lt.
+          let s = keeps.seats k lt in
+          let kept : List Span = filter (λ other. not (is_same_span span other)) w.retired in
+          seat_moves w.marked.marks (freed_marks w.marked span) w.retired (filter (λ other. not (is_same_span span other)) w.retired) w.keeper.generation w.keeper.generation (slice_index w.keeper.bounds k) (seat_at w k) (omega arith)
+          (known_after w span f (seat_at w k).inside s.stands (seats_are_out w span keeps allowed k lt))
+          (if_map (seat_at w k).inside (CameBefore (seat_at w k).pass.since w.retired) (CameBefore (seat_at w k).pass.since (filter (λ other. not (is_same_span span other)) w.retired))
+          (λ now came. All-filter (λ other. not (is_same_span span other)) (λ (other : Span). IsWithin other now.place → (seat_at w k).pass.since < other.stamp) w.retired came) s.early)
+          s;
+    }
+
+-- the keeper looks at a seat's word
+pub keeps_looks : (w : World) (k : ℕ) → Keeps w → IsAllowed w (Looks k) → Keeps (after w (Looks k))
+keeps_looks w k keeps allowed =
+    let looked : Seat = record (seat_at w k) { found_left = (seat_at w k).has_left } in
+    record {
+      as_long = keeps.as_long;
+      closed = keeps.closed;
+      quiet = keeps.quiet;
+      whole = keeps.whole;
+      bounds = length-set w.keeper.bounds k (seat_at w k).pass.word ∙ (keeps.bounds ∙ sym (length-set w.seats k (record (seat_at w k) { found_left = (seat_at w k).has_left })));
+      seats = λ j lt.
+          let inside : j < length w.seats = omega (arith, lt, length-set w.seats k (record (seat_at w k) { found_left = (seat_at w k).has_left })) in
+          let s = keeps.seats j inside in
+          elim (eqb_tells j k) [
+            | inl same ↦
+                subst (λ (i : ℕ). SeatKeeps w.marked.marks w.retired w.keeper.generation (get_or (set w.keeper.bounds k (seat_at w k).pass.word) i 0) (get_or (set w.seats k (record (seat_at w k) { found_left = (seat_at w k).has_left })) i first_seat)) (sym same.1)
+                (subst (λ (b : ℕ). SeatKeeps w.marked.marks w.retired w.keeper.generation b (get_or (set w.seats k (record (seat_at w k) { found_left = (seat_at w k).has_left })) k first_seat)) (sym (get_or-set_same w.keeper.bounds k (seat_at w k).pass.word 0 (omega (arith, allowed, keeps.bounds))))
+                (subst (SeatKeeps w.marked.marks w.retired w.keeper.generation (seat_at w k).pass.word) (sym (get_or-set_same w.seats k (record (seat_at w k) { found_left = (seat_at w k).has_left }) first_seat allowed))
+                (looked_keeps w k (keeps.seats k allowed))))
+            | inr other ↦
+                subst (λ (b : ℕ). SeatKeeps w.marked.marks w.retired w.keeper.generation b (get_or (set w.seats k (record (seat_at w k) { found_left = (seat_at w k).has_left })) j first_seat)) (sym (get_or-set_other w.keeper.bounds k j (seat_at w k).pass.word 0 other.1))
+                (subst (SeatKeeps w.marked.marks w.retired w.keeper.generation (slice_index w.keeper.bounds j)) (sym (get_or-set_other w.seats k j (record (seat_at w k) { found_left = (seat_at w k).has_left }) first_seat other.1)) s)
+          ];
+    }
+  where
+    -- the seat that was looked at
+    looked_keeps : (w : World) (k : ℕ) → SeatKeeps w.marked.marks w.retired w.keeper.generation (slice_index w.keeper.bounds k) (seat_at w k)
+        → SeatKeeps w.marked.marks w.retired w.keeper.generation (seat_at w k).pass.word (record (seat_at w k) { found_left = (seat_at w k).has_left })
+    looked_keeps w k s = record { stands = s.stands; early = s.early; since = s.since; word = s.word; out = s.out; found = λ is. is; bound_is = s.word }
+
+-- nobody stands within a span that may be freed
+pub none_is_within : (w : World) (span : Span) → Keeps w → IsAllowed w (Frees span) → NoneIsWithin w span
+none_is_within w span keeps allowed = All_from w.seats (λ (seat : Seat). IfSome seat.inside (λ now. IsWithin span now.place → ⊥)) (seats_are_out w span keeps allowed)
+  where
+    -- by the index
+    All_from : (seats : List Seat) (P : Seat → Type 0) → ((k : ℕ) → k < length seats → P (get_or seats k first_seat)) → All P seats
+    All_from seats P f = All-from_get_or P seats first_seat f

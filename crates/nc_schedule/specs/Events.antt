@@ -1,0 +1,89 @@
+-- All that may happen in a world, one event at a time, and when each event is allowed.
+use Rattle.std.specs.Prelude.{◌≡◌, ℕ, ◌+◌, ◌<◌, ⊤, true, false, not, List, [], ◌∷◌, All, Contains, filter, length, Some, None, slice_set}
+use Rattle.nc_decode.specs.declared.instruction.Mark.{Mark}
+use Rattle.nc_decode.specs.Bundles.{IsBundleStart}
+use Rattle.nc_text.specs.Places.{InRegion, SpanInRegion}
+use Rattle.nc_text.specs.Machine.{State, state, Step}
+use Rattle.nc_text.specs.MarkedText.{with_byte, with_marks, without_marks, KeepsMarks}
+use Rattle.nc_gens.specs.Rule.{generation_taken, generation_seen, since_stored, left_stored, generation_raised, word_taken}
+use Rattle.nc_schedule.specs.Quiet.{Span, IsQuiet}
+use Rattle.nc_schedule.specs.World.{Seat, World, seat_at, IsSteady, IsWhole, AreApart, is_same_span, HasPassed}
+
+-- What a thread does, by the number of its seat: it steps, enters at a bundle start, goes outside; takes the generation
+-- for its pass, sees it, stores what it took in its seat's word, leaves. What the writer does: it puts a byte, marks a
+-- span, raises the generation, retires a span with the next generation as its stamp, frees a retired span, looks at
+-- the word of a seat.
+pub data Event : Type 0 where
+  Steps : (seat : ℕ) → (next : State) → Event
+  Enters : (seat : ℕ) → (at : ℕ) → Event
+  Exits : (seat : ℕ) → Event
+  Takes : (seat : ℕ) → Event
+  Sees : (seat : ℕ) → Event
+  Stores : (seat : ℕ) → Event
+  Leaves : (seat : ℕ) → Event
+  Puts : (at : ℕ) → (byte : ℕ) → Event
+  Marks : (at : ℕ) → (marks : List Mark) → Event
+  Bumps : Event
+  Retires : (base : ℕ) → (len : ℕ) → Event
+  Frees : (span : Span) → Event
+  Looks : (seat : ℕ) → Event
+
+-- the span that is retired now
+abbrev pub new_span : World → ℕ → ℕ → Span
+new_span w base len = record { base = base; length = len; stamp = w.keeper.generation + 1 }
+
+-- The event may happen in this world. A change of the text leaves text and marks closed and every retired span quiet; marks
+-- are added and none is lost; a span that is retired is whole bundles, apart from the others, and quiet; and it is freed
+-- only where no seat holds its stamp back. A thread steps as the machine does, enters with its seat's right, and checks
+-- in and leaves only while it is outside.
+abbrev pub IsAllowed : World → Event → Type 0
+IsAllowed w (Steps k next) = (k < length w.seats) × ((now : State) × ((seat_at w k).inside ≡ Some now) × Step w.marked.bytes now next)
+IsAllowed w (Enters k at) =
+    (k < length w.seats) × ((seat_at w k).inside ≡ None) × ((seat_at w k).has_left ≡ false) × InRegion w.marked.bytes at × IsBundleStart at
+IsAllowed w (Exits k) = k < length w.seats
+IsAllowed w (Takes k) = (k < length w.seats) × ((seat_at w k).inside ≡ None)
+IsAllowed w (Sees k) = k < length w.seats
+IsAllowed w (Stores k) = (k < length w.seats) × ((seat_at w k).has_left ≡ false)
+IsAllowed w (Leaves k) = (k < length w.seats) × ((seat_at w k).inside ≡ None)
+IsAllowed w (Puts at byte) = InRegion w.marked.bytes at × IsSteady (with_byte w.marked at byte) w.retired
+IsAllowed w (Marks at marks) =
+    SpanInRegion w.marked.bytes at (length marks) × KeepsMarks w.marked.marks (with_marks w.marked at marks).marks
+    × IsSteady (with_marks w.marked at marks) w.retired
+IsAllowed w Bumps = ⊤
+IsAllowed w (Retires base len) =
+    IsWhole w.marked.bytes (new_span w base len) × All (AreApart (new_span w base len)) w.retired
+    × IsQuiet w.marked.bytes w.marked.marks (new_span w base len)
+IsAllowed w (Frees span) = Contains w.retired span × HasPassed w span.stamp
+IsAllowed w (Looks k) = k < length w.seats
+
+-- a seat changed
+abbrev pub with_seat : World → ℕ → Seat → World
+with_seat w k seat = record w { seats = slice_set w.seats k seat }
+
+-- the world after an event
+abbrev pub after : World → Event → World
+after w (Steps k next) = with_seat w k (record (seat_at w k) { inside = Some next })
+after w (Enters k at) = with_seat w k (record (seat_at w k) { inside = Some (state at None) })
+after w (Exits k) = with_seat w k (record (seat_at w k) { inside = None })
+after w (Takes k) = with_seat w k (record (seat_at w k) { pass = generation_taken w.keeper.generation (seat_at w k).pass })
+after w (Sees k) = with_seat w k (record (seat_at w k) { pass = generation_seen w.keeper.generation (seat_at w k).pass })
+after w (Stores k) = with_seat w k (record (seat_at w k) { pass = since_stored (seat_at w k).pass })
+after w (Leaves k) = with_seat w k (record (seat_at w k) { pass = left_stored (seat_at w k).pass; has_left = true })
+after w (Puts at byte) = record w { marked = with_byte w.marked at byte }
+after w (Marks at marks) = record w { marked = with_marks w.marked at marks }
+after w Bumps = record w { keeper = generation_raised w.keeper }
+after w (Retires base len) = record w { keeper = generation_raised w.keeper; retired = new_span w base len ∷ w.retired }
+after w (Frees span) =
+    record w { marked = without_marks w.marked span.base span.length; retired = filter (λ other. not (is_same_span span other)) w.retired }
+after w (Looks k) =
+    record (with_seat w k (record (seat_at w k) { found_left = (seat_at w k).has_left })) { keeper = word_taken k (seat_at w k).pass.word w.keeper }
+
+-- the world after some events
+abbrev pub world_after : World → List Event → World
+world_after w [] = w
+world_after w (event ∷ events) = world_after (after w event) events
+
+-- each event is allowed where it stands
+abbrev pub AreAllowed : World → List Event → Type 0
+AreAllowed w [] = ⊤
+AreAllowed w (event ∷ events) = IsAllowed w event × AreAllowed (after w event) events

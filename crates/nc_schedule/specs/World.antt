@@ -1,0 +1,72 @@
+-- The world of a schedule: what the threads, the keeper of the generations and the writer of the text share.
+use Rattle.std.specs.Prelude.{◌≡◌, ℕ, ◌+◌, ◌%◌, ◌<◌, ◌≤◌, ◌⊎◌, Bool, true, false, ◌==◌, ◌&&◌, List, [], All, length, replicate, Option, None, IfSome}
+use Rattle.std.specs.Prelude.{slice_index, slice_index_or}
+use Rattle.nc_decode.specs.Bundles.{IsBundleStart}
+use Rattle.nc_text.specs.Places.{limit_of}
+use Rattle.nc_text.specs.Machine.{State, IsSafe}
+use Rattle.nc_text.specs.Marks.{IsClosed}
+use Rattle.nc_text.specs.MarkedText.{MarkedText, unused_text}
+use Rattle.nc_gens.specs.declared.view.PassNumbers.{PassNumbers}
+use Rattle.nc_gens.specs.declared.view.KeeperNumbers.{KeeperNumbers}
+use Rattle.nc_gens.specs.Rule.{first_pass_numbers, first_keeper_numbers}
+use Rattle.nc_schedule.specs.Quiet.{Span, IsWithin, IsQuiet}
+
+-- What a world holds of one seat: where its thread stands, if it is inside the region; the numbers of its pass; whether it
+-- has left, and whether the keeper has found that. The flags tell it and not the number in its word, since the
+-- generations of a world have no bound.
+pub record Seat : Type 0 where
+  pub inside : Option State
+  pub pass : PassNumbers
+  pub has_left : Bool
+  pub found_left : Bool
+
+-- The text with its marks, the retired spans, the keeper with the generation and a bound for each seat, and the seats.
+pub record World : Type 0 where
+  pub marked : MarkedText
+  pub retired : List Span
+  pub keeper : KeeperNumbers
+  pub seats : List Seat
+
+-- a seat at first: its thread is outside, and all numbers are 0
+abbrev pub first_seat : Seat
+first_seat = record { inside = None; pass = first_pass_numbers; has_left = false; found_left = false }
+
+-- the world at first, up to a limit and with so many seats: unused text, and no retired span
+abbrev pub first_world : ℕ → ℕ → World
+first_world limit seats =
+    record { marked = unused_text limit; retired = []; keeper = first_keeper_numbers seats; seats = replicate seats first_seat }
+
+-- the seat of a number
+abbrev pub seat_at : World → ℕ → Seat
+seat_at w k = slice_index_or w.seats k first_seat
+
+-- text and marks are closed, and every retired span is quiet
+abbrev pub IsSteady : MarkedText → List Span → Type 0
+IsSteady marked retired = IsClosed marked.bytes marked.marks × All (IsQuiet marked.bytes marked.marks) retired
+
+-- the span is whole bundles of the region
+pub record IsWhole (text : List ℕ) (span : Span) : Type 0 where
+  pub start : IsBundleStart span.base
+  pub bundles : span.length % 32 ≡ 0
+  pub low : 0x10000 ≤ span.base
+  pub high : span.base + span.length ≤ limit_of text
+
+-- two spans have no place in common
+abbrev pub AreApart : Span → Span → Type 0
+AreApart one other = (one.base + one.length ≤ other.base) ⊎ (other.base + other.length ≤ one.base)
+
+-- two spans are the same, as a test
+abbrev pub is_same_span : Span → Span → Bool
+is_same_span one other = (one.base == other.base) && (one.length == other.length) && (one.stamp == other.stamp)
+
+-- No seat holds a stamp back: the keeper's bound of each is at least the stamp, or it has found that the seat has left.
+abbrev pub HasPassed : World → ℕ → Type 0
+HasPassed w stamp = (k : ℕ) → k < length w.seats → (stamp ≤ slice_index w.keeper.bounds k) ⊎ ((seat_at w k).found_left ≡ true)
+
+-- each thread inside stands on a safe state
+abbrev pub AllStandSafe : World → Type 0
+AllStandSafe w = All (λ (seat : Seat). IfSome seat.inside (IsSafe w.marked.bytes)) w.seats
+
+-- no thread stands at a place of the span that is no bundle start
+abbrev pub NoneIsWithin : World → Span → Type 0
+NoneIsWithin w span = All (λ (seat : Seat). IfSome seat.inside (λ now. ¬ IsWithin span now.place)) w.seats

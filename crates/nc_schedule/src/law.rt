@@ -1,0 +1,23 @@
+//! What every schedule keeps.
+
+ghost use Rattle.std.specs.Prelude.{ℕ, List, ◌∷◌, ◌++◌};
+ghost use Rattle.nc_decode.specs.Bundles.{IsLawfulLimit};
+ghost use Rattle.nc_schedule.specs.Quiet.{Span};
+ghost use Rattle.nc_schedule.specs.World.{first_world, AllStandSafe, NoneIsWithin};
+ghost use Rattle.nc_schedule.specs.Events.{Event, world_after, AreAllowed};
+
+/// For every lawful limit, every number of seats and every list of events that are allowed where they stand, in whatever
+/// order threads and writer take turns: after every event each thread inside stands on a safe state, and whenever a retired
+/// span is freed, no thread stands at a place of it that isn't a bundle start. It does nothing when it is called.
+///
+/// A safe state is a permitted instruction wholly inside its bundle, an indirect transfer only with its register just
+/// masked, or a bundle start below 00010000. There are as many threads as seats, or fewer.
+///
+/// Not promised: that a span is ever freed, and anything of time.
+pub fn law_of_schedules()
+    ensures safe { (limit seats : ℕ) (events later : List Event) → IsLawfulLimit limit
+        → AreAllowed (first_world limit seats) (events ++ later) → AllStandSafe (world_after (first_world limit seats) events) }
+    ensures freed { (limit seats : ℕ) (events later : List Event) (span : Span) → IsLawfulLimit limit
+        → AreAllowed (first_world limit seats) (events ++ Event.Frees span ∷ later)
+        → NoneIsWithin (world_after (first_world limit seats) events) span }
+{}
