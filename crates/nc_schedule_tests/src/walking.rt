@@ -1,0 +1,82 @@
+//! A text and its marks, walked once: what is wrong with them.
+use nc_decode::{BUNDLE, Flow, Instr, Mark, START, decode};
+
+/// Bytes and marks of the places from 00010000 on.
+#[derive(Drop)]
+pub(crate) struct Copied {
+    pub bytes: [u8; 128],
+    pub marks: [Mark; 128],
+}
+
+impl Copied {
+    /// The mark at an address of the text.
+    fn mark(&self, at: u32) -> Option<Mark> {
+        let index = at.checked_sub(START)?;
+        self.marks.get(index as usize).copied()
+    }
+
+    /// Some mark stands for being there with this register masked, or with none, or it is a bundle start below 00010000.
+    fn admits(&self, at: u32, masked: Option<u8>) -> bool {
+        if at < START {
+            return at % BUNDLE == 0;
+        }
+        match self.mark(at) {
+            Some(Mark::Plain) => true,
+            Some(Mark::After(register)) => masked == Some(register),
+            Some(Mark::Unmarked) | None => false,
+        }
+    }
+
+    /// The instruction at an index, read up to its bundle's end.
+    fn instruction(&self, index: usize) -> Option<Instr> {
+        let end = index.saturating_sub(index % 32).saturating_add(32);
+        let bytes = self.bytes.get(index..end)?;
+        decode(bytes).ok()
+    }
+
+    /// Each step of this instruction, at this address, leads to a state that a mark stands for or to a bundle start below
+    /// 00010000. Where an indirect transfer goes, `starts_are_plain` says.
+    fn leads_well(&self, at: u32, instr: Instr) -> bool {
+        let behind = at.wrapping_add(u32::from(instr.len));
+        let target = behind.wrapping_add_signed(instr.rel);
+        match instr.flow {
+            Flow::Next => self.admits(behind, instr.masks),
+            Flow::Branch => self.admits(behind, None) && self.admits(target, None),
+            Flow::Jump | Flow::Call => self.admits(target, None),
+            Flow::IndirectJump | Flow::IndirectCall | Flow::Stop => true,
+        }
+    }
+
+    /// What stands at an index is safe in each state for which the mark there stands, and leads to such states alone.
+    fn is_good(&self, index: u32, mark: Mark) -> bool {
+        let masked = match mark {
+            Mark::Unmarked => return true,
+            Mark::Plain => None,
+            Mark::After(register) => Some(register),
+        };
+        let Some(instr) = self.instruction(index as usize) else {
+            return false;
+        };
+        let allowed = !instr.flow.is_indirect() || masked == Some(instr.reg);
+        allowed && self.leads_well(START.wrapping_add(index), instr)
+    }
+
+    /// Every bundle start is plain.
+    fn starts_are_plain(&self) -> bool {
+        self.marks[0] == Mark::Plain
+            && self.marks[32] == Mark::Plain
+            && self.marks[64] == Mark::Plain
+            && self.marks[96] == Mark::Plain
+    }
+
+    /// All marks walked once: how many places are wrong.
+    pub(crate) fn faults(&self) -> u32 {
+        let mut faults = u32::from(!self.starts_are_plain());
+        for index in 0..128u32 {
+            if !self.is_good(index, self.marks[index as usize]) {
+                faults = faults.saturating_add(1);
+            }
+        }
+        faults
+    }
+}
