@@ -9,7 +9,7 @@ use Rattle.nc_text.specs.MarkedText.{with_span}
 use Rattle.nc_text.proofs.SpanElements.{length-with_span, get_or-with_span_in, get_or-with_span_below, get_or-with_span_above}
 use Rattle.nc_region.specs.Each.{Each}
 use Rattle.nc_region.proofs.EachMember.{each_map, each_both, each_take, each_drop}
-use Rattle.nc_region.specs.Chunks.{IsPlaced}
+use Rattle.nc_region.specs.Chunks.{HasGoodSpan}
 use Rattle.nc_region.specs.Region.{FitsAt, Meets}
 use Rattle.nc_region.specs.declared.chunk.Chunk.{Chunk}
 use Rattle.nc_region.specs.declared.chunk.ChunkState.{ChunkState}
@@ -75,7 +75,7 @@ state_in-apart bytes code base from len (Retired stamp) low high from_low from_h
 
 -- so do the chunks that lie apart from it
 pub chunks_apart : (bytes code : List ℕ) (base : ℕ) (chunks : List Chunk) → 0x10000 ≤ base → base + length code ≤ limit_of bytes
-    → Each (λ (c : Chunk). IsPlaced c.base (limit_of bytes) c.length) chunks
+    → Each (λ (c : Chunk). HasGoodSpan c.base (limit_of bytes) c.length) chunks
     → Each (λ (c : Chunk). (c.base + c.length ≤ base) ⊎ (base + length code ≤ c.base)) chunks
     → map (chunk_in (with_span bytes (base - 0x10000) code)) chunks ≡ map (chunk_in bytes) chunks
 chunks_apart bytes code base [] low high placed apart = refl
@@ -86,7 +86,7 @@ chunks_apart bytes code base (c ∷ rest) low high placed apart =
 
 -- a chunk of the script meets the span where one of the region does
 pub occupied_meets : (bytes : List ℕ) (base len : ℕ) (chunks : List Chunk)
-    → Each (λ (c : Chunk). IsPlaced c.base (limit_of bytes) c.length) chunks
+    → Each (λ (c : Chunk). HasGoodSpan c.base (limit_of bytes) c.length) chunks
     → Meets base len chunks → IsOccupied base len (map (chunk_in bytes) chunks)
 occupied_meets bytes base len [] placed m = absurd m
 occupied_meets bytes base len (c ∷ rest) placed (inl m) =
@@ -98,7 +98,7 @@ occupied_meets bytes base len (c ∷ rest) placed (inr m) =
 
 -- and the other way round
 pub meets_occupied : (bytes : List ℕ) (base len : ℕ) (chunks : List Chunk)
-    → Each (λ (c : Chunk). IsPlaced c.base (limit_of bytes) c.length) chunks
+    → Each (λ (c : Chunk). HasGoodSpan c.base (limit_of bytes) c.length) chunks
     → IsOccupied base len (map (chunk_in bytes) chunks) → Meets base len chunks
 meets_occupied bytes base len [] placed (k, d, l, is, h) = absurd (omega (arith, l))
 meets_occupied bytes base len (c ∷ rest) placed (zero, d, l, is, h) =
@@ -112,7 +112,7 @@ meets_occupied bytes base len (c ∷ rest) placed (suc k, d, l, is, h) =
 -- the chunk in the script's list, where the region's chunk is in the region's
 pub inserted : (bytes code : List ℕ) (base k : ℕ) (chunks : List Chunk) → 0x10000 ≤ base → base + length code ≤ limit_of bytes
     → 0 < length code
-    → Each (λ (c : Chunk). IsPlaced c.base (limit_of bytes) c.length) chunks → FitsAt base (length code) chunks k
+    → Each (λ (c : Chunk). HasGoodSpan c.base (limit_of bytes) c.length) chunks → FitsAt base (length code) chunks k
     → IsInserted (record { base = base; state = script.Live code }) (map (chunk_in bytes) chunks)
     (map (chunk_in (with_span bytes (base - 0x10000) code)) (insert chunks k (record { base = base; length = length code; state = Live })))
 inserted bytes code base k chunks low high some placed (short, above, below) =
@@ -121,8 +121,8 @@ inserted bytes code base k chunks low high some placed (short, above, below) =
     let rest = drop k chunks in
     let chunk : Chunk = record { base = base; length = length code; state = Live } in
     let shown : script.ScriptChunk = record { base = base; state = script.Live code } in
-    let first_placed = each_take (λ (c : Chunk). IsPlaced c.base (limit_of bytes) c.length) k chunks placed in
-    let rest_placed = each_drop (λ (c : Chunk). IsPlaced c.base (limit_of bytes) c.length) k chunks placed in
+    let first_placed = each_take (λ (c : Chunk). HasGoodSpan c.base (limit_of bytes) c.length) k chunks placed in
+    let rest_placed = each_drop (λ (c : Chunk). HasGoodSpan c.base (limit_of bytes) c.length) k chunks placed in
     let first_same = chunks_apart bytes code base first low high first_placed
     (each_map (λ (d : Chunk). d.base + d.length ≤ base) (λ (d : Chunk). (d.base + d.length ≤ base) ⊎ (base + length code ≤ d.base))
     (λ d h. inl h) first above) in
@@ -140,7 +140,7 @@ inserted bytes code base k chunks low high some placed (short, above, below) =
           ∙ ap (λ (c : script.ScriptChunk). map (chunk_in bytes) first ++ c ∷ map (chunk_in new) rest) chunk_same
           ∙ ap (λ (cs : List script.ScriptChunk). map (chunk_in bytes) first ++ shown ∷ cs) rest_same;
       lower = All-from_each bytes (λ c. c.base < base) first
-          (each_both (λ (d : Chunk). d.base + d.length ≤ base) (λ (d : Chunk). IsPlaced d.base (limit_of bytes) d.length)
+          (each_both (λ (d : Chunk). d.base + d.length ≤ base) (λ (d : Chunk). HasGoodSpan d.base (limit_of bytes) d.length)
           (λ (d : Chunk). d.base < base) (λ d h p. omega (arith, h, p.some)) first above first_placed);
       higher = All-from_each bytes (λ c. base < c.base) rest
           (each_map (λ (d : Chunk). base + length code ≤ d.base) (λ (d : Chunk). base < d.base)

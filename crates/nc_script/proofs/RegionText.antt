@@ -6,7 +6,7 @@ use Rattle.std.proofs.lemmas.List.{get_or-take, get_or-drop, get_or-replicate, l
 use Rattle.std.proofs.lemmas.List.FromFn.{length-map-range_with_len, get_or-map-range_with_len}
 use Rattle.nc_text.specs.Places.{limit_of, byte_at}
 use Rattle.nc_region.specs.Each.{Each}
-use Rattle.nc_region.specs.Chunks.{IsPlaced}
+use Rattle.nc_region.specs.Chunks.{HasGoodSpan}
 use Rattle.nc_region.specs.Region.{Region, IsRegion, IsRising, IsLive, IsInChunk}
 use Rattle.nc_region.specs.declared.chunk.Chunk.{Chunk}
 use Rattle.nc_region.specs.declared.chunk.ChunkState.{ChunkState}
@@ -67,7 +67,7 @@ none_above at from (c ∷ rest) r l =
 
 -- each place of the region has the text's byte
 byte_in-chunks : (bytes : List ℕ) (at from : ℕ) (chunks : List Chunk) → IsRising from chunks
-    → Each (λ (c : Chunk). IsPlaced c.base (limit_of bytes) c.length) chunks
+    → Each (λ (c : Chunk). HasGoodSpan c.base (limit_of bytes) c.length) chunks
     → (Each (λ (c : Chunk). IsLive c.state → IsInChunk c at → ⊥) chunks → byte_at bytes at ≡ 0xF4)
     → byte_in (map (chunk_in bytes) chunks) at ≡ byte_at bytes at
 byte_in-chunks bytes at from [] rising placed stops = sym (stops tt)

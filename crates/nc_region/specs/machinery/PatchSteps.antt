@@ -38,7 +38,7 @@ abbrev pub NoneFirst : List Piece → Type 0
 NoneFirst [] = ⊤
 NoneFirst (p ∷ rest) = is_indirect p.instr.flow ≡ false
 
--- none of the first instructions, of the one behind them and of the new ones is an indirect transfer
+-- none of the first instructions, of the one after them and of the new ones is an indirect transfer
 abbrev pub NoneIndirect : List Piece → List Piece → Type 0
 NoneIndirect rest [] = NoneFirst rest
 NoneIndirect [] (n ∷ news) = ⊤
@@ -50,7 +50,7 @@ is_after Unmarked = false
 is_after Plain = false
 is_after (After register) = true
 
--- a lawful patch of a chunk, but for the list of chunks
+-- a lawful patch of a chunk, except for the list of chunks
 pub record CanPatch (marked : MarkedText) (c : Chunk) (at : ℕ) (new : List ℕ) : Type 0 where
   pub run : IsRun marked c at new
   pub pairs : LeavesPairs marked c at new run
