@@ -1,6 +1,6 @@
 //! Which acts a region tells, and in which order.
 
-use crate::fixtures::{chunk, telling};
+use crate::fixtures::{Telling, chunk, telling};
 use nc_gens::Gens;
 use nc_region::Act;
 use nc_vet::Vetted;
@@ -47,19 +47,29 @@ fn owe_delete(acts: &mut Vec<Act>, base: u32, len: u32, unmarked: u32) -> Result
     Ok(())
 }
 
+/// Creates a chunk at 00010020, deletes it, and reclaims in vain.
+fn retire(region: &mut Telling<'_>, vetted: Vetted) {
+    let _created = region.create(vetted);
+    let _stamp = region.delete(0x10020);
+    let _none = region.reclaim();
+}
+
+/// The acts that a region has told.
+fn told(alloc: Global, region: &Telling<'_>) -> Result<Vec<Act>, Fail> {
+    let mut acts = Vec::new(alloc);
+    acts.extend_from_slice(region.acts().told().unwrap_or(&[]))?;
+    Ok(acts)
+}
+
 /// Creates a chunk at 00010020, deletes it, reclaims in vain, checks in and reclaims: the acts told.
 fn life(alloc: Global, vetted: Vetted) -> Result<Vec<Act>, Fail> {
     let (gens, keeper, mut passes) = Gens::new(alloc, 1)?;
     let mut pass = passes.remove(0);
     let mut region = telling(alloc, &gens, keeper, 8, 300)?;
-    let _created = region.create(vetted);
-    let _stamp = region.delete(0x10020);
-    let _none = region.reclaim();
+    retire(&mut region, vetted);
     gens.check_in(&mut pass);
     let _one = region.reclaim();
-    let mut acts = Vec::new(alloc);
-    acts.extend_from_slice(region.acts().told().unwrap_or(&[]))?;
-    Ok(acts)
+    told(alloc, &region)
 }
 
 #[test]
@@ -77,17 +87,27 @@ fn order_of_acts(rt: HostRuntime) -> Result<(), Fail> {
     Ok(())
 }
 
+/// Creates a chunk of so many bundles: whether it was created, and whether the region still tells.
+fn create_telling(
+    region: &mut Telling<'_>,
+    alloc: Global,
+    base: u32,
+    bundles: usize,
+) -> Result<(bool, bool), Fail> {
+    let vetted = chunk(alloc, base, 0x10100, bundles, &[])?;
+    let created = region.create(vetted).is_ok();
+    Ok((created, region.acts().told().is_some()))
+}
+
 #[test]
 fn full_recorder(rt: HostRuntime) -> Result<(), Fail> {
     let alloc = rt.alloc();
     let (gens, keeper, _passes) = Gens::new(alloc, 1)?;
     let mut region = telling(alloc, &gens, keeper, 8, 33)?;
-    let first = region.create(chunk(alloc, 0x10000, 0x10100, 1, &[])?);
-    assert!(rt; first.is_ok() && region.acts().told().is_some());
-    let second = region.create(chunk(alloc, 0x10020, 0x10100, 1, &[])?);
-    assert!(rt; second.is_ok() && region.acts().told().is_none());
-    let third = region.create(chunk(alloc, 0x10060, 0x10100, 4, &[])?);
-    assert!(rt; third.is_ok());
+    for (base, bundles, tells) in [(0x10000, 1, true), (0x10020, 1, false), (0x10060, 4, false)] {
+        let created = create_telling(&mut region, alloc, base, bundles)?;
+        assert_eq!(rt; created, (true, tells));
+    }
     assert_eq!(rt; region.chunk_count(), 3);
     Ok(())
 }

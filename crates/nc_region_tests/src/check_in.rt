@@ -4,7 +4,7 @@ ghost use Rattle.std.specs.Thread.{IsSync};
 
 use crate::fixtures::{chunk, region};
 use nc_gens::{Gens, Keeper, Pass};
-use nc_region::Shared;
+use nc_region::{DeleteFault, Shared};
 use std::alloc::Global;
 use std::sync::Wait;
 use std::test::Fail;
@@ -89,22 +89,34 @@ fn last_leaves<R: Threads + Sync>(rt: &R, shared: &Shared<'_>, passes: Vec<Pass>
     }
 }
 
+/// Creates a last chunk and deletes it: the stamp, and whether a chunk is there then.
+fn retire_last<R: Wait>(
+    rt: &R,
+    alloc: Global,
+    shared: &Shared<'_>,
+) -> Result<(Result<u64, DeleteFault>, bool), Fail> {
+    let vetted = chunk(alloc, 0x10C80, 0x11000, 1, &[])?;
+    if shared.create(rt, vetted).is_err() {
+        return Err(Fail::new("not created"));
+    }
+    let stamp = shared.delete(rt, 0x10C80);
+    Ok((stamp, shared.chunk_count(rt) >= 1))
+}
+
 #[test]
 fn check_in_beside_writer(rt: HostRuntime) -> Result<(), Fail> {
     let alloc = rt.alloc();
     let (gens, keeper, mut passes) = Gens::new(alloc, 4)?;
     let shared = Shared::new(region(alloc, 128, &gens, keeper)?);
     let freed = check_in_beside(&rt, alloc, &shared, passes.as_mut_slice())?;
-    assert!(rt;
-        shared
-            .create(&rt, chunk(alloc, 0x10C80, 0x11000, 1, &[])?)
-            .is_ok()
-    );
-    assert_eq!(rt; shared.delete(&rt, 0x10C80), Ok(101));
-    assert!(rt; shared.chunk_count(&rt) >= 1);
+    let last = retire_last(&rt, alloc, &shared)?;
+    assert_eq!(rt; last, (Ok(101), true));
     last_leaves(&rt, &shared, passes);
-    assert_eq!(rt; freed.wrapping_add(shared.reclaim(&rt)), 101);
-    assert_eq!(rt; shared.chunk_count(&rt), 0);
+    let rest = shared.reclaim(&rt);
+    assert_eq!(rt;
+        (freed.wrapping_add(rest), shared.chunk_count(&rt)),
+        (101, 0)
+    );
     Ok(())
 }
 

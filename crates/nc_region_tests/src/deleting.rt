@@ -1,7 +1,8 @@
 //! Chunks deleted and reclaimed.
+ghost use Rattle.std.specs.Prelude.{◌≡◌};
 
 use crate::fixtures::{LIMIT, chunk, refused, region};
-use nc_gens::Gens;
+use nc_gens::{Gens, Pass};
 use nc_region::{CreateFault, DeleteFault, ModifyFault, Region};
 use std::alloc::Global;
 use std::test::Fail;
@@ -57,41 +58,55 @@ fn many_chunks(rt: HostRuntime) -> Result<(), Fail> {
     Ok(())
 }
 
+/// Deletes where there is no chunk, creates one at 00010000, and deletes inside of it, it, and it once more.
+fn delete_four(
+    region: &mut Region<'_>,
+    alloc: Global,
+) -> Result<[Result<u64, DeleteFault>; 4], Fail> {
+    let none = region.delete(0x10000);
+    let _created = refused(region, alloc, 0x10000, LIMIT, 1)?;
+    let inside = region.delete(0x10010);
+    let first = region.delete(0x10000);
+    let again = region.delete(0x10000);
+    Ok([none, inside, first, again])
+}
+
+/// Deletes the chunk at 00010000: the stamp, what a reclaim frees, and what it frees after the only seat has left.
+fn delete_and_leave(
+    region: &mut Region<'_>,
+    gens: &Gens,
+    pass: Pass,
+) -> (Result<u64, DeleteFault>, u32, u32)
+    requires { pass.table ≡ gens.now }
+{
+    let stamp = region.delete(0x10000);
+    let held = region.reclaim();
+    gens.leave(pass);
+    (stamp, held, region.reclaim())
+}
+
 #[test]
 fn deleted_and_reclaimed(rt: HostRuntime) -> Result<(), Fail> {
     let alloc = rt.alloc();
     let (gens, keeper, mut passes) = Gens::new(alloc, 1)?;
     let mut pass = passes.remove(0);
     let mut region = region(alloc, 4, &gens, keeper)?;
-    let none = region.delete(0x10000);
-    let created = refused(&mut region, alloc, 0x10000, LIMIT, 1)?;
-    let inside = region.delete(0x10010);
-    let first = region.delete(0x10000);
-    let again = region.delete(0x10000);
     let missing = Err(DeleteFault::NoChunk);
-    assert_eq!(rt;
-        [none, inside, first, again],
-        [missing, missing, Ok(1), missing]
-    );
-    let patched = region.modify(0x10000, &[0x90]);
-    let early = region.reclaim();
+    let deleted = delete_four(&mut region, alloc)?;
+    assert_eq!(rt; deleted, [missing, missing, Ok(1), missing]);
+    // retired, until the seat has checked in
+    let early = (region.modify(0x10000, &[0x90]), region.reclaim());
+    assert_eq!(rt; early, (Err(ModifyFault::NotLive), 0));
     let crowded = refused(&mut region, alloc, 0x10000, LIMIT, 1)?;
     gens.check_in(&mut pass);
-    let due = region.reclaim();
+    let freed = region.reclaim();
     let anew = refused(&mut region, alloc, 0x10000, LIMIT, 1)?;
     assert_eq!(rt;
-        (patched, [created, crowded, anew]),
-        (
-            Err(ModifyFault::NotLive),
-            [None, Some(CreateFault::Occupied), None]
-        )
+        (crowded, freed, anew),
+        (Some(CreateFault::Occupied), 1, None)
     );
     // the next stamp, which the seat hasn't seen
-    let second = region.delete(0x10000);
-    let held = region.reclaim();
-    gens.leave(pass);
-    let left = region.reclaim();
-    assert_eq!(rt; (second, [early, due, held, left]), (Ok(2), [0, 1, 0, 1]));
+    assert_eq!(rt; delete_and_leave(&mut region, &gens, pass), (Ok(2), 0, 1));
     Ok(())
 }
 

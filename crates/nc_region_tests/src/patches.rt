@@ -1,8 +1,9 @@
 //! Patches: each answer with the acts that it owes.
 
-use crate::fixtures::{LIMIT, chunk, is_trace, region, stands, telling};
+use crate::fixtures::{LIMIT, Telling, chunk, is_trace, region, stands, telling};
 use nc_gens::Gens;
-use nc_region::{Act, End, ModifyFault};
+use nc_region::{Act, DeleteFault, End, ModifyFault, Region, Trace};
+use nc_vet::Vetted;
 use std::alloc::Global;
 use std::test::Fail;
 
@@ -103,28 +104,55 @@ fn as_acts(alloc: Global, puts: &[(u32, u8)]) -> Result<Vec<Act>, Fail> {
     Ok(acts)
 }
 
+/// Creates a chunk of one bundle at 00010000 and patches it: the answer.
+fn patch(
+    region: &mut Telling<'_>,
+    alloc: Global,
+    front: &[u8],
+    at: u32,
+    new: &[u8],
+) -> Result<Result<(), ModifyFault>, Fail> {
+    let vetted = chunk(alloc, 0x10000, LIMIT, 1, front)?;
+    if region.create(vetted).is_err() {
+        return Err(Fail::new("not created"));
+    }
+    Ok(region.modify(at, new))
+}
+
+/// After the 33 acts of a creation the region has told exactly these puts.
+fn has_told(region: &Telling<'_>, alloc: Global, puts: &[(u32, u8)]) -> Result<bool, Fail> {
+    let owed = as_acts(alloc, puts)?;
+    let told = region.acts().told().unwrap_or(&[]);
+    Ok(told.get(33..) == Some(owed.as_slice()))
+}
+
+/// The answer to a patch, and whether it made exactly these puts and left the bytes that are due.
+fn outcome(
+    alloc: Global,
+    front: &[u8],
+    at: u32,
+    new: &[u8],
+    puts: &[(u32, u8)],
+) -> Result<(Result<(), ModifyFault>, bool, bool), Fail> {
+    let (gens, keeper, _passes) = Gens::new(alloc, 1)?;
+    let mut region = telling(alloc, &gens, keeper, 4, 100)?;
+    let answer = patch(&mut region, alloc, front, at, new)?;
+    let bytes = if answer.is_ok() {
+        patched(alloc, front, at, new)?
+    } else {
+        filled(alloc, front)?
+    };
+    let told = has_told(&region, alloc, puts)?;
+    Ok((answer, told, stands(&region, 0x10000, &bytes)))
+}
+
 #[test]
 fn patches(rt: HostRuntime) -> Result<(), Fail> {
     for (front, at, new, answer, puts) in &PATCHES {
-        let alloc = rt.alloc();
-        let (gens, keeper, _passes) = Gens::new(alloc, 1)?;
-        let mut region = telling(alloc, &gens, keeper, 4, 100)?;
-        let created = region.create(chunk(alloc, 0x10000, LIMIT, 1, front)?);
-        assert!(rt; created.is_ok());
+        let seen = outcome(rt.alloc(), front, *at, new, puts)?;
         assert_eq!(rt;
-            region.modify(*at, new),
-            *answer,
-            "{new:?} at {at:x} in {front:?}"
-        );
-        let told = region.acts().told().unwrap_or(&[]);
-        let owed = as_acts(alloc, puts)?;
-        assert_eq!(rt; told.get(33..), Some(owed.as_slice()));
-        let bytes = match answer {
-            Ok(()) => patched(alloc, front, *at, new)?,
-            Err(_) => filled(alloc, front)?,
-        };
-        assert!(rt;
-            stands(&region, 0x10000, &bytes),
+            seen,
+            (*answer, true, true),
             "{new:?} at {at:x} in {front:?}"
         );
     }
@@ -150,16 +178,27 @@ static PATCHED_WALKS: [(&[u8], &[u8], &[u32], &[u32], End); 3] = [
     ),
 ];
 
+/// Creates a chunk of one bundle at 00010000, patches it there, and walks from there.
+fn walk_patched(
+    region: &mut Region<'_>,
+    vetted: Vetted,
+    new: &[u8],
+    choices: &[u32],
+) -> Option<Trace> {
+    if region.create(vetted).is_err() || region.modify(0x10000, new).is_err() {
+        return None;
+    }
+    region.walk(0x10000, choices).ok()
+}
+
 #[test]
 fn patched_walks(rt: HostRuntime) -> Result<(), Fail> {
     for (front, new, choices, places, end) in &PATCHED_WALKS {
         let alloc = rt.alloc();
         let (gens, keeper, _passes) = Gens::new(alloc, 1)?;
         let mut region = region(alloc, 4, &gens, keeper)?;
-        let created = region.create(chunk(alloc, 0x10000, LIMIT, 1, front)?);
-        assert!(rt; created.is_ok());
-        assert_eq!(rt; region.modify(0x10000, new), DONE);
-        let Ok(trace) = region.walk(0x10000, choices) else {
+        let vetted = chunk(alloc, 0x10000, LIMIT, 1, front)?;
+        let Some(trace) = walk_patched(&mut region, vetted, new, choices) else {
             return Err(Fail::new("no walk"));
         };
         assert!(rt; is_trace(&trace, places, *end), "{new:?} {trace:?}");
@@ -167,16 +206,27 @@ fn patched_walks(rt: HostRuntime) -> Result<(), Fail> {
     Ok(())
 }
 
+/// Creates two chunks, deletes the second, at 00010020, and lets the first jump there: the stamp and the answer.
+fn jump_to_retired(
+    region: &mut Telling<'_>,
+    one: Vetted,
+    other: Vetted,
+) -> (Result<u64, DeleteFault>, Result<(), ModifyFault>) {
+    let _one = region.create(one);
+    let _other = region.create(other);
+    let stamp = region.delete(0x10020);
+    (stamp, region.modify(0x10000, &[0xEB, 0x1E]))
+}
+
 #[test]
 fn patch_beside_a_retired_chunk(rt: HostRuntime) -> Result<(), Fail> {
     let alloc = rt.alloc();
     let (gens, keeper, _passes) = Gens::new(alloc, 1)?;
     let mut region = telling(alloc, &gens, keeper, 8, 200)?;
-    let _one = region.create(chunk(alloc, 0x10000, 0x10100, 1, &[0xEB, 0xFE])?);
-    let _other = region.create(chunk(alloc, 0x10020, 0x10100, 1, &[])?);
-    let stamp = region.delete(0x10020);
-    let patched = region.modify(0x10000, &[0xEB, 0x1E]);
-    assert_eq!(rt; (stamp, patched), (Ok(1), Ok(())));
+    let one = chunk(alloc, 0x10000, 0x10100, 1, &[0xEB, 0xFE])?;
+    let other = chunk(alloc, 0x10020, 0x10100, 1, &[])?;
+    let answers = jump_to_retired(&mut region, one, other);
+    assert_eq!(rt; answers, (Ok(1), Ok(())));
     let puts = [
         Act::Put(0x10000, 0xF4),
         Act::Put(0x10001, 0x1E),

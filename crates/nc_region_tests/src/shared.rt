@@ -4,6 +4,7 @@ use crate::fixtures::{LIMIT, chunk, is_trace, region};
 use nc_gens::Gens;
 use nc_region::{CreateFault, DeleteFault, End, ModifyFault, Shared, Trace};
 use nc_vet::Vetted;
+use std::alloc::Global;
 use std::sync::Wait;
 use std::test::Fail;
 use std::thread::{Threads, join};
@@ -64,36 +65,53 @@ fn two_threads(rt: HostRuntime) -> Result<(), Fail> {
     Ok(())
 }
 
+/// Creates a chunk of two bundles with a jump to 00010020, and then one there: whether the first is created, and the refusal
+/// of the second.
+fn create_both<R: Wait>(
+    rt: &R,
+    alloc: Global,
+    shared: &Shared<'_>,
+) -> Result<(bool, Option<CreateFault>), Fail> {
+    let first = chunk(alloc, 0x10000, LIMIT, 2, &[0xEB, 0x1E])?;
+    let second = chunk(alloc, 0x10020, LIMIT, 1, &[0x40])?;
+    let created = shared.create(rt, first).is_ok();
+    match shared.create(rt, second) {
+        Ok(()) => Ok((created, None)),
+        Err((_, fault)) => Ok((created, Some(fault))),
+    }
+}
+
+/// The jump turned to 00010040, a return put after it, and a walk.
+fn patch_both<R: Wait>(rt: &R, shared: &Shared<'_>) -> (bool, Option<ModifyFault>, Option<Trace>) {
+    let patched = shared.modify(rt, 0x10000, &[0xEB, 0x3E]).is_ok();
+    let barred = shared.modify(rt, 0x10002, &[0xC3]).err();
+    (patched, barred, shared.walk(rt, 0x10000, &[0, 0]).ok())
+}
+
+/// How many chunks a reclaim frees, and how many are left.
+fn reclaim_and_count<R: Wait>(rt: &R, shared: &Shared<'_>) -> (u32, usize) {
+    (shared.reclaim(rt), shared.chunk_count(rt))
+}
+
 #[test]
 fn shared_calls(rt: HostRuntime) -> Result<(), Fail> {
     let alloc = rt.alloc();
     let (gens, keeper, mut passes) = Gens::new(alloc, 1)?;
     let mut pass = passes.remove(0);
     let shared = Shared::new(region(alloc, 4, &gens, keeper)?);
-    // a jump to 00010020 in a chunk of two bundles
-    let first = shared.create(&rt, chunk(alloc, 0x10000, LIMIT, 2, &[0xEB, 0x1E])?);
-    let second = shared.create(&rt, chunk(alloc, 0x10020, LIMIT, 1, &[0x40])?);
-    assert!(rt; first.is_ok());
-    assert_eq!(rt;
-        second.map_err(|refused| refused.1),
-        Err(CreateFault::Occupied)
-    );
-    let patched = shared.modify(&rt, 0x10000, &[0xEB, 0x3E]);
-    let barred = shared.modify(&rt, 0x10002, &[0xC3]);
-    assert_eq!(rt; (patched, barred), (Ok(()), Err(ModifyFault::NotPermitted)));
-    let Ok(trace) = shared.walk(&rt, 0x10000, &[0, 0]) else {
+    let created = create_both(&rt, alloc, &shared)?;
+    assert_eq!(rt; created, (true, Some(CreateFault::Occupied)));
+    let (patched, barred, trace) = patch_both(&rt, &shared);
+    assert_eq!(rt; (patched, barred), (true, Some(ModifyFault::NotPermitted)));
+    let Some(trace) = trace else {
         return Err(Fail::new("no walk"));
     };
     assert!(rt; is_trace(&trace, &[0x10000, 0x10040], End::Stop));
-    let inside = shared.delete(&rt, 0x10020);
-    let stamp = shared.delete(&rt, 0x10000);
-    let counts = (shared.reclaim(&rt), shared.chunk_count(&rt));
+    let deleted = (shared.delete(&rt, 0x10020), shared.delete(&rt, 0x10000));
+    assert_eq!(rt; deleted, (Err(DeleteFault::NoChunk), Ok(1)));
+    assert_eq!(rt; reclaim_and_count(&rt, &shared), (0, 1));
     shared.check_in(&mut pass);
-    let later = (shared.reclaim(&rt), shared.chunk_count(&rt));
-    assert_eq!(rt;
-        (inside, stamp, counts, later),
-        (Err(DeleteFault::NoChunk), Ok(1), (0, 1), (1, 0))
-    );
+    assert_eq!(rt; reclaim_and_count(&rt, &shared), (1, 0));
     shared.leave(pass);
     Ok(())
 }

@@ -2,7 +2,8 @@
 
 use crate::fixtures::{LIMIT, chunk, is_trace, region};
 use nc_gens::Gens;
-use nc_region::{End, WalkFault};
+use nc_region::{End, Region, Trace, WalkFault};
+use nc_vet::Vetted;
 use std::test::Fail;
 
 /// A chunk's front, the choices of a walk from 00010000, and its trace.
@@ -51,26 +52,36 @@ static WALKS: [(&[u8], &[u32], &[u32], End); 11] = [
     (&[0xEB, 0xFE], &[0; 40], &[0x10000; 41], End::More),
 ];
 
+/// Creates a chunk at 00010000, and walks from there.
+fn create_and_walk(region: &mut Region<'_>, vetted: Vetted, choices: &[u32]) -> Option<Trace> {
+    if region.create(vetted).is_err() {
+        return None;
+    }
+    region.walk(0x10000, choices).ok()
+}
+
+/// No walk begins at a place that is no bundle start of the region, and one begins at the guard.
+fn starts_only_at_bundles(region: &Region<'_>) -> bool {
+    for start in [0x10003, LIMIT, 0xFFE0, 0xFFFF_FFE0] {
+        if region.walk(start, &[]).err() != Some(WalkFault::NotBundle) {
+            return false;
+        }
+    }
+    region.walk(0x10060, &[]).is_ok()
+}
+
 #[test]
 fn walks(rt: HostRuntime) -> Result<(), Fail> {
     for (front, choices, places, end) in &WALKS {
         let alloc = rt.alloc();
         let (gens, keeper, _passes) = Gens::new(alloc, 1)?;
         let mut region = region(alloc, 4, &gens, keeper)?;
-        assert!(rt;
-            region
-                .create(chunk(alloc, 0x10000, LIMIT, 1, front)?)
-                .is_ok()
-        );
-        let Ok(trace) = region.walk(0x10000, choices) else {
+        let vetted = chunk(alloc, 0x10000, LIMIT, 1, front)?;
+        let Some(trace) = create_and_walk(&mut region, vetted, choices) else {
             return Err(Fail::new("no walk"));
         };
         assert!(rt; is_trace(&trace, places, *end), "{front:?} {trace:?}");
-        for start in [0x10003, LIMIT, 0xFFE0, 0xFFFF_FFE0] {
-            assert_eq!(rt; region.walk(start, &[]).err(), Some(WalkFault::NotBundle));
-        }
-        let guard = region.walk(0x10060, &[]);
-        assert!(rt; guard.is_ok());
+        assert!(rt; starts_only_at_bundles(&region));
     }
     Ok(())
 }
@@ -80,16 +91,12 @@ fn long_walk(rt: HostRuntime) -> Result<(), Fail> {
     let alloc = rt.alloc();
     let (gens, keeper, _passes) = Gens::new(alloc, 1)?;
     let mut region = region(alloc, 4, &gens, keeper)?;
-    assert!(rt;
-        region
-            .create(chunk(alloc, 0x10000, LIMIT, 1, &[0xEB, 0xFE])?)
-            .is_ok()
-    );
+    let vetted = chunk(alloc, 0x10000, LIMIT, 1, &[0xEB, 0xFE])?;
     let choices = Vec::from_elem(alloc, 0u32, 1500)?;
-    let Ok(trace) = region.walk(0x10000, &choices) else {
+    let places = Vec::from_elem(alloc, 0x10000u32, 1501)?;
+    let Some(trace) = create_and_walk(&mut region, vetted, &choices) else {
         return Err(Fail::new("no walk"));
     };
-    assert_eq!(rt; (trace.places.len(), trace.end), (1501, End::More));
-    assert_eq!(rt; trace.places.as_slice().last(), Some(&0x10000));
+    assert!(rt; is_trace(&trace, &places, End::More));
     Ok(())
 }
