@@ -3,4 +3,4 @@ pub use Rattle.nc_schedule.proofs.SpanPlaces.{Place, Before, Within, Behind, pla
 pub use Rattle.nc_schedule.proofs.SpanPlaces.{unused_is_start, unused_at_start}
 pub use Rattle.nc_schedule.proofs.Unmarking.{none_steps_in}
 pub use Rattle.nc_schedule.proofs.Invariant.{Keeps, SeatKeeps}
-pub use Rattle.nc_schedule.proofs.Schedules.{keeps_event, keeps_all, keeps_reached, allowed_append, allowed_front, allowed_back, after_append}
+pub use Rattle.nc_schedule.proofs.Schedules.{keeps_event, keeps_all, keeps_reached, safe_after, allowed_append, allowed_front, allowed_back, after_append}

@@ -9,7 +9,7 @@ use Rattle.nc_text.specs.Marks.{Admits}
 use Rattle.nc_text.specs.MarkedText.{with_span, unused_mark}
 use Rattle.nc_text.proofs.SpanElements.{get_or-with_span_in, get_or-with_span_below, get_or-with_span_above}
 
--- a place lies before the span, in it or behind it
+-- a place lies before the span, in it or after it
 pub data Place (base len at : ℕ) : Type 0 where
   Before : at < base → Place base len at
   Within : base ≤ at → at < base + len → Place base len at
@@ -25,7 +25,7 @@ plain_if_admitted : (b : Bool) (masked : Option ℕ) → Admits (cond b Plain Un
 plain_if_admitted true masked m = refl
 plain_if_admitted false masked m = absurd m
 
--- an unused mark stands for states at bundle starts alone
+-- an unused mark stands for states at bundle starts only
 pub unused_is_start : (at : ℕ) (masked : Option ℕ) → Admits (unused_mark at) masked → IsBundleStart at
 unused_is_start at masked m = eqb-true (at % 32) 0 (plain_if_admitted (eqb (at % 32) 0) masked m)
 

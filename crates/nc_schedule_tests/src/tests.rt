@@ -3,6 +3,7 @@ ghost use Rattle.std.specs.Prelude.{◌≡◌};
 
 use crate::walking::Copied;
 use crate::watcher::{Findings, Watcher};
+use nc_calls::law_of_calls;
 use nc_decode::Mark;
 use nc_gens::{Gens, Keeper};
 use nc_region::{Acts, Plain, Recorder, RegionOf, law_of_schedules};
@@ -220,5 +221,6 @@ fn closed_after_each_act(rt: HostRuntime) -> Result<(), Fail> {
     assert_eq!(rt; watcher.findings(), WANTED);
     assert_eq!(rt; watcher.acts().told().map(|acts| acts.len()), Some(135));
     law_of_schedules();
+    law_of_calls();
     Ok(())
 }

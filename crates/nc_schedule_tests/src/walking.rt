@@ -47,7 +47,7 @@ impl Copied {
         }
     }
 
-    /// What stands at an index is safe in each state for which the mark there stands, and leads to such states alone.
+    /// What stands at an index is safe in each state for which the mark there stands, and leads only to such states.
     fn is_good(&self, index: u32, mark: Mark) -> bool {
         let masked = match mark {
             Mark::Unmarked => return true,

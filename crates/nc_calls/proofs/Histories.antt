@@ -1,0 +1,153 @@
+-- Schedules that have led to a region, and one call more.
+use Rattle.std.proofs.Common.{◌≡◌, ℕ, ◌+◌, ◌-◌, ◌≤◌, Bool, true, false, cond, List, [], ◌∷◌, ◌++◌, length, set, replicate, arith, refl, ◌∙◌}
+use Rattle.std.proofs.Common.{sym, ap, subst, append-nil}
+use Rattle.std.specs.Prelude.{Contains, ◌↔◌}
+use Rattle.nc_decode.specs.declared.instruction.Mark.{Mark}
+use Rattle.nc_text.specs.Places.{limit_of}
+use Rattle.nc_text.specs.MarkedText.{MarkedText, with_span}
+use Rattle.nc_gens.specs.declared.view.KeeperNumbers.{KeeperNumbers}
+use Rattle.nc_gens.specs.Rule.{generation_raised, last_generation}
+use Rattle.nc_gens.specs.Seen.{KeeperState}
+use Rattle.nc_vet.specs.Chunk.{MarkedChunk, IsValid}
+use Rattle.nc_schedule.specs.Quiet.{Span}
+use Rattle.nc_schedule.specs.World.{World, Seat, first_world}
+use Rattle.nc_schedule.specs.Events.{Event, world_after, AreAllowed}
+use Rattle.nc_schedule.proofs.Offered.{allowed_append, after_append}
+use Rattle.nc_region.specs.declared.acts.Act.{Act}
+use Rattle.nc_region.specs.declared.acts.Act.TheVariants.{Put, MarkSpan, Bump}
+use Rattle.nc_region.specs.declared.chunk.Chunk.{Chunk}
+use Rattle.nc_region.specs.declared.chunk.ChunkState.TheVariants.{Retired}
+use Rattle.nc_region.specs.Acts.{puts_where, is_inside, is_start, is_marked_at, is_unmarked_at}
+use Rattle.nc_region.specs.Quiet.{retired_spans}
+use Rattle.nc_region.specs.Region.{Region, IsLive, IsRegion, IsCreated, live_chunk}
+use Rattle.nc_region.specs.Deletion.{IsDeleted}
+use Rattle.nc_region.proofs.Creating.{same_code}
+use Rattle.nc_region.proofs.Deleted.{listed_there}
+use Rattle.nc_calls.specs.Weaving.{writers, ThreadsMay}
+use Rattle.nc_calls.specs.Calls.{StandsFor, HasLedTo, Details, events_of, create_events, delete_events}
+use Rattle.nc_calls.proofs.Creation.{create_leads}
+use Rattle.nc_calls.proofs.Deletion.{delete_leads}
+use Rattle.nc_calls.proofs.Putting.{Leads, leads_none}
+use Rattle.nc_calls.proofs.RetiredSpans.{retired_insert, same_spans_retired}
+use Rattle.nc_calls.proofs.Woven.{ArePlain, weave, seated}
+
+-- one put before plain events, or none
+plain_if : (b : Bool) (at byte : ℕ) (d : Details) (acts : List Act) → ArePlain (events_of d acts)
+    → ArePlain (events_of d (cond b (Put at byte ∷ acts) acts))
+plain_if true at byte d acts plain = plain
+plain_if false at byte d acts plain = plain
+
+-- puts before plain events
+pub plain_puts : (d : Details) (chosen : ℕ → Bool) (at : ℕ) (bytes : List ℕ) (more : List Act) → ArePlain (events_of d more)
+    → ArePlain (events_of d (puts_where chosen at bytes ++ more))
+plain_puts d chosen at [] more plain = plain
+plain_puts d chosen at (byte ∷ rest) more plain =
+    subst (λ (z : List Act). ArePlain (events_of d z)) (sym (cond_append (chosen at) (Put at byte) (puts_where chosen (at + 1) rest) more))
+    (plain_if (chosen at) at byte d (puts_where chosen (at + 1) rest ++ more) (plain_puts d chosen (at + 1) rest more plain))
+  where
+    -- what comes after either of two lists
+    cond_append : (b : Bool) (x : Act) (xs ys : List Act) → cond b (x ∷ xs) xs ++ ys ≡ cond b (x ∷ (xs ++ ys)) (xs ++ ys)
+    cond_append true x xs ys = refl
+    cond_append false x xs ys = refl
+
+-- the events of a creation are plain
+create_plain : (v : MarkedChunk) → ArePlain (create_events v)
+create_plain v =
+    let d : Details = record { marks = v.marks; base = 0; len = 0; seats = 0; spans = [] } in
+    plain_puts d is_inside v.base v.code (MarkSpan v.base (length v.code) ∷ puts_where is_start v.base v.code)
+    (subst (λ (z : List Act). ArePlain (events_of (record { marks = v.marks; base = 0; len = 0; seats = 0; spans = [] }) z)) (append-nil (puts_where is_start v.base v.code))
+    (plain_puts (record { marks = v.marks; base = 0; len = 0; seats = 0; spans = [] }) is_start v.base v.code [] tt))
+
+-- those of a deletion too
+delete_plain : (marks : List Mark) (base len : ℕ) → ArePlain (delete_events marks base len)
+delete_plain marks base len =
+    let d : Details = record { marks = []; base = base; len = len; seats = 0; spans = [] } in
+    plain_puts d (is_marked_at marks) base (replicate len 244) (puts_where (is_unmarked_at marks) base (replicate len 244) ++ Bump ∷ [])
+    (plain_puts d (is_unmarked_at marks) base (replicate len 244) (Bump ∷ []) tt)
+
+-- other seats make no other region
+stands_seated : (w : World) (seats : List Seat) (r : Region) → StandsFor w r → StandsFor (seated w seats) r
+stands_seated w seats r s = record { marked = s.marked; keeper = s.keeper; spans = s.spans }
+
+-- events that are allowed, and lead to a world that stands for another region
+pub grown : (limit seats : ℕ) (before events : List Event) (old new : Region) (v : World) → HasLedTo limit seats before old
+    → Leads (world_after (first_world limit seats) before) events v → StandsFor v new
+    → new.keeper.numbers.generation ≤ last_generation → HasLedTo limit seats (before ++ events) new
+grown limit seats before events old new v h l stands range =
+    record {
+      lawful = h.lawful;
+      allowed = allowed_append (first_world limit seats) before events h.allowed l.allowed;
+      stands = subst (λ (w : World). StandsFor w new) (sym (after_append (first_world limit seats) before events ∙ l.after_is)) stands;
+      in_range = range;
+    }
+
+-- the same with threads between the writer's events
+pub grown_beside : (limit seats : ℕ) (before events own : List Event) (old new : Region) (v : World) → HasLedTo limit seats before old
+    → writers events ≡ own → ArePlain own → Leads (world_after (first_world limit seats) before) own v
+    → ThreadsMay (world_after (first_world limit seats) before) events → StandsFor v new
+    → new.keeper.numbers.generation ≤ last_generation → HasLedTo limit seats (before ++ events) new
+grown_beside limit seats before events own old new v h is plain l threads stands range =
+    let w = world_after (first_world limit seats) before in
+    let woven = weave w w.seats events (subst ArePlain (sym is) plain) (subst (λ (z : List Event). AreAllowed (world_after (first_world limit seats) before) z) (sym is) l.allowed) threads in
+    let after_is : world_after (world_after (first_world limit seats) before) events ≡ seated v woven.seats_after =
+    woven.after_is ∙ (ap (λ (z : List Event). seated (world_after (world_after (first_world limit seats) before) z) woven.seats_after) is ∙ ap (λ (x : World). seated x woven.seats_after) l.after_is) in
+    grown limit seats before events old new (seated v woven.seats_after) h (record { allowed = woven.allowed; after_is = after_is }) (stands_seated v woven.seats_after new stands) range
+
+-- threads by themselves
+pub goes_on : (limit seats : ℕ) (before events : List Event) (r : Region) → HasLedTo limit seats before r → writers events ≡ []
+    → ThreadsMay (world_after (first_world limit seats) before) events → HasLedTo limit seats (before ++ events) r
+goes_on limit seats before events r h is threads =
+    grown_beside limit seats before events [] r r (world_after (first_world limit seats) before) h is tt (leads_none (world_after (first_world limit seats) before)) threads h.stands h.in_range
+
+-- a creation
+pub created : (limit seats : ℕ) (before events : List Event) (old new : Region) (v : MarkedChunk)
+    → HasLedTo limit seats before old → IsRegion old.marked old.chunks → IsValid v → v.limit ≡ limit_of old.marked.bytes
+    → IsCreated old new v → writers events ≡ create_events v
+    → ThreadsMay (world_after (first_world limit seats) before) events → HasLedTo limit seats (before ++ events) new
+created limit seats before events old new v h region valid lim is own threads =
+    let w = world_after (first_world limit seats) before in
+    let k = is.chunks.0 in
+    let here = h.stands.marked in
+    let keeper : new.keeper ≡ old.keeper = ap (λ (r : Region). r.keeper) is.others in
+    let l = create_leads w old.chunks v k (subst (λ (m : MarkedText). IsRegion m old.chunks) (sym here) region) (λ span has. (h.stands.spans span).0 has) valid
+    (lim ∙ ap (λ (m : MarkedText). limit_of m.bytes) (sym here)) is.chunks.1 in
+    let spans : retired_spans new.chunks ≡ retired_spans old.chunks = ap retired_spans is.chunks.2 ∙ retired_insert old.chunks k (live_chunk v) tt in
+    grown_beside limit seats before events (create_events v) old new _ h own (create_plain v) l threads
+    (record {
+      marked =
+          ap (λ (m : MarkedText). let x : MarkedText = record { bytes = with_span m.bytes (v.base - 65536) v.code; marks = with_span m.marks (v.base - 65536) v.marks } in x) here
+          ∙ sym (same_code new.marked (record { bytes = with_span old.marked.bytes (v.base - 65536) v.code; marks = with_span old.marked.marks (v.base - 65536) v.marks }) is.bytes is.marks);
+      keeper = h.stands.keeper ∙ ap (λ (x : KeeperState). x.numbers) (sym keeper);
+      spans = λ span. subst (λ (z : List Span). Contains w.retired span ↔ Contains z span) (sym spans) (h.stands.spans span);
+    })
+    (subst (λ (x : KeeperState). x.numbers.generation ≤ last_generation) (sym keeper) h.in_range)
+
+-- a deletion
+pub deleted : (limit seats : ℕ) (before events : List Event) (old new : Region) (base stamp : ℕ)
+    → HasLedTo limit seats before old → IsRegion old.marked old.chunks → (is : IsDeleted old new base stamp)
+    → writers events ≡ delete_events old.marked.marks base is.chunk.length
+    → ThreadsMay (world_after (first_world limit seats) before) events → HasLedTo limit seats (before ++ events) new
+deleted limit seats before events old new base stamp h region is own threads =
+    let w = world_after (first_world limit seats) before in
+    let c = is.chunk in
+    let here = h.stands.marked in
+    let there = listed_there old.chunks is.index is.chunk is.listed in
+    let live : IsLive is.chunk.state = subst IsLive (sym is.live) tt in
+    let l = delete_leads w old.chunks is.index is.chunk (subst (λ (m : MarkedText). IsRegion m old.chunks) (sym here) region) (λ span has. (h.stands.spans span).0 has) there.0 there.1 live in
+    let own_is : writers events ≡ delete_events w.marked.marks is.chunk.base is.chunk.length =
+    own ∙ (ap (λ (b : ℕ). delete_events old.marked.marks b is.chunk.length) (sym is.base_is) ∙ ap (λ (m : MarkedText). delete_events m.marks is.chunk.base is.chunk.length) (sym here)) in
+    let stamp_is : stamp ≡ w.keeper.generation + 1 = is.stamp_is ∙ ap (λ (n : KeeperNumbers). n.generation + 1) (sym h.stands.keeper) in
+    let same = same_spans_retired w.retired old.chunks is.index is.chunk (w.keeper.generation + 1) there.0 there.1 live h.stands.spans in
+    let list : new.chunks ≡ set old.chunks is.index (record is.chunk { state = Retired (w.keeper.generation + 1) }) =
+    is.chunks ∙ ap (λ (n : ℕ). set old.chunks is.index (record is.chunk { state = Retired n })) stamp_is in
+    let keeper : new.keeper.numbers ≡ generation_raised old.keeper.numbers = ap (λ (x : KeeperState). x.numbers) is.keeper in
+    grown_beside limit seats before events (delete_events w.marked.marks is.chunk.base is.chunk.length) old new _ h own_is (delete_plain w.marked.marks is.chunk.base is.chunk.length) l threads
+    (record {
+      marked =
+          ap (λ (m : MarkedText). let x : MarkedText = record { bytes = with_span m.bytes (is.chunk.base - 65536) (replicate is.chunk.length 244); marks = m.marks } in x) here
+          ∙ sym (same_code new.marked (record { bytes = with_span old.marked.bytes (is.chunk.base - 65536) (replicate is.chunk.length 244); marks = old.marked.marks })
+          (is.bytes ∙ ap (λ (b : ℕ). with_span old.marked.bytes (b - 65536) (replicate is.chunk.length 244)) (sym is.base_is)) (ap (λ (r : Region). r.marked.marks) is.others));
+      keeper = ap generation_raised h.stands.keeper ∙ sym keeper;
+      spans = λ span. subst (λ (z : List Chunk). Contains (record { base = is.chunk.base; length = is.chunk.length; stamp = w.keeper.generation + 1 } ∷ w.retired) span ↔ Contains (retired_spans z) span) (sym list) (same span);
+    })
+    (rw keeper (omega (arith, is.room)))

@@ -1,0 +1,13 @@
+pub mod Woven
+pub mod Steady
+pub mod Putting
+pub mod RetiredSpans
+pub mod Creation
+pub mod Deletion
+pub mod Histories
+pub mod Looking
+pub mod Reclaiming
+pub mod Reclaimed
+pub mod Patching
+pub mod Modified
+pub mod Meeting

@@ -1,0 +1,185 @@
+-- A look at all seats, with threads between its loads, and by which stamps it lets spans be freed.
+use Rattle.std.proofs.Common.{◌≡◌, ◌≢◌, ℕ, zero, suc, ◌+◌, ◌<◌, ◌≤◌, ◌⊎◌, ◌==◌, not, min, Bool, true, false, cond, List, [], ◌∷◌, ◌++◌, fold, length, get_or, map}
+use Rattle.std.proofs.Common.{inl, inr, arith, refl, ◌∙◌, sym, ap, subst, ne_eqb}
+use Rattle.std.specs.Prelude.{⊤, slice_index}
+use Rattle.std.specs.List.{range_with_len}
+use Rattle.std.proofs.lemmas.List.{length-set}
+use Rattle.nc_gens.specs.declared.view.KeeperNumbers.{KeeperNumbers}
+use Rattle.nc_gens.specs.Rule.{left_word, last_generation}
+use Rattle.nc_gens.specs.Seen.{staying, least_or, least_number}
+use Rattle.nc_schedule.specs.World.{World, Seat, seat_at, HasPassed}
+use Rattle.nc_schedule.specs.Events.{Event, Steps, Enters, Exits, Takes, Sees, Stores, Leaves, Puts, Marks, Bumps, Retires, Frees, Looks}
+use Rattle.nc_schedule.specs.Events.{IsAllowed, after, world_after, AreAllowed}
+use Rattle.nc_schedule.proofs.Offered.{Keeps}
+use Rattle.nc_calls.specs.Weaving.{is_writers, writers, ThreadsMay}
+
+-- ---- the least number
+
+-- the least of some numbers is at most the one that it begins with
+fold_le : (a : ℕ) (xs : List ℕ) → fold min a xs ≤ a
+fold_le a [] = omega arith
+fold_le a (x ∷ xs) = let h = fold_le (min a x) xs in omega (arith, h)
+
+-- and at most each that stays
+fold_below : (a : ℕ) (bs : List ℕ) (k : ℕ) → k < length bs → get_or bs k 0 ≢ left_word → fold min a (staying bs) ≤ get_or bs k 0
+fold_below a [] k lt stays = absurd (omega arith)
+fold_below a (b ∷ bs) zero lt stays =
+    subst (λ (t : Bool). fold min a (cond (not t) (b ∷ staying bs) (staying bs)) ≤ b) (sym (ne_eqb b left_word stays))
+    (let h = fold_le (min a b) (staying bs) in omega (arith, h))
+fold_below a (b ∷ bs) (suc k) lt stays = go (not (b == left_word)) (fold_below (min a b) bs k (omega (arith, lt)) stays) (fold_below a bs k (omega (arith, lt)) stays)
+  where
+    go : (t : Bool) → fold min (min a b) (staying bs) ≤ get_or bs k 0 → fold min a (staying bs) ≤ get_or bs k 0
+        → fold min a (cond t (b ∷ staying bs) (staying bs)) ≤ get_or bs k 0
+    go true counted passed = counted
+    go false counted passed = passed
+
+-- the least number is at most each bound that stays
+least_below : (g : ℕ) (bs : List ℕ) (k : ℕ) → k < length bs → get_or bs k 0 ≢ left_word → least_or g (staying bs) ≤ get_or bs k 0
+least_below g [] k lt stays = absurd (omega arith)
+least_below g (b ∷ bs) zero lt stays =
+    subst (λ (t : Bool). least_or g (cond (not t) (b ∷ staying bs) (staying bs)) ≤ b) (sym (ne_eqb b left_word stays)) (fold_le b (staying bs))
+least_below g (b ∷ bs) (suc k) lt stays = go (not (b == left_word)) (fold_below b bs k (omega (arith, lt)) stays) (least_below g bs k (omega (arith, lt)) stays)
+  where
+    go : (t : Bool) → fold min b (staying bs) ≤ get_or bs k 0 → least_or g (staying bs) ≤ get_or bs k 0
+        → least_or g (cond t (b ∷ staying bs) (staying bs)) ≤ get_or bs k 0
+    go true counted passed = counted
+    go false counted passed = passed
+
+-- a stamp of at most the least number has passed every seat
+pub has_passed : (w : World) (stamp : ℕ) → Keeps w → w.keeper.generation ≤ last_generation → stamp ≤ least_number w.keeper → HasPassed w stamp
+has_passed w stamp keeps range le k lt = go (seat_at w k).found_left refl
+  where
+    go : (found : Bool) → (seat_at w k).found_left ≡ found → (stamp ≤ slice_index w.keeper.bounds k) ⊎ ((seat_at w k).found_left ≡ true)
+    go true is = inr is
+    go false is =
+        let s = keeps.seats k lt in
+        let bound = s.bound_is is in
+        let stays : get_or w.keeper.bounds k 0 ≢ left_word = λ e. omega (arith, e, bound, s.since, range) in
+        let below = least_below w.keeper.generation w.keeper.bounds k (omega (arith, lt, keeps.bounds)) stays in
+        inl (omega (arith, le, below))
+
+-- ---- the loads
+
+-- the world with this keeper and these seats
+abbrev pub placed : World → KeeperNumbers → List Seat → World
+placed w keeper seats = record w { keeper = keeper; seats = seats }
+
+-- each is a look at a seat below this number
+abbrev pub AreLooks : ℕ → List Event → Type 0
+AreLooks n [] = ⊤
+AreLooks n (Looks k ∷ events) = (k < n) × AreLooks n events
+AreLooks n (event ∷ events) = ⊥
+
+-- all seats from one on are looked at
+pub looks_are : (n a m : ℕ) → a + m ≤ n → AreLooks n (map Looks (range_with_len a m))
+looks_are n a zero le = tt
+looks_are n a (suc m) le = (omega (arith, le), looks_are n (a + 1) m (omega (arith, le)))
+
+-- All are allowed, and only the keeper's bounds and the seats are others afterwards.
+pub record Looked (w : World) (keeper : KeeperNumbers) (seats : List Seat) (events : List Event) : Type 0 where
+  pub allowed : AreAllowed (placed w keeper seats) events
+  pub keeper_after : KeeperNumbers
+  pub seats_after : List Seat
+  pub after_is : world_after (placed w keeper seats) events ≡ placed w keeper_after seats_after
+  pub generation : keeper_after.generation ≡ keeper.generation
+
+-- one more event
+looked_more : (w : World) (keeper later : KeeperNumbers) (seats others : List Seat) (event : Event) (events : List Event)
+    → IsAllowed (placed w keeper seats) event → after (placed w keeper seats) event ≡ placed w later others
+    → later.generation ≡ keeper.generation → Looked w later others events → Looked w keeper seats (event ∷ events)
+looked_more w keeper later seats others event events allowed same generation rest =
+    record {
+      allowed = (allowed, subst (λ (x : World). AreAllowed x events) (sym same) rest.allowed);
+      keeper_after = rest.keeper_after;
+      seats_after = rest.seats_after;
+      after_is = ap (λ (x : World). world_after x events) same ∙ rest.after_is;
+      generation = rest.generation ∙ generation;
+    }
+
+-- the loads with threads between them
+pub looks_woven : (w : World) (n : ℕ) (events : List Event) (keeper : KeeperNumbers) (seats : List Seat) → length seats ≡ n
+    → AreLooks n (writers events) → ThreadsMay (placed w keeper seats) events → Looked w keeper seats events
+looks_woven w n [] keeper seats long looks threads = record { allowed = tt; keeper_after = keeper; seats_after = seats; after_is = refl; generation = refl }
+looks_woven w n (Steps k next ∷ events) keeper seats long looks threads = looked_more w keeper keeper seats _ (Steps k next) events (threads.0 refl) refl refl (looks_woven w n events keeper _ (length-set seats k _ ∙ long) looks threads.1)
+looks_woven w n (Enters k at ∷ events) keeper seats long looks threads = looked_more w keeper keeper seats _ (Enters k at) events (threads.0 refl) refl refl (looks_woven w n events keeper _ (length-set seats k _ ∙ long) looks threads.1)
+looks_woven w n (Exits k ∷ events) keeper seats long looks threads = looked_more w keeper keeper seats _ (Exits k) events (threads.0 refl) refl refl (looks_woven w n events keeper _ (length-set seats k _ ∙ long) looks threads.1)
+looks_woven w n (Takes k ∷ events) keeper seats long looks threads = looked_more w keeper keeper seats _ (Takes k) events (threads.0 refl) refl refl (looks_woven w n events keeper _ (length-set seats k _ ∙ long) looks threads.1)
+looks_woven w n (Sees k ∷ events) keeper seats long looks threads = looked_more w keeper keeper seats _ (Sees k) events (threads.0 refl) refl refl (looks_woven w n events keeper _ (length-set seats k _ ∙ long) looks threads.1)
+looks_woven w n (Stores k ∷ events) keeper seats long looks threads = looked_more w keeper keeper seats _ (Stores k) events (threads.0 refl) refl refl (looks_woven w n events keeper _ (length-set seats k _ ∙ long) looks threads.1)
+looks_woven w n (Leaves k ∷ events) keeper seats long looks threads = looked_more w keeper keeper seats _ (Leaves k) events (threads.0 refl) refl refl (looks_woven w n events keeper _ (length-set seats k _ ∙ long) looks threads.1)
+looks_woven w n (Puts at byte ∷ events) keeper seats long looks threads = absurd looks
+looks_woven w n (Marks at marks ∷ events) keeper seats long looks threads = absurd looks
+looks_woven w n (Bumps ∷ events) keeper seats long looks threads = absurd looks
+looks_woven w n (Retires base len ∷ events) keeper seats long looks threads = absurd looks
+looks_woven w n (Frees span ∷ events) keeper seats long looks threads = absurd looks
+looks_woven w n (Looks k ∷ events) keeper seats long looks threads =
+    let inside : k < length seats = omega (arith, looks.0, long) in
+    looked_more w keeper _ seats _ (Looks k) events inside refl refl (looks_woven w n events _ _ (length-set seats k _ ∙ long) looks.1 threads.1)
+
+-- ---- how many seats there are
+
+-- an event makes no seat
+seats_stay : (w : World) (event : Event) → length (after w event).seats ≡ length w.seats
+seats_stay w (Steps k next) = length-set w.seats k _
+seats_stay w (Enters k at) = length-set w.seats k _
+seats_stay w (Exits k) = length-set w.seats k _
+seats_stay w (Takes k) = length-set w.seats k _
+seats_stay w (Sees k) = length-set w.seats k _
+seats_stay w (Stores k) = length-set w.seats k _
+seats_stay w (Leaves k) = length-set w.seats k _
+seats_stay w (Puts at byte) = refl
+seats_stay w (Marks at marks) = refl
+seats_stay w Bumps = refl
+seats_stay w (Retires base len) = refl
+seats_stay w (Frees span) = refl
+seats_stay w (Looks k) = length-set w.seats k _
+
+-- nor do some
+pub seats_after : (w : World) (events : List Event) → length (world_after w events).seats ≡ length w.seats
+seats_after w [] = refl
+seats_after w (event ∷ events) = seats_after (after w event) events ∙ seats_stay w event
+
+-- ---- events parted where the first of the writer's end
+
+-- what threads do is allowed in both parts
+pub threads_parted : (w : World) (xs ys : List Event) → ThreadsMay w (xs ++ ys) → ThreadsMay w xs × ThreadsMay (world_after w xs) ys
+threads_parted w [] ys t = (tt, t)
+threads_parted w (x ∷ xs) ys t = let r = threads_parted (after w x) xs ys t.1 in ((t.0, r.0), r.1)
+
+-- the parts
+pub record Parted (events xs ys : List Event) : Type 0 where
+  pub first : List Event
+  pub second : List Event
+  pub is : events ≡ first ++ second
+  pub first_is : writers first ≡ xs
+  pub second_is : writers second ≡ ys
+
+-- events parted where the writer's are
+pub part : (events xs ys : List Event) → writers events ≡ xs ++ ys → Parted events xs ys
+part events [] ys is = record { first = []; second = events; is = refl; first_is = refl; second_is = is }
+part [] (x ∷ xs) ys is = absurd (let no : [] ≡ x ∷ (xs ++ ys) = is in cc)
+part (event ∷ events) (x ∷ xs) ys is = go (is_writers event) refl is (part events xs ys) (part events (x ∷ xs) ys)
+  where
+    go : (b : Bool) → is_writers event ≡ b → cond b (event ∷ writers events) (writers events) ≡ x ∷ (xs ++ ys)
+        → (writers events ≡ xs ++ ys → Parted events xs ys) → (writers events ≡ x ∷ (xs ++ ys) → Parted events (x ∷ xs) ys)
+        → Parted (event ∷ events) (x ∷ xs) ys
+    go true own e rest same =
+        let head : event ≡ x = cc in
+        let tail : writers events ≡ xs ++ ys = cc in
+        let r = rest tail in
+        record {
+          first = event ∷ r.first;
+          second = r.second;
+          is = ap (λ (z : List Event). event ∷ z) r.is;
+          first_is = ap (λ (b : Bool). cond b (event ∷ writers r.first) (writers r.first)) own ∙ (ap (λ (z : List Event). event ∷ z) r.first_is ∙ ap (λ (z : Event). z ∷ xs) head);
+          second_is = r.second_is;
+        }
+    go false own e rest same =
+        let r = same e in
+        record {
+          first = event ∷ r.first;
+          second = r.second;
+          is = ap (λ (z : List Event). event ∷ z) r.is;
+          first_is = ap (λ (b : Bool). cond b (event ∷ writers r.first) (writers r.first)) own ∙ r.first_is;
+          second_is = r.second_is;
+        }

@@ -1,0 +1,30 @@
+-- The writer's events among those of the threads.
+use Rattle.std.specs.Prelude.{◌≡◌, ⊤, Bool, true, false, List, [], ◌∷◌, filter}
+use Rattle.nc_schedule.specs.World.{World}
+use Rattle.nc_schedule.specs.Events.{Event, Steps, Enters, Exits, Takes, Sees, Stores, Leaves, Puts, Marks, Bumps, Retires, Frees, Looks}
+use Rattle.nc_schedule.specs.Events.{IsAllowed, after}
+
+-- the writer does it, and no thread
+abbrev pub is_writers : Event → Bool
+is_writers (Steps k next) = false
+is_writers (Enters k at) = false
+is_writers (Exits k) = false
+is_writers (Takes k) = false
+is_writers (Sees k) = false
+is_writers (Stores k) = false
+is_writers (Leaves k) = false
+is_writers (Puts at byte) = true
+is_writers (Marks at marks) = true
+is_writers Bumps = true
+is_writers (Retires base len) = true
+is_writers (Frees span) = true
+is_writers (Looks k) = true
+
+-- the writer's events among some, in their order
+abbrev pub writers : List Event → List Event
+writers events = filter is_writers events
+
+-- each event that a thread does is allowed where it stands; of the writer's nothing is said
+abbrev pub ThreadsMay : World → List Event → Type 0
+ThreadsMay w [] = ⊤
+ThreadsMay w (event ∷ events) = (is_writers event ≡ false → IsAllowed w event) × ThreadsMay (after w event) events
