@@ -1,0 +1,42 @@
+-- What the fields of a pass and of the keeper keep, and what callers see of them.
+use Rattle.std.specs.Prelude.{◌≡◌, ◌≢◌, ℕ, ◌+◌, ◌-◌, ◌<◌, ◌≤◌, true, false, [], length, slice_index}
+use Rattle.nc_gens.specs.declared.table.Pass.TheInside as pass
+use Rattle.nc_gens.specs.declared.table.Keeper.TheInside as keeper
+use Rattle.nc_gens.specs.Rule.{left_word, last_generation}
+use Rattle.nc_gens.specs.Seen.{AreSeats, PassState, KeeperState}
+
+-- what callers see of a pass
+abbrev pub pass_state : pass.Inside → PassState
+pass_state a = record { table = a.token.table_id; seat = a.seat; numbers = a.token.me.0.pass }
+
+-- what the fields of a pass keep
+pub record IsPass (a : pass.Inside) : Type 0 where
+  pub no_slots : a.token.me.1 ≡ []
+  pub is_pass : a.token.me.0.is_pass ≡ true
+  pub alone : a.token.me.0.is_keeper ≡ false
+  pub seat_is : a.token.me.0.seat ≡ a.seat
+  pub since_is : a.token.me.0.pass.since ≡ a.since
+  pub inside : a.seat + 1 < a.token.table_id.words
+  pub few : AreSeats (a.token.table_id.words - 1)
+  pub published : a.token.me.0.pass.word ≤ a.since
+  pub saw : a.since ≤ a.token.me.0.pass.seen
+  pub in_range : a.token.me.0.pass.seen ≤ last_generation
+
+-- what callers see of the keeper
+abbrev pub keeper_state : keeper.Inside → KeeperState
+keeper_state a = record { table = a.token.table_id; numbers = a.token.me.0.keeper }
+
+-- what the fields of the keeper keep
+pub record IsKeeper (a : keeper.Inside) : Type 0 where
+  pub no_slots : a.token.me.1 ≡ []
+  pub is_keeper : a.token.me.0.is_keeper ≡ true
+  pub alone : a.token.me.0.is_pass ≡ false
+  pub generation_is : a.token.me.0.keeper.generation ≡ a.generation
+  pub bounds_are : a.token.me.0.keeper.bounds ≡ a.bounds.items
+  pub all_given : a.token.me.0.given ≡ length a.bounds.items
+  pub wide : a.token.table_id.words ≡ length a.bounds.items + 1
+  pub few : AreSeats (a.token.table_id.words - 1)
+  pub counted : length a.token.me.0.keeper.looks ≡ length a.bounds.items
+  pub in_range : a.generation ≤ last_generation
+  pub each_bound : (i : ℕ) → i < length a.bounds.items → slice_index a.bounds.items i ≢ left_word
+      → slice_index a.bounds.items i ≤ a.generation
