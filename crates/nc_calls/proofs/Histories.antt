@@ -1,5 +1,6 @@
 -- Schedules that have led to a region, and one call more.
-use Rattle.std.proofs.Common.{◌≡◌, ℕ, ◌+◌, ◌-◌, ◌≤◌, Bool, true, false, cond, List, [], ◌∷◌, ◌++◌, length, set, replicate, arith, refl, ◌∙◌}
+use Rattle.std.proofs.Common.{◌≡◌, ℕ, ◌+◌, ◌-◌, ◌≤◌, Bool, true, false, cond, List, [], ◌∷◌, ◌++◌, length, set, replicate, arith, refl}
+use Rattle.std.proofs.Common.{◌∙◌}
 use Rattle.std.proofs.Common.{sym, ap, subst, append-nil}
 use Rattle.std.specs.Prelude.{Contains, ◌↔◌}
 use Rattle.nc_decode.specs.declared.instruction.Mark.{Mark}
@@ -55,7 +56,8 @@ create_plain : (v : MarkedChunk) → ArePlain (create_events v)
 create_plain v =
     let d : Details = record { marks = v.marks; base = 0; len = 0; seats = 0; spans = [] } in
     plain_puts d is_inside v.base v.code (MarkSpan v.base (length v.code) ∷ puts_where is_start v.base v.code)
-    (subst (λ (z : List Act). ArePlain (events_of (record { marks = v.marks; base = 0; len = 0; seats = 0; spans = [] }) z)) (append-nil (puts_where is_start v.base v.code))
+    (subst (λ (z : List Act). ArePlain (events_of (record { marks = v.marks; base = 0; len = 0; seats = 0; spans = [] }) z))
+    (append-nil (puts_where is_start v.base v.code))
     (plain_puts (record { marks = v.marks; base = 0; len = 0; seats = 0; spans = [] }) is_start v.base v.code [] tt))
 
 -- those of a deletion too
@@ -88,16 +90,21 @@ pub grown_beside : (limit seats : ℕ) (before events own : List Event) (old new
     → new.keeper.numbers.generation ≤ last_generation → HasLedTo limit seats (before ++ events) new
 grown_beside limit seats before events own old new v h is plain l threads stands range =
     let w = world_after (first_world limit seats) before in
-    let woven = weave w w.seats events (subst ArePlain (sym is) plain) (subst (λ (z : List Event). AreAllowed (world_after (first_world limit seats) before) z) (sym is) l.allowed) threads in
+    let woven = weave w w.seats events (subst ArePlain (sym is) plain)
+    (subst (λ (z : List Event). AreAllowed (world_after (first_world limit seats) before) z) (sym is) l.allowed) threads in
     let after_is : world_after (world_after (first_world limit seats) before) events ≡ seated v woven.seats_after =
-    woven.after_is ∙ (ap (λ (z : List Event). seated (world_after (world_after (first_world limit seats) before) z) woven.seats_after) is ∙ ap (λ (x : World). seated x woven.seats_after) l.after_is) in
-    grown limit seats before events old new (seated v woven.seats_after) h (record { allowed = woven.allowed; after_is = after_is }) (stands_seated v woven.seats_after new stands) range
+    woven.after_is
+    ∙ (ap (λ (z : List Event). seated (world_after (world_after (first_world limit seats) before) z) woven.seats_after) is
+    ∙ ap (λ (x : World). seated x woven.seats_after) l.after_is) in
+    grown limit seats before events old new (seated v woven.seats_after) h (record { allowed = woven.allowed; after_is = after_is })
+    (stands_seated v woven.seats_after new stands) range
 
 -- threads by themselves
 pub goes_on : (limit seats : ℕ) (before events : List Event) (r : Region) → HasLedTo limit seats before r → writers events ≡ []
     → ThreadsMay (world_after (first_world limit seats) before) events → HasLedTo limit seats (before ++ events) r
 goes_on limit seats before events r h is threads =
-    grown_beside limit seats before events [] r r (world_after (first_world limit seats) before) h is tt (leads_none (world_after (first_world limit seats) before)) threads h.stands h.in_range
+    grown_beside limit seats before events [] r r (world_after (first_world limit seats) before) h is tt
+    (leads_none (world_after (first_world limit seats) before)) threads h.stands h.in_range
 
 -- a creation
 pub created : (limit seats : ℕ) (before events : List Event) (old new : Region) (v : MarkedChunk)
@@ -109,14 +116,25 @@ created limit seats before events old new v h region valid lim is own threads =
     let k = is.chunks.0 in
     let here = h.stands.marked in
     let keeper : new.keeper ≡ old.keeper = ap (λ (r : Region). r.keeper) is.others in
-    let l = create_leads w old.chunks v k (subst (λ (m : MarkedText). IsRegion m old.chunks) (sym here) region) (λ span has. (h.stands.spans span).0 has) valid
+    let l = create_leads w old.chunks v k (subst (λ (m : MarkedText). IsRegion m old.chunks) (sym here) region)
+    (λ span has. (h.stands.spans span).0 has) valid
     (lim ∙ ap (λ (m : MarkedText). limit_of m.bytes) (sym here)) is.chunks.1 in
-    let spans : retired_spans new.chunks ≡ retired_spans old.chunks = ap retired_spans is.chunks.2 ∙ retired_insert old.chunks k (live_chunk v) tt in
+    let spans : retired_spans new.chunks ≡ retired_spans old.chunks =
+    ap retired_spans is.chunks.2 ∙ retired_insert old.chunks k (live_chunk v) tt in
     grown_beside limit seats before events (create_events v) old new _ h own (create_plain v) l threads
     (record {
       marked =
-          ap (λ (m : MarkedText). let x : MarkedText = record { bytes = with_span m.bytes (v.base - 65536) v.code; marks = with_span m.marks (v.base - 65536) v.marks } in x) here
-          ∙ sym (same_code new.marked (record { bytes = with_span old.marked.bytes (v.base - 65536) v.code; marks = with_span old.marked.marks (v.base - 65536) v.marks }) is.bytes is.marks);
+          ap (λ (m : MarkedText). let x : MarkedText = record {
+            bytes = with_span m.bytes
+                (v.base - 65536) v.code;
+            marks = with_span m.marks (v.base - 65536) v.marks;
+          } in x) here
+          ∙ sym (same_code new.marked
+          (record {
+            bytes = with_span old.marked.bytes (v.base - 65536) v.code;
+            marks = with_span old.marked.marks
+                (v.base - 65536) v.marks;
+          }) is.bytes is.marks);
       keeper = h.stands.keeper ∙ ap (λ (x : KeeperState). x.numbers) (sym keeper);
       spans = λ span. subst (λ (z : List Span). Contains w.retired span ↔ Contains z span) (sym spans) (h.stands.spans span);
     })
@@ -133,21 +151,33 @@ deleted limit seats before events old new base stamp h region is own threads =
     let here = h.stands.marked in
     let there = listed_there old.chunks is.index is.chunk is.listed in
     let live : IsLive is.chunk.state = subst IsLive (sym is.live) tt in
-    let l = delete_leads w old.chunks is.index is.chunk (subst (λ (m : MarkedText). IsRegion m old.chunks) (sym here) region) (λ span has. (h.stands.spans span).0 has) there.0 there.1 live in
+    let l = delete_leads w old.chunks is.index is.chunk (subst (λ (m : MarkedText). IsRegion m old.chunks) (sym here) region)
+    (λ span has. (h.stands.spans span).0 has) there.0 there.1 live in
     let own_is : writers events ≡ delete_events w.marked.marks is.chunk.base is.chunk.length =
-    own ∙ (ap (λ (b : ℕ). delete_events old.marked.marks b is.chunk.length) (sym is.base_is) ∙ ap (λ (m : MarkedText). delete_events m.marks is.chunk.base is.chunk.length) (sym here)) in
+    own ∙ (ap (λ (b : ℕ). delete_events old.marked.marks b is.chunk.length) (sym is.base_is)
+    ∙ ap (λ (m : MarkedText). delete_events m.marks is.chunk.base is.chunk.length) (sym here)) in
     let stamp_is : stamp ≡ w.keeper.generation + 1 = is.stamp_is ∙ ap (λ (n : KeeperNumbers). n.generation + 1) (sym h.stands.keeper) in
     let same = same_spans_retired w.retired old.chunks is.index is.chunk (w.keeper.generation + 1) there.0 there.1 live h.stands.spans in
     let list : new.chunks ≡ set old.chunks is.index (record is.chunk { state = Retired (w.keeper.generation + 1) }) =
     is.chunks ∙ ap (λ (n : ℕ). set old.chunks is.index (record is.chunk { state = Retired n })) stamp_is in
     let keeper : new.keeper.numbers ≡ generation_raised old.keeper.numbers = ap (λ (x : KeeperState). x.numbers) is.keeper in
-    grown_beside limit seats before events (delete_events w.marked.marks is.chunk.base is.chunk.length) old new _ h own_is (delete_plain w.marked.marks is.chunk.base is.chunk.length) l threads
+    grown_beside limit seats before events (delete_events w.marked.marks is.chunk.base is.chunk.length) old new _ h own_is
+    (delete_plain w.marked.marks is.chunk.base is.chunk.length) l threads
     (record {
       marked =
-          ap (λ (m : MarkedText). let x : MarkedText = record { bytes = with_span m.bytes (is.chunk.base - 65536) (replicate is.chunk.length 244); marks = m.marks } in x) here
-          ∙ sym (same_code new.marked (record { bytes = with_span old.marked.bytes (is.chunk.base - 65536) (replicate is.chunk.length 244); marks = old.marked.marks })
-          (is.bytes ∙ ap (λ (b : ℕ). with_span old.marked.bytes (b - 65536) (replicate is.chunk.length 244)) (sym is.base_is)) (ap (λ (r : Region). r.marked.marks) is.others));
+          ap (λ (m : MarkedText). let x : MarkedText = record {
+            bytes = with_span m.bytes (is.chunk.base - 65536)
+                (replicate is.chunk.length 244);
+            marks = m.marks;
+          } in x) here
+          ∙ sym (same_code new.marked
+          (record { bytes = with_span old.marked.bytes (is.chunk.base - 65536) (replicate is.chunk.length 244); marks = old.marked.marks })
+          (is.bytes ∙ ap (λ (b : ℕ). with_span old.marked.bytes (b - 65536) (replicate is.chunk.length 244)) (sym is.base_is))
+          (ap (λ (r : Region). r.marked.marks) is.others));
       keeper = ap generation_raised h.stands.keeper ∙ sym keeper;
-      spans = λ span. subst (λ (z : List Chunk). Contains (record { base = is.chunk.base; length = is.chunk.length; stamp = w.keeper.generation + 1 } ∷ w.retired) span ↔ Contains (retired_spans z) span) (sym list) (same span);
+      spans = λ span. subst
+          (λ (z : List Chunk). Contains
+          (record { base = is.chunk.base; length = is.chunk.length; stamp = w.keeper.generation + 1 } ∷ w.retired) span ↔ Contains
+          (retired_spans z) span) (sym list) (same span);
     })
     (rw keeper (omega (arith, is.room)))

@@ -1,5 +1,6 @@
 -- A look at all seats, with threads between its loads, and by which stamps it lets spans be freed.
-use Rattle.std.proofs.Common.{◌≡◌, ◌≢◌, ℕ, zero, suc, ◌+◌, ◌<◌, ◌≤◌, ◌⊎◌, ◌==◌, not, min, Bool, true, false, cond, List, [], ◌∷◌, ◌++◌, fold, length, get_or, map}
+use Rattle.std.proofs.Common.{◌≡◌, ◌≢◌, ℕ, zero, suc, ◌+◌, ◌<◌, ◌≤◌, ◌⊎◌, ◌==◌, not, min, Bool, true, false, cond, List, [], ◌∷◌, ◌++◌}
+use Rattle.std.proofs.Common.{fold, length, get_or, map}
 use Rattle.std.proofs.Common.{inl, inr, arith, refl, ◌∙◌, sym, ap, subst, ne_eqb}
 use Rattle.std.specs.Prelude.{⊤, slice_index}
 use Rattle.std.specs.List.{range_with_len}
@@ -26,7 +27,8 @@ fold_below a [] k lt stays = absurd (omega arith)
 fold_below a (b ∷ bs) zero lt stays =
     subst (λ (t : Bool). fold min a (cond (not t) (b ∷ staying bs) (staying bs)) ≤ b) (sym (ne_eqb b left_word stays))
     (let h = fold_le (min a b) (staying bs) in omega (arith, h))
-fold_below a (b ∷ bs) (suc k) lt stays = go (not (b == left_word)) (fold_below (min a b) bs k (omega (arith, lt)) stays) (fold_below a bs k (omega (arith, lt)) stays)
+fold_below a (b ∷ bs) (suc k) lt stays =
+    go (not (b == left_word)) (fold_below (min a b) bs k (omega (arith, lt)) stays) (fold_below a bs k (omega (arith, lt)) stays)
   where
     go : (t : Bool) → fold min (min a b) (staying bs) ≤ get_or bs k 0 → fold min a (staying bs) ≤ get_or bs k 0
         → fold min a (cond t (b ∷ staying bs) (staying bs)) ≤ get_or bs k 0
@@ -37,8 +39,10 @@ fold_below a (b ∷ bs) (suc k) lt stays = go (not (b == left_word)) (fold_below
 least_below : (g : ℕ) (bs : List ℕ) (k : ℕ) → k < length bs → get_or bs k 0 ≢ left_word → least_or g (staying bs) ≤ get_or bs k 0
 least_below g [] k lt stays = absurd (omega arith)
 least_below g (b ∷ bs) zero lt stays =
-    subst (λ (t : Bool). least_or g (cond (not t) (b ∷ staying bs) (staying bs)) ≤ b) (sym (ne_eqb b left_word stays)) (fold_le b (staying bs))
-least_below g (b ∷ bs) (suc k) lt stays = go (not (b == left_word)) (fold_below b bs k (omega (arith, lt)) stays) (least_below g bs k (omega (arith, lt)) stays)
+    subst (λ (t : Bool). least_or g (cond (not t) (b ∷ staying bs) (staying bs)) ≤ b) (sym (ne_eqb b left_word stays))
+    (fold_le b (staying bs))
+least_below g (b ∷ bs) (suc k) lt stays =
+    go (not (b == left_word)) (fold_below b bs k (omega (arith, lt)) stays) (least_below g bs k (omega (arith, lt)) stays)
   where
     go : (t : Bool) → fold min b (staying bs) ≤ get_or bs k 0 → least_or g (staying bs) ≤ get_or bs k 0
         → least_or g (cond t (b ∷ staying bs) (staying bs)) ≤ get_or bs k 0
@@ -46,7 +50,8 @@ least_below g (b ∷ bs) (suc k) lt stays = go (not (b == left_word)) (fold_belo
     go false counted passed = passed
 
 -- a stamp of at most the least number has passed every seat
-pub has_passed : (w : World) (stamp : ℕ) → Keeps w → w.keeper.generation ≤ last_generation → stamp ≤ least_number w.keeper → HasPassed w stamp
+pub has_passed : (w : World) (stamp : ℕ) → Keeps w → w.keeper.generation ≤ last_generation → stamp ≤ least_number w.keeper
+    → HasPassed w stamp
 has_passed w stamp keeps range le k lt = go (seat_at w k).found_left refl
   where
     go : (found : Bool) → (seat_at w k).found_left ≡ found → (stamp ≤ slice_index w.keeper.bounds k) ⊎ ((seat_at w k).found_left ≡ true)
@@ -99,14 +104,29 @@ looked_more w keeper later seats others event events allowed same generation res
 -- the loads with threads between them
 pub looks_woven : (w : World) (n : ℕ) (events : List Event) (keeper : KeeperNumbers) (seats : List Seat) → length seats ≡ n
     → AreLooks n (writers events) → ThreadsMay (placed w keeper seats) events → Looked w keeper seats events
-looks_woven w n [] keeper seats long looks threads = record { allowed = tt; keeper_after = keeper; seats_after = seats; after_is = refl; generation = refl }
-looks_woven w n (Steps k next ∷ events) keeper seats long looks threads = looked_more w keeper keeper seats _ (Steps k next) events (threads.0 refl) refl refl (looks_woven w n events keeper _ (length-set seats k _ ∙ long) looks threads.1)
-looks_woven w n (Enters k at ∷ events) keeper seats long looks threads = looked_more w keeper keeper seats _ (Enters k at) events (threads.0 refl) refl refl (looks_woven w n events keeper _ (length-set seats k _ ∙ long) looks threads.1)
-looks_woven w n (Exits k ∷ events) keeper seats long looks threads = looked_more w keeper keeper seats _ (Exits k) events (threads.0 refl) refl refl (looks_woven w n events keeper _ (length-set seats k _ ∙ long) looks threads.1)
-looks_woven w n (Takes k ∷ events) keeper seats long looks threads = looked_more w keeper keeper seats _ (Takes k) events (threads.0 refl) refl refl (looks_woven w n events keeper _ (length-set seats k _ ∙ long) looks threads.1)
-looks_woven w n (Sees k ∷ events) keeper seats long looks threads = looked_more w keeper keeper seats _ (Sees k) events (threads.0 refl) refl refl (looks_woven w n events keeper _ (length-set seats k _ ∙ long) looks threads.1)
-looks_woven w n (Stores k ∷ events) keeper seats long looks threads = looked_more w keeper keeper seats _ (Stores k) events (threads.0 refl) refl refl (looks_woven w n events keeper _ (length-set seats k _ ∙ long) looks threads.1)
-looks_woven w n (Leaves k ∷ events) keeper seats long looks threads = looked_more w keeper keeper seats _ (Leaves k) events (threads.0 refl) refl refl (looks_woven w n events keeper _ (length-set seats k _ ∙ long) looks threads.1)
+looks_woven w n [] keeper seats long looks threads =
+    record { allowed = tt; keeper_after = keeper; seats_after = seats; after_is = refl; generation = refl }
+looks_woven w n (Steps k next ∷ events) keeper seats long looks threads =
+    looked_more w keeper keeper seats _ (Steps k next) events (threads.0 refl) refl refl
+    (looks_woven w n events keeper _ (length-set seats k _ ∙ long) looks threads.1)
+looks_woven w n (Enters k at ∷ events) keeper seats long looks threads =
+    looked_more w keeper keeper seats _ (Enters k at) events (threads.0 refl) refl refl
+    (looks_woven w n events keeper _ (length-set seats k _ ∙ long) looks threads.1)
+looks_woven w n (Exits k ∷ events) keeper seats long looks threads =
+    looked_more w keeper keeper seats _ (Exits k) events (threads.0 refl) refl refl
+    (looks_woven w n events keeper _ (length-set seats k _ ∙ long) looks threads.1)
+looks_woven w n (Takes k ∷ events) keeper seats long looks threads =
+    looked_more w keeper keeper seats _ (Takes k) events (threads.0 refl) refl refl
+    (looks_woven w n events keeper _ (length-set seats k _ ∙ long) looks threads.1)
+looks_woven w n (Sees k ∷ events) keeper seats long looks threads =
+    looked_more w keeper keeper seats _ (Sees k) events (threads.0 refl) refl refl
+    (looks_woven w n events keeper _ (length-set seats k _ ∙ long) looks threads.1)
+looks_woven w n (Stores k ∷ events) keeper seats long looks threads =
+    looked_more w keeper keeper seats _ (Stores k) events (threads.0 refl) refl refl
+    (looks_woven w n events keeper _ (length-set seats k _ ∙ long) looks threads.1)
+looks_woven w n (Leaves k ∷ events) keeper seats long looks threads =
+    looked_more w keeper keeper seats _ (Leaves k) events (threads.0 refl) refl refl
+    (looks_woven w n events keeper _ (length-set seats k _ ∙ long) looks threads.1)
 looks_woven w n (Puts at byte ∷ events) keeper seats long looks threads = absurd looks
 looks_woven w n (Marks at marks ∷ events) keeper seats long looks threads = absurd looks
 looks_woven w n (Bumps ∷ events) keeper seats long looks threads = absurd looks
@@ -114,7 +134,8 @@ looks_woven w n (Retires base len ∷ events) keeper seats long looks threads = 
 looks_woven w n (Frees span ∷ events) keeper seats long looks threads = absurd looks
 looks_woven w n (Looks k ∷ events) keeper seats long looks threads =
     let inside : k < length seats = omega (arith, looks.0, long) in
-    looked_more w keeper _ seats _ (Looks k) events inside refl refl (looks_woven w n events _ _ (length-set seats k _ ∙ long) looks.1 threads.1)
+    looked_more w keeper _ seats _ (Looks k) events inside refl refl
+    (looks_woven w n events _ _ (length-set seats k _ ∙ long) looks.1 threads.1)
 
 -- ---- how many seats there are
 
@@ -171,7 +192,8 @@ part (event ∷ events) (x ∷ xs) ys is = go (is_writers event) refl is (part e
           first = event ∷ r.first;
           second = r.second;
           is = ap (λ (z : List Event). event ∷ z) r.is;
-          first_is = ap (λ (b : Bool). cond b (event ∷ writers r.first) (writers r.first)) own ∙ (ap (λ (z : List Event). event ∷ z) r.first_is ∙ ap (λ (z : Event). z ∷ xs) head);
+          first_is = ap (λ (b : Bool). cond b (event ∷ writers r.first) (writers r.first)) own
+              ∙ (ap (λ (z : List Event). event ∷ z) r.first_is ∙ ap (λ (z : Event). z ∷ xs) head);
           second_is = r.second_is;
         }
     go false own e rest same =

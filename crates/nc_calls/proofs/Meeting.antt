@@ -33,6 +33,7 @@ met limit seats before events old new pass after h meets others own threads foun
     (record {
       marked = h.stands.marked ∙ sym (ap (λ (r : Region). r.marked) others);
       keeper = keeper_is;
-      spans = λ span. subst (λ (z : List Chunk). Contains w.retired span ↔ Contains (retired_spans z) span) (sym chunks) (h.stands.spans span);
+      spans = λ span. subst (λ (z : List Chunk). Contains w.retired span ↔ Contains (retired_spans z) span) (sym chunks)
+          (h.stands.spans span);
     })
     meets.in_range

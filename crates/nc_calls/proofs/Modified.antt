@@ -1,5 +1,6 @@
 -- A schedule that has led to a region, and a patch more.
-use Rattle.std.proofs.Common.{◌≡◌, ℕ, ◌+◌, ◌-◌, ◌≤◌, Bool, true, false, cond, List, [], ◌∷◌, ◌++◌, length, arith, ◌∙◌, sym, ap, subst, append_assoc}
+use Rattle.std.proofs.Common.{◌≡◌, ℕ, ◌+◌, ◌-◌, ◌≤◌, Bool, true, false, cond, List, [], ◌∷◌, ◌++◌, length, arith, ◌∙◌, sym, ap, subst}
+use Rattle.std.proofs.Common.{append_assoc}
 use Rattle.std.specs.Prelude.{Contains, ◌↔◌}
 use Rattle.nc_text.specs.MarkedText.{MarkedText, with_span}
 use Rattle.nc_gens.specs.Rule.{last_generation}
@@ -29,7 +30,8 @@ instruction_plain : (at : ℕ) (bytes : List ℕ) (more : List Act) → ArePlain
 instruction_plain at [] more plain = plain
 instruction_plain at (byte ∷ []) more plain = plain
 instruction_plain at (byte ∷ next ∷ rest) more plain =
-    subst (λ (z : List Act). ArePlain (events_of no_details z)) (sym (append_assoc (puts_where any_place (at + 1) (next ∷ rest)) (Put at byte ∷ []) more))
+    subst (λ (z : List Act). ArePlain (events_of no_details z))
+    (sym (append_assoc (puts_where any_place (at + 1) (next ∷ rest)) (Put at byte ∷ []) more))
     (plain_puts no_details any_place (at + 1) (next ∷ rest) (Put at byte ∷ more) plain)
 
 -- made or not
@@ -41,7 +43,9 @@ turn_plain false at bytes more plain = instruction_plain at bytes more plain
 -- so are those of a patch
 modify_plain : (text : List ℕ) (at : ℕ) (news : List Piece) → ArePlain (modify_events text at news)
 modify_plain text at [] = tt
-modify_plain text at (n ∷ ns) = turn_plain (stands_there text at n.bytes) at n.bytes (acts_of_modify text (at + length n.bytes) ns) (modify_plain text (at + length n.bytes) ns)
+modify_plain text at (n ∷ ns) =
+    turn_plain (stands_there text at n.bytes) at n.bytes (acts_of_modify text (at + length n.bytes) ns)
+    (modify_plain text (at + length n.bytes) ns)
 
 -- a patch
 pub modified : (limit seats : ℕ) (before events : List Event) (old new : Region) (at : ℕ) (bytes : List ℕ) (news : List Piece)
@@ -56,16 +60,21 @@ modified limit seats before events old new at bytes news h region lawful b is ow
     let patch : CanPatch old.marked lawful.1.0 at bytes = record { run = lawful.1.2.0; pairs = lawful.1.2.1; targets = lawful.1.2.2 } in
     let l = lies old.marked lawful.1.0 region.whole lawful.1.2.0.holds in
     let ends : at + length bytes ≤ c.base + c.length = omega (arith, lawful.0.1, held.2.0, held.2.1, l.start, l.whole) in
-    let leads = patch_leads news w old.chunks lawful.1.0 at bytes (subst (λ (m : MarkedText). IsRegion m old.chunks) (sym here) region) (λ span has. (h.stands.spans span).0 has)
+    let leads = patch_leads news w old.chunks lawful.1.0 at bytes (subst (λ (m : MarkedText). IsRegion m old.chunks) (sym here) region)
+    (λ span has. (h.stands.spans span).0 has)
     held.0 held.1 held.2.0 (subst (λ (m : MarkedText). CanPatch m lawful.1.0 at bytes) (sym here) patch) b ends in
     let keeper : new.keeper ≡ old.keeper = ap (λ (r : Region). r.keeper) is.others in
     let chunks : new.chunks ≡ old.chunks = ap (λ (r : Region). r.chunks) is.others in
-    grown_beside limit seats before events (modify_events w.marked.bytes at news) old new _ h (own ∙ ap (λ (m : MarkedText). modify_events m.bytes at news) (sym here)) (modify_plain w.marked.bytes at news) leads threads
+    grown_beside limit seats before events (modify_events w.marked.bytes at news) old new _ h
+    (own ∙ ap (λ (m : MarkedText). modify_events m.bytes at news) (sym here)) (modify_plain w.marked.bytes at news) leads threads
     (record {
       marked =
           ap (λ (m : MarkedText). let x : MarkedText = record { bytes = with_span m.bytes (at - 65536) bytes; marks = m.marks } in x) here
-          ∙ sym (same_code new.marked (record { bytes = with_span old.marked.bytes (at - 65536) bytes; marks = old.marked.marks }) is.patched (ap (λ (r : Region). r.marked.marks) is.others));
+          ∙ sym (same_code new.marked
+          (record { bytes = with_span old.marked.bytes (at - 65536) bytes; marks = old.marked.marks }) is.patched
+          (ap (λ (r : Region). r.marked.marks) is.others));
       keeper = h.stands.keeper ∙ ap (λ (x : KeeperState). x.numbers) (sym keeper);
-      spans = λ span. subst (λ (z : List Chunk). Contains w.retired span ↔ Contains (retired_spans z) span) (sym chunks) (h.stands.spans span);
+      spans = λ span. subst (λ (z : List Chunk). Contains w.retired span ↔ Contains (retired_spans z) span) (sym chunks)
+          (h.stands.spans span);
     })
     (subst (λ (x : KeeperState). x.numbers.generation ≤ last_generation) (sym keeper) h.in_range)

@@ -55,16 +55,23 @@ interim_each marked at new now patch p = λ s m.
 interim_steady : (w : World) (at : ℕ) (new now : List ℕ) → Replaces w at new
     → IsInterim (with_span w.marked.bytes (at - 65536) new) now at (length new) → IsSteady (text_of now w.marked.marks) w.retired
 interim_steady w at new now r p =
-    steady_with_stops (with_span w.marked.bytes (at - 65536) new) now w.marked.marks w.retired r.final p.as_long (interim_each w.marked at new now r.replacing p)
-    (spans_stop (with_span w.marked.bytes (at - 65536) new) now at (length new) w.retired r.beside (steady_stops (changed w.marked at new) w.retired r.final)
+    steady_with_stops (with_span w.marked.bytes (at - 65536) new) now w.marked.marks w.retired r.final p.as_long
+    (interim_each w.marked at new now r.replacing p)
+    (spans_stop (with_span w.marked.bytes (at - 65536) new) now at (length new) w.retired r.beside
+    (steady_stops (changed w.marked at new) w.retired r.final)
     (λ k low out. elim out [ inl l ↦ p.before k low l | inr b ↦ p.behind k b ]))
 
 -- one byte replaced
 single_leads : (w : World) (at byte : ℕ) → Replaces w at (byte ∷ [])
     → Leads w (Puts at byte ∷ []) (with_bytes w (with_span w.marked.bytes (at - 65536) (byte ∷ [])))
 single_leads w at byte r =
-    let same : set w.marked.bytes (at - 65536) byte ≡ with_span w.marked.bytes (at - 65536) (byte ∷ []) = single_span w.marked.bytes at (byte ∷ []) r.replacing.low r.replacing.high refl in
-    let l = leads_one w (Puts at byte) ((r.replacing.low, omega (arith, r.replacing.high)), subst (λ (z : List ℕ). IsSteady (text_of z w.marked.marks) w.retired) (sym same) r.final) in
+    let same : set w.marked.bytes (at - 65536) byte ≡ with_span w.marked.bytes (at - 65536) (byte ∷ []) =
+    single_span w.marked.bytes at (byte ∷ []) r.replacing.low r.replacing.high refl in
+    let l = leads_one w (Puts at byte) (
+      (r.replacing.low, omega (arith, r.replacing.high)),
+      subst (λ (z : List ℕ). IsSteady (text_of z w.marked.marks) w.retired)
+          (sym same) r.final,
+    ) in
     subst (λ (z : List ℕ). Leads w (Puts at byte ∷ []) (with_bytes w z)) same l
 
 -- the further bytes may be put while a stop stands at the first
@@ -88,16 +95,28 @@ longer_leads : (w : World) (at first : ℕ) (rest : List ℕ) → Replaces w at 
 longer_leads w at first rest r =
     let text0 = set w.marked.bytes (at - 65536) 244 in
     let s = patch_started w.marked at (first ∷ rest) r.replacing in
-    let start = leads_one w (Puts at 244) ((r.replacing.low, omega (arith, r.replacing.high)), interim_steady w at (first ∷ rest) (set w.marked.bytes (at - 65536) 244) r s) in
-    let a = lay_all (with_bytes w (set w.marked.bytes (at - 65536) 244)) no_details any_place (at + 1) rest (may_lay_rest w at first rest r) in
-    let same : set a.bytes (at - 65536) first ≡ with_span w.marked.bytes (at - 65536) (first ∷ rest) = patch_final w.marked at first rest a.bytes r.replacing a.has in
+    let start = leads_one w (Puts at 244)
+    ((r.replacing.low, omega (arith, r.replacing.high)), interim_steady w at (first ∷ rest) (set w.marked.bytes (at - 65536) 244) r s) in
+    let a = lay_all (with_bytes w (set w.marked.bytes (at - 65536) 244)) no_details any_place (at + 1) rest
+    (may_lay_rest w at first rest r) in
+    let same : set a.bytes (at - 65536) first ≡ with_span w.marked.bytes (at - 65536) (first ∷ rest) =
+    patch_final w.marked at first rest a.bytes r.replacing a.has in
     let long : length a.bytes ≡ length w.marked.bytes = a.has.as_long ∙ length-set w.marked.bytes (at - 65536) 244 in
     let end : Leads (with_bytes w a.bytes) (Puts at first ∷ []) (with_bytes w (with_span w.marked.bytes (at - 65536) (first ∷ rest))) =
     subst (λ (z : List ℕ). Leads (with_bytes w a.bytes) (Puts at first ∷ []) (with_bytes w z)) same
-    (leads_one (with_bytes w a.bytes) (Puts at first) ((r.replacing.low, omega (arith, r.replacing.high, long)), subst (λ (z : List ℕ). IsSteady (text_of z w.marked.marks) w.retired) (sym same) r.final)) in
-    leads_more w (with_bytes w (set w.marked.bytes (at - 65536) 244)) (with_bytes w (with_span w.marked.bytes (at - 65536) (first ∷ rest))) (Puts at 244 ∷ []) (events_of no_details (puts_where any_place (at + 1) rest ++ Put at first ∷ [])) start
-    (subst (λ (z : List Event). Leads (with_bytes w (set w.marked.bytes (at - 65536) 244)) z (with_bytes w (with_span w.marked.bytes (at - 65536) (first ∷ rest)))) (sym (events_append no_details (puts_where any_place (at + 1) rest) (Put at first ∷ [])))
-    (leads_more (with_bytes w (set w.marked.bytes (at - 65536) 244)) (with_bytes w a.bytes) (with_bytes w (with_span w.marked.bytes (at - 65536) (first ∷ rest))) _ (Puts at first ∷ []) a.leads end))
+    (leads_one (with_bytes w a.bytes) (Puts at first) (
+      (r.replacing.low, omega (arith, r.replacing.high, long)),
+      subst (λ (z : List ℕ). IsSteady (text_of z w.marked.marks) w.retired)
+          (sym same) r.final,
+    )) in
+    leads_more w (with_bytes w (set w.marked.bytes (at - 65536) 244))
+    (with_bytes w (with_span w.marked.bytes (at - 65536) (first ∷ rest))) (Puts at 244 ∷ [])
+    (events_of no_details (puts_where any_place (at + 1) rest ++ Put at first ∷ [])) start
+    (subst (λ (z : List Event). Leads (with_bytes w (set w.marked.bytes (at - 65536) 244)) z
+    (with_bytes w (with_span w.marked.bytes (at - 65536) (first ∷ rest)))) (sym
+    (events_append no_details (puts_where any_place (at + 1) rest) (Put at first ∷ [])))
+    (leads_more (with_bytes w (set w.marked.bytes (at - 65536) 244)) (with_bytes w a.bytes)
+    (with_bytes w (with_span w.marked.bytes (at - 65536) (first ∷ rest))) _ (Puts at first ∷ []) a.leads end))
 
 -- one instruction replaced
 instruction_leads : (w : World) (at : ℕ) (new : List ℕ) → Replaces w at new
@@ -110,7 +129,8 @@ instruction_leads w at (byte ∷ next ∷ rest) r = longer_leads w at byte (next
 turn_leads : (w : World) (at : ℕ) (new : List ℕ) → Replaces w at new → (b : Bool) → stands_there w.marked.bytes at new ≡ b
     → Leads w (events_of no_details (cond b [] (acts_of_instruction at new))) (with_bytes w (with_span w.marked.bytes (at - 65536) new))
 turn_leads w at new r true is =
-    subst (λ (z : List ℕ). Leads w [] (with_bytes w z)) (stands_same w.marked.bytes at new r.replacing.low r.replacing.high is) (leads_none w)
+    subst (λ (z : List ℕ). Leads w [] (with_bytes w z)) (stands_same w.marked.bytes at new r.replacing.low r.replacing.high is)
+    (leads_none w)
 turn_leads w at new r false is = instruction_leads w at new r
 
 -- no byte set anew
@@ -125,17 +145,21 @@ pub patch_leads : (news : List Piece) (w : World) (chunks : List Chunk) (c : Chu
     → at + length new ≤ c.base + c.length
     → Leads w (events_of no_details (acts_of_modify w.marked.bytes at news)) (with_bytes w (with_span w.marked.bytes (at - 65536) new))
 patch_leads [] w chunks c at new region are has live from patch b ends =
-    subst (λ (z : List ℕ). Leads w [] (with_bytes w z)) (sym (ap (λ (z : List ℕ). with_span w.marked.bytes (at - 65536) z) b.parts ∙ span_none w.marked.bytes (at - 65536))) (leads_none w)
+    subst (λ (z : List ℕ). Leads w [] (with_bytes w z))
+    (sym (ap (λ (z : List ℕ). with_span w.marked.bytes (at - 65536) z) b.parts ∙ span_none w.marked.bytes (at - 65536))) (leads_none w)
 patch_leads (n ∷ ns) w chunks c at new region are has live from patch b ends =
     let t = turn w.marked c at new patch n ns region.whole (same_news new patch.run.news (n ∷ ns) patch.run.bytes b) in
     let rest = code_of ns in
-    let bytes_rest : AreBytesOf (code_of ns) ns = record { spelled = λ before behind p is. b.spelled (n ∷ before) behind p (ap (λ (z : List Piece). n ∷ z) is); parts = refl } in
+    let bytes_rest : AreBytesOf (code_of ns) ns =
+    record { spelled = λ before behind p is. b.spelled (n ∷ before) behind p (ap (λ (z : List Piece). n ∷ z) is); parts = refl } in
     let np = next_patch w.marked c at new patch n ns t (length n.bytes) (code_of ns) refl bytes_rest in
     let rep = changes_replace w.marked c at patch.run.before (t.os ++ patch.run.after) t.o n t.change in
     let l = lies w.marked c region.whole patch.run.holds in
-    let long : length new ≡ length n.bytes + length (code_of ns) = ap (λ (z : List ℕ). length z) b.parts ∙ length-append n.bytes (code_of ns) in
+    let long : length new ≡ length n.bytes + length (code_of ns) =
+    ap (λ (z : List ℕ). length z) b.parts ∙ length-append n.bytes (code_of ns) in
     let held : IsHeldBy chunks at c = (has, live, (from, omega (arith, ends, long, rep.some))) in
-    let after_region : IsRegion (changed w.marked at n.bytes) chunks = region_patched w.marked (changed w.marked at n.bytes) chunks c at n.bytes
+    let after_region : IsRegion (changed w.marked at n.bytes) chunks =
+    region_patched w.marked (changed w.marked at n.bytes) chunks c at n.bytes
     (record {
       region = region;
       held = held;
@@ -148,16 +172,36 @@ patch_leads (n ∷ ns) w chunks c at new region are has live from patch b ends =
       ends = omega (arith, ends, long);
     }) in
     let beside : All (IsBeside at (length n.bytes)) w.retired = All-weaker (IsBeside c.base c.length) (IsBeside at (length n.bytes))
-    (λ span h. (h.0, elim h.1 [ inl under ↦ inl (omega (arith, under, from)) | inr over ↦ inr (omega (arith, over, ends, long)) ])) w.retired
-    (all_spans (IsBeside c.base c.length) w.retired chunks are (retired_each (IsBeside c.base c.length) chunks (live_beside chunks has.0 c region.rising has.1 has.2 live))) in
-    let first = turn_leads w at n.bytes (record { replacing = rep; final = region_steady (changed w.marked at n.bytes) chunks w.retired after_region are; beside = beside }) (stands_there w.marked.bytes at n.bytes) refl in
-    let others = patch_leads ns (with_bytes w (with_span w.marked.bytes (at - 65536) n.bytes)) chunks c (at + length n.bytes) (code_of ns) after_region are has live (omega (arith, from)) np bytes_rest (omega (arith, ends, long)) in
-    let same : acts_of_modify w.marked.bytes (at + length n.bytes) ns ≡ acts_of_modify (with_span w.marked.bytes (at - 65536) n.bytes) (at + length n.bytes) ns =
-    same_acts w.marked.bytes (with_span w.marked.bytes (at - 65536) n.bytes) (at + length n.bytes) ns (λ k le. sym (span_behind w.marked.bytes at n.bytes k 0 rep.low rep.high le)) in
-    let text : with_span (with_span w.marked.bytes (at - 65536) n.bytes) (at + length n.bytes - 65536) (code_of ns) ≡ with_span w.marked.bytes (at - 65536) new =
-    spans_join w.marked.bytes at n.bytes (code_of ns) rep.low (omega (arith, ends, long, l.high)) ∙ ap (λ (z : List ℕ). with_span w.marked.bytes (at - 65536) z) (sym b.parts) in
+    (λ span h. (
+      h.0,
+      elim h.1 [
+        | inl under ↦ inl (omega (arith, under, from))
+        | inr over ↦ inr
+            (omega (arith, over, ends, long))
+      ],
+    )) w.retired
+    (all_spans (IsBeside c.base c.length) w.retired chunks are
+    (retired_each (IsBeside c.base c.length) chunks (live_beside chunks has.0 c region.rising has.1 has.2 live))) in
+    let first = turn_leads w at n.bytes
+    (record { replacing = rep; final = region_steady (changed w.marked at n.bytes) chunks w.retired after_region are; beside = beside })
+    (stands_there w.marked.bytes at n.bytes) refl in
+    let others = patch_leads ns (with_bytes w (with_span w.marked.bytes (at - 65536) n.bytes)) chunks c (at + length n.bytes)
+    (code_of ns) after_region are has live (omega (arith, from)) np bytes_rest (omega (arith, ends, long)) in
+    let same : acts_of_modify w.marked.bytes (at + length n.bytes) ns ≡ acts_of_modify (with_span w.marked.bytes (at - 65536) n.bytes)
+    (at + length n.bytes) ns =
+    same_acts w.marked.bytes (with_span w.marked.bytes (at - 65536) n.bytes) (at + length n.bytes) ns
+    (λ k le. sym (span_behind w.marked.bytes at n.bytes k 0 rep.low rep.high le)) in
+    let text : with_span (with_span w.marked.bytes (at - 65536) n.bytes) (at + length n.bytes - 65536)
+    (code_of ns) ≡ with_span w.marked.bytes (at - 65536) new =
+    spans_join w.marked.bytes at n.bytes (code_of ns) rep.low (omega (arith, ends, long, l.high))
+    ∙ ap (λ (z : List ℕ). with_span w.marked.bytes (at - 65536) z) (sym b.parts) in
     subst (λ (z : List Event). Leads w z (with_bytes w (with_span w.marked.bytes (at - 65536) new)))
-    (sym (events_append no_details (cond (stands_there w.marked.bytes at n.bytes) [] (acts_of_instruction at n.bytes)) (acts_of_modify w.marked.bytes (at + length n.bytes) ns)))
-    (leads_more w (with_bytes w (with_span w.marked.bytes (at - 65536) n.bytes)) (with_bytes w (with_span w.marked.bytes (at - 65536) new)) _ _ first
-    (subst (λ (z : List Act). Leads (with_bytes w (with_span w.marked.bytes (at - 65536) n.bytes)) (events_of no_details z) (with_bytes w (with_span w.marked.bytes (at - 65536) new))) (sym same)
-    (subst (λ (z : List ℕ). Leads (with_bytes w (with_span w.marked.bytes (at - 65536) n.bytes)) (events_of no_details (acts_of_modify (with_span w.marked.bytes (at - 65536) n.bytes) (at + length n.bytes) ns)) (with_bytes w z)) text others)))
+    (sym (events_append no_details (cond (stands_there w.marked.bytes at n.bytes) [] (acts_of_instruction at n.bytes))
+    (acts_of_modify w.marked.bytes (at + length n.bytes) ns)))
+    (leads_more w (with_bytes w (with_span w.marked.bytes (at - 65536) n.bytes))
+    (with_bytes w (with_span w.marked.bytes (at - 65536) new)) _ _ first
+    (subst (λ (z : List Act). Leads (with_bytes w (with_span w.marked.bytes (at - 65536) n.bytes)) (events_of no_details z)
+    (with_bytes w (with_span w.marked.bytes (at - 65536) new))) (sym same)
+    (subst (λ (z : List ℕ). Leads (with_bytes w (with_span w.marked.bytes (at - 65536) n.bytes))
+    (events_of no_details (acts_of_modify (with_span w.marked.bytes (at - 65536) n.bytes) (at + length n.bytes) ns))
+    (with_bytes w z)) text others)))

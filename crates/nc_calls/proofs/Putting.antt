@@ -1,5 +1,6 @@
 -- Puts, one after the other: each is allowed, and what they leave.
-use Rattle.std.proofs.Common.{◌≡◌, ℕ, ◌+◌, ◌-◌, ◌<◌, ◌≤◌, Bool, true, false, cond, List, [], ◌∷◌, ◌++◌, length, get_or, set, drop, arith, refl, ◌∙◌}
+use Rattle.std.proofs.Common.{◌≡◌, ℕ, ◌+◌, ◌-◌, ◌<◌, ◌≤◌, Bool, true, false, cond, List, [], ◌∷◌, ◌++◌, length, get_or, set, drop}
+use Rattle.std.proofs.Common.{arith, refl, ◌∙◌}
 use Rattle.std.proofs.Common.{sym, ap, subst}
 use Rattle.std.proofs.lemmas.List.{drop_more, length-drop}
 use Rattle.nc_schedule.specs.World.{World, IsSteady}
@@ -71,8 +72,11 @@ lay_one w d chosen base bytes old may byte rest count at now here lt first has g
       leads =
           leads_more (with_bytes w now) (with_bytes w (set now (at - 65536) byte)) (with_bytes w r.bytes) (Puts at byte ∷ [])
           (events_of d (puts_where chosen (at + 1) rest))
-          (leads_one (with_bytes w now) (Puts at byte)
-          ((omega (arith, here, may.low), omega (arith, here, has.as_long, may.fits, lt)), may.good (set now (at - 65536) byte) (count + 1) (omega (arith, lt)) next))
+          (leads_one (with_bytes w now) (Puts at byte) (
+            (omega (arith, here, may.low), omega (arith, here, has.as_long, may.fits, lt)),
+            may.good (set now (at - 65536) byte)
+                (count + 1) (omega (arith, lt)) next,
+          ))
           r.leads;
       has = r.has;
     }
@@ -100,4 +104,5 @@ lay w d chosen base bytes old may (byte ∷ rest) count at now left here le has 
 pub lay_all : (w : World) (d : Details) (chosen : ℕ → Bool) (base : ℕ) (bytes : List ℕ) → MayLay w chosen base bytes w.marked.bytes
     → HasLaid w w.marked.bytes (events_of d (puts_where chosen base bytes)) (HasPut chosen base bytes (length bytes) w.marked.bytes)
 lay_all w d chosen base bytes may =
-    lay w d chosen base bytes w.marked.bytes may bytes 0 base w.marked.bytes refl (omega arith) (omega arith) (put_none chosen base bytes w.marked.bytes)
+    lay w d chosen base bytes w.marked.bytes may bytes 0 base w.marked.bytes refl (omega arith) (omega arith)
+    (put_none chosen base bytes w.marked.bytes)

@@ -36,37 +36,73 @@ reclaimed limit seats before events old new count h region is own threads found 
     let all = retired_spans old.chunks in
     let looks : List Event = map Looks (range_with_len 0 seats) in
     let cs = freed (least_number new.keeper.numbers) old.chunks in
-    let p = part events (map Looks (range_with_len 0 seats)) (frees (retired_spans old.chunks) (freed (least_number new.keeper.numbers) old.chunks))
-    (own ∙ ap (λ (z : List Event). map Looks (range_with_len 0 seats) ++ z) (frees_same seats (retired_spans old.chunks) (freed (least_number new.keeper.numbers) old.chunks))) in
-    let t = threads_parted w p.first p.second (subst (λ (z : List Event). ThreadsMay (world_after (first_world limit seats) before) z) p.is threads) in
+    let p = part events (map Looks (range_with_len 0 seats))
+    (frees (retired_spans old.chunks) (freed (least_number new.keeper.numbers) old.chunks))
+    (own ∙ ap (λ (z : List Event). map Looks (range_with_len 0 seats) ++ z)
+    (frees_same seats (retired_spans old.chunks) (freed (least_number new.keeper.numbers) old.chunks))) in
+    let t = threads_parted w p.first p.second
+    (subst (λ (z : List Event). ThreadsMay (world_after (first_world limit seats) before) z) p.is threads) in
     let many : length w.seats ≡ seats = seats_after (first_world limit seats) before ∙ length-replicate seats first_seat in
-    let a : Looked (world_after (first_world limit seats) before) (world_after (first_world limit seats) before).keeper (world_after (first_world limit seats) before).seats p.first =
-    looks_woven w seats p.first w.keeper w.seats many (subst (AreLooks seats) (sym p.first_is) (looks_are seats 0 seats (omega arith))) t.0 in
+    let a : Looked (world_after (first_world limit seats) before) (world_after (first_world limit seats) before).keeper
+    (world_after (first_world limit seats) before).seats p.first =
+    looks_woven w seats p.first w.keeper w.seats many
+    (subst (AreLooks seats) (sym p.first_is) (looks_are seats 0 seats (omega arith))) t.0 in
     let keeps : Keeps (world_after (first_world limit seats) before) = keeps_reached limit seats before h.lawful h.allowed in
     let mid : World = placed (world_after (first_world limit seats) before) a.keeper_after a.seats_after in
-    let keeps_mid : Keeps (placed (world_after (first_world limit seats) before) a.keeper_after a.seats_after) = subst Keeps a.after_is (keeps_all w p.first keeps a.allowed) in
+    let keeps_mid : Keeps (placed (world_after (first_world limit seats) before) a.keeper_after a.seats_after) =
+    subst Keeps a.after_is (keeps_all w p.first keeps a.allowed) in
     let here = h.stands.marked in
-    let region_mid : IsRegion (world_after (first_world limit seats) before).marked old.chunks = subst (λ (m : MarkedText). IsRegion m old.chunks) (sym here) region in
-    let f = frees_done (least_number new.keeper.numbers) (retired_spans old.chunks) old.chunks [] (placed (world_after (first_world limit seats) before) a.keeper_after a.seats_after) region_mid
+    let region_mid : IsRegion (world_after (first_world limit seats) before).marked old.chunks =
+    subst (λ (m : MarkedText). IsRegion m old.chunks) (sym here) region in
+    let f = frees_done (least_number new.keeper.numbers) (retired_spans old.chunks) old.chunks []
+    (placed (world_after (first_world limit seats) before) a.keeper_after a.seats_after) region_mid
     (finds_all 65536 (limit_of old.marked.bytes) old.chunks region.rising region.placed) h.stands.spans in
-    let whole_keeper : (world_after (placed (world_after (first_world limit seats) before) a.keeper_after a.seats_after) p.second).keeper ≡ new.keeper.numbers =
-    sym (ap (λ (x : World). x.keeper) (ap (λ (z : List Event). world_after (first_world limit seats) (before ++ z)) p.is ∙ (after_append (first_world limit seats) before (p.first ++ p.second) ∙ (after_append w p.first p.second ∙ ap (λ (x : World). world_after x p.second) a.after_is)))) ∙ found in
-    let may : FreesMay w.retired (least_number new.keeper.numbers) (writers p.second) = subst (FreesMay w.retired (least_number new.keeper.numbers)) (sym p.second_is) f.may in
-    let keeper_is : a.keeper_after ≡ new.keeper.numbers = sym (keeper_stays p.second (placed (world_after (first_world limit seats) before) a.keeper_after a.seats_after) w.retired (least_number new.keeper.numbers) may) ∙ whole_keeper in
-    let range_old : w.keeper.generation ≤ last_generation = subst (λ (k : KeeperNumbers). k.generation ≤ last_generation) (sym h.stands.keeper) h.in_range in
-    let least_is : least_number new.keeper.numbers ≤ least_number a.keeper_after = subst (λ (k : KeeperNumbers). least_number new.keeper.numbers ≤ least_number k) (sym keeper_is) (omega arith) in
-    let b = frees_woven p.second (placed (world_after (first_world limit seats) before) a.keeper_after a.seats_after) a.seats_after (least_number new.keeper.numbers) keeps_mid
+    let whole_keeper :
+    (world_after (placed
+    (world_after (first_world limit seats) before) a.keeper_after a.seats_after) p.second).keeper ≡ new.keeper.numbers =
+    sym (ap (λ (x : World). x.keeper)
+    (ap (λ (z : List Event). world_after (first_world limit seats) (before ++ z)) p.is
+    ∙ (after_append (first_world limit seats) before (p.first ++ p.second)
+    ∙ (after_append w p.first p.second ∙ ap (λ (x : World). world_after x p.second) a.after_is)))) ∙ found in
+    let may : FreesMay w.retired (least_number new.keeper.numbers) (writers p.second) =
+    subst (FreesMay w.retired (least_number new.keeper.numbers)) (sym p.second_is) f.may in
+    let keeper_is : a.keeper_after ≡ new.keeper.numbers =
+    sym (keeper_stays p.second (placed (world_after (first_world limit seats) before) a.keeper_after a.seats_after) w.retired
+    (least_number new.keeper.numbers) may) ∙ whole_keeper in
+    let range_old : w.keeper.generation ≤ last_generation =
+    subst (λ (k : KeeperNumbers). k.generation ≤ last_generation) (sym h.stands.keeper) h.in_range in
+    let least_is : least_number new.keeper.numbers ≤ least_number a.keeper_after =
+    subst (λ (k : KeeperNumbers). least_number new.keeper.numbers ≤ least_number k) (sym keeper_is) (omega arith) in
+    let b = frees_woven p.second (placed (world_after (first_world limit seats) before) a.keeper_after a.seats_after) a.seats_after
+    (least_number new.keeper.numbers) keeps_mid
     (omega (arith, a.generation, range_old)) least_is may (subst (λ (x : World). ThreadsMay x p.second) a.after_is t.1) in
-    let end : World = seated (world_after (placed (world_after (first_world limit seats) before) a.keeper_after a.seats_after) (frees (retired_spans old.chunks) (freed (least_number new.keeper.numbers) old.chunks))) b.seats_after in
+    let end : World =
+    seated (world_after (placed (world_after (first_world limit seats) before) a.keeper_after a.seats_after)
+    (frees (retired_spans old.chunks) (freed (least_number new.keeper.numbers) old.chunks))) b.seats_after in
     let end_is : world_after (placed (world_after (first_world limit seats) before) a.keeper_after a.seats_after) p.second
-    ≡ seated (world_after (placed (world_after (first_world limit seats) before) a.keeper_after a.seats_after) (frees (retired_spans old.chunks) (freed (least_number new.keeper.numbers) old.chunks))) b.seats_after =
-    b.after_is ∙ ap (λ (z : List Event). seated (world_after (placed (world_after (first_world limit seats) before) a.keeper_after a.seats_after) z) b.seats_after) p.second_is in
-    let both : Leads w (p.first ++ p.second) (seated (world_after (placed (world_after (first_world limit seats) before) a.keeper_after a.seats_after) (frees (retired_spans old.chunks) (freed (least_number new.keeper.numbers) old.chunks))) b.seats_after) =
-    leads_more w (placed (world_after (first_world limit seats) before) a.keeper_after a.seats_after) _ p.first p.second (record { allowed = a.allowed; after_is = a.after_is }) (record { allowed = b.allowed; after_is = end_is }) in
-    grown limit seats before events old new _ h (subst (λ (z : List Event). Leads (world_after (first_world limit seats) before) z (seated (world_after (placed (world_after (first_world limit seats) before) a.keeper_after a.seats_after) (frees (retired_spans old.chunks) (freed (least_number new.keeper.numbers) old.chunks))) b.seats_after)) (sym p.is) both)
+    ≡ seated (world_after (placed (world_after (first_world limit seats) before) a.keeper_after a.seats_after)
+    (frees (retired_spans old.chunks) (freed (least_number new.keeper.numbers) old.chunks))) b.seats_after =
+    b.after_is ∙ ap
+    (λ (z : List Event). seated
+    (world_after (placed (world_after (first_world limit seats) before) a.keeper_after a.seats_after) z) b.seats_after) p.second_is in
+    let both : Leads w (p.first ++ p.second)
+    (seated (world_after (placed (world_after (first_world limit seats) before) a.keeper_after a.seats_after)
+    (frees (retired_spans old.chunks) (freed (least_number new.keeper.numbers) old.chunks))) b.seats_after) =
+    leads_more w (placed (world_after (first_world limit seats) before) a.keeper_after a.seats_after) _ p.first p.second
+    (record { allowed = a.allowed; after_is = a.after_is }) (record { allowed = b.allowed; after_is = end_is }) in
+    grown limit seats before events old new _ h
+    (subst (λ (z : List Event). Leads (world_after (first_world limit seats) before) z
+    (seated (world_after (placed (world_after (first_world limit seats) before) a.keeper_after a.seats_after)
+    (frees (retired_spans old.chunks) (freed (least_number new.keeper.numbers) old.chunks))) b.seats_after)) (sym p.is) both)
     (record {
-      marked = f.marked_is ∙ (ap (λ (m : MarkedText). unmarked m (freed (least_number new.keeper.numbers) old.chunks)) here ∙ sym is.marked);
+      marked = f.marked_is
+          ∙ (ap (λ (m : MarkedText). unmarked m (freed (least_number new.keeper.numbers) old.chunks)) here ∙ sym is.marked);
       keeper = f.keeper_is ∙ keeper_is;
-      spans = λ span. subst (λ (z : List Chunk). Contains (world_after (placed (world_after (first_world limit seats) before) a.keeper_after a.seats_after) (frees (retired_spans old.chunks) (freed (least_number new.keeper.numbers) old.chunks))).retired span ↔ Contains (retired_spans z) span) (sym is.chunks) (f.spans span);
+      spans = λ span. subst
+          (λ (z : List Chunk). Contains
+          (world_after (placed (world_after (first_world limit seats) before) a.keeper_after a.seats_after)
+          (frees (retired_spans old.chunks)
+          (freed (least_number new.keeper.numbers) old.chunks))).retired span ↔ Contains (retired_spans z) span)
+          (sym is.chunks) (f.spans span);
     })
     (omega (arith, is.looked.generation, h.in_range))

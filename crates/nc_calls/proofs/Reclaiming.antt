@@ -1,10 +1,12 @@
 -- The acts of a reclaiming are allowed events.
-use Rattle.std.proofs.Common.{◌≡◌, ◌≢◌, ℕ, ◌+◌, ◌<◌, ◌≤◌, ◌==◌, ◌&&◌, not, Bool, true, false, cond, List, [], ◌∷◌, ◌++◌, length, get_or, zero, suc}
+use Rattle.std.proofs.Common.{◌≡◌, ◌≢◌, ℕ, ◌+◌, ◌<◌, ◌≤◌, ◌==◌, ◌&&◌, not, Bool, true, false, cond, List, [], ◌∷◌, ◌++◌, length}
+use Rattle.std.proofs.Common.{get_or, zero, suc}
 use Rattle.std.proofs.Common.{filter, inl, inr, arith, refl, ◌∙◌, sym, ap, subst, append_assoc, ne_eqb, eq-eqb}
 use Rattle.std.specs.Prelude.{⊤, Contains}
 use Rattle.std.proofs.lemmas.Bool.{false≢true}
 use Rattle.std.proofs.lemmas.Bool.Decides.{nat_tests, eqb_tells}
-use Rattle.std.proofs.lemmas.List.Elements.{filter_passes, All-filter, All-contains, All-contains_itself, Contains-append_right, Contains-append_left, Contains-push}
+use Rattle.std.proofs.lemmas.List.Elements.{filter_passes, All-filter, All-contains, All-contains_itself, Contains-append_right}
+use Rattle.std.proofs.lemmas.List.Elements.{Contains-append_left, Contains-push}
 use Rattle.nc_text.specs.Places.{limit_of}
 use Rattle.nc_text.specs.MarkedText.{MarkedText}
 use Rattle.nc_gens.specs.Rule.{last_generation}
@@ -28,7 +30,8 @@ use Rattle.nc_region.proofs.Rising.{rises_above}
 use Rattle.nc_calls.specs.Weaving.{writers, ThreadsMay}
 use Rattle.nc_calls.specs.Calls.{span_from, events_of}
 use Rattle.nc_calls.proofs.Looking.{has_passed}
-use Rattle.nc_calls.proofs.RetiredSpans.{AreSameSpans, retired_append, retired_head, each_contains, into_middle, out_of_middle, the_middle, retired_each}
+use Rattle.nc_calls.proofs.RetiredSpans.{AreSameSpans, retired_append, retired_head, each_contains, into_middle, out_of_middle}
+use Rattle.nc_calls.proofs.RetiredSpans.{the_middle, retired_each}
 use Rattle.nc_calls.proofs.Woven.{Woven, seated, writer_more, thread_more}
 
 -- ---- in a world
@@ -45,29 +48,48 @@ pub frees_woven : (events : List Event) (w : World) (seats : List Seat) (least :
     → w.keeper.generation ≤ last_generation → least ≤ least_number w.keeper → FreesMay w.retired least (writers events)
     → ThreadsMay (seated w seats) events → Woven w seats events
 frees_woven [] w seats least keeps range le may threads = record { allowed = tt; seats_after = seats; after_is = refl }
-frees_woven (Steps k next ∷ events) w seats least keeps range le may threads = thread_more w seats _ (Steps k next) events (threads.0 refl) refl refl (frees_woven events w _ least (keeps_event (seated w seats) (Steps k next) keeps (threads.0 refl)) range le may threads.1)
-frees_woven (Enters k at ∷ events) w seats least keeps range le may threads = thread_more w seats _ (Enters k at) events (threads.0 refl) refl refl (frees_woven events w _ least (keeps_event (seated w seats) (Enters k at) keeps (threads.0 refl)) range le may threads.1)
-frees_woven (Exits k ∷ events) w seats least keeps range le may threads = thread_more w seats _ (Exits k) events (threads.0 refl) refl refl (frees_woven events w _ least (keeps_event (seated w seats) (Exits k) keeps (threads.0 refl)) range le may threads.1)
-frees_woven (Takes k ∷ events) w seats least keeps range le may threads = thread_more w seats _ (Takes k) events (threads.0 refl) refl refl (frees_woven events w _ least (keeps_event (seated w seats) (Takes k) keeps (threads.0 refl)) range le may threads.1)
-frees_woven (Sees k ∷ events) w seats least keeps range le may threads = thread_more w seats _ (Sees k) events (threads.0 refl) refl refl (frees_woven events w _ least (keeps_event (seated w seats) (Sees k) keeps (threads.0 refl)) range le may threads.1)
-frees_woven (Stores k ∷ events) w seats least keeps range le may threads = thread_more w seats _ (Stores k) events (threads.0 refl) refl refl (frees_woven events w _ least (keeps_event (seated w seats) (Stores k) keeps (threads.0 refl)) range le may threads.1)
-frees_woven (Leaves k ∷ events) w seats least keeps range le may threads = thread_more w seats _ (Leaves k) events (threads.0 refl) refl refl (frees_woven events w _ least (keeps_event (seated w seats) (Leaves k) keeps (threads.0 refl)) range le may threads.1)
+frees_woven (Steps k next ∷ events) w seats least keeps range le may threads =
+    thread_more w seats _ (Steps k next) events (threads.0 refl) refl refl
+    (frees_woven events w _ least (keeps_event (seated w seats) (Steps k next) keeps (threads.0 refl)) range le may threads.1)
+frees_woven (Enters k at ∷ events) w seats least keeps range le may threads =
+    thread_more w seats _ (Enters k at) events (threads.0 refl) refl refl
+    (frees_woven events w _ least (keeps_event (seated w seats) (Enters k at) keeps (threads.0 refl)) range le may threads.1)
+frees_woven (Exits k ∷ events) w seats least keeps range le may threads =
+    thread_more w seats _ (Exits k) events (threads.0 refl) refl refl
+    (frees_woven events w _ least (keeps_event (seated w seats) (Exits k) keeps (threads.0 refl)) range le may threads.1)
+frees_woven (Takes k ∷ events) w seats least keeps range le may threads =
+    thread_more w seats _ (Takes k) events (threads.0 refl) refl refl
+    (frees_woven events w _ least (keeps_event (seated w seats) (Takes k) keeps (threads.0 refl)) range le may threads.1)
+frees_woven (Sees k ∷ events) w seats least keeps range le may threads =
+    thread_more w seats _ (Sees k) events (threads.0 refl) refl refl
+    (frees_woven events w _ least (keeps_event (seated w seats) (Sees k) keeps (threads.0 refl)) range le may threads.1)
+frees_woven (Stores k ∷ events) w seats least keeps range le may threads =
+    thread_more w seats _ (Stores k) events (threads.0 refl) refl refl
+    (frees_woven events w _ least (keeps_event (seated w seats) (Stores k) keeps (threads.0 refl)) range le may threads.1)
+frees_woven (Leaves k ∷ events) w seats least keeps range le may threads =
+    thread_more w seats _ (Leaves k) events (threads.0 refl) refl refl
+    (frees_woven events w _ least (keeps_event (seated w seats) (Leaves k) keeps (threads.0 refl)) range le may threads.1)
 frees_woven (Puts at byte ∷ events) w seats least keeps range le may threads = absurd may
 frees_woven (Marks at marks ∷ events) w seats least keeps range le may threads = absurd may
 frees_woven (Bumps ∷ events) w seats least keeps range le may threads = absurd may
 frees_woven (Retires base len ∷ events) w seats least keeps range le may threads = absurd may
 frees_woven (Looks k ∷ events) w seats least keeps range le may threads = absurd may
 frees_woven (Frees span ∷ events) w seats least keeps range le may threads =
-    let allowed : IsAllowed (seated w seats) (Frees span) = (may.0, has_passed (seated w seats) span.stamp keeps range (omega (arith, may.1, le))) in
+    let allowed : IsAllowed (seated w seats) (Frees span) =
+    (may.0, has_passed (seated w seats) span.stamp keeps range (omega (arith, may.1, le))) in
     writer_more w seats (Frees span) events refl allowed refl refl
-    (frees_woven events (after w (Frees span)) seats least (keeps_event (seated w seats) (Frees span) keeps allowed) range le may.2 threads.1)
+    (frees_woven events (after w (Frees span)) seats least
+    (keeps_event (seated w seats) (Frees span) keeps allowed) range le may.2 threads.1)
 
 -- ---- members of a filtered list
 
 -- what is kept was there, and passes
 filter_from : {X : Type 0} (p : X → Bool) (xs : List X) (x : X) → Contains (filter p xs) x → Contains xs x × (p x ≡ true)
-filter_from p xs x has =
-    (All-contains (Contains xs) (filter p xs) x (All-filter p (Contains xs) xs (All-contains_itself xs)) has, All-contains (λ y. p y ≡ true) (filter p xs) x (filter_passes p xs) has)
+filter_from p xs x has = (
+  All-contains (Contains xs) (filter p xs) x (All-filter p (Contains xs) xs (All-contains_itself xs)) has,
+  All-contains
+      (λ y. p y ≡ true) (filter p xs) x (filter_passes p xs) has,
+)
 
 -- the first one is kept
 filter_head : {X : Type 0} (p : X → Bool) (y x : X) (rest : List X) (b : Bool) → p y ≡ b → y ≡ x → p x ≡ true
@@ -95,7 +117,12 @@ filter_to p xs x has is = filter_at p xs x has.0 has.1 has.2 is
 
 -- the same span has the same base
 same_base : (a b : Span) → is_same_span a b ≡ true → a.base ≡ b.base
-same_base a b e = elim (eqb_tells a.base b.base) [ inl same ↦ same.1 | inr other ↦ absurd (false≢true (sym (ap (λ (x : Bool). (x && (a.length == b.length)) && (a.stamp == b.stamp)) other.0) ∙ e)) ]
+same_base a b e =
+    elim (eqb_tells a.base b.base) [
+      | inl same ↦ same.1
+      | inr other ↦ absurd
+          (false≢true (sym (ap (λ (x : Bool). (x && (a.length == b.length)) && (a.stamp == b.stamp)) other.0) ∙ e))
+    ]
 
 -- spans of another base are others
 other_span : (a b : Span) → a.base ≢ b.base → is_same_span a b ≡ false
@@ -120,12 +147,20 @@ IsClear base span = base ≢ span.base
 -- the other chunks of a rising list have other bases
 others_clear : (from : ℕ) (before after : List Chunk) (c : Chunk) (limit : ℕ) → IsRising from (before ++ c ∷ after)
     → Each (λ (d : Chunk). IsPlaced d.base limit d.length) (before ++ c ∷ after)
-    → Each (λ (d : Chunk). (stamp : ℕ) → d.state ≡ Retired stamp → IsClear c.base (record { base = d.base; length = d.length; stamp = stamp })) (before ++ after)
+    → Each (λ (d : Chunk). (stamp : ℕ) → d.state ≡ Retired stamp → IsClear c.base
+    (record { base = d.base; length = d.length; stamp = stamp })) (before ++ after)
 others_clear from [] after c limit rising placed =
-    each_map (λ (d : Chunk). c.base + c.length ≤ d.base) (λ (d : Chunk). (stamp : ℕ) → d.state ≡ Retired stamp → IsClear c.base (record { base = d.base; length = d.length; stamp = stamp }))
+    each_map (λ (d : Chunk). c.base + c.length ≤ d.base)
+    (λ (d : Chunk). (stamp : ℕ) → d.state ≡ Retired stamp → IsClear c.base (record { base = d.base; length = d.length; stamp = stamp }))
     (λ d h stamp is e. omega (arith, h, e, placed.0.some)) after (rises_above (c.base + c.length) after rising.1)
 others_clear from (b ∷ before) after c limit rising placed = (
-  λ stamp is e. omega (arith, each_middle (λ (d : Chunk). b.base + b.length ≤ d.base) before after c (rises_above (b.base + b.length) (before ++ c ∷ after) rising.1), e, placed.0.some),
+  λ stamp is e. omega (
+    arith,
+    each_middle (λ (d : Chunk). b.base + b.length ≤ d.base) before after c
+        (rises_above (b.base + b.length) (before ++ c ∷ after) rising.1),
+    e,
+    placed.0.some,
+  ),
   others_clear (b.base + b.length) before after c limit rising.1 placed.1,
 )
 
@@ -133,22 +168,35 @@ others_clear from (b ∷ before) after c limit rising placed = (
 same_spans_freed : (spans : List Span) (before after : List Chunk) (c : Chunk) (stamp : ℕ) → c.state ≡ Retired stamp
     → Each (λ (span : Span). IsClear c.base span) (retired_spans (before ++ after))
     → AreSameSpans spans (before ++ c ∷ after)
-    → AreSameSpans (filter (λ other. not (is_same_span (record { base = c.base; length = c.length; stamp = stamp }) other)) spans) (before ++ after)
+    → AreSameSpans (filter (λ other. not (is_same_span (record { base = c.base; length = c.length; stamp = stamp }) other)) spans)
+    (before ++ after)
 same_spans_freed spans before after c stamp is clear same = λ span.
-    let old_is : retired_spans (before ++ c ∷ after) ≡ retired_spans before ++ (record { base = c.base; length = c.length; stamp = stamp } ∷ retired_spans after) =
-    retired_append before (c ∷ after) ∙ ap (λ (z : List Span). retired_spans before ++ z) (retired_head c c.state stamp (retired_spans after) is) in
+    let old_is : retired_spans (before ++ c ∷ after) ≡ retired_spans before ++
+    (record { base = c.base; length = c.length; stamp = stamp } ∷ retired_spans after) =
+    retired_append before (c ∷ after)
+    ∙ ap (λ (z : List Span). retired_spans before ++ z) (retired_head c c.state stamp (retired_spans after) is) in
     let new_is : retired_spans (before ++ after) ≡ retired_spans before ++ retired_spans after = retired_append before after in (
       λ has.
-          let h = filter_from (λ (other : Span). not (is_same_span (record { base = c.base; length = c.length; stamp = stamp }) other)) spans span has in
+          let h = filter_from
+          (λ (other : Span). not (is_same_span (record { base = c.base; length = c.length; stamp = stamp }) other)) spans span has in
           subst (λ (z : List Span). Contains z span) (sym new_is)
-          (elim (out_of_middle (retired_spans before) (retired_spans after) (record { base = c.base; length = c.length; stamp = stamp }) span (subst (λ (z : List Span). Contains z span) old_is ((same span).0 h.0))) [
-            | inl it ↦ absurd (false≢true (sym (ap not (same_itself (record { base = c.base; length = c.length; stamp = stamp }))) ∙ subst (λ (z : Span). not (is_same_span (record { base = c.base; length = c.length; stamp = stamp }) z) ≡ true) (sym it) h.1))
+          (elim (out_of_middle (retired_spans before) (retired_spans after)
+          (record { base = c.base; length = c.length; stamp = stamp }) span
+          (subst (λ (z : List Span). Contains z span) old_is ((same span).0 h.0))) [
+            | inl it ↦ absurd
+                (false≢true (sym (ap not (same_itself (record { base = c.base; length = c.length; stamp = stamp })))
+                ∙ subst (λ (z : Span). not (is_same_span (record { base = c.base; length = c.length; stamp = stamp }) z) ≡ true)
+                (sym it) h.1))
             | inr other ↦ other
           ]),
       λ has.
           filter_to (λ (other : Span). not (is_same_span (record { base = c.base; length = c.length; stamp = stamp }) other)) spans span
-          ((same span).1 (subst (λ (z : List Span). Contains z span) (sym old_is) (into_middle (retired_spans before) (retired_spans after) (record { base = c.base; length = c.length; stamp = stamp }) span (subst (λ (z : List Span). Contains z span) new_is has))))
-          (ap not (other_span (record { base = c.base; length = c.length; stamp = stamp }) span (each_contains (λ (s : Span). IsClear c.base s) (retired_spans (before ++ after)) span clear has))),
+          ((same span).1
+          (subst (λ (z : List Span). Contains z span) (sym old_is)
+          (into_middle (retired_spans before) (retired_spans after) (record { base = c.base; length = c.length; stamp = stamp }) span
+          (subst (λ (z : List Span). Contains z span) new_is has))))
+          (ap not (other_span (record { base = c.base; length = c.length; stamp = stamp }) span
+          (each_contains (λ (s : Span). IsClear c.base s) (retired_spans (before ++ after)) span clear has))),
     )
 
 -- the events that unmark these chunks
@@ -164,14 +212,16 @@ found_behind : (x c : Chunk) (s : ChunkState) (spans : List Span) (to : Span) �
     → span_from (with_retired x s spans) c.base ≡ to
 found_behind x c Live spans to ne e = e
 found_behind x c (Retired stamp) spans to ne e =
-    ap (λ (b : Bool). cond b (record { base = x.base; length = x.length; stamp = stamp }) (span_from spans c.base)) (ne_eqb x.base c.base ne) ∙ e
+    ap (λ (b : Bool). cond b (record { base = x.base; length = x.length; stamp = stamp }) (span_from spans c.base))
+    (ne_eqb x.base c.base ne) ∙ e
 
 -- the first one is found
 found_first : (c : Chunk) (s : ChunkState) (spans : List Span) (stamp : ℕ) → s ≡ Retired stamp
     → span_from (with_retired c s spans) c.base ≡ record { base = c.base; length = c.length; stamp = stamp }
 found_first c s spans stamp is =
     ap (λ (z : ChunkState). span_from (with_retired c z spans) c.base) is
-    ∙ ap (λ (b : Bool). cond b (record { base = c.base; length = c.length; stamp = stamp }) (span_from spans c.base)) (eq-eqb c.base c.base refl)
+    ∙ ap (λ (b : Bool). cond b (record { base = c.base; length = c.length; stamp = stamp }) (span_from spans c.base))
+    (eq-eqb c.base c.base refl)
 
 -- each chunk of a rising list finds its span
 pub finds_all : (from limit : ℕ) (chunks : List Chunk) → IsRising from chunks → Each (λ (d : Chunk). IsPlaced d.base limit d.length) chunks
@@ -180,7 +230,8 @@ finds_all from limit [] rising placed = tt
 finds_all from limit (x ∷ rest) rising placed = (
   λ stamp is. found_first x x.state (retired_spans rest) stamp is,
   each_both (λ (d : Chunk). x.base + x.length ≤ d.base) (Finds (retired_spans rest)) (Finds (retired_spans (x ∷ rest)))
-      (λ d above finds stamp is. found_behind x d x.state (retired_spans rest) (record { base = d.base; length = d.length; stamp = stamp }) (λ e. omega (arith, above, e, placed.0.some)) (finds stamp is))
+      (λ d above finds stamp is. found_behind x d x.state (retired_spans rest)
+      (record { base = d.base; length = d.length; stamp = stamp }) (λ e. omega (arith, above, e, placed.0.some)) (finds stamp is))
       rest (rises_above (x.base + x.length) rest rising.1) (finds_all (x.base + x.length) limit rest rising.1 placed.1),
 )
 
@@ -209,15 +260,19 @@ free_one : (least : ℕ) (all : List Span) (done rest : List Chunk) (c : Chunk) 
     → FreesDone v least (frees all (c ∷ freed least rest)) (done ++ kept least rest) (unmarked v.marked (c ∷ freed least rest))
 free_one least all done rest c v region finds same go stamp is le =
     let sp : Span = record { base = c.base; length = c.length; stamp = stamp } in
-    let clear = retired_each (λ (s : Span). IsClear c.base s) (done ++ rest) (others_clear 65536 done rest c (limit_of v.marked.bytes) region.rising region.placed) in
+    let clear = retired_each (λ (s : Span). IsClear c.base s) (done ++ rest)
+    (others_clear 65536 done rest c (limit_of v.marked.bytes) region.rising region.placed) in
     let next = same_spans_freed v.retired done rest c stamp is clear same in
-    let r = go (after v (Frees (record { base = c.base; length = c.length; stamp = stamp }))) (region_freed v.marked done rest c region (retired_dead c.state stamp is)) next in
+    let r = go (after v (Frees (record { base = c.base; length = c.length; stamp = stamp })))
+    (region_freed v.marked done rest c region (retired_dead c.state stamp is)) next in
     let has : Contains v.retired (record { base = c.base; length = c.length; stamp = stamp }) =
     (same (record { base = c.base; length = c.length; stamp = stamp })).1
     (subst (λ (z : List Span). Contains z (record { base = c.base; length = c.length; stamp = stamp }))
-    (sym (retired_append done (c ∷ rest) ∙ ap (λ (z : List Span). retired_spans done ++ z) (retired_head c c.state stamp (retired_spans rest) is)))
+    (sym (retired_append done (c ∷ rest)
+    ∙ ap (λ (z : List Span). retired_spans done ++ z) (retired_head c c.state stamp (retired_spans rest) is)))
     (the_middle (retired_spans done) (retired_spans rest) (record { base = c.base; length = c.length; stamp = stamp }))) in
-    subst (λ (z : Span). FreesDone v least (Frees z ∷ frees all (freed least rest)) (done ++ kept least rest) (unmarked v.marked (c ∷ freed least rest))) (sym (finds stamp is))
+    subst (λ (z : Span). FreesDone v least (Frees z ∷ frees all (freed least rest)) (done ++ kept least rest)
+    (unmarked v.marked (c ∷ freed least rest))) (sym (finds stamp is))
     (record { may = (has, le, r.may); spans = r.spans; marked_is = r.marked_is; keeper_is = r.keeper_is })
 
 -- one more chunk, due or not
@@ -226,13 +281,15 @@ free_next : (least : ℕ) (all : List Span) (done rest : List Chunk) (c : Chunk)
     → ((before : List Chunk) (w : World) → IsRegion w.marked (before ++ rest) → AreSameSpans w.retired (before ++ rest)
     → FreesDone w least (frees all (freed least rest)) (before ++ kept least rest) (unmarked w.marked (freed least rest)))
     → (b : Bool) → is_due least c.state ≡ b
-    → FreesDone v least (frees all (cond b (c ∷ freed least rest) (freed least rest))) (done ++ cond (not b) (c ∷ kept least rest) (kept least rest)) (unmarked v.marked (cond b (c ∷ freed least rest) (freed least rest)))
+    → FreesDone v least (frees all (cond b (c ∷ freed least rest) (freed least rest)))
+    (done ++ cond (not b) (c ∷ kept least rest) (kept least rest)) (unmarked v.marked (cond b (c ∷ freed least rest) (freed least rest)))
 free_next least all done rest c v region finds same go true due =
     let d = due_is least c.state due in
     free_one least all done rest c v region finds same (go done) d.0 d.1 d.2
 free_next least all done rest c v region finds same go false due =
     let seam : (ys : List Chunk) → (done ++ c ∷ []) ++ ys ≡ done ++ c ∷ ys = λ ys. append_assoc done (c ∷ []) ys in
-    subst (λ (z : List Chunk). FreesDone v least (frees all (freed least rest)) z (unmarked v.marked (freed least rest))) (seam (kept least rest))
+    subst (λ (z : List Chunk). FreesDone v least (frees all (freed least rest)) z (unmarked v.marked (freed least rest)))
+    (seam (kept least rest))
     (go (done ++ c ∷ []) v (subst (IsRegion v.marked) (sym (seam rest)) region) (subst (AreSameSpans v.retired) (sym (seam rest)) same))
 
 -- all of them
@@ -241,7 +298,8 @@ pub frees_done : (least : ℕ) (all : List Span) (rest done : List Chunk) (v : W
     → FreesDone v least (frees all (freed least rest)) (done ++ kept least rest) (unmarked v.marked (freed least rest))
 frees_done least all [] done v region finds same = record { may = tt; spans = same; marked_is = refl; keeper_is = refl }
 frees_done least all (c ∷ rest) done v region finds same =
-    free_next least all done rest c v region finds.0 same (λ before w r s. frees_done least all rest before w r finds.1 s) (is_due least c.state) refl
+    free_next least all done rest c v region finds.0 same (λ before w r s. frees_done least all rest before w r finds.1 s)
+    (is_due least c.state) refl
 
 -- the keeper stays while spans are freed
 pub keeper_stays : (events : List Event) (w : World) (spans : List Span) (least : ℕ) → FreesMay spans least (writers events)

@@ -1,5 +1,6 @@
 -- The spans of retired chunks, as the world has them.
-use Rattle.std.proofs.Common.{◌≡◌, ℕ, ◌<◌, ◌⊎◌, All, List, [], ◌∷◌, ◌++◌, length, get_or, set, take, drop, suc, inl, inr, arith, refl, ◌∙◌, sym}
+use Rattle.std.proofs.Common.{◌≡◌, ℕ, ◌<◌, ◌⊎◌, All, List, [], ◌∷◌, ◌++◌, length, get_or, set, take, drop, suc, inl, inr, arith, refl}
+use Rattle.std.proofs.Common.{◌∙◌, sym}
 use Rattle.std.proofs.Common.{ap, subst}
 use Rattle.std.specs.Prelude.{Contains, ◌↔◌}
 use Rattle.std.specs.List.{insert}
@@ -26,7 +27,8 @@ with_append c (Retired stamp) xs ys = refl
 -- the spans of two lists
 pub retired_append : (xs ys : List Chunk) → retired_spans (xs ++ ys) ≡ retired_spans xs ++ retired_spans ys
 retired_append [] ys = refl
-retired_append (c ∷ xs) ys = ap (λ (z : List Span). with_retired c c.state z) (retired_append xs ys) ∙ with_append c c.state (retired_spans xs) (retired_spans ys)
+retired_append (c ∷ xs) ys =
+    ap (λ (z : List Span). with_retired c c.state z) (retired_append xs ys) ∙ with_append c c.state (retired_spans xs) (retired_spans ys)
 
 -- a live chunk adds none
 pub live_none : (c : Chunk) (s : ChunkState) (rest : List Span) → IsLive s → with_retired c s rest ≡ rest
@@ -103,7 +105,8 @@ pub out_of_middle : {X : Type 0} (xs ys : List X) (y x : X) → Contains (xs ++ 
 out_of_middle xs ys y x has =
     elim (Contains-append_cases xs (y ∷ ys) x has) [
       | inl l ↦ inr (Contains-append_left xs ys x l)
-      | inr r ↦ elim (Contains-append_cases (y ∷ []) ys x r) [ inl one ↦ inl (one_is y x one) | inr more ↦ inr (Contains-append_right xs ys x more) ]
+      | inr r ↦ elim
+          (Contains-append_cases (y ∷ []) ys x r) [ inl one ↦ inl (one_is y x one) | inr more ↦ inr (Contains-append_right xs ys x more) ]
     ]
 
 -- a list parted at an index
@@ -117,7 +120,8 @@ pub retired_head : (c : Chunk) (s : ChunkState) (stamp : ℕ) (rest : List Span)
 retired_head c s stamp rest is = ap (λ (z : ChunkState). with_retired c z rest) is
 
 -- a live chunk is retired: one more span
-pub same_spans_retired : (spans : List Span) (chunks : List Chunk) (k : ℕ) (c : Chunk) (stamp : ℕ) → k < length chunks → get_or chunks k c ≡ c
+pub same_spans_retired : (spans : List Span) (chunks : List Chunk) (k : ℕ) (c : Chunk) (stamp : ℕ) → k < length chunks
+    → get_or chunks k c ≡ c
     → IsLive c.state → AreSameSpans spans chunks
     → AreSameSpans (record { base = c.base; length = c.length; stamp = stamp } ∷ spans) (set chunks k (record c { state = Retired stamp }))
 same_spans_retired spans chunks k c stamp lt here live same = λ span.
@@ -126,18 +130,30 @@ same_spans_retired spans chunks k c stamp lt here live same = λ span.
     let back = retired_spans (drop (suc k) chunks) in
     let old_is : retired_spans chunks ≡ retired_spans (take k chunks) ++ retired_spans (drop (suc k) chunks) =
     ap retired_spans (parted_at chunks k c lt here)
-    ∙ (retired_append (take k chunks) (c ∷ drop (suc k) chunks) ∙ ap (λ (z : List Span). retired_spans (take k chunks) ++ z) (live_none c c.state (retired_spans (drop (suc k) chunks)) live)) in
-    let new_is : retired_spans (set chunks k (record c { state = Retired stamp })) ≡ retired_spans (take k chunks) ++ (record { base = c.base; length = c.length; stamp = stamp } ∷ retired_spans (drop (suc k) chunks)) =
-    ap retired_spans (set_split chunks k (record c { state = Retired stamp }) lt) ∙ retired_append (take k chunks) (record c { state = Retired stamp } ∷ drop (suc k) chunks) in (
+    ∙ (retired_append (take k chunks) (c ∷ drop (suc k) chunks)
+    ∙ ap (λ (z : List Span). retired_spans (take k chunks) ++ z) (live_none c c.state (retired_spans (drop (suc k) chunks)) live)) in
+    let new_is : retired_spans (set chunks k (record c { state = Retired stamp })) ≡ retired_spans (take k chunks) ++
+    (record { base = c.base; length = c.length; stamp = stamp } ∷ retired_spans (drop (suc k) chunks)) =
+    ap retired_spans (set_split chunks k (record c { state = Retired stamp }) lt)
+    ∙ retired_append (take k chunks) (record c { state = Retired stamp } ∷ drop (suc k) chunks) in (
       λ has.
           subst (λ (z : List Span). Contains z span) (sym new_is)
           (elim (out_of_middle [] spans (record { base = c.base; length = c.length; stamp = stamp }) span has) [
-            | inl is ↦ subst (Contains (retired_spans (take k chunks) ++ (record { base = c.base; length = c.length; stamp = stamp } ∷ retired_spans (drop (suc k) chunks)))) is (the_middle (retired_spans (take k chunks)) (retired_spans (drop (suc k) chunks)) (record { base = c.base; length = c.length; stamp = stamp }))
-            | inr old ↦ into_middle (retired_spans (take k chunks)) (retired_spans (drop (suc k) chunks)) (record { base = c.base; length = c.length; stamp = stamp }) span (subst (λ (z : List Span). Contains z span) old_is ((same span).0 old))
+            | inl is ↦ subst
+                (Contains (retired_spans (take k chunks) ++
+                (record { base = c.base; length = c.length; stamp = stamp } ∷ retired_spans
+                (drop (suc k) chunks)))) is (the_middle (retired_spans (take k chunks)) (retired_spans (drop
+                (suc k) chunks)) (record { base = c.base; length = c.length; stamp = stamp }))
+            | inr old ↦ into_middle (retired_spans (take k chunks)) (retired_spans (drop (suc k) chunks))
+                (record { base = c.base; length = c.length; stamp = stamp }) span
+                (subst (λ (z : List Span). Contains z span) old_is ((same span).0 old))
           ]),
       λ has.
-          elim (out_of_middle (retired_spans (take k chunks)) (retired_spans (drop (suc k) chunks)) (record { base = c.base; length = c.length; stamp = stamp }) span (subst (λ (z : List Span). Contains z span) new_is has)) [
-            | inl is ↦ subst (Contains (record { base = c.base; length = c.length; stamp = stamp } ∷ spans)) is (the_middle [] spans (record { base = c.base; length = c.length; stamp = stamp }))
-            | inr old ↦ into_middle [] spans (record { base = c.base; length = c.length; stamp = stamp }) span ((same span).1 (subst (λ (z : List Span). Contains z span) (sym old_is) old))
+          elim (out_of_middle (retired_spans (take k chunks)) (retired_spans (drop (suc k) chunks))
+          (record { base = c.base; length = c.length; stamp = stamp }) span (subst (λ (z : List Span). Contains z span) new_is has)) [
+            | inl is ↦ subst (Contains (record { base = c.base; length = c.length; stamp = stamp } ∷ spans)) is
+                (the_middle [] spans (record { base = c.base; length = c.length; stamp = stamp }))
+            | inr old ↦ into_middle [] spans (record { base = c.base; length = c.length; stamp = stamp }) span
+                ((same span).1 (subst (λ (z : List Span). Contains z span) (sym old_is) old))
           ],
     )

@@ -35,12 +35,14 @@ step_back : (old text : List ℕ) (marks : List Mark) (now next : State) → IsC
     → IsMarked marks now → KeepsInstruction old text now.place → Step text now next → Step old now next
 step_back old text marks now next closed long m kept step =
     let e = executes old now m.0 (closed.safe now m) in
-    let leads = leads_of text now next e.i (same_instruction old text now.place e.i long e.inside e.is (kept e.i e.is e.permitted.0)) step in
+    let leads = leads_of text now next e.i
+    (same_instruction old text now.place e.i long e.inside e.is (kept e.i e.is e.permitted.0)) step in
     step_of old now next e.i e.inside e.is (subst (λ (limit : ℕ). Leads limit e.i now next) (ap (λ (n : ℕ). 65536 + n) long) leads)
 
 -- a quiet span stays quiet
 quiet_with_stops : (old text : List ℕ) (marks : List Mark) (span : Span) → IsClosed old marks → length text ≡ length old
-    → StopsOrKeeps old text marks → ((at : ℕ) → IsInSpan span at → byte_at text at ≡ 244) → IsQuiet old marks span → IsQuiet text marks span
+    → StopsOrKeeps old text marks →
+    ((at : ℕ) → IsInSpan span at → byte_at text at ≡ 244) → IsQuiet old marks span → IsQuiet text marks span
 quiet_with_stops old text marks span closed long each stops quiet =
     record {
       stops = stops;
@@ -68,7 +70,8 @@ pub spans_stop : (old now : List ℕ) (base len : ℕ) (spans : List Span) → A
     → ((at : ℕ) → 65536 ≤ at → (at < base) ⊎ (base + len ≤ at) → byte_at now at ≡ byte_at old at) → SpansStop now spans
 spans_stop old now base len spans beside stops same = λ k d lt at inside.
     let b = beside k d lt in
-    same at (omega (arith, b.0, inside.0)) (elim b.1 [ inl l ↦ inl (omega (arith, l, inside.1)) | inr h ↦ inr (omega (arith, h, inside.0)) ])
+    same at (omega (arith, b.0, inside.0))
+    (elim b.1 [ inl l ↦ inl (omega (arith, l, inside.1)) | inr h ↦ inr (omega (arith, h, inside.0)) ])
     ∙ stops k d lt at inside
 
 -- the spans that a steady text keeps are stops

@@ -33,7 +33,8 @@ writer_more w seats event events is allowed same list rest =
     record {
       allowed = (allowed, subst (λ (x : World). AreAllowed x events) (sym same) rest.allowed);
       seats_after = rest.seats_after;
-      after_is = ap (λ (x : World). world_after x events) same ∙ (rest.after_is ∙ ap (λ (z : List Event). seated (world_after w z) rest.seats_after) (sym list));
+      after_is = ap (λ (x : World). world_after x events) same
+          ∙ (rest.after_is ∙ ap (λ (z : List Event). seated (world_after w z) rest.seats_after) (sym list));
     }
 
 -- one more event of a thread
@@ -44,23 +45,38 @@ thread_more w seats later event events allowed same list rest =
     record {
       allowed = (allowed, subst (λ (x : World). AreAllowed x events) (sym same) rest.allowed);
       seats_after = rest.seats_after;
-      after_is = ap (λ (x : World). world_after x events) same ∙ (rest.after_is ∙ ap (λ (z : List Event). seated (world_after w z) rest.seats_after) (sym list));
+      after_is = ap (λ (x : World). world_after x events) same
+          ∙ (rest.after_is ∙ ap (λ (z : List Event). seated (world_after w z) rest.seats_after) (sym list));
     }
 
 -- where the writer's events are allowed by themselves, all are
 pub weave : (w : World) (seats : List Seat) (events : List Event) → ArePlain (writers events) → AreAllowed w (writers events)
     → ThreadsMay (seated w seats) events → Woven w seats events
 weave w seats [] plain allowed threads = record { allowed = tt; seats_after = seats; after_is = refl }
-weave w seats (Steps k next ∷ events) plain allowed threads = thread_more w seats _ (Steps k next) events (threads.0 refl) refl refl (weave w _ events plain allowed threads.1)
-weave w seats (Enters k at ∷ events) plain allowed threads = thread_more w seats _ (Enters k at) events (threads.0 refl) refl refl (weave w _ events plain allowed threads.1)
-weave w seats (Exits k ∷ events) plain allowed threads = thread_more w seats _ (Exits k) events (threads.0 refl) refl refl (weave w _ events plain allowed threads.1)
-weave w seats (Takes k ∷ events) plain allowed threads = thread_more w seats _ (Takes k) events (threads.0 refl) refl refl (weave w _ events plain allowed threads.1)
-weave w seats (Sees k ∷ events) plain allowed threads = thread_more w seats _ (Sees k) events (threads.0 refl) refl refl (weave w _ events plain allowed threads.1)
-weave w seats (Stores k ∷ events) plain allowed threads = thread_more w seats _ (Stores k) events (threads.0 refl) refl refl (weave w _ events plain allowed threads.1)
-weave w seats (Leaves k ∷ events) plain allowed threads = thread_more w seats _ (Leaves k) events (threads.0 refl) refl refl (weave w _ events plain allowed threads.1)
-weave w seats (Puts at byte ∷ events) plain allowed threads = writer_more w seats (Puts at byte) events refl allowed.0 refl refl (weave (after w (Puts at byte)) seats events plain allowed.1 threads.1)
-weave w seats (Marks at marks ∷ events) plain allowed threads = writer_more w seats (Marks at marks) events refl allowed.0 refl refl (weave (after w (Marks at marks)) seats events plain allowed.1 threads.1)
-weave w seats (Bumps ∷ events) plain allowed threads = writer_more w seats Bumps events refl allowed.0 refl refl (weave (after w Bumps) seats events plain allowed.1 threads.1)
-weave w seats (Retires base len ∷ events) plain allowed threads = writer_more w seats (Retires base len) events refl allowed.0 refl refl (weave (after w (Retires base len)) seats events plain allowed.1 threads.1)
+weave w seats (Steps k next ∷ events) plain allowed threads =
+    thread_more w seats _ (Steps k next) events (threads.0 refl) refl refl (weave w _ events plain allowed threads.1)
+weave w seats (Enters k at ∷ events) plain allowed threads =
+    thread_more w seats _ (Enters k at) events (threads.0 refl) refl refl (weave w _ events plain allowed threads.1)
+weave w seats (Exits k ∷ events) plain allowed threads =
+    thread_more w seats _ (Exits k) events (threads.0 refl) refl refl (weave w _ events plain allowed threads.1)
+weave w seats (Takes k ∷ events) plain allowed threads =
+    thread_more w seats _ (Takes k) events (threads.0 refl) refl refl (weave w _ events plain allowed threads.1)
+weave w seats (Sees k ∷ events) plain allowed threads =
+    thread_more w seats _ (Sees k) events (threads.0 refl) refl refl (weave w _ events plain allowed threads.1)
+weave w seats (Stores k ∷ events) plain allowed threads =
+    thread_more w seats _ (Stores k) events (threads.0 refl) refl refl (weave w _ events plain allowed threads.1)
+weave w seats (Leaves k ∷ events) plain allowed threads =
+    thread_more w seats _ (Leaves k) events (threads.0 refl) refl refl (weave w _ events plain allowed threads.1)
+weave w seats (Puts at byte ∷ events) plain allowed threads =
+    writer_more w seats (Puts at byte) events refl allowed.0 refl refl
+    (weave (after w (Puts at byte)) seats events plain allowed.1 threads.1)
+weave w seats (Marks at marks ∷ events) plain allowed threads =
+    writer_more w seats (Marks at marks) events refl allowed.0 refl refl
+    (weave (after w (Marks at marks)) seats events plain allowed.1 threads.1)
+weave w seats (Bumps ∷ events) plain allowed threads =
+    writer_more w seats Bumps events refl allowed.0 refl refl (weave (after w Bumps) seats events plain allowed.1 threads.1)
+weave w seats (Retires base len ∷ events) plain allowed threads =
+    writer_more w seats (Retires base len) events refl allowed.0 refl refl
+    (weave (after w (Retires base len)) seats events plain allowed.1 threads.1)
 weave w seats (Frees span ∷ events) plain allowed threads = absurd plain
 weave w seats (Looks k ∷ events) plain allowed threads = absurd plain

@@ -82,5 +82,6 @@ with_seat_keeps w k seat keeps s =
       quiet = keeps.quiet;
       whole = keeps.whole;
       bounds = keeps.bounds ∙ sym (length-set w.seats k seat);
-      seats = set_seat (λ j t. SeatKeeps w.marked.marks w.retired w.keeper.generation (slice_index w.keeper.bounds j) t) w.seats k seat s keeps.seats;
+      seats = set_seat
+          (λ j t. SeatKeeps w.marked.marks w.retired w.keeper.generation (slice_index w.keeper.bounds j) t) w.seats k seat s keeps.seats;
     }

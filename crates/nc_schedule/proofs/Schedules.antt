@@ -50,8 +50,17 @@ keeps_first limit seats lawful =
       bounds = length-replicate {A = ℕ} seats 0 ∙ sym (length-replicate seats first_seat);
       seats = λ k lt.
           let inside : k < seats = omega (arith, lt, length-replicate seats first_seat) in
-          subst (SeatKeeps (unused_text limit).marks [] 0 (get_or (replicate seats 0) k 0)) (sym (get_or-replicate seats k first_seat first_seat inside))
-          (record { stands = tt; early = tt; since = omega arith; word = λ is. omega arith; out = λ is. refl; found = λ is. is; bound_is = λ is. omega (arith, get_or-replicate {A = ℕ} seats k 0 0 inside) });
+          subst (SeatKeeps (unused_text limit).marks [] 0 (get_or (replicate seats 0) k 0))
+          (sym (get_or-replicate seats k first_seat first_seat inside))
+          (record {
+            stands = tt;
+            early = tt;
+            since = omega arith;
+            word = λ is. omega arith;
+            out = λ is. refl;
+            found = λ is. is;
+            bound_is = λ is. omega (arith, get_or-replicate {A = ℕ} seats k 0 0 inside);
+          });
     }
 
 -- events after events
@@ -84,13 +93,15 @@ keeps_reached limit seats events lawful allowed = keeps_all (first_world limit s
 pub stand_safe : (w : World) → Keeps w → AllStandSafe w
 stand_safe w keeps =
     All-from_get_or (λ (seat : Seat). IfSome seat.inside (IsSafe w.marked.bytes)) w.seats first_seat
-    (λ k lt. if_map (seat_at w k).inside (IsKnown w.marked.marks) (IsSafe w.marked.bytes) (λ now known. safe_if_known w.marked.bytes w.marked.marks keeps.closed now known) (keeps.seats k lt).stands)
+    (λ k lt. if_map (seat_at w k).inside (IsKnown w.marked.marks) (IsSafe w.marked.bytes)
+    (λ now known. safe_if_known w.marked.bytes w.marked.marks keeps.closed now known) (keeps.seats k lt).stands)
 
 -- so after every event
 pub safe_after : (limit seats : ℕ) (events later : List Event) → IsLawfulLimit limit
     → AreAllowed (first_world limit seats) (events ++ later) → AllStandSafe (world_after (first_world limit seats) events)
 safe_after limit seats events later lawful allowed =
-    stand_safe (world_after (first_world limit seats) events) (keeps_reached limit seats events lawful (allowed_front (first_world limit seats) events later allowed))
+    stand_safe (world_after (first_world limit seats) events)
+    (keeps_reached limit seats events lawful (allowed_front (first_world limit seats) events later allowed))
 
 -- and nobody stands within a span when it is freed
 pub none_is_within_freed : (limit seats : ℕ) (events later : List Event) (span : Span) → IsLawfulLimit limit

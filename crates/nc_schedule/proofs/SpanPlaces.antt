@@ -18,7 +18,9 @@ pub data Place (base len at : ℕ) : Type 0 where
 -- where a place lies
 pub place_of : (base len at : ℕ) → Place base len at
 place_of base len at =
-    ⊎_elim (λ (l : at < base). Before l) (λ (h : base ≤ at). ⊎_elim (λ (l : at < base + len). Within h l) (λ (p : base + len ≤ at). Behind p) (cases_lt at (base + len))) (cases_lt at base)
+    ⊎_elim (λ (l : at < base). Before l)
+    (λ (h : base ≤ at). ⊎_elim (λ (l : at < base + len). Within h l) (λ (p : base + len ≤ at). Behind p) (cases_lt at (base + len)))
+    (cases_lt at base)
 
 -- what a chosen plain mark admits tells the choice
 plain_if_admitted : (b : Bool) (masked : Option ℕ) → Admits (cond b Plain Unmarked) masked → b ≡ true

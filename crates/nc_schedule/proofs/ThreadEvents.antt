@@ -23,8 +23,10 @@ keeps_steps w k next keeps allowed =
     with_seat_keeps w k (record (seat_at w k) { inside = Some next }) keeps
     (record {
       stands = keeps.closed.steps now next m step;
-      early = All-weaker (IsQuiet w.marked.bytes w.marked.marks) (λ (span : Span). IsWithin span next.place → (seat_at w k).pass.since < span.stamp)
-          (λ span quiet within. absurd (none_steps_in w.marked.bytes w.marked.marks span quiet now next m step within)) w.retired keeps.quiet;
+      early = All-weaker (IsQuiet w.marked.bytes w.marked.marks)
+          (λ (span : Span). IsWithin span next.place → (seat_at w k).pass.since < span.stamp)
+          (λ span quiet within. absurd
+          (none_steps_in w.marked.bytes w.marked.marks span quiet now next m step within)) w.retired keeps.quiet;
       since = s.since;
       word = s.word;
       out = λ is. absurd (none_is_some now (sym (s.out is) ∙ allowed.1.1));
@@ -39,7 +41,8 @@ keeps_enters w k at keeps allowed =
     with_seat_keeps w k (record (seat_at w k) { inside = Some (state at None) }) keeps
     (record {
       stands = inl (start_is_marked w.marked.bytes w.marked.marks keeps.closed (state at None) allowed.3 allowed.4);
-      early = All-weaker (IsQuiet w.marked.bytes w.marked.marks) (λ (span : Span). IsWithin span at → (seat_at w k).pass.since < span.stamp)
+      early = All-weaker (IsQuiet w.marked.bytes w.marked.marks)
+          (λ (span : Span). IsWithin span at → (seat_at w k).pass.since < span.stamp)
           (λ span quiet within. absurd (within.1 allowed.4)) w.retired keeps.quiet;
       since = s.since;
       word = s.word;
@@ -82,7 +85,15 @@ pub keeps_stores : (w : World) (k : ℕ) → Keeps w → IsAllowed w (Stores k) 
 keeps_stores w k keeps allowed =
     let s = keeps.seats k allowed.0 in
     with_seat_keeps w k (record (seat_at w k) { pass = since_stored (seat_at w k).pass }) keeps
-    (record { stands = s.stands; early = s.early; since = s.since; word = λ is. omega arith; out = s.out; found = s.found; bound_is = s.bound_is })
+    (record {
+      stands = s.stands;
+      early = s.early;
+      since = s.since;
+      word = λ is. omega arith;
+      out = s.out;
+      found = s.found;
+      bound_is = s.bound_is;
+    })
 
 -- a pass leaves
 pub keeps_leaves : (w : World) (k : ℕ) → Keeps w → IsAllowed w (Leaves k) → Keeps (after w (Leaves k))

@@ -12,7 +12,8 @@ use Rattle.nc_text.proofs.Closing.{no_step_from_stop}
 use Rattle.nc_text.proofs.SpanElements.{length-with_span}
 use Rattle.nc_schedule.specs.Quiet.{Span, IsWithin, IsQuiet}
 use Rattle.nc_schedule.specs.World.{IsWhole}
-use Rattle.nc_schedule.proofs.SpanPlaces.{place_of, Before, Within, Behind, span_before, span_within, span_behind, unused_is_start, unused_at_start}
+use Rattle.nc_schedule.proofs.SpanPlaces.{place_of, Before, Within, Behind, span_before, span_within, span_behind, unused_is_start}
+use Rattle.nc_schedule.proofs.SpanPlaces.{unused_at_start}
 
 -- no step leads into a quiet span but to a bundle start
 pub none_steps_in : (text : List ℕ) (marks : List Mark) (span : Span) → IsQuiet text marks span → (now next : State) → IsMarked marks now
@@ -48,22 +49,27 @@ fits marked span f = omega (arith, unused_long span, f.whole.high, f.as_long)
 freed_within : (marked : MarkedText) (span : Span) (at : ℕ) → MayFree marked span → span.base ≤ at → at < span.base + span.length
     → mark_at (freed_marks marked span) at ≡ unused_mark at
 freed_within marked span at f a b =
-    span_within marked.marks span.base (unused_marks span.base span.length) at Unmarked f.whole.low (fits marked span f) a (omega (arith, unused_long span))
+    span_within marked.marks span.base (unused_marks span.base span.length) at Unmarked f.whole.low (fits marked span f) a
+    (omega (arith, unused_long span))
     ∙ get_or-map-range_with_len unused_mark span.base span.length (at - span.base) at Unmarked (omega arith) (omega arith)
 
 -- before it the marks stay
 freed_before : (marked : MarkedText) (span : Span) (at : ℕ) → MayFree marked span → 65536 ≤ at → at < span.base
     → mark_at (freed_marks marked span) at ≡ mark_at marked.marks at
-freed_before marked span at f low l = span_before marked.marks span.base (unused_marks span.base span.length) at Unmarked f.whole.low (fits marked span f) low l
+freed_before marked span at f low l =
+    span_before marked.marks span.base (unused_marks span.base span.length) at Unmarked f.whole.low (fits marked span f) low l
 
 -- after it too
 freed_behind : (marked : MarkedText) (span : Span) (at : ℕ) → MayFree marked span → span.base + span.length ≤ at
     → mark_at (freed_marks marked span) at ≡ mark_at marked.marks at
-freed_behind marked span at f p = span_behind marked.marks span.base (unused_marks span.base span.length) at Unmarked f.whole.low (fits marked span f) (omega (arith, unused_long span))
+freed_behind marked span at f p =
+    span_behind marked.marks span.base (unused_marks span.base span.length) at Unmarked f.whole.low (fits marked span f)
+    (omega (arith, unused_long span))
 
 -- there are as many marks
 pub freed_long : (marked : MarkedText) (span : Span) → MayFree marked span → length (freed_marks marked span) ≡ length marked.marks
-freed_long marked span f = length-with_span marked.marks (span.base - 65536) (unused_marks span.base span.length) (omega (arith, fits marked span f, f.whole.low))
+freed_long marked span f =
+    length-with_span marked.marks (span.base - 65536) (unused_marks span.base span.length) (omega (arith, fits marked span f, f.whole.low))
 
 -- a plain place is marked
 plain_is_marked : (marks : List Mark) (now : State) → 65536 ≤ now.place → mark_at marks now.place ≡ Plain → IsMarked marks now
@@ -78,7 +84,8 @@ freed_was marked span f now m =
       | Within a b ↦
           plain_is_marked marked.marks now m.0
           (f.closed.starts now.place (m.0, omega (arith, b, f.whole.high))
-          (unused_is_start now.place now.masked (subst (λ (mark : Mark). Admits mark now.masked) (freed_within marked span now.place f a b) m.1)))
+          (unused_is_start now.place now.masked
+          (subst (λ (mark : Mark). Admits mark now.masked) (freed_within marked span now.place f a b) m.1)))
       | Behind p ↦ (m.0, subst (λ (mark : Mark). Admits mark now.masked) (freed_behind marked span now.place f p) m.1)
     ]
 
@@ -90,7 +97,9 @@ freed_stays marked span f now m out =
       | Before l ↦ (m.0, subst (λ (mark : Mark). Admits mark now.masked) (sym (freed_before marked span now.place f m.0 l)) m.1)
       | Within a b ↦
           elim (eqb_tells (now.place % 32) 0) [
-            | inl start ↦ plain_is_marked (freed_marks marked span) now m.0 (freed_within marked span now.place f a b ∙ unused_at_start now.place start.1)
+            | inl start ↦
+                plain_is_marked (freed_marks marked span) now m.0
+                (freed_within marked span now.place f a b ∙ unused_at_start now.place start.1)
             | inr inside ↦ absurd (out ((a, b), inside.1))
           ]
       | Behind p ↦ (m.0, subst (λ (mark : Mark). Admits mark now.masked) (sym (freed_behind marked span now.place f p)) m.1)
@@ -110,7 +119,8 @@ freed_closed marked span f =
       steps = λ now next m step.
           let was = freed_was marked span f now m in
           elim (f.closed.steps now next was step) [
-            | inl there ↦ inl (freed_stays marked span f next there (none_steps_in marked.bytes marked.marks span f.quiet now next was step))
+            | inl there ↦
+                inl (freed_stays marked span f next there (none_steps_in marked.bytes marked.marks span f.quiet now next was step))
             | inr zone ↦ inr zone
           ];
     }

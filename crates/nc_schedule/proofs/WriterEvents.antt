@@ -1,5 +1,6 @@
 -- What the writer does keeps the world.
-use Rattle.std.proofs.Common.{◌≡◌, ℕ, ◌+◌, ◌-◌, ◌<◌, ◌≤◌, ◌⊎◌, Bool, true, false, not, All, List, [], ◌∷◌, ◌++◌, length, get_or, set, take, drop}
+use Rattle.std.proofs.Common.{◌≡◌, ℕ, ◌+◌, ◌-◌, ◌<◌, ◌≤◌, ◌⊎◌, Bool, true, false, not, All, List, [], ◌∷◌, ◌++◌, length, get_or, set}
+use Rattle.std.proofs.Common.{take, drop}
 use Rattle.std.proofs.Common.{Option, Some, None, inl, inr, arith, refl, ◌∙◌, sym, ap, subst}
 use Rattle.std.specs.Prelude.{IfSome, Contains, filter, slice_index}
 use Rattle.std.proofs.lemmas.Bool.Decides.{eqb_tells}
@@ -27,7 +28,13 @@ keeps_puts w at byte keeps allowed =
       closed = allowed.1.0;
       quiet = allowed.1.1;
       whole = All-weaker (IsWhole w.marked.bytes) (IsWhole (set w.marked.bytes (at - 65536) byte))
-          (λ span h. record { start = h.start; bundles = h.bundles; low = h.low; high = omega (arith, h.high, long) }) w.retired keeps.whole;
+          (λ span h. record {
+            start = h.start;
+            bundles = h.bundles;
+            low = h.low;
+            high = omega
+                (arith, h.high, long);
+          }) w.retired keeps.whole;
       bounds = keeps.bounds;
       seats = keeps.seats;
     }
@@ -55,7 +62,16 @@ seat_moves : (old marks : List Mark) (before retired : List Span) (from to bound
     → IfSome seat.inside (IsKnown marks) → IfSome seat.inside (CameBefore seat.pass.since retired)
     → SeatKeeps old before from bound seat → SeatKeeps marks retired to bound seat
 seat_moves old marks before retired from to bound seat le stands early s =
-    record { stands = stands; early = early; since = omega (arith, s.since, le); word = s.word; out = s.out; found = s.found; bound_is = s.bound_is }
+    record {
+      stands = stands;
+      early = early;
+      since = omega
+          (arith, s.since, le);
+      word = s.word;
+      out = s.out;
+      found = s.found;
+      bound_is = s.bound_is;
+    }
 
 -- marks are added
 pub keeps_marks : (w : World) (at : ℕ) (marks : List Mark) → Keeps w → IsAllowed w (Marks at marks) → Keeps (after w (Marks at marks))
@@ -63,13 +79,18 @@ keeps_marks w at marks keeps allowed =
     let new = (with_marks w.marked at marks).marks in
     let still : (now : State) → IsKnown w.marked.marks now → IsKnown (with_marks w.marked at marks).marks now = λ now known.
     elim known [
-      | inl m ↦ inl (m.0, still_admits (mark_at w.marked.marks now.place) (mark_at (with_marks w.marked at marks).marks now.place) now.masked (allowed.1 (now.place - 65536)) m.1)
+      | inl m ↦ inl (
+        m.0,
+        still_admits (mark_at w.marked.marks now.place) (mark_at (with_marks w.marked at marks).marks now.place) now.masked
+            (allowed.1 (now.place - 65536)) m.1,
+      )
       | inr zone ↦ inr zone
     ] in
     record {
       as_long =
           span_long w.marked.marks (at - 65536) marks
-          (λ some. let first = allowed.0 0 some in let last = allowed.0 (length marks - 1) (omega (arith, some)) in omega (arith, some, first.0, last.1, keeps.as_long))
+          (λ some. let first = allowed.0 0 some in let last = allowed.0 (length marks - 1) (omega (arith, some)) in omega
+          (arith, some, first.0, last.1, keeps.as_long))
           ∙ keeps.as_long;
       closed = allowed.2.0;
       quiet = allowed.2.1;
@@ -77,7 +98,8 @@ keeps_marks w at marks keeps allowed =
       bounds = keeps.bounds;
       seats = λ k lt.
           let s = keeps.seats k lt in
-          seat_moves w.marked.marks (with_marks w.marked at marks).marks w.retired w.retired w.keeper.generation w.keeper.generation (slice_index w.keeper.bounds k) (seat_at w k) (omega arith)
+          seat_moves w.marked.marks (with_marks w.marked at marks).marks w.retired w.retired w.keeper.generation w.keeper.generation
+          (slice_index w.keeper.bounds k) (seat_at w k) (omega arith)
           (if_map (seat_at w k).inside (IsKnown w.marked.marks) (IsKnown (with_marks w.marked at marks).marks) still s.stands) s.early s;
     }
 
@@ -92,7 +114,8 @@ keeps_bumps w keeps =
       bounds = keeps.bounds;
       seats = λ k lt.
           let s = keeps.seats k lt in
-          seat_moves w.marked.marks w.marked.marks w.retired w.retired w.keeper.generation (w.keeper.generation + 1) (slice_index w.keeper.bounds k) (seat_at w k) (omega arith) s.stands s.early s;
+          seat_moves w.marked.marks w.marked.marks w.retired w.retired w.keeper.generation (w.keeper.generation + 1)
+          (slice_index w.keeper.bounds k) (seat_at w k) (omega arith) s.stands s.early s;
     }
 
 -- a span is retired
@@ -106,9 +129,12 @@ keeps_retires w base len keeps allowed =
       bounds = keeps.bounds;
       seats = λ k lt.
           let s = keeps.seats k lt in
-          seat_moves w.marked.marks w.marked.marks w.retired (new_span w base len ∷ w.retired) w.keeper.generation (w.keeper.generation + 1) (slice_index w.keeper.bounds k) (seat_at w k) (omega arith) s.stands
-          (if_map (seat_at w k).inside (CameBefore (seat_at w k).pass.since w.retired) (CameBefore (seat_at w k).pass.since (new_span w base len ∷ w.retired))
-          (λ now came. All-cons (λ (span : Span). IsWithin span now.place → (seat_at w k).pass.since < span.stamp) (new_span w base len) w.retired (λ within. omega (arith, s.since)) came) s.early)
+          seat_moves w.marked.marks w.marked.marks w.retired (new_span w base len ∷ w.retired) w.keeper.generation
+          (w.keeper.generation + 1) (slice_index w.keeper.bounds k) (seat_at w k) (omega arith) s.stands
+          (if_map (seat_at w k).inside (CameBefore (seat_at w k).pass.since w.retired)
+          (CameBefore (seat_at w k).pass.since (new_span w base len ∷ w.retired))
+          (λ now came. All-cons (λ (span : Span). IsWithin span now.place → (seat_at w k).pass.since < span.stamp)
+          (new_span w base len) w.retired (λ within. omega (arith, s.since)) came) s.early)
           s;
     }
 
@@ -136,7 +162,8 @@ seats_are_out : (w : World) (span : Span) → Keeps w → IsAllowed w (Frees spa
     → IfSome (seat_at w k).inside (λ now. IsWithin span now.place → ⊥)
 seats_are_out w span keeps allowed k lt =
     for_some (seat_at w k).inside (λ now. IsWithin span now.place → ⊥)
-    (seat_is_out w.marked.marks w.retired w.keeper.generation (slice_index w.keeper.bounds k) span (seat_at w k) allowed.0 (keeps.seats k lt) (seat_at w k).found_left refl (allowed.1 k lt))
+    (seat_is_out w.marked.marks w.retired w.keeper.generation (slice_index w.keeper.bounds k) span (seat_at w k) allowed.0
+    (keeps.seats k lt) (seat_at w k).found_left refl (allowed.1 k lt))
 
 -- what a thread out of the span stands on is marked afterwards
 known_after : (w : World) (span : Span) → MayFree w.marked span → (inside : Option State) → IfSome inside (IsKnown w.marked.marks)
@@ -163,52 +190,81 @@ keeps_frees w span keeps allowed =
       as_long = freed_long w.marked span f ∙ keeps.as_long;
       closed = freed_closed w.marked span f;
       quiet = All-filter (λ other. not (is_same_span span other)) (IsQuiet w.marked.bytes (freed_marks w.marked span)) w.retired
-          (All-weaker (IsQuiet w.marked.bytes w.marked.marks) (IsQuiet w.marked.bytes (freed_marks w.marked span)) (λ other quiet. freed_quiet w.marked span other f quiet) w.retired keeps.quiet);
+          (All-weaker (IsQuiet w.marked.bytes w.marked.marks) (IsQuiet w.marked.bytes (freed_marks w.marked span))
+          (λ other quiet. freed_quiet w.marked span other f quiet) w.retired keeps.quiet);
       whole = All-filter (λ other. not (is_same_span span other)) (IsWhole w.marked.bytes) w.retired keeps.whole;
       bounds = keeps.bounds;
       seats = λ k lt.
           let s = keeps.seats k lt in
           let kept : List Span = filter (λ other. not (is_same_span span other)) w.retired in
-          seat_moves w.marked.marks (freed_marks w.marked span) w.retired (filter (λ other. not (is_same_span span other)) w.retired) w.keeper.generation w.keeper.generation (slice_index w.keeper.bounds k) (seat_at w k) (omega arith)
+          seat_moves w.marked.marks (freed_marks w.marked span) w.retired
+          (filter (λ other. not (is_same_span span other)) w.retired) w.keeper.generation w.keeper.generation
+          (slice_index w.keeper.bounds k) (seat_at w k) (omega arith)
           (known_after w span f (seat_at w k).inside s.stands (seats_are_out w span keeps allowed k lt))
-          (if_map (seat_at w k).inside (CameBefore (seat_at w k).pass.since w.retired) (CameBefore (seat_at w k).pass.since (filter (λ other. not (is_same_span span other)) w.retired))
-          (λ now came. All-filter (λ other. not (is_same_span span other)) (λ (other : Span). IsWithin other now.place → (seat_at w k).pass.since < other.stamp) w.retired came) s.early)
+          (if_map (seat_at w k).inside (CameBefore (seat_at w k).pass.since w.retired)
+          (CameBefore (seat_at w k).pass.since (filter (λ other. not (is_same_span span other)) w.retired))
+          (λ now came. All-filter (λ other. not (is_same_span span other))
+          (λ (other : Span). IsWithin other now.place → (seat_at w k).pass.since < other.stamp) w.retired came) s.early)
           s;
     }
+
+-- a seat whose word was looked at
+abbrev looked : Seat → Seat
+looked seat = record seat { found_left = seat.has_left }
 
 -- the keeper looks at a seat's word
 pub keeps_looks : (w : World) (k : ℕ) → Keeps w → IsAllowed w (Looks k) → Keeps (after w (Looks k))
 keeps_looks w k keeps allowed =
-    let looked : Seat = record (seat_at w k) { found_left = (seat_at w k).has_left } in
     record {
       as_long = keeps.as_long;
       closed = keeps.closed;
       quiet = keeps.quiet;
       whole = keeps.whole;
-      bounds = length-set w.keeper.bounds k (seat_at w k).pass.word ∙ (keeps.bounds ∙ sym (length-set w.seats k (record (seat_at w k) { found_left = (seat_at w k).has_left })));
+      bounds = length-set w.keeper.bounds k (seat_at w k).pass.word
+          ∙ (keeps.bounds ∙ sym (length-set w.seats k (looked (seat_at w k))));
       seats = λ j lt.
-          let inside : j < length w.seats = omega (arith, lt, length-set w.seats k (record (seat_at w k) { found_left = (seat_at w k).has_left })) in
+          let inside : j < length w.seats =
+          omega (arith, lt, length-set w.seats k (looked (seat_at w k))) in
           let s = keeps.seats j inside in
           elim (eqb_tells j k) [
             | inl same ↦
-                subst (λ (i : ℕ). SeatKeeps w.marked.marks w.retired w.keeper.generation (get_or (set w.keeper.bounds k (seat_at w k).pass.word) i 0) (get_or (set w.seats k (record (seat_at w k) { found_left = (seat_at w k).has_left })) i first_seat)) (sym same.1)
-                (subst (λ (b : ℕ). SeatKeeps w.marked.marks w.retired w.keeper.generation b (get_or (set w.seats k (record (seat_at w k) { found_left = (seat_at w k).has_left })) k first_seat)) (sym (get_or-set_same w.keeper.bounds k (seat_at w k).pass.word 0 (omega (arith, allowed, keeps.bounds))))
-                (subst (SeatKeeps w.marked.marks w.retired w.keeper.generation (seat_at w k).pass.word) (sym (get_or-set_same w.seats k (record (seat_at w k) { found_left = (seat_at w k).has_left }) first_seat allowed))
+                subst (λ (i : ℕ). SeatKeeps w.marked.marks w.retired w.keeper.generation
+                (get_or (set w.keeper.bounds k (seat_at w k).pass.word) i 0)
+                (get_or (set w.seats k (looked (seat_at w k))) i first_seat)) (sym same.1)
+                (subst (λ (b : ℕ). SeatKeeps w.marked.marks w.retired w.keeper.generation b
+                (get_or (set w.seats k (looked (seat_at w k))) k first_seat)) (sym
+                (get_or-set_same w.keeper.bounds k (seat_at w k).pass.word 0 (omega (arith, allowed, keeps.bounds))))
+                (subst (SeatKeeps w.marked.marks w.retired w.keeper.generation (seat_at w k).pass.word)
+                (sym (get_or-set_same w.seats k (looked (seat_at w k)) first_seat allowed))
                 (looked_keeps w k (keeps.seats k allowed))))
             | inr other ↦
-                subst (λ (b : ℕ). SeatKeeps w.marked.marks w.retired w.keeper.generation b (get_or (set w.seats k (record (seat_at w k) { found_left = (seat_at w k).has_left })) j first_seat)) (sym (get_or-set_other w.keeper.bounds k j (seat_at w k).pass.word 0 other.1))
-                (subst (SeatKeeps w.marked.marks w.retired w.keeper.generation (slice_index w.keeper.bounds j)) (sym (get_or-set_other w.seats k j (record (seat_at w k) { found_left = (seat_at w k).has_left }) first_seat other.1)) s)
+                subst (λ (b : ℕ). SeatKeeps w.marked.marks w.retired w.keeper.generation b
+                (get_or (set w.seats k (looked (seat_at w k))) j first_seat)) (sym
+                (get_or-set_other w.keeper.bounds k j (seat_at w k).pass.word 0 other.1))
+                (subst (SeatKeeps w.marked.marks w.retired w.keeper.generation (slice_index w.keeper.bounds j))
+                (sym (get_or-set_other w.seats k j (looked (seat_at w k)) first_seat other.1)) s)
           ];
     }
   where
     -- the seat that was looked at
-    looked_keeps : (w : World) (k : ℕ) → SeatKeeps w.marked.marks w.retired w.keeper.generation (slice_index w.keeper.bounds k) (seat_at w k)
-        → SeatKeeps w.marked.marks w.retired w.keeper.generation (seat_at w k).pass.word (record (seat_at w k) { found_left = (seat_at w k).has_left })
-    looked_keeps w k s = record { stands = s.stands; early = s.early; since = s.since; word = s.word; out = s.out; found = λ is. is; bound_is = s.word }
+    looked_keeps : (w : World) (k : ℕ)
+        → SeatKeeps w.marked.marks w.retired w.keeper.generation (slice_index w.keeper.bounds k) (seat_at w k)
+        → SeatKeeps w.marked.marks w.retired w.keeper.generation (seat_at w k).pass.word (looked (seat_at w k))
+    looked_keeps w k s =
+        record {
+          stands = s.stands;
+          early = s.early;
+          since = s.since;
+          word = s.word;
+          out = s.out;
+          found = λ is. is;
+          bound_is = s.word;
+        }
 
 -- nobody stands within a span that may be freed
 pub none_is_within : (w : World) (span : Span) → Keeps w → IsAllowed w (Frees span) → NoneIsWithin w span
-none_is_within w span keeps allowed = All_from w.seats (λ (seat : Seat). IfSome seat.inside (λ now. IsWithin span now.place → ⊥)) (seats_are_out w span keeps allowed)
+none_is_within w span keeps allowed =
+    All_from w.seats (λ (seat : Seat). IfSome seat.inside (λ now. IsWithin span now.place → ⊥)) (seats_are_out w span keeps allowed)
   where
     -- by the index
     All_from : (seats : List Seat) (P : Seat → Type 0) → ((k : ℕ) → k < length seats → P (get_or seats k first_seat)) → All P seats

@@ -76,7 +76,8 @@ after w (Retires base len) = record w { keeper = generation_raised w.keeper; ret
 after w (Frees span) =
     record w { marked = without_marks w.marked span.base span.length; retired = filter (λ other. not (is_same_span span other)) w.retired }
 after w (Looks k) =
-    record (with_seat w k (record (seat_at w k) { found_left = (seat_at w k).has_left })) { keeper = word_taken k (seat_at w k).pass.word w.keeper }
+    let looked = with_seat w k (record (seat_at w k) { found_left = (seat_at w k).has_left }) in
+    record looked { keeper = word_taken k (seat_at w k).pass.word w.keeper }
 
 -- the world after some events
 abbrev pub world_after : World → List Event → World

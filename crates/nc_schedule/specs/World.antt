@@ -1,5 +1,6 @@
 -- The world of a schedule: what the threads, the keeper of the generations and the writer of the text share.
-use Rattle.std.specs.Prelude.{◌≡◌, ℕ, ◌+◌, ◌%◌, ◌<◌, ◌≤◌, ◌⊎◌, Bool, true, false, ◌==◌, ◌&&◌, List, [], All, length, replicate, Option, None, IfSome}
+use Rattle.std.specs.Prelude.{◌≡◌, ℕ, ◌+◌, ◌%◌, ◌<◌, ◌≤◌, ◌⊎◌, Bool, true, false, ◌==◌, ◌&&◌, List, [], All, length, replicate, Option}
+use Rattle.std.specs.Prelude.{None, IfSome}
 use Rattle.std.specs.Prelude.{slice_index, slice_index_or}
 use Rattle.nc_decode.specs.Bundles.{IsBundleStart}
 use Rattle.nc_text.specs.Places.{limit_of}
