@@ -40,14 +40,14 @@ pub record HasReplayed {T : Type 0} (untouched : Type 0) (input left before afte
   pub seats : ℕ
   pub size : IsRegionSize bundles
   pub seats_in_range : AreSeats seats
-  pub ok : OnOk outcome (IfSome input (λ bytes. HasAnswered bundles before after (lines_of bytes)))
+  pub ok : OnOk outcome (IfSome input (λ bytes. HasAnswered bundles seats before after (lines_of bytes)))
   pub read : OnOk outcome (IsAtEnd left)
   pub write_failed : IsErrOf outcome WriteFailed
-      → IfSome input (λ bytes. IsBegun AnswersOnly (new_script bundles) before after (lines_of bytes))
+      → IfSome input (λ bytes. IsBegun AnswersOnly (new_script bundles seats) before after (lines_of bytes))
   pub read_failed : IsErrOf outcome ReadFailed → (front : List ℕ) × Consumes input left front
-      × HasAnswered bundles before after (ended_lines front)
+      × HasAnswered bundles seats before after (ended_lines front)
   pub out_of_memory : IsErrOf outcome OutOfMemory → untouched
-      ⊎ IfSome input (λ bytes. IsCutShort AnswersOnly (new_script bundles) before after (lines_of bytes))
+      ⊎ IfSome input (λ bytes. IsCutShort AnswersOnly (new_script bundles seats) before after (lines_of bytes))
 
 -- Lines of chunks were vetted, with this outcome: what `vet_lines` ensures.
 pub record HasVettedLines {T : Type 0} (unwritten : Type 0) (input left before after : Option (List ℕ))

@@ -65,7 +65,7 @@ bytes_at-itself bytes code base low high =
     ∙ ap (λ (i : ℕ). get_or code i 0) (omega arith))
 
 -- a chunk's state stays where new code lies apart from it
-state_in-apart : (bytes code : List ℕ) (base from len : ℕ) (s : ChunkState) → 0x10000 ≤ base → base + length code ≤ limit_of bytes
+pub state_in-apart : (bytes code : List ℕ) (base from len : ℕ) (s : ChunkState) → 0x10000 ≤ base → base + length code ≤ limit_of bytes
     → 0x10000 ≤ from → from + len ≤ limit_of bytes
     → (from + len ≤ base) ⊎ (base + length code ≤ from)
     → state_in (with_span bytes (base - 0x10000) code) from len s ≡ state_in bytes from len s

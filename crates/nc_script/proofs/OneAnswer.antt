@@ -1,4 +1,5 @@
 -- A line has one answer, and leads to one state.
+use Rattle.std.proofs.Common.{◌≤◌, length, slice_set, ◌^◌}
 use Rattle.std.proofs.Common.{◌≡◌, ◌≢◌, ◌++◌, ℕ, ◌<◌, List, [], ◌∷◌, Option, Some, None, inl, inr, refl, sym, ap, ◌∙◌, subst, arith, suc}
 use Rattle.std.specs.Prelude.{All, MatchOption, codes}
 use Rattle.nc_vet.specs.Faults.{HasFault}
@@ -10,12 +11,19 @@ use Rattle.nc_region.specs.Region.{Region, IsRegion}
 use Rattle.nc_region.specs.Trace.{IsTrace, IsWalkStart}
 use Rattle.nc_region.specs.declared.trace.End.{End}
 use Rattle.nc_region.proofs.OneWalk.{one_trace}
-use Rattle.nc_script.specs.Requests.{Request, Create, Walk, Dump, request_in}
+use Rattle.nc_region.specs.Patch.{AreInstructions}
+use Rattle.nc_region.specs.declared.fault.ModifyFault.{ModifyFault}
+use Rattle.nc_region.specs.declared.fault.ModifyFault.TheVariants.{BadSpan, NotLive, NotPermitted, Boundaries, PairTouched, BadTarget}
+use Rattle.nc_region.specs.declared.fault.DeleteFault.{DeleteFault}
+use Rattle.nc_region.specs.declared.fault.DeleteFault.TheVariants.{NoChunk, GensFull}
+use Rattle.nc_script.specs.Requests.{Request, Create, Modify, Delete, CheckIn, Leave, Reclaim, Walk, Dump, request_in}
 use Rattle.nc_script.specs.Lines.{bad_line}
-use Rattle.nc_script.specs.Script.{Script, ScriptChunk, IsInserted}
-use Rattle.nc_script.specs.Answers.{AnswersOnly, IsOnly, IsValidAt, Serves}
+use Rattle.nc_script.specs.Script.{Script, ScriptChunk, Seat, Staying, Left, IsInserted}
+use Rattle.nc_script.specs.Patching.{IsHeld, Replaces, IsLawfulPatch, IsRefusedPatch}
+use Rattle.nc_script.specs.Reuse.{HasLive, IsRefusedDeletion, AllStay, Stays, Allows, number_of, IsFreeingNumber, freed_by, kept_by}
+use Rattle.nc_script.specs.Answers.{AnswersOnly, IsOnly, IsSettled, IsValidAt, Serves}
 use Rattle.nc_script.specs.machinery.Session.{script_of}
-use Rattle.nc_script.specs.Replies.{reply_line, refused_reply, fault_words, walk_reply}
+use Rattle.nc_script.specs.Replies.{reply_line, refused_reply, fault_words, walk_reply, patch_words, deletion_words, freed_reply}
 use Rattle.nc_script.proofs.RegionText.{text_of-script_of}
 
 -- what holds of all chunks holds of those after the first
@@ -48,11 +56,6 @@ same_inserted chunk old new next i j =
     j.new_is ∙ (ap (λ (xs : List ScriptChunk). xs ++ chunk ∷ j.after) same.0
     ∙ (ap (λ (xs : List ScriptChunk). i.before ++ chunk ∷ xs) same.1 ∙ sym i.new_is))
 
--- two states of the same limit and chunks
-same_script : (a b : Script) → a.limit ≡ b.limit → a.chunks ≡ b.chunks → a ≡ b
-same_script a b e f =
-    ap (λ (n : ℕ). record { limit = n; chunks = a.chunks }) e ∙ ap (λ (cs : List ScriptChunk). record { limit = b.limit; chunks = cs }) f
-
 -- a valid chunk has no fault
 not_valid : (base limit : ℕ) (bytes : List ℕ) (fault : VetFault) → IsValidAt base limit bytes → HasFault base limit bytes fault
     → fault ≢ OutOfMemory → ⊥
@@ -63,7 +66,8 @@ pub create_only : (base : ℕ) (bytes : List ℕ) (old : Script) (reply : List �
     → IsOnly (Create base bytes) old reply new
 create_only base bytes old reply new (inl a) other next (inl b) = (
   b.reply_is ∙ sym a.reply_is,
-  same_script next new (b.limit ∙ sym a.limit) (same_inserted _ old.chunks new.chunks next.chunks a.inserted b.inserted),
+  b.others ∙ (ap (λ (cs : List ScriptChunk). record old { chunks = cs })
+      (same_inserted _ old.chunks new.chunks next.chunks a.inserted b.inserted) ∙ sym a.others),
 )
 create_only base bytes old reply new (inl a) other next (inr (inl b)) =
     absurd (not_valid base old.limit bytes b.fault a.valid b.has b.known)
@@ -87,37 +91,175 @@ pub dump_only : (old : Script) (reply : List ℕ) (new : Script) → Serves Dump
 dump_only old reply new a other next b = (b.0 ∙ sym a.0, b.1 ∙ sym a.1)
 
 -- a walk has one answer, since there is one trace
-pub walk_only : (region : Region) (start : ℕ) (choices places : List ℕ) (end : End) → IsRegion region.marked region.chunks
+pub walk_only : (region : Region) (seats : List Seat) (freed : ℕ) (start : ℕ) (choices places : List ℕ) (end : End)
+    → IsRegion region.marked region.chunks
     → IsWalkStart region.marked.bytes start → IsTrace region.marked.bytes start choices places end
-    → IsOnly (Walk start choices) (script_of region) (reply_line (walk_reply places end)) (script_of region)
-walk_only region start choices places end is at trace other next (inl w) =
-    let shown = subst (λ (text : List ℕ). IsTrace text start choices w.places w.end) (text_of-script_of region is) w.trace in
+    → IsOnly (Walk start choices) (script_of region seats freed) (reply_line (walk_reply places end)) (script_of region seats freed)
+walk_only region seats freed start choices places end is at trace other next (inl w) =
+    let shown = subst (λ (text : List ℕ). IsTrace text start choices w.places w.end) (text_of-script_of region seats freed is) w.trace in
     let same =
     one_trace region.marked.bytes region.marked.marks start choices places w.places end w.end is.whole.closed at trace shown in (
       w.reply_is ∙ (ap (λ (ps : List ℕ). reply_line (walk_reply ps w.end)) same.0
           ∙ ap (λ (e : End). reply_line (walk_reply places e)) same.1),
       w.same,
     )
-walk_only region start choices places end is at trace other next (inr n) =
-    absurd (n.begins_not (subst (λ (text : List ℕ). IsWalkStart text start) (sym (text_of-script_of region is)) at))
+walk_only region seats freed start choices places end is at trace other next (inr n) =
+    absurd (n.begins_not (subst (λ (text : List ℕ). IsWalkStart text start) (sym (text_of-script_of region seats freed is)) at))
 
 -- a walk from elsewhere is only refused
-pub no_start_only : (region : Region) (start : ℕ) (choices : List ℕ) → IsRegion region.marked region.chunks
+pub no_start_only : (region : Region) (seats : List Seat) (freed : ℕ) (start : ℕ) (choices : List ℕ) → IsRegion region.marked region.chunks
     → ¬ IsWalkStart region.marked.bytes start
-    → IsOnly (Walk start choices) (script_of region) (reply_line (refused_reply (codes "NotBundle"))) (script_of region)
-no_start_only region start choices is not other next (inl w) =
-    absurd (not (subst (λ (text : List ℕ). IsWalkStart text start) (text_of-script_of region is) w.begins))
-no_start_only region start choices is not other next (inr n) = (n.reply_is, n.same)
+    → IsOnly (Walk start choices) (script_of region seats freed) (reply_line (refused_reply (codes "NotBundle")))
+    (script_of region seats freed)
+no_start_only region seats freed start choices is not other next (inl w) =
+    absurd (not (subst (λ (text : List ℕ). IsWalkStart text start) (text_of-script_of region seats freed is) w.begins))
+no_start_only region seats freed start choices is not other next (inr n) = (n.reply_is, n.same)
 
--- a line that asks for this has only this answer
+-- the six refusals of a patch exclude each other, and an accepted one
+module _ (old : Script) (at : ℕ) (bytes : List ℕ) where
+  -- what is replaced is in a live chunk, and made of instructions
+  replaced_held : Replaces old at bytes → IsHeld old.chunks at
+  replaced_held r = (r.base, r.bytes, r.holds)
+
+  replaced_new : Replaces old at bytes → AreInstructions bytes
+  replaced_new r = (r.run.news, r.run.bytes)
+
+  -- a lawful patch isn't refused
+  lawful_due : IsLawfulPatch old at bytes → (fault : ModifyFault) → IsRefusedPatch old at bytes fault → ⊥
+  lawful_due p BadSpan h = h p.0
+  lawful_due p NotLive h = h.1 (replaced_held p.1.0)
+  lawful_due p NotPermitted h = h.2 (replaced_new p.1.0)
+  lawful_due p Boundaries h = h.3 p.1.0
+  lawful_due p PairTouched h = h.2 (p.1.0, p.1.1)
+  lawful_due p BadTarget h = h.2 p
+
+  -- a patch has one refusal
+  one_refusal : (f g : ModifyFault) → IsRefusedPatch old at bytes f → IsRefusedPatch old at bytes g → g ≡ f
+  one_refusal BadSpan BadSpan a b = refl
+  one_refusal BadSpan NotLive a b = absurd (a b.0)
+  one_refusal BadSpan NotPermitted a b = absurd (a b.0)
+  one_refusal BadSpan Boundaries a b = absurd (a b.0)
+  one_refusal BadSpan PairTouched a b = absurd (a b.0)
+  one_refusal BadSpan BadTarget a b = absurd (a b.0)
+  one_refusal NotLive BadSpan a b = absurd (b a.0)
+  one_refusal NotLive NotLive a b = refl
+  one_refusal NotLive NotPermitted a b = absurd (a.1 b.1)
+  one_refusal NotLive Boundaries a b = absurd (a.1 b.1)
+  one_refusal NotLive PairTouched a b = absurd (a.1 (replaced_held b.1))
+  one_refusal NotLive BadTarget a b = absurd (a.1 (replaced_held b.1.0))
+  one_refusal NotPermitted BadSpan a b = absurd (b a.0)
+  one_refusal NotPermitted NotLive a b = absurd (b.1 a.1)
+  one_refusal NotPermitted NotPermitted a b = refl
+  one_refusal NotPermitted Boundaries a b = absurd (a.2 b.2)
+  one_refusal NotPermitted PairTouched a b = absurd (a.2 (replaced_new b.1))
+  one_refusal NotPermitted BadTarget a b = absurd (a.2 (replaced_new b.1.0))
+  one_refusal Boundaries BadSpan a b = absurd (b a.0)
+  one_refusal Boundaries NotLive a b = absurd (b.1 a.1)
+  one_refusal Boundaries NotPermitted a b = absurd (b.2 a.2)
+  one_refusal Boundaries Boundaries a b = refl
+  one_refusal Boundaries PairTouched a b = absurd (a.3 b.1)
+  one_refusal Boundaries BadTarget a b = absurd (a.3 b.1.0)
+  one_refusal PairTouched BadSpan a b = absurd (b a.0)
+  one_refusal PairTouched NotLive a b = absurd (b.1 (replaced_held a.1))
+  one_refusal PairTouched NotPermitted a b = absurd (b.2 (replaced_new a.1))
+  one_refusal PairTouched Boundaries a b = absurd (b.3 a.1)
+  one_refusal PairTouched PairTouched a b = refl
+  one_refusal PairTouched BadTarget a b = absurd (a.2 b.1)
+  one_refusal BadTarget BadSpan a b = absurd (b a.0)
+  one_refusal BadTarget NotLive a b = absurd (b.1 (replaced_held a.1.0))
+  one_refusal BadTarget NotPermitted a b = absurd (b.2 (replaced_new a.1.0))
+  one_refusal BadTarget Boundaries a b = absurd (b.3 a.1.0)
+  one_refusal BadTarget PairTouched a b = absurd (b.2 a.1)
+  one_refusal BadTarget BadTarget a b = refl
+
+-- a patch has one answer
+pub modify_only : (at : ℕ) (bytes : List ℕ) (old : Script) (reply : List ℕ) (new : Script) → Serves (Modify at bytes) old reply new
+    → IsOnly (Modify at bytes) old reply new
+modify_only at bytes old reply new (inl a) other next (inl b) = (b.reply_is ∙ sym a.reply_is, b.new_is ∙ sym a.new_is)
+modify_only at bytes old reply new (inl a) other next (inr b) = absurd (lawful_due old at bytes a.lawful b.fault b.due)
+modify_only at bytes old reply new (inr a) other next (inl b) = absurd (lawful_due old at bytes b.lawful a.fault a.due)
+modify_only at bytes old reply new (inr a) other next (inr b) = (
+  b.reply_is ∙ (ap (λ (f : ModifyFault). reply_line (refused_reply (patch_words f))) (one_refusal old at bytes a.fault b.fault a.due b.due)
+      ∙ sym a.reply_is),
+  b.same ∙ sym a.same,
+)
+
+-- a chunk that can be deleted isn't refused
+deleted_due : (old : Script) (base : ℕ) → HasLive old.chunks base → old.generation < 2 ^ 62 → (fault : DeleteFault)
+    → IsRefusedDeletion old base fault → ⊥
+deleted_due old base live room NoChunk h = h live
+deleted_due old base live room GensFull h = omega (arith, room, h.1)
+
+-- a deletion has one refusal
+one_deletion_refusal : (old : Script) (base : ℕ) (f g : DeleteFault) → IsRefusedDeletion old base f → IsRefusedDeletion old base g → g ≡ f
+one_deletion_refusal old base NoChunk NoChunk a b = refl
+one_deletion_refusal old base NoChunk GensFull a b = absurd (a b.0)
+one_deletion_refusal old base GensFull NoChunk a b = absurd (b a.0)
+one_deletion_refusal old base GensFull GensFull a b = refl
+
+-- a deletion has one answer
+pub delete_only : (base : ℕ) (old : Script) (reply : List ℕ) (new : Script) → Serves (Delete base) old reply new
+    → IsOnly (Delete base) old reply new
+delete_only base old reply new (inl a) other next (inl b) = (b.reply_is ∙ sym a.reply_is, b.new_is ∙ sym a.new_is)
+delete_only base old reply new (inl a) other next (inr b) = absurd (deleted_due old base a.live a.room b.fault b.due)
+delete_only base old reply new (inr a) other next (inl b) = absurd (deleted_due old base b.live b.room a.fault a.due)
+delete_only base old reply new (inr a) other next (inr b) = (
+  b.reply_is ∙ (ap (λ (f : DeleteFault). reply_line (refused_reply (deletion_words f)))
+      (one_deletion_refusal old base a.fault b.fault a.due b.due) ∙ sym a.reply_is),
+  b.same ∙ sym a.same,
+)
+
+-- a check-in has one answer
+pub check_in_only : (seat : ℕ) (old : Script) (reply : List ℕ) (new : Script) → Serves (CheckIn seat) old reply new
+    → IsOnly (CheckIn seat) old reply new
+check_in_only seat old reply new (inl a) other next (inl b) = (b.reply_is ∙ sym a.reply_is, b.new_is ∙ sym a.new_is)
+check_in_only seat old reply new (inl a) other next (inr b) = absurd (b.none a.there)
+check_in_only seat old reply new (inr a) other next (inl b) = absurd (a.none b.there)
+check_in_only seat old reply new (inr a) other next (inr b) = (b.reply_is ∙ sym a.reply_is, b.same ∙ sym a.same)
+
+-- a leave has one answer
+pub leave_only : (seat : ℕ) (old : Script) (reply : List ℕ) (new : Script) → Serves (Leave seat) old reply new
+    → IsOnly (Leave seat) old reply new
+leave_only seat old reply new (inl a) other next (inl b) =
+    let found : Some (Staying b.number) ≡ Some (Staying a.number) = sym b.there ∙ a.there in
+    let same : b.number ≡ a.number = cc in (
+      b.reply_is ∙ sym a.reply_is,
+      b.new_is ∙ (ap (λ (n : ℕ). record old { seats = slice_set old.seats seat (Left n) }) same ∙ sym a.new_is),
+    )
+leave_only seat old reply new (inl a) other next (inr b) = absurd (b.none (a.number, a.there))
+leave_only seat old reply new (inr a) other next (inl b) = absurd (a.none (b.number, b.there))
+leave_only seat old reply new (inr a) other next (inr b) = (b.reply_is ∙ sym a.reply_is, b.same ∙ sym a.same)
+
+-- a number that frees isn't above another one, if no seat has left
+number_below : (old : Script) (a b : ℕ) → AllStay old → IsFreeingNumber old a → IsFreeingNumber old b → a ≤ b
+number_below old a b stay x y =
+    let (k, seat, inside, is, least) = y.least in
+    at_most seat (subst Stays is (stay k seat inside)) (subst (Allows a) is (x.allowed k seat inside)) least
+  where
+    at_most : (s : Seat) → Stays s → Allows a s → number_of s ≤ b → a ≤ b
+    at_most (Staying n) stays allowed least = omega (arith, allowed, least)
+    at_most (Left n) stays allowed least = absurd stays
+
+-- while no seat has left, a reclaim has one answer
+pub reclaim_only : (old : Script) (reply : List ℕ) (new : Script) → AllStay old → Serves Reclaim old reply new
+    → IsOnly Reclaim old reply new
+reclaim_only old reply new stay a other next b =
+    let up = number_below old a.a b.a stay a.number b.number in
+    let down = number_below old b.a a.a stay b.number a.number in
+    let same : b.a ≡ a.a = omega (arith, up, down) in (
+      b.reply_is ∙ (ap (λ (n : ℕ). reply_line (freed_reply (length (freed_by n old.chunks)))) same ∙ sym a.reply_is),
+      b.new_is ∙ (ap (λ (n : ℕ). record old { chunks = kept_by n old.chunks; freed = n }) same ∙ sym a.new_is),
+    )
+
+-- a line that asks for this has this answer, and only this one if it leaves nothing open
 pub line_only : (request : Request) (old new : Script) (line reply : List ℕ) → request_in line ≡ Some request
-    → Serves request old reply new → IsOnly request old reply new → AnswersOnly old line reply new
+    → Serves request old reply new → (IsSettled old line → IsOnly request old reply new) → AnswersOnly old line reply new
 line_only request old new line reply e h only =
     let Shown : Option Request → List ℕ → Script → Type 0 =
     λ r t n. MatchOption r ((t ≡ bad_line) × (n ≡ old)) (λ asked. Serves asked old t n) in
     record {
       serves = subst (λ (r : Option Request). Shown r reply new) (sym e) h;
-      only = λ other next s. only other next (subst (λ (r : Option Request). Shown r other next) e s);
+      only = λ settled other next s. only settled other next (subst (λ (r : Option Request). Shown r other next) e s);
     }
 
 -- a line that asks for nothing is only a bad line
@@ -127,5 +269,10 @@ bad_only old line e =
     λ r t n. MatchOption r ((t ≡ bad_line) × (n ≡ old)) (λ asked. Serves asked old t n) in
     record {
       serves = subst (λ (r : Option Request). Shown r bad_line old) (sym e) (refl, refl);
-      only = λ other next s. subst (λ (r : Option Request). Shown r other next) e s;
+      only = λ settled other next s. subst (λ (r : Option Request). Shown r other next) e s;
     }
+
+-- a reclaim leaves nothing open only where no seat has left
+pub settled_stays : (old : Script) (line : List ℕ) → request_in line ≡ Some Reclaim → IsSettled old line → AllStay old
+settled_stays old line e (inl other) = absurd (other e)
+settled_stays old line e (inr stay) = stay

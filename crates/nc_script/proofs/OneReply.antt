@@ -1,18 +1,62 @@
--- Lines have no other replies than those that a run wrote.
-use Rattle.std.proofs.Common.{◌≡◌, ◌++◌, ℕ, List, [], ◌∷◌, refl, sym, ap, ◌∙◌, subst, append_assoc}
+-- Lines have no other replies than those that a run wrote, as long as no seat leaves.
+use Rattle.std.proofs.Common.{◌≡◌, ◌≢◌, ◌++◌, ℕ, ◌≤◌, List, [], ◌∷◌, get_or, set, Option, Some, None, inl, inr, refl, sym, ap, ◌∙◌}
+use Rattle.std.proofs.Common.{subst, append_assoc, arith, zero, suc}
+use Rattle.std.specs.Prelude.{All, MatchOption}
 use Rattle.nc_script.specs.Answering.{AnswersLines}
-use Rattle.nc_script.specs.Answers.{ServesLine}
-use Rattle.nc_script.specs.Laws.{HasOneReply, BeginsAll}
-use Rattle.nc_script.specs.Script.{Script}
+use Rattle.nc_script.specs.Lines.{bad_line}
+use Rattle.nc_script.specs.Requests.{Request, Create, Modify, Delete, CheckIn, Leave, Reclaim, Walk, Dump, request_in}
+use Rattle.nc_script.specs.Answers.{Serves, ServesLine}
+use Rattle.nc_script.specs.Laws.{HasOneReply, BeginsAll, FreesByLeast, IsNoLeave}
+use Rattle.nc_script.specs.Reuse.{AllStay, Stays, Allows, number_of}
+use Rattle.nc_script.specs.Script.{Script, Seat, Staying, Left}
+
+-- what holds of all holds of those after the first
+tail_of : {X : Type 0} (P : X → Type 0) (x : X) (xs : List X) → All P (x ∷ xs) → All P xs
+tail_of P x xs h k d l = h (suc k) d (omega (arith, l))
+
+-- all seats stay where one of them is set to one that stays
+stay_set : (seats : List Seat) (k : ℕ) (s : Seat) → Stays s → All Stays seats → All Stays (set seats k s)
+stay_set [] k s stays all j d l = absurd (omega (arith, l))
+stay_set (x ∷ xs) zero s stays all zero d l = stays
+stay_set (x ∷ xs) zero s stays all (suc j) d l = all (suc j) d (omega (arith, l))
+stay_set (x ∷ xs) (suc k) s stays all zero d l = all 0 d (omega arith)
+stay_set (x ∷ xs) (suc k) s stays all (suc j) d l = stay_set xs k s stays (tail_of Stays x xs all) j d (omega (arith, l))
+
+-- a request that is no leave lets no seat leave
+stay_on : (request : Request) (old : Script) (reply : List ℕ) (new : Script) → ((seat : ℕ) → request ≢ Leave seat) → AllStay old
+    → Serves request old reply new → AllStay new
+stay_on (Create base bytes) old reply new not_leave stay (inl a) = subst (All Stays) (sym (ap (λ (s : Script). s.seats) a.others)) stay
+stay_on (Create base bytes) old reply new not_leave stay (inr (inl a)) = subst AllStay (sym a.same) stay
+stay_on (Create base bytes) old reply new not_leave stay (inr (inr a)) = subst AllStay (sym a.same) stay
+stay_on (Modify at bytes) old reply new not_leave stay (inl a) = subst (All Stays) (sym (ap (λ (s : Script). s.seats) a.new_is)) stay
+stay_on (Modify at bytes) old reply new not_leave stay (inr a) = subst AllStay (sym a.same) stay
+stay_on (Delete base) old reply new not_leave stay (inl a) = subst (All Stays) (sym (ap (λ (s : Script). s.seats) a.new_is)) stay
+stay_on (Delete base) old reply new not_leave stay (inr a) = subst AllStay (sym a.same) stay
+stay_on (CheckIn seat) old reply new not_leave stay (inl a) =
+    subst (All Stays) (sym (ap (λ (s : Script). s.seats) a.new_is)) (stay_set old.seats seat (Staying old.generation) tt stay)
+stay_on (CheckIn seat) old reply new not_leave stay (inr a) = subst AllStay (sym a.same) stay
+stay_on (Leave seat) old reply new not_leave stay h = absurd (not_leave seat refl)
+stay_on Reclaim old reply new not_leave stay a = subst (All Stays) (sym (ap (λ (s : Script). s.seats) a.new_is)) stay
+stay_on (Walk start choices) old reply new not_leave stay (inl a) = subst AllStay (sym a.same) stay
+stay_on (Walk start choices) old reply new not_leave stay (inr a) = subst AllStay (sym a.same) stay
+stay_on Dump old reply new not_leave stay a = subst AllStay (sym a.1) stay
+
+-- nor does a line
+stay_on_line : (asked : Option Request) (old : Script) (reply : List ℕ) (new : Script) → ((seat : ℕ) → asked ≢ Some (Leave seat))
+    → AllStay old → MatchOption asked ((reply ≡ bad_line) × (new ≡ old)) (λ request. Serves request old reply new) → AllStay new
+stay_on_line None old reply new not_leave stay h = subst AllStay (sym h.1) stay
+stay_on_line (Some request) old reply new not_leave stay h =
+    stay_on request old reply new (λ seat e. not_leave seat (ap (λ (r : Request). Some r) e)) stay h
 
 -- lines have only one list of replies, one line after the other
 pub one_text : HasOneReply
-one_text old [] reply other new next a b = (b.0 ∙ sym a.0, b.1 ∙ sym a.1)
-one_text old (line ∷ lines) reply other new next a b =
+one_text old [] reply other new next stay none a b = (b.0 ∙ sym a.0, b.1 ∙ sym a.1)
+one_text old (line ∷ lines) reply other new next stay none a b =
     let (mid, answer, rest, one, e, more) = a in
     let (also, second, others, two, f, same_so) = b in
-    let same = one.only second also two in
-    let on = one_text mid lines rest others new next more
+    let same = one.only (inr stay) second also two in
+    let still = stay_on_line (request_in line) old answer mid (none 0 line (omega arith)) stay one.serves in
+    let on = one_text mid lines rest others new next still (tail_of IsNoLeave line lines none) more
     (subst (λ (s : Script). AnswersLines ServesLine s lines others next) same.1 same_so) in
     (f ∙ (ap (λ (t : List ℕ). t ++ others) same.0 ∙ (ap (λ (t : List ℕ). answer ++ t) on.0 ∙ sym e)), on.1)
 
@@ -31,15 +75,37 @@ first_answers old (line ∷ first) others all last h =
       e ∙ (ap (λ (t : List ℕ). answer ++ t) f ∙ sym (append_assoc answer reply rest)),
     )
 
+-- what holds of all lines holds of the first of them
+first_none : (first others : List (List ℕ)) → All IsNoLeave (first ++ others) → All IsNoLeave first
+first_none [] others h k d l = absurd (omega (arith, l))
+first_none (line ∷ first) others h zero d l = h 0 d (omega arith)
+first_none (line ∷ first) others h (suc k) d l =
+    first_none first others (tail_of IsNoLeave line (first ++ others) h) k d (omega (arith, l))
+
 -- a beginning of the answers to first lines is one of all answers
 pub begins_all : BeginsAll
-begins_all old before after lines begun = record {
+begins_all old before after lines stay none begun = record {
   reply = begun.reply;
   written = begun.written;
   begins = λ all last h.
       let (mid, reply, rest, so, e) =
       first_answers old begun.first begun.others all last
       (subst (λ (ls : List (List ℕ)). AnswersLines ServesLine old ls all last) begun.split h) in
-      let same = one_text old begun.first (begun.reply ++ begun.missing) reply begun.new mid begun.runs so in
+      let none_first = first_none begun.first begun.others (subst (All IsNoLeave) begun.split none) in
+      let same = one_text old begun.first (begun.reply ++ begun.missing) reply begun.new mid stay none_first begun.runs so in
       (begun.missing ++ rest, e ∙ (ap (λ (t : List ℕ). t ++ rest) same.0 ∙ append_assoc begun.reply begun.missing rest));
 }
+
+-- a seat that stays and is there has at least the number freed by
+allows_stays : (a : ℕ) (s : Seat) → Stays s → Allows a s → a ≤ number_of s
+allows_stays a (Staying n) stays allowed = allowed
+allows_stays a (Left n) stays allowed = absurd stays
+
+-- while no seat has left, a reclaim frees by the least number
+pub frees_by_least : FreesByLeast
+frees_by_least old a stay number =
+    let above : All (λ seat. a ≤ number_of seat) old.seats = λ k d l. allows_stays a (get_or old.seats k d) (stay k d l)
+    (number.allowed k d l) in
+    let (k, seat, inside, is, least) = number.least in
+    let most : a ≤ number_of seat = subst (λ (s : Seat). a ≤ number_of s) is (above k seat inside) in
+    (above, (k, seat, inside, is, omega (arith, least, most)))

@@ -81,13 +81,14 @@ byte_in-chunks bytes at from (c ∷ rest) rising placed stops =
     (λ others. stops (λ live inside. out inside.0 (omega (arith, long, inside.1)), others)))
 
 -- so the text of the script's state is the region's
-pub text_of-script_of : (region : Region) → IsRegion region.marked region.chunks → text_of (script_of region) ≡ region.marked.bytes
-text_of-script_of region is =
+pub text_of-script_of : (region : Region) (seats : List script.Seat) (freed : ℕ) → IsRegion region.marked region.chunks
+    → text_of (script_of region seats freed) ≡ region.marked.bytes
+text_of-script_of region seats freed is =
     let bytes = region.marked.bytes in
     let n = limit_of bytes - 0x10000 in
     let same : n ≡ length bytes = omega arith in
     let chunks = map (chunk_in bytes) region.chunks in
-    ext_get_or 0 (text_of (script_of region)) bytes (length-map-range_with_len (byte_in chunks) 0x10000 n ∙ same)
+    ext_get_or 0 (text_of (script_of region seats freed)) bytes (length-map-range_with_len (byte_in chunks) 0x10000 n ∙ same)
     (λ k l.
     let inside : k < n = omega (arith, l, length-map-range_with_len (byte_in chunks) 0x10000 n) in
     get_or-map-range_with_len (byte_in chunks) 0x10000 n k (0x10000 + k) 0 inside refl

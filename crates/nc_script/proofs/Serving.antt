@@ -8,7 +8,7 @@ use Rattle.nc_text.specs.MarkedText.{with_span}
 use Rattle.nc_text.proofs.SpanElements.{length-with_span}
 use Rattle.nc_vet.specs.Chunk as vet
 use Rattle.nc_vet.specs.Chunk.{IsValid}
-use Rattle.nc_script.specs.Script.{Script, IsInserted, Live}
+use Rattle.nc_script.specs.Script.{Script, Seat, IsInserted, Live}
 use Rattle.nc_script.proofs.Creating.{occupied_meets, meets_occupied, inserted}
 use Rattle.nc_region.specs.Trace.{IsTrace, IsWalkStart}
 use Rattle.nc_region.specs.declared.trace.End.{End}
@@ -22,47 +22,63 @@ use Rattle.nc_script.specs.machinery.Session.{script_of, chunk_in}
 use Rattle.nc_script.specs.Replies.{reply_line, refused_reply, fault_words, walk_reply}
 use Rattle.nc_script.proofs.RegionText.{text_of-script_of}
 
+-- states that differ in their chunks
+pub same_but_chunks : (a b : Script) → b.limit ≡ a.limit → b.generation ≡ a.generation → b.seats ≡ a.seats → b.freed ≡ a.freed
+    → b ≡ record a { chunks = b.chunks }
+same_but_chunks a b limit generation seats freed = λ j. record {
+  limit = limit j;
+  chunks = b.chunks;
+  generation = generation j;
+  seats = seats j;
+  freed = freed j;
+}
+
 -- a valid chunk for this limit
 valid_here : (v : vet.MarkedChunk) (limit : ℕ) → v.limit ≡ limit → IsValid v → IsValidAt v.base limit v.code
 valid_here v limit e valid =
     (v.marks, subst (λ (l : ℕ). IsValid (record { base = v.base; limit = l; code = v.code; marks = v.marks })) e valid)
 
 -- a trace through the region serves a walk
-pub walk_serves : (region : Region) (start : ℕ) (choices places : List ℕ) (end : End) → IsRegion region.marked region.chunks
+pub walk_serves : (region : Region) (seats : List Seat) (freed : ℕ) (start : ℕ) (choices places : List ℕ) (end : End)
+    → IsRegion region.marked region.chunks
     → IsWalkStart region.marked.bytes start → IsTrace region.marked.bytes start choices places end
-    → Serves (Walk start choices) (script_of region) (reply_line (walk_reply places end)) (script_of region)
-walk_serves region start choices places end is at trace = inl (record {
-  begins = subst (λ (text : List ℕ). IsWalkStart text start) (sym (text_of-script_of region is)) at;
+    → Serves (Walk start choices) (script_of region seats freed) (reply_line (walk_reply places end)) (script_of region seats freed)
+walk_serves region seats freed start choices places end is at trace = inl (record {
+  begins = subst (λ (text : List ℕ). IsWalkStart text start) (sym (text_of-script_of region seats freed is)) at;
   places = places;
   end = end;
-  trace = subst (λ (text : List ℕ). IsTrace text start choices places end) (sym (text_of-script_of region is)) trace;
+  trace = subst (λ (text : List ℕ). IsTrace text start choices places end) (sym (text_of-script_of region seats freed is)) trace;
   reply_is = refl;
   same = refl;
 })
 
 -- a fault of the chunk serves its creation
-pub fault_serves : (region : Region) (base : ℕ) (bytes : List ℕ) (fault : VetFault)
+pub fault_serves : (region : Region) (seats : List Seat) (freed : ℕ) (base : ℕ) (bytes : List ℕ) (fault : VetFault)
     → HasFault base (limit_of region.marked.bytes) bytes fault → fault ≢ OutOfMemory
-    → Serves (Create base bytes) (script_of region) (reply_line (refused_reply (fault_words fault))) (script_of region)
-fault_serves region base bytes fault has known =
+    → Serves (Create base bytes) (script_of region seats freed) (reply_line (refused_reply (fault_words fault)))
+    (script_of region seats freed)
+fault_serves region seats freed base bytes fault has known =
     inr (inl (record { fault = fault; has = has; known = known; reply_is = refl; same = refl }))
 
 -- a walk from elsewhere is refused
-pub no_start_serves : (region : Region) (start : ℕ) (choices : List ℕ) → IsRegion region.marked region.chunks
+pub no_start_serves : (region : Region) (seats : List Seat) (freed : ℕ) (start : ℕ) (choices : List ℕ)
+    → IsRegion region.marked region.chunks
     → ¬ IsWalkStart region.marked.bytes start
-    → Serves (Walk start choices) (script_of region) (reply_line (refused_reply (codes "NotBundle"))) (script_of region)
-no_start_serves region start choices is not = inr (record {
-  begins_not = subst (λ (text : List ℕ). ¬ IsWalkStart text start) (sym (text_of-script_of region is)) not;
+    → Serves (Walk start choices) (script_of region seats freed) (reply_line (refused_reply (codes "NotBundle")))
+    (script_of region seats freed)
+no_start_serves region seats freed start choices is not = inr (record {
+  begins_not = subst (λ (text : List ℕ). ¬ IsWalkStart text start) (sym (text_of-script_of region seats freed is)) not;
   reply_is = refl;
   same = refl;
 })
 
 -- a chunk created in the region is one put into the script's list
-pub created_serves : (old new : Region) (v : vet.MarkedChunk) → IsRegion old.marked old.chunks → v.limit ≡ limit_of old.marked.bytes
+pub created_serves : (old new : Region) (seats : List Seat) (freed : ℕ) (v : vet.MarkedChunk) → IsRegion old.marked old.chunks
+    → v.limit ≡ limit_of old.marked.bytes
     → IsValid v
     → IsCreated old new v → ¬ Meets v.base (length v.code) old.chunks
-    → Serves (Create v.base v.code) (script_of old) (reply_line (codes "ok")) (script_of new)
-created_serves old new v is limit_is valid created apart =
+    → Serves (Create v.base v.code) (script_of old seats freed) (reply_line (codes "ok")) (script_of new seats freed)
+created_serves old new seats freed v is limit_is valid created apart =
     let text = old.marked.bytes in
     let (k, fits, listed) = created.chunks in
     let low : 0x10000 ≤ v.base = valid.base_is.1 in
@@ -73,8 +89,10 @@ created_serves old new v is limit_is valid created apart =
       valid = valid_here v (limit_of text) limit_is valid;
       free = λ taken. apart (meets_occupied text v.base (length v.code) old.chunks is.placed taken);
       reply_is = refl;
-      limit = ap limit_of bytes_are
-          ∙ ap (λ (n : ℕ). 0x10000 + n) (length-with_span text (v.base - 0x10000) v.code (omega (arith, low, high)));
+      others = same_but_chunks (script_of old seats freed) (script_of new seats freed)
+          (ap limit_of bytes_are
+          ∙ ap (λ (n : ℕ). 0x10000 + n) (length-with_span text (v.base - 0x10000) v.code (omega (arith, low, high))))
+          (ap (λ (r : Region). r.keeper.numbers.generation) created.others) refl refl;
       inserted = subst (IsInserted (record { base = v.base; state = Live v.code }) (map (chunk_in text) old.chunks))
           (ap (λ (cs : List Chunk). map (chunk_in span) cs) (sym listed) ∙ ap (λ (bs : List ℕ). map (chunk_in bs) new.chunks)
           (sym bytes_are))
@@ -82,11 +100,12 @@ created_serves old new v is limit_is valid created apart =
     })
 
 -- a chunk that meets another in the region meets one in the script
-pub crowded_serves : (old : Region) (v : vet.MarkedChunk) → IsRegion old.marked old.chunks → v.limit ≡ limit_of old.marked.bytes
+pub crowded_serves : (old : Region) (seats : List Seat) (freed : ℕ) (v : vet.MarkedChunk) → IsRegion old.marked old.chunks → v.limit
+    ≡ limit_of old.marked.bytes
     → IsValid v
     → Meets v.base (length v.code) old.chunks
-    → Serves (Create v.base v.code) (script_of old) (reply_line (refused_reply (codes "Occupied"))) (script_of old)
-crowded_serves old v is limit_is valid meets = inr (inr (record {
+    → Serves (Create v.base v.code) (script_of old seats freed) (reply_line (refused_reply (codes "Occupied"))) (script_of old seats freed)
+crowded_serves old seats freed v is limit_is valid meets = inr (inr (record {
   valid = valid_here v (limit_of old.marked.bytes) limit_is valid;
   taken = occupied_meets old.marked.bytes v.base (length v.code) old.chunks is.placed meets;
   reply_is = refl;

@@ -1,5 +1,6 @@
 -- What a script answers to a line, and its state afterwards.
-use Rattle.std.specs.Prelude.{◌≡◌, ◌≢◌, ℕ, ◌*◌, ◌+◌, ◌⊎◌, List, [], length, MatchOption, codes}
+use Rattle.std.specs.Prelude.{◌≡◌, ◌≢◌, ℕ, ◌*◌, ◌+◌, ◌^◌, ◌<◌, ◌⊎◌, List, [], length, map, replicate, MatchOption, Some, codes, slice_get}
+use Rattle.std.specs.Prelude.{slice_set}
 use Rattle.nc_decode.specs.declared.instruction.Mark.{Mark}
 use Rattle.nc_vet.specs.Chunk.{IsValid}
 use Rattle.nc_vet.specs.Faults.{HasFault}
@@ -8,9 +9,14 @@ use Rattle.nc_vet.specs.declared.fault.VetFault.TheVariants.{OutOfMemory}
 use Rattle.nc_region.specs.declared.trace.End.{End}
 use Rattle.nc_region.specs.Trace.{IsTrace, IsWalkStart}
 use Rattle.nc_script.specs.Lines.{bad_line}
-use Rattle.nc_script.specs.Requests.{Request, Create, Walk, Dump, request_in}
-use Rattle.nc_script.specs.Script.{Script, Live, text_of, IsOccupied, IsInserted}
-use Rattle.nc_script.specs.Replies.{reply_line, refused_reply, fault_words, walk_reply, dump_reply}
+use Rattle.nc_region.specs.declared.fault.ModifyFault.{ModifyFault}
+use Rattle.nc_region.specs.declared.fault.DeleteFault.{DeleteFault}
+use Rattle.nc_script.specs.Requests.{Request, Create, Modify, Delete, CheckIn, Leave, Reclaim, Walk, Dump, request_in}
+use Rattle.nc_script.specs.Script.{Script, Live, Staying, Left, text_of, IsOccupied, IsInserted}
+use Rattle.nc_script.specs.Patching.{IsLawfulPatch, IsRefusedPatch, patched_at}
+use Rattle.nc_script.specs.Reuse.{HasLive, retired_at, IsRefusedDeletion, IsThere, IsFreeingNumber, freed_by, kept_by, AllStay}
+use Rattle.nc_script.specs.Replies.{reply_line, refused_reply, fault_words, walk_reply, dump_reply, patch_words, deletion_words}
+use Rattle.nc_script.specs.Replies.{stamp_reply, freed_reply}
 
 -- the bytes are a valid chunk at this base
 abbrev pub IsValidAt : ℕ → ℕ → List ℕ → Type 0
@@ -21,7 +27,7 @@ pub record IsCreated (base : ℕ) (bytes : List ℕ) (old : Script) (reply : Lis
   pub valid : IsValidAt base old.limit bytes
   pub free : ¬ IsOccupied base (length bytes) old.chunks
   pub reply_is : reply ≡ reply_line (codes "ok")
-  pub limit : new.limit ≡ old.limit
+  pub others : new ≡ record old { chunks = new.chunks }
   pub inserted : IsInserted (record { base = base; state = Live bytes }) old.chunks new.chunks
 
 -- a chunk that isn't valid is refused with its fault
@@ -54,10 +60,68 @@ pub record IsNoStart (start : ℕ) (old : Script) (reply : List ℕ) (new : Scri
   pub reply_is : reply ≡ reply_line (refused_reply (codes "NotBundle"))
   pub same : new ≡ old
 
+-- a lawful patch is made: the new bytes stand in the chunk
+pub record IsPatched (at : ℕ) (bytes : List ℕ) (old : Script) (reply : List ℕ) (new : Script) : Type 0 where
+  pub lawful : IsLawfulPatch old at bytes
+  pub reply_is : reply ≡ reply_line (codes "ok")
+  pub new_is : new ≡ record old { chunks = map (patched_at at bytes) old.chunks }
+
+-- any other patch is refused
+pub record IsNotPatched (at : ℕ) (bytes : List ℕ) (old : Script) (reply : List ℕ) (new : Script) : Type 0 where
+  pub fault : ModifyFault
+  pub due : IsRefusedPatch old at bytes fault
+  pub reply_is : reply ≡ reply_line (refused_reply (patch_words fault))
+  pub same : new ≡ old
+
+-- a live chunk is deleted: it is retired, and its stamp is the next generation
+pub record IsDeleted (base : ℕ) (old : Script) (reply : List ℕ) (new : Script) : Type 0 where
+  pub live : HasLive old.chunks base
+  pub room : old.generation < 2 ^ 62
+  pub reply_is : reply ≡ reply_line (stamp_reply (old.generation + 1))
+  pub new_is : new ≡ record old { chunks = map (retired_at base (old.generation + 1)) old.chunks; generation = old.generation + 1 }
+
+-- any other deletion is refused
+pub record IsNotDeleted (base : ℕ) (old : Script) (reply : List ℕ) (new : Script) : Type 0 where
+  pub fault : DeleteFault
+  pub due : IsRefusedDeletion old base fault
+  pub reply_is : reply ≡ reply_line (refused_reply (deletion_words fault))
+  pub same : new ≡ old
+
+-- a seat that is there checks in: its number is the generation
+pub record IsCheckedIn (seat : ℕ) (old : Script) (reply : List ℕ) (new : Script) : Type 0 where
+  pub there : IsThere old.seats seat
+  pub reply_is : reply ≡ reply_line (codes "ok")
+  pub new_is : new ≡ record old { seats = slice_set old.seats seat (Staying old.generation) }
+
+-- a seat that is there leaves, and keeps its number
+pub record HasLeft (seat : ℕ) (old : Script) (reply : List ℕ) (new : Script) : Type 0 where
+  pub number : ℕ
+  pub there : slice_get old.seats seat ≡ Some (Staying number)
+  pub reply_is : reply ≡ reply_line (codes "ok")
+  pub new_is : new ≡ record old { seats = slice_set old.seats seat (Left number) }
+
+-- there is no such seat, or it has left
+pub record IsNoSeat (seat : ℕ) (old : Script) (reply : List ℕ) (new : Script) : Type 0 where
+  pub none : ¬ IsThere old.seats seat
+  pub reply_is : reply ≡ reply_line (refused_reply (codes "NoSeat"))
+  pub same : new ≡ old
+
+-- exactly the retired chunks with a stamp of at most the number are freed
+pub record IsReclaimed (old : Script) (reply : List ℕ) (new : Script) : Type 0 where
+  pub a : ℕ
+  pub number : IsFreeingNumber old a
+  pub reply_is : reply ≡ reply_line (freed_reply (length (freed_by a old.chunks)))
+  pub new_is : new ≡ record old { chunks = kept_by a old.chunks; freed = a }
+
 -- From old, this is an answer to the request, and new is the state after it.
 abbrev pub Serves : Request → Script → List ℕ → Script → Type 0
 Serves (Create base bytes) old reply new =
     IsCreated base bytes old reply new ⊎ (IsFaulted base bytes old reply new ⊎ IsCrowdedOut base bytes old reply new)
+Serves (Modify at bytes) old reply new = IsPatched at bytes old reply new ⊎ IsNotPatched at bytes old reply new
+Serves (Delete base) old reply new = IsDeleted base old reply new ⊎ IsNotDeleted base old reply new
+Serves (CheckIn seat) old reply new = IsCheckedIn seat old reply new ⊎ IsNoSeat seat old reply new
+Serves (Leave seat) old reply new = HasLeft seat old reply new ⊎ IsNoSeat seat old reply new
+Serves Reclaim old reply new = IsReclaimed old reply new
 Serves (Walk start choices) old reply new = IsWalked start choices old reply new ⊎ IsNoStart start old reply new
 Serves Dump old reply new = (reply ≡ reply_line (dump_reply old.chunks)) × (new ≡ old)
 
@@ -75,11 +139,23 @@ pub record ServesOnly (request : Request) (old : Script) (reply : List ℕ) (new
   pub serves : Serves request old reply new
   pub only : IsOnly request old reply new
 
--- From old, this is the answer to the line, new is the state after it, and there is no other.
+-- The line leaves nothing open: it is no reclaim, or no seat has left. (Once a seat has left, the number by which a reclaim
+-- frees depends on when the keeper sees that.)
+abbrev pub IsSettled : Script → List ℕ → Type 0
+IsSettled old line = (request_in line ≢ Some Reclaim) ⊎ AllStay old
+
+-- From old, this is an answer to the line, and new is the state after it; and there is no other, if the line leaves nothing
+-- open.
 pub record AnswersOnly (old : Script) (line reply : List ℕ) (new : Script) : Type 0 where
   pub serves : ServesLine old line reply new
-  pub only : (other : List ℕ) (next : Script) → ServesLine old line other next → (other ≡ reply) × (next ≡ new)
+  pub only : IsSettled old line → (other : List ℕ) (next : Script) → ServesLine old line other next → (other ≡ reply) × (next ≡ new)
 
--- at first there is no chunk
-abbrev pub new_script : ℕ → Script
-new_script bundles = record { limit = 0x10000 + 32 * bundles; chunks = [] }
+-- at first there is no chunk, and each seat is there; all numbers begin at 0
+abbrev pub new_script : ℕ → ℕ → Script
+new_script bundles seats = record {
+  limit = 0x10000 + 32 * bundles;
+  chunks = [];
+  generation = 0;
+  seats = replicate seats (Staying 0);
+  freed = 0;
+}

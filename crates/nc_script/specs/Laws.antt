@@ -1,9 +1,15 @@
--- Lines have no other replies than those that a run wrote.
-use Rattle.std.specs.Prelude.{◌≡◌, ◌++◌, ℕ, List, Option}
+-- Lines have no other replies than those that a run wrote, as long as no seat leaves.
+use Rattle.std.specs.Prelude.{◌≡◌, ◌≢◌, ◌++◌, ℕ, ◌≤◌, List, Option, Some, All, Any}
 use Rattle.std.specs.Io.KnownBytes.{Appends}
 use Rattle.nc_script.specs.Answering.{AnswersLines, IsBegun}
 use Rattle.nc_script.specs.Answers.{AnswersOnly, ServesLine}
+use Rattle.nc_script.specs.Requests.{Leave, request_in}
+use Rattle.nc_script.specs.Reuse.{number_of, IsFreeingNumber, AllStay}
 use Rattle.nc_script.specs.Script.{Script}
+
+-- the line asks for no leave
+abbrev pub IsNoLeave : List ℕ → Type 0
+IsNoLeave line = (seat : ℕ) → request_in line ≢ Some (Leave seat)
 
 -- what was written is a beginning of whatever answers all of these lines
 pub record IsBeginning (old : Script) (before after : Option (List ℕ)) (lines : List (List ℕ)) : Type 0 where
@@ -11,12 +17,18 @@ pub record IsBeginning (old : Script) (before after : Option (List ℕ)) (lines 
   pub written : Appends before after reply
   pub begins : (all : List ℕ) (last : Script) → AnswersLines ServesLine old lines all last → (rest : List ℕ) × (all ≡ reply ++ rest)
 
--- where each answer is the only one to its line, the lines have no other answers, and lead to no other state
+-- where no seat has left and none leaves, the lines have no other answers, and lead to no other state
 abbrev pub HasOneReply : Type 0
-HasOneReply = (old : Script) (lines : List (List ℕ)) (reply other : List ℕ) (new next : Script)
+HasOneReply = (old : Script) (lines : List (List ℕ)) (reply other : List ℕ) (new next : Script) → AllStay old → All IsNoLeave lines
     → AnswersLines AnswersOnly old lines reply new → AnswersLines ServesLine old lines other next → (other ≡ reply) × (next ≡ new)
 
 -- a beginning of such answers to some first lines is one of the answers to all lines
 abbrev pub BeginsAll : Type 0
-BeginsAll = (old : Script) (before after : Option (List ℕ)) (lines : List (List ℕ)) → IsBegun AnswersOnly old before after lines
+BeginsAll = (old : Script) (before after : Option (List ℕ)) (lines : List (List ℕ)) → AllStay old → All IsNoLeave lines
+    → IsBegun AnswersOnly old before after lines
     → IsBeginning old before after lines
+
+-- while no seat has left, the number by which a reclaim frees is the least number of all seats
+abbrev pub FreesByLeast : Type 0
+FreesByLeast = (old : Script) (a : ℕ) → AllStay old → IsFreeingNumber old a
+    → All (λ seat. a ≤ number_of seat) old.seats × Any (λ seat. number_of seat ≡ a) old.seats

@@ -3,6 +3,8 @@ pub mod Lines
 pub mod Answering
 pub mod Requests
 pub mod Script
+pub mod Patching
+pub mod Reuse
 pub mod Replies
 pub mod Answers
 pub mod Run

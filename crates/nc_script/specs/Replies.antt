@@ -9,6 +9,11 @@ use Rattle.nc_vet.specs.declared.fault.VetFault.TheVariants.{BadBase, BadLength,
 use Rattle.nc_vet.specs.declared.fault.VetFault.TheVariants.{OutOfMemory}
 use Rattle.nc_region.specs.declared.trace.End.{End}
 use Rattle.nc_region.specs.declared.trace.End.TheVariants.{Stop, Trampoline, Beyond, More}
+use Rattle.nc_region.specs.declared.fault.ModifyFault.{ModifyFault}
+use Rattle.nc_region.specs.declared.fault.ModifyFault.TheVariants as patch
+use Rattle.nc_region.specs.declared.fault.ModifyFault.TheVariants.{BadSpan, NotLive, Boundaries, PairTouched}
+use Rattle.nc_region.specs.declared.fault.DeleteFault.{DeleteFault}
+use Rattle.nc_region.specs.declared.fault.DeleteFault.TheVariants.{NoChunk, GensFull}
 use Rattle.nc_script.specs.Script.{State, Live, Retired, ScriptChunk}
 
 -- a reply and its end
@@ -50,6 +55,28 @@ fault_words (Crosses at) = codes "Crosses " ++ address_digits at
 fault_words (Bare at) = codes "Bare " ++ address_digits at
 fault_words (BadTarget at) = codes "BadTarget " ++ address_digits at
 fault_words OutOfMemory = codes "OutOfMemory"
+
+-- the name of a patch's refusal
+abbrev pub patch_words : ModifyFault → List ℕ
+patch_words BadSpan = codes "BadSpan"
+patch_words NotLive = codes "NotLive"
+patch_words patch.NotPermitted = codes "NotPermitted"
+patch_words Boundaries = codes "Boundaries"
+patch_words PairTouched = codes "PairTouched"
+patch_words patch.BadTarget = codes "BadTarget"
+
+-- the name of a deletion's refusal
+abbrev pub deletion_words : DeleteFault → List ℕ
+deletion_words NoChunk = codes "NoChunk"
+deletion_words GensFull = codes "GensFull"
+
+-- the stamp of a deleted chunk
+abbrev pub stamp_reply : ℕ → List ℕ
+stamp_reply stamp = codes "stamp " ++ decimal stamp
+
+-- how many chunks were freed
+abbrev pub freed_reply : ℕ → List ℕ
+freed_reply count = codes "freed " ++ decimal count
 
 -- how a walk ended
 abbrev pub end_word : End → List ℕ

@@ -1,5 +1,7 @@
 -- What a line asks for, and what its words spell.
-use Rattle.std.specs.Prelude.{ℕ, Bool, ◌==◌, ◌&&◌, List, [], ◌∷◌, Option, Some, None, if◌then◌else◌, length, slice_index, codes, nat_eq}
+use Rattle.std.specs.Prelude.{ℕ, ◌+◌, ◌-◌, ◌*◌, Bool, ◌==◌, ◌&&◌, List, [], ◌∷◌, Option, Some, None, if◌then◌else◌, length, slice_index}
+use Rattle.std.specs.Prelude.{codes}
+use Rattle.std.specs.Prelude.{nat_eq, nat_le}
 use Rattle.std.specs.Cmp.Lexicographic.{pointwise}
 use Rattle.std.specs.Option.{option_map, option_and_then}
 use Rattle.std.specs.Result.{result_ok}
@@ -10,6 +12,11 @@ use Rattle.nc_script.specs.Lines.{words_in, is_long}
 -- what a line of a script asks for
 pub data Request : Type 0 where
   Create : (at : ℕ) (bytes : List ℕ) → Request
+  Modify : (at : ℕ) (bytes : List ℕ) → Request
+  Delete : (base : ℕ) → Request
+  CheckIn : (seat : ℕ) → Request
+  Leave : (seat : ℕ) → Request
+  Reclaim : Request
   Walk : (start : ℕ) (choices : List ℕ) → Request
   Dump : Request
 
@@ -29,6 +36,21 @@ abbrev pub addresses_in : List (List ℕ) → Option (List ℕ)
 addresses_in [] = Some []
 addresses_in (word ∷ words) = option_and_then (λ a. option_map (λ rest. a ∷ rest) (addresses_in words)) (address_in word)
 
+-- the value of a decimal digit
+abbrev pub digit_in : ℕ → Option ℕ
+digit_in b = if nat_le 48 b && nat_le b 57 then Some (b - 48) else None
+
+-- a digit after others, whose value is given
+abbrev pub next_digit : Option ℕ → ℕ → Option ℕ
+next_digit value b = option_and_then (λ high. option_map (λ low. 10 * high + low) (digit_in b)) value
+
+-- a seat: one to three decimal digits
+abbrev pub seat_in : List ℕ → Option ℕ
+seat_in (a ∷ []) = digit_in a
+seat_in (a ∷ b ∷ []) = next_digit (digit_in a) b
+seat_in (a ∷ b ∷ c ∷ []) = next_digit (next_digit (digit_in a) b) c
+seat_in _ = None
+
 -- the word is spelled so
 abbrev pub is_word : List ℕ → List ℕ → Bool
 is_word word spelling = pointwise nat_eq word spelling
@@ -46,6 +68,20 @@ chunk_in line = if is_long line then None else placed_in (words_in line)
 abbrev pub create_in : List (List ℕ) → Option Request
 create_in words = option_map (λ placed. Create placed.0 placed.1) (placed_in words)
 
+-- what follows the word `modify`: an address and bytes
+abbrev pub modify_in : List (List ℕ) → Option Request
+modify_in words = option_map (λ placed. Modify placed.0 placed.1) (placed_in words)
+
+-- what follows the word `delete`: an address
+abbrev pub delete_in : List (List ℕ) → Option Request
+delete_in (base ∷ []) = option_map Delete (address_in base)
+delete_in _ = None
+
+-- what follows the word `checkin` or `leave`: a seat
+abbrev pub of_seat_in : (ℕ → Request) → List (List ℕ) → Option Request
+of_seat_in request (seat ∷ []) = option_map request (seat_in seat)
+of_seat_in request _ = None
+
 -- what follows the word `walk`: an address and any number of choices
 abbrev pub walk_in : List (List ℕ) → Option Request
 walk_in (start ∷ choices) = option_and_then (λ a. option_map (Walk a) (addresses_in choices)) (address_in start)
@@ -61,6 +97,11 @@ abbrev pub request_of : List (List ℕ) → Option Request
 request_of [] = None
 request_of (word ∷ words) =
     if is_word word (codes "create") then create_in words
+    else if is_word word (codes "modify") then modify_in words
+    else if is_word word (codes "delete") then delete_in words
+    else if is_word word (codes "checkin") then of_seat_in CheckIn words
+    else if is_word word (codes "leave") then of_seat_in Leave words
+    else if is_word word (codes "reclaim") then single_in Reclaim words
     else if is_word word (codes "walk") then walk_in words
     else if is_word word (codes "dump") then single_in Dump words
     else None

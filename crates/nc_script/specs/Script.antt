@@ -1,4 +1,4 @@
--- The state of a script: the region's limit and the list of its chunks.
+-- The state of a script: the region's limit, the list of its chunks, the generation, and the seats of its threads.
 use Rattle.std.specs.Prelude.{◌≡◌, ℕ, ◌+◌, ◌-◌, ◌<◌, Bool, ◌&&◌, nat_le, nat_lt, if◌then◌else◌, List, [], ◌∷◌, ◌++◌, length, map}
 use Rattle.std.specs.Prelude.{replicate, slice_index, All, Any}
 use Rattle.std.specs.List.{range_with_len}
@@ -13,10 +13,20 @@ pub record ScriptChunk : Type 0 where
   pub base : ℕ
   pub state : State
 
--- what answers depend on; the chunks stand by rising base
+-- A seat that is there, or that has left, with its number: the generation that stood at its last check-in, 0 if it has
+-- none.
+pub data Seat : Type 0 where
+  Staying : (number : ℕ) → Seat
+  Left : (number : ℕ) → Seat
+
+-- What answers depend on. The chunks stand by rising base; `freed` is the number by which the last reclaim freed chunks,
+-- at first 0.
 pub record Script : Type 0 where
   pub limit : ℕ
   pub chunks : List ScriptChunk
+  pub generation : ℕ
+  pub seats : List Seat
+  pub freed : ℕ
 
 -- the bytes that stand in a chunk's span
 abbrev pub bytes_of : State → List ℕ

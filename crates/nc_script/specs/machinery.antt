@@ -2,4 +2,5 @@
 pub mod Progress
 pub mod Batch
 pub mod Session
+pub mod Seats
 pub mod Shown

@@ -7,9 +7,9 @@ ghost use Rattle.nc_text.specs.Places.{limit_of};
 ghost use Rattle.nc_vet.specs.declared.fault.VetFault.TheVariants as vet;
 ghost use Rattle.nc_script.specs.machinery.Session.{bytes_at, chunk_in};
 ghost use Rattle.nc_script.specs.Replies.{address_digits, places_words, reply_line, refused_reply, fault_words, end_word, walk_reply};
-ghost use Rattle.nc_script.specs.Replies.{chunk_words};
+ghost use Rattle.nc_script.specs.Replies.{chunk_words, patch_words, deletion_words, stamp_reply, freed_reply};
 
-use nc_region::{Chunk, ChunkState, End, Region, Trace};
+use nc_region::{Chunk, ChunkState, DeleteFault, End, ModifyFault, Region, Trace};
 use nc_vet::VetFault;
 use std::alloc::{AllocError, Global};
 
@@ -80,6 +80,50 @@ pub(crate) fn push_fault(out: &mut Vec<u8>, fault: VetFault) -> Result<(), Alloc
 {
     out.extend_from_slice(b"refused ")?;
     push_name(out, fault)?;
+    out.push(b'\n')?;
+    Ok(())
+}
+
+/// Adds the answer to a patch that is refused.
+pub(crate) fn push_patch_fault(out: &mut Vec<u8>, fault: ModifyFault) -> Result<(), AllocError>
+    ensures { OnOk result (out.new.items ≡ out.old.items ++ reply_line (refused_reply (patch_words fault))) }
+{
+    match fault {
+        ModifyFault::BadSpan => out.extend_from_slice(b"refused BadSpan\n"),
+        ModifyFault::NotLive => out.extend_from_slice(b"refused NotLive\n"),
+        ModifyFault::NotPermitted => out.extend_from_slice(b"refused NotPermitted\n"),
+        ModifyFault::Boundaries => out.extend_from_slice(b"refused Boundaries\n"),
+        ModifyFault::PairTouched => out.extend_from_slice(b"refused PairTouched\n"),
+        ModifyFault::BadTarget => out.extend_from_slice(b"refused BadTarget\n"),
+    }
+}
+
+/// Adds the answer to a deletion that is refused.
+pub(crate) fn push_delete_fault(out: &mut Vec<u8>, fault: DeleteFault) -> Result<(), AllocError>
+    ensures { OnOk result (out.new.items ≡ out.old.items ++ reply_line (refused_reply (deletion_words fault))) }
+{
+    match fault {
+        DeleteFault::NoChunk => out.extend_from_slice(b"refused NoChunk\n"),
+        DeleteFault::GensFull => out.extend_from_slice(b"refused GensFull\n"),
+    }
+}
+
+/// Adds the stamp of a chunk that was deleted.
+pub(crate) fn push_stamp(alloc: Global, out: &mut Vec<u8>, stamp: u64) -> Result<(), AllocError>
+    ensures { OnOk result (out.new.items ≡ out.old.items ++ reply_line (stamp_reply stamp)) }
+{
+    out.extend_from_slice(b"stamp ")?;
+    push_number(alloc, out, stamp)?;
+    out.push(b'\n')?;
+    Ok(())
+}
+
+/// Adds how many chunks were freed.
+pub(crate) fn push_freed(alloc: Global, out: &mut Vec<u8>, count: u32) -> Result<(), AllocError>
+    ensures { OnOk result (out.new.items ≡ out.old.items ++ reply_line (freed_reply count)) }
+{
+    out.extend_from_slice(b"freed ")?;
+    push_number(alloc, out, u64::from(count))?;
     out.push(b'\n')?;
     Ok(())
 }

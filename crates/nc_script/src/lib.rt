@@ -16,6 +16,7 @@ mod output;
 mod replay;
 mod request;
 mod responder;
+mod seats;
 mod session;
 mod stream;
 mod verdicts;

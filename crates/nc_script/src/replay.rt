@@ -7,7 +7,7 @@ ghost use Rattle.nc_decode.specs.Bundles.{IsRegionSize};
 ghost use Rattle.nc_script.specs.Lines.{lines_of, ended_lines};
 ghost use Rattle.nc_script.specs.Answering.{IsBegun, IsCutShort};
 ghost use Rattle.nc_script.specs.Answers.{AnswersOnly, new_script};
-ghost use Rattle.nc_script.specs.Laws.{BeginsAll, HasOneReply};
+ghost use Rattle.nc_script.specs.Laws.{BeginsAll, HasOneReply, FreesByLeast};
 ghost use Rattle.nc_script.specs.Run.{HasAnswered};
 
 use crate::fault::ReplayFault;
@@ -22,9 +22,11 @@ use std::io::{Read, Write};
 /// answer to each as soon as its end was read.
 ///
 /// A line ends at a byte 0A or at the end of the input. `create` with an address and bytes vets a chunk and creates it,
-/// `walk` with an address and choices shows the places of a walk and its end, and `dump` shows every chunk. Every other
-/// line, and each of more than 1,048,576 bytes, is answered as a bad line. What is promised of bytes holds of a reader
-/// and a writer that tell theirs; nothing is promised of when a device fails.
+/// `modify` with an address and bytes replaces instructions of a chunk, `delete` with an address retires a chunk, `checkin`
+/// and `leave` with a seat are what the seat's thread does, `reclaim` frees the chunks that no thread can stand in any
+/// more, `walk` with an address and choices shows the places of a walk and its end, and `dump` shows every chunk. Every
+/// other line, and each of more than 1,048,576 bytes, is answered as a bad line. What is promised of bytes holds of a
+/// reader and a writer that tell theirs; nothing is promised of when a device fails.
 pub fn run<R: Read, W: Write>(
     alloc: Global,
     reader: &mut R,
@@ -40,22 +42,22 @@ pub fn run<R: Read, W: Write>(
 
     // The whole input was read, and exactly its answers were written.
     ensures ok { OnOk result (IfSome (R.remaining reader.old) (λ input.
-        HasAnswered bundles (W.contents writer.old) (W.contents writer.new) (lines_of input))) }
+        HasAnswered bundles seats (W.contents writer.old) (W.contents writer.new) (lines_of input))) }
     ensures read { OnOk result (IsAtEnd (R.remaining reader.new)) }
 
     // A beginning of the answers was written.
     ensures write_failed { IsErrOf result ReplayFault.WriteFailed → IfSome (R.remaining reader.old) (λ input.
-        IsBegun AnswersOnly (new_script bundles) (W.contents writer.old) (W.contents writer.new) (lines_of input)) }
+        IsBegun AnswersOnly (new_script bundles seats) (W.contents writer.old) (W.contents writer.new) (lines_of input)) }
 
     // The answers to all lines whose end was read were written.
     ensures read_failed { IsErrOf result ReplayFault.ReadFailed → (front : List ℕ)
         × Consumes (R.remaining reader.old) (R.remaining reader.new) front
-        × HasAnswered bundles (W.contents writer.old) (W.contents writer.new) (ended_lines front) }
+        × HasAnswered bundles seats (W.contents writer.old) (W.contents writer.new) (ended_lines front) }
 
     // The answers to all lines before the one that failed were written, or there was no memory for the region.
     ensures out_of_memory { IsErrOf result ReplayFault.OutOfMemory
         → ((reader.new ≡ reader.old) × (writer.new ≡ writer.old)) ⊎ IfSome (R.remaining reader.old) (λ input.
-        IsCutShort AnswersOnly (new_script bundles) (W.contents writer.old) (W.contents writer.new) (lines_of input)) }
+        IsCutShort AnswersOnly (new_script bundles seats) (W.contents writer.old) (W.contents writer.new) (lines_of input)) }
 {
     if !is_region_size(bundles) {
         return Err(ReplayFault::BadSize);
@@ -63,18 +65,20 @@ pub fn run<R: Read, W: Write>(
     if seats == 0 || seats as usize > MOST_SEATS {
         return Err(ReplayFault::BadSeats);
     }
-    let Ok((gens, keeper, _passes)) = Gens::new(alloc, seats) else {
+    let Ok((gens, keeper, passes)) = Gens::new(alloc, seats) else {
         return Err(ReplayFault::OutOfMemory);
     };
-    match Session::new(alloc, bundles, &gens, keeper) {
+    match Session::new(alloc, bundles, &gens, keeper, passes) {
         Ok(mut session) => answer_all(alloc, &mut session, reader, writer),
         Err(_) => Err(ReplayFault::OutOfMemory),
     }
 }
 
-/// What makes the answers of a run the script's own: lines have no other answers than those that a run wrote, and what
-/// it wrote of some is a beginning of the answers to all. It does nothing when it is called.
+/// What makes the answers of a run the script's own, as long as no seat leaves: lines have no other answers than those
+/// that a run wrote, and what it wrote of some is a beginning of the answers to all; and a reclaim frees by the least
+/// number of all seats. It does nothing when it is called.
 pub fn law_of_answers()
     ensures one_text { HasOneReply }
     ensures begins_all { BeginsAll }
+    ensures least { FreesByLeast }
 {}

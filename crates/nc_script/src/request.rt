@@ -2,11 +2,13 @@
 
 ghost use Rattle.std.specs.Prelude.{◌≡◌, ℕ, IfOk, map, Some, None, ◌∷◌};
 ghost use Rattle.std.specs.Option.{option_map};
-ghost use Rattle.nc_script.specs.Requests.{request_in, placed_in, chunk_in, create_in, walk_in, addresses_in, single_in};
+ghost use Rattle.nc_script.specs.Requests.{request_in, placed_in, chunk_in, create_in, modify_in, delete_in, of_seat_in, walk_in};
+ghost use Rattle.nc_script.specs.Requests.{addresses_in, single_in};
+ghost use Rattle.nc_script.specs.Requests as spec;
 ghost use Rattle.nc_script.specs.machinery.Shown.{shown, plain};
 
 use crate::lines::LINE_LIMIT;
-use crate::words::{address_of, bytes_of, words_of};
+use crate::words::{address_of, bytes_of, seat_of, words_of};
 use std::alloc::{AllocError, Global};
 
 /// What a line asks for.
@@ -14,6 +16,16 @@ use std::alloc::{AllocError, Global};
 pub(crate) enum Request {
     /// A chunk of these bytes at this address.
     Create { at: u32, bytes: Vec<u8> },
+    /// Instructions of these bytes in the place of those at this address.
+    Modify { at: u32, bytes: Vec<u8> },
+    /// The deletion of the chunk of this base.
+    Delete { base: u32 },
+    /// A check-in of this seat's thread.
+    CheckIn { seat: u32 },
+    /// That this seat's thread leaves for good.
+    Leave { seat: u32 },
+    /// The spans of deleted chunks, as far as every seat has checked in since.
+    Reclaim,
     /// A walk from this address, which uses up one choice at each instruction.
     Walk { start: u32, choices: Vec<u32> },
     /// The list of all chunks.
@@ -59,6 +71,55 @@ fn create_of(alloc: Global, words: &[&[u8]]) -> Result<Option<Request>, AllocErr
     match placed_of(alloc, words)? {
         Some((at, bytes)) => Ok(Some(Request::Create { at, bytes })),
         None => Ok(None),
+    }
+}
+
+/// What follows the word `modify`.
+fn modify_of(alloc: Global, words: &[&[u8]]) -> Result<Option<Request>, AllocError>
+    ensures { IfOk result (λ found. option_map shown found ≡ modify_in (map (λ word. word.now) words.now)) }
+{
+    match placed_of(alloc, words)? {
+        Some((at, bytes)) => Ok(Some(Request::Modify { at, bytes })),
+        None => Ok(None),
+    }
+}
+
+/// What follows the word `delete`.
+fn delete_of(words: &[&[u8]]) -> Option<Request>
+    ensures { option_map shown result ≡ delete_in (map (λ word. word.now) words.now) }
+{
+    match words {
+        [base] => match address_of(base) {
+            Some(base) => Some(Request::Delete { base }),
+            None => None,
+        },
+        _ => None,
+    }
+}
+
+/// What follows the word `checkin`.
+fn check_in_of(words: &[&[u8]]) -> Option<Request>
+    ensures { option_map shown result ≡ of_seat_in spec.CheckIn (map (λ word. word.now) words.now) }
+{
+    match words {
+        [seat] => match seat_of(seat) {
+            Some(seat) => Some(Request::CheckIn { seat }),
+            None => None,
+        },
+        _ => None,
+    }
+}
+
+/// What follows the word `leave`.
+fn leave_of(words: &[&[u8]]) -> Option<Request>
+    ensures { option_map shown result ≡ of_seat_in spec.Leave (map (λ word. word.now) words.now) }
+{
+    match words {
+        [seat] => match seat_of(seat) {
+            Some(seat) => Some(Request::Leave { seat }),
+            None => None,
+        },
+        _ => None,
     }
 }
 
@@ -116,6 +177,21 @@ pub(crate) fn request_of(alloc: Global, line: &[u8]) -> Result<Option<Request>, 
     };
     if *key == b"create".as_slice() {
         return create_of(alloc, rest);
+    }
+    if *key == b"modify".as_slice() {
+        return modify_of(alloc, rest);
+    }
+    if *key == b"delete".as_slice() {
+        return Ok(delete_of(rest));
+    }
+    if *key == b"checkin".as_slice() {
+        return Ok(check_in_of(rest));
+    }
+    if *key == b"leave".as_slice() {
+        return Ok(leave_of(rest));
+    }
+    if *key == b"reclaim".as_slice() {
+        return Ok(single_of(Request::Reclaim, rest));
     }
     if *key == b"walk".as_slice() {
         return walk_of(alloc, rest);

@@ -1,65 +1,98 @@
 //! Answers to a script's lines by the calls of a region.
 
-ghost use Rattle.std.specs.Prelude.{◌≡◌, ◌++◌, List, ℕ, OnOk, IfOk, ◌↔◌, ◌⊎◌, ◌<◌};
-ghost use Rattle.nc_script.specs.Requests.{Create, Walk, Dump};
-ghost use Rattle.nc_script.specs.Answers.{AnswersOnly, Serves, ServesOnly, new_script};
-ghost use Rattle.nc_script.specs.machinery.Session.{script_of};
+ghost use Rattle.std.specs.Prelude.{◌≡◌, ◌++◌, List, ℕ, OnOk, IfOk, ◌<◌, replicate, length};
+ghost use Rattle.nc_gens.specs.Seen.{AreSeats, first_keeper, first_passes};
+ghost use Rattle.nc_script.specs.Requests.{Create, Modify, Delete, CheckIn, Leave, Reclaim, Walk, Dump};
+ghost use Rattle.nc_script.specs.Answers.{new_script};
+ghost use Rattle.nc_script.specs.Script.{Staying};
+ghost use Rattle.nc_script.specs.machinery.Session.{script_of, Fits, Follows, FollowsIn, FollowsLine, WalksOnly};
 
-use crate::answer::{push_chunk, push_fault, push_trace};
+use crate::answer::{
+    push_chunk, push_delete_fault, push_fault, push_freed, push_patch_fault, push_stamp, push_trace,
+};
 use crate::request::{Request, request_of};
 use crate::responder::Responder;
-use nc_gens::{Gens, Keeper};
-use nc_region::{CreateFault, Region, RegionFault, WalkFault};
+use crate::seats::Seats;
+use nc_gens::{Gens, Keeper, Pass};
+use nc_region::{CreateFault, Region, WalkFault};
 use nc_vet::vet;
 use std::alloc::{AllocError, Global};
 use std::marker::Model;
 
-/// A region, and what answers a script's lines by its calls. Contracts see it as the state of the script.
+/// A region and its threads' seats, and what answers a script's lines by their calls.
 #[derive(Drop)]
 pub struct Session<'g> {
     alloc: Global,
     region: Region<'g>,
+    seats: Seats<'g>,
 }
 
 impl<'g> Model for Session<'g> {
-    ghost use Rattle.nc_script.specs.Script.{Script};
-    ghost use Rattle.nc_script.specs.machinery.Session.{script_of};
+    ghost use Rattle.std.specs.Prelude.{◌≡◌};
+    ghost use Rattle.nc_script.specs.machinery.Session.{SessionState};
 
-    ghost Value = { Script };
+    ghost Value = { SessionState };
 
-    ghost view = { λ s. script_of s.region };
+    ghost view = { λ s. record { region = s.region; seats = s.seats } };
+
+    ghost invariant = { λ s. s.region.keeper.table ≡ s.seats.table };
 }
 
 impl<'g> Session<'g> {
-    /// A script over a new region of this many bundles, whose deletions draw their stamps from this table.
+    /// A script over a new region of this many bundles, whose deletions draw their stamps from this table, and whose threads
+    /// hold these passes.
     pub fn new(
         alloc: Global,
         bundles: u32,
         gens: &'g Gens,
         keeper: Keeper,
-    ) -> Result<Session<'g>, RegionFault>
-        requires { keeper.table ≡ gens.now }
-        ensures script { IfOk result (λ s. s ≡ new_script bundles) }
+        passes: Vec<Pass>,
+    ) -> Result<Session<'g>, AllocError>
+        requires seats { AreSeats (length passes.items) }
+        requires keeper { keeper ≡ first_keeper gens.now (length passes.items) }
+        requires passes { passes.items ≡ first_passes gens.now (length passes.items) }
+        ensures script { IfOk result (λ s. script_of s.region (replicate (length passes.items) (Staying 0)) 0
+            ≡ new_script bundles (length passes.items)) }
+        ensures fits { IfOk result (λ s. Fits s (replicate (length passes.items) (Staying 0)) 0) }
     {
+        let seats = Seats::new(alloc, gens, passes)?;
         match Region::new(alloc, bundles, gens, keeper) {
-            Ok(region) => Ok(Session { alloc, region }),
-            Err((_keeper, fault)) => Err(fault),
+            Ok(region) => Ok(Session {
+                alloc,
+                region,
+                seats,
+            }),
+            Err(_) => Err(AllocError),
         }
     }
 }
 
 impl<'g> Responder for Session<'g> {
-    ghost answers = { AnswersOnly };
+    ghost answers = { FollowsLine };
 
     fn answer(&mut self, kept: &[u8], out: &mut Vec<u8>) -> Result<(), AllocError> {
+        let alloc = self.alloc;
         match request_of(self.alloc, kept)? {
             Some(Request::Create { at, bytes }) => {
                 answer_create(&mut self.region, at, bytes, out)
             }
+            Some(Request::Modify { at, bytes }) => {
+                answer_modify(&mut self.region, at, &bytes, out)
+            }
+            Some(Request::Delete { base }) => answer_delete(alloc, &mut self.region, base, out),
+            Some(Request::CheckIn { seat }) => {
+                answer_check_in(&mut self.region, &mut self.seats, seat, out)
+            }
+            Some(Request::Leave { seat }) => {
+                answer_leave(&self.region, &mut self.seats, seat, out)
+            }
+            Some(Request::Reclaim) => {
+                answer_reclaim(alloc, &mut self.region, &mut self.seats, out)
+            }
             Some(Request::Walk { start, choices }) => {
                 answer_walk(&self.region, start, &choices, out)
             }
-            Some(Request::Dump) => answer_dump(self.alloc, &self.region, out),
+            Some(Request::Dump) => answer_dump(alloc, &self.region, out),
             None => out.extend_from_slice(b"bad line\n"),
         }
     }
@@ -72,8 +105,9 @@ fn answer_create(
     bytes: Vec<u8>,
     out: &mut Vec<u8>,
 ) -> Result<(), AllocError>
-    ensures { OnOk result ((reply : List ℕ) × (out.new.items ≡ out.old.items ++ reply)
-        × Serves (Create base bytes.items) (script_of region.old) reply (script_of region.new)) }
+    ensures follows { OnOk result ((reply : List ℕ) × (out.new.items ≡ out.old.items ++ reply)
+        × FollowsIn (Create base bytes.items) region.old reply region.new) }
+    ensures keeper { region.new.keeper ≡ region.old.keeper }
 {
     let limit = region.limit();
     let vetted = match vet(base, limit, bytes) {
@@ -89,6 +123,101 @@ fn answer_create(
     }
 }
 
+/// Replaces instructions of a live chunk.
+fn answer_modify(
+    region: &mut Region,
+    at: u32,
+    bytes: &[u8],
+    out: &mut Vec<u8>,
+) -> Result<(), AllocError>
+    ensures follows { OnOk result ((reply : List ℕ) × (out.new.items ≡ out.old.items ++ reply)
+        × FollowsIn (Modify at bytes.now) region.old reply region.new) }
+    ensures keeper { region.new.keeper ≡ region.old.keeper }
+{
+    // Called for what it ensures.
+    let _facts = region.limit();
+    match region.modify(at, bytes) {
+        Ok(()) => out.extend_from_slice(b"ok\n"),
+        Err(fault) => push_patch_fault(out, fault),
+    }
+}
+
+/// Deletes a live chunk.
+fn answer_delete(
+    alloc: Global,
+    region: &mut Region,
+    base: u32,
+    out: &mut Vec<u8>,
+) -> Result<(), AllocError>
+    ensures follows { OnOk result ((reply : List ℕ) × (out.new.items ≡ out.old.items ++ reply)
+        × FollowsIn (Delete base) region.old reply region.new) }
+    ensures table { region.new.keeper.table ≡ region.old.keeper.table }
+{
+    // Called for what it ensures.
+    let _facts = region.limit();
+    match region.delete(base) {
+        Ok(stamp) => push_stamp(alloc, out, stamp),
+        Err(fault) => push_delete_fault(out, fault),
+    }
+}
+
+/// A seat checks in.
+fn answer_check_in(
+    region: &mut Region,
+    seats: &mut Seats<'_>,
+    seat: u32,
+    out: &mut Vec<u8>,
+) -> Result<(), AllocError>
+    requires { region.old.keeper.table ≡ seats.old.table }
+    ensures follows { OnOk result ((reply : List ℕ) × (out.new.items ≡ out.old.items ++ reply)
+        × Follows (CheckIn seat) (record { region = region.old; seats = seats.old }) reply
+        (record { region = region.new; seats = seats.new })) }
+    ensures table { region.new.keeper.table ≡ seats.new.table }
+{
+    if seats.check_in(region, seat as usize) {
+        out.extend_from_slice(b"ok\n")
+    } else {
+        out.extend_from_slice(b"refused NoSeat\n")
+    }
+}
+
+/// A seat leaves for good.
+fn answer_leave(
+    region: &Region,
+    seats: &mut Seats<'_>,
+    seat: u32,
+    out: &mut Vec<u8>,
+) -> Result<(), AllocError>
+    ensures follows { OnOk result ((reply : List ℕ) × (out.new.items ≡ out.old.items ++ reply)
+        × Follows (Leave seat) (record { region = region.now; seats = seats.old }) reply
+        (record { region = region.now; seats = seats.new })) }
+    ensures table { seats.new.table ≡ seats.old.table }
+{
+    if seats.leave(seat as usize) {
+        out.extend_from_slice(b"ok\n")
+    } else {
+        out.extend_from_slice(b"refused NoSeat\n")
+    }
+}
+
+/// Frees the spans of deleted chunks, as far as the seats let it. The keeper meets every seat afterwards, which shows by
+/// which number it freed.
+fn answer_reclaim(
+    alloc: Global,
+    region: &mut Region,
+    seats: &mut Seats<'_>,
+    out: &mut Vec<u8>,
+) -> Result<(), AllocError>
+    requires { region.old.keeper.table ≡ seats.old.table }
+    ensures follows { OnOk result ((reply : List ℕ) × (out.new.items ≡ out.old.items ++ reply)
+        × Follows Reclaim (record { region = region.old; seats = seats.old }) reply (record { region = region.new; seats = seats.new })) }
+    ensures table { region.new.keeper.table ≡ seats.new.table }
+{
+    let count = region.reclaim();
+    seats.meet(region);
+    push_freed(alloc, out, count)
+}
+
 /// Walks through the region.
 fn answer_walk(
     region: &Region,
@@ -97,7 +226,7 @@ fn answer_walk(
     out: &mut Vec<u8>,
 ) -> Result<(), AllocError>
     ensures { OnOk result ((reply : List ℕ) × (out.new.items ≡ out.old.items ++ reply)
-        × ServesOnly (Walk start choices.now) (script_of region.now) reply (script_of region.now)) }
+        × WalksOnly region.now start choices.now reply) }
 {
     // Called for what it ensures.
     let _facts = region.limit();
@@ -111,7 +240,7 @@ fn answer_walk(
 /// Shows every chunk of the region.
 fn answer_dump(alloc: Global, region: &Region, out: &mut Vec<u8>) -> Result<(), AllocError>
     ensures { OnOk result ((reply : List ℕ) × (out.new.items ≡ out.old.items ++ reply)
-        × Serves Dump (script_of region.now) reply (script_of region.now)) }
+        × FollowsIn Dump region.now reply region.now) }
 {
     out.extend_from_slice(b"dump")?;
     for i in 0..region.chunk_count() {

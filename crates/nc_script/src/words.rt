@@ -1,9 +1,9 @@
 //! The words of a line, and what they spell.
 
-ghost use Rattle.std.specs.Prelude.{◌≡◌, ℕ, IfOk, map};
+ghost use Rattle.std.specs.Prelude.{◌≡◌, ◌*◌, ◌<◌, ℕ, IfOk, IfSome, map};
 ghost use Rattle.std.specs.Option.{option_map};
 ghost use Rattle.nc_script.specs.Lines.{words_in};
-ghost use Rattle.nc_script.specs.Requests.{address_in, bytes_in};
+ghost use Rattle.nc_script.specs.Requests.{address_in, bytes_in, digit_in, next_digit, seat_in};
 
 use hex::FromHexError;
 use std::alloc::{AllocError, Global};
@@ -23,6 +23,41 @@ pub(crate) fn address_of(word: &[u8]) -> Option<u32>
     match hex::decode_to_slice(word, &mut bytes) {
         Ok(()) => Some(u32::from_be_bytes(bytes)),
         Err(_) => None,
+    }
+}
+
+/// The value of a decimal digit.
+fn digit_of(byte: u8) -> Option<u32>
+    ensures value { result ≡ digit_in byte }
+    ensures small { IfSome result (λ digit. digit < 10) }
+{
+    if b'0' <= byte && byte <= b'9' {
+        Some(u32::from(byte - b'0'))
+    } else {
+        None
+    }
+}
+
+/// A digit after others, whose value is given.
+fn next_digit(value: Option<u32>, byte: u8) -> Option<u32>
+    requires { IfSome value (λ high. high < 100) }
+    ensures value { result ≡ next_digit value byte }
+    ensures small { (n : ℕ) → IfSome value (λ high. high < n) → IfSome result (λ all. all < 10 * n) }
+{
+    let high = value?;
+    let low = digit_of(byte)?;
+    Some(10 * high + low)
+}
+
+/// A seat of one to three decimal digits.
+pub(crate) fn seat_of(word: &[u8]) -> Option<u32>
+    ensures { result ≡ seat_in word.now }
+{
+    match word {
+        [a] => digit_of(*a),
+        [a, b] => next_digit(digit_of(*a), *b),
+        [a, b, c] => next_digit(next_digit(digit_of(*a), *b), *c),
+        _ => None,
     }
 }
 

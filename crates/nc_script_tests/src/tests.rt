@@ -1,6 +1,10 @@
 mod fakes;
+mod faults;
 mod filled;
 mod long;
+mod patching;
+mod reuse;
+mod rows;
 mod script;
 mod stream;
 mod vetting;

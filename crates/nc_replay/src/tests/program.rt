@@ -131,11 +131,26 @@ fn help(rt: HostRuntime) -> Result<(), Fail> {
 /// The subcommand and its numbers are those that the words name.
 #[test]
 fn starts_what_is_asked(rt: HostRuntime) -> Result<(), Fail> {
-    let rows: [(&[&str], &[u8], &[u8]); 7] = [
+    let rows: [(&[&str], &[u8], &[u8]); 9] = [
         (
             &["replay", "--bundles", "4", "--seats", "1"],
             b"create 00010000 eb1e*\nwalk 00010000 00000000 00000000\ncreate 00010060 *",
             b"ok\nwalk 00010000 00010020 stop\nrefused OutOfRange\n",
+        ),
+        (
+            &["replay", "--bundles", "4", "--seats", "1"],
+            b"create 00010000 eb1e*\ncreate 00010000 eb1e*\nwalk 00010000 00000000 00000000\ndump\ndelete 00010000\n\
+              walk 00010000 00000000\ndump\nreclaim\ncheckin 0\nreclaim\ndump\ncheckin 1\ncreate 00010000 -\n\
+              create 00010000 9\n\nleave 0",
+            b"ok\nrefused Occupied\nwalk 00010000 00010020 stop\n\
+              dump 00010000 live eb1e909090909090909090909090909090909090909090909090909090909090\nstamp 1\n\
+              walk 00010000 stop\ndump 00010000 retired 32 1\nfreed 0\nok\nfreed 1\ndump\nrefused NoSeat\n\
+              refused BadLength\nbad line\nbad line\nok\n",
+        ),
+        (
+            &["replay", "--bundles", "4", "--seats", "2"],
+            b"create 00010000 ebfe*\nmodify 00010000 eb1e\nwalk 00010000 00000000 00000000\ncheckin 1\ncheckin 2",
+            b"ok\nok\nwalk 00010000 00010020 stop\nok\nrefused NoSeat\n",
         ),
         (
             &["replay", "--bundles", "2"],

@@ -1,11 +1,18 @@
--- Machinery of the proofs, cited by no public contract: the script's state that a region stands for.
-use Rattle.std.specs.Prelude.{ℕ, ◌-◌, List, map, take, drop}
+-- Machinery of the proofs, cited by no public contract: the states of a script that a session stands for. The number by
+-- which the last reclaim freed is kept nowhere, so there may be several.
+use Rattle.std.specs.Prelude.{◌≡◌, ℕ, ◌-◌, ◌<◌, ◌≤◌, ◌^◌, ⊤, List, map, take, drop, length, slice_get, slice_index, slice_index_or}
+use Rattle.std.specs.Prelude.{Option, Some, None}
+use Rattle.nc_gens.specs.Seen.{PassState}
+use Rattle.nc_region.specs.Each.{Each}
+use Rattle.atomic_table.specs.Seated.{TableId}
 use Rattle.nc_text.specs.Places.{limit_of}
 use Rattle.nc_region.specs.Region.{Region}
 use Rattle.nc_region.specs.declared.chunk.Chunk.{Chunk}
 use Rattle.nc_region.specs.declared.chunk.ChunkState.{ChunkState}
 use Rattle.nc_region.specs.declared.chunk.ChunkState.TheVariants as chunk
-use Rattle.nc_script.specs.Script.{Script, ScriptChunk, State, Live, Retired}
+use Rattle.nc_script.specs.Script.{Script, ScriptChunk, State, Live, Retired, Seat, Staying, Left}
+use Rattle.nc_script.specs.Requests.{Request, Walk}
+use Rattle.nc_script.specs.Answers.{Serves, ServesOnly, AnswersOnly}
 
 -- the bytes of a span of the region
 abbrev pub bytes_at : List ℕ → ℕ → ℕ → List ℕ
@@ -20,6 +27,76 @@ state_in bytes base length (chunk.Retired stamp) = Retired length stamp
 abbrev pub chunk_in : List ℕ → Chunk → ScriptChunk
 chunk_in bytes c = record { base = c.base; state = state_in bytes c.base c.length c.state }
 
--- the script's state: the region's limit and its chunks
-abbrev pub script_of : Region → Script
-script_of region = record { limit = limit_of region.marked.bytes; chunks = map (chunk_in region.marked.bytes) region.chunks }
+-- the script's state by a region, its seats, and the number by which the last reclaim freed
+abbrev pub script_of : Region → List Seat → ℕ → Script
+script_of region seats freed = record {
+  limit = limit_of region.marked.bytes;
+  chunks = map (chunk_in region.marked.bytes) region.chunks;
+  generation = region.keeper.numbers.generation;
+  seats = seats;
+  freed = freed;
+}
+
+-- what contracts see of the seats of a session: the passes of those that haven't left, and of which table they are
+pub record SeatsState : Type 0 where
+  pub table : TableId
+  pub passes : List (Option PassState)
+
+-- what contracts see of a session
+pub record SessionState : Type 0 where
+  pub region : Region
+  pub seats : SeatsState
+
+-- each pass is of this table, and of the seat at whose place it stands
+abbrev pub AreSeated : TableId → List (Option PassState) → Type 0
+AreSeated table passes = (i : ℕ) (p : PassState) → slice_get passes i ≡ Some (Some p) → (p.table ≡ table) × (p.seat ≡ i)
+
+-- A seat of the script, by its pass, if it hasn't left, and by the keeper's bound for it: the pass's own word is the seat's
+-- number, and so is the bound; for a seat that has left the bound isn't lower than its number. No bound is lower than the
+-- number by which the last reclaim freed.
+abbrev pub SeatFits : (generation freed : ℕ) → Option PassState → ℕ → Seat → Type 0
+SeatFits generation freed (Some p) bound (Staying n) = (p.numbers.word ≡ n) × (bound ≡ n) × (n ≤ generation) × (freed ≤ n)
+SeatFits generation freed None bound (Left n) = (n ≤ bound) × (n ≤ generation) × (freed ≤ bound)
+SeatFits generation freed _ bound _ = ⊥
+
+-- so it is of each seat
+pub record SeatsFit (generation freed : ℕ) (passes : List (Option PassState)) (bounds : List ℕ) (seats : List Seat) : Type 0 where
+  pub some : 0 < length seats
+  pub passes_long : length passes ≡ length seats
+  pub bounds_long : length bounds ≡ length seats
+  pub each : (i : ℕ) → i < length seats
+      → SeatFits generation freed (slice_index_or passes i None) (slice_index bounds i) (slice_index_or seats i (Left 0))
+
+-- a stamp isn't above the generation
+abbrev pub IsStamped : ℕ → ChunkState → Type 0
+IsStamped generation chunk.Live = ⊤
+IsStamped generation (chunk.Retired stamp) = stamp ≤ generation
+
+-- the seats and the number fit the session: with its region they are a state that it stands for
+pub record Fits (session : SessionState) (seats : List Seat) (freed : ℕ) : Type 0 where
+  pub in_range : session.region.keeper.numbers.generation ≤ 2 ^ 62
+  pub current : freed ≤ session.region.keeper.numbers.generation
+  pub stamps : Each (λ (c : Chunk). IsStamped session.region.keeper.numbers.generation c.state) session.region.chunks
+  pub seats_fit : SeatsFit session.region.keeper.numbers.generation freed session.seats.passes session.region.keeper.numbers.bounds seats
+
+-- whatever state the session stood for, this answers the request, and leads to a state for which it stands now
+abbrev pub Follows : Request → SessionState → List ℕ → SessionState → Type 0
+Follows request old reply new = (seats : List Seat) (freed : ℕ) → Fits old seats freed
+    → (next : List Seat) × (number : ℕ) × Serves request (script_of old.region seats freed) reply (script_of new.region next number)
+    × Fits new next number
+
+-- whatever state the session stood for, this answers the line, and leads to a state for which it stands now
+abbrev pub FollowsLine : SessionState → List ℕ → List ℕ → SessionState → Type 0
+FollowsLine old line reply new = (seats : List Seat) (freed : ℕ) → Fits old seats freed
+    → (next : List Seat) × (number : ℕ) × AnswersOnly (script_of old.region seats freed) line reply (script_of new.region next number)
+    × Fits new next number
+
+-- the same of a region, with whatever seats
+abbrev pub FollowsIn : Request → Region → List ℕ → Region → Type 0
+FollowsIn request old reply new = (seats : SeatsState)
+    → Follows request (record { region = old; seats = seats }) reply (record { region = new; seats = seats })
+
+-- whatever state the region stands for, this is the only answer to a walk
+abbrev pub WalksOnly : Region → ℕ → List ℕ → List ℕ → Type 0
+WalksOnly region start choices reply = (seats : List Seat) (freed : ℕ)
+    → ServesOnly (Walk start choices) (script_of region seats freed) reply (script_of region seats freed)

@@ -3,11 +3,16 @@ use Rattle.std.specs.Prelude.{ℕ, List}
 use Rattle.std.specs.Global.{Vec}
 use Rattle.nc_script.specs.Requests as spec
 use Rattle.nc_script.specs.declared.request.Request.{Request}
-use Rattle.nc_script.specs.declared.request.Request.TheVariants.{Create, Walk, Dump}
+use Rattle.nc_script.specs.declared.request.Request.TheVariants.{Create, Modify, Delete, CheckIn, Leave, Reclaim, Walk, Dump}
 
 -- a request, without where its bytes lie in memory
 abbrev pub shown : Request → spec.Request
 shown (Create at bytes) = spec.Create at bytes.items
+shown (Modify at bytes) = spec.Modify at bytes.items
+shown (Delete base) = spec.Delete base
+shown (CheckIn seat) = spec.CheckIn seat
+shown (Leave seat) = spec.Leave seat
+shown Reclaim = spec.Reclaim
 shown (Walk start choices) = spec.Walk start choices.items
 shown Dump = spec.Dump
 

@@ -58,6 +58,67 @@ fn many_chunks(rt: HostRuntime) -> Result<(), Fail> {
     Ok(())
 }
 
+/// Adds a line: a word and a place.
+fn push_placed(out: &mut Vec<u8>, word: &[u8], at: u32) -> Result<(), AllocError> {
+    out.extend_from_slice(word)?;
+    push_place(out, at)?;
+    out.push(b'\n')?;
+    Ok(())
+}
+
+/// Adds a line that creates two bundles of nops.
+fn push_create(out: &mut Vec<u8>, at: u32) -> Result<(), AllocError> {
+    out.extend_from_slice(b"create ")?;
+    push_place(out, at)?;
+    out.push(b' ')?;
+    push_nops(out, 64)?;
+    out.push(b'\n')?;
+    Ok(())
+}
+
+/// Adds a decimal number and an end.
+fn push_count(
+    alloc: Global,
+    out: &mut Vec<u8>,
+    word: &[u8],
+    number: u32,
+) -> Result<(), AllocError> {
+    out.extend_from_slice(word)?;
+    let digits = number.to_string(alloc)?;
+    out.extend_from_slice(digits.as_bytes())?;
+    out.push(b'\n')?;
+    Ok(())
+}
+
+/// Sixty chunks, each deleted and, after one check-in, all reclaimed at once; then each at its place again, deleted and
+/// reclaimed one after the other.
+#[test]
+fn many_reused(rt: HostRuntime) -> Result<(), Fail> {
+    let mut script = Vec::new(rt.alloc());
+    let mut owed = Vec::new(rt.alloc());
+    for i in 0..60u32 {
+        push_create(&mut script, 0x10000 + 64 * i)?;
+        owed.extend_from_slice(b"ok\n")?;
+    }
+    for i in 0..60u32 {
+        push_placed(&mut script, b"delete ", 0x10000 + 64 * i)?;
+        push_count(rt.alloc(), &mut owed, b"stamp ", i + 1)?;
+    }
+    script.extend_from_slice(b"reclaim\ncheckin 0\nreclaim\ndump\n")?;
+    owed.extend_from_slice(b"freed 0\nok\nfreed 60\ndump\n")?;
+    for i in 0..60u32 {
+        push_create(&mut script, 0x10000 + 64 * i)?;
+        push_placed(&mut script, b"delete ", 0x10000 + 64 * i)?;
+        script.extend_from_slice(b"reclaim\ncheckin 0\nreclaim\n")?;
+        owed.extend_from_slice(b"ok\n")?;
+        push_count(rt.alloc(), &mut owed, b"stamp ", i + 61)?;
+        owed.extend_from_slice(b"freed 0\nok\nfreed 1\n")?;
+    }
+    let written = replies(rt.alloc(), &script, 2048)?;
+    assert_eq!(rt; written.as_slice(), owed.as_slice());
+    Ok(())
+}
+
 /// A chunk that meets another one in its second bundle only, and one in its first bundle only.
 #[test]
 fn partial_overlap(rt: HostRuntime) -> Result<(), Fail> {

@@ -1,13 +1,9 @@
 //! Scripts and their answers, through `run` from bytes to bytes.
 
 use crate::tests::fakes::{NEVER, Pieces, Slow};
-use crate::tests::filled::push_filled;
+use crate::tests::rows::{Row, written_and_owed};
 use nc_script::{ReplayFault, run};
-use std::alloc::Global;
 use std::test::Fail;
-
-/// A line and its answer; in both a `*` stands for nops, of which there are as many as fill the word up to 32 bytes.
-type Row = (&'static [u8], &'static [u8]);
 
 /// One bundle after the other: chunks that jump to each other, and each kind of refusal.
 const FIRST_PATH: [Row; 11] = [
@@ -97,7 +93,7 @@ const FAULTS: [Row; 10] = [
 ];
 
 /// Lines of no known form: other words, other spaces, digits too few or too many, bytes that are not valid UTF-8.
-const BAD_LINES: [&[u8]; 36] = [
+const BAD_LINES: [&[u8]; 56] = [
     b"",
     b" ",
     b"DUMP",
@@ -129,28 +125,32 @@ const BAD_LINES: [&[u8]; 36] = [
     b"create 00010000 --",
     b"create 00010000 90 90",
     b"create 0001000 -",
-    b"delete 00010000",
-    b"modify 00010000 90",
-    b"reclaim",
-    b"checkin 0",
-    b"leave 0",
+    b"delete",
+    b"delete 0001000",
+    b"delete 00010000 00010020",
+    b"modify 00010000",
+    b"modify 00010000 9",
+    b"modify 00010000 90 90",
+    b"modify 90 00010000",
+    b"reclaim 0",
+    b"reclaim\r",
+    b"Reclaim",
+    b"checkin",
+    b"checkin ",
+    b"checkin 0000",
+    b"checkin 0 0",
+    b"checkin +0",
+    b"checkin -",
+    b"checkin 0x0",
+    b"checkin a",
+    b"checkin 1:",
+    b"checkin 1/",
+    b"leave",
+    b"leave 0000",
+    b"leave 0a",
+    b"check in 0",
+    b"check-in 0",
 ];
-
-/// What these lines write as one script on four bundles for one seat, and what they have to.
-fn written_and_owed(alloc: Global, rows: &[Row]) -> Result<(Vec<u8>, Vec<u8>), Fail> {
-    let mut input = Vec::new(alloc);
-    let mut owed = Vec::new(alloc);
-    for (line, answer) in rows {
-        push_filled(&mut input, line)?;
-        push_filled(&mut owed, answer)?;
-    }
-    let mut written = Vec::new(alloc);
-    let mut reader = input.as_slice();
-    match run(alloc, &mut reader, &mut written, 4, 1) {
-        Ok(()) => Ok((written, owed)),
-        Err(fault) => Err(Fail::new(format_args!("{fault}"))),
-    }
-}
 
 #[test]
 fn scripts(rt: HostRuntime) -> Result<(), Fail> {
@@ -161,7 +161,7 @@ fn scripts(rt: HostRuntime) -> Result<(), Fail> {
         &BRANCH,
         &FAULTS,
     ] {
-        let (written, owed) = written_and_owed(rt.alloc(), rows)?;
+        let (written, owed) = written_and_owed(rt.alloc(), rows, 1)?;
         assert_eq!(rt; written.as_slice(), owed.as_slice());
     }
     Ok(())
@@ -173,6 +173,7 @@ fn bad_lines(rt: HostRuntime) -> Result<(), Fail> {
         let (written, owed) = written_and_owed(
             rt.alloc(),
             &[(line, b"bad line"), (b"dump", b"dump")],
+            1,
         )?;
         assert_eq!(rt; written.as_slice(), owed.as_slice());
     }
@@ -222,7 +223,7 @@ fn long_create(rt: HostRuntime) -> Result<(), Fail> {
 
 /// Three lines, of which the second asks for nothing, and their answers.
 const THREE: (&[u8], &[u8]) = (
-    b"walk 00010000\nreclaim\ndump\n",
+    b"walk 00010000\nrecl\ndump\n",
     b"walk 00010000 stop\nbad line\ndump\n",
 );
 
@@ -233,10 +234,10 @@ fn failed_reads(rt: HostRuntime) -> Result<(), Fail> {
         (0usize, 0usize),
         (13, 0),
         (14, 19),
-        (21, 19),
-        (22, 28),
-        (26, 28),
-        (27, 33),
+        (18, 19),
+        (19, 28),
+        (23, 28),
+        (24, 33),
     ] {
         let mut written = Vec::new(rt.alloc());
         let mut reader = Pieces {

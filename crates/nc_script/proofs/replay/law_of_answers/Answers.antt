@@ -1,4 +1,4 @@
-use Rattle.nc_script.proofs.OneReply.{one_text, begins_all}
+use Rattle.nc_script.proofs.OneReply.{one_text, begins_all, frees_by_least}
 use Rattle.nc_script.proofs.replay.law_of_answers.Goals as goal
 
 pub returns-clause-one_text : goal.returns-clause-one_text
@@ -6,3 +6,6 @@ returns-clause-one_text c = one_text
 
 pub returns-clause-begins_all : goal.returns-clause-begins_all
 returns-clause-begins_all c = begins_all
+
+pub returns-clause-least : goal.returns-clause-least
+returns-clause-least c = frees_by_least

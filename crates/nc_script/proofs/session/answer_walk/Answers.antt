@@ -2,9 +2,7 @@ use Rattle.std.proofs.Common.{subst}
 use Rattle.std.specs.Prelude.{codes}
 use Rattle.std.proofs.lemmas.Result.{on_ok_weaker}
 use Rattle.nc_region.specs.Trace.{MayRefuseWalk}
-use Rattle.nc_script.specs.Requests.{Walk}
-use Rattle.nc_script.specs.Answers.{ServesOnly}
-use Rattle.nc_script.specs.machinery.Session.{script_of}
+use Rattle.nc_script.specs.machinery.Session.{WalksOnly}
 use Rattle.nc_script.specs.Replies.{reply_line, refused_reply, walk_reply}
 use Rattle.nc_script.proofs.OneAnswer.{walk_only, no_start_only}
 use Rattle.nc_script.proofs.Serving.{walk_serves, no_start_serves, added}
@@ -16,10 +14,10 @@ returns-in-Ok c =
     (λ e. (
       reply_line (walk_reply c.in-Ok.trace.places.items c.in-Ok.trace.end),
       e,
-      record {
-        serves = walk_serves c.args.region.now c.args.start c.args.choices.now c.in-Ok.trace.places.items c.in-Ok.trace.end
+      λ seats freed. record {
+        serves = walk_serves c.args.region.now seats freed c.args.start c.args.choices.now c.in-Ok.trace.places.items c.in-Ok.trace.end
             c.limit-facts.ensures.region c.in-Ok.ensures.begins c.in-Ok.ensures.trace;
-        only = walk_only c.args.region.now c.args.start c.args.choices.now c.in-Ok.trace.places.items c.in-Ok.trace.end
+        only = walk_only c.args.region.now seats freed c.args.start c.args.choices.now c.in-Ok.trace.places.items c.in-Ok.trace.end
             c.limit-facts.ensures.region c.in-Ok.ensures.begins c.in-Ok.ensures.trace;
       },
     ))
@@ -30,9 +28,9 @@ returns-in-Err-NotBundle c =
     let region = c.args.region.now in
     let not = subst (MayRefuseWalk region.marked.bytes c.args.start) c.in-Err-NotBundle.field-0-is c.in-Err-NotBundle.ensures.refused in
     added c.extend_from_slice.result _ _ (reply_line (refused_reply (codes "NotBundle")))
-    (λ reply. ServesOnly (Walk c.args.start c.args.choices.now) (script_of region) reply (script_of region))
+    (WalksOnly region c.args.start c.args.choices.now)
     c.extend_from_slice.ensures.items
-    record {
-      serves = no_start_serves region c.args.start c.args.choices.now c.limit-facts.ensures.region not;
-      only = no_start_only region c.args.start c.args.choices.now c.limit-facts.ensures.region not;
-    }
+    (λ seats freed. record {
+      serves = no_start_serves region seats freed c.args.start c.args.choices.now c.limit-facts.ensures.region not;
+      only = no_start_only region seats freed c.args.start c.args.choices.now c.limit-facts.ensures.region not;
+    })

@@ -1,0 +1,68 @@
+-- What the session answers is what the script answers.
+use Rattle.std.proofs.Common.{ℕ, List, length, replicate, inr, ap, ◌∙◌}
+use Rattle.std.proofs.lemmas.Result.{on_ok_weaker}
+use Rattle.nc_script.specs.Lines.{lines_of, ended_lines}
+use Rattle.nc_script.specs.Answering.{IsAnswered, IsBegun, IsCutShort}
+use Rattle.nc_script.specs.Answers.{AnswersOnly, new_script}
+use Rattle.nc_script.specs.Run.{HasAnswered}
+use Rattle.nc_script.specs.Script.{Seat, Staying}
+use Rattle.nc_script.specs.machinery.Session.{FollowsLine}
+use Rattle.nc_script.proofs.Carried.{answered_script, begun_script, cut_script, some_weaker}
+use Rattle.nc_script.proofs.replay.run.Goals as goal
+
+pub returns-in-Ok-new-clause-ok : goal.returns-in-Ok-new-clause-ok
+returns-in-Ok-new-clause-ok g c =
+    let seats : List Seat = replicate (length c.in-Ok.passes.items) (Staying 0) in
+    let begins = c.in-Ok-new.ensures.script ∙ ap (λ (n : ℕ). new_script c.args.bundles n) c.in-Ok.ensures.count in
+    let before = g.W.Write.contents c.args.writer.now in
+    let after = g.W.Write.contents c.answer_all.new.writer in
+    on_ok_weaker c.answer_all.result
+    (λ h.
+    some_weaker (g.R.Read.remaining c.args.reader.now)
+    (λ input. IsAnswered FollowsLine c.in-Ok-new.session c.answer_all.new.responder before after (lines_of input))
+    (λ input. HasAnswered c.args.bundles c.args.seats before after (lines_of input))
+    (λ input a.
+    answered_script c.in-Ok-new.session seats 0 (new_script c.args.bundles c.args.seats) c.in-Ok-new.ensures.fits begins
+    c.answer_all.new.responder before after (lines_of input) a) h)
+    c.answer_all.ensures.ok
+
+pub returns-in-Ok-new-clause-write_failed : goal.returns-in-Ok-new-clause-write_failed
+returns-in-Ok-new-clause-write_failed g c = λ e.
+    let seats : List Seat = replicate (length c.in-Ok.passes.items) (Staying 0) in
+    let begins = c.in-Ok-new.ensures.script ∙ ap (λ (n : ℕ). new_script c.args.bundles n) c.in-Ok.ensures.count in
+    let before = g.W.Write.contents c.args.writer.now in
+    let after = g.W.Write.contents c.answer_all.new.writer in
+    some_weaker (g.R.Read.remaining c.args.reader.now)
+    (λ input. IsBegun FollowsLine c.in-Ok-new.session before after (lines_of input))
+    (λ input. IsBegun AnswersOnly (new_script c.args.bundles c.args.seats) before after (lines_of input))
+    (λ input b.
+    begun_script c.in-Ok-new.session seats 0 (new_script c.args.bundles c.args.seats) c.in-Ok-new.ensures.fits begins before after
+    (lines_of input) b)
+    (c.answer_all.ensures.write_failed e)
+
+pub returns-in-Ok-new-clause-read_failed : goal.returns-in-Ok-new-clause-read_failed
+returns-in-Ok-new-clause-read_failed g c = λ e.
+    let seats : List Seat = replicate (length c.in-Ok.passes.items) (Staying 0) in
+    let begins = c.in-Ok-new.ensures.script ∙ ap (λ (n : ℕ). new_script c.args.bundles n) c.in-Ok.ensures.count in
+    let (front, consumed, answered) = c.answer_all.ensures.read_failed e in (
+      front,
+      consumed,
+      answered_script c.in-Ok-new.session seats 0 (new_script c.args.bundles c.args.seats) c.in-Ok-new.ensures.fits begins
+          c.answer_all.new.responder (g.W.Write.contents c.args.writer.now) (g.W.Write.contents c.answer_all.new.writer)
+          (ended_lines front) answered,
+    )
+
+pub returns-in-Ok-new-clause-out_of_memory : goal.returns-in-Ok-new-clause-out_of_memory
+returns-in-Ok-new-clause-out_of_memory g c = λ e.
+    let seats : List Seat = replicate (length c.in-Ok.passes.items) (Staying 0) in
+    let begins = c.in-Ok-new.ensures.script ∙ ap (λ (n : ℕ). new_script c.args.bundles n) c.in-Ok.ensures.count in
+    let before = g.W.Write.contents c.args.writer.now in
+    let after = g.W.Write.contents c.answer_all.new.writer in
+    inr
+    (some_weaker (g.R.Read.remaining c.args.reader.now)
+    (λ input. IsCutShort FollowsLine c.in-Ok-new.session before after (lines_of input))
+    (λ input. IsCutShort AnswersOnly (new_script c.args.bundles c.args.seats) before after (lines_of input))
+    (λ input s.
+    cut_script c.in-Ok-new.session seats 0 (new_script c.args.bundles c.args.seats) c.in-Ok-new.ensures.fits begins before after
+    (lines_of input) s)
+    (c.answer_all.ensures.out_of_memory e))

@@ -1,0 +1,24 @@
+use Rattle.std.proofs.lemmas.Result.{on_ok_weaker}
+use Rattle.nc_script.specs.Replies.{reply_line, refused_reply, deletion_words, stamp_reply}
+use Rattle.nc_script.proofs.ChunkRequests.{deleted_follows, undeleted_follows}
+use Rattle.nc_script.proofs.session.answer_delete.Goals as goal
+
+pub returns-in-Ok-clause-follows : goal.returns-in-Ok-clause-follows
+returns-in-Ok-clause-follows c =
+    on_ok_weaker c.push_stamp.result
+    (λ e. (
+      reply_line (stamp_reply c.in-Ok.stamp),
+      e,
+      deleted_follows c.args.region.now c.delete.new.self c.args.base c.in-Ok.stamp c.limit-facts.ensures.region c.in-Ok.ensures.deleted,
+    ))
+    c.push_stamp.ensures
+
+pub returns-in-Err-clause-follows : goal.returns-in-Err-clause-follows
+returns-in-Err-clause-follows c =
+    on_ok_weaker c.push_delete_fault.result
+    (λ e. (
+      reply_line (refused_reply (deletion_words c.in-Err.fault)),
+      e,
+      undeleted_follows c.args.region.now c.delete.new.self c.args.base c.in-Err.fault c.in-Err.ensures.refused c.in-Err.ensures.unchanged,
+    ))
+    c.push_delete_fault.ensures

@@ -1,0 +1,28 @@
+use Rattle.std.specs.Prelude.{codes}
+use Rattle.std.proofs.lemmas.Result.{on_ok_weaker}
+use Rattle.nc_script.specs.Requests.{Modify}
+use Rattle.nc_script.specs.Replies.{reply_line, refused_reply, patch_words}
+use Rattle.nc_script.specs.machinery.Session.{FollowsIn}
+use Rattle.nc_script.proofs.Serving.{added}
+use Rattle.nc_script.proofs.ChunkRequests.{modified_follows, unmodified_follows}
+use Rattle.nc_script.proofs.session.answer_modify.Goals as goal
+
+pub returns-in-Ok-clause-follows : goal.returns-in-Ok-clause-follows
+returns-in-Ok-clause-follows c =
+    let old = c.args.region.now in
+    added c.extend_from_slice.result _ _ (reply_line (codes "ok"))
+    (λ reply. FollowsIn (Modify c.args.at c.args.bytes.now) old reply c.modify.new.self)
+    c.extend_from_slice.ensures.items
+    (modified_follows old c.modify.new.self c.args.at c.args.bytes.now c.limit-facts.ensures.region c.in-Ok.ensures.modified
+    c.in-Ok.ensures.lawful)
+
+pub returns-in-Err-clause-follows : goal.returns-in-Err-clause-follows
+returns-in-Err-clause-follows c =
+    on_ok_weaker c.push_patch_fault.result
+    (λ e. (
+      reply_line (refused_reply (patch_words c.in-Err.fault)),
+      e,
+      unmodified_follows c.args.region.now c.modify.new.self c.args.at c.args.bytes.now c.in-Err.fault c.limit-facts.ensures.region
+          c.in-Err.ensures.refused c.in-Err.ensures.unchanged,
+    ))
+    c.push_patch_fault.ensures
