@@ -34,10 +34,6 @@ second_bit w k e =
     ∙ sym (shr_and_one (w.pairs / 2) k) ∙ e in
     rw bit refl
 
--- such a place has a plain mark
-pub plain_bits : (w : Bundle) (k next : ℕ) → is_start w k ≡ true → is_second w k ≡ false → bit_mark w k next ≡ Plain
-plain_bits w k next s h = rw (h, s) refl
-
 -- ---- the lowest bit
 
 -- the lowest bit is set
