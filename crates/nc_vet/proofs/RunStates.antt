@@ -1,7 +1,7 @@
 -- The states after the bytes of bundles, one by one.
 use Rattle.std.proofs.Common.{◌≡◌, ◌≢◌, ℕ, zero, suc, ◌+◌, ◌-◌, ◌*◌, ◌/◌, ◌%◌, ◌^◌, ◌<◌, ◌≤◌, Bool, true, false, List, [], ◌∷◌, ◌++◌}
 use Rattle.std.proofs.Common.{length, take, drop, get_or, set, refl, sym, subst, ◌∙◌, ap, arith, inl, inr, ◌==◌, eqb-true, eq-eqb}
-use Rattle.std.proofs.Common.{leb-true, nat_le, replicate}
+use Rattle.std.proofs.Common.{leb-true, nat_le}
 use Rattle.std.specs.Prelude.{slice_set, slice_index}
 use Rattle.std.specs.Int.{bit_at, w32, leading_zeros}
 use Rattle.std.specs.Int.Count.{leading_of_zero}
