@@ -1,5 +1,6 @@
 -- The laws of the function that finds the instruction at the front.
-use Rattle.std.proofs.Common.{◌≡◌, ◌≢◌, ℕ, ◌<◌, List, [], ◌∷◌, ◌++◌, length, take, drop, Some, Result, Ok, Err, refl, sym, subst, ◌∙◌, ap, arith, append_assoc, append-nil, zero, suc}
+use Rattle.std.proofs.Common.{◌≡◌, ◌≢◌, ℕ, ◌<◌, List, [], ◌∷◌, ◌++◌, length, take, drop, Some, Result, Ok, Err, refl, sym, subst, ◌∙◌, ap}
+use Rattle.std.proofs.Common.{arith, append_assoc, append-nil, zero, suc}
 use Rattle.std.specs.Prelude.{IfSome}
 use Rattle.std.specs.Result.{result_ok}
 use Rattle.std.proofs.lemmas.List.{length-append, take_at, take-append-drop}
@@ -10,7 +11,9 @@ use Rattle.nc_decode.specs.machinery.Entries.{entry_of}
 use Rattle.nc_decode.specs.machinery.Shapes.{shape_of, prefixed_shape, prefix_of, opcode_shape, entry_shape, forms_of, coded_len}
 use Rattle.nc_decode.specs.machinery.Reading.{reading, whole_of}
 use Rattle.nc_decode.specs.Spelling.{spelled, masks_of, Spells, IsAtFront}
-use Rattle.nc_decode.specs.Front.{leading_bytes, first_instruction, IsExact, IsPrefixFree, IsStopFirst, HasItsLength, DependsOnItsBytes, MasksOnlyBeforeNext, NamesRegisters, plain, MasksExactly, GoesOnAfterPrefix, NeverBarred, NeverBarredAtFront}
+use Rattle.nc_decode.specs.Front.{leading_bytes, first_instruction, IsExact, IsPrefixFree, IsStopFirst, HasItsLength, DependsOnItsBytes}
+use Rattle.nc_decode.specs.Front.{MasksOnlyBeforeNext, NamesRegisters, plain, MasksExactly, GoesOnAfterPrefix, NeverBarred}
+use Rattle.nc_decode.specs.Front.{NeverBarredAtFront}
 use Rattle.nc_decode.proofs.EntryReads.{IsBytes}
 use Rattle.nc_decode.proofs.SpelledIsRead.{bytes_from_all, opcode-lt}
 use Rattle.nc_decode.proofs.Readings.{found_from, found_by, spells_read, spells_some}

@@ -1,5 +1,6 @@
 -- The bytes before the first number that is none.
-use Rattle.std.proofs.Common.{◌≡◌, ℕ, ◌<◌, Bool, true, false, List, [], ◌∷◌, ◌++◌, cond, refl, sym, ◌∙◌, ap, arith, inl, inr, nat_lt, append-nil, ltb-true, lt-ltb, zero, suc}
+use Rattle.std.proofs.Common.{◌≡◌, ℕ, ◌<◌, Bool, true, false, List, [], ◌∷◌, ◌++◌, cond, refl, sym, ◌∙◌, ap, arith, inl, inr, nat_lt}
+use Rattle.std.proofs.Common.{append-nil, ltb-true, lt-ltb, zero, suc}
 use Rattle.nc_decode.specs.Front.{leading_bytes}
 use Rattle.nc_decode.proofs.BoolTests.{true_or_false, cond_is_true, cond_is_false}
 use Rattle.nc_decode.proofs.EntryReads.{IsBytes}

@@ -1,7 +1,9 @@
 -- Runs of the automaton read instructions.
-use Rattle.std.proofs.Common.{◌≡◌, ℕ, suc, ◌+◌, ◌-◌, ◌<◌, ◌≤◌, Bool, true, false, List, [], ◌∷◌, ◌++◌, Option, Some, None, Ok, length, refl, sym, subst, ◌∙◌, ap, arith, inl, inr, ◌==◌, ◌&&◌, nat_lt, ltb-true, All, eqb-true}
+use Rattle.std.proofs.Common.{◌≡◌, ℕ, suc, ◌+◌, ◌-◌, ◌<◌, ◌≤◌, Bool, true, false, List, [], ◌∷◌, ◌++◌, Option, Some, None, Ok, length}
+use Rattle.std.proofs.Common.{refl, sym, subst, ◌∙◌, ap, arith, inl, inr, ◌==◌, ◌&&◌, nat_lt, ltb-true, All, eqb-true}
 use Rattle.std.specs.Prelude.{IfSome, IsTrue}
 use Rattle.std.proofs.lemmas.List.{take_all}
+use Rattle.nc_decode.specs.declared.automaton.TheConstants.{STATES, END, AFTER_SHORT, AFTER_NEAR, AFTER_PAIR}
 use Rattle.nc_decode.specs.declared.instruction.Instr.{Instr}
 use Rattle.nc_decode.specs.Automaton.{next_state, masked_at, Leads, Ends, ReadsByStates, NoneIsPaired}
 use Rattle.nc_decode.specs.machinery.Reading.{reading}
@@ -12,7 +14,8 @@ use Rattle.nc_decode.proofs.BoolTests.{each_below-at, both, not_is}
 use Rattle.nc_decode.proofs.SpelledIsRead.{bytes_from_all}
 use Rattle.nc_decode.proofs.Readings.{reading_spells}
 use Rattle.nc_decode.proofs.Masks.{mask_masks}
-use Rattle.nc_decode.proofs.Stages.{Ended, plain, masked, by_short, by_near, paired, Stage, ended, stage_of, masked_by, after, begun, next_stage, next_small}
+use Rattle.nc_decode.proofs.Stages.{Ended, plain, masked, by_short, by_near, paired, Stage, ended, stage_of, masked_by, after, begun}
+use Rattle.nc_decode.proofs.Stages.{next_stage, next_small}
 use Rattle.nc_decode.proofs.StageMeanings.{Meant, Finished, more}
 use Rattle.nc_decode.proofs.StageSteps.{IsInside, step, begun_meant}
 
@@ -30,19 +33,19 @@ names None r = false
 
 -- the stage is an end, and the number tells which
 abbrev tells : Stage → ℕ → Bool
-tells (ended plain) e = e == 64
-tells (ended (masked r)) e = nat_lt r 8 && names (masked_at e) r && not (e == 74)
-tells (ended by_short) e = e == 72
-tells (ended by_near) e = e == 73
-tells (ended paired) e = e == 74
+tells (ended plain) e = e == END
+tells (ended (masked r)) e = nat_lt r 8 && names (masked_at e) r && not (e == AFTER_PAIR)
+tells (ended by_short) e = e == AFTER_SHORT
+tells (ended by_near) e = e == AFTER_NEAR
+tells (ended paired) e = e == AFTER_PAIR
 tells _ e = false
 
 -- the states below END are those inside an instruction
-numbered_inside : each_below (λ s. inside (stage_of s)) 64 ≡ true
+numbered_inside : each_below (λ s. inside (stage_of s)) END ≡ true
 numbered_inside = refl
 
 -- the states from END on are those after one
-numbered_ends : each_below (λ j. tells (stage_of (64 + j)) (64 + j)) 11 ≡ true
+numbered_ends : each_below (λ j. tells (stage_of (END + j)) (END + j)) 11 ≡ true
 numbered_ends = refl
 
 -- what the test of a stage inside an instruction says
@@ -51,13 +54,13 @@ is_inside (ended k) e = absurd cc
 is_inside _ e = tt
 
 -- a state below END is inside an instruction
-inside_at : (s : ℕ) → s < 64 → IsInside (stage_of s)
-inside_at s lt = is_inside (stage_of s) (each_below-at (λ t. inside (stage_of t)) 64 s numbered_inside lt)
+inside_at : (s : ℕ) → s < END → IsInside (stage_of s)
+inside_at s lt = is_inside (stage_of s) (each_below-at (λ t. inside (stage_of t)) END s numbered_inside lt)
 
 -- a state from END on tells what has been read
-tells_at : (e : ℕ) → 64 ≤ e → e < 75 → tells (stage_of e) e ≡ true
-tells_at e low high = let is : 64 + (e - 64) ≡ e = omega (arith, low) in subst (λ (k : ℕ). tells (stage_of k) k ≡ true) is
-    (each_below-at (λ j. tells (stage_of (64 + j)) (64 + j)) 11 (e - 64) numbered_ends (omega (arith, low, high)))
+tells_at : (e : ℕ) → END ≤ e → e < STATES → tells (stage_of e) e ≡ true
+tells_at e low high = let is : END + (e - END) ≡ e = omega (arith, low) in subst (λ (k : ℕ). tells (stage_of k) k ≡ true) is
+    (each_below-at (λ j. tells (stage_of (END + j)) (END + j)) 11 (e - END) numbered_ends (omega (arith, low, high)))
 
 -- an end, and what its number tells
 record EndsAt (e : ℕ) : Type 0 where
@@ -71,7 +74,7 @@ end_from e (ended k) is t = record { kind = k; is = is; told = t }
 end_from e _ is t = absurd cc
 
 -- so for each state from END on
-end_at : (e : ℕ) → 64 ≤ e → e < 75 → EndsAt e
+end_at : (e : ℕ) → END ≤ e → e < STATES → EndsAt e
 end_at e low high = end_from e (stage_of e) refl (tells_at e low high)
 
 -- a register that the test finds is the one
@@ -84,14 +87,14 @@ named None r e = absurd cc
 
 -- the register that the number tells
 masked_same : (e : ℕ) (k : Ended) → tells (ended k) e ≡ true → (masked_by k ≡ masked_at e) × IfSome (masked_by k) (λ r. r < 8)
-masked_same e plain t = let is : e ≡ 64 = eqb-true e 64 t in (rw is refl, tt)
+masked_same e plain t = let is : e ≡ END = eqb-true e END t in (rw is refl, tt)
 masked_same e (masked r) t =
-    let a = both (nat_lt r 8 && names (masked_at e) r) (not (e == 74)) t in
+    let a = both (nat_lt r 8 && names (masked_at e) r) (not (e == AFTER_PAIR)) t in
     let b = both (nat_lt r 8) (names (masked_at e) r) a.0 in
     (sym (named (masked_at e) r b.1), ltb-true r 8 b.0)
-masked_same e by_short t = let is : e ≡ 72 = eqb-true e 72 t in (rw is refl, tt)
-masked_same e by_near t = let is : e ≡ 73 = eqb-true e 73 t in (rw is refl, tt)
-masked_same e paired t = let is : e ≡ 74 = eqb-true e 74 t in (rw is refl, tt)
+masked_same e by_short t = let is : e ≡ AFTER_SHORT = eqb-true e AFTER_SHORT t in (rw is refl, tt)
+masked_same e by_near t = let is : e ≡ AFTER_NEAR = eqb-true e AFTER_NEAR t in (rw is refl, tt)
+masked_same e paired t = let is : e ≡ AFTER_PAIR = eqb-true e AFTER_PAIR t in (rw is refl, tt)
 
 -- ---- what has been read
 
@@ -113,21 +116,21 @@ some_mask r = Some r
 finished_ends : (m e : ℕ) (bytes : List ℕ) (k : Ended) → All (λ b. b < 256) bytes → tells (ended k) e ≡ true
     → Finished (masked_at m) k bytes → (i : Instr) × Ends m e bytes i
 finished_ends m e bytes plain fits t f =
-    let is : e ≡ 64 = eqb-true e 64 t in (
+    let is : e ≡ END = eqb-true e END t in (
       f.instr,
       record {
         spells = spelled_whole bytes f.instr fits f.read f.len;
         indirect = rw is f.kind.1;
         direct = λ d. absurd (never (is_direct f.instr.flow) f.kind.0 d);
-        masks = λ r h. absurd (let g : masked_at 64 ≡ some_mask r = ap masked_at (sym is) ∙ h in cc);
+        masks = λ r h. absurd (let g : masked_at END ≡ some_mask r = ap masked_at (sym is) ∙ h in cc);
         paired = λ p. absurd (omega (arith, is, p));
       },
     )
 finished_ends m e bytes (masked r) fits t f =
-    let a = both (nat_lt r 8 && names (masked_at e) r) (not (e == 74)) t in
+    let a = both (nat_lt r 8 && names (masked_at e) r) (not (e == AFTER_PAIR)) t in
     let b = both (nat_lt r 8) (names (masked_at e) r) a.0 in
     let is : masked_at e ≡ Some r = named (masked_at e) r b.1 in
-    let other : (e == 74) ≡ false = not_is (e == 74) a.1 in
+    let other : (e == AFTER_PAIR) ≡ false = not_is (e == AFTER_PAIR) a.1 in
     let s = spelled_whole bytes f.instr fits f.read f.len in (
       f.instr,
       record {
@@ -138,42 +141,42 @@ finished_ends m e bytes (masked r) fits t f =
             let same : r ≡ q = one r q (sym is ∙ h) in
             ap (λ (i : Instr). i.masks) s.says ∙ ap masks_of (sym s.whole ∙ f.kind.2) ∙ mask_masks r f.kind.3 f.kind.4
             ∙ ap some_mask same);
-        paired = λ p. absurd (let g : (74 == 74) ≡ false = ap (λ (x : ℕ). x == 74) (sym p) ∙ other in cc);
+        paired = λ p. absurd (let g : (AFTER_PAIR == AFTER_PAIR) ≡ false = ap (λ (x : ℕ). x == AFTER_PAIR) (sym p) ∙ other in cc);
       },
     )
   where
     one : (x y : ℕ) → some_mask x ≡ some_mask y → x ≡ y
     one x y h = cc
 finished_ends m e bytes by_short fits t f =
-    let is : e ≡ 72 = eqb-true e 72 t in (
+    let is : e ≡ AFTER_SHORT = eqb-true e AFTER_SHORT t in (
       f.instr,
       record {
         spells = spelled_whole bytes f.instr fits f.read f.len;
         indirect = rw is f.kind.0;
         direct = λ d. inl (is, f.kind.1);
-        masks = λ r h. absurd (let g : masked_at 72 ≡ some_mask r = ap masked_at (sym is) ∙ h in cc);
+        masks = λ r h. absurd (let g : masked_at AFTER_SHORT ≡ some_mask r = ap masked_at (sym is) ∙ h in cc);
         paired = λ p. absurd (omega (arith, is, p));
       },
     )
 finished_ends m e bytes by_near fits t f =
-    let is : e ≡ 73 = eqb-true e 73 t in (
+    let is : e ≡ AFTER_NEAR = eqb-true e AFTER_NEAR t in (
       f.instr,
       record {
         spells = spelled_whole bytes f.instr fits f.read f.len;
         indirect = rw is f.kind.0;
         direct = λ d. inr (is, f.kind.1, f.kind.2);
-        masks = λ r h. absurd (let g : masked_at 73 ≡ some_mask r = ap masked_at (sym is) ∙ h in cc);
+        masks = λ r h. absurd (let g : masked_at AFTER_NEAR ≡ some_mask r = ap masked_at (sym is) ∙ h in cc);
         paired = λ p. absurd (omega (arith, is, p));
       },
     )
 finished_ends m e bytes paired fits t f =
-    let is : e ≡ 74 = eqb-true e 74 t in (
+    let is : e ≡ AFTER_PAIR = eqb-true e AFTER_PAIR t in (
       f.instr,
       record {
         spells = spelled_whole bytes f.instr fits f.read f.len;
         indirect = rw is f.kind.1;
         direct = λ d. absurd (never (is_direct f.instr.flow) f.kind.0 d);
-        masks = λ r h. absurd (let g : masked_at 74 ≡ some_mask r = ap masked_at (sym is) ∙ h in cc);
+        masks = λ r h. absurd (let g : masked_at AFTER_PAIR ≡ some_mask r = ap masked_at (sym is) ∙ h in cc);
         paired = λ p. (f.kind.2, f.kind.3, f.kind.4);
       },
     )
@@ -189,21 +192,21 @@ first_fits : (b : ℕ) (bs : List ℕ) → All (λ x. x < 256) (b ∷ bs) → b 
 first_fits b bs fits = fits 0 0 (omega arith)
 
 -- the stage after the first byte
-begins_at : (m b : ℕ) → 64 ≤ m → m < 75 → b < 256 → stage_of (next_state m b) ≡ begun (masked_at m) b
+begins_at : (m b : ℕ) → END ≤ m → m < STATES → b < 256 → stage_of (next_state m b) ≡ begun (masked_at m) b
 begins_at m b low high lt =
     let k = end_at m low high in
     next_stage m b high lt ∙ ap (λ (x : Stage). after x b) k.is ∙ ap (λ (o : Option ℕ). begun o b) (masked_same m k.kind k.told).0
 
 -- the first byte after an instruction means what its stage says
-begun_from : (m b : ℕ) → 64 ≤ m → m < 75 → b < 256 → Meant (masked_at m) (begun (masked_at m) b) (b ∷ [])
+begun_from : (m b : ℕ) → END ≤ m → m < STATES → b < 256 → Meant (masked_at m) (begun (masked_at m) b) (b ∷ [])
 begun_from m b low high lt =
     let k = end_at m low high in
     let s = masked_same m k.kind k.told in
     begun_meant (masked_at m) b lt (subst (λ (o : Option ℕ). IfSome o (λ r. r < 8)) s.0 s.1)
 
 -- from a stage to an end
-led : (o : Option ℕ) (s e : ℕ) (pre bs : List ℕ) → s < 64 → All (λ b. b < 256) bs → Meant o (stage_of s) pre → Leads s bs e
-    → Meant o (stage_of e) (pre ++ bs) × (64 ≤ e) × (e < 75)
+led : (o : Option ℕ) (s e : ℕ) (pre bs : List ℕ) → s < END → All (λ b. b < 256) bs → Meant o (stage_of s) pre → Leads s bs e
+    → Meant o (stage_of e) (pre ++ bs) × (END ≤ e) × (e < STATES)
 led o s e pre [] lt fits m l = absurd l
 led o s e pre (b ∷ []) lt fits m l =
     let next = step o (stage_of s) b pre (first_fits b [] fits) (inside_at s lt) m in (
@@ -220,8 +223,8 @@ led o s e pre (b ∷ c ∷ bs) lt fits m l =
     (subst (λ (z : List ℕ). Meant o (stage_of e) z) (more pre (c ∷ bs) b) rest.0, rest.1, rest.2)
 
 -- from an end to the next
-led_from_end : (m e : ℕ) (bs : List ℕ) → 64 ≤ m → m < 75 → All (λ b. b < 256) bs → Leads m bs e → Meant (masked_at m) (stage_of e) bs
-    × (64 ≤ e) × (e < 75)
+led_from_end : (m e : ℕ) (bs : List ℕ) → END ≤ m → m < STATES → All (λ b. b < 256) bs → Leads m bs e → Meant (masked_at m) (stage_of e) bs
+    × (END ≤ e) × (e < STATES)
 led_from_end m e [] low high fits l = absurd l
 led_from_end m e (b ∷ []) low high fits l = (
   subst (λ (x : Stage). Meant (masked_at m) x (b ∷ [])) (sym (begins_at m b low high (first_fits b [] fits)) ∙ ap stage_of (sym l.0))
@@ -242,16 +245,16 @@ reads_by_states m e bytes low high fits l =
     finished_ends m e bytes k.kind fits k.told (subst (λ (x : Stage). Meant (masked_at m) x bytes) k.is w.0)
 
 -- an instruction of one byte is no indirect transfer
-one_byte : each_below (λ k. each_below (λ b. not (next_state (64 + k) b == 74)) 256) 11 ≡ true
+one_byte : each_below (λ k. each_below (λ b. not (next_state (END + k) b == AFTER_PAIR)) 256) 11 ≡ true
 unfolding next_state
 one_byte = refl
 
 -- the law: one byte is never an indirect transfer
 pub none_is_paired : NoneIsPaired
 none_is_paired m b low high lt e =
-    let row : each_below (λ x. not (next_state (64 + (m - 64)) x == 74)) 256 ≡ true = each_below-at
-    (λ k. each_below (λ x. not (next_state (64 + k) x == 74)) 256) 11 (m - 64) one_byte (omega (arith, low, high)) in
-    let is : 64 + (m - 64) ≡ m = omega (arith, low) in
-    let other : (next_state m b == 74) ≡ false = not_is _ (subst (λ (k : ℕ). not (next_state k b == 74) ≡ true) is
-    (each_below-at (λ x. not (next_state (64 + (m - 64)) x == 74)) 256 b row lt)) in
-    (let g : (74 == 74) ≡ false = ap (λ (x : ℕ). x == 74) (sym e) ∙ other in cc)
+    let row : each_below (λ x. not (next_state (END + (m - END)) x == AFTER_PAIR)) 256 ≡ true = each_below-at
+    (λ k. each_below (λ x. not (next_state (END + k) x == AFTER_PAIR)) 256) 11 (m - END) one_byte (omega (arith, low, high)) in
+    let is : END + (m - END) ≡ m = omega (arith, low) in
+    let other : (next_state m b == AFTER_PAIR) ≡ false = not_is _ (subst (λ (k : ℕ). not (next_state k b == AFTER_PAIR) ≡ true) is
+    (each_below-at (λ x. not (next_state (END + (m - END)) x == AFTER_PAIR)) 256 b row lt)) in
+    (let g : (AFTER_PAIR == AFTER_PAIR) ≡ false = ap (λ (x : ℕ). x == AFTER_PAIR) (sym e) ∙ other in cc)

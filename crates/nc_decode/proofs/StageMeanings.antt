@@ -1,5 +1,7 @@
 -- What the bytes after an instruction's begin say at each stage of the automaton, and that one more byte leads on.
-use Rattle.std.proofs.Common.{◌≡◌, ◌≢◌, ℕ, zero, suc, ◌+◌, ◌-◌, ◌%◌, ◌<◌, ◌≤◌, Bool, true, false, List, [], ◌∷◌, ◌++◌, Option, Some, Result, Ok, Err, length, drop, get_or, refl, sym, ◌∙◌, ap, arith, inl, inr, ◌==◌, ◌&&◌, eqb-true, nat_lt, append_assoc, append-nil}
+use Rattle.std.proofs.Common.{◌≡◌, ◌≢◌, ℕ, zero, suc, ◌+◌, ◌-◌, ◌%◌, ◌<◌, ◌≤◌, Bool, true, false, List, [], ◌∷◌, ◌++◌, Option, Some}
+use Rattle.std.proofs.Common.{Result, Ok, Err, length, drop, get_or, refl, sym, ◌∙◌, ap, arith, inl, inr, ◌==◌, ◌&&◌, eqb-true, nat_lt}
+use Rattle.std.proofs.Common.{append_assoc, append-nil}
 use Rattle.std.specs.Prelude.{if◌then◌else◌, slice_index}
 use Rattle.std.specs.Int.{w8, w32, cast_signed, from_le_bytes}
 use Rattle.std.proofs.lemmas.Bool.{eqb-false}
@@ -15,14 +17,16 @@ use Rattle.nc_decode.specs.declared.instruction.DecodeFault.TheVariants.{Truncat
 use Rattle.nc_decode.specs.declared.instruction.Instr.{Instr}
 use Rattle.nc_decode.specs.machinery.Reading.{reading, rel_of}
 use Rattle.nc_decode.specs.Rows.{mod_of, reg_of, rm_of}
-use Rattle.nc_decode.specs.machinery.Shapes.{◌>>=◌, forms_of, coded_len, permits, flow_of, reg_if, has_sib, sized_operand, operand_shape, escaped_shape, opcode_shape, shape_of}
+use Rattle.nc_decode.specs.machinery.Shapes.{◌>>=◌, forms_of, coded_len, permits, flow_of, reg_if, has_sib, sized_operand, operand_shape}
+use Rattle.nc_decode.specs.machinery.Shapes.{escaped_shape, opcode_shape, shape_of}
 use Rattle.nc_decode.specs.Spelling.{operand_len}
 use Rattle.nc_decode.specs.Transfers.{is_direct, is_indirect}
 use Rattle.nc_decode.proofs.EntriesMatchRows.{not}
 use Rattle.nc_decode.proofs.BoolTests.{both, true_or_false, cond_is_true, cond_is_false}
 use Rattle.nc_decode.proofs.ReadIsSpelled.{instr_at}
 use Rattle.nc_decode.proofs.Readings.{reads_whole}
-use Rattle.nc_decode.proofs.Stages.{Ended, plain, masked, by_short, by_near, paired, Stage, dead, prefixed, escaped, operand, masking, mask_number, transfer_after_mask, sib, number, short, near, ended, numbers, modrm, after}
+use Rattle.nc_decode.proofs.Stages.{Ended, plain, masked, by_short, by_near, paired, Stage, dead, prefixed, escaped, operand, masking}
+use Rattle.nc_decode.proofs.Stages.{mask_number, transfer_after_mask, sib, number, short, near, ended, numbers, modrm, after}
 
 -- ---- the meanings
 

@@ -1,5 +1,6 @@
 -- One more byte leads from stage to stage.
-use Rattle.std.proofs.Common.{◌≡◌, ◌≢◌, ℕ, ◌+◌, ◌-◌, ◌%◌, ◌<◌, ◌≤◌, Bool, true, false, List, [], ◌∷◌, ◌++◌, Option, Some, None, Result, Ok, Err, length, refl, sym, subst, ◌∙◌, ap, arith, inl, inr, ◌==◌, ◌&&◌, eqb-true}
+use Rattle.std.proofs.Common.{◌≡◌, ◌≢◌, ℕ, ◌+◌, ◌-◌, ◌%◌, ◌<◌, ◌≤◌, Bool, true, false, List, [], ◌∷◌, ◌++◌, Option, Some, None, Result, Ok}
+use Rattle.std.proofs.Common.{Err, length, refl, sym, subst, ◌∙◌, ap, arith, inl, inr, ◌==◌, ◌&&◌, eqb-true}
 use Rattle.std.specs.Prelude.{if◌then◌else◌, IfSome}
 use Rattle.std.proofs.lemmas.Bool.Decides.{nat_tests}
 use Rattle.std.proofs.lemmas.List.{length_push}
@@ -15,12 +16,17 @@ use Rattle.nc_decode.specs.declared.instruction.Instr.{Instr}
 use Rattle.nc_decode.specs.machinery.Entries.{entry_of}
 use Rattle.nc_decode.specs.machinery.Reading.{reading, whole_of}
 use Rattle.nc_decode.specs.Rows.{reg_of}
-use Rattle.nc_decode.specs.machinery.Shapes.{prefix_of, forms_of, coded_len, permits, flow_of, reg_if, sized_operand, operand_shape, entry_shape, escapes, escaped_shape, opcode_shape, prefixed_shape, shape_of}
+use Rattle.nc_decode.specs.machinery.Shapes.{prefix_of, forms_of, coded_len, permits, flow_of, reg_if, sized_operand, operand_shape}
+use Rattle.nc_decode.specs.machinery.Shapes.{entry_shape, escapes, escaped_shape, opcode_shape, prefixed_shape, shape_of}
 use Rattle.nc_decode.specs.Transfers.{is_direct, is_indirect}
 use Rattle.nc_decode.proofs.EntriesMatchRows.{each_below, coded_kind, not, each_prefix}
-use Rattle.nc_decode.proofs.BoolTests.{both, not_is, true_or_false, either, chosen_true, chosen_false, cond_is_true, cond_is_false, each_below-at}
-use Rattle.nc_decode.proofs.Stages.{paired, Stage, dead, prefixed, escaped, operand, masking, mask_number, transfer_after_mask, sib, number, short, near, ended, numbers, by_number, calm, after_opcode, opcode, unprefixed, begun, modrm, masks_there, goes_by, after, same_stage, stage_same}
-use Rattle.nc_decode.proofs.StageMeanings.{Meant, ok, WaitsForOperand, Finished, more, waits_more, finished, numbers_meant, short_ends, near_step, modrm_meant}
+use Rattle.nc_decode.proofs.BoolTests.{both, not_is, true_or_false, either, chosen_true, chosen_false, cond_is_true, cond_is_false}
+use Rattle.nc_decode.proofs.BoolTests.{each_below-at}
+use Rattle.nc_decode.proofs.Stages.{paired, Stage, dead, prefixed, escaped, operand, masking, mask_number, transfer_after_mask, sib}
+use Rattle.nc_decode.proofs.Stages.{number, short, near, ended, numbers, by_number, calm, after_opcode, opcode, unprefixed, begun, modrm}
+use Rattle.nc_decode.proofs.Stages.{masks_there, goes_by, after, same_stage, stage_same}
+use Rattle.nc_decode.proofs.StageMeanings.{Meant, ok, WaitsForOperand, Finished, more, waits_more, finished, numbers_meant, short_ends}
+use Rattle.nc_decode.proofs.StageMeanings.{near_step, modrm_meant}
 
 -- ---- what the entries have
 
@@ -341,7 +347,8 @@ pairs r (Err e) = false
 
 -- computed: FF and ModRM on each register are read as an indirect transfer on it
 paired_reads : each_below (λ r. pairs r (reading (0xFF ∷ (0xD0 + r) ∷ [])) && pairs r (reading (0xFF ∷ (0xE0 + r) ∷ []))) 8 ≡ true
-unfolding reading whole_of shape_of prefixed_shape prefix_of opcode_shape entry_shape operand_shape sized_operand entry_of forms_of coded_len permits flow_of reg_if
+unfolding reading whole_of shape_of prefixed_shape prefix_of opcode_shape entry_shape operand_shape sized_operand entry_of forms_of
+    coded_len permits flow_of reg_if
 paired_reads = refl
 
 -- so for one register

@@ -1,7 +1,8 @@
 -- What each state of the automaton waits for, and that its table says the next one.
-use Rattle.std.proofs.Common.{◌≡◌, ℕ, zero, suc, ◌+◌, ◌-◌, ◌%◌, ◌<◌, Bool, true, false, List, [], ◌∷◌, Option, Some, None, get_or, refl, ap, arith, inl, inr, ◌==◌, ◌&&◌, ◌||◌, eqb-true, ltb-true, nat_le, nat_lt}
+use Rattle.std.proofs.Common.{◌≡◌, ℕ, zero, suc, ◌+◌, ◌-◌, ◌%◌, ◌<◌, Bool, true, false, List, [], ◌∷◌, Option, Some, None, get_or, refl}
+use Rattle.std.proofs.Common.{ap, arith, inl, inr, ◌==◌, ◌&&◌, ◌||◌, eqb-true, ltb-true, nat_le, nat_lt}
 use Rattle.std.specs.Prelude.{if◌then◌else◌}
-use Rattle.nc_decode.specs.declared.automaton.TheConstants.{NEXT}
+use Rattle.nc_decode.specs.declared.automaton.TheConstants.{NEXT, STATES}
 use Rattle.nc_decode.specs.declared.entry.Entry.{Entry}
 use Rattle.nc_decode.specs.declared.entry.Number.{Number}
 use Rattle.nc_decode.specs.declared.entry.Number.TheVariants.{Short, Near}
@@ -203,19 +204,19 @@ abbrev agrees : List ℕ → Stage → Bool
 agrees row x = each_below (λ b. same_stage (stage_of (get_or row b 0)) (after x b)) 256
 
 -- the table agrees
-tabled : each_below (λ s. agrees (get_or NEXT s []) (stage_of s)) 75 ≡ true
+tabled : each_below (λ s. agrees (get_or NEXT s []) (stage_of s)) STATES ≡ true
 unfolding entry_of forms_of prefix_of coded_len permits
 tabled = refl
 
 -- so at a state and a byte
-pub next_stage : (s b : ℕ) → s < 75 → b < 256 → stage_of (next_state s b) ≡ after (stage_of s) b
+pub next_stage : (s b : ℕ) → s < STATES → b < 256 → stage_of (next_state s b) ≡ after (stage_of s) b
 unfolding next_state
 next_stage s b s-lt b-lt =
     stage_same _ _ (each_below-at (λ x. same_stage (stage_of (get_or (get_or NEXT s []) x 0)) (after (stage_of s) x)) 256 b
-    (each_below-at (λ t. agrees (get_or NEXT t []) (stage_of t)) 75 s tabled s-lt) b-lt)
+    (each_below-at (λ t. agrees (get_or NEXT t []) (stage_of t)) STATES s tabled s-lt) b-lt)
 
 -- each number of the table is a state
-small : each (λ row. each (λ s. nat_lt s 75) row) NEXT ≡ true
+small : each (λ row. each (λ s. nat_lt s STATES) row) NEXT ≡ true
 small = refl
 
 -- the first of a test of each
@@ -226,18 +227,18 @@ each_first t x xs e = elim (true_or_false (t x)) [
 ]
 
 -- each number of a row is a state
-row_small : (row : List ℕ) (b : ℕ) → each (λ s. nat_lt s 75) row ≡ true → get_or row b 0 < 75
+row_small : (row : List ℕ) (b : ℕ) → each (λ s. nat_lt s STATES) row ≡ true → get_or row b 0 < STATES
 row_small [] b e = omega arith
-row_small (s ∷ row) zero e = let h = (each_first (λ x. nat_lt x 75) s row e).0 in ltb-true s 75 h
-row_small (s ∷ row) (suc b) e = row_small row b (each_first (λ x. nat_lt x 75) s row e).1
+row_small (s ∷ row) zero e = let h = (each_first (λ x. nat_lt x STATES) s row e).0 in ltb-true s STATES h
+row_small (s ∷ row) (suc b) e = row_small row b (each_first (λ x. nat_lt x STATES) s row e).1
 
 -- each number of the table is a state
-table_small : (rows : List (List ℕ)) (s b : ℕ) → each (λ row. each (λ x. nat_lt x 75) row) rows ≡ true → get_or (get_or rows s []) b 0 < 75
+table_small : (rows : List (List ℕ)) (s b : ℕ) → each (λ row. each (λ x. nat_lt x STATES) row) rows ≡ true → get_or (get_or rows s []) b 0 < STATES
 table_small [] s b e = omega arith
-table_small (row ∷ rows) zero b e = row_small row b (each_first (λ r. each (λ x. nat_lt x 75) r) row rows e).0
-table_small (row ∷ rows) (suc s) b e = table_small rows s b (each_first (λ r. each (λ x. nat_lt x 75) r) row rows e).1
+table_small (row ∷ rows) zero b e = row_small row b (each_first (λ r. each (λ x. nat_lt x STATES) r) row rows e).0
+table_small (row ∷ rows) (suc s) b e = table_small rows s b (each_first (λ r. each (λ x. nat_lt x STATES) r) row rows e).1
 
 -- the next state is one
-pub next_small : (s b : ℕ) → next_state s b < 75
+pub next_small : (s b : ℕ) → next_state s b < STATES
 unfolding next_state
 next_small s b = table_small NEXT s b small

@@ -1,5 +1,6 @@
 -- The automaton that reads one byte at a time, and what a run of it says of the bytes.
-use Rattle.std.specs.Prelude.{ℕ, ◌≡◌, ◌+◌, ◌-◌, ◌%◌, ◌<◌, ◌≤◌, ◌⊎◌, List, [], ◌∷◌, length, drop, slice_index, get_or, Option, Some, None, IsTrue, All, ◌==◌, if◌then◌else◌}
+use Rattle.std.specs.Prelude.{ℕ, ◌≡◌, ◌+◌, ◌-◌, ◌%◌, ◌<◌, ◌≤◌, ◌⊎◌, List, [], ◌∷◌, length, drop, slice_index, get_or, Option, Some, None}
+use Rattle.std.specs.Prelude.{IsTrue, All, ◌==◌, if◌then◌else◌}
 use Rattle.std.specs.Int.{w8, w32, cast_signed, from_le_bytes}
 use Rattle.nc_decode.specs.declared.automaton.TheConstants.{NEXT, STATES, END, AFTER_MASK, AFTER_SHORT, AFTER_NEAR, AFTER_PAIR}
 use Rattle.nc_decode.specs.declared.instruction.Instr.{Instr}

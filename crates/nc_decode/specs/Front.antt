@@ -1,6 +1,7 @@
 -- The instruction at the front of some bytes, as one function, and what is known of it.
 -- The law `law_of_fronts` ties it to the relation of `Spelling`; whoever stands above cites only these words.
-use Rattle.std.specs.Prelude.{◌≡◌, ◌≢◌, ◌↔◌, ℕ, ◌<◌, ◌≤◌, List, [], ◌∷◌, ◌++◌, length, take, Option, Some, None, nat_lt, if◌then◌else◌, pos, IfSome, IsTrue}
+use Rattle.std.specs.Prelude.{◌≡◌, ◌≢◌, ◌↔◌, ℕ, ◌<◌, ◌≤◌, List, [], ◌∷◌, ◌++◌, length, take, Option, Some, None, nat_lt, if◌then◌else◌}
+use Rattle.std.specs.Prelude.{pos, IfSome, IsTrue}
 use Rattle.std.specs.Result.{result_ok}
 use Rattle.nc_decode.specs.declared.instruction.Instr.{Instr}
 use Rattle.nc_decode.specs.declared.instruction.Flow.{Flow}

@@ -1,5 +1,5 @@
 -- Two texts that differ in one span only, and what that leaves of a chunk beside it.
-use Rattle.std.proofs.Common.{◌≡◌, ℕ, ◌+◌, ◌<◌, ◌≤◌, ◌⊎◌, List, length, inl, inr, arith, ◌∙◌, sym, ap, subst}
+use Rattle.std.proofs.Common.{◌≡◌, ℕ, ◌+◌, ◌<◌, ◌≤◌, ◌⊎◌, length, inl, inr, arith, ◌∙◌, sym, ap, subst}
 use Rattle.nc_text.specs.Places.{byte_at}
 use Rattle.nc_text.specs.Marks.{mark_at}
 use Rattle.nc_text.specs.MarkedText.{MarkedText}

@@ -1,13 +1,11 @@
 -- While a chunk is turned into stops, the text stays closed.
-use Rattle.std.proofs.Common.{◌≡◌, ◌≢◌, ℕ, ◌+◌, ◌-◌, ◌%◌, ◌<◌, ◌≤◌, ◌⊎◌, Bool, true, false, not, List, length, get_or, replicate, Option}
-use Rattle.std.proofs.Common.{inl, inr, arith, refl, ◌∙◌, sym, ap, subst, ⊎_elim}
-use Rattle.std.proofs.lemmas.Bool.{cases_lt, false≢true}
+use Rattle.std.proofs.Common.{◌≡◌, ℕ, ◌+◌, ◌-◌, ◌<◌, ◌≤◌, Bool, true, false, not, List, length, get_or, replicate, Option}
+use Rattle.std.proofs.Common.{inl, inr, arith, refl, ◌∙◌, sym, ap, subst}
 use Rattle.std.proofs.lemmas.List.{get_or-replicate, length-replicate, ext_get_or}
 use Rattle.nc_decode.specs.declared.instruction.Mark.{Mark}
 use Rattle.nc_decode.specs.declared.instruction.Mark.TheVariants.{Unmarked, Plain, After}
-use Rattle.nc_text.specs.Places.{InRegion, limit_of, byte_at}
-use Rattle.nc_text.specs.Machine.{State}
-use Rattle.nc_text.specs.Marks.{IsMarked, IsClosed, mark_at, Admits}
+use Rattle.nc_text.specs.Places.{limit_of, byte_at}
+use Rattle.nc_text.specs.Marks.{IsClosed, mark_at, Admits}
 use Rattle.nc_text.specs.MarkedText.{MarkedText, with_span}
 use Rattle.nc_text.proofs.Offered.{closed_with_stops, length-with_span}
 use Rattle.nc_region.specs.Acts.{is_mark, is_marked_at, is_unmarked_at}

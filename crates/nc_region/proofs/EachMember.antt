@@ -1,6 +1,5 @@
 -- What holds of each member of a list.
 use Rattle.std.proofs.Common.{ℕ, ◌≢◌, ◌<◌, List, [], ◌∷◌, ◌++◌, length, get_or, set, take, drop, replicate, arith, zero, suc}
-use Rattle.std.specs.List.{remove}
 use Rattle.nc_region.specs.Each.{Each}
 
 -- what follows from P for each holds of each

@@ -1,12 +1,11 @@
 -- A text in which one instruction of a live chunk is exchanged is closed, and holds the chunk.
-use Rattle.std.proofs.Common.{◌≡◌, ◌≢◌, ℕ, ◌+◌, ◌-◌, ◌%◌, ◌<◌, ◌≤◌, ◌⊎◌, List, [], ◌∷◌, ◌++◌, length, take, drop, get_or, Option, Some}
+use Rattle.std.proofs.Common.{◌≡◌, ◌≢◌, ℕ, ◌+◌, ◌-◌, ◌<◌, ◌≤◌, ◌⊎◌, List, ◌∷◌, ◌++◌, length, take, drop, get_or, Option, Some}
 use Rattle.std.proofs.Common.{inl, inr, arith, refl, ◌∙◌, sym, ap, subst, append_assoc}
-use Rattle.std.proofs.lemmas.List.{length-replicate, length-append, ext_get_or}
-use Rattle.std.proofs.lemmas.List.FromFn.{length-map-range_with_len, get_or-map-range_with_len}
+use Rattle.std.proofs.lemmas.List.{length-append, ext_get_or}
 use Rattle.std.proofs.Math.Seq.{drop-append_seam}
 use Rattle.nc_decode.specs.declared.instruction.Instr.{Instr}
 use Rattle.nc_decode.specs.declared.instruction.Mark.{Mark}
-use Rattle.nc_decode.specs.declared.instruction.Mark.TheVariants.{Unmarked, Plain}
+use Rattle.nc_decode.specs.declared.instruction.Mark.TheVariants.{Unmarked}
 use Rattle.nc_decode.specs.Bundles.{IsLawfulLimit}
 use Rattle.nc_decode.proofs.Offered.{spells_some}
 use Rattle.nc_vet.specs.Chunk.{Piece, code_of, place, marks_of}
@@ -20,7 +19,7 @@ use Rattle.nc_text.specs.MarkedText.{MarkedText, IsText, with_span, unused_mark,
 use Rattle.nc_text.proofs.Offered.{closed_by_parts, executes, marked_within}
 use Rattle.nc_text.proofs.Offered.{length-with_span, get_or-with_span_in, get_or-with_span_below, get_or-with_span_above}
 use Rattle.nc_region.specs.declared.chunk.Chunk.{Chunk}
-use Rattle.nc_region.specs.Chunks.{IsClosedChunk, with_chunk}
+use Rattle.nc_region.specs.Chunks.{IsClosedChunk}
 use Rattle.nc_region.specs.Region.{IsInChunk, HoldsValid}
 use Rattle.nc_region.specs.machinery.PatchSteps.{Begins, IsReplacing}
 use Rattle.nc_region.proofs.SpanPlaces.{Before, Within, Behind, place_of, unused_is_start, span_within, span_before, span_behind}
@@ -28,8 +27,8 @@ use Rattle.nc_region.proofs.SpanPlaces.{before_span, within_span}
 use Rattle.nc_region.proofs.Alone.{alone, alone_fits_bytes, alone_within, alone_before, alone_behind, alone_bytes_long, alone_marks_long}
 use Rattle.nc_region.proofs.Pieces.{valid_chunk_is_closed}
 use Rattle.nc_region.proofs.NewInstructions.{take_seam, some_same}
-use Rattle.nc_region.proofs.Standing.{Lies, lies, Standing, stands_with}
-use Rattle.nc_region.proofs.Exchanging.{Exchanges, exchanged, exchanged_valid, code_long, Where, where_is, Here, Earlier, Later}
+use Rattle.nc_region.proofs.Standing.{Lies, lies, stands_with}
+use Rattle.nc_region.proofs.Exchanging.{Exchanges, exchanged, exchanged_valid, code_long, where_is, Here, Earlier, Later}
 
 -- ---- a chunk's bytes set anew under the marks that stand there
 

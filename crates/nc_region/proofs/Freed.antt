@@ -1,9 +1,7 @@
 -- A region stays one when a retired chunk of it is unmarked and leaves the list.
-use Rattle.std.proofs.Common.{◌≡◌, ℕ, ◌+◌, ◌-◌, ◌<◌, ◌≤◌, ◌⊎◌, List, [], ◌∷◌, ◌++◌, length, inl, inr, arith, refl, ◌∙◌, sym, ap, subst}
-use Rattle.nc_decode.specs.declared.instruction.Mark.{Mark}
-use Rattle.nc_text.specs.Places.{limit_of, byte_at}
-use Rattle.nc_text.specs.Marks.{mark_at}
-use Rattle.nc_text.specs.MarkedText.{MarkedText, IsText, without_marks, unused_mark}
+use Rattle.std.proofs.Common.{ℕ, ◌+◌, ◌≤◌, List, [], ◌∷◌, ◌++◌, inl, inr, arith, refl, ◌∙◌}
+use Rattle.nc_text.specs.Places.{limit_of}
+use Rattle.nc_text.specs.MarkedText.{MarkedText, without_marks}
 use Rattle.nc_region.specs.declared.chunk.Chunk.{Chunk}
 use Rattle.nc_region.specs.Chunks.{HasGoodSpan}
 use Rattle.nc_region.specs.Each.{Each}

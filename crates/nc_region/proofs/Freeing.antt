@@ -1,17 +1,16 @@
 -- A quiet span may be unmarked.
-use Rattle.std.proofs.Common.{◌≡◌, ◌≢◌, ℕ, ◌+◌, ◌-◌, ◌%◌, ◌<◌, ◌≤◌, ◌⊎◌, List, length, get_or, Option, inl, inr, arith, refl, ◌∙◌, sym}
-use Rattle.std.proofs.Common.{ap, subst, ⊎_elim}
+use Rattle.std.proofs.Common.{◌≡◌, ℕ, ◌+◌, ◌-◌, ◌<◌, ◌≤◌, List, length, inl, inr, arith, ◌∙◌, sym}
+use Rattle.std.proofs.Common.{subst}
 use Rattle.std.proofs.lemmas.List.FromFn.{length-map-range_with_len, get_or-map-range_with_len}
 use Rattle.nc_decode.specs.declared.instruction.Mark.{Mark}
 use Rattle.nc_decode.specs.declared.instruction.Mark.TheVariants.{Unmarked, Plain}
-use Rattle.nc_text.specs.Places.{InRegion, IsTrampoline, limit_of, byte_at}
-use Rattle.nc_decode.specs.Bundles.{IsBundleStart}
+use Rattle.nc_text.specs.Places.{limit_of}
 use Rattle.nc_text.specs.Machine.{State, Step}
 use Rattle.nc_text.specs.Marks.{IsMarked, IsClosed, mark_at, Admits}
-use Rattle.nc_text.specs.MarkedText.{MarkedText, with_span, without_marks, unused_mark, unused_marks}
-use Rattle.nc_text.proofs.Offered.{no_step_from_stop, marked_within, length-with_span}
+use Rattle.nc_text.specs.MarkedText.{MarkedText, without_marks, unused_mark, unused_marks}
+use Rattle.nc_text.proofs.Offered.{no_step_from_stop, length-with_span}
 use Rattle.nc_region.specs.Chunks.{HasGoodSpan}
-use Rattle.nc_region.specs.Quiet.{Span, IsInSpan, IsWithin, IsQuiet}
+use Rattle.nc_region.specs.Quiet.{Span, IsWithin, IsQuiet}
 use Rattle.nc_region.proofs.SpanPlaces.{place_of, Before, Within, Behind, span_before, span_within, span_behind, start_or_not}
 use Rattle.nc_region.proofs.SpanPlaces.{unused_is_start, unused_at_start}
 

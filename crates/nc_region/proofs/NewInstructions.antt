@@ -1,6 +1,6 @@
 -- Bytes that are whole instructions, the first of them taken off.
-use Rattle.std.proofs.Common.{◌≡◌, ℕ, zero, suc, ◌+◌, ◌-◌, ◌<◌, ◌≤◌, List, [], ◌∷◌, ◌++◌, length, take, drop, Option, Some, None, refl}
-use Rattle.std.proofs.Common.{sym, subst, ◌∙◌, ap, arith, append-nil}
+use Rattle.std.proofs.Common.{◌≡◌, ℕ, zero, suc, ◌+◌, ◌-◌, ◌<◌, List, [], ◌∷◌, ◌++◌, length, take, drop, Option, Some, None, refl}
+use Rattle.std.proofs.Common.{sym, subst, ◌∙◌, ap, arith}
 use Rattle.std.proofs.lemmas.List.{length-append, length-drop, take-append-drop}
 use Rattle.std.proofs.Math.Seq.{drop-append_seam}
 use Rattle.nc_decode.specs.declared.instruction.Instr.{Instr}
@@ -8,7 +8,7 @@ use Rattle.nc_decode.specs.Front.{first_instruction}
 use Rattle.nc_decode.specs.Spelling.{Spells}
 use Rattle.nc_decode.proofs.Offered.{exact, has_its_length, spells_some}
 use Rattle.nc_vet.specs.Chunk.{Piece, code_of, AreSpelled}
-use Rattle.nc_vet.proofs.Offered.{spelled_after, split_none, none_after, same_pieces}
+use Rattle.nc_vet.proofs.Offered.{spelled_after, split_none, none_after}
 use Rattle.nc_region.specs.Patch.{AreBytesOf, AreInstructions}
 
 -- no bytes are no instructions

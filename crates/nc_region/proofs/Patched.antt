@@ -1,8 +1,8 @@
 -- A region in which a live chunk was patched.
-use Rattle.std.proofs.Common.{◌≡◌, ℕ, zero, suc, ◌+◌, ◌-◌, ◌<◌, ◌≤◌, ◌⊎◌, List, [], ◌∷◌, length, get_or, inl, inr, arith, ◌∙◌, sym, ap}
-use Rattle.std.proofs.Common.{subst, ⊎_elim, refl}
+use Rattle.std.proofs.Common.{◌≡◌, ℕ, ◌+◌, ◌-◌, ◌<◌, ◌≤◌, ◌⊎◌, List, length, get_or, inl, inr, arith, ◌∙◌, sym, ap}
+use Rattle.std.proofs.Common.{subst, ⊎_elim}
 use Rattle.std.proofs.lemmas.Bool.{cases_lt}
-use Rattle.nc_text.specs.Places.{limit_of, byte_at}
+use Rattle.nc_text.specs.Places.{byte_at}
 use Rattle.nc_text.specs.Marks.{mark_at}
 use Rattle.nc_text.specs.MarkedText.{MarkedText, IsText, with_span}
 use Rattle.nc_text.proofs.Offered.{length-with_span}

@@ -1,6 +1,6 @@
 -- In a region every retired span is quiet.
-use Rattle.std.proofs.Common.{◌≡◌, ◌≢◌, ℕ, ◌+◌, ◌-◌, ◌%◌, ◌<◌, ◌≤◌, ◌⊎◌, List, [], ◌∷◌, length, get_or, inl, inr, arith, refl, ◌∙◌, sym}
-use Rattle.std.proofs.Common.{ap, subst, ⊎_elim}
+use Rattle.std.proofs.Common.{◌≡◌, ℕ, ◌+◌, ◌%◌, ◌<◌, ◌≤◌, ◌⊎◌, List, [], ◌∷◌, length, inl, inr, arith, refl, ◌∙◌, sym}
+use Rattle.std.proofs.Common.{subst}
 use Rattle.nc_decode.specs.declared.instruction.Mark.{Mark}
 use Rattle.nc_text.specs.Places.{IsTrampoline, limit_of}
 use Rattle.nc_text.specs.Machine.{State, Step}

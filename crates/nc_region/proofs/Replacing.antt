@@ -1,13 +1,10 @@
 -- While an instruction is replaced, the text stays closed.
-use Rattle.std.proofs.Common.{◌≡◌, ◌≢◌, ℕ, ◌+◌, ◌-◌, ◌<◌, ◌≤◌, ◌⊎◌, List, [], ◌∷◌, length, get_or, set, drop, Some, true, inl, inr}
-use Rattle.std.proofs.Common.{arith, refl, ◌∙◌, sym, ap, subst, ⊎_elim, suc}
-use Rattle.std.proofs.lemmas.Bool.{cases_lt}
+use Rattle.std.proofs.Common.{◌≡◌, ℕ, ◌+◌, ◌-◌, ◌≤◌, List, ◌∷◌, length, get_or, set, inl, inr}
+use Rattle.std.proofs.Common.{arith, refl, ◌∙◌, sym, ap, subst, suc}
 use Rattle.std.proofs.lemmas.Bool.Decides.{eqb_tells}
 use Rattle.std.proofs.lemmas.List.{length-set, ext_get_or}
-use Rattle.nc_decode.specs.declared.instruction.Mark.{Mark}
-use Rattle.nc_text.specs.Places.{limit_of, byte_at}
-use Rattle.nc_text.specs.Machine.{State}
-use Rattle.nc_text.specs.Marks.{IsMarked, IsClosed}
+use Rattle.nc_text.specs.Places.{byte_at}
+use Rattle.nc_text.specs.Marks.{IsClosed}
 use Rattle.nc_text.specs.MarkedText.{MarkedText, with_span}
 use Rattle.nc_text.proofs.Offered.{closed_with_stops, length-with_span}
 use Rattle.nc_region.specs.Patch.{any_place}

@@ -1,12 +1,12 @@
 -- A run of instructions of a chunk, by what stands from its first one on.
 use Rattle.std.proofs.Common.{◌≡◌, ℕ, ◌+◌, ◌-◌, ◌<◌, ◌≤◌, zero, suc, Bool, true, false, cond, List, [], ◌∷◌, ◌++◌, length, get_or, refl}
-use Rattle.std.proofs.Common.{sym, subst, ◌∙◌, ap, arith, inl, inr, ⊎_elim}
+use Rattle.std.proofs.Common.{sym, ◌∙◌, ap, arith, inl, inr, ⊎_elim}
 use Rattle.std.proofs.lemmas.Bool.{cases_lt}
 use Rattle.std.proofs.lemmas.List.{get_or_default}
 use Rattle.nc_decode.specs.declared.instruction.Mark.{Mark}
 use Rattle.nc_decode.specs.declared.instruction.Mark.TheVariants.{Unmarked, Plain, After}
 use Rattle.nc_decode.specs.Transfers.{is_indirect}
-use Rattle.nc_vet.specs.Chunk.{Piece, place, marks_of, mark_of}
+use Rattle.nc_vet.specs.Chunk.{Piece, marks_of}
 use Rattle.nc_vet.proofs.Offered.{length-marks_of}
 use Rattle.nc_vet.proofs.Offered as places
 use Rattle.nc_text.specs.Marks.{mark_at}

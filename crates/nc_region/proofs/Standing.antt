@@ -1,6 +1,6 @@
 -- Which instruction of a chunk stands at a place of the text.
-use Rattle.std.proofs.Common.{◌≡◌, ◌≢◌, ℕ, ◌+◌, ◌*◌, ◌-◌, ◌%◌, ◌<◌, ◌≤◌, Bool, true, false, not, cond, List, [], ◌∷◌, ◌++◌, length, take}
-use Rattle.std.proofs.Common.{drop, get_or, Option, Some, None, refl, sym, subst, ◌∙◌, ap, arith, append_assoc, append-nil}
+use Rattle.std.proofs.Common.{◌≡◌, ℕ, ◌+◌, ◌-◌, ◌%◌, ◌<◌, ◌≤◌, Bool, true, false, not, cond, List, [], ◌∷◌, ◌++◌, length, take}
+use Rattle.std.proofs.Common.{drop, get_or, Option, Some, refl, sym, subst, ◌∙◌, ap, arith, append_assoc, append-nil}
 use Rattle.std.specs.Prelude.{IsSomeAnd, ◌↔◌}
 use Rattle.std.proofs.lemmas.List.{length-append, length-take, length-drop, get_or-take, get_or-drop, get_or-append-add, ext_get_or}
 use Rattle.nc_decode.specs.declared.instruction.Instr.{Instr}
@@ -10,14 +10,14 @@ use Rattle.nc_decode.specs.Bundles.{IsInOneBundle}
 use Rattle.nc_decode.specs.Transfers.{is_indirect}
 use Rattle.nc_decode.specs.Front.{first_instruction}
 use Rattle.nc_decode.proofs.Offered.{exact, depends_on_its_bytes, spells_some}
-use Rattle.nc_vet.specs.Chunk.{Piece, code_of, place, mark_of, AreSpelled}
+use Rattle.nc_vet.specs.Chunk.{Piece, code_of, place, mark_of}
 use Rattle.nc_vet.proofs.Offered.{code_of-append, place-append, place-push}
 use Rattle.nc_vet.proofs.Offered as places
-use Rattle.nc_text.specs.Places.{InRegion, limit_of, byte_at, instruction_at}
+use Rattle.nc_text.specs.Places.{limit_of, byte_at, instruction_at}
 use Rattle.nc_text.specs.Marks.{mark_at}
 use Rattle.nc_text.specs.MarkedText.{MarkedText, IsText}
 use Rattle.nc_region.specs.declared.chunk.Chunk.{Chunk}
-use Rattle.nc_region.specs.Region.{IsInChunk, HoldsValid}
+use Rattle.nc_region.specs.Region.{HoldsValid}
 use Rattle.nc_region.specs.machinery.PatchSteps.{Begins, RunsAlong, NoneIndirect, NoneFirst, is_after}
 
 -- the chunk lies in the region, below the guard

@@ -1,9 +1,8 @@
 -- A patch is made one instruction after the other.
 use Rattle.std.proofs.Common.{◌≡◌, ℕ, ◌+◌, ◌-◌, ◌<◌, ◌≤◌, Bool, true, false, cond, List, [], ◌∷◌, ◌++◌, length, get_or, zero, suc, ◌&&◌}
 use Rattle.std.proofs.Common.{◌==◌, refl, sym, subst, ◌∙◌, ap, arith, inl, inr, append_assoc, eqb-true}
-use Rattle.std.specs.Prelude.{IsTrue}
 use Rattle.std.proofs.lemmas.List.{length-append, get_or_append_left, get_or-append_right, ext_get_or}
-use Rattle.nc_decode.specs.Transfers.{is_direct, is_indirect, target}
+use Rattle.nc_decode.specs.Transfers.{is_indirect, target}
 use Rattle.nc_vet.specs.Chunk.{Piece, place, IsTarget}
 use Rattle.nc_vet.proofs.Offered.{place-push}
 use Rattle.nc_text.specs.Places.{limit_of, byte_at}

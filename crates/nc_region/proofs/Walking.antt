@@ -5,7 +5,7 @@ use Rattle.std.proofs.lemmas.List.{drop_more, drop_all, take-append-drop}
 use Rattle.nc_decode.specs.declared.instruction.Mark.{Mark}
 use Rattle.nc_text.specs.Machine.{State, state, Step, IsSafe, Joined}
 use Rattle.nc_text.specs.Marks.{IsClosed}
-use Rattle.nc_text.proofs.Offered.{IsKnown, safe_if_known, start_is_marked, confined_if_closed}
+use Rattle.nc_text.proofs.Offered.{IsKnown, safe_if_known, confined_if_closed}
 use Rattle.nc_region.specs.declared.trace.End.{End}
 use Rattle.nc_region.specs.Trace.{EndsBy, GoesOn, IsSafeWalk, IsTrace, IsWalkStart, Moves, Walks}
 

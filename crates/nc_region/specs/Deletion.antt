@@ -1,5 +1,5 @@
 -- The region after a chunk was deleted, and after retired chunks were reclaimed.
-use Rattle.std.specs.Prelude.{◌≡◌, ℕ, ◌+◌, ◌-◌, ◌^◌, ◌<◌, Bool, false, not, nat_le, List, [], ◌∷◌, ◌++◌, length, filter, map, replicate}
+use Rattle.std.specs.Prelude.{◌≡◌, ℕ, ◌+◌, ◌-◌, ◌^◌, ◌<◌, Bool, false, not, nat_le, List, [], ◌∷◌, length, filter, map, replicate}
 use Rattle.std.specs.Prelude.{Contains, Some, slice_get, slice_set}
 use Rattle.nc_gens.specs.Rule.{generation_raised}
 use Rattle.nc_gens.specs.Seen.{HasLooked, least_number}

@@ -1,5 +1,5 @@
 -- A patch: some instructions of a live chunk replaced by others of the same lengths, while threads may be running.
-use Rattle.std.specs.Prelude.{◌≡◌, ℕ, ◌+◌, ◌-◌, ◌<◌, ◌≤◌, ◌⊎◌, ⊤, Bool, true, false, ◌==◌, ◌&&◌, List, [], ◌∷◌, ◌++◌, length, map}
+use Rattle.std.specs.Prelude.{◌≡◌, ℕ, ◌+◌, ◌-◌, ◌<◌, ◌⊎◌, ⊤, Bool, true, false, ◌==◌, ◌&&◌, List, [], ◌∷◌, ◌++◌, length, map}
 use Rattle.std.specs.Prelude.{Contains, IsTrue, if◌then◌else◌}
 use Rattle.nc_decode.specs.Bundles.{IsInOneBundle}
 use Rattle.nc_decode.specs.Transfers.{is_direct, is_indirect, target}

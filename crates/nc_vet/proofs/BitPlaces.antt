@@ -7,9 +7,8 @@ use Rattle.std.proofs.lemmas.Nat.{and_le_l}
 use Rattle.std.proofs.lemmas.Nat.Bits.{bit_at-suc, bit_at-trailing_zeros, bit_at_clear_same, bit_at_clear_other, shr_and_one}
 use Rattle.std.proofs.lemmas.Nat.Bits.{bit_at_cat_low, bit_at_cat_high}
 use Rattle.nc_decode.proofs.Offered.{true_or_false}
-use Rattle.nc_decode.specs.declared.instruction.Mark.TheVariants.{Plain}
 use Rattle.nc_vet.specs.declared.bundle.Bundle.{Bundle}
-use Rattle.nc_vet.specs.Bits.{is_start, is_second, bit_mark, no_bits}
+use Rattle.nc_vet.specs.Bits.{is_start, is_second, no_bits}
 use Rattle.nc_vet.specs.machinery.Judged.{short_to, near_to, IsGood, AreGoodShorts, AreGoodNears, IsJudged, AreJudged}
 
 -- a start, by the word that is shifted by one
@@ -33,10 +32,6 @@ second_bit w k e =
     let bit : bit_at w.pairs (k + 1) ≡ 0 = ap (λ (j : ℕ). bit_at w.pairs j) {x = k + 1} {y = suc k} (omega arith) ∙ bit_at-suc w.pairs k
     ∙ sym (shr_and_one (w.pairs / 2) k) ∙ e in
     rw bit refl
-
--- such a place has a plain mark
-pub plain_bits : (w : Bundle) (k next : ℕ) → is_start w k ≡ true → is_second w k ≡ false → bit_mark w k next ≡ Plain
-plain_bits w k next s h = rw (h, s) refl
 
 -- ---- the lowest bit
 

@@ -9,6 +9,7 @@ use Rattle.std.proofs.lemmas.Bool.{cases_lt, eqb-false}
 use Rattle.std.proofs.lemmas.Nat.Bits.{bit_at_above}
 use Rattle.std.proofs.lemmas.List.{get_or_default, get_or-append-add, length-map, length-append, take_all, ext_get_or, nil_from_length}
 use Rattle.std.proofs.lemmas.List.FromFn.{get_or-map-range_with_len, length-range_with_len}
+use Rattle.nc_decode.specs.declared.automaton.TheConstants.{END, AFTER_SHORT, AFTER_NEAR, AFTER_PAIR}
 use Rattle.nc_decode.specs.declared.instruction.Instr.{Instr}
 use Rattle.nc_decode.specs.declared.instruction.Mark.{Mark}
 use Rattle.nc_decode.specs.declared.instruction.Mark.TheVariants.{Unmarked}
@@ -38,7 +39,7 @@ told_at code bundles k t lt = (t (k / 32) (omega (arith, lt))).0
 -- the states after the places, where bundles are told and an instruction ends at a place in the one after them
 states_told : (code : List ℕ) (bundles : List Bundle) (to : ℕ) → ((k : ℕ) → Fits w8 (get_or code k 0)) → length code % 32 ≡ 0
     → AreTold code bundles → 32 * length bundles ≤ to → to ≤ 32 * length bundles + 32 → to ≤ length code
-    → (32 * length bundles < to → 64 ≤ state_after code (to - 1)) → AreStates code to (state_after code)
+    → (32 * length bundles < to → END ≤ state_after code (to - 1)) → AreStates code to (state_after code)
 states_told code bundles to fits even t low near high end = record {
   next = state_next code;
   whole = λ k lt last. elim (cases_lt k (32 * length bundles)) [
@@ -138,11 +139,11 @@ second_told : (code : List ℕ) (bundles : List Bundle) (k : ℕ) → Tells code
     → is_second (get_or bundles (k / 32) no_bits) (k % 32) ≡ second (state_after code) k
 second_told code bundles k w = elim (cases_lt (k % 32) 31) [
   | inl inner ↦
-      (w.pairs (k % 32 + 1) (omega (arith, inner)) ∙ ap (λ (j : ℕ). state_after code j == 74) {y = k + 1} (omega arith))
-      ∙ sym (ap (λ (b : Bool). b && (state_after code (k + 1) == 74)) (lt-ltb (k % 32) 31 inner))
+      (w.pairs (k % 32 + 1) (omega (arith, inner)) ∙ ap (λ (j : ℕ). state_after code j == AFTER_PAIR) {y = k + 1} (omega arith))
+      ∙ sym (ap (λ (b : Bool). b && (state_after code (k + 1) == AFTER_PAIR)) (lt-ltb (k % 32) 31 inner))
   | inr last ↦
       no_bit (get_or bundles (k / 32) no_bits).pairs (k % 32 + 1) w.small (omega (arith, last))
-      ∙ sym (ap (λ (b : Bool). b && (state_after code (k + 1) == 74)) (ltb-false_of (k % 32) 31 last))
+      ∙ sym (ap (λ (b : Bool). b && (state_after code (k + 1) == AFTER_PAIR)) (ltb-false_of (k % 32) 31 last))
 ]
   where
     ltb-false_of : (a b : ℕ) → b ≤ a → nat_lt a b ≡ false
@@ -154,12 +155,12 @@ second_told code bundles k w = elim (cases_lt (k % 32) 31) [
 
 -- so does the bit of a start
 start_told : (code : List ℕ) (bundles : List Bundle) (k : ℕ) → Tells code (32 * (k / 32)) (get_or bundles (k / 32) no_bits)
-    → is_start (get_or bundles (k / 32) no_bits) (k % 32) ≡ nat_le 64 (before (state_after code) k)
+    → is_start (get_or bundles (k / 32) no_bits) (k % 32) ≡ nat_le END (before (state_after code) k)
 start_told code bundles k w = elim (true_or_false (k % 32 == 0)) [
   | inl first ↦ rw first refl
   | inr inner ↦
       (let some : k % 32 ≢ 0 = eqb-false _ 0 inner in
-      rw inner (w.ends (k % 32 - 1) (omega arith) ∙ ap (λ (j : ℕ). nat_le 64 (state_after code j)) (omega (arith, some))))
+      rw inner (w.ends (k % 32 - 1) (omega arith) ∙ ap (λ (j : ℕ). nat_le END (state_after code j)) (omega (arith, some))))
 ]
 
 -- so the mark by the bits is that by the states
@@ -223,12 +224,12 @@ good_target base limit code bundles to r g =
         (λ low lt. out low (omega (arith, lt, length-marks_in code bundles))) (g.outside out).0 (g.outside out).1
 
 -- a bit that is set
-set_bit : (n s k : ℕ) → (bit_at n k == 1) ≡ (s == 72) → s ≡ 72 → bit_at n k ≡ 1
-set_bit n s k e is = eqb-true _ 1 (e ∙ eq-eqb s 72 is)
+set_bit : (n s k : ℕ) → (bit_at n k == 1) ≡ (s == AFTER_SHORT) → s ≡ AFTER_SHORT → bit_at n k ≡ 1
+set_bit n s k e is = eqb-true _ 1 (e ∙ eq-eqb s AFTER_SHORT is)
 
 -- the same of a displacement of four bytes
-set_near : (n s k : ℕ) → (bit_at n k == 1) ≡ (s == 73) → s ≡ 73 → bit_at n k ≡ 1
-set_near n s k e is = eqb-true _ 1 (e ∙ eq-eqb s 73 is)
+set_near : (n s k : ℕ) → (bit_at n k == 1) ≡ (s == AFTER_NEAR) → s ≡ AFTER_NEAR → bit_at n k ≡ 1
+set_near n s k e is = eqb-true _ 1 (e ∙ eq-eqb s AFTER_NEAR is)
 
 -- where a displaced transfer goes is good
 displaced_good : (base limit : ℕ) (code : List ℕ) (bundles : List Bundle) → AreTold code bundles → length code ≡ 32 * length bundles

@@ -117,10 +117,6 @@ astray_at base limit code marks at w d i r w-is lt plain f direct bad =
 
 -- ---- place by place
 
--- none has been judged yet
-pub judged_none : (base limit : ℕ) (code : List ℕ) (marks : List Mark) → HasReadAll code marks → HasJudged base limit code marks 0
-judged_none base limit code marks r = record { read = r; good = λ k lt. absurd (omega (arith, lt)) }
-
 -- one more place is judged
 pub judged_more : (base limit : ℕ) (code : List ℕ) (marks : List Mark) (at : ℕ) (h : HasJudged base limit code marks at)
     → GoesWellAt base limit h.read.pieces at → HasJudged base limit code marks (at + 1)

@@ -5,6 +5,7 @@ use Rattle.std.specs.Int.{bit_at}
 use Rattle.std.specs.Simd.Lanes.{zip2, mask_l, top, chunk}
 use Rattle.std.proofs.lemmas.Simd.{length-zip2, get_or-zip2, get_or-chunk, bit_mask_l, mask_l-mod, mask_l-lt, tops_compared}
 use Rattle.std.proofs.lemmas.List.{length-replicate, get_or-replicate}
+use Rattle.nc_decode.specs.declared.automaton.TheConstants.{END}
 
 -- the lanes compared, as a mask
 abbrev pub compared : (ℕ → ℕ → Bool) → List ℕ → List ℕ → ℕ
@@ -56,15 +57,15 @@ equal_bit xs s k p lt =
 -- ---- at least one state
 
 -- the mask has 32 bits
-pub least_small : (xs : List ℕ) → length xs ≡ 32 → compared (λ a b. leb a b) (replicate 32 64) xs < 4294967296
-least_small xs p = omega (arith, compared_small (λ a b. leb a b) (replicate 32 64) xs refl p)
+pub least_small : (xs : List ℕ) → length xs ≡ 32 → compared (λ a b. leb a b) (replicate 32 END) xs < 4294967296
+least_small xs p = omega (arith, compared_small (λ a b. leb a b) (replicate 32 END) xs refl p)
 
 -- each bit says that its lane is a state after an instruction
 pub least_bit : (xs : List ℕ) (k : ℕ) → length xs ≡ 32 → k < 32
-    → (bit_at (compared (λ a b. leb a b) (replicate 32 64) xs) k == 1) ≡ nat_le 64 (get_or xs k 0)
+    → (bit_at (compared (λ a b. leb a b) (replicate 32 END) xs) k == 1) ≡ nat_le END (get_or xs k 0)
 least_bit xs k p lt =
-    compared_bit (λ a b. leb a b) (replicate 32 64) xs k refl p lt
-    ∙ ap (λ (x : ℕ). leb x (get_or xs k 0)) (get_or-replicate 32 k 64 0 lt)
+    compared_bit (λ a b. leb a b) (replicate 32 END) xs k refl p lt
+    ∙ ap (λ (x : ℕ). leb x (get_or xs k 0)) (get_or-replicate 32 k END 0 lt)
 
 -- ---- a load
 

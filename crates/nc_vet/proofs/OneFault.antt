@@ -7,49 +7,10 @@ use Rattle.nc_vet.specs.declared.fault.VetFault.{VetFault}
 use Rattle.nc_vet.specs.declared.fault.VetFault.TheVariants.{BadBase, BadLength, OutOfRange, NotPermitted, Crosses, Bare, BadTarget}
 use Rattle.nc_vet.specs.declared.fault.VetFault.TheVariants.{OutOfMemory}
 use Rattle.nc_vet.specs.Chunk.{Piece, code_of, place, IsBase, IsLength, IsInRange, IsTarget, MarkedChunk, IsValid}
-use Rattle.nc_vet.specs.Faults.{IsStuck, IsMistargeted, HasGoodSpan, HasSpanFault, HasFault}
-use Rattle.nc_vet.specs.machinery.Steps.{EndsReading, HasJudgedAll}
+use Rattle.nc_vet.specs.Faults.{IsStuck, IsMistargeted, HasGoodSpan, HasFault}
 use Rattle.nc_vet.proofs.OneReading.{same_pieces}
 
 -- ---- what the parts of the vetting find
-
--- the fault of base, length and limit is the chunk's
-pub span_fault : (base limit : ℕ) (code : List ℕ) (fault : VetFault) → HasSpanFault base limit (length code) fault
-    → HasFault base limit code fault
-span_fault base limit code BadBase f = f
-span_fault base limit code BadLength f = f
-span_fault base limit code OutOfRange f = f
-span_fault base limit code (NotPermitted at) f = absurd f
-span_fault base limit code (Crosses at) f = absurd f
-span_fault base limit code (Bare at) f = absurd f
-span_fault base limit code (BadTarget at) f = absurd f
-span_fault base limit code OutOfMemory f = absurd f
-
--- so is the fault that ended the reading
-pub read_fault : (base limit : ℕ) (code : List ℕ) (fault : VetFault) → HasGoodSpan base limit (length code) → EndsReading base code fault
-    → HasFault base limit code fault
-read_fault base limit code BadBase g e = absurd e.why
-read_fault base limit code BadLength g e = absurd e.why
-read_fault base limit code OutOfRange g e = absurd e.why
-read_fault base limit code (NotPermitted at) g e = (g, e)
-read_fault base limit code (Crosses at) g e = (g, e)
-read_fault base limit code (Bare at) g e = (g, e)
-read_fault base limit code (BadTarget at) g e = absurd e.why
-read_fault base limit code OutOfMemory g e = g
-
--- a chunk that was read and judged is valid
-pub judged_valid : (base limit : ℕ) (code : List ℕ) (marks : List Mark) → HasGoodSpan base limit (length code)
-    → HasJudgedAll base limit code marks → IsValid (record { base = base; limit = limit; code = code; marks = marks })
-judged_valid base limit code marks g h = record {
-  base_is = (g.start, g.low);
-  length_is = (g.some, g.whole);
-  range = (g.lawful, g.high);
-  pieces = h.read.pieces;
-  parts = h.read.parts;
-  sound = h.read.sound;
-  targets = h.targets;
-  marks_are = h.read.marks_are;
-}
 
 -- ---- a valid chunk has no fault
 

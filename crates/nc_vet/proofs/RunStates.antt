@@ -1,7 +1,7 @@
 -- The states after the bytes of bundles, one by one.
 use Rattle.std.proofs.Common.{◌≡◌, ◌≢◌, ℕ, zero, suc, ◌+◌, ◌-◌, ◌*◌, ◌/◌, ◌%◌, ◌^◌, ◌<◌, ◌≤◌, Bool, true, false, List, [], ◌∷◌, ◌++◌}
 use Rattle.std.proofs.Common.{length, take, drop, get_or, set, refl, sym, subst, ◌∙◌, ap, arith, inl, inr, ◌==◌, eqb-true, eq-eqb}
-use Rattle.std.proofs.Common.{leb-true, nat_le, replicate}
+use Rattle.std.proofs.Common.{leb-true, nat_le}
 use Rattle.std.specs.Prelude.{slice_set, slice_index}
 use Rattle.std.specs.Int.{bit_at, w32, leading_zeros}
 use Rattle.std.specs.Int.Count.{leading_of_zero}
@@ -10,6 +10,7 @@ use Rattle.std.proofs.Math.Nat.{div-eq_of_lt-le, pow-succ'}
 use Rattle.std.proofs.lemmas.Bool.{cases_lt, eqb-false}
 use Rattle.std.proofs.lemmas.List.{length-drop, length-take-le, take_more, get_or-take, get_or-drop, get_or-set_same, get_or-set_other}
 use Rattle.std.proofs.lemmas.List.{length-set, get_or_append_left, get_or-append_right, length-append}
+use Rattle.nc_decode.specs.declared.automaton.TheConstants.{STATES, END, AFTER_SHORT, AFTER_NEAR, AFTER_PAIR}
 use Rattle.nc_decode.specs.Automaton.{next_state}
 use Rattle.nc_decode.proofs.Offered.{true_or_false}
 use Rattle.nc_vet.specs.declared.bundle.Bundle.{Bundle}
@@ -22,15 +23,15 @@ run_more s [] b = refl
 run_more s (c ∷ bs) b = run_more (next_state s c) bs b
 
 -- the run before a place is the state there
-run_before : (code : List ℕ) (k : ℕ) → run 64 (take (k % 32) (drop (k - k % 32) code)) ≡ before (state_after code) k
+run_before : (code : List ℕ) (k : ℕ) → run END (take (k % 32) (drop (k - k % 32) code)) ≡ before (state_after code) k
 unfolding state_after
 run_before code k = elim (true_or_false (k % 32 == 0)) [
-  | inl first ↦ rw first (ap (λ (n : ℕ). run 64 (take n (drop (k - k % 32) code))) {y = 0} (eqb-true _ 0 first))
+  | inl first ↦ rw first (ap (λ (n : ℕ). run END (take n (drop (k - k % 32) code))) {y = 0} (eqb-true _ 0 first))
   | inr inner ↦
       (let some : k % 32 ≢ 0 = eqb-false _ 0 inner in
       rw inner
-      (ap (λ (n : ℕ). run 64 (take n (drop (k - k % 32) code))) {y = (k - 1) % 32 + 1} (omega (arith, some))
-      ∙ ap (λ (n : ℕ). run 64 (take ((k - 1) % 32 + 1) (drop n code))) {x = k - k % 32} {y = k - 1 - (k - 1) % 32} (omega (arith, some))))
+      (ap (λ (n : ℕ). run END (take n (drop (k - k % 32) code))) {y = (k - 1) % 32 + 1} (omega (arith, some))
+      ∙ ap (λ (n : ℕ). run END (take ((k - 1) % 32 + 1) (drop n code))) {x = k - k % 32} {y = k - 1 - (k - 1) % 32} (omega (arith, some))))
 ]
 
 -- each state is the next
@@ -40,8 +41,8 @@ unfolding state_after
 state_next code k lt =
     let rest : List ℕ = drop (k - k % 32) code in
     let in_rest : k % 32 < length (drop (k - k % 32) code) = omega (arith, length-drop (k - k % 32) code, lt) in
-    ap (λ (z : List ℕ). run 64 z) (take_more (drop (k - k % 32) code) (k % 32) 0 in_rest)
-    ∙ run_more 64 (take (k % 32) (drop (k - k % 32) code)) (get_or (drop (k - k % 32) code) (k % 32) 0)
+    ap (λ (z : List ℕ). run END z) (take_more (drop (k - k % 32) code) (k % 32) 0 in_rest)
+    ∙ run_more END (take (k % 32) (drop (k - k % 32) code)) (get_or (drop (k - k % 32) code) (k % 32) 0)
     ∙ ap (λ (s : ℕ). next_state s (get_or (drop (k - k % 32) code) (k % 32) 0)) (run_before code k)
     ∙ ap (λ (b : ℕ). next_state (before (state_after code) k) b)
     (get_or-drop (k - k % 32) code (k % 32) 0 ∙ ap (λ (j : ℕ). get_or code j 0) (omega arith))
@@ -67,13 +68,9 @@ entered_before code at i start lt = elim (true_or_false (i == 0)) [
         go true e = absurd (h (eqb-true n 0 e))
         go false e = refl
 
--- before the first byte
-pub run_begun : (code : List ℕ) (at : ℕ) → HasRun code at 0 64 (replicate 32 0)
-run_begun code at = record { now = refl; each = λ k lt. absurd (omega (arith, lt)); long = refl; small = omega arith }
-
 -- one more byte
 pub run_on : (code : List ℕ) (at i state byte : ℕ) (states : List ℕ) → at % 32 ≡ 0 → i < 32 → at + i < length code
-    → HasRun code at i state states → byte ≡ get_or code (at + i) 0 → next_state state byte < 75
+    → HasRun code at i state states → byte ≡ get_or code (at + i) 0 → next_state state byte < STATES
     → HasRun code at (i + 1) (next_state state byte) (slice_set states i (next_state state byte))
 run_on code at i state byte states start lt in_code h is small =
     let next : next_state state byte ≡ state_after code (at + i) =
@@ -103,7 +100,7 @@ run_on code at i state byte states start lt in_code h is small =
 -- the same of what a step has left
 pub run_stepped : (code : List ℕ) (at i state byte after : ℕ) (states more : List ℕ) → at % 32 ≡ 0 → i < 32 → at + i < length code
     → HasRun code at i state states → byte ≡ get_or code (at + i) 0
-    → after ≡ next_state state byte → more ≡ slice_set states i (next_state state byte) → after < 75 → HasRun code at (i + 1) after more
+    → after ≡ next_state state byte → more ≡ slice_set states i (next_state state byte) → after < STATES → HasRun code at (i + 1) after more
 run_stepped code at i state byte after states more start lt in_code h is to set_is small =
     let w = run_on code at i state byte states start lt in_code h is (omega (arith, to, small)) in
     subst (λ (z : List ℕ). HasRun code at (i + 1) after z) (sym set_is)
@@ -113,10 +110,10 @@ run_stepped code at i state byte after states more start lt in_code h is to set_
 pub run_told : (code : List ℕ) (at i state : ℕ) (states : List ℕ) (w : Bundle) → i ≡ 32 → HasRun code at i state states
     → TellsStates states w → Tells code at w
 run_told code at i state states w end h t = record {
-  ends = λ k lt. t.ends k lt ∙ ap (λ (s : ℕ). nat_le 64 s) (h.each k (omega (arith, lt, end)));
-  pairs = λ k lt. t.pairs k lt ∙ ap (λ (s : ℕ). s == 74) (h.each k (omega (arith, lt, end)));
-  shorts = λ k lt. t.shorts k lt ∙ ap (λ (s : ℕ). s == 72) (h.each k (omega (arith, lt, end)));
-  nears = λ k lt. t.nears k lt ∙ ap (λ (s : ℕ). s == 73) (h.each k (omega (arith, lt, end)));
+  ends = λ k lt. t.ends k lt ∙ ap (λ (s : ℕ). nat_le END s) (h.each k (omega (arith, lt, end)));
+  pairs = λ k lt. t.pairs k lt ∙ ap (λ (s : ℕ). s == AFTER_PAIR) (h.each k (omega (arith, lt, end)));
+  shorts = λ k lt. t.shorts k lt ∙ ap (λ (s : ℕ). s == AFTER_SHORT) (h.each k (omega (arith, lt, end)));
+  nears = λ k lt. t.nears k lt ∙ ap (λ (s : ℕ). s == AFTER_NEAR) (h.each k (omega (arith, lt, end)));
   small = t.small;
 }
 
@@ -161,8 +158,8 @@ four_told code at v w x y p q r s (suc (suc (suc (suc n)))) lt in_code = absurd 
 -- ---- all bundles
 
 -- an instruction ends with a bundle whose last bit says so
-whole_told : (code : List ℕ) (at : ℕ) (w : Bundle) → Tells code at w → bit_at w.ends 31 ≡ 1 → 64 ≤ state_after code (at + 31)
-whole_told code at w t last = leb-true 64 (state_after code (at + 31)) (sym (t.ends 31 (omega arith)) ∙ eq-eqb (bit_at w.ends 31) 1 last)
+whole_told : (code : List ℕ) (at : ℕ) (w : Bundle) → Tells code at w → bit_at w.ends 31 ≡ 1 → END ≤ state_after code (at + 31)
+whole_told code at w t last = leb-true END (state_after code (at + 31)) (sym (t.ends 31 (omega arith)) ∙ eq-eqb (bit_at w.ends 31) 1 last)
 
 -- more bundles after those that were read, of which the first are whole
 pub told_more : (code : List ℕ) (bundles more items : List Bundle) (count : ℕ) → AreTold code bundles → items ≡ bundles ++ take count more
@@ -181,7 +178,7 @@ told_more code bundles more items count t is le f whole = (
 
     all : AreTold code (bundles ++ take count more)
     all n lt = elim (cases_lt n (length bundles)) [
-      | inl earlier ↦ subst (λ (w : Bundle). Tells code (32 * n) w × (64 ≤ state_after code (32 * n + 31)))
+      | inl earlier ↦ subst (λ (w : Bundle). Tells code (32 * n) w × (END ≤ state_after code (32 * n + 31)))
           (sym (get_or_append_left bundles (take count more) no_bits n earlier)) (t n earlier)
       | inr later ↦
           (let m : ℕ = n - length bundles in
@@ -192,7 +189,7 @@ told_more code bundles more items count t is le f whole = (
           ∙ get_or-take count more (n - length bundles) no_bits m-lt in
           let tells = moved code (32 * length bundles + 32 * (n - length bundles)) (32 * n)
           (get_or more (n - length bundles) no_bits) here (f (n - length bundles) m-lt) in
-          subst (λ (w : Bundle). Tells code (32 * n) w × (64 ≤ state_after code (32 * n + 31))) (sym word)
+          subst (λ (w : Bundle). Tells code (32 * n) w × (END ≤ state_after code (32 * n + 31))) (sym word)
           (tells, whole_told code (32 * n) (get_or more (n - length bundles) no_bits) tells (whole (n - length bundles) m-lt)))
     ]
 
@@ -208,25 +205,12 @@ stopped code bundles w at end told here room t low near ended = record {
   ended = λ later. (
       let e = ended (omega (arith, later, here)) in
       let k-lt : end - at - 1 < 32 = omega (arith, near, later, here) in (
-        subst (λ (k : ℕ). 64 ≤ state_after code k) {x = at + (end - at - 1)} {y = end - 1} (omega (arith, later, here, low))
-            (leb-true 64 (state_after code (at + (end - at - 1)))
+        subst (λ (k : ℕ). END ≤ state_after code k) {x = at + (end - at - 1)} {y = end - 1} (omega (arith, later, here, low))
+            (leb-true END (state_after code (at + (end - at - 1)))
             (sym (t.ends (end - at - 1) k-lt) ∙ eq-eqb (bit_at w.ends (end - at - 1)) 1 e.0)),
         e.1,
       ));
 }
-
--- all bundles are read
-pub all_read : (code : List ℕ) (bundles : List Bundle) (at : ℕ) → AreTold code bundles → at ≡ 32 * length bundles → at ≤ length code
-    → EndsFront code bundles at
-all_read code bundles at told here high =
-    record {
-      told = told;
-      low = omega (arith, here);
-      near = omega (arith, here);
-      high = high;
-      ended = λ later. absurd
-          (omega (arith, later, here));
-    }
 
 -- the highest bit
 pub top_bit : (n len : ℕ) → n < 2 ^ 32 → len + leading_zeros w32 n ≡ 32 → len ≢ 0 → bit_at n (len - 1) ≡ 1

@@ -7,6 +7,7 @@ use Rattle.std.specs.Int.{w8, w32, cast_signed, from_le_bytes}
 use Rattle.std.proofs.lemmas.Bool.{cases_lt, eqb-false}
 use Rattle.std.proofs.lemmas.List.{length-drop, length-take-le, take-append-drop, drop_more, get_or-take, get_or-drop}
 use Rattle.std.proofs.lemmas.List.{get_or_append_left, get_or-append_right, get_or-replicate}
+use Rattle.nc_decode.specs.declared.automaton.TheConstants.{STATES, END, AFTER_PAIR}
 use Rattle.nc_decode.specs.declared.instruction.Instr.{Instr}
 use Rattle.nc_decode.specs.declared.instruction.Mark.{Mark}
 use Rattle.nc_decode.specs.declared.instruction.Mark.TheVariants.{Unmarked, Plain, After}
@@ -34,39 +35,39 @@ before_inner S k h = go (k % 32 == 0) refl
     go false e = rw e refl
 
 -- the state before a bundle
-before_first : (S : ℕ → ℕ) (k : ℕ) → k % 32 ≡ 0 → before S k ≡ 64
+before_first : (S : ℕ → ℕ) (k : ℕ) → k % 32 ≡ 0 → before S k ≡ END
 before_first S k h = rw h refl
 
 -- each state is small
-state_small : (code : List ℕ) (to : ℕ) (S : ℕ → ℕ) (k : ℕ) → AreStates code to S → k < length code → S k < 75
+state_small : (code : List ℕ) (to : ℕ) (S : ℕ → ℕ) (k : ℕ) → AreStates code to S → k < length code → S k < STATES
 state_small code to S k a lt = omega (arith, a.next k lt, next_small (before S k) (get_or code k 0))
 
 -- so is the state before each place
-before_small : (code : List ℕ) (to : ℕ) (S : ℕ → ℕ) (k : ℕ) → AreStates code to S → k < length code → before S k < 75
+before_small : (code : List ℕ) (to : ℕ) (S : ℕ → ℕ) (k : ℕ) → AreStates code to S → k < length code → before S k < STATES
 before_small code to S k a lt = go (k % 32 == 0) refl
   where
-    go : (b : Bool) → (k % 32 == 0) ≡ b → before S k < 75
+    go : (b : Bool) → (k % 32 == 0) ≡ b → before S k < STATES
     go true e = rw e (omega arith)
     go false e = rw e (state_small code to S (k - 1) a (omega (arith, lt)))
 
 -- after a state inside an instruction no bundle begins
-inner_place : (code : List ℕ) (to : ℕ) (S : ℕ → ℕ) (k : ℕ) → AreStates code to S → k < to → S k < 64 → k % 32 < 31
+inner_place : (code : List ℕ) (to : ℕ) (S : ℕ → ℕ) (k : ℕ) → AreStates code to S → k < to → S k < END → k % 32 < 31
 inner_place code to S k a lt inside = elim (cases_lt (k % 32) 31) [
   | inl ok ↦ ok
   | inr last ↦ absurd (omega (arith, a.whole k lt (omega (arith, last)), inside))
 ]
 
 -- where an indirect transfer ends, the byte before is its first
-second_inside : (code : List ℕ) (to : ℕ) (S : ℕ → ℕ) (k : ℕ) → AreStates code to S → k < length code → second S k ≡ true → (S k < 64)
-    × (S (k + 1) ≡ 74) × (k + 1 < length code)
+second_inside : (code : List ℕ) (to : ℕ) (S : ℕ → ℕ) (k : ℕ) → AreStates code to S → k < length code → second S k ≡ true → (S k < END)
+    × (S (k + 1) ≡ AFTER_PAIR) × (k + 1 < length code)
 second_inside code to S k a lt e =
-    let w = both (nat_lt (k % 32) 31) (S (k + 1) == 74) e in
+    let w = both (nat_lt (k % 32) 31) (S (k + 1) == AFTER_PAIR) e in
     let in_bundle : k % 32 < 31 = ltb-true (k % 32) 31 w.0 in
     let in_code : k + 1 < length code = omega (arith, in_bundle, a.bundles, lt) in
-    let pair : S (k + 1) ≡ 74 = eqb-true (S (k + 1)) 74 w.1 in
+    let pair : S (k + 1) ≡ AFTER_PAIR = eqb-true (S (k + 1)) AFTER_PAIR w.1 in
     let inner : before S (k + 1) ≡ S (k + 1 - 1) = before_inner S (k + 1) (λ z. omega (arith, z, in_bundle)) in
     let same : S (k + 1 - 1) ≡ S k = ap S (omega arith) in (
-      elim (cases_lt (S k) 64) [
+      elim (cases_lt (S k) END) [
         | inl inside ↦ inside
         | inr ended ↦ absurd (none_is_paired (S k) (get_or code (k + 1) 0) ended (state_small code to S k a lt) (a.bytes (k + 1) 0 in_code)
             (ap (λ (s : ℕ). next_state s (get_or code (k + 1) 0)) (sym (inner ∙ same)) ∙ sym (a.next (k + 1) in_code) ∙ pair))
@@ -78,13 +79,13 @@ second_inside code to S k a lt e =
 -- ---- one instruction
 
 -- one more byte before a run
-leads_more : (s c e : ℕ) (bs : List ℕ) → next_state s c < 64 → Leads (next_state s c) bs e → Leads s (c ∷ bs) e
+leads_more : (s c e : ℕ) (bs : List ℕ) → next_state s c < END → Leads (next_state s c) bs e → Leads s (c ∷ bs) e
 leads_more s c e [] lt l = absurd l
 leads_more s c e (b ∷ bs) lt l = (lt, l)
 
 -- bytes from one end to the next
 leads_from : (code : List ℕ) (to : ℕ) (S : ℕ → ℕ) → AreStates code to S → (n b s : ℕ) → b + n < to → s ≡ before S b
-    → ((k : ℕ) → b ≤ k → k < b + n → S k < 64) → 64 ≤ S (b + n)
+    → ((k : ℕ) → b ≤ k → k < b + n → S k < END) → END ≤ S (b + n)
     → Leads s (take (suc n) (drop b code)) (S (b + n))
 leads_from code to S a zero b s lt is inner ended =
     let here : b + 0 ≡ b = omega arith in
@@ -95,12 +96,12 @@ leads_from code to S a (suc n) b s lt is inner ended =
     let b-lt : b < length code = omega (arith, lt, a.within) in
     let first : drop b code ≡ get_or code b 0 ∷ drop (b + 1) code = drop_more code b 0 b-lt in
     let state : next_state s (get_or code b 0) ≡ S b = ap (λ (t : ℕ). next_state t (get_or code b 0)) is ∙ sym (a.next b b-lt) in
-    let low : S b < 64 = inner b (omega arith) (omega arith) in
+    let low : S b < END = inner b (omega arith) (omega arith) in
     let next : S b ≡ before S (b + 1) = ap S {y = b + 1 - 1} (omega arith)
     ∙ sym (before_inner S (b + 1) (λ z. omega (arith, z, inner_place code to S b a (omega (arith, lt)) low))) in
     let there : b + 1 + n ≡ b + suc n = omega arith in
     let rest = leads_from code to S a n (b + 1) (next_state s (get_or code b 0)) (omega (arith, lt)) (state ∙ next)
-    (λ k lo hi. inner k (omega (arith, lo)) (omega (arith, hi))) (subst (λ (j : ℕ). 64 ≤ S j) (sym there) ended) in
+    (λ k lo hi. inner k (omega (arith, lo)) (omega (arith, hi))) (subst (λ (j : ℕ). END ≤ S j) (sym there) ended) in
     subst (λ (z : List ℕ). Leads s (take (suc (suc n)) z) (S (b + suc n))) (sym first)
     (leads_more s (get_or code b 0) (S (b + suc n)) (take (suc n) (drop (b + 1) code)) (omega (arith, state, low))
     (subst (λ (j : ℕ). Leads (next_state s (get_or code b 0)) (take (suc n) (drop (b + 1) code)) (S j)) there rest))
@@ -111,8 +112,8 @@ record Scanned (code : List ℕ) (S : ℕ → ℕ) (at : ℕ) : Type 0 where
   rest : List ℕ
   reads : IsSoundFront code rest front
   here : place front ≤ at
-  inner : (k : ℕ) → place front ≤ k → k < at → S k < 64
-  begins : 64 ≤ before S (place front)
+  inner : (k : ℕ) → place front ≤ k → k < at → S k < END
+  begins : END ≤ before S (place front)
   masks : (r : ℕ) → masked_at (before S (place front)) ≡ Some r → FollowsMask front r
   marks : (k : ℕ) → k < place front → get_or (marks_of front) k Unmarked ≡ mark_by S code k
   direct : (b a : List Piece) (p : Piece) → front ≡ b ++ p ∷ a → IsTrue (is_direct p.instr.flow)
@@ -143,15 +144,15 @@ record Read (code : List ℕ) (S : ℕ → ℕ) (b at : ℕ) : Type 0 where
 
 -- the states from one place to before another are inside an instruction
 abbrev AllInside : (ℕ → ℕ) → ℕ → ℕ → Type 0
-AllInside S b at = (k : ℕ) → b ≤ k → k < at → S k < 64
+AllInside S b at = (k : ℕ) → b ≤ k → k < at → S k < END
 
 -- what ends there is an instruction
-read_from : (code : List ℕ) (to : ℕ) (S : ℕ → ℕ) (b at : ℕ) → AreStates code to S → b ≤ at → at < to → AllInside S b at → 64 ≤ before S b
-    → 64 ≤ S at → Read code S b at
+read_from : (code : List ℕ) (to : ℕ) (S : ℕ → ℕ) (b at : ℕ) → AreStates code to S → b ≤ at → at < to → AllInside S b at → END ≤ before S b
+    → END ≤ S at → Read code S b at
 read_from code to S b at a le lt inner begins ended =
     let sum : b + (at - b) ≡ at = omega arith in
     let leads = leads_from code to S a (at - b) b (before S b) (omega (arith, lt)) refl (λ k lo hi. inner k lo (omega (arith, hi)))
-    (subst (λ (j : ℕ). 64 ≤ S j) (sym sum) ended) in
+    (subst (λ (j : ℕ). END ≤ S j) (sym sum) ended) in
     let there : Leads (before S b) (take (suc (at - b)) (drop b code)) (S at) = subst
     (λ (j : ℕ). Leads (before S b) (take (suc (at - b)) (drop b code)) (S j)) sum leads in
     let long : length (take (suc (at - b)) (drop b code)) ≡ suc (at - b) = length-take-le (suc (at - b)) (drop b code)
@@ -171,7 +172,7 @@ read_from code to S b at a le lt inner begins ended =
         | inl over ↦
             (let k : ℕ = b + (31 - b % 32) in
             let last : (b + (31 - b % 32)) % 32 ≡ 31 = omega arith in
-            let low : S (b + (31 - b % 32)) < 64 = inner (b + (31 - b % 32)) (omega arith) (omega (arith, over)) in
+            let low : S (b + (31 - b % 32)) < END = inner (b + (31 - b % 32)) (omega arith) (omega (arith, over)) in
             absurd (omega (arith, low, a.whole (b + (31 - b % 32)) (omega (arith, over, lt)) last)))
         | inr fine ↦ fine
       ];
@@ -227,24 +228,24 @@ not_true true h = absurd (h refl)
 not_true false h = refl
 
 -- a mark by the states is plain
-plain_by : (S : ℕ → ℕ) (code : List ℕ) (k : ℕ) → second S k ≡ false → 64 ≤ before S k → mark_by S code k ≡ Plain
-plain_by S code k e low = rw (e, le-leb 64 (before S k) low) refl
+plain_by : (S : ℕ → ℕ) (code : List ℕ) (k : ℕ) → second S k ≡ false → END ≤ before S k → mark_by S code k ≡ Plain
+plain_by S code k e low = rw (e, le-leb END (before S k) low) refl
 
 -- or there is none
-unmarked_by : (S : ℕ → ℕ) (code : List ℕ) (k : ℕ) → second S k ≡ false → before S k < 64 → mark_by S code k ≡ Unmarked
-unmarked_by S code k e low = rw (e, not_true (nat_le 64 (before S k)) (λ h. omega (arith, leb-true 64 (before S k) h, low))) refl
+unmarked_by : (S : ℕ → ℕ) (code : List ℕ) (k : ℕ) → second S k ≡ false → before S k < END → mark_by S code k ≡ Unmarked
+unmarked_by S code k e low = rw (e, not_true (nat_le END (before S k)) (λ h. omega (arith, leb-true END (before S k) h, low))) refl
 
 -- or it is that of a second half
 after_by : (S : ℕ → ℕ) (code : List ℕ) (k : ℕ) → second S k ≡ true → mark_by S code k ≡ After (get_or code (k + 1) 0 % 8)
 after_by S code k e = rw e refl
 
 -- a second half is one by its state
-second_made : (S : ℕ → ℕ) (k : ℕ) → k % 32 < 31 → S (k + 1) ≡ 74 → second S k ≡ true
-second_made S k lt e = rw (lt-ltb (k % 32) 31 lt, eq-eqb (S (k + 1)) 74 e) refl
+second_made : (S : ℕ → ℕ) (k : ℕ) → k % 32 < 31 → S (k + 1) ≡ AFTER_PAIR → second S k ≡ true
+second_made S k lt e = rw (lt-ltb (k % 32) 31 lt, eq-eqb (S (k + 1)) AFTER_PAIR e) refl
 
 -- only the first of two bytes begins an indirect transfer
-second_only : (code : List ℕ) (to : ℕ) (S : ℕ → ℕ) (b at k : ℕ) → AreStates code to S → b ≤ at → at < to → AllInside S b at → 64 ≤ S at
-    → (r : Read code S b at) → b ≤ k → k ≤ at → second S k ≡ true → (k ≡ b) × (at ≡ b + 1) × (S at ≡ 74)
+second_only : (code : List ℕ) (to : ℕ) (S : ℕ → ℕ) (b at k : ℕ) → AreStates code to S → b ≤ at → at < to → AllInside S b at → END ≤ S at
+    → (r : Read code S b at) → b ≤ k → k ≤ at → second S k ≡ true → (k ≡ b) × (at ≡ b + 1) × (S at ≡ AFTER_PAIR)
 second_only code to S b at k a le lt inner ended r lo hi e =
     let w = second_inside code to S k a (omega (arith, hi, lt, a.within)) e in
     let before_end : k < at = elim (cases_lt k at) [
@@ -257,17 +258,17 @@ second_only code to S b at k a le lt inner ended r lo hi e =
           (omega (arith, w.1, inner (k + 1) (omega (arith, lo)) early))
       | inr ok ↦ omega (arith, ok, before_end)
     ] in
-    let pair : S at ≡ 74 = ap S (sym at_is) ∙ w.1 in
+    let pair : S at ≡ AFTER_PAIR = ap S (sym at_is) ∙ w.1 in
     let two : length (take (suc (at - b)) (drop b code)) ≡ 2 = (r.ends.paired pair).1 in
     (omega (arith, two, r.long, at_is), omega (arith, two, r.long, le), pair)
 
 -- where it begins
-first_mark : (code : List ℕ) (to : ℕ) (S : ℕ → ℕ) (b at : ℕ) → AreStates code to S → b ≤ at → at < to → AllInside S b at → 64 ≤ before S b
-    → 64 ≤ S at → (r : Read code S b at) → mark_of r.instr ≡ mark_by S code b
+first_mark : (code : List ℕ) (to : ℕ) (S : ℕ → ℕ) (b at : ℕ) → AreStates code to S → b ≤ at → at < to → AllInside S b at → END ≤ before S b
+    → END ≤ S at → (r : Read code S b at) → mark_of r.instr ≡ mark_by S code b
 first_mark code to S b at a le lt inner begins ended r =
-    elim (true_or_false (S at == 74)) [
+    elim (true_or_false (S at == AFTER_PAIR)) [
       | inl is ↦
-          (let pair : S at ≡ 74 = eqb-true (S at) 74 is in
+          (let pair : S at ≡ AFTER_PAIR = eqb-true (S at) AFTER_PAIR is in
           let p = r.ends.paired pair in
           let next : at ≡ b + 1 = omega (arith, p.1, r.long, le) in
           let sec : second S b ≡ true = second_made S b (omega (arith, r.inside, next)) (ap S (sym next) ∙ pair) in
@@ -278,24 +279,24 @@ first_mark code to S b at a le lt inner begins ended r =
       | inr other ↦
           (let none : second S b ≡ false = not_true (second S b)
           (λ e. (let w = second_only code to S b at b a le lt inner ended r (omega arith) le e in
-          absurd (let f : true ≡ false = sym (eq-eqb (S at) 74 w.2) ∙ other in cc))) in
+          absurd (let f : true ≡ false = sym (eq-eqb (S at) AFTER_PAIR w.2) ∙ other in cc))) in
           cond_is_false (is_indirect r.instr.flow) (After r.instr.reg) Plain (r.ends.indirect ∙ other)
           ∙ sym (plain_by S code b none begins))
     ]
 
 -- inside it
-later_mark : (code : List ℕ) (to : ℕ) (S : ℕ → ℕ) (b at k : ℕ) → AreStates code to S → b ≤ at → at < to → AllInside S b at → 64 ≤ S at
+later_mark : (code : List ℕ) (to : ℕ) (S : ℕ → ℕ) (b at k : ℕ) → AreStates code to S → b ≤ at → at < to → AllInside S b at → END ≤ S at
     → (r : Read code S b at) → b < k → k ≤ at → Unmarked ≡ mark_by S code k
 later_mark code to S b at k a le lt inner ended r lo hi =
     let none : second S k ≡ false = not_true (second S k) (λ e. absurd
     (omega (arith, (second_only code to S b at k a le lt inner ended r (omega (arith, lo)) hi e).0, lo))) in
     let not_first : k % 32 ≢ 0 = λ z. omega (arith, z, r.inside, lo, hi) in
-    let low : before S k < 64 = omega (arith, before_inner S k not_first, inner (k - 1) (omega (arith, lo)) (omega (arith, lo, hi))) in
+    let low : before S k < END = omega (arith, before_inner S k not_first, inner (k - 1) (omega (arith, lo)) (omega (arith, lo, hi))) in
     sym (unmarked_by S code k none low)
 
 -- the mark of each of its places
 mark_here : (code : List ℕ) (to : ℕ) (S : ℕ → ℕ) (b at k : ℕ) → AreStates code to S → b ≤ at → at < to → AllInside S b at
-    → 64 ≤ before S b → 64 ≤ S at → (r : Read code S b at)
+    → END ≤ before S b → END ≤ S at → (r : Read code S b at)
     → r.instr.len ≡ length (take (suc (at - b)) (drop b code)) → b ≤ k → k < at + 1
     → get_or (instr_marks r.instr) (k - b) Unmarked ≡ mark_by S code k
 mark_here code to S b at k a le lt inner begins ended r len lo hi =
@@ -346,7 +347,7 @@ masked_next code S at front r le q e =
 -- ---- the step
 
 -- one more instruction
-pushed : (code : List ℕ) (to : ℕ) (S : ℕ → ℕ) (at : ℕ) → AreStates code to S → at < to → (h : Scanned code S at) → 64 ≤ S at
+pushed : (code : List ℕ) (to : ℕ) (S : ℕ → ℕ) (at : ℕ) → AreStates code to S → at < to → (h : Scanned code S at) → END ≤ S at
     → Scanned code S (at + 1)
 pushed code to S at a lt h ended =
     let b : ℕ = place h.front in
@@ -368,13 +369,13 @@ pushed code to S at a lt h ended =
             (drop (suc (at - place h.front)) h.rest))
             ∙ ap (λ (z : List ℕ). z ++ drop (suc (at - place h.front)) h.rest) (sym (code_of-push h.front p));
         sound = sound_push h.front p h.reads.sound r.ends.spells (omega (arith, r.inside, r.long))
-            (λ indirect. h.masks r.instr.reg (r.ends.paired (eqb-true (S at) 74
+            (λ indirect. h.masks r.instr.reg (r.ends.paired (eqb-true (S at) AFTER_PAIR
             (sym r.ends.indirect ∙ is_true (is_indirect r.instr.flow) indirect))).0);
       };
       here = omega (arith, there);
       inner = λ k lo hi. absurd (omega (arith, there, lo, hi));
-      begins = subst (λ (k : ℕ). 64 ≤ before S k) (sym there) (begins_next (at + 1) (omega arith)
-          (subst (λ (k : ℕ). 64 ≤ S k) {x = at} {y = at + 1 - 1} (omega arith) ended));
+      begins = subst (λ (k : ℕ). END ≤ before S k) (sym there) (begins_next (at + 1) (omega arith)
+          (subst (λ (k : ℕ). END ≤ S k) {x = at} {y = at + 1 - 1} (omega arith) ended));
       masks = λ q e. masked_next code S at h.front r h.here q (ap (λ (k : ℕ). masked_at (before S k)) (sym there) ∙ e);
       marks = λ k k-lt. ap (λ (z : List Mark). get_or z k Unmarked) (marks_of-push h.front p) ∙ (elim (cases_lt k (place h.front)) [
         | inl earlier ↦ get_or_append_left (marks_of h.front) (instr_marks r.instr) Unmarked k (omega (arith, marks_len, earlier))
@@ -395,7 +396,7 @@ pushed code to S at a lt h ended =
     is_true true t = refl
     is_true false t = absurd cc
 
-    begins_next : (k : ℕ) → 0 < k → 64 ≤ S (k - 1) → 64 ≤ before S k
+    begins_next : (k : ℕ) → 0 < k → END ≤ S (k - 1) → END ≤ before S k
     begins_next k some low = elim (true_or_false (k % 32 == 0)) [
       | inl e ↦ rw e (omega arith)
       | inr e ↦ rw e low
@@ -403,7 +404,7 @@ pushed code to S at a lt h ended =
 
 -- one more place
 scanned_more : (code : List ℕ) (to : ℕ) (S : ℕ → ℕ) (at : ℕ) → AreStates code to S → at < to → Scanned code S at → Scanned code S (at + 1)
-scanned_more code to S at a lt h = elim (cases_lt (S at) 64) [
+scanned_more code to S at a lt h = elim (cases_lt (S at) END) [
   | inl inside ↦ record {
     front = h.front;
     rest = h.rest;

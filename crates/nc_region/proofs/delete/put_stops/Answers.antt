@@ -1,4 +1,4 @@
-use Rattle.std.proofs.Common.{◌≡◌, ℕ, ◌+◌, ◌-◌, ◌<◌, ◌≤◌, List, [], ◌∷◌, replicate, length, arith, sym, ap, subst, ◌∙◌, refl}
+use Rattle.std.proofs.Common.{List, [], ◌∷◌, replicate, arith, subst}
 use Rattle.nc_decode.specs.declared.instruction.Mark.{Mark}
 use Rattle.nc_region.specs.declared.acts.Act.TheVariants.{Bump}
 use Rattle.nc_region.specs.Acts.{is_unmarked_at}

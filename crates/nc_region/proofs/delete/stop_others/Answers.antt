@@ -1,12 +1,9 @@
-use Rattle.std.proofs.Common.{◌≡◌, ℕ, ◌+◌, ◌-◌, ◌<◌, ◌≤◌, Bool, not, List, length, get_or, set, replicate, arith, sym, ap, subst, ◌∙◌}
+use Rattle.std.proofs.Common.{◌≡◌, ℕ, ◌+◌, ◌-◌, ◌<◌, not, List, length, get_or, set, replicate, arith, sym, ap, subst, ◌∙◌}
 use Rattle.std.proofs.Common.{true, false}
 use Rattle.std.proofs.lemmas.List.{get_or-replicate, length-replicate}
 use Rattle.nc_decode.specs.declared.instruction.Mark.{Mark}
-use Rattle.nc_text.specs.Marks.{IsClosed, mark_at}
-use Rattle.nc_text.specs.MarkedText.{MarkedText, IsText}
-use Rattle.nc_region.specs.declared.acts.Act.{Act}
-use Rattle.nc_region.specs.declared.acts.Act.TheVariants.{Put}
-use Rattle.nc_region.specs.Acts.{is_unmarked_at, is_mark, Tells}
+use Rattle.nc_text.specs.Marks.{IsClosed}
+use Rattle.nc_region.specs.Acts.{is_unmarked_at}
 use Rattle.nc_region.specs.machinery.Between.{HasPut}
 use Rattle.nc_region.proofs.Puts.{put_more, put_passed}
 use Rattle.nc_region.proofs.Told.{told_put, told_passed}

@@ -1,12 +1,10 @@
-use Rattle.std.proofs.Common.{◌≡◌, ℕ, ◌+◌, ◌<◌, List, [], length, Some, None, eqb-true, refl, sym, subst, ◌∙◌, ap, arith, rules}
+use Rattle.std.proofs.Common.{◌≡◌, ◌+◌, length, None, eqb-true, refl, sym, ◌∙◌, ap, arith, rules}
 use Rattle.std.proofs.lemmas.Bool.{eqb-false}
 use Rattle.std.specs.Result.{result_ok}
 use Rattle.nc_decode.specs.declared.instruction.Instr.{Instr}
 use Rattle.nc_decode.specs.Front.{first_instruction}
-use Rattle.nc_vet.specs.Chunk.{Piece}
 use Rattle.nc_region.specs.machinery.PatchSteps.{Begins}
 use Rattle.nc_region.proofs.NewInstructions.{none_of_none, not_found, parted, some_same}
-use Rattle.nc_region.proofs.Exchanged.{same_text}
 use Rattle.nc_region.proofs.Standing.{standing, stands_some, next_begins, runs_from, runs_to, runs_none}
 use Rattle.nc_region.proofs.modify.+fits_from.Goals as goal
 

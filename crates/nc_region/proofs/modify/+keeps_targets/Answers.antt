@@ -1,15 +1,14 @@
-use Rattle.std.proofs.Common.{◌≡◌, ℕ, ◌+◌, ◌<◌, true, false, List, [], ◌∷◌, length, Some, None, eqb-true, refl, sym, subst, ◌∙◌, ap, arith}
+use Rattle.std.proofs.Common.{◌≡◌, ℕ, ◌+◌, true, false, ◌∷◌, length, None, eqb-true, refl, sym, subst, ◌∙◌, ap, arith}
 use Rattle.std.specs.Prelude.{IsTrue}
 use Rattle.std.proofs.lemmas.Bool.{eqb-false}
 use Rattle.std.specs.Result.{result_ok}
 use Rattle.nc_decode.specs.declared.instruction.Instr.{Instr}
 use Rattle.nc_decode.specs.Front.{first_instruction}
 use Rattle.nc_decode.specs.Transfers.{is_direct, target}
-use Rattle.nc_vet.specs.Chunk.{Piece, IsTarget}
+use Rattle.nc_vet.specs.Chunk.{IsTarget}
 use Rattle.nc_text.specs.Places.{limit_of}
 use Rattle.nc_region.specs.Patch.{GoWell}
 use Rattle.nc_region.proofs.NewInstructions.{none_of_none, not_found, parted}
-use Rattle.nc_region.proofs.Runs.{run_of}
 use Rattle.nc_region.proofs.modify.+keeps_targets.Goals as goal
 
 pub returns-then-is_empty : goal.returns-then-is_empty

@@ -1,11 +1,10 @@
-use Rattle.std.proofs.Common.{◌≡◌, ℕ, ◌+◌, ◌-◌, ◌<◌, true, false, List, [], length, take, drop, Some, None, eqb-true, refl, sym, subst}
+use Rattle.std.proofs.Common.{◌≡◌, ◌+◌, ◌-◌, true, false, length, take, drop, None, eqb-true, sym, subst}
 use Rattle.std.proofs.Common.{◌∙◌, ap, arith, rules}
 use Rattle.std.proofs.lemmas.Bool.{eqb-false}
 use Rattle.std.specs.Result.{result_ok}
 use Rattle.nc_decode.specs.declared.instruction.Instr.{Instr}
 use Rattle.nc_decode.specs.Front.{first_instruction}
 use Rattle.nc_decode.specs.Transfers.{is_indirect}
-use Rattle.nc_vet.specs.Chunk.{Piece}
 use Rattle.nc_text.specs.Marks.{mark_at}
 use Rattle.nc_region.specs.machinery.PatchSteps.{Along, NoneIndirect, is_after}
 use Rattle.nc_region.proofs.NewInstructions.{none_of_none, not_found, parted}

@@ -1,5 +1,5 @@
-use Rattle.std.proofs.Common.{◌≡◌, ℕ, ◌+◌, ◌-◌, ◌<◌, ◌≤◌, Bool, cond, List, [], ◌∷◌, ◌++◌, length, take, drop, Some, None, eqb-true}
-use Rattle.std.proofs.Common.{refl, sym, subst, ◌∙◌, ap, arith, rules}
+use Rattle.std.proofs.Common.{◌≡◌, ℕ, ◌+◌, ◌-◌, ◌≤◌, cond, List, [], ◌++◌, length, take, drop, None, eqb-true}
+use Rattle.std.proofs.Common.{sym, subst, ◌∙◌, ap, arith, rules}
 use Rattle.std.proofs.lemmas.Bool.{eqb-false}
 use Rattle.std.specs.Result.{result_ok}
 use Rattle.nc_decode.specs.Front.{first_instruction}
@@ -8,7 +8,7 @@ use Rattle.nc_text.specs.Places.{limit_of, byte_at}
 use Rattle.nc_text.specs.MarkedText.{MarkedText, with_span}
 use Rattle.nc_region.specs.declared.acts.Act.{Act}
 use Rattle.nc_region.specs.Acts.{Tells}
-use Rattle.nc_region.specs.Patch.{AreBytesOf, stands_there, acts_of_instruction, acts_of_modify}
+use Rattle.nc_region.specs.Patch.{stands_there, acts_of_instruction, acts_of_modify}
 use Rattle.nc_region.specs.machinery.PatchSteps.{CanPatch, IsReplacing}
 use Rattle.nc_region.proofs.SpanPlaces.{span_behind}
 use Rattle.nc_region.proofs.Creating.{same_code}

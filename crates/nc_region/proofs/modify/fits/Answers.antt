@@ -1,7 +1,4 @@
-use Rattle.std.proofs.Common.{◌≡◌, ◌≢◌, true, false, sym, subst, ◌∙◌, ap}
-use Rattle.nc_decode.specs.declared.instruction.Mark.{Mark}
-use Rattle.nc_decode.specs.declared.instruction.Mark.TheVariants.{Unmarked}
-use Rattle.nc_text.specs.Marks.{mark_at}
+use Rattle.std.proofs.Common.{◌≡◌, true, false, sym, ◌∙◌}
 use Rattle.nc_region.proofs.Runs.{begins_marked, run_of, run_along, run_marked}
 use Rattle.nc_region.proofs.modify.fits.Goals as goal
 

@@ -1,12 +1,5 @@
-use Rattle.std.proofs.Common.{◌≡◌, ℕ, ◌+◌, ◌-◌, ◌<◌, ◌≤◌, List, [], ◌∷◌, length, get_or, set, arith, sym, ap, subst, ◌∙◌, refl}
-use Rattle.nc_decode.specs.declared.instruction.Mark.{Mark}
-use Rattle.nc_text.specs.Marks.{IsClosed}
-use Rattle.nc_text.specs.Places.{byte_at}
-use Rattle.nc_text.specs.MarkedText.{MarkedText, IsText, with_span}
+use Rattle.std.proofs.Common.{◌+◌, ◌-◌, [], ◌∷◌, length, set, arith}
 use Rattle.nc_region.specs.declared.acts.Act.TheVariants.{Put}
-use Rattle.nc_region.specs.Patch.{any_place}
-use Rattle.nc_region.specs.machinery.Between.{HasPut}
-use Rattle.nc_region.specs.machinery.PatchSteps.{IsInterim}
 use Rattle.nc_region.proofs.Told.{tells_more}
 use Rattle.nc_region.proofs.Replacing.{patching_closed, patch_started, patching_over, patch_final}
 use Rattle.nc_region.proofs.modify.put_longer.Goals as goal

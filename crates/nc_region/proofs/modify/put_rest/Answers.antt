@@ -1,10 +1,7 @@
-use Rattle.std.proofs.Common.{◌≡◌, ℕ, ◌+◌, ◌-◌, ◌<◌, ◌≤◌, List, length, get_or, set, arith, sym, ap, subst, ◌∙◌, refl}
+use Rattle.std.proofs.Common.{◌+◌, ◌-◌, List, length, get_or, set, arith, sym, subst, ◌∙◌, refl}
 use Rattle.nc_decode.specs.declared.instruction.Mark.{Mark}
 use Rattle.nc_text.specs.Marks.{IsClosed}
-use Rattle.nc_text.specs.MarkedText.{MarkedText, IsText}
 use Rattle.nc_region.specs.Patch.{any_place}
-use Rattle.nc_region.specs.machinery.Between.{HasPut}
-use Rattle.nc_region.specs.machinery.PatchSteps.{IsInterim}
 use Rattle.nc_region.proofs.Puts.{put_more}
 use Rattle.nc_region.proofs.Told.{told_put}
 use Rattle.nc_region.proofs.Replacing.{patching_from_put}

@@ -1,7 +1,6 @@
-use Rattle.std.proofs.Common.{◌≡◌, true, false, List, [], cond, Bool, refl, sym, subst, ◌∙◌, ap}
-use Rattle.nc_region.specs.declared.acts.Act.{Act}
+use Rattle.std.proofs.Common.{[], cond, Bool, sym, subst, ◌∙◌}
 use Rattle.nc_region.specs.Acts.{Tells}
-use Rattle.nc_region.specs.Patch.{stands_there, acts_of_instruction}
+use Rattle.nc_region.specs.Patch.{acts_of_instruction}
 use Rattle.nc_region.proofs.Told.{tells_none}
 use Rattle.nc_region.proofs.Turns.{stands_same}
 use Rattle.nc_region.proofs.modify.put_where_new.Goals as goal

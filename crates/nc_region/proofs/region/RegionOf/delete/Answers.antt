@@ -1,6 +1,6 @@
 use Rattle.std.specs.List.{slice_get}
 use Rattle.std.proofs.lemmas.Option.{get_or_from_slice_get}
-use Rattle.std.proofs.Common.{◌≡◌, ℕ, ◌+◌, ◌-◌, ◌<◌, ◌≤◌, List, length, get_or, set, replicate, Some, sym, subst, ap, ◌∙◌, refl, arith}
+use Rattle.std.proofs.Common.{◌≡◌, ℕ, ◌-◌, List, length, set, replicate, Some, sym, subst, ap, ◌∙◌, arith}
 use Rattle.nc_text.specs.Places.{limit_of}
 use Rattle.nc_text.proofs.Offered.{confined_if_closed}
 use Rattle.nc_text.specs.MarkedText.{with_span}
@@ -8,8 +8,8 @@ use Rattle.nc_region.specs.declared.chunk.Chunk.{Chunk}
 use Rattle.nc_region.specs.declared.chunk.ChunkState.TheVariants.{Live}
 use Rattle.nc_region.specs.Region.{Region, IsLive, IsRegion}
 use Rattle.nc_region.specs.Chunks.{HasGoodSpan}
-use Rattle.nc_region.proofs.EachMember.{each_get, each_map}
-use Rattle.nc_region.proofs.Deleted.{Deletes, listed_there, retired_is, deleted_is, region_deleted}
+use Rattle.nc_region.proofs.EachMember.{each_get}
+use Rattle.nc_region.proofs.Deleted.{listed_there, retired_is, deleted_is, region_deleted}
 use Rattle.nc_region.proofs.region.RegionOf.delete.Goals as goal
 
 pub returns-in_default-clause-confined : goal.returns-in_default-clause-confined

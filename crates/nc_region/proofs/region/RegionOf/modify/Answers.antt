@@ -1,10 +1,9 @@
-use Rattle.std.proofs.Common.{◌≡◌, ◌++◌, true, false, ◌∙◌, arith, refl, sym, subst}
+use Rattle.std.proofs.Common.{◌≡◌, true, false, ◌∙◌, arith, sym, subst}
 use Rattle.nc_text.proofs.Offered.{confined_if_closed}
 use Rattle.nc_region.specs.Patch.{IsRun, IsHeldBy, IsPatch, LeavesPairs, KeepsTargets, MayRefusePatch}
 use Rattle.nc_region.specs.declared.chunk.Chunk.{Chunk}
 use Rattle.nc_region.specs.declared.fault.ModifyFault.TheVariants.{Boundaries, PairTouched, BadTarget}
 use Rattle.nc_region.specs.Region.{Region}
-use Rattle.nc_region.specs.machinery.PatchSteps.{CanPatch}
 use Rattle.nc_region.proofs.Standing.{lies}
 use Rattle.nc_region.proofs.Patched.{region_patched}
 use Rattle.nc_region.proofs.Runs.{run_along, pairs_from, pairs_back, held_same}

@@ -1,4 +1,4 @@
-use Rattle.std.proofs.Common.{◌≡◌, ℕ, ◌+◌, ◌<◌, ◌≤◌, List, length, ap, subst, sym, ◌∙◌, arith}
+use Rattle.std.proofs.Common.{List, ap, subst, sym, ◌∙◌, arith}
 use Rattle.nc_text.specs.Places.{limit_of}
 use Rattle.nc_text.specs.MarkedText.{MarkedText}
 use Rattle.nc_text.proofs.Offered.{confined_if_closed}
