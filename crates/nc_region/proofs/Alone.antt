@@ -7,7 +7,7 @@ use Rattle.nc_decode.specs.declared.instruction.Mark.TheVariants.{Unmarked}
 use Rattle.nc_text.specs.Places.{InRegion, limit_of}
 use Rattle.nc_text.specs.Marks.{mark_at}
 use Rattle.nc_text.specs.MarkedText.{MarkedText, unused_mark, unused_text}
-use Rattle.nc_text.proofs.SpanElements.{length-with_span}
+use Rattle.nc_text.proofs.Offered.{length-with_span}
 use Rattle.nc_region.specs.Chunks.{IsClosedChunk, with_chunk}
 use Rattle.nc_region.proofs.SpanPlaces.{span_within, span_before, span_behind}
 
@@ -25,12 +25,14 @@ empty_marks marked = omega (arith, length-map-range_with_len unused_mark 65536 (
 
 -- the chunk fits into its bytes
 pub alone_fits_bytes : (marked : MarkedText) (base : ℕ) (bytes : List ℕ) (marks : List Mark)
-    → IsClosedChunk base (limit_of marked.bytes) bytes marks → base + length bytes ≤ 65536 + length (unused_text (limit_of marked.bytes)).bytes
+    → IsClosedChunk base (limit_of marked.bytes) bytes marks
+    → base + length bytes ≤ 65536 + length (unused_text (limit_of marked.bytes)).bytes
 alone_fits_bytes marked base bytes marks j = omega (arith, empty_bytes marked, j.placed.high)
 
 -- the chunk fits into its marks
 pub alone_fits_marks : (marked : MarkedText) (base : ℕ) (bytes : List ℕ) (marks : List Mark)
-    → IsClosedChunk base (limit_of marked.bytes) bytes marks → base + length marks ≤ 65536 + length (unused_text (limit_of marked.bytes)).marks
+    → IsClosedChunk base (limit_of marked.bytes) bytes marks
+    → base + length marks ≤ 65536 + length (unused_text (limit_of marked.bytes)).marks
 alone_fits_marks marked base bytes marks j = omega (arith, empty_marks marked, j.placed.high, j.as_long)
 
 -- in the span the chunk alone has its own marks
@@ -38,35 +40,41 @@ pub alone_within : (marked : MarkedText) (base : ℕ) (bytes : List ℕ) (marks 
     → IsClosedChunk base (limit_of marked.bytes) bytes marks → base ≤ at → at < base + length bytes
     → mark_at (alone marked base bytes marks).marks at ≡ get_or marks (at - base) Unmarked
 alone_within marked base bytes marks at j low high =
-    span_within (unused_text (limit_of marked.bytes)).marks base marks at Unmarked j.placed.low (alone_fits_marks marked base bytes marks j) low (omega (arith, j.as_long))
+    span_within (unused_text (limit_of marked.bytes)).marks base marks at Unmarked j.placed.low
+    (alone_fits_marks marked base bytes marks j) low (omega (arith, j.as_long))
 
 -- an unused text is unused
 pub empty_mark : (marked : MarkedText) (at : ℕ) → InRegion marked.bytes at
     → mark_at (unused_text (limit_of marked.bytes)).marks at ≡ unused_mark at
-empty_mark marked at inside = get_or-map-range_with_len unused_mark 65536 (limit_of marked.bytes - 65536) (at - 65536) at Unmarked (omega (arith, inside.0, inside.1)) (omega (arith, inside.0))
+empty_mark marked at inside = get_or-map-range_with_len unused_mark 65536 (limit_of marked.bytes - 65536) (at - 65536) at Unmarked
+    (omega (arith, inside.0, inside.1)) (omega (arith, inside.0))
 
 -- before the span only bundle starts are marked
 pub alone_before : (marked : MarkedText) (base : ℕ) (bytes : List ℕ) (marks : List Mark) (at : ℕ)
     → IsClosedChunk base (limit_of marked.bytes) bytes marks → InRegion marked.bytes at → at < base
     → mark_at (alone marked base bytes marks).marks at ≡ unused_mark at
 alone_before marked base bytes marks at j inside high =
-    span_before (unused_text (limit_of marked.bytes)).marks base marks at Unmarked j.placed.low (alone_fits_marks marked base bytes marks j) inside.0 high ∙ empty_mark marked at inside
+    span_before (unused_text (limit_of marked.bytes)).marks base marks at Unmarked j.placed.low
+    (alone_fits_marks marked base bytes marks j) inside.0 high ∙ empty_mark marked at inside
 
 -- after the span too
 pub alone_behind : (marked : MarkedText) (base : ℕ) (bytes : List ℕ) (marks : List Mark) (at : ℕ)
     → IsClosedChunk base (limit_of marked.bytes) bytes marks → InRegion marked.bytes at → base + length bytes ≤ at
     → mark_at (alone marked base bytes marks).marks at ≡ unused_mark at
 alone_behind marked base bytes marks at j inside past =
-    span_behind (unused_text (limit_of marked.bytes)).marks base marks at Unmarked j.placed.low (alone_fits_marks marked base bytes marks j) (omega (arith, past, j.as_long)) ∙ empty_mark marked at inside
+    span_behind (unused_text (limit_of marked.bytes)).marks base marks at Unmarked j.placed.low
+    (alone_fits_marks marked base bytes marks j) (omega (arith, past, j.as_long)) ∙ empty_mark marked at inside
 
 -- how many bytes the text with only the chunk has
 pub alone_bytes_long : (marked : MarkedText) (base : ℕ) (bytes : List ℕ) (marks : List Mark)
     → IsClosedChunk base (limit_of marked.bytes) bytes marks → length (alone marked base bytes marks).bytes ≡ length marked.bytes
 alone_bytes_long marked base bytes marks j =
-    length-with_span (unused_text (limit_of marked.bytes)).bytes (base - 65536) bytes (omega (arith, alone_fits_bytes marked base bytes marks j, j.placed.low)) ∙ empty_bytes marked
+    length-with_span (unused_text (limit_of marked.bytes)).bytes (base - 65536) bytes
+    (omega (arith, alone_fits_bytes marked base bytes marks j, j.placed.low)) ∙ empty_bytes marked
 
 -- how many marks it has
 pub alone_marks_long : (marked : MarkedText) (base : ℕ) (bytes : List ℕ) (marks : List Mark)
     → IsClosedChunk base (limit_of marked.bytes) bytes marks → length (alone marked base bytes marks).marks ≡ length marked.bytes
 alone_marks_long marked base bytes marks j =
-    length-with_span (unused_text (limit_of marked.bytes)).marks (base - 65536) marks (omega (arith, alone_fits_marks marked base bytes marks j, j.placed.low)) ∙ empty_marks marked
+    length-with_span (unused_text (limit_of marked.bytes)).marks (base - 65536) marks
+    (omega (arith, alone_fits_marks marked base bytes marks j, j.placed.low)) ∙ empty_marks marked

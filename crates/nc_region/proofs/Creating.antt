@@ -8,24 +8,26 @@ use Rattle.nc_decode.specs.declared.instruction.Mark.{Mark}
 use Rattle.nc_text.specs.Places.{limit_of, byte_at}
 use Rattle.nc_text.specs.Marks.{IsClosed, Admits}
 use Rattle.nc_text.specs.MarkedText.{MarkedText, with_span}
-use Rattle.nc_text.proofs.Closing.{closed_with_stops}
-use Rattle.nc_text.proofs.SpanElements.{length-with_span}
+use Rattle.nc_text.proofs.Offered.{closed_with_stops, length-with_span}
 use Rattle.nc_region.specs.Acts.{is_inside}
-use Rattle.nc_region.specs.Chunks.{IsPlaced, IsUnused, HasPut, IsFinalBut}
+use Rattle.nc_region.specs.Chunks.{HasGoodSpan}
+use Rattle.nc_region.specs.machinery.Between.{IsUnused, HasPut, IsFinalBut}
 use Rattle.nc_region.proofs.Puts.{byte_at_other, byte_at_same}
 use Rattle.nc_region.proofs.SpanPlaces.{Before, Within, Behind, place_of, unused_is_start, is_inside_false, is_inside_true, start_or_not}
 use Rattle.nc_region.proofs.SpanPlaces.{span_within, span_before, span_behind, before_span}
 
 -- the bytes that aren't bundle starts may be put while the span is unused
 pub inside_closed : (old : MarkedText) (new : List ℕ) (base : ℕ) (bytes : List ℕ) (count : ℕ)
-    → IsPlaced base (limit_of old.bytes) (length bytes) → count ≤ length bytes → IsClosed old.bytes old.marks
+    → HasGoodSpan base (limit_of old.bytes) (length bytes) → count ≤ length bytes → IsClosed old.bytes old.marks
     → IsUnused old base (length bytes) → HasPut is_inside base bytes count old.bytes new → IsClosed new old.marks
 inside_closed old new base bytes count placed le closed unused puts =
     closed_with_stops old.bytes new old.marks closed puts.as_long (λ now m.
     elim (place_of base (length bytes) now.place) [
-      | Before l ↦ inr (λ i is fits k lt. puts.below (now.place + k) (omega (arith, m.0)) (before_span now.place i.len k base fits lt placed.start l))
+      | Before l ↦ inr (λ i is fits k lt. puts.below (now.place + k) (omega (arith, m.0))
+          (before_span now.place i.len k base fits lt placed.start l))
       | Within low high ↦
-          inl (let start = unused_is_start now.place now.masked (subst (λ (mark : Mark). Admits mark now.masked) (unused.unused now.place low high) m.1) in
+          inl (let start = unused_is_start now.place now.masked
+          (subst (λ (mark : Mark). Admits mark now.masked) (unused.unused now.place low high) m.1) in
           puts.passed now.place low (is_inside_false now.place start) ∙ unused.stops now.place low high)
       | Behind p ↦ inr (λ i is fits k lt. puts.above (now.place + k) (omega arith))
     ])
@@ -44,7 +46,8 @@ final_but_closed final now marks from to order closed f =
       | Within a b ↦
           elim (start_or_not s.place) [
             | inl start ↦ inl (f.stops s.place a (omega arith) start.1)
-            | inr inside ↦ inr (λ i is fits k lt. f.inside (s.place + k) (omega (arith, m.0)) (λ at_start. omega (arith, inside.1, at_start, fits, lt)))
+            | inr inside ↦ inr (λ i is fits k lt. f.inside (s.place + k) (omega (arith, m.0))
+                (λ at_start. omega (arith, inside.1, at_start, fits, lt)))
           ]
       | Behind p ↦ inr (λ i is fits k lt. f.behind (s.place + k) (omega arith))
     ])
@@ -53,8 +56,10 @@ final_but_closed final now marks from to order closed f =
 pub final_more : (final now : List ℕ) (from to : ℕ) → 65536 ≤ from → from < to → to ≤ 65536 + length final → IsFinalBut final now from to
     → IsFinalBut final (set now (from - 65536) (byte_at final from)) (from + 1) to
 final_more final now from to low order fits f =
-    let elsewhere : (at : ℕ) → 65536 ≤ at → at ≢ from → byte_at (set now (from - 65536) (byte_at final from)) at ≡ byte_at now at = λ at low' differ. byte_at_other now from at (byte_at final from) low low' differ in
-    let here : byte_at (set now (from - 65536) (byte_at final from)) from ≡ byte_at final from = byte_at_same now from (byte_at final from) low (omega (arith, f.as_long)) in
+    let elsewhere : (at : ℕ) → 65536 ≤ at → at ≢ from → byte_at (set now (from - 65536) (byte_at final from)) at ≡ byte_at now at =
+    λ at low' differ. byte_at_other now from at (byte_at final from) low low' differ in
+    let here : byte_at (set now (from - 65536) (byte_at final from)) from ≡ byte_at final from =
+    byte_at_same now from (byte_at final from) low (omega (arith, f.as_long)) in
     record {
       as_long = length-set now (from - 65536) (byte_at final from) ∙ f.as_long;
       stops = λ at a b start. elsewhere at (omega arith) (λ same. omega (arith, same, a)) ∙ f.stops at (omega arith) b start;
@@ -94,15 +99,17 @@ final_all final now at f =
     ext_get_or 0 now final f.as_long (λ i lt.
     let e : 65536 + i - 65536 ≡ i = omega arith in
     subst (λ (k : ℕ). get_or now k 0 ≡ get_or final k 0) e
-    (⊎_elim (λ (b : 65536 + i < at). f.before (65536 + i) (omega arith) b) (λ (p : at ≤ 65536 + i). f.behind (65536 + i) p) (cases_lt (65536 + i) at)))
+    (⊎_elim (λ (b : 65536 + i < at). f.before (65536 + i) (omega arith) b) (λ (p : at ≤ 65536 + i). f.behind (65536 + i) p)
+    (cases_lt (65536 + i) at)))
 
 -- once all but the bundle starts are put, the text is the final one but for stops at the bundle starts
-pub final_but_starts : (old : MarkedText) (now : List ℕ) (base : ℕ) (bytes : List ℕ) → IsPlaced base (limit_of old.bytes) (length bytes)
+pub final_but_starts : (old : MarkedText) (now : List ℕ) (base : ℕ) (bytes : List ℕ) → HasGoodSpan base (limit_of old.bytes) (length bytes)
     → IsUnused old base (length bytes) → HasPut is_inside base bytes (length bytes) old.bytes now
     → IsFinalBut (with_span old.bytes (base - 65536) bytes) now base (base + length bytes)
 final_but_starts old now base bytes placed unused puts =
     let fits : base + length bytes ≤ 65536 + length old.bytes = omega (arith, placed.high) in
-    let long : length (with_span old.bytes (base - 65536) bytes) ≡ length old.bytes = length-with_span old.bytes (base - 65536) bytes (omega (arith, fits, placed.low)) in
+    let long : length (with_span old.bytes (base - 65536) bytes) ≡ length old.bytes =
+    length-with_span old.bytes (base - 65536) bytes (omega (arith, fits, placed.low)) in
     record {
       as_long = puts.as_long ∙ sym long;
       stops = λ at a b start. puts.passed at a (is_inside_false at start) ∙ unused.stops at a b;
@@ -119,16 +126,21 @@ final_but_starts old now base bytes placed unused puts =
 -- one more bundle start gets the chunk's byte
 pub start_put : (old now : List ℕ) (base : ℕ) (bytes : List ℕ) (i : ℕ) → 65536 ≤ base → base + length bytes ≤ 65536 + length old
     → i < length bytes → IsFinalBut (with_span old (base - 65536) bytes) now (base + i) (base + length bytes)
-    → IsFinalBut (with_span old (base - 65536) bytes) (set now (base + i - 65536) (get_or bytes i 0)) (base + (i + 1)) (base + length bytes)
+    → IsFinalBut (with_span old (base - 65536) bytes) (set now (base + i - 65536) (get_or bytes i 0))
+    (base + (i + 1)) (base + length bytes)
 start_put old now base bytes i low fits lt f =
     let final = with_span old (base - 65536) bytes in
     let long : length (with_span old (base - 65536) bytes) ≡ length old = length-with_span old (base - 65536) bytes (omega arith) in
     let there : base + i - base ≡ i = omega arith in
-    let byte : byte_at (with_span old (base - 65536) bytes) (base + i) ≡ get_or bytes i 0 = span_within old base bytes (base + i) 0 low fits (omega arith) (omega arith) ∙ ap (λ (k : ℕ). get_or bytes k 0) there in
+    let byte : byte_at (with_span old (base - 65536) bytes) (base + i) ≡ get_or bytes i 0 =
+    span_within old base bytes (base + i) 0 low fits (omega arith) (omega arith) ∙ ap (λ (k : ℕ). get_or bytes k 0) there in
     let next : base + i + 1 ≡ base + (i + 1) = omega arith in
-    subst (λ (n : ℕ). IsFinalBut (with_span old (base - 65536) bytes) (set now (base + i - 65536) (get_or bytes i 0)) n (base + length bytes)) next
-    (subst (λ (b : ℕ). IsFinalBut (with_span old (base - 65536) bytes) (set now (base + i - 65536) b) (base + i + 1) (base + length bytes)) byte
-    (final_more (with_span old (base - 65536) bytes) now (base + i) (base + length bytes) (omega arith) (omega arith) (omega (arith, long)) f))
+    subst (λ (n : ℕ). IsFinalBut (with_span old (base - 65536) bytes) (set now (base + i - 65536) (get_or bytes i 0)) n
+    (base + length bytes)) next
+    (subst (λ (b : ℕ). IsFinalBut (with_span old (base - 65536) bytes) (set now (base + i - 65536) b) (base + i + 1)
+    (base + length bytes)) byte
+    (final_more (with_span old (base - 65536) bytes) now (base + i) (base + length bytes) (omega arith) (omega arith)
+    (omega (arith, long)) f))
 
 -- a place that is no bundle start is passed
 pub start_passed : (final now : List ℕ) (base i to : ℕ) → (base + i) % 32 ≢ 0 → IsFinalBut final now (base + i) to
@@ -148,9 +160,11 @@ same_final old now base bytes low fits puts =
     let e : 65536 + k - 65536 ≡ k = omega arith in
     subst (λ (n : ℕ). get_or (with_span now (base - 65536) bytes) n 0 ≡ get_or (with_span old (base - 65536) bytes) n 0) e
     (elim (place_of base (length bytes) (65536 + k)) [
-      | Before l ↦ span_before now base bytes (65536 + k) 0 low fits' (omega arith) l ∙ (puts.below (65536 + k) (omega arith) l ∙ sym (span_before old base bytes (65536 + k) 0 low fits (omega arith) l))
+      | Before l ↦ span_before now base bytes (65536 + k) 0 low fits' (omega arith) l
+          ∙ (puts.below (65536 + k) (omega arith) l ∙ sym (span_before old base bytes (65536 + k) 0 low fits (omega arith) l))
       | Within a b ↦ span_within now base bytes (65536 + k) 0 low fits' a b ∙ sym (span_within old base bytes (65536 + k) 0 low fits a b)
-      | Behind p ↦ span_behind now base bytes (65536 + k) 0 low fits' p ∙ (puts.above (65536 + k) p ∙ sym (span_behind old base bytes (65536 + k) 0 low fits p))
+      | Behind p ↦ span_behind now base bytes (65536 + k) 0 low fits' p
+          ∙ (puts.above (65536 + k) p ∙ sym (span_behind old base bytes (65536 + k) 0 low fits p))
     ]))
 
 -- two texts of the same bytes and marks

@@ -9,10 +9,10 @@ use Rattle.nc_decode.specs.declared.instruction.Mark.{Mark}
 use Rattle.nc_text.specs.Places.{InRegion, limit_of, byte_at}
 use Rattle.nc_text.specs.Marks.{mark_at}
 use Rattle.nc_text.specs.MarkedText.{MarkedText, IsText, with_span, unused_mark}
-use Rattle.nc_text.proofs.SpanElements.{length-with_span}
+use Rattle.nc_text.proofs.Offered.{length-with_span}
 use Rattle.nc_region.specs.declared.chunk.Chunk.{Chunk}
 use Rattle.nc_region.specs.declared.chunk.ChunkState.TheVariants.{Live, Retired}
-use Rattle.nc_region.specs.Chunks.{IsPlaced}
+use Rattle.nc_region.specs.Chunks.{HasGoodSpan}
 use Rattle.nc_region.specs.Each.{Each}
 use Rattle.nc_gens.specs.Rule.{generation_raised}
 use Rattle.nc_region.specs.Acts.{Tells, acts_of_delete}
@@ -27,9 +27,14 @@ use Rattle.nc_region.proofs.SpanPlaces.{place_of, Before, Within, Behind, span_w
 rising_set : (from : ℕ) (chunks : List Chunk) (k : ℕ) (c d : Chunk) → IsRising from chunks → k < length chunks → get_or chunks k c ≡ c
     → d.base ≡ c.base → d.length ≡ c.length → IsRising from (set chunks k d)
 rising_set from [] k c d rising lt here b l = absurd (omega arith)
-rising_set from (x ∷ rest) zero c d rising lt here b l =
-    (omega (arith, rising.0, ap (λ (y : Chunk). y.base) here, b), (let end : x.base + x.length ≡ d.base + d.length = omega (arith, ap (λ (y : Chunk). y.base) here, ap (λ (y : Chunk). y.length) here, b, l) in subst (λ (n : ℕ). IsRising n rest) end rising.1))
-rising_set from (x ∷ rest) (suc k) c d rising lt here b l = (rising.0, rising_set (x.base + x.length) rest k c d rising.1 (omega (arith, lt)) here b l)
+rising_set from (x ∷ rest) zero c d rising lt here b l = (
+  omega (arith, rising.0, ap (λ (y : Chunk). y.base) here, b),
+  (let end : x.base + x.length ≡ d.base + d.length =
+      omega (arith, ap (λ (y : Chunk). y.base) here, ap (λ (y : Chunk). y.length) here, b, l) in
+      subst (λ (n : ℕ). IsRising n rest) end rising.1),
+)
+rising_set from (x ∷ rest) (suc k) c d rising lt here b l =
+    (rising.0, rising_set (x.base + x.length) rest k c d rising.1 (omega (arith, lt)) here b l)
 
 -- where a chunk stands in the list
 pub listed_there : (chunks : List Chunk) (k : ℕ) (c : Chunk) → slice_get chunks k ≡ Some c → (k < length chunks) × (get_or chunks k c ≡ c)
@@ -51,8 +56,9 @@ pub record Deletes (old new : MarkedText) (chunks : List Chunk) (k : ℕ) (c : C
 
 -- it lies in the region
 placed_there : (old new : MarkedText) (chunks : List Chunk) (k : ℕ) (c : Chunk) → Deletes old new chunks k c
-    → IsPlaced c.base (limit_of old.bytes) c.length
-placed_there old new chunks k c r = subst (λ (d : Chunk). IsPlaced d.base (limit_of old.bytes) d.length) r.here (each_get (λ (d : Chunk). IsPlaced d.base (limit_of old.bytes) d.length) chunks k c r.inside r.region.placed)
+    → HasGoodSpan c.base (limit_of old.bytes) c.length
+placed_there old new chunks k c r = subst (λ (d : Chunk). HasGoodSpan d.base (limit_of old.bytes) d.length) r.here
+    (each_get (λ (d : Chunk). HasGoodSpan d.base (limit_of old.bytes) d.length) chunks k c r.inside r.region.placed)
 
 -- outside it nothing is changed
 agrees : (old new : MarkedText) (chunks : List Chunk) (k : ℕ) (c : Chunk) → Deletes old new chunks k c
@@ -61,7 +67,8 @@ agrees old new chunks k c r =
     let p = placed_there old new chunks k c r in
     let n = length-replicate {A = ℕ} c.length 244 in
     record {
-      as_long = ap (λ (z : List ℕ). length z) r.bytes_are ∙ length-with_span old.bytes (c.base - 65536) (replicate c.length 244) (omega (arith, n, p.low, p.high));
+      as_long = ap (λ (z : List ℕ). length z) r.bytes_are
+          ∙ length-with_span old.bytes (c.base - 65536) (replicate c.length 244) (omega (arith, n, p.low, p.high));
       bytes = λ at low out.
           ap (λ (z : List ℕ). byte_at z at) r.bytes_are
           ∙ elim out [
@@ -78,7 +85,8 @@ stops_there old new chunks k c r at inside =
     let p = placed_there old new chunks k c r in
     let n = length-replicate {A = ℕ} c.length 244 in
     ap (λ (z : List ℕ). byte_at z at) r.bytes_are
-    ∙ (span_within old.bytes c.base (replicate c.length 244) at 0 p.low (omega (arith, n, p.high)) inside.0 (omega (arith, inside.1, n)) ∙ get_or-replicate c.length (at - c.base) 244 0 (omega (arith, inside.0, inside.1)))
+    ∙ (span_within old.bytes c.base (replicate c.length 244) at 0 p.low (omega (arith, n, p.high)) inside.0 (omega (arith, inside.1, n))
+    ∙ get_or-replicate c.length (at - c.base) 244 0 (omega (arith, inside.0, inside.1)))
 
 -- each other chunk of the list lies beside it
 others_beside : (old : MarkedText) (chunks : List Chunk) (k : ℕ) (c : Chunk) → IsRising 65536 chunks → k < length chunks
@@ -86,7 +94,12 @@ others_beside : (old : MarkedText) (chunks : List Chunk) (k : ℕ) (c : Chunk) �
 others_beside old chunks k c rising inside here i lt other =
     ⊎_elim
     (λ (before : i < k). inl (omega (arith, apart_by_index 65536 chunks c rising i k before inside, ap (λ (x : Chunk). x.base) here)))
-    (λ (from : k ≤ i). inr (omega (arith, apart_by_index 65536 chunks c rising k i (⊎_elim (λ (l : k < i). l) (λ (e : i ≤ k). absurd (other (omega (arith, e, from)))) (cases_lt k i)) lt, ap (λ (x : Chunk). x.base + x.length) here)))
+    (λ (from : k ≤ i). inr (omega (
+      arith,
+      apart_by_index 65536 chunks c rising k i
+          (⊎_elim (λ (l : k < i). l) (λ (e : i ≤ k). absurd (other (omega (arith, e, from)))) (cases_lt k i)) lt,
+      ap (λ (x : Chunk). x.base + x.length) here,
+    )))
     (cases_lt i k)
 
 -- the region with the chunk retired
@@ -98,16 +111,21 @@ region_deleted old new chunks k c stamp r =
     record {
       whole = r.whole;
       rising = rising_set 65536 chunks k c (record c { state = Retired stamp }) r.region.rising r.inside r.here refl refl;
-      placed = subst (λ (l : ℕ). Each (λ (x : Chunk). IsPlaced x.base l x.length) (set chunks k (record c { state = Retired stamp }))) (ap (λ (n : ℕ). 65536 + n) (sym a.as_long))
-          (each_set (λ (x : Chunk). IsPlaced x.base (limit_of old.bytes) x.length) chunks k (record c { state = Retired stamp }) r.region.placed p);
+      placed = subst (λ (l : ℕ). Each (λ (x : Chunk). HasGoodSpan x.base l x.length) (set chunks k (record c { state = Retired stamp })))
+          (ap (λ (n : ℕ). 65536 + n) (sym a.as_long))
+          (each_set (λ (x : Chunk). HasGoodSpan x.base (limit_of old.bytes) x.length) chunks k
+          (record c { state = Retired stamp }) r.region.placed p);
       live = each_set_but (λ (x : Chunk). IsLive x.state → HoldsValid new x) chunks k (record c { state = Retired stamp }) c
-          (λ i lt other live. still_holds old new c (get_or chunks i c) a (others_beside old chunks k c r.region.rising r.inside r.here i lt other) (each_get (λ (x : Chunk). IsLive x.state → HoldsValid old x) chunks i c lt r.region.live live))
+          (λ i lt other live. still_holds old new c (get_or chunks i c) a
+          (others_beside old chunks k c r.region.rising r.inside r.here i lt other)
+          (each_get (λ (x : Chunk). IsLive x.state → HoldsValid old x) chunks i c lt r.region.live live))
           (λ live. absurd live);
       stops = λ at inside free.
           let old_inside : InRegion old.bytes at = (inside.0, omega (arith, inside.1, a.as_long)) in
           let all : ((at < c.base) ⊎ (c.base + c.length ≤ at)) → Each (λ (x : Chunk). IsLive x.state → IsInChunk x at → ⊥) chunks = λ out.
           each_unset (λ (x : Chunk). IsLive x.state → IsInChunk x at → ⊥) chunks k (record c { state = Retired stamp }) c r.inside free
-          (subst (λ (x : Chunk). IsLive x.state → IsInChunk x at → ⊥) (sym r.here) (λ live in_c. elim out [ inl l ↦ omega (arith, l, in_c.0) | inr b ↦ omega (arith, b, in_c.1) ])) in
+          (subst (λ (x : Chunk). IsLive x.state → IsInChunk x at → ⊥) (sym r.here)
+          (λ live in_c. elim out [ inl l ↦ omega (arith, l, in_c.0) | inr b ↦ omega (arith, b, in_c.1) ])) in
           elim (place_of c.base c.length at) [
             | Before l ↦ a.bytes at inside.0 (inl l) ∙ r.region.stops at old_inside (all (inl l))
             | Within low high ↦ stops_there old new chunks k c r at (low, high)
@@ -117,7 +135,8 @@ region_deleted old new chunks k c stamp r =
           ap (λ (z : List Mark). mark_at z at) r.marks_are
           ∙ r.region.unused at (inside.0, omega (arith, inside.1, a.as_long))
           (each_unset (λ (x : Chunk). IsInChunk x at → ⊥) chunks k (record c { state = Retired stamp }) c r.inside free
-          (subst (λ (x : Chunk). IsInChunk x at → ⊥) (sym r.here) (each_at_set (λ (x : Chunk). IsInChunk x at → ⊥) chunks k (record c { state = Retired stamp }) r.inside free)));
+          (subst (λ (x : Chunk). IsInChunk x at → ⊥) (sym r.here)
+          (each_at_set (λ (x : Chunk). IsInChunk x at → ⊥) chunks k (record c { state = Retired stamp }) r.inside free)));
     }
 
 -- the chunk that takes its place, by its fields
@@ -147,6 +166,8 @@ deleted_is old new k base len stamp chunk listed live base_is len_is room stamp_
       bytes = bytes ∙ ap (λ (n : ℕ). with_span old.marked.bytes (base - 65536) (replicate n 244)) len_is;
       chunks = chunks ∙ ap (λ (d : Chunk). set old.chunks k d) (retired_is chunk base len stamp base_is len_is);
       keeper = keeper;
-      others = ap (λ (m : List Mark). let r : Region = record { marked = record { bytes = new.marked.bytes; marks = m }; chunks = new.chunks; keeper = new.keeper; told = new.told } in r) marks;
+      others = ap (λ (m : List Mark). let r : Region =
+          record { marked = record { bytes = new.marked.bytes; marks = m }; chunks = new.chunks; keeper = new.keeper; told = new.told } in
+          r) marks;
       acts = subst (λ (n : ℕ). Tells old.told new.told (acts_of_delete old.marked.marks base n)) len_is told;
     }

@@ -9,10 +9,10 @@ use Rattle.nc_text.specs.Places.{InRegion, limit_of, byte_at}
 use Rattle.nc_text.specs.Machine.{State}
 use Rattle.nc_text.specs.Marks.{IsMarked, IsClosed, mark_at, Admits}
 use Rattle.nc_text.specs.MarkedText.{MarkedText, with_span}
-use Rattle.nc_text.proofs.Closing.{closed_with_stops}
-use Rattle.nc_text.proofs.SpanElements.{length-with_span}
+use Rattle.nc_text.proofs.Offered.{closed_with_stops, length-with_span}
 use Rattle.nc_region.specs.Acts.{is_mark, is_marked_at, is_unmarked_at}
-use Rattle.nc_region.specs.Chunks.{IsPlaced, HasPut}
+use Rattle.nc_region.specs.Chunks.{HasGoodSpan}
+use Rattle.nc_region.specs.machinery.Between.{HasPut}
 use Rattle.nc_region.proofs.SpanPlaces.{place_of, Before, Within, Behind, before_span, span_before, span_within, span_behind}
 
 -- a mark that stands for a state is a mark
@@ -26,24 +26,27 @@ stop_byte : (base len at : ℕ) → base ≤ at → at < base + len → get_or (
 stop_byte base len at low high = get_or-replicate len (at - base) 244 0 (omega arith)
 
 -- while stops are put at marked places the text is closed
-pub marked_closed : (old : MarkedText) (now : List ℕ) (base len count : ℕ) → IsPlaced base (limit_of old.bytes) len → count ≤ len
+pub marked_closed : (old : MarkedText) (now : List ℕ) (base len count : ℕ) → HasGoodSpan base (limit_of old.bytes) len → count ≤ len
     → IsClosed old.bytes old.marks → HasPut (is_marked_at old.marks) base (replicate len 244) count old.bytes now → IsClosed now old.marks
 marked_closed old now base len count placed le closed puts =
     closed_with_stops old.bytes now old.marks closed puts.as_long (λ s m.
     elim (place_of base count s.place) [
-      | Before l ↦ inr (λ i is fits k lt. puts.below (s.place + k) (omega (arith, m.0)) (before_span s.place i.len k base fits lt placed.start l))
-      | Within a b ↦ inl (puts.put s.place a b (admits_is_mark (mark_at old.marks s.place) s.masked m.1) ∙ stop_byte base len s.place a (omega arith))
+      | Before l ↦ inr (λ i is fits k lt. puts.below (s.place + k) (omega (arith, m.0))
+          (before_span s.place i.len k base fits lt placed.start l))
+      | Within a b ↦ inl (puts.put s.place a b (admits_is_mark (mark_at old.marks s.place) s.masked m.1)
+          ∙ stop_byte base len s.place a (omega arith))
       | Behind p ↦ inr (λ i is fits k lt. puts.above (s.place + k) (omega arith))
     ])
 
 -- and while they are put at the others
-pub others_closed : (old : MarkedText) (now : List ℕ) (base len count : ℕ) → IsPlaced base (limit_of old.bytes) len → count ≤ len
+pub others_closed : (old : MarkedText) (now : List ℕ) (base len count : ℕ) → HasGoodSpan base (limit_of old.bytes) len → count ≤ len
     → IsClosed old.bytes old.marks → ((at : ℕ) → base ≤ at → at < base + len → is_marked_at old.marks at ≡ true
     → byte_at old.bytes at ≡ 244) → HasPut (is_unmarked_at old.marks) base (replicate len 244) count old.bytes now → IsClosed now old.marks
 others_closed old now base len count placed le closed stopped puts =
     closed_with_stops old.bytes now old.marks closed puts.as_long (λ s m.
     elim (place_of base len s.place) [
-      | Before l ↦ inr (λ i is fits k lt. puts.below (s.place + k) (omega (arith, m.0)) (before_span s.place i.len k base fits lt placed.start l))
+      | Before l ↦ inr (λ i is fits k lt. puts.below (s.place + k) (omega (arith, m.0))
+          (before_span s.place i.len k base fits lt placed.start l))
       | Within a b ↦
           let is = admits_is_mark (mark_at old.marks s.place) s.masked m.1 in
           inl (puts.passed s.place a (ap not is) ∙ stopped s.place a b is)
@@ -69,11 +72,14 @@ all_stops old mid now marks base len low fits first second =
     let e : 65536 + k - 65536 ≡ k = omega arith in
     subst (λ (i : ℕ). get_or now i 0 ≡ get_or (with_span old (base - 65536) (replicate len 244)) i 0) e
     (elim (place_of base len (65536 + k)) [
-      | Before l ↦ second.below (65536 + k) (omega arith) l ∙ (first.below (65536 + k) (omega arith) l ∙ sym (span_before old base (replicate len 244) (65536 + k) 0 low fits' (omega arith) l))
+      | Before l ↦ second.below (65536 + k) (omega arith) l
+          ∙ (first.below (65536 + k) (omega arith) l
+          ∙ sym (span_before old base (replicate len 244) (65536 + k) 0 low fits' (omega arith) l))
       | Within a b ↦
           within_stop marks (65536 + k) (is_marked_at marks (65536 + k)) refl now (get_or (replicate len 244) (65536 + k - base) 0)
           (λ is. second.passed (65536 + k) a (ap not is) ∙ first.put (65536 + k) a b is)
           (λ is. second.put (65536 + k) a b (ap not is))
           ∙ sym (span_within old base (replicate len 244) (65536 + k) 0 low fits' a (omega (arith, n)))
-      | Behind p ↦ second.above (65536 + k) p ∙ (first.above (65536 + k) p ∙ sym (span_behind old base (replicate len 244) (65536 + k) 0 low fits' (omega (arith, n))))
+      | Behind p ↦ second.above (65536 + k) p
+          ∙ (first.above (65536 + k) p ∙ sym (span_behind old base (replicate len 244) (65536 + k) 0 low fits' (omega (arith, n))))
     ]))

@@ -11,7 +11,7 @@ use Rattle.nc_region.specs.declared.acts.Act.TheVariants.{UnmarkSpan, Look}
 use Rattle.nc_region.specs.declared.chunk.Chunk.{Chunk}
 use Rattle.nc_region.specs.declared.chunk.ChunkState.{ChunkState}
 use Rattle.nc_region.specs.declared.chunk.ChunkState.TheVariants.{Live, Retired}
-use Rattle.nc_region.specs.Chunks.{IsPlaced}
+use Rattle.nc_region.specs.Chunks.{HasGoodSpan}
 use Rattle.nc_region.specs.Each.{Each}
 use Rattle.nc_region.specs.Region.{Region, IsLive, IsRising, IsRegion}
 use Rattle.nc_gens.specs.Seen.{HasLooked, least_number}
@@ -33,25 +33,29 @@ one p c b is = ap (λ (x : Bool). cond x (c ∷ []) []) is
 -- one more chunk that is due is freed
 pub freed_due : (least : ℕ) (done : List Chunk) (c : Chunk) → is_due least c.state ≡ true
     → freed least (done ++ c ∷ []) ≡ freed least done ++ c ∷ []
-freed_due least done c is = filter-append (λ (x : Chunk). is_due least x.state) done (c ∷ []) ∙ ap (λ (z : List Chunk). freed least done ++ z) (one (λ (x : Chunk). is_due least x.state) c true is)
+freed_due least done c is = filter-append (λ (x : Chunk). is_due least x.state) done (c ∷ [])
+    ∙ ap (λ (z : List Chunk). freed least done ++ z) (one (λ (x : Chunk). is_due least x.state) c true is)
 
 -- and isn't kept
 pub kept_due : (least : ℕ) (done : List Chunk) (c : Chunk) → is_due least c.state ≡ true → kept least (done ++ c ∷ []) ≡ kept least done
 kept_due least done c is =
     filter-append (λ (x : Chunk). not (is_due least x.state)) done (c ∷ [])
-    ∙ (ap (λ (z : List Chunk). kept least done ++ z) (one (λ (x : Chunk). not (is_due least x.state)) c false (ap not is)) ∙ append-nil (kept least done))
+    ∙ (ap (λ (z : List Chunk). kept least done ++ z) (one (λ (x : Chunk). not (is_due least x.state)) c false (ap not is))
+    ∙ append-nil (kept least done))
 
 -- one more that isn't due isn't freed
 pub freed_other : (least : ℕ) (done : List Chunk) (c : Chunk) → is_due least c.state ≡ false
     → freed least (done ++ c ∷ []) ≡ freed least done
 freed_other least done c is =
     filter-append (λ (x : Chunk). is_due least x.state) done (c ∷ [])
-    ∙ (ap (λ (z : List Chunk). freed least done ++ z) (one (λ (x : Chunk). is_due least x.state) c false is) ∙ append-nil (freed least done))
+    ∙ (ap (λ (z : List Chunk). freed least done ++ z) (one (λ (x : Chunk). is_due least x.state) c false is)
+    ∙ append-nil (freed least done))
 
 -- and is kept
 pub kept_other : (least : ℕ) (done : List Chunk) (c : Chunk) → is_due least c.state ≡ false
     → kept least (done ++ c ∷ []) ≡ kept least done ++ c ∷ []
-kept_other least done c is = filter-append (λ (x : Chunk). not (is_due least x.state)) done (c ∷ []) ∙ ap (λ (z : List Chunk). kept least done ++ z) (one (λ (x : Chunk). not (is_due least x.state)) c true (ap not is))
+kept_other least done c is = filter-append (λ (x : Chunk). not (is_due least x.state)) done (c ∷ [])
+    ∙ ap (λ (z : List Chunk). kept least done ++ z) (one (λ (x : Chunk). not (is_due least x.state)) c true (ap not is))
 
 -- one more span unmarked
 pub unmarked_more : (marked : MarkedText) (done : List Chunk) (c : Chunk)
@@ -76,25 +80,31 @@ at_seam least chunks i d lt = ap (λ (z : List Chunk). kept least (take i chunks
 -- the list up to the next index
 pub take_more : (chunks : List Chunk) (i : ℕ) (d : Chunk) → i < length chunks
     → take (i + 1) chunks ≡ take i chunks ++ get_or chunks i d ∷ []
-take_more chunks i d lt = let next : suc i ≡ i + 1 = omega arith in subst (λ (k : ℕ). take k chunks ≡ take i chunks ++ get_or chunks i d ∷ []) next (take-suc chunks i d lt)
+take_more chunks i d lt = let next : suc i ≡ i + 1 = omega arith in
+    subst (λ (k : ℕ). take k chunks ≡ take i chunks ++ get_or chunks i d ∷ []) next (take-suc chunks i d lt)
 
 -- the next chunk's span may be freed, if it is due
 pub next_frees : (marked : MarkedText) (least : ℕ) (chunks : List Chunk) (i : ℕ) (d : Chunk) → i < length chunks
     → is_due least (get_or chunks i d).state ≡ true → IsRegion marked (kept least (take i chunks) ++ drop i chunks)
     → Frees marked (span_of (get_or chunks i d))
 next_frees marked least chunks i d lt is region =
-    frees marked (kept least (take i chunks)) (drop (suc i) chunks) (get_or chunks i d) (subst (IsRegion marked) (at_seam least chunks i d lt) region) (due_dead least (get_or chunks i d).state is)
+    frees marked (kept least (take i chunks)) (drop (suc i) chunks) (get_or chunks i d)
+    (subst (IsRegion marked) (at_seam least chunks i d lt) region) (due_dead least (get_or chunks i d).state is)
 
 -- the region once it is freed
 pub next_freed : (marked : MarkedText) (least : ℕ) (chunks : List Chunk) (i : ℕ) (d : Chunk) → i < length chunks
     → is_due least (get_or chunks i d).state ≡ true → IsRegion marked (kept least (take i chunks) ++ drop i chunks)
-    → IsRegion (without_marks marked (get_or chunks i d).base (get_or chunks i d).length) (kept least (take (i + 1) chunks) ++ drop (i + 1) chunks)
+    → IsRegion (without_marks marked (get_or chunks i d).base (get_or chunks i d).length)
+    (kept least (take (i + 1) chunks) ++ drop (i + 1) chunks)
 next_freed marked least chunks i d lt is region =
     let next : suc i ≡ i + 1 = omega arith in
-    subst (λ (k : ℕ). IsRegion (without_marks marked (get_or chunks i d).base (get_or chunks i d).length) (kept least (take k chunks) ++ drop k chunks)) next
-    (subst (λ (z : List Chunk). IsRegion (without_marks marked (get_or chunks i d).base (get_or chunks i d).length) (z ++ drop (suc i) chunks))
+    subst (λ (k : ℕ). IsRegion (without_marks marked (get_or chunks i d).base (get_or chunks i d).length)
+    (kept least (take k chunks) ++ drop k chunks)) next
+    (subst (λ (z : List Chunk). IsRegion (without_marks marked (get_or chunks i d).base (get_or chunks i d).length)
+    (z ++ drop (suc i) chunks))
     (sym (ap (λ (z : List Chunk). kept least z) (take-suc chunks i d lt) ∙ kept_due least (take i chunks) (get_or chunks i d) is))
-    (region_freed marked (kept least (take i chunks)) (drop (suc i) chunks) (get_or chunks i d) (subst (IsRegion marked) (at_seam least chunks i d lt) region) (due_dead least (get_or chunks i d).state is)))
+    (region_freed marked (kept least (take i chunks)) (drop (suc i) chunks) (get_or chunks i d)
+    (subst (IsRegion marked) (at_seam least chunks i d lt) region) (due_dead least (get_or chunks i d).state is)))
 
 -- a chunk that isn't due stays
 pub next_kept : (marked : MarkedText) (least : ℕ) (chunks : List Chunk) (i : ℕ) (d : Chunk) → i < length chunks
@@ -106,7 +116,8 @@ next_kept marked least chunks i d lt is region =
     (subst (IsRegion marked)
     (at_seam least chunks i d lt
     ∙ (sym (append_assoc (kept least (take i chunks)) (get_or chunks i d ∷ []) (drop (suc i) chunks))
-    ∙ ap (λ (z : List Chunk). z ++ drop (suc i) chunks) (sym (ap (λ (z : List Chunk). kept least z) (take-suc chunks i d lt) ∙ kept_other least (take i chunks) (get_or chunks i d) is))))
+    ∙ ap (λ (z : List Chunk). z ++ drop (suc i) chunks)
+    (sym (ap (λ (z : List Chunk). kept least z) (take-suc chunks i d lt) ∙ kept_other least (take i chunks) (get_or chunks i d) is))))
     region)
 
 -- one more chunk is one or the other
@@ -122,7 +133,7 @@ kept_and_freed least [] = refl
 kept_and_freed least (c ∷ rest) = one_more least c rest (is_due least c.state) refl (kept_and_freed least rest)
 
 -- a list of chunks below a limit is no longer than the places there
-pub few : (limit from : ℕ) (chunks : List Chunk) → IsRising from chunks → Each (λ (c : Chunk). IsPlaced c.base limit c.length) chunks
+pub few : (limit from : ℕ) (chunks : List Chunk) → IsRising from chunks → Each (λ (c : Chunk). HasGoodSpan c.base limit c.length) chunks
     → from ≤ limit → from + length chunks ≤ limit
 few limit from [] rising placed le = omega (arith, le)
 few limit from (c ∷ rest) rising placed le =
@@ -131,7 +142,8 @@ few limit from (c ∷ rest) rising placed le =
 -- what reclaiming leaves, by its parts
 pub reclaimed_is : (old new : Region) (between : Option (List Act)) (count least : ℕ) → HasLooked old.keeper new.keeper
     → least ≡ least_number new.keeper.numbers
-    → new.chunks ≡ kept least old.chunks → count ≡ length (freed least old.chunks) → new.marked ≡ unmarked old.marked (freed least old.chunks)
+    → new.chunks ≡ kept least old.chunks → count ≡ length (freed least old.chunks)
+    → new.marked ≡ unmarked old.marked (freed least old.chunks)
     → Tells old.told between (Look ∷ []) → Tells between new.told (unmarkings (freed least old.chunks)) → IsReclaimed old new count
 reclaimed_is old new between count least looked is chunks count_is marked first second =
     record {
@@ -141,5 +153,6 @@ reclaimed_is old new between count least looked is chunks count_is marked first 
       marked = marked ∙ ap (λ (n : ℕ). unmarked old.marked (freed n old.chunks)) is;
       bytes = ap (λ (m : MarkedText). m.bytes) marked ∙ unmarked_bytes old.marked (freed least old.chunks);
       others = refl;
-      acts = subst (λ (n : ℕ). Tells old.told new.told (Look ∷ unmarkings (freed n old.chunks))) is (tells_more old.told between new.told (Look ∷ []) (unmarkings (freed least old.chunks)) first second);
+      acts = subst (λ (n : ℕ). Tells old.told new.told (Look ∷ unmarkings (freed n old.chunks))) is
+          (tells_more old.told between new.told (Look ∷ []) (unmarkings (freed least old.chunks)) first second);
     }

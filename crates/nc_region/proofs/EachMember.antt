@@ -47,10 +47,6 @@ pub each_append : {X : Type 0} (P : X → Type 0) (xs ys : List X) → Each P xs
 each_append P [] ys h g = g
 each_append P (x ∷ xs) ys h g = (h.0, each_append P xs ys h.1 g)
 
--- one member removed
-pub each_remove : {X : Type 0} (P : X → Type 0) (xs : List X) (k : ℕ) → Each P xs → Each P (remove xs k)
-each_remove P xs k h = each_append P (take k xs) (drop (suc k) xs) (each_take P k xs h) (each_drop P (suc k) xs h)
-
 -- what holds of the element at each index holds of each member
 pub each_from : {X : Type 0} (P : X → Type 0) (xs : List X) (d : X) → ((k : ℕ) → k < length xs → P (get_or xs k d)) → Each P xs
 each_from P [] d h = tt
@@ -61,7 +57,10 @@ pub each_set_but : {X : Type 0} (P : X → Type 0) (xs : List X) (k : ℕ) (y d 
     → P y → Each P (set xs k y)
 each_set_but P [] k y d h p = tt
 each_set_but P (x ∷ xs) zero y d h p = (p, each_from P xs d (λ i lt. h (suc i) (omega (arith, lt)) (λ e. omega (arith, e))))
-each_set_but P (x ∷ xs) (suc k) y d h p = (h 0 (omega arith) (λ e. omega (arith, e)), each_set_but P xs k y d (λ i lt ne. h (suc i) (omega (arith, lt)) (λ e. ne (omega (arith, e)))) p)
+each_set_but P (x ∷ xs) (suc k) y d h p = (
+  h 0 (omega arith) (λ e. omega (arith, e)),
+  each_set_but P xs k y d (λ i lt ne. h (suc i) (omega (arith, lt)) (λ e. ne (omega (arith, e)))) p,
+)
 
 -- the member that was set
 pub each_at_set : {X : Type 0} (P : X → Type 0) (xs : List X) (k : ℕ) (y : X) → k < length xs → Each P (set xs k y) → P y

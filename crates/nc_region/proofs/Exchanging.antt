@@ -9,9 +9,8 @@ use Rattle.nc_decode.specs.Transfers.{is_direct, is_indirect, target}
 use Rattle.nc_decode.proofs.Offered.{spells_some}
 use Rattle.nc_vet.specs.Chunk.{Piece, MarkedChunk, code_of, place, FollowsMask, IsEntry, IsTarget, IsValid, AreSound, AreTargets, IsLength}
 use Rattle.nc_vet.specs.Chunk.{IsInRange, mark_of, instr_marks, marks_of}
-use Rattle.nc_vet.proofs.Offered.{place-append, marks_of-append}
-use Rattle.nc_vet.proofs.Offered.{first_plain}
-use Rattle.nc_region.specs.PatchSteps.{NoneFirst}
+use Rattle.nc_vet.proofs.Offered.{place-append, marks_of-append, first_plain}
+use Rattle.nc_region.specs.machinery.PatchSteps.{NoneFirst}
 
 -- of a list parted at two elements: they are the same, or one stands before the other
 pub data Where (before after b a : List Piece) (n p : Piece) : Type 0 where
@@ -22,8 +21,10 @@ pub data Where (before after b a : List Piece) (n p : Piece) : Type 0 where
 -- where a piece of a list stands beside another one
 pub where_is : (before after b a : List Piece) (n p : Piece) → before ++ n ∷ after ≡ b ++ p ∷ a → Where before after b a n p
 where_is [] after [] a n p e = let f : n ≡ p = cc in let g : after ≡ a = cc in Here refl f g
-where_is [] after (x ∷ b) a n p e = let f : x ∷ b ≡ n ∷ b = (let h : n ≡ x = cc in rw h refl) in let g : after ≡ b ++ p ∷ a = cc in Later b f g
-where_is (y ∷ before) after [] a n p e = let f : y ∷ before ≡ p ∷ before = (let h : y ≡ p = cc in rw h refl) in let g : a ≡ before ++ n ∷ after = cc in Earlier before f g
+where_is [] after (x ∷ b) a n p e = let f : x ∷ b ≡ n ∷ b = (let h : n ≡ x = cc in rw h refl) in let g : after ≡ b ++ p ∷ a = cc in
+    Later b f g
+where_is (y ∷ before) after [] a n p e = let f : y ∷ before ≡ p ∷ before = (let h : y ≡ p = cc in rw h refl) in
+    let g : a ≡ before ++ n ∷ after = cc in Earlier before f g
 where_is (y ∷ before) after (x ∷ b) a n p e =
     let h : y ≡ x = cc in
     let tail : before ++ n ∷ after ≡ b ++ p ∷ a = cc in
@@ -48,7 +49,8 @@ pub record Exchanges (c : MarkedChunk) (before after : List Piece) (o n : Piece)
 pub same_place : (before m : List Piece) (o n : Piece) → length o.bytes ≡ length n.bytes
     → place (before ++ o ∷ m) ≡ place (before ++ n ∷ m)
 same_place before m o n e =
-    place-append before (o ∷ m) ∙ (ap (λ (k : ℕ). place before + k) (place-append (o ∷ []) m ∙ (ap (λ (k : ℕ). k + place m) (one o ∙ (e ∙ sym (one n))) ∙ sym (place-append (n ∷ []) m))) ∙ sym (place-append before (n ∷ m)))
+    place-append before (o ∷ m) ∙ (ap (λ (k : ℕ). place before + k) (place-append (o ∷ []) m
+    ∙ (ap (λ (k : ℕ). k + place m) (one o ∙ (e ∙ sym (one n))) ∙ sym (place-append (n ∷ []) m))) ∙ sym (place-append before (n ∷ m)))
   where
     one : (p : Piece) → place (p ∷ []) ≡ length p.bytes
     one p = ap (λ (z : List ℕ). length z) (append-nil p.bytes)
@@ -59,16 +61,35 @@ entry_stays : (before after : List Piece) (o n : Piece) (at : ℕ) → length o.
 entry_stays before after o n at len plain e =
     elim (where_is before after e.before e.after o e.piece e.parts) [
       | Here f g k ↦ record { before = before; after = after; piece = n; parts = refl; here = ap place f ∙ e.here; first = plain }
-      | Earlier m f g ↦ record { before = e.before; after = m ++ n ∷ after; piece = e.piece; parts = ap (λ (z : List Piece). z ++ n ∷ after) f ∙ append_assoc e.before (e.piece ∷ m) (n ∷ after); here = e.here; first = e.first }
-      | Later m f g ↦ record { before = before ++ n ∷ m; after = e.after; piece = e.piece; parts = ap (λ (z : List Piece). before ++ n ∷ z) g ∙ sym (append_assoc before (n ∷ m) (e.piece ∷ e.after)); here = sym (same_place before m o n len) ∙ (ap place (sym f) ∙ e.here); first = e.first }
+      | Earlier m f g ↦ record {
+        before = e.before;
+        after = m ++ n ∷ after;
+        piece = e.piece;
+        parts =
+            ap (λ (z : List Piece). z ++ n ∷ after) f ∙ append_assoc e.before (e.piece ∷ m) (n ∷ after);
+        here = e.here;
+        first = e.first;
+      }
+      | Later m f g ↦ record {
+        before = before ++ n ∷ m;
+        after = e.after;
+        piece = e.piece;
+        parts =
+            ap (λ (z : List Piece). before ++ n ∷ z) g ∙ sym (append_assoc before (n ∷ m) (e.piece ∷ e.after));
+        here =
+            sym (same_place before m o n len) ∙ (ap place (sym f) ∙ e.here);
+        first = e.first;
+      }
     ]
 
 -- and good targets
 pub target_stays : (base limit : ℕ) (before after : List Piece) (o n : Piece) (to : ℕ) → length o.bytes ≡ length n.bytes
     → is_indirect n.instr.flow ≡ false → IsTarget base limit (before ++ o ∷ after) to → IsTarget base limit (before ++ n ∷ after) to
-target_stays base limit before after o n to len plain (inl t) = inl (t.0, t.1, omega (arith, t.2, same_place before after o n len), entry_stays before after o n t.0 len plain t.3)
+target_stays base limit before after o n to len plain (inl t) =
+    inl (t.0, t.1, omega (arith, t.2, same_place before after o n len), entry_stays before after o n t.0 len plain t.3)
 target_stays base limit before after o n to len plain (inr (inl under, start, below)) = inr (inl under, start, below)
-target_stays base limit before after o n to len plain (inr (inr past, start, below)) = inr (inr (omega (arith, past, same_place before after o n len)), start, below)
+target_stays base limit before after o n to len plain (inr (inr past, start, below)) =
+    inr (inr (omega (arith, past, same_place before after o n len)), start, below)
 
 -- no list ends in a piece of its own
 none_here : (m : List Piece) (p : Piece) (rest : List Piece) → [] ≡ m ++ p ∷ rest → ⊥
@@ -87,7 +108,8 @@ mask_stays before o n x m reg len f =
         mask = f.mask;
         last = ap (λ (z : List Piece). before ++ n ∷ z) b ∙ sym (append_assoc before (n ∷ k) (f.mask ∷ []));
         masks = f.masks;
-        together = ap (λ (j : ℕ). j / 32) (sym (same_place before k o n len) ∙ ap place (sym a)) ∙ (f.together ∙ ap (λ (j : ℕ). j / 32) (same_place before (x ∷ m) o n len));
+        together = ap (λ (j : ℕ). j / 32) (sym (same_place before k o n len) ∙ ap place (sym a))
+            ∙ (f.together ∙ ap (λ (j : ℕ). j / 32) (same_place before (x ∷ m) o n len));
       }
     ]
 
@@ -95,10 +117,12 @@ mask_stays before o n x m reg len f =
 same_marks : (before after : List Piece) (o n : Piece) → o.instr.len ≡ n.instr.len → is_indirect o.instr.flow ≡ false
     → is_indirect n.instr.flow ≡ false → marks_of (before ++ o ∷ after) ≡ marks_of (before ++ n ∷ after)
 same_marks before after o n len a b =
-    marks_of-append before (o ∷ after) ∙ (ap (λ (z : List Mark). marks_of before ++ (z ++ marks_of after)) one ∙ sym (marks_of-append before (n ∷ after)))
+    marks_of-append before (o ∷ after) ∙ (ap (λ (z : List Mark). marks_of before ++ (z ++ marks_of after)) one
+    ∙ sym (marks_of-append before (n ∷ after)))
   where
     one : instr_marks o.instr ≡ instr_marks n.instr
-    one = ap (λ (x : Mark). x ∷ replicate (o.instr.len - 1) Unmarked) (first_plain (is_indirect o.instr.flow) o.instr.reg a ∙ sym (first_plain (is_indirect n.instr.flow) n.instr.reg b)) ∙ ap (λ (k : ℕ). mark_of n.instr ∷ replicate (k - 1) Unmarked) len
+    one = ap (λ (x : Mark). x ∷ replicate (o.instr.len - 1) Unmarked) (first_plain (is_indirect o.instr.flow) o.instr.reg a
+        ∙ sym (first_plain (is_indirect n.instr.flow) n.instr.reg b)) ∙ ap (λ (k : ℕ). mark_of n.instr ∷ replicate (k - 1) Unmarked) len
 
 -- the chunk afterwards
 abbrev pub exchanged : MarkedChunk → List Piece → List Piece → Piece → MarkedChunk
@@ -107,7 +131,8 @@ exchanged c before after n = record { base = c.base; limit = c.limit; code = cod
 -- the code is as long
 pub code_long : (c : MarkedChunk) (before after : List Piece) (o n : Piece) → Exchanges c before after o n
     → length (code_of (before ++ n ∷ after)) ≡ length c.code
-code_long c before after o n x = sym (same_place before after o n x.as_long) ∙ (ap place (sym x.parts) ∙ ap (λ (z : List ℕ). length z) (sym x.valid.parts))
+code_long c before after o n x = sym (same_place before after o n x.as_long)
+    ∙ (ap place (sym x.parts) ∙ ap (λ (z : List ℕ). length z) (sym x.valid.parts))
 
 -- where an instruction of the new chunk stands in the old one
 earlier_parts : (c : MarkedChunk) (before after b m : List Piece) (o n p : Piece) (x : Exchanges c before after o n) → before ≡ b ++ p ∷ m
@@ -117,21 +142,28 @@ earlier_parts c before after b m o n p x f = x.parts ∙ (ap (λ (z : List Piece
 -- the pieces after the exchanged one
 later_parts : (c : MarkedChunk) (before after m a : List Piece) (o n p : Piece) (x : Exchanges c before after o n) → after ≡ m ++ p ∷ a
     → x.valid.pieces ≡ (before ++ o ∷ m) ++ p ∷ a
-later_parts c before after m a o n p x g = x.parts ∙ (ap (λ (z : List Piece). before ++ o ∷ z) g ∙ sym (append_assoc before (o ∷ m) (p ∷ a)))
+later_parts c before after m a o n p x g = x.parts
+    ∙ (ap (λ (z : List Piece). before ++ o ∷ z) g ∙ sym (append_assoc before (o ∷ m) (p ∷ a)))
 
 -- a later pair stays one
 paired_later : (c : MarkedChunk) (before after m a : List Piece) (o n p : Piece) (x : Exchanges c before after o n) → after ≡ m ++ p ∷ a
     → IsTrue (is_indirect p.instr.flow) → FollowsMask (before ++ n ∷ m) p.instr.reg
-paired_later c before after [] a o n p x g indirect = absurd (let none : is_indirect p.instr.flow ≡ false = subst NoneFirst g x.no_mask in let differ : true ≡ false = sym indirect ∙ none in cc)
-paired_later c before after (y ∷ m) a o n p x g indirect = mask_stays before o n y m p.instr.reg x.as_long (x.valid.sound.paired (before ++ o ∷ y ∷ m) a p (later_parts c before after (y ∷ m) a o n p x g) indirect)
+paired_later c before after [] a o n p x g indirect =
+    absurd (let none : is_indirect p.instr.flow ≡ false = subst NoneFirst g x.no_mask in let differ : true ≡ false =
+    sym indirect ∙ none in cc)
+paired_later c before after (y ∷ m) a o n p x g indirect =
+    mask_stays before o n y m p.instr.reg x.as_long
+    (x.valid.sound.paired (before ++ o ∷ y ∷ m) a p (later_parts c before after (y ∷ m) a o n p x g) indirect)
 
 -- a good target stays one
 target_new : (c : MarkedChunk) (before after : List Piece) (o n : Piece) (x : Exchanges c before after o n) (to : ℕ)
     → IsTarget c.base c.limit x.valid.pieces to → IsTarget c.base c.limit (before ++ n ∷ after) to
-target_new c before after o n x to t = target_stays c.base c.limit before after o n to x.as_long x.new_plain (subst (λ (z : List Piece). IsTarget c.base c.limit z to) x.parts t)
+target_new c before after o n x to t = target_stays c.base c.limit before after o n to x.as_long x.new_plain
+    (subst (λ (z : List Piece). IsTarget c.base c.limit z to) x.parts t)
 
 -- the exchanged pieces keep the rules of bundles and pairs
-pub exchanged_sound : (c : MarkedChunk) (before after : List Piece) (o n : Piece) → Exchanges c before after o n → AreSound (before ++ n ∷ after)
+pub exchanged_sound : (c : MarkedChunk) (before after : List Piece) (o n : Piece) → Exchanges c before after o n
+    → AreSound (before ++ n ∷ after)
 exchanged_sound c before after o n x =
     let v = x.valid in
     record {
@@ -141,12 +173,15 @@ exchanged_sound c before after o n x =
         | Later m f g ↦ v.sound.spelled (before ++ o ∷ m) a p (later_parts c before after m a o n p x g)
       ];
       inside = λ b a p e. elim (where_is before after b a n p e) [
-        | Here f g k ↦ (let i = v.sound.inside before after o x.parts in omega (arith, i, x.as_long, ap place f, ap (λ (z : Piece). length z.bytes) g))
+        | Here f g k ↦ (let i = v.sound.inside before after o x.parts in
+            omega (arith, i, x.as_long, ap place f, ap (λ (z : Piece). length z.bytes) g))
         | Earlier m f g ↦ v.sound.inside b (m ++ o ∷ after) p (earlier_parts c before after b m o n p x f)
-        | Later m f g ↦ (let i = v.sound.inside (before ++ o ∷ m) a p (later_parts c before after m a o n p x g) in omega (arith, i, ap place f, same_place before m o n x.as_long))
+        | Later m f g ↦ (let i = v.sound.inside (before ++ o ∷ m) a p (later_parts c before after m a o n p x g) in
+            omega (arith, i, ap place f, same_place before m o n x.as_long))
       ];
       paired = λ b a p e indirect. elim (where_is before after b a n p e) [
-        | Here f g k ↦ absurd (let none : is_indirect p.instr.flow ≡ false = ap (λ (z : Piece). is_indirect z.instr.flow) (sym g) ∙ x.new_plain in let differ : true ≡ false = sym indirect ∙ none in cc)
+        | Here f g k ↦ absurd (let none : is_indirect p.instr.flow ≡ false = ap (λ (z : Piece). is_indirect z.instr.flow) (sym g)
+            ∙ x.new_plain in let differ : true ≡ false = sym indirect ∙ none in cc)
         | Earlier m f g ↦ v.sound.paired b (m ++ o ∷ after) p (earlier_parts c before after b m o n p x f) indirect
         | Later m f g ↦ subst (λ (z : List Piece). FollowsMask z p.instr.reg) (sym f) (paired_later c before after m a o n p x g indirect)
       ];
@@ -159,17 +194,22 @@ exchanged_targets c before after o n x = λ b a p e direct. elim (where_is befor
   | Here f g k ↦
       target_new c before after o n x (target p.instr (c.base + place b))
       (subst (λ (z : List Piece). IsTarget c.base c.limit x.valid.pieces (target p.instr (c.base + place z))) f
-      (subst (λ (z : Piece). IsTarget c.base c.limit x.valid.pieces (target z.instr (c.base + place before))) g (x.good (subst (λ (z : Piece). IsTrue (is_direct z.instr.flow)) (sym g) direct))))
-  | Earlier m f g ↦ target_new c before after o n x (target p.instr (c.base + place b)) (x.valid.targets b (m ++ o ∷ after) p (earlier_parts c before after b m o n p x f) direct)
+      (subst (λ (z : Piece). IsTarget c.base c.limit x.valid.pieces (target z.instr (c.base + place before))) g
+      (x.good (subst (λ (z : Piece). IsTrue (is_direct z.instr.flow)) (sym g) direct))))
+  | Earlier m f g ↦ target_new c before after o n x (target p.instr (c.base + place b))
+      (x.valid.targets b (m ++ o ∷ after) p (earlier_parts c before after b m o n p x f) direct)
   | Later m f g ↦
       target_new c before after o n x (target p.instr (c.base + place b))
-      (subst (λ (k : ℕ). IsTarget c.base c.limit x.valid.pieces (target p.instr (c.base + k))) (same_place before m o n x.as_long ∙ ap place (sym f)) (x.valid.targets (before ++ o ∷ m) a p (later_parts c before after m a o n p x g) direct))
+      (subst (λ (k : ℕ). IsTarget c.base c.limit x.valid.pieces (target p.instr (c.base + k))) (same_place before m o n x.as_long
+      ∙ ap place (sym f)) (x.valid.targets (before ++ o ∷ m) a p (later_parts c before after m a o n p x g) direct))
 ]
 
 -- they have the same marks
 pub exchanged_marks : (c : MarkedChunk) (before after : List Piece) (o n : Piece) → Exchanges c before after o n
     → c.marks ≡ marks_of (before ++ n ∷ after)
-exchanged_marks c before after o n x = x.valid.marks_are ∙ (ap (λ (z : List Piece). marks_of z) x.parts ∙ same_marks before after o n (old_len ∙ (x.as_long ∙ sym new_len)) x.old_plain x.new_plain)
+exchanged_marks c before after o n x = x.valid.marks_are
+    ∙ (ap (λ (z : List Piece). marks_of z) x.parts
+    ∙ same_marks before after o n (old_len ∙ (x.as_long ∙ sym new_len)) x.old_plain x.new_plain)
   where
     old_len : o.instr.len ≡ length o.bytes
     old_len = (spells_some o.bytes o.instr (x.valid.sound.spelled before after o x.parts)).0

@@ -5,7 +5,7 @@ use Rattle.nc_text.specs.Places.{limit_of, byte_at}
 use Rattle.nc_text.specs.Marks.{mark_at}
 use Rattle.nc_text.specs.MarkedText.{MarkedText, IsText, without_marks, unused_mark}
 use Rattle.nc_region.specs.declared.chunk.Chunk.{Chunk}
-use Rattle.nc_region.specs.Chunks.{IsPlaced}
+use Rattle.nc_region.specs.Chunks.{HasGoodSpan}
 use Rattle.nc_region.specs.Each.{Each}
 use Rattle.nc_region.specs.Quiet.{Span, IsQuiet}
 use Rattle.nc_region.specs.Region.{IsLive, IsInChunk, IsRising, HoldsValid, IsRegion}
@@ -29,9 +29,13 @@ rises_without from (b ∷ before) after c rising = (rising.0, rises_without (b.b
 -- the others lie beside it
 lie_beside : (from : ℕ) (before after : List Chunk) (c : Chunk) → IsRising from (before ++ c ∷ after)
     → Each (LiesBeside c) (before ++ after)
-lie_beside from [] after c rising = each_map (λ (d : Chunk). c.base + c.length ≤ d.base) (LiesBeside c) (λ d h. inr h) after (rises_above (c.base + c.length) after rising.1)
-lie_beside from (b ∷ before) after c rising =
-    (inl (each_middle (λ (d : Chunk). b.base + b.length ≤ d.base) before after c (rises_above (b.base + b.length) (before ++ c ∷ after) rising.1)), lie_beside (b.base + b.length) before after c rising.1)
+lie_beside from [] after c rising = each_map (λ (d : Chunk). c.base + c.length ≤ d.base) (LiesBeside c) (λ d h. inr h) after
+    (rises_above (c.base + c.length) after rising.1)
+lie_beside from (b ∷ before) after c rising = (
+  inl (each_middle (λ (d : Chunk). b.base + b.length ≤ d.base) before after c
+      (rises_above (b.base + b.length) (before ++ c ∷ after) rising.1)),
+  lie_beside (b.base + b.length) before after c rising.1,
+)
 
 -- the span of a chunk
 abbrev pub span_of : Chunk → Span
@@ -44,9 +48,10 @@ frees marked before after c region dead =
     record {
       as_long = region.whole.as_long;
       closed = region.whole.closed;
-      placed = each_middle (λ (d : Chunk). IsPlaced d.base (limit_of marked.bytes) d.length) before after c region.placed;
+      placed = each_middle (λ (d : Chunk). HasGoodSpan d.base (limit_of marked.bytes) d.length) before after c region.placed;
       quiet =
-          each_middle (λ (d : Chunk). (IsLive d.state → ⊥) → (stamp : ℕ) → IsQuiet marked.bytes marked.marks (record { base = d.base; length = d.length; stamp = stamp })) before after c
+          each_middle (λ (d : Chunk). (IsLive d.state → ⊥) → (stamp : ℕ)
+          → IsQuiet marked.bytes marked.marks (record { base = d.base; length = d.length; stamp = stamp })) before after c
           (quiet_chunks marked (before ++ c ∷ after) region) dead 0;
     }
 
@@ -57,7 +62,11 @@ agrees marked c f =
     record {
       as_long = refl;
       bytes = λ at low out. refl;
-      marks = λ at low out. elim out [ inl l ↦ freed_before marked (span_of c) at f low l | inr b ↦ freed_behind marked (span_of c) at f b ];
+      marks = λ at low out. elim out [
+        | inl l ↦ freed_before marked (span_of c) at f low l
+        | inr b ↦
+            freed_behind marked (span_of c) at f b
+      ];
     }
 
 -- the region without the chunk
@@ -67,18 +76,30 @@ region_freed marked before after c region dead =
     let f = frees marked before after c region dead in
     let a = agrees marked c f in
     record {
-      whole = record { lawful = region.whole.lawful; as_long = freed_long marked (span_of c) f ∙ region.whole.as_long; closed = freed_closed marked (span_of c) f };
+      whole = record {
+        lawful = region.whole.lawful;
+        as_long = freed_long marked (span_of c) f ∙ region.whole.as_long;
+        closed =
+            freed_closed marked (span_of c) f;
+      };
       rising = rises_without 65536 before after c region.rising;
-      placed = each_out (λ (d : Chunk). IsPlaced d.base (limit_of marked.bytes) d.length) before after c region.placed;
+      placed = each_out (λ (d : Chunk). HasGoodSpan d.base (limit_of marked.bytes) d.length) before after c region.placed;
       live =
-          each_both (LiesBeside c) (λ (d : Chunk). IsLive d.state → HoldsValid marked d) (λ (d : Chunk). IsLive d.state → HoldsValid (without_marks marked c.base c.length) d)
+          each_both (LiesBeside c) (λ (d : Chunk). IsLive d.state → HoldsValid marked d) (λ (d : Chunk). IsLive d.state
+          → HoldsValid (without_marks marked c.base c.length) d)
           (λ d apart holds live. still_holds marked (without_marks marked c.base c.length) c d a apart (holds live)) (before ++ after)
-          (lie_beside 65536 before after c region.rising) (each_out (λ (d : Chunk). IsLive d.state → HoldsValid marked d) before after c region.live);
-      stops = λ at inside free. region.stops at inside (each_in (λ (d : Chunk). IsLive d.state → IsInChunk d at → ⊥) before after c free (λ live in_c. dead live));
+          (lie_beside 65536 before after c region.rising)
+          (each_out (λ (d : Chunk). IsLive d.state → HoldsValid marked d) before after c region.live);
+      stops = λ at inside free. region.stops at inside
+          (each_in (λ (d : Chunk). IsLive d.state → IsInChunk d at → ⊥) before after c free (λ live in_c. dead live));
       unused = λ at inside free.
           elim (place_of c.base c.length at) [
-            | Before l ↦ freed_before marked (span_of c) at f inside.0 l ∙ region.unused at inside (each_in (λ (d : Chunk). IsInChunk d at → ⊥) before after c free (λ in_c. omega (arith, l, in_c.0)))
+            | Before l ↦ freed_before marked (span_of c) at f inside.0 l
+                ∙ region.unused at inside
+                (each_in (λ (d : Chunk). IsInChunk d at → ⊥) before after c free (λ in_c. omega (arith, l, in_c.0)))
             | Within low high ↦ freed_within marked (span_of c) at f low high
-            | Behind b ↦ freed_behind marked (span_of c) at f b ∙ region.unused at inside (each_in (λ (d : Chunk). IsInChunk d at → ⊥) before after c free (λ in_c. omega (arith, b, in_c.1)))
+            | Behind b ↦ freed_behind marked (span_of c) at f b
+                ∙ region.unused at inside
+                (each_in (λ (d : Chunk). IsInChunk d at → ⊥) before after c free (λ in_c. omega (arith, b, in_c.1)))
           ];
     }

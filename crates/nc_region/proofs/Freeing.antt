@@ -9,10 +9,8 @@ use Rattle.nc_decode.specs.Bundles.{IsBundleStart}
 use Rattle.nc_text.specs.Machine.{State, Step}
 use Rattle.nc_text.specs.Marks.{IsMarked, IsClosed, mark_at, Admits}
 use Rattle.nc_text.specs.MarkedText.{MarkedText, with_span, without_marks, unused_mark, unused_marks}
-use Rattle.nc_text.proofs.Closing.{no_step_from_stop}
-use Rattle.nc_text.proofs.Fresh.{marked_within}
-use Rattle.nc_text.proofs.SpanElements.{length-with_span}
-use Rattle.nc_region.specs.Chunks.{IsPlaced}
+use Rattle.nc_text.proofs.Offered.{no_step_from_stop, marked_within, length-with_span}
+use Rattle.nc_region.specs.Chunks.{HasGoodSpan}
 use Rattle.nc_region.specs.Quiet.{Span, IsInSpan, IsWithin, IsQuiet}
 use Rattle.nc_region.proofs.SpanPlaces.{place_of, Before, Within, Behind, span_before, span_within, span_behind, start_or_not}
 use Rattle.nc_region.proofs.SpanPlaces.{unused_is_start, unused_at_start}
@@ -31,7 +29,7 @@ none_steps_in text marks span quiet now next m step within =
 pub record Frees (marked : MarkedText) (span : Span) : Type 0 where
   pub as_long : length marked.marks ≡ length marked.bytes
   pub closed : IsClosed marked.bytes marked.marks
-  pub placed : IsPlaced span.base (limit_of marked.bytes) span.length
+  pub placed : HasGoodSpan span.base (limit_of marked.bytes) span.length
   pub quiet : IsQuiet marked.bytes marked.marks span
 
 -- the marks afterwards
@@ -43,29 +41,34 @@ unused_long : (span : Span) → length (unused_marks span.base span.length) ≡ 
 unused_long span = length-map-range_with_len unused_mark span.base span.length
 
 -- they fit into the marks
-fits : (marked : MarkedText) (span : Span) → Frees marked span → span.base + length (unused_marks span.base span.length) ≤ 65536 + length marked.marks
+fits : (marked : MarkedText) (span : Span) → Frees marked span
+    → span.base + length (unused_marks span.base span.length) ≤ 65536 + length marked.marks
 fits marked span f = omega (arith, unused_long span, f.placed.high, f.as_long)
 
 -- in the span only bundle starts are marked
 pub freed_within : (marked : MarkedText) (span : Span) (at : ℕ) → Frees marked span → span.base ≤ at → at < span.base + span.length
     → mark_at (freed_marks marked span) at ≡ unused_mark at
 freed_within marked span at f a b =
-    span_within marked.marks span.base (unused_marks span.base span.length) at Unmarked f.placed.low (fits marked span f) a (omega (arith, unused_long span))
+    span_within marked.marks span.base (unused_marks span.base span.length) at Unmarked f.placed.low (fits marked span f) a
+    (omega (arith, unused_long span))
     ∙ get_or-map-range_with_len unused_mark span.base span.length (at - span.base) at Unmarked (omega arith) (omega arith)
 
 -- before it the marks stay
 pub freed_before : (marked : MarkedText) (span : Span) (at : ℕ) → Frees marked span → 65536 ≤ at → at < span.base
     → mark_at (freed_marks marked span) at ≡ mark_at marked.marks at
-freed_before marked span at f low l = span_before marked.marks span.base (unused_marks span.base span.length) at Unmarked f.placed.low (fits marked span f) low l
+freed_before marked span at f low l = span_before marked.marks span.base (unused_marks span.base span.length) at Unmarked f.placed.low
+    (fits marked span f) low l
 
 -- after it too
 pub freed_behind : (marked : MarkedText) (span : Span) (at : ℕ) → Frees marked span → span.base + span.length ≤ at
     → mark_at (freed_marks marked span) at ≡ mark_at marked.marks at
-freed_behind marked span at f p = span_behind marked.marks span.base (unused_marks span.base span.length) at Unmarked f.placed.low (fits marked span f) (omega (arith, unused_long span))
+freed_behind marked span at f p = span_behind marked.marks span.base (unused_marks span.base span.length) at Unmarked f.placed.low
+    (fits marked span f) (omega (arith, unused_long span))
 
 -- there are as many marks
 pub freed_long : (marked : MarkedText) (span : Span) → Frees marked span → length (freed_marks marked span) ≡ length marked.marks
-freed_long marked span f = length-with_span marked.marks (span.base - 65536) (unused_marks span.base span.length) (omega (arith, fits marked span f, f.placed.low))
+freed_long marked span f = length-with_span marked.marks (span.base - 65536) (unused_marks span.base span.length)
+    (omega (arith, fits marked span f, f.placed.low))
 
 -- a plain place is marked
 plain_is_marked : (marks : List Mark) (now : State) → 65536 ≤ now.place → mark_at marks now.place ≡ Plain → IsMarked marks now
@@ -80,7 +83,8 @@ freed_was marked span f now m =
       | Within a b ↦
           plain_is_marked marked.marks now m.0
           (f.closed.starts now.place (m.0, omega (arith, b, f.placed.high))
-          (unused_is_start now.place now.masked (subst (λ (mark : Mark). Admits mark now.masked) (freed_within marked span now.place f a b) m.1)))
+          (unused_is_start now.place now.masked
+          (subst (λ (mark : Mark). Admits mark now.masked) (freed_within marked span now.place f a b) m.1)))
       | Behind p ↦ (m.0, subst (λ (mark : Mark). Admits mark now.masked) (freed_behind marked span now.place f p) m.1)
     ]
 
@@ -92,7 +96,8 @@ freed_stays marked span f now m out =
       | Before l ↦ (m.0, subst (λ (mark : Mark). Admits mark now.masked) (sym (freed_before marked span now.place f m.0 l)) m.1)
       | Within a b ↦
           elim (start_or_not now.place) [
-            | inl start ↦ plain_is_marked (freed_marks marked span) now m.0 (freed_within marked span now.place f a b ∙ unused_at_start now.place start.1)
+            | inl start ↦ plain_is_marked (freed_marks marked span) now m.0 (freed_within marked span now.place f a b
+                ∙ unused_at_start now.place start.1)
             | inr inside ↦ absurd (out ((a, b), inside.1))
           ]
       | Behind p ↦ (m.0, subst (λ (mark : Mark). Admits mark now.masked) (sym (freed_behind marked span now.place f p)) m.1)
@@ -112,16 +117,8 @@ freed_closed marked span f =
       steps = λ now next m step.
           let was = freed_was marked span f now m in
           elim (f.closed.steps now next was step) [
-            | inl there ↦ inl (freed_stays marked span f next there (none_steps_in marked.bytes marked.marks span f.quiet now next was step))
+            | inl there ↦ inl (freed_stays marked span f next there
+                (none_steps_in marked.bytes marked.marks span f.quiet now next was step))
             | inr zone ↦ inr zone
           ];
-    }
-
--- another quiet span stays quiet
-pub freed_quiet : (marked : MarkedText) (span other : Span) → Frees marked span → IsQuiet marked.bytes marked.marks other
-    → IsQuiet marked.bytes (freed_marks marked span) other
-freed_quiet marked span other f quiet =
-    record {
-      stops = quiet.stops;
-      unreached = λ now next m out step. quiet.unreached now next (freed_was marked span f now m) out step;
     }

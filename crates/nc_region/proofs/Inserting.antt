@@ -2,19 +2,18 @@
 use Rattle.std.proofs.Common.{◌≡◌, ℕ, ◌+◌, ◌-◌, ◌*◌, ◌<◌, ◌≤◌, ◌⊎◌, List, [], ◌∷◌, ◌++◌, length, get_or, take, drop, inl, inr, arith}
 use Rattle.std.proofs.Common.{◌∙◌, sym, ap, subst, zero, suc}
 use Rattle.std.specs.List.{insert}
-use Rattle.std.proofs.lemmas.List.{take-append-drop}
+use Rattle.std.proofs.lemmas.List.{take-append-drop, get_or-replicate, length-replicate}
 use Rattle.nc_decode.specs.declared.instruction.Mark.{Mark}
 use Rattle.nc_decode.specs.declared.instruction.Mark.TheVariants.{Unmarked}
 use Rattle.nc_text.specs.Places.{limit_of, byte_at}
 use Rattle.nc_text.specs.Marks.{mark_at}
-use Rattle.std.proofs.lemmas.List.{get_or-replicate, length-replicate}
 use Rattle.std.proofs.lemmas.List.FromFn.{get_or-map-range_with_len}
 use Rattle.nc_text.specs.MarkedText.{MarkedText, IsText, unused_mark}
-use Rattle.nc_text.proofs.Fresh.{new_is_text}
-use Rattle.nc_text.proofs.SpanElements.{length-with_span}
+use Rattle.nc_text.proofs.Offered.{new_is_text, length-with_span}
 use Rattle.nc_vet.specs.Chunk as vet
 use Rattle.nc_region.specs.declared.chunk.Chunk.{Chunk}
-use Rattle.nc_region.specs.Chunks.{IsPlaced, IsClosedChunk, IsUnused, with_chunk}
+use Rattle.nc_region.specs.Chunks.{HasGoodSpan, IsClosedChunk, with_chunk}
+use Rattle.nc_region.specs.machinery.Between.{IsUnused}
 use Rattle.nc_region.specs.Each.{Each}
 use Rattle.nc_region.specs.Region.{IsNew, IsLive, IsInChunk, IsRising, HoldsValid, IsRegion, IsAboveAll, IsBelowAll}
 use Rattle.nc_region.proofs.EachMember.{each_map, each_both, each_take, each_drop, each_append}
@@ -46,7 +45,8 @@ rising_insert : (from : ℕ) (chunks : List Chunk) (k : ℕ) (c : Chunk) → IsR
     → IsAboveAll c.base (take k chunks) → IsBelowAll (c.base + c.length) (drop k chunks) → IsRising from (insert chunks k c)
 rising_insert from chunks zero c rising low above below = (low, rising_from from (c.base + c.length) chunks rising below)
 rising_insert from [] (suc k) c rising low above below = (low, tt)
-rising_insert from (d ∷ rest) (suc k) c rising low above below = (rising.0, rising_insert (d.base + d.length) rest k c rising.1 above.0 above.1 below)
+rising_insert from (d ∷ rest) (suc k) c rising low above below =
+    (rising.0, rising_insert (d.base + d.length) rest k c rising.1 above.0 above.1 below)
 
 -- what a new chunk's place and bytes keep
 pub record Inserts (marked : MarkedText) (chunks : List Chunk) (k : ℕ) (c : Chunk) (bytes : List ℕ) (marks : List Mark) : Type 0 where
@@ -79,7 +79,8 @@ other_byte : (marked : MarkedText) (chunks : List Chunk) (k : ℕ) (c : Chunk) (
 other_byte marked chunks k c bytes marks at n low out =
     elim out [
       | inl l ↦ span_before marked.bytes c.base bytes at 0 n.chunk.placed.low (fits_bytes marked chunks k c bytes marks n) low l
-      | inr p ↦ span_behind marked.bytes c.base bytes at 0 n.chunk.placed.low (fits_bytes marked chunks k c bytes marks n) (omega (arith, p, n.long))
+      | inr p ↦ span_behind marked.bytes c.base bytes at 0 n.chunk.placed.low (fits_bytes marked chunks k c bytes marks n)
+          (omega (arith, p, n.long))
     ]
 
 -- a mark beside the chunk stays
@@ -89,20 +90,24 @@ other_mark : (marked : MarkedText) (chunks : List Chunk) (k : ℕ) (c : Chunk) (
 other_mark marked chunks k c bytes marks at n low out =
     elim out [
       | inl l ↦ span_before marked.marks c.base marks at Unmarked n.chunk.placed.low (fits_marks marked chunks k c bytes marks n) low l
-      | inr p ↦ span_behind marked.marks c.base marks at Unmarked n.chunk.placed.low (fits_marks marked chunks k c bytes marks n) (omega (arith, p, n.long, n.chunk.as_long))
+      | inr p ↦ span_behind marked.marks c.base marks at Unmarked n.chunk.placed.low (fits_marks marked chunks k c bytes marks n)
+          (omega (arith, p, n.long, n.chunk.as_long))
     ]
 
 -- the limit stays
 same_limit : (marked : MarkedText) (chunks : List Chunk) (k : ℕ) (c : Chunk) (bytes : List ℕ) (marks : List Mark)
     → Inserts marked chunks k c bytes marks → limit_of (with_chunk marked c.base bytes marks).bytes ≡ limit_of marked.bytes
-same_limit marked chunks k c bytes marks n = ap (λ (m : ℕ). 65536 + m) (length-with_span marked.bytes (c.base - 65536) bytes (omega (arith, n.chunk.placed.low, fits_bytes marked chunks k c bytes marks n)))
+same_limit marked chunks k c bytes marks n =
+    ap (λ (m : ℕ). 65536 + m) (length-with_span marked.bytes (c.base - 65536) bytes
+    (omega (arith, n.chunk.placed.low, fits_bytes marked chunks k c bytes marks n)))
 
 -- another chunk still stands
 holds_still : (marked : MarkedText) (chunks : List Chunk) (k : ℕ) (c : Chunk) (bytes : List ℕ) (marks : List Mark)
     → Inserts marked chunks k c bytes marks → (d : Chunk) → (d.base + d.length ≤ c.base) ⊎ (c.base + c.length ≤ d.base)
     → HoldsValid marked d → HoldsValid (with_chunk marked c.base bytes marks) d
 holds_still marked chunks k c bytes marks n d apart h =
-    let out : (at : ℕ) → IsInChunk d at → (at < c.base) ⊎ (c.base + c.length ≤ at) = λ at inside. elim apart [ inl l ↦ inl (omega (arith, l, inside.1)) | inr p ↦ inr (omega (arith, p, inside.0)) ] in
+    let out : (at : ℕ) → IsInChunk d at → (at < c.base) ⊎ (c.base + c.length ≤ at) =
+    λ at inside. elim apart [ inl l ↦ inl (omega (arith, l, inside.1)) | inr p ↦ inr (omega (arith, p, inside.0)) ] in
     let low : 65536 ≤ d.base = subst (λ (b : ℕ). 65536 ≤ b) h.base_is h.valid.base_is.1 in
     record {
       vetted = h.vetted;
@@ -110,8 +115,10 @@ holds_still marked chunks k c bytes marks n d apart h =
       base_is = h.base_is;
       limit_is = h.limit_is ∙ sym (same_limit marked chunks k c bytes marks n);
       long = h.long;
-      bytes_are = λ at inside. other_byte marked chunks k c bytes marks at n (omega (arith, inside.0, low)) (out at inside) ∙ h.bytes_are at inside;
-      marks_are = λ at inside. other_mark marked chunks k c bytes marks at n (omega (arith, inside.0, low)) (out at inside) ∙ h.marks_are at inside;
+      bytes_are = λ at inside. other_byte marked chunks k c bytes marks at n (omega (arith, inside.0, low)) (out at inside)
+          ∙ h.bytes_are at inside;
+      marks_are = λ at inside. other_mark marked chunks k c bytes marks at n (omega (arith, inside.0, low)) (out at inside)
+          ∙ h.marks_are at inside;
     }
 
 -- the new one stands
@@ -124,8 +131,12 @@ holds_new marked chunks k c bytes marks n =
       base_is = n.base_is;
       limit_is = n.limit_is ∙ sym (same_limit marked chunks k c bytes marks n);
       long = ap (λ (bs : List ℕ). length bs) n.code_is ∙ n.long;
-      bytes_are = λ at inside. span_within marked.bytes c.base bytes at 0 n.chunk.placed.low (fits_bytes marked chunks k c bytes marks n) inside.0 (omega (arith, inside.1, n.long)) ∙ ap (λ (bs : List ℕ). get_or bs (at - c.base) 0) (sym n.code_is);
-      marks_are = λ at inside. span_within marked.marks c.base marks at Unmarked n.chunk.placed.low (fits_marks marked chunks k c bytes marks n) inside.0 (omega (arith, inside.1, n.long, n.chunk.as_long)) ∙ ap (λ (ms : List Mark). get_or ms (at - c.base) Unmarked) (sym n.marks_is);
+      bytes_are = λ at inside. span_within marked.bytes c.base bytes at 0 n.chunk.placed.low
+          (fits_bytes marked chunks k c bytes marks n) inside.0 (omega (arith, inside.1, n.long))
+          ∙ ap (λ (bs : List ℕ). get_or bs (at - c.base) 0) (sym n.code_is);
+      marks_are = λ at inside. span_within marked.marks c.base marks at Unmarked n.chunk.placed.low
+          (fits_marks marked chunks k c bytes marks n) inside.0 (omega (arith, inside.1, n.long, n.chunk.as_long))
+          ∙ ap (λ (ms : List Mark). get_or ms (at - c.base) Unmarked) (sym n.marks_is);
     }
 
 -- the region with the chunk
@@ -138,31 +149,39 @@ region_with_chunk marked chunks k c bytes marks n live whole =
       whole = whole;
       rising = rising_insert 65536 chunks k c n.region.rising n.chunk.placed.low n.above n.below;
       placed =
-          subst (λ (l : ℕ). Each (λ (d : Chunk). IsPlaced d.base l d.length) (insert chunks k c)) (sym limit)
-          (each_insert (λ (d : Chunk). IsPlaced d.base (limit_of marked.bytes) d.length) chunks k c
-          (subst (λ (l : ℕ). IsPlaced c.base (limit_of marked.bytes) l) n.long n.chunk.placed)
-          (each_take (λ (d : Chunk). IsPlaced d.base (limit_of marked.bytes) d.length) k chunks n.region.placed)
-          (each_drop (λ (d : Chunk). IsPlaced d.base (limit_of marked.bytes) d.length) k chunks n.region.placed));
+          subst (λ (l : ℕ). Each (λ (d : Chunk). HasGoodSpan d.base l d.length) (insert chunks k c)) (sym limit)
+          (each_insert (λ (d : Chunk). HasGoodSpan d.base (limit_of marked.bytes) d.length) chunks k c
+          (subst (λ (l : ℕ). HasGoodSpan c.base (limit_of marked.bytes) l) n.long n.chunk.placed)
+          (each_take (λ (d : Chunk). HasGoodSpan d.base (limit_of marked.bytes) d.length) k chunks n.region.placed)
+          (each_drop (λ (d : Chunk). HasGoodSpan d.base (limit_of marked.bytes) d.length) k chunks n.region.placed));
       live =
           each_insert (λ (d : Chunk). IsLive d.state → HoldsValid (with_chunk marked c.base bytes marks) d) chunks k c
           (λ x. holds_new marked chunks k c bytes marks n)
-          (each_both (λ (d : Chunk). d.base + d.length ≤ c.base) (λ (d : Chunk). IsLive d.state → HoldsValid marked d) (λ (d : Chunk). IsLive d.state → HoldsValid (with_chunk marked c.base bytes marks) d)
-          (λ d apart holds x. holds_still marked chunks k c bytes marks n d (inl apart) (holds x)) (take k chunks) n.above (each_take (λ (d : Chunk). IsLive d.state → HoldsValid marked d) k chunks n.region.live))
-          (each_both (λ (d : Chunk). c.base + c.length ≤ d.base) (λ (d : Chunk). IsLive d.state → HoldsValid marked d) (λ (d : Chunk). IsLive d.state → HoldsValid (with_chunk marked c.base bytes marks) d)
-          (λ d apart holds x. holds_still marked chunks k c bytes marks n d (inr apart) (holds x)) (drop k chunks) n.below (each_drop (λ (d : Chunk). IsLive d.state → HoldsValid marked d) k chunks n.region.live));
+          (each_both (λ (d : Chunk). d.base + d.length ≤ c.base) (λ (d : Chunk). IsLive d.state → HoldsValid marked d)
+          (λ (d : Chunk). IsLive d.state → HoldsValid (with_chunk marked c.base bytes marks) d)
+          (λ d apart holds x. holds_still marked chunks k c bytes marks n d (inl apart) (holds x)) (take k chunks) n.above
+          (each_take (λ (d : Chunk). IsLive d.state → HoldsValid marked d) k chunks n.region.live))
+          (each_both (λ (d : Chunk). c.base + c.length ≤ d.base) (λ (d : Chunk). IsLive d.state → HoldsValid marked d)
+          (λ (d : Chunk). IsLive d.state → HoldsValid (with_chunk marked c.base bytes marks) d)
+          (λ d apart holds x. holds_still marked chunks k c bytes marks n d (inr apart) (holds x)) (drop k chunks) n.below
+          (each_drop (λ (d : Chunk). IsLive d.state → HoldsValid marked d) k chunks n.region.live));
       stops = λ at inside free.
           let f = each_but (λ (d : Chunk). IsLive d.state → IsInChunk d at → ⊥) chunks k c free in
           elim (place_of c.base c.length at) [
-            | Before l ↦ other_byte marked chunks k c bytes marks at n inside.0 (inl l) ∙ n.region.stops at (inside.0, omega (arith, inside.1, limit)) f.1
+            | Before l ↦ other_byte marked chunks k c bytes marks at n inside.0 (inl l)
+                ∙ n.region.stops at (inside.0, omega (arith, inside.1, limit)) f.1
             | Within a b ↦ absurd (f.0 live (a, b))
-            | Behind p ↦ other_byte marked chunks k c bytes marks at n inside.0 (inr p) ∙ n.region.stops at (inside.0, omega (arith, inside.1, limit)) f.1
+            | Behind p ↦ other_byte marked chunks k c bytes marks at n inside.0 (inr p)
+                ∙ n.region.stops at (inside.0, omega (arith, inside.1, limit)) f.1
           ];
       unused = λ at inside free.
           let f = each_but (λ (d : Chunk). IsInChunk d at → ⊥) chunks k c free in
           elim (place_of c.base c.length at) [
-            | Before l ↦ other_mark marked chunks k c bytes marks at n inside.0 (inl l) ∙ n.region.unused at (inside.0, omega (arith, inside.1, limit)) f.1
+            | Before l ↦ other_mark marked chunks k c bytes marks at n inside.0 (inl l)
+                ∙ n.region.unused at (inside.0, omega (arith, inside.1, limit)) f.1
             | Within a b ↦ absurd (f.0 (a, b))
-            | Behind p ↦ other_mark marked chunks k c bytes marks at n inside.0 (inr p) ∙ n.region.unused at (inside.0, omega (arith, inside.1, limit)) f.1
+            | Behind p ↦ other_mark marked chunks k c bytes marks at n inside.0 (inr p)
+                ∙ n.region.unused at (inside.0, omega (arith, inside.1, limit)) f.1
           ];
     }
 
@@ -172,19 +191,24 @@ free_if_apart : (chunks : List Chunk) (k base len at : ℕ) → IsAboveAll base 
 free_if_apart chunks k base len at above below low high =
     subst (Each (λ (d : Chunk). IsInChunk d at → ⊥)) (take-append-drop k chunks)
     (each_append (λ (d : Chunk). IsInChunk d at → ⊥) (take k chunks) (drop k chunks)
-    (each_map (λ (d : Chunk). d.base + d.length ≤ base) (λ (d : Chunk). IsInChunk d at → ⊥) (λ d h inside. omega (arith, h, inside.1, low)) (take k chunks) above)
-    (each_map (λ (d : Chunk). base + len ≤ d.base) (λ (d : Chunk). IsInChunk d at → ⊥) (λ d h inside. omega (arith, h, inside.0, high)) (drop k chunks) below))
+    (each_map (λ (d : Chunk). d.base + d.length ≤ base) (λ (d : Chunk). IsInChunk d at → ⊥) (λ d h inside. omega (arith, h, inside.1, low))
+    (take k chunks) above)
+    (each_map (λ (d : Chunk). base + len ≤ d.base) (λ (d : Chunk). IsInChunk d at → ⊥) (λ d h inside. omega (arith, h, inside.0, high))
+    (drop k chunks) below))
 
 -- a span that meets no chunk is unused
 pub unused_if_apart : (marked : MarkedText) (chunks : List Chunk) (k base len : ℕ) → IsRegion marked chunks
-    → IsPlaced base (limit_of marked.bytes) len → IsAboveAll base (take k chunks) → IsBelowAll (base + len) (drop k chunks)
+    → HasGoodSpan base (limit_of marked.bytes) len → IsAboveAll base (take k chunks) → IsBelowAll (base + len) (drop k chunks)
     → IsUnused marked base len
 unused_if_apart marked chunks k base len region placed above below =
     record {
       stops = λ at a b.
           let free = free_if_apart chunks k base len at above below a b in
-          region.stops at (omega (arith, a, placed.low), omega (arith, b, placed.high)) (each_map (λ (d : Chunk). IsInChunk d at → ⊥) (λ (d : Chunk). IsLive d.state → IsInChunk d at → ⊥) (λ d out live. out) chunks free);
-      unused = λ at a b. region.unused at (omega (arith, a, placed.low), omega (arith, b, placed.high)) (free_if_apart chunks k base len at above below a b);
+          region.stops at (omega (arith, a, placed.low), omega (arith, b, placed.high))
+          (each_map (λ (d : Chunk). IsInChunk d at → ⊥) (λ (d : Chunk). IsLive d.state → IsInChunk d at → ⊥)
+          (λ d out live. out) chunks free);
+      unused = λ at a b. region.unused at (omega (arith, a, placed.low), omega (arith, b, placed.high))
+          (free_if_apart chunks k base len at above below a b);
     }
 
 -- a new text is a region without a chunk
@@ -196,6 +220,8 @@ region_of_new marked new =
       rising = tt;
       placed = tt;
       live = tt;
-      stops = λ at inside free. get_or-replicate {A = ℕ} (new.0 - 65536) (at - 65536) 244 0 (omega (arith, inside.0, inside.1, length-replicate {A = ℕ} (new.0 - 65536) 244));
-      unused = λ at inside free. get_or-map-range_with_len unused_mark 65536 (new.0 - 65536) (at - 65536) at Unmarked (omega (arith, inside.0, inside.1, length-replicate {A = ℕ} (new.0 - 65536) 244)) (omega (arith, inside.0));
+      stops = λ at inside free. get_or-replicate {A = ℕ} (new.0 - 65536) (at - 65536) 244 0
+          (omega (arith, inside.0, inside.1, length-replicate {A = ℕ} (new.0 - 65536) 244));
+      unused = λ at inside free. get_or-map-range_with_len unused_mark 65536 (new.0 - 65536) (at - 65536) at Unmarked
+          (omega (arith, inside.0, inside.1, length-replicate {A = ℕ} (new.0 - 65536) 244)) (omega (arith, inside.0));
     })

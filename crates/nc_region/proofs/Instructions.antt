@@ -7,10 +7,9 @@ use Rattle.nc_decode.specs.declared.instruction.Flow.TheVariants.{Branch, Jump, 
 use Rattle.nc_decode.specs.declared.instruction.Mark.{Mark}
 use Rattle.nc_decode.specs.declared.instruction.Mark.TheVariants.{Unmarked, Plain, After}
 use Rattle.nc_decode.specs.Front.{first_instruction}
-use Rattle.nc_decode.specs.Bundles.{IsBundleStart}
+use Rattle.nc_decode.specs.Bundles.{IsBundleStart, IsInOneBundle}
 use Rattle.nc_decode.specs.Transfers.{target}
-use Rattle.nc_decode.specs.Bundles.{IsInOneBundle}
-use Rattle.nc_region.specs.Chunks.{IsPlaced}
+use Rattle.nc_region.specs.Chunks.{HasGoodSpan}
 
 -- the bytes are these instructions, one after another
 abbrev pub IsReading : List ℕ → List Instr → Type 0
@@ -62,7 +61,7 @@ TargetsHold good at (i ∷ rest) = (IsDirect i.flow → good (target i at)) × T
 
 -- a valid chunk, by the list of its instructions
 pub record IsValid (base limit : ℕ) (code : List ℕ) (chunk : List Instr) : Type 0 where
-  pub placed : IsPlaced base limit (length code)
+  pub placed : HasGoodSpan base limit (length code)
   pub reading : IsReading code chunk
   pub crossing : NoneCrosses base chunk
   pub pairs : PairsHold None base chunk

@@ -10,10 +10,9 @@ use Rattle.nc_decode.specs.Bundles.{IsBundleStart}
 use Rattle.nc_text.specs.Machine.{State}
 use Rattle.nc_text.specs.Marks.{IsMarked, IsClosed, mark_at, Admits}
 use Rattle.nc_text.specs.MarkedText.{MarkedText, unused_mark, unused_text, StaysOrPlain, KeepsMarks}
-use Rattle.nc_text.proofs.Closing.{Borrows, closed_by_parts}
-use Rattle.nc_text.proofs.SpanElements.{length-with_span}
-use Rattle.nc_text.proofs.Fresh.{marked_within}
-use Rattle.nc_region.specs.Chunks.{IsClosedChunk, IsUnused, with_chunk}
+use Rattle.nc_text.proofs.Offered.{Borrows, closed_by_parts, length-with_span, marked_within}
+use Rattle.nc_region.specs.Chunks.{IsClosedChunk, with_chunk}
+use Rattle.nc_region.specs.machinery.Between.{IsUnused}
 use Rattle.nc_region.proofs.Alone.{alone, alone_fits_bytes, alone_within, alone_before, alone_behind, alone_bytes_long, alone_marks_long}
 use Rattle.nc_region.proofs.SpanPlaces.{Before, Within, Behind, place_of, unused_is_start, start_or_not, unused_at_start, span_within}
 use Rattle.nc_region.proofs.SpanPlaces.{span_before, span_behind, before_span, within_span}
@@ -39,7 +38,8 @@ fits_marks marked base bytes marks j = omega (arith, j.chunk.placed.high, j.as_l
 marks_within : (marked : MarkedText) (base : ℕ) (bytes : List ℕ) (marks : List Mark) (at : ℕ) → Joins marked base bytes marks → base ≤ at
     → at < base + length bytes → mark_at (with_chunk marked base bytes marks).marks at ≡ get_or marks (at - base) Unmarked
 marks_within marked base bytes marks at j low high =
-    span_within marked.marks base marks at Unmarked j.chunk.placed.low (fits_marks marked base bytes marks j) low (omega (arith, j.chunk.as_long))
+    span_within marked.marks base marks at Unmarked j.chunk.placed.low (fits_marks marked base bytes marks j) low
+    (omega (arith, j.chunk.as_long))
 
 -- the marks before the chunk
 marks_before : (marked : MarkedText) (base : ℕ) (bytes : List ℕ) (marks : List Mark) (at : ℕ) → Joins marked base bytes marks
@@ -51,7 +51,8 @@ marks_before marked base bytes marks at j low high =
 marks_behind : (marked : MarkedText) (base : ℕ) (bytes : List ℕ) (marks : List Mark) (at : ℕ) → Joins marked base bytes marks
     → base + length bytes ≤ at → mark_at (with_chunk marked base bytes marks).marks at ≡ mark_at marked.marks at
 marks_behind marked base bytes marks at j past =
-    span_behind marked.marks base marks at Unmarked j.chunk.placed.low (fits_marks marked base bytes marks j) (omega (arith, j.chunk.as_long))
+    span_behind marked.marks base marks at Unmarked j.chunk.placed.low (fits_marks marked base bytes marks j)
+    (omega (arith, j.chunk.as_long))
 
 -- in the text with the chunk every bundle start is plain
 chunk_starts : (marked : MarkedText) (base : ℕ) (bytes : List ℕ) (marks : List Mark) → Joins marked base bytes marks → (at : ℕ)
@@ -74,11 +75,16 @@ old_marked : (marked : MarkedText) (base : ℕ) (bytes : List ℕ) (marks : List
     → IsMarked marked.marks now → IsMarked (with_chunk marked base bytes marks).marks now
 old_marked marked base bytes marks j now m =
     elim (place_of base (length bytes) now.place) [
-      | Before l ↦ (m.0, subst (λ (mark : Mark). Admits mark now.masked) (sym (marks_before marked base bytes marks now.place j m.0 l)) m.1)
+      | Before l ↦ (
+        m.0,
+        subst (λ (mark : Mark). Admits mark now.masked)
+            (sym (marks_before marked base bytes marks now.place j m.0 l)) m.1,
+      )
       | Within low high ↦
           marked_if_plain (with_chunk marked base bytes marks).marks now m.0
           (chunk_starts marked base bytes marks j now.place (m.0, omega (arith, marked_within marked.marks now m, j.as_long))
-          (unused_is_start now.place now.masked (subst (λ (mark : Mark). Admits mark now.masked) (j.unused.unused now.place low high) m.1)))
+          (unused_is_start now.place now.masked
+          (subst (λ (mark : Mark). Admits mark now.masked) (j.unused.unused now.place low high) m.1)))
       | Behind p ↦ (m.0, subst (λ (mark : Mark). Admits mark now.masked) (sym (marks_behind marked base bytes marks now.place j p)) m.1)
     ]
 
@@ -86,20 +92,35 @@ old_marked marked base bytes marks j now m =
 alone_marked : (marked : MarkedText) (base : ℕ) (bytes : List ℕ) (marks : List Mark) → Joins marked base bytes marks → (now : State)
     → IsMarked (alone marked base bytes marks).marks now → IsMarked (with_chunk marked base bytes marks).marks now
 alone_marked marked base bytes marks j now m =
-    let inside : InRegion marked.bytes now.place = (m.0, omega (arith, marked_within (alone marked base bytes marks).marks now m, alone_marks_long marked base bytes marks j.chunk)) in
-    let at_start : mark_at (alone marked base bytes marks).marks now.place ≡ unused_mark now.place → IsMarked (with_chunk marked base bytes marks).marks now = λ is.
+    let inside : InRegion marked.bytes now.place = (
+      m.0,
+      omega (
+        arith,
+        marked_within (alone marked base bytes marks).marks now m,
+        alone_marks_long marked base bytes marks j.chunk,
+      ),
+    ) in
+    let at_start : mark_at (alone marked base bytes marks).marks now.place ≡ unused_mark now.place
+    → IsMarked (with_chunk marked base bytes marks).marks now = λ is.
     marked_if_plain (with_chunk marked base bytes marks).marks now m.0
-    (chunk_starts marked base bytes marks j now.place inside (unused_is_start now.place now.masked (subst (λ (mark : Mark). Admits mark now.masked) is m.1))) in
+    (chunk_starts marked base bytes marks j now.place inside
+    (unused_is_start now.place now.masked (subst (λ (mark : Mark). Admits mark now.masked) is m.1))) in
     elim (place_of base (length bytes) now.place) [
       | Before l ↦ at_start (alone_before marked base bytes marks now.place j.chunk inside l)
-      | Within low high ↦ (m.0, subst (λ (mark : Mark). Admits mark now.masked) (alone_within marked base bytes marks now.place j.chunk low high ∙ sym (marks_within marked base bytes marks now.place j low high)) m.1)
+      | Within low high ↦ (
+        m.0,
+        subst (λ (mark : Mark). Admits mark now.masked)
+            (alone_within marked base bytes marks now.place j.chunk low high
+            ∙ sym (marks_within marked base bytes marks now.place j low high)) m.1,
+      )
       | Behind p ↦ at_start (alone_behind marked base bytes marks now.place j.chunk inside p)
     ]
 
 -- how long the text with the chunk is
 chunk_bytes_long : (marked : MarkedText) (base : ℕ) (bytes : List ℕ) (marks : List Mark) → Joins marked base bytes marks
     → length (with_chunk marked base bytes marks).bytes ≡ length marked.bytes
-chunk_bytes_long marked base bytes marks j = length-with_span marked.bytes (base - 65536) bytes (omega (arith, fits_bytes marked base bytes marks j, j.chunk.placed.low))
+chunk_bytes_long marked base bytes marks j =
+    length-with_span marked.bytes (base - 65536) bytes (omega (arith, fits_bytes marked base bytes marks j, j.chunk.placed.low))
 
 -- a state in the span borrows from the chunk alone
 borrows_alone : (marked : MarkedText) (base : ℕ) (bytes : List ℕ) (marks : List Mark) → Joins marked base bytes marks → (now : State)
@@ -111,12 +132,18 @@ borrows_alone marked base bytes marks j now low high m =
       old_marks = (alone marked base bytes marks).marks;
       closed = j.chunk.closed;
       as_long = chunk_bytes_long marked base bytes marks j ∙ sym (alone_bytes_long marked base bytes marks j.chunk);
-      was_marked = (m.0, subst (λ (mark : Mark). Admits mark now.masked) (marks_within marked base bytes marks now.place j low high ∙ sym (alone_within marked base bytes marks now.place j.chunk low high)) m.1);
+      was_marked = (
+        m.0,
+        subst (λ (mark : Mark). Admits mark now.masked) (marks_within marked base bytes marks now.place j low high
+            ∙ sym (alone_within marked base bytes marks now.place j.chunk low high)) m.1,
+      );
       kept = λ i is fits k lt.
           let from : base ≤ now.place + k = omega arith in
-          let to : now.place + k < base + length bytes = within_span now.place i.len k base (length bytes) fits lt j.chunk.placed.start j.chunk.placed.whole high in
+          let to : now.place + k < base + length bytes =
+          within_span now.place i.len k base (length bytes) fits lt j.chunk.placed.start j.chunk.placed.whole high in
           span_within marked.bytes base bytes (now.place + k) 0 j.chunk.placed.low (fits_bytes marked base bytes marks j) from to
-          ∙ sym (span_within (unused_text (limit_of marked.bytes)).bytes base bytes (now.place + k) 0 j.chunk.placed.low (alone_fits_bytes marked base bytes marks j.chunk) from to);
+          ∙ sym (span_within (unused_text (limit_of marked.bytes)).bytes base bytes (now.place + k) 0 j.chunk.placed.low
+          (alone_fits_bytes marked base bytes marks j.chunk) from to);
       more = alone_marked marked base bytes marks j;
     }
 
@@ -125,7 +152,8 @@ pub chunk_joins : (marked : MarkedText) (base : ℕ) (bytes : List ℕ) (marks :
     → IsClosed (with_chunk marked base bytes marks).bytes (with_chunk marked base bytes marks).marks
 chunk_joins marked base bytes marks j =
     closed_by_parts (with_chunk marked base bytes marks).bytes (with_chunk marked base bytes marks).marks
-    (λ at inside start. chunk_starts marked base bytes marks j at (inside.0, omega (arith, inside.1, chunk_bytes_long marked base bytes marks j)) start)
+    (λ at inside start. chunk_starts marked base bytes marks j at
+    (inside.0, omega (arith, inside.1, chunk_bytes_long marked base bytes marks j)) start)
     (λ now m.
     elim (place_of base (length bytes) now.place) [
       | Before l ↦
@@ -134,8 +162,14 @@ chunk_joins marked base bytes marks j =
             old_marks = marked.marks;
             closed = j.closed;
             as_long = chunk_bytes_long marked base bytes marks j;
-            was_marked = (m.0, subst (λ (mark : Mark). Admits mark now.masked) (marks_before marked base bytes marks now.place j m.0 l) m.1);
-            kept = λ i is fits k lt. span_before marked.bytes base bytes (now.place + k) 0 j.chunk.placed.low (fits_bytes marked base bytes marks j) (omega (arith, m.0)) (before_span now.place i.len k base fits lt j.chunk.placed.start l);
+            was_marked = (
+              m.0,
+              subst (λ (mark : Mark). Admits mark now.masked)
+                  (marks_before marked base bytes marks now.place j m.0 l) m.1,
+            );
+            kept = λ i is fits k lt. span_before marked.bytes base bytes (now.place + k) 0 j.chunk.placed.low
+                (fits_bytes marked base bytes marks j) (omega (arith, m.0))
+                (before_span now.place i.len k base fits lt j.chunk.placed.start l);
             more = old_marked marked base bytes marks j;
           })
       | Within low high ↦ inr (borrows_alone marked base bytes marks j now low high m)
@@ -146,7 +180,8 @@ chunk_joins marked base bytes marks j =
             closed = j.closed;
             as_long = chunk_bytes_long marked base bytes marks j;
             was_marked = (m.0, subst (λ (mark : Mark). Admits mark now.masked) (marks_behind marked base bytes marks now.place j p) m.1);
-            kept = λ i is fits k lt. span_behind marked.bytes base bytes (now.place + k) 0 j.chunk.placed.low (fits_bytes marked base bytes marks j) (omega arith);
+            kept = λ i is fits k lt. span_behind marked.bytes base bytes (now.place + k) 0 j.chunk.placed.low
+                (fits_bytes marked base bytes marks j) (omega arith);
             more = old_marked marked base bytes marks j;
           })
     ])
@@ -168,13 +203,18 @@ chunk_keeps marked base bytes marks j k =
     let e : 65536 + k - 65536 ≡ k = omega arith in
     subst (λ (n : ℕ). StaysOrPlain (get_or marked.marks n Unmarked) (get_or (with_chunk marked base bytes marks).marks n Unmarked)) e
     (elim (place_of base (length bytes) (65536 + k)) [
-      | Before l ↦ subst (λ (mark : Mark). StaysOrPlain (mark_at marked.marks (65536 + k)) mark) (sym (marks_before marked base bytes marks (65536 + k) j (omega arith) l)) (stays_same (mark_at marked.marks (65536 + k)))
+      | Before l ↦ subst (λ (mark : Mark). StaysOrPlain (mark_at marked.marks (65536 + k)) mark)
+          (sym (marks_before marked base bytes marks (65536 + k) j (omega arith) l)) (stays_same (mark_at marked.marks (65536 + k)))
       | Within a b ↦
           elim (start_or_not (65536 + k)) [
             | inl start ↦
-                subst (λ (mark : Mark). StaysOrPlain mark (mark_at (with_chunk marked base bytes marks).marks (65536 + k))) (sym (j.unused.unused (65536 + k) a b ∙ unused_at_start (65536 + k) start.1))
-                (chunk_starts marked base bytes marks j (65536 + k) (omega arith, omega (arith, b, fits_bytes marked base bytes marks j)) start.1)
-            | inr inside ↦ subst (λ (mark : Mark). StaysOrPlain mark (mark_at (with_chunk marked base bytes marks).marks (65536 + k))) (sym (j.unused.unused (65536 + k) a b ∙ not_unused (65536 + k) inside.1)) tt
+                subst (λ (mark : Mark). StaysOrPlain mark (mark_at (with_chunk marked base bytes marks).marks (65536 + k)))
+                (sym (j.unused.unused (65536 + k) a b ∙ unused_at_start (65536 + k) start.1))
+                (chunk_starts marked base bytes marks j (65536 + k)
+                (omega arith, omega (arith, b, fits_bytes marked base bytes marks j)) start.1)
+            | inr inside ↦ subst (λ (mark : Mark). StaysOrPlain mark (mark_at (with_chunk marked base bytes marks).marks (65536 + k)))
+                (sym (j.unused.unused (65536 + k) a b ∙ not_unused (65536 + k) inside.1)) tt
           ]
-      | Behind p ↦ subst (λ (mark : Mark). StaysOrPlain (mark_at marked.marks (65536 + k)) mark) (sym (marks_behind marked base bytes marks (65536 + k) j p)) (stays_same (mark_at marked.marks (65536 + k)))
+      | Behind p ↦ subst (λ (mark : Mark). StaysOrPlain (mark_at marked.marks (65536 + k)) mark)
+          (sym (marks_behind marked base bytes marks (65536 + k) j p)) (stays_same (mark_at marked.marks (65536 + k)))
     ])

@@ -1,4 +1,3 @@
--- Proofs of crates above may import `EachMember` and `OneWalk`; the others are private to this crate.
 pub mod EachMember
 pub mod SpanPlaces
 pub mod Told
@@ -30,3 +29,4 @@ pub mod Inserting
 pub mod Windows
 pub mod Walking
 pub mod OneWalk
+pub mod Offered

@@ -6,12 +6,9 @@ use Rattle.std.proofs.Math.Seq.{drop-append_seam}
 use Rattle.nc_decode.specs.declared.instruction.Instr.{Instr}
 use Rattle.nc_decode.specs.Front.{first_instruction}
 use Rattle.nc_decode.specs.Spelling.{Spells}
-use Rattle.nc_decode.proofs.Offered.{exact, has_its_length}
-use Rattle.nc_decode.proofs.Offered.{spells_some}
+use Rattle.nc_decode.proofs.Offered.{exact, has_its_length, spells_some}
 use Rattle.nc_vet.specs.Chunk.{Piece, code_of, AreSpelled}
-use Rattle.nc_vet.proofs.Offered.{spelled_after}
-use Rattle.nc_vet.proofs.Offered.{split_none}
-use Rattle.nc_vet.proofs.Offered.{none_after, same_pieces}
+use Rattle.nc_vet.proofs.Offered.{spelled_after, split_none, none_after, same_pieces}
 use Rattle.nc_region.specs.Patch.{AreBytesOf, AreInstructions}
 
 -- no bytes are no instructions
@@ -56,7 +53,8 @@ pub record Parted (bytes : List ℕ) (news : List Piece) (i : Instr) : Type 0 wh
 
 -- the first of some instructions is found
 pub found_first : (bytes : List ℕ) (p : Piece) (rest : List Piece) → AreBytesOf bytes (p ∷ rest) → first_instruction bytes ≡ Some p.instr
-found_first bytes p rest b = (exact bytes p.instr).1 (record { front = p.bytes; rest = code_of rest; parts = b.parts; spells = b.spelled [] rest p refl })
+found_first bytes p rest b = (exact bytes p.instr).1
+    (record { front = p.bytes; rest = code_of rest; parts = b.parts; spells = b.spelled [] rest p refl })
 
 -- two instructions of one place are one
 pub some_same : (o : Option Instr) (i j : Instr) → o ≡ Some i → o ≡ Some j → i ≡ j
@@ -75,8 +73,10 @@ parted bytes (p ∷ rest) i b is =
     let same : p.instr ≡ i = some_same (first_instruction bytes) p.instr i (found_first bytes p rest b) is in
     let n = spells_some p.bytes p.instr (b.spelled [] rest p refl) in
     let len : i.len ≡ length p.bytes = ap (λ (j : Instr). j.len) (sym same) ∙ n.0 in
-    let behind : drop i.len bytes ≡ code_of rest = ap (λ (k : ℕ). drop k bytes) len ∙ (ap (λ (z : List ℕ). drop (length p.bytes) z) b.parts ∙ drop-append_seam p.bytes (code_of rest)) in
-    let front : take i.len bytes ≡ p.bytes = ap (λ (k : ℕ). take k bytes) len ∙ (ap (λ (z : List ℕ). take (length p.bytes) z) b.parts ∙ take_seam p.bytes (code_of rest)) in
+    let behind : drop i.len bytes ≡ code_of rest = ap (λ (k : ℕ). drop k bytes) len
+    ∙ (ap (λ (z : List ℕ). drop (length p.bytes) z) b.parts ∙ drop-append_seam p.bytes (code_of rest)) in
+    let front : take i.len bytes ≡ p.bytes = ap (λ (k : ℕ). take k bytes) len
+    ∙ (ap (λ (z : List ℕ). take (length p.bytes) z) b.parts ∙ take_seam p.bytes (code_of rest)) in
     record {
       first = p;
       rest = rest;
@@ -87,7 +87,8 @@ parted bytes (p ∷ rest) i b is =
       some = omega (arith, n.1, n.0, len);
       front = front;
       behind = record { spelled = spelled_after p rest b.spelled; parts = slice_rest bytes i.len ∙ behind };
-      long = ap (λ (z : List ℕ). length z) b.parts ∙ (length-append p.bytes (code_of rest) ∙ ap (λ (z : List ℕ). length p.bytes + length z) (sym behind));
+      long = ap (λ (z : List ℕ). length z) b.parts
+          ∙ (length-append p.bytes (code_of rest) ∙ ap (λ (z : List ℕ). length p.bytes + length z) (sym behind));
     }
 
 -- where none is found, they are none
@@ -109,7 +110,8 @@ pub one_more : (bytes : List ℕ) (i : Instr) → first_instruction bytes ≡ So
 one_more bytes i is others =
     let f = (exact bytes i).0 is in
     let n = spells_some f.front i f.spells in
-    let behind : drop i.len bytes ≡ f.rest = ap (λ (k : ℕ). drop k bytes) n.0 ∙ (ap (λ (z : List ℕ). drop (length f.front) z) f.parts ∙ drop-append_seam f.front f.rest) in (
+    let behind : drop i.len bytes ≡ f.rest = ap (λ (k : ℕ). drop k bytes) n.0
+    ∙ (ap (λ (z : List ℕ). drop (length f.front) z) f.parts ∙ drop-append_seam f.front f.rest) in (
       (record { bytes = f.front; instr = i }) ∷ others.0,
       record {
         spelled = spelled_cons (record { bytes = f.front; instr = i }) others.0 f.spells others.1.spelled;
@@ -122,11 +124,8 @@ pub rest_are : (bytes : List ℕ) (i : Instr) → first_instruction bytes ≡ So
     → AreInstructions (take (length bytes - i.len) (drop i.len bytes))
 rest_are bytes i is all = let p = parted bytes all.0 i all.1 is in (p.rest, p.behind)
 
--- bytes are instructions in one way
-pub same_news : (bytes : List ℕ) (xs ys : List Piece) → AreBytesOf bytes xs → AreBytesOf bytes ys → xs ≡ ys
-same_news bytes xs ys a b = same_pieces xs ys a.spelled b.spelled (sym a.parts ∙ b.parts)
-
 -- the first and the others are all
 pub whole_again : (bytes : List ℕ) (news : List Piece) (i : Instr) (p : Parted bytes news i)
     → p.first.bytes ++ take (length bytes - i.len) (drop i.len bytes) ≡ bytes
-whole_again bytes news i p = ap (λ (z : List ℕ). z ++ take (length bytes - i.len) (drop i.len bytes)) (sym p.front) ∙ (ap (λ (z : List ℕ). take i.len bytes ++ z) (slice_rest bytes i.len) ∙ take-append-drop i.len bytes)
+whole_again bytes news i p = ap (λ (z : List ℕ). z ++ take (length bytes - i.len) (drop i.len bytes)) (sym p.front)
+    ∙ (ap (λ (z : List ℕ). take i.len bytes ++ z) (slice_rest bytes i.len) ∙ take-append-drop i.len bytes)

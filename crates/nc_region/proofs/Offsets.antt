@@ -55,20 +55,31 @@ pub marks_behind : (i : Instr) (rest : List Instr) (k : ℕ) → 1 ≤ i.len →
 marks_behind i rest zero some far = absurd (omega (arith, some, far))
 marks_behind i rest (suc k) some far =
     let e : k - (i.len - 1) ≡ suc k - i.len = omega (arith, some, far) in
-    get_or-append_right (replicate (i.len - 1) Unmarked) (marks_of rest) (i.len - 1) k Unmarked (length-replicate (i.len - 1) Unmarked) (omega (arith, far)) ∙ ap (λ (n : ℕ). get_or (marks_of rest) n Unmarked) e
+    get_or-append_right (replicate (i.len - 1) Unmarked) (marks_of rest) (i.len - 1) k Unmarked (length-replicate (i.len - 1) Unmarked)
+    (omega (arith, far)) ∙ ap (λ (n : ℕ). get_or (marks_of rest) n Unmarked) e
 
 -- inside an instruction nothing is marked
 pub marks_inside : (i : Instr) (rest : List Instr) (k : ℕ) → 1 ≤ k → k < i.len → get_or (marks_of (i ∷ rest)) k Unmarked ≡ Unmarked
 marks_inside i rest zero some short = absurd (omega (arith, some))
 marks_inside i rest (suc k) some short =
-    get_or_append_left (replicate (i.len - 1) Unmarked) (marks_of rest) Unmarked k (omega (arith, short, length-replicate (i.len - 1) Unmarked)) ∙ get_or-replicate (i.len - 1) k Unmarked Unmarked (omega (arith, short))
+    get_or_append_left (replicate (i.len - 1) Unmarked) (marks_of rest) Unmarked k
+    (omega (arith, short, length-replicate (i.len - 1) Unmarked))
+    ∙ get_or-replicate (i.len - 1) k Unmarked Unmarked (omega (arith, short))
 
 -- there are as many marks as bytes
 pub marks_long : (chunk : List Instr) (bytes : List ℕ) → IsReading bytes chunk → length (marks_of chunk) ≡ length bytes
 marks_long [] bytes reading = sym (ap length reading)
 marks_long (i ∷ rest) bytes reading =
     let own = has_its_length bytes i reading.0 in
-    omega (arith, own.0, own.1, marks_long rest (drop i.len bytes) reading.1, length-drop i.len bytes, length-append (replicate (i.len - 1) Unmarked) (marks_of rest), length-replicate (i.len - 1) Unmarked)
+    omega (
+      arith,
+      own.0,
+      own.1,
+      marks_long rest (drop i.len bytes) reading.1,
+      length-drop i.len bytes,
+      length-append (replicate (i.len - 1) Unmarked) (marks_of rest),
+      length-replicate (i.len - 1) Unmarked,
+    )
 
 -- the first instruction of a reading
 first_stands : (good : ℕ → Type 0) (base : ℕ) (before : Option ℕ) (i : Instr) (rest : List Instr) (bytes : List ℕ)
@@ -91,14 +102,16 @@ first_stands good base before i (j ∷ rest) bytes reading crossing pairs target
     let e : 0 + i.len ≡ i.len = omega arith in
     let d : i.len - i.len ≡ 0 = omega arith in
     let at_next : get_or (marks_of (i ∷ j ∷ rest)) (0 + i.len) Unmarked ≡ mark_by j.flow j.reg =
-    ap (λ (n : ℕ). get_or (marks_of (i ∷ j ∷ rest)) n Unmarked) e ∙ (marks_behind i (j ∷ rest) i.len own.0 (omega arith) ∙ ap (λ (n : ℕ). get_or (marks_of (j ∷ rest)) n Unmarked) d) in
+    ap (λ (n : ℕ). get_or (marks_of (i ∷ j ∷ rest)) n Unmarked) e
+    ∙ (marks_behind i (j ∷ rest) i.len own.0 (omega arith) ∙ ap (λ (n : ℕ). get_or (marks_of (j ∷ rest)) n Unmarked) d) in
     record {
       i = i;
       is = reading.0;
       short = omega (arith, own.1);
       fits = omega (arith, crossing.0);
       may = may_from_mark i.flow i.reg masked m;
-      behind = inr (subst (λ (mark : Mark). Admits mark i.masks) (sym at_next) (mark_from_pair j.flow j.reg i.masks (base + i.len) pairs.1.0));
+      behind = inr (subst (λ (mark : Mark). Admits mark i.masks) (sym at_next)
+          (mark_from_pair j.flow j.reg i.masks (base + i.len) pairs.1.0));
       targets = λ direct. subst (λ (n : ℕ). good (target i n)) (sym (add-zero base)) (targets.0 direct);
     }
 
@@ -113,13 +126,15 @@ further good base i rest bytes k masked some whole far s =
     let e : k + s.i.len - i.len ≡ k - i.len + s.i.len = omega (arith, far) in
     record {
       i = s.i;
-      is = subst (λ (n : ℕ). first_instruction (drop n bytes) ≡ Some s.i) back (sym (ap first_instruction (drop-drop (k - i.len) i.len bytes)) ∙ s.is);
+      is = subst (λ (n : ℕ). first_instruction (drop n bytes) ≡ Some s.i) back
+          (sym (ap first_instruction (drop-drop (k - i.len) i.len bytes)) ∙ s.is);
       short = omega (arith, s.short, long, far, whole);
       fits = subst (λ (n : ℕ). IsInOneBundle n s.i.len) place s.fits;
       may = s.may;
       behind = elim s.behind [
         | inl end ↦ inl (omega (arith, end, long, far, whole))
-        | inr m ↦ inr (subst (λ (mark : Mark). Admits mark s.i.masks) (sym (marks_behind i rest (k + s.i.len) some (omega (arith, far)) ∙ ap (λ (n : ℕ). get_or (marks_of rest) n Unmarked) e)) m)
+        | inr m ↦ inr (subst (λ (mark : Mark). Admits mark s.i.masks)
+            (sym (marks_behind i rest (k + s.i.len) some (omega (arith, far)) ∙ ap (λ (n : ℕ). get_or (marks_of rest) n Unmarked) e)) m)
       ];
       targets = λ direct. subst (λ (n : ℕ). good (target s.i n)) place (s.targets direct);
     }
@@ -129,7 +144,8 @@ pub stands_at : (good : ℕ → Type 0) (chunk : List Instr) (base : ℕ) (befor
     → NoneCrosses base chunk → PairsHold before base chunk → TargetsHold good base chunk → (k : ℕ) (masked : Option ℕ)
     → Admits (get_or (marks_of chunk) k Unmarked) masked → Stands good base bytes (marks_of chunk) k masked
 stands_at good [] base before bytes reading crossing pairs targets k masked m = absurd m
-stands_at good (i ∷ rest) base before bytes reading crossing pairs targets zero masked m = first_stands good base before i rest bytes reading crossing pairs targets masked m
+stands_at good (i ∷ rest) base before bytes reading crossing pairs targets zero masked m =
+    first_stands good base before i rest bytes reading crossing pairs targets masked m
 stands_at good (i ∷ rest) base before bytes reading crossing pairs targets (suc k) masked m =
     let own = has_its_length bytes i reading.0 in
     ⊎_elim

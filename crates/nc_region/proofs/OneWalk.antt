@@ -10,8 +10,7 @@ use Rattle.nc_decode.specs.Transfers.{is_indirect}
 use Rattle.nc_text.specs.Places.{limit_of, instruction_at}
 use Rattle.nc_text.specs.Machine.{State, state, LeadsBy, IsMaskedFor, IsSafe}
 use Rattle.nc_text.specs.Marks.{IsClosed}
-use Rattle.nc_text.proofs.Closing.{executes, leads_of}
-use Rattle.nc_text.proofs.Confined.{IsKnown, safe_if_known, start_is_marked}
+use Rattle.nc_text.proofs.Offered.{executes, leads_of, IsKnown, safe_if_known, start_is_marked}
 use Rattle.nc_region.specs.declared.trace.End.{End}
 use Rattle.nc_region.specs.declared.trace.End.TheVariants.{Stop, Trampoline, Beyond, More}
 use Rattle.nc_region.specs.Trace.{EndsBy, GoesOn, IsTrace, IsWalkStart, LeavesBy, Moves, Picks, Walks, bundle_of}
@@ -37,7 +36,8 @@ one_move : (text : List ℕ) (now : State) (choice : ℕ) (a b : State) → Move
 one_move text now choice a b ma mb =
     let same = same_instr (instruction_at text now.place) mb.instr ma.instr mb.is ma.is in
     let picked = subst (λ (i : Instr). Picks i.flow i now choice b) same mb.picked in
-    one_step ma.instr.flow (limit_of text) ma.instr now choice a b (leads_of text now a ma.instr ma.is ma.step) (leads_of text now b ma.instr ma.is mb.step) ma.picked picked
+    one_step ma.instr.flow (limit_of text) ma.instr now choice a b (leads_of text now a ma.instr ma.is ma.step)
+    (leads_of text now b ma.instr ma.is mb.step) ma.picked picked
 
 -- no test is both true and false
 not_both : false ≡ true → ⊥
@@ -64,7 +64,8 @@ leaves_or_moves text now next choice safe goes leaves moves =
     let same = same_instr (instruction_at text now.place) e.i moves.instr e.is moves.is in
     let may = subst (λ (i : Instr). IsMaskedFor i.flow i.reg now.masked) same e.permitted.1 in
     let is = subst (λ (o : Option Instr). IsSomeAnd o (λ i. IsTrue (is_indirect i.flow))) moves.is leaves.0 in
-    let low = below moves.instr.flow (limit_of text) moves.instr now next choice is may (leads_of text now next moves.instr moves.is moves.step) moves.picked in
+    let low = below moves.instr.flow (limit_of text) moves.instr now next choice is may
+    (leads_of text now next moves.instr moves.is moves.step) moves.picked in
     omega (arith, low, leaves.1)
 
 -- a walk that ends in a safe state doesn't move on from there
@@ -103,9 +104,11 @@ one_way : (text : List ℕ) (marks : List Mark) → IsClosed text marks → (now
     → IsKnown marks now → Walks text now choices xs a → Walks text now choices ys b → (xs ≡ ys) × (a ≡ b)
 one_way text marks closed now choices [] [] a b known wa wb = (refl, one_end text now choices a b wa wb)
 one_way text marks closed now [] [] (n ∷ ns) a b known wa wb = absurd wb
-one_way text marks closed now (c ∷ cs) [] (n ∷ ns) a b known wa wb = absurd (ends_or_moves text now n c cs a (safe_if_known text marks closed now known) wa wb.0 wb.1)
+one_way text marks closed now (c ∷ cs) [] (n ∷ ns) a b known wa wb =
+    absurd (ends_or_moves text now n c cs a (safe_if_known text marks closed now known) wa wb.0 wb.1)
 one_way text marks closed now [] (n ∷ ns) ys a b known wa wb = absurd wa
-one_way text marks closed now (c ∷ cs) (n ∷ ns) [] a b known wa wb = absurd (ends_or_moves text now n c cs b (safe_if_known text marks closed now known) wb wa.0 wa.1)
+one_way text marks closed now (c ∷ cs) (n ∷ ns) [] a b known wa wb =
+    absurd (ends_or_moves text now n c cs b (safe_if_known text marks closed now known) wb wa.0 wa.1)
 one_way text marks closed now (c ∷ cs) (n ∷ ns) (m ∷ ms) a b known wa wb =
     let same : m ≡ n = one_move text now c m n wb.1 wa.1 in
     let on = subst (λ (s : State). Walks text s cs ms b) same wb.2 in

@@ -5,10 +5,10 @@ use Rattle.std.proofs.lemmas.Bool.{cases_lt}
 use Rattle.nc_text.specs.Places.{limit_of, byte_at}
 use Rattle.nc_text.specs.Marks.{mark_at}
 use Rattle.nc_text.specs.MarkedText.{MarkedText, IsText, with_span}
-use Rattle.nc_text.proofs.SpanElements.{length-with_span}
+use Rattle.nc_text.proofs.Offered.{length-with_span}
 use Rattle.nc_decode.specs.declared.instruction.Mark.{Mark}
 use Rattle.nc_region.specs.declared.chunk.Chunk.{Chunk}
-use Rattle.nc_region.specs.Chunks.{IsPlaced}
+use Rattle.nc_region.specs.Chunks.{HasGoodSpan}
 use Rattle.nc_region.specs.Each.{Each}
 use Rattle.nc_region.specs.Region.{IsLive, IsInChunk, HoldsValid, IsRegion}
 use Rattle.nc_region.specs.Patch.{IsHeldBy}
@@ -31,7 +31,8 @@ pub record Patches (old new : MarkedText) (chunks : List Chunk) (c : Chunk) (at 
 -- the text is as long
 same_long : (old new : MarkedText) (chunks : List Chunk) (c : Chunk) (at : ℕ) (bytes : List ℕ) → Patches old new chunks c at bytes
     → length new.bytes ≡ length old.bytes
-same_long old new chunks c at bytes p = ap (λ (z : List ℕ). length z) p.bytes_are ∙ length-with_span old.bytes (at - 65536) bytes (omega (arith, p.low, p.high, p.ends, p.held.2.0))
+same_long old new chunks c at bytes p = ap (λ (z : List ℕ). length z) p.bytes_are
+    ∙ length-with_span old.bytes (at - 65536) bytes (omega (arith, p.low, p.high, p.ends, p.held.2.0))
 
 -- outside the chunk no byte is changed
 outside : (old new : MarkedText) (chunks : List Chunk) (c : Chunk) (at : ℕ) (bytes : List ℕ) → Patches old new chunks c at bytes
@@ -39,15 +40,18 @@ outside : (old new : MarkedText) (chunks : List Chunk) (c : Chunk) (at : ℕ) (b
 outside old new chunks c at bytes p k low out =
     ap (λ (z : List ℕ). byte_at z k) p.bytes_are
     ∙ elim out [
-      | inl l ↦ span_before old.bytes at bytes k 0 (omega (arith, p.low, p.held.2.0)) (omega (arith, p.ends, p.high)) low (omega (arith, l, p.held.2.0))
-      | inr b ↦ span_behind old.bytes at bytes k 0 (omega (arith, p.low, p.held.2.0)) (omega (arith, p.ends, p.high)) (omega (arith, b, p.ends))
+      | inl l ↦ span_before old.bytes at bytes k 0 (omega (arith, p.low, p.held.2.0)) (omega (arith, p.ends, p.high)) low
+          (omega (arith, l, p.held.2.0))
+      | inr b ↦ span_behind old.bytes at bytes k 0 (omega (arith, p.low, p.held.2.0)) (omega (arith, p.ends, p.high))
+          (omega (arith, b, p.ends))
     ]
 
 -- another chunk still stands
 other_holds : (old new : MarkedText) (chunks : List Chunk) (c : Chunk) (at : ℕ) (bytes : List ℕ) → Patches old new chunks c at bytes
     → (d : Chunk) → (d.base + d.length ≤ c.base) ⊎ (c.base + c.length ≤ d.base) → HoldsValid old d → HoldsValid new d
 other_holds old new chunks c at bytes p d apart h =
-    let out : (k : ℕ) → IsInChunk d k → (k < c.base) ⊎ (c.base + c.length ≤ k) = λ k inside. elim apart [ inl l ↦ inl (omega (arith, l, inside.1)) | inr b ↦ inr (omega (arith, b, inside.0)) ] in
+    let out : (k : ℕ) → IsInChunk d k → (k < c.base) ⊎ (c.base + c.length ≤ k) =
+    λ k inside. elim apart [ inl l ↦ inl (omega (arith, l, inside.1)) | inr b ↦ inr (omega (arith, b, inside.0)) ] in
     let low : 65536 ≤ d.base = subst (λ (b : ℕ). 65536 ≤ b) h.base_is h.valid.base_is.1 in
     record {
       vetted = h.vetted;
@@ -69,20 +73,37 @@ region_patched old new chunks c at bytes p =
     record {
       whole = p.whole;
       rising = p.region.rising;
-      placed = subst (λ (l : ℕ). Each (λ (d : Chunk). IsPlaced d.base l d.length) chunks) (ap (λ (n : ℕ). 65536 + n) (sym long)) p.region.placed;
+      placed = subst (λ (l : ℕ). Each (λ (d : Chunk). HasGoodSpan d.base l d.length) chunks)
+          (ap (λ (n : ℕ). 65536 + n) (sym long)) p.region.placed;
       live = each_from (λ (d : Chunk). IsLive d.state → HoldsValid new d) chunks c (λ k lt live.
           let h = each_get (λ (d : Chunk). IsLive d.state → HoldsValid old d) chunks k c lt p.region.live live in
           ⊎_elim
-          (λ (before : k < p.held.0.0). other_holds old new chunks c at bytes p (get_or chunks k c) (inl (omega (arith, apart_by_index 65536 chunks c p.region.rising k p.held.0.0 before p.held.0.1, ap (λ (x : Chunk). x.base) is))) h)
+          (λ (before : k < p.held.0.0). other_holds old new chunks c at bytes p (get_or chunks k c)
+          (inl (omega (
+            arith,
+            apart_by_index 65536 chunks c p.region.rising k p.held.0.0 before p.held.0.1,
+            ap (λ (x : Chunk). x.base) is,
+          ))) h)
           (λ (from : p.held.0.0 ≤ k).
           ⊎_elim
-          (λ (behind : p.held.0.0 < k). other_holds old new chunks c at bytes p (get_or chunks k c) (inr (omega (arith, apart_by_index 65536 chunks c p.region.rising p.held.0.0 k behind lt, ap (λ (x : Chunk). x.base + x.length) is))) h)
-          (λ (to : k ≤ p.held.0.0). (let same : p.held.0.0 ≡ k = omega (arith, from, to) in subst (λ (x : Chunk). HoldsValid new x) (sym is ∙ ap (λ (n : ℕ). get_or chunks n c) same) p.holds))
+          (λ (behind : p.held.0.0 < k). other_holds old new chunks c at bytes p (get_or chunks k c)
+          (inr (omega (
+            arith,
+            apart_by_index 65536 chunks c p.region.rising p.held.0.0 k behind lt,
+            ap (λ (x : Chunk). x.base + x.length) is,
+          ))) h)
+          (λ (to : k ≤ p.held.0.0). (let same : p.held.0.0 ≡ k = omega (arith, from, to) in
+          subst (λ (x : Chunk). HoldsValid new x) (sym is ∙ ap (λ (n : ℕ). get_or chunks n c) same) p.holds))
           (cases_lt p.held.0.0 k))
           (cases_lt k p.held.0.0));
       stops = λ k inside free.
-          let not : IsInChunk c k → ⊥ = subst (λ (x : Chunk). IsLive x.state → IsInChunk x k → ⊥) is (each_get (λ (d : Chunk). IsLive d.state → IsInChunk d k → ⊥) chunks p.held.0.0 c p.held.0.1 free) p.held.1 in
-          let out : (k < c.base) ⊎ (c.base + c.length ≤ k) = ⊎_elim (λ (l : k < c.base). inl l) (λ (f : c.base ≤ k). ⊎_elim (λ (l : k < c.base + c.length). absurd (not (f, l))) (λ (b : c.base + c.length ≤ k). inr b) (cases_lt k (c.base + c.length))) (cases_lt k c.base) in
+          let not : IsInChunk c k → ⊥ = subst (λ (x : Chunk). IsLive x.state → IsInChunk x k → ⊥) is
+          (each_get (λ (d : Chunk). IsLive d.state → IsInChunk d k → ⊥) chunks p.held.0.0 c p.held.0.1 free) p.held.1 in
+          let out : (k < c.base) ⊎ (c.base + c.length ≤ k) =
+          ⊎_elim (λ (l : k < c.base). inl l)
+          (λ (f : c.base ≤ k). ⊎_elim (λ (l : k < c.base + c.length). absurd (not (f, l))) (λ (b : c.base + c.length ≤ k). inr b)
+          (cases_lt k (c.base + c.length))) (cases_lt k c.base) in
           outside old new chunks c at bytes p k inside.0 out ∙ p.region.stops k (inside.0, omega (arith, inside.1, long)) free;
-      unused = λ k inside free. ap (λ (z : List Mark). mark_at z k) p.marks_are ∙ p.region.unused k (inside.0, omega (arith, inside.1, long)) free;
+      unused = λ k inside free. ap (λ (z : List Mark). mark_at z k) p.marks_are
+          ∙ p.region.unused k (inside.0, omega (arith, inside.1, long)) free;
     }

@@ -10,12 +10,11 @@ use Rattle.nc_decode.specs.declared.instruction.Flow.TheVariants.{Next, Branch, 
 use Rattle.nc_decode.specs.declared.instruction.Mark.{Mark}
 use Rattle.nc_decode.specs.declared.instruction.Mark.TheVariants.{Unmarked, Plain, After}
 use Rattle.nc_decode.specs.Transfers.{is_direct, is_indirect, target}
-use Rattle.nc_decode.proofs.Offered.{exact, names_registers}
-use Rattle.nc_decode.proofs.Offered.{spells_some}
+use Rattle.nc_decode.proofs.Offered.{exact, names_registers, spells_some}
 use Rattle.nc_text.specs.MarkedText.{NamesRegister}
 use Rattle.nc_vet.specs.Chunk.{Piece, code_of, place}
 use Rattle.nc_vet.specs.Chunk as vet
-use Rattle.nc_region.specs.Chunks.{IsPlaced, IsClosedChunk}
+use Rattle.nc_region.specs.Chunks.{HasGoodSpan, IsClosedChunk}
 use Rattle.nc_region.specs.Each.{Each}
 use Rattle.nc_region.proofs.EachMember.{each_append, each_replicate, each_get}
 use Rattle.nc_region.proofs.Instructions.{IsReading, NoneCrosses, FollowsMask, PairsHold, IsDirect, IsIndirect, BeginsAt, IsTarget}
@@ -43,7 +42,8 @@ code_append (x ∷ xs) ys = ap (λ (bs : List ℕ). x.bytes ++ bs) (code_append 
 
 -- the place after one more piece
 place_more : (done : List Piece) (p : Piece) → place (done ++ p ∷ []) ≡ place done + length p.bytes
-place_more done p = ap (λ (bs : List ℕ). length bs) (code_append done (p ∷ [])) ∙ (length-append (code_of done) (p.bytes ++ []) ∙ omega (arith, length-append p.bytes []))
+place_more done p = ap (λ (bs : List ℕ). length bs) (code_append done (p ∷ []))
+    ∙ (length-append (code_of done) (p.bytes ++ []) ∙ omega (arith, length-append p.bytes []))
 
 -- the pieces are a reading of the code
 reading_of : (c : vet.MarkedChunk) (v : vet.IsValid c) (done rest : List Piece) → v.pieces ≡ done ++ rest
@@ -51,8 +51,11 @@ reading_of : (c : vet.MarkedChunk) (v : vet.IsValid c) (done rest : List Piece) 
 reading_of c v done [] e = refl
 reading_of c v done (p ∷ more) e =
     let n = spelled_at c v done more p e in (
-      (exact (p.bytes ++ code_of more) p.instr).1 (record { front = p.bytes; rest = code_of more; parts = refl; spells = v.sound.spelled done more p e }),
-      subst (λ (bytes : List ℕ). IsReading bytes (instrs more)) (sym (ap (λ (k : ℕ). drop k (p.bytes ++ code_of more)) n.0 ∙ drop-append_seam p.bytes (code_of more))) (reading_of c v (done ++ p ∷ []) more (further v.pieces done more p e)),
+      (exact (p.bytes ++ code_of more) p.instr).1
+          (record { front = p.bytes; rest = code_of more; parts = refl; spells = v.sound.spelled done more p e }),
+      subst (λ (bytes : List ℕ). IsReading bytes (instrs more))
+          (sym (ap (λ (k : ℕ). drop k (p.bytes ++ code_of more)) n.0 ∙ drop-append_seam p.bytes (code_of more)))
+          (reading_of c v (done ++ p ∷ []) more (further v.pieces done more p e)),
     )
 
 -- none of them crosses the end of a bundle
@@ -83,7 +86,8 @@ follows_of : (c : vet.MarkedChunk) (v : vet.IsValid c) (done more : List Piece) 
     → vet.FollowsMask done reg → (last_masks done ≡ Some reg) × ((c.base + place done) % 32 ≢ 0)
 follows_of c v done more p e reg f =
     let last = ap last_masks f.last ∙ (last_masks_of f.earlier f.mask ∙ f.masks) in
-    let whole : v.pieces ≡ f.earlier ++ f.mask ∷ (p ∷ more) = e ∙ (ap (λ (xs : List Piece). xs ++ p ∷ more) f.last ∙ append_assoc f.earlier (f.mask ∷ []) (p ∷ more)) in
+    let whole : v.pieces ≡ f.earlier ++ f.mask ∷ (p ∷ more) = e
+    ∙ (ap (λ (xs : List Piece). xs ++ p ∷ more) f.last ∙ append_assoc f.earlier (f.mask ∷ []) (p ∷ more)) in
     let n = spelled_at c v f.earlier (p ∷ more) f.mask whole in
     let here : place done ≡ place f.earlier + length f.mask.bytes = ap place f.last ∙ place_more f.earlier f.mask in
     (last, λ start. omega (arith, n.0, n.1, here, f.together, v.base_is.0, start))
@@ -106,9 +110,11 @@ pairs_of c v done [] e = tt
 pairs_of c v done (p ∷ more) e =
     let n = spelled_at c v done more p e in
     let next : c.base + place (done ++ p ∷ []) ≡ c.base + place done + p.instr.len = omega (arith, place_more done p, n.0) in (
-      follows_by p.instr.flow p.instr.reg (last_masks done) (c.base + place done) (λ indirect. follows_of c v done more p e p.instr.reg (v.sound.paired done more p e indirect)),
+      follows_by p.instr.flow p.instr.reg (last_masks done) (c.base + place done)
+          (λ indirect. follows_of c v done more p e p.instr.reg (v.sound.paired done more p e indirect)),
       subst (λ (masks : Option ℕ). PairsHold masks (c.base + place done + p.instr.len) (instrs more)) (last_masks_of done p)
-          (subst (λ (at : ℕ). PairsHold (last_masks (done ++ p ∷ [])) at (instrs more)) next (pairs_of c v (done ++ p ∷ []) more (further v.pieces done more p e))),
+          (subst (λ (at : ℕ). PairsHold (last_masks (done ++ p ∷ [])) at (instrs more)) next
+          (pairs_of c v (done ++ p ∷ []) more (further v.pieces done more p e))),
     )
 
 -- a flow that is not indirect
@@ -146,8 +152,10 @@ begins_at : (before after : List Piece) (p : Piece) (base : ℕ) → AreSized (b
     → BeginsAt (base + place before) base (instrs (before ++ p ∷ after))
 begins_at [] after p base sized first = inl (omega arith, not_indirect p.instr.flow first)
 begins_at (q ∷ before) after p base sized first =
-    let e : base + q.instr.len + place before ≡ base + place (q ∷ before) = omega (arith, sized.0, length-append q.bytes (code_of before)) in
-    inr (subst (λ (at : ℕ). BeginsAt at (base + q.instr.len) (instrs (before ++ p ∷ after))) e (begins_at before after p (base + q.instr.len) sized.1 first))
+    let e : base + q.instr.len + place before ≡ base + place (q ∷ before) =
+    omega (arith, sized.0, length-append q.bytes (code_of before)) in
+    inr (subst (λ (at : ℕ). BeginsAt at (base + q.instr.len) (instrs (before ++ p ∷ after))) e
+    (begins_at before after p (base + q.instr.len) sized.1 first))
 
 -- a good target is one of the reading too
 target_of : (c : vet.MarkedChunk) (v : vet.IsValid c) (t : ℕ) → vet.IsTarget c.base c.limit v.pieces t
@@ -163,7 +171,8 @@ target_of c v t good =
           inl (
             omega (arith, inside.1),
             omega (arith, inside.1, inside.2, long),
-            subst (λ (at : ℕ). BeginsAt at c.base (instrs v.pieces)) here (subst (λ (ps : List Piece). BeginsAt (c.base + place entry.before) c.base (instrs ps)) (sym entry.parts) at_entry),
+            subst (λ (at : ℕ). BeginsAt at c.base (instrs v.pieces)) here
+                (subst (λ (ps : List Piece). BeginsAt (c.base + place entry.before) c.base (instrs ps)) (sym entry.parts) at_entry),
           )
       | inr outside ↦ inr (elim outside.0 [ inl l ↦ inl l | inr p ↦ inr (omega (arith, p, long)) ], outside.1, outside.2)
     ]
@@ -176,7 +185,8 @@ targets_of c v done (p ∷ more) e =
     let n = spelled_at c v done more p e in
     let next : c.base + place (done ++ p ∷ []) ≡ c.base + place done + p.instr.len = omega (arith, place_more done p, n.0) in (
       λ direct. target_of c v (target p.instr (c.base + place done)) (v.targets done more p e (direct_is p.instr.flow direct)),
-      subst (λ (at : ℕ). TargetsHold (IsTarget c.base c.limit (length c.code) (instrs v.pieces)) at (instrs more)) next (targets_of c v (done ++ p ∷ []) more (further v.pieces done more p e)),
+      subst (λ (at : ℕ). TargetsHold (IsTarget c.base c.limit (length c.code) (instrs v.pieces)) at (instrs more)) next
+          (targets_of c v (done ++ p ∷ []) more (further v.pieces done more p e)),
     )
 
 -- the mark of an instruction
@@ -197,8 +207,16 @@ same_marks (p ∷ rest) =
     ∙ ap (λ (ms : List Mark). mark_by p.instr.flow p.instr.reg ∷ (replicate (p.instr.len - 1) Unmarked ++ ms)) (same_marks rest)
 
 -- a valid chunk is whole bundles of the region below the guard
-placed_of : (c : vet.MarkedChunk) → vet.IsValid c → IsPlaced c.base c.limit (length c.code)
-placed_of c v = record { lawful = v.range.0; start = v.base_is.0; whole = v.length_is.1; some = v.length_is.0; low = v.base_is.1; high = v.range.1 }
+placed_of : (c : vet.MarkedChunk) → vet.IsValid c → HasGoodSpan c.base c.limit (length c.code)
+placed_of c v = record {
+  lawful = v.range.0;
+  start = v.base_is.0;
+  whole = v.length_is.1;
+  some = v.length_is.0;
+  low =
+      v.base_is.1;
+  high = v.range.1;
+}
 
 -- a valid chunk by its reading
 valid_of : (c : vet.MarkedChunk) (v : vet.IsValid c) → IsValid c.base c.limit c.code (instrs v.pieces)
@@ -209,13 +227,15 @@ valid_of c v =
       reading = subst (λ (bytes : List ℕ). IsReading bytes (instrs v.pieces)) (sym v.parts) (reading_of c v [] v.pieces refl);
       crossing = subst (λ (at : ℕ). NoneCrosses at (instrs v.pieces)) none (crossing_of c v [] v.pieces refl);
       pairs = subst (λ (at : ℕ). PairsHold None at (instrs v.pieces)) none (pairs_of c v [] v.pieces refl);
-      targets = subst (λ (at : ℕ). TargetsHold (IsTarget c.base c.limit (length c.code) (instrs v.pieces)) at (instrs v.pieces)) none (targets_of c v [] v.pieces refl);
+      targets = subst (λ (at : ℕ). TargetsHold (IsTarget c.base c.limit (length c.code) (instrs v.pieces)) at (instrs v.pieces)) none
+          (targets_of c v [] v.pieces refl);
     }
 
 -- a valid chunk is closed by itself
 pub valid_chunk_is_closed : (c : vet.MarkedChunk) → vet.IsValid c → IsClosedChunk c.base c.limit c.code c.marks
 valid_chunk_is_closed c v =
-    subst (λ (marks : List Mark). IsClosedChunk c.base c.limit c.code marks) (sym (v.marks_are ∙ same_marks v.pieces)) (valid_is_closed c.base c.limit c.code (instrs v.pieces) (valid_of c v))
+    subst (λ (marks : List Mark). IsClosedChunk c.base c.limit c.code marks) (sym (v.marks_are ∙ same_marks v.pieces))
+    (valid_is_closed c.base c.limit c.code (instrs v.pieces) (valid_of c v))
 
 -- ---- registers
 
@@ -234,9 +254,12 @@ marks_named : (c : vet.MarkedChunk) (v : vet.IsValid c) (done rest : List Piece)
     → Each NamesRegister (vet.marks_of rest)
 marks_named c v done [] e = tt
 marks_named c v done (p ∷ more) e =
-    let found = (exact (p.bytes ++ []) p.instr).1 (record { front = p.bytes; rest = []; parts = refl; spells = v.sound.spelled done more p e }) in (
+    let found = (exact (p.bytes ++ []) p.instr).1
+    (record { front = p.bytes; rest = []; parts = refl; spells = v.sound.spelled done more p e }) in (
       named_by p.instr.flow p.instr.reg (names_registers (p.bytes ++ []) p.instr found).0,
-      each_append NamesRegister (replicate (p.instr.len - 1) Unmarked) (vet.marks_of more) (each_replicate NamesRegister (p.instr.len - 1) Unmarked tt) (marks_named c v (done ++ p ∷ []) more (further v.pieces done more p e)),
+      each_append NamesRegister (replicate (p.instr.len - 1) Unmarked) (vet.marks_of more)
+          (each_replicate NamesRegister (p.instr.len - 1) Unmarked tt)
+          (marks_named c v (done ++ p ∷ []) more (further v.pieces done more p e)),
     )
 
 -- the marks of a valid chunk name registers from 0 to 7

@@ -6,12 +6,11 @@ use Rattle.nc_text.specs.Places.{IsTrampoline, limit_of}
 use Rattle.nc_text.specs.Machine.{State, Step}
 use Rattle.nc_text.specs.Marks.{IsMarked, Admits}
 use Rattle.nc_text.specs.MarkedText.{MarkedText, unused_text}
-use Rattle.nc_text.proofs.Closing.{no_step_from_stop, step_borrowed}
-use Rattle.nc_text.proofs.Fresh.{marked_within}
+use Rattle.nc_text.proofs.Offered.{no_step_from_stop, step_borrowed, marked_within}
 use Rattle.nc_region.specs.declared.chunk.Chunk.{Chunk}
 use Rattle.nc_region.specs.declared.chunk.ChunkState.{ChunkState}
 use Rattle.nc_region.specs.declared.chunk.ChunkState.TheVariants.{Live, Retired}
-use Rattle.nc_region.specs.Chunks.{IsPlaced, IsClosedChunk}
+use Rattle.nc_region.specs.Chunks.{HasGoodSpan, IsClosedChunk}
 use Rattle.nc_region.specs.Each.{Each}
 use Rattle.nc_region.specs.Quiet.{Span, IsQuiet, with_retired, retired_spans, AreQuiet}
 use Rattle.nc_region.specs.Region.{IsLive, IsInChunk, IsRising, HoldsValid, IsRegion}
@@ -60,9 +59,15 @@ retired_free : (from : ℕ) (chunks : List Chunk) → IsRising from chunks
 retired_free from [] rising = tt
 retired_free from (c ∷ rest) rising =
     let above = rises_above (c.base + c.length) rest rising.1 in (
-      λ dead at inside. (λ live here. dead live, each_map (λ (d : Chunk). c.base + c.length ≤ d.base) (λ (d : Chunk). IsLive d.state → IsInChunk d at → ⊥) (λ d h live there. omega (arith, h, inside.1, there.0)) rest above),
-      each_both (λ (d : Chunk). c.base + c.length ≤ d.base) (λ (r : Chunk). (IsLive r.state → ⊥) → (at : ℕ) → IsInChunk r at → IsFree rest at) (λ (r : Chunk). (IsLive r.state → ⊥) → (at : ℕ) → IsInChunk r at → IsFree (c ∷ rest) at)
-          (λ r h free dead at inside. (λ live there. omega (arith, h, inside.0, there.1), free dead at inside)) rest above (retired_free (c.base + c.length) rest rising.1),
+      λ dead at inside. (
+        λ live here. dead live,
+        each_map (λ (d : Chunk). c.base + c.length ≤ d.base) (λ (d : Chunk). IsLive d.state
+            → IsInChunk d at → ⊥) (λ d h live there. omega (arith, h, inside.1, there.0)) rest above,
+      ),
+      each_both (λ (d : Chunk). c.base + c.length ≤ d.base) (λ (r : Chunk). (IsLive r.state → ⊥) → (at : ℕ) → IsInChunk r at
+          → IsFree rest at) (λ (r : Chunk). (IsLive r.state → ⊥) → (at : ℕ) → IsInChunk r at → IsFree (c ∷ rest) at)
+          (λ r h free dead at inside. (λ live there. omega (arith, h, inside.0, there.1), free dead at inside)) rest above
+          (retired_free (c.base + c.length) rest rising.1),
     )
 
 -- a live chunk is closed by itself
@@ -84,11 +89,18 @@ alone_step marked c h now next m inside step =
       old_marks = (alone marked c.base h.vetted.code h.vetted.marks).marks;
       closed = j.closed;
       as_long = sym (alone_bytes_long marked c.base h.vetted.code h.vetted.marks j);
-      was_marked = (m.0, subst (λ (mark : Mark). Admits mark now.masked) (h.marks_are now.place inside ∙ sym (alone_within marked c.base h.vetted.code h.vetted.marks now.place j inside.0 (omega (arith, inside.1, h.long)))) m.1);
+      was_marked = (
+        m.0,
+        subst (λ (mark : Mark). Admits mark now.masked) (h.marks_are now.place inside
+            ∙ sym (alone_within marked c.base h.vetted.code h.vetted.marks now.place j inside.0 (omega (arith, inside.1, h.long)))) m.1,
+      );
       kept = λ i is short k lt.
-          let to : now.place + k < c.base + length h.vetted.code = within_span now.place i.len k c.base (length h.vetted.code) short lt j.placed.start j.placed.whole (omega (arith, inside.1, h.long)) in
+          let to : now.place + k < c.base + length h.vetted.code =
+          within_span now.place i.len k c.base (length h.vetted.code) short lt j.placed.start j.placed.whole
+          (omega (arith, inside.1, h.long)) in
           h.bytes_are (now.place + k) (omega (arith, inside.0), omega (arith, to, h.long))
-          ∙ sym (span_within (unused_text (limit_of marked.bytes)).bytes c.base h.vetted.code (now.place + k) 0 j.placed.low (alone_fits_bytes marked c.base h.vetted.code h.vetted.marks j) (omega (arith, inside.0)) to);
+          ∙ sym (span_within (unused_text (limit_of marked.bytes)).bytes c.base h.vetted.code (now.place + k) 0 j.placed.low
+          (alone_fits_bytes marked c.base h.vetted.code h.vetted.marks j) (omega (arith, inside.0)) to);
       more = λ n there. there;
     })
     step
@@ -98,26 +110,42 @@ alone_inside : (marked : MarkedText) (c : Chunk) (h : HoldsValid marked c) (now 
     → IsMarked (alone marked c.base h.vetted.code h.vetted.marks).marks now → IsInChunk c now.place ⊎ (now.place % 32 ≡ 0)
 alone_inside marked c h now m =
     let j = chunk_of marked c h in
-    let high : now.place < 65536 + length marked.bytes = omega (arith, alone_marks_long marked c.base h.vetted.code h.vetted.marks j, marked_within (alone marked c.base h.vetted.code h.vetted.marks).marks now m) in
+    let high : now.place < 65536 + length marked.bytes =
+    omega (
+      arith,
+      alone_marks_long marked c.base h.vetted.code h.vetted.marks j,
+      marked_within (alone marked c.base h.vetted.code h.vetted.marks).marks now m,
+    ) in
     elim (place_of c.base c.length now.place) [
-      | Before l ↦ inr (unused_is_start now.place now.masked (subst (λ (mark : Mark). Admits mark now.masked) (alone_before marked c.base h.vetted.code h.vetted.marks now.place j (m.0, high) l) m.1))
+      | Before l ↦ inr (unused_is_start now.place now.masked
+          (subst (λ (mark : Mark). Admits mark now.masked)
+          (alone_before marked c.base h.vetted.code h.vetted.marks now.place j (m.0, high) l) m.1))
       | Within a b ↦ inl (a, b)
-      | Behind p ↦ inr (unused_is_start now.place now.masked (subst (λ (mark : Mark). Admits mark now.masked) (alone_behind marked c.base h.vetted.code h.vetted.marks now.place j (m.0, high) (omega (arith, p, h.long))) m.1))
+      | Behind p ↦ inr (unused_is_start now.place now.masked
+          (subst (λ (mark : Mark). Admits mark now.masked)
+          (alone_behind marked c.base h.vetted.code h.vetted.marks now.place j (m.0, high) (omega (arith, p, h.long))) m.1))
     ]
 
 -- the span of a retired chunk is quiet
 quiet_one : (marked : MarkedText) (chunks : List Chunk) → IsRegion marked chunks → (c : Chunk)
-    → IsPlaced c.base (limit_of marked.bytes) c.length → ((at : ℕ) → IsInChunk c at → IsFree chunks at)
+    → HasGoodSpan c.base (limit_of marked.bytes) c.length → ((at : ℕ) → IsInChunk c at → IsFree chunks at)
     → (stamp : ℕ) → IsQuiet marked.bytes marked.marks (record { base = c.base; length = c.length; stamp = stamp })
 quiet_one marked chunks region c placed free stamp =
     record {
       stops = λ at inside. region.stops at (omega (arith, inside.0, placed.low), omega (arith, inside.1, placed.high)) (free at inside);
       unreached = λ now next m out step within.
-          elim (held (λ (d : Chunk). (IsLive d.state → HoldsValid marked d) × (IsLive d.state → IsInChunk d next.place → ⊥)) chunks now.place
-          (each_both (λ (d : Chunk). IsLive d.state → HoldsValid marked d) (λ (d : Chunk). IsLive d.state → IsInChunk d next.place → ⊥) (λ (d : Chunk). (IsLive d.state → HoldsValid marked d) × (IsLive d.state → IsInChunk d next.place → ⊥)) (λ d a b. (a, b)) chunks region.live (free next.place within.0))) [
+          elim (held (λ (d : Chunk). (IsLive d.state → HoldsValid marked d)
+          × (IsLive d.state → IsInChunk d next.place → ⊥)) chunks now.place
+          (each_both (λ (d : Chunk). IsLive d.state → HoldsValid marked d) (λ (d : Chunk). IsLive d.state → IsInChunk d next.place → ⊥)
+          (λ (d : Chunk). (IsLive d.state → HoldsValid marked d) × (IsLive d.state → IsInChunk d next.place → ⊥))
+          (λ d a b. (a, b)) chunks region.live (free next.place within.0))) [
             | In d live inside p ↦
                 elim (alone_step marked d (p.0 live) now next m inside step) [
-                  | inl there ↦ elim (alone_inside marked d (p.0 live) next there) [ inl within_d ↦ p.1 live within_d | inr start ↦ within.1 start ]
+                  | inl there ↦ elim (alone_inside marked d (p.0 live) next there) [
+                    | inl within_d ↦ p.1 live within_d
+                    | inr start ↦
+                        within.1 start
+                  ]
                   | inr zone ↦ omega (arith, zone.0, within.0.0, placed.low)
                 ]
             | Free f ↦ no_step_from_stop marked.bytes now next (region.stops now.place step.0 f) step
@@ -126,11 +154,15 @@ quiet_one marked chunks region c placed free stamp =
 
 -- so is that of each chunk that isn't live
 pub quiet_chunks : (marked : MarkedText) (chunks : List Chunk) → IsRegion marked chunks
-    → Each (λ (c : Chunk). (IsLive c.state → ⊥) → (stamp : ℕ) → IsQuiet marked.bytes marked.marks (record { base = c.base; length = c.length; stamp = stamp })) chunks
+    → Each (λ (c : Chunk). (IsLive c.state → ⊥) → (stamp : ℕ)
+    → IsQuiet marked.bytes marked.marks (record { base = c.base; length = c.length; stamp = stamp })) chunks
 quiet_chunks marked chunks region =
-    each_both (λ (c : Chunk). IsPlaced c.base (limit_of marked.bytes) c.length) (λ (c : Chunk). (IsLive c.state → ⊥) → (at : ℕ) → IsInChunk c at → IsFree chunks at)
-    (λ (c : Chunk). (IsLive c.state → ⊥) → (stamp : ℕ) → IsQuiet marked.bytes marked.marks (record { base = c.base; length = c.length; stamp = stamp }))
-    (λ c placed free dead stamp. quiet_one marked chunks region c placed (free dead) stamp) chunks region.placed (retired_free 65536 chunks region.rising)
+    each_both (λ (c : Chunk). HasGoodSpan c.base (limit_of marked.bytes) c.length) (λ (c : Chunk). (IsLive c.state → ⊥) → (at : ℕ)
+    → IsInChunk c at → IsFree chunks at)
+    (λ (c : Chunk). (IsLive c.state → ⊥) → (stamp : ℕ)
+    → IsQuiet marked.bytes marked.marks (record { base = c.base; length = c.length; stamp = stamp }))
+    (λ c placed free dead stamp. quiet_one marked chunks region c placed (free dead) stamp) chunks region.placed
+    (retired_free 65536 chunks region.rising)
 
 -- one more chunk, whose span is quiet if it is retired
 with_one : (Q : Span → Type 0) (c : Chunk) (s : ChunkState) (spans : List Span) → c.state ≡ s

@@ -9,11 +9,10 @@ use Rattle.nc_text.specs.Places.{limit_of, byte_at}
 use Rattle.nc_text.specs.Machine.{State}
 use Rattle.nc_text.specs.Marks.{IsMarked, IsClosed}
 use Rattle.nc_text.specs.MarkedText.{MarkedText, with_span}
-use Rattle.nc_text.proofs.Closing.{closed_with_stops}
-use Rattle.nc_text.proofs.SpanElements.{length-with_span}
+use Rattle.nc_text.proofs.Offered.{closed_with_stops, length-with_span}
 use Rattle.nc_region.specs.Patch.{any_place}
-use Rattle.nc_region.specs.Chunks.{HasPut}
-use Rattle.nc_region.specs.PatchSteps.{IsReplacing, IsInterim}
+use Rattle.nc_region.specs.machinery.Between.{HasPut}
+use Rattle.nc_region.specs.machinery.PatchSteps.{IsReplacing, IsInterim}
 use Rattle.nc_region.proofs.Puts.{byte_at_other, byte_at_same}
 use Rattle.nc_region.proofs.SpanPlaces.{place_of, Before, Within, Behind, span_before, span_within, span_behind}
 
@@ -43,8 +42,11 @@ patch_started marked at new patch =
     record {
       as_long = length-set marked.bytes (at - 65536) 244 ∙ sym (patch_long marked at new patch);
       stop = byte_at_same marked.bytes at 244 patch.low (omega (arith, patch.high, patch.some));
-      before = λ k low lt. byte_at_other marked.bytes at k 244 patch.low low (λ same. omega (arith, same, lt)) ∙ sym (span_before marked.bytes at new k 0 patch.low (omega (arith, patch.high)) low lt);
-      behind = λ k past. byte_at_other marked.bytes at k 244 patch.low (omega (arith, past, patch.low)) (λ same. omega (arith, same, past, patch.some)) ∙ sym (span_behind marked.bytes at new k 0 patch.low (omega (arith, patch.high)) past);
+      before = λ k low lt. byte_at_other marked.bytes at k 244 patch.low low (λ same. omega (arith, same, lt))
+          ∙ sym (span_before marked.bytes at new k 0 patch.low (omega (arith, patch.high)) low lt);
+      behind = λ k past. byte_at_other marked.bytes at k 244 patch.low (omega (arith, past, patch.low))
+          (λ same. omega (arith, same, past, patch.some))
+          ∙ sym (span_behind marked.bytes at new k 0 patch.low (omega (arith, patch.high)) past);
     }
 
 -- some of the further bytes put
@@ -77,7 +79,8 @@ pub patch_final : (marked : MarkedText) (at first : ℕ) (rest now : List ℕ) �
 patch_final marked at first rest now patch puts =
     let fits : at + length (first ∷ rest) ≤ 65536 + length marked.bytes = patch.high in
     let long : length now ≡ length marked.bytes = puts.as_long ∙ length-set marked.bytes (at - 65536) 244 in
-    ext_get_or 0 (set now (at - 65536) first) (with_span marked.bytes (at - 65536) (first ∷ rest)) (length-set now (at - 65536) first ∙ (long ∙ sym (patch_long marked at (first ∷ rest) patch))) (λ j lt.
+    ext_get_or 0 (set now (at - 65536) first) (with_span marked.bytes (at - 65536) (first ∷ rest)) (length-set now (at - 65536) first
+    ∙ (long ∙ sym (patch_long marked at (first ∷ rest) patch))) (λ j lt.
     let e : 65536 + j - 65536 ≡ j = omega arith in
     subst (λ (n : ℕ). get_or (set now (at - 65536) first) n 0 ≡ get_or (with_span marked.bytes (at - 65536) (first ∷ rest)) n 0) e
     (elim (place_of at (suc (length rest)) (65536 + j)) [
@@ -90,14 +93,17 @@ patch_final marked at first rest now patch puts =
           elim (eqb_tells (65536 + j) at) [
             | inl here ↦
                 let z : at - at ≡ 0 = omega arith in
-                subst (λ (n : ℕ). byte_at (set now (at - 65536) first) n ≡ byte_at (with_span marked.bytes (at - 65536) (first ∷ rest)) n) (sym here.1)
+                subst (λ (n : ℕ). byte_at (set now (at - 65536) first) n ≡ byte_at (with_span marked.bytes (at - 65536) (first ∷ rest)) n)
+                (sym here.1)
                 (byte_at_same now at first patch.low (omega (arith, long, fits))
-                ∙ sym (span_within marked.bytes at (first ∷ rest) at 0 patch.low fits (omega arith) (omega arith) ∙ ap (λ (n : ℕ). get_or (first ∷ rest) n 0) z))
+                ∙ sym (span_within marked.bytes at (first ∷ rest) at 0 patch.low fits (omega arith) (omega arith)
+                ∙ ap (λ (n : ℕ). get_or (first ∷ rest) n 0) z))
             | inr later ↦
                 let z : 65536 + j - at ≡ suc (65536 + j - (at + 1)) = omega (arith, later.1, a) in
                 byte_at_other now at (65536 + j) first patch.low (omega arith) later.1
                 ∙ (puts.put (65536 + j) (omega (arith, later.1, a)) (omega (arith, b)) refl
-                ∙ sym (span_within marked.bytes at (first ∷ rest) (65536 + j) 0 patch.low fits a b ∙ ap (λ (n : ℕ). get_or (first ∷ rest) n 0) z))
+                ∙ sym (span_within marked.bytes at (first ∷ rest) (65536 + j) 0 patch.low fits a b
+                ∙ ap (λ (n : ℕ). get_or (first ∷ rest) n 0) z))
           ]
       | Behind p ↦
           byte_at_other now at (65536 + j) first patch.low (omega arith) (λ same. omega (arith, same, p))
@@ -110,16 +116,21 @@ patch_final marked at first rest now patch puts =
 pub single_span : (text : List ℕ) (at : ℕ) (bytes : List ℕ) → 65536 ≤ at → at + length bytes ≤ 65536 + length text → length bytes ≡ 1
     → set text (at - 65536) (get_or bytes 0 0) ≡ with_span text (at - 65536) bytes
 single_span text at bytes low fits one =
-    ext_get_or 0 (set text (at - 65536) (get_or bytes 0 0)) (with_span text (at - 65536) bytes) (length-set text (at - 65536) (get_or bytes 0 0) ∙ sym (length-with_span text (at - 65536) bytes (omega (arith, low, fits)))) (λ j lt.
+    ext_get_or 0 (set text (at - 65536) (get_or bytes 0 0)) (with_span text (at - 65536) bytes)
+    (length-set text (at - 65536) (get_or bytes 0 0) ∙ sym (length-with_span text (at - 65536) bytes (omega (arith, low, fits))))
+    (λ j lt.
     let e : 65536 + j - 65536 ≡ j = omega arith in
     subst (λ (n : ℕ). get_or (set text (at - 65536) (get_or bytes 0 0)) n 0 ≡ get_or (with_span text (at - 65536) bytes) n 0) e
     (elim (place_of at (length bytes) (65536 + j)) [
-      | Before l ↦ byte_at_other text at (65536 + j) (get_or bytes 0 0) low (omega arith) (λ same. omega (arith, same, l)) ∙ sym (span_before text at bytes (65536 + j) 0 low fits (omega arith) l)
+      | Before l ↦ byte_at_other text at (65536 + j) (get_or bytes 0 0) low (omega arith) (λ same. omega (arith, same, l))
+          ∙ sym (span_before text at bytes (65536 + j) 0 low fits (omega arith) l)
       | Within a b ↦
           let here : 65536 + j ≡ at = omega (arith, one, a, b) in
           let z : at - at ≡ 0 = omega arith in
-          subst (λ (n : ℕ). byte_at (set text (at - 65536) (get_or bytes 0 0)) n ≡ byte_at (with_span text (at - 65536) bytes) n) (sym here)
+          subst (λ (n : ℕ). byte_at (set text (at - 65536) (get_or bytes 0 0)) n ≡ byte_at (with_span text (at - 65536) bytes) n)
+          (sym here)
           (byte_at_same text at (get_or bytes 0 0) low (omega (arith, fits, one))
           ∙ sym (span_within text at bytes at 0 low fits (omega arith) (omega (arith, one)) ∙ ap (λ (n : ℕ). get_or bytes n 0) z))
-      | Behind p ↦ byte_at_other text at (65536 + j) (get_or bytes 0 0) low (omega arith) (λ same. omega (arith, same, p, one)) ∙ sym (span_behind text at bytes (65536 + j) 0 low fits p)
+      | Behind p ↦ byte_at_other text at (65536 + j) (get_or bytes 0 0) low (omega arith) (λ same. omega (arith, same, p, one))
+          ∙ sym (span_behind text at bytes (65536 + j) 0 low fits p)
     ]))

@@ -8,13 +8,13 @@ use Rattle.nc_decode.specs.declared.instruction.Mark.TheVariants.{Unmarked, Plai
 use Rattle.nc_decode.specs.Transfers.{is_indirect}
 use Rattle.nc_vet.specs.Chunk.{Piece, place, marks_of, mark_of}
 use Rattle.nc_vet.proofs.Offered.{length-marks_of}
-use Rattle.nc_vet.proofs.MarkedPlaces as places
+use Rattle.nc_vet.proofs.Offered as places
 use Rattle.nc_text.specs.Marks.{mark_at}
 use Rattle.nc_text.specs.MarkedText.{MarkedText, IsText}
 use Rattle.nc_region.specs.declared.chunk.Chunk.{Chunk}
 use Rattle.nc_region.specs.Region.{IsInChunk, IsRising, HoldsValid}
 use Rattle.nc_region.specs.Patch.{IsHeldBy, IsHeld, AreBytesOf, lengths, IsRun, IsHalf, AreNoHalves, AreNotIndirect}
-use Rattle.nc_region.specs.PatchSteps.{Begins, Along, RunsAlong, NoneFirst, NoneIndirect}
+use Rattle.nc_region.specs.machinery.PatchSteps.{Begins, Along, RunsAlong, NoneFirst, NoneIndirect}
 use Rattle.nc_region.proofs.Standing.{all_long, standing}
 use Rattle.nc_region.proofs.Turns.{no_half}
 use Rattle.nc_region.specs.Each.{Each}
@@ -26,10 +26,20 @@ use Rattle.nc_region.proofs.Rising.{rises_get}
 pub begins_marked : (marked : MarkedText) (c : Chunk) (at : ℕ) → HoldsValid marked c → IsInChunk c at
     → (mark_at marked.marks at ≡ Unmarked → ⊥) → Begins marked c at
 begins_marked marked c at h inside some =
-    let marks_long : length (marks_of h.valid.pieces) ≡ c.length = length-marks_of h.valid.pieces h.valid.sound.spelled ∙ all_long marked c h in
-    let there : mark_at marked.marks at ≡ get_or (marks_of h.valid.pieces) (at - c.base) Unmarked = h.marks_are at inside ∙ ap (λ (z : List Mark). get_or z (at - c.base) Unmarked) h.valid.marks_are in
-    let found = places.marked h.valid.pieces h.valid.sound.spelled (at - c.base) (mark_at marked.marks at) (omega (arith, marks_long, inside.0, inside.1)) (sym there) some in
-    record { holds = h; before = found.before; rest = found.piece ∷ found.after; parts = found.parts; here = omega (arith, found.here, inside.0) }
+    let marks_long : length (marks_of h.valid.pieces) ≡ c.length = length-marks_of h.valid.pieces h.valid.sound.spelled
+    ∙ all_long marked c h in
+    let there : mark_at marked.marks at ≡ get_or (marks_of h.valid.pieces) (at - c.base) Unmarked = h.marks_are at inside
+    ∙ ap (λ (z : List Mark). get_or z (at - c.base) Unmarked) h.valid.marks_are in
+    let found = places.marked h.valid.pieces h.valid.sound.spelled (at - c.base) (mark_at marked.marks at)
+    (omega (arith, marks_long, inside.0, inside.1)) (sym there) some in
+    record {
+      holds = h;
+      before = found.before;
+      rest = found.piece ∷ found.after;
+      parts = found.parts;
+      here =
+          omega (arith, found.here, inside.0);
+    }
 
 -- instructions that run along parted from those behind them
 pub record Cut (rest news : List Piece) : Type 0 where
@@ -44,7 +54,13 @@ cut rest [] runs = record { old = []; after = rest; parts = refl; as_long = refl
 cut [] (n ∷ news) runs = absurd runs
 cut (p ∷ rest) (n ∷ news) runs =
     let k = cut rest news runs.1 in
-    record { old = p ∷ k.old; after = k.after; parts = ap (λ (z : List Piece). p ∷ z) k.parts; as_long = ap (λ (x : ℕ). x ∷ lengths k.old) runs.0 ∙ ap (λ (z : List ℕ). length n.bytes ∷ z) k.as_long }
+    record {
+      old = p ∷ k.old;
+      after = k.after;
+      parts = ap (λ (z : List Piece). p ∷ z) k.parts;
+      as_long =
+          ap (λ (x : ℕ). x ∷ lengths k.old) runs.0 ∙ ap (λ (z : List ℕ). length n.bytes ∷ z) k.as_long;
+    }
 
 -- lists of the same lengths run along each other, whatever follows
 pub joined : (old after news : List Piece) → lengths old ≡ lengths news → RunsAlong (old ++ after) news
@@ -57,7 +73,18 @@ pub run_of : (marked : MarkedText) (c : Chunk) (at : ℕ) (new : List ℕ) (b : 
     → RunsAlong b.rest news → IsRun marked c at new
 run_of marked c at new b news bytes runs =
     let k = cut b.rest news runs in
-    record { holds = b.holds; before = b.before; old = k.old; after = k.after; parts = b.parts ∙ ap (λ (z : List Piece). b.before ++ z) k.parts; here = b.here; news = news; bytes = bytes; as_long = k.as_long }
+    record {
+      holds = b.holds;
+      before = b.before;
+      old = k.old;
+      after = k.after;
+      parts = b.parts
+          ∙ ap (λ (z : List Piece). b.before ++ z) k.parts;
+      here = b.here;
+      news = news;
+      bytes = bytes;
+      as_long = k.as_long;
+    }
 
 -- and a run runs along
 abbrev pub run_begins : (marked : MarkedText) (c : Chunk) (at : ℕ) (new : List ℕ) → IsRun marked c at new → Begins marked c at
@@ -96,7 +123,11 @@ first_found (p ∷ rest) (n ∷ news) runs none = none.0
 -- an instruction that is none, before one that is none, is no half
 no_half_from : (o : Piece) (rest : List Piece) → is_indirect o.instr.flow ≡ false → NoneFirst rest → IsHalf o rest → ⊥
 no_half_from o [] a b h = (let differ : true ≡ false = sym h ∙ a in cc)
-no_half_from o (next ∷ rest) a b h = elim h [ inl x ↦ (let differ : true ≡ false = sym x ∙ a in cc) | inr x ↦ (let differ : true ≡ false = sym x ∙ b in cc) ]
+no_half_from o (next ∷ rest) a b h = elim h [
+  | inl x ↦ (let differ : true ≡ false = sym x ∙ a in cc)
+  | inr x ↦
+      (let differ : true ≡ false = sym x ∙ b in cc)
+]
 
 -- where none is an indirect transfer, no half is touched
 pub pairs_from : (old after news : List Piece) → lengths old ≡ lengths news → NoneIndirect (old ++ after) news
@@ -128,7 +159,8 @@ apart_by_index from [] d rising i j le lt = absurd (omega arith)
 apart_by_index from (c ∷ rest) d rising zero zero le lt = absurd (omega arith)
 apart_by_index from (c ∷ rest) d rising (suc i) zero le lt = absurd (omega arith)
 apart_by_index from (c ∷ rest) d rising zero (suc j) le lt = rises_get (c.base + c.length) rest j d rising.1 (omega arith)
-apart_by_index from (c ∷ rest) d rising (suc i) (suc j) le lt = apart_by_index (c.base + c.length) rest d rising.1 i j (omega arith) (omega arith)
+apart_by_index from (c ∷ rest) d rising (suc i) (suc j) le lt =
+    apart_by_index (c.base + c.length) rest d rising.1 i j (omega arith) (omega arith)
 
 -- two live chunks that hold a place are one
 pub held_same : (chunks : List Chunk) (at : ℕ) (c d : Chunk) → IsRising 65536 chunks → IsHeldBy chunks at c → IsHeldBy chunks at d → d ≡ c
@@ -138,11 +170,26 @@ held_same chunks at c d rising a b =
     let is_c : get_or chunks a.0.0 c ≡ c = a.0.2 in
     let is_d : get_or chunks b.0.0 c ≡ d = get_or_default chunks b.0.0 c d b.0.1 ∙ b.0.2 in
     ⊎_elim
-    (λ (lt : a.0.0 < b.0.0). absurd (omega (arith, apart_by_index 65536 chunks c rising a.0.0 b.0.0 lt b.0.1, ap (λ (x : Chunk). x.base + x.length) is_c, ap (λ (x : Chunk). x.base) is_d, a.2.1, b.2.0)))
+    (λ (lt : a.0.0 < b.0.0). absurd (omega (
+      arith,
+      apart_by_index 65536 chunks c rising a.0.0 b.0.0 lt b.0.1,
+      ap (λ (x : Chunk). x.base + x.length) is_c,
+      ap (λ (x : Chunk). x.base) is_d,
+      a.2.1,
+      b.2.0,
+    )))
     (λ (le : b.0.0 ≤ a.0.0).
     ⊎_elim
-    (λ (lt : b.0.0 < a.0.0). absurd (omega (arith, apart_by_index 65536 chunks c rising b.0.0 a.0.0 lt a.0.1, ap (λ (x : Chunk). x.base + x.length) is_d, ap (λ (x : Chunk). x.base) is_c, b.2.1, a.2.0)))
-    (λ (ge : a.0.0 ≤ b.0.0). (let same : b.0.0 ≡ a.0.0 = omega (arith, le, ge) in sym is_d ∙ (ap (λ (k : ℕ). get_or chunks k c) same ∙ is_c)))
+    (λ (lt : b.0.0 < a.0.0). absurd (omega (
+      arith,
+      apart_by_index 65536 chunks c rising b.0.0 a.0.0 lt a.0.1,
+      ap (λ (x : Chunk). x.base + x.length) is_d,
+      ap (λ (x : Chunk). x.base) is_c,
+      b.2.1,
+      a.2.0,
+    )))
+    (λ (ge : a.0.0 ≤ b.0.0). (let same : b.0.0 ≡ a.0.0 = omega (arith, le, ge) in sym is_d
+    ∙ (ap (λ (k : ℕ). get_or chunks k c) same ∙ is_c)))
     (cases_lt b.0.0 a.0.0))
     (cases_lt a.0.0 b.0.0)
 
@@ -154,11 +201,21 @@ pub held_last : (chunks : List Chunk) (k at : ℕ) (d : Chunk) → IsRising 6553
 held_last chunks k at d rising inside below above h =
     let c : Chunk = h.0 in
     let is_c : get_or chunks h.1.0.0 c ≡ c = h.1.0.2 in
-    let lt : h.1.0.0 < k = ⊎_elim (λ (lt : h.1.0.0 < k). lt) (λ (past : k ≤ h.1.0.0). absurd (omega (arith, above h.1.0.0 c past h.1.0.1, ap (λ (x : Chunk). x.base) is_c, h.1.2.0))) (cases_lt h.1.0.0 k) in (
+    let lt : h.1.0.0 < k = ⊎_elim (λ (lt : h.1.0.0 < k). lt)
+    (λ (past : k ≤ h.1.0.0). absurd (omega (arith, above h.1.0.0 c past h.1.0.1, ap (λ (x : Chunk). x.base) is_c, h.1.2.0)))
+    (cases_lt h.1.0.0 k) in (
       omega (arith, lt),
       ⊎_elim
-          (λ (early : h.1.0.0 < k - 1). absurd (omega (arith, apart_by_index 65536 chunks c rising h.1.0.0 (k - 1) early (omega (arith, inside, lt)), below (k - 1) c (omega (arith, lt)), ap (λ (x : Chunk). x.base + x.length) is_c, h.1.2.1)))
-          (λ (late : k - 1 ≤ h.1.0.0). (let same : k - 1 ≡ h.1.0.0 = omega (arith, late, lt) in ap (λ (j : ℕ). get_or chunks j d) same ∙ (get_or_default chunks h.1.0.0 d c h.1.0.1 ∙ is_c)))
+          (λ (early : h.1.0.0 < k - 1). absurd
+          (omega (
+            arith,
+            apart_by_index 65536 chunks c rising h.1.0.0 (k - 1) early (omega (arith, inside, lt)),
+            below (k - 1) c (omega (arith, lt)),
+            ap (λ (x : Chunk). x.base + x.length) is_c,
+            h.1.2.1,
+          )))
+          (λ (late : k - 1 ≤ h.1.0.0). (let same : k - 1 ≡ h.1.0.0 = omega (arith, late, lt) in ap (λ (j : ℕ). get_or chunks j d) same
+          ∙ (get_or_default chunks h.1.0.0 d c h.1.0.1 ∙ is_c)))
           (cases_lt h.1.0.0 (k - 1)),
     )
 
@@ -176,4 +233,5 @@ pub pairs_back : (old after news : List Piece) (new : List ℕ) → AreBytesOf n
     → AreNoHalves old after → AreNotIndirect news → NoneIndirect (old ++ after) news
 pairs_back old after [] new b some e halves fresh = absurd (omega (arith, some, ap (λ (z : List ℕ). length z) b.parts))
 pairs_back [] after (n ∷ news) new b some e halves fresh = absurd cc
-pairs_back (o ∷ old) after (n ∷ news) new b some e halves fresh = (let tail : lengths old ≡ lengths news = cc in pairs_to o old after n news tail halves fresh)
+pairs_back (o ∷ old) after (n ∷ news) new b some e halves fresh =
+    (let tail : lengths old ≡ lengths news = cc in pairs_to o old after n news tail halves fresh)

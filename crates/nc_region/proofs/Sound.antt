@@ -17,9 +17,7 @@ use Rattle.nc_decode.specs.Transfers.{target}
 use Rattle.nc_decode.specs.Bundles.{IsInOneBundle}
 use Rattle.nc_text.specs.Marks.{IsMarked, mark_at, Admits}
 use Rattle.nc_text.specs.MarkedText.{with_span, unused_mark, unused_marks}
-use Rattle.nc_text.proofs.Closing.{safe_if_executes, executes_stop, no_step_from_stop, leads_of}
-use Rattle.nc_text.proofs.Fresh.{marked_within}
-use Rattle.nc_text.proofs.SpanElements.{length-with_span}
+use Rattle.nc_text.proofs.Offered.{safe_if_executes, executes_stop, no_step_from_stop, leads_of, marked_within, length-with_span}
 use Rattle.nc_region.specs.Chunks.{IsClosedChunk}
 use Rattle.nc_region.proofs.Instructions.{IsValid, IsReading, NoneCrosses, FollowsMask, PairsHold, IsDirect, IsIndirect, BeginsAt}
 use Rattle.nc_region.proofs.Instructions.{IsTarget, mark_by, marks_of}
@@ -35,7 +33,17 @@ instruction_in text code base k i low fits is short =
     let long = length-with_span text (base - 65536) code (omega (arith, low, fits)) in
     depends_on_its_bytes (drop k code) (drop (base + k - 65536) (with_span text (base - 65536) code)) i is
     (ext_get_or 0 (take i.len (drop (base + k - 65536) (with_span text (base - 65536) code))) (take i.len (drop k code))
-    (omega (arith, long, low, fits, short, length-take i.len (drop (base + k - 65536) (with_span text (base - 65536) code)), length-take i.len (drop k code), length-drop (base + k - 65536) (with_span text (base - 65536) code), length-drop k code))
+    (omega (
+      arith,
+      long,
+      low,
+      fits,
+      short,
+      length-take i.len (drop (base + k - 65536) (with_span text (base - 65536) code)),
+      length-take i.len (drop k code),
+      length-drop (base + k - 65536) (with_span text (base - 65536) code),
+      length-drop k code,
+    ))
     (λ j lt.
     let near : j < i.len = omega (arith, lt, length-take i.len (drop (base + k - 65536) (with_span text (base - 65536) code))) in
     let e : base + k + j - 65536 ≡ base + k - 65536 + j = omega (arith, low) in
@@ -71,7 +79,8 @@ plain_at_start Stop register before at m start = refl
 starts_plain : (chunk : List Instr) (base : ℕ) (before : Option ℕ) (bytes : List ℕ) → IsReading bytes chunk → NoneCrosses base chunk
     → PairsHold before base chunk → (k : ℕ) → k < length bytes → (base + k) % 32 ≡ 0 → get_or (marks_of chunk) k Unmarked ≡ Plain
 starts_plain [] base before bytes reading crossing pairs k lt start = absurd (omega (arith, lt, ap length reading))
-starts_plain (i ∷ rest) base before bytes reading crossing pairs zero lt start = plain_at_start i.flow i.reg before base pairs.0 (omega (arith, start))
+starts_plain (i ∷ rest) base before bytes reading crossing pairs zero lt start =
+    plain_at_start i.flow i.reg before base pairs.0 (omega (arith, start))
 starts_plain (i ∷ rest) base before bytes reading crossing pairs (suc k) lt start =
     let own = has_its_length bytes i reading.0 in
     ⊎_elim
@@ -79,7 +88,8 @@ starts_plain (i ∷ rest) base before bytes reading crossing pairs (suc k) lt st
     (λ (far : i.len ≤ suc k).
     let e : base + i.len + (suc k - i.len) ≡ base + suc k = omega (arith, far) in
     marks_behind i rest (suc k) own.0 far
-    ∙ starts_plain rest (base + i.len) i.masks (drop i.len bytes) reading.1 crossing.1 pairs.1 (suc k - i.len) (omega (arith, lt, far, own.1, length-drop i.len bytes)) (ap (λ (n : ℕ). n % 32) e ∙ start))
+    ∙ starts_plain rest (base + i.len) i.masks (drop i.len bytes) reading.1 crossing.1 pairs.1 (suc k - i.len)
+    (omega (arith, lt, far, own.1, length-drop i.len bytes)) (ap (λ (n : ℕ). n % 32) e ∙ start))
     (cases_lt (suc k) i.len)
 
 -- where an instruction begins that is no second half, the mark is plain
@@ -94,8 +104,11 @@ begins_plain (i ∷ rest) base place bytes reading begins =
           (omega (arith, here.0), ap (λ (n : ℕ). get_or (marks_of (i ∷ rest)) n Unmarked) e ∙ plain_unless_indirect i.flow i.reg here.1)
       | inr further ↦
           let r = begins_plain rest (base + i.len) place (drop i.len bytes) reading.1 further in
-          let e : place - base - i.len ≡ place - (base + i.len) = omega arith in
-          (omega (arith, r.0), marks_behind i rest (place - base) own.0 (omega (arith, r.0)) ∙ (ap (λ (n : ℕ). get_or (marks_of rest) n Unmarked) e ∙ r.1))
+          let e : place - base - i.len ≡ place - (base + i.len) = omega arith in (
+            omega (arith, r.0),
+            marks_behind i rest (place - base) own.0 (omega (arith, r.0))
+                ∙ (ap (λ (n : ℕ). get_or (marks_of rest) n Unmarked) e ∙ r.1),
+          )
     ]
 
 -- the text and the marks of the chunk alone
@@ -114,25 +127,45 @@ fits_text base limit code chunk v = omega (arith, v.placed.high, length-replicat
 -- its marks fit too
 fits_marks : (base limit : ℕ) (code : List ℕ) (chunk : List Instr) → IsValid base limit code chunk
     → base + length (marks_of chunk) ≤ 65536 + length (unused_marks 65536 (limit - 65536))
-fits_marks base limit code chunk v = omega (arith, v.placed.high, marks_long chunk code v.reading, length-map-range_with_len unused_mark 65536 (limit - 65536))
+fits_marks base limit code chunk v = omega (
+  arith,
+  v.placed.high,
+  marks_long chunk code v.reading,
+  length-map-range_with_len unused_mark 65536 (limit - 65536),
+)
 
 -- how long that text is
 text_long : (base limit : ℕ) (code : List ℕ) (chunk : List Instr) → IsValid base limit code chunk
     → limit_of (text_of base limit code) ≡ limit
 text_long base limit code chunk v =
-    omega (arith, v.placed.high, v.placed.low, length-with_span (replicate (limit - 65536) 244) (base - 65536) code (omega (arith, fits_text base limit code chunk v, v.placed.low)), length-replicate {A = ℕ} (limit - 65536) 244)
+    omega (
+      arith,
+      v.placed.high,
+      v.placed.low,
+      length-with_span (replicate (limit - 65536) 244) (base - 65536) code
+          (omega (arith, fits_text base limit code chunk v, v.placed.low)),
+      length-replicate {A = ℕ} (limit - 65536) 244,
+    )
 
 -- how many marks it has
 marks_all_long : (base limit : ℕ) (code : List ℕ) (chunk : List Instr) → IsValid base limit code chunk
     → 65536 + length (alone_marks base limit chunk) ≡ limit
 marks_all_long base limit code chunk v =
-    omega (arith, v.placed.high, v.placed.low, length-with_span (unused_marks 65536 (limit - 65536)) (base - 65536) (marks_of chunk) (omega (arith, fits_marks base limit code chunk v, v.placed.low)), length-map-range_with_len unused_mark 65536 (limit - 65536))
+    omega (
+      arith,
+      v.placed.high,
+      v.placed.low,
+      length-with_span (unused_marks 65536 (limit - 65536)) (base - 65536) (marks_of chunk)
+          (omega (arith, fits_marks base limit code chunk v, v.placed.low)),
+      length-map-range_with_len unused_mark 65536 (limit - 65536),
+    )
 
 -- the mark of a place of the chunk
 within_mark : (base limit : ℕ) (code : List ℕ) (chunk : List Instr) (at : ℕ) → IsValid base limit code chunk → base ≤ at
     → at < base + length code → mark_at (alone_marks base limit chunk) at ≡ get_or (marks_of chunk) (at - base) Unmarked
 within_mark base limit code chunk at v a b =
-    span_within (unused_marks 65536 (limit - 65536)) base (marks_of chunk) at Unmarked v.placed.low (fits_marks base limit code chunk v) a (omega (arith, b, marks_long chunk code v.reading))
+    span_within (unused_marks 65536 (limit - 65536)) base (marks_of chunk) at Unmarked v.placed.low (fits_marks base limit code chunk v) a
+    (omega (arith, b, marks_long chunk code v.reading))
 
 -- outside the chunk: unused, and stops
 outside_mark : (base limit : ℕ) (code : List ℕ) (chunk : List Instr) (at : ℕ) → IsValid base limit code chunk → 65536 ≤ at → at < limit
@@ -140,8 +173,10 @@ outside_mark : (base limit : ℕ) (code : List ℕ) (chunk : List Instr) (at : �
 outside_mark base limit code chunk at v low high out =
     let unused = get_or-map-range_with_len unused_mark 65536 (limit - 65536) (at - 65536) at Unmarked (omega arith) (omega arith) in
     elim out [
-      | inl l ↦ span_before (unused_marks 65536 (limit - 65536)) base (marks_of chunk) at Unmarked v.placed.low (fits_marks base limit code chunk v) low l ∙ unused
-      | inr p ↦ span_behind (unused_marks 65536 (limit - 65536)) base (marks_of chunk) at Unmarked v.placed.low (fits_marks base limit code chunk v) (omega (arith, p, marks_long chunk code v.reading)) ∙ unused
+      | inl l ↦ span_before (unused_marks 65536 (limit - 65536)) base (marks_of chunk) at Unmarked v.placed.low
+          (fits_marks base limit code chunk v) low l ∙ unused
+      | inr p ↦ span_behind (unused_marks 65536 (limit - 65536)) base (marks_of chunk) at Unmarked v.placed.low
+          (fits_marks base limit code chunk v) (omega (arith, p, marks_long chunk code v.reading)) ∙ unused
     ]
 
 -- outside stand stops
@@ -162,7 +197,9 @@ alone_start base limit code chunk at v low high start =
       | Before l ↦ outside_mark base limit code chunk at v low high (inl l) ∙ unused_at_start at start
       | Within a b ↦
           let e : base + (at - base) ≡ at = omega (arith, a) in
-          within_mark base limit code chunk at v a b ∙ starts_plain chunk base None code v.reading v.crossing v.pairs (at - base) (omega (arith, a, b)) (ap (λ (n : ℕ). n % 32) e ∙ start)
+          within_mark base limit code chunk at v a b
+          ∙ starts_plain chunk base None code v.reading v.crossing v.pairs (at - base) (omega (arith, a, b))
+          (ap (λ (n : ℕ). n % 32) e ∙ start)
       | Behind p ↦ outside_mark base limit code chunk at v low high (inr p) ∙ unused_at_start at start
     ]
 
@@ -180,7 +217,8 @@ start_lands : (base limit : ℕ) (code : List ℕ) (chunk : List Instr) (next : 
 start_lands base limit code chunk next v high start =
     ⊎_elim
     (λ (zone : next.place < 65536). inr (zone, start))
-    (λ (low : 65536 ≤ next.place). inl (plain_marked (alone_marks base limit chunk) next low (alone_start base limit code chunk next.place v low high start)))
+    (λ (low : 65536 ≤ next.place). inl (plain_marked (alone_marks base limit chunk) next low
+    (alone_start base limit code chunk next.place v low high start)))
     (cases_lt next.place 65536)
 
 -- a good target is a landing
@@ -200,13 +238,20 @@ behind_lands : (base limit : ℕ) (code : List ℕ) (chunk : List Instr) (k : �
     → IsLanding (alone_marks base limit chunk) (state (base + k + s.i.len) s.i.masks)
 behind_lands base limit code chunk k masked v s =
     elim s.behind [
-      | inl end ↦ start_lands base limit code chunk (state (base + k + s.i.len) s.i.masks) v (omega (arith, end, v.placed.high)) (omega (arith, end, v.placed.start, v.placed.whole))
+      | inl end ↦ start_lands base limit code chunk (state (base + k + s.i.len) s.i.masks) v (omega (arith, end, v.placed.high))
+          (omega (arith, end, v.placed.start, v.placed.whole))
       | inr m ↦
           ⊎_elim
           (λ (short : k + s.i.len < length code).
           let e : base + k + s.i.len - base ≡ k + s.i.len = omega arith in
-          inl (omega (arith, v.placed.low), subst (λ (mark : Mark). Admits mark s.i.masks) (sym (within_mark base limit code chunk (base + k + s.i.len) v (omega arith) (omega (arith, short)) ∙ ap (λ (n : ℕ). get_or (marks_of chunk) n Unmarked) e)) m))
-          (λ (end : length code ≤ k + s.i.len). start_lands base limit code chunk (state (base + k + s.i.len) s.i.masks) v (omega (arith, end, s.short, v.placed.high)) (omega (arith, end, s.short, v.placed.start, v.placed.whole)))
+          inl (
+            omega (arith, v.placed.low),
+            subst (λ (mark : Mark). Admits mark s.i.masks)
+                (sym (within_mark base limit code chunk (base + k + s.i.len) v (omega arith) (omega (arith, short))
+                ∙ ap (λ (n : ℕ). get_or (marks_of chunk) n Unmarked) e)) m,
+          ))
+          (λ (end : length code ≤ k + s.i.len). start_lands base limit code chunk (state (base + k + s.i.len) s.i.masks) v
+          (omega (arith, end, s.short, v.placed.high)) (omega (arith, end, s.short, v.placed.start, v.placed.whole)))
           (cases_lt (k + s.i.len) (length code))
     ]
 
@@ -214,15 +259,23 @@ behind_lands base limit code chunk k masked v s =
 leads_land : (base limit : ℕ) (code : List ℕ) (chunk : List Instr) (k : ℕ) (masked : Option ℕ) → IsValid base limit code chunk
     → (s : Stands (IsTarget base limit (length code) chunk) base code (marks_of chunk) k masked) → (next : State) (flow : Flow)
     → s.i.flow ≡ flow → LeadsBy flow limit s.i (state (base + k) masked) next → IsLanding (alone_marks base limit chunk) next
-leads_land base limit code chunk k masked v s next Next is leads = subst (IsLanding (alone_marks base limit chunk)) (sym leads) (behind_lands base limit code chunk k masked v s)
+leads_land base limit code chunk k masked v s next Next is leads =
+    subst (IsLanding (alone_marks base limit chunk)) (sym leads) (behind_lands base limit code chunk k masked v s)
 leads_land base limit code chunk k masked v s next Branch is leads =
     let none : s.i.masks ≡ None = masks_only_before_next (drop k code) s.i s.is (λ e. cc (e, is)) in
     elim leads [
-      | inl falls ↦ subst (IsLanding (alone_marks base limit chunk)) (sym falls) (subst (λ (m : Option ℕ). IsLanding (alone_marks base limit chunk) (state (base + k + s.i.len) m)) none (behind_lands base limit code chunk k masked v s))
-      | inr taken ↦ subst (IsLanding (alone_marks base limit chunk)) (sym taken) (target_lands base limit code chunk (target s.i (base + k)) v (s.targets (subst IsDirect (sym is) tt)))
+      | inl falls ↦ subst (IsLanding (alone_marks base limit chunk)) (sym falls)
+          (subst (λ (m : Option ℕ). IsLanding (alone_marks base limit chunk) (state (base + k + s.i.len) m)) none
+          (behind_lands base limit code chunk k masked v s))
+      | inr taken ↦ subst (IsLanding (alone_marks base limit chunk)) (sym taken)
+          (target_lands base limit code chunk (target s.i (base + k)) v (s.targets (subst IsDirect (sym is) tt)))
     ]
-leads_land base limit code chunk k masked v s next Jump is leads = subst (IsLanding (alone_marks base limit chunk)) (sym leads) (target_lands base limit code chunk (target s.i (base + k)) v (s.targets (subst IsDirect (sym is) tt)))
-leads_land base limit code chunk k masked v s next Call is leads = subst (IsLanding (alone_marks base limit chunk)) (sym leads) (target_lands base limit code chunk (target s.i (base + k)) v (s.targets (subst IsDirect (sym is) tt)))
+leads_land base limit code chunk k masked v s next Jump is leads =
+    subst (IsLanding (alone_marks base limit chunk)) (sym leads)
+    (target_lands base limit code chunk (target s.i (base + k)) v (s.targets (subst IsDirect (sym is) tt)))
+leads_land base limit code chunk k masked v s next Call is leads =
+    subst (IsLanding (alone_marks base limit chunk)) (sym leads)
+    (target_lands base limit code chunk (target s.i (base + k)) v (s.targets (subst IsDirect (sym is) tt)))
 leads_land base limit code chunk k masked v s next IndirectJump is leads =
     elim leads [
       | inl to ↦ start_lands base limit code chunk next v to.2 to.1
@@ -240,7 +293,8 @@ stands_here : (base limit : ℕ) (code : List ℕ) (chunk : List Instr) (now : S
     → now.place < base + length code → IsMarked (alone_marks base limit chunk) now
     → Stands (IsTarget base limit (length code) chunk) base code (marks_of chunk) (now.place - base) now.masked
 stands_here base limit code chunk now v a b m =
-    stands_at (IsTarget base limit (length code) chunk) chunk base None code v.reading v.crossing v.pairs v.targets (now.place - base) now.masked
+    stands_at (IsTarget base limit (length code) chunk) chunk base None code v.reading v.crossing v.pairs v.targets
+    (now.place - base) now.masked
     (subst (λ (mark : Mark). Admits mark now.masked) (within_mark base limit code chunk now.place v a b) m.1)
 
 -- the instruction at a marked place of the chunk
@@ -251,12 +305,21 @@ instruction_here base limit code chunk now v a b m =
     let s = stands_here base limit code chunk now v a b m in
     let e : base + (now.place - base) ≡ now.place = omega (arith, a) in
     subst (λ (n : ℕ). instruction_at (text_of base limit code) n ≡ Some (stands_here base limit code chunk now v a b m).i) e
-    (instruction_in (replicate (limit - 65536) 244) code base (now.place - base) (stands_here base limit code chunk now v a b m).i v.placed.low (fits_text base limit code chunk v) s.is s.short)
+    (instruction_in (replicate (limit - 65536) 244) code base (now.place - base)
+    (stands_here base limit code chunk now v a b m).i v.placed.low (fits_text base limit code chunk v) s.is s.short)
 
 -- a marked place is one of the region
 marked_inside : (base limit : ℕ) (code : List ℕ) (chunk : List Instr) (now : State) → IsValid base limit code chunk
     → IsMarked (alone_marks base limit chunk) now → InRegion (text_of base limit code) now.place
-marked_inside base limit code chunk now v m = (m.0, omega (arith, marked_within (alone_marks base limit chunk) now m, marks_all_long base limit code chunk v, text_long base limit code chunk v))
+marked_inside base limit code chunk now v m = (
+  m.0,
+  omega (
+    arith,
+    marked_within (alone_marks base limit chunk) now m,
+    marks_all_long base limit code chunk v,
+    text_long base limit code chunk v,
+  ),
+)
 
 -- a chunk that is valid by its reading is closed by itself
 pub valid_is_closed : (base limit : ℕ) (code : List ℕ) (chunk : List Instr) → IsValid base limit code chunk
@@ -266,11 +329,15 @@ valid_is_closed base limit code chunk v =
       placed = v.placed;
       as_long = marks_long chunk code v.reading;
       closed = record {
-        starts = λ at inside start. alone_start base limit code chunk at v inside.0 (omega (arith, inside.1, text_long base limit code chunk v)) start;
+        starts = λ at inside start. alone_start base limit code chunk at v inside.0
+            (omega (arith, inside.1, text_long base limit code chunk v)) start;
         safe = λ now m.
             let inside = marked_inside base limit code chunk now v m in
             let stop : (now.place < base) ⊎ (base + length code ≤ now.place) → IsSafe (text_of base limit code) now = λ out.
-            safe_if_executes (text_of base limit code) now (executes_stop (text_of base limit code) now inside (outside_byte base limit code chunk now.place v m.0 (omega (arith, inside.1, text_long base limit code chunk v)) out)) in
+            safe_if_executes (text_of base limit code) now
+            (executes_stop (text_of base limit code) now inside
+            (outside_byte base limit code chunk now.place v m.0
+            (omega (arith, inside.1, text_long base limit code chunk v)) out)) in
             elim (place_of base (length code) now.place) [
               | Before l ↦ stop (inl l)
               | Within a b ↦
@@ -287,16 +354,22 @@ valid_is_closed base limit code chunk v =
         steps = λ now next m step.
             let inside = marked_inside base limit code chunk now v m in
             let stop : (now.place < base) ⊎ (base + length code ≤ now.place) → IsLanding (alone_marks base limit chunk) next = λ out.
-            absurd (no_step_from_stop (text_of base limit code) now next (outside_byte base limit code chunk now.place v m.0 (omega (arith, inside.1, text_long base limit code chunk v)) out) step) in
+            absurd (no_step_from_stop (text_of base limit code) now next
+            (outside_byte base limit code chunk now.place v m.0
+            (omega (arith, inside.1, text_long base limit code chunk v)) out) step) in
             elim (place_of base (length code) now.place) [
               | Before l ↦ stop (inl l)
               | Within a b ↦
                   let s = stands_here base limit code chunk now v a b m in
                   let e : now.place ≡ base + (now.place - base) = omega (arith, a) in
-                  let leads = leads_of (text_of base limit code) now next (stands_here base limit code chunk now v a b m).i (instruction_here base limit code chunk now v a b m) step in
-                  leads_land base limit code chunk (now.place - base) now.masked v (stands_here base limit code chunk now v a b m) next (stands_here base limit code chunk now v a b m).i.flow refl
-                  (subst (λ (n : ℕ). LeadsBy (stands_here base limit code chunk now v a b m).i.flow limit (stands_here base limit code chunk now v a b m).i (state n now.masked) next) e
-                  (subst (λ (n : ℕ). LeadsBy (stands_here base limit code chunk now v a b m).i.flow n (stands_here base limit code chunk now v a b m).i now next) (text_long base limit code chunk v) leads))
+                  let leads = leads_of (text_of base limit code) now next (stands_here base limit code chunk now v a b m).i
+                  (instruction_here base limit code chunk now v a b m) step in
+                  leads_land base limit code chunk (now.place - base) now.masked v (stands_here base limit code chunk now v a b m) next
+                  (stands_here base limit code chunk now v a b m).i.flow refl
+                  (subst (λ (n : ℕ). LeadsBy (stands_here base limit code chunk now v a b m).i.flow limit
+                  (stands_here base limit code chunk now v a b m).i (state n now.masked) next) e
+                  (subst (λ (n : ℕ). LeadsBy (stands_here base limit code chunk now v a b m).i.flow n
+                  (stands_here base limit code chunk now v a b m).i now next) (text_long base limit code chunk v) leads))
               | Behind p ↦ stop (inr p)
             ];
       };

@@ -4,11 +4,10 @@ use Rattle.std.proofs.Common.{arith, refl, ◌∙◌, ap, ⊎_elim}
 use Rattle.std.proofs.lemmas.Bool.{cases_lt, eqb-true}
 use Rattle.std.proofs.lemmas.Bool.Decides.{nat_tests, eqb_tells}
 use Rattle.nc_decode.specs.declared.instruction.Mark.TheVariants.{Unmarked, Plain}
-use Rattle.nc_decode.specs.Bundles.{IsBundleStart}
-use Rattle.nc_decode.specs.Bundles.{IsInOneBundle}
+use Rattle.nc_decode.specs.Bundles.{IsBundleStart, IsInOneBundle}
 use Rattle.nc_text.specs.Marks.{Admits}
 use Rattle.nc_text.specs.MarkedText.{with_span, unused_mark}
-use Rattle.nc_text.proofs.SpanElements.{get_or-with_span_in, get_or-with_span_below, get_or-with_span_above}
+use Rattle.nc_text.proofs.Offered.{get_or-with_span_in, get_or-with_span_below, get_or-with_span_above}
 use Rattle.nc_region.specs.Acts.{is_start, is_inside}
 
 -- a place lies before the span, in it or behind it
@@ -20,7 +19,9 @@ pub data Place (base len at : ℕ) : Type 0 where
 -- where a place lies
 pub place_of : (base len at : ℕ) → Place base len at
 place_of base len at =
-    ⊎_elim (λ (l : at < base). Before l) (λ (h : base ≤ at). ⊎_elim (λ (l : at < base + len). Within h l) (λ (p : base + len ≤ at). Behind p) (cases_lt at (base + len))) (cases_lt at base)
+    ⊎_elim (λ (l : at < base). Before l)
+    (λ (h : base ≤ at). ⊎_elim (λ (l : at < base + len). Within h l) (λ (p : base + len ≤ at). Behind p) (cases_lt at (base + len)))
+    (cases_lt at base)
 
 -- what a chosen plain mark admits tells the choice
 plain_if_admitted : (b : Bool) (masked : Option ℕ) → Admits (cond b Plain Unmarked) masked → b ≡ true

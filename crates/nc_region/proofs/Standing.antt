@@ -9,17 +9,16 @@ use Rattle.nc_decode.specs.declared.instruction.Mark.TheVariants.{Unmarked, Plai
 use Rattle.nc_decode.specs.Bundles.{IsInOneBundle}
 use Rattle.nc_decode.specs.Transfers.{is_indirect}
 use Rattle.nc_decode.specs.Front.{first_instruction}
-use Rattle.nc_decode.proofs.Offered.{exact, depends_on_its_bytes}
-use Rattle.nc_decode.proofs.Offered.{spells_some}
+use Rattle.nc_decode.proofs.Offered.{exact, depends_on_its_bytes, spells_some}
 use Rattle.nc_vet.specs.Chunk.{Piece, code_of, place, mark_of, AreSpelled}
 use Rattle.nc_vet.proofs.Offered.{code_of-append, place-append, place-push}
-use Rattle.nc_vet.proofs.MarkedPlaces as places
+use Rattle.nc_vet.proofs.Offered as places
 use Rattle.nc_text.specs.Places.{InRegion, limit_of, byte_at, instruction_at}
 use Rattle.nc_text.specs.Marks.{mark_at}
 use Rattle.nc_text.specs.MarkedText.{MarkedText, IsText}
 use Rattle.nc_region.specs.declared.chunk.Chunk.{Chunk}
 use Rattle.nc_region.specs.Region.{IsInChunk, HoldsValid}
-use Rattle.nc_region.specs.PatchSteps.{Begins, RunsAlong, NoneIndirect, NoneFirst, is_after}
+use Rattle.nc_region.specs.machinery.PatchSteps.{Begins, RunsAlong, NoneIndirect, NoneFirst, is_after}
 
 -- the chunk lies in the region, below the guard
 pub record Lies (marked : MarkedText) (c : Chunk) : Type 0 where
@@ -59,8 +58,10 @@ pub record Standing (marked : MarkedText) (c : Chunk) (at : ℕ) (b : Begins mar
   pub ends : at + piece.instr.len ≤ c.base + c.length
 
 -- the bytes of an instruction in the chunk's code
-code_at : (before rest : List Piece) (p : Piece) (k : ℕ) → get_or (code_of (before ++ p ∷ rest)) (place before + k) 0 ≡ get_or (p.bytes ++ code_of rest) k 0
-code_at before rest p k = ap (λ (z : List ℕ). get_or z (place before + k) 0) (code_of-append before (p ∷ rest)) ∙ get_or-append-add (code_of before) (p.bytes ++ code_of rest) k 0
+code_at : (before rest : List Piece) (p : Piece) (k : ℕ)
+    → get_or (code_of (before ++ p ∷ rest)) (place before + k) 0 ≡ get_or (p.bytes ++ code_of rest) k 0
+code_at before rest p k = ap (λ (z : List ℕ). get_or z (place before + k) 0) (code_of-append before (p ∷ rest))
+    ∙ get_or-append-add (code_of before) (p.bytes ++ code_of rest) k 0
 
 -- the instruction at a place, by the piece that begins there
 pub stands_with : (marked : MarkedText) (c : Chunk) (at : ℕ) → IsText marked → (b : Begins marked c at) → (p : Piece) (rest : List Piece)
@@ -71,30 +72,52 @@ stands_with marked c at t b p rest is =
     let parts : b.holds.valid.pieces ≡ b.before ++ p ∷ rest = b.parts ∙ ap (λ (z : List Piece). b.before ++ z) is in
     let spells = h.valid.sound.spelled b.before rest p parts in
     let n = spells_some p.bytes p.instr spells in
-    let long : place b.before + (length p.bytes + place rest) ≡ c.length = ap (λ (x : ℕ). place b.before + x) (sym (length-append p.bytes (code_of rest))) ∙ (sym (place-append b.before (p ∷ rest)) ∙ (ap place (sym parts) ∙ all_long marked c h)) in
+    let long : place b.before + (length p.bytes + place rest) ≡ c.length =
+    ap (λ (x : ℕ). place b.before + x) (sym (length-append p.bytes (code_of rest)))
+    ∙ (sym (place-append b.before (p ∷ rest)) ∙ (ap place (sym parts) ∙ all_long marked c h)) in
     let fits : at + p.instr.len ≤ c.base + c.length = omega (arith, b.here, long, n.0) in
-    let found : first_instruction (p.bytes ++ code_of rest) ≡ Some p.instr = (exact (p.bytes ++ code_of rest) p.instr).1 (record { front = p.bytes; rest = code_of rest; parts = refl; spells = spells }) in
+    let found : first_instruction (p.bytes ++ code_of rest) ≡ Some p.instr =
+    (exact (p.bytes ++ code_of rest) p.instr).1 (record { front = p.bytes; rest = code_of rest; parts = refl; spells = spells }) in
     let code_is : h.vetted.code ≡ code_of (b.before ++ p ∷ rest) = h.valid.parts ∙ ap (λ (z : List Piece). code_of z) parts in
     let bytes : (k : ℕ) → k < p.instr.len → byte_at marked.bytes (at + k) ≡ get_or (p.bytes ++ code_of rest) k 0 = λ k lt.
     (let e : at + k - c.base ≡ place b.before + k = omega (arith, b.here) in
-    h.bytes_are (at + k) (omega (arith, b.here), omega (arith, fits, lt)) ∙ (ap (λ (m : ℕ). get_or h.vetted.code m 0) e ∙ (ap (λ (z : List ℕ). get_or z (place b.before + k) 0) code_is ∙ code_at b.before rest p k))) in
+    h.bytes_are (at + k) (omega (arith, b.here), omega (arith, fits, lt))
+    ∙ (ap (λ (m : ℕ). get_or h.vetted.code m 0) e
+    ∙ (ap (λ (z : List ℕ). get_or z (place b.before + k) 0) code_is ∙ code_at b.before rest p k))) in
     record {
       piece = p;
       rest = rest;
       is = is;
       instr = depends_on_its_bytes (p.bytes ++ code_of rest) (drop (at - 65536) marked.bytes) p.instr found
           (ext_get_or 0 (take p.instr.len (drop (at - 65536) marked.bytes)) (take p.instr.len (p.bytes ++ code_of rest))
-          (omega (arith, fits, l.high, l.low, b.here, n.0, length-take p.instr.len (drop (at - 65536) marked.bytes), length-drop (at - 65536) marked.bytes, length-take p.instr.len (p.bytes ++ code_of rest), length-append p.bytes (code_of rest)))
+          (omega (
+            arith,
+            fits,
+            l.high,
+            l.low,
+            b.here,
+            n.0,
+            length-take p.instr.len (drop (at - 65536) marked.bytes),
+            length-drop (at - 65536) marked.bytes,
+            length-take p.instr.len (p.bytes ++ code_of rest),
+            length-append p.bytes (code_of rest),
+          ))
           (λ k lt.
           let small : k < p.instr.len = omega (arith, lt, length-take p.instr.len (drop (at - 65536) marked.bytes)) in
           let moved : at + k - 65536 ≡ at - 65536 + k = omega (arith, b.here, l.low) in
-          get_or-take p.instr.len (drop (at - 65536) marked.bytes) k 0 small ∙ (get_or-drop (at - 65536) marked.bytes k 0 ∙ (ap (λ (m : ℕ). get_or marked.bytes m 0) (sym moved) ∙ (bytes k small ∙ sym (get_or-take p.instr.len (p.bytes ++ code_of rest) k 0 small))))));
+          get_or-take p.instr.len (drop (at - 65536) marked.bytes) k 0 small
+          ∙ (get_or-drop (at - 65536) marked.bytes k 0
+          ∙ (ap (λ (m : ℕ). get_or marked.bytes m 0) (sym moved)
+          ∙ (bytes k small ∙ sym (get_or-take p.instr.len (p.bytes ++ code_of rest) k 0 small))))));
       inside = omega (arith, h.valid.sound.inside b.before rest p parts, b.here, l.start, n.0);
       len = n.0;
       some = n.1;
       mark =
           let e : at - c.base ≡ place b.before = omega (arith, b.here) in
-          h.marks_are at (omega (arith, b.here), omega (arith, fits, n.1)) ∙ (ap (λ (m : ℕ). get_or h.vetted.marks m Unmarked) e ∙ (ap (λ (z : List Mark). get_or z (place b.before) Unmarked) h.valid.marks_are ∙ places.mark_at h.valid.pieces b.before rest p Unmarked h.valid.sound.spelled parts));
+          h.marks_are at (omega (arith, b.here), omega (arith, fits, n.1))
+          ∙ (ap (λ (m : ℕ). get_or h.vetted.marks m Unmarked) e
+          ∙ (ap (λ (z : List Mark). get_or z (place b.before) Unmarked) h.valid.marks_are
+          ∙ places.mark_at h.valid.pieces b.before rest p Unmarked h.valid.sound.spelled parts));
       parts = parts ∙ sym (append_assoc b.before (p ∷ []) rest);
       behind = omega (arith, place-push b.before p, b.here, n.0);
       ends = fits;
@@ -106,13 +129,26 @@ pub standing : (marked : MarkedText) (c : Chunk) (at : ℕ) → IsText marked �
 standing marked c at t b lt = go b.rest refl
   where
     go : (rest : List Piece) → b.rest ≡ rest → Standing marked c at b
-    go [] e = absurd (omega (arith, lt, b.here, all_long marked c b.holds, ap place (b.parts ∙ (ap (λ (z : List Piece). b.before ++ z) e ∙ append-nil b.before))))
+    go [] e = absurd (omega (
+      arith,
+      lt,
+      b.here,
+      all_long marked c b.holds,
+      ap place (b.parts ∙ (ap (λ (z : List Piece). b.before ++ z) e ∙ append-nil b.before)),
+    ))
     go (p ∷ rest) e = stands_with marked c at t b p rest e
 
 -- the next instruction
 abbrev pub next_begins : (marked : MarkedText) (c : Chunk) (at : ℕ) (b : Begins marked c at) → (s : Standing marked c at b) → (len : ℕ)
     → len ≡ s.piece.instr.len → Begins marked c (at + len)
-next_begins marked c at b s len e = record { holds = b.holds; before = b.before ++ s.piece ∷ []; rest = s.rest; parts = s.parts; here = omega (arith, s.behind, e) }
+next_begins marked c at b s len e = record {
+  holds = b.holds;
+  before = b.before ++ s.piece ∷ [];
+  rest = s.rest;
+  parts = s.parts;
+  here =
+      omega (arith, s.behind, e);
+}
 
 -- some instruction stands there, wholly inside its bundle
 pub stands_some : (marked : MarkedText) (c : Chunk) (at : ℕ) (b : Begins marked c at) (s : Standing marked c at b)
@@ -127,7 +163,8 @@ runs_from rest news p n others more e f len runs = rw (e, f) (len, runs)
 -- lists run along each other, after their first members
 pub runs_to : (rest news : List Piece) (p n : Piece) (others more : List Piece) → rest ≡ p ∷ others → news ≡ n ∷ more
     → RunsAlong rest news → (length p.bytes ≡ length n.bytes) × RunsAlong others more
-runs_to rest news p n others more e f runs = subst (λ (z : List Piece). RunsAlong (p ∷ others) z) f (subst (λ (z : List Piece). RunsAlong z news) e runs)
+runs_to rest news p n others more e f runs =
+    subst (λ (z : List Piece). RunsAlong (p ∷ others) z) f (subst (λ (z : List Piece). RunsAlong z news) e runs)
 
 -- no list runs along any
 pub runs_none : (rest news : List Piece) → news ≡ [] → RunsAlong rest news
@@ -150,7 +187,8 @@ none_from rest news p n others more e f a b none = rw (e, f) (a, b, none)
 -- nor is the first
 pub none_to : (rest news : List Piece) (p n : Piece) (others more : List Piece) → rest ≡ p ∷ others → news ≡ n ∷ more
     → NoneIndirect rest news → (is_indirect p.instr.flow ≡ false) × (is_indirect n.instr.flow ≡ false) × NoneIndirect others more
-none_to rest news p n others more e f none = subst (λ (z : List Piece). NoneIndirect (p ∷ others) z) f (subst (λ (z : List Piece). NoneIndirect z news) e none)
+none_to rest news p n others more e f none =
+    subst (λ (z : List Piece). NoneIndirect (p ∷ others) z) f (subst (λ (z : List Piece). NoneIndirect z news) e none)
 
 -- the mark where the chunk goes on tells whether an indirect transfer stands there
 pub first_none : (marked : MarkedText) (c : Chunk) (at : ℕ) → IsText marked → (b : Begins marked c at)
@@ -160,8 +198,15 @@ first_none marked c at t b = go b.rest refl
     go : (rest : List Piece) → b.rest ≡ rest → (is_after (mark_at marked.marks at) ≡ false) ↔ NoneFirst b.rest
     go [] e =
         let l = lies marked c t b.holds in
-        let end : at ≡ c.base + c.length = omega (arith, b.here, all_long marked c b.holds, ap place (b.parts ∙ (ap (λ (z : List Piece). b.before ++ z) e ∙ append-nil b.before))) in
-        let plain : mark_at marked.marks at ≡ Plain = t.closed.starts at (omega (arith, end, l.low), omega (arith, end, l.high)) (omega (arith, end, l.start, l.whole)) in
+        let end : at ≡ c.base + c.length =
+        omega (
+          arith,
+          b.here,
+          all_long marked c b.holds,
+          ap place (b.parts ∙ (ap (λ (z : List Piece). b.before ++ z) e ∙ append-nil b.before)),
+        ) in
+        let plain : mark_at marked.marks at ≡ Plain =
+        t.closed.starts at (omega (arith, end, l.low), omega (arith, end, l.high)) (omega (arith, end, l.start, l.whole)) in
         (λ x. subst NoneFirst (sym e) tt, λ x. ap is_after plain)
     go (p ∷ rest) e =
         let s = stands_with marked c at t b p rest e in

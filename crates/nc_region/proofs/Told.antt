@@ -25,12 +25,15 @@ one_more false y p q r e = e
 
 -- the puts of one more byte
 puts_where_push : (chosen : ℕ → Bool) (at : ℕ) (bytes : List ℕ) (byte : ℕ)
-    → puts_where chosen at (bytes ++ byte ∷ []) ≡ puts_where chosen at bytes ++ cond (chosen (at + length bytes)) (Put (at + length bytes) byte ∷ []) []
+    → puts_where chosen at (bytes ++ byte ∷ []) ≡ puts_where chosen at bytes ++ cond (chosen (at + length bytes))
+    (Put (at + length bytes) byte ∷ []) []
 puts_where_push chosen at [] byte = rw add-zero refl
 puts_where_push chosen at (x ∷ rest) byte =
     let e : at + 1 + length rest ≡ at + suc (length rest) = omega arith in
-    one_more (chosen at) (Put at x) (puts_where chosen (at + 1) (rest ++ byte ∷ [])) (puts_where chosen (at + 1) rest) (cond (chosen (at + suc (length rest))) (Put (at + suc (length rest)) byte ∷ []) [])
-    (subst (λ (n : ℕ). puts_where chosen (at + 1) (rest ++ byte ∷ []) ≡ puts_where chosen (at + 1) rest ++ cond (chosen n) (Put n byte ∷ []) []) e (puts_where_push chosen (at + 1) rest byte))
+    one_more (chosen at) (Put at x) (puts_where chosen (at + 1) (rest ++ byte ∷ [])) (puts_where chosen (at + 1) rest)
+    (cond (chosen (at + suc (length rest))) (Put (at + suc (length rest)) byte ∷ []) [])
+    (subst (λ (n : ℕ). puts_where chosen (at + 1) (rest ++ byte ∷ []) ≡ puts_where chosen (at + 1) rest
+    ++ cond (chosen n) (Put n byte ∷ []) []) e (puts_where_push chosen (at + 1) rest byte))
 
 -- the acts of one more byte
 pub told_put : (chosen : ℕ → Bool) (base : ℕ) (bytes : List ℕ) (i : ℕ) (a b c : Option (List Act)) → i < length bytes
@@ -38,12 +41,14 @@ pub told_put : (chosen : ℕ → Bool) (base : ℕ) (bytes : List ℕ) (i : ℕ)
     → Tells a c (puts_where chosen base (take (i + 1) bytes))
 told_put chosen base bytes i a b c lt is first second =
     let here : base + length (take i bytes) ≡ base + i = omega (arith, length-take i bytes) in
-    let more : puts_where chosen base (take (i + 1) bytes) ≡ puts_where chosen base (take i bytes) ++ (Put (base + i) (get_or bytes i 0) ∷ []) =
+    let more : puts_where chosen base (take (i + 1) bytes) ≡ puts_where chosen base (take i bytes)
+    ++ (Put (base + i) (get_or bytes i 0) ∷ []) =
     ap (puts_where chosen base) (take_more bytes i 0 lt)
     ∙ (puts_where_push chosen base (take i bytes) (get_or bytes i 0)
     ∙ ap (λ (n : ℕ). puts_where chosen base (take i bytes) ++ cond (chosen n) (Put n (get_or bytes i 0) ∷ []) []) here
     ∙ ap (λ (z : Bool). puts_where chosen base (take i bytes) ++ cond z (Put (base + i) (get_or bytes i 0) ∷ []) []) is) in
-    subst (λ (acts : List Act). Tells a c acts) (sym more) (tells_more a b c (puts_where chosen base (take i bytes)) (Put (base + i) (get_or bytes i 0) ∷ []) first second)
+    subst (λ (acts : List Act). Tells a c acts) (sym more)
+    (tells_more a b c (puts_where chosen base (take i bytes)) (Put (base + i) (get_or bytes i 0) ∷ []) first second)
 
 -- a place that is not chosen tells nothing
 pub told_passed : (chosen : ℕ → Bool) (base : ℕ) (bytes : List ℕ) (i : ℕ) (a b : Option (List Act)) → i < length bytes

@@ -8,12 +8,12 @@ use Rattle.nc_vet.specs.Chunk.{Piece, place, IsTarget}
 use Rattle.nc_vet.proofs.Offered.{place-push}
 use Rattle.nc_text.specs.Places.{limit_of, byte_at}
 use Rattle.nc_text.specs.MarkedText.{MarkedText, IsText, with_span}
-use Rattle.nc_text.proofs.SpanElements.{length-with_span}
+use Rattle.nc_text.proofs.Offered.{length-with_span}
 use Rattle.nc_region.specs.declared.acts.Act.{Act}
 use Rattle.nc_region.specs.declared.chunk.Chunk.{Chunk}
 use Rattle.nc_region.specs.Patch.{AreBytesOf, lengths, IsHalf, AreNoHalves, AreNotIndirect, GoWell, stands_there, acts_of_instruction}
 use Rattle.nc_region.specs.Patch.{acts_of_modify}
-use Rattle.nc_region.specs.PatchSteps.{NoneFirst, CanPatch}
+use Rattle.nc_region.specs.machinery.PatchSteps.{NoneFirst, CanPatch}
 use Rattle.nc_region.proofs.SpanPlaces.{place_of, Before, Within, Behind, span_within, span_before, span_behind}
 use Rattle.nc_region.proofs.Exchanging.{target_stays}
 use Rattle.nc_region.proofs.Exchanged.{Changes, changed, changed_holds, changed_long}
@@ -43,7 +43,8 @@ well_map P Q f at [] w = tt
 well_map P Q f at (n ∷ ns) w = (λ d. f (target n.instr at) (w.0 d), well_map P Q f (at + length n.bytes) ns w.1)
 
 -- the first instruction of a patch, and the one that it replaces
-pub record Turn (marked : MarkedText) (c : Chunk) (at : ℕ) (new : List ℕ) (patch : CanPatch marked c at new) (n : Piece) (ns : List Piece) : Type 0 where
+pub record Turn (marked : MarkedText) (c : Chunk) (at : ℕ) (new : List ℕ) (patch : CanPatch marked c at
+    new) (n : Piece) (ns : List Piece) : Type 0 where
   pub o : Piece
   pub os : List Piece
   pub old : patch.run.old ≡ o ∷ os
@@ -64,13 +65,16 @@ turn marked c at new patch n ns t is = go patch.run.old refl
     go (o ∷ os) e =
         let run = patch.run in
         let h = patch.run.holds in
-        let parts : patch.run.holds.valid.pieces ≡ patch.run.before ++ o ∷ (os ++ patch.run.after) = patch.run.parts ∙ ap (λ (z : List Piece). patch.run.before ++ (z ++ patch.run.after)) e in
+        let parts : patch.run.holds.valid.pieces ≡ patch.run.before ++ o ∷ (os ++ patch.run.after) = patch.run.parts
+        ∙ ap (λ (z : List Piece). patch.run.before ++ (z ++ patch.run.after)) e in
         let lens = lengths_first o n os ns (ap lengths (sym e) ∙ (patch.run.as_long ∙ ap lengths is)) in
         let halves : AreNoHalves (o ∷ os) patch.run.after = subst (λ (z : List Piece). AreNoHalves z patch.run.after) e patch.pairs.0 in
         let plain = no_half o (os ++ patch.run.after) halves.0 in
         let fresh : AreNotIndirect (n ∷ ns) = subst AreNotIndirect is patch.pairs.1 in
-        let well : GoWell (IsTarget c.base (limit_of marked.bytes) patch.run.holds.valid.pieces) at (n ∷ ns) = subst (GoWell (IsTarget c.base (limit_of marked.bytes) patch.run.holds.valid.pieces) at) is patch.targets in
-        let place_is : at ≡ patch.run.holds.vetted.base + place patch.run.before = omega (arith, patch.run.here, patch.run.holds.base_is) in
+        let well : GoWell (IsTarget c.base (limit_of marked.bytes) patch.run.holds.valid.pieces) at (n ∷ ns) =
+        subst (GoWell (IsTarget c.base (limit_of marked.bytes) patch.run.holds.valid.pieces) at) is patch.targets in
+        let place_is : at ≡ patch.run.holds.vetted.base + place patch.run.before =
+        omega (arith, patch.run.here, patch.run.holds.base_is) in
         record {
           o = o;
           os = os;
@@ -87,9 +91,12 @@ turn marked c at new patch n ns t is = go patch.run.old refl
               new_plain = fresh.0;
               no_mask = plain.1;
               good = λ d.
-                  subst (λ (b : ℕ). IsTarget b patch.run.holds.vetted.limit patch.run.holds.valid.pieces (target n.instr (patch.run.holds.vetted.base + place patch.run.before))) (sym patch.run.holds.base_is)
-                  (subst (λ (l : ℕ). IsTarget c.base l patch.run.holds.valid.pieces (target n.instr (patch.run.holds.vetted.base + place patch.run.before))) (sym patch.run.holds.limit_is)
-                  (subst (λ (k : ℕ). IsTarget c.base (limit_of marked.bytes) patch.run.holds.valid.pieces (target n.instr k)) place_is (well.0 d)));
+                  subst (λ (b : ℕ). IsTarget b patch.run.holds.vetted.limit patch.run.holds.valid.pieces
+                  (target n.instr (patch.run.holds.vetted.base + place patch.run.before))) (sym patch.run.holds.base_is)
+                  (subst (λ (l : ℕ). IsTarget c.base l patch.run.holds.valid.pieces
+                  (target n.instr (patch.run.holds.vetted.base + place patch.run.before))) (sym patch.run.holds.limit_is)
+                  (subst (λ (k : ℕ). IsTarget c.base (limit_of marked.bytes) patch.run.holds.valid.pieces (target n.instr k)) place_is
+                  (well.0 d)));
             };
             here = patch.run.here;
           };
@@ -101,7 +108,9 @@ turn marked c at new patch n ns t is = go patch.run.old refl
         }
 
 -- the patch that is left
-pub next_patch : (marked : MarkedText) (c : Chunk) (at : ℕ) (new : List ℕ) (patch : CanPatch marked c at new) (n : Piece) (ns : List Piece) (t : Turn marked c at new patch n ns) (len : ℕ) (rest : List ℕ) → len ≡ length n.bytes → AreBytesOf rest ns → CanPatch (changed marked at n.bytes) c (at + len) rest
+pub next_patch : (marked : MarkedText) (c : Chunk) (at : ℕ) (new : List ℕ) (patch : CanPatch marked c at new) (n : Piece) (ns : List
+    Piece) (t : Turn marked c at new patch n ns) (len : ℕ) (rest : List ℕ) → len ≡ length n.bytes → AreBytesOf rest ns
+    → CanPatch (changed marked at n.bytes) c (at + len) rest
 next_patch marked c at new patch n ns t len rest e bytes =
     let x = t.change in
     record {
@@ -118,10 +127,15 @@ next_patch marked c at new patch n ns t len rest e bytes =
       };
       pairs = (t.halves, t.fresh);
       targets =
-          subst (λ (k : ℕ). GoWell (IsTarget c.base (limit_of (with_span marked.bytes (at - 65536) n.bytes)) (patch.run.before ++ n ∷ (t.os ++ patch.run.after))) (at + k) ns) (sym e)
-          (well_map (IsTarget c.base (limit_of marked.bytes) patch.run.holds.valid.pieces) (IsTarget c.base (limit_of (with_span marked.bytes (at - 65536) n.bytes)) (patch.run.before ++ n ∷ (t.os ++ patch.run.after)))
-          (λ to g. subst (λ (l : ℕ). IsTarget c.base l (patch.run.before ++ n ∷ (t.os ++ patch.run.after)) to) (ap (λ (k : ℕ). 65536 + k) (sym (changed_long marked c at patch.run.before (t.os ++ patch.run.after) t.o n t.change)))
-          (target_stays c.base (limit_of marked.bytes) patch.run.before (t.os ++ patch.run.after) t.o n to x.exchange.as_long x.exchange.new_plain
+          subst (λ (k : ℕ). GoWell (IsTarget c.base (limit_of (with_span marked.bytes (at - 65536) n.bytes))
+          (patch.run.before ++ n ∷ (t.os ++ patch.run.after))) (at + k) ns) (sym e)
+          (well_map (IsTarget c.base (limit_of marked.bytes) patch.run.holds.valid.pieces)
+          (IsTarget c.base (limit_of (with_span marked.bytes (at - 65536) n.bytes))
+          (patch.run.before ++ n ∷ (t.os ++ patch.run.after)))
+          (λ to g. subst (λ (l : ℕ). IsTarget c.base l (patch.run.before ++ n ∷ (t.os ++ patch.run.after)) to)
+          (ap (λ (k : ℕ). 65536 + k) (sym (changed_long marked c at patch.run.before (t.os ++ patch.run.after) t.o n t.change)))
+          (target_stays c.base (limit_of marked.bytes) patch.run.before
+          (t.os ++ patch.run.after) t.o n to x.exchange.as_long x.exchange.new_plain
           (subst (λ (z : List Piece). IsTarget c.base (limit_of marked.bytes) z to) t.parts g)))
           (at + length n.bytes) ns t.well);
     }
@@ -137,25 +151,33 @@ spans_join text at xs ys low fits =
     let fits1 : at + length xs ≤ 65536 + length text = omega (arith, fits) in
     let low2 : 65536 ≤ at + length xs = omega (arith, low) in
     ext_get_or 0 (with_span (with_span text (at - 65536) xs) (at + length xs - 65536) ys) (with_span text (at - 65536) (xs ++ ys))
-    (length-with_span (with_span text (at - 65536) xs) (at + length xs - 65536) ys (omega (arith, low, fits, first)) ∙ (first ∙ sym (length-with_span text (at - 65536) (xs ++ ys) (omega (arith, low, fits, both)))))
+    (length-with_span (with_span text (at - 65536) xs) (at + length xs - 65536) ys (omega (arith, low, fits, first))
+    ∙ (first ∙ sym (length-with_span text (at - 65536) (xs ++ ys) (omega (arith, low, fits, both)))))
     (λ j lt.
     let e : 65536 + j - 65536 ≡ j = omega arith in
-    subst (λ (k : ℕ). get_or (with_span (with_span text (at - 65536) xs) (at + length xs - 65536) ys) k 0 ≡ get_or (with_span text (at - 65536) (xs ++ ys)) k 0) e
+    subst (λ (k : ℕ). get_or (with_span (with_span text (at - 65536) xs) (at + length xs - 65536) ys) k 0 ≡ get_or
+    (with_span text (at - 65536) (xs ++ ys)) k 0) e
     (elim (place_of (at + length xs) (length ys) (65536 + j)) [
       | Before b ↦
           span_before (with_span text (at - 65536) xs) (at + length xs) ys (65536 + j) 0 low2 fits2 (omega arith) b
           ∙ elim (place_of at (length xs) (65536 + j)) [
-            | Before f ↦ span_before text at xs (65536 + j) 0 low fits1 (omega arith) f ∙ sym (span_before text at (xs ++ ys) (65536 + j) 0 low fits3 (omega arith) f)
-            | Within f g ↦ span_within text at xs (65536 + j) 0 low fits1 f g ∙ (sym (get_or_append_left xs ys 0 (65536 + j - at) (omega (arith, f, g))) ∙ sym (span_within text at (xs ++ ys) (65536 + j) 0 low fits3 f (omega (arith, g, both))))
+            | Before f ↦ span_before text at xs (65536 + j) 0 low fits1 (omega arith) f
+                ∙ sym (span_before text at (xs ++ ys) (65536 + j) 0 low fits3 (omega arith) f)
+            | Within f g ↦ span_within text at xs (65536 + j) 0 low fits1 f g
+                ∙ (sym (get_or_append_left xs ys 0 (65536 + j - at) (omega (arith, f, g)))
+                ∙ sym (span_within text at (xs ++ ys) (65536 + j) 0 low fits3 f (omega (arith, g, both))))
             | Behind f ↦ absurd (omega (arith, b, f))
           ]
       | Within f g ↦
           let d : 65536 + j - at - length xs ≡ 65536 + j - (at + length xs) = omega (arith, f) in
           span_within (with_span text (at - 65536) xs) (at + length xs) ys (65536 + j) 0 low2 fits2 f g
-          ∙ (ap (λ (k : ℕ). get_or ys k 0) (sym d) ∙ (sym (get_or-append_right xs ys (length xs) (65536 + j - at) 0 refl (omega (arith, f))) ∙ sym (span_within text at (xs ++ ys) (65536 + j) 0 low fits3 (omega (arith, f)) (omega (arith, g, both)))))
+          ∙ (ap (λ (k : ℕ). get_or ys k 0) (sym d)
+          ∙ (sym (get_or-append_right xs ys (length xs) (65536 + j - at) 0 refl (omega (arith, f)))
+          ∙ sym (span_within text at (xs ++ ys) (65536 + j) 0 low fits3 (omega (arith, f)) (omega (arith, g, both)))))
       | Behind f ↦
           span_behind (with_span text (at - 65536) xs) (at + length xs) ys (65536 + j) 0 low2 fits2 f
-          ∙ (span_behind text at xs (65536 + j) 0 low fits1 (omega (arith, f)) ∙ sym (span_behind text at (xs ++ ys) (65536 + j) 0 low fits3 (omega (arith, f, both))))
+          ∙ (span_behind text at xs (65536 + j) 0 low fits1 (omega (arith, f))
+          ∙ sym (span_behind text at (xs ++ ys) (65536 + j) 0 low fits3 (omega (arith, f, both))))
     ]))
 
 -- both tests are true
@@ -172,7 +194,8 @@ stands_bytes text at (b ∷ rest) e zero lt =
     ap (byte_at text) z ∙ eqb-true (byte_at text at) b (both_true (byte_at text at == b) (stands_there text (at + 1) rest) e).0
 stands_bytes text at (b ∷ rest) e (suc k) lt =
     let z : at + suc k ≡ at + 1 + k = omega arith in
-    ap (byte_at text) z ∙ stands_bytes text (at + 1) rest (both_true (byte_at text at == b) (stands_there text (at + 1) rest) e).1 k (omega arith)
+    ap (byte_at text) z ∙ stands_bytes text (at + 1) rest (both_true (byte_at text at == b) (stands_there text (at + 1) rest) e).1 k
+    (omega arith)
 
 -- bytes that stand there already change nothing
 pub stands_same : (text : List ℕ) (at : ℕ) (bytes : List ℕ) → 65536 ≤ at → at + length bytes ≤ 65536 + length text
@@ -186,7 +209,8 @@ stands_same text at bytes low fits e =
       | Before b ↦ sym (span_before text at bytes (65536 + j) 0 low fits (omega arith) b)
       | Within a b ↦
           let z : at + (65536 + j - at) ≡ 65536 + j = omega (arith, a) in
-          ap (byte_at text) (sym z) ∙ (stands_bytes text at bytes e (65536 + j - at) (omega (arith, a, b)) ∙ sym (span_within text at bytes (65536 + j) 0 low fits a b))
+          ap (byte_at text) (sym z) ∙ (stands_bytes text at bytes e (65536 + j - at) (omega (arith, a, b))
+          ∙ sym (span_within text at bytes (65536 + j) 0 low fits a b))
       | Behind p ↦ sym (span_behind text at bytes (65536 + j) 0 low fits p)
     ]))
 
@@ -194,12 +218,15 @@ stands_same text at bytes low fits e =
 same_stands : (a b : List ℕ) (at : ℕ) (bytes : List ℕ) → ((k : ℕ) → at ≤ k → byte_at a k ≡ byte_at b k)
     → stands_there a at bytes ≡ stands_there b at bytes
 same_stands a b at [] h = refl
-same_stands a b at (x ∷ rest) h = ap (λ (z : ℕ). (z == x) && stands_there a (at + 1) rest) (h at (omega arith)) ∙ ap (λ (z : Bool). (byte_at b at == x) && z) (same_stands a b (at + 1) rest (λ k le. h k (omega (arith, le))))
+same_stands a b at (x ∷ rest) h = ap (λ (z : ℕ). (z == x) && stands_there a (at + 1) rest) (h at (omega arith))
+    ∙ ap (λ (z : Bool). (byte_at b at == x) && z) (same_stands a b (at + 1) rest (λ k le. h k (omega (arith, le))))
 
 -- the acts of what is left are the same over a text that agrees from there on
 pub same_acts : (a b : List ℕ) (at : ℕ) (ns : List Piece) → ((k : ℕ) → at ≤ k → byte_at a k ≡ byte_at b k)
     → acts_of_modify a at ns ≡ acts_of_modify b at ns
 same_acts a b at [] h = refl
 same_acts a b at (n ∷ ns) h =
-    ap (λ (z : Bool). cond z [] (acts_of_instruction at n.bytes) ++ acts_of_modify a (at + length n.bytes) ns) (same_stands a b at n.bytes h)
-    ∙ ap (λ (z : List Act). cond (stands_there b at n.bytes) [] (acts_of_instruction at n.bytes) ++ z) (same_acts a b (at + length n.bytes) ns (λ k le. h k (omega (arith, le))))
+    ap (λ (z : Bool). cond z [] (acts_of_instruction at n.bytes) ++ acts_of_modify a (at + length n.bytes) ns)
+    (same_stands a b at n.bytes h)
+    ∙ ap (λ (z : List Act). cond (stands_there b at n.bytes) [] (acts_of_instruction at n.bytes) ++ z)
+    (same_acts a b (at + length n.bytes) ns (λ k le. h k (omega (arith, le))))

@@ -5,7 +5,7 @@ use Rattle.std.proofs.lemmas.List.{drop_more, drop_all, take-append-drop}
 use Rattle.nc_decode.specs.declared.instruction.Mark.{Mark}
 use Rattle.nc_text.specs.Machine.{State, state, Step, IsSafe, Joined}
 use Rattle.nc_text.specs.Marks.{IsClosed}
-use Rattle.nc_text.proofs.Confined.{IsKnown, safe_if_known, start_is_marked, confined_if_closed}
+use Rattle.nc_text.proofs.Offered.{IsKnown, safe_if_known, start_is_marked, confined_if_closed}
 use Rattle.nc_region.specs.declared.trace.End.{End}
 use Rattle.nc_region.specs.Trace.{EndsBy, GoesOn, IsSafeWalk, IsTrace, IsWalkStart, Moves, Walks}
 
@@ -14,7 +14,8 @@ abbrev pub LeadsOver : List ℕ → State → List ℕ → List State → State 
 LeadsOver text from [] [] now = from ≡ now
 LeadsOver text from [] (next ∷ rest) now = ⊥
 LeadsOver text from (choice ∷ choices) [] now = ⊥
-LeadsOver text from (choice ∷ choices) (next ∷ rest) now = GoesOn text from × Moves text from choice next × LeadsOver text next choices rest now
+LeadsOver text from (choice ∷ choices) (next ∷ rest) now = GoesOn text from × Moves text from choice next
+    × LeadsOver text next choices rest now
 
 -- one state more
 over_more : (text : List ℕ) (from : State) (choices : List ℕ) (states : List State) (now next : State) (choice : ℕ)
@@ -24,7 +25,8 @@ over_more text from [] [] now next choice over goes moves =
     subst (λ (s : State). GoesOn text s × Moves text s choice next × (next ≡ next)) (sym over) (goes, moves, refl)
 over_more text from [] (s ∷ states) now next choice over goes moves = absurd over
 over_more text from (c ∷ choices) [] now next choice over goes moves = absurd over
-over_more text from (c ∷ choices) (s ∷ states) now next choice over goes moves = (over.0, over.1, over_more text s choices states now next choice over.2 goes moves)
+over_more text from (c ∷ choices) (s ∷ states) now next choice over goes moves =
+    (over.0, over.1, over_more text s choices states now next choice over.2 goes moves)
 
 -- an end there is the end of the walk
 over_ends : (text : List ℕ) (from : State) (used left : List ℕ) (states : List State) (now : State) (end : End)
@@ -32,7 +34,8 @@ over_ends : (text : List ℕ) (from : State) (used left : List ℕ) (states : Li
 over_ends text from [] left [] now end over ends = subst (λ (s : State). EndsBy text s left end) (sym over) ends
 over_ends text from [] left (s ∷ states) now end over ends = absurd over
 over_ends text from (c ∷ used) left [] now end over ends = absurd over
-over_ends text from (c ∷ used) left (s ∷ states) now end over ends = (over.0, over.1, over_ends text s used left states now end over.2 ends)
+over_ends text from (c ∷ used) left (s ∷ states) now end over ends =
+    (over.0, over.1, over_ends text s used left states now end over.2 ends)
 
 -- a step from a known state leads to a known one
 pub known_next : (text : List ℕ) (marks : List Mark) → IsClosed text marks → (now next : State) → IsKnown marks now → Step text now next
@@ -48,15 +51,10 @@ pub record IsUnderWay (text : List ℕ) (marks : List Mark) (start : ℕ) (used 
   pub known : IsKnown marks now
 
 -- the places of some states and of others behind them
-map-append : (xs ys : List State) → map (λ (s : State). s.place) (xs ++ ys) ≡ map (λ (s : State). s.place) xs ++ map (λ (s : State). s.place) ys
+map-append : (xs ys : List State) → map (λ (s : State). s.place) (xs ++ ys) ≡ map (λ (s : State). s.place) xs
+    ++ map (λ (s : State). s.place) ys
 map-append [] ys = refl
 map-append (x ∷ xs) ys = ap (λ (l : List ℕ). x.place ∷ l) (map-append xs ys)
-
--- it begins on a bundle start of the region
-pub way_begins : (text : List ℕ) (marks : List Mark) (start : ℕ) → IsClosed text marks → IsWalkStart text start
-    → IsUnderWay text marks start [] (start ∷ []) (state start None)
-way_begins text marks start closed begins =
-    record { states = []; over = refl; places_are = refl; known = inl (start_is_marked text marks closed (state start None) begins.0 begins.1) }
 
 -- it stands on a safe state
 pub way_is_safe : (text : List ℕ) (marks : List Mark) (start : ℕ) (used places : List ℕ) (now : State) → IsClosed text marks
@@ -71,7 +69,8 @@ way_goes_on text marks start used places now next choice closed way goes moves =
     record {
       states = way.states ++ next ∷ [];
       over = over_more text (state start None) used way.states now next choice way.over goes moves;
-      places_are = ap (λ (l : List ℕ). l ++ next.place ∷ []) way.places_are ∙ ap (λ (l : List ℕ). start ∷ l) (sym (map-append way.states (next ∷ [])));
+      places_are = ap (λ (l : List ℕ). l ++ next.place ∷ []) way.places_are
+          ∙ ap (λ (l : List ℕ). start ∷ l) (sym (map-append way.states (next ∷ [])));
       known = known_next text marks closed now next way.known moves.step;
     }
 
@@ -91,7 +90,8 @@ pub way_ends_at : (text : List ℕ) (marks : List Mark) (start : ℕ) (choices p
     → ((rest : List ℕ) → EndsBy text now (get_or choices k 0 ∷ rest) end) → IsTrace text start choices places end
 way_ends_at text marks start choices places k now end short way ends =
     let left = subst (λ (l : List ℕ). EndsBy text now l end) (sym (drop_more choices k 0 short)) (ends (drop (k + 1) choices)) in
-    subst (λ (l : List ℕ). IsTrace text start l places end) (take-append-drop k choices) (way_ends text marks start (take k choices) (drop k choices) places now end way left)
+    subst (λ (l : List ℕ). IsTrace text start l places end) (take-append-drop k choices)
+    (way_ends text marks start (take k choices) (drop k choices) places now end way left)
 
 -- it ends with no choice left
 pub way_ends_last : (text : List ℕ) (marks : List Mark) (start : ℕ) (choices places : List ℕ) (k : ℕ) (now : State) (end : End)
@@ -99,7 +99,8 @@ pub way_ends_last : (text : List ℕ) (marks : List Mark) (start : ℕ) (choices
     → IsTrace text start choices places end
 way_ends_last text marks start choices places k now end all way ends =
     let left = subst (λ (l : List ℕ). EndsBy text now l end) (sym (drop_all k choices all)) ends in
-    subst (λ (l : List ℕ). IsTrace text start l places end) (take-append-drop k choices) (way_ends text marks start (take k choices) (drop k choices) places now end way left)
+    subst (λ (l : List ℕ). IsTrace text start l places end) (take-append-drop k choices)
+    (way_ends text marks start (take k choices) (drop k choices) places now end way left)
 
 -- a walk is a path of the machine, so its states are safe
 pub walk_is_joined : (text : List ℕ) (now : State) (choices : List ℕ) (states : List State) (end : End)
@@ -112,4 +113,5 @@ walk_is_joined text now (choice ∷ choices) (next ∷ rest) end walks = (walks.
 pub walk_is_safe : (text : List ℕ) (marks : List Mark) (start : ℕ) (choices : List ℕ) (end : End) → IsClosed text marks
     → IsWalkStart text start → IsSafeWalk text start choices end
 walk_is_safe text marks start choices end closed begins states walks =
-    confined_if_closed text marks closed (state start None ∷ states) (begins.0, begins.1, refl, walk_is_joined text (state start None) choices states end walks)
+    confined_if_closed text marks closed (state start None ∷ states)
+    (begins.0, begins.1, refl, walk_is_joined text (state start None) choices states end walks)

@@ -7,7 +7,7 @@ use Rattle.nc_decode.specs.Bundles.{IsInOneBundle}
 use Rattle.nc_decode.specs.Front.{first_instruction}
 use Rattle.nc_decode.proofs.Offered.{depends_on_its_bytes}
 use Rattle.nc_text.specs.Places.{InRegion, byte_at, instruction_at}
-use Rattle.nc_text.proofs.Fetch.{length_at}
+use Rattle.nc_text.proofs.Offered.{length_at}
 
 -- the bytes at the front of the window are those of the text from the place on
 abbrev pub Shows : List ℕ → List ℕ → ℕ → ℕ → Type 0
@@ -21,12 +21,21 @@ found_in_window text window at n i inside is short long shows =
     let fits = (length_at text at i inside is).1 in
     depends_on_its_bytes (drop (at - 65536) text) (take n window) i is
     (ext_get_or 0 (take i.len (take n window)) (take i.len (drop (at - 65536) text))
-    (omega (arith, fits, length-take i.len (take n window), length-take n window, length-take i.len (drop (at - 65536) text), length-drop (at - 65536) text))
+    (omega (
+      arith,
+      fits,
+      length-take i.len (take n window),
+      length-take n window,
+      length-take i.len (drop (at - 65536) text),
+      length-drop (at - 65536) text,
+    ))
     (λ k lt.
     let small : k < i.len = omega (arith, lt, length-take i.len (take n window)) in
     let moved : at + k - 65536 ≡ at - 65536 + k = omega arith in
     let there = shows k (omega arith) ∙ ap (λ (m : ℕ). get_or text m 0) moved in
-    get_or-take i.len (take n window) k 0 small ∙ (get_or-take n window k 0 (omega arith) ∙ (there ∙ (sym (get_or-drop (at - 65536) text k 0) ∙ sym (get_or-take i.len (drop (at - 65536) text) k 0 small))))))
+    get_or-take i.len (take n window) k 0 small
+    ∙ (get_or-take n window k 0 (omega arith)
+    ∙ (there ∙ (sym (get_or-drop (at - 65536) text k 0) ∙ sym (get_or-take i.len (drop (at - 65536) text) k 0 small))))))
 
 -- what an instruction that is there is known for
 from_some : (o : Option Instr) (at : ℕ) → IsSomeAnd o (λ i. IsInOneBundle at i.len) → (i : Instr) × (o ≡ Some i) × IsInOneBundle at i.len

@@ -32,7 +32,13 @@ pub record IsDeleted (old new : Region) (base stamp : ℕ) : Type 0 where
   pub bytes : new.marked.bytes ≡ with_span old.marked.bytes (base - 0x10000) (replicate chunk.length 0xF4)
   pub chunks : new.chunks ≡ slice_set old.chunks index (record chunk { state = Retired stamp })
   pub keeper : new.keeper ≡ record old.keeper { numbers = generation_raised old.keeper.numbers }
-  pub others : new ≡ record old { marked = record old.marked { bytes = new.marked.bytes }; chunks = new.chunks; keeper = new.keeper; told = new.told }
+  pub others : new ≡ record old {
+    marked = record old.marked { bytes = new.marked.bytes };
+    chunks = new.chunks;
+    keeper =
+        new.keeper;
+    told = new.told;
+  }
   pub acts : Tells old.told new.told (acts_of_delete old.marked.marks base chunk.length)
 
 -- when each refusal of `delete` comes: the first of the two that holds

@@ -1,3 +1,4 @@
+pub mod machinery
 pub mod Each
 pub mod Acts
 pub mod Chunks
@@ -5,5 +6,4 @@ pub mod Region
 pub mod Quiet
 pub mod Deletion
 pub mod Patch
-pub mod PatchSteps
 pub mod Trace

@@ -93,7 +93,8 @@ FitsBesidePairs r at new = (c : Chunk) × IsHeldBy r.chunks at c × ((run : IsRu
 abbrev pub IsPatch : Region → ℕ → List ℕ → Type 0
 IsPatch r at new =
     IsPatchSpan at (length new)
-    × ((c : Chunk) × IsHeldBy r.chunks at c × ((run : IsRun r.marked c at new) × LeavesPairs r.marked c at new run × KeepsTargets r.marked c at new run))
+    × ((c : Chunk) × IsHeldBy r.chunks at c
+    × ((run : IsRun r.marked c at new) × LeavesPairs r.marked c at new run × KeepsTargets r.marked c at new run))
 
 -- The first of these that doesn't hold is the refusal: the bytes lie in one bundle; that is part of a live chunk; they
 -- are whole instructions; they fit; they leave pairs alone; their targets are good.

@@ -16,7 +16,7 @@ use Rattle.nc_region.specs.declared.chunk.ChunkState.{ChunkState}
 use Rattle.nc_region.specs.declared.chunk.ChunkState.TheVariants.{Live, Retired}
 use Rattle.nc_region.specs.declared.fault.CreateFault.{CreateFault}
 use Rattle.nc_region.specs.declared.fault.CreateFault.TheVariants.{WrongLimit, Occupied, OutOfMemory}
-use Rattle.nc_region.specs.Chunks.{IsPlaced}
+use Rattle.nc_region.specs.Chunks.{HasGoodSpan}
 use Rattle.nc_region.specs.Each.{Each}
 
 -- What contracts see of a region: bytes and marks, the chunks by rising base, the keeper with the generation and each
@@ -60,7 +60,7 @@ pub record HoldsValid (marked : MarkedText) (c : Chunk) : Type 0 where
 pub record IsRegion (marked : MarkedText) (chunks : List Chunk) : Type 0 where
   pub whole : IsText marked
   pub rising : IsRising 0x10000 chunks
-  pub placed : Each (λ (c : Chunk). IsPlaced c.base (limit_of marked.bytes) c.length) chunks
+  pub placed : Each (λ (c : Chunk). HasGoodSpan c.base (limit_of marked.bytes) c.length) chunks
   pub live : Each (λ (c : Chunk). IsLive c.state → HoldsValid marked c) chunks
   pub stops : (at : ℕ) → InRegion marked.bytes at → Each (λ (c : Chunk). IsLive c.state → IsInChunk c at → ⊥) chunks
       → byte_at marked.bytes at ≡ 0xF4

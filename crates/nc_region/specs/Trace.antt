@@ -42,9 +42,10 @@ GoesOn text now = (0x10000 ≤ now.place) × ¬ StopsAt text now
 
 -- the choice takes an indirect transfer to the limit or above it
 abbrev pub LeavesBy : List ℕ → State → ℕ → Type 0
-LeavesBy text now choice = IsSomeAnd (instruction_at text now.place) (λ i. IsTrue (is_indirect i.flow)) × (limit_of text ≤ bundle_of choice)
+LeavesBy text now choice = IsSomeAnd (instruction_at text now.place) (λ i. IsTrue (is_indirect i.flow))
+    × (limit_of text ≤ bundle_of choice)
 
--- How a walk ends in a state, with these choices left: in the trampoline zone, at a stop, for want of a choice, or by
+-- How a walk ends in a state, with these choices left: in the trampoline zone, at a stop, for lack of a choice, or by
 -- an indirect transfer to the limit or above it; the first of these in this order.
 abbrev pub EndsBy : List ℕ → State → List ℕ → End → Type 0
 EndsBy text now choices Trampoline = now.place < 0x10000

@@ -92,7 +92,8 @@ pub trait Acts {
     fn bump(&mut self) -> Result<u64, GensFull>
         ensures room { IsOk result ↔ ((keeper self.old).numbers.generation < 2 ^ 62) }
         ensures stamp { IfOk result (λ n. n ≡ (keeper self.old).numbers.generation + 1) }
-        ensures raised { OnOk result (keeper self.new ≡ record (keeper self.old) { numbers = generation_raised (keeper self.old).numbers }) }
+        ensures raised { OnOk result (keeper self.new
+            ≡ record (keeper self.old) { numbers = generation_raised (keeper self.old).numbers }) }
         ensures told { OnOk result (Tells (told self.old) (told self.new) (Act.Bump ∷ [])) }
         ensures marked { marked self.new ≡ marked self.old }
         ensures full { OnErr result (((keeper self.old).numbers.generation ≡ 2 ^ 62) × (keeper self.new ≡ keeper self.old)) }

@@ -6,7 +6,8 @@ ghost use Rattle.nc_text.specs.Marks.{IsClosed};
 ghost use Rattle.nc_text.specs.Places.{limit_of};
 ghost use Rattle.nc_text.specs.MarkedText.{MarkedText, IsText, with_span, NamesRegister};
 ghost use Rattle.nc_region.specs.Acts.{Tells, puts_where, is_inside, is_start, acts_of_create};
-ghost use Rattle.nc_region.specs.Chunks.{IsPlaced, IsUnused, IsClosedChunk, HasPut, IsFinalBut, with_chunk};
+ghost use Rattle.nc_region.specs.Chunks.{HasGoodSpan, IsClosedChunk, with_chunk};
+ghost use Rattle.nc_region.specs.machinery.Between.{IsUnused, HasPut, IsFinalBut};
 
 use crate::acts::Acts;
 use nc_decode::Mark;
@@ -30,7 +31,7 @@ pub(crate) fn put_chunk<A: Acts>(acts: &mut A, base: u32, code: &[u8], marks: &[
 /// Puts the bytes that aren't bundle starts, rising.
 fn put_inside<A: Acts>(acts: &mut A, base: u32, code: &[u8])
     requires whole { IsText (A.marked acts.old) }
-    requires placed { IsPlaced base (limit_of (A.marked acts.old).bytes) (length code.now) }
+    requires placed { HasGoodSpan base (limit_of (A.marked acts.old).bytes) (length code.now) }
     requires unused { IsUnused (A.marked acts.old) base (length code.now) }
     ensures bytes { HasPut is_inside base code.now (length code.now) (A.marked acts.old).bytes (A.marked acts.new).bytes }
     ensures marks { (A.marked acts.new).marks ≡ (A.marked acts.old).marks }
@@ -49,9 +50,10 @@ fn put_inside<A: Acts>(acts: &mut A, base: u32, code: &[u8])
 /// Puts the bundle starts, rising.
 fn put_starts<A: Acts>(acts: &mut A, base: u32, code: &[u8])
     requires whole { IsText (A.marked acts.old) }
-    requires placed { IsPlaced base (limit_of (A.marked acts.old).bytes) (length code.now) }
+    requires placed { HasGoodSpan base (limit_of (A.marked acts.old).bytes) (length code.now) }
     requires closed { IsClosed (with_span (A.marked acts.old).bytes (base - 65536) code.now) (A.marked acts.old).marks }
-    requires almost { IsFinalBut (with_span (A.marked acts.old).bytes (base - 65536) code.now) (A.marked acts.old).bytes base (base + length code.now) }
+    requires almost { IsFinalBut (with_span (A.marked acts.old).bytes (base - 65536) code.now) (A.marked acts.old).bytes base
+        (base + length code.now) }
     ensures bytes { (A.marked acts.new).bytes ≡ with_span (A.marked acts.old).bytes (base - 65536) code.now }
     ensures marks { (A.marked acts.new).marks ≡ (A.marked acts.old).marks }
     ensures whole { IsText (A.marked acts.new) }

@@ -6,7 +6,8 @@ ghost use Rattle.nc_text.specs.Places.{limit_of, byte_at};
 ghost use Rattle.nc_text.specs.MarkedText.{MarkedText, IsText, with_span};
 ghost use Rattle.nc_gens.specs.Rule.{generation_raised};
 ghost use Rattle.nc_region.specs.Acts.{Tells, puts_where, is_mark, is_marked_at, is_unmarked_at, acts_of_delete};
-ghost use Rattle.nc_region.specs.Chunks.{IsPlaced, HasPut};
+ghost use Rattle.nc_region.specs.Chunks.{HasGoodSpan};
+ghost use Rattle.nc_region.specs.machinery.Between.{HasPut};
 
 use crate::acts::Acts;
 use nc_decode::Mark;
@@ -17,7 +18,7 @@ const STOP: u8 = 0xF4;
 /// Puts stops at all places of a chunk, and draws the stamp.
 pub(crate) fn put_stops<A: Acts>(acts: &mut A, base: u32, len: u32) -> u64
     requires whole { IsText (A.marked acts.old) }
-    requires placed { IsPlaced base (limit_of (A.marked acts.old).bytes) len }
+    requires placed { HasGoodSpan base (limit_of (A.marked acts.old).bytes) len }
     requires room { (A.keeper acts.old).numbers.generation < 2 ^ 62 }
     ensures bytes { (A.marked acts.new).bytes ≡ with_span (A.marked acts.old).bytes (base - 65536) (replicate len 244) }
     ensures marks { (A.marked acts.new).marks ≡ (A.marked acts.old).marks }
@@ -47,12 +48,14 @@ fn is_mark(mark: Mark) -> bool
 /// Puts stops at the marked places, rising.
 fn stop_marked<A: Acts>(acts: &mut A, base: u32, len: u32)
     requires whole { IsText (A.marked acts.old) }
-    requires placed { IsPlaced base (limit_of (A.marked acts.old).bytes) len }
-    ensures bytes { HasPut (is_marked_at (A.marked acts.old).marks) base (replicate len 244) len (A.marked acts.old).bytes (A.marked acts.new).bytes }
+    requires placed { HasGoodSpan base (limit_of (A.marked acts.old).bytes) len }
+    ensures bytes { HasPut (is_marked_at (A.marked acts.old).marks) base (replicate len 244) len (A.marked acts.old).bytes
+        (A.marked acts.new).bytes }
     ensures marks { (A.marked acts.new).marks ≡ (A.marked acts.old).marks }
     ensures whole { IsText (A.marked acts.new) }
     ensures keeper { A.keeper acts.new ≡ A.keeper acts.old }
-    ensures told { Tells (A.told acts.old) (A.told acts.new) (puts_where (is_marked_at (A.marked acts.old).marks) base (replicate len 244)) }
+    ensures told { Tells (A.told acts.old) (A.told acts.new)
+        (puts_where (is_marked_at (A.marked acts.old).marks) base (replicate len 244)) }
 {
     for i in 0..len {
         let at = base + i;
@@ -65,14 +68,16 @@ fn stop_marked<A: Acts>(acts: &mut A, base: u32, len: u32)
 /// Puts stops at the other places, rising.
 fn stop_others<A: Acts>(acts: &mut A, base: u32, len: u32)
     requires whole { IsText (A.marked acts.old) }
-    requires placed { IsPlaced base (limit_of (A.marked acts.old).bytes) len }
+    requires placed { HasGoodSpan base (limit_of (A.marked acts.old).bytes) len }
     requires stopped { (at : ℕ) → base ≤ at → at < base + len → is_marked_at (A.marked acts.old).marks at ≡ true
         → byte_at (A.marked acts.old).bytes at ≡ 244 }
-    ensures bytes { HasPut (is_unmarked_at (A.marked acts.old).marks) base (replicate len 244) len (A.marked acts.old).bytes (A.marked acts.new).bytes }
+    ensures bytes { HasPut (is_unmarked_at (A.marked acts.old).marks) base (replicate len 244) len (A.marked acts.old).bytes
+        (A.marked acts.new).bytes }
     ensures marks { (A.marked acts.new).marks ≡ (A.marked acts.old).marks }
     ensures whole { IsText (A.marked acts.new) }
     ensures keeper { A.keeper acts.new ≡ A.keeper acts.old }
-    ensures told { Tells (A.told acts.old) (A.told acts.new) (puts_where (is_unmarked_at (A.marked acts.old).marks) base (replicate len 244)) }
+    ensures told { Tells (A.told acts.old) (A.told acts.new)
+        (puts_where (is_unmarked_at (A.marked acts.old).marks) base (replicate len 244)) }
 {
     for i in 0..len {
         let at = base + i;

@@ -56,6 +56,3 @@ pub use recorder::Recorder;
 pub use region::{Region, RegionOf};
 pub use shared::Shared;
 pub use trace::{End, Trace};
-
-#[cfg(test)]
-mod tests;

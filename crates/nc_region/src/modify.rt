@@ -11,12 +11,12 @@ ghost use Rattle.nc_text.specs.Places.{byte_at, limit_of};
 ghost use Rattle.nc_text.specs.MarkedText.{MarkedText, IsText, with_span};
 ghost use Rattle.nc_region.specs.declared.chunk.Chunk.{Chunk};
 ghost use Rattle.nc_region.specs.Acts.{Tells, puts_where};
-ghost use Rattle.nc_region.specs.Chunks.{HasPut};
+ghost use Rattle.nc_region.specs.machinery.Between.{HasPut};
 ghost use Rattle.nc_region.specs.declared.acts.Act.{Act};
 ghost use Rattle.nc_region.specs.Region.{HoldsValid, IsInChunk};
 ghost use Rattle.nc_region.specs.Patch.{IsPatchSpan, AreBytesOf, AreInstructions, IsRun, GoWell, stands_there, any_place};
 ghost use Rattle.nc_region.specs.Patch.{acts_of_instruction, acts_of_modify};
-ghost use Rattle.nc_region.specs.PatchSteps.{IsReplacing, IsInterim, Begins, Along, RunsAlong, NoneIndirect, is_after, CanPatch};
+ghost use Rattle.nc_region.specs.machinery.PatchSteps.{IsReplacing, IsInterim, Begins, Along, RunsAlong, NoneIndirect, is_after, CanPatch};
 
 use crate::acts::Acts;
 use crate::chunk::Chunk;
@@ -233,7 +233,8 @@ fn put_where_new<A: Acts>(acts: &mut A, at: u32, bytes: &[u8])
     ensures marks { (A.marked acts.new).marks ≡ (A.marked acts.old).marks }
     ensures whole { IsText (A.marked acts.new) }
     ensures keeper { A.keeper acts.new ≡ A.keeper acts.old }
-    ensures told { Tells (A.told acts.old) (A.told acts.new) (if stands_there (A.marked acts.old).bytes at bytes.now then [] else acts_of_instruction at bytes.now) }
+    ensures told { Tells (A.told acts.old) (A.told acts.new)
+        (if stands_there (A.marked acts.old).bytes at bytes.now then [] else acts_of_instruction at bytes.now) }
 {
     if stands_there(acts, at, bytes) {
         return;
@@ -269,7 +270,8 @@ fn put_longer<A: Acts>(acts: &mut A, at: u32, first: u8, rest: &[u8])
     ensures marks { (A.marked acts.new).marks ≡ (A.marked acts.old).marks }
     ensures whole { IsText (A.marked acts.new) }
     ensures keeper { A.keeper acts.new ≡ A.keeper acts.old }
-    ensures told { Tells (A.told acts.old) (A.told acts.new) (Act.Put at 244 ∷ (puts_where any_place (at + 1) rest.now ++ (Act.Put at first ∷ []))) }
+    ensures told { Tells (A.told acts.old) (A.told acts.new)
+        (Act.Put at 244 ∷ (puts_where any_place (at + 1) rest.now ++ (Act.Put at first ∷ []))) }
 {
     acts.put(at, STOP);
     put_rest(acts, at, rest);

@@ -55,7 +55,8 @@ impl<A: Acts + Drop> Recorder<A> {
         ensures acts { self.new.acts ≡ self.old.acts }
         // It goes on telling exactly where it told and there was room.
         ensures goes_on { (self.new.full ≡ false) ↔ ((self.old.full ≡ false) × (vec_len self.old.log < vec_capacity self.old.log)) }
-        ensures told { Tells (if self.old.full then None else Some self.old.log.items) (if self.new.full then None else Some self.new.log.items) (act ∷ []) }
+        ensures told { Tells (if self.old.full then None else Some self.old.log.items)
+            (if self.new.full then None else Some self.new.log.items) (act ∷ []) }
     {
         if self.full || self.log.len() == self.log.capacity() {
             self.full = true;
@@ -80,7 +81,8 @@ impl<A: Acts + Drop> Acts for Recorder<A> {
         ensures marked { A.marked self.new.acts ≡ with_byte (A.marked self.old.acts) at byte }
         ensures whole { IsText (A.marked self.new.acts) }
         ensures keeper { A.keeper self.new.acts ≡ A.keeper self.old.acts }
-        ensures told { Tells (if self.old.full then None else Some self.old.log.items) (if self.new.full then None else Some self.new.log.items) (Act.Put at byte ∷ []) }
+        ensures told { Tells (if self.old.full then None else Some self.old.log.items)
+            (if self.new.full then None else Some self.new.log.items) (Act.Put at byte ∷ []) }
         ensures goes_on { (self.new.full ≡ false) ↔ ((self.old.full ≡ false) × (vec_len self.old.log < vec_capacity self.old.log)) }
     {
         self.acts.put(at, byte);
@@ -95,7 +97,8 @@ impl<A: Acts + Drop> Acts for Recorder<A> {
         ensures marked { A.marked self.new.acts ≡ with_marks (A.marked self.old.acts) at marks.now }
         ensures whole { IsText (A.marked self.new.acts) }
         ensures keeper { A.keeper self.new.acts ≡ A.keeper self.old.acts }
-        ensures told { Tells (if self.old.full then None else Some self.old.log.items) (if self.new.full then None else Some self.new.log.items) (Act.MarkSpan at (length marks.now) ∷ []) }
+        ensures told { Tells (if self.old.full then None else Some self.old.log.items)
+            (if self.new.full then None else Some self.new.log.items) (Act.MarkSpan at (length marks.now) ∷ []) }
         ensures goes_on { (self.new.full ≡ false) ↔ ((self.old.full ≡ false) × (vec_len self.old.log < vec_capacity self.old.log)) }
     {
         self.acts.mark_span(at, marks);
@@ -109,7 +112,8 @@ impl<A: Acts + Drop> Acts for Recorder<A> {
         ensures marked { A.marked self.new.acts ≡ without_marks (A.marked self.old.acts) at len }
         ensures whole { IsText (A.marked self.new.acts) }
         ensures keeper { A.keeper self.new.acts ≡ A.keeper self.old.acts }
-        ensures told { Tells (if self.old.full then None else Some self.old.log.items) (if self.new.full then None else Some self.new.log.items) (Act.UnmarkSpan at len ∷ []) }
+        ensures told { Tells (if self.old.full then None else Some self.old.log.items)
+            (if self.new.full then None else Some self.new.log.items) (Act.UnmarkSpan at len ∷ []) }
         ensures goes_on { (self.new.full ≡ false) ↔ ((self.old.full ≡ false) × (vec_len self.old.log < vec_capacity self.old.log)) }
     {
         self.acts.unmark_span(at, len);
@@ -131,8 +135,10 @@ impl<A: Acts + Drop> Acts for Recorder<A> {
     fn bump(&mut self) -> Result<u64, GensFull>
         ensures room { IsOk result ↔ ((A.keeper self.old.acts).numbers.generation < 2 ^ 62) }
         ensures stamp { IfOk result (λ n. n ≡ (A.keeper self.old.acts).numbers.generation + 1) }
-        ensures raised { OnOk result (A.keeper self.new.acts ≡ record (A.keeper self.old.acts) { numbers = generation_raised (A.keeper self.old.acts).numbers }) }
-        ensures told { OnOk result (Tells (if self.old.full then None else Some self.old.log.items) (if self.new.full then None else Some self.new.log.items) (Act.Bump ∷ [])) }
+        ensures raised { OnOk result (A.keeper self.new.acts
+            ≡ record (A.keeper self.old.acts) { numbers = generation_raised (A.keeper self.old.acts).numbers }) }
+        ensures told { OnOk result (Tells (if self.old.full then None else Some self.old.log.items)
+            (if self.new.full then None else Some self.new.log.items) (Act.Bump ∷ [])) }
         ensures goes_on { OnOk result ((self.new.full ≡ false) ↔ ((self.old.full ≡ false)
             × (vec_len self.old.log < vec_capacity self.old.log))) }
         ensures marked { A.marked self.new.acts ≡ A.marked self.old.acts }
@@ -151,7 +157,8 @@ impl<A: Acts + Drop> Acts for Recorder<A> {
         ensures looked { HasLooked (A.keeper self.old.acts) (A.keeper self.new.acts) }
         ensures least { result ≡ least_number (A.keeper self.new.acts).numbers }
         ensures marked { A.marked self.new.acts ≡ A.marked self.old.acts }
-        ensures told { Tells (if self.old.full then None else Some self.old.log.items) (if self.new.full then None else Some self.new.log.items) (Act.Look ∷ []) }
+        ensures told { Tells (if self.old.full then None else Some self.old.log.items)
+            (if self.new.full then None else Some self.new.log.items) (Act.Look ∷ []) }
         ensures goes_on { (self.new.full ≡ false) ↔ ((self.old.full ≡ false) × (vec_len self.old.log < vec_capacity self.old.log)) }
     {
         let least = self.acts.look();

@@ -37,11 +37,11 @@ use std::marker::Model;
 /// A region over a text that tells nothing of its acts.
 pub type Region<'g> = RegionOf<Plain<'g>>;
 
-/// A region of code from 00010000 to its limit, reached through `A` alone.
+/// A region of code from 00010000 to its limit, reached only through `A`.
 ///
-/// Every value of the type is confined: each path through its text that begins at a bundle start stands on safe states
-/// alone. A live chunk's bytes and marks are those of a valid chunk; all other bytes are F4, and outside chunks only bundle
-/// starts are marked. Chunks are listed by rising base and never overlap.
+/// Every value of the type is confined: each path through its text that begins at a bundle start stands only on
+/// safe states. A live chunk's bytes and marks are those of a valid chunk; all other bytes are F4, and outside chunks only
+/// bundle starts are marked. Chunks are listed by rising base and never overlap.
 #[derive(Drop)]
 pub struct RegionOf<A: Acts + Drop> {
     acts: A,
@@ -72,7 +72,8 @@ impl<'g> RegionOf<Plain<'g>> {
         ensures lawful { OnOk result (IsLawfulLimit (0x10000 + 32 * bundles)) }
         ensures size { IfErr result (λ e. (e.1 ≡ RegionFault.BadSize) ↔ ¬ IsLawfulLimit (0x10000 + 32 * bundles)) }
         ensures given_back { IfErr result (λ e. e.0 ≡ keeper) }
-        ensures region { IfOk result (λ r. r ≡ record { marked = unused_text (0x10000 + 32 * bundles); chunks = []; keeper = keeper; told = None }) }
+        ensures region { IfOk result (λ r. r
+            ≡ record { marked = unused_text (0x10000 + 32 * bundles); chunks = []; keeper = keeper; told = None }) }
         ensures confined { IfOk result (λ r. IsConfined r.marked.bytes) }
     {
         match Text::new(alloc, bundles) {
@@ -112,7 +113,7 @@ impl<A: Acts + Drop> RegionOf<A> {
         &self.acts
     }
 
-    /// The address behind the region's last byte.
+    /// The address after the region's last byte.
     pub fn limit(&self) -> u32
         ensures limit { result ≡ limit_of self.now.marked.bytes }
         ensures region { IsRegion self.now.marked self.now.chunks }
@@ -198,7 +199,7 @@ impl<A: Acts + Drop> RegionOf<A> {
         // Exactly the acts of a patch were done, where they are told.
         ensures acts { OnOk result ((news : List Piece) → AreBytesOf new.now news
             → Tells self.old.told self.new.told (acts_of_modify self.old.marked.bytes at news)) }
-        // Lawful patches alone are made.
+        // Only lawful patches are made.
         ensures lawful { OnOk result (IsPatch self.old at new.now) }
         // Text, marks, chunks and acts are as before.
         ensures unchanged { IfErr result (λ e. self.new ≡ self.old) }
@@ -291,7 +292,7 @@ impl<A: Acts + Drop> RegionOf<A> {
     /// At a branch the choice 0 falls through, and every other one goes to the target. An indirect transfer goes to the
     /// choice with its low five bits cleared, if that is below the limit. Each other step uses up a choice too. The
     /// walk ends below the region, at a stop, where no choice is left, or by an indirect transfer to the limit or above
-    /// it; choices that are left then are ignored. Its places alone take memory, and the region stays as it is.
+    /// it; choices that are left then are ignored. Only its places take memory, and the region stays as it is.
     ///
     /// Nothing is executed: the choices stand for what data and flags would decide. `NotBundle` is answered without memory.
     pub fn walk(&self, start: u32, choices: &[u32]) -> Result<Trace, WalkFault>
@@ -299,7 +300,7 @@ impl<A: Acts + Drop> RegionOf<A> {
         ensures trace { IfOk result (λ t. IsTrace self.now.marked.bytes start choices.now t.places.items t.end) }
         // The start and the choices determine them.
         ensures only { IfOk result (λ t. IsOnlyTrace self.now.marked.bytes start choices.now t.places.items t.end) }
-        // The machine stands on safe states alone.
+        // The machine stands only on safe states.
         ensures safe { IfOk result (λ t. IsSafeWalk self.now.marked.bytes start choices.now t.end) }
         ensures begins { OnOk result (IsWalkStart self.now.marked.bytes start) }
         // Each refusal comes where it is due.

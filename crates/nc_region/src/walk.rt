@@ -33,7 +33,7 @@ impl State {
     }
 }
 
-/// The trace of a walk from a bundle start of the region. Its places alone take memory.
+/// The trace of a walk from a bundle start of the region. Only its places take memory.
 pub(crate) fn walk_from<A: Acts>(
     alloc: Global,
     acts: &A,
@@ -111,7 +111,7 @@ pub(crate) fn instruction<A: Acts>(acts: &A, at: u32) -> Instr
     instr
 }
 
-/// The bytes from a place to the end of its bundle, and zeros behind them.
+/// The bytes from a place to the end of its bundle, and zeros after them.
 fn read_bundle<A: Acts>(acts: &A, at: u32) -> [u8; 32]
     requires whole { IsText (A.marked acts.now) }
     requires inside { InRegion (A.marked acts.now).bytes at }

@@ -1,11 +1,1 @@
-pub mod machinery
-pub mod Lines
-pub mod Answering
-pub mod Requests
-pub mod Script
-pub mod Replies
-pub mod Answers
-pub mod Run
-pub mod Laws
-pub mod Vetting
 pub mod Start

@@ -1,34 +1,17 @@
-//! Scripts for a code region, and chunks to be vetted: lines in, one reply line for each out.
+//! The program `nc_replay`: scripts for a code region, and chunks to be vetted, from standard input to standard output.
 //!
-//! The program `nc_replay` has two subcommands, which read standard input and write standard output. `replay` runs a
-//! script: it creates chunks in a code region, walks through them and shows them. `vet` only vets chunks, several at a
-//! time. `start` does both over any reader and writer, by `replay::run` and `vetting::vet_lines`.
-//!
-//! Below them `stream` reads lines of any length in pieces, and hands each to whatever replies to one line
-//! (`responder`): `session` replies by a region's calls, and `batch` gathers lines that are to be vetted. `request` reads
-//! what a line asks for.
+//! It has two subcommands. `replay` runs a script: it creates chunks in a code region, walks through them and shows them.
+//! `vet` only vets chunks, several at a time. `ask` reads the command line, and `start` does what it asks for over any
+//! reader and writer, by the calls of `nc_script`.
 #![tactic(auto)]
 
-mod answer;
 pub mod asked;
-mod batch;
 pub mod command_line;
-pub mod fault;
-mod lines;
-mod output;
 pub mod program;
-pub mod replay;
-mod request;
-mod responder;
-mod session;
-mod stream;
-mod verdicts;
-pub mod vetting;
-mod words;
 
 use clap::error::ErrorKind as ClapKind;
 use command_line::not_utf8;
-use fault::ReplayFault;
+pub use nc_script::{ReplayFault, run, vet_lines};
 use program::{Halt, start};
 use std::io::{ErrorKind, Input};
 use std::process::ExitCode;

@@ -5,10 +5,8 @@ ghost use Rattle.nc_replay.specs.Start.{IfWords, IfRun, HasReplayed, HasVettedLi
 
 use crate::asked::Ask;
 use crate::command_line::ask;
-use crate::fault::ReplayFault;
-use crate::replay::run;
-use crate::vetting::vet_lines;
 use clap::error::ErrorKind;
+use nc_script::{ReplayFault, run, vet_lines};
 use nc_work::Open;
 use std::alloc::Global;
 use std::io::{Read, Write};

@@ -15,9 +15,12 @@ put-requires-clause-closed g c =
     let i = c.loop-i.i in
     let old = g.A.Acts.marked c.args.acts.now in
     let now = g.A.Acts.marked c.loop-i.acts in
-    let next = put_more is_inside base c.args.code.now i old.bytes now.bytes c.loop-i.invariant.bytes c.requires.placed.low (omega (arith, c.requires.placed.high)) (is_inside_true (base + i) c.if-at-ne0.true) in
-    subst (λ (marks : List Mark). IsClosed (set now.bytes (base + i - 65536) (get_or c.args.code.now i 0)) marks) (sym c.loop-i.invariant.marks)
-    (inside_closed old (set now.bytes (base + i - 65536) (get_or c.args.code.now i 0)) base c.args.code.now (i + 1) c.requires.placed (omega arith) c.requires.whole.closed c.requires.unused next)
+    let next = put_more is_inside base c.args.code.now i old.bytes now.bytes c.loop-i.invariant.bytes c.requires.placed.low
+    (omega (arith, c.requires.placed.high)) (is_inside_true (base + i) c.if-at-ne0.true) in
+    subst (λ (marks : List Mark). IsClosed (set now.bytes (base + i - 65536) (get_or c.args.code.now i 0)) marks)
+    (sym c.loop-i.invariant.marks)
+    (inside_closed old (set now.bytes (base + i - 65536) (get_or c.args.code.now i 0)) base c.args.code.now (i + 1) c.requires.placed
+    (omega arith) c.requires.whole.closed c.requires.unused next)
 
 pub loop-i-preserved : goal.loop-i-preserved
 loop-i-preserved g c =
@@ -30,7 +33,8 @@ loop-i-preserved g c =
           let is = is_inside_true (base + i) w.if-at-ne0.true in
           let e = w.put.ensures.marked in
           rw w.acts-is (record {
-            bytes = rw e (put_more is_inside base c.args.code.now i old.bytes now.bytes c.loop-i.invariant.bytes c.requires.placed.low (omega (arith, c.requires.placed.high)) is);
+            bytes = rw e (put_more is_inside base c.args.code.now i old.bytes now.bytes c.loop-i.invariant.bytes c.requires.placed.low
+                (omega (arith, c.requires.placed.high)) is);
             marks = rw e c.loop-i.invariant.marks;
             whole = w.put.ensures.whole;
             keeper = w.put.ensures.keeper ∙ c.loop-i.invariant.keeper;

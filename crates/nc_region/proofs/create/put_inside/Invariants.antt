@@ -1,7 +1,7 @@
 use Rattle.std.proofs.Common.{◌≡◌, take}
 use Rattle.nc_text.specs.MarkedText.{IsText}
 use Rattle.nc_region.specs.Acts.{Tells, puts_where, is_inside}
-use Rattle.nc_region.specs.Chunks.{HasPut}
+use Rattle.nc_region.specs.machinery.Between.{HasPut}
 use Rattle.nc_region.proofs.create.put_inside.Given as goal
 
 abbrev pub invariant-loop-i : goal.invariant-loop-i

@@ -3,7 +3,7 @@ use Rattle.nc_decode.specs.declared.instruction.Mark.{Mark}
 use Rattle.nc_text.specs.Marks.{IsClosed}
 use Rattle.nc_text.specs.MarkedText.{with_span}
 use Rattle.nc_region.specs.Acts.{is_start}
-use Rattle.nc_region.specs.Chunks.{IsFinalBut}
+use Rattle.nc_region.specs.machinery.Between.{IsFinalBut}
 use Rattle.nc_region.proofs.Told.{told_put, told_passed}
 use Rattle.nc_region.proofs.Creating.{final_but_closed, final_all, start_put, start_passed}
 use Rattle.nc_region.proofs.SpanPlaces.{is_start_true, is_start_false}
@@ -16,9 +16,13 @@ put-requires-clause-closed g c =
     let i = c.loop-i.i in
     let old = g.A.Acts.marked c.args.acts.now in
     let now = g.A.Acts.marked c.loop-i.acts in
-    let next = start_put old.bytes now.bytes base c.args.code.now i c.requires.placed.low (omega (arith, c.requires.placed.high)) (omega arith) c.loop-i.invariant.bytes in
-    subst (λ (marks : List Mark). IsClosed (set now.bytes (base + i - 65536) (get_or c.args.code.now i 0)) marks) (sym c.loop-i.invariant.marks)
-    (final_but_closed (with_span old.bytes (base - 65536) c.args.code.now) (set now.bytes (base + i - 65536) (get_or c.args.code.now i 0)) old.marks (base + (i + 1)) (base + length c.args.code.now) (omega arith) c.requires.closed next)
+    let next = start_put old.bytes now.bytes base c.args.code.now i c.requires.placed.low (omega (arith, c.requires.placed.high))
+    (omega arith) c.loop-i.invariant.bytes in
+    subst (λ (marks : List Mark). IsClosed (set now.bytes (base + i - 65536) (get_or c.args.code.now i 0)) marks)
+    (sym c.loop-i.invariant.marks)
+    (final_but_closed (with_span old.bytes (base - 65536) c.args.code.now)
+    (set now.bytes (base + i - 65536) (get_or c.args.code.now i 0)) old.marks (base + (i + 1)) (base + length c.args.code.now)
+    (omega arith) c.requires.closed next)
 
 pub loop-i-preserved : goal.loop-i-preserved
 loop-i-preserved g c =
@@ -31,7 +35,8 @@ loop-i-preserved g c =
           let is = is_start_true (base + i) w.if-at-eq0.true in
           let e = w.put.ensures.marked in
           rw w.acts-is (record {
-            bytes = rw e (start_put old.bytes now.bytes base c.args.code.now i c.requires.placed.low (omega (arith, c.requires.placed.high)) (omega arith) c.loop-i.invariant.bytes);
+            bytes = rw e (start_put old.bytes now.bytes base c.args.code.now i c.requires.placed.low
+                (omega (arith, c.requires.placed.high)) (omega arith) c.loop-i.invariant.bytes);
             marks = rw e c.loop-i.invariant.marks;
             whole = w.put.ensures.whole;
             keeper = w.put.ensures.keeper ∙ c.loop-i.invariant.keeper;
@@ -40,7 +45,8 @@ loop-i-preserved g c =
       | else-at-eq0 w ↦
           let not = is_start_false (base + i) w.if-at-eq0.false in
           rw w.acts-is (record {
-            bytes = start_passed (with_span old.bytes (base - 65536) c.args.code.now) now.bytes base i (base + length c.args.code.now) w.if-at-eq0.false c.loop-i.invariant.bytes;
+            bytes = start_passed (with_span old.bytes (base - 65536) c.args.code.now) now.bytes base i
+                (base + length c.args.code.now) w.if-at-eq0.false c.loop-i.invariant.bytes;
             marks = c.loop-i.invariant.marks;
             whole = c.loop-i.invariant.whole;
             keeper = c.loop-i.invariant.keeper;
@@ -53,5 +59,6 @@ returns-clause-bytes g c =
     let old = g.A.Acts.marked c.args.acts.now in
     let now = g.A.Acts.marked c.loop-i.acts in
     let end : c.loop-i.i ≡ length c.args.code.now = omega arith in
-    let f = subst (λ (k : ℕ). IsFinalBut (with_span old.bytes (c.args.base - 65536) c.args.code.now) now.bytes (c.args.base + k) (c.args.base + length c.args.code.now)) end c.loop-i.invariant.bytes in
+    let f = subst (λ (k : ℕ). IsFinalBut (with_span old.bytes (c.args.base - 65536) c.args.code.now) now.bytes (c.args.base + k)
+    (c.args.base + length c.args.code.now)) end c.loop-i.invariant.bytes in
     final_all (with_span old.bytes (c.args.base - 65536) c.args.code.now) now.bytes (c.args.base + length c.args.code.now) f

@@ -1,13 +1,14 @@
 use Rattle.std.proofs.Common.{◌≡◌, ◌+◌, ◌-◌, length, take}
 use Rattle.nc_text.specs.MarkedText.{IsText, with_span}
 use Rattle.nc_region.specs.Acts.{Tells, puts_where, is_start}
-use Rattle.nc_region.specs.Chunks.{IsFinalBut}
+use Rattle.nc_region.specs.machinery.Between.{IsFinalBut}
 use Rattle.nc_region.proofs.create.put_starts.Given as goal
 
 abbrev pub invariant-loop-i : goal.invariant-loop-i
 invariant-loop-i g l =
     record {
-      bytes : IsFinalBut (with_span (g.A.Acts.marked l.initial.acts).bytes (l.base - 65536) l.code) (g.A.Acts.marked l.acts).bytes (l.base + l.i) (l.base + length l.code);
+      bytes : IsFinalBut (with_span (g.A.Acts.marked l.initial.acts).bytes (l.base - 65536) l.code) (g.A.Acts.marked l.acts).bytes
+          (l.base + l.i) (l.base + length l.code);
       marks : (g.A.Acts.marked l.acts).marks ≡ (g.A.Acts.marked l.initial.acts).marks;
       whole : IsText (g.A.Acts.marked l.acts);
       keeper : g.A.Acts.keeper l.acts ≡ g.A.Acts.keeper l.initial.acts;

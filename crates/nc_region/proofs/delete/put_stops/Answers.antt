@@ -2,7 +2,7 @@ use Rattle.std.proofs.Common.{◌≡◌, ℕ, ◌+◌, ◌-◌, ◌<◌, ◌≤�
 use Rattle.nc_decode.specs.declared.instruction.Mark.{Mark}
 use Rattle.nc_region.specs.declared.acts.Act.TheVariants.{Bump}
 use Rattle.nc_region.specs.Acts.{is_unmarked_at}
-use Rattle.nc_region.specs.Chunks.{HasPut}
+use Rattle.nc_region.specs.machinery.Between.{HasPut}
 use Rattle.nc_region.proofs.Told.{tells_more}
 use Rattle.nc_region.proofs.Deleting.{all_stops}
 use Rattle.nc_region.proofs.delete.put_stops.Goals as goal
@@ -12,8 +12,10 @@ returns-clause-bytes g c =
     let old = g.A.Acts.marked c.args.acts.now in
     let mid = g.A.Acts.marked c.stop_marked.new.acts in
     let now = g.A.Acts.marked c.stop_others.new.acts in
-    let second = subst (λ (marks : List Mark). HasPut (is_unmarked_at marks) c.args.base (replicate c.args.len 244) c.args.len mid.bytes now.bytes) c.stop_marked.ensures.marks c.stop_others.ensures.bytes in
-    rw c.bump.ensures.marked (all_stops old.bytes mid.bytes now.bytes old.marks c.args.base c.args.len c.requires.placed.low (omega (arith, c.requires.placed.high)) c.stop_marked.ensures.bytes second)
+    let second = subst (λ (marks : List Mark). HasPut (is_unmarked_at marks) c.args.base
+    (replicate c.args.len 244) c.args.len mid.bytes now.bytes) c.stop_marked.ensures.marks c.stop_others.ensures.bytes in
+    rw c.bump.ensures.marked (all_stops old.bytes mid.bytes now.bytes old.marks c.args.base c.args.len c.requires.placed.low
+    (omega (arith, c.requires.placed.high)) c.stop_marked.ensures.bytes second)
 
 pub returns-clause-told : goal.returns-clause-told
 returns-clause-told g c =

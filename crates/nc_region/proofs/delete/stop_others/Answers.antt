@@ -7,7 +7,7 @@ use Rattle.nc_text.specs.MarkedText.{MarkedText, IsText}
 use Rattle.nc_region.specs.declared.acts.Act.{Act}
 use Rattle.nc_region.specs.declared.acts.Act.TheVariants.{Put}
 use Rattle.nc_region.specs.Acts.{is_unmarked_at, is_mark, Tells}
-use Rattle.nc_region.specs.Chunks.{HasPut}
+use Rattle.nc_region.specs.machinery.Between.{HasPut}
 use Rattle.nc_region.proofs.Puts.{put_more, put_passed}
 use Rattle.nc_region.proofs.Told.{told_put, told_passed}
 use Rattle.nc_region.proofs.Deleting.{others_closed}
@@ -21,11 +21,15 @@ put-requires-clause-closed g c =
     let old = g.A.Acts.marked c.args.acts.now in
     let now = g.A.Acts.marked c.loop-i.acts in
     let byte = get_or-replicate {A = ℕ} c.args.len i 244 0 (omega arith) in
-    let is : is_unmarked_at old.marks (base + i) ≡ true = rw (← c.loop-i.invariant.marks, ← c.mark.ensures, ← c.is_mark.ensures) (ap not c.if-not-is_mark.true) in
-    let next = put_more (is_unmarked_at old.marks) base (replicate c.args.len 244) i old.bytes now.bytes c.loop-i.invariant.bytes c.requires.placed.low (omega (arith, c.requires.placed.high)) is in
+    let is : is_unmarked_at old.marks (base + i) ≡ true =
+    rw (← c.loop-i.invariant.marks, ← c.mark.ensures, ← c.is_mark.ensures) (ap not c.if-not-is_mark.true) in
+    let next = put_more (is_unmarked_at old.marks) base
+    (replicate c.args.len 244) i old.bytes now.bytes c.loop-i.invariant.bytes c.requires.placed.low
+    (omega (arith, c.requires.placed.high)) is in
     subst (λ (marks : List Mark). IsClosed (set now.bytes (base + i - 65536) 244) marks) (sym c.loop-i.invariant.marks)
     (subst (λ (b : ℕ). IsClosed (set now.bytes (base + i - 65536) b) old.marks) byte
-    (others_closed old (set now.bytes (base + i - 65536) (get_or (replicate c.args.len 244) i 0)) base c.args.len (i + 1) c.requires.placed (omega arith) c.requires.whole.closed c.requires.stopped next))
+    (others_closed old (set now.bytes (base + i - 65536) (get_or (replicate c.args.len 244) i 0)) base c.args.len (i + 1) c.requires.placed
+    (omega arith) c.requires.whole.closed c.requires.stopped next))
 
 pub loop-i-preserved : goal.loop-i-preserved
 loop-i-preserved g c =
@@ -37,19 +41,27 @@ loop-i-preserved g c =
     let short : i < length (replicate {A = ℕ} c.args.len 244) = omega (arith, length-replicate {A = ℕ} c.args.len 244) in
     elim c.if-not-is_mark.branch [
       | then-not-is_mark w ↦
-          let is : is_unmarked_at old.marks (base + i) ≡ true = rw (← c.loop-i.invariant.marks, ← c.mark.ensures, ← c.is_mark.ensures) (ap not w.if-not-is_mark.true) in
+          let is : is_unmarked_at old.marks (base + i) ≡ true =
+          rw (← c.loop-i.invariant.marks, ← c.mark.ensures, ← c.is_mark.ensures) (ap not w.if-not-is_mark.true) in
           let e = w.put.ensures.marked in
           rw w.acts-is (record {
-            bytes = rw e (subst (λ (b : ℕ). HasPut (is_unmarked_at old.marks) base (replicate c.args.len 244) (i + 1) old.bytes (set now.bytes (base + i - 65536) b)) byte (put_more (is_unmarked_at old.marks) base (replicate c.args.len 244) i old.bytes now.bytes c.loop-i.invariant.bytes c.requires.placed.low (omega (arith, c.requires.placed.high)) is));
+            bytes = rw e (subst (λ (b : ℕ). HasPut (is_unmarked_at old.marks) base (replicate c.args.len 244) (i + 1) old.bytes
+                (set now.bytes (base + i - 65536) b)) byte
+                (put_more (is_unmarked_at old.marks) base
+                (replicate c.args.len 244) i old.bytes now.bytes c.loop-i.invariant.bytes c.requires.placed.low
+                (omega (arith, c.requires.placed.high)) is));
             marks = rw e c.loop-i.invariant.marks;
             whole = w.put.ensures.whole;
             keeper = w.put.ensures.keeper ∙ c.loop-i.invariant.keeper;
-            told = told_put (is_unmarked_at old.marks) base (replicate c.args.len 244) i _ _ _ short is c.loop-i.invariant.told (rw byte w.put.ensures.told);
+            told = told_put (is_unmarked_at old.marks) base (replicate c.args.len 244) i _ _ _ short is c.loop-i.invariant.told
+                (rw byte w.put.ensures.told);
           })
       | else-not-is_mark w ↦
-          let is : is_unmarked_at old.marks (base + i) ≡ false = rw (← c.loop-i.invariant.marks, ← c.mark.ensures, ← c.is_mark.ensures) (ap not w.if-not-is_mark.false) in
+          let is : is_unmarked_at old.marks (base + i) ≡ false =
+          rw (← c.loop-i.invariant.marks, ← c.mark.ensures, ← c.is_mark.ensures) (ap not w.if-not-is_mark.false) in
           rw w.acts-is (record {
-            bytes = put_passed (is_unmarked_at old.marks) base (replicate c.args.len 244) i old.bytes now.bytes c.loop-i.invariant.bytes is;
+            bytes = put_passed (is_unmarked_at old.marks) base
+                (replicate c.args.len 244) i old.bytes now.bytes c.loop-i.invariant.bytes is;
             marks = c.loop-i.invariant.marks;
             whole = c.loop-i.invariant.whole;
             keeper = c.loop-i.invariant.keeper;

@@ -15,5 +15,6 @@ returns-clause-meets c = λ meets.
     let none : Chunk = record { base = 0; length = 0; state = Live } in
     let lt : c.args.k < length c.args.chunks.now = omega arith in
     let above = c.requires.above c.args.k none (omega arith) lt in
-    let ends = each_get (λ (d : Chunk). (0 < d.length) × (d.base + d.length < 2 ^ 32)) c.args.chunks.now c.args.k none lt c.requires.ends in
+    let ends = each_get (λ (d : Chunk). (0 < d.length)
+    × (d.base + d.length < 2 ^ 32)) c.args.chunks.now c.args.k none lt c.requires.ends in
     meets_at c.args.chunks.now c.args.k c.args.base c.args.len none lt (omega (arith, above, ends.0)) (leb-false _ _ meets)

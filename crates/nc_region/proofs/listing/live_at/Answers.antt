@@ -10,17 +10,24 @@ use Rattle.nc_region.proofs.listing.live_at.Goals as goal
 pub returns-then-k-eq0-clause-none : goal.returns-then-k-eq0-clause-none
 returns-then-k-eq0-clause-none c = λ h.
     let none : Chunk = record { base = 0; length = 0; state = Live } in
-    let last = held_last c.args.chunks.now c.count_to-k.result c.args.base none c.requires.rising c.count_to-k.ensures.bound c.count_to-k.ensures.below c.count_to-k.ensures.above (live_is_held c.args.chunks.now c.args.base c.requires.some h) in
+    let last = held_last c.args.chunks.now c.count_to-k.result c.args.base none c.requires.rising c.count_to-k.ensures.bound
+    c.count_to-k.ensures.below c.count_to-k.ensures.above (live_is_held c.args.chunks.now c.args.base c.requires.some h) in
     omega (arith, last.0, c.if-k-eq0.true)
 
 pub returns-then-not-is_live_from-clause-none : goal.returns-then-not-is_live_from-clause-none
 returns-then-not-is_live_from-clause-none c = λ h.
     let none : Chunk = record { base = 0; length = 0; state = Live } in
-    let last = held_last c.args.chunks.now c.count_to-k.result c.args.base none c.requires.rising c.count_to-k.ensures.bound c.count_to-k.ensures.below c.count_to-k.ensures.above (live_is_held c.args.chunks.now c.args.base c.requires.some h) in
-    c.is_live_from.ensures.not c.if-not-is_live_from.true (subst (λ (d : Chunk). IsLive d.state × (d.base ≡ c.args.base)) (sym last.1) (h.2, h.3))
+    let last = held_last c.args.chunks.now c.count_to-k.result c.args.base none c.requires.rising c.count_to-k.ensures.bound
+    c.count_to-k.ensures.below c.count_to-k.ensures.above (live_is_held c.args.chunks.now c.args.base c.requires.some h) in
+    c.is_live_from.ensures.not c.if-not-is_live_from.true
+    (subst (λ (d : Chunk). IsLive d.state × (d.base ≡ c.args.base)) (sym last.1) (h.2, h.3))
 
 pub returns-clause-some : goal.returns-clause-some
 returns-clause-some c =
     let none : Chunk = record { base = 0; length = 0; state = Live } in
-    let is = c.is_live_from.ensures.live c.if-not-is_live_from.false in
-    (get_or c.args.chunks.now (c.count_to-k.result - 1) none, slice_get-get_or c.args.chunks.now (c.count_to-k.result - 1) none (omega (arith, c.count_to-k.ensures.bound, c.if-k-eq0.false)), is.0, is.1)
+    let is = c.is_live_from.ensures.live c.if-not-is_live_from.false in (
+      get_or c.args.chunks.now (c.count_to-k.result - 1) none,
+      slice_get-get_or c.args.chunks.now (c.count_to-k.result - 1) none (omega (arith, c.count_to-k.ensures.bound, c.if-k-eq0.false)),
+      is.0,
+      is.1,
+    )

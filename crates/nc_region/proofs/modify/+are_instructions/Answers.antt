@@ -6,7 +6,11 @@ use Rattle.nc_region.proofs.NewInstructions.{instructions_none, not_found, one_m
 use Rattle.nc_region.proofs.modify.+are_instructions.Goals as goal
 
 pub returns-then-is_empty : goal.returns-then-is_empty
-returns-then-is_empty t c = (λ true. instructions_none c.args.bytes.now (eqb-true (length c.args.bytes.now) 0 (sym c.is_empty.ensures ∙ c.if-is_empty.true)), λ all. refl)
+returns-then-is_empty t c = (
+  λ true. instructions_none c.args.bytes.now
+      (eqb-true (length c.args.bytes.now) 0 (sym c.is_empty.ensures ∙ c.if-is_empty.true)),
+  λ all. refl,
+)
 
 pub returns-in_default : goal.returns-in_default
 returns-in_default t c = (

@@ -4,7 +4,7 @@ use Rattle.std.specs.Result.{result_ok}
 use Rattle.nc_decode.specs.declared.instruction.Instr.{Instr}
 use Rattle.nc_decode.specs.Front.{first_instruction}
 use Rattle.nc_vet.specs.Chunk.{Piece}
-use Rattle.nc_region.specs.PatchSteps.{Begins}
+use Rattle.nc_region.specs.machinery.PatchSteps.{Begins}
 use Rattle.nc_region.proofs.NewInstructions.{none_of_none, not_found, parted, some_same}
 use Rattle.nc_region.proofs.Exchanged.{same_text}
 use Rattle.nc_region.proofs.Standing.{standing, stands_some, next_begins, runs_from, runs_to, runs_none}
@@ -12,7 +12,11 @@ use Rattle.nc_region.proofs.modify.+fits_from.Goals as goal
 
 pub returns-then-is_empty : goal.returns-then-is_empty
 returns-then-is_empty g t c = record {
-  exact = λ b news bytes. (λ true. runs_none b.rest news (none_of_none c.args.new.now news (eqb-true _ _ (sym c.is_empty.ensures ∙ c.if-is_empty.true)) bytes), λ runs. refl);
+  exact = λ b news bytes. (
+    λ true. runs_none b.rest news
+        (none_of_none c.args.new.now news (eqb-true _ _ (sym c.is_empty.ensures ∙ c.if-is_empty.true)) bytes),
+    λ runs. refl,
+  );
 }
 
 pub returns-in_default : goal.returns-in_default
@@ -54,7 +58,9 @@ fits_from-requires g t c =
     let s = standing marked c.args.chunk c.args.at c.requires.whole b (omega (arith, some, c.requires.ends)) in
     let same : c.instruction.result ≡ s.piece.instr = some_same _ _ _ c.instruction.ensures s.instr in
     let sized = c.decode.ensures.sized in
-    let nb : Begins (g.A.Acts.marked c.args.acts.now) c.args.chunk (c.args.at + c.from.result) = next_begins marked c.args.chunk c.args.at b s c.from.result (c.from.ensures ∙ (sym c.if-instruction-instr.false ∙ ap (λ (i : Instr). i.len) same)) in
+    let nb : Begins (g.A.Acts.marked c.args.acts.now) c.args.chunk (c.args.at + c.from.result) =
+    next_begins marked c.args.chunk c.args.at b s c.from.result (c.from.ensures
+    ∙ (sym c.if-instruction-instr.false ∙ ap (λ (i : Instr). i.len) same)) in
     search rules
 
 pub returns : goal.returns
@@ -66,8 +72,12 @@ returns g t c = record {
       let p = parted c.args.new.now news c.in-Ok.instr bytes is in
       let s = standing marked c.args.chunk c.args.at c.requires.whole b (omega (arith, some, c.requires.ends)) in
       let same : c.instruction.result ≡ s.piece.instr = some_same _ _ _ c.instruction.ensures s.instr in
-      let len : length s.piece.bytes ≡ length p.first.bytes = sym s.len ∙ (ap (λ (i : Instr). i.len) (sym same) ∙ (c.if-instruction-instr.false ∙ p.len)) in
-      let nb = next_begins marked c.args.chunk c.args.at b s c.from.result (c.from.ensures ∙ (sym c.if-instruction-instr.false ∙ ap (λ (i : Instr). i.len) same)) in
-      let inner = c.fits_from.ensures.exact nb p.rest p.behind in
-      (λ true. runs_from b.rest news s.piece p.first s.rest p.rest s.is p.is len (inner.0 true), λ runs. inner.1 (runs_to b.rest news s.piece p.first s.rest p.rest s.is p.is runs).1);
+      let len : length s.piece.bytes ≡ length p.first.bytes = sym s.len
+      ∙ (ap (λ (i : Instr). i.len) (sym same) ∙ (c.if-instruction-instr.false ∙ p.len)) in
+      let nb = next_begins marked c.args.chunk c.args.at b s c.from.result (c.from.ensures
+      ∙ (sym c.if-instruction-instr.false ∙ ap (λ (i : Instr). i.len) same)) in
+      let inner = c.fits_from.ensures.exact nb p.rest p.behind in (
+        λ true. runs_from b.rest news s.piece p.first s.rest p.rest s.is p.is len (inner.0 true),
+        λ runs. inner.1 (runs_to b.rest news s.piece p.first s.rest p.rest s.is p.is runs).1,
+      );
 }

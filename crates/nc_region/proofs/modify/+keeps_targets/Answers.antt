@@ -15,7 +15,8 @@ use Rattle.nc_region.proofs.modify.+keeps_targets.Goals as goal
 pub returns-then-is_empty : goal.returns-then-is_empty
 returns-then-is_empty g t c = record {
   exact = λ h news b. (
-    λ true. subst (GoWell (IsTarget c.args.chunk.base (limit_of (g.A.Acts.marked c.args.acts.now).bytes) h.valid.pieces) c.args.at) (sym (none_of_none c.args.new.now news (eqb-true _ _ (sym c.is_empty.ensures ∙ c.if-is_empty.true)) b)) tt,
+    λ true. subst (GoWell (IsTarget c.args.chunk.base (limit_of (g.A.Acts.marked c.args.acts.now).bytes) h.valid.pieces) c.args.at)
+        (sym (none_of_none c.args.new.now news (eqb-true _ _ (sym c.is_empty.ensures ∙ c.if-is_empty.true)) b)) tt,
     λ w. refl,
   );
 }
@@ -35,8 +36,13 @@ returns-then-not-goes_well g t c = record {
       let p = parted c.args.new.now news c.in-Ok.instr b is in (
         λ true. absurd cc,
         λ w.
-            let both : GoWell (IsTarget c.args.chunk.base (limit_of (g.A.Acts.marked c.args.acts.now).bytes) h.valid.pieces) c.args.at (p.first ∷ p.rest) = subst (GoWell (IsTarget c.args.chunk.base (limit_of (g.A.Acts.marked c.args.acts.now).bytes) h.valid.pieces) c.args.at) p.is w in
-            let well = subst (λ (i : Instr). IsTrue (is_direct i.flow) → IsTarget c.args.chunk.base (limit_of (g.A.Acts.marked c.args.acts.now).bytes) h.valid.pieces (target i c.args.at)) p.instr both.0 in
+            let both : GoWell (IsTarget c.args.chunk.base (limit_of (g.A.Acts.marked c.args.acts.now).bytes) h.valid.pieces) c.args.at
+            (p.first ∷ p.rest) = subst
+            (GoWell (IsTarget c.args.chunk.base
+            (limit_of (g.A.Acts.marked c.args.acts.now).bytes) h.valid.pieces) c.args.at) p.is w in
+            let well = subst (λ (i : Instr). IsTrue (is_direct i.flow)
+            → IsTarget c.args.chunk.base (limit_of (g.A.Acts.marked c.args.acts.now).bytes) h.valid.pieces
+            (target i c.args.at)) p.instr both.0 in
             let yes : c.goes_well.result ≡ true = (c.goes_well.ensures.exact h).1 well in
             let differ : true ≡ false = sym yes ∙ c.if-not-goes_well.true in
             absurd cc,
@@ -51,12 +57,23 @@ returns g t c = record {
       let len : c.from.result ≡ length p.first.bytes = c.from.ensures ∙ p.len in
       let inner = c.keeps_targets.ensures.exact h p.rest p.behind in
       let yes : c.goes_well.result ≡ true = c.if-not-goes_well.false in
-      let well = subst (λ (i : Instr). IsTrue (is_direct i.flow) → IsTarget c.args.chunk.base (limit_of (g.A.Acts.marked c.args.acts.now).bytes) h.valid.pieces (target i c.args.at)) (sym p.instr) ((c.goes_well.ensures.exact h).0 yes) in (
+      let well = subst (λ (i : Instr). IsTrue (is_direct i.flow)
+      → IsTarget c.args.chunk.base (limit_of (g.A.Acts.marked c.args.acts.now).bytes) h.valid.pieces (target i c.args.at))
+      (sym p.instr) ((c.goes_well.ensures.exact h).0 yes) in (
         λ true.
-            subst (GoWell (IsTarget c.args.chunk.base (limit_of (g.A.Acts.marked c.args.acts.now).bytes) h.valid.pieces) c.args.at) (sym p.is)
-            (well, subst (λ (k : ℕ). GoWell (IsTarget c.args.chunk.base (limit_of (g.A.Acts.marked c.args.acts.now).bytes) h.valid.pieces) (c.args.at + k) p.rest) len (inner.0 true)),
+            subst (GoWell (IsTarget c.args.chunk.base (limit_of (g.A.Acts.marked c.args.acts.now).bytes) h.valid.pieces) c.args.at)
+            (sym p.is) (
+              well,
+              subst (λ (k : ℕ). GoWell (IsTarget c.args.chunk.base (limit_of (g.A.Acts.marked c.args.acts.now).bytes) h.valid.pieces)
+                  (c.args.at + k) p.rest) len (inner.0 true),
+            ),
         λ w.
-            let both : GoWell (IsTarget c.args.chunk.base (limit_of (g.A.Acts.marked c.args.acts.now).bytes) h.valid.pieces) c.args.at (p.first ∷ p.rest) = subst (GoWell (IsTarget c.args.chunk.base (limit_of (g.A.Acts.marked c.args.acts.now).bytes) h.valid.pieces) c.args.at) p.is w in
-            inner.1 (subst (λ (k : ℕ). GoWell (IsTarget c.args.chunk.base (limit_of (g.A.Acts.marked c.args.acts.now).bytes) h.valid.pieces) (c.args.at + k) p.rest) (sym len) both.1),
+            let both : GoWell (IsTarget c.args.chunk.base (limit_of (g.A.Acts.marked c.args.acts.now).bytes) h.valid.pieces) c.args.at
+            (p.first ∷ p.rest) = subst
+            (GoWell (IsTarget c.args.chunk.base
+            (limit_of (g.A.Acts.marked c.args.acts.now).bytes) h.valid.pieces) c.args.at) p.is w in
+            inner.1 (subst (λ (k : ℕ). GoWell
+            (IsTarget c.args.chunk.base (limit_of (g.A.Acts.marked c.args.acts.now).bytes) h.valid.pieces) (c.args.at + k) p.rest)
+            (sym len) both.1),
       );
 }

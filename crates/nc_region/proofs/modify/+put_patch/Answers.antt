@@ -9,7 +9,7 @@ use Rattle.nc_text.specs.MarkedText.{MarkedText, with_span}
 use Rattle.nc_region.specs.declared.acts.Act.{Act}
 use Rattle.nc_region.specs.Acts.{Tells}
 use Rattle.nc_region.specs.Patch.{AreBytesOf, stands_there, acts_of_instruction, acts_of_modify}
-use Rattle.nc_region.specs.PatchSteps.{CanPatch, IsReplacing}
+use Rattle.nc_region.specs.machinery.PatchSteps.{CanPatch, IsReplacing}
 use Rattle.nc_region.proofs.SpanPlaces.{span_behind}
 use Rattle.nc_region.proofs.Creating.{same_code}
 use Rattle.nc_region.proofs.Told.{tells_none, tells_more}
@@ -21,8 +21,10 @@ use Rattle.nc_region.proofs.modify.+put_patch.Goals as goal
 
 pub returns-then-is_empty-clause-told : goal.returns-then-is_empty-clause-told
 returns-then-is_empty-clause-told g t c = λ news b.
-    subst (λ (z : List Piece). Tells (g.A.Acts.told c.args.acts.now) (g.A.Acts.told c.args.acts.now) (acts_of_modify (g.A.Acts.marked c.args.acts.now).bytes c.args.at z))
-    (sym (none_of_none c.args.new.now news (eqb-true _ _ (sym c.is_empty.ensures ∙ c.if-is_empty.true)) b)) (tells_none (g.A.Acts.told c.args.acts.now))
+    subst (λ (z : List Piece). Tells (g.A.Acts.told c.args.acts.now) (g.A.Acts.told c.args.acts.now)
+    (acts_of_modify (g.A.Acts.marked c.args.acts.now).bytes c.args.at z))
+    (sym (none_of_none c.args.new.now news (eqb-true _ _ (sym c.is_empty.ensures ∙ c.if-is_empty.true)) b))
+    (tells_none (g.A.Acts.told c.args.acts.now))
 
 pub returns-in_default-clause-bytes : goal.returns-in_default-clause-bytes
 returns-in_default-clause-bytes g t c =
@@ -43,7 +45,8 @@ put_where_new-requires-clause-replacing g t c =
     let is = sym c.decode.ensures.first ∙ ap result_ok c.in-Ok.is in
     let p = parted c.args.new.now patch.run.news c.in-Ok.instr patch.run.bytes is in
     let w = turn marked c.args.chunk c.args.at c.args.new.now patch p.first p.rest c.requires.whole p.is in
-    subst (λ (z : List ℕ). IsReplacing (g.A.Acts.marked c.args.acts.now) c.args.at z) (sym p.front) (changes_replace marked c.args.chunk c.args.at patch.run.before (w.os ++ patch.run.after) w.o p.first w.change)
+    subst (λ (z : List ℕ). IsReplacing (g.A.Acts.marked c.args.acts.now) c.args.at z) (sym p.front)
+    (changes_replace marked c.args.chunk c.args.at patch.run.before (w.os ++ patch.run.after) w.o p.first w.change)
 
 pub put_patch-requires : goal.put_patch-requires
 put_patch-requires g t c =
@@ -56,10 +59,16 @@ put_patch-requires g t c =
     let p = parted c.args.new.now patch.run.news c.in-Ok.instr patch.run.bytes is in
     let w = turn marked c.args.chunk c.args.at c.args.new.now patch p.first p.rest c.requires.whole p.is in
     let same : g.A.Acts.marked c.put_where_new.new.acts ≡ changed (g.A.Acts.marked c.args.acts.now) c.args.at p.first.bytes =
-    same_code (g.A.Acts.marked c.put_where_new.new.acts) (changed (g.A.Acts.marked c.args.acts.now) c.args.at p.first.bytes) (c.put_where_new.ensures.bytes ∙ ap (λ (z : List ℕ). with_span (g.A.Acts.marked c.args.acts.now).bytes (c.args.at - 65536) z) p.front) c.put_where_new.ensures.marks in
-    let next : CanPatch (g.A.Acts.marked c.put_where_new.new.acts) c.args.chunk (c.args.at + c.from.result) (take (length c.args.new.now - c.in-Ok.instr.len) (drop c.in-Ok.instr.len c.args.new.now)) =
-    subst (λ (k : MarkedText). CanPatch k c.args.chunk (c.args.at + c.from.result) (take (length c.args.new.now - c.in-Ok.instr.len) (drop c.in-Ok.instr.len c.args.new.now))) (sym same)
-    (next_patch marked c.args.chunk c.args.at c.args.new.now patch p.first p.rest w c.from.result (take (length c.args.new.now - c.in-Ok.instr.len) (drop c.in-Ok.instr.len c.args.new.now)) (c.from.ensures ∙ p.len) p.behind) in
+    same_code (g.A.Acts.marked c.put_where_new.new.acts) (changed (g.A.Acts.marked c.args.acts.now) c.args.at p.first.bytes)
+    (c.put_where_new.ensures.bytes ∙ ap
+    (λ (z : List ℕ). with_span (g.A.Acts.marked c.args.acts.now).bytes
+    (c.args.at - 65536) z) p.front) c.put_where_new.ensures.marks in
+    let next : CanPatch (g.A.Acts.marked c.put_where_new.new.acts) c.args.chunk (c.args.at + c.from.result)
+    (take (length c.args.new.now - c.in-Ok.instr.len) (drop c.in-Ok.instr.len c.args.new.now)) =
+    subst (λ (k : MarkedText). CanPatch k c.args.chunk (c.args.at + c.from.result)
+    (take (length c.args.new.now - c.in-Ok.instr.len) (drop c.in-Ok.instr.len c.args.new.now))) (sym same)
+    (next_patch marked c.args.chunk c.args.at c.args.new.now patch p.first p.rest w c.from.result
+    (take (length c.args.new.now - c.in-Ok.instr.len) (drop c.in-Ok.instr.len c.args.new.now)) (c.from.ensures ∙ p.len) p.behind) in
     search rules
 
 pub returns-clause-bytes : goal.returns-clause-bytes
@@ -71,12 +80,19 @@ returns-clause-bytes g t c =
     let w = turn marked c.args.chunk c.args.at c.args.new.now patch p.first p.rest c.requires.whole p.is in
     let r = changes_replace marked c.args.chunk c.args.at patch.run.before (w.os ++ patch.run.after) w.o p.first w.change in
     let rest : List ℕ = take (length c.args.new.now - c.in-Ok.instr.len) (drop c.in-Ok.instr.len c.args.new.now) in
-    let fits : c.args.at + length c.args.new.now ≤ limit_of (g.A.Acts.marked c.args.acts.now).bytes = omega (arith, c.requires.ends, (lies marked c.args.chunk c.requires.whole patch.run.holds).high) in
+    let fits : c.args.at + length c.args.new.now ≤ limit_of (g.A.Acts.marked c.args.acts.now).bytes =
+    omega (arith, c.requires.ends, (lies marked c.args.chunk c.requires.whole patch.run.holds).high) in
     c.put_patch.ensures.bytes
-    ∙ (ap (λ (z : List ℕ). with_span z (c.args.at + c.from.result - 65536) (take (length c.args.new.now - c.in-Ok.instr.len) (drop c.in-Ok.instr.len c.args.new.now))) (c.put_where_new.ensures.bytes ∙ ap (λ (z : List ℕ). with_span (g.A.Acts.marked c.args.acts.now).bytes (c.args.at - 65536) z) p.front)
-    ∙ (ap (λ (k : ℕ). with_span (with_span (g.A.Acts.marked c.args.acts.now).bytes (c.args.at - 65536) p.first.bytes) (c.args.at + k - 65536) (take (length c.args.new.now - c.in-Ok.instr.len) (drop c.in-Ok.instr.len c.args.new.now))) (c.from.ensures ∙ p.len)
-    ∙ (spans_join (g.A.Acts.marked c.args.acts.now).bytes c.args.at p.first.bytes (take (length c.args.new.now - c.in-Ok.instr.len) (drop c.in-Ok.instr.len c.args.new.now)) r.low (omega (arith, fits, p.long))
-    ∙ ap (λ (z : List ℕ). with_span (g.A.Acts.marked c.args.acts.now).bytes (c.args.at - 65536) z) (whole_again c.args.new.now patch.run.news c.in-Ok.instr p))))
+    ∙ (ap (λ (z : List ℕ). with_span z (c.args.at + c.from.result - 65536)
+    (take (length c.args.new.now - c.in-Ok.instr.len) (drop c.in-Ok.instr.len c.args.new.now))) (c.put_where_new.ensures.bytes
+    ∙ ap (λ (z : List ℕ). with_span (g.A.Acts.marked c.args.acts.now).bytes (c.args.at - 65536) z) p.front)
+    ∙ (ap (λ (k : ℕ). with_span (with_span (g.A.Acts.marked c.args.acts.now).bytes (c.args.at - 65536) p.first.bytes)
+    (c.args.at + k - 65536) (take (length c.args.new.now - c.in-Ok.instr.len) (drop c.in-Ok.instr.len c.args.new.now)))
+    (c.from.ensures ∙ p.len)
+    ∙ (spans_join (g.A.Acts.marked c.args.acts.now).bytes c.args.at p.first.bytes
+    (take (length c.args.new.now - c.in-Ok.instr.len) (drop c.in-Ok.instr.len c.args.new.now)) r.low (omega (arith, fits, p.long))
+    ∙ ap (λ (z : List ℕ). with_span (g.A.Acts.marked c.args.acts.now).bytes (c.args.at - 65536) z)
+    (whole_again c.args.new.now patch.run.news c.in-Ok.instr p))))
 
 pub returns-clause-told : goal.returns-clause-told
 returns-clause-told g t c = λ news b.
@@ -88,14 +104,26 @@ returns-clause-told g t c = λ news b.
     let p = parted c.args.new.now patch.run.news c.in-Ok.instr patch.run.bytes is in
     let w = turn marked c.args.chunk c.args.at c.args.new.now patch p.first p.rest c.requires.whole p.is in
     let r = changes_replace marked c.args.chunk c.args.at patch.run.before (w.os ++ patch.run.after) w.o p.first w.change in
-    let one : Tells (g.A.Acts.told c.args.acts.now) (g.A.Acts.told c.put_where_new.new.acts) (cond (stands_there (g.A.Acts.marked c.args.acts.now).bytes c.args.at q.first.bytes) [] (acts_of_instruction c.args.at q.first.bytes)) =
-    subst (λ (z : List ℕ). Tells (g.A.Acts.told c.args.acts.now) (g.A.Acts.told c.put_where_new.new.acts) (cond (stands_there (g.A.Acts.marked c.args.acts.now).bytes c.args.at z) [] (acts_of_instruction c.args.at z))) q.front c.put_where_new.ensures.told in
+    let one : Tells (g.A.Acts.told c.args.acts.now) (g.A.Acts.told c.put_where_new.new.acts)
+    (cond (stands_there (g.A.Acts.marked c.args.acts.now).bytes c.args.at q.first.bytes) []
+    (acts_of_instruction c.args.at q.first.bytes)) =
+    subst (λ (z : List ℕ). Tells (g.A.Acts.told c.args.acts.now) (g.A.Acts.told c.put_where_new.new.acts)
+    (cond (stands_there (g.A.Acts.marked c.args.acts.now).bytes c.args.at z) []
+    (acts_of_instruction c.args.at z))) q.front c.put_where_new.ensures.told in
     let len : c.from.result ≡ length q.first.bytes = c.from.ensures ∙ q.len in
-    let agree : (k : ℕ) → c.args.at + length q.first.bytes ≤ k → byte_at (g.A.Acts.marked c.put_where_new.new.acts).bytes k ≡ byte_at (g.A.Acts.marked c.args.acts.now).bytes k = λ k le.
-    (ap (λ (z : List ℕ). byte_at z k) (c.put_where_new.ensures.bytes ∙ ap (λ (z : List ℕ). with_span (g.A.Acts.marked c.args.acts.now).bytes (c.args.at - 65536) z) p.front)
+    let agree : (k : ℕ) → c.args.at + length q.first.bytes ≤ k
+    → byte_at (g.A.Acts.marked c.put_where_new.new.acts).bytes k ≡ byte_at (g.A.Acts.marked c.args.acts.now).bytes k = λ k le.
+    (ap (λ (z : List ℕ). byte_at z k) (c.put_where_new.ensures.bytes
+    ∙ ap (λ (z : List ℕ). with_span (g.A.Acts.marked c.args.acts.now).bytes (c.args.at - 65536) z) p.front)
     ∙ span_behind (g.A.Acts.marked c.args.acts.now).bytes c.args.at p.first.bytes k 0 r.low r.high (omega (arith, le, p.len, q.len))) in
-    let two : Tells (g.A.Acts.told c.put_where_new.new.acts) (g.A.Acts.told c.put_patch.new.acts) (acts_of_modify (g.A.Acts.marked c.args.acts.now).bytes (c.args.at + length q.first.bytes) q.rest) =
-    subst (λ (z : List Act). Tells (g.A.Acts.told c.put_where_new.new.acts) (g.A.Acts.told c.put_patch.new.acts) z) (same_acts (g.A.Acts.marked c.put_where_new.new.acts).bytes (g.A.Acts.marked c.args.acts.now).bytes (c.args.at + length q.first.bytes) q.rest agree)
-    (subst (λ (k : ℕ). Tells (g.A.Acts.told c.put_where_new.new.acts) (g.A.Acts.told c.put_patch.new.acts) (acts_of_modify (g.A.Acts.marked c.put_where_new.new.acts).bytes (c.args.at + k) q.rest)) len (c.put_patch.ensures.told q.rest q.behind)) in
-    subst (λ (z : List Piece). Tells (g.A.Acts.told c.args.acts.now) (g.A.Acts.told c.put_patch.new.acts) (acts_of_modify (g.A.Acts.marked c.args.acts.now).bytes c.args.at z)) (sym q.is)
+    let two : Tells (g.A.Acts.told c.put_where_new.new.acts) (g.A.Acts.told c.put_patch.new.acts)
+    (acts_of_modify (g.A.Acts.marked c.args.acts.now).bytes (c.args.at + length q.first.bytes) q.rest) =
+    subst (λ (z : List Act). Tells (g.A.Acts.told c.put_where_new.new.acts) (g.A.Acts.told c.put_patch.new.acts) z)
+    (same_acts (g.A.Acts.marked c.put_where_new.new.acts).bytes (g.A.Acts.marked c.args.acts.now).bytes
+    (c.args.at + length q.first.bytes) q.rest agree)
+    (subst (λ (k : ℕ). Tells (g.A.Acts.told c.put_where_new.new.acts) (g.A.Acts.told c.put_patch.new.acts)
+    (acts_of_modify (g.A.Acts.marked c.put_where_new.new.acts).bytes (c.args.at + k) q.rest)) len
+    (c.put_patch.ensures.told q.rest q.behind)) in
+    subst (λ (z : List Piece). Tells (g.A.Acts.told c.args.acts.now) (g.A.Acts.told c.put_patch.new.acts)
+    (acts_of_modify (g.A.Acts.marked c.args.acts.now).bytes c.args.at z)) (sym q.is)
     (tells_more _ _ _ _ _ one two)

@@ -9,7 +9,8 @@ put-requires-clause-closed g c =
     let r = c.requires.replacing in
     let none = eqb-true _ _ (sym c.is_empty.ensures ∙ c.if-is_empty.true) in
     let one : length c.args.bytes.now ≡ 1 = omega (arith, none, r.some, length-take {A = ℕ}, length-drop {A = ℕ}) in
-    subst (λ (text : List ℕ). IsClosed text (g.A.Acts.marked c.args.acts.now).marks) (sym (single_span (g.A.Acts.marked c.args.acts.now).bytes c.args.at c.args.bytes.now r.low r.high one)) r.closed
+    subst (λ (text : List ℕ). IsClosed text (g.A.Acts.marked c.args.acts.now).marks)
+    (sym (single_span (g.A.Acts.marked c.args.acts.now).bytes c.args.at c.args.bytes.now r.low r.high one)) r.closed
 
 pub returns-then-is_empty-clause-bytes : goal.returns-then-is_empty-clause-bytes
 returns-then-is_empty-clause-bytes g c =

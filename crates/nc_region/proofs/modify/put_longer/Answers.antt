@@ -5,8 +5,8 @@ use Rattle.nc_text.specs.Places.{byte_at}
 use Rattle.nc_text.specs.MarkedText.{MarkedText, IsText, with_span}
 use Rattle.nc_region.specs.declared.acts.Act.TheVariants.{Put}
 use Rattle.nc_region.specs.Patch.{any_place}
-use Rattle.nc_region.specs.Chunks.{HasPut}
-use Rattle.nc_region.specs.PatchSteps.{IsInterim}
+use Rattle.nc_region.specs.machinery.Between.{HasPut}
+use Rattle.nc_region.specs.machinery.PatchSteps.{IsInterim}
 use Rattle.nc_region.proofs.Told.{tells_more}
 use Rattle.nc_region.proofs.Replacing.{patching_closed, patch_started, patching_over, patch_final}
 use Rattle.nc_region.proofs.modify.put_longer.Goals as goal
@@ -14,23 +14,31 @@ use Rattle.nc_region.proofs.modify.put_longer.Goals as goal
 pub put-requires-clause-closed : goal.put-requires-clause-closed
 put-requires-clause-closed g c =
     let old = g.A.Acts.marked c.args.acts.now in
-    patching_closed old c.args.at (c.args.first ∷ c.args.rest.now) (set old.bytes (c.args.at - 65536) 244) c.requires.replacing (patch_started old c.args.at (c.args.first ∷ c.args.rest.now) c.requires.replacing)
+    patching_closed old c.args.at (c.args.first ∷ c.args.rest.now) (set old.bytes (c.args.at - 65536) 244) c.requires.replacing
+    (patch_started old c.args.at (c.args.first ∷ c.args.rest.now) c.requires.replacing)
 
 pub put_rest-requires-clause-stopped : goal.put_rest-requires-clause-stopped
 put_rest-requires-clause-stopped g c =
-    rw c.put.ensures.marked (patch_started (g.A.Acts.marked c.args.acts.now) c.args.at (c.args.first ∷ c.args.rest.now) c.requires.replacing).stop
+    rw c.put.ensures.marked (patch_started (g.A.Acts.marked c.args.acts.now) c.args.at
+    (c.args.first ∷ c.args.rest.now) c.requires.replacing).stop
 
 pub put_rest-requires-clause-closed : goal.put_rest-requires-clause-closed
 put_rest-requires-clause-closed g c =
     let old = g.A.Acts.marked c.args.acts.now in
-    rw c.put.ensures.marked (λ now p. patching_closed old c.args.at (c.args.first ∷ c.args.rest.now) now c.requires.replacing (patching_over old c.args.at (c.args.first ∷ c.args.rest.now) now (1 + length c.args.rest.now) (omega arith) c.requires.replacing p))
+    rw c.put.ensures.marked (λ now p. patching_closed old c.args.at (c.args.first ∷ c.args.rest.now) now c.requires.replacing
+    (patching_over old c.args.at (c.args.first ∷ c.args.rest.now) now (1 + length c.args.rest.now)
+    (omega arith) c.requires.replacing p))
 
 pub put-requires-2-clause-closed : goal.put-requires-2-clause-closed
 put-requires-2-clause-closed g c =
     let old = g.A.Acts.marked c.args.acts.now in
     let mid = g.A.Acts.marked c.put_rest.new.acts in
     let puts = rw c.put.ensures.marked at c.put_rest.ensures.bytes in
-    rw (c.put_rest.ensures.marks, c.put.ensures.marked, patch_final old c.args.at c.args.first c.args.rest.now mid.bytes c.requires.replacing puts) c.requires.replacing.closed
+    rw (
+      c.put_rest.ensures.marks,
+      c.put.ensures.marked,
+      patch_final old c.args.at c.args.first c.args.rest.now mid.bytes c.requires.replacing puts,
+    ) c.requires.replacing.closed
 
 pub returns-clause-bytes : goal.returns-clause-bytes
 returns-clause-bytes g c =
@@ -41,4 +49,5 @@ returns-clause-bytes g c =
 
 pub returns-clause-told : goal.returns-clause-told
 returns-clause-told g c =
-    tells_more _ _ _ (Put c.args.at 244 ∷ []) _ c.put.ensures.told (tells_more _ _ _ _ (Put c.args.at c.args.first ∷ []) c.put_rest.ensures.told c.put-2.ensures.told)
+    tells_more _ _ _ (Put c.args.at 244 ∷ []) _ c.put.ensures.told
+    (tells_more _ _ _ _ (Put c.args.at c.args.first ∷ []) c.put_rest.ensures.told c.put-2.ensures.told)

@@ -3,8 +3,8 @@ use Rattle.nc_decode.specs.declared.instruction.Mark.{Mark}
 use Rattle.nc_text.specs.Marks.{IsClosed}
 use Rattle.nc_text.specs.MarkedText.{MarkedText, IsText}
 use Rattle.nc_region.specs.Patch.{any_place}
-use Rattle.nc_region.specs.Chunks.{HasPut}
-use Rattle.nc_region.specs.PatchSteps.{IsInterim}
+use Rattle.nc_region.specs.machinery.Between.{HasPut}
+use Rattle.nc_region.specs.machinery.PatchSteps.{IsInterim}
 use Rattle.nc_region.proofs.Puts.{put_more}
 use Rattle.nc_region.proofs.Told.{told_put}
 use Rattle.nc_region.proofs.Replacing.{patching_from_put}
@@ -16,10 +16,13 @@ put-requires-clause-closed g c =
     let i = c.loop-i.i in
     let old = g.A.Acts.marked c.args.acts.now in
     let now = g.A.Acts.marked c.loop-i.acts in
-    let next = put_more any_place (at + 1) c.args.rest.now i old.bytes now.bytes c.loop-i.invariant.bytes (omega arith) (omega (arith, c.requires.high)) refl in
-    subst (λ (marks : List Mark). IsClosed (set now.bytes (at + 1 + i - 65536) (get_or c.args.rest.now i 0)) marks) (sym c.loop-i.invariant.marks)
+    let next = put_more any_place (at + 1) c.args.rest.now i old.bytes now.bytes c.loop-i.invariant.bytes (omega arith)
+    (omega (arith, c.requires.high)) refl in
+    subst (λ (marks : List Mark). IsClosed (set now.bytes (at + 1 + i - 65536) (get_or c.args.rest.now i 0)) marks)
+    (sym c.loop-i.invariant.marks)
     (c.requires.closed (set now.bytes (at + 1 + i - 65536) (get_or c.args.rest.now i 0))
-    (patching_from_put old.bytes (set now.bytes (at + 1 + i - 65536) (get_or c.args.rest.now i 0)) at c.args.rest.now (i + 1) (length c.args.rest.now) c.requires.low (omega arith) c.requires.stopped next))
+    (patching_from_put old.bytes (set now.bytes (at + 1 + i - 65536) (get_or c.args.rest.now i 0)) at c.args.rest.now (i + 1)
+    (length c.args.rest.now) c.requires.low (omega arith) c.requires.stopped next))
 
 pub loop-i-preserved : goal.loop-i-preserved
 loop-i-preserved g c =
@@ -29,7 +32,8 @@ loop-i-preserved g c =
     let now = g.A.Acts.marked c.loop-i.acts in
     let e = c.put.ensures.marked in
     record {
-      bytes = rw e (put_more any_place (at + 1) c.args.rest.now i old.bytes now.bytes c.loop-i.invariant.bytes (omega arith) (omega (arith, c.requires.high)) refl);
+      bytes = rw e (put_more any_place (at + 1) c.args.rest.now i old.bytes now.bytes c.loop-i.invariant.bytes (omega arith)
+          (omega (arith, c.requires.high)) refl);
       marks = rw e c.loop-i.invariant.marks;
       whole = c.put.ensures.whole;
       keeper = c.put.ensures.keeper ∙ c.loop-i.invariant.keeper;

@@ -2,7 +2,7 @@ use Rattle.std.proofs.Common.{◌≡◌, ◌+◌, take}
 use Rattle.nc_text.specs.MarkedText.{IsText}
 use Rattle.nc_region.specs.Acts.{Tells, puts_where}
 use Rattle.nc_region.specs.Patch.{any_place}
-use Rattle.nc_region.specs.Chunks.{HasPut}
+use Rattle.nc_region.specs.machinery.Between.{HasPut}
 use Rattle.nc_region.proofs.modify.put_rest.Given as goal
 
 abbrev pub invariant-loop-i : goal.invariant-loop-i

@@ -16,19 +16,23 @@ use Rattle.nc_region.proofs.reclaim.unmark_due.Goals.{then-is_due, else-is_due}
 pub unmark_span-requires-clause-inside : goal.unmark_span-requires-clause-inside
 unmark_span-requires-clause-inside g c =
     let none : Chunk = record { base = 0; length = 0; state = Live } in
-    let f = next_frees (g.A.Acts.marked c.loop-i.acts) c.args.least c.args.chunks.now c.loop-i.i none (omega arith) (sym c.is_due.ensures ∙ c.if-is_due.true) c.loop-i.invariant.region in
+    let f = next_frees (g.A.Acts.marked c.loop-i.acts) c.args.least c.args.chunks.now c.loop-i.i none (omega arith) (sym c.is_due.ensures
+    ∙ c.if-is_due.true) c.loop-i.invariant.region in
     λ k lt. (omega (arith, f.placed.low), omega (arith, f.placed.high, lt))
 
 pub unmark_span-requires-clause-stops : goal.unmark_span-requires-clause-stops
 unmark_span-requires-clause-stops g c =
     let none : Chunk = record { base = 0; length = 0; state = Live } in
-    let f = next_frees (g.A.Acts.marked c.loop-i.acts) c.args.least c.args.chunks.now c.loop-i.i none (omega arith) (sym c.is_due.ensures ∙ c.if-is_due.true) c.loop-i.invariant.region in
+    let f = next_frees (g.A.Acts.marked c.loop-i.acts) c.args.least c.args.chunks.now c.loop-i.i none (omega arith) (sym c.is_due.ensures
+    ∙ c.if-is_due.true) c.loop-i.invariant.region in
     λ k lt. f.quiet.stops _ (omega arith, omega (arith, lt))
 
 pub unmark_span-requires-clause-closed : goal.unmark_span-requires-clause-closed
 unmark_span-requires-clause-closed g c =
     let none : Chunk = record { base = 0; length = 0; state = Live } in
-    freed_closed (g.A.Acts.marked c.loop-i.acts) _ (next_frees (g.A.Acts.marked c.loop-i.acts) c.args.least c.args.chunks.now c.loop-i.i none (omega arith) (sym c.is_due.ensures ∙ c.if-is_due.true) c.loop-i.invariant.region)
+    freed_closed (g.A.Acts.marked c.loop-i.acts) _
+    (next_frees (g.A.Acts.marked c.loop-i.acts) c.args.least c.args.chunks.now c.loop-i.i none (omega arith) (sym c.is_due.ensures
+    ∙ c.if-is_due.true) c.loop-i.invariant.region)
 
 pub loop-i-preserved : goal.loop-i-preserved
 loop-i-preserved g c =
@@ -38,25 +42,37 @@ loop-i-preserved g c =
     elim c.if-is_due.branch [
       | then-is_due w ↦
           let is : is_due c.args.least (get_or c.args.chunks.now c.loop-i.i none).state ≡ true = sym c.is_due.ensures ∙ w.if-is_due.true in
-          let list = ap (λ (z : List Chunk). freed c.args.least z) more ∙ freed_due c.args.least (take c.loop-i.i c.args.chunks.now) (get_or c.args.chunks.now c.loop-i.i none) is in
-          let e : g.A.Acts.marked w.unmark_span.new.self ≡ without_marks (g.A.Acts.marked c.loop-i.acts) (get_or c.args.chunks.now c.loop-i.i none).base (get_or c.args.chunks.now c.loop-i.i none).length = w.unmark_span.ensures.marked in
+          let list = ap (λ (z : List Chunk). freed c.args.least z) more
+          ∙ freed_due c.args.least (take c.loop-i.i c.args.chunks.now) (get_or c.args.chunks.now c.loop-i.i none) is in
+          let e : g.A.Acts.marked w.unmark_span.new.self ≡ without_marks (g.A.Acts.marked c.loop-i.acts)
+          (get_or c.args.chunks.now c.loop-i.i none).base (get_or c.args.chunks.now c.loop-i.i none).length =
+          w.unmark_span.ensures.marked in
           rw w.acts-is (record {
-            region = subst (λ (m : MarkedText). IsRegion m (kept c.args.least (take (c.loop-i.i + 1) c.args.chunks.now) ++ drop (c.loop-i.i + 1) c.args.chunks.now)) (sym e) (next_freed (g.A.Acts.marked c.loop-i.acts) c.args.least c.args.chunks.now c.loop-i.i none lt is c.loop-i.invariant.region);
+            region = subst (λ (m : MarkedText). IsRegion m
+                (kept c.args.least (take (c.loop-i.i + 1) c.args.chunks.now) ++ drop (c.loop-i.i + 1) c.args.chunks.now)) (sym e)
+                (next_freed (g.A.Acts.marked c.loop-i.acts) c.args.least c.args.chunks.now c.loop-i.i none lt is
+                c.loop-i.invariant.region);
             marked =
                 e
-                ∙ (ap (λ (m : MarkedText). without_marks m (get_or c.args.chunks.now c.loop-i.i none).base (get_or c.args.chunks.now c.loop-i.i none).length) c.loop-i.invariant.marked
-                ∙ (sym (unmarked_more (g.A.Acts.marked c.args.acts.now) (freed c.args.least (take c.loop-i.i c.args.chunks.now)) (get_or c.args.chunks.now c.loop-i.i none)) ∙ ap (unmarked (g.A.Acts.marked c.args.acts.now)) (sym list)));
+                ∙ (ap (λ (m : MarkedText). without_marks m (get_or c.args.chunks.now c.loop-i.i none).base
+                (get_or c.args.chunks.now c.loop-i.i none).length) c.loop-i.invariant.marked
+                ∙ (sym (unmarked_more (g.A.Acts.marked c.args.acts.now) (freed c.args.least (take c.loop-i.i c.args.chunks.now))
+                (get_or c.args.chunks.now c.loop-i.i none)) ∙ ap (unmarked (g.A.Acts.marked c.args.acts.now)) (sym list)));
             keeper = w.unmark_span.ensures.keeper ∙ c.loop-i.invariant.keeper;
             told =
                 subst (λ (z : List Act). Tells (g.A.Acts.told c.args.acts.now) (g.A.Acts.told w.unmark_span.new.self) z)
-                (sym (ap unmarkings list ∙ unmarkings_more (freed c.args.least (take c.loop-i.i c.args.chunks.now)) (get_or c.args.chunks.now c.loop-i.i none)))
+                (sym (ap unmarkings list
+                ∙ unmarkings_more (freed c.args.least (take c.loop-i.i c.args.chunks.now)) (get_or c.args.chunks.now c.loop-i.i none)))
                 (tells_more _ _ _ _ _ c.loop-i.invariant.told w.unmark_span.ensures.told);
           })
       | else-is_due w ↦
-          let is : is_due c.args.least (get_or c.args.chunks.now c.loop-i.i none).state ≡ false = sym c.is_due.ensures ∙ w.if-is_due.false in
-          let list = ap (λ (z : List Chunk). freed c.args.least z) more ∙ freed_other c.args.least (take c.loop-i.i c.args.chunks.now) (get_or c.args.chunks.now c.loop-i.i none) is in
+          let is : is_due c.args.least (get_or c.args.chunks.now c.loop-i.i none).state ≡ false =
+          sym c.is_due.ensures ∙ w.if-is_due.false in
+          let list = ap (λ (z : List Chunk). freed c.args.least z) more
+          ∙ freed_other c.args.least (take c.loop-i.i c.args.chunks.now) (get_or c.args.chunks.now c.loop-i.i none) is in
           rw w.acts-is (record {
-            region = next_kept (g.A.Acts.marked c.loop-i.acts) c.args.least c.args.chunks.now c.loop-i.i none lt is c.loop-i.invariant.region;
+            region = next_kept (g.A.Acts.marked c.loop-i.acts) c.args.least c.args.chunks.now c.loop-i.i none lt is
+                c.loop-i.invariant.region;
             marked = rw list c.loop-i.invariant.marked;
             keeper = c.loop-i.invariant.keeper;
             told = rw list c.loop-i.invariant.told;

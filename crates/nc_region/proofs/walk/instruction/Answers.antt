@@ -7,12 +7,14 @@ pub unreachable-requires : goal.unreachable-requires
 unreachable-requires g c =
     let text = (g.A.Acts.marked c.args.acts.now).bytes in
     let s = standing text c.args.at c.requires.stands in
-    let found = found_in_window text c.read_bundle-bytes.result c.args.at (32 - c.args.at % 32) s.0 c.requires.inside s.1 (omega (arith, s.2)) (omega arith) c.read_bundle-bytes.ensures in
+    let found = found_in_window text c.read_bundle-bytes.result c.args.at (32 - c.args.at % 32) s.0 c.requires.inside s.1
+    (omega (arith, s.2)) (omega arith) c.read_bundle-bytes.ensures in
     not_none _ s.0 (c.decode.ensures.first ∙ found) (ap result_ok c.in_default.is)
 
 pub returns : goal.returns
 returns g c =
     let text = (g.A.Acts.marked c.args.acts.now).bytes in
     let s = standing text c.args.at c.requires.stands in
-    let found = found_in_window text c.read_bundle-bytes.result c.args.at (32 - c.args.at % 32) s.0 c.requires.inside s.1 (omega (arith, s.2)) (omega arith) c.read_bundle-bytes.ensures in
+    let found = found_in_window text c.read_bundle-bytes.result c.args.at (32 - c.args.at % 32) s.0 c.requires.inside s.1
+    (omega (arith, s.2)) (omega arith) c.read_bundle-bytes.ensures in
     s.1 ∙ (sym found ∙ (sym c.decode.ensures.first ∙ ap result_ok c.in-Ok.is))

@@ -5,4 +5,5 @@ use Rattle.nc_region.proofs.walk.walk_from.Given as goal
 
 abbrev pub invariant-loop-choice : goal.invariant-loop-choice
 invariant-loop-choice g l =
-    IsUnderWay (g.A.Acts.marked l.acts).bytes (g.A.Acts.marked l.acts).marks l.start (take l.choice-index l.choices) l.places.items (state l.now.place l.now.masked)
+    IsUnderWay (g.A.Acts.marked l.acts).bytes (g.A.Acts.marked l.acts).marks l.start (take l.choice-index l.choices) l.places.items
+    (state l.now.place l.now.masked)

@@ -1,4 +1,4 @@
-use Rattle.nc_text.proofs.Confined.{confined_if_closed}
+use Rattle.nc_text.proofs.Offered.{confined_if_closed}
 use Rattle.nc_region.proofs.QuietSpans.{quiet_spans}
 use Rattle.nc_region.proofs.region.RegionOf.chunk_count.Goals as goal
 

@@ -3,9 +3,9 @@ use Rattle.std.specs.List.{insert}
 use Rattle.nc_decode.specs.declared.instruction.Mark.{Mark}
 use Rattle.nc_text.specs.Places.{limit_of}
 use Rattle.nc_text.specs.MarkedText.{IsText, NamesRegister}
-use Rattle.nc_text.proofs.Confined.{confined_if_closed}
+use Rattle.nc_text.proofs.Offered.{confined_if_closed}
 use Rattle.nc_region.specs.declared.chunk.Chunk.{Chunk}
-use Rattle.nc_region.specs.Chunks.{IsPlaced, IsClosedChunk, with_chunk}
+use Rattle.nc_region.specs.Chunks.{HasGoodSpan, IsClosedChunk, with_chunk}
 use Rattle.nc_region.specs.Region.{FitsAt, live_chunk}
 use Rattle.nc_region.proofs.EachMember.{each_map}
 use Rattle.nc_region.proofs.Inserting.{unused_if_apart, region_with_chunk}
@@ -31,57 +31,87 @@ returns-clause-confined g c = confined_if_closed _ _ c.put_chunk.ensures.whole.c
 pub room_for-requires-clause-ends : goal.room_for-requires-clause-ends
 room_for-requires-clause-ends g c =
     rw c.deref.ensures.value
-    (each_map (λ (d : Chunk). IsPlaced d.base (limit_of (g.A.Acts.marked c.self.inside.acts).bytes) d.length) (λ (d : Chunk). (0 < d.length) × (d.base + d.length < 2 ^ 32))
+    (each_map (λ (d : Chunk). HasGoodSpan d.base (limit_of (g.A.Acts.marked c.self.inside.acts).bytes) d.length)
+    (λ (d : Chunk). (0 < d.length) × (d.base + d.length < 2 ^ 32))
     (λ d placed. (placed.some, omega (arith, placed.high, placed.lawful.2))) c.self.inside.chunks.items c.self.invariant.placed)
 
 pub returns-then-is_err-clause-refused : goal.returns-then-is_err-clause-refused
 returns-then-is_err-clause-refused g c =
     let v = c.args.vetted in
-    let fit : FitsAt v.base (length v.code) c.self.inside.chunks.items c.in-Some.k = rw (← c.base-base.ensures.value, ← c.code.ensures.value, ← c.deref.ensures.value) c.in-Some.ensures.some in
-    let same : v.limit ≡ limit_of (g.A.Acts.marked c.self.inside.acts).bytes = sym c.limit.ensures.value ∙ (c.if-limit.false ∙ c.limit-2.ensures.limit) in
+    let fit : FitsAt v.base (length v.code) c.self.inside.chunks.items c.in-Some.k =
+    rw (← c.base-base.ensures.value, ← c.code.ensures.value, ← c.deref.ensures.value) c.in-Some.ensures.some in
+    let same : v.limit ≡ limit_of (g.A.Acts.marked c.self.inside.acts).bytes = sym c.limit.ensures.value
+    ∙ (c.if-limit.false ∙ c.limit-2.ensures.limit) in
     rw (← c.self.view_is) (same, fits_meets c.self.inside.chunks.items v.base (length v.code) c.in-Some.k fit.1 fit.2)
 
 pub returns-in_default-marks-clause-refused : goal.returns-in_default-marks-clause-refused
 returns-in_default-marks-clause-refused g c =
     let v = c.args.vetted in
-    let fit : FitsAt v.base (length v.code) c.self.inside.chunks.items c.in-Some.k = rw (← c.base-base.ensures.value, ← c.code.ensures.value, ← c.deref.ensures.value) c.in-Some.ensures.some in
-    let same : v.limit ≡ limit_of (g.A.Acts.marked c.self.inside.acts).bytes = sym c.limit.ensures.value ∙ (c.if-limit.false ∙ c.limit-2.ensures.limit) in
+    let fit : FitsAt v.base (length v.code) c.self.inside.chunks.items c.in-Some.k =
+    rw (← c.base-base.ensures.value, ← c.code.ensures.value, ← c.deref.ensures.value) c.in-Some.ensures.some in
+    let same : v.limit ≡ limit_of (g.A.Acts.marked c.self.inside.acts).bytes = sym c.limit.ensures.value
+    ∙ (c.if-limit.false ∙ c.limit-2.ensures.limit) in
     rw (← c.self.view_is) (same, fits_meets c.self.inside.chunks.items v.base (length v.code) c.in-Some.k fit.1 fit.2)
 
 pub put_chunk-requires-clause-chunk : goal.put_chunk-requires-clause-chunk
 put_chunk-requires-clause-chunk g c =
     let v = c.args.vetted in
-    let same : v.limit ≡ limit_of (g.A.Acts.marked c.self.inside.acts).bytes = sym c.limit.ensures.value ∙ (c.if-limit.false ∙ c.limit-2.ensures.limit) in
-    rw (c.base-base.ensures.value, c.code-2.ensures.value, (c.deref-2.ensures.value ∙ c.in-Ok.ensures.value), ← same) (valid_chunk_is_closed v c.code.ensures.valid)
+    let same : v.limit ≡ limit_of (g.A.Acts.marked c.self.inside.acts).bytes = sym c.limit.ensures.value
+    ∙ (c.if-limit.false ∙ c.limit-2.ensures.limit) in
+    rw (c.base-base.ensures.value, c.code-2.ensures.value, (c.deref-2.ensures.value ∙ c.in-Ok.ensures.value), ← same)
+    (valid_chunk_is_closed v c.code.ensures.valid)
 
 pub put_chunk-requires-clause-registers : goal.put_chunk-requires-clause-registers
-put_chunk-requires-clause-registers g c = subst (λ (marks : List Mark). All NamesRegister marks) (sym (c.deref-2.ensures.value ∙ c.in-Ok.ensures.value)) (chunk_names_registers c.args.vetted c.code.ensures.valid)
+put_chunk-requires-clause-registers g c =
+    subst (λ (marks : List Mark). All NamesRegister marks) (sym (c.deref-2.ensures.value ∙ c.in-Ok.ensures.value))
+    (chunk_names_registers c.args.vetted c.code.ensures.valid)
 
 pub put_chunk-requires-clause-unused : goal.put_chunk-requires-clause-unused
 put_chunk-requires-clause-unused g c =
     let marked = g.A.Acts.marked c.self.inside.acts in
     let v = c.args.vetted in
-    let fit : FitsAt v.base (length v.code) c.self.inside.chunks.items c.in-Some.k = rw (← c.base-base.ensures.value, ← c.code.ensures.value, ← c.deref.ensures.value) c.in-Some.ensures.some in
+    let fit : FitsAt v.base (length v.code) c.self.inside.chunks.items c.in-Some.k =
+    rw (← c.base-base.ensures.value, ← c.code.ensures.value, ← c.deref.ensures.value) c.in-Some.ensures.some in
     let same : v.limit ≡ limit_of marked.bytes = sym c.limit.ensures.value ∙ (c.if-limit.false ∙ c.limit-2.ensures.limit) in
-    let placed : IsPlaced v.base (limit_of marked.bytes) (length v.code) = subst (λ (l : ℕ). IsPlaced v.base l (length v.code)) same (valid_chunk_is_closed v c.code.ensures.valid).placed in
-    rw (c.base-base.ensures.value, c.code-2.ensures.value) (unused_if_apart marked c.self.inside.chunks.items c.in-Some.k v.base (length v.code) c.self.invariant placed fit.1 fit.2)
+    let placed : HasGoodSpan v.base (limit_of marked.bytes) (length v.code) =
+    subst (λ (l : ℕ). HasGoodSpan v.base l (length v.code)) same (valid_chunk_is_closed v c.code.ensures.valid).placed in
+    rw (c.base-base.ensures.value, c.code-2.ensures.value)
+    (unused_if_apart marked c.self.inside.chunks.items c.in-Some.k v.base (length v.code) c.self.invariant placed fit.1 fit.2)
 
 pub invariant_of-self-2 : goal.invariant_of-self-2
 invariant_of-self-2 g c =
     let marked = g.A.Acts.marked c.self.inside.acts in
     let v = c.args.vetted in
-    let fit : FitsAt v.base (length v.code) c.self.inside.chunks.items c.in-Some.k = rw (← c.base-base.ensures.value, ← c.code.ensures.value, ← c.deref.ensures.value) c.in-Some.ensures.some in
+    let fit : FitsAt v.base (length v.code) c.self.inside.chunks.items c.in-Some.k =
+    rw (← c.base-base.ensures.value, ← c.code.ensures.value, ← c.deref.ensures.value) c.in-Some.ensures.some in
     let same : v.limit ≡ limit_of marked.bytes = sym c.limit.ensures.value ∙ (c.if-limit.false ∙ c.limit-2.ensures.limit) in
-    let chunk : IsClosedChunk v.base (limit_of marked.bytes) v.code v.marks = subst (λ (l : ℕ). IsClosedChunk v.base l v.code v.marks) same (valid_chunk_is_closed v c.code.ensures.valid) in
-    let put : g.A.Acts.marked c.put_chunk.new.acts ≡ with_chunk marked v.base v.code v.marks = c.put_chunk.ensures.marked ∙ rw (c.base-base.ensures.value, c.code-2.ensures.value, (c.deref-2.ensures.value ∙ c.in-Ok.ensures.value)) refl in
+    let chunk : IsClosedChunk v.base (limit_of marked.bytes) v.code v.marks =
+    subst (λ (l : ℕ). IsClosedChunk v.base l v.code v.marks) same (valid_chunk_is_closed v c.code.ensures.valid) in
+    let put : g.A.Acts.marked c.put_chunk.new.acts ≡ with_chunk marked v.base v.code v.marks = c.put_chunk.ensures.marked
+    ∙ rw (c.base-base.ensures.value, c.code-2.ensures.value, (c.deref-2.ensures.value ∙ c.in-Ok.ensures.value)) refl in
     let list : c.insert_chunk.new.chunks.items ≡ insert c.self.inside.chunks.items c.in-Some.k (live_chunk v) =
     c.insert_chunk.ensures ∙ rw (c.reserve.ensures.items, c.base-base.ensures.value, c.code.ensures.value) refl in
     rw (put, list) (region_with_chunk marked c.self.inside.chunks.items c.in-Some.k (live_chunk v) v.code v.marks
-    (record { region = c.self.invariant; vetted = v; valid = c.code.ensures.valid; base_is = refl; limit_is = same; code_is = refl; marks_is = refl; chunk = chunk; long = refl; above = fit.1; below = fit.2 }) tt (subst IsText put c.put_chunk.ensures.whole))
+    (record {
+      region = c.self.invariant;
+      vetted = v;
+      valid = c.code.ensures.valid;
+      base_is = refl;
+      limit_is = same;
+      code_is =
+          refl;
+      marks_is = refl;
+      chunk = chunk;
+      long = refl;
+      above = fit.1;
+      below = fit.2;
+    }) tt (subst IsText put c.put_chunk.ensures.whole))
 
 pub returns-clause-free : goal.returns-clause-free
 returns-clause-free g c =
     let v = c.args.vetted in
-    let fit : FitsAt v.base (length v.code) c.self.inside.chunks.items c.in-Some.k = rw (← c.base-base.ensures.value, ← c.code.ensures.value, ← c.deref.ensures.value) c.in-Some.ensures.some in
-    let same : v.limit ≡ limit_of (g.A.Acts.marked c.self.inside.acts).bytes = sym c.limit.ensures.value ∙ (c.if-limit.false ∙ c.limit-2.ensures.limit) in
+    let fit : FitsAt v.base (length v.code) c.self.inside.chunks.items c.in-Some.k =
+    rw (← c.base-base.ensures.value, ← c.code.ensures.value, ← c.deref.ensures.value) c.in-Some.ensures.some in
+    let same : v.limit ≡ limit_of (g.A.Acts.marked c.self.inside.acts).bytes = sym c.limit.ensures.value
+    ∙ (c.if-limit.false ∙ c.limit-2.ensures.limit) in
     rw (← c.self.view_is) (same, fits_meets c.self.inside.chunks.items v.base (length v.code) c.in-Some.k fit.1 fit.2)

@@ -2,12 +2,12 @@ use Rattle.std.specs.List.{slice_get}
 use Rattle.std.proofs.lemmas.Option.{get_or_from_slice_get}
 use Rattle.std.proofs.Common.{◌≡◌, ℕ, ◌+◌, ◌-◌, ◌<◌, ◌≤◌, List, length, get_or, set, replicate, Some, sym, subst, ap, ◌∙◌, refl, arith}
 use Rattle.nc_text.specs.Places.{limit_of}
-use Rattle.nc_text.proofs.Confined.{confined_if_closed}
+use Rattle.nc_text.proofs.Offered.{confined_if_closed}
 use Rattle.nc_text.specs.MarkedText.{with_span}
 use Rattle.nc_region.specs.declared.chunk.Chunk.{Chunk}
 use Rattle.nc_region.specs.declared.chunk.ChunkState.TheVariants.{Live}
 use Rattle.nc_region.specs.Region.{Region, IsLive, IsRegion}
-use Rattle.nc_region.specs.Chunks.{IsPlaced}
+use Rattle.nc_region.specs.Chunks.{HasGoodSpan}
 use Rattle.nc_region.proofs.EachMember.{each_get, each_map}
 use Rattle.nc_region.proofs.Deleted.{Deletes, listed_there, retired_is, deleted_is, region_deleted}
 use Rattle.nc_region.proofs.region.RegionOf.delete.Goals as goal
@@ -16,45 +16,60 @@ pub returns-in_default-clause-confined : goal.returns-in_default-clause-confined
 returns-in_default-clause-confined g c = rw (← c.self.view_is) (confined_if_closed _ _ c.self.invariant.whole.closed)
 
 pub returns-then-generation-ge-LAST_GENERATION-clause-confined : goal.returns-then-generation-ge-LAST_GENERATION-clause-confined
-returns-then-generation-ge-LAST_GENERATION-clause-confined g c = rw (← c.self.view_is) (confined_if_closed _ _ c.self.invariant.whole.closed)
+returns-then-generation-ge-LAST_GENERATION-clause-confined g c =
+    rw (← c.self.view_is) (confined_if_closed _ _ c.self.invariant.whole.closed)
 
 pub returns-then-generation-ge-LAST_GENERATION-clause-refused : goal.returns-then-generation-ge-LAST_GENERATION-clause-refused
 returns-then-generation-ge-LAST_GENERATION-clause-refused g c =
-    let f : (x : Chunk) × (slice_get c.self.inside.chunks.items c.in-Some.k ≡ Some x) × (x.state ≡ Live) × (x.base ≡ c.args.base) = rw (← c.deref.ensures.value) c.in-Some.ensures.some in
+    let f : (x : Chunk) × (slice_get c.self.inside.chunks.items c.in-Some.k ≡ Some x) × (x.state ≡ Live) × (x.base ≡ c.args.base) =
+    rw (← c.deref.ensures.value) c.in-Some.ensures.some in
     let there = listed_there c.self.inside.chunks.items c.in-Some.k f.0 f.1 in
-    rw (← c.self.view_is) ((f.0, (c.in-Some.k, there.0, there.1), subst IsLive (sym f.2) tt, f.3), omega (arith, c.generation.ensures.generation, c.generation.ensures.in_range, c.if-generation-ge-LAST_GENERATION.true))
+    rw (← c.self.view_is) (
+      (f.0, (c.in-Some.k, there.0, there.1), subst IsLive (sym f.2) tt, f.3),
+      omega (arith, c.generation.ensures.generation, c.generation.ensures.in_range, c.if-generation-ge-LAST_GENERATION.true),
+    )
 
 pub index-requires : goal.index-requires
 index-requires g c =
-    let f : (x : Chunk) × (slice_get c.self.inside.chunks.items c.in-Some.k ≡ Some x) × (x.state ≡ Live) × (x.base ≡ c.args.base) = rw (← c.deref.ensures.value) c.in-Some.ensures.some in
+    let f : (x : Chunk) × (slice_get c.self.inside.chunks.items c.in-Some.k ≡ Some x) × (x.state ≡ Live) × (x.base ≡ c.args.base) =
+    rw (← c.deref.ensures.value) c.in-Some.ensures.some in
     let there = listed_there c.self.inside.chunks.items c.in-Some.k f.0 f.1 in
     omega (arith, there.0, c.deref.ensures.len, ap (λ (z : List Chunk). length z) c.deref.ensures.value)
 
 pub put_stops-stamp-requires-clause-placed : goal.put_stops-stamp-requires-clause-placed
 put_stops-stamp-requires-clause-placed g c =
-    let f : (x : Chunk) × (slice_get c.self.inside.chunks.items c.in-Some.k ≡ Some x) × (x.state ≡ Live) × (x.base ≡ c.args.base) = rw (← c.deref.ensures.value) c.in-Some.ensures.some in
+    let f : (x : Chunk) × (slice_get c.self.inside.chunks.items c.in-Some.k ≡ Some x) × (x.state ≡ Live) × (x.base ≡ c.args.base) =
+    rw (← c.deref.ensures.value) c.in-Some.ensures.some in
     let there = listed_there c.self.inside.chunks.items c.in-Some.k f.0 f.1 in
-    let is_chunk : c.index.result.now ≡ f.0 = c.index.ensures ∙ get_or_from_slice_get c.self.inside.chunks.items c.in-Some.k f.0 c.index.result.now f.1 in
-    let p = each_get (λ (d : Chunk). IsPlaced d.base (limit_of (g.A.Acts.marked c.self.inside.acts).bytes) d.length) c.self.inside.chunks.items c.in-Some.k f.0 there.0 c.self.invariant.placed in
-    subst (λ (d : Chunk). IsPlaced c.args.base (limit_of (g.A.Acts.marked c.self.inside.acts).bytes) d.length) (sym is_chunk)
-    (subst (λ (b : ℕ). IsPlaced b (limit_of (g.A.Acts.marked c.self.inside.acts).bytes) f.0.length) f.3
-    (subst (λ (d : Chunk). IsPlaced d.base (limit_of (g.A.Acts.marked c.self.inside.acts).bytes) d.length) there.1 p))
+    let is_chunk : c.index.result.now ≡ f.0 = c.index.ensures
+    ∙ get_or_from_slice_get c.self.inside.chunks.items c.in-Some.k f.0 c.index.result.now f.1 in
+    let p = each_get (λ (d : Chunk). HasGoodSpan d.base
+    (limit_of (g.A.Acts.marked c.self.inside.acts).bytes) d.length) c.self.inside.chunks.items c.in-Some.k f.0 there.0
+    c.self.invariant.placed in
+    subst (λ (d : Chunk). HasGoodSpan c.args.base (limit_of (g.A.Acts.marked c.self.inside.acts).bytes) d.length) (sym is_chunk)
+    (subst (λ (b : ℕ). HasGoodSpan b (limit_of (g.A.Acts.marked c.self.inside.acts).bytes) f.0.length) f.3
+    (subst (λ (d : Chunk). HasGoodSpan d.base (limit_of (g.A.Acts.marked c.self.inside.acts).bytes) d.length) there.1 p))
 
 pub set_chunk-requires : goal.set_chunk-requires
 set_chunk-requires g c =
-    let f : (x : Chunk) × (slice_get c.self.inside.chunks.items c.in-Some.k ≡ Some x) × (x.state ≡ Live) × (x.base ≡ c.args.base) = rw (← c.deref.ensures.value) c.in-Some.ensures.some in
+    let f : (x : Chunk) × (slice_get c.self.inside.chunks.items c.in-Some.k ≡ Some x) × (x.state ≡ Live) × (x.base ≡ c.args.base) =
+    rw (← c.deref.ensures.value) c.in-Some.ensures.some in
     let there = listed_there c.self.inside.chunks.items c.in-Some.k f.0 f.1 in
     there.0
 
 pub invariant_of-self : goal.invariant_of-self
 invariant_of-self g c =
-    let f : (x : Chunk) × (slice_get c.self.inside.chunks.items c.in-Some.k ≡ Some x) × (x.state ≡ Live) × (x.base ≡ c.args.base) = rw (← c.deref.ensures.value) c.in-Some.ensures.some in
+    let f : (x : Chunk) × (slice_get c.self.inside.chunks.items c.in-Some.k ≡ Some x) × (x.state ≡ Live) × (x.base ≡ c.args.base) =
+    rw (← c.deref.ensures.value) c.in-Some.ensures.some in
     let there = listed_there c.self.inside.chunks.items c.in-Some.k f.0 f.1 in
-    let is_chunk : c.index.result.now ≡ f.0 = c.index.ensures ∙ get_or_from_slice_get c.self.inside.chunks.items c.in-Some.k f.0 c.index.result.now f.1 in
+    let is_chunk : c.index.result.now ≡ f.0 = c.index.ensures
+    ∙ get_or_from_slice_get c.self.inside.chunks.items c.in-Some.k f.0 c.index.result.now f.1 in
     let old = g.A.Acts.marked c.self.inside.acts in
-    let list = c.set_chunk.ensures ∙ ap (λ (d : Chunk). set c.self.inside.chunks.items c.in-Some.k d) (retired_is f.0 c.args.base c.index.result.now.length c.put_stops-stamp.result f.3 (ap (λ (x : Chunk). x.length) is_chunk)) in
+    let list = c.set_chunk.ensures ∙ ap (λ (d : Chunk). set c.self.inside.chunks.items c.in-Some.k d)
+    (retired_is f.0 c.args.base c.index.result.now.length c.put_stops-stamp.result f.3 (ap (λ (x : Chunk). x.length) is_chunk)) in
     subst (IsRegion (g.A.Acts.marked c.put_stops-stamp.new.acts)) (sym list)
-    (region_deleted (g.A.Acts.marked c.self.inside.acts) (g.A.Acts.marked c.put_stops-stamp.new.acts) c.self.inside.chunks.items c.in-Some.k f.0 c.put_stops-stamp.result
+    (region_deleted (g.A.Acts.marked c.self.inside.acts)
+    (g.A.Acts.marked c.put_stops-stamp.new.acts) c.self.inside.chunks.items c.in-Some.k f.0 c.put_stops-stamp.result
     (record {
       region = c.self.invariant;
       inside = there.0;
@@ -63,22 +78,39 @@ invariant_of-self g c =
       whole = c.put_stops-stamp.ensures.whole;
       bytes_are =
           c.put_stops-stamp.ensures.bytes
-          ∙ (ap (λ (b : ℕ). with_span (g.A.Acts.marked c.self.inside.acts).bytes (b - 65536) (replicate c.index.result.now.length 244)) (sym f.3)
+          ∙ (ap (λ (b : ℕ). with_span (g.A.Acts.marked c.self.inside.acts).bytes (b - 65536) (replicate c.index.result.now.length 244))
+          (sym f.3)
           ∙ ap (λ (x : Chunk). with_span (g.A.Acts.marked c.self.inside.acts).bytes (f.0.base - 65536) (replicate x.length 244)) is_chunk);
       marks_are = c.put_stops-stamp.ensures.marks;
     }))
 
 pub returns-clause-deleted : goal.returns-clause-deleted
 returns-clause-deleted g c =
-    let f : (x : Chunk) × (slice_get c.self.inside.chunks.items c.in-Some.k ≡ Some x) × (x.state ≡ Live) × (x.base ≡ c.args.base) = rw (← c.deref.ensures.value) c.in-Some.ensures.some in
+    let f : (x : Chunk) × (slice_get c.self.inside.chunks.items c.in-Some.k ≡ Some x) × (x.state ≡ Live) × (x.base ≡ c.args.base) =
+    rw (← c.deref.ensures.value) c.in-Some.ensures.some in
     let there = listed_there c.self.inside.chunks.items c.in-Some.k f.0 f.1 in
-    let is_chunk : c.index.result.now ≡ f.0 = c.index.ensures ∙ get_or_from_slice_get c.self.inside.chunks.items c.in-Some.k f.0 c.index.result.now f.1 in
-    let old : Region = record { marked = g.A.Acts.marked c.self.inside.acts; chunks = c.self.inside.chunks.items; keeper = g.A.Acts.keeper c.self.inside.acts; told = g.A.Acts.told c.self.inside.acts } in
-    let new : Region = record { marked = g.A.Acts.marked c.put_stops-stamp.new.acts; chunks = c.set_chunk.new.chunks.items; keeper = g.A.Acts.keeper c.put_stops-stamp.new.acts; told = g.A.Acts.told c.put_stops-stamp.new.acts } in
+    let is_chunk : c.index.result.now ≡ f.0 = c.index.ensures
+    ∙ get_or_from_slice_get c.self.inside.chunks.items c.in-Some.k f.0 c.index.result.now f.1 in
+    let old : Region = record {
+      marked = g.A.Acts.marked c.self.inside.acts;
+      chunks = c.self.inside.chunks.items;
+      keeper =
+          g.A.Acts.keeper c.self.inside.acts;
+      told = g.A.Acts.told c.self.inside.acts;
+    } in
+    let new : Region = record {
+      marked = g.A.Acts.marked c.put_stops-stamp.new.acts;
+      chunks = c.set_chunk.new.chunks.items;
+      keeper =
+          g.A.Acts.keeper c.put_stops-stamp.new.acts;
+      told = g.A.Acts.told c.put_stops-stamp.new.acts;
+    } in
     rw (← c.self.view_is)
-    (deleted_is old new c.in-Some.k c.args.base c.index.result.now.length c.put_stops-stamp.result f.0 f.1 f.2 f.3 (ap (λ (x : Chunk). x.length) is_chunk)
+    (deleted_is old new c.in-Some.k c.args.base c.index.result.now.length c.put_stops-stamp.result f.0 f.1 f.2 f.3
+    (ap (λ (x : Chunk). x.length) is_chunk)
     (omega (arith, c.generation.ensures.generation, c.if-generation-ge-LAST_GENERATION.false))
-    c.put_stops-stamp.ensures.stamp c.put_stops-stamp.ensures.bytes c.put_stops-stamp.ensures.marks c.set_chunk.ensures c.put_stops-stamp.ensures.keeper c.put_stops-stamp.ensures.told)
+    c.put_stops-stamp.ensures.stamp c.put_stops-stamp.ensures.bytes c.put_stops-stamp.ensures.marks c.set_chunk.ensures
+    c.put_stops-stamp.ensures.keeper c.put_stops-stamp.ensures.told)
 
 pub returns-clause-confined : goal.returns-clause-confined
 returns-clause-confined g c = confined_if_closed _ _ c.put_stops-stamp.ensures.whole.closed

@@ -1,10 +1,10 @@
 use Rattle.std.proofs.Common.{◌≡◌, ◌++◌, true, false, ◌∙◌, arith, refl, sym, subst}
-use Rattle.nc_text.proofs.Confined.{confined_if_closed}
+use Rattle.nc_text.proofs.Offered.{confined_if_closed}
 use Rattle.nc_region.specs.Patch.{IsRun, IsHeldBy, IsPatch, LeavesPairs, KeepsTargets, MayRefusePatch}
 use Rattle.nc_region.specs.declared.chunk.Chunk.{Chunk}
 use Rattle.nc_region.specs.declared.fault.ModifyFault.TheVariants.{Boundaries, PairTouched, BadTarget}
 use Rattle.nc_region.specs.Region.{Region}
-use Rattle.nc_region.specs.PatchSteps.{CanPatch}
+use Rattle.nc_region.specs.machinery.PatchSteps.{CanPatch}
 use Rattle.nc_region.proofs.Standing.{lies}
 use Rattle.nc_region.proofs.Patched.{region_patched}
 use Rattle.nc_region.proofs.Runs.{run_along, pairs_from, pairs_back, held_same}
@@ -55,12 +55,20 @@ returns-then-not-fits-clause-refused g c =
     let spans : c.is_patch_span.result ≡ true = c.if-not-is_patch_span.false in
     let news : c.are_instructions.result ≡ true = c.if-not-are_instructions.false in
     let held : IsHeldBy c.self.inside.chunks.items c.args.at c.in-Some.chunk = rw (← c.deref.ensures.value) c.in-Some.ensures.some in
-    let refused : MayRefusePatch (record { marked = g.A.Acts.marked c.self.inside.acts; chunks = c.self.inside.chunks.items; keeper = g.A.Acts.keeper c.self.inside.acts; told = g.A.Acts.told c.self.inside.acts }) c.args.at c.args.new.now Boundaries = (
+    let refused : MayRefusePatch (record {
+      marked = g.A.Acts.marked c.self.inside.acts;
+      chunks = c.self.inside.chunks.items;
+      keeper =
+          g.A.Acts.keeper c.self.inside.acts;
+      told = g.A.Acts.told c.self.inside.acts;
+    }) c.args.at c.args.new.now Boundaries = (
       c.is_patch_span.ensures.0 spans,
       (c.in-Some.chunk, held),
       c.are_instructions.ensures.0 news,
       λ f.
-          c.fits.ensures.none c.if-not-fits.true (subst (λ (d : Chunk). IsRun (g.A.Acts.marked c.self.inside.acts) d c.args.at c.args.new.now) (held_same c.self.inside.chunks.items c.args.at c.in-Some.chunk f.0 c.self.invariant.rising held f.1) f.2),
+          c.fits.ensures.none c.if-not-fits.true
+          (subst (λ (d : Chunk). IsRun (g.A.Acts.marked c.self.inside.acts) d c.args.at c.args.new.now)
+          (held_same c.self.inside.chunks.items c.args.at c.in-Some.chunk f.0 c.self.invariant.rising held f.1) f.2),
     ) in
     subst (λ (r : Region). MayRefusePatch r c.args.at c.args.new.now Boundaries) c.self.view_is refused
 
@@ -71,13 +79,23 @@ returns-then-not-leaves_pairs-clause-refused g c =
     let held : IsHeldBy c.self.inside.chunks.items c.args.at c.in-Some.chunk = rw (← c.deref.ensures.value) c.in-Some.ensures.some in
     let span = c.is_patch_span.ensures.0 spans in
     let run : IsRun (g.A.Acts.marked c.self.inside.acts) c.in-Some.chunk c.args.at c.args.new.now = c.fits.ensures.run fits in
-    let refused : MayRefusePatch (record { marked = g.A.Acts.marked c.self.inside.acts; chunks = c.self.inside.chunks.items; keeper = g.A.Acts.keeper c.self.inside.acts; told = g.A.Acts.told c.self.inside.acts }) c.args.at c.args.new.now PairTouched = (
+    let refused : MayRefusePatch (record {
+      marked = g.A.Acts.marked c.self.inside.acts;
+      chunks = c.self.inside.chunks.items;
+      keeper =
+          g.A.Acts.keeper c.self.inside.acts;
+      told = g.A.Acts.told c.self.inside.acts;
+    }) c.args.at c.args.new.now PairTouched = (
       span,
       (c.in-Some.chunk, held, run),
       λ f.
-          let x = subst (λ (d : Chunk). (r : IsRun (g.A.Acts.marked c.self.inside.acts) d c.args.at c.args.new.now) × LeavesPairs (g.A.Acts.marked c.self.inside.acts) d c.args.at c.args.new.now r) (held_same c.self.inside.chunks.items c.args.at c.in-Some.chunk f.0 c.self.invariant.rising held f.1) f.2 in
+          let x = subst (λ (d : Chunk). (r : IsRun (g.A.Acts.marked c.self.inside.acts) d c.args.at c.args.new.now)
+          × LeavesPairs (g.A.Acts.marked c.self.inside.acts) d c.args.at c.args.new.now r)
+          (held_same c.self.inside.chunks.items c.args.at c.in-Some.chunk f.0 c.self.invariant.rising held f.1) f.2 in
           let a = run_along (g.A.Acts.marked c.self.inside.acts) c.in-Some.chunk c.args.at c.args.new.now x.0 in
-          let yes : c.leaves_pairs.result ≡ true = (c.leaves_pairs.ensures.exact a.begins a.news a.bytes a.runs).1 (pairs_back x.0.old x.0.after x.0.news c.args.new.now x.0.bytes span.0 x.0.as_long x.1.0 x.1.1) in
+          let yes : c.leaves_pairs.result ≡ true =
+          (c.leaves_pairs.ensures.exact a.begins a.news a.bytes a.runs).1
+          (pairs_back x.0.old x.0.after x.0.news c.args.new.now x.0.bytes span.0 x.0.as_long x.1.0 x.1.1) in
           let differ : true ≡ false = sym yes ∙ c.if-not-leaves_pairs.true in
           cc,
     ) in
@@ -92,12 +110,29 @@ returns-then-not-keeps_targets-clause-refused g c =
     let run : IsRun (g.A.Acts.marked c.self.inside.acts) c.in-Some.chunk c.args.at c.args.new.now = c.fits.ensures.run fits in
     let apart : c.leaves_pairs.result ≡ true = c.if-not-leaves_pairs.false in
     let b = run_along (g.A.Acts.marked c.self.inside.acts) c.in-Some.chunk c.args.at c.args.new.now run in
-    let refused : MayRefusePatch (record { marked = g.A.Acts.marked c.self.inside.acts; chunks = c.self.inside.chunks.items; keeper = g.A.Acts.keeper c.self.inside.acts; told = g.A.Acts.told c.self.inside.acts }) c.args.at c.args.new.now BadTarget = (
+    let refused : MayRefusePatch (record {
+      marked = g.A.Acts.marked c.self.inside.acts;
+      chunks = c.self.inside.chunks.items;
+      keeper =
+          g.A.Acts.keeper c.self.inside.acts;
+      told = g.A.Acts.told c.self.inside.acts;
+    }) c.args.at c.args.new.now BadTarget = (
       span,
-      (c.in-Some.chunk, held, (run, pairs_from run.old run.after run.news run.as_long ((c.leaves_pairs.ensures.exact b.begins b.news b.bytes b.runs).0 apart))),
+      (
+        c.in-Some.chunk,
+        held,
+        (
+          run,
+          pairs_from run.old run.after run.news run.as_long
+              ((c.leaves_pairs.ensures.exact b.begins b.news b.bytes b.runs).0 apart),
+        ),
+      ),
       λ p.
           let f = p.1 in
-          let x = subst (λ (d : Chunk). (r : IsRun (g.A.Acts.marked c.self.inside.acts) d c.args.at c.args.new.now) × LeavesPairs (g.A.Acts.marked c.self.inside.acts) d c.args.at c.args.new.now r × KeepsTargets (g.A.Acts.marked c.self.inside.acts) d c.args.at c.args.new.now r) (held_same c.self.inside.chunks.items c.args.at c.in-Some.chunk f.0 c.self.invariant.rising held f.1) f.2 in
+          let x = subst (λ (d : Chunk). (r : IsRun (g.A.Acts.marked c.self.inside.acts) d c.args.at c.args.new.now)
+          × LeavesPairs (g.A.Acts.marked c.self.inside.acts) d c.args.at c.args.new.now r
+          × KeepsTargets (g.A.Acts.marked c.self.inside.acts) d c.args.at c.args.new.now r)
+          (held_same c.self.inside.chunks.items c.args.at c.in-Some.chunk f.0 c.self.invariant.rising held f.1) f.2 in
           let yes : c.keeps_targets.result ≡ true = (c.keeps_targets.ensures.exact x.0.holds x.0.news x.0.bytes).1 x.2 in
           let differ : true ≡ false = sym yes ∙ c.if-not-keeps_targets.true in
           cc,
@@ -114,7 +149,19 @@ invariant_of-self g c =
     let spans : c.is_patch_span.result ≡ true = c.if-not-is_patch_span.false in
     let span = c.is_patch_span.ensures.0 spans in
     region_patched marked (g.A.Acts.marked c.put_patch.new.acts) c.self.inside.chunks.items c.in-Some.chunk c.args.at c.args.new.now
-    (record { region = c.self.invariant; held = held; holds = c.put_patch.ensures.holds; whole = c.put_patch.ensures.whole; bytes_are = c.put_patch.ensures.bytes; marks_are = c.put_patch.ensures.marks; low = l.low; high = omega (arith, l.high); ends = omega (arith, span.1, held.2.0, held.2.1, l.start, l.whole) })
+    (record {
+      region = c.self.invariant;
+      held = held;
+      holds = c.put_patch.ensures.holds;
+      whole = c.put_patch.ensures.whole;
+      bytes_are =
+          c.put_patch.ensures.bytes;
+      marks_are = c.put_patch.ensures.marks;
+      low = l.low;
+      high = omega (arith, l.high);
+      ends =
+          omega (arith, span.1, held.2.0, held.2.1, l.start, l.whole);
+    })
 
 pub returns-clause-lawful : goal.returns-clause-lawful
 returns-clause-lawful g c =
@@ -126,5 +173,23 @@ returns-clause-lawful g c =
     let run : IsRun (g.A.Acts.marked c.self.inside.acts) c.in-Some.chunk c.args.at c.args.new.now = c.fits.ensures.run fits in
     let a = run_along marked c.in-Some.chunk c.args.at c.args.new.now run in
     let held : IsHeldBy c.self.inside.chunks.items c.args.at c.in-Some.chunk = rw (← c.deref.ensures.value) c.in-Some.ensures.some in
-    let lawful : IsPatch (record { marked = g.A.Acts.marked c.self.inside.acts; chunks = c.self.inside.chunks.items; keeper = g.A.Acts.keeper c.self.inside.acts; told = g.A.Acts.told c.self.inside.acts }) c.args.at c.args.new.now = (c.is_patch_span.ensures.0 spans, (c.in-Some.chunk, held, (run, pairs_from run.old run.after run.news run.as_long ((c.leaves_pairs.ensures.exact a.begins a.news a.bytes a.runs).0 apart), (c.keeps_targets.ensures.exact run.holds run.news run.bytes).0 well))) in
+    let lawful : IsPatch (record {
+      marked = g.A.Acts.marked c.self.inside.acts;
+      chunks = c.self.inside.chunks.items;
+      keeper =
+          g.A.Acts.keeper c.self.inside.acts;
+      told = g.A.Acts.told c.self.inside.acts;
+    }) c.args.at c.args.new.now = (
+      c.is_patch_span.ensures.0 spans,
+      (
+        c.in-Some.chunk,
+        held,
+        (
+          run,
+          pairs_from run.old run.after run.news run.as_long
+              ((c.leaves_pairs.ensures.exact a.begins a.news a.bytes a.runs).0 apart),
+          (c.keeps_targets.ensures.exact run.holds run.news run.bytes).0 well,
+        ),
+      ),
+    ) in
     subst (λ (r : Region). IsPatch r c.args.at c.args.new.now) c.self.view_is lawful

@@ -1,7 +1,7 @@
 use Rattle.std.proofs.Common.{◌≡◌, ℕ, ◌+◌, ◌<◌, ◌≤◌, List, length, ap, subst, sym, ◌∙◌, arith}
 use Rattle.nc_text.specs.Places.{limit_of}
 use Rattle.nc_text.specs.MarkedText.{MarkedText}
-use Rattle.nc_text.proofs.Confined.{confined_if_closed}
+use Rattle.nc_text.proofs.Offered.{confined_if_closed}
 use Rattle.nc_gens.specs.Seen.{KeeperState, HasLooked, least_number}
 use Rattle.nc_region.specs.declared.chunk.Chunk.{Chunk}
 use Rattle.nc_region.specs.Acts.{Tells}
@@ -12,22 +12,38 @@ use Rattle.nc_region.proofs.region.RegionOf.reclaim.Goals as goal
 
 pub remove_due-requires : goal.remove_due-requires
 remove_due-requires g c =
-    let n = few (limit_of (g.A.Acts.marked c.self.inside.acts).bytes) 65536 c.self.inside.chunks.items c.self.invariant.rising c.self.invariant.placed (omega (arith, c.self.invariant.whole.lawful.1)) in
+    let n = few (limit_of (g.A.Acts.marked c.self.inside.acts).bytes) 65536 c.self.inside.chunks.items c.self.invariant.rising
+    c.self.invariant.placed (omega (arith, c.self.invariant.whole.lawful.1)) in
     omega (arith, n, c.self.invariant.whole.lawful.2)
 
 pub returns-clause-reclaimed : goal.returns-clause-reclaimed
 returns-clause-reclaimed g c =
-    let old : Region = record { marked = g.A.Acts.marked c.self.inside.acts; chunks = c.self.inside.chunks.items; keeper = g.A.Acts.keeper c.self.inside.acts; told = g.A.Acts.told c.self.inside.acts } in
-    let new : Region = record { marked = g.A.Acts.marked c.unmark_due.new.acts; chunks = c.remove_due.new.chunks.items; keeper = g.A.Acts.keeper c.unmark_due.new.acts; told = g.A.Acts.told c.unmark_due.new.acts } in
+    let old : Region = record {
+      marked = g.A.Acts.marked c.self.inside.acts;
+      chunks = c.self.inside.chunks.items;
+      keeper =
+          g.A.Acts.keeper c.self.inside.acts;
+      told = g.A.Acts.told c.self.inside.acts;
+    } in
+    let new : Region = record {
+      marked = g.A.Acts.marked c.unmark_due.new.acts;
+      chunks = c.remove_due.new.chunks.items;
+      keeper =
+          g.A.Acts.keeper c.unmark_due.new.acts;
+      told = g.A.Acts.told c.unmark_due.new.acts;
+    } in
     rw (← c.self.view_is)
     (reclaimed_is old new (g.A.Acts.told c.look-least.new.self) c.remove_due.result c.look-least.result
     (subst (HasLooked (g.A.Acts.keeper c.self.inside.acts)) (sym c.unmark_due.ensures.keeper) c.look-least.ensures.looked)
     (c.look-least.ensures.least ∙ ap (λ (k : KeeperState). least_number k.numbers) (sym c.unmark_due.ensures.keeper))
     c.remove_due.ensures.chunks
     c.remove_due.ensures.count
-    (c.unmark_due.ensures.marked ∙ (ap (λ (m : MarkedText). unmarked m (freed c.look-least.result c.deref.result.now)) c.look-least.ensures.marked ∙ ap (λ (z : List Chunk). unmarked (g.A.Acts.marked c.self.inside.acts) (freed c.look-least.result z)) c.deref.ensures.value))
+    (c.unmark_due.ensures.marked ∙ (ap (λ (m : MarkedText). unmarked m
+    (freed c.look-least.result c.deref.result.now)) c.look-least.ensures.marked
+    ∙ ap (λ (z : List Chunk). unmarked (g.A.Acts.marked c.self.inside.acts) (freed c.look-least.result z)) c.deref.ensures.value))
     c.look-least.ensures.told
-    (subst (λ (z : List Chunk). Tells (g.A.Acts.told c.look-least.new.self) (g.A.Acts.told c.unmark_due.new.acts) (unmarkings (freed c.look-least.result z))) c.deref.ensures.value c.unmark_due.ensures.told))
+    (subst (λ (z : List Chunk). Tells (g.A.Acts.told c.look-least.new.self) (g.A.Acts.told c.unmark_due.new.acts)
+    (unmarkings (freed c.look-least.result z))) c.deref.ensures.value c.unmark_due.ensures.told))
 
 pub returns-clause-confined : goal.returns-clause-confined
 returns-clause-confined g c = confined_if_closed _ _ c.unmark_due.ensures.region.whole.closed

@@ -5,4 +5,5 @@ use Rattle.nc_region.proofs.region.RegionOf.walk.Goals as goal
 
 pub returns-in-Ok-clause-only : goal.returns-in-Ok-clause-only
 returns-in-Ok-clause-only g c =
-    subst (λ (r : Region). IsOnlyTrace r.marked.bytes c.args.start c.args.choices.now c.in-Ok.trace.places.items c.in-Ok.trace.end) c.self.view_is c.in-Ok.ensures.only
+    subst (λ (r : Region). IsOnlyTrace r.marked.bytes c.args.start c.args.choices.now c.in-Ok.trace.places.items c.in-Ok.trace.end)
+    c.self.view_is c.in-Ok.ensures.only

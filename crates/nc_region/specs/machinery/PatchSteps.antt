@@ -1,0 +1,75 @@
+-- Parts of a patch: machinery of the proofs, cited by no public contract.
+use Rattle.std.specs.Prelude.{◌≡◌, ◌≢◌, ℕ, ◌+◌, ◌-◌, ◌<◌, ◌≤◌, ◌⊎◌, ⊤, Bool, true, false, List, [], ◌∷◌, ◌++◌, length, Some}
+use Rattle.nc_decode.specs.declared.instruction.Instr.{Instr}
+use Rattle.nc_decode.specs.declared.instruction.Mark.{Mark}
+use Rattle.nc_decode.specs.declared.instruction.Mark.TheVariants.{Unmarked, Plain, After}
+use Rattle.nc_decode.specs.Transfers.{is_indirect}
+use Rattle.nc_vet.specs.Chunk.{Piece, place}
+use Rattle.nc_text.specs.Places.{limit_of, byte_at, instruction_at}
+use Rattle.nc_text.specs.Machine.{State}
+use Rattle.nc_text.specs.Marks.{IsMarked, IsClosed}
+use Rattle.nc_text.specs.MarkedText.{MarkedText, with_span}
+use Rattle.nc_region.specs.declared.chunk.Chunk.{Chunk}
+use Rattle.nc_region.specs.Region.{HoldsValid}
+use Rattle.nc_region.specs.Patch.{AreBytesOf, IsRun, LeavesPairs, KeepsTargets}
+
+-- an instruction of the chunk begins at the address, or the chunk ends there
+pub record Begins (marked : MarkedText) (c : Chunk) (at : ℕ) : Type 0 where
+  pub holds : HoldsValid marked c
+  pub before : List Piece
+  pub rest : List Piece
+  pub parts : holds.valid.pieces ≡ before ++ rest
+  pub here : c.base + place before ≡ at
+
+-- the first of these instructions are each as long as the new ones
+abbrev pub RunsAlong : List Piece → List Piece → Type 0
+RunsAlong rest [] = ⊤
+RunsAlong [] (n ∷ news) = ⊥
+RunsAlong (p ∷ rest) (n ∷ news) = (length p.bytes ≡ length n.bytes) × RunsAlong rest news
+
+-- the new bytes are instructions that run along those of the chunk
+pub record Along (marked : MarkedText) (c : Chunk) (at : ℕ) (new : List ℕ) : Type 0 where
+  pub begins : Begins marked c at
+  pub news : List Piece
+  pub bytes : AreBytesOf new news
+  pub runs : RunsAlong begins.rest news
+
+abbrev pub NoneFirst : List Piece → Type 0
+NoneFirst [] = ⊤
+NoneFirst (p ∷ rest) = is_indirect p.instr.flow ≡ false
+
+-- none of the first instructions, of the one after them and of the new ones is an indirect transfer
+abbrev pub NoneIndirect : List Piece → List Piece → Type 0
+NoneIndirect rest [] = NoneFirst rest
+NoneIndirect [] (n ∷ news) = ⊤
+NoneIndirect (p ∷ rest) (n ∷ news) = (is_indirect p.instr.flow ≡ false) × (is_indirect n.instr.flow ≡ false) × NoneIndirect rest news
+
+-- the mark is that of an indirect transfer
+abbrev pub is_after : Mark → Bool
+is_after Unmarked = false
+is_after Plain = false
+is_after (After register) = true
+
+-- a lawful patch of a chunk, except for the list of chunks
+pub record CanPatch (marked : MarkedText) (c : Chunk) (at : ℕ) (new : List ℕ) : Type 0 where
+  pub run : IsRun marked c at new
+  pub pairs : LeavesPairs marked c at new run
+  pub targets : KeepsTargets marked c at new run
+
+-- An instruction is to be replaced by these bytes: afterwards the text is closed, and no other marked state's
+-- instruction has a byte of the span.
+pub record IsReplacing (marked : MarkedText) (at : ℕ) (new : List ℕ) : Type 0 where
+  pub some : 0 < length new
+  pub low : 0x10000 ≤ at
+  pub high : at + length new ≤ limit_of marked.bytes
+  pub closed : IsClosed (with_span marked.bytes (at - 0x10000) new) marked.marks
+  pub apart : (now : State) (i : Instr) → IsMarked marked.marks now → now.place ≢ at
+      → instruction_at (with_span marked.bytes (at - 0x10000) new) now.place ≡ Some i
+      → (now.place + i.len ≤ at) ⊎ (at + length new ≤ now.place)
+
+-- the text while an instruction is replaced: a stop at its start, and outside it the final bytes
+pub record IsInterim (final now : List ℕ) (at len : ℕ) : Type 0 where
+  pub as_long : length now ≡ length final
+  pub stop : byte_at now at ≡ 0xF4
+  pub before : (k : ℕ) → 0x10000 ≤ k → k < at → byte_at now k ≡ byte_at final k
+  pub behind : (k : ℕ) → at + len ≤ k → byte_at now k ≡ byte_at final k

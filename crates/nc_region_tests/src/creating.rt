@@ -1,0 +1,75 @@
+//! Regions made, and chunks created in them.
+
+use crate::fixtures::{LIMIT, refused, region};
+use nc_gens::Gens;
+use nc_region::{Chunk, ChunkState, CreateFault, Region, RegionFault};
+use std::alloc::Global;
+use std::test::Fail;
+
+/// What a region of so many bundles is refused for, if the keeper comes back.
+fn refusal(alloc: Global, bundles: u32) -> Result<Option<RegionFault>, Fail> {
+    let (gens, keeper, _passes) = Gens::new(alloc, 1)?;
+    let refused = Region::new(alloc, bundles, &gens, keeper);
+    let Err((keeper, fault)) = refused else {
+        return Ok(None);
+    };
+    if keeper.generation() > 0 {
+        return Err(Fail::new("another keeper came back"));
+    }
+    Ok(Some(fault))
+}
+
+/// The limit of a region of so many bundles.
+fn limit(alloc: Global, bundles: u32) -> Result<u32, Fail> {
+    let (gens, keeper, _passes) = Gens::new(alloc, 1)?;
+    Ok(region(alloc, bundles, &gens, keeper)?.limit())
+}
+
+#[test]
+fn sizes(rt: HostRuntime) -> Result<(), Fail> {
+    for bundles in [0, 1, 524_289, u32::MAX] {
+        assert_eq!(rt; refusal(rt.alloc(), bundles)?, Some(RegionFault::BadSize));
+    }
+    for (bundles, end) in [(2, 0x10040), (4, LIMIT), (524_288, 0x101_0000)] {
+        assert_eq!(rt; limit(rt.alloc(), bundles)?, end);
+    }
+    Ok(())
+}
+
+/// Where a chunk is tried, of how many bundles, for which limit, its refusal, and how many chunks there are then.
+static TRIES: [(u32, usize, u32, Option<CreateFault>, usize); 9] = [
+    (0x10020, 2, 0x10100, None, 1),
+    // the same place; chunks that end in it, begin in it, lie round it and in it
+    (0x10020, 2, 0x10100, Some(CreateFault::Occupied), 1),
+    (0x10000, 2, 0x10100, Some(CreateFault::Occupied), 1),
+    (0x10040, 2, 0x10100, Some(CreateFault::Occupied), 1),
+    (0x10000, 4, 0x10100, Some(CreateFault::Occupied), 1),
+    (0x10040, 1, 0x10100, Some(CreateFault::Occupied), 1),
+    // another limit comes first
+    (0x10000, 4, 0x10120, Some(CreateFault::WrongLimit), 1),
+    // directly before it and directly after it
+    (0x10000, 1, 0x10100, None, 2),
+    (0x10060, 2, 0x10100, None, 3),
+];
+
+#[test]
+fn created_twice(rt: HostRuntime) -> Result<(), Fail> {
+    let alloc = rt.alloc();
+    let (gens, keeper, _passes) = Gens::new(alloc, 1)?;
+    let mut region = region(alloc, 8, &gens, keeper)?;
+    for (base, bundles, limit, fault, count) in &TRIES {
+        let seen = refused(&mut region, alloc, *base, *limit, *bundles)?;
+        assert_eq!(rt;
+            (seen, region.chunk_count()),
+            (*fault, *count),
+            "{bundles} at {base:x}"
+        );
+    }
+    let middle = Chunk {
+        base: 0x10020,
+        length: 64,
+        state: ChunkState::Live,
+    };
+    assert_eq!(rt; (region.chunk(1), region.chunk(3)), (Some(middle), None));
+    Ok(())
+}

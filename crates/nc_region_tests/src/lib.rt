@@ -1,0 +1,28 @@
+//! The tests of `nc_region`: what no clause says, and what the clauses' words come to on examples.
+//!
+//! They stand in a crate of their own above it. A crate with tests is proved once more for them, and its must-fail edits
+//! wait for that proof; here the tests are proved beside those edits. They use only what `nc_region` exports.
+#![tactic(auto)]
+
+#[cfg(test)]
+mod acts;
+#[cfg(test)]
+mod check_in;
+#[cfg(test)]
+mod creating;
+#[cfg(test)]
+mod deleting;
+#[cfg(test)]
+mod drawing;
+#[cfg(test)]
+mod fixtures;
+#[cfg(test)]
+mod lawful;
+#[cfg(test)]
+mod patches;
+#[cfg(test)]
+mod random_patches;
+#[cfg(test)]
+mod shared;
+#[cfg(test)]
+mod walks;

@@ -1,0 +1,132 @@
+//! A region that threads share: what its calls do under the lock.
+
+use crate::fixtures::{LIMIT, chunk, is_trace, region};
+use nc_gens::Gens;
+use nc_region::{CreateFault, DeleteFault, End, ModifyFault, Shared, Trace};
+use nc_vet::Vetted;
+use std::alloc::Global;
+use std::sync::Wait;
+use std::test::Fail;
+use std::thread::{Threads, join};
+
+/// Creates a chunk of a shared region, and walks from its base.
+fn create_and_walk<R: Wait>(
+    rt: &R,
+    shared: &Shared<'_>,
+    base: u32,
+    vetted: Vetted,
+) -> Option<Trace> {
+    if shared.create(rt, vetted).is_err() {
+        return None;
+    }
+    shared.walk(rt, base, &[0, 0, 0]).ok()
+}
+
+/// Two threads create and walk, each its own chunk.
+fn run_two<R: Threads + Wait + Sync>(
+    rt: &R,
+    shared: &Shared<'_>,
+    one: Vetted,
+    other: Vetted,
+) -> (Option<Trace>, Option<Trace>) {
+    join(
+        rt,
+        move || create_and_walk(rt, shared, 0x10000, one),
+        move || create_and_walk(rt, shared, 0x10020, other),
+    )
+}
+
+#[test]
+fn two_threads(rt: HostRuntime) -> Result<(), Fail> {
+    let alloc = rt.alloc();
+    let (gens, keeper, _passes) = Gens::new(alloc, 1)?;
+    let shared = Shared::new(region(alloc, 4, &gens, keeper)?);
+    // a jump to 00010020, and one to 00010000
+    let one = chunk(alloc, 0x10000, LIMIT, 1, &[0xEB, 0x1E])?;
+    let other = chunk(alloc, 0x10020, LIMIT, 1, &[0xEB, 0xDE])?;
+    let (first, second) = run_two(&rt, &shared, one, other);
+    let Some(first) = first else {
+        return Err(Fail::new("the first thread has no trace"));
+    };
+    let Some(second) = second else {
+        return Err(Fail::new("the second thread has no trace"));
+    };
+    let long = [0x10000, 0x10020, 0x10000, 0x10020];
+    let back = [0x10020, 0x10000, 0x10020, 0x10000];
+    let first_long = is_trace(&first, &long, End::More);
+    let second_long = is_trace(&second, &back, End::More);
+    assert!(rt; first_long || is_trace(&first, &[0x10000, 0x10020], End::Stop));
+    assert!(rt; second_long || is_trace(&second, &[0x10020, 0x10000], End::Stop));
+    assert!(rt; first_long || second_long);
+    let Ok(after) = shared.walk(&rt, 0x10000, &[0, 0, 0]) else {
+        return Err(Fail::new("no walk after both"));
+    };
+    assert!(rt; is_trace(&after, &long, End::More));
+    Ok(())
+}
+
+/// Creates a chunk of two bundles with a jump to 00010020, and then one there: whether the first is created, and the refusal
+/// of the second.
+fn create_both<R: Wait>(
+    rt: &R,
+    alloc: Global,
+    shared: &Shared<'_>,
+) -> Result<(bool, Option<CreateFault>), Fail> {
+    let first = chunk(alloc, 0x10000, LIMIT, 2, &[0xEB, 0x1E])?;
+    let second = chunk(alloc, 0x10020, LIMIT, 1, &[0x40])?;
+    let created = shared.create(rt, first).is_ok();
+    match shared.create(rt, second) {
+        Ok(()) => Ok((created, None)),
+        Err((_, fault)) => Ok((created, Some(fault))),
+    }
+}
+
+/// The jump turned to 00010040, a return put after it, and a walk.
+fn patch_both<R: Wait>(rt: &R, shared: &Shared<'_>) -> (bool, Option<ModifyFault>, Option<Trace>) {
+    let patched = shared.modify(rt, 0x10000, &[0xEB, 0x3E]).is_ok();
+    let barred = shared.modify(rt, 0x10002, &[0xC3]).err();
+    (patched, barred, shared.walk(rt, 0x10000, &[0, 0]).ok())
+}
+
+/// How many chunks a reclaim frees, and how many are left.
+fn reclaim_and_count<R: Wait>(rt: &R, shared: &Shared<'_>) -> (u32, usize) {
+    (shared.reclaim(rt), shared.chunk_count(rt))
+}
+
+#[test]
+fn shared_calls(rt: HostRuntime) -> Result<(), Fail> {
+    let alloc = rt.alloc();
+    let (gens, keeper, mut passes) = Gens::new(alloc, 1)?;
+    let mut pass = passes.remove(0);
+    let shared = Shared::new(region(alloc, 4, &gens, keeper)?);
+    let created = create_both(&rt, alloc, &shared)?;
+    assert_eq!(rt; created, (true, Some(CreateFault::Occupied)));
+    let (patched, barred, trace) = patch_both(&rt, &shared);
+    assert_eq!(rt; (patched, barred), (true, Some(ModifyFault::NotPermitted)));
+    let Some(trace) = trace else {
+        return Err(Fail::new("no walk"));
+    };
+    assert!(rt; is_trace(&trace, &[0x10000, 0x10040], End::Stop));
+    let deleted = (shared.delete(&rt, 0x10020), shared.delete(&rt, 0x10000));
+    assert_eq!(rt; deleted, (Err(DeleteFault::NoChunk), Ok(1)));
+    assert_eq!(rt; reclaim_and_count(&rt, &shared), (0, 1));
+    shared.check_in(&mut pass);
+    assert_eq!(rt; reclaim_and_count(&rt, &shared), (1, 0));
+    shared.leave(pass);
+    Ok(())
+}
+
+#[test]
+fn shared_patch(rt: HostRuntime) -> Result<(), Fail> {
+    let alloc = rt.alloc();
+    let (gens, keeper, _passes) = Gens::new(alloc, 1)?;
+    let shared = Shared::new(region(alloc, 4, &gens, keeper)?);
+    let created = shared.create(&rt, chunk(alloc, 0x10000, LIMIT, 1, &[0xEB, 0x1E])?);
+    assert!(rt; created.is_ok());
+    assert_eq!(rt; shared.modify(&rt, 0x10000, &[0xEB, 0x3E]), Ok(()));
+    let Ok(trace) = shared.walk(&rt, 0x10000, &[0, 0]) else {
+        return Err(Fail::new("no walk"));
+    };
+    assert!(rt; is_trace(&trace, &[0x10000, 0x10040], End::Stop));
+    Ok(())
+}

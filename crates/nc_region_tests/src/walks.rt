@@ -1,0 +1,102 @@
+//! Walks: their places and how they end.
+
+use crate::fixtures::{LIMIT, chunk, is_trace, region};
+use nc_gens::Gens;
+use nc_region::{End, Region, Trace, WalkFault};
+use nc_vet::Vetted;
+use std::test::Fail;
+
+/// A chunk's front, the choices of a walk from 00010000, and its trace.
+static WALKS: [(&[u8], &[u32], &[u32], End); 11] = [
+    (&[0xEB, 0x1E], &[0, 0], &[0x10000, 0x10020], End::Stop),
+    (&[0x74, 0x1E], &[1], &[0x10000, 0x10020], End::Stop),
+    (&[0x74, 0x1E], &[0], &[0x10000, 0x10002], End::More),
+    (
+        &[0x74, 0x1E],
+        &[0xFFFF_FFFF],
+        &[0x10000, 0x10020],
+        End::Stop,
+    ),
+    (&[0xF4], &[], &[0x10000], End::Stop),
+    (
+        &[0x83, 0xE3, 0xE0, 0xFF, 0xE3],
+        &[0, 0x1004F],
+        &[0x10000, 0x10003, 0x10040],
+        End::Stop,
+    ),
+    (
+        &[0x83, 0xE3, 0xE0, 0xFF, 0xE3],
+        &[0, 0xFFE5],
+        &[0x10000, 0x10003, 0xFFE0],
+        End::Trampoline,
+    ),
+    (
+        &[0x83, 0xE3, 0xE0, 0xFF, 0xE3],
+        &[0, 0x100A0],
+        &[0x10000, 0x10003],
+        End::Beyond,
+    ),
+    (
+        &[0x83, 0xE3, 0xE0, 0xFF, 0xE3],
+        &[0],
+        &[0x10000, 0x10003],
+        End::More,
+    ),
+    (
+        &[0x83, 0xE3, 0xE0, 0xFF, 0xE3],
+        &[0, 0x10080],
+        &[0x10000, 0x10003],
+        End::Beyond,
+    ),
+    // a jump to itself, as often as there are choices
+    (&[0xEB, 0xFE], &[0; 40], &[0x10000; 41], End::More),
+];
+
+/// Creates a chunk at 00010000, and walks from there.
+fn create_and_walk(region: &mut Region<'_>, vetted: Vetted, choices: &[u32]) -> Option<Trace> {
+    if region.create(vetted).is_err() {
+        return None;
+    }
+    region.walk(0x10000, choices).ok()
+}
+
+/// No walk begins at a place that is no bundle start of the region, and one begins at the guard.
+fn starts_only_at_bundles(region: &Region<'_>) -> bool {
+    for start in [0x10003, LIMIT, 0xFFE0, 0xFFFF_FFE0] {
+        if region.walk(start, &[]).err() != Some(WalkFault::NotBundle) {
+            return false;
+        }
+    }
+    region.walk(0x10060, &[]).is_ok()
+}
+
+#[test]
+fn walks(rt: HostRuntime) -> Result<(), Fail> {
+    for (front, choices, places, end) in &WALKS {
+        let alloc = rt.alloc();
+        let (gens, keeper, _passes) = Gens::new(alloc, 1)?;
+        let mut region = region(alloc, 4, &gens, keeper)?;
+        let vetted = chunk(alloc, 0x10000, LIMIT, 1, front)?;
+        let Some(trace) = create_and_walk(&mut region, vetted, choices) else {
+            return Err(Fail::new("no walk"));
+        };
+        assert!(rt; is_trace(&trace, places, *end), "{front:?} {trace:?}");
+        assert!(rt; starts_only_at_bundles(&region));
+    }
+    Ok(())
+}
+
+#[test]
+fn long_walk(rt: HostRuntime) -> Result<(), Fail> {
+    let alloc = rt.alloc();
+    let (gens, keeper, _passes) = Gens::new(alloc, 1)?;
+    let mut region = region(alloc, 4, &gens, keeper)?;
+    let vetted = chunk(alloc, 0x10000, LIMIT, 1, &[0xEB, 0xFE])?;
+    let choices = Vec::from_elem(alloc, 0u32, 1500)?;
+    let places = Vec::from_elem(alloc, 0x10000u32, 1501)?;
+    let Some(trace) = create_and_walk(&mut region, vetted, &choices) else {
+        return Err(Fail::new("no walk"));
+    };
+    assert!(rt; is_trace(&trace, &places, End::More));
+    Ok(())
+}

@@ -1,0 +1,14 @@
+pub mod Cuts
+pub mod Answered
+pub mod Steps
+pub mod WholeInput
+pub mod RegionText
+pub mod SpanDigits
+pub mod DumpReply
+pub mod Creating
+pub mod Serving
+pub mod OneAnswer
+pub mod OneReply
+pub mod Kept
+pub mod Gathering
+pub mod VetReplies

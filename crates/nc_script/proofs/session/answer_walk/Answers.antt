@@ -1,0 +1,38 @@
+use Rattle.std.proofs.Common.{subst}
+use Rattle.std.specs.Prelude.{codes}
+use Rattle.std.proofs.lemmas.Result.{on_ok_weaker}
+use Rattle.nc_region.specs.Trace.{MayRefuseWalk}
+use Rattle.nc_script.specs.Requests.{Walk}
+use Rattle.nc_script.specs.Answers.{ServesOnly}
+use Rattle.nc_script.specs.machinery.Session.{script_of}
+use Rattle.nc_script.specs.Replies.{reply_line, refused_reply, walk_reply}
+use Rattle.nc_script.proofs.OneAnswer.{walk_only, no_start_only}
+use Rattle.nc_script.proofs.Serving.{walk_serves, no_start_serves, added}
+use Rattle.nc_script.proofs.session.answer_walk.Goals as goal
+
+pub returns-in-Ok : goal.returns-in-Ok
+returns-in-Ok c =
+    on_ok_weaker c.push_trace.result
+    (λ e. (
+      reply_line (walk_reply c.in-Ok.trace.places.items c.in-Ok.trace.end),
+      e,
+      record {
+        serves = walk_serves c.args.region.now c.args.start c.args.choices.now c.in-Ok.trace.places.items c.in-Ok.trace.end
+            c.limit-facts.ensures.region c.in-Ok.ensures.begins c.in-Ok.ensures.trace;
+        only = walk_only c.args.region.now c.args.start c.args.choices.now c.in-Ok.trace.places.items c.in-Ok.trace.end
+            c.limit-facts.ensures.region c.in-Ok.ensures.begins c.in-Ok.ensures.trace;
+      },
+    ))
+    c.push_trace.ensures
+
+pub returns-in-Err-NotBundle : goal.returns-in-Err-NotBundle
+returns-in-Err-NotBundle c =
+    let region = c.args.region.now in
+    let not = subst (MayRefuseWalk region.marked.bytes c.args.start) c.in-Err-NotBundle.field-0-is c.in-Err-NotBundle.ensures.refused in
+    added c.extend_from_slice.result _ _ (reply_line (refused_reply (codes "NotBundle")))
+    (λ reply. ServesOnly (Walk c.args.start c.args.choices.now) (script_of region) reply (script_of region))
+    c.extend_from_slice.ensures.items
+    record {
+      serves = no_start_serves region c.args.start c.args.choices.now c.limit-facts.ensures.region not;
+      only = no_start_only region c.args.start c.args.choices.now c.limit-facts.ensures.region not;
+    }

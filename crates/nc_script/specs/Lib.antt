@@ -1,0 +1,10 @@
+pub mod machinery
+pub mod Lines
+pub mod Answering
+pub mod Requests
+pub mod Script
+pub mod Replies
+pub mod Answers
+pub mod Run
+pub mod Laws
+pub mod Vetting

@@ -1,0 +1,29 @@
+//! Scripts for a code region, and chunks to be vetted: lines in, one reply line for each out.
+//!
+//! [`run`] runs a script over any reader and writer: it creates chunks in a code region, walks through them and shows them.
+//! [`vet_lines`] only vets chunks, several at a time.
+//!
+//! Below them [`answer_all`] reads lines of any length in pieces, and hands each to whatever replies to one line (a
+//! [`Responder`]): `session` replies by a region's calls, and `batch` gathers lines that are to be vetted. `request` reads
+//! what a line asks for.
+#![tactic(auto)]
+
+mod answer;
+mod batch;
+mod fault;
+mod lines;
+mod output;
+mod replay;
+mod request;
+mod responder;
+mod session;
+mod stream;
+mod verdicts;
+mod vetting;
+mod words;
+
+pub use fault::ReplayFault;
+pub use replay::{law_of_answers, run};
+pub use responder::Responder;
+pub use stream::answer_all;
+pub use vetting::vet_lines;

@@ -1,0 +1,80 @@
+//! A script from a reader's bytes to a writer's.
+
+ghost use Rattle.std.specs.Prelude.{◌≡◌, ◌++◌, ◌⊎◌, ◌↔◌, ◌≢◌, ℕ, List, OnOk, IfErr, IfSome, IsErrOf};
+ghost use Rattle.std.specs.Io.KnownBytes.{Consumes, IsAtEnd};
+ghost use Rattle.nc_gens.specs.Seen.{AreSeats};
+ghost use Rattle.nc_decode.specs.Bundles.{IsRegionSize};
+ghost use Rattle.nc_script.specs.Lines.{lines_of, ended_lines};
+ghost use Rattle.nc_script.specs.Answering.{IsBegun, IsCutShort};
+ghost use Rattle.nc_script.specs.Answers.{AnswersOnly, new_script};
+ghost use Rattle.nc_script.specs.Laws.{BeginsAll, HasOneReply};
+ghost use Rattle.nc_script.specs.Run.{HasAnswered};
+
+use crate::fault::ReplayFault;
+use crate::session::Session;
+use crate::stream::answer_all;
+use nc_decode::is_region_size;
+use nc_gens::{Gens, MOST_SEATS};
+use std::alloc::Global;
+use std::io::{Read, Write};
+
+/// Runs a script on a new region of this many bundles, for threads of this many seats: reads its lines, and writes the
+/// answer to each as soon as its end was read.
+///
+/// A line ends at a byte 0A or at the end of the input. `create` with an address and bytes vets a chunk and creates it,
+/// `walk` with an address and choices shows the places of a walk and its end, and `dump` shows every chunk. Every other
+/// line, and each of more than 1,048,576 bytes, is answered as a bad line. What is promised of bytes holds of a reader
+/// and a writer that tell theirs; nothing is promised of when a device fails.
+pub fn run<R: Read, W: Write>(
+    alloc: Global,
+    reader: &mut R,
+    writer: &mut W,
+    bundles: u32,
+    seats: u32,
+) -> Result<(), ReplayFault>
+    // The two numbers are tested first, in this order, before anything is read or written.
+    ensures bad_size { IsErrOf result ReplayFault.BadSize ↔ ¬ IsRegionSize bundles }
+    ensures bad_seats { IsErrOf result ReplayFault.BadSeats ↔ (IsRegionSize bundles × ¬ AreSeats seats) }
+    ensures no_workers { IfErr result (λ fault. fault ≢ ReplayFault.BadWorkers) }
+    ensures untouched { ¬ (IsRegionSize bundles × AreSeats seats) → (reader.new ≡ reader.old) × (writer.new ≡ writer.old) }
+
+    // The whole input was read, and exactly its answers were written.
+    ensures ok { OnOk result (IfSome (R.remaining reader.old) (λ input.
+        HasAnswered bundles (W.contents writer.old) (W.contents writer.new) (lines_of input))) }
+    ensures read { OnOk result (IsAtEnd (R.remaining reader.new)) }
+
+    // A beginning of the answers was written.
+    ensures write_failed { IsErrOf result ReplayFault.WriteFailed → IfSome (R.remaining reader.old) (λ input.
+        IsBegun AnswersOnly (new_script bundles) (W.contents writer.old) (W.contents writer.new) (lines_of input)) }
+
+    // The answers to all lines whose end was read were written.
+    ensures read_failed { IsErrOf result ReplayFault.ReadFailed → (front : List ℕ)
+        × Consumes (R.remaining reader.old) (R.remaining reader.new) front
+        × HasAnswered bundles (W.contents writer.old) (W.contents writer.new) (ended_lines front) }
+
+    // The answers to all lines before the one that failed were written, or there was no memory for the region.
+    ensures out_of_memory { IsErrOf result ReplayFault.OutOfMemory
+        → ((reader.new ≡ reader.old) × (writer.new ≡ writer.old)) ⊎ IfSome (R.remaining reader.old) (λ input.
+        IsCutShort AnswersOnly (new_script bundles) (W.contents writer.old) (W.contents writer.new) (lines_of input)) }
+{
+    if !is_region_size(bundles) {
+        return Err(ReplayFault::BadSize);
+    }
+    if seats == 0 || seats as usize > MOST_SEATS {
+        return Err(ReplayFault::BadSeats);
+    }
+    let Ok((gens, keeper, _passes)) = Gens::new(alloc, seats) else {
+        return Err(ReplayFault::OutOfMemory);
+    };
+    match Session::new(alloc, bundles, &gens, keeper) {
+        Ok(mut session) => answer_all(alloc, &mut session, reader, writer),
+        Err(_) => Err(ReplayFault::OutOfMemory),
+    }
+}
+
+/// What makes the answers of a run the script's own: lines have no other answers than those that a run wrote, and what
+/// it wrote of some is a beginning of the answers to all. It does nothing when it is called.
+pub fn law_of_answers()
+    ensures one_text { HasOneReply }
+    ensures begins_all { BeginsAll }
+{}

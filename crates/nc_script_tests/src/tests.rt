@@ -1,0 +1,6 @@
+mod fakes;
+mod filled;
+mod long;
+mod script;
+mod stream;
+mod vetting;

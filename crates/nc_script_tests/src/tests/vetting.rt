@@ -1,0 +1,219 @@
+//! Lines of chunks and their verdicts, through `vet_lines` from bytes to bytes.
+
+use crate::tests::fakes::{NEVER, Pieces, Slow};
+use crate::tests::filled::push_filled;
+use nc_script::{ReplayFault, vet_lines};
+use nc_work::Open;
+use std::alloc::{AllocError, Global};
+use std::sync::Wait;
+use std::test::Fail;
+use std::thread::Threads;
+
+/// A line and its verdict; in both a `*` stands for nops, of which there are as many as fill the word up to 32 bytes.
+type Row = (&'static [u8], &'static [u8]);
+
+/// Two lines with the same chunk, the second at a place where no chunk may stand.
+const TWO: [Row; 2] = [(b"00010000 *", b"ok"), (b"00010001 *", b"refused BadBase")];
+
+/// A line without bytes, one of a whole chunk, and one of a byte that is no chunk.
+const THREE: [Row; 3] = [
+    (b"00010000", b"bad line"),
+    (b"00010020 *", b"ok"),
+    (b"00010000 c3", b"refused BadLength"),
+];
+
+/// Each kind of fault, between good chunks and bad lines.
+const FAULTS: [Row; 20] = [
+    (b"00010000 eb1e*", b"ok"),
+    (b"", b"bad line"),
+    (b"00010010 -", b"refused BadBase"),
+    (b"00010000 -", b"refused BadLength"),
+    (b"00010001 -", b"refused BadBase"),
+    (b"FFFFFFE0 *", b"refused OutOfRange"),
+    (b"00010060 *", b"refused OutOfRange"),
+    (b"00010040 *", b"ok"),
+    (b"create 00010000 *", b"bad line"),
+    (b"00010000 C3*", b"refused NotPermitted 00010000"),
+    (
+        b"00010040 90909090909090909090909090909090909090909090909090909090e9000000",
+        b"refused Crosses 0001005c",
+    ),
+    (b"00010000 83e0e0ffe1*", b"refused Bare 00010003"),
+    (b"00010000 eb0383e0e0ffe0*", b"refused BadTarget 00010000"),
+    (b"00010000 eB1E*", b"ok"),
+    (b" 00010000 *", b"bad line"),
+    (b"00010000  *", b"bad line"),
+    (b"00010000 * ", b"bad line"),
+    (b"00010000 9", b"bad line"),
+    (b"0001000 *", b"bad line"),
+    (b"00010000 *", b"ok"),
+];
+
+/// An input of these lines, and what has to be written.
+fn input_and_owed(alloc: Global, rows: &[Row]) -> Result<(Vec<u8>, Vec<u8>), AllocError> {
+    let mut input = Vec::new(alloc);
+    let mut owed = Vec::new(alloc);
+    for (line, verdict) in rows {
+        push_filled(&mut input, line)?;
+        push_filled(&mut owed, verdict)?;
+    }
+    Ok((input, owed))
+}
+
+/// Vets lines for four bundles by each number of workers.
+fn vets<T: Threads + Wait + Sync>(rt: &T, alloc: Global, rows: &[Row]) -> Result<(), Fail> {
+    let (input, owed) = input_and_owed(alloc, rows)?;
+    for workers in 1..17u32 {
+        let mut written = Vec::new(alloc);
+        let mut reader = input.as_slice();
+        let result = vet_lines(rt, alloc, &mut reader, &mut written, 4, workers, &Open);
+        if result != Ok(()) || written != owed {
+            return Err(Fail::new(format_args!("{workers} workers")));
+        }
+    }
+    Ok(())
+}
+
+#[test]
+fn verdicts(rt: HostRuntime) -> Result<(), Fail> {
+    vets(&rt, rt.alloc(), &TWO)?;
+    vets(&rt, rt.alloc(), &THREE)?;
+    vets(&rt, rt.alloc(), &FAULTS)?;
+    vets(&rt, rt.alloc(), &[])
+}
+
+/// A last line without its end is a line, and reading goes on after a line that is too long.
+#[test]
+fn long_and_last_lines(rt: HostRuntime) -> Result<(), Fail> {
+    for (digits, owed) in [
+        (1_048_567usize, b"bad line\nrefused BadBase\n".as_slice()),
+        (1_048_566, b"refused BadLength\nrefused BadBase\n"),
+        (1_048_568, b"bad line\nrefused BadBase\n"),
+        (3_000_000, b"bad line\nrefused BadBase\n"),
+    ] {
+        let mut input = Vec::new(rt.alloc());
+        input.extend_from_slice(b"00010000 ")?;
+        input.resize(digits.wrapping_add(9), b'9')?;
+        input.extend_from_slice(b"\n00010001 -")?;
+        let mut written = Vec::new(rt.alloc());
+        let mut reader = input.as_slice();
+        let result = vet_lines(
+            &rt,
+            rt.alloc(),
+            &mut reader,
+            &mut written,
+            524_288,
+            4,
+            &Open,
+        );
+        assert_eq!(rt; result, Ok(()));
+        assert_eq!(rt; written.as_slice(), owed);
+    }
+    Ok(())
+}
+
+/// A read fails at each place: nothing is written.
+#[test]
+fn failed_reads(rt: HostRuntime) -> Result<(), Fail> {
+    let (input, _) = input_and_owed(rt.alloc(), &TWO)?;
+    for fails_at in 0..input.len() {
+        let mut written = Vec::new(rt.alloc());
+        let mut reader = Pieces {
+            rest: input.as_slice(),
+            size: 1,
+            reads: 0,
+            fails_at,
+        };
+        let result = vet_lines(&rt, rt.alloc(), &mut reader, &mut written, 4, 2, &Open);
+        assert_eq!(rt; result, Err(ReplayFault::ReadFailed));
+        assert!(rt; written.is_empty());
+    }
+    Ok(())
+}
+
+/// A write fails or takes nothing at each place, or the flush fails: a beginning of the verdicts is written.
+#[test]
+fn failed_writes(rt: HostRuntime) -> Result<(), Fail> {
+    let (input, owed) = input_and_owed(rt.alloc(), &THREE)?;
+    for fails_at in 0..owed.len() + 1 {
+        let mut written = Vec::new(rt.alloc());
+        let mut reader = input.as_slice();
+        let mut writer = Slow {
+            out: &mut written,
+            size: 1,
+            writes: 0,
+            fails_at,
+            with_error: fails_at % 2 == 0,
+            flushes: false,
+            flushed: 0,
+        };
+        let result = vet_lines(&rt, rt.alloc(), &mut reader, &mut writer, 4, 2, &Open);
+        assert_eq!(rt; result, Err(ReplayFault::WriteFailed));
+        assert_eq!(rt; Some(written.as_slice()), owed.get(..fails_at));
+    }
+    Ok(())
+}
+
+/// Whatever the sizes of reads and writes: everything is read before the first write, and the writer is flushed once.
+#[test]
+fn any_pieces(rt: HostRuntime) -> Result<(), Fail> {
+    let (input, owed) = input_and_owed(rt.alloc(), &FAULTS)?;
+    for size in 1..6usize {
+        let mut written = Vec::new(rt.alloc());
+        let mut reader = Pieces {
+            rest: input.as_slice(),
+            size,
+            reads: 0,
+            fails_at: NEVER,
+        };
+        let mut writer = Slow {
+            out: &mut written,
+            size,
+            writes: 0,
+            fails_at: NEVER,
+            with_error: true,
+            flushes: true,
+            flushed: 0,
+        };
+        let result = vet_lines(&rt, rt.alloc(), &mut reader, &mut writer, 4, 3, &Open);
+        assert_eq!(rt; result, Ok(()));
+        assert_eq!(rt; writer.flushed, 1);
+        assert_eq!(rt; written.as_slice(), owed.as_slice());
+    }
+    Ok(())
+}
+
+/// The number of bundles is tested before that of workers, and both before anything is read.
+#[test]
+fn sizes(rt: HostRuntime) -> Result<(), Fail> {
+    for (bundles, workers, owed) in [
+        (0, 1, Err(ReplayFault::BadSize)),
+        (1, 0, Err(ReplayFault::BadSize)),
+        (524_289, 17, Err(ReplayFault::BadSize)),
+        (2, 0, Err(ReplayFault::BadWorkers)),
+        (524_288, 17, Err(ReplayFault::BadWorkers)),
+        (2, 1, Ok(())),
+        (524_288, 16, Ok(())),
+    ] {
+        let mut written = Vec::new(rt.alloc());
+        let mut reader = Pieces {
+            rest: b"dump",
+            size: 4,
+            reads: 0,
+            fails_at: NEVER,
+        };
+        let result = vet_lines(
+            &rt,
+            rt.alloc(),
+            &mut reader,
+            &mut written,
+            bundles,
+            workers,
+            &Open,
+        );
+        assert_eq!(rt; result, owed);
+        assert_eq!(rt; reader.reads == 0, owed.is_err());
+        assert_eq!(rt; written.is_empty(), owed.is_err());
+    }
+    Ok(())
+}

@@ -1,0 +1,10 @@
+-- What proofs of the crates above may use of this crate: lemmas on closed and confined texts, on what stands at a place, and on
+-- spans. The other files are private.
+pub use Rattle.nc_text.proofs.Closing.{executes, safe_if_executes, leads_of, executes_stop, no_step_from_stop, Borrows}
+pub use Rattle.nc_text.proofs.Closing.{step_borrowed, closed_by_parts, closed_with_stops}
+pub use Rattle.nc_text.proofs.Confined.{IsKnown, safe_if_known, start_is_marked, confined_if_closed}
+pub use Rattle.nc_text.proofs.Fetch.{length_at}
+pub use Rattle.nc_text.proofs.Fresh.{marked_within, new_is_text}
+pub use Rattle.nc_text.proofs.SpanElements.{length-with_span, get_or-with_span_in, get_or-with_span_below, get_or-with_span_above}
+pub use Rattle.nc_text.proofs.Closing.{step_of}
+pub use Rattle.nc_text.proofs.Fetch.{KeepsBytes, same_instruction}
