@@ -7,7 +7,8 @@ use lib.ListN.{get_elem?, length-replicate}
 use Rattle.atomic_table.specs.Table.{opening}
 use Rattle.atomic_table.specs.Seated.{TableId}
 use Rattle.nc_gens.specs.declared.view.View.{View}
-use Rattle.nc_gens.specs.Rule.{Fits, Ruled, first_view}
+use Rattle.nc_gens.specs.Rule.{Fits, Ruled}
+use Rattle.nc_gens.specs.machinery.Views.{first_view}
 use Rattle.nc_gens.specs.Seen.{PassState, first_pass, first_passes}
 
 -- every element of n copies of z is z, also past the end
@@ -60,4 +61,5 @@ length-first_passes table (suc n) = length-snoc (first_passes table n) ∙ ap su
 -- the first passes are all of the table
 pub tables-first_passes : (table : TableId) (n : ℕ) → All (λ p. p.table ≡ table) (first_passes table n)
 tables-first_passes table zero = search rules
-tables-first_passes table (suc n) = All-append (λ p. p.table ≡ table) (first_passes table n) (first_pass table n ∷ []) (tables-first_passes table n) (search rules)
+tables-first_passes table (suc n) = All-append (λ p. p.table ≡ table) (first_passes table n) (first_pass table n ∷ [])
+    (tables-first_passes table n) (search rules)

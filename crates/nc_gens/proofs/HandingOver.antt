@@ -8,8 +8,9 @@ use Rattle.atomic_table.proofs.Lists.{set_else}
 use Rattle.nc_gens.specs.declared.view.PassNumbers.{PassNumbers}
 use Rattle.nc_gens.specs.declared.view.KeeperNumbers.{KeeperNumbers}
 use Rattle.nc_gens.specs.declared.view.View.{View}
-use Rattle.nc_gens.specs.Rule.{FitsPass, FitsKeeper, Fits, HasKeeper, HasSeat, StandsAt, Ruled, given_one_more, new_pass_view}
-use Rattle.nc_gens.specs.Rule.{without_pass, without_keeper, with_pass_of, spent_view}
+use Rattle.nc_gens.specs.Rule.{FitsPass, FitsKeeper, Fits, HasKeeper, HasSeat, StandsAt, Ruled}
+use Rattle.nc_gens.specs.machinery.Views.{given_one_more, new_pass_view}
+use Rattle.nc_gens.specs.machinery.Views.{without_pass, without_keeper, with_pass_of, spent_view}
 use Rattle.nc_gens.proofs.Views.{views_stay, set_there, still_there, split_views_stay, split_still_there, added_there}
 
 -- the first number where P holds, and the second where it doesn't
@@ -42,29 +43,41 @@ by_else owner i at k other = go (ℕ_discrete k i)
 -- the numbers of a pass fit wherever its view is, if that owns the pass's word
 moved_pass : (words : List ℕ) (owner owner' : ℕ → ℕ) (at at' seat : ℕ) (p : PassNumbers) → owner' (seat + 1) ≡ at'
     → FitsPass words owner at seat p → FitsPass words owner' at' seat p
-moved_pass words owner owner' at at' seat p owns f = record { inside = f.inside; owns = owns; own_word = f.own_word; published = f.published; saw = f.saw; current = f.current }
+moved_pass words owner owner' at at' seat p owns f =
+    record { inside = f.inside; owns = owns; own_word = f.own_word; published = f.published; saw = f.saw; current = f.current }
 
 -- and so do the keeper's, if its view owns the generation and the words of the seats that are not given out
 moved_keeper : (words : List ℕ) (owner owner' : ℕ → ℕ) (at at' given given' : ℕ) (k : KeeperNumbers) → owner' 0 ≡ at'
-    → ((i : ℕ) → given' ≤ i → i < length k.bounds → (owner' (i + 1) ≡ at') × (slice_index words (i + 1) ≡ 0)) → FitsKeeper words owner at given k → FitsKeeper words owner' at' given' k
+    → ((i : ℕ) → given' ≤ i → i < length k.bounds → (owner' (i + 1) ≡ at') × (slice_index words (i + 1) ≡ 0))
+    → FitsKeeper words owner at given k → FitsKeeper words owner' at' given' k
 moved_keeper words owner owner' at at' given given' k owns not_given f =
-    record { owns = owns; generation_is = f.generation_is; wide = f.wide; below = f.below; held_for_left = f.held_for_left; not_given = not_given }
+    record {
+      owns = owns;
+      generation_is = f.generation_is;
+      wide = f.wide;
+      below = f.below;
+      held_for_left = f.held_for_left;
+      not_given = not_given;
+    }
 
 -- a view that doesn't own the word i still fits when another gets it
 others_fit : (words : List ℕ) (owner : ℕ → ℕ) (i at j : ℕ) (v : View) → 0 < i → owner i ≢ j → Fits words owner j v
     → Fits words (owned_by owner i at) j v
 others_fit words owner i at j v high other f =
-    let stays : (k : ℕ) → owner k ≡ j → owned_by owner i at k ≡ j = λ k e. by_else owner i at k (λ same. other (ap owner (sym same) ∙ e)) ∙ e in record {
+    let stays : (k : ℕ) → owner k ≡ j → owned_by owner i at k ≡ j = λ k e. by_else owner i at k (λ same. other (ap owner (sym same) ∙ e))
+    ∙ e in record {
       pass = λ h. let p = f.pass h in moved_pass words owner (owned_by owner i at) j j v.seat v.pass (stays (v.seat + 1) p.owns) p;
       keeper = λ h. let q = f.keeper h in
-          moved_keeper words owner (owned_by owner i at) j j v.given v.given v.keeper (stays 0 q.owns) (λ k l m. let b = q.not_given k l m in (stays (k + 1) b.0, b.1)) q;
+          moved_keeper words owner (owned_by owner i at) j j v.given v.given v.keeper (stays 0 q.owns) (λ k l m. let b =
+          q.not_given k l m in (stays (k + 1) b.0, b.1)) q;
     }
 
 -- each seat is still there, once the seat i went to the view at a place
 seats_there : (vs : List View) (owner : ℕ → ℕ) (i at k : ℕ) → StandsAt vs at (HasSeat i)
     → (k ≢ i → StandsAt vs (owner (k + 1)) (HasSeat k)) → StandsAt vs (owned_by owner (i + 1) at (k + 1)) (HasSeat k)
 seats_there vs owner i at k here others = dite (ℕ_discrete k i)
-    (λ e. subst (λ (z : ℕ). StandsAt vs z (HasSeat k)) (sym (by_here owner (i + 1) at (k + 1) (ap (λ (z : ℕ). z + 1) e))) (subst (λ (z : ℕ). StandsAt vs at (HasSeat z)) (sym e) here))
+    (λ e. subst (λ (z : ℕ). StandsAt vs z (HasSeat k)) (sym (by_here owner (i + 1) at (k + 1) (ap (λ (z : ℕ). z + 1) e)))
+    (subst (λ (z : ℕ). StandsAt vs at (HasSeat z)) (sym e) here))
     (λ ne. subst (λ (z : ℕ). StandsAt vs z (HasSeat k)) (sym (by_else owner (i + 1) at (k + 1) (λ z. ne (omega arith)))) (others ne))
 
 -- and so is the keeper
@@ -87,12 +100,14 @@ passes_out id v is all_given s r at =
       in_range = r.in_range;
       has_keeper = keeper_there _ r.owner v.seat new (split_still_there HasKeeper s.views id v a b at (λ h. h) (r.owner 0) r.has_keeper);
       has_seat = λ k l. seats_there _ r.owner v.seat new k (added_there (HasSeat v.seat) (set s.views id a) b (inl (is, refl)))
-          (λ ne. split_still_there (HasSeat k) s.views id v a b at (⊎_elim (λ t. absurd (ne (sym t.1))) (λ t. inr t)) (r.owner (k + 1)) (r.has_seat k l));
+          (λ ne. split_still_there (HasSeat k) s.views id v a b at (⊎_elim (λ t. absurd (ne (sym t.1))) (λ t. inr t))
+          (r.owner (k + 1)) (r.has_seat k l));
       each_view = split_views_stay (Fits s.words owner) s.views id a b
           record {
             pass = λ h. let no : false ≡ true = h in cc;
             keeper = λ h. let q = f.keeper h in
-                moved_keeper s.words r.owner owner id id v.given v.given v.keeper (by_else r.owner i new 0 (λ z. omega arith) ∙ q.owns) (λ k l m. let g = all_given h in absurd (omega arith)) q;
+                moved_keeper s.words r.owner owner id id v.given v.given v.keeper (by_else r.owner i new 0 (λ z. omega arith) ∙ q.owns)
+                (λ k l m. let g = all_given h in absurd (omega arith)) q;
           }
           record {
             pass = λ _. moved_pass s.words r.owner owner id new v.seat v.pass (by_here r.owner i new i refl) p;
@@ -117,15 +132,24 @@ gives_pass id v bare is room s r at =
       has_keeper = keeper_there _ r.owner v.given new (split_still_there HasKeeper s.views id v a b at (λ h. h) (r.owner 0) r.has_keeper);
       has_seat = λ k l. seats_there _ r.owner v.given new k (added_there (HasSeat v.given) (set s.views id a) b (inl (refl, refl)))
           (λ ne. split_still_there (HasSeat k) s.views id v a b at
-          (⊎_elim (λ t. let no : false ≡ true = sym bare ∙ t.0 in cc) (λ t. inr (t.0, (let l' = t.1 in omega arith)))) (r.owner (k + 1)) (r.has_seat k l));
+          (⊎_elim (λ t. let no : false ≡ true = sym bare ∙ t.0 in cc) (λ t. inr (t.0, (let l' = t.1 in omega arith))))
+          (r.owner (k + 1)) (r.has_seat k l));
       each_view = split_views_stay (Fits s.words owner) s.views id a b
           record {
             pass = λ h. let no : false ≡ true = sym bare ∙ h in cc;
-            keeper = λ _. moved_keeper s.words r.owner owner id id v.given (v.given + 1) v.keeper (by_else r.owner i new 0 (λ z. omega arith) ∙ q.owns)
+            keeper = λ _. moved_keeper s.words r.owner owner id id v.given (v.given + 1) v.keeper
+                (by_else r.owner i new 0 (λ z. omega arith) ∙ q.owns)
                 (λ k l m. let c = q.not_given k (omega arith) m in (by_else r.owner i new (k + 1) (λ z. omega arith) ∙ c.0, c.1)) q;
           }
           record {
-            pass = λ _. record { inside = let h = q.wide in omega arith; owns = by_here r.owner i new i refl; own_word = own.1; published = λ _. le_refl 0; saw = le_refl 0; current = zero-le };
+            pass = λ _. record {
+              inside = let h = q.wide in omega arith;
+              owns = by_here r.owner i new i refl;
+              own_word = own.1;
+              published = λ _. le_refl 0;
+              saw = le_refl 0;
+              current = zero-le;
+            };
             keeper = λ h. let no : false ≡ true = h in cc;
           }
           (λ k x other here. others_fit s.words r.owner i new k x (omega arith) (λ z. other (sym z ∙ own.0)) (r.each_view k x here));
@@ -143,11 +167,19 @@ passes_in id v other w bare is alone s r at apart there =
     let owner : ℕ → ℕ = owned_by r.owner i id in record {
       owner = owner;
       in_range = r.in_range;
-      has_keeper = keeper_there _ r.owner w.seat id (still_there HasKeeper vs other w spent_view there (λ h. let no : false ≡ true = sym alone ∙ h in cc) (r.owner 0)
+      has_keeper = keeper_there _ r.owner w.seat id
+          (still_there HasKeeper vs other w spent_view there (λ h. let no : false ≡ true = sym alone ∙ h in cc) (r.owner 0)
           (still_there HasKeeper s.views id v both at (λ h. h) (r.owner 0) r.has_keeper));
-      has_seat = λ k l. seats_there _ r.owner w.seat id k (both, set_else vs other id spent_view (λ z. apart (sym z)) ∙ set_there s.views id v both at, inl (is, refl))
-          (λ ne. still_there (HasSeat k) vs other w spent_view there (⊎_elim (λ t. absurd (ne (sym t.1))) (λ t. let no : false ≡ true = sym alone ∙ t.0 in cc)) (r.owner (k + 1))
-          (still_there (HasSeat k) s.views id v both at (⊎_elim (λ t. let no : false ≡ true = sym bare ∙ t.0 in cc) (λ t. inr t)) (r.owner (k + 1)) (r.has_seat k l)));
+      has_seat = λ k l. seats_there _ r.owner w.seat id k (
+        both,
+        set_else vs other id spent_view (λ z. apart (sym z))
+            ∙ set_there s.views id v both at,
+        inl (is, refl),
+      )
+          (λ ne. still_there (HasSeat k) vs other w spent_view there
+          (⊎_elim (λ t. absurd (ne (sym t.1))) (λ t. let no : false ≡ true = sym alone ∙ t.0 in cc)) (r.owner (k + 1))
+          (still_there (HasSeat k) s.views id v both at (⊎_elim (λ t. let no : false ≡ true = sym bare ∙ t.0 in cc) (λ t. inr t))
+          (r.owner (k + 1)) (r.has_seat k l)));
       each_view = views_stay (Fits s.words owner) vs other spent_view
           record { pass = λ h. let no : false ≡ true = h in cc; keeper = λ h. let no : false ≡ true = h in cc }
           (λ j x ne here. views_stay (λ (k : ℕ) (y : View). k ≢ other → Fits s.words owner k y) s.views id both
@@ -155,5 +187,6 @@ passes_in id v other w bare is alone s r at apart there =
             pass = λ _. moved_pass s.words r.owner owner other id w.seat w.pass (by_here r.owner i id i refl) p;
             keeper = λ h. (others_fit s.words r.owner i id id v (omega arith) (λ z. apart (sym p.owns ∙ z)) f).keeper h;
           })
-          (λ k y _ was not. others_fit s.words r.owner i id k y (omega arith) (λ z. not (sym z ∙ p.owns)) (r.each_view k y was)) j x here ne);
+          (λ k y _ was not. others_fit s.words r.owner i id k y (omega arith) (λ z. not (sym z ∙ p.owns)) (r.each_view k y was)) j x here
+          ne);
     }

@@ -27,8 +27,11 @@ IsBelow g b = b ≢ left_word → b ≤ g
 -- where no bound is above g, the least one is found from g on
 pub fold-lower : (g : ℕ) (bs : List ℕ) → ((i : ℕ) → i < length bs → IsBelow g (get_or bs i 0)) → fold lower g bs ≡ least_or g (staying bs)
 fold-lower g [] each = refl
-fold-lower g (b ∷ bs) each = dite (ℕ_discrete b left_word) (λ e. at (b == left_word) (eq-eqb b left_word e) (fold-lower g bs (λ i l. each (suc i) (omega arith)))) (λ ne. at (b == left_word) (ne_eqb b left_word ne)
-    (let up = each zero (omega arith) ne in let b_is : min g b ≡ b = omega arith in ap (λ (z : ℕ). fold lower z bs) b_is ∙ sym (fold-staying b bs)))
+fold-lower g (b ∷ bs) each = dite (ℕ_discrete b left_word)
+    (λ e. at (b == left_word) (eq-eqb b left_word e) (fold-lower g bs (λ i l. each (suc i) (omega arith))))
+    (λ ne. at (b == left_word) (ne_eqb b left_word ne)
+    (let up = each zero (omega arith) ne in let b_is : min g b ≡ b = omega arith in ap (λ (z : ℕ). fold lower z bs) b_is
+    ∙ sym (fold-staying b bs)))
   where
     Goal : Bool → Type 0
     Goal t = fold lower (cond (not t) (min g b) g) bs ≡ least_or g (cond (not t) (b ∷ staying bs) (staying bs))

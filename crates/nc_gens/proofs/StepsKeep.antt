@@ -10,8 +10,9 @@ use Rattle.atomic_table.specs.Table.{State, step, keeps, stepped, Allows}
 use Rattle.nc_gens.specs.declared.view.PassNumbers.{PassNumbers}
 use Rattle.nc_gens.specs.declared.view.View.{View}
 use Rattle.nc_gens.specs.Rule.{left_word, last_generation, generation_taken, generation_seen, since_stored, left_stored}
-use Rattle.nc_gens.specs.Rule.{generation_raised, word_taken, FitsPass, Fits, HasKeeper, HasSeat, Ruled, Known, TakesGeneration}
-use Rattle.nc_gens.specs.Rule.{SeesGeneration, StoresSince, StoresLeft, AddsOne, TakesWord}
+use Rattle.nc_gens.specs.Rule.{generation_raised, word_taken, FitsPass, Fits, HasKeeper, HasSeat, Ruled}
+use Rattle.nc_gens.specs.machinery.Steps.{Known, TakesGeneration}
+use Rattle.nc_gens.specs.machinery.Steps.{SeesGeneration, StoresSince, StoresLeft, AddsOne, TakesWord}
 use Rattle.nc_gens.proofs.Views.{views_stay, still_there}
 
 -- the table as the rule sees it
@@ -22,20 +23,28 @@ Words = State (Unit {0}) View
 loaded : (s : Words) (r : Ruled s) (i id : ℕ) (me : Known) (w : View) → get_elem? s.views id ≡ some me.0 → (HasKeeper me.0 → HasKeeper w)
     → ((k : ℕ) → HasSeat k me.0 → HasSeat k w)
     → Fits s.words r.owner id w → Ruled (stepped s i (get_or s.words i 0) id me.1 w keeps)
-loaded s r i id me w at keeper seat fits = subst (λ (ws : List ℕ). Ruled record { words = ws; homes = s.homes; views = set s.views id w }) (sym (set-get_or s.words i 0)) record {
-  owner = r.owner;
-  in_range = r.in_range;
-  has_keeper = still_there HasKeeper s.views id me.0 w at keeper (r.owner 0) r.has_keeper;
-  has_seat = λ k l. still_there (HasSeat k) s.views id me.0 w at (seat k) (r.owner (k + 1)) (r.has_seat k l);
-  each_view = views_stay (Fits s.words r.owner) s.views id w fits (λ j v _ e. r.each_view j v e);
-}
+loaded s r i id me w at keeper seat fits =
+    subst (λ (ws : List ℕ). Ruled record { words = ws; homes = s.homes; views = set s.views id w }) (sym (set-get_or s.words i 0)) record {
+      owner = r.owner;
+      in_range = r.in_range;
+      has_keeper = still_there HasKeeper s.views id me.0 w at keeper (r.owner 0) r.has_keeper;
+      has_seat = λ k l. still_there (HasSeat k) s.views id me.0 w at (seat k) (r.owner (k + 1)) (r.has_seat k l);
+      each_view = views_stay (Fits s.words r.owner) s.views id w fits (λ j v _ e. r.each_view j v e);
+    }
 
 -- the numbers of a pass still fit where its word stays and the generation doesn't fall
 pass_fits : (old new : List ℕ) (owner : ℕ → ℕ) (at seat : ℕ) (p : PassNumbers) → length new ≡ length old
     → get_or new (seat + 1) 0 ≡ get_or old (seat + 1) 0 → get_or old 0 0 ≤ get_or new 0 0
     → FitsPass old owner at seat p → FitsPass new owner at seat p
 pass_fits old new owner at seat p long same rises f =
-    record { inside = let h = f.inside in omega arith; owns = f.owns; own_word = same ∙ f.own_word; published = f.published; saw = f.saw; current = le_trans f.current rises }
+    record {
+      inside = let h = f.inside in omega arith;
+      owns = f.owns;
+      own_word = same ∙ f.own_word;
+      published = f.published;
+      saw = f.saw;
+      current = le_trans f.current rises;
+    }
 
 -- a pass loads the generation, and takes it
 pub takes_generation : (slots id : ℕ) (me : Known) → me.0.is_pass ≡ true
@@ -74,7 +83,14 @@ sees_generation slots id me is s r _ at _ =
       keeps,
       tt,
       loaded s r 0 id me w at (λ h. h) (λ k h. h) record {
-        pass = λ _. record { inside = p.inside; owns = p.owns; own_word = p.own_word; published = p.published; saw = le_trans p.saw p.current; current = le_refl n };
+        pass = λ _. record {
+          inside = p.inside;
+          owns = p.owns;
+          own_word = p.own_word;
+          published = p.published;
+          saw = le_trans p.saw p.current;
+          current = le_refl n;
+        };
         keeper = f.keeper;
       },
       record { after = refl; by_pass = is; word = refl; rises = p.current; in_range = r.in_range; met = λ k. (f.keeper k).generation_is },
@@ -114,7 +130,8 @@ stores s r id i x me at is apart here above below unheld =
           }
           (λ j v other there. let g = r.each_view j v there in record {
             pass = λ h. let q = g.pass h in
-                pass_fits s.words ws r.owner j v.seat v.pass long (get_or-set_other s.words i (v.seat + 1) x 0 (λ e. other (sym q.owns ∙ (ap r.owner e ∙ mine)))) (omega arith) q;
+                pass_fits s.words ws r.owner j v.seat v.pass long
+                (get_or-set_other s.words i (v.seat + 1) x 0 (λ e. other (sym q.owns ∙ (ap r.owner e ∙ mine)))) (omega arith) q;
             keeper = λ h. let q = g.keeper h in record {
               owns = q.owns;
               generation_is = first ∙ q.generation_is;
@@ -123,7 +140,8 @@ stores s r id i x me at is apart here above below unheld =
                   (λ e. let b = q.below k l in
                   let v' : get_or ws (k + 1) 0 ≡ x = ap (λ (z : ℕ). get_or ws z 0) e ∙ at_i in
                   let u : get_or s.words (k + 1) 0 ≡ me.0.pass.word = ap (λ (z : ℕ). get_or s.words z 0) e ∙ was in omega arith)
-                  (λ ne. let b = q.below k l in let v' : get_or ws (k + 1) 0 ≡ get_or s.words (k + 1) 0 = get_or-set_other s.words i (k + 1) x 0 ne in omega arith);
+                  (λ ne. let b = q.below k l in let v' : get_or ws (k + 1) 0 ≡ get_or s.words (k + 1) 0 =
+                  get_or-set_other s.words i (k + 1) x 0 ne in omega arith);
               held_for_left = λ k l e'. dite (ℕ_discrete (k + 1) i)
                   (λ e. absurd (unheld (sym was ∙ (ap (λ (z : ℕ). get_or s.words z 0) (sym e) ∙ q.held_for_left k l e'))))
                   (λ ne. get_or-set_other s.words i (k + 1) x 0 ne ∙ q.held_for_left k l e');
@@ -175,7 +193,8 @@ adds_one slots id me is room s r _ at _ =
     let first : get_or ws 0 0 ≡ n + 1 = get_or-set_same s.words 0 x 0 inside ∙ up in
     let long : length ws ≡ length s.words = length-set s.words 0 x in
     let else : (k : ℕ) → get_or ws (k + 1) 0 ≡ get_or s.words (k + 1) 0 = λ k. get_or-set_other s.words 0 (k + 1) x 0 (λ e. omega arith) in
-    let pass : (j i : ℕ) (p : PassNumbers) → FitsPass s.words r.owner j i p → FitsPass ws r.owner j i p = λ j i p. pass_fits s.words ws r.owner j i p long (else i) (omega arith) in (
+    let pass : (j i : ℕ) (p : PassNumbers) → FitsPass s.words r.owner j i p → FitsPass ws r.owner j i p =
+    λ j i p. pass_fits s.words ws r.owner j i p long (else i) (omega arith) in (
       w,
       keeps,
       tt,
@@ -214,7 +233,8 @@ word_in_range s r i inside ne =
     (λ (t : (has.0.is_pass ≡ true) × (has.0.seat ≡ i)). let p = f.pass t.0 in
     let is : get_or s.words (i + 1) 0 ≡ has.0.pass.word = ap (λ (z : ℕ). get_or s.words (z + 1) 0) (sym t.1) ∙ p.own_word in
     let a = p.published (λ z. ne (is ∙ z)) in let b = p.saw in let d = p.current in omega arith)
-    (λ (t : (has.0.is_keeper ≡ true) × (has.0.given ≤ i)). let q = f.keeper t.0 in let z = (q.not_given i t.1 (let w = q.wide in omega arith)).1 in omega arith) has.2
+    (λ (t : (has.0.is_keeper ≡ true) × (has.0.given ≤ i)). let q = f.keeper t.0 in let z =
+    (q.not_given i t.1 (let w = q.wide in omega arith)).1 in omega arith) has.2
 
 -- the keeper loads the word of the seat i
 pub takes_word : (slots id i : ℕ) (me : Known) → me.0.is_keeper ≡ true → i < length me.0.keeper.bounds

@@ -1,3 +1,3 @@
-pub mod Fields
+pub mod machinery
 pub mod Rule
 pub mod Seen

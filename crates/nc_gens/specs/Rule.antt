@@ -1,10 +1,10 @@
--- The rule of the words, and the five kinds of step on them.
+-- The rule of the words, and what each step on them makes of the numbers.
 -- Word 0 is the generation, and word i + 1 is the word of seat i. Who may step on the words has a token, and each token
 -- has a view: what it knows of them.
 use Rattle.std.specs.Prelude.{◌≡◌, ◌≢◌, ℕ, ◌+◌, ◌-◌, ◌<◌, ◌≤◌, ◌⊎◌, true, false, List, length, replicate, slice_index, slice_set}
 use mathlib.Core.Option.{some}
 use lib.ListN.{get_elem?}
-use Rattle.atomic_table.specs.Table.{State, Me, Step}
+use Rattle.atomic_table.specs.Table.{State}
 use Rattle.nc_gens.specs.declared.view.PassNumbers.{PassNumbers}
 use Rattle.nc_gens.specs.declared.view.KeeperNumbers.{KeeperNumbers}
 use Rattle.nc_gens.specs.declared.view.View.{View}
@@ -95,91 +95,3 @@ pub record Ruled (s : State (Unit {0}) View) : Type 0 where
   pub has_keeper : StandsAt s.views (owner 0) HasKeeper
   pub has_seat : (i : ℕ) → i + 1 < length s.words → StandsAt s.views (owner (i + 1)) (HasSeat i)
   pub each_view : (j : ℕ) (v : View) → get_elem? s.views j ≡ some v → Fits s.words owner j v
-
--- the keeper's view once it has given out the passes of the seats below i
-abbrev pub giving_view : ℕ → ℕ → View
-giving_view seats i = record { is_pass = false; seat = 0; pass = first_pass_numbers; is_keeper = true; keeper = first_keeper_numbers seats; given = i }
-
-abbrev pub first_view : ℕ → View
-first_view seats = giving_view seats 0
-
--- The five kinds of step. Each says which word `st.word` is stepped on, by whom, and of the token before (m) and after
--- (m') and the number n that it found, or stored, what is known.
-
--- what a token knows: its view (and slots, which this table has none of)
-abbrev pub Known : Type 0
-Known = Me (Unit {0}) View
-
--- 1: a pass loads the generation
-pub record TakesGeneration (st : Step (Unit {0})) (m : Known) (n : ℕ) (m' : Known) : Type 0 where
-  pub after : m' ≡ (record m.0 { pass = generation_taken n m.0.pass }, m.1)
-  pub by_pass : m.0.is_pass ≡ true
-  pub word : st.word ≡ 0
-  pub rises : m.0.pass.seen ≤ n
-  pub in_range : n ≤ last_generation
-
--- 1 again, where `seen` alone moves
-pub record SeesGeneration (st : Step (Unit {0})) (m : Known) (n : ℕ) (m' : Known) : Type 0 where
-  pub after : m' ≡ (record m.0 { pass = generation_seen n m.0.pass }, m.1)
-  pub by_pass : m.0.is_pass ≡ true
-  pub word : st.word ≡ 0
-  pub rises : m.0.pass.seen ≤ n
-  pub in_range : n ≤ last_generation
-  pub met : m.0.is_keeper ≡ true → n ≡ m.0.keeper.generation
-
--- 2: a pass stores its own word
-pub record StoresSince (st : Step (Unit {0})) (m : Known) (n : ℕ) (m' : Known) : Type 0 where
-  pub after : m' ≡ (record m.0 { pass = since_stored m.0.pass }, m.1)
-  pub by_pass : m.0.is_pass ≡ true
-  pub word : st.word ≡ m.0.seat + 1
-  pub stored : n ≡ m.0.pass.since
-
--- 3: a pass stores "left"
-pub record StoresLeft (st : Step (Unit {0})) (m : Known) (n : ℕ) (m' : Known) : Type 0 where
-  pub after : m' ≡ (record m.0 { pass = left_stored m.0.pass }, m.1)
-  pub by_pass : m.0.is_pass ≡ true
-  pub word : st.word ≡ m.0.seat + 1
-  pub stored : n ≡ left_word
-
--- 4: the keeper adds one to the generation
-pub record AddsOne (st : Step (Unit {0})) (m : Known) (n : ℕ) (m' : Known) : Type 0 where
-  pub after : m' ≡ (record m.0 { keeper = generation_raised m.0.keeper }, m.1)
-  pub by_keeper : m.0.is_keeper ≡ true
-  pub word : st.word ≡ 0
-  pub added : st.first ≡ 1
-  pub found : n ≡ m.0.keeper.generation
-
--- 5: the keeper loads the word of a seat
-pub record TakesWord (st : Step (Unit {0})) (m : Known) (n : ℕ) (m' : Known) : Type 0 where
-  pub after : m' ≡ (record m.0 { keeper = word_taken (st.word - 1) n m.0.keeper }, m.1)
-  pub by_keeper : m.0.is_keeper ≡ true
-  pub word : 0 < st.word
-  pub rises : slice_index m.0.keeper.bounds (st.word - 1) ≤ n
-  pub in_range : n ≢ left_word → n ≤ m.0.keeper.generation
-  pub met : m.0.is_pass ≡ true → m.0.seat + 1 ≡ st.word → n ≡ m.0.pass.word
-
--- How a view is cut in two, and how two are joined
-
--- the keeper, after it has given out the next pass
-abbrev pub given_one_more : View → View
-given_one_more v = record v { given = v.given + 1 }
-
--- that pass
-abbrev pub new_pass_view : View → View
-new_pass_view v = record { is_pass = true; seat = v.given; pass = first_pass_numbers; is_keeper = false; keeper = v.keeper; given = v.given }
-
--- the pass goes elsewhere
-abbrev pub without_pass : View → View
-without_pass v = record v { is_pass = false }
-
--- the pass alone
-abbrev pub without_keeper : View → View
-without_keeper v = record v { is_keeper = false }
-
--- the other's pass comes in
-abbrev pub with_pass_of : View → View → View
-with_pass_of v other = record v { is_pass = other.is_pass; seat = other.seat; pass = other.pass }
-
--- neither pass nor keeper
-abbrev pub spent_view : View
-spent_view = record (giving_view 0 0) { is_keeper = false }

@@ -9,7 +9,7 @@
 //!
 //! Native Client deletes dynamic code so (Ansel et al. 2011, "Language-independent sandboxing of
 //! just-in-time compilation and self-modifying code"); as a technique it is quiescent-state-based
-//! reclamation. A pass stores in its own seat's word alone, and none but the keeper changes the
+//! reclamation. A pass stores only in its own seat's word, and only the keeper changes the
 //! generation. Nothing here waits, and nothing is promised of progress: a seat that never checks
 //! in holds back every later stamp for good.
 #![tactic(auto)]

@@ -1,6 +1,6 @@
 //! A table is made, with its keeper and its passes.
 ghost use Rattle.std.specs.Prelude.{◌≡◌, ◌+◌, ◌<◌, ◌≤◌, ◌↔◌, ◌⊎◌, [], All, IfOk, OnOk, IsErrOf, length, replicate};
-ghost use Rattle.nc_gens.specs.Rule.{giving_view};
+ghost use Rattle.nc_gens.specs.machinery.Views.{giving_view};
 ghost use Rattle.nc_gens.specs.Seen.{AreSeats, first_passes, first_keeper};
 
 use crate::fault::GensFault;

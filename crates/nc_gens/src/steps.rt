@@ -1,6 +1,7 @@
 //! The kinds of atomic step on the words, and how a view passes from one token to another.
-ghost use Rattle.nc_gens.specs.Rule.{TakesGeneration, SeesGeneration, StoresSince, StoresLeft, AddsOne, TakesWord, given_one_more};
-ghost use Rattle.nc_gens.specs.Rule.{new_pass_view, without_pass, without_keeper, with_pass_of, spent_view};
+ghost use Rattle.nc_gens.specs.machinery.Steps.{TakesGeneration, SeesGeneration, StoresSince, StoresLeft, AddsOne, TakesWord};
+ghost use Rattle.nc_gens.specs.machinery.Views.{given_one_more};
+ghost use Rattle.nc_gens.specs.machinery.Views.{new_pass_view, without_pass, without_keeper, with_pass_of, spent_view};
 
 use crate::view::View;
 use atomic_table::{Join, Play, Split};

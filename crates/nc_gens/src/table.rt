@@ -44,7 +44,7 @@ impl Model for Pass {
 
     ghost Value = { PassState };
 
-    ghost use Rattle.nc_gens.specs.Fields.{pass_state, IsPass};
+    ghost use Rattle.nc_gens.specs.machinery.Fields.{pass_state, IsPass};
 
     ghost view = { pass_state };
 
@@ -64,7 +64,7 @@ impl Model for Keeper {
 
     ghost Value = { KeeperState };
 
-    ghost use Rattle.nc_gens.specs.Fields.{keeper_state, IsKeeper};
+    ghost use Rattle.nc_gens.specs.machinery.Fields.{keeper_state, IsKeeper};
 
     ghost view = { keeper_state };
 

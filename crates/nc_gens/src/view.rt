@@ -44,7 +44,8 @@ pub(crate) struct View {
 pub(crate) struct WordRule;
 
 impl TableRule<(), View, usize> for WordRule {
-    ghost use Rattle.nc_gens.specs.Rule.{Ruled, first_view};
+    ghost use Rattle.nc_gens.specs.Rule.{Ruled};
+    ghost use Rattle.nc_gens.specs.machinery.Views.{first_view};
 
     ghost holds = { λ _. Ruled };
 

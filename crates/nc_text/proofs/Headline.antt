@@ -47,7 +47,8 @@ each_safe text (first ∷ before) after now all = each_safe text before after no
 -- each state of each path through a confined text stands where it may
 pub path_stands : (text : List ℕ) (before after : List State) (now : State) → IsConfined text → IsPath text (before ++ now ∷ after)
     → Stands text now
-path_stands text before after now confined path = stands_if_safe text now (each_safe text before after now (confined (before ++ now ∷ after) path))
+path_stands text before after now confined path =
+    stands_if_safe text now (each_safe text before after now (confined (before ++ now ∷ after) path))
 
 -- joined states stay joined with one more step
 joined_more : (text : List ℕ) (first : State) (before : List State) (now next : State) → Joined text first (before ++ now ∷ [])

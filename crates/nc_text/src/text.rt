@@ -80,7 +80,7 @@ impl Text {
         Ok(Text { bytes, marks })
     }
 
-    /// The address behind the last byte: a multiple of 32.
+    /// The address after the last byte: a multiple of 32.
     pub fn limit(&self) -> u32
         ensures limit { result ≡ limit_of self.now.bytes }
         ensures whole { IsText self.now }

@@ -8,13 +8,16 @@ pub split_seat-token-requires : goal.split_seat-token-requires
 split_seat-token-requires c =
     let me = c.loop-seat.invariant.1 in
     let room = c.loop-seat-test.true in
-    let long : length c.loop-seat.keeper.me.0.keeper.bounds ≡ c.args.seats = ap (λ m. length m.0.keeper.bounds) me ∙ length-replicate c.args.seats 0 in
+    let long : length c.loop-seat.keeper.me.0.keeper.bounds ≡ c.args.seats = ap (λ m. length m.0.keeper.bounds) me
+    ∙ length-replicate c.args.seats 0 in
     let given : c.loop-seat.keeper.me.0.given ≡ c.loop-seat.seat = ap (λ m. m.0.given) me in
     (search rules, search rules, gives_pass _ _ (ap (λ m. m.0.is_pass) me) (ap (λ m. m.0.is_keeper) me) (omega arith))
 
 pub returns-clause-count : goal.returns-clause-count
 returns-clause-count c =
-    let counted = ap length c.loop-seat.invariant.2 ∙ length-first_passes c.args.keeper.now.table_id c.loop-seat.seat in let end = c.loop-seat-test.false in let within = c.loop-seat.auto.seat-end in omega arith
+    let counted = ap length c.loop-seat.invariant.2 ∙ length-first_passes c.args.keeper.now.table_id c.loop-seat.seat in let end =
+    c.loop-seat-test.false in let within = c.loop-seat.auto.seat-end in omega arith
 
 pub returns-clause-tables : goal.returns-clause-tables
-returns-clause-tables c = subst (All (λ p. p.table ≡ c.args.keeper.now.table_id)) (sym c.loop-seat.invariant.2) (tables-first_passes c.args.keeper.now.table_id c.loop-seat.seat)
+returns-clause-tables c = subst (All (λ p. p.table ≡ c.args.keeper.now.table_id)) (sym c.loop-seat.invariant.2)
+    (tables-first_passes c.args.keeper.now.table_id c.loop-seat.seat)

@@ -68,7 +68,8 @@ long_third = length-with_span second.marks 0 (unused_marks 65536 3) (omega (arit
 
 -- bundle starts stay plain
 start_second : (k : ℕ) → k < 64 → k % 32 ≡ 0 → get_or second.marks k Unmarked ≡ Plain
-start_second k lt start = spanned first.marks two_marks 1 k Plain (omega (arith, long_first)) (unused_start 64 k lt start) (λ low high. absurd (omega (arith, start, low, high)))
+start_second k lt start = spanned first.marks two_marks 1 k Plain (omega (arith, long_first)) (unused_start 64 k lt start)
+    (λ low high. absurd (omega (arith, start, low, high)))
 
 -- also when the span is taken back
 start_third : (k : ℕ) → k < 64 → k % 32 ≡ 0 → get_or third.marks k Unmarked ≡ Plain
@@ -88,7 +89,8 @@ closed_third = unused_closed 64 third.bytes third.marks refl long_third start_th
 unmarked_third : get_or third.marks 3 Unmarked ≡ Unmarked
 unmarked_third =
     spanned second.marks (unused_marks 65536 3) 0 3 Unmarked (omega (arith, long_second, long_three))
-    (spanned first.marks two_marks 1 3 Unmarked (omega (arith, long_first)) (unused_at 64 3 (omega arith)) (λ low high. absurd (omega (arith, high))))
+    (spanned first.marks two_marks 1 3 Unmarked (omega (arith, long_first)) (unused_at 64 3 (omega arith))
+    (λ low high. absurd (omega (arith, high))))
     (λ low high. absurd (omega (arith, high, long_three)))
 
 -- each of its bytes is a stop
@@ -98,16 +100,26 @@ stop_third at low high = get_or-replicate 64 (at - 65536) 244 0 (omega (arith, l
 -- with the byte put it is closed
 closed_fourth : IsClosed (with_byte third 65539 0x90).bytes third.marks
 closed_fourth =
-    closed_after_put third.bytes third.marks 65539 0x90 closed_third (omega arith, let long : length third.bytes ≡ 64 = length-replicate {A = ℕ} 64 244 in omega (arith, long))
+    closed_after_put third.bytes third.marks 65539 0x90 closed_third (
+      omega arith,
+      let long : length third.bytes ≡ 64 =
+          length-replicate {A = ℕ} 64 244 in omega (arith, long),
+    )
     (λ now m.
-    let other : now.place ≢ 65539 = λ same. subst (λ (k : Mark). Admits k now.masked) (ap (λ (at : ℕ). get_or third.marks (at - 65536) Unmarked) same ∙ unmarked_third) m.1 in
+    let other : now.place ≢ 65539 = λ same. subst (λ (k : Mark). Admits k now.masked)
+    (ap (λ (at : ℕ). get_or third.marks (at - 65536) Unmarked) same ∙ unmarked_third) m.1 in
     inr (inl (other, stop_third now.place m.0 (omega (arith, marked_within third.marks now m, long_third)))))
 
 pub mark_span-requires-clause-closed : goal.mark_span-requires-clause-closed
-mark_span-requires-clause-closed g c = subst (λ (t : MarkedText). IsClosed t.bytes (with_marks t 65537 two_marks).marks) (sym c.in_ok-text.ensures.marked) closed_second
+mark_span-requires-clause-closed g c = subst (λ (t : MarkedText). IsClosed t.bytes (with_marks t 65537 two_marks).marks)
+    (sym c.in_ok-text.ensures.marked) closed_second
 
 pub unmark_span-requires-clause-closed : goal.unmark_span-requires-clause-closed
-unmark_span-requires-clause-closed g c = subst (λ (t : MarkedText). IsClosed t.bytes (without_marks t 65536 3).marks) (sym (c.mark_span.ensures.marked ∙ ap (λ (t : MarkedText). with_marks t 65537 two_marks) c.in_ok-text.ensures.marked)) closed_third
+unmark_span-requires-clause-closed g c =
+    subst (λ (t : MarkedText). IsClosed t.bytes (without_marks t 65536 3).marks)
+    (sym (c.mark_span.ensures.marked ∙ ap (λ (t : MarkedText). with_marks t 65537 two_marks) c.in_ok-text.ensures.marked)) closed_third
 
 pub put-requires-clause-closed : goal.put-requires-clause-closed
-put-requires-clause-closed g c = subst (λ (t : MarkedText). IsClosed (with_byte t 65539 0x90).bytes t.marks) (sym (c.unmark_span.ensures.marked ∙ ap (λ (t : MarkedText). without_marks t 65536 3) (c.mark_span.ensures.marked ∙ ap (λ (t : MarkedText). with_marks t 65537 two_marks) c.in_ok-text.ensures.marked))) closed_fourth
+put-requires-clause-closed g c = subst (λ (t : MarkedText). IsClosed (with_byte t 65539 0x90).bytes t.marks)
+    (sym (c.unmark_span.ensures.marked ∙ ap (λ (t : MarkedText). without_marks t 65536 3) (c.mark_span.ensures.marked
+    ∙ ap (λ (t : MarkedText). with_marks t 65537 two_marks) c.in_ok-text.ensures.marked))) closed_fourth

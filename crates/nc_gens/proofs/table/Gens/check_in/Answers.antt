@@ -14,6 +14,7 @@ store-requires c =
     let word_is : c.load-generation.new.seat.me.0.pass.word ≡ c.pass.inside.token.me.0.pass.word = ap (λ m. m.0.pass.word) took.after in (
       search rules,
       search rules,
-      stores_since _ _ _ _ _ (ap (λ m. m.0.is_pass) took.after ∙ is.is_pass) (ap (λ m. m.0.is_keeper) took.after ∙ is.alone) (ap (λ m. m.0.seat + 1) took.after ∙ ap (λ k. k + 1) is.seat_is)
+      stores_since _ _ _ _ _ (ap (λ m. m.0.is_pass) took.after ∙ is.is_pass) (ap (λ m. m.0.is_keeper) took.after ∙ is.alone)
+          (ap (λ m. m.0.seat + 1) took.after ∙ ap (λ k. k + 1) is.seat_is)
           (sym since_is) (let a = is.published in let b = is.saw in omega arith) took.in_range,
     )

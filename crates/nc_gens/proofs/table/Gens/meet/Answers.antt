@@ -4,18 +4,31 @@ use Rattle.nc_gens.proofs.HandingOver.{passes_out, passes_in}
 use Rattle.nc_gens.proofs.table.Gens.meet.Goals as goal
 
 pub split_seat-lent-requires : goal.split_seat-lent-requires
-split_seat-lent-requires c = (search rules, search rules, passes_out _ _ c.pass.invariant.is_pass (λ h. let no : false ≡ true = sym c.pass.invariant.alone ∙ h in cc))
+split_seat-lent-requires c = (
+  search rules,
+  search rules,
+  passes_out _ _ c.pass.invariant.is_pass (λ h. let no : false ≡ true = sym c.pass.invariant.alone ∙ h in cc),
+)
 
 pub join_seat-requires : goal.join_seat-requires
 join_seat-requires c =
-    let lent = c.split_seat-lent.ensures.4 in
-    (search rules, search rules, ap (λ m. m.1) lent, search rules, passes_in _ _ _ _ c.keeper.invariant.alone (ap (λ m. m.0.is_pass) lent ∙ c.pass.invariant.is_pass) (ap (λ m. m.0.is_keeper) lent))
+    let lent = c.split_seat-lent.ensures.4 in (
+      search rules,
+      search rules,
+      ap (λ m. m.1) lent,
+      search rules,
+      passes_in _ _ _ _ c.keeper.invariant.alone (ap (λ m. m.0.is_pass) lent ∙ c.pass.invariant.is_pass) (ap (λ m. m.0.is_keeper) lent),
+    )
 
 pub load-requires : goal.load-requires
 load-requires c =
     let lent = c.split_seat-lent.ensures.4 in
-    let joint = c.join_seat.ensures.2 in
-    (search rules, search rules, sees_generation _ _ _ (ap (λ m. m.0.is_pass) joint ∙ (ap (λ m. m.0.is_pass) lent ∙ c.pass.invariant.is_pass)))
+    let joint = c.join_seat.ensures.2 in (
+      search rules,
+      search rules,
+      sees_generation _ _ _ (ap (λ m. m.0.is_pass) joint
+          ∙ (ap (λ m. m.0.is_pass) lent ∙ c.pass.invariant.is_pass)),
+    )
 
 pub load-found-requires : goal.load-found-requires
 load-found-requires c =
@@ -24,10 +37,15 @@ load-found-requires c =
     let is = c.keeper.invariant in
     let inside = c.pass.invariant.inside in
     let wide = is.wide in
-    let same : c.load.new.seat.me.0.keeper.bounds ≡ c.keeper.inside.bounds.items = ap (λ m. m.0.keeper.bounds) after ∙ (ap (λ m. m.0.keeper.bounds) joint ∙ is.bounds_are) in
+    let same : c.load.new.seat.me.0.keeper.bounds ≡ c.keeper.inside.bounds.items = ap (λ m. m.0.keeper.bounds) after
+    ∙ (ap (λ m. m.0.keeper.bounds) joint ∙ is.bounds_are) in
     let long = ap length same in
-    let here : c.pass.inside.token.table_id.words ≡ c.keeper.inside.token.table_id.words = search rules in
-    (search rules, search rules, takes_word _ _ _ _ (ap (λ m. m.0.is_keeper) after ∙ (ap (λ m. m.0.is_keeper) joint ∙ is.is_keeper)) (omega arith))
+    let here : c.pass.inside.token.table_id.words ≡ c.keeper.inside.token.table_id.words = search rules in (
+      search rules,
+      search rules,
+      takes_word _ _ _ _ (ap (λ m. m.0.is_keeper) after ∙ (ap (λ m. m.0.is_keeper) joint ∙ is.is_keeper))
+          (omega arith),
+    )
 
 pub split_seat-requires : goal.split_seat-requires
 split_seat-requires c =
@@ -44,5 +62,7 @@ split_seat-requires c =
     ap (λ m. length m.0.keeper.bounds) found ∙ length-set c.load.new.seat.me.0.keeper.bounds _ _ in (
       search rules,
       search rules,
-      passes_out _ _ (ap (λ m. m.0.is_pass) found ∙ (ap (λ m. m.0.is_pass) after ∙ (ap (λ m. m.0.is_pass) joint ∙ (ap (λ m. m.0.is_pass) lent ∙ c.pass.invariant.is_pass)))) (λ _. omega arith),
+      passes_out _ _ (ap (λ m. m.0.is_pass) found
+          ∙ (ap (λ m. m.0.is_pass) after ∙ (ap (λ m. m.0.is_pass) joint ∙ (ap (λ m. m.0.is_pass) lent ∙ c.pass.invariant.is_pass))))
+          (λ _. omega arith),
     )

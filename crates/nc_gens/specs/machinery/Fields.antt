@@ -1,4 +1,4 @@
--- What the fields of a pass and of the keeper keep, and what callers see of them: machinery, cited by no public contract.
+-- What the fields of a pass and of the keeper keep, and what callers see of them.
 use Rattle.std.specs.Prelude.{◌≡◌, ◌≢◌, ℕ, ◌+◌, ◌-◌, ◌<◌, ◌≤◌, true, false, [], length, slice_index}
 use Rattle.nc_gens.specs.declared.table.Pass.TheInside as pass
 use Rattle.nc_gens.specs.declared.table.Keeper.TheInside as keeper

@@ -1,0 +1,59 @@
+-- The five kinds of step on the words. Each says which word `st.word` is stepped on, by whom, and of the token before (m) and
+-- after (m') and the number n that it found, or stored, what is known.
+use Rattle.std.specs.Prelude.{◌≡◌, ◌≢◌, ℕ, ◌+◌, ◌-◌, ◌<◌, ◌≤◌, true, slice_index}
+use Rattle.atomic_table.specs.Table.{Me, Step}
+use Rattle.nc_gens.specs.declared.view.View.{View}
+use Rattle.nc_gens.specs.Rule.{left_word, last_generation, generation_taken, generation_seen, since_stored, left_stored}
+use Rattle.nc_gens.specs.Rule.{generation_raised, word_taken}
+
+-- what a token knows: its view (and slots, which this table has none of)
+abbrev pub Known : Type 0
+Known = Me (Unit {0}) View
+
+-- 1: a pass loads the generation
+pub record TakesGeneration (st : Step (Unit {0})) (m : Known) (n : ℕ) (m' : Known) : Type 0 where
+  pub after : m' ≡ (record m.0 { pass = generation_taken n m.0.pass }, m.1)
+  pub by_pass : m.0.is_pass ≡ true
+  pub word : st.word ≡ 0
+  pub rises : m.0.pass.seen ≤ n
+  pub in_range : n ≤ last_generation
+
+-- 1 again, where only `seen` moves
+pub record SeesGeneration (st : Step (Unit {0})) (m : Known) (n : ℕ) (m' : Known) : Type 0 where
+  pub after : m' ≡ (record m.0 { pass = generation_seen n m.0.pass }, m.1)
+  pub by_pass : m.0.is_pass ≡ true
+  pub word : st.word ≡ 0
+  pub rises : m.0.pass.seen ≤ n
+  pub in_range : n ≤ last_generation
+  pub met : m.0.is_keeper ≡ true → n ≡ m.0.keeper.generation
+
+-- 2: a pass stores its own word
+pub record StoresSince (st : Step (Unit {0})) (m : Known) (n : ℕ) (m' : Known) : Type 0 where
+  pub after : m' ≡ (record m.0 { pass = since_stored m.0.pass }, m.1)
+  pub by_pass : m.0.is_pass ≡ true
+  pub word : st.word ≡ m.0.seat + 1
+  pub stored : n ≡ m.0.pass.since
+
+-- 3: a pass stores "left"
+pub record StoresLeft (st : Step (Unit {0})) (m : Known) (n : ℕ) (m' : Known) : Type 0 where
+  pub after : m' ≡ (record m.0 { pass = left_stored m.0.pass }, m.1)
+  pub by_pass : m.0.is_pass ≡ true
+  pub word : st.word ≡ m.0.seat + 1
+  pub stored : n ≡ left_word
+
+-- 4: the keeper adds one to the generation
+pub record AddsOne (st : Step (Unit {0})) (m : Known) (n : ℕ) (m' : Known) : Type 0 where
+  pub after : m' ≡ (record m.0 { keeper = generation_raised m.0.keeper }, m.1)
+  pub by_keeper : m.0.is_keeper ≡ true
+  pub word : st.word ≡ 0
+  pub added : st.first ≡ 1
+  pub found : n ≡ m.0.keeper.generation
+
+-- 5: the keeper loads the word of a seat
+pub record TakesWord (st : Step (Unit {0})) (m : Known) (n : ℕ) (m' : Known) : Type 0 where
+  pub after : m' ≡ (record m.0 { keeper = word_taken (st.word - 1) n m.0.keeper }, m.1)
+  pub by_keeper : m.0.is_keeper ≡ true
+  pub word : 0 < st.word
+  pub rises : slice_index m.0.keeper.bounds (st.word - 1) ≤ n
+  pub in_range : n ≢ left_word → n ≤ m.0.keeper.generation
+  pub met : m.0.is_pass ≡ true → m.0.seat + 1 ≡ st.word → n ≡ m.0.pass.word

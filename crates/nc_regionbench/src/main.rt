@@ -1,0 +1,261 @@
+//! How long a region's calls take.
+//!
+//! `nc_regionbench chunks COUNT BUNDLES ROUNDS` creates so many chunks of so many bundles in a new region, deletes all of them,
+//! and reclaims all of them by one call. It prints the best time of each of the three.
+//!
+//! `nc_regionbench checkin TIMES ROUNDS` checks in so many times through a shared region, and beside it does so many bare loads
+//! and stores of two atomic words, in the same order of memory. It prints the best time of one of each.
+//!
+//! Without these words it says how to call it.
+#![tactic(auto)]
+
+ghost use Rattle.std.specs.Prelude.{◌≡◌};
+
+use nc_gens::{Gens, Pass};
+use nc_region::{Region, Shared};
+use nc_vet::{Vetted, vet};
+use std::alloc::Global;
+use std::sync::atomic::{AtomicU64, Ordering};
+use std::time::{Duration, Instant};
+use std::{env, io};
+
+/// The first address of a region.
+const BASE: u32 = 0x1_0000;
+
+/// A bundle of ordinary code with a direct branch and a masked jump in it.
+const BUNDLE: [u8; 32] = [
+    0x8B, 0x45, 0x08, 0x89, 0x44, 0x24, 0x04, 0x83, 0xC0, 0x01, 0x85, 0xC0, 0x74, 0x05, 0xB8, 0x01,
+    0x00, 0x00, 0x00, 0x0F, 0xB6, 0xC0, 0x8D, 0x04, 0x80, 0x55, 0x5D, 0x83, 0xE1, 0xE0, 0xFF, 0xE1,
+];
+
+/// How many chunks, and of how many bundles each.
+#[derive(Clone, Copy, Drop)]
+struct Load {
+    count: u32,
+    bundles: u32,
+}
+
+impl Load {
+    /// How many bytes a chunk has.
+    fn bytes(self) -> u32 {
+        self.bundles.saturating_mul(32)
+    }
+
+    /// The base of a chunk.
+    fn base(self, i: u32) -> u32 {
+        BASE.saturating_add(self.bytes().saturating_mul(i))
+    }
+
+    /// How many bundles the region has, with its guard.
+    fn region(self) -> u32 {
+        self.count
+            .saturating_mul(self.bundles)
+            .saturating_add(1)
+            .max(2)
+    }
+
+    /// The limit of the region.
+    fn limit(self) -> u32 {
+        BASE.saturating_add(self.region().saturating_mul(32))
+    }
+}
+
+/// What each part took, and how many chunks were created, deleted and reclaimed.
+#[derive(Clone, Copy, Drop)]
+struct Times {
+    create: Duration,
+    delete: Duration,
+    reclaim: Duration,
+    done: [u32; 3],
+}
+
+/// A chunk of the region.
+fn chunk(alloc: Global, load: Load, i: u32) -> io::Result<Option<Vetted>> {
+    let mut code = Vec::with_capacity(alloc, load.bytes() as usize)?;
+    for _ in 0..load.bundles {
+        code.extend_from_slice(&BUNDLE)?;
+    }
+    Ok(vet(load.base(i), load.limit(), code).ok())
+}
+
+/// All chunks.
+fn chunks(alloc: Global, load: Load) -> io::Result<Vec<Vetted>> {
+    let mut all = Vec::new(alloc);
+    for i in 0..load.count {
+        if let Some(vetted) = chunk(alloc, load, i)? {
+            all.push(vetted)?;
+        }
+    }
+    Ok(all)
+}
+
+/// Creates the chunks, and counts those that were created.
+fn create_all(region: &mut Region<'_>, all: Vec<Vetted>) -> u32 {
+    let mut done = 0u32;
+    for vetted in all {
+        if region.create(vetted).is_ok() {
+            done = done.saturating_add(1);
+        }
+    }
+    done
+}
+
+/// Deletes the chunks, and counts those that were deleted.
+fn delete_all(region: &mut Region<'_>, load: Load) -> u32 {
+    let mut done = 0u32;
+    for i in 0..load.count {
+        if region.delete(load.base(i)).is_ok() {
+            done = done.saturating_add(1);
+        }
+    }
+    done
+}
+
+/// Creates, deletes and reclaims all chunks in a new region, where there is memory for it.
+fn live_once(rt: &HostRuntime, load: Load) -> io::Result<Option<Times>> {
+    let all = chunks(rt.alloc(), load)?;
+    let Ok((gens, keeper, mut passes)) = Gens::new(rt.alloc(), 1) else {
+        return Ok(None);
+    };
+    let mut pass = passes.remove(0);
+    let Ok(mut region) = Region::new(rt.alloc(), load.region(), &gens, keeper) else {
+        return Ok(None);
+    };
+    let start = Instant::now(rt)?;
+    let created = create_all(&mut region, all);
+    let create = start.elapsed(rt)?;
+    let start = Instant::now(rt)?;
+    let deleted = delete_all(&mut region, load);
+    let delete = start.elapsed(rt)?;
+    gens.check_in(&mut pass);
+    let start = Instant::now(rt)?;
+    let reclaimed = region.reclaim();
+    let reclaim = start.elapsed(rt)?;
+    Ok(Some(Times {
+        create,
+        delete,
+        reclaim,
+        done: [created, deleted, reclaimed],
+    }))
+}
+
+/// The best time of each part, and the counts of the last round.
+fn best_of(a: Times, b: Times) -> Times {
+    let done = b.done;
+    Times {
+        create: a.create.min(b.create),
+        delete: a.delete.min(b.delete),
+        reclaim: a.reclaim.min(b.reclaim),
+        done,
+    }
+}
+
+/// Times the chunks in rounds, and prints the best times.
+fn measure_chunks(rt: &HostRuntime, load: Load, rounds: u32) -> io::Result<()> {
+    let mut best = Times {
+        create: Duration::MAX,
+        delete: Duration::MAX,
+        reclaim: Duration::MAX,
+        done: [0; 3],
+    };
+    for _ in 0..rounds {
+        if let Some(times) = live_once(rt, load)? {
+            best = best_of(best, times);
+        }
+    }
+    let create = best.create.as_nanos();
+    let delete = best.delete.as_nanos();
+    let reclaim = best.reclaim.as_nanos();
+    println!(rt;
+        "{} chunks of {} bundles: create {create} ns, delete {delete} ns, reclaim {reclaim} ns; done {:?}",
+        load.count, load.bundles, best.done
+    )
+}
+
+/// Checks in so many times.
+#[inline(never)]
+fn check_in_times(shared: &Shared<'_>, pass: &mut Pass, times: u32)
+    requires { pass.old.table ≡ shared.now }
+    ensures { pass.new.table ≡ pass.old.table }
+{
+    for _ in 0..times {
+        shared.check_in(pass);
+    }
+}
+
+/// Loads one word and stores it into the other, so many times. It is a function of its own, since a compiler that sees that
+/// nobody shares the words makes plain ones of them.
+#[inline(never)]
+fn bare_times(generation: &AtomicU64, word: &AtomicU64, times: u32) {
+    for _ in 0..times {
+        let seen = generation.load(Ordering::SeqCst);
+        word.store(seen, Ordering::SeqCst);
+    }
+}
+
+/// What the bare steps took, on words side by side on the heap.
+fn bare_once(rt: &HostRuntime, times: u32) -> io::Result<Duration> {
+    let mut words = Vec::new(rt.alloc());
+    words.push(AtomicU64::new(0))?;
+    words.push(AtomicU64::new(0))?;
+    let [generation, word] = words.as_slice() else {
+        return Ok(Duration::MAX);
+    };
+    let start = Instant::now(rt)?;
+    bare_times(generation, word, times);
+    start.elapsed(rt)
+}
+
+/// What the check-ins took, where there is memory for a region.
+fn check_in_once(rt: &HostRuntime, times: u32) -> io::Result<Duration> {
+    let Ok((gens, keeper, mut passes)) = Gens::new(rt.alloc(), 1) else {
+        return Ok(Duration::MAX);
+    };
+    let mut pass = passes.remove(0);
+    let Ok(region) = Region::new(rt.alloc(), 2, &gens, keeper) else {
+        return Ok(Duration::MAX);
+    };
+    let shared = Shared::new(region);
+    let start = Instant::now(rt)?;
+    check_in_times(&shared, &mut pass, times);
+    start.elapsed(rt)
+}
+
+/// Times check-ins and bare steps by turns, and prints the best times.
+fn measure_check_in(rt: &HostRuntime, times: u32, rounds: u32) -> io::Result<()> {
+    let mut best = (Duration::MAX, Duration::MAX);
+    for _ in 0..rounds {
+        best.0 = best.0.min(check_in_once(rt, times)?);
+        best.1 = best.1.min(bare_once(rt, times)?);
+    }
+    let check_in = best.0.as_nanos();
+    let bare = best.1.as_nanos();
+    println!(rt; "{times} check-ins: {check_in} ns; {times} bare loads and stores: {bare} ns")
+}
+
+/// The number that a word spells, at least 1.
+fn number(word: &str) -> u32 {
+    word.parse().unwrap_or(1).max(1)
+}
+
+fn main(rt: HostRuntime) -> io::Result<()> {
+    let words = env::args(&rt)?;
+    let words: Vec<String> = words.collect(rt.alloc())?;
+    let words = words.as_slice();
+    match words {
+        [_, what, count, bundles, rounds] if what.as_str() == "chunks" => {
+            let load = Load {
+                count: number(count.as_str()),
+                bundles: number(bundles.as_str()),
+            };
+            measure_chunks(&rt, load, number(rounds.as_str()))
+        }
+        [_, what, times, rounds] if what.as_str() == "checkin" => {
+            measure_check_in(&rt, number(times.as_str()), number(rounds.as_str()))
+        }
+        _ => {
+            println!(&rt; "usage: nc_regionbench chunks COUNT BUNDLES ROUNDS")?;
+            println!(&rt; "       nc_regionbench checkin TIMES ROUNDS")
+        }
+    }
+}
