@@ -9,7 +9,7 @@ use Rattle.nc_decode.specs.Bundles.{IsLawfulLimit}
 use Rattle.nc_text.specs.Places.{limit_of, byte_at}
 use Rattle.nc_text.specs.Marks.{Admits}
 use Rattle.nc_text.specs.MarkedText.{MarkedText, IsText, with_span}
-use Rattle.nc_text.proofs.SpanElements.{length-with_span}
+use Rattle.nc_text.proofs.Offered.{length-with_span}
 use Rattle.nc_vet.specs.Chunk.{MarkedChunk, IsValid}
 use Rattle.nc_schedule.specs.Quiet.{Span}
 use Rattle.nc_schedule.specs.World.{World, IsSteady}
@@ -19,17 +19,18 @@ use Rattle.nc_region.specs.declared.acts.Act.TheVariants.{MarkSpan}
 use Rattle.nc_region.specs.declared.chunk.Chunk.{Chunk}
 use Rattle.nc_region.specs.declared.chunk.ChunkState.TheVariants.{Retired}
 use Rattle.nc_region.specs.Acts.{is_inside, is_start, puts_where}
-use Rattle.nc_region.specs.Chunks.{IsPlaced, IsUnused, IsClosedChunk, HasPut, IsFinalBut, with_chunk}
+use Rattle.nc_region.specs.Chunks.{HasGoodSpan, IsClosedChunk, with_chunk}
+use Rattle.nc_region.specs.machinery.Between.{IsUnused, HasPut, IsFinalBut}
 use Rattle.nc_region.specs.Each.{Each}
 use Rattle.nc_region.specs.Region.{IsRegion, FitsAt, live_chunk}
-use Rattle.nc_region.proofs.Creating.{final_all, final_but_starts}
-use Rattle.nc_region.proofs.EachMember.{each_map, each_both, each_append}
-use Rattle.nc_region.proofs.Inserting.{unused_if_apart, region_with_chunk}
-use Rattle.nc_region.proofs.Joining.{Joins, chunk_joins, chunk_keeps}
-use Rattle.nc_region.proofs.Pieces.{valid_chunk_is_closed}
-use Rattle.nc_region.proofs.Rising.{rises_above}
-use Rattle.nc_region.proofs.SpanPlaces.{Before, Within, Behind, place_of, unused_is_start, is_inside_false, is_start_false}
-use Rattle.nc_region.proofs.SpanPlaces.{start_or_not, span_within, before_span}
+use Rattle.nc_region.proofs.Offered.{final_all, final_but_starts}
+use Rattle.nc_region.proofs.Offered.{each_map, each_both, each_append}
+use Rattle.nc_region.proofs.Offered.{unused_if_apart, region_with_chunk}
+use Rattle.nc_region.proofs.Offered.{Joins, chunk_joins, chunk_keeps}
+use Rattle.nc_region.proofs.Offered.{valid_chunk_is_closed}
+use Rattle.nc_region.proofs.Offered.{rises_above}
+use Rattle.nc_region.proofs.Offered.{Before, Within, Behind, place_of, unused_is_start, is_inside_false, is_start_false}
+use Rattle.nc_region.proofs.Offered.{start_or_not, span_within, before_span}
 use Rattle.nc_calls.specs.Calls.{Details, no_details, events_of, events_of_act, create_events}
 use Rattle.nc_calls.proofs.Putting.{with_bytes, Leads, leads_one, leads_more, MayLay, lay_all}
 use Rattle.nc_calls.proofs.RetiredSpans.{AreSpansOf, all_spans, retired_each, retired_insert, region_steady}
@@ -50,7 +51,7 @@ outside_put chosen base bytes count old now has le at low out =
 
 -- while all but the bundle starts are put: at each marked place a stop, or what stood there
 inside_each : (old : MarkedText) (new : List ℕ) (base : ℕ) (bytes : List ℕ) (count : ℕ)
-    → IsPlaced base (limit_of old.bytes) (length bytes) → count ≤ length bytes
+    → HasGoodSpan base (limit_of old.bytes) (length bytes) → count ≤ length bytes
     → IsUnused old base (length bytes) → HasPut is_inside base bytes count old.bytes new → StopsOrKeeps old.bytes new old.marks
 inside_each old new base bytes count placed le unused puts = λ now m.
     elim (place_of base (length bytes) now.place) [

@@ -10,7 +10,7 @@ use Rattle.nc_decode.specs.Bundles.{IsLawfulLimit}
 use Rattle.nc_text.specs.Places.{limit_of, byte_at}
 use Rattle.nc_text.specs.Marks.{Admits, mark_at}
 use Rattle.nc_text.specs.MarkedText.{MarkedText, IsText, with_span}
-use Rattle.nc_text.proofs.SpanElements.{length-with_span}
+use Rattle.nc_text.proofs.Offered.{length-with_span}
 use Rattle.nc_schedule.specs.Quiet.{IsQuiet}
 use Rattle.nc_schedule.specs.World.{World, IsSteady, AreApart}
 use Rattle.nc_schedule.specs.Events.{Event, Retires, IsAllowed, after, new_span}
@@ -18,16 +18,17 @@ use Rattle.nc_region.specs.declared.acts.Act.TheVariants.{Bump}
 use Rattle.nc_region.specs.declared.chunk.Chunk.{Chunk}
 use Rattle.nc_region.specs.declared.chunk.ChunkState.TheVariants.{Retired}
 use Rattle.nc_region.specs.Acts.{is_mark, is_marked_at, is_unmarked_at, puts_where}
-use Rattle.nc_region.specs.Chunks.{IsPlaced, HasPut}
+use Rattle.nc_region.specs.Chunks.{HasGoodSpan}
+use Rattle.nc_region.specs.machinery.Between.{HasPut}
 use Rattle.nc_region.specs.Each.{Each}
 use Rattle.nc_region.specs.Region.{IsLive, IsRising, IsRegion}
-use Rattle.nc_region.proofs.Deleted.{region_deleted}
-use Rattle.nc_region.proofs.Deleting.{all_stops}
-use Rattle.nc_region.proofs.EachMember.{each_get, each_from, each_at_set}
-use Rattle.nc_region.proofs.QuietSpans.{quiet_chunks}
-use Rattle.nc_region.proofs.Rising.{rises_get}
-use Rattle.nc_region.proofs.Runs.{apart_by_index}
-use Rattle.nc_region.proofs.SpanPlaces.{place_of, Before, Within, Behind, before_span}
+use Rattle.nc_region.proofs.Offered.{region_deleted}
+use Rattle.nc_region.proofs.Offered.{all_stops}
+use Rattle.nc_region.proofs.Offered.{each_get, each_from, each_at_set}
+use Rattle.nc_region.proofs.Offered.{quiet_chunks}
+use Rattle.nc_region.proofs.Offered.{rises_get}
+use Rattle.nc_region.proofs.Offered.{apart_by_index}
+use Rattle.nc_region.proofs.Offered.{place_of, Before, Within, Behind, before_span}
 use Rattle.nc_calls.specs.Calls.{no_details, events_of, delete_events}
 use Rattle.nc_calls.proofs.Creation.{events_append, outside_put}
 use Rattle.nc_calls.proofs.Putting.{with_bytes, Leads, leads_one, leads_more, MayLay, lay_all}
@@ -45,7 +46,7 @@ stop_byte : (base len at : ℕ) → base ≤ at → at < base + len → get_or (
 stop_byte base len at low high = get_or-replicate len (at - base) 244 0 (omega arith)
 
 -- while stops are put at marked places: at each marked place a stop, or what stood there
-marked_each : (old : MarkedText) (now : List ℕ) (base len count : ℕ) → IsPlaced base (limit_of old.bytes) len → count ≤ len
+marked_each : (old : MarkedText) (now : List ℕ) (base len count : ℕ) → HasGoodSpan base (limit_of old.bytes) len → count ≤ len
     → HasPut (is_marked_at old.marks) base (replicate len 244) count old.bytes now → StopsOrKeeps old.bytes now old.marks
 marked_each old now base len count placed le puts = λ s m.
     elim (place_of base count s.place) [
@@ -57,7 +58,7 @@ marked_each old now base len count placed le puts = λ s m.
     ]
 
 -- and while they are put at the others
-others_each : (old : MarkedText) (now : List ℕ) (base len count : ℕ) → IsPlaced base (limit_of old.bytes) len
+others_each : (old : MarkedText) (now : List ℕ) (base len count : ℕ) → HasGoodSpan base (limit_of old.bytes) len
     → ((at : ℕ) → base ≤ at → at < base + len → is_marked_at old.marks at ≡ true → byte_at old.bytes at ≡ 244) → count ≤ len
     → HasPut (is_unmarked_at old.marks) base (replicate len 244) count old.bytes now → StopsOrKeeps old.bytes now old.marks
 others_each old now base len count placed stopped le puts = λ s m.
@@ -104,10 +105,10 @@ record IsDeleting (w : World) (chunks : List Chunk) (k : ℕ) (c : Chunk) : Type
 
 -- it lies in the region
 placed_there : (w : World) (chunks : List Chunk) (k : ℕ) (c : Chunk) → IsDeleting w chunks k c
-    → IsPlaced c.base (limit_of w.marked.bytes) c.length
+    → HasGoodSpan c.base (limit_of w.marked.bytes) c.length
 placed_there w chunks k c r =
-    subst (λ (d : Chunk). IsPlaced d.base (limit_of w.marked.bytes) d.length) r.here
-    (each_get (λ (d : Chunk). IsPlaced d.base (limit_of w.marked.bytes) d.length) chunks k c r.inside r.region.placed)
+    subst (λ (d : Chunk). HasGoodSpan d.base (limit_of w.marked.bytes) d.length) r.here
+    (each_get (λ (d : Chunk). HasGoodSpan d.base (limit_of w.marked.bytes) d.length) chunks k c r.inside r.region.placed)
 
 -- the retired spans lie beside it
 beside_there : (w : World) (chunks : List Chunk) (k : ℕ) (c : Chunk) → IsDeleting w chunks k c → All (IsBeside c.base c.length) w.retired
@@ -149,7 +150,7 @@ may_lay_others w chunks k c mid r done =
       fits = omega (arith, n, p.high, done.as_long);
       good = λ now count le has.
           steady_with_stops mid now w.marked.marks w.retired steady has.as_long
-          (others_each (text_of mid w.marked.marks) now c.base c.length count (subst (λ (l : ℕ). IsPlaced c.base l c.length) long p)
+          (others_each (text_of mid w.marked.marks) now c.base c.length count (subst (λ (l : ℕ). HasGoodSpan c.base l c.length) long p)
           (λ at low high is. done.put at low (omega (arith, high, n)) is ∙ stop_byte c.base c.length at low high)
           (omega (arith, n, le)) has)
           (spans_stop mid now c.base (length (replicate {A = ℕ} c.length 244)) w.retired

@@ -22,8 +22,8 @@ use Rattle.nc_region.specs.Acts.{puts_where, is_inside, is_start, is_marked_at, 
 use Rattle.nc_region.specs.Quiet.{retired_spans}
 use Rattle.nc_region.specs.Region.{Region, IsLive, IsRegion, IsCreated, live_chunk}
 use Rattle.nc_region.specs.Deletion.{IsDeleted}
-use Rattle.nc_region.proofs.Creating.{same_code}
-use Rattle.nc_region.proofs.Deleted.{listed_there}
+use Rattle.nc_region.proofs.Offered.{same_code}
+use Rattle.nc_region.proofs.Offered.{listed_there}
 use Rattle.nc_calls.specs.Weaving.{writers, ThreadsMay}
 use Rattle.nc_calls.specs.Calls.{StandsFor, HasLedTo, Details, events_of, create_events, delete_events}
 use Rattle.nc_calls.proofs.Creation.{create_leads}

@@ -13,11 +13,11 @@ use Rattle.nc_region.specs.declared.acts.Act.TheVariants.{Put}
 use Rattle.nc_region.specs.declared.chunk.Chunk.{Chunk}
 use Rattle.nc_region.specs.Acts.{puts_where}
 use Rattle.nc_region.specs.Patch.{IsPatch, IsModified, AreBytesOf, any_place, stands_there, acts_of_instruction, acts_of_modify}
-use Rattle.nc_region.specs.PatchSteps.{CanPatch}
+use Rattle.nc_region.specs.machinery.PatchSteps.{CanPatch}
 use Rattle.nc_region.specs.Quiet.{retired_spans}
 use Rattle.nc_region.specs.Region.{Region, IsRegion}
-use Rattle.nc_region.proofs.Creating.{same_code}
-use Rattle.nc_region.proofs.Standing.{lies}
+use Rattle.nc_region.proofs.Offered.{same_code}
+use Rattle.nc_region.proofs.Offered.{lies}
 use Rattle.nc_calls.specs.Weaving.{writers, ThreadsMay}
 use Rattle.nc_calls.specs.Calls.{HasLedTo, no_details, events_of, modify_events}
 use Rattle.nc_calls.proofs.Histories.{grown_beside, plain_puts}

@@ -15,15 +15,15 @@ use Rattle.nc_region.specs.declared.acts.Act.TheVariants.{Put}
 use Rattle.nc_region.specs.declared.chunk.Chunk.{Chunk}
 use Rattle.nc_region.specs.Acts.{puts_where}
 use Rattle.nc_region.specs.Patch.{AreBytesOf, IsHeldBy, any_place, stands_there, acts_of_instruction, acts_of_modify}
-use Rattle.nc_region.specs.PatchSteps.{IsReplacing, IsInterim, CanPatch}
+use Rattle.nc_region.specs.machinery.PatchSteps.{IsReplacing, IsInterim, CanPatch}
 use Rattle.nc_region.specs.Region.{IsLive, IsRegion}
-use Rattle.nc_region.proofs.Exchanged.{changed, changed_holds, changed_text, changes_replace}
-use Rattle.nc_region.proofs.NewInstructions.{same_news}
-use Rattle.nc_region.proofs.Patched.{region_patched}
-use Rattle.nc_region.proofs.Replacing.{patch_started, patching_from_put, patching_over, patch_final, single_span}
-use Rattle.nc_region.proofs.SpanPlaces.{span_behind}
-use Rattle.nc_region.proofs.Standing.{lies}
-use Rattle.nc_region.proofs.Turns.{turn, next_patch, spans_join, stands_same, same_acts}
+use Rattle.nc_region.proofs.Offered.{changed, changed_holds, changed_text, changes_replace}
+use Rattle.nc_vet.proofs.Offered.{same_pieces}
+use Rattle.nc_region.proofs.Offered.{region_patched}
+use Rattle.nc_region.proofs.Offered.{patch_started, patching_from_put, patching_over, patch_final, single_span}
+use Rattle.nc_region.proofs.Offered.{span_behind}
+use Rattle.nc_region.proofs.Offered.{lies}
+use Rattle.nc_region.proofs.Offered.{turn, next_patch, spans_join, stands_same, same_acts}
 use Rattle.nc_calls.specs.Calls.{no_details, events_of}
 use Rattle.nc_calls.proofs.Creation.{events_append}
 use Rattle.nc_calls.proofs.Deletion.{live_beside}
@@ -132,6 +132,10 @@ turn_leads w at new r true is =
     subst (λ (z : List ℕ). Leads w [] (with_bytes w z)) (stands_same w.marked.bytes at new r.replacing.low r.replacing.high is)
     (leads_none w)
 turn_leads w at new r false is = instruction_leads w at new r
+
+-- bytes are instructions in one way
+same_news : (bytes : List ℕ) (xs ys : List Piece) → AreBytesOf bytes xs → AreBytesOf bytes ys → xs ≡ ys
+same_news bytes xs ys a b = same_pieces xs ys a.spelled b.spelled (sym a.parts ∙ b.parts)
 
 -- no byte set anew
 span_none : (xs : List ℕ) (start : ℕ) → with_span xs start [] ≡ xs

@@ -8,8 +8,8 @@ use Rattle.nc_schedule.specs.Events.{Event, Puts, IsAllowed, after, world_after,
 use Rattle.nc_schedule.proofs.Offered.{allowed_append, after_append}
 use Rattle.nc_region.specs.declared.acts.Act.TheVariants.{Put}
 use Rattle.nc_region.specs.Acts.{puts_where}
-use Rattle.nc_region.specs.Chunks.{HasPut}
-use Rattle.nc_region.proofs.Puts.{put_none, put_more, put_passed}
+use Rattle.nc_region.specs.machinery.Between.{HasPut}
+use Rattle.nc_region.proofs.Offered.{put_none, put_more, put_passed}
 use Rattle.nc_calls.specs.Calls.{Details, events_of}
 use Rattle.nc_calls.proofs.Steady.{text_of}
 

@@ -19,14 +19,14 @@ use Rattle.nc_schedule.proofs.Offered.{Keeps, keeps_event}
 use Rattle.nc_region.specs.declared.chunk.Chunk.{Chunk}
 use Rattle.nc_region.specs.declared.chunk.ChunkState.{ChunkState}
 use Rattle.nc_region.specs.declared.chunk.ChunkState.TheVariants.{Live, Retired}
-use Rattle.nc_region.specs.Chunks.{IsPlaced}
+use Rattle.nc_region.specs.Chunks.{HasGoodSpan}
 use Rattle.nc_region.specs.Deletion.{is_due, freed, kept, unmarked, unmarkings}
 use Rattle.nc_region.specs.Each.{Each}
 use Rattle.nc_region.specs.Quiet.{with_retired, retired_spans}
 use Rattle.nc_region.specs.Region.{IsLive, IsRising, IsRegion}
-use Rattle.nc_region.proofs.EachMember.{each_map, each_both, each_middle}
-use Rattle.nc_region.proofs.Freed.{region_freed}
-use Rattle.nc_region.proofs.Rising.{rises_above}
+use Rattle.nc_region.proofs.Offered.{each_map, each_both, each_middle}
+use Rattle.nc_region.proofs.Offered.{region_freed}
+use Rattle.nc_region.proofs.Offered.{rises_above}
 use Rattle.nc_calls.specs.Weaving.{writers, ThreadsMay}
 use Rattle.nc_calls.specs.Calls.{span_from, events_of}
 use Rattle.nc_calls.proofs.Looking.{has_passed}
@@ -146,7 +146,7 @@ IsClear base span = base ≢ span.base
 
 -- the other chunks of a rising list have other bases
 others_clear : (from : ℕ) (before after : List Chunk) (c : Chunk) (limit : ℕ) → IsRising from (before ++ c ∷ after)
-    → Each (λ (d : Chunk). IsPlaced d.base limit d.length) (before ++ c ∷ after)
+    → Each (λ (d : Chunk). HasGoodSpan d.base limit d.length) (before ++ c ∷ after)
     → Each (λ (d : Chunk). (stamp : ℕ) → d.state ≡ Retired stamp → IsClear c.base
     (record { base = d.base; length = d.length; stamp = stamp })) (before ++ after)
 others_clear from [] after c limit rising placed =
@@ -224,7 +224,7 @@ found_first c s spans stamp is =
     (eq-eqb c.base c.base refl)
 
 -- each chunk of a rising list finds its span
-pub finds_all : (from limit : ℕ) (chunks : List Chunk) → IsRising from chunks → Each (λ (d : Chunk). IsPlaced d.base limit d.length) chunks
+pub finds_all : (from limit : ℕ) (chunks : List Chunk) → IsRising from chunks → Each (λ (d : Chunk). HasGoodSpan d.base limit d.length) chunks
     → Each (Finds (retired_spans chunks)) chunks
 finds_all from limit [] rising placed = tt
 finds_all from limit (x ∷ rest) rising placed = (

@@ -16,8 +16,8 @@ use Rattle.nc_region.specs.declared.chunk.ChunkState.TheVariants.{Live, Retired}
 use Rattle.nc_region.specs.Each.{Each}
 use Rattle.nc_region.specs.Quiet.{with_retired, retired_spans}
 use Rattle.nc_region.specs.Region.{IsLive, IsRegion}
-use Rattle.nc_region.proofs.EachMember.{each_get}
-use Rattle.nc_region.proofs.QuietSpans.{quiet_spans}
+use Rattle.nc_region.proofs.Offered.{each_get}
+use Rattle.nc_region.proofs.Offered.{quiet_spans}
 
 -- one chunk's span before others
 with_append : (c : Chunk) (s : ChunkState) (xs ys : List Span) → with_retired c s (xs ++ ys) ≡ with_retired c s xs ++ ys

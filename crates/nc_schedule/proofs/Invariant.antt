@@ -7,7 +7,7 @@ use Rattle.std.proofs.lemmas.List.{length-set, get_or-set_same, get_or-set_other
 use Rattle.nc_decode.specs.declared.instruction.Mark.{Mark}
 use Rattle.nc_text.specs.Machine.{State}
 use Rattle.nc_text.specs.Marks.{IsClosed}
-use Rattle.nc_text.proofs.Confined.{IsKnown}
+use Rattle.nc_text.proofs.Offered.{IsKnown}
 use Rattle.nc_schedule.specs.Quiet.{Span, IsWithin, IsQuiet}
 use Rattle.nc_schedule.specs.World.{World, Seat, first_seat, seat_at, IsWhole}
 use Rattle.nc_schedule.specs.Events.{with_seat}

@@ -6,8 +6,8 @@ use Rattle.std.proofs.lemmas.List.{length-replicate, get_or-replicate}
 use Rattle.std.proofs.lemmas.List.Elements.{All-nil, All-from_get_or}
 use Rattle.nc_decode.specs.Bundles.{IsLawfulLimit}
 use Rattle.nc_text.specs.Machine.{IsSafe}
-use Rattle.nc_text.proofs.Confined.{IsKnown, safe_if_known}
-use Rattle.nc_text.proofs.Fresh.{new_is_text}
+use Rattle.nc_text.proofs.Offered.{IsKnown, safe_if_known}
+use Rattle.nc_text.proofs.Offered.{new_is_text}
 use Rattle.nc_text.specs.MarkedText.{unused_text}
 use Rattle.nc_schedule.specs.Quiet.{Span, IsQuiet}
 use Rattle.nc_schedule.specs.World.{World, Seat, first_seat, first_world, seat_at, IsWhole, AllStandSafe, NoneIsWithin}

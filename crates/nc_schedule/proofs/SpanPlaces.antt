@@ -7,7 +7,7 @@ use Rattle.nc_decode.specs.declared.instruction.Mark.TheVariants.{Unmarked, Plai
 use Rattle.nc_decode.specs.Bundles.{IsBundleStart, IsInOneBundle}
 use Rattle.nc_text.specs.Marks.{Admits}
 use Rattle.nc_text.specs.MarkedText.{with_span, unused_mark}
-use Rattle.nc_text.proofs.SpanElements.{get_or-with_span_in, get_or-with_span_below, get_or-with_span_above}
+use Rattle.nc_text.proofs.Offered.{get_or-with_span_in, get_or-with_span_below, get_or-with_span_above}
 
 -- a place lies before the span, in it or after it
 pub data Place (base len at : ℕ) : Type 0 where

@@ -4,7 +4,7 @@ use Rattle.std.proofs.lemmas.Bool.{false≢true}
 use Rattle.std.proofs.lemmas.List.Elements.{All-weaker}
 use Rattle.nc_text.specs.Machine.{State, state}
 use Rattle.nc_text.specs.Marks.{IsMarked}
-use Rattle.nc_text.proofs.Confined.{IsKnown, start_is_marked}
+use Rattle.nc_text.proofs.Offered.{IsKnown, start_is_marked}
 use Rattle.nc_gens.specs.Rule.{generation_taken, generation_seen, since_stored, left_stored}
 use Rattle.nc_schedule.specs.Quiet.{Span, IsWithin, IsQuiet}
 use Rattle.nc_schedule.specs.World.{World, seat_at}

@@ -8,8 +8,8 @@ use Rattle.nc_decode.specs.declared.instruction.Mark.TheVariants.{Unmarked, Plai
 use Rattle.nc_text.specs.Machine.{State, Step}
 use Rattle.nc_text.specs.Marks.{IsMarked, IsClosed, mark_at, Admits}
 use Rattle.nc_text.specs.MarkedText.{MarkedText, without_marks, unused_mark, unused_marks}
-use Rattle.nc_text.proofs.Closing.{no_step_from_stop}
-use Rattle.nc_text.proofs.SpanElements.{length-with_span}
+use Rattle.nc_text.proofs.Offered.{no_step_from_stop}
+use Rattle.nc_text.proofs.Offered.{length-with_span}
 use Rattle.nc_schedule.specs.Quiet.{Span, IsWithin, IsQuiet}
 use Rattle.nc_schedule.specs.World.{IsWhole}
 use Rattle.nc_schedule.proofs.SpanPlaces.{place_of, Before, Within, Behind, span_before, span_within, span_behind, unused_is_start}

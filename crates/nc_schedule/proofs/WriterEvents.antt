@@ -11,8 +11,8 @@ use Rattle.nc_decode.specs.declared.instruction.Mark.TheVariants.{Unmarked, Plai
 use Rattle.nc_text.specs.Machine.{State}
 use Rattle.nc_text.specs.Marks.{Admits, mark_at}
 use Rattle.nc_text.specs.MarkedText.{with_marks, with_span, StaysOrPlain}
-use Rattle.nc_text.proofs.Confined.{IsKnown}
-use Rattle.nc_text.proofs.SpanElements.{length-with_span}
+use Rattle.nc_text.proofs.Offered.{IsKnown}
+use Rattle.nc_text.proofs.Offered.{length-with_span}
 use Rattle.nc_schedule.specs.Quiet.{Span, IsWithin, IsQuiet}
 use Rattle.nc_schedule.specs.World.{World, Seat, first_seat, seat_at, IsWhole, is_same_span, NoneIsWithin}
 use Rattle.nc_schedule.specs.Events.{Puts, Marks, Bumps, Retires, Frees, Looks, IsAllowed, after, new_span}
