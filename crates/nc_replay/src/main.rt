@@ -1,8 +1,8 @@
 //! The program `nc_replay`: scripts for a code region, and chunks to be vetted, from standard input to standard output.
 //!
-//! It has two subcommands. `replay` runs a script: it creates chunks in a code region, walks through them and shows them.
-//! `vet` only vets chunks, several at a time. `ask` reads the command line, and `start` does what it asks for over any
-//! reader and writer, by the calls of `nc_script`.
+//! It has two subcommands. `replay` runs a script: it creates, patches, deletes and reclaims chunks in a code region, walks
+//! through them and shows them. `vet` only vets chunks, several at a time. `ask` reads the command line, and `start` does
+//! what it asks for over any reader and writer, by the calls of `nc_script`.
 #![tactic(auto)]
 
 pub mod asked;
