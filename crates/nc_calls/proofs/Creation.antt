@@ -23,14 +23,9 @@ use Rattle.nc_region.specs.Chunks.{HasGoodSpan, IsClosedChunk, with_chunk}
 use Rattle.nc_region.specs.machinery.Between.{IsUnused, HasPut, IsFinalBut}
 use Rattle.nc_region.specs.Each.{Each}
 use Rattle.nc_region.specs.Region.{IsRegion, FitsAt, live_chunk}
-use Rattle.nc_region.proofs.Offered.{final_all, final_but_starts}
-use Rattle.nc_region.proofs.Offered.{each_map, each_both, each_append}
-use Rattle.nc_region.proofs.Offered.{unused_if_apart, region_with_chunk}
-use Rattle.nc_region.proofs.Offered.{Joins, chunk_joins, chunk_keeps}
-use Rattle.nc_region.proofs.Offered.{valid_chunk_is_closed}
-use Rattle.nc_region.proofs.Offered.{rises_above}
-use Rattle.nc_region.proofs.Offered.{Before, Within, Behind, place_of, unused_is_start, is_inside_false, is_start_false}
-use Rattle.nc_region.proofs.Offered.{start_or_not, span_within, before_span}
+use Rattle.nc_region.proofs.Offered.{final_all, final_but_starts, each_map, each_both, each_append, unused_if_apart, region_with_chunk}
+use Rattle.nc_region.proofs.Offered.{Joins, chunk_joins, chunk_keeps, valid_chunk_is_closed, rises_above, Before, Within, Behind}
+use Rattle.nc_region.proofs.Offered.{place_of, unused_is_start, is_inside_false, is_start_false, start_or_not, span_within, before_span}
 use Rattle.nc_calls.specs.Calls.{Details, no_details, events_of, events_of_act, create_events}
 use Rattle.nc_calls.proofs.Putting.{with_bytes, Leads, leads_one, leads_more, MayLay, lay_all}
 use Rattle.nc_calls.proofs.RetiredSpans.{AreSpansOf, all_spans, retired_each, retired_insert, region_steady}

@@ -1,6 +1,6 @@
 -- The acts of a deletion are allowed events.
-use Rattle.std.proofs.Common.{◌≡◌, ℕ, ◌+◌, ◌-◌, ◌<◌, ◌≤◌, true, not, All, List, [], ◌∷◌, ◌++◌, length, get_or, set, replicate}
-use Rattle.std.proofs.Common.{Option, inl, inr, arith, refl, ◌∙◌, sym, ap, subst, ⊎_elim}
+use Rattle.std.proofs.Common.{◌≡◌, ℕ, ◌+◌, ◌-◌, ◌<◌, ◌≤◌, true, not, All, List, [], ◌∷◌, ◌++◌, length, get_or, set, replicate, Option}
+use Rattle.std.proofs.Common.{inl, inr, arith, refl, ◌∙◌, sym, ap, subst, ⊎_elim}
 use Rattle.std.proofs.lemmas.Bool.{cases_lt}
 use Rattle.std.proofs.lemmas.List.{get_or-replicate, length-replicate}
 use Rattle.std.proofs.lemmas.List.Elements.{All-weaker}
@@ -22,13 +22,8 @@ use Rattle.nc_region.specs.Chunks.{HasGoodSpan}
 use Rattle.nc_region.specs.machinery.Between.{HasPut}
 use Rattle.nc_region.specs.Each.{Each}
 use Rattle.nc_region.specs.Region.{IsLive, IsRising, IsRegion}
-use Rattle.nc_region.proofs.Offered.{region_deleted}
-use Rattle.nc_region.proofs.Offered.{all_stops}
-use Rattle.nc_region.proofs.Offered.{each_get, each_from, each_at_set}
-use Rattle.nc_region.proofs.Offered.{quiet_chunks}
-use Rattle.nc_region.proofs.Offered.{rises_get}
-use Rattle.nc_region.proofs.Offered.{apart_by_index}
-use Rattle.nc_region.proofs.Offered.{place_of, Before, Within, Behind, before_span}
+use Rattle.nc_region.proofs.Offered.{region_deleted, all_stops, each_get, each_from, each_at_set, quiet_chunks, rises_get}
+use Rattle.nc_region.proofs.Offered.{apart_by_index, place_of, Before, Within, Behind, before_span}
 use Rattle.nc_calls.specs.Calls.{no_details, events_of, delete_events}
 use Rattle.nc_calls.proofs.Creation.{events_append, outside_put}
 use Rattle.nc_calls.proofs.Putting.{with_bytes, Leads, leads_one, leads_more, MayLay, lay_all}

@@ -1,7 +1,6 @@
 -- Schedules that have led to a region, and one call more.
 use Rattle.std.proofs.Common.{◌≡◌, ℕ, ◌+◌, ◌-◌, ◌≤◌, Bool, true, false, cond, List, [], ◌∷◌, ◌++◌, length, set, replicate, arith, refl}
-use Rattle.std.proofs.Common.{◌∙◌}
-use Rattle.std.proofs.Common.{sym, ap, subst, append-nil}
+use Rattle.std.proofs.Common.{◌∙◌, sym, ap, subst, append-nil}
 use Rattle.std.specs.Prelude.{Contains, ◌↔◌}
 use Rattle.nc_decode.specs.declared.instruction.Mark.{Mark}
 use Rattle.nc_text.specs.Places.{limit_of}
@@ -22,8 +21,7 @@ use Rattle.nc_region.specs.Acts.{puts_where, is_inside, is_start, is_marked_at, 
 use Rattle.nc_region.specs.Quiet.{retired_spans}
 use Rattle.nc_region.specs.Region.{Region, IsLive, IsRegion, IsCreated, live_chunk}
 use Rattle.nc_region.specs.Deletion.{IsDeleted}
-use Rattle.nc_region.proofs.Offered.{same_code}
-use Rattle.nc_region.proofs.Offered.{listed_there}
+use Rattle.nc_region.proofs.Offered.{same_code, listed_there}
 use Rattle.nc_calls.specs.Weaving.{writers, ThreadsMay}
 use Rattle.nc_calls.specs.Calls.{StandsFor, HasLedTo, Details, events_of, create_events, delete_events}
 use Rattle.nc_calls.proofs.Creation.{create_leads}

@@ -1,7 +1,6 @@
 -- A look at all seats, with threads between its loads, and by which stamps it lets spans be freed.
 use Rattle.std.proofs.Common.{◌≡◌, ◌≢◌, ℕ, zero, suc, ◌+◌, ◌<◌, ◌≤◌, ◌⊎◌, ◌==◌, not, min, Bool, true, false, cond, List, [], ◌∷◌, ◌++◌}
-use Rattle.std.proofs.Common.{fold, length, get_or, map}
-use Rattle.std.proofs.Common.{inl, inr, arith, refl, ◌∙◌, sym, ap, subst, ne_eqb}
+use Rattle.std.proofs.Common.{fold, length, get_or, map, inl, inr, arith, refl, ◌∙◌, sym, ap, subst, ne_eqb}
 use Rattle.std.specs.Prelude.{⊤, slice_index}
 use Rattle.std.specs.List.{range_with_len}
 use Rattle.std.proofs.lemmas.List.{length-set}

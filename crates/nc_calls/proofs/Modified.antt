@@ -16,8 +16,7 @@ use Rattle.nc_region.specs.Patch.{IsPatch, IsModified, AreBytesOf, any_place, st
 use Rattle.nc_region.specs.machinery.PatchSteps.{CanPatch}
 use Rattle.nc_region.specs.Quiet.{retired_spans}
 use Rattle.nc_region.specs.Region.{Region, IsRegion}
-use Rattle.nc_region.proofs.Offered.{same_code}
-use Rattle.nc_region.proofs.Offered.{lies}
+use Rattle.nc_region.proofs.Offered.{same_code, lies}
 use Rattle.nc_calls.specs.Weaving.{writers, ThreadsMay}
 use Rattle.nc_calls.specs.Calls.{HasLedTo, no_details, events_of, modify_events}
 use Rattle.nc_calls.proofs.Histories.{grown_beside, plain_puts}

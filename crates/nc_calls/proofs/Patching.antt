@@ -1,6 +1,6 @@
 -- The acts of a patch are allowed events.
-use Rattle.std.proofs.Common.{◌≡◌, ℕ, ◌+◌, ◌-◌, ◌≤◌, Bool, true, false, cond, All, List, [], ◌∷◌, ◌++◌, length, set, take, drop}
-use Rattle.std.proofs.Common.{inl, inr, arith, refl, ◌∙◌, sym, ap, subst}
+use Rattle.std.proofs.Common.{◌≡◌, ℕ, ◌+◌, ◌-◌, ◌≤◌, Bool, true, false, cond, All, List, [], ◌∷◌, ◌++◌, length, set, take, drop, inl}
+use Rattle.std.proofs.Common.{inr, arith, refl, ◌∙◌, sym, ap, subst}
 use Rattle.std.specs.Prelude.{Contains}
 use Rattle.std.proofs.lemmas.Bool.Decides.{eqb_tells}
 use Rattle.std.proofs.lemmas.List.{length-set, length-append, take-append-drop}
@@ -17,13 +17,10 @@ use Rattle.nc_region.specs.Acts.{puts_where}
 use Rattle.nc_region.specs.Patch.{AreBytesOf, IsHeldBy, any_place, stands_there, acts_of_instruction, acts_of_modify}
 use Rattle.nc_region.specs.machinery.PatchSteps.{IsReplacing, IsInterim, CanPatch}
 use Rattle.nc_region.specs.Region.{IsLive, IsRegion}
-use Rattle.nc_region.proofs.Offered.{changed, changed_holds, changed_text, changes_replace}
+use Rattle.nc_region.proofs.Offered.{changed, changed_holds, changed_text, changes_replace, region_patched, patch_started}
+use Rattle.nc_region.proofs.Offered.{patching_from_put, patching_over, patch_final, single_span, span_behind, lies, turn, next_patch}
+use Rattle.nc_region.proofs.Offered.{spans_join, stands_same, same_acts}
 use Rattle.nc_vet.proofs.Offered.{same_pieces}
-use Rattle.nc_region.proofs.Offered.{region_patched}
-use Rattle.nc_region.proofs.Offered.{patch_started, patching_from_put, patching_over, patch_final, single_span}
-use Rattle.nc_region.proofs.Offered.{span_behind}
-use Rattle.nc_region.proofs.Offered.{lies}
-use Rattle.nc_region.proofs.Offered.{turn, next_patch, spans_join, stands_same, same_acts}
 use Rattle.nc_calls.specs.Calls.{no_details, events_of}
 use Rattle.nc_calls.proofs.Creation.{events_append}
 use Rattle.nc_calls.proofs.Deletion.{live_beside}

@@ -1,7 +1,6 @@
 -- Puts, one after the other: each is allowed, and what they leave.
-use Rattle.std.proofs.Common.{◌≡◌, ℕ, ◌+◌, ◌-◌, ◌<◌, ◌≤◌, Bool, true, false, cond, List, [], ◌∷◌, ◌++◌, length, get_or, set, drop}
-use Rattle.std.proofs.Common.{arith, refl, ◌∙◌}
-use Rattle.std.proofs.Common.{sym, ap, subst}
+use Rattle.std.proofs.Common.{◌≡◌, ℕ, ◌+◌, ◌-◌, ◌<◌, ◌≤◌, Bool, true, false, cond, List, [], ◌∷◌, ◌++◌, length, get_or, set, drop, arith}
+use Rattle.std.proofs.Common.{refl, ◌∙◌, sym, ap, subst}
 use Rattle.std.proofs.lemmas.List.{drop_more, length-drop}
 use Rattle.nc_schedule.specs.World.{World, IsSteady}
 use Rattle.nc_schedule.specs.Events.{Event, Puts, IsAllowed, after, world_after, AreAllowed}

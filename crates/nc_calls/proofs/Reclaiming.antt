@@ -1,7 +1,6 @@
 -- The acts of a reclaiming are allowed events.
-use Rattle.std.proofs.Common.{◌≡◌, ◌≢◌, ℕ, ◌+◌, ◌<◌, ◌≤◌, ◌==◌, ◌&&◌, not, Bool, true, false, cond, List, [], ◌∷◌, ◌++◌, length}
-use Rattle.std.proofs.Common.{get_or, zero, suc}
-use Rattle.std.proofs.Common.{filter, inl, inr, arith, refl, ◌∙◌, sym, ap, subst, append_assoc, ne_eqb, eq-eqb}
+use Rattle.std.proofs.Common.{◌≡◌, ◌≢◌, ℕ, ◌+◌, ◌<◌, ◌≤◌, ◌==◌, ◌&&◌, not, Bool, true, false, cond, List, [], ◌∷◌, ◌++◌, length, get_or}
+use Rattle.std.proofs.Common.{zero, suc, filter, inl, inr, arith, refl, ◌∙◌, sym, ap, subst, append_assoc, ne_eqb, eq-eqb}
 use Rattle.std.specs.Prelude.{⊤, Contains}
 use Rattle.std.proofs.lemmas.Bool.{false≢true}
 use Rattle.std.proofs.lemmas.Bool.Decides.{nat_tests, eqb_tells}
@@ -24,9 +23,7 @@ use Rattle.nc_region.specs.Deletion.{is_due, freed, kept, unmarked, unmarkings}
 use Rattle.nc_region.specs.Each.{Each}
 use Rattle.nc_region.specs.Quiet.{with_retired, retired_spans}
 use Rattle.nc_region.specs.Region.{IsLive, IsRising, IsRegion}
-use Rattle.nc_region.proofs.Offered.{each_map, each_both, each_middle}
-use Rattle.nc_region.proofs.Offered.{region_freed}
-use Rattle.nc_region.proofs.Offered.{rises_above}
+use Rattle.nc_region.proofs.Offered.{each_map, each_both, each_middle, region_freed, rises_above}
 use Rattle.nc_calls.specs.Weaving.{writers, ThreadsMay}
 use Rattle.nc_calls.specs.Calls.{span_from, events_of}
 use Rattle.nc_calls.proofs.Looking.{has_passed}

@@ -1,7 +1,6 @@
 -- The spans of retired chunks, as the world has them.
 use Rattle.std.proofs.Common.{◌≡◌, ℕ, ◌<◌, ◌⊎◌, All, List, [], ◌∷◌, ◌++◌, length, get_or, set, take, drop, suc, inl, inr, arith, refl}
-use Rattle.std.proofs.Common.{◌∙◌, sym}
-use Rattle.std.proofs.Common.{ap, subst}
+use Rattle.std.proofs.Common.{◌∙◌, sym, ap, subst}
 use Rattle.std.specs.Prelude.{Contains, ◌↔◌}
 use Rattle.std.specs.List.{insert}
 use Rattle.std.proofs.lemmas.List.{take-append-drop, set-get_or, set_split}
@@ -16,8 +15,7 @@ use Rattle.nc_region.specs.declared.chunk.ChunkState.TheVariants.{Live, Retired}
 use Rattle.nc_region.specs.Each.{Each}
 use Rattle.nc_region.specs.Quiet.{with_retired, retired_spans}
 use Rattle.nc_region.specs.Region.{IsLive, IsRegion}
-use Rattle.nc_region.proofs.Offered.{each_get}
-use Rattle.nc_region.proofs.Offered.{quiet_spans}
+use Rattle.nc_region.proofs.Offered.{each_get, quiet_spans}
 
 -- one chunk's span before others
 with_append : (c : Chunk) (s : ChunkState) (xs ys : List Span) → with_retired c s (xs ++ ys) ≡ with_retired c s xs ++ ys

@@ -7,8 +7,7 @@ use Rattle.nc_text.specs.Places.{byte_at, instruction_at}
 use Rattle.nc_text.specs.Machine.{State, Step, Leads}
 use Rattle.nc_text.specs.Marks.{IsMarked, IsClosed}
 use Rattle.nc_text.specs.MarkedText.{MarkedText}
-use Rattle.nc_text.proofs.Offered.{executes, leads_of, step_of, no_step_from_stop, closed_with_stops}
-use Rattle.nc_text.proofs.Offered.{KeepsBytes, same_instruction}
+use Rattle.nc_text.proofs.Offered.{executes, leads_of, step_of, no_step_from_stop, closed_with_stops, KeepsBytes, same_instruction}
 use Rattle.nc_schedule.specs.Quiet.{Span, IsInSpan, IsQuiet}
 use Rattle.nc_schedule.specs.World.{IsSteady}
 

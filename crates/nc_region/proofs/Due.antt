@@ -17,7 +17,7 @@ use Rattle.nc_gens.specs.Seen.{HasLooked, least_number}
 use Rattle.nc_region.specs.Acts.{Tells}
 use Rattle.nc_region.specs.Deletion.{is_due, freed, kept, unmarked, unmarkings, IsReclaimed}
 use Rattle.nc_region.proofs.Told.{tells_more}
-use Rattle.nc_region.proofs.Freeing.{Frees}
+use Rattle.nc_schedule.proofs.Offered.{MayFree}
 use Rattle.nc_region.proofs.Freed.{span_of, frees, region_freed}
 
 -- what is due isn't live
@@ -85,7 +85,7 @@ take_more chunks i d lt = let next : suc i ≡ i + 1 = omega arith in
 -- the next chunk's span may be freed, if it is due
 pub next_frees : (marked : MarkedText) (least : ℕ) (chunks : List Chunk) (i : ℕ) (d : Chunk) → i < length chunks
     → is_due least (get_or chunks i d).state ≡ true → IsRegion marked (kept least (take i chunks) ++ drop i chunks)
-    → Frees marked (span_of (get_or chunks i d))
+    → MayFree marked (span_of (get_or chunks i d))
 next_frees marked least chunks i d lt is region =
     frees marked (kept least (take i chunks)) (drop (suc i) chunks) (get_or chunks i d)
     (subst (IsRegion marked) (at_seam least chunks i d lt) region) (due_dead least (get_or chunks i d).state is)

@@ -20,7 +20,6 @@ pub mod Pieces
 pub mod Rising
 pub mod AgreesOutside
 pub mod QuietSpans
-pub mod Freeing
 pub mod Freed
 pub mod Due
 pub mod Deleting

@@ -1,13 +1,11 @@
 -- What a schedule keeps, and what follows for its threads.
-use Rattle.std.proofs.Common.{◌≡◌, ℕ, ◌<◌, List, [], ◌∷◌, ◌++◌, get_or, replicate, arith, refl, ◌∙◌}
-use Rattle.std.proofs.Common.{sym, subst}
+use Rattle.std.proofs.Common.{◌≡◌, ℕ, ◌<◌, List, [], ◌∷◌, ◌++◌, get_or, replicate, arith, refl, ◌∙◌, sym, subst}
 use Rattle.std.specs.Prelude.{IfSome}
 use Rattle.std.proofs.lemmas.List.{length-replicate, get_or-replicate}
 use Rattle.std.proofs.lemmas.List.Elements.{All-nil, All-from_get_or}
 use Rattle.nc_decode.specs.Bundles.{IsLawfulLimit}
 use Rattle.nc_text.specs.Machine.{IsSafe}
-use Rattle.nc_text.proofs.Offered.{IsKnown, safe_if_known}
-use Rattle.nc_text.proofs.Offered.{new_is_text}
+use Rattle.nc_text.proofs.Offered.{IsKnown, safe_if_known, new_is_text}
 use Rattle.nc_text.specs.MarkedText.{unused_text}
 use Rattle.nc_schedule.specs.Quiet.{Span, IsQuiet}
 use Rattle.nc_schedule.specs.World.{World, Seat, first_seat, first_world, seat_at, IsWhole, AllStandSafe, NoneIsWithin}
@@ -15,7 +13,8 @@ use Rattle.nc_schedule.specs.Events.{Event, Steps, Enters, Exits, Takes, Sees, S
 use Rattle.nc_schedule.specs.Events.{IsAllowed, after, world_after, AreAllowed}
 use Rattle.nc_schedule.proofs.Invariant.{Keeps, SeatKeeps, if_map}
 use Rattle.nc_schedule.proofs.ThreadEvents.{keeps_steps, keeps_enters, keeps_exits, keeps_takes, keeps_sees, keeps_stores, keeps_leaves}
-use Rattle.nc_schedule.proofs.WriterEvents.{keeps_puts, keeps_marks, keeps_bumps, keeps_retires, keeps_frees, keeps_looks, none_is_within}
+use Rattle.nc_schedule.proofs.WriterEvents.{keeps_puts, keeps_marks, keeps_bumps, keeps_retires, keeps_frees, keeps_looks}
+use Rattle.nc_schedule.proofs.WriterEvents.{none_is_within}
 
 -- each event
 pub keeps_event : (w : World) (event : Event) → Keeps w → IsAllowed w event → Keeps (after w event)

@@ -1,6 +1,6 @@
 -- Places beside a span, and the elements of a list of which a span was set.
-use Rattle.std.proofs.Common.{◌≡◌, ℕ, ◌+◌, ◌-◌, ◌%◌, ◌<◌, ◌≤◌, Bool, true, false, eqb, cond, List, length, get_or, Option}
-use Rattle.std.proofs.Common.{arith, refl, ◌∙◌, ap, ⊎_elim}
+use Rattle.std.proofs.Common.{◌≡◌, ℕ, ◌+◌, ◌-◌, ◌%◌, ◌<◌, ◌≤◌, Bool, true, false, eqb, cond, List, length, get_or, Option, arith, refl}
+use Rattle.std.proofs.Common.{◌∙◌, ap, ⊎_elim}
 use Rattle.std.proofs.lemmas.Bool.{cases_lt, eqb-true}
 use Rattle.std.proofs.lemmas.Bool.Decides.{nat_tests}
 use Rattle.nc_decode.specs.declared.instruction.Mark.TheVariants.{Unmarked, Plain}

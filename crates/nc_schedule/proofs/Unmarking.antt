@@ -1,6 +1,5 @@
 -- A quiet span may be unmarked.
-use Rattle.std.proofs.Common.{◌≡◌, ℕ, ◌+◌, ◌-◌, ◌%◌, ◌<◌, ◌≤◌, List, length, inl, inr, arith, ◌∙◌, sym}
-use Rattle.std.proofs.Common.{subst}
+use Rattle.std.proofs.Common.{◌≡◌, ℕ, ◌+◌, ◌-◌, ◌%◌, ◌<◌, ◌≤◌, List, length, inl, inr, arith, ◌∙◌, sym, subst}
 use Rattle.std.proofs.lemmas.Bool.Decides.{eqb_tells}
 use Rattle.std.proofs.lemmas.List.FromFn.{length-map-range_with_len, get_or-map-range_with_len}
 use Rattle.nc_decode.specs.declared.instruction.Mark.{Mark}
@@ -8,8 +7,7 @@ use Rattle.nc_decode.specs.declared.instruction.Mark.TheVariants.{Unmarked, Plai
 use Rattle.nc_text.specs.Machine.{State, Step}
 use Rattle.nc_text.specs.Marks.{IsMarked, IsClosed, mark_at, Admits}
 use Rattle.nc_text.specs.MarkedText.{MarkedText, without_marks, unused_mark, unused_marks}
-use Rattle.nc_text.proofs.Offered.{no_step_from_stop}
-use Rattle.nc_text.proofs.Offered.{length-with_span}
+use Rattle.nc_text.proofs.Offered.{no_step_from_stop, length-with_span}
 use Rattle.nc_schedule.specs.Quiet.{Span, IsWithin, IsQuiet}
 use Rattle.nc_schedule.specs.World.{IsWhole}
 use Rattle.nc_schedule.proofs.SpanPlaces.{place_of, Before, Within, Behind, span_before, span_within, span_behind, unused_is_start}
@@ -46,7 +44,7 @@ fits : (marked : MarkedText) (span : Span) → MayFree marked span
 fits marked span f = omega (arith, unused_long span, f.whole.high, f.as_long)
 
 -- in the span only bundle starts are marked
-freed_within : (marked : MarkedText) (span : Span) (at : ℕ) → MayFree marked span → span.base ≤ at → at < span.base + span.length
+pub freed_within : (marked : MarkedText) (span : Span) (at : ℕ) → MayFree marked span → span.base ≤ at → at < span.base + span.length
     → mark_at (freed_marks marked span) at ≡ unused_mark at
 freed_within marked span at f a b =
     span_within marked.marks span.base (unused_marks span.base span.length) at Unmarked f.whole.low (fits marked span f) a
@@ -54,13 +52,13 @@ freed_within marked span at f a b =
     ∙ get_or-map-range_with_len unused_mark span.base span.length (at - span.base) at Unmarked (omega arith) (omega arith)
 
 -- before it the marks stay
-freed_before : (marked : MarkedText) (span : Span) (at : ℕ) → MayFree marked span → 65536 ≤ at → at < span.base
+pub freed_before : (marked : MarkedText) (span : Span) (at : ℕ) → MayFree marked span → 65536 ≤ at → at < span.base
     → mark_at (freed_marks marked span) at ≡ mark_at marked.marks at
 freed_before marked span at f low l =
     span_before marked.marks span.base (unused_marks span.base span.length) at Unmarked f.whole.low (fits marked span f) low l
 
 -- after it too
-freed_behind : (marked : MarkedText) (span : Span) (at : ℕ) → MayFree marked span → span.base + span.length ≤ at
+pub freed_behind : (marked : MarkedText) (span : Span) (at : ℕ) → MayFree marked span → span.base + span.length ≤ at
     → mark_at (freed_marks marked span) at ≡ mark_at marked.marks at
 freed_behind marked span at f p =
     span_behind marked.marks span.base (unused_marks span.base span.length) at Unmarked f.whole.low (fits marked span f)

@@ -1,7 +1,6 @@
 -- What the writer does keeps the world.
 use Rattle.std.proofs.Common.{◌≡◌, ℕ, ◌+◌, ◌-◌, ◌<◌, ◌≤◌, ◌⊎◌, Bool, true, false, not, All, List, [], ◌∷◌, ◌++◌, length, get_or, set}
-use Rattle.std.proofs.Common.{take, drop}
-use Rattle.std.proofs.Common.{Option, Some, None, inl, inr, arith, refl, ◌∙◌, sym, ap, subst}
+use Rattle.std.proofs.Common.{take, drop, Option, Some, None, inl, inr, arith, refl, ◌∙◌, sym, ap, subst}
 use Rattle.std.specs.Prelude.{IfSome, Contains, filter, slice_index}
 use Rattle.std.proofs.lemmas.Bool.Decides.{eqb_tells}
 use Rattle.std.proofs.lemmas.List.{length-set, get_or-set_same, get_or-set_other, take-append-drop}
@@ -11,8 +10,7 @@ use Rattle.nc_decode.specs.declared.instruction.Mark.TheVariants.{Unmarked, Plai
 use Rattle.nc_text.specs.Machine.{State}
 use Rattle.nc_text.specs.Marks.{Admits, mark_at}
 use Rattle.nc_text.specs.MarkedText.{with_marks, with_span, StaysOrPlain}
-use Rattle.nc_text.proofs.Offered.{IsKnown}
-use Rattle.nc_text.proofs.Offered.{length-with_span}
+use Rattle.nc_text.proofs.Offered.{IsKnown, length-with_span}
 use Rattle.nc_schedule.specs.Quiet.{Span, IsWithin, IsQuiet}
 use Rattle.nc_schedule.specs.World.{World, Seat, first_seat, seat_at, IsWhole, is_same_span, NoneIsWithin}
 use Rattle.nc_schedule.specs.Events.{Puts, Marks, Bumps, Retires, Frees, Looks, IsAllowed, after, new_span}

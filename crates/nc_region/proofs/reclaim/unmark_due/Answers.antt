@@ -8,7 +8,7 @@ use Rattle.nc_region.specs.declared.chunk.Chunk.{Chunk}
 use Rattle.nc_region.specs.declared.chunk.ChunkState.TheVariants.{Live}
 use Rattle.nc_region.specs.Deletion.{is_due, freed, kept, unmarked, unmarkings}
 use Rattle.nc_region.proofs.Told.{tells_more}
-use Rattle.nc_region.proofs.Freeing.{freed_closed}
+use Rattle.nc_schedule.proofs.Offered.{freed_closed}
 use Rattle.nc_region.proofs.Due.{take_more, freed_due, freed_other, unmarked_more, unmarkings_more, next_frees, next_freed, next_kept}
 use Rattle.nc_region.proofs.reclaim.unmark_due.Goals as goal
 use Rattle.nc_region.proofs.reclaim.unmark_due.Goals.{then-is_due, else-is_due}
@@ -18,7 +18,7 @@ unmark_span-requires-clause-inside g c =
     let none : Chunk = record { base = 0; length = 0; state = Live } in
     let f = next_frees (g.A.Acts.marked c.loop-i.acts) c.args.least c.args.chunks.now c.loop-i.i none (omega arith) (sym c.is_due.ensures
     ∙ c.if-is_due.true) c.loop-i.invariant.region in
-    λ k lt. (omega (arith, f.placed.low), omega (arith, f.placed.high, lt))
+    λ k lt. (omega (arith, f.whole.low), omega (arith, f.whole.high, lt))
 
 pub unmark_span-requires-clause-stops : goal.unmark_span-requires-clause-stops
 unmark_span-requires-clause-stops g c =
