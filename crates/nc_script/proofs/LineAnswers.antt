@@ -20,31 +20,39 @@ line_follows request old new line reply e only follows seats freed fits =
     let after = script_of new.region next number in
     (next, number, line_only request before after line reply e serves (λ settled. only before after settled serves), still)
 
+-- a line that asks for this, for each request but a walk
 module _ (old new : SessionState) (line reply : List ℕ) where
+  -- a creation
   pub create_line : (base : ℕ) (bytes : List ℕ) → request_in line ≡ Some (Create base bytes) → Follows (Create base bytes) old reply new
       → FollowsLine old line reply new
   create_line base bytes e h =
       line_follows (Create base bytes) old new line reply e (λ a b settled s. create_only base bytes a reply b s) h
 
+  -- a patch
   pub modify_line : (at : ℕ) (bytes : List ℕ) → request_in line ≡ Some (Modify at bytes) → Follows (Modify at bytes) old reply new
       → FollowsLine old line reply new
   modify_line at bytes e h = line_follows (Modify at bytes) old new line reply e (λ a b settled s. modify_only at bytes a reply b s) h
 
+  -- a deletion
   pub delete_line : (base : ℕ) → request_in line ≡ Some (Delete base) → Follows (Delete base) old reply new
       → FollowsLine old line reply new
   delete_line base e h = line_follows (Delete base) old new line reply e (λ a b settled s. delete_only base a reply b s) h
 
+  -- a check-in
   pub check_in_line : (seat : ℕ) → request_in line ≡ Some (CheckIn seat) → Follows (CheckIn seat) old reply new
       → FollowsLine old line reply new
   check_in_line seat e h = line_follows (CheckIn seat) old new line reply e (λ a b settled s. check_in_only seat a reply b s) h
 
+  -- a leave
   pub leave_line : (seat : ℕ) → request_in line ≡ Some (Leave seat) → Follows (Leave seat) old reply new → FollowsLine old line reply new
   leave_line seat e h = line_follows (Leave seat) old new line reply e (λ a b settled s. leave_only seat a reply b s) h
 
+  -- a reclaim, which has one answer while no seat has left
   pub reclaim_line : request_in line ≡ Some Reclaim → Follows Reclaim old reply new → FollowsLine old line reply new
   reclaim_line e h = line_follows Reclaim old new line reply e (λ a b settled s. reclaim_only a reply b
       (settled_stays a line e settled) s) h
 
+  -- a dump
   pub dump_line : request_in line ≡ Some Dump → Follows Dump old reply new → FollowsLine old line reply new
   dump_line e h = line_follows Dump old new line reply e (λ a b settled s. dump_only a reply b s) h
 

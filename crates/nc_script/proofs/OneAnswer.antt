@@ -121,6 +121,7 @@ module _ (old : Script) (at : ℕ) (bytes : List ℕ) where
   replaced_held : Replaces old at bytes → IsHeld old.chunks at
   replaced_held r = (r.base, r.bytes, r.holds)
 
+  -- and the new bytes are instructions
   replaced_new : Replaces old at bytes → AreInstructions bytes
   replaced_new r = (r.run.news, r.run.bytes)
 

@@ -6,8 +6,8 @@ use Rattle.nc_script.specs.Answering.{AnswersLines}
 use Rattle.nc_script.specs.Lines.{bad_line}
 use Rattle.nc_script.specs.Requests.{Request, Create, Modify, Delete, CheckIn, Leave, Reclaim, Walk, Dump, request_in}
 use Rattle.nc_script.specs.Answers.{Serves, ServesLine}
-use Rattle.nc_script.specs.Laws.{HasOneReply, BeginsAll, FreesByLeast, IsNoLeave}
-use Rattle.nc_script.specs.Reuse.{AllStay, Stays, Allows, number_of}
+use Rattle.nc_script.specs.Laws.{HasOneReply, BeginsAll, FreesByLeast, IsNoLeave, LeavesOpen, one_left}
+use Rattle.nc_script.specs.Reuse.{AllStay, Stays, Allows, number_of, IsFreeingNumber}
 use Rattle.nc_script.specs.Script.{Script, Seat, Staying, Left}
 
 -- what holds of all holds of those after the first
@@ -109,3 +109,24 @@ frees_by_least old a stay number =
     let (k, seat, inside, is, least) = number.least in
     let most : a ≤ number_of seat = subst (λ (s : Seat). a ≤ number_of s) is (above k seat inside) in
     (above, (k, seat, inside, is, omega (arith, least, most)))
+
+-- the first seat allows 1, and the second has left
+allows_both : (a : ℕ) → a ≤ 1 → All (Allows a) one_left.seats
+allows_both a le zero d l = le
+allows_both a le (suc zero) d l = tt
+allows_both a le (suc (suc k)) d l = absurd (omega (arith, l))
+
+-- so it frees by 0 or by 1
+frees_both : (a : ℕ) → a ≤ 1 → IsFreeingNumber one_left a
+frees_both a le =
+    record { rises = omega arith; least = (1, Left 0, omega arith, refl, omega arith); current = le; allowed = allows_both a le }
+
+-- and both answers are right
+pub leaves_open : LeavesOpen
+leaves_open = (
+  (record one_left { freed = 0 }, record { a = 0; number = frees_both 0 (omega arith); reply_is = refl; new_is = refl }),
+  (
+    record one_left { chunks = []; freed = 1 },
+    record { a = 1; number = frees_both 1 (omega arith); reply_is = refl; new_is = refl },
+  ),
+)

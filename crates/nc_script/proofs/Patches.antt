@@ -50,9 +50,11 @@ valid_as v h base limit code b l c = record {
 }
 
 module _ (r : Region) (is : IsRegion r.marked r.chunks) (seats : List Seat) (freed : ℕ) where
+  -- the region's bytes
   abbrev bytes : List ℕ
   bytes = r.marked.bytes
 
+  -- the script's state that the region stands for
   abbrev state : script.Script
   state = script_of r seats freed
 

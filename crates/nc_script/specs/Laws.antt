@@ -1,11 +1,12 @@
 -- Lines have no other replies than those that a run wrote, as long as no seat leaves.
-use Rattle.std.specs.Prelude.{◌≡◌, ◌≢◌, ◌++◌, ℕ, ◌≤◌, List, Option, Some, All, Any}
+use Rattle.std.specs.Prelude.{◌≡◌, ◌≢◌, ◌++◌, ℕ, ◌≤◌, List, [], ◌∷◌, Option, Some, All, Any}
 use Rattle.std.specs.Io.KnownBytes.{Appends}
 use Rattle.nc_script.specs.Answering.{AnswersLines, IsBegun}
-use Rattle.nc_script.specs.Answers.{AnswersOnly, ServesLine}
-use Rattle.nc_script.specs.Requests.{Leave, request_in}
+use Rattle.nc_script.specs.Answers.{AnswersOnly, Serves, ServesLine}
+use Rattle.nc_script.specs.Replies.{reply_line, freed_reply}
+use Rattle.nc_script.specs.Requests.{Leave, Reclaim, request_in}
 use Rattle.nc_script.specs.Reuse.{number_of, IsFreeingNumber, AllStay}
-use Rattle.nc_script.specs.Script.{Script}
+use Rattle.nc_script.specs.Script.{Script, Retired, Staying, Left}
 
 -- the line asks for no leave
 abbrev pub IsNoLeave : List ℕ → Type 0
@@ -32,3 +33,19 @@ BeginsAll = (old : Script) (before after : Option (List ℕ)) (lines : List (Lis
 abbrev pub FreesByLeast : Type 0
 FreesByLeast = (old : Script) (a : ℕ) → AllStay old → IsFreeingNumber old a
     → All (λ seat. a ≤ number_of seat) old.seats × Any (λ seat. number_of seat ≡ a) old.seats
+
+-- two seats: after a chunk was deleted the first has checked in, and the second has left without that
+abbrev pub one_left : Script
+one_left = record {
+  limit = 0x10080;
+  chunks = record { base = 0x10000; state = Retired 32 1 } ∷ [];
+  generation = 1;
+  seats = Staying 1 ∷ Left 0 ∷ [];
+  freed = 0;
+}
+
+-- a reclaim may then free the chunk or not, as the keeper has seen the leave or not
+abbrev pub LeavesOpen : Type 0
+LeavesOpen =
+    ((new : Script) × Serves Reclaim one_left (reply_line (freed_reply 0)) new)
+    × ((new : Script) × Serves Reclaim one_left (reply_line (freed_reply 1)) new)

@@ -7,7 +7,7 @@ ghost use Rattle.nc_decode.specs.Bundles.{IsRegionSize};
 ghost use Rattle.nc_script.specs.Lines.{lines_of, ended_lines};
 ghost use Rattle.nc_script.specs.Answering.{IsBegun, IsCutShort};
 ghost use Rattle.nc_script.specs.Answers.{AnswersOnly, new_script};
-ghost use Rattle.nc_script.specs.Laws.{BeginsAll, HasOneReply, FreesByLeast};
+ghost use Rattle.nc_script.specs.Laws.{BeginsAll, HasOneReply, FreesByLeast, LeavesOpen};
 ghost use Rattle.nc_script.specs.Run.{HasAnswered};
 
 use crate::fault::ReplayFault;
@@ -81,4 +81,7 @@ pub fn law_of_answers()
     ensures one_text { HasOneReply }
     ensures begins_all { BeginsAll }
     ensures least { FreesByLeast }
+
+    // Once a seat has left, a reclaim may have two answers.
+    ensures leaves_open { LeavesOpen }
 {}
