@@ -233,7 +233,8 @@ row_small (s ∷ row) zero e = let h = (each_first (λ x. nat_lt x STATES) s row
 row_small (s ∷ row) (suc b) e = row_small row b (each_first (λ x. nat_lt x STATES) s row e).1
 
 -- each number of the table is a state
-table_small : (rows : List (List ℕ)) (s b : ℕ) → each (λ row. each (λ x. nat_lt x STATES) row) rows ≡ true → get_or (get_or rows s []) b 0 < STATES
+table_small : (rows : List (List ℕ)) (s b : ℕ) → each (λ row. each (λ x. nat_lt x STATES) row) rows ≡ true
+    → get_or (get_or rows s []) b 0 < STATES
 table_small [] s b e = omega arith
 table_small (row ∷ rows) zero b e = row_small row b (each_first (λ r. each (λ x. nat_lt x STATES) r) row rows e).0
 table_small (row ∷ rows) (suc s) b e = table_small rows s b (each_first (λ r. each (λ x. nat_lt x STATES) r) row rows e).1

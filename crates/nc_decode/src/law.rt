@@ -1,6 +1,8 @@
 //! The laws of the permitted instructions.
 
-ghost use Rattle.nc_decode.specs.Front.{IsExact, IsPrefixFree, IsStopFirst, HasItsLength, DependsOnItsBytes, MasksOnlyBeforeNext, NamesRegisters, MasksExactly, GoesOnAfterPrefix, BeginsAsTransfer, NeverBarred, NeverBarredAtFront};
+ghost use Rattle.nc_decode.specs.Front.{IsExact, IsPrefixFree, IsStopFirst, HasItsLength, DependsOnItsBytes, MasksOnlyBeforeNext};
+ghost use Rattle.nc_decode.specs.Front.{NamesRegisters, MasksExactly, GoesOnAfterPrefix, BeginsAsTransfer, NeverBarred};
+ghost use Rattle.nc_decode.specs.Front.{NeverBarredAtFront};
 ghost use Rattle.nc_decode.specs.Automaton.{ReadsByStates, HasStates, NoneIsPaired};
 
 /// What every layer above may use of the opcode table, and nothing else of it. It does nothing when it is called.

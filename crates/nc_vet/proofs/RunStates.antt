@@ -100,7 +100,8 @@ run_on code at i state byte states start lt in_code h is small =
 -- the same of what a step has left
 pub run_stepped : (code : List ℕ) (at i state byte after : ℕ) (states more : List ℕ) → at % 32 ≡ 0 → i < 32 → at + i < length code
     → HasRun code at i state states → byte ≡ get_or code (at + i) 0
-    → after ≡ next_state state byte → more ≡ slice_set states i (next_state state byte) → after < STATES → HasRun code at (i + 1) after more
+    → after ≡ next_state state byte → more ≡ slice_set states i (next_state state byte) → after < STATES
+    → HasRun code at (i + 1) after more
 run_stepped code at i state byte after states more start lt in_code h is to set_is small =
     let w = run_on code at i state byte states start lt in_code h is (omega (arith, to, small)) in
     subst (λ (z : List ℕ). HasRun code at (i + 1) after z) (sym set_is)

@@ -6,7 +6,8 @@ use Rattle.nc_region_tests.proofs.check_in.check_in_beside_writer.Goals as goal
 
 -- what holds of each pass holds once they are read out of the slice again
 kept_back : (P : Pass → Type 0) (old new : List Pass) (n : ℕ) → All P old → All P new → All P (take n (new ++ drop (length new) old))
-kept_back P old new n before now = All-take P n (new ++ drop (length new) old) (All-append P new (drop (length new) old) now (All-drop P (length new) old before))
+kept_back P old new n before now = All-take P n (new ++ drop (length new) old)
+    (All-append P new (drop (length new) old) now (All-drop P (length new) old before))
 
 pub last_leaves-requires-after_bounds : goal.last_leaves-requires-after_bounds
 last_leaves-requires-after_bounds g c κs =
