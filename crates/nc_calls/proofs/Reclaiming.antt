@@ -221,7 +221,8 @@ found_first c s spans stamp is =
     (eq-eqb c.base c.base refl)
 
 -- each chunk of a rising list finds its span
-pub finds_all : (from limit : ℕ) (chunks : List Chunk) → IsRising from chunks → Each (λ (d : Chunk). HasGoodSpan d.base limit d.length) chunks
+pub finds_all : (from limit : ℕ) (chunks : List Chunk) → IsRising from chunks
+    → Each (λ (d : Chunk). HasGoodSpan d.base limit d.length) chunks
     → Each (Finds (retired_spans chunks)) chunks
 finds_all from limit [] rising placed = tt
 finds_all from limit (x ∷ rest) rising placed = (

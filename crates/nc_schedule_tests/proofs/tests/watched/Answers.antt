@@ -9,5 +9,9 @@ use Rattle.nc_schedule_tests.proofs.tests.watched.Goals as goal
 pub over-requires : goal.over-requires
 over-requires c =
     let long : limit_of c.in-Ok.text.bytes ≡ 65536 + 32 * c.args.bundles =
-    ap (λ (m : MarkedText). limit_of m.bytes) c.in-Ok.ensures.marked ∙ omega (arith, length-replicate {A = ℕ} (65536 + 32 * c.args.bundles - 65536) 244) in
-    (65536 + 32 * c.args.bundles, subst IsLawfulLimit long c.in-Ok.ensures.whole.lawful, rw c.new-4.ensures (ap (λ (p : PlainState). p.marked) (c.in_ok-recorder.ensures.acts ∙ c.new-2.ensures) ∙ c.in-Ok.ensures.marked))
+    ap (λ (m : MarkedText). limit_of m.bytes) c.in-Ok.ensures.marked
+    ∙ omega (arith, length-replicate {A = ℕ} (65536 + 32 * c.args.bundles - 65536) 244) in (
+      65536 + 32 * c.args.bundles,
+      subst IsLawfulLimit long c.in-Ok.ensures.whole.lawful,
+      rw c.new-4.ensures (ap (λ (p : PlainState). p.marked) (c.in_ok-recorder.ensures.acts ∙ c.new-2.ensures) ∙ c.in-Ok.ensures.marked),
+    )

@@ -9,8 +9,10 @@ pub answer_of-answer-requires : goal.answer_of-answer-requires
 answer_of-answer-requires g c =
     let next = next_at c.args.jobs.items _ _ _ c.in-Some.job c.loop-job.invariant.rest c.in-Some.ensures.steps.0 in (
       c.type_bounds.sync-G,
-      found_fits c.args.jobs.items c.loop-job.answers _ c.len-number.result c.in-Some.job c.index-answers-number.result c.take.result c.loop-job.invariant.answers c.len-number.ensures
-          (omega (arith, next.below, c.loop-job.invariant.len)) c.index-answers-number.is (c.take.ensures.value ∙ sym c.index-answers-number.is) next.here,
+      found_fits c.args.jobs.items c.loop-job.answers _ c.len-number.result c.in-Some.job c.index-answers-number.result c.take.result
+          c.loop-job.invariant.answers c.len-number.ensures
+          (omega (arith, next.below, c.loop-job.invariant.len)) c.index-answers-number.is (c.take.ensures.value
+          ∙ sym c.index-answers-number.is) next.here,
     )
 
 pub loop-job-preserved : goal.loop-job-preserved
@@ -18,9 +20,11 @@ loop-job-preserved g c =
     let next = next_at c.args.jobs.items _ _ _ c.in-Some.job c.loop-job.invariant.rest c.in-Some.ensures.steps.0 in
     record {
       len = length-set c.loop-job.answers c.len-number.result c.take.new.self ∙ c.loop-job.invariant.len;
-      answers = rw c.take.ensures.after (answers_set c.args.jobs.items c.loop-job.answers c.len-number.result None c.loop-job.invariant.answers tt);
+      answers = rw c.take.ensures.after (answers_set c.args.jobs.items c.loop-job.answers c.len-number.result None
+          c.loop-job.invariant.answers tt);
       rest = rw (c.push_reserved.ensures.len, add-one) next.behind;
       within = omega (arith, next.below, c.push_reserved.ensures.len);
       room = c.push_reserved.ensures.capacity ∙ c.loop-job.invariant.room;
-      so_far = rw (c.push_reserved.ensures.len, add-one, c.push_reserved.ensures.items, next.front) (all_zipped_more IsVerdictOn _ _ _ _ c.loop-job.invariant.so_far c.verdict.ensures);
+      so_far = rw (c.push_reserved.ensures.len, add-one, c.push_reserved.ensures.items, next.front)
+          (all_zipped_more IsVerdictOn _ _ _ _ c.loop-job.invariant.so_far c.verdict.ensures);
     }

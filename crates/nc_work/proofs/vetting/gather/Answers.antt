@@ -14,4 +14,8 @@ put_all-requires-clause-done c =
 pub loop-done-preserved : goal.loop-done-preserved
 loop-done-preserved c =
     let P : Vec Done → Type 0 = λ h. AreDone c.args.jobs.now h.items in
-    record { lists = All-rest P c.in-Some.done _ _ c.in-Some.ensures.steps.0 c.loop-done.invariant.lists; answers = c.put_all.ensures.answers }
+    record {
+      lists = All-rest P c.in-Some.done _ _ c.in-Some.ensures.steps.0 c.loop-done.invariant.lists;
+      answers =
+          c.put_all.ensures.answers;
+    }

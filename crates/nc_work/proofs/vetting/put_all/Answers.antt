@@ -5,4 +5,7 @@ pub put-requires-clause-done : goal.put-requires-clause-done
 put-requires-clause-done c = done_head c.args.jobs.now _ c.in-Some.one _ c.in-Some.ensures.steps.0 c.loop-one.invariant.done
 
 pub loop-one-preserved : goal.loop-one-preserved
-loop-one-preserved c = record { done = done_tail c.args.jobs.now _ c.in-Some.one _ c.in-Some.ensures.steps.0 c.loop-one.invariant.done; answers = c.put.ensures.answers }
+loop-one-preserved c = record {
+  done = done_tail c.args.jobs.now _ c.in-Some.one _ c.in-Some.ensures.steps.0 c.loop-one.invariant.done;
+  answers = c.put.ensures.answers;
+}
