@@ -73,9 +73,14 @@ abbrev pub GoWell : (ℕ → Type 0) → ℕ → List Piece → Type 0
 GoWell good at [] = ⊤
 GoWell good at (p ∷ rest) = (IsTrue (is_direct p.instr.flow) → good (target p.instr at)) × GoWell good (at + length p.bytes) rest
 
--- no half of a pair is replaced, and no indirect transfer comes
+-- what a patch may do to pairs: no half of one is replaced, with what follows the old instructions, and no indirect
+-- transfer comes
+abbrev pub SparesPairs : (old after news : List Piece) → Type 0
+SparesPairs old after news = AreNoHalves old after × AreNotIndirect news
+
+-- the run is replaced so
 abbrev pub LeavesPairs : (marked : MarkedText) (c : Chunk) (at : ℕ) (new : List ℕ) → IsRun marked c at new → Type 0
-LeavesPairs marked c at new run = AreNoHalves run.old run.after × AreNotIndirect run.news
+LeavesPairs marked c at new run = SparesPairs run.old run.after run.news
 
 -- the direct transfers that come go where those of a valid chunk may
 abbrev pub KeepsTargets : (marked : MarkedText) (c : Chunk) (at : ℕ) (new : List ℕ) → IsRun marked c at new → Type 0

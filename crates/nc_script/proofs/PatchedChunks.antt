@@ -10,7 +10,7 @@ use Rattle.nc_text.proofs.SpanElements.{length-with_span, is_with_span, get_or-w
 use Rattle.nc_text.proofs.SpanElements.{get_or-with_span_above}
 use Rattle.nc_region.specs.Each.{Each}
 use Rattle.nc_region.proofs.EachMember.{each_map}
-use Rattle.nc_region.specs.Chunks.{IsPlaced}
+use Rattle.nc_region.specs.Chunks.{HasGoodSpan}
 use Rattle.nc_region.specs.Region.{IsRising, IsLive}
 use Rattle.nc_region.specs.declared.chunk.Chunk.{Chunk}
 use Rattle.nc_region.specs.declared.chunk.ChunkState.{ChunkState}
@@ -111,7 +111,7 @@ around_state bytes code at base len (Retired stamp) live low from to high = absu
 
 -- one chunk of the list after the patch
 patched_one : (bytes code : List ℕ) (at : ℕ) (d : Chunk) → 0 < length code → 0x10000 ≤ at → at + length code ≤ limit_of bytes
-    → IsPlaced d.base (limit_of bytes) d.length → IsApartOrAround at (length code) d
+    → HasGoodSpan d.base (limit_of bytes) d.length → IsApartOrAround at (length code) d
     → chunk_in (with_span bytes (at - 0x10000) code) d ≡ patched_at at code (chunk_in bytes d)
 patched_one bytes code at d some low high placed (inl apart) =
     let long = length-state_in bytes d.base d.length d.state placed.low (omega (arith, placed.high)) in
@@ -129,7 +129,7 @@ patched_one bytes code at d some low high placed (inr around) =
 
 -- all of them
 patched_each : (bytes code : List ℕ) (at : ℕ) (chunks : List Chunk) → 0 < length code → 0x10000 ≤ at → at + length code ≤ limit_of bytes
-    → Each (λ (d : Chunk). IsPlaced d.base (limit_of bytes) d.length) chunks → Each (IsApartOrAround at (length code)) chunks
+    → Each (λ (d : Chunk). HasGoodSpan d.base (limit_of bytes) d.length) chunks → Each (IsApartOrAround at (length code)) chunks
     → map (chunk_in (with_span bytes (at - 0x10000) code)) chunks ≡ map (patched_at at code) (map (chunk_in bytes) chunks)
 patched_each bytes code at [] some low high placed apart = refl
 patched_each bytes code at (d ∷ rest) some low high placed apart =
@@ -140,8 +140,8 @@ patched_each bytes code at (d ∷ rest) some low high placed apart =
 
 -- the chunks of the script after a patch of one of them
 pub patched_chunks : (bytes code : List ℕ) (at : ℕ) (chunks : List Chunk) (c : Chunk) → 0 < length code → at % 32 + length code ≤ 32
-    → IsRising 0x10000 chunks → Each (λ (d : Chunk). IsPlaced d.base (limit_of bytes) d.length) chunks
-    → IsPlaced c.base (limit_of bytes) c.length → Contains chunks c → IsLive c.state → c.base ≤ at → at < c.base + c.length
+    → IsRising 0x10000 chunks → Each (λ (d : Chunk). HasGoodSpan d.base (limit_of bytes) d.length) chunks
+    → HasGoodSpan c.base (limit_of bytes) c.length → Contains chunks c → IsLive c.state → c.base ≤ at → at < c.base + c.length
     → map (chunk_in (with_span bytes (at - 0x10000) code)) chunks ≡ map (patched_at at code) (map (chunk_in bytes) chunks)
 patched_chunks bytes code at chunks c some bundle rising placed here listed live from to =
     let base_is : c.base % 32 ≡ 0 = here.start in

@@ -7,7 +7,7 @@ use Rattle.nc_text.specs.Places.{limit_of}
 use Rattle.nc_text.specs.MarkedText.{with_span}
 use Rattle.nc_region.specs.Each.{Each}
 use Rattle.nc_region.proofs.EachMember.{each_both}
-use Rattle.nc_region.specs.Chunks.{IsPlaced}
+use Rattle.nc_region.specs.Chunks.{HasGoodSpan}
 use Rattle.nc_region.specs.Region.{IsRising, IsLive}
 use Rattle.nc_region.specs.Deletion as region
 use Rattle.nc_region.specs.declared.chunk.Chunk.{Chunk}
@@ -40,7 +40,7 @@ bases bytes base (c ∷ rest) h = (h.0, bases bytes base rest h.1)
 
 -- chunks apart from a deleted one
 apart_stay : (bytes : List ℕ) (base len stamp : ℕ) (chunks : List Chunk) → 0x10000 ≤ base → base + len ≤ limit_of bytes
-    → Each (λ (c : Chunk). IsPlaced c.base (limit_of bytes) c.length) chunks
+    → Each (λ (c : Chunk). HasGoodSpan c.base (limit_of bytes) c.length) chunks
     → Each (λ (c : Chunk). (c.base + c.length ≤ base) ⊎ (base + len ≤ c.base)) chunks → Each (λ (c : Chunk). c.base ≢ base) chunks
     → map (chunk_in (with_span bytes (base - 0x10000) (replicate len 0xF4))) chunks
     ≡ map (retired_at base stamp) (map (chunk_in bytes) chunks)
@@ -53,23 +53,23 @@ apart_stay bytes base len stamp chunks low high placed apart other =
 
 -- the chunks of the script after one of them was deleted
 pub retired_chunks : (bytes : List ℕ) (stamp from k : ℕ) (chunks : List Chunk) (c : Chunk) → IsRising from chunks
-    → Each (λ (d : Chunk). IsPlaced d.base (limit_of bytes) d.length) chunks → slice_get chunks k ≡ Some c
+    → Each (λ (d : Chunk). HasGoodSpan d.base (limit_of bytes) d.length) chunks → slice_get chunks k ≡ Some c
     → map (chunk_in (with_span bytes (c.base - 0x10000) (replicate c.length 0xF4))) (set chunks k (record c { state = Retired stamp }))
     ≡ map (retired_at c.base stamp) (map (chunk_in bytes) chunks)
 retired_chunks bytes stamp from k [] c rising placed is = absurd cc
 retired_chunks bytes stamp from zero (d ∷ rest) c rising placed is =
     let same : d ≡ c = cc in
     let new = with_span bytes (c.base - 0x10000) (replicate c.length 0xF4) in
-    let here : IsPlaced c.base (limit_of bytes) c.length = subst (λ (x : Chunk). IsPlaced x.base
+    let here : HasGoodSpan c.base (limit_of bytes) c.length = subst (λ (x : Chunk). HasGoodSpan x.base
     (limit_of bytes) x.length) same placed.0 in
     let high : c.base + c.length ≤ limit_of bytes = omega (arith, here.high) in
     let above : Each (λ (x : Chunk). c.base + c.length ≤ x.base) rest =
     subst (λ (x : Chunk). Each (λ (y : Chunk). x.base + x.length ≤ y.base) rest) same
     (rising_each (d.base + d.length) (d.base + d.length) rest (omega arith) rising.1) in
     let tail = apart_stay bytes c.base c.length stamp rest here.low high placed.1
-    (each_both (λ (x : Chunk). c.base + c.length ≤ x.base) (λ (x : Chunk). IsPlaced x.base (limit_of bytes) x.length)
+    (each_both (λ (x : Chunk). c.base + c.length ≤ x.base) (λ (x : Chunk). HasGoodSpan x.base (limit_of bytes) x.length)
     (λ (x : Chunk). (x.base + x.length ≤ c.base) ⊎ (c.base + c.length ≤ x.base)) (λ x a p. inr a) rest above placed.1)
-    (each_both (λ (x : Chunk). c.base + c.length ≤ x.base) (λ (x : Chunk). IsPlaced x.base (limit_of bytes) x.length)
+    (each_both (λ (x : Chunk). c.base + c.length ≤ x.base) (λ (x : Chunk). HasGoodSpan x.base (limit_of bytes) x.length)
     (λ (x : Chunk). x.base ≢ c.base) (λ x a p e. omega (arith, a, e, here.some)) rest above placed.1) in
     let long = length-state_in bytes c.base c.length c.state here.low high in
     let shown = chunk_in bytes c in
@@ -97,10 +97,10 @@ retired_chunks bytes stamp from (suc k) (d ∷ rest) c rising placed is =
     rises_at from zero (x ∷ xs) c r e = let same : x ≡ c = cc in subst (λ (y : Chunk). from ≤ y.base) same r.0
     rises_at from (suc k) (x ∷ xs) c r e = omega (arith, r.0, rises_at (x.base + x.length) k xs c r.1 e)
 
-    placed_at : (k : ℕ) (rest : List Chunk) (c : Chunk) → Each (λ (d : Chunk). IsPlaced d.base (limit_of bytes) d.length) rest
-        → slice_get rest k ≡ Some c → IsPlaced c.base (limit_of bytes) c.length
+    placed_at : (k : ℕ) (rest : List Chunk) (c : Chunk) → Each (λ (d : Chunk). HasGoodSpan d.base (limit_of bytes) d.length) rest
+        → slice_get rest k ≡ Some c → HasGoodSpan c.base (limit_of bytes) c.length
     placed_at k [] c p e = absurd cc
-    placed_at zero (x ∷ xs) c p e = let same : x ≡ c = cc in subst (λ (y : Chunk). IsPlaced y.base (limit_of bytes) y.length) same p.0
+    placed_at zero (x ∷ xs) c p e = let same : x ≡ c = cc in subst (λ (y : Chunk). HasGoodSpan y.base (limit_of bytes) y.length) same p.0
     placed_at (suc k) (x ∷ xs) c p e = placed_at k xs c p.1 e
 
 -- a chunk that is live in the region is live in the script

@@ -3,7 +3,7 @@ use Rattle.std.specs.Prelude.{◌≡◌, ℕ, ◌+◌, ◌-◌, ◌<◌, ◌≤�
 use Rattle.nc_decode.specs.declared.instruction.Mark.{Mark}
 use Rattle.nc_vet.specs.Chunk.{Piece, place, IsValid, IsTarget}
 use Rattle.nc_text.specs.MarkedText.{with_span}
-use Rattle.nc_region.specs.Patch.{IsPatchSpan, AreBytesOf, AreInstructions, lengths, AreNoHalves, AreNotIndirect, GoWell}
+use Rattle.nc_region.specs.Patch.{IsPatchSpan, AreBytesOf, AreInstructions, lengths, SparesPairs, GoWell}
 use Rattle.nc_region.specs.declared.fault.ModifyFault.{ModifyFault}
 use Rattle.nc_region.specs.declared.fault.ModifyFault.TheVariants.{BadSpan, NotLive, NotPermitted, Boundaries, PairTouched, BadTarget}
 use Rattle.nc_script.specs.Script.{Script, ScriptChunk, State, Live, Retired, covers}
@@ -39,9 +39,9 @@ pub record Replaces (script : Script) (at : ℕ) (new : List ℕ) : Type 0 where
   pub valid : IsValid (record { base = base; limit = script.limit; code = bytes; marks = marks })
   pub run : IsRunOf valid.pieces base at new
 
--- no half of a pair is replaced, and no indirect transfer comes
+-- pairs are left alone
 abbrev pub LeavesPairs : (script : Script) (at : ℕ) (new : List ℕ) → Replaces script at new → Type 0
-LeavesPairs script at new r = AreNoHalves r.run.old r.run.after × AreNotIndirect r.run.news
+LeavesPairs script at new r = SparesPairs r.run.old r.run.after r.run.news
 
 -- the direct transfers that come go where those of a valid chunk may
 abbrev pub KeepsTargets : (script : Script) (at : ℕ) (new : List ℕ) → Replaces script at new → Type 0

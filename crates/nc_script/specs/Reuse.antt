@@ -28,7 +28,7 @@ abbrev pub number_of : Seat → ℕ
 number_of (Staying number) = number
 number_of (Left number) = number
 
--- a seat that is there isn't behind this number; one that has left holds nothing back
+-- a seat that is there has at least this number; one that has left holds nothing back
 abbrev pub Allows : ℕ → Seat → Type 0
 Allows a (Staying number) = a ≤ number
 Allows a (Left number) = ⊤

@@ -60,7 +60,7 @@ const TWO_SEATS: [Row; 6] = [
     (b"reclaim", b"freed 1"),
 ];
 
-/// The seat that is furthest behind decides, whichever it is.
+/// The seat with the least number decides, whichever it is.
 const BEHIND: [Row; 11] = [
     (b"create 00010000 *", b"ok"),
     (b"delete 00010000", b"stamp 1"),
