@@ -47,6 +47,7 @@ word_taken i n k = record k { bounds = slice_set k.bounds i n; looks = slice_set
 abbrev pub first_pass_numbers : PassNumbers
 first_pass_numbers = record { word = 0; since = 0; seen = 0; loads = 0 }
 
+-- the keeper's generation and its bound of each seat begin at 0 too
 abbrev pub first_keeper_numbers : ℕ → KeeperNumbers
 first_keeper_numbers seats = record { generation = 0; bounds = replicate seats 0; looks = replicate seats 0 }
 
@@ -77,6 +78,7 @@ module _ (words : List ℕ) (owner : ℕ → ℕ) (at : ℕ) where
     pub pass : v.is_pass ≡ true → FitsPass v.seat v.pass
     pub keeper : v.is_keeper ≡ true → FitsKeeper v.given v.keeper
 
+-- the keeper is in this view
 abbrev pub HasKeeper : View → Type 0
 HasKeeper v = v.is_keeper ≡ true
 

@@ -32,11 +32,13 @@ abbrev pub PairsHold : Option ℕ → ℕ → List Instr → Type 0
 PairsHold before at [] = ⊤
 PairsHold before at (i ∷ rest) = FollowsMask i.flow i.reg before at × PairsHold i.masks (at + i.len) rest
 
+-- control goes where a register points
 abbrev pub IsIndirect : Flow → Type 0
 IsIndirect IndirectJump = ⊤
 IsIndirect IndirectCall = ⊤
 IsIndirect _ = ⊥
 
+-- control goes where the instruction says
 abbrev pub IsDirect : Flow → Type 0
 IsDirect Branch = ⊤
 IsDirect Jump = ⊤

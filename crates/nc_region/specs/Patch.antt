@@ -91,6 +91,7 @@ KeepsTargets marked c at new run = GoWell (IsTarget c.base (limit_of marked.byte
 abbrev pub Fits : Region → ℕ → List ℕ → Type 0
 Fits r at new = (c : Chunk) × IsHeldBy r.chunks at c × IsRun r.marked c at new
 
+-- the second: the pairs are left alone
 abbrev pub FitsBesidePairs : Region → ℕ → List ℕ → Type 0
 FitsBesidePairs r at new = (c : Chunk) × IsHeldBy r.chunks at c × ((run : IsRun r.marked c at new) × LeavesPairs r.marked c at new run)
 
@@ -121,6 +122,7 @@ abbrev pub stands_there : List ℕ → ℕ → List ℕ → Bool
 stands_there text at [] = true
 stands_there text at (byte ∷ rest) = (byte_at text at == byte) && stands_there text (at + 1) rest
 
+-- a test that every place passes
 abbrev pub any_place : ℕ → Bool
 any_place at = true
 

@@ -14,6 +14,7 @@ giving_view seats i = record {
   given = i;
 }
 
+-- the first view: nothing is given out yet
 abbrev pub first_view : ℕ → View
 first_view seats = giving_view seats 0
 

@@ -34,6 +34,7 @@ pub record Along (marked : MarkedText) (c : Chunk) (at : ℕ) (new : List ℕ) :
   pub bytes : AreBytesOf new news
   pub runs : RunsAlong begins.rest news
 
+-- the first of these, if there is one, is no indirect transfer
 abbrev pub NoneFirst : List Piece → Type 0
 NoneFirst [] = ⊤
 NoneFirst (p ∷ rest) = is_indirect p.instr.flow ≡ false
