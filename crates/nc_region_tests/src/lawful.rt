@@ -112,8 +112,8 @@ fn goes_well(chunk: &Standing, all: &[Placed], limit: u32, new: Placed) -> bool 
     if !matches!(new.instr.flow, Flow::Branch | Flow::Jump | Flow::Call) {
         return true;
     }
-    let behind = new.at.wrapping_add(u32::from(new.instr.len));
-    let target = behind.wrapping_add(new.instr.rel.cast_unsigned());
+    let next = new.at.wrapping_add(u32::from(new.instr.len));
+    let target = next.wrapping_add(new.instr.rel.cast_unsigned());
     if !is_in(chunk, target) {
         return target % 32 == 0 && target < limit;
     }

@@ -37,11 +37,11 @@ impl Copied {
     /// Each step of this instruction, at this address, leads to a state that a mark stands for or to a bundle start below
     /// 00010000. Where an indirect transfer goes, `starts_are_plain` says.
     fn leads_well(&self, at: u32, instr: Instr) -> bool {
-        let behind = at.wrapping_add(u32::from(instr.len));
-        let target = behind.wrapping_add_signed(instr.rel);
+        let next = at.wrapping_add(u32::from(instr.len));
+        let target = next.wrapping_add_signed(instr.rel);
         match instr.flow {
-            Flow::Next => self.admits(behind, instr.masks),
-            Flow::Branch => self.admits(behind, None) && self.admits(target, None),
+            Flow::Next => self.admits(next, instr.masks),
+            Flow::Branch => self.admits(next, None) && self.admits(target, None),
             Flow::Jump | Flow::Call => self.admits(target, None),
             Flow::IndirectJump | Flow::IndirectCall | Flow::Stop => true,
         }

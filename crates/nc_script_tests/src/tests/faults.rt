@@ -1,7 +1,7 @@
 //! One script of all requests, cut at each byte, and with each read and each write failing in turn.
 
 use crate::tests::fakes::{NEVER, Pieces, Slow};
-use crate::tests::rows::{Row, script_and_owed};
+use crate::tests::rows::{Row, input_and_owed};
 use nc_script::{ReplayFault, run};
 use std::alloc::Global;
 use std::test::Fail;
@@ -31,7 +31,7 @@ const ALL: [Row; 16] = [
 
 /// The script, its last line without an end, and its replies.
 fn all(alloc: Global) -> Result<(Vec<u8>, Vec<u8>), Fail> {
-    let (mut input, owed) = script_and_owed(alloc, &ALL)?;
+    let (mut input, owed) = input_and_owed(alloc, &ALL)?;
     input.pop();
     Ok((input, owed))
 }

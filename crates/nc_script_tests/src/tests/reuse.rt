@@ -61,7 +61,7 @@ const TWO_SEATS: [Row; 6] = [
 ];
 
 /// The seat with the least number decides, whichever it is.
-const BEHIND: [Row; 11] = [
+const LEAST_SEAT: [Row; 11] = [
     (b"create 00010000 *", b"ok"),
     (b"delete 00010000", b"stamp 1"),
     (b"checkin 1", b"ok"),
@@ -116,7 +116,7 @@ fn one_seat(rt: HostRuntime) -> Result<(), Fail> {
 
 #[test]
 fn two_seats(rt: HostRuntime) -> Result<(), Fail> {
-    for rows in [TWO_SEATS.as_slice(), &BEHIND] {
+    for rows in [TWO_SEATS.as_slice(), &LEAST_SEAT] {
         let (written, owed) = written_and_owed(rt.alloc(), rows, 2)?;
         assert_eq!(rt; written.as_slice(), owed.as_slice());
     }

@@ -5,11 +5,11 @@ use nc_script::run;
 use std::alloc::Global;
 use std::test::Fail;
 
-/// A line and its reply; in both a `*` stands for nops, of which there are as many as fill the word up to 32 bytes.
+/// A line and its reply or verdict; in both a `*` stands for nops, of which there are as many as fill the word up to 32 bytes.
 pub type Row = (&'static [u8], &'static [u8]);
 
-/// These lines as one script, and the replies that they have to have.
-pub fn script_and_owed(alloc: Global, rows: &[Row]) -> Result<(Vec<u8>, Vec<u8>), Fail> {
+/// These lines as one input, and the replies that they have to have.
+pub fn input_and_owed(alloc: Global, rows: &[Row]) -> Result<(Vec<u8>, Vec<u8>), Fail> {
     let mut input = Vec::new(alloc);
     let mut owed = Vec::new(alloc);
     for (line, reply) in rows {
@@ -25,7 +25,7 @@ pub fn written_and_owed(
     rows: &[Row],
     seats: u32,
 ) -> Result<(Vec<u8>, Vec<u8>), Fail> {
-    let (input, owed) = script_and_owed(alloc, rows)?;
+    let (input, owed) = input_and_owed(alloc, rows)?;
     let mut written = Vec::new(alloc);
     let mut reader = input.as_slice();
     match run(alloc, &mut reader, &mut written, 4, seats) {

@@ -1,16 +1,13 @@
 //! Lines of chunks and their verdicts, through `vet_lines` from bytes to bytes.
 
 use crate::tests::fakes::{NEVER, Pieces, Slow};
-use crate::tests::filled::push_filled;
+use crate::tests::rows::{Row, input_and_owed};
 use nc_script::{ReplayFault, vet_lines};
 use nc_work::Open;
-use std::alloc::{AllocError, Global};
+use std::alloc::Global;
 use std::sync::Wait;
 use std::test::Fail;
 use std::thread::Threads;
-
-/// A line and its verdict; in both a `*` stands for nops, of which there are as many as fill the word up to 32 bytes.
-type Row = (&'static [u8], &'static [u8]);
 
 /// Two lines with the same chunk, the second at a place where no chunk may stand.
 const TWO: [Row; 2] = [(b"00010000 *", b"ok"), (b"00010001 *", b"refused BadBase")];
@@ -48,17 +45,6 @@ const FAULTS: [Row; 20] = [
     (b"0001000 *", b"bad line"),
     (b"00010000 *", b"ok"),
 ];
-
-/// An input of these lines, and what has to be written.
-fn input_and_owed(alloc: Global, rows: &[Row]) -> Result<(Vec<u8>, Vec<u8>), AllocError> {
-    let mut input = Vec::new(alloc);
-    let mut owed = Vec::new(alloc);
-    for (line, verdict) in rows {
-        push_filled(&mut input, line)?;
-        push_filled(&mut owed, verdict)?;
-    }
-    Ok((input, owed))
-}
 
 /// Vets lines for four bundles by each number of workers.
 fn vets<T: Threads + Wait + Sync>(rt: &T, alloc: Global, rows: &[Row]) -> Result<(), Fail> {
