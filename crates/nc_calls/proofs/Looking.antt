@@ -3,7 +3,6 @@ use Rattle.std.proofs.Common.{◌≡◌, ◌≢◌, ℕ, zero, suc, ◌+◌, ◌
 use Rattle.std.proofs.Common.{fold, length, get_or, map, inl, inr, arith, refl, ◌∙◌, sym, ap, subst, ne_eqb}
 use Rattle.std.specs.Prelude.{⊤, slice_index}
 use Rattle.std.specs.List.{range_with_len}
-use Rattle.std.proofs.lemmas.List.{length-set}
 use Rattle.nc_gens.specs.declared.view.KeeperNumbers.{KeeperNumbers}
 use Rattle.nc_gens.specs.Rule.{left_word, last_generation}
 use Rattle.nc_gens.specs.Seen.{staying, least_or, least_number}
@@ -68,16 +67,16 @@ has_passed w stamp keeps range le k lt = go (seat_at w k).found_left refl
 abbrev pub placed : World → KeeperNumbers → List Seat → World
 placed w keeper seats = record w { keeper = keeper; seats = seats }
 
--- each is a look at a seat below this number
-abbrev pub AreLooks : ℕ → List Event → Type 0
-AreLooks n [] = ⊤
-AreLooks n (Looks k ∷ events) = (k < n) × AreLooks n events
-AreLooks n (event ∷ events) = ⊥
+-- each is a look at a seat
+abbrev pub AreLooks : List Event → Type 0
+AreLooks [] = ⊤
+AreLooks (Looks k ∷ events) = AreLooks events
+AreLooks (event ∷ events) = ⊥
 
 -- all seats from one on are looked at
-pub looks_are : (n a m : ℕ) → a + m ≤ n → AreLooks n (map Looks (range_with_len a m))
-looks_are n a zero le = tt
-looks_are n a (suc m) le = (omega (arith, le), looks_are n (a + 1) m (omega (arith, le)))
+pub looks_are : (a m : ℕ) → AreLooks (map Looks (range_with_len a m))
+looks_are a zero = tt
+looks_are a (suc m) = looks_are (a + 1) m
 
 -- All are allowed, and only the keeper's bounds and the seats are others afterwards.
 pub record Looked (w : World) (keeper : KeeperNumbers) (seats : List Seat) (events : List Event) : Type 0 where
@@ -101,63 +100,38 @@ looked_more w keeper later seats others event events allowed same generation res
     }
 
 -- the loads with threads between them
-pub looks_woven : (w : World) (n : ℕ) (events : List Event) (keeper : KeeperNumbers) (seats : List Seat) → length seats ≡ n
-    → AreLooks n (writers events) → ThreadsMay (placed w keeper seats) events → Looked w keeper seats events
-looks_woven w n [] keeper seats long looks threads =
+pub looks_woven : (w : World) (events : List Event) (keeper : KeeperNumbers) (seats : List Seat) → AreLooks (writers events)
+    → ThreadsMay (placed w keeper seats) events → Looked w keeper seats events
+looks_woven w [] keeper seats looks threads =
     record { allowed = tt; keeper_after = keeper; seats_after = seats; after_is = refl; generation = refl }
-looks_woven w n (Steps k next ∷ events) keeper seats long looks threads =
+looks_woven w (Steps k next ∷ events) keeper seats looks threads =
     looked_more w keeper keeper seats _ (Steps k next) events (threads.0 refl) refl refl
-    (looks_woven w n events keeper _ (length-set seats k _ ∙ long) looks threads.1)
-looks_woven w n (Enters k at ∷ events) keeper seats long looks threads =
+    (looks_woven w events keeper _ looks threads.1)
+looks_woven w (Enters k at ∷ events) keeper seats looks threads =
     looked_more w keeper keeper seats _ (Enters k at) events (threads.0 refl) refl refl
-    (looks_woven w n events keeper _ (length-set seats k _ ∙ long) looks threads.1)
-looks_woven w n (Exits k ∷ events) keeper seats long looks threads =
+    (looks_woven w events keeper _ looks threads.1)
+looks_woven w (Exits k ∷ events) keeper seats looks threads =
     looked_more w keeper keeper seats _ (Exits k) events (threads.0 refl) refl refl
-    (looks_woven w n events keeper _ (length-set seats k _ ∙ long) looks threads.1)
-looks_woven w n (Takes k ∷ events) keeper seats long looks threads =
+    (looks_woven w events keeper _ looks threads.1)
+looks_woven w (Takes k ∷ events) keeper seats looks threads =
     looked_more w keeper keeper seats _ (Takes k) events (threads.0 refl) refl refl
-    (looks_woven w n events keeper _ (length-set seats k _ ∙ long) looks threads.1)
-looks_woven w n (Sees k ∷ events) keeper seats long looks threads =
+    (looks_woven w events keeper _ looks threads.1)
+looks_woven w (Sees k ∷ events) keeper seats looks threads =
     looked_more w keeper keeper seats _ (Sees k) events (threads.0 refl) refl refl
-    (looks_woven w n events keeper _ (length-set seats k _ ∙ long) looks threads.1)
-looks_woven w n (Stores k ∷ events) keeper seats long looks threads =
+    (looks_woven w events keeper _ looks threads.1)
+looks_woven w (Stores k ∷ events) keeper seats looks threads =
     looked_more w keeper keeper seats _ (Stores k) events (threads.0 refl) refl refl
-    (looks_woven w n events keeper _ (length-set seats k _ ∙ long) looks threads.1)
-looks_woven w n (Leaves k ∷ events) keeper seats long looks threads =
+    (looks_woven w events keeper _ looks threads.1)
+looks_woven w (Leaves k ∷ events) keeper seats looks threads =
     looked_more w keeper keeper seats _ (Leaves k) events (threads.0 refl) refl refl
-    (looks_woven w n events keeper _ (length-set seats k _ ∙ long) looks threads.1)
-looks_woven w n (Puts at byte ∷ events) keeper seats long looks threads = absurd looks
-looks_woven w n (Marks at marks ∷ events) keeper seats long looks threads = absurd looks
-looks_woven w n (Bumps ∷ events) keeper seats long looks threads = absurd looks
-looks_woven w n (Retires base len ∷ events) keeper seats long looks threads = absurd looks
-looks_woven w n (Frees span ∷ events) keeper seats long looks threads = absurd looks
-looks_woven w n (Looks k ∷ events) keeper seats long looks threads =
-    let inside : k < length seats = omega (arith, looks.0, long) in
-    looked_more w keeper _ seats _ (Looks k) events inside refl refl
-    (looks_woven w n events _ _ (length-set seats k _ ∙ long) looks.1 threads.1)
-
--- ---- how many seats there are
-
--- an event makes no seat
-seats_stay : (w : World) (event : Event) → length (after w event).seats ≡ length w.seats
-seats_stay w (Steps k next) = length-set w.seats k _
-seats_stay w (Enters k at) = length-set w.seats k _
-seats_stay w (Exits k) = length-set w.seats k _
-seats_stay w (Takes k) = length-set w.seats k _
-seats_stay w (Sees k) = length-set w.seats k _
-seats_stay w (Stores k) = length-set w.seats k _
-seats_stay w (Leaves k) = length-set w.seats k _
-seats_stay w (Puts at byte) = refl
-seats_stay w (Marks at marks) = refl
-seats_stay w Bumps = refl
-seats_stay w (Retires base len) = refl
-seats_stay w (Frees span) = refl
-seats_stay w (Looks k) = length-set w.seats k _
-
--- nor do some
-pub seats_after : (w : World) (events : List Event) → length (world_after w events).seats ≡ length w.seats
-seats_after w [] = refl
-seats_after w (event ∷ events) = seats_after (after w event) events ∙ seats_stay w event
+    (looks_woven w events keeper _ looks threads.1)
+looks_woven w (Puts at byte ∷ events) keeper seats looks threads = absurd looks
+looks_woven w (Marks at marks ∷ events) keeper seats looks threads = absurd looks
+looks_woven w (Bumps ∷ events) keeper seats looks threads = absurd looks
+looks_woven w (Retires base len ∷ events) keeper seats looks threads = absurd looks
+looks_woven w (Frees span ∷ events) keeper seats looks threads = absurd looks
+looks_woven w (Looks k ∷ events) keeper seats looks threads =
+    looked_more w keeper _ seats _ (Looks k) events tt refl refl (looks_woven w events _ _ looks threads.1)
 
 -- ---- events parted where the first of the writer's end
 

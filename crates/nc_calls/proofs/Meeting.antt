@@ -1,11 +1,10 @@
 -- A schedule that has led to a region, and a meeting more.
-use Rattle.std.proofs.Common.{◌≡◌, ℕ, ◌<◌, List, [], ◌∷◌, ◌++◌, length, arith, refl, ◌∙◌, sym, ap, subst}
+use Rattle.std.proofs.Common.{◌≡◌, ℕ, List, [], ◌∷◌, ◌++◌, ◌∙◌, sym, ap, subst}
 use Rattle.std.specs.Prelude.{Contains, ◌↔◌}
-use Rattle.nc_gens.specs.declared.view.KeeperNumbers.{KeeperNumbers}
 use Rattle.nc_gens.specs.Seen.{PassState, HasMet}
 use Rattle.nc_schedule.specs.World.{World, first_world}
 use Rattle.nc_schedule.specs.Events.{Event, Looks, world_after}
-use Rattle.nc_schedule.proofs.Offered.{Keeps, keeps_reached, after_append}
+use Rattle.nc_schedule.proofs.Offered.{after_append}
 use Rattle.nc_region.specs.declared.chunk.Chunk.{Chunk}
 use Rattle.nc_region.specs.Quiet.{retired_spans}
 use Rattle.nc_region.specs.Region.{Region}
@@ -21,11 +20,8 @@ pub met : (limit seats : ℕ) (before events : List Event) (old new : Region) (p
     → (world_after (first_world limit seats) (before ++ events)).keeper ≡ new.keeper.numbers → HasLedTo limit seats (before ++ events) new
 met limit seats before events old new pass after h meets others own threads found =
     let w = world_after (first_world limit seats) before in
-    let keeps : Keeps (world_after (first_world limit seats) before) = keeps_reached limit seats before h.lawful h.allowed in
-    let inside : pass.seat < length w.seats =
-    omega (arith, meets.inside, ap (λ (k : KeeperNumbers). length k.bounds) h.stands.keeper, keeps.bounds) in
     let a : Looked w w.keeper w.seats events =
-    looks_woven w (length w.seats) events w.keeper w.seats refl (subst (AreLooks (length w.seats)) (sym own) (inside, tt)) threads in
+    looks_woven w events w.keeper w.seats (subst AreLooks (sym own) tt) threads in
     let keeper_is : a.keeper_after ≡ new.keeper.numbers =
     sym (ap (λ (x : World). x.keeper) (after_append (first_world limit seats) before events ∙ a.after_is)) ∙ found in
     let chunks : new.chunks ≡ old.chunks = ap (λ (r : Region). r.chunks) others in

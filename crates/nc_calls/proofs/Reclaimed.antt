@@ -1,14 +1,13 @@
 -- A schedule that has led to a region, and a reclaiming more.
-use Rattle.std.proofs.Common.{◌≡◌, ℕ, ◌≤◌, List, [], ◌++◌, length, map, arith, ◌∙◌, sym, ap, subst}
+use Rattle.std.proofs.Common.{◌≡◌, ℕ, ◌≤◌, List, [], ◌++◌, map, arith, ◌∙◌, sym, ap, subst}
 use Rattle.std.specs.Prelude.{Contains, ◌↔◌}
 use Rattle.std.specs.List.{range_with_len}
-use Rattle.std.proofs.lemmas.List.{length-replicate}
 use Rattle.nc_text.specs.Places.{limit_of}
 use Rattle.nc_text.specs.MarkedText.{MarkedText}
 use Rattle.nc_gens.specs.declared.view.KeeperNumbers.{KeeperNumbers}
 use Rattle.nc_gens.specs.Rule.{last_generation}
 use Rattle.nc_gens.specs.Seen.{least_number}
-use Rattle.nc_schedule.specs.World.{World, first_seat, first_world}
+use Rattle.nc_schedule.specs.World.{World, first_world}
 use Rattle.nc_schedule.specs.Events.{Event, Looks, world_after}
 use Rattle.nc_schedule.proofs.Offered.{Keeps, keeps_all, keeps_reached, after_append}
 use Rattle.nc_region.specs.declared.chunk.Chunk.{Chunk}
@@ -18,7 +17,7 @@ use Rattle.nc_region.specs.Region.{Region, IsRegion}
 use Rattle.nc_calls.specs.Weaving.{writers, ThreadsMay}
 use Rattle.nc_calls.specs.Calls.{HasLedTo, reclaim_events}
 use Rattle.nc_calls.proofs.Histories.{grown}
-use Rattle.nc_calls.proofs.Looking.{AreLooks, Looked, looks_are, looks_woven, placed, part, threads_parted, seats_after}
+use Rattle.nc_calls.proofs.Looking.{AreLooks, Looked, looks_are, looks_woven, placed, part, threads_parted}
 use Rattle.nc_calls.proofs.Putting.{Leads, leads_more}
 use Rattle.nc_calls.proofs.Reclaiming.{FreesMay, frees, frees_same, frees_woven, frees_done, finds_all, keeper_stays}
 use Rattle.nc_calls.proofs.Woven.{seated}
@@ -42,11 +41,9 @@ reclaimed limit seats before events old new count h region is own threads found 
     (frees_same seats (retired_spans old.chunks) (freed (least_number new.keeper.numbers) old.chunks))) in
     let t = threads_parted w p.first p.second
     (subst (λ (z : List Event). ThreadsMay (world_after (first_world limit seats) before) z) p.is threads) in
-    let many : length w.seats ≡ seats = seats_after (first_world limit seats) before ∙ length-replicate seats first_seat in
     let a : Looked (world_after (first_world limit seats) before) (world_after (first_world limit seats) before).keeper
     (world_after (first_world limit seats) before).seats p.first =
-    looks_woven w seats p.first w.keeper w.seats many
-    (subst (AreLooks seats) (sym p.first_is) (looks_are seats 0 seats (omega arith))) t.0 in
+    looks_woven w p.first w.keeper w.seats (subst AreLooks (sym p.first_is) (looks_are 0 seats)) t.0 in
     let keeps : Keeps (world_after (first_world limit seats) before) = keeps_reached limit seats before h.lawful h.allowed in
     let mid : World = placed (world_after (first_world limit seats) before) a.keeper_after a.seats_after in
     let keeps_mid : Keeps (placed (world_after (first_world limit seats) before) a.keeper_after a.seats_after) =

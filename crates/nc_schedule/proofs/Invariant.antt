@@ -9,7 +9,7 @@ use Rattle.nc_text.specs.Machine.{State}
 use Rattle.nc_text.specs.Marks.{IsClosed}
 use Rattle.nc_text.proofs.Offered.{IsKnown}
 use Rattle.nc_schedule.specs.Quiet.{Span, IsWithin, IsQuiet}
-use Rattle.nc_schedule.specs.World.{World, Seat, first_seat, seat_at, IsWhole}
+use Rattle.nc_schedule.specs.World.{World, Seat, first_seat, seat_at, IsWhole, AreApart, is_same_span}
 use Rattle.nc_schedule.specs.Events.{with_seat}
 
 -- whoever stands within a retired span came before its stamp
@@ -28,6 +28,11 @@ pub record SeatKeeps (marks : List Mark) (retired : List Span) (generation bound
   pub found : seat.found_left ≡ true → seat.has_left ≡ true
   pub bound_is : seat.found_left ≡ false → bound ≤ seat.pass.since
 
+-- any two of the spans that aren't the same have no place in common
+abbrev pub OthersApart : List Span → Type 0
+OthersApart retired =
+    All (λ (one : Span). All (λ (other : Span). is_same_span one other ≡ false → AreApart one other) retired) retired
+
 -- of each seat
 abbrev pub SeatsKeep : World → List Mark → List Span → ℕ → Type 0
 SeatsKeep w marks retired generation =
@@ -39,6 +44,7 @@ pub record Keeps (w : World) : Type 0 where
   pub closed : IsClosed w.marked.bytes w.marked.marks
   pub quiet : All (IsQuiet w.marked.bytes w.marked.marks) w.retired
   pub whole : All (IsWhole w.marked.bytes) w.retired
+  pub apart : OthersApart w.retired
   pub bounds : length w.keeper.bounds ≡ length w.seats
   pub seats : SeatsKeep w w.marked.marks w.retired w.keeper.generation
 
@@ -60,7 +66,7 @@ pub none_is_some : {X : Type 0} (x : X) → None ≡ Some x → ⊥
 none_is_some x is = cc is
 
 -- of a seat list with one seat set, the seat of a number is the new one or the old
-set_seat : (P : ℕ → Seat → Type 0) (seats : List Seat) (k : ℕ) (seat : Seat) → P k seat
+set_seat : (P : ℕ → Seat → Type 0) (seats : List Seat) (k : ℕ) (seat : Seat) → (k < length seats → P k seat)
     → ((j : ℕ) → j < length seats → P j (get_or seats j first_seat)) → (j : ℕ) → j < length (set seats k seat)
     → P j (get_or (set seats k seat) j first_seat)
 set_seat P seats k seat p each j lt =
@@ -68,19 +74,21 @@ set_seat P seats k seat p each j lt =
     elim (eqb_tells j k) [
       | inl same ↦
           subst (λ (i : ℕ). P i (get_or (set seats k seat) i first_seat)) (sym same.1)
-          (subst (P k) (sym (get_or-set_same seats k seat first_seat (omega (arith, inside, same.1)))) p)
+          (subst (P k) (sym (get_or-set_same seats k seat first_seat (omega (arith, inside, same.1)))) (p (omega (arith, inside, same.1))))
       | inr other ↦ subst (P j) (sym (get_or-set_other seats k j seat first_seat other.1)) (each j inside)
     ]
 
--- one seat is changed
+-- one seat is changed, if there is one of this number
 pub with_seat_keeps : (w : World) (k : ℕ) (seat : Seat) → Keeps w
-    → SeatKeeps w.marked.marks w.retired w.keeper.generation (slice_index w.keeper.bounds k) seat → Keeps (with_seat w k seat)
+    → (k < length w.seats → SeatKeeps w.marked.marks w.retired w.keeper.generation (slice_index w.keeper.bounds k) seat)
+    → Keeps (with_seat w k seat)
 with_seat_keeps w k seat keeps s =
     record {
       as_long = keeps.as_long;
       closed = keeps.closed;
       quiet = keeps.quiet;
       whole = keeps.whole;
+      apart = keeps.apart;
       bounds = keeps.bounds ∙ sym (length-set w.seats k seat);
       seats = set_seat
           (λ j t. SeatKeeps w.marked.marks w.retired w.keeper.generation (slice_index w.keeper.bounds j) t) w.seats k seat s keeps.seats;

@@ -5,3 +5,4 @@ pub mod Invariant
 pub mod ThreadEvents
 pub mod WriterEvents
 pub mod Schedules
+pub mod Moving

@@ -1,5 +1,5 @@
 -- What a schedule keeps, and what follows for its threads.
-use Rattle.std.proofs.Common.{◌≡◌, ℕ, ◌<◌, List, [], ◌∷◌, ◌++◌, get_or, replicate, arith, refl, ◌∙◌, sym, subst}
+use Rattle.std.proofs.Common.{◌≡◌, ℕ, ◌<◌, false, All, List, [], ◌∷◌, ◌++◌, get_or, replicate, arith, refl, ◌∙◌, sym, subst}
 use Rattle.std.specs.Prelude.{IfSome}
 use Rattle.std.proofs.lemmas.List.{length-replicate, get_or-replicate}
 use Rattle.std.proofs.lemmas.List.Elements.{All-nil, All-from_get_or}
@@ -8,21 +8,22 @@ use Rattle.nc_text.specs.Machine.{IsSafe}
 use Rattle.nc_text.proofs.Offered.{IsKnown, safe_if_known, new_is_text}
 use Rattle.nc_text.specs.MarkedText.{unused_text}
 use Rattle.nc_schedule.specs.Quiet.{Span, IsQuiet}
-use Rattle.nc_schedule.specs.World.{World, Seat, first_seat, first_world, seat_at, IsWhole, AllStandSafe, NoneIsWithin}
+use Rattle.nc_schedule.specs.World.{World, Seat, first_seat, first_world, seat_at, IsWhole, AreApart, is_same_span}
+use Rattle.nc_schedule.specs.World.{IsUsable, AllStandSafe, NoneIsWithin}
 use Rattle.nc_schedule.specs.Events.{Event, Steps, Enters, Exits, Takes, Sees, Stores, Leaves, Puts, Marks, Bumps, Retires, Frees, Looks}
 use Rattle.nc_schedule.specs.Events.{IsAllowed, after, world_after, AreAllowed}
 use Rattle.nc_schedule.proofs.Invariant.{Keeps, SeatKeeps, if_map}
 use Rattle.nc_schedule.proofs.ThreadEvents.{keeps_steps, keeps_enters, keeps_exits, keeps_takes, keeps_sees, keeps_stores, keeps_leaves}
 use Rattle.nc_schedule.proofs.WriterEvents.{keeps_puts, keeps_marks, keeps_bumps, keeps_retires, keeps_frees, keeps_looks}
-use Rattle.nc_schedule.proofs.WriterEvents.{none_is_within}
+use Rattle.nc_schedule.proofs.WriterEvents.{none_is_within, freed_is_usable}
 
 -- each event
 pub keeps_event : (w : World) (event : Event) → Keeps w → IsAllowed w event → Keeps (after w event)
 keeps_event w (Steps k next) keeps allowed = keeps_steps w k next keeps allowed
 keeps_event w (Enters k at) keeps allowed = keeps_enters w k at keeps allowed
-keeps_event w (Exits k) keeps allowed = keeps_exits w k keeps allowed
+keeps_event w (Exits k) keeps allowed = keeps_exits w k keeps
 keeps_event w (Takes k) keeps allowed = keeps_takes w k keeps allowed
-keeps_event w (Sees k) keeps allowed = keeps_sees w k keeps allowed
+keeps_event w (Sees k) keeps allowed = keeps_sees w k keeps
 keeps_event w (Stores k) keeps allowed = keeps_stores w k keeps allowed
 keeps_event w (Leaves k) keeps allowed = keeps_leaves w k keeps allowed
 keeps_event w (Puts at byte) keeps allowed = keeps_puts w at byte keeps allowed
@@ -30,7 +31,7 @@ keeps_event w (Marks at marks) keeps allowed = keeps_marks w at marks keeps allo
 keeps_event w Bumps keeps allowed = keeps_bumps w keeps
 keeps_event w (Retires base len) keeps allowed = keeps_retires w base len keeps allowed
 keeps_event w (Frees span) keeps allowed = keeps_frees w span keeps allowed
-keeps_event w (Looks k) keeps allowed = keeps_looks w k keeps allowed
+keeps_event w (Looks k) keeps allowed = keeps_looks w k keeps
 
 -- all of them
 pub keeps_all : (w : World) (events : List Event) → Keeps w → AreAllowed w events → Keeps (world_after w events)
@@ -46,6 +47,7 @@ keeps_first limit seats lawful =
       closed = whole.closed;
       quiet = All-nil (IsQuiet (unused_text limit).bytes (unused_text limit).marks);
       whole = All-nil (IsWhole (unused_text limit).bytes);
+      apart = All-nil (λ (one : Span). All (λ (other : Span). is_same_span one other ≡ false → AreApart one other) []);
       bounds = length-replicate {A = ℕ} seats 0 ∙ sym (length-replicate seats first_seat);
       seats = λ k lt.
           let inside : k < seats = omega (arith, lt, length-replicate seats first_seat) in
@@ -110,3 +112,14 @@ none_is_within_freed limit seats events later span lawful allowed =
     none_is_within (world_after (first_world limit seats) events) span
     (keeps_reached limit seats events lawful (allowed_front (first_world limit seats) events (Frees span ∷ later) allowed))
     (allowed_back (first_world limit seats) events (Frees span ∷ later) allowed).0
+
+-- and a span that is freed may be used again
+pub usable_after_freed : (limit seats : ℕ) (events later : List Event) (span : Span) → IsLawfulLimit limit
+    → AreAllowed (first_world limit seats) (events ++ Frees span ∷ later)
+    → IsUsable (world_after (first_world limit seats) (events ++ Frees span ∷ [])) span
+usable_after_freed limit seats events later span lawful allowed =
+    let w = world_after (first_world limit seats) events in
+    subst (λ (now : World). IsUsable now span) (sym (after_append (first_world limit seats) events (Frees span ∷ [])))
+    (freed_is_usable w span
+    (keeps_reached limit seats events lawful (allowed_front (first_world limit seats) events (Frees span ∷ later) allowed))
+    (allowed_back (first_world limit seats) events (Frees span ∷ later) allowed).0)

@@ -1,5 +1,5 @@
 -- What a thread does keeps the world.
-use Rattle.std.proofs.Common.{ℕ, ◌<◌, true, Some, None, inl, inr, arith, refl, ◌∙◌, sym}
+use Rattle.std.proofs.Common.{ℕ, ◌<◌, true, false, Some, None, inl, inr, arith, refl, ◌∙◌, sym}
 use Rattle.std.proofs.lemmas.Bool.{false≢true}
 use Rattle.std.proofs.lemmas.List.Elements.{All-weaker}
 use Rattle.nc_text.specs.Machine.{State, state}
@@ -15,13 +15,14 @@ use Rattle.nc_schedule.proofs.Unmarking.{none_steps_in}
 -- a thread takes a step
 pub keeps_steps : (w : World) (k : ℕ) (next : State) → Keeps w → IsAllowed w (Steps k next) → Keeps (after w (Steps k next))
 keeps_steps w k next keeps allowed =
-    let s = keeps.seats k allowed.0 in
-    let now = allowed.1.0 in
-    let step = allowed.1.2 in
-    let known = some_at (seat_at w k).inside (IsKnown w.marked.marks) now allowed.1.1 s.stands in
-    let m : IsMarked w.marked.marks now = elim known [ inl m ↦ m | inr zone ↦ absurd (omega (arith, zone.0, step.0.0)) ] in
     with_seat_keeps w k (record (seat_at w k) { inside = Some next }) keeps
-    (record {
+    (λ lt.
+    let s = keeps.seats k lt in
+    let now = allowed.0 in
+    let step = allowed.2 in
+    let known = some_at (seat_at w k).inside (IsKnown w.marked.marks) now allowed.1 s.stands in
+    let m : IsMarked w.marked.marks now = elim known [ inl m ↦ m | inr zone ↦ absurd (omega (arith, zone.0, step.0.0)) ] in
+    record {
       stands = keeps.closed.steps now next m step;
       early = All-weaker (IsQuiet w.marked.bytes w.marked.marks)
           (λ (span : Span). IsWithin span next.place → (seat_at w k).pass.since < span.stamp)
@@ -29,7 +30,7 @@ keeps_steps w k next keeps allowed =
           (none_steps_in w.marked.bytes w.marked.marks span quiet now next m step within)) w.retired keeps.quiet;
       since = s.since;
       word = s.word;
-      out = λ is. absurd (none_is_some now (sym (s.out is) ∙ allowed.1.1));
+      out = λ is. absurd (none_is_some now (sym (s.out is) ∙ allowed.1));
       found = s.found;
       bound_is = s.bound_is;
     })
@@ -37,35 +38,38 @@ keeps_steps w k next keeps allowed =
 -- a thread enters
 pub keeps_enters : (w : World) (k at : ℕ) → Keeps w → IsAllowed w (Enters k at) → Keeps (after w (Enters k at))
 keeps_enters w k at keeps allowed =
-    let s = keeps.seats k allowed.0 in
     with_seat_keeps w k (record (seat_at w k) { inside = Some (state at None) }) keeps
-    (record {
-      stands = inl (start_is_marked w.marked.bytes w.marked.marks keeps.closed (state at None) allowed.3 allowed.4);
+    (λ lt.
+    let s = keeps.seats k lt in
+    record {
+      stands = inl (start_is_marked w.marked.bytes w.marked.marks keeps.closed (state at None) allowed.2 allowed.3);
       early = All-weaker (IsQuiet w.marked.bytes w.marked.marks)
           (λ (span : Span). IsWithin span at → (seat_at w k).pass.since < span.stamp)
-          (λ span quiet within. absurd (within.1 allowed.4)) w.retired keeps.quiet;
+          (λ span quiet within. absurd (within.1 allowed.3)) w.retired keeps.quiet;
       since = s.since;
       word = s.word;
-      out = λ is. absurd (false≢true (sym allowed.2 ∙ is));
+      out = λ is. absurd (false≢true (sym allowed.1 ∙ is));
       found = s.found;
       bound_is = s.bound_is;
     })
 
 -- a thread goes outside
-pub keeps_exits : (w : World) (k : ℕ) → Keeps w → IsAllowed w (Exits k) → Keeps (after w (Exits k))
-keeps_exits w k keeps allowed =
-    let s = keeps.seats k allowed in
+pub keeps_exits : (w : World) (k : ℕ) → Keeps w → Keeps (after w (Exits k))
+keeps_exits w k keeps =
     with_seat_keeps w k (record (seat_at w k) { inside = None }) keeps
-    (record { stands = tt; early = tt; since = s.since; word = s.word; out = λ is. refl; found = s.found; bound_is = s.bound_is })
+    (λ lt.
+    let s = keeps.seats k lt in
+    record { stands = tt; early = tt; since = s.since; word = s.word; out = λ is. refl; found = s.found; bound_is = s.bound_is })
 
 -- a pass takes the generation
 pub keeps_takes : (w : World) (k : ℕ) → Keeps w → IsAllowed w (Takes k) → Keeps (after w (Takes k))
 keeps_takes w k keeps allowed =
-    let s = keeps.seats k allowed.0 in
     with_seat_keeps w k (record (seat_at w k) { pass = generation_taken w.keeper.generation (seat_at w k).pass }) keeps
-    (record {
+    (λ lt.
+    let s = keeps.seats k lt in
+    record {
       stands = s.stands;
-      early = if_none (seat_at w k).inside (CameBefore w.keeper.generation w.retired) allowed.1;
+      early = if_none (seat_at w k).inside (CameBefore w.keeper.generation w.retired) allowed;
       since = omega arith;
       word = λ is. omega (arith, s.word is, s.since);
       out = s.out;
@@ -74,38 +78,49 @@ keeps_takes w k keeps allowed =
     })
 
 -- a pass sees the generation
-pub keeps_sees : (w : World) (k : ℕ) → Keeps w → IsAllowed w (Sees k) → Keeps (after w (Sees k))
-keeps_sees w k keeps allowed =
-    let s = keeps.seats k allowed in
+pub keeps_sees : (w : World) (k : ℕ) → Keeps w → Keeps (after w (Sees k))
+keeps_sees w k keeps =
     with_seat_keeps w k (record (seat_at w k) { pass = generation_seen w.keeper.generation (seat_at w k).pass }) keeps
-    (record { stands = s.stands; early = s.early; since = s.since; word = s.word; out = s.out; found = s.found; bound_is = s.bound_is })
+    (λ lt.
+    let s = keeps.seats k lt in
+    record {
+      stands = s.stands;
+      early = s.early;
+      since = s.since;
+      word = s.word;
+      out = s.out;
+      found = s.found;
+      bound_is = s.bound_is;
+    })
 
--- a pass stores what it took
+-- a pass that hasn't left stores what it took
 pub keeps_stores : (w : World) (k : ℕ) → Keeps w → IsAllowed w (Stores k) → Keeps (after w (Stores k))
 keeps_stores w k keeps allowed =
-    let s = keeps.seats k allowed.0 in
-    with_seat_keeps w k (record (seat_at w k) { pass = since_stored (seat_at w k).pass }) keeps
-    (record {
+    with_seat_keeps w k (record (seat_at w k) { pass = since_stored (seat_at w k).pass; has_left = false }) keeps
+    (λ lt.
+    let s = keeps.seats k lt in
+    record {
       stands = s.stands;
       early = s.early;
       since = s.since;
       word = λ is. omega arith;
-      out = s.out;
-      found = s.found;
+      out = λ is. absurd (false≢true is);
+      found = λ is. absurd (false≢true (sym allowed ∙ s.found is));
       bound_is = s.bound_is;
     })
 
 -- a pass leaves
 pub keeps_leaves : (w : World) (k : ℕ) → Keeps w → IsAllowed w (Leaves k) → Keeps (after w (Leaves k))
 keeps_leaves w k keeps allowed =
-    let s = keeps.seats k allowed.0 in
     with_seat_keeps w k (record (seat_at w k) { pass = left_stored (seat_at w k).pass; has_left = true }) keeps
-    (record {
+    (λ lt.
+    let s = keeps.seats k lt in
+    record {
       stands = s.stands;
       early = s.early;
       since = s.since;
       word = λ is. absurd (false≢true (sym is));
-      out = λ is. allowed.1;
+      out = λ is. allowed;
       found = λ is. refl;
       bound_is = s.bound_is;
     })

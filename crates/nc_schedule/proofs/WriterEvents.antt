@@ -2,9 +2,10 @@
 use Rattle.std.proofs.Common.{◌≡◌, ℕ, ◌+◌, ◌-◌, ◌<◌, ◌≤◌, ◌⊎◌, Bool, true, false, not, All, List, [], ◌∷◌, ◌++◌, length, get_or, set}
 use Rattle.std.proofs.Common.{take, drop, Option, Some, None, inl, inr, arith, refl, ◌∙◌, sym, ap, subst}
 use Rattle.std.specs.Prelude.{IfSome, Contains, filter, slice_index}
-use Rattle.std.proofs.lemmas.Bool.Decides.{eqb_tells}
+use Rattle.std.proofs.lemmas.Bool.{false≢true}
+use Rattle.std.proofs.lemmas.Bool.Decides.{eqb_tells, nat_tests}
 use Rattle.std.proofs.lemmas.List.{length-set, get_or-set_same, get_or-set_other, take-append-drop}
-use Rattle.std.proofs.lemmas.List.Elements.{All-weaker, All-cons, All-filter, All-contains, All-from_get_or}
+use Rattle.std.proofs.lemmas.List.Elements.{All-weaker, All-cons, All-filter, All-contains, All-contains_itself, All-from_get_or, filter_passes}
 use Rattle.nc_decode.specs.declared.instruction.Mark.{Mark}
 use Rattle.nc_decode.specs.declared.instruction.Mark.TheVariants.{Unmarked, Plain, After}
 use Rattle.nc_text.specs.Machine.{State}
@@ -12,9 +13,9 @@ use Rattle.nc_text.specs.Marks.{Admits, mark_at}
 use Rattle.nc_text.specs.MarkedText.{with_marks, with_span, StaysOrPlain}
 use Rattle.nc_text.proofs.Offered.{IsKnown, length-with_span}
 use Rattle.nc_schedule.specs.Quiet.{Span, IsWithin, IsQuiet}
-use Rattle.nc_schedule.specs.World.{World, Seat, first_seat, seat_at, IsWhole, is_same_span, NoneIsWithin}
+use Rattle.nc_schedule.specs.World.{World, Seat, first_seat, seat_at, IsWhole, AreApart, IsUsable, is_same_span, NoneIsWithin}
 use Rattle.nc_schedule.specs.Events.{Puts, Marks, Bumps, Retires, Frees, Looks, IsAllowed, after, new_span}
-use Rattle.nc_schedule.proofs.Invariant.{Keeps, SeatKeeps, CameBefore, if_map, some_at, none_is_some}
+use Rattle.nc_schedule.proofs.Invariant.{Keeps, SeatKeeps, OthersApart, CameBefore, if_map, some_at, none_is_some}
 use Rattle.nc_schedule.proofs.Unmarking.{MayFree, freed_marks, freed_long, freed_stays, freed_closed, freed_quiet}
 
 -- a byte is put
@@ -33,6 +34,7 @@ keeps_puts w at byte keeps allowed =
             high = omega
                 (arith, h.high, long);
           }) w.retired keeps.whole;
+      apart = keeps.apart;
       bounds = keeps.bounds;
       seats = keeps.seats;
     }
@@ -93,6 +95,7 @@ keeps_marks w at marks keeps allowed =
       closed = allowed.2.0;
       quiet = allowed.2.1;
       whole = keeps.whole;
+      apart = keeps.apart;
       bounds = keeps.bounds;
       seats = λ k lt.
           let s = keeps.seats k lt in
@@ -109,12 +112,54 @@ keeps_bumps w keeps =
       closed = keeps.closed;
       quiet = keeps.quiet;
       whole = keeps.whole;
+      apart = keeps.apart;
       bounds = keeps.bounds;
       seats = λ k lt.
           let s = keeps.seats k lt in
           seat_moves w.marked.marks w.marked.marks w.retired w.retired w.keeper.generation (w.keeper.generation + 1)
           (slice_index w.keeper.bounds k) (seat_at w k) (omega arith) s.stands s.early s;
     }
+
+-- what follows from two things that hold of each
+all_two : {X : Type 0} (P Q R : X → Type 0) (xs : List X) → ((x : X) → P x → Q x → R x) → All P xs → All Q xs → All R xs
+all_two {X} P Q R xs f ps qs =
+    All-weaker (Contains xs) R (λ x has. f x (All-contains P xs x ps has) (All-contains Q xs x qs has)) xs (All-contains_itself xs)
+
+-- what isn't true is false
+not_true : (b : Bool) → not b ≡ true → b ≡ false
+not_true true is = absurd (false≢true is)
+not_true false is = refl
+
+-- places in common are so both ways
+apart_sym : (one other : Span) → AreApart one other → AreApart other one
+apart_sym one other apart = elim apart [ inl below ↦ inr below | inr above ↦ inl above ]
+
+-- a span is the same as itself
+same_as_itself : (span : Span) → is_same_span span span ≡ true
+same_as_itself span = grind (arith, nat_tests)
+
+-- a span apart from the others joins them
+one_more_apart : (span : Span) (retired : List Span) → All (AreApart span) retired → OthersApart retired → OthersApart (span ∷ retired)
+one_more_apart span retired new apart =
+    All-cons (λ (one : Span). All (λ (other : Span). is_same_span one other ≡ false → AreApart one other) (span ∷ retired)) span retired
+    (All-cons (λ (other : Span). is_same_span span other ≡ false → AreApart span other) span retired
+    (λ not_same. absurd (false≢true (sym not_same ∙ same_as_itself span)))
+    (All-weaker (AreApart span) (λ (other : Span). is_same_span span other ≡ false → AreApart span other)
+    (λ other is not_same. is) retired new))
+    (all_two (λ (one : Span). All (λ (other : Span). is_same_span one other ≡ false → AreApart one other) retired)
+    (AreApart span) (λ (one : Span). All (λ (other : Span). is_same_span one other ≡ false → AreApart one other) (span ∷ retired))
+    retired
+    (λ one each is. All-cons (λ (other : Span). is_same_span one other ≡ false → AreApart one other) span retired
+    (λ not_same. apart_sym span one is) each) apart new)
+
+-- those that stay are apart from one another
+fewer_apart : (keep : Span → Bool) (retired : List Span) → OthersApart retired → OthersApart (filter keep retired)
+fewer_apart keep retired apart =
+    All-filter keep (λ (one : Span). All (λ (other : Span). is_same_span one other ≡ false → AreApart one other) (filter keep retired))
+    retired
+    (All-weaker (λ (one : Span). All (λ (other : Span). is_same_span one other ≡ false → AreApart one other) retired)
+    (λ (one : Span). All (λ (other : Span). is_same_span one other ≡ false → AreApart one other) (filter keep retired))
+    (λ one each. All-filter keep (λ (other : Span). is_same_span one other ≡ false → AreApart one other) retired each) retired apart)
 
 -- a span is retired
 pub keeps_retires : (w : World) (base len : ℕ) → Keeps w → IsAllowed w (Retires base len) → Keeps (after w (Retires base len))
@@ -124,6 +169,7 @@ keeps_retires w base len keeps allowed =
       closed = keeps.closed;
       quiet = All-cons (IsQuiet w.marked.bytes w.marked.marks) (new_span w base len) w.retired allowed.2 keeps.quiet;
       whole = All-cons (IsWhole w.marked.bytes) (new_span w base len) w.retired allowed.0 keeps.whole;
+      apart = one_more_apart (new_span w base len) w.retired allowed.1 keeps.apart;
       bounds = keeps.bounds;
       seats = λ k lt.
           let s = keeps.seats k lt in
@@ -191,6 +237,7 @@ keeps_frees w span keeps allowed =
           (All-weaker (IsQuiet w.marked.bytes w.marked.marks) (IsQuiet w.marked.bytes (freed_marks w.marked span))
           (λ other quiet. freed_quiet w.marked span other f quiet) w.retired keeps.quiet);
       whole = All-filter (λ other. not (is_same_span span other)) (IsWhole w.marked.bytes) w.retired keeps.whole;
+      apart = fewer_apart (λ other. not (is_same_span span other)) w.retired keeps.apart;
       bounds = keeps.bounds;
       seats = λ k lt.
           let s = keeps.seats k lt in
@@ -211,13 +258,14 @@ abbrev looked : Seat → Seat
 looked seat = record seat { found_left = seat.has_left }
 
 -- the keeper looks at a seat's word
-pub keeps_looks : (w : World) (k : ℕ) → Keeps w → IsAllowed w (Looks k) → Keeps (after w (Looks k))
-keeps_looks w k keeps allowed =
+pub keeps_looks : (w : World) (k : ℕ) → Keeps w → Keeps (after w (Looks k))
+keeps_looks w k keeps =
     record {
       as_long = keeps.as_long;
       closed = keeps.closed;
       quiet = keeps.quiet;
       whole = keeps.whole;
+      apart = keeps.apart;
       bounds = length-set w.keeper.bounds k (seat_at w k).pass.word
           ∙ (keeps.bounds ∙ sym (length-set w.seats k (looked (seat_at w k))));
       seats = λ j lt.
@@ -226,15 +274,16 @@ keeps_looks w k keeps allowed =
           let s = keeps.seats j inside in
           elim (eqb_tells j k) [
             | inl same ↦
+                let seat_is : k < length w.seats = omega (arith, inside, same.1) in
                 subst (λ (i : ℕ). SeatKeeps w.marked.marks w.retired w.keeper.generation
                 (get_or (set w.keeper.bounds k (seat_at w k).pass.word) i 0)
                 (get_or (set w.seats k (looked (seat_at w k))) i first_seat)) (sym same.1)
                 (subst (λ (b : ℕ). SeatKeeps w.marked.marks w.retired w.keeper.generation b
                 (get_or (set w.seats k (looked (seat_at w k))) k first_seat)) (sym
-                (get_or-set_same w.keeper.bounds k (seat_at w k).pass.word 0 (omega (arith, allowed, keeps.bounds))))
+                (get_or-set_same w.keeper.bounds k (seat_at w k).pass.word 0 (omega (arith, seat_is, keeps.bounds))))
                 (subst (SeatKeeps w.marked.marks w.retired w.keeper.generation (seat_at w k).pass.word)
-                (sym (get_or-set_same w.seats k (looked (seat_at w k)) first_seat allowed))
-                (looked_keeps w k (keeps.seats k allowed))))
+                (sym (get_or-set_same w.seats k (looked (seat_at w k)) first_seat seat_is))
+                (looked_keeps w k (keeps.seats k seat_is))))
             | inr other ↦
                 subst (λ (b : ℕ). SeatKeeps w.marked.marks w.retired w.keeper.generation b
                 (get_or (set w.seats k (looked (seat_at w k))) j first_seat)) (sym
@@ -258,6 +307,25 @@ keeps_looks w k keeps allowed =
           found = λ is. is;
           bound_is = s.word;
         }
+
+-- no span that stays retired has a place of the one that is freed
+others_apart : (w : World) (span : Span) → Keeps w → Contains w.retired span → All (AreApart span) (after w (Frees span)).retired
+others_apart w span keeps has =
+    let apart_if_other = All-contains (λ (one : Span). All (λ (other : Span). is_same_span one other ≡ false → AreApart one other) w.retired)
+    w.retired span keeps.apart has in
+    all_two (λ (other : Span). not (is_same_span span other) ≡ true) (λ (other : Span). is_same_span span other ≡ false → AreApart span other)
+    (AreApart span) (filter (λ other. not (is_same_span span other)) w.retired)
+    (λ other kept apart. apart (not_true (is_same_span span other) kept))
+    (filter_passes (λ other. not (is_same_span span other)) w.retired)
+    (All-filter (λ other. not (is_same_span span other)) (λ (other : Span). is_same_span span other ≡ false → AreApart span other)
+    w.retired apart_if_other)
+
+-- a span that is freed may be used again
+pub freed_is_usable : (w : World) (span : Span) → Keeps w → IsAllowed w (Frees span) → IsUsable (after w (Frees span)) span
+freed_is_usable w span keeps allowed = (
+  All-contains (IsWhole w.marked.bytes) w.retired span keeps.whole allowed.0,
+  others_apart w span keeps allowed.0,
+)
 
 -- nobody stands within a span that may be freed
 pub none_is_within : (w : World) (span : Span) → Keeps w → IsAllowed w (Frees span) → NoneIsWithin w span

@@ -1,8 +1,8 @@
 -- All that may happen in a world, one event at a time, and when each event is allowed.
-use Rattle.std.specs.Prelude.{◌≡◌, ℕ, ◌+◌, ◌<◌, ⊤, true, false, not, List, [], ◌∷◌, All, Contains, filter, length, Some, None, slice_set}
+use Rattle.std.specs.Prelude.{◌≡◌, ◌≢◌, ℕ, ◌+◌, ◌<◌, ◌⊎◌, ⊤, Option, None, true, false, not, List, [], ◌∷◌, All, Contains, filter, length, Some, None, slice_set}
 use Rattle.nc_decode.specs.declared.instruction.Mark.{Mark}
 use Rattle.nc_decode.specs.Bundles.{IsBundleStart}
-use Rattle.nc_text.specs.Places.{InRegion, SpanInRegion}
+use Rattle.nc_text.specs.Places.{InRegion, SpanInRegion, byte_at}
 use Rattle.nc_text.specs.Machine.{State, state, Step}
 use Rattle.nc_text.specs.MarkedText.{with_byte, with_marks, without_marks, KeepsMarks}
 use Rattle.nc_gens.specs.Rule.{generation_taken, generation_seen, since_stored, left_stored, generation_raised, word_taken}
@@ -35,16 +35,16 @@ new_span w base len = record { base = base; length = len; stamp = w.keeper.gener
 -- The event may happen in this world. A change of the text leaves text and marks closed and every retired span quiet; marks
 -- are added and none is lost; a span that is retired is whole bundles, apart from the others, and quiet; and it is freed
 -- only where no seat holds its stamp back. A thread steps as the machine does, enters with its seat's right, and checks
--- in and leaves only while it is outside.
+-- in and leaves only while it is outside. An event of a number that no seat has changes no seat.
 abbrev pub IsAllowed : World → Event → Type 0
-IsAllowed w (Steps k next) = (k < length w.seats) × ((now : State) × ((seat_at w k).inside ≡ Some now) × Step w.marked.bytes now next)
+IsAllowed w (Steps k next) = (now : State) × ((seat_at w k).inside ≡ Some now) × Step w.marked.bytes now next
 IsAllowed w (Enters k at) =
-    (k < length w.seats) × ((seat_at w k).inside ≡ None) × ((seat_at w k).has_left ≡ false) × InRegion w.marked.bytes at × IsBundleStart at
-IsAllowed w (Exits k) = k < length w.seats
-IsAllowed w (Takes k) = (k < length w.seats) × ((seat_at w k).inside ≡ None)
-IsAllowed w (Sees k) = k < length w.seats
-IsAllowed w (Stores k) = (k < length w.seats) × ((seat_at w k).has_left ≡ false)
-IsAllowed w (Leaves k) = (k < length w.seats) × ((seat_at w k).inside ≡ None)
+    ((seat_at w k).inside ≡ None) × ((seat_at w k).has_left ≡ false) × InRegion w.marked.bytes at × IsBundleStart at
+IsAllowed w (Exits k) = ⊤
+IsAllowed w (Takes k) = (seat_at w k).inside ≡ None
+IsAllowed w (Sees k) = ⊤
+IsAllowed w (Stores k) = (seat_at w k).has_left ≡ false
+IsAllowed w (Leaves k) = (seat_at w k).inside ≡ None
 IsAllowed w (Puts at byte) = InRegion w.marked.bytes at × IsSteady (with_byte w.marked at byte) w.retired
 IsAllowed w (Marks at marks) =
     SpanInRegion w.marked.bytes at (length marks) × KeepsMarks w.marked.marks (with_marks w.marked at marks).marks
@@ -54,7 +54,7 @@ IsAllowed w (Retires base len) =
     IsWhole w.marked.bytes (new_span w base len) × All (AreApart (new_span w base len)) w.retired
     × IsQuiet w.marked.bytes w.marked.marks (new_span w base len)
 IsAllowed w (Frees span) = Contains w.retired span × HasPassed w span.stamp
-IsAllowed w (Looks k) = k < length w.seats
+IsAllowed w (Looks k) = ⊤
 
 -- a seat changed
 abbrev pub with_seat : World → ℕ → Seat → World
@@ -67,7 +67,7 @@ after w (Enters k at) = with_seat w k (record (seat_at w k) { inside = Some (sta
 after w (Exits k) = with_seat w k (record (seat_at w k) { inside = None })
 after w (Takes k) = with_seat w k (record (seat_at w k) { pass = generation_taken w.keeper.generation (seat_at w k).pass })
 after w (Sees k) = with_seat w k (record (seat_at w k) { pass = generation_seen w.keeper.generation (seat_at w k).pass })
-after w (Stores k) = with_seat w k (record (seat_at w k) { pass = since_stored (seat_at w k).pass })
+after w (Stores k) = with_seat w k (record (seat_at w k) { pass = since_stored (seat_at w k).pass; has_left = false })
 after w (Leaves k) = with_seat w k (record (seat_at w k) { pass = left_stored (seat_at w k).pass; has_left = true })
 after w (Puts at byte) = record w { marked = with_byte w.marked at byte }
 after w (Marks at marks) = record w { marked = with_marks w.marked at marks }
@@ -88,3 +88,21 @@ world_after w (event ∷ events) = world_after (after w event) events
 abbrev pub AreAllowed : World → List Event → Type 0
 AreAllowed w [] = ⊤
 AreAllowed w (event ∷ events) = IsAllowed w event × AreAllowed (after w event) events
+
+-- A place that a thread may come from and go to in one event, over the bytes before it: it stays where it is or takes a
+-- step of the machine, comes in at a bundle start of the region with no register masked, or is outside afterwards.
+abbrev pub Moves : List ℕ → Option State → Option State → Type 0
+Moves text now None = ⊤
+Moves text None (Some next) = InRegion text next.place × IsBundleStart next.place × (next.masked ≡ None)
+Moves text (Some now) (Some next) = (next ≡ now) ⊎ Step text now next
+
+-- so it is of the thread of each seat
+abbrev pub AllMove : World → World → Type 0
+AllMove before w = (k : ℕ) → k < length before.seats → Moves before.marked.bytes (seat_at before k).inside (seat_at w k).inside
+
+-- What an event does to the bytes: a put gives its place the byte and leaves every other place of the region as it was, and
+-- no other event changes a byte.
+abbrev pub ChangesBytes : List ℕ → Event → List ℕ → Type 0
+ChangesBytes old (Puts at byte) new =
+    (byte_at new at ≡ byte) × ((place : ℕ) → InRegion old place → place ≢ at → byte_at new place ≡ byte_at old place)
+ChangesBytes old _ new = new ≡ old

@@ -56,6 +56,10 @@ pub record IsWhole (text : List ℕ) (span : Span) : Type 0 where
 abbrev pub AreApart : Span → Span → Type 0
 AreApart one other = (one.base + one.length ≤ other.base) ⊎ (other.base + other.length ≤ one.base)
 
+-- The span may be used again: it is whole bundles of the region, and no retired span has a place of it.
+abbrev pub IsUsable : World → Span → Type 0
+IsUsable w span = IsWhole w.marked.bytes span × All (AreApart span) w.retired
+
 -- two spans are the same, as a test
 abbrev pub is_same_span : Span → Span → Bool
 is_same_span one other = (one.base == other.base) && (one.length == other.length) && (one.stamp == other.stamp)

@@ -1,10 +1,10 @@
 //! What every schedule keeps.
 
-ghost use Rattle.std.specs.Prelude.{ℕ, List, ◌∷◌, ◌++◌};
+ghost use Rattle.std.specs.Prelude.{ℕ, List, [], ◌∷◌, ◌++◌};
 ghost use Rattle.nc_decode.specs.Bundles.{IsLawfulLimit};
 ghost use Rattle.nc_schedule.specs.Quiet.{Span};
-ghost use Rattle.nc_schedule.specs.World.{first_world, AllStandSafe, NoneIsWithin};
-ghost use Rattle.nc_schedule.specs.Events.{Event, world_after, AreAllowed};
+ghost use Rattle.nc_schedule.specs.World.{first_world, IsUsable, AllStandSafe, NoneIsWithin};
+ghost use Rattle.nc_schedule.specs.Events.{Event, after, world_after, AreAllowed, AllMove, ChangesBytes};
 
 /// For every lawful limit, every number of seats and every list of events that are allowed where they stand, in whatever
 /// order threads and writer take turns: after every event each thread inside stands on a safe state, and whenever a retired
@@ -13,6 +13,11 @@ ghost use Rattle.nc_schedule.specs.Events.{Event, world_after, AreAllowed};
 /// A safe state is a permitted instruction wholly inside its bundle, an indirect transfer only with its register just
 /// masked, or a bundle start below 00010000. There are as many threads as seats, or fewer.
 ///
+/// And each event does what it is for and no more: a span that is freed is whole bundles of the region, and no span that
+/// stays retired has a place of it, so it may be used again; a thread that is inside moves only as the machine does, and
+/// comes in only at a bundle start; and a byte changes only where it is put. No condition on the events can be taken away
+/// without losing one of these promises.
+///
 /// Not promised: that a span is ever freed, and anything of time.
 pub fn law_of_schedules()
     ensures safe { (limit seats : ℕ) (events later : List Event) → IsLawfulLimit limit
@@ -20,4 +25,14 @@ pub fn law_of_schedules()
     ensures freed { (limit seats : ℕ) (events later : List Event) (span : Span) → IsLawfulLimit limit
         → AreAllowed (first_world limit seats) (events ++ Event.Frees span ∷ later)
         → NoneIsWithin (world_after (first_world limit seats) events) span }
+    ensures usable { (limit seats : ℕ) (events later : List Event) (span : Span) → IsLawfulLimit limit
+        → AreAllowed (first_world limit seats) (events ++ Event.Frees span ∷ later)
+        → IsUsable (world_after (first_world limit seats) (events ++ Event.Frees span ∷ [])) span }
+    ensures moves { (limit seats : ℕ) (events later : List Event) (event : Event) → IsLawfulLimit limit
+        → AreAllowed (first_world limit seats) (events ++ event ∷ later)
+        → AllMove (world_after (first_world limit seats) events) (after (world_after (first_world limit seats) events) event) }
+    ensures bytes { (limit seats : ℕ) (events later : List Event) (event : Event) → IsLawfulLimit limit
+        → AreAllowed (first_world limit seats) (events ++ event ∷ later)
+        → ChangesBytes (world_after (first_world limit seats) events).marked.bytes event
+        (after (world_after (first_world limit seats) events) event).marked.bytes }
 {}

@@ -1,4 +1,5 @@
-use Rattle.nc_schedule.proofs.Schedules.{safe_after, none_is_within_freed}
+use Rattle.nc_schedule.proofs.Schedules.{safe_after, none_is_within_freed, usable_after_freed}
+use Rattle.nc_schedule.proofs.Moving.{moves_at, bytes_at}
 use Rattle.nc_schedule.proofs.law.law_of_schedules.Goals as goal
 
 pub returns-clause-safe : goal.returns-clause-safe
@@ -6,3 +7,12 @@ returns-clause-safe c = safe_after
 
 pub returns-clause-freed : goal.returns-clause-freed
 returns-clause-freed c = none_is_within_freed
+
+pub returns-clause-usable : goal.returns-clause-usable
+returns-clause-usable c = usable_after_freed
+
+pub returns-clause-moves : goal.returns-clause-moves
+returns-clause-moves c = moves_at
+
+pub returns-clause-bytes : goal.returns-clause-bytes
+returns-clause-bytes c = bytes_at
