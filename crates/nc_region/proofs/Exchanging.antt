@@ -1,16 +1,16 @@
 -- One instruction of a valid chunk exchanged for another that is as long: the chunk is valid, with the same marks.
-use Rattle.std.proofs.Common.{◌≡◌, ℕ, ◌+◌, ◌-◌, ◌%◌, ◌/◌, true, false, List, [], ◌∷◌, ◌++◌, length, replicate}
+use Rattle.std.proofs.Common.{◌≡◌, ℕ, ◌+◌, ◌-◌, ◌%◌, ◌/◌, Bool, true, false, cond, List, [], ◌∷◌, ◌++◌, length, replicate}
 use Rattle.std.proofs.Common.{refl, sym, subst, ◌∙◌, ap, arith, inl, inr, append_assoc, append-nil}
 use Rattle.std.specs.Prelude.{IsTrue}
 use Rattle.nc_decode.specs.declared.instruction.Mark.{Mark}
-use Rattle.nc_decode.specs.declared.instruction.Mark.TheVariants.{Unmarked}
+use Rattle.nc_decode.specs.declared.instruction.Mark.TheVariants.{Unmarked, Plain, After}
 use Rattle.nc_decode.specs.Spelling.{Spells}
 use Rattle.nc_decode.specs.Transfers.{is_direct, is_indirect, target}
 use Rattle.nc_decode.proofs.Offered.{spells_some}
 use Rattle.nc_vet.specs.Chunk.{Piece, MarkedChunk, code_of, place, FollowsMask, IsEntry, IsTarget, IsValid, AreSound, AreTargets, IsLength}
 use Rattle.nc_vet.specs.Chunk.{IsInRange, mark_of, instr_marks, marks_of}
-use Rattle.nc_vet.proofs.Offered.{place-append, marks_of-append, first_plain}
-use Rattle.nc_region.specs.machinery.PatchSteps.{NoneFirst}
+use Rattle.nc_vet.proofs.Offered.{place-append, marks_of-append}
+use Rattle.nc_region.specs.Patch.{GoesOnIndirectly}
 
 -- of a list parted at two elements: they are the same, or one stands before the other
 pub data Where (before after b a : List Piece) (n p : Piece) : Type 0 where
@@ -40,9 +40,9 @@ pub record Exchanges (c : MarkedChunk) (before after : List Piece) (o n : Piece)
   pub parts : valid.pieces ≡ before ++ o ∷ after
   pub spells : Spells n.bytes n.instr
   pub as_long : length o.bytes ≡ length n.bytes
-  pub old_plain : is_indirect o.instr.flow ≡ false
-  pub new_plain : is_indirect n.instr.flow ≡ false
-  pub no_mask : NoneFirst after
+  pub transfer : is_indirect n.instr.flow ≡ is_indirect o.instr.flow
+  pub register : IsTrue (is_indirect o.instr.flow) → n.instr.reg ≡ o.instr.reg
+  pub mask : GoesOnIndirectly after → n.instr.masks ≡ o.instr.masks
   pub good : IsTrue (is_direct n.instr.flow) → IsTarget c.base c.limit valid.pieces (target n.instr (c.base + place before))
 
 -- places stay
@@ -56,11 +56,18 @@ same_place before m o n e =
     one p = ap (λ (z : List ℕ). length z) (append-nil p.bytes)
 
 -- so do the starts of instructions that are no second halves
-entry_stays : (before after : List Piece) (o n : Piece) (at : ℕ) → length o.bytes ≡ length n.bytes → is_indirect n.instr.flow ≡ false
-    → IsEntry (before ++ o ∷ after) at → IsEntry (before ++ n ∷ after) at
-entry_stays before after o n at len plain e =
+entry_stays : (before after : List Piece) (o n : Piece) (at : ℕ) → length o.bytes ≡ length n.bytes
+    → is_indirect n.instr.flow ≡ is_indirect o.instr.flow → IsEntry (before ++ o ∷ after) at → IsEntry (before ++ n ∷ after) at
+entry_stays before after o n at len same e =
     elim (where_is before after e.before e.after o e.piece e.parts) [
-      | Here f g k ↦ record { before = before; after = after; piece = n; parts = refl; here = ap place f ∙ e.here; first = plain }
+      | Here f g k ↦ record {
+        before = before;
+        after = after;
+        piece = n;
+        parts = refl;
+        here = ap place f ∙ e.here;
+        first = same ∙ (ap (λ (z : Piece). is_indirect z.instr.flow) g ∙ e.first);
+      }
       | Earlier m f g ↦ record {
         before = e.before;
         after = m ++ n ∷ after;
@@ -84,11 +91,12 @@ entry_stays before after o n at len plain e =
 
 -- and good targets
 pub target_stays : (base limit : ℕ) (before after : List Piece) (o n : Piece) (to : ℕ) → length o.bytes ≡ length n.bytes
-    → is_indirect n.instr.flow ≡ false → IsTarget base limit (before ++ o ∷ after) to → IsTarget base limit (before ++ n ∷ after) to
-target_stays base limit before after o n to len plain (inl t) =
-    inl (t.0, t.1, omega (arith, t.2, same_place before after o n len), entry_stays before after o n t.0 len plain t.3)
-target_stays base limit before after o n to len plain (inr (inl under, start, below)) = inr (inl under, start, below)
-target_stays base limit before after o n to len plain (inr (inr past, start, below)) =
+    → is_indirect n.instr.flow ≡ is_indirect o.instr.flow → IsTarget base limit (before ++ o ∷ after) to
+    → IsTarget base limit (before ++ n ∷ after) to
+target_stays base limit before after o n to len same (inl t) =
+    inl (t.0, t.1, omega (arith, t.2, same_place before after o n len), entry_stays before after o n t.0 len same t.3)
+target_stays base limit before after o n to len same (inr (inl under, start, below)) = inr (inl under, start, below)
+target_stays base limit before after o n to len same (inr (inr past, start, below)) =
     inr (inr (omega (arith, past, same_place before after o n len)), start, below)
 
 -- no list ends in a piece of its own
@@ -113,16 +121,25 @@ mask_stays before o n x m reg len f =
       }
     ]
 
+-- the mark of an instruction by what it says
+mark_same : (a b : Bool) (r s : ℕ) → a ≡ b → (b ≡ true → r ≡ s) → cond a (After r) Plain ≡ cond b (After s) Plain
+mark_same true true r s e f = ap After (f refl)
+mark_same false false r s e f = refl
+mark_same true false r s e f = absurd cc
+mark_same false true r s e f = absurd cc
+
 -- marks stay
-same_marks : (before after : List Piece) (o n : Piece) → o.instr.len ≡ n.instr.len → is_indirect o.instr.flow ≡ false
-    → is_indirect n.instr.flow ≡ false → marks_of (before ++ o ∷ after) ≡ marks_of (before ++ n ∷ after)
-same_marks before after o n len a b =
+same_marks : (before after : List Piece) (o n : Piece) → o.instr.len ≡ n.instr.len → is_indirect n.instr.flow ≡ is_indirect o.instr.flow
+    → (IsTrue (is_indirect o.instr.flow) → n.instr.reg ≡ o.instr.reg)
+    → marks_of (before ++ o ∷ after) ≡ marks_of (before ++ n ∷ after)
+same_marks before after o n len same reg =
     marks_of-append before (o ∷ after) ∙ (ap (λ (z : List Mark). marks_of before ++ (z ++ marks_of after)) one
     ∙ sym (marks_of-append before (n ∷ after)))
   where
     one : instr_marks o.instr ≡ instr_marks n.instr
-    one = ap (λ (x : Mark). x ∷ replicate (o.instr.len - 1) Unmarked) (first_plain (is_indirect o.instr.flow) o.instr.reg a
-        ∙ sym (first_plain (is_indirect n.instr.flow) n.instr.reg b)) ∙ ap (λ (k : ℕ). mark_of n.instr ∷ replicate (k - 1) Unmarked) len
+    one = ap (λ (x : Mark). x ∷ replicate (o.instr.len - 1) Unmarked)
+        (sym (mark_same (is_indirect n.instr.flow) (is_indirect o.instr.flow) n.instr.reg o.instr.reg same reg))
+        ∙ ap (λ (k : ℕ). mark_of n.instr ∷ replicate (k - 1) Unmarked) len
 
 -- the chunk afterwards
 abbrev pub exchanged : MarkedChunk → List Piece → List Piece → Piece → MarkedChunk
@@ -145,20 +162,43 @@ later_parts : (c : MarkedChunk) (before after m a : List Piece) (o n p : Piece) 
 later_parts c before after m a o n p x g = x.parts
     ∙ (ap (λ (z : List Piece). before ++ o ∷ z) g ∙ sym (append_assoc before (o ∷ m) (p ∷ a)))
 
+-- the mask directly before what follows stays one
+mask_kept : (before : List Piece) (o n : Piece) (reg : ℕ) → length o.bytes ≡ length n.bytes → n.instr.masks ≡ o.instr.masks
+    → FollowsMask (before ++ o ∷ []) reg → FollowsMask (before ++ n ∷ []) reg
+mask_kept before o n reg len masks f =
+    elim (where_is before [] f.earlier [] o f.mask f.last) [
+      | Here a b c ↦ record {
+        earlier = before;
+        mask = n;
+        last = refl;
+        masks = masks ∙ (ap (λ (z : Piece). z.instr.masks) b ∙ f.masks);
+        together = ap (λ (z : List Piece). place z / 32) a ∙ (f.together ∙ ap (λ (j : ℕ). j / 32) (same_place before [] o n len));
+      }
+      | Earlier k a b ↦ absurd (none_here k o [] b)
+      | Later k a b ↦ absurd (none_here k f.mask [] b)
+    ]
+
 -- a later pair stays one
 paired_later : (c : MarkedChunk) (before after m a : List Piece) (o n p : Piece) (x : Exchanges c before after o n) → after ≡ m ++ p ∷ a
     → IsTrue (is_indirect p.instr.flow) → FollowsMask (before ++ n ∷ m) p.instr.reg
 paired_later c before after [] a o n p x g indirect =
-    absurd (let none : is_indirect p.instr.flow ≡ false = subst NoneFirst g x.no_mask in let differ : true ≡ false =
-    sym indirect ∙ none in cc)
+    mask_kept before o n p.instr.reg x.as_long (x.mask (subst GoesOnIndirectly (sym g) indirect))
+    (x.valid.sound.paired (before ++ o ∷ []) a p (later_parts c before after [] a o n p x g) indirect)
 paired_later c before after (y ∷ m) a o n p x g indirect =
     mask_stays before o n y m p.instr.reg x.as_long
     (x.valid.sound.paired (before ++ o ∷ y ∷ m) a p (later_parts c before after (y ∷ m) a o n p x g) indirect)
 
+-- the new instruction is the second half of a pair where the old one is
+paired_here : (c : MarkedChunk) (before after : List Piece) (o n : Piece) (x : Exchanges c before after o n)
+    → IsTrue (is_indirect n.instr.flow) → FollowsMask before n.instr.reg
+paired_here c before after o n x indirect =
+    let old : IsTrue (is_indirect o.instr.flow) = sym x.transfer ∙ indirect in
+    subst (FollowsMask before) (sym (x.register old)) (x.valid.sound.paired before after o x.parts old)
+
 -- a good target stays one
 target_new : (c : MarkedChunk) (before after : List Piece) (o n : Piece) (x : Exchanges c before after o n) (to : ℕ)
     → IsTarget c.base c.limit x.valid.pieces to → IsTarget c.base c.limit (before ++ n ∷ after) to
-target_new c before after o n x to t = target_stays c.base c.limit before after o n to x.as_long x.new_plain
+target_new c before after o n x to t = target_stays c.base c.limit before after o n to x.as_long x.transfer
     (subst (λ (z : List Piece). IsTarget c.base c.limit z to) x.parts t)
 
 -- the exchanged pieces keep the rules of bundles and pairs
@@ -180,8 +220,9 @@ exchanged_sound c before after o n x =
             omega (arith, i, ap place f, same_place before m o n x.as_long))
       ];
       paired = λ b a p e indirect. elim (where_is before after b a n p e) [
-        | Here f g k ↦ absurd (let none : is_indirect p.instr.flow ≡ false = ap (λ (z : Piece). is_indirect z.instr.flow) (sym g)
-            ∙ x.new_plain in let differ : true ≡ false = sym indirect ∙ none in cc)
+        | Here f g k ↦ subst (λ (z : List Piece). FollowsMask z p.instr.reg) f
+            (subst (λ (z : Piece). FollowsMask before z.instr.reg) g
+            (paired_here c before after o n x (subst (λ (z : Piece). IsTrue (is_indirect z.instr.flow)) (sym g) indirect)))
         | Earlier m f g ↦ v.sound.paired b (m ++ o ∷ after) p (earlier_parts c before after b m o n p x f) indirect
         | Later m f g ↦ subst (λ (z : List Piece). FollowsMask z p.instr.reg) (sym f) (paired_later c before after m a o n p x g indirect)
       ];
@@ -209,7 +250,7 @@ pub exchanged_marks : (c : MarkedChunk) (before after : List Piece) (o n : Piece
     → c.marks ≡ marks_of (before ++ n ∷ after)
 exchanged_marks c before after o n x = x.valid.marks_are
     ∙ (ap (λ (z : List Piece). marks_of z) x.parts
-    ∙ same_marks before after o n (old_len ∙ (x.as_long ∙ sym new_len)) x.old_plain x.new_plain)
+    ∙ same_marks before after o n (old_len ∙ (x.as_long ∙ sym new_len)) x.transfer x.register)
   where
     old_len : o.instr.len ≡ length o.bytes
     old_len = (spells_some o.bytes o.instr (x.valid.sound.spelled before after o x.parts)).0

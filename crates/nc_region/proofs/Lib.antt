@@ -11,6 +11,7 @@ pub mod Standing
 pub mod Exchanging
 pub mod Exchanged
 pub mod Turns
+pub mod Sparing
 pub mod Runs
 pub mod Patched
 pub mod Instructions

@@ -1,6 +1,6 @@
 -- A run of instructions of a chunk, by what stands from its first one on.
 use Rattle.std.proofs.Common.{◌≡◌, ℕ, ◌+◌, ◌-◌, ◌<◌, ◌≤◌, zero, suc, Bool, true, false, cond, List, [], ◌∷◌, ◌++◌, length, get_or, refl}
-use Rattle.std.proofs.Common.{sym, ◌∙◌, ap, arith, inl, inr, ⊎_elim}
+use Rattle.std.proofs.Common.{sym, ◌∙◌, ap, arith, ⊎_elim}
 use Rattle.std.proofs.lemmas.Bool.{cases_lt}
 use Rattle.std.proofs.lemmas.List.{get_or_default}
 use Rattle.nc_decode.specs.declared.instruction.Mark.{Mark}
@@ -13,10 +13,9 @@ use Rattle.nc_text.specs.Marks.{mark_at}
 use Rattle.nc_text.specs.MarkedText.{MarkedText, IsText}
 use Rattle.nc_region.specs.declared.chunk.Chunk.{Chunk}
 use Rattle.nc_region.specs.Region.{IsInChunk, IsRising, HoldsValid}
-use Rattle.nc_region.specs.Patch.{IsHeldBy, IsHeld, AreBytesOf, lengths, IsRun, IsHalf, AreNoHalves, AreNotIndirect}
-use Rattle.nc_region.specs.machinery.PatchSteps.{Begins, Along, RunsAlong, NoneFirst, NoneIndirect}
+use Rattle.nc_region.specs.Patch.{IsHeldBy, IsHeld, AreBytesOf, lengths, IsRun}
+use Rattle.nc_region.specs.machinery.PatchSteps.{Begins, Along, RunsAlong}
 use Rattle.nc_region.proofs.Standing.{all_long, standing}
-use Rattle.nc_region.proofs.Turns.{no_half}
 use Rattle.nc_region.specs.Each.{Each}
 use Rattle.nc_region.specs.Deletion.{HasLive}
 use Rattle.nc_region.proofs.EachMember.{each_get}
@@ -112,44 +111,6 @@ run_marked marked c at new t inside r e =
     let s = standing marked c at t b inside.1 in
     some_mark (is_indirect s.piece.instr.flow) s.piece.instr.reg (sym s.mark ∙ e)
 
--- ---- no half is replaced and no indirect transfer comes, where none is found on the way
-
--- where none is an indirect transfer, the one after the run is none
-first_found : (rest news : List Piece) → RunsAlong rest news → NoneIndirect rest news → NoneFirst rest
-first_found rest [] runs none = none
-first_found [] (n ∷ news) runs none = tt
-first_found (p ∷ rest) (n ∷ news) runs none = none.0
-
--- an instruction that is none, before one that is none, is no half
-no_half_from : (o : Piece) (rest : List Piece) → is_indirect o.instr.flow ≡ false → NoneFirst rest → IsHalf o rest → ⊥
-no_half_from o [] a b h = (let differ : true ≡ false = sym h ∙ a in cc)
-no_half_from o (next ∷ rest) a b h = elim h [
-  | inl x ↦ (let differ : true ≡ false = sym x ∙ a in cc)
-  | inr x ↦
-      (let differ : true ≡ false = sym x ∙ b in cc)
-]
-
--- where none is an indirect transfer, no half is touched
-pub pairs_from : (old after news : List Piece) → lengths old ≡ lengths news → NoneIndirect (old ++ after) news
-    → AreNoHalves old after × AreNotIndirect news
-pairs_from [] after [] e none = (tt, tt)
-pairs_from [] after (n ∷ news) e none = absurd cc
-pairs_from (o ∷ old) after [] e none = absurd cc
-pairs_from (o ∷ old) after (n ∷ news) e none =
-    let tail : lengths old ≡ lengths news = cc in
-    let r = pairs_from old after news tail none.2 in
-    ((no_half_from o (old ++ after) none.0 (first_found (old ++ after) news (joined old after news tail) none.2), r.0), (none.1, r.1))
-
--- where no half is touched, none of some is an indirect transfer
-pub pairs_to : (o : Piece) (old after : List Piece) (n : Piece) (news : List Piece) → lengths old ≡ lengths news
-    → AreNoHalves (o ∷ old) after → AreNotIndirect (n ∷ news) → NoneIndirect (o ∷ (old ++ after)) (n ∷ news)
-pairs_to o [] after n [] e halves fresh = (let h = no_half o after halves.0 in (h.0, fresh.0, h.1))
-pairs_to o [] after n (m ∷ news) e halves fresh = absurd cc
-pairs_to o (p ∷ old) after n [] e halves fresh = absurd cc
-pairs_to o (p ∷ old) after n (m ∷ news) e halves fresh =
-    let tail : lengths old ≡ lengths news = cc in
-    ((no_half o (p ∷ (old ++ after)) halves.0).0, fresh.0, pairs_to p old after m news tail halves.1 fresh.1)
-
 -- ---- a place lies in one chunk
 
 -- a chunk ends at or below each later one
@@ -227,11 +188,3 @@ live_is_held chunks base some h =
     let is_c : get_or chunks h.1.0 c ≡ c = h.1.2 in
     let long = each_get (λ (d : Chunk). 0 < d.length) chunks h.1.0 c h.1.1 some in
     (h.0, (h.1, h.2, (omega (arith, h.3), omega (arith, h.3, long, ap (λ (x : Chunk). x.length) is_c))))
-
--- where no half is touched, none is an indirect transfer
-pub pairs_back : (old after news : List Piece) (new : List ℕ) → AreBytesOf new news → 0 < length new → lengths old ≡ lengths news
-    → AreNoHalves old after → AreNotIndirect news → NoneIndirect (old ++ after) news
-pairs_back old after [] new b some e halves fresh = absurd (omega (arith, some, ap (λ (z : List ℕ). length z) b.parts))
-pairs_back [] after (n ∷ news) new b some e halves fresh = absurd cc
-pairs_back (o ∷ old) after (n ∷ news) new b some e halves fresh =
-    (let tail : lengths old ≡ lengths news = cc in pairs_to o old after n news tail halves fresh)

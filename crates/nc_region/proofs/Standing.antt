@@ -1,8 +1,8 @@
 -- Which instruction of a chunk stands at a place of the text.
-use Rattle.std.proofs.Common.{◌≡◌, ℕ, ◌+◌, ◌-◌, ◌%◌, ◌<◌, ◌≤◌, Bool, true, false, not, cond, List, [], ◌∷◌, ◌++◌, length, take}
+use Rattle.std.proofs.Common.{◌≡◌, ℕ, ◌+◌, ◌-◌, ◌%◌, ◌<◌, ◌≤◌, Bool, true, false, cond, List, [], ◌∷◌, ◌++◌, length, take}
 use Rattle.std.proofs.Common.{drop, get_or, Option, Some, refl, sym, subst, ◌∙◌, ap, arith, append_assoc, append-nil}
 use Rattle.std.specs.Prelude.{IsSomeAnd, ◌↔◌}
-use Rattle.std.proofs.lemmas.List.{length-append, length-take, length-drop, get_or-take, get_or-drop, get_or-append-add, ext_get_or}
+use Rattle.std.proofs.lemmas.List.{length-append, length-take, length-drop, get_or-take, get_or-drop, get_or-append-add, get_or_append_left, ext_get_or}
 use Rattle.nc_decode.specs.declared.instruction.Instr.{Instr}
 use Rattle.nc_decode.specs.declared.instruction.Mark.{Mark}
 use Rattle.nc_decode.specs.declared.instruction.Mark.TheVariants.{Unmarked, Plain, After}
@@ -18,7 +18,8 @@ use Rattle.nc_text.specs.Marks.{mark_at}
 use Rattle.nc_text.specs.MarkedText.{MarkedText, IsText}
 use Rattle.nc_region.specs.declared.chunk.Chunk.{Chunk}
 use Rattle.nc_region.specs.Region.{HoldsValid}
-use Rattle.nc_region.specs.machinery.PatchSteps.{Begins, RunsAlong, NoneIndirect, NoneFirst, is_after}
+use Rattle.nc_region.specs.Patch.{GoesOnIndirectly}
+use Rattle.nc_region.specs.machinery.PatchSteps.{Begins, RunsAlong, is_after}
 
 -- the chunk lies in the region, below the guard
 pub record Lies (marked : MarkedText) (c : Chunk) : Type 0 where
@@ -49,6 +50,7 @@ pub record Standing (marked : MarkedText) (c : Chunk) (at : ℕ) (b : Begins mar
   pub rest : List Piece
   pub is : b.rest ≡ piece ∷ rest
   pub instr : instruction_at marked.bytes at ≡ Some piece.instr
+  pub bytes : (k : ℕ) → k < piece.instr.len → byte_at marked.bytes (at + k) ≡ get_or piece.bytes k 0
   pub inside : IsInOneBundle at piece.instr.len
   pub len : piece.instr.len ≡ length piece.bytes
   pub some : 0 < piece.instr.len
@@ -109,6 +111,7 @@ stands_with marked c at t b p rest is =
           ∙ (get_or-drop (at - 65536) marked.bytes k 0
           ∙ (ap (λ (m : ℕ). get_or marked.bytes m 0) (sym moved)
           ∙ (bytes k small ∙ sym (get_or-take p.instr.len (p.bytes ++ code_of rest) k 0 small))))));
+      bytes = λ k lt. bytes k lt ∙ get_or_append_left p.bytes (code_of rest) 0 k (omega (arith, lt, n.0));
       inside = omega (arith, h.valid.sound.inside b.before rest p parts, b.here, l.start, n.0);
       len = n.0;
       some = n.1;
@@ -179,23 +182,12 @@ after_cond false r = refl
 pub after_is : (i : Instr) → is_after (mark_of i) ≡ is_indirect i.flow
 after_is i = after_cond (is_indirect i.flow) i.reg
 
--- none is an indirect transfer, from the first one on
-pub none_from : (rest news : List Piece) (p n : Piece) (others more : List Piece) → rest ≡ p ∷ others → news ≡ n ∷ more
-    → is_indirect p.instr.flow ≡ false → is_indirect n.instr.flow ≡ false → NoneIndirect others more → NoneIndirect rest news
-none_from rest news p n others more e f a b none = rw (e, f) (a, b, none)
-
--- nor is the first
-pub none_to : (rest news : List Piece) (p n : Piece) (others more : List Piece) → rest ≡ p ∷ others → news ≡ n ∷ more
-    → NoneIndirect rest news → (is_indirect p.instr.flow ≡ false) × (is_indirect n.instr.flow ≡ false) × NoneIndirect others more
-none_to rest news p n others more e f none =
-    subst (λ (z : List Piece). NoneIndirect (p ∷ others) z) f (subst (λ (z : List Piece). NoneIndirect z news) e none)
-
 -- the mark where the chunk goes on tells whether an indirect transfer stands there
-pub first_none : (marked : MarkedText) (c : Chunk) (at : ℕ) → IsText marked → (b : Begins marked c at)
-    → (is_after (mark_at marked.marks at) ≡ false) ↔ NoneFirst b.rest
-first_none marked c at t b = go b.rest refl
+pub goes_on : (marked : MarkedText) (c : Chunk) (at : ℕ) → IsText marked → (b : Begins marked c at)
+    → (is_after (mark_at marked.marks at) ≡ true) ↔ GoesOnIndirectly b.rest
+goes_on marked c at t b = go b.rest refl
   where
-    go : (rest : List Piece) → b.rest ≡ rest → (is_after (mark_at marked.marks at) ≡ false) ↔ NoneFirst b.rest
+    go : (rest : List Piece) → b.rest ≡ rest → (is_after (mark_at marked.marks at) ≡ true) ↔ GoesOnIndirectly b.rest
     go [] e =
         let l = lies marked c t b.holds in
         let end : at ≡ c.base + c.length =
@@ -207,18 +199,11 @@ first_none marked c at t b = go b.rest refl
         ) in
         let plain : mark_at marked.marks at ≡ Plain =
         t.closed.starts at (omega (arith, end, l.low), omega (arith, end, l.high)) (omega (arith, end, l.start, l.whole)) in
-        (λ x. subst NoneFirst (sym e) tt, λ x. ap is_after plain)
+        let not_after : is_after (mark_at marked.marks at) ≡ false = ap is_after plain in (
+          λ x. absurd (let differ : true ≡ false = sym x ∙ not_after in cc),
+          λ x. absurd (subst GoesOnIndirectly e x),
+        )
     go (p ∷ rest) e =
         let s = stands_with marked c at t b p rest e in
         let same : is_after (mark_at marked.marks at) ≡ is_indirect s.piece.instr.flow = ap is_after s.mark ∙ after_is s.piece.instr in
-        (λ x. subst NoneFirst (sym s.is) (sym same ∙ x), λ n. same ∙ subst NoneFirst s.is n)
-
--- a negated test that is true
-pub negated : (b : Bool) → not b ≡ true → b ≡ false
-negated true e = absurd cc
-negated false e = refl
-
--- a test that is false, negated
-pub not_false : (b : Bool) → b ≡ false → not b ≡ true
-not_false true e = absurd cc
-not_false false e = refl
+        (λ x. subst GoesOnIndirectly (sym s.is) (sym same ∙ x), λ n. same ∙ subst GoesOnIndirectly s.is n)

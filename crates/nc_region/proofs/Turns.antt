@@ -1,8 +1,12 @@
 -- A patch is made one instruction after the other.
 use Rattle.std.proofs.Common.{◌≡◌, ℕ, ◌+◌, ◌-◌, ◌<◌, ◌≤◌, Bool, true, false, cond, List, [], ◌∷◌, ◌++◌, length, get_or, zero, suc, ◌&&◌}
-use Rattle.std.proofs.Common.{◌==◌, refl, sym, subst, ◌∙◌, ap, arith, inl, inr, append_assoc, eqb-true}
+use Rattle.std.proofs.Common.{◌==◌, refl, sym, subst, ◌∙◌, ap, arith, append_assoc, eqb-true}
 use Rattle.std.proofs.lemmas.List.{length-append, get_or_append_left, get_or-append_right, ext_get_or}
-use Rattle.nc_decode.specs.Transfers.{is_indirect, target}
+use Rattle.nc_decode.specs.declared.instruction.Instr.{Instr}
+use Rattle.nc_decode.specs.Spelling.{Spells}
+use Rattle.nc_decode.specs.Front.{first_instruction}
+use Rattle.nc_decode.specs.Transfers.{target}
+use Rattle.nc_decode.proofs.Offered.{exact}
 use Rattle.nc_vet.specs.Chunk.{Piece, place, IsTarget}
 use Rattle.nc_vet.proofs.Offered.{place-push}
 use Rattle.nc_text.specs.Places.{limit_of, byte_at}
@@ -10,10 +14,11 @@ use Rattle.nc_text.specs.MarkedText.{MarkedText, IsText, with_span}
 use Rattle.nc_text.proofs.Offered.{length-with_span}
 use Rattle.nc_region.specs.declared.acts.Act.{Act}
 use Rattle.nc_region.specs.declared.chunk.Chunk.{Chunk}
-use Rattle.nc_region.specs.Patch.{AreBytesOf, lengths, IsHalf, AreNoHalves, AreNotIndirect, GoWell, stands_there, acts_of_instruction}
+use Rattle.nc_region.specs.Patch.{AreBytesOf, lengths, SparesPairs, GoWell, stands_there, acts_of_instruction}
 use Rattle.nc_region.specs.Patch.{acts_of_modify}
-use Rattle.nc_region.specs.machinery.PatchSteps.{NoneFirst, CanPatch}
+use Rattle.nc_region.specs.machinery.PatchSteps.{CanPatch}
 use Rattle.nc_region.proofs.SpanPlaces.{place_of, Before, Within, Behind, span_within, span_before, span_behind}
+use Rattle.nc_region.proofs.NewInstructions.{some_same}
 use Rattle.nc_region.proofs.Exchanging.{target_stays}
 use Rattle.nc_region.proofs.Exchanged.{Changes, changed, changed_holds, changed_long}
 
@@ -26,15 +31,13 @@ lengths_first o n os ns e = (cc, cc)
 lengths_none : (n : Piece) (ns : List Piece) → lengths [] ≡ lengths (n ∷ ns) → ⊥
 lengths_none n ns e = cc
 
--- what is not true is false
-not_true : (b : Bool) → (b ≡ true → ⊥) → b ≡ false
-not_true true h = absurd (h refl)
-not_true false h = refl
-
--- what is no half is no indirect transfer and stands before none
-pub no_half : (o : Piece) (rest : List Piece) → (IsHalf o rest → ⊥) → (is_indirect o.instr.flow ≡ false) × NoneFirst rest
-no_half o [] h = (not_true (is_indirect o.instr.flow) h, tt)
-no_half o (next ∷ rest) h = (not_true (is_indirect o.instr.flow) (λ t. h (inl t)), not_true (is_indirect next.instr.flow) (λ t. h (inr t)))
+-- the same bytes are the same instruction
+same_instr : (o n : Piece) → Spells o.bytes o.instr → Spells n.bytes n.instr → n.bytes ≡ o.bytes → n.instr ≡ o.instr
+same_instr o n old new is =
+    some_same (first_instruction (o.bytes ++ [])) n.instr o.instr
+    ((exact (o.bytes ++ []) n.instr).1
+    (record { front = o.bytes; rest = []; parts = refl; spells = subst (λ (z : List ℕ). Spells z n.instr) is new }))
+    ((exact (o.bytes ++ []) o.instr).1 (record { front = o.bytes; rest = []; parts = refl; spells = old }))
 
 -- targets that are good in one way are good in another
 well_map : (P Q : ℕ → Type 0) → ((to : ℕ) → P to → Q to) → (at : ℕ) (ns : List Piece) → GoWell P at ns → GoWell Q at ns
@@ -49,8 +52,7 @@ pub record Turn (marked : MarkedText) (c : Chunk) (at : ℕ) (new : List ℕ) (p
   pub old : patch.run.old ≡ o ∷ os
   pub change : Changes marked c at patch.run.before (os ++ patch.run.after) o n
   pub lens : lengths os ≡ lengths ns
-  pub halves : AreNoHalves os patch.run.after
-  pub fresh : AreNotIndirect ns
+  pub pairs : SparesPairs (os ++ patch.run.after) ns
   pub well : GoWell (IsTarget c.base (limit_of marked.bytes) patch.run.holds.valid.pieces) (at + length n.bytes) ns
   pub parts : patch.run.holds.valid.pieces ≡ patch.run.before ++ o ∷ (os ++ patch.run.after)
 
@@ -67,9 +69,11 @@ turn marked c at new patch n ns t is = go patch.run.old refl
         let parts : patch.run.holds.valid.pieces ≡ patch.run.before ++ o ∷ (os ++ patch.run.after) = patch.run.parts
         ∙ ap (λ (z : List Piece). patch.run.before ++ (z ++ patch.run.after)) e in
         let lens = lengths_first o n os ns (ap lengths (sym e) ∙ (patch.run.as_long ∙ ap lengths is)) in
-        let halves : AreNoHalves (o ∷ os) patch.run.after = subst (λ (z : List Piece). AreNoHalves z patch.run.after) e patch.pairs.0 in
-        let plain = no_half o (os ++ patch.run.after) halves.0 in
-        let fresh : AreNotIndirect (n ∷ ns) = subst AreNotIndirect is patch.pairs.1 in
+        let pairs : SparesPairs (o ∷ (os ++ patch.run.after)) (n ∷ ns) =
+        subst (λ (z : List Piece). SparesPairs (z ++ patch.run.after) (n ∷ ns)) e
+        (subst (SparesPairs (patch.run.old ++ patch.run.after)) is patch.pairs) in
+        let old_spells = patch.run.holds.valid.sound.spelled patch.run.before (os ++ patch.run.after) o parts in
+        let new_spells = patch.run.bytes.spelled [] ns n is in
         let well : GoWell (IsTarget c.base (limit_of marked.bytes) patch.run.holds.valid.pieces) at (n ∷ ns) =
         subst (GoWell (IsTarget c.base (limit_of marked.bytes) patch.run.holds.valid.pieces) at) is patch.targets in
         let place_is : at ≡ patch.run.holds.vetted.base + place patch.run.before =
@@ -84,11 +88,11 @@ turn marked c at new patch n ns t is = go patch.run.old refl
             exchange = record {
               valid = patch.run.holds.valid;
               parts = parts;
-              spells = patch.run.bytes.spelled [] ns n is;
+              spells = new_spells;
               as_long = lens.0;
-              old_plain = plain.0;
-              new_plain = fresh.0;
-              no_mask = plain.1;
+              transfer = pairs.0.transfer;
+              register = pairs.0.register;
+              mask = λ half. ap (λ (i : Instr). i.masks) (same_instr o n old_spells new_spells (pairs.0.mask half));
               good = λ d.
                   subst (λ (b : ℕ). IsTarget b patch.run.holds.vetted.limit patch.run.holds.valid.pieces
                   (target n.instr (patch.run.holds.vetted.base + place patch.run.before))) (sym patch.run.holds.base_is)
@@ -100,8 +104,7 @@ turn marked c at new patch n ns t is = go patch.run.old refl
             here = patch.run.here;
           };
           lens = lens.1;
-          halves = halves.1;
-          fresh = fresh.1;
+          pairs = pairs.1;
           well = well.1;
           parts = parts;
         }
@@ -124,7 +127,7 @@ next_patch marked c at new patch n ns t len rest e bytes =
         bytes = bytes;
         as_long = t.lens;
       };
-      pairs = (t.halves, t.fresh);
+      pairs = t.pairs;
       targets =
           subst (λ (k : ℕ). GoWell (IsTarget c.base (limit_of (with_span marked.bytes (at - 65536) n.bytes))
           (patch.run.before ++ n ∷ (t.os ++ patch.run.after))) (at + k) ns) (sym e)
@@ -134,7 +137,7 @@ next_patch marked c at new patch n ns t len rest e bytes =
           (λ to g. subst (λ (l : ℕ). IsTarget c.base l (patch.run.before ++ n ∷ (t.os ++ patch.run.after)) to)
           (ap (λ (k : ℕ). 65536 + k) (sym (changed_long marked c at patch.run.before (t.os ++ patch.run.after) t.o n t.change)))
           (target_stays c.base (limit_of marked.bytes) patch.run.before
-          (t.os ++ patch.run.after) t.o n to x.exchange.as_long x.exchange.new_plain
+          (t.os ++ patch.run.after) t.o n to x.exchange.as_long x.exchange.transfer
           (subst (λ (z : List Piece). IsTarget c.base (limit_of marked.bytes) z to) t.parts g)))
           (at + length n.bytes) ns t.well);
     }
@@ -185,7 +188,7 @@ both_true true b e = (refl, e)
 both_true false b e = absurd cc
 
 -- the bytes that stand there
-stands_bytes : (text : List ℕ) (at : ℕ) (bytes : List ℕ) → stands_there text at bytes ≡ true → (k : ℕ) → k < length bytes
+pub stands_bytes : (text : List ℕ) (at : ℕ) (bytes : List ℕ) → stands_there text at bytes ≡ true → (k : ℕ) → k < length bytes
     → byte_at text (at + k) ≡ get_or bytes k 0
 stands_bytes text at [] e k lt = absurd (omega arith)
 stands_bytes text at (b ∷ rest) e zero lt =

@@ -1,5 +1,5 @@
 -- A patch: some instructions of a live chunk replaced by others of the same lengths, while threads may be running.
-use Rattle.std.specs.Prelude.{◌≡◌, ℕ, ◌+◌, ◌-◌, ◌<◌, ◌⊎◌, ⊤, Bool, true, false, ◌==◌, ◌&&◌, List, [], ◌∷◌, ◌++◌, length, map}
+use Rattle.std.specs.Prelude.{◌≡◌, ℕ, ◌+◌, ◌-◌, ◌<◌, ⊤, Bool, true, ◌==◌, ◌&&◌, List, [], ◌∷◌, ◌++◌, length, map}
 use Rattle.std.specs.Prelude.{Contains, IsTrue, if◌then◌else◌}
 use Rattle.nc_decode.specs.Bundles.{IsInOneBundle}
 use Rattle.nc_decode.specs.Transfers.{is_direct, is_indirect, target}
@@ -52,35 +52,34 @@ pub record IsRun (marked : MarkedText) (c : Chunk) (at : ℕ) (new : List ℕ) :
   pub bytes : AreBytesOf new news
   pub as_long : lengths old ≡ lengths news
 
--- In a valid chunk the halves of pairs are the indirect transfers and the instructions directly before these. This is
--- one, with what follows it.
-abbrev pub IsHalf : Piece → List Piece → Type 0
-IsHalf p [] = IsTrue (is_indirect p.instr.flow)
-IsHalf p (next ∷ rest) = IsTrue (is_indirect p.instr.flow) ⊎ IsTrue (is_indirect next.instr.flow)
+-- The first of these, if there is one, is an indirect transfer. In a valid chunk the instruction directly before it is then
+-- the mask of a pair, and it is the second half.
+abbrev pub GoesOnIndirectly : List Piece → Type 0
+GoesOnIndirectly [] = ⊥
+GoesOnIndirectly (p ∷ rest) = IsTrue (is_indirect p.instr.flow)
 
--- none of these instructions is a half, with what follows them
-abbrev pub AreNoHalves : List Piece → List Piece → Type 0
-AreNoHalves [] after = ⊤
-AreNoHalves (p ∷ rest) after = ¬ IsHalf p (rest ++ after) × AreNoHalves rest after
+-- What the instruction that comes in the place of an old one may do to a pair, with what follows the old one: the mask of a
+-- pair keeps its bytes; an indirect transfer takes the place of one on the same register, and of nothing else. So a masked
+-- jump may become a masked call on its register, and a masked call a masked jump.
+pub record SparesPair (old : Piece) (rest : List Piece) (new : Piece) : Type 0 where
+  pub mask : GoesOnIndirectly rest → new.bytes ≡ old.bytes
+  pub transfer : is_indirect new.instr.flow ≡ is_indirect old.instr.flow
+  pub register : IsTrue (is_indirect old.instr.flow) → new.instr.reg ≡ old.instr.reg
 
--- none is an indirect transfer
-abbrev pub AreNotIndirect : List Piece → Type 0
-AreNotIndirect [] = ⊤
-AreNotIndirect (p ∷ rest) = (is_indirect p.instr.flow ≡ false) × AreNotIndirect rest
+-- So does each of the new instructions, with the old ones and what follows them.
+abbrev pub SparesPairs : (old news : List Piece) → Type 0
+SparesPairs old [] = ⊤
+SparesPairs [] (n ∷ news) = ⊤
+SparesPairs (o ∷ rest) (n ∷ news) = SparesPair o rest n × SparesPairs rest news
 
 -- each direct transfer of these, which stand from an address on, goes to a good one
 abbrev pub GoWell : (ℕ → Type 0) → ℕ → List Piece → Type 0
 GoWell good at [] = ⊤
 GoWell good at (p ∷ rest) = (IsTrue (is_direct p.instr.flow) → good (target p.instr at)) × GoWell good (at + length p.bytes) rest
 
--- what a patch may do to pairs: no half of one is replaced, with what follows the old instructions, and no indirect
--- transfer comes
-abbrev pub SparesPairs : (old after news : List Piece) → Type 0
-SparesPairs old after news = AreNoHalves old after × AreNotIndirect news
-
 -- the run is replaced so
 abbrev pub LeavesPairs : (marked : MarkedText) (c : Chunk) (at : ℕ) (new : List ℕ) → IsRun marked c at new → Type 0
-LeavesPairs marked c at new run = SparesPairs run.old run.after run.news
+LeavesPairs marked c at new run = SparesPairs (run.old ++ run.after) run.news
 
 -- the direct transfers that come go where those of a valid chunk may
 abbrev pub KeepsTargets : (marked : MarkedText) (c : Chunk) (at : ℕ) (new : List ℕ) → IsRun marked c at new → Type 0

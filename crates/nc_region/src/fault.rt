@@ -53,7 +53,8 @@ pub enum ModifyFault {
     /// The new bytes don't take the place of whole instructions of the chunk, each as long as the new one.
     #[error("other boundaries")]
     Boundaries,
-    /// A half of a pair stands there, or an indirect transfer would come.
+    /// The mask of a pair would get other bytes, or an indirect transfer would come or go. Only a masked jump may become a
+    /// masked call on its register, and a masked call a masked jump.
     #[error("a pair would be touched")]
     PairTouched,
     /// A direct transfer would go where none of the chunk may.

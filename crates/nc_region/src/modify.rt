@@ -5,7 +5,7 @@ ghost use Rattle.std.specs.Prelude.{IsFalse, if◌then◌else◌};
 ghost use Rattle.nc_decode.specs.declared.instruction.Mark.{Mark};
 ghost use Rattle.nc_decode.specs.Bundles.{IsInOneBundle};
 ghost use Rattle.nc_decode.specs.Transfers.{is_direct, is_indirect, target};
-ghost use Rattle.nc_vet.specs.Chunk.{Piece, IsTarget};
+ghost use Rattle.nc_vet.specs.Chunk.{Piece, IsTarget, mark_of};
 ghost use Rattle.nc_text.specs.Marks.{IsClosed};
 ghost use Rattle.nc_text.specs.Places.{byte_at, limit_of};
 ghost use Rattle.nc_text.specs.MarkedText.{MarkedText, IsText, with_span};
@@ -14,9 +14,10 @@ ghost use Rattle.nc_region.specs.Acts.{Tells, puts_where};
 ghost use Rattle.nc_region.specs.machinery.Between.{HasPut};
 ghost use Rattle.nc_region.specs.declared.acts.Act.{Act};
 ghost use Rattle.nc_region.specs.Region.{HoldsValid, IsInChunk};
-ghost use Rattle.nc_region.specs.Patch.{IsPatchSpan, AreBytesOf, AreInstructions, IsRun, GoWell, stands_there, any_place};
+ghost use Rattle.nc_region.specs.Patch.{IsPatchSpan, AreBytesOf, AreInstructions, IsRun, SparesPair, SparesPairs, GoWell};
+ghost use Rattle.nc_region.specs.Patch.{stands_there, any_place};
 ghost use Rattle.nc_region.specs.Patch.{acts_of_instruction, acts_of_modify};
-ghost use Rattle.nc_region.specs.machinery.PatchSteps.{IsReplacing, IsInterim, Begins, Along, RunsAlong, NoneIndirect, is_after, CanPatch};
+ghost use Rattle.nc_region.specs.machinery.PatchSteps.{IsReplacing, IsInterim, Begins, Along, RunsAlong, is_after, KeepsTransfer, CanPatch};
 
 use crate::acts::Acts;
 use crate::chunk::Chunk;
@@ -114,27 +115,56 @@ pub(crate) fn fits<A: Acts>(acts: &A, chunk: Chunk, at: u32, new: &[u8]) -> bool
     fits_from(acts, chunk, at, new)
 }
 
-/// Neither a half of a pair nor an indirect transfer is among these instructions, old and new.
+/// An indirect transfer takes the place of one on the same register, and of nothing else. The old one is told by its mark.
+fn keeps_transfer(mark: Mark, instr: Instr) -> bool
+    ensures exact { (old : Instr) → mark ≡ mark_of old → IsTrue result ↔ KeepsTransfer old instr }
+{
+    match mark {
+        Mark::After(register) => is_indirect(instr.flow) && instr.reg == register,
+        Mark::Plain => !is_indirect(instr.flow),
+        Mark::Unmarked => false,
+    }
+}
+
+/// The new instruction leaves the pairs of the chunk alone, where an instruction of the chunk stands that is as long.
+fn spares_pair<A: Acts>(acts: &A, chunk: Chunk, at: u32, instr: Instr, bytes: &[u8]) -> bool
+    requires whole { IsText (A.marked acts.now) }
+    requires begins { Begins (A.marked acts.now) chunk at }
+    requires some { 0 < length bytes.now }
+    requires ends { at + length bytes.now ≤ chunk.base + chunk.length }
+    requires sized { instr.len ≡ length bytes.now }
+    ensures exact { (b : Begins (A.marked acts.now) chunk at) (old : Piece) (rest : List Piece) → b.rest ≡ old ∷ rest
+        → length old.bytes ≡ length bytes.now
+        → IsTrue result ↔ SparesPair old rest (record { bytes = bytes.now; instr = instr }) }
+{
+    if !keeps_transfer(acts.mark(at), instr) {
+        return false;
+    }
+    if !is_after(acts.mark(at + u32::from(instr.len))) {
+        return true;
+    }
+    stands_there(acts, at, bytes)
+}
+
+/// Each new instruction leaves the pairs of the chunk alone: the mask of a pair keeps its bytes, and an indirect transfer
+/// takes the place of one on the same register, and of nothing else.
 pub(crate) fn leaves_pairs<A: Acts>(acts: &A, chunk: Chunk, at: u32, new: &[u8]) -> bool
     requires whole { IsText (A.marked acts.now) }
     requires along { Along (A.marked acts.now) chunk at new.now }
     requires ends { at + length new.now ≤ chunk.base + chunk.length }
     ensures exact { (b : Begins (A.marked acts.now) chunk at) (news : List Piece) → AreBytesOf new.now news → RunsAlong b.rest news
-        → IsTrue result ↔ NoneIndirect b.rest news }
+        → IsTrue result ↔ SparesPairs b.rest news }
 {
     if new.is_empty() {
-        return !is_after(acts.mark(at));
+        return true;
     }
     let Ok(instr) = decode(new) else {
         return false;
     };
-    if is_indirect(instr.flow) {
-        return false;
-    }
-    if is_after(acts.mark(at)) {
-        return false;
-    }
     let len = instr.len;
+    if !spares_pair(acts, chunk, at, instr, &new[..len as usize]) {
+        return false;
+    }
     leaves_pairs(acts, chunk, at + u32::from(len), &new[len as usize..])
 }
 

@@ -191,8 +191,10 @@ impl<A: Acts + Drop> RegionOf<A> {
     /// other, rising. One whose bytes stay gets no put; one of a single byte gets one put; of a longer one the first byte
     /// becomes a stop, then its further bytes are put, then its first byte. A refusal changes nothing. It takes no memory.
     ///
-    /// The new bytes are instructions that lie in one bundle, each takes the place of one that is as long, none of these is
-    /// an indirect transfer or the mask of one, and direct transfers keep the rule of a valid chunk.
+    /// The new bytes are instructions that lie in one bundle, each takes the place of one that is as long, and direct
+    /// transfers keep the rule of a valid chunk. The mask of an indirect transfer keeps its bytes, and an indirect transfer
+    /// takes the place of one on the same register, and of nothing else: a masked jump may become a masked call, and a
+    /// masked call a masked jump.
     pub fn modify(&mut self, at: u32, new: &[u8]) -> Result<(), ModifyFault>
         // The new bytes stand there; all else is as before.
         ensures modified { OnOk result (IsModified self.old self.new at new.now) }

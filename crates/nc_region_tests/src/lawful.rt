@@ -85,11 +85,11 @@ fn are_as_long(olds: &[Placed], news: &[Placed]) -> bool {
     true
 }
 
-/// At this address stands a half of a pair: an indirect transfer, or what stands directly before one.
-fn is_half(all: &[Placed], at: u32) -> bool {
+/// At this address stands the mask of a pair: an indirect transfer stands directly after it.
+fn is_mask(all: &[Placed], at: u32) -> bool {
     let mut before = None;
     for piece in all {
-        if is_indirect(piece.instr) && (piece.at == at || before == Some(at)) {
+        if is_indirect(piece.instr) && before == Some(at) {
             return true;
         }
         before = Some(piece.at);
@@ -97,14 +97,24 @@ fn is_half(all: &[Placed], at: u32) -> bool {
     false
 }
 
-/// A half is in the old run, or an indirect transfer in the new one.
-fn touches_pairs(all: &[Placed], olds: &[Placed], news: &[Placed]) -> bool {
-    for old in olds {
-        if is_half(all, old.at) {
-            return true;
-        }
+/// One is `FF E0+r` and the other `FF D0+r`, for the same register.
+fn change_places(old: &[u8], new: &[u8]) -> bool {
+    match (old, new) {
+        ([0xFF, one], [0xFF, other]) => one ^ other == 0x30,
+        _ => false,
     }
-    news.iter().any(|new| is_indirect(new.instr))
+}
+
+/// What a new instruction may do to a pair, in the place of an old one: the mask of a pair keeps its bytes, a second half
+/// keeps them or becomes the other transfer on its register, and no other instruction becomes one.
+fn spares(all: &[Placed], old: Placed, old_bytes: &[u8], new: Placed, new_bytes: &[u8]) -> bool {
+    if is_mask(all, old.at) && new_bytes != old_bytes {
+        return false;
+    }
+    if is_indirect(old.instr) {
+        return new_bytes == old_bytes || change_places(old_bytes, new_bytes);
+    }
+    !is_indirect(new.instr)
 }
 
 /// The instruction is no direct transfer, or its target is one that the chunk's instructions may have.
@@ -125,22 +135,27 @@ fn goes_well(chunk: &Standing, all: &[Placed], limit: u32, new: Placed) -> bool 
     false
 }
 
-/// The refusal of a patch of this chunk from which instructions these would make, if it is one of the last three.
+/// The refusal of a patch of this chunk by these bytes, which are the new instructions, if it is one of the last three.
 fn refusal(
     chunk: &Standing,
     all: &[Placed],
     limit: u32,
-    olds: &[Placed],
+    at: u32,
+    new: &[u8],
     news: &[Placed],
 ) -> Option<ModifyFault> {
+    let olds = run_at(all, at, news.len());
     if !are_as_long(olds, news) {
         return Some(ModifyFault::Boundaries);
     }
-    if touches_pairs(all, olds, news) {
-        return Some(ModifyFault::PairTouched);
+    for (old, piece) in olds.iter().zip(news) {
+        let old_bytes = bytes_of(chunk.base, &chunk.code, *old);
+        if !spares(all, *old, old_bytes, *piece, bytes_of(at, new, *piece)) {
+            return Some(ModifyFault::PairTouched);
+        }
     }
-    for new in news {
-        if !goes_well(chunk, all, limit, *new) {
+    for piece in news {
+        if !goes_well(chunk, all, limit, *piece) {
             return Some(ModifyFault::BadTarget);
         }
     }
@@ -202,8 +217,7 @@ fn judge_in(
     let Some(all) = read(alloc, chunk.base, &chunk.code)? else {
         return Err(Fail::new("a chunk that can't be read"));
     };
-    let olds = run_at(&all, at, news.len());
-    match refusal(chunk, &all, limit, olds, &news) {
+    match refusal(chunk, &all, limit, at, new, &news) {
         Some(fault) => Ok(refused(alloc, fault)),
         None => Ok(Judged {
             answer: Ok(()),

@@ -8,38 +8,38 @@ use Rattle.nc_text.specs.Places.{InRegion}
 use Rattle.nc_text.specs.Machine.{State}
 use Rattle.nc_schedule.specs.World.{World, Seat, first_seat, first_world, seat_at}
 use Rattle.nc_schedule.specs.Events.{Event, Steps, Enters, Exits, Takes, Sees, Stores, Leaves, Puts, Marks, Bumps, Retires, Frees, Looks}
-use Rattle.nc_schedule.specs.Events.{IsAllowed, after, world_after, AreAllowed, Moves, AllMove, ChangesBytes}
+use Rattle.nc_schedule.specs.Events.{IsAllowed, after, world_after, AreAllowed, IsMove, AllMove, ChangesBytes}
 use Rattle.nc_schedule.proofs.Schedules.{allowed_back}
 
 -- who stays where it is moves as a thread may
-pub stays : (text : List ℕ) (inside : Option State) → Moves text inside inside
+pub stays : (text : List ℕ) (inside : Option State) → IsMove text inside inside
 stays text None = tt
 stays text (Some now) = inl refl
 
 -- if one seat's thread moves as a thread may, and the others are as they were, all do
-set_moves : (text : List ℕ) (seats : List Seat) (k : ℕ) (seat : Seat) → Moves text (get_or seats k first_seat).inside seat.inside
-    → (j : ℕ) → j < length seats → Moves text (get_or seats j first_seat).inside (get_or (set seats k seat) j first_seat).inside
+set_moves : (text : List ℕ) (seats : List Seat) (k : ℕ) (seat : Seat) → IsMove text (get_or seats k first_seat).inside seat.inside
+    → (j : ℕ) → j < length seats → IsMove text (get_or seats j first_seat).inside (get_or (set seats k seat) j first_seat).inside
 set_moves text seats k seat move j lt =
     elim (eqb_tells j k) [
       | inl same ↦
-          subst (λ (i : ℕ). Moves text (get_or seats i first_seat).inside (get_or (set seats k seat) i first_seat).inside) (sym same.1)
-          (subst (λ (it : Seat). Moves text (get_or seats k first_seat).inside it.inside)
+          subst (λ (i : ℕ). IsMove text (get_or seats i first_seat).inside (get_or (set seats k seat) i first_seat).inside) (sym same.1)
+          (subst (λ (it : Seat). IsMove text (get_or seats k first_seat).inside it.inside)
           (sym (get_or-set_same seats k seat first_seat (omega (arith, lt, same.1)))) move)
       | inr other ↦
-          subst (λ (it : Seat). Moves text (get_or seats j first_seat).inside it.inside)
+          subst (λ (it : Seat). IsMove text (get_or seats j first_seat).inside it.inside)
           (sym (get_or-set_other seats k j seat first_seat other.1)) (stays text (get_or seats j first_seat).inside)
     ]
 
 -- from outside only a bundle start of the region is reached
-comes_in : (text : List ℕ) (inside : Option State) (next : State) → inside ≡ None → Moves text None (Some next)
-    → Moves text inside (Some next)
-comes_in text inside next is move = subst (λ (z : Option State). Moves text z (Some next)) (sym is) move
+comes_in : (text : List ℕ) (inside : Option State) (next : State) → inside ≡ None → IsMove text None (Some next)
+    → IsMove text inside (Some next)
+comes_in text inside next is move = subst (λ (z : Option State). IsMove text z (Some next)) (sym is) move
 
 -- each event
 pub moves_event : (w : World) (event : Event) → IsAllowed w event → AllMove w (after w event)
 moves_event w (Steps k next) allowed =
     set_moves w.marked.bytes w.seats k (record (seat_at w k) { inside = Some next })
-    (subst (λ (z : Option State). Moves w.marked.bytes z (Some next)) (sym allowed.1) (inr allowed.2))
+    (subst (λ (z : Option State). IsMove w.marked.bytes z (Some next)) (sym allowed.1) (inr allowed.2))
 moves_event w (Enters k at) allowed =
     set_moves w.marked.bytes w.seats k (record (seat_at w k) { inside = Some (record { place = at; masked = None }) })
     (comes_in w.marked.bytes (seat_at w k).inside (record { place = at; masked = None }) allowed.0 (allowed.2, allowed.3, refl))

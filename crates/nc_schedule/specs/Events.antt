@@ -91,14 +91,14 @@ AreAllowed w (event ∷ events) = IsAllowed w event × AreAllowed (after w event
 
 -- A place that a thread may come from and go to in one event, over the bytes before it: it stays where it is or takes a
 -- step of the machine, comes in at a bundle start of the region with no register masked, or is outside afterwards.
-abbrev pub Moves : List ℕ → Option State → Option State → Type 0
-Moves text now None = ⊤
-Moves text None (Some next) = InRegion text next.place × IsBundleStart next.place × (next.masked ≡ None)
-Moves text (Some now) (Some next) = (next ≡ now) ⊎ Step text now next
+abbrev pub IsMove : List ℕ → Option State → Option State → Type 0
+IsMove text now None = ⊤
+IsMove text None (Some next) = InRegion text next.place × IsBundleStart next.place × (next.masked ≡ None)
+IsMove text (Some now) (Some next) = (next ≡ now) ⊎ Step text now next
 
 -- so it is of the thread of each seat
 abbrev pub AllMove : World → World → Type 0
-AllMove before w = (k : ℕ) → k < length before.seats → Moves before.marked.bytes (seat_at before k).inside (seat_at w k).inside
+AllMove before w = (k : ℕ) → k < length before.seats → IsMove before.marked.bytes (seat_at before k).inside (seat_at w k).inside
 
 -- What an event does to the bytes: a put gives its place the byte and leaves every other place of the region as it was, and
 -- no other event changes a byte.

@@ -41,7 +41,7 @@ pub record Replaces (script : Script) (at : ℕ) (new : List ℕ) : Type 0 where
 
 -- pairs are left alone
 abbrev pub LeavesPairs : (script : Script) (at : ℕ) (new : List ℕ) → Replaces script at new → Type 0
-LeavesPairs script at new r = SparesPairs r.run.old r.run.after r.run.news
+LeavesPairs script at new r = SparesPairs (r.run.old ++ r.run.after) r.run.news
 
 -- the direct transfers that come go where those of a valid chunk may
 abbrev pub KeepsTargets : (script : Script) (at : ℕ) (new : List ℕ) → Replaces script at new → Type 0

@@ -1,5 +1,6 @@
 -- Parts of a patch: machinery of the proofs, cited by no public contract.
 use Rattle.std.specs.Prelude.{◌≡◌, ◌≢◌, ℕ, ◌+◌, ◌-◌, ◌<◌, ◌≤◌, ◌⊎◌, ⊤, Bool, true, false, List, [], ◌∷◌, ◌++◌, length, Some}
+use Rattle.std.specs.Prelude.{IsTrue}
 use Rattle.nc_decode.specs.declared.instruction.Instr.{Instr}
 use Rattle.nc_decode.specs.declared.instruction.Mark.{Mark}
 use Rattle.nc_decode.specs.declared.instruction.Mark.TheVariants.{Unmarked, Plain, After}
@@ -34,22 +35,16 @@ pub record Along (marked : MarkedText) (c : Chunk) (at : ℕ) (new : List ℕ) :
   pub bytes : AreBytesOf new news
   pub runs : RunsAlong begins.rest news
 
--- the first of these, if there is one, is no indirect transfer
-abbrev pub NoneFirst : List Piece → Type 0
-NoneFirst [] = ⊤
-NoneFirst (p ∷ rest) = is_indirect p.instr.flow ≡ false
-
--- none of the first instructions, of the one after them and of the new ones is an indirect transfer
-abbrev pub NoneIndirect : List Piece → List Piece → Type 0
-NoneIndirect rest [] = NoneFirst rest
-NoneIndirect [] (n ∷ news) = ⊤
-NoneIndirect (p ∷ rest) (n ∷ news) = (is_indirect p.instr.flow ≡ false) × (is_indirect n.instr.flow ≡ false) × NoneIndirect rest news
-
 -- the mark is that of an indirect transfer
 abbrev pub is_after : Mark → Bool
 is_after Unmarked = false
 is_after Plain = false
 is_after (After register) = true
+
+-- an indirect transfer takes the place of one on the same register, and of nothing else
+abbrev pub KeepsTransfer : (old new : Instr) → Type 0
+KeepsTransfer old new =
+    (is_indirect new.flow ≡ is_indirect old.flow) × (IsTrue (is_indirect old.flow) → new.reg ≡ old.reg)
 
 -- a lawful patch of a chunk, except for the list of chunks
 pub record CanPatch (marked : MarkedText) (c : Chunk) (at : ℕ) (new : List ℕ) : Type 0 where

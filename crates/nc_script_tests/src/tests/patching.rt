@@ -12,10 +12,23 @@ const OPERAND: [Row; 5] = [
     (b"dump", b"dump 00010000 live b802000000*"),
 ];
 
-/// A pair stays as it is.
-const PAIR: [Row; 2] = [
+/// A pair stays one on its register; its jump becomes a call, and a jump again.
+const PAIR: [Row; 12] = [
     (b"create 00010000 83e0e0ffe0*", b"ok"),
     (b"modify 00010000 83e1e0ffe1", b"refused PairTouched"),
+    (b"modify 00010003 ffd1", b"refused PairTouched"),
+    (b"modify 00010003 eb00", b"refused PairTouched"),
+    (b"modify 00010000 83e1e0ffd1", b"refused PairTouched"),
+    (b"modify 00010003 9090", b"refused Boundaries"),
+    (b"modify 00010000 83e0e0", b"ok"),
+    (b"modify 00010003 ffd0", b"ok"),
+    (
+        b"walk 00010000 00000000 00010040",
+        b"walk 00010000 00010003 00010040 stop",
+    ),
+    (b"dump", b"dump 00010000 live 83e0e0ffd0*"),
+    (b"modify 00010000 83e0e0ffe0", b"ok"),
+    (b"dump", b"dump 00010000 live 83e0e0ffe0*"),
 ];
 
 /// Each of the other refusals, before and after a patch of a jump.
@@ -55,13 +68,14 @@ const RETIRED: [Row; 6] = [
 ];
 
 /// A mask that is no half of a pair, one that is, and an indirect transfer.
-const MASKS: [Row; 6] = [
+const MASKS: [Row; 7] = [
     (b"create 00010000 83e0e083e0e0ffe0*", b"ok"),
     (b"modify 00010000 83c001", b"ok"),
     (b"modify 00010003 83c001", b"refused PairTouched"),
     (b"dump", b"dump 00010000 live 83c00183e0e0ffe0*"),
     (b"create 00010020 ebfe*", b"ok"),
     (b"modify 00010020 ffe0", b"refused PairTouched"),
+    (b"modify 00010020 ffd0", b"refused PairTouched"),
 ];
 
 /// The order of refusals, in a region without a chunk and with a deleted one.

@@ -6,7 +6,7 @@ use Rattle.nc_region.specs.declared.fault.ModifyFault.TheVariants.{Boundaries, P
 use Rattle.nc_region.specs.Region.{Region}
 use Rattle.nc_region.proofs.Standing.{lies}
 use Rattle.nc_region.proofs.Patched.{region_patched}
-use Rattle.nc_region.proofs.Runs.{run_along, pairs_from, pairs_back, held_same}
+use Rattle.nc_region.proofs.Runs.{run_along, held_same}
 use Rattle.nc_region.proofs.region.RegionOf.modify.Goals as goal
 
 pub returns-then-not-is_patch_span-clause-confined : goal.returns-then-not-is_patch_span-clause-confined
@@ -45,7 +45,7 @@ put_patch-requires-clause-patch g c =
     let a = run_along marked c.in-Some.chunk c.args.at c.args.new.now run in
     record {
       run = run;
-      pairs = pairs_from run.old run.after run.news run.as_long ((c.leaves_pairs.ensures.exact a.begins a.news a.bytes a.runs).0 apart);
+      pairs = (c.leaves_pairs.ensures.exact a.begins a.news a.bytes a.runs).0 apart;
       targets = (c.keeps_targets.ensures.exact run.holds run.news run.bytes).0 well;
     }
 
@@ -93,8 +93,7 @@ returns-then-not-leaves_pairs-clause-refused g c =
           (held_same c.self.inside.chunks.items c.args.at c.in-Some.chunk f.0 c.self.invariant.rising held f.1) f.2 in
           let a = run_along (g.A.Acts.marked c.self.inside.acts) c.in-Some.chunk c.args.at c.args.new.now x.0 in
           let yes : c.leaves_pairs.result ≡ true =
-          (c.leaves_pairs.ensures.exact a.begins a.news a.bytes a.runs).1
-          (pairs_back x.0.old x.0.after x.0.news c.args.new.now x.0.bytes span.0 x.0.as_long x.1.0 x.1.1) in
+          (c.leaves_pairs.ensures.exact a.begins a.news a.bytes a.runs).1 x.1 in
           let differ : true ≡ false = sym yes ∙ c.if-not-leaves_pairs.true in
           cc,
     ) in
@@ -122,8 +121,7 @@ returns-then-not-keeps_targets-clause-refused g c =
         held,
         (
           run,
-          pairs_from run.old run.after run.news run.as_long
-              ((c.leaves_pairs.ensures.exact b.begins b.news b.bytes b.runs).0 apart),
+          (c.leaves_pairs.ensures.exact b.begins b.news b.bytes b.runs).0 apart,
         ),
       ),
       λ p.
@@ -185,8 +183,7 @@ returns-clause-lawful g c =
         held,
         (
           run,
-          pairs_from run.old run.after run.news run.as_long
-              ((c.leaves_pairs.ensures.exact a.begins a.news a.bytes a.runs).0 apart),
+          (c.leaves_pairs.ensures.exact a.begins a.news a.bytes a.runs).0 apart,
           (c.keeps_targets.ensures.exact run.holds run.news run.bytes).0 well,
         ),
       ),
