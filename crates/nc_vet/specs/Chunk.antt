@@ -37,7 +37,7 @@ pub record FollowsMask (before : List Piece) (reg : ℕ) : Type 0 where
 abbrev pub AreSpelledBy : Profile → List Piece → Type 0
 AreSpelledBy v pieces = (before after : List Piece) (p : Piece) → pieces ≡ before ++ p ∷ after → SpellsBy v p.bytes p.instr
 
--- each is a whole instruction
+-- each is a whole instruction that is permitted now
 abbrev pub AreSpelled : List Piece → Type 0
 AreSpelled pieces = AreSpelledBy profile pieces
 
@@ -49,7 +49,7 @@ pub record AreSoundBy (v : Profile) (pieces : List Piece) : Type 0 where
   pub paired : (before after : List Piece) (p : Piece) → pieces ≡ before ++ p ∷ after → IsTrue (is_indirect p.instr.flow)
       → FollowsMask before p.instr.reg
 
--- such instructions
+-- the same of the instructions that are permitted now
 abbrev pub AreSound : List Piece → Type 0
 AreSound pieces = AreSoundBy profile pieces
 
@@ -100,7 +100,7 @@ IsLength len = (0 < len) × (len % 32 ≡ 0)
 abbrev pub IsInRangeBy : Profile → ℕ → ℕ → ℕ → Type 0
 IsInRangeBy v base limit len = IsLimitUpTo v.most_bundles limit × (base + len + 32 ≤ limit)
 
--- the limit is lawful, and so many bytes from the base on end at the guard's first byte or before
+-- the limit is lawful now, and so many bytes from the base on end at the guard's first byte or before
 abbrev pub IsInRange : ℕ → ℕ → ℕ → Type 0
 IsInRange base limit len = IsInRangeBy profile base limit len
 
