@@ -5,6 +5,7 @@ use Rattle.std.specs.Prelude.{option_to_list, slice_index, IfSome}
 use Rattle.nc_decode.specs.declared.instruction.Flow.{Flow}
 use Rattle.nc_decode.specs.declared.instruction.Flow.TheVariants.{Next, Branch, Jump, Call, IndirectJump, IndirectCall, Stop}
 use Rattle.nc_decode.specs.Rows.{Row, PrefixRow, rows, prefix_rows, within, reg_of}
+use Rattle.nc_decode.specs.Rows.{first_rows, later_rows, first_prefix_rows, later_prefix_rows}
 use Rattle.nc_decode.specs.Spelling.{Parts, spelled, IsOperand, AreParts, Allows, masks_of}
 use Rattle.nc_decode.proofs.EntriesMatchRows.{each_below, each, same, not}
 use Rattle.nc_decode.proofs.BoolTests.{both, both_made, not_is, same_made, true_or_false, each_below-at, each-Contains, chosen_true}
@@ -46,7 +47,7 @@ apart line row = elim (goes_on row.flow) [ true ↦ true | false ↦ each_below 
 
 -- so it is for each line and each row
 lines_go_on : each (λ line. each (apart line) rows) prefix_rows ≡ true
-unfolding rows prefix_rows
+unfolding rows first_rows later_rows prefix_rows first_prefix_rows later_prefix_rows
 lines_go_on = refl
 
 -- the reg field of an operand is one of its row's
@@ -93,7 +94,7 @@ row_goes_on row = elim row.escaped [ true ↦ true | false ↦ elim (within 0x83
 
 -- so for each row
 rows_go_on : each row_goes_on rows ≡ true
-unfolding rows
+unfolding rows first_rows later_rows
 rows_go_on = refl
 
 -- no prefix is the byte 83
@@ -102,7 +103,7 @@ is_other line = elim (line.prefix == 0x83) [ true ↦ false | false ↦ true ]
 
 -- so for each line
 lines_are_other : each is_other prefix_rows ≡ true
-unfolding prefix_rows
+unfolding prefix_rows first_prefix_rows later_prefix_rows
 lines_are_other = refl
 
 -- the byte of a line isn't 83

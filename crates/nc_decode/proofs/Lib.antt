@@ -27,3 +27,4 @@ pub mod Stages
 pub mod StageMeanings
 pub mod StageSteps
 pub mod Runs
+pub mod Growth

@@ -125,8 +125,8 @@ stages =
     (mask_number 7) ∷ (transfer_after_mask 0) ∷ (transfer_after_mask 1) ∷ (transfer_after_mask 2) ∷ (transfer_after_mask 3)
     ∷ (transfer_after_mask 5) ∷ (transfer_after_mask 6) ∷ (transfer_after_mask 7) ∷ (sib 0) ∷
     (sib 1) ∷ (sib 2) ∷ (sib 4) ∷ (number 1) ∷ (number 2) ∷ (number 3) ∷ (number 4) ∷ (number 5) ∷ (number 6) ∷
-    (number 7) ∷ (number 8) ∷ (number 9) ∷ short ∷ (near 1) ∷ (near 2) ∷ (near 3) ∷ (near 4) ∷ (ended plain) ∷
-    (ended (masked 0)) ∷ (ended (masked 1)) ∷ (ended (masked 2)) ∷ (ended (masked 3)) ∷ (ended (masked 5)) ∷
+    (number 7) ∷ (number 8) ∷ (number 9) ∷ short ∷ (near 1) ∷ (near 2) ∷ (near 3) ∷ (near 4) ∷ (operand 0x0002 0 0) ∷
+    (ended plain) ∷ (ended (masked 0)) ∷ (ended (masked 1)) ∷ (ended (masked 2)) ∷ (ended (masked 3)) ∷ (ended (masked 5)) ∷
     (ended (masked 6)) ∷ (ended (masked 7)) ∷ (ended by_short) ∷ (ended by_near) ∷ (ended paired) ∷ []
 
 -- the stage of a state

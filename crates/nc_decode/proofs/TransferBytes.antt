@@ -4,6 +4,7 @@ use Rattle.std.proofs.Common.{append_assoc}
 use Rattle.std.specs.Prelude.{option_to_list}
 use Rattle.nc_decode.specs.declared.instruction.Instr.{Instr}
 use Rattle.nc_decode.specs.Rows.{Row, rows, within}
+use Rattle.nc_decode.specs.Rows.{first_rows, later_rows}
 use Rattle.nc_decode.specs.Spelling.{spelled, Spells}
 use Rattle.nc_decode.specs.Front.{BeginsAsTransfer}
 use Rattle.nc_decode.specs.Transfers.{is_direct, may_transfer}
@@ -26,7 +27,7 @@ row_begins row = elim (is_direct row.flow) [
 
 -- so for each row
 rows_begin : each row_begins rows ≡ true
-unfolding rows
+unfolding rows first_rows later_rows
 rows_begin = refl
 
 -- the first byte after no prefix

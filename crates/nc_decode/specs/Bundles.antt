@@ -18,6 +18,10 @@ IsRegionSize bundles = (MIN_BUNDLES ≤ bundles) × (bundles ≤ MAX_BUNDLES)
 abbrev pub limit_after : ℕ → ℕ
 limit_after bundles = START + BUNDLE * bundles
 
--- the end of such a region: a bundle start, from the limit of the smallest to that of the largest
+-- the end of a region of so many bundles or fewer: a bundle start, from the limit of the smallest to that of the largest
+abbrev pub IsLimitUpTo : ℕ → ℕ → Type 0
+IsLimitUpTo most limit = IsBundleStart limit × (limit_after MIN_BUNDLES ≤ limit) × (limit ≤ limit_after most)
+
+-- the end of a region
 abbrev pub IsLawfulLimit : ℕ → Type 0
-IsLawfulLimit limit = IsBundleStart limit × (limit_after MIN_BUNDLES ≤ limit) × (limit ≤ limit_after MAX_BUNDLES)
+IsLawfulLimit limit = IsLimitUpTo MAX_BUNDLES limit

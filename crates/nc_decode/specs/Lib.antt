@@ -1,5 +1,6 @@
 pub mod machinery
 pub mod Rows
+pub mod Profiles
 pub mod Spelling
 pub mod Barred
 pub mod Bundles

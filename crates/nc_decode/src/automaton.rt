@@ -1,6 +1,6 @@
 //! The permitted instructions as an automaton that reads one byte at a time.
 //!
-//! A state is a number: `DEAD` where no permitted instruction begins so, 1 to 63 inside an instruction, `END` and above after
+//! A state is a number: `DEAD` where no permitted instruction begins so, 1 to 64 inside an instruction, `END` and above after
 //! one. The numbers from `END` on tell what has just been read: a mask and of which register, a transfer and how far its
 //! displacement reaches, an indirect transfer with its mask, or none of these. `law_of_automaton` says what a run of it means.
 //!
@@ -13,19 +13,19 @@ ghost use Rattle.nc_decode.specs.Automaton.{next_state};
 use crate::table::{one_byte, two_byte};
 
 /// The number of states.
-pub const STATES: usize = 75;
+pub const STATES: usize = 76;
 /// No permitted instruction begins so.
 pub const DEAD: u8 = 0;
 /// After an instruction, and at the start of a bundle. All states from here on come after an instruction.
-pub const END: u8 = 64;
+pub const END: u8 = 65;
 /// After the mask of register 0; the masks of 1, 2, 3, 5, 6 and 7 follow.
-pub const AFTER_MASK: u8 = 65;
+pub const AFTER_MASK: u8 = 66;
 /// After a direct transfer with a displacement of one byte.
-pub const AFTER_SHORT: u8 = 72;
+pub const AFTER_SHORT: u8 = 73;
 /// After a direct transfer with a displacement of four bytes.
-pub const AFTER_NEAR: u8 = 73;
+pub const AFTER_NEAR: u8 = 74;
 /// After an indirect transfer with its mask.
-pub const AFTER_PAIR: u8 = 74;
+pub const AFTER_PAIR: u8 = 75;
 
 /// The states after an opcode with this entry: with no prefix, and after 66, F3, F2 and F0.
 #[rattlefmt::skip]
@@ -33,7 +33,7 @@ macro_rules! kind {
     // No opcode, and an opcode with nothing after it.
     (NO)   => { [0, 0, 0, 0, 0] };                (OP)   => { [END, 0, 0, 0, 0] };              (HLT)  => { [END, 0, 0, 0, 0] };
     (OPV)  => { [END, END, 0, 0, 0] };            (STR)  => { [END, 0, END, 0, 0] };            (STRV) => { [END, END, END, 0, 0] };
-    (SCN)  => { [END, 0, END, END, 0] };          (SCNV) => { [END, END, END, END, 0] };
+    (SCN)  => { [END, 0, END, END, 0] };          (SCNV) => { [END, END, END, END, 0] };        (UD2)  => { [END, 0, 0, 0, 0] };
     // Prefixes, and 0F.
     (P66)  => { [1, 0, 0, 0, 0] };       (PF3)  => { [2, 0, 0, 0, 0] };       (PF2)  => { [3, 0, 0, 0, 0] };
     (PF0)  => { [4, 0, 0, 0, 0] };       (ESC)  => { [5, 6, 0, 0, 7] };
@@ -49,8 +49,8 @@ macro_rules! kind {
     (G1Z)  => { [30, 29, 0, 0, 12] };    (G1V)  => { [31, 28, 0, 0, 11] };    (G2)   => { [21, 0, 0, 0, 0] };
     (G2V)  => { [21, 21, 0, 0, 0] };     (G2I)  => { [22, 0, 0, 0, 0] };      (G2IV) => { [22, 22, 0, 0, 0] };
     (G3)   => { [24, 0, 0, 0, 9] };      (G3V)  => { [26, 25, 0, 0, 10] };    (G4)   => { [19, 0, 0, 0, 8] };
-    (G5)   => { [20, 20, 0, 0, 8] };     (G8)   => { [23, 23, 0, 0, 13] };    (G11)  => { [16, 0, 0, 0, 0] };
-    (G11V) => { [18, 17, 0, 0, 0] };
+    (G5)   => { [20, 20, 0, 0, 8] };     (G8)   => { [23, 23, 0, 0, 13] };    (G9)   => { [64, 0, 0, 0, 64] };
+    (G11)  => { [16, 0, 0, 0, 0] };      (G11V) => { [18, 17, 0, 0, 0] };
 }
 
 /// The states after each opcode of a map, with the prefix of this place.
@@ -135,7 +135,7 @@ pub(crate) static NEXT: [[u8; 256]; STATES] = [
     /* 30 */ modrm!(long [X X X X X X X X] [X X X X X X X X]),
     /* 31, after 83: */ modrm!(byte [X X X X X X X X] [X X X X [32 33 34 35 50 36 37 38] X X X]),
     // 32 to 38: before the number of a mask, by register. 39 to 45: before ModRM of FF after that mask.
-    mask_number!(65), mask_number!(66), mask_number!(67), mask_number!(68), mask_number!(69), mask_number!(70), mask_number!(71),
+    mask_number!(66), mask_number!(67), mask_number!(68), mask_number!(69), mask_number!(70), mask_number!(71), mask_number!(72),
     transfer!(AFTER_PAIR 0 0 0 0 0 0 0), transfer!(0 AFTER_PAIR 0 0 0 0 0 0), transfer!(0 0 AFTER_PAIR 0 0 0 0 0),
     transfer!(0 0 0 AFTER_PAIR 0 0 0 0), transfer!(0 0 0 0 0 AFTER_PAIR 0 0), transfer!(0 0 0 0 0 0 AFTER_PAIR 0),
     transfer!(0 0 0 0 0 0 0 AFTER_PAIR),
@@ -144,6 +144,8 @@ pub(crate) static NEXT: [[u8; 256]; STATES] = [
     [END; 256], [50; 256], [51; 256], [52; 256], [53; 256], [54; 256], [55; 256], [56; 256], [57; 256],
     // 59: before a displacement of one byte. 60 to 63: before so many bytes of one of four.
     [AFTER_SHORT; 256], [AFTER_NEAR; 256], [60; 256], [61; 256], [62; 256],
+    // 64: before ModRM of group 9.
+    modrm!(none [O X O O O O O O] [O O O O O O O O]),
     // END, AFTER_MASK and those after it, AFTER_SHORT, AFTER_NEAR, AFTER_PAIR.
     one_byte!(opcodes 0),
     one_byte!(after_mask 39), one_byte!(after_mask 40), one_byte!(after_mask 41), one_byte!(after_mask 42),

@@ -144,6 +144,8 @@ pub(crate) const HLT: Entry = Entry {
     forms: [1, 0, 0, 0, 0],
     ..NO
 };
+/// UD2, which raises an exception: a thread ends there as at HLT.
+pub(crate) const UD2: Entry = HLT;
 
 // ---- ModRM
 

@@ -1,6 +1,6 @@
 //! The entries of the opcode maps where ModRM's reg field chooses the instruction.
 //!
-//! `G1` to `G11` are the groups of these numbers in the manual (Intel SDM volume 2, appendix A, table A-6). Groups 6, 7, 9 and
+//! `G1` to `G11` are the groups of these numbers in the manual (Intel SDM volume 2, appendix A, table A-6). Groups 6, 7 and
 //! 10 are missing, since none of their instructions is permitted. At the end,
 //! `I` is an immediate byte where the group has another form, `Z` an immediate of the operand's size, and `V` the byte 66
 //! as in `entries`. Bit r of a form is reg r with an operand in memory, bit 8 + r is reg r with one in a register.
@@ -75,6 +75,11 @@ pub(crate) const G5: Entry = Entry {
 pub(crate) const G8: Entry = Entry {
     number: Number::Byte,
     forms: [0xF0F0, 0xF0F0, 0, 0, 0x00E0],
+    ..M
+};
+/// CMPXCHG8B (reg 1), which compares eight bytes in memory, also locked.
+pub(crate) const G9: Entry = Entry {
+    forms: [0x0002, 0, 0, 0, 0x0002],
     ..M
 };
 /// MOV of an immediate byte (reg 0).

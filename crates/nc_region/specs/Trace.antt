@@ -32,11 +32,11 @@ pub record Moves (text : List ℕ) (now : State) (choice : ℕ) (next : State) :
   pub step : Step text now next
   pub picked : Picks instr.flow instr now choice next
 
--- a stop stands there
+-- an instruction that goes nowhere stands there
 abbrev pub StopsAt : List ℕ → State → Type 0
 StopsAt text now = InRegion text now.place × IsSomeAnd (instruction_at text now.place) (λ i. i.flow ≡ flow.Stop)
 
--- neither in the trampoline zone nor at a stop
+-- neither in the trampoline zone nor at such an instruction
 abbrev pub GoesOn : List ℕ → State → Type 0
 GoesOn text now = (0x10000 ≤ now.place) × ¬ StopsAt text now
 

@@ -177,7 +177,7 @@ fn patches(rt: HostRuntime) -> Result<(), Fail> {
 }
 
 /// A chunk's front, a patch at 00010000, and a walk from there by choices 0.
-static PATCHED_WALKS: [(&[u8], &[u8], &[u32], &[u32], End); 4] = [
+static PATCHED_WALKS: [(&[u8], &[u8], &[u32], &[u32], End); 6] = [
     // a masked call
     (
         &[0x83, 0xE0, 0xE0, 0xFF, 0xE0],
@@ -194,6 +194,14 @@ static PATCHED_WALKS: [(&[u8], &[u8], &[u32], &[u32], End); 4] = [
         End::Stop,
     ),
     (&[0x90], &[0xF4], &[0], &[0x10000], End::Stop),
+    (&[0x0F, 0xA2], &[0x0F, 0x0B], &[0], &[0x10000], End::Stop),
+    (
+        &[0x0F, 0x0B],
+        &[0x0F, 0xA2],
+        &[0],
+        &[0x10000, 0x10002],
+        End::More,
+    ),
     (
         &[0xEB, 0x1E],
         &[0x74, 0x1E],

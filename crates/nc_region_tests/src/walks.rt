@@ -7,7 +7,7 @@ use nc_vet::Vetted;
 use std::test::Fail;
 
 /// A chunk's front, the choices of a walk from 00010000, and its trace.
-static WALKS: [(&[u8], &[u32], &[u32], End); 11] = [
+static WALKS: [(&[u8], &[u32], &[u32], End); 12] = [
     (&[0xEB, 0x1E], &[0, 0], &[0x10000, 0x10020], End::Stop),
     (&[0x74, 0x1E], &[1], &[0x10000, 0x10020], End::Stop),
     (&[0x74, 0x1E], &[0], &[0x10000, 0x10002], End::More),
@@ -18,6 +18,7 @@ static WALKS: [(&[u8], &[u32], &[u32], End); 11] = [
         End::Stop,
     ),
     (&[0xF4], &[], &[0x10000], End::Stop),
+    (&[0x0F, 0x0B], &[0], &[0x10000], End::Stop),
     (
         &[0x83, 0xE3, 0xE0, 0xFF, 0xE3],
         &[0, 0x1004F],

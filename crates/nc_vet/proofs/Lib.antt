@@ -12,4 +12,5 @@ pub mod LaneBits
 pub mod RunStates
 pub mod BitPlaces
 pub mod BitReading
+pub mod KeptValid
 pub mod Offered

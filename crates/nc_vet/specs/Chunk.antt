@@ -7,8 +7,9 @@ use Rattle.std.specs.List.{flat_map}
 use Rattle.nc_decode.specs.declared.instruction.Instr.{Instr}
 use Rattle.nc_decode.specs.declared.instruction.Mark.{Mark}
 use Rattle.nc_decode.specs.declared.instruction.Mark.TheVariants.{Unmarked, Plain, After}
-use Rattle.nc_decode.specs.Bundles.{IsBundleStart, IsInOneBundle, IsLawfulLimit}
-use Rattle.nc_decode.specs.Spelling.{Spells}
+use Rattle.nc_decode.specs.Bundles.{IsBundleStart, IsInOneBundle, IsLimitUpTo}
+use Rattle.nc_decode.specs.Profiles.{Profile, profile}
+use Rattle.nc_decode.specs.Spelling.{SpellsBy}
 use Rattle.nc_decode.specs.Transfers.{is_direct, is_indirect, target}
 
 -- one instruction: its bytes, and what it says about control
@@ -32,17 +33,25 @@ pub record FollowsMask (before : List Piece) (reg : ℕ) : Type 0 where
   pub masks : mask.instr.masks ≡ Some reg
   pub together : place earlier / 32 ≡ place before / 32
 
--- each is a whole instruction
-abbrev pub AreSpelled : List Piece → Type 0
-AreSpelled pieces = (before after : List Piece) (p : Piece) → pieces ≡ before ++ p ∷ after → Spells p.bytes p.instr
+-- each is a whole instruction of a profile
+abbrev pub AreSpelledBy : Profile → List Piece → Type 0
+AreSpelledBy v pieces = (before after : List Piece) (p : Piece) → pieces ≡ before ++ p ∷ after → SpellsBy v p.bytes p.instr
 
--- instructions of which none crosses the end of a bundle, and each indirect transfer directly follows the mask of its
--- register in the same bundle
-pub record AreSound (pieces : List Piece) : Type 0 where
-  pub spelled : AreSpelled pieces
+-- each is a whole instruction that is permitted now
+abbrev pub AreSpelled : List Piece → Type 0
+AreSpelled pieces = AreSpelledBy profile pieces
+
+-- instructions of a profile of which none crosses the end of a bundle, and each indirect transfer directly follows the
+-- mask of its register in the same bundle
+pub record AreSoundBy (v : Profile) (pieces : List Piece) : Type 0 where
+  pub spelled : AreSpelledBy v pieces
   pub inside : (before after : List Piece) (p : Piece) → pieces ≡ before ++ p ∷ after → IsInOneBundle (place before) (length p.bytes)
   pub paired : (before after : List Piece) (p : Piece) → pieces ≡ before ++ p ∷ after → IsTrue (is_indirect p.instr.flow)
       → FollowsMask before p.instr.reg
+
+-- the same of the instructions that are permitted now
+abbrev pub AreSound : List Piece → Type 0
+AreSound pieces = AreSoundBy profile pieces
 
 -- An instruction that is no second half of a pair begins at the place. In sound code the second halves are the
 -- indirect transfers.
@@ -87,9 +96,13 @@ IsBase base = IsBundleStart base × (0x10000 ≤ base)
 abbrev pub IsLength : ℕ → Type 0
 IsLength len = (0 < len) × (len % 32 ≡ 0)
 
--- the limit is lawful, and so many bytes from the base on end at the guard's first byte or before
+-- the limit is lawful in a profile, and so many bytes from the base on end at the guard's first byte or before
+abbrev pub IsInRangeBy : Profile → ℕ → ℕ → ℕ → Type 0
+IsInRangeBy v base limit len = IsLimitUpTo v.most_bundles limit × (base + len + 32 ≤ limit)
+
+-- the limit is lawful now, and so many bytes from the base on end at the guard's first byte or before
 abbrev pub IsInRange : ℕ → ℕ → ℕ → Type 0
-IsInRange base limit len = IsLawfulLimit limit × (base + len + 32 ≤ limit)
+IsInRange base limit len = IsInRangeBy profile base limit len
 
 -- what callers see of a vetted chunk
 pub record MarkedChunk : Type 0 where
@@ -98,13 +111,17 @@ pub record MarkedChunk : Type 0 where
   pub code : List ℕ
   pub marks : List Mark
 
--- The code is a list of whole instructions that keep the rules, and the marks are theirs.
-pub record IsValid (c : MarkedChunk) : Type 0 where
+-- The code is a list of whole instructions of a profile that keep the rules, and the marks are theirs.
+pub record IsValidBy (v : Profile) (c : MarkedChunk) : Type 0 where
   pub base_is : IsBase c.base
   pub length_is : IsLength (length c.code)
-  pub range : IsInRange c.base c.limit (length c.code)
+  pub range : IsInRangeBy v c.base c.limit (length c.code)
   pub pieces : List Piece
   pub parts : c.code ≡ code_of pieces
-  pub sound : AreSound pieces
+  pub sound : AreSoundBy v pieces
   pub targets : AreTargets c.base c.limit pieces
   pub marks_are : c.marks ≡ marks_of pieces
+
+-- the chunk is valid by the rules that hold now
+abbrev pub IsValid : MarkedChunk → Type 0
+IsValid c = IsValidBy profile c

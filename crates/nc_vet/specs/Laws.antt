@@ -1,8 +1,9 @@
--- A chunk has one verdict, and a code parts into instructions in at most one way.
+-- A chunk has one verdict, a code parts into instructions in at most one way, and a chunk that was valid stays valid.
 use Rattle.std.specs.Prelude.{◌≡◌, ◌≢◌, ℕ, List}
 use Rattle.nc_vet.specs.declared.fault.VetFault.{VetFault}
 use Rattle.nc_vet.specs.declared.fault.VetFault.TheVariants.{OutOfMemory}
-use Rattle.nc_vet.specs.Chunk.{Piece, code_of, AreSpelled, MarkedChunk, IsValid}
+use Rattle.nc_decode.specs.Profiles.{first_profile, profile}
+use Rattle.nc_vet.specs.Chunk.{Piece, code_of, AreSpelled, MarkedChunk, IsValidBy, IsValid}
 use Rattle.nc_vet.specs.Faults.{HasFault}
 
 -- two faults of one chunk, neither of which is lack of memory, are the same
@@ -21,3 +22,7 @@ HasOneReading = (c d : MarkedChunk) → IsValid c → IsValid d → c.code ≡ d
 -- a code parts into whole instructions in at most one way: two lists of them with the same bytes are the same list
 abbrev pub HasOneParting : Type 0
 HasOneParting = (xs ys : List Piece) → AreSpelled xs → AreSpelled ys → code_of xs ≡ code_of ys → xs ≡ ys
+
+-- a chunk that was valid by the first profile is valid by the one that holds now, with the same marks
+abbrev pub KeepsValid : Type 0
+KeepsValid = (c : MarkedChunk) → IsValidBy first_profile c → IsValidBy profile c

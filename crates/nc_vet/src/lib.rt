@@ -14,7 +14,8 @@
 //!
 //! Which call to use: [`vet`] takes a chunk and gives a [`Vetted`], which is valid and stays so, or its [`VetFault`] and the chunk.
 //! [`judge`] does the same where the bytes lie, for callers that keep them. `law_of_verdicts` does nothing; its contract says that
-//! a chunk has one verdict, and that its code parts into instructions in at most one way.
+//! a chunk has one verdict, and that its code parts into instructions in at most one way. `law_of_profiles` does nothing either; by
+//! it a chunk that was valid once, before instructions were added, is valid still.
 //!
 //! ```
 //! // One bundle of nops in a region that ends at 00010040.
@@ -40,7 +41,7 @@ mod vetting;
 
 pub use bundle::Bundle;
 pub use fault::VetFault;
-pub use law::law_of_verdicts;
+pub use law::{law_of_profiles, law_of_verdicts};
 pub use marks::Marks;
 pub use nc_decode::Mark;
 pub use vetted::Vetted;

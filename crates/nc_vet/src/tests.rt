@@ -25,7 +25,7 @@ type SomeMarks = &'static [(usize, Mark)];
 
 /// Chunks of so many bundles that are valid.
 #[rattlefmt::skip]
-static VALID: [(usize, Parts, SomeMarks); 19] = [
+static VALID: [(usize, Parts, SomeMarks); 21] = [
     // Pairs.
     (1, &[(27, &[0x83, 0xE0, 0xE0, 0xFF, 0xE0])],
         &[(26, Mark::Plain), (27, Mark::Plain), (28, Mark::Unmarked), (30, Mark::After(0)), (31, Mark::Unmarked)]),
@@ -35,6 +35,12 @@ static VALID: [(usize, Parts, SomeMarks); 19] = [
     (2, &[(32, &[0x83, 0xE1, 0xE0, 0xFF, 0xE1])], &[(32, Mark::Plain), (35, Mark::After(1))]),
     // A mask by itself is an instruction like any other.
     (2, &[(29, &[0x83, 0xE0, 0xE0])], &[(29, Mark::Plain), (32, Mark::Plain)]),
+    // After CPUID, UD2 and a locked CMPXCHG8B another instruction begins.
+    (1, &[(0, &[0x0F, 0xA2, 0x0F, 0x0B]), (28, &[0xF0, 0x0F, 0xC7, 0x0E])],
+        &[(2, Mark::Plain), (3, Mark::Unmarked), (4, Mark::Plain), (28, Mark::Plain), (31, Mark::Unmarked)]),
+    // A jump over CMPXCHG8B with SIB and displacement.
+    (1, &[(0, &[0xEB, 0x08, 0x0F, 0xC7, 0x0C, 0x25, 0x00, 0x00, 0x02, 0x00])],
+        &[(2, Mark::Plain), (9, Mark::Unmarked), (10, Mark::Plain)]),
     // Targets in the chunk: the mask of a pair, a mask before it, the last instruction, the instruction itself.
     (1, &[(0, &[0xEB, 0x00, 0x83, 0xE0, 0xE0, 0xFF, 0xE0])], &[(2, Mark::Plain), (5, Mark::After(0))]),
     (1, &[(0, &[0xEB, 0x03, 0x83, 0xE0, 0xE0, 0x83, 0xE0, 0xE0, 0xFF, 0xE0])], &[(5, Mark::Plain), (8, Mark::After(0))]),
@@ -55,7 +61,7 @@ static VALID: [(usize, Parts, SomeMarks); 19] = [
 
 /// Chunks of so many bundles that are refused.
 #[rattlefmt::skip]
-static FAULTY: [(usize, Parts, VetFault); 31] = [
+static FAULTY: [(usize, Parts, VetFault); 33] = [
     // A pair over the end of a bundle.
     (2, &[(29, &[0x83, 0xE0, 0xE0, 0xFF, 0xE0])], Bare { at: 0x10020 }),
     (1, &[(28, &[0x83, 0xE0, 0xE0, 0xFF])], Crosses { at: 0x1001F }),
@@ -73,10 +79,12 @@ static FAULTY: [(usize, Parts, VetFault); 31] = [
     (1, &[(31, &[0xFF])], Crosses { at: 0x1001F }),
     (2, &[(31, &[0xB8, 0x00, 0x00, 0x00, 0x00])], Crosses { at: 0x1001F }),
     (1, &[(30, &[0x8B, 0x05])], Crosses { at: 0x1001E }),
+    (1, &[(30, &[0x0F, 0xC7])], Crosses { at: 0x1001E }),
     // What isn't permitted.
     (1, &[(0, &[0xC3])], NotPermitted { at: 0x10000 }),
     (1, &[(30, &[0xCD, 0x80])], NotPermitted { at: 0x1001E }),
     (1, &[(28, &[0xF0, 0x83, 0x38])], NotPermitted { at: 0x1001C }),
+    (1, &[(29, &[0x0F, 0xC7, 0xC8])], NotPermitted { at: 0x1001D }),
     (3, &[(64, &[0xFF, 0x20])], NotPermitted { at: 0x10040 }),
     // The first of several, and bad targets only after a reading without a fault.
     (1, &[(0, &[0xFF, 0xE0, 0xC3]), (31, &[0xFF])], Bare { at: 0x10000 }),

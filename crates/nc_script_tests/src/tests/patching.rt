@@ -57,6 +57,16 @@ const NOPS: [Row; 7] = [
     (b"walk 00010000", b"walk 00010000 stop"),
 ];
 
+/// An instruction that goes nowhere other than F4, created and patched in.
+const OTHER_STOP: [Row; 6] = [
+    (b"create 00010000 0f0b*", b"ok"),
+    (b"walk 00010000 00000000", b"walk 00010000 stop"),
+    (b"create 00010020 0fa2*", b"ok"),
+    (b"modify 00010020 0f0b", b"ok"),
+    (b"walk 00010020 00000000", b"walk 00010020 stop"),
+    (b"dump", b"dump 00010000 live 0f0b* 00010020 live 0f0b*"),
+];
+
 /// A jump to a span that is retired.
 const RETIRED: [Row; 6] = [
     (b"create 00010000 ebfe*", b"ok"),
@@ -98,6 +108,7 @@ fn patches(rt: HostRuntime) -> Result<(), Fail> {
         &PAIR,
         &JUMP,
         &NOPS,
+        &OTHER_STOP,
         &RETIRED,
         &MASKS,
         &ORDER,

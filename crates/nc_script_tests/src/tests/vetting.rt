@@ -20,7 +20,7 @@ const THREE: [Row; 3] = [
 ];
 
 /// Each kind of fault, between good chunks and bad lines.
-const FAULTS: [Row; 20] = [
+const FAULTS: [Row; 21] = [
     (b"00010000 eb1e*", b"ok"),
     (b"", b"bad line"),
     (b"00010010 -", b"refused BadBase"),
@@ -34,6 +34,10 @@ const FAULTS: [Row; 20] = [
     (
         b"00010040 90909090909090909090909090909090909090909090909090909090e9000000",
         b"refused Crosses 0001005c",
+    ),
+    (
+        b"00010000 9090909090909090909090909090909090909090909090909090909090900fc7",
+        b"refused Crosses 0001001e",
     ),
     (b"00010000 83e0e0ffe1*", b"refused Bare 00010003"),
     (b"00010000 eb0383e0e0ffe0*", b"refused BadTarget 00010000"),
