@@ -6,15 +6,15 @@ use Rattle.nc_decode.specs.Bundles.{IsRegionSize, limit_after}
 use Rattle.nc_work.specs.Verdicts.{AreWorkers}
 use Rattle.nc_replay.specs.declared.asked.Ask.{Ask}
 use Rattle.nc_replay.specs.declared.asked.Ask.TheVariants.{Replay, Vet}
-use Rattle.nc_script.specs.declared.fault.ReplayFault.{ReplayFault}
-use Rattle.nc_script.specs.declared.fault.ReplayFault.TheVariants.{ReadFailed, WriteFailed, OutOfMemory}
+use Rattle.nc_lines.specs.declared.fault.ReplayFault.{ReplayFault}
+use Rattle.nc_lines.specs.declared.fault.ReplayFault.TheVariants.{ReadFailed, WriteFailed, OutOfMemory}
 use Rattle.nc_replay.specs.declared.program.Halt.{Halt}
 use Rattle.nc_replay.specs.declared.program.Halt.TheVariants.{Words, Fault}
-use Rattle.nc_script.specs.Lines.{lines_of, ended_lines}
-use Rattle.nc_script.specs.Answering.{IsBegun, IsCutShort}
+use Rattle.nc_lines.specs.Lines.{lines_of, ended_lines}
+use Rattle.nc_lines.specs.Answering.{IsBegun, IsCutShort}
 use Rattle.nc_script.specs.Answers.{AnswersOnly, new_script}
 use Rattle.nc_script.specs.Run.{HasAnswered}
-use Rattle.nc_script.specs.Vetting.{HasVetted, HasBegunVetted}
+use Rattle.nc_lines.specs.Vetting.{HasVetted, HasBegunVetted}
 
 -- the numbers that are asked for are those of a region, of seats, of workers
 abbrev pub IsInRange : Ask → Type 0
