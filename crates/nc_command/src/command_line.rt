@@ -1,7 +1,7 @@
 //! What the words of a command line ask for.
 
 ghost use Rattle.std.specs.Prelude.{◌≤◌, IfOk};
-ghost use Rattle.nc_replay.specs.Start.{IsInRange};
+ghost use Rattle.nc_command.specs.Range.{IsInRange};
 
 use crate::asked::Ask;
 use clap::error::ErrorKind;
@@ -121,7 +121,7 @@ pub fn ask<'a>(alloc: Global, words: &'a [&'a str]) -> Result<Ask, Error>
 }
 
 /// The fault of a command line with a word that is not valid UTF-8.
-pub(crate) fn not_utf8(alloc: Global) -> Error {
+pub fn not_utf8(alloc: Global) -> Error {
     match program(alloc) {
         Ok(mut program) => {
             match program.error(ErrorKind::InvalidValue, "a word is not valid UTF-8 text") {
