@@ -4,22 +4,15 @@ use Rattle.std.specs.Io.KnownBytes.{Consumes, IsAtEnd}
 use Rattle.nc_gens.specs.Seen.{AreSeats}
 use Rattle.nc_decode.specs.Bundles.{IsRegionSize, limit_after}
 use Rattle.nc_work.specs.Verdicts.{AreWorkers}
-use Rattle.nc_replay.specs.declared.asked.Ask.{Ask}
-use Rattle.nc_replay.specs.declared.asked.Ask.TheVariants.{Replay, Vet}
-use Rattle.nc_script.specs.declared.fault.ReplayFault.{ReplayFault}
-use Rattle.nc_script.specs.declared.fault.ReplayFault.TheVariants.{ReadFailed, WriteFailed, OutOfMemory}
+use Rattle.nc_lines.specs.declared.fault.ReplayFault.{ReplayFault}
+use Rattle.nc_lines.specs.declared.fault.ReplayFault.TheVariants.{ReadFailed, WriteFailed, OutOfMemory}
 use Rattle.nc_replay.specs.declared.program.Halt.{Halt}
 use Rattle.nc_replay.specs.declared.program.Halt.TheVariants.{Words, Fault}
-use Rattle.nc_script.specs.Lines.{lines_of, ended_lines}
-use Rattle.nc_script.specs.Answering.{IsBegun, IsCutShort}
+use Rattle.nc_lines.specs.Lines.{lines_of, ended_lines}
+use Rattle.nc_lines.specs.Answering.{IsBegun, IsCutShort}
 use Rattle.nc_script.specs.Answers.{AnswersOnly, new_script}
 use Rattle.nc_script.specs.Run.{HasAnswered}
-use Rattle.nc_script.specs.Vetting.{HasVetted, HasBegunVetted}
-
--- the numbers that are asked for are those of a region, of seats, of workers
-abbrev pub IsInRange : Ask → Type 0
-IsInRange (Replay bundles seats) = IsRegionSize bundles × AreSeats seats
-IsInRange (Vet bundles workers) = IsRegionSize bundles × AreWorkers workers
+use Rattle.nc_lines.specs.Vetting.{HasVetted, HasBegunVetted}
 
 -- what holds where the program stopped at its command line
 abbrev pub IfWords : {T : Type 0} → Result T Halt → Type 0 → Type 0

@@ -1,16 +1,14 @@
 //! The program `nc_replay`: scripts for a code region, and chunks to be vetted, from standard input to standard output.
 //!
 //! It has two subcommands. `replay` runs a script: it creates, patches, deletes and reclaims chunks in a code region, walks
-//! through them and shows them. `vet` only vets chunks, several at a time. `ask` reads the command line, and `start` does
-//! what it asks for over any reader and writer, by the calls of `nc_script`.
+//! through them and shows them. `vet` only vets chunks, several at a time. `ask` of `nc_command` reads the command line, and
+//! `start` does what it asks for over any reader and writer, by the calls of `nc_script`.
 #![tactic(auto)]
 
-pub mod asked;
-pub mod command_line;
 pub mod program;
 
 use clap::error::ErrorKind as ClapKind;
-use command_line::not_utf8;
+pub use nc_command::{Ask, ask, not_utf8};
 pub use nc_script::{ReplayFault, run, vet_lines};
 use program::{Halt, start};
 use std::io::{ErrorKind, Input};

@@ -3,9 +3,8 @@
 ghost use Rattle.std.specs.Prelude.{◌≡◌, ◌⊎◌};
 ghost use Rattle.nc_replay.specs.Start.{IfWords, IfRun, HasReplayed, HasVettedLines};
 
-use crate::asked::Ask;
-use crate::command_line::ask;
 use clap::error::ErrorKind;
+use nc_command::{Ask, ask};
 use nc_script::{ReplayFault, run, vet_lines};
 use nc_work::Open;
 use std::alloc::Global;

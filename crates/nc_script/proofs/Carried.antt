@@ -1,7 +1,7 @@
 -- What a session answers to lines is what the script answers, whichever state the session stood for.
 use Rattle.std.proofs.Common.{◌≡◌, ◌++◌, ℕ, List, [], ◌∷◌, Option, Some, None, ap, subst}
 use Rattle.std.specs.Prelude.{IfSome}
-use Rattle.nc_script.specs.Answering.{AnswersLines, IsAnswered, IsBegun, IsCutShort}
+use Rattle.nc_lines.specs.Answering.{AnswersLines, IsAnswered, IsBegun, IsCutShort}
 use Rattle.nc_script.specs.Answers.{AnswersOnly}
 use Rattle.nc_script.specs.Script.{Script, Seat}
 use Rattle.nc_script.specs.machinery.Session.{SessionState, script_of, Fits, FollowsLine}

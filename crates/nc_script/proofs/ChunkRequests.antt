@@ -22,7 +22,8 @@ use Rattle.nc_script.specs.Requests.{Modify, Delete}
 use Rattle.nc_script.specs.Script as script
 use Rattle.nc_script.specs.Script.{Script, Seat}
 use Rattle.nc_script.specs.Reuse.{retired_at, IsRefusedDeletion}
-use Rattle.nc_script.specs.Replies.{reply_line, refused_reply, patch_words, deletion_words, stamp_reply}
+use Rattle.nc_lines.specs.Replies.{reply_line, refused_reply}
+use Rattle.nc_script.specs.Replies.{patch_words, deletion_words, stamp_reply}
 use Rattle.nc_script.specs.machinery.Session.{chunk_in, script_of, IsStamped, FollowsIn}
 use Rattle.nc_script.proofs.Fitting.{AreStamped, follows_kept, follows_same, seats_up}
 use Rattle.nc_script.proofs.Listed.{each_listed, listed_at}

@@ -1,26 +1,9 @@
 -- What is kept of a line asks for what the line asks for.
-use Rattle.std.proofs.Common.{◌≡◌, ◌<◌, ◌≤◌, ℕ, Bool, cond, List, Option, None, length, sym, ap, ◌∙◌, ⊎_elim}
-use Rattle.std.proofs.lemmas.Bool.{lt-ltb, cases_lt}
-use Rattle.nc_script.specs.Lines.{is_long, kept_of, line_limit}
-use Rattle.nc_script.specs.Requests.{request_in, request_of, chunk_in, placed_in}
-use Rattle.nc_script.specs.Lines.{words_in}
-use Rattle.nc_script.proofs.Cuts.{kept_is_all, kept_is_long}
+use Rattle.std.proofs.Common.{◌≡◌, ℕ, List}
+use Rattle.nc_lines.specs.Lines.{kept_of, words_in}
+use Rattle.nc_lines.proofs.Offered.{read_of_kept}
+use Rattle.nc_script.specs.Requests.{request_in, request_of}
 
--- what is read of lines that aren't too long is read of what is kept of them
-read_of_kept : {X : Type 0} (read : List ℕ → Option X) (kept line : List ℕ) → kept ≡ kept_of line
-    → cond (is_long kept) None (read kept) ≡ cond (is_long line) None (read line)
-read_of_kept read kept line e =
-    ⊎_elim
-    (λ (long : line_limit < length kept).
-    ap (λ (v : Bool). cond v None (read kept)) (lt-ltb _ _ long)
-    ∙ sym (ap (λ (v : Bool). cond v None (read line)) (lt-ltb _ _ (kept_is_long line_limit kept line e long))))
-    (λ (short : length kept ≤ line_limit). ap (λ (l : List ℕ). cond (is_long l) None (read l)) (kept_is_all line_limit kept line e short))
-    (cases_lt line_limit (length kept))
-
--- so does what a line of a script asks for
+-- it is read of what is kept, or the line is too long
 pub request_of_kept : (kept line : List ℕ) → kept ≡ kept_of line → request_in kept ≡ request_in line
 request_of_kept kept line e = read_of_kept (λ (l : List ℕ). request_of (words_in l)) kept line e
-
--- and the chunk that a line names
-pub chunk_of_kept : (kept line : List ℕ) → kept ≡ kept_of line → chunk_in kept ≡ chunk_in line
-chunk_of_kept kept line e = read_of_kept (λ (l : List ℕ). placed_in (words_in l)) kept line e

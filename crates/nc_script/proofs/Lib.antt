@@ -1,7 +1,3 @@
-pub mod Cuts
-pub mod Answered
-pub mod Steps
-pub mod WholeInput
 pub mod RegionText
 pub mod SpanDigits
 pub mod DumpReply
@@ -10,8 +6,6 @@ pub mod Serving
 pub mod OneAnswer
 pub mod OneReply
 pub mod Kept
-pub mod Gathering
-pub mod VetReplies
 pub mod Passes
 pub mod Listed
 pub mod Patches

@@ -2,7 +2,7 @@
 use Rattle.std.proofs.Common.{◌≡◌, ℕ, List, Some, None}
 use Rattle.nc_region.specs.Region.{Region}
 use Rattle.nc_script.specs.Requests.{Request, Create, Modify, Delete, CheckIn, Leave, Reclaim, Walk, Dump, request_in}
-use Rattle.nc_script.specs.Lines.{bad_line}
+use Rattle.nc_lines.specs.Lines.{bad_line}
 use Rattle.nc_script.specs.Script.{Script}
 use Rattle.nc_script.specs.Answers.{Serves, IsOnly, IsSettled}
 use Rattle.nc_script.specs.machinery.Session.{SeatsState, SessionState, script_of, Follows, FollowsLine, WalksOnly}

@@ -17,13 +17,15 @@ use Rattle.nc_region.specs.declared.fault.ModifyFault.TheVariants.{BadSpan, NotL
 use Rattle.nc_region.specs.declared.fault.DeleteFault.{DeleteFault}
 use Rattle.nc_region.specs.declared.fault.DeleteFault.TheVariants.{NoChunk, GensFull}
 use Rattle.nc_script.specs.Requests.{Request, Create, Modify, Delete, CheckIn, Leave, Reclaim, Walk, Dump, request_in}
-use Rattle.nc_script.specs.Lines.{bad_line}
+use Rattle.nc_lines.specs.Lines.{bad_line}
 use Rattle.nc_script.specs.Script.{Script, ScriptChunk, Seat, Staying, Left, IsInserted}
 use Rattle.nc_script.specs.Patching.{IsHeld, Replaces, IsLawfulPatch, IsRefusedPatch}
 use Rattle.nc_script.specs.Reuse.{HasLive, IsRefusedDeletion, AllStay, Stays, Allows, number_of, IsFreeingNumber, freed_by, kept_by}
-use Rattle.nc_script.specs.Answers.{AnswersOnly, IsOnly, IsSettled, IsValidAt, Serves}
+use Rattle.nc_lines.specs.Vetting.{IsValidAt}
+use Rattle.nc_script.specs.Answers.{AnswersOnly, IsOnly, IsSettled, Serves}
 use Rattle.nc_script.specs.machinery.Session.{script_of}
-use Rattle.nc_script.specs.Replies.{reply_line, refused_reply, fault_words, walk_reply, patch_words, deletion_words, freed_reply}
+use Rattle.nc_lines.specs.Replies.{reply_line, refused_reply, fault_words}
+use Rattle.nc_script.specs.Replies.{walk_reply, patch_words, deletion_words, freed_reply}
 use Rattle.nc_script.proofs.RegionText.{text_of-script_of}
 
 -- what holds of all chunks holds of those after the first

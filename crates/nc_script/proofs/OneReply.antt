@@ -2,8 +2,8 @@
 use Rattle.std.proofs.Common.{◌≡◌, ◌≢◌, ◌++◌, ℕ, ◌≤◌, List, [], ◌∷◌, get_or, set, Option, Some, None, inl, inr, refl, sym, ap, ◌∙◌}
 use Rattle.std.proofs.Common.{subst, append_assoc, arith, zero, suc}
 use Rattle.std.specs.Prelude.{All, MatchOption}
-use Rattle.nc_script.specs.Answering.{AnswersLines}
-use Rattle.nc_script.specs.Lines.{bad_line}
+use Rattle.nc_lines.specs.Answering.{AnswersLines}
+use Rattle.nc_lines.specs.Lines.{bad_line}
 use Rattle.nc_script.specs.Requests.{Request, Create, Modify, Delete, CheckIn, Leave, Reclaim, Walk, Dump, request_in}
 use Rattle.nc_script.specs.Answers.{Serves, ServesLine}
 use Rattle.nc_script.specs.Laws.{HasOneReply, BeginsAll, FreesByLeast, IsNoLeave, LeavesOpen, one_left}

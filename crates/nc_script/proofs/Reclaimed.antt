@@ -15,7 +15,8 @@ use Rattle.nc_region.specs.declared.chunk.Chunk.{Chunk}
 use Rattle.nc_script.specs.Requests.{Reclaim}
 use Rattle.nc_script.specs.Script.{Seat, Staying, Left}
 use Rattle.nc_script.specs.Reuse.{Allows, number_of, kept_by}
-use Rattle.nc_script.specs.Replies.{reply_line, freed_reply}
+use Rattle.nc_lines.specs.Replies.{reply_line}
+use Rattle.nc_script.specs.Replies.{freed_reply}
 use Rattle.nc_script.specs.machinery.Session.{SeatsState, chunk_in, SeatFits, Follows}
 use Rattle.nc_script.specs.machinery.Seats.{HasMetAt, HaveMet, IsOnlyKeeper}
 use Rattle.nc_script.proofs.Fitting.{AreStamped}

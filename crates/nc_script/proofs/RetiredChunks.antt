@@ -18,7 +18,7 @@ use Rattle.nc_script.specs.Script.{bytes_of}
 use Rattle.nc_script.specs.Reuse as reuse
 use Rattle.nc_script.specs.Reuse.{retired_at}
 use Rattle.nc_script.specs.machinery.Session.{state_in, chunk_in}
-use Rattle.nc_script.proofs.Cuts.{eqb_no}
+use Rattle.nc_lines.proofs.Offered.{eqb_no}
 use Rattle.nc_script.proofs.RegionText.{length-state_in}
 use Rattle.nc_script.proofs.Creating.{chunks_apart}
 use Rattle.nc_script.proofs.Listed.{rising_each}

@@ -7,7 +7,7 @@ use Rattle.nc_gens.specs.Seen.{PassState}
 use Rattle.nc_region.specs.Region.{Region}
 use Rattle.nc_script.specs.Requests.{CheckIn, Leave}
 use Rattle.nc_script.specs.Script.{Staying, Left}
-use Rattle.nc_script.specs.Replies.{reply_line, refused_reply}
+use Rattle.nc_lines.specs.Replies.{reply_line, refused_reply}
 use Rattle.nc_script.specs.machinery.Session.{SeatsState, SessionState, script_of, SeatsFit, Follows}
 use Rattle.nc_script.specs.machinery.Seats.{HasPass, HasNoPass, HasCheckedAt}
 use Rattle.nc_script.proofs.Fitting.{AreStamped}

@@ -1,6 +1,5 @@
 -- What a session's calls answer is what the script answers.
-use Rattle.std.proofs.Common.{◌≡◌, ◌≢◌, ◌++◌, ℕ, ◌+◌, ◌-◌, ◌≤◌, length, map, arith, List, inl, inr, refl, sym, ap, ◌∙◌, subst, Result, Ok}
-use Rattle.std.proofs.Common.{Err, OnOk, is_ok, cond}
+use Rattle.std.proofs.Common.{◌≡◌, ◌≢◌, ℕ, ◌+◌, ◌-◌, ◌≤◌, length, map, arith, List, inl, inr, refl, sym, ap, ◌∙◌, subst}
 use Rattle.std.specs.Prelude.{codes}
 use Rattle.nc_region.specs.Region.{Region, IsRegion, IsCreated, Meets}
 use Rattle.nc_region.specs.declared.chunk.Chunk.{Chunk}
@@ -17,9 +16,11 @@ use Rattle.nc_vet.specs.declared.fault.VetFault.{VetFault}
 use Rattle.nc_vet.specs.declared.fault.VetFault.TheVariants.{OutOfMemory}
 use Rattle.nc_text.specs.Places.{limit_of}
 use Rattle.nc_script.specs.Requests.{Create, Walk}
-use Rattle.nc_script.specs.Answers.{Serves, IsValidAt}
+use Rattle.nc_lines.specs.Vetting.{IsValidAt}
+use Rattle.nc_script.specs.Answers.{Serves}
 use Rattle.nc_script.specs.machinery.Session.{script_of, chunk_in}
-use Rattle.nc_script.specs.Replies.{reply_line, refused_reply, fault_words, walk_reply}
+use Rattle.nc_lines.specs.Replies.{reply_line, refused_reply, fault_words}
+use Rattle.nc_script.specs.Replies.{walk_reply}
 use Rattle.nc_script.proofs.RegionText.{text_of-script_of}
 
 -- states that differ in their chunks
@@ -118,15 +119,3 @@ pub as_asked : (v : vet.MarkedChunk) (base : ℕ) (bytes reply : List ℕ) (old 
 as_asked v base bytes reply old new base_is code_is served =
     subst (λ (b : ℕ). Serves (Create b bytes) old reply new) base_is
     (subst (λ (bs : List ℕ). Serves (Create v.base bs) old reply new) code_is served)
-
--- what was added where all of the bytes were
-pub added : {T E : Type 0} (r : Result T E) (new old bytes : List ℕ) (P : List ℕ → Type 0) → new ≡ cond (is_ok r) (old ++ bytes) old
-    → P bytes → OnOk r ((reply : List ℕ) × (new ≡ old ++ reply) × P reply)
-added (Ok x) new old bytes P e p = (bytes, e, p)
-added (Err x) new old bytes P e p = tt
-
--- where all bytes were added, they stand at the end
-pub added_all : {T E : Type 0} (r : Result T E) (new old bytes : List ℕ) → new ≡ cond (is_ok r) (old ++ bytes) old
-    → OnOk r (new ≡ old ++ bytes)
-added_all (Ok x) new old bytes e = e
-added_all (Err x) new old bytes e = tt

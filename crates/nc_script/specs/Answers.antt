@@ -1,26 +1,22 @@
 -- What a script answers to a line, and its state afterwards.
 use Rattle.std.specs.Prelude.{◌≡◌, ◌≢◌, ℕ, ◌*◌, ◌+◌, ◌^◌, ◌<◌, ◌⊎◌, List, [], length, map, replicate, MatchOption, Some, codes, slice_get}
 use Rattle.std.specs.Prelude.{slice_set}
-use Rattle.nc_decode.specs.declared.instruction.Mark.{Mark}
-use Rattle.nc_vet.specs.Chunk.{IsValid}
 use Rattle.nc_vet.specs.Faults.{HasFault}
 use Rattle.nc_vet.specs.declared.fault.VetFault.{VetFault}
 use Rattle.nc_vet.specs.declared.fault.VetFault.TheVariants.{OutOfMemory}
 use Rattle.nc_region.specs.declared.trace.End.{End}
 use Rattle.nc_region.specs.Trace.{IsTrace, IsWalkStart}
-use Rattle.nc_script.specs.Lines.{bad_line}
+use Rattle.nc_lines.specs.Lines.{bad_line}
 use Rattle.nc_region.specs.declared.fault.ModifyFault.{ModifyFault}
 use Rattle.nc_region.specs.declared.fault.DeleteFault.{DeleteFault}
 use Rattle.nc_script.specs.Requests.{Request, Create, Modify, Delete, CheckIn, Leave, Reclaim, Walk, Dump, request_in}
 use Rattle.nc_script.specs.Script.{Script, Live, Staying, Left, text_of, IsOccupied, IsInserted}
 use Rattle.nc_script.specs.Patching.{IsLawfulPatch, IsRefusedPatch, patched_at}
 use Rattle.nc_script.specs.Reuse.{HasLive, retired_at, IsRefusedDeletion, IsThere, IsFreeingNumber, freed_by, kept_by, AllStay}
-use Rattle.nc_script.specs.Replies.{reply_line, refused_reply, fault_words, walk_reply, dump_reply, patch_words, deletion_words}
+use Rattle.nc_lines.specs.Replies.{reply_line, refused_reply, fault_words}
+use Rattle.nc_lines.specs.Vetting.{IsValidAt}
+use Rattle.nc_script.specs.Replies.{walk_reply, dump_reply, patch_words, deletion_words}
 use Rattle.nc_script.specs.Replies.{stamp_reply, freed_reply}
-
--- the bytes are a valid chunk at this base
-abbrev pub IsValidAt : ℕ → ℕ → List ℕ → Type 0
-IsValidAt base limit bytes = (marks : List Mark) × IsValid (record { base = base; limit = limit; code = bytes; marks = marks })
 
 -- a valid chunk that meets no other is put into the list
 pub record IsCreated (base : ℕ) (bytes : List ℕ) (old : Script) (reply : List ℕ) (new : Script) : Type 0 where

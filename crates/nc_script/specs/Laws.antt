@@ -1,9 +1,10 @@
 -- Lines have no other replies than those that a run wrote, as long as no seat leaves.
 use Rattle.std.specs.Prelude.{◌≡◌, ◌≢◌, ◌++◌, ℕ, ◌≤◌, List, [], ◌∷◌, Option, Some, All, Any}
 use Rattle.std.specs.Io.KnownBytes.{Appends}
-use Rattle.nc_script.specs.Answering.{AnswersLines, IsBegun}
+use Rattle.nc_lines.specs.Answering.{AnswersLines, IsBegun}
 use Rattle.nc_script.specs.Answers.{AnswersOnly, Serves, ServesLine}
-use Rattle.nc_script.specs.Replies.{reply_line, freed_reply}
+use Rattle.nc_lines.specs.Replies.{reply_line}
+use Rattle.nc_script.specs.Replies.{freed_reply}
 use Rattle.nc_script.specs.Requests.{Leave, Reclaim, request_in}
 use Rattle.nc_script.specs.Reuse.{number_of, IsFreeingNumber, AllStay}
 use Rattle.nc_script.specs.Script.{Script, Retired, Staying, Left}

@@ -1,6 +1,4 @@
 pub mod machinery
-pub mod Lines
-pub mod Answering
 pub mod Requests
 pub mod Script
 pub mod Patching
@@ -9,4 +7,3 @@ pub mod Replies
 pub mod Answers
 pub mod Run
 pub mod Laws
-pub mod Vetting

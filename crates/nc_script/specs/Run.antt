@@ -1,6 +1,6 @@
 -- What a run of a script has read and written.
 use Rattle.std.specs.Prelude.{ℕ, List, Option}
-use Rattle.nc_script.specs.Answering.{IsAnswered}
+use Rattle.nc_lines.specs.Answering.{IsAnswered}
 use Rattle.nc_script.specs.Answers.{AnswersOnly, new_script}
 use Rattle.nc_script.specs.Script.{Script}
 

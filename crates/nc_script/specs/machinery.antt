@@ -1,6 +1,4 @@
--- Machinery of the proofs, cited by no public contract: how far a run has come, and what its values stand for.
-pub mod Progress
-pub mod Batch
+-- Machinery of the proofs, cited by no public contract: what a session and its values stand for.
 pub mod Session
 pub mod Seats
 pub mod Shown

@@ -1,26 +1,17 @@
 //! How replies are written: single spaces, decimal numbers, addresses and bytes in lower-case hexadecimal.
 
-ghost use Rattle.std.specs.Prelude.{◌≡◌, ◌≢◌, ◌++◌, ◌∷◌, [], ◌+◌, ◌<◌, ◌≤◌, ◌^◌, OnOk};
+ghost use Rattle.std.specs.Prelude.{◌≡◌, ◌++◌, ◌∷◌, [], ◌+◌, ◌<◌, ◌≤◌, ◌^◌, OnOk};
 ghost use Rattle.std.specs.Fmt.{decimal};
 ghost use Rattle.hex.specs.Hex.{encode_lower};
 ghost use Rattle.nc_text.specs.Places.{limit_of};
-ghost use Rattle.nc_vet.specs.declared.fault.VetFault.TheVariants as vet;
 ghost use Rattle.nc_script.specs.machinery.Session.{bytes_at, chunk_in};
-ghost use Rattle.nc_script.specs.Replies.{address_digits, places_words, reply_line, refused_reply, fault_words, end_word, walk_reply};
+ghost use Rattle.nc_lines.specs.Replies.{reply_line, refused_reply};
+ghost use Rattle.nc_script.specs.Replies.{places_words, end_word, walk_reply};
 ghost use Rattle.nc_script.specs.Replies.{chunk_words, patch_words, deletion_words, stamp_reply, freed_reply};
 
+use nc_lines::push_address;
 use nc_region::{Chunk, ChunkState, DeleteFault, End, ModifyFault, Region, Trace};
-use nc_vet::VetFault;
 use std::alloc::{AllocError, Global};
-
-/// Adds the eight digits of an address.
-pub(crate) fn push_address(out: &mut Vec<u8>, at: u32) -> Result<(), AllocError>
-    ensures { OnOk result (out.new.items ≡ out.old.items ++ address_digits at) }
-{
-    let mut digits = [0u8; 8];
-    hex::encode_to_slice(at.to_be_bytes(), &mut digits).unwrap();
-    out.extend_from_slice(&digits)
-}
 
 /// Adds the two digits of a byte.
 pub(crate) fn push_byte(out: &mut Vec<u8>, byte: u8) -> Result<(), AllocError>
@@ -47,40 +38,6 @@ pub(crate) fn push_places(out: &mut Vec<u8>, places: &[u32]) -> Result<(), Alloc
         out.push(b' ')?;
         push_address(out, *place)?;
     }
-    Ok(())
-}
-
-/// Adds a fault's name, with its place where it has one. Lack of memory is no answer.
-fn push_name(out: &mut Vec<u8>, fault: VetFault) -> Result<(), AllocError>
-    ensures { OnOk result ((fault ≢ vet.OutOfMemory) × (out.new.items ≡ out.old.items ++ fault_words fault)) }
-{
-    match fault {
-        VetFault::BadBase => out.extend_from_slice(b"BadBase"),
-        VetFault::BadLength => out.extend_from_slice(b"BadLength"),
-        VetFault::OutOfRange => out.extend_from_slice(b"OutOfRange"),
-        VetFault::NotPermitted { at } => push_placed(out, b"NotPermitted ", at),
-        VetFault::Crosses { at } => push_placed(out, b"Crosses ", at),
-        VetFault::Bare { at } => push_placed(out, b"Bare ", at),
-        VetFault::BadTarget { at } => push_placed(out, b"BadTarget ", at),
-        VetFault::OutOfMemory => Err(AllocError),
-    }
-}
-
-/// Adds a name and a place.
-fn push_placed(out: &mut Vec<u8>, name: &[u8], at: u32) -> Result<(), AllocError>
-    ensures { OnOk result (out.new.items ≡ out.old.items ++ (name.now ++ address_digits at)) }
-{
-    out.extend_from_slice(name)?;
-    push_address(out, at)
-}
-
-/// Adds the answer to a chunk that has a fault, which is no lack of memory.
-pub(crate) fn push_fault(out: &mut Vec<u8>, fault: VetFault) -> Result<(), AllocError>
-    ensures { OnOk result ((fault ≢ vet.OutOfMemory) × (out.new.items ≡ out.old.items ++ reply_line (refused_reply (fault_words fault)))) }
-{
-    out.extend_from_slice(b"refused ")?;
-    push_name(out, fault)?;
-    out.push(b'\n')?;
     Ok(())
 }
 

@@ -4,17 +4,16 @@ ghost use Rattle.std.specs.Prelude.{◌≡◌, ◌++◌, ◌⊎◌, ◌↔◌, �
 ghost use Rattle.std.specs.Io.KnownBytes.{Consumes, IsAtEnd};
 ghost use Rattle.nc_gens.specs.Seen.{AreSeats};
 ghost use Rattle.nc_decode.specs.Bundles.{IsRegionSize};
-ghost use Rattle.nc_script.specs.Lines.{lines_of, ended_lines};
-ghost use Rattle.nc_script.specs.Answering.{IsBegun, IsCutShort};
+ghost use Rattle.nc_lines.specs.Lines.{lines_of, ended_lines};
+ghost use Rattle.nc_lines.specs.Answering.{IsBegun, IsCutShort};
 ghost use Rattle.nc_script.specs.Answers.{AnswersOnly, new_script};
 ghost use Rattle.nc_script.specs.Laws.{BeginsAll, HasOneReply, FreesByLeast, LeavesOpen};
 ghost use Rattle.nc_script.specs.Run.{HasAnswered};
 
-use crate::fault::ReplayFault;
 use crate::session::Session;
-use crate::stream::answer_all;
 use nc_decode::is_region_size;
 use nc_gens::{Gens, MOST_SEATS};
+use nc_lines::{ReplayFault, answer_all};
 use std::alloc::Global;
 use std::io::{Read, Write};
 

@@ -2,13 +2,13 @@
 
 ghost use Rattle.std.specs.Prelude.{◌≡◌, ℕ, IfOk, map, Some, None, ◌∷◌};
 ghost use Rattle.std.specs.Option.{option_map};
-ghost use Rattle.nc_script.specs.Requests.{request_in, placed_in, chunk_in, create_in, modify_in, delete_in, of_seat_in, walk_in};
+ghost use Rattle.nc_script.specs.Requests.{request_in, create_in, modify_in, delete_in, of_seat_in, walk_in};
 ghost use Rattle.nc_script.specs.Requests.{addresses_in, single_in};
 ghost use Rattle.nc_script.specs.Requests as spec;
-ghost use Rattle.nc_script.specs.machinery.Shown.{shown, plain};
+ghost use Rattle.nc_script.specs.machinery.Shown.{shown};
 
-use crate::lines::LINE_LIMIT;
-use crate::words::{address_of, bytes_of, seat_of, words_of};
+use crate::words::seat_of;
+use nc_lines::{LINE_LIMIT, address_of, placed_of, words_of};
 use std::alloc::{AllocError, Global};
 
 /// What a line asks for.
@@ -30,38 +30,6 @@ pub(crate) enum Request {
     Walk { start: u32, choices: Vec<u32> },
     /// The list of all chunks.
     Dump,
-}
-
-/// An address, and the bytes that are to stand there.
-fn placed_of(alloc: Global, words: &[&[u8]]) -> Result<Option<(u32, Vec<u8>)>, AllocError>
-    ensures { IfOk result (λ found. option_map plain found ≡ placed_in (map (λ word. word.now) words.now)) }
-{
-    match words {
-        [at, bytes] => {
-            let Some(at) = address_of(at) else {
-                return Ok(None);
-            };
-            match bytes_of(alloc, bytes)? {
-                Some(bytes) => Ok(Some((at, bytes))),
-                None => Ok(None),
-            }
-        }
-        _ => Ok(None),
-    }
-}
-
-/// The address and bytes of a line that names a chunk to be vetted, or nothing where it is a bad line.
-pub(crate) fn placed_in_line(
-    alloc: Global,
-    line: &[u8],
-) -> Result<Option<(u32, Vec<u8>)>, AllocError>
-    ensures { IfOk result (λ found. option_map plain found ≡ chunk_in line.now) }
-{
-    if line.len() > LINE_LIMIT {
-        return Ok(None);
-    }
-    let words = words_of(alloc, line)?;
-    placed_of(alloc, words.as_slice())
 }
 
 /// What follows the word `create`.

@@ -8,12 +8,12 @@ ghost use Rattle.nc_script.specs.Script.{Staying};
 ghost use Rattle.nc_script.specs.machinery.Session.{script_of, Fits, Follows, FollowsIn, FollowsLine, WalksOnly};
 
 use crate::answer::{
-    push_chunk, push_delete_fault, push_fault, push_freed, push_patch_fault, push_stamp, push_trace,
+    push_chunk, push_delete_fault, push_freed, push_patch_fault, push_stamp, push_trace,
 };
 use crate::request::{Request, request_of};
-use crate::responder::Responder;
 use crate::seats::Seats;
 use nc_gens::{Gens, Keeper, Pass};
+use nc_lines::{Responder, push_fault};
 use nc_region::{CreateFault, Region, WalkFault};
 use nc_vet::vet;
 use std::alloc::{AllocError, Global};

@@ -1,30 +1,7 @@
-//! The words of a line, and what they spell.
+//! The word of a seat, and what it spells.
 
-ghost use Rattle.std.specs.Prelude.{◌≡◌, ◌*◌, ◌<◌, ℕ, IfOk, IfSome, map};
-ghost use Rattle.std.specs.Option.{option_map};
-ghost use Rattle.nc_script.specs.Lines.{words_in};
-ghost use Rattle.nc_script.specs.Requests.{address_in, bytes_in, digit_in, next_digit, seat_in};
-
-use hex::FromHexError;
-use std::alloc::{AllocError, Global};
-
-/// The words of a line, each between two spaces or at an end; two spaces beside each other have an empty word between them.
-pub(crate) fn words_of(alloc: Global, line: &[u8]) -> Result<Vec<&[u8]>, AllocError>
-    ensures { IfOk result (λ words. map (λ word. word.now) words.items ≡ words_in line.now) }
-{
-    line.split(|b| *b == b' ').collect(alloc)
-}
-
-/// An address or a choice of exactly eight hexadecimal digits of either case.
-pub(crate) fn address_of(word: &[u8]) -> Option<u32>
-    ensures { result ≡ address_in word.now }
-{
-    let mut bytes = [0u8; 4];
-    match hex::decode_to_slice(word, &mut bytes) {
-        Ok(()) => Some(u32::from_be_bytes(bytes)),
-        Err(_) => None,
-    }
-}
+ghost use Rattle.std.specs.Prelude.{◌≡◌, ◌*◌, ◌<◌, ℕ, IfSome};
+ghost use Rattle.nc_script.specs.Requests.{digit_in, next_digit, seat_in};
 
 /// The value of a decimal digit.
 fn digit_of(byte: u8) -> Option<u32>
@@ -58,22 +35,5 @@ pub(crate) fn seat_of(word: &[u8]) -> Option<u32>
         [a, b] => next_digit(digit_of(*a), *b),
         [a, b, c] => next_digit(next_digit(digit_of(*a), *b), *c),
         _ => None,
-    }
-}
-
-/// Bytes of two hexadecimal digits each, at least one; or none, written `-`.
-pub(crate) fn bytes_of(alloc: Global, word: &[u8]) -> Result<Option<Vec<u8>>, AllocError>
-    ensures { IfOk result (λ found. option_map (λ bytes. bytes.items) found ≡ bytes_in word.now) }
-{
-    if word.len() == 0 {
-        return Ok(None);
-    }
-    if word.len() == 1 && word[0] == b'-' {
-        return Ok(Some(Vec::new(alloc)));
-    }
-    match hex::decode(alloc, word) {
-        Ok(bytes) => Ok(Some(bytes)),
-        Err(FromHexError::OutOfMemory) => Err(AllocError),
-        Err(_) => Ok(None),
     }
 }

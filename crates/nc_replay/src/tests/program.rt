@@ -1,9 +1,8 @@
 //! The program over memory: what words ask for, what is written, and the status to end with.
 
-use crate::asked::Ask;
-use crate::command_line::ask;
 use crate::program::{Halt, start};
 use crate::tests::filled::push_filled;
+use nc_command::{Ask, ask};
 use std::alloc::Global;
 use std::sync::Wait;
 use std::test::Fail;

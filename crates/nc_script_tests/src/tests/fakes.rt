@@ -1,6 +1,6 @@
 //! A responder that repeats its lines, and readers and writers that stop or fail.
 ghost use Rattle.std.specs.Prelude.{◌≡◌, ◌++◌, ◌∷◌, [], ℕ, List, None};
-ghost use Rattle.nc_script.specs.Lines.{kept_of};
+ghost use Rattle.nc_lines.specs.Lines.{kept_of};
 
 use nc_script::Responder;
 use std::alloc::AllocError;

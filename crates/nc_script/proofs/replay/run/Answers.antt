@@ -1,8 +1,8 @@
 -- What the session answers is what the script answers.
 use Rattle.std.proofs.Common.{ℕ, List, length, replicate, inr, ap, ◌∙◌}
 use Rattle.std.proofs.lemmas.Result.{on_ok_weaker}
-use Rattle.nc_script.specs.Lines.{lines_of, ended_lines}
-use Rattle.nc_script.specs.Answering.{IsAnswered, IsBegun, IsCutShort}
+use Rattle.nc_lines.specs.Lines.{lines_of, ended_lines}
+use Rattle.nc_lines.specs.Answering.{IsAnswered, IsBegun, IsCutShort}
 use Rattle.nc_script.specs.Answers.{AnswersOnly, new_script}
 use Rattle.nc_script.specs.Run.{HasAnswered}
 use Rattle.nc_script.specs.Script.{Seat, Staying}

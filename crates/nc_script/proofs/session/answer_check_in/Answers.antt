@@ -1,9 +1,9 @@
 use Rattle.std.proofs.Common.{subst}
 use Rattle.std.specs.Prelude.{codes}
 use Rattle.nc_script.specs.Requests.{CheckIn}
-use Rattle.nc_script.specs.Replies.{reply_line, refused_reply}
+use Rattle.nc_lines.specs.Replies.{reply_line, refused_reply}
 use Rattle.nc_script.specs.machinery.Session.{SessionState, Follows}
-use Rattle.nc_script.proofs.Serving.{added}
+use Rattle.nc_lines.proofs.Offered.{added}
 use Rattle.nc_script.proofs.SeatRequests.{checked_follows, no_seat_checks_in, same_state}
 use Rattle.nc_script.proofs.session.answer_check_in.Goals as goal
 

@@ -5,10 +5,11 @@ use Rattle.nc_vet.specs.Faults.{HasFault}
 use Rattle.nc_region.specs.Region.{Region, MayRefuse, live_chunk}
 use Rattle.nc_script.specs.Requests.{Create}
 use Rattle.nc_script.specs.machinery.Session.{FollowsIn}
-use Rattle.nc_script.specs.Replies.{reply_line, refused_reply, fault_words}
+use Rattle.nc_lines.specs.Replies.{reply_line, refused_reply, fault_words}
 use Rattle.nc_script.proofs.Fitting.{follows_kept, follows_same}
 use Rattle.nc_script.proofs.ChunkRequests.{inserted_stamped}
-use Rattle.nc_script.proofs.Serving.{fault_serves, created_serves, crowded_serves, as_asked, added}
+use Rattle.nc_script.proofs.Serving.{fault_serves, created_serves, crowded_serves, as_asked}
+use Rattle.nc_lines.proofs.Offered.{added}
 use Rattle.nc_script.proofs.session.answer_create.Goals as goal
 
 pub returns-in-Err-clause-follows : goal.returns-in-Err-clause-follows

@@ -1,5 +1,6 @@
 use Rattle.std.proofs.lemmas.Result.{on_ok_weaker}
-use Rattle.nc_script.specs.Replies.{reply_line, refused_reply, deletion_words, stamp_reply}
+use Rattle.nc_lines.specs.Replies.{reply_line, refused_reply}
+use Rattle.nc_script.specs.Replies.{deletion_words, stamp_reply}
 use Rattle.nc_script.proofs.ChunkRequests.{deleted_follows, undeleted_follows}
 use Rattle.nc_script.proofs.session.answer_delete.Goals as goal
 

@@ -1,9 +1,10 @@
 use Rattle.std.specs.Prelude.{codes}
 use Rattle.std.proofs.lemmas.Result.{on_ok_weaker}
 use Rattle.nc_script.specs.Requests.{Modify}
-use Rattle.nc_script.specs.Replies.{reply_line, refused_reply, patch_words}
+use Rattle.nc_lines.specs.Replies.{reply_line, refused_reply}
+use Rattle.nc_script.specs.Replies.{patch_words}
 use Rattle.nc_script.specs.machinery.Session.{FollowsIn}
-use Rattle.nc_script.proofs.Serving.{added}
+use Rattle.nc_lines.proofs.Offered.{added}
 use Rattle.nc_script.proofs.ChunkRequests.{modified_follows, unmodified_follows}
 use Rattle.nc_script.proofs.session.answer_modify.Goals as goal
 

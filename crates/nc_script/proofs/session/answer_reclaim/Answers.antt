@@ -1,5 +1,6 @@
 use Rattle.std.proofs.lemmas.Result.{on_ok_weaker}
-use Rattle.nc_script.specs.Replies.{reply_line, freed_reply}
+use Rattle.nc_lines.specs.Replies.{reply_line}
+use Rattle.nc_script.specs.Replies.{freed_reply}
 use Rattle.nc_script.proofs.Reclaimed.{reclaimed_follows}
 use Rattle.nc_script.proofs.session.answer_reclaim.Goals as goal
 

@@ -3,9 +3,11 @@ use Rattle.std.specs.Prelude.{codes}
 use Rattle.std.proofs.lemmas.Result.{on_ok_weaker}
 use Rattle.nc_region.specs.Trace.{MayRefuseWalk}
 use Rattle.nc_script.specs.machinery.Session.{WalksOnly}
-use Rattle.nc_script.specs.Replies.{reply_line, refused_reply, walk_reply}
+use Rattle.nc_lines.specs.Replies.{reply_line, refused_reply}
+use Rattle.nc_script.specs.Replies.{walk_reply}
 use Rattle.nc_script.proofs.OneAnswer.{walk_only, no_start_only}
-use Rattle.nc_script.proofs.Serving.{walk_serves, no_start_serves, added}
+use Rattle.nc_script.proofs.Serving.{walk_serves, no_start_serves}
+use Rattle.nc_lines.proofs.Offered.{added}
 use Rattle.nc_script.proofs.session.answer_walk.Goals as goal
 
 pub returns-in-Ok : goal.returns-in-Ok

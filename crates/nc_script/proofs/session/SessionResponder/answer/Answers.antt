@@ -2,11 +2,11 @@ use Rattle.std.proofs.Common.{ℕ, List, None, ◌≡◌, ◌∙◌, Some, sym, 
 use Rattle.std.specs.Option.{option_map}
 use Rattle.std.proofs.lemmas.Result.{on_ok_weaker}
 use Rattle.nc_script.specs.Requests.{Create, Modify, Delete, CheckIn, Leave, Reclaim, Walk, Dump, request_in}
-use Rattle.nc_script.specs.Lines.{bad_line}
+use Rattle.nc_lines.specs.Lines.{bad_line}
 use Rattle.nc_script.specs.machinery.Shown.{shown}
 use Rattle.nc_script.specs.declared.request.Request.{Request}
 use Rattle.nc_script.specs.machinery.Session.{SessionState, FollowsLine, FollowsIn, WalksOnly}
-use Rattle.nc_script.proofs.Serving.{added_all}
+use Rattle.nc_lines.proofs.Offered.{added_all}
 use Rattle.nc_script.proofs.LineAnswers.{create_line, modify_line, delete_line, check_in_line, leave_line, reclaim_line, walk_line}
 use Rattle.nc_script.proofs.LineAnswers.{dump_line}
 use Rattle.nc_script.proofs.LineAnswers.{bad_line_follows}

@@ -1,6 +1,6 @@
 -- What is written is the line, as far as it is kept, and an end.
 use Rattle.std.proofs.Common.{◌≡◌, ◌++◌, ◌∷◌, [], ℕ, List, refl, ap, ◌∙◌, append_assoc}
-use Rattle.nc_script.specs.Lines.{kept_of}
+use Rattle.nc_lines.specs.Lines.{kept_of}
 use Rattle.nc_script_tests.proofs.tests.fakes.EchoResponder.answer.Goals as goal
 
 pub returns : goal.returns

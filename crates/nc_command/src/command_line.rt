@@ -1,0 +1,134 @@
+//! What the words of a command line ask for.
+
+ghost use Rattle.std.specs.Prelude.{◌≤◌, IfOk};
+ghost use Rattle.nc_command.specs.Range.{IsInRange};
+
+use crate::asked::Ask;
+use clap::error::ErrorKind;
+use clap::{Arg, ArgMatches, Command, Error};
+use nc_decode::MAX_BUNDLES;
+use std::alloc::{AllocError, Global};
+
+/// An option that takes a number from `least` to `most`.
+fn option<'a>(
+    alloc: Global,
+    name: &'a str,
+    help: &'a str,
+    least: u32,
+    most: u32,
+    default: &'a str,
+) -> Arg<'a> {
+    Arg::new(alloc, name)
+        .long(name)
+        .value_name("N")
+        .help(help)
+        .value_parser(clap::value_parser!(u32).range(i64::from(least)..=i64::from(most)))
+        .default_value(default)
+}
+
+/// The option for the size of the region.
+fn bundles_option<'a>(alloc: Global) -> Arg<'a> {
+    option(
+        alloc,
+        "bundles",
+        "Size of the code region in 32-byte bundles, from 2 to 524288",
+        2,
+        MAX_BUNDLES,
+        "2048",
+    )
+}
+
+/// The subcommand that runs a script.
+fn replay_command<'a>(alloc: Global) -> Result<Command<'a>, AllocError> {
+    let seats = option(
+        alloc,
+        "seats",
+        "Number of seats for threads, from 1 to 64",
+        1,
+        64,
+        "4",
+    );
+    Command::new(alloc, "replay")
+        .about("Run a script from standard input and write one reply line for each of its lines")
+        .arg(bundles_option(alloc))?
+        .arg(seats)
+}
+
+/// The subcommand that vets lines of chunks.
+fn vet_command<'a>(alloc: Global) -> Result<Command<'a>, AllocError> {
+    let workers = option(
+        alloc,
+        "workers",
+        "Number of threads that vet, from 1 to 16",
+        1,
+        16,
+        "4",
+    );
+    Command::new(alloc, "vet")
+        .about(
+            "Vet the chunks on standard input, one `<address> <bytes>` a line, and write one verdict for each",
+        )
+        .arg(bundles_option(alloc))?
+        .arg(workers)
+}
+
+/// The whole command line, without the program's own name.
+fn program<'a>(alloc: Global) -> Result<Command<'a>, AllocError> {
+    Command::new(alloc, "nc_replay")
+        .bin_name("nc_replay")?
+        .version("0.1.0")
+        .about("Validator and code region for untrusted 32-bit x86 code")
+        .no_binary_name(true)
+        .subcommand_required(true)
+        .subcommand(replay_command(alloc)?)?
+        .subcommand(vet_command(alloc)?)
+}
+
+/// The number of an option. The option's parser has refused every number outside the range; what is left to do here is
+/// to give some number for the words that it has refused.
+fn number(found: &ArgMatches<'_>, name: &str, least: u32, most: u32) -> u32
+    requires { least ≤ most }
+    ensures least { least ≤ result }
+    ensures most { result ≤ most }
+{
+    found
+        .get_one::<u32>(name)
+        .unwrap_or(least)
+        .clamp(least, most)
+}
+
+/// Reads the words of a command line, without the program's own name.
+pub fn ask<'a>(alloc: Global, words: &'a [&'a str]) -> Result<Ask, Error>
+    // The numbers are in the ranges of the options.
+    ensures { IfOk result IsInRange }
+{
+    let mut program = program(alloc)?;
+    let matches = program.try_get_matches_from_mut(words)?;
+    if let Some(found) = matches.subcommand_matches("replay") {
+        return Ok(Ask::Replay {
+            bundles: number(found, "bundles", 2, MAX_BUNDLES),
+            seats: number(found, "seats", 1, 64),
+        });
+    }
+    if let Some(found) = matches.subcommand_matches("vet") {
+        return Ok(Ask::Vet {
+            bundles: number(found, "bundles", 2, MAX_BUNDLES),
+            workers: number(found, "workers", 1, 16),
+        });
+    }
+    // this doesn't come: the parser has asked for a subcommand
+    Err(program.error(ErrorKind::MissingSubcommand, "a subcommand is missing")?)
+}
+
+/// The fault of a command line with a word that is not valid UTF-8.
+pub fn not_utf8(alloc: Global) -> Error {
+    match program(alloc) {
+        Ok(mut program) => {
+            match program.error(ErrorKind::InvalidValue, "a word is not valid UTF-8 text") {
+                Ok(error) => error,
+                Err(error) => Error::from(error),
+            }
+        }
+        Err(error) => Error::from(error),
+    }
+}

@@ -1,0 +1,6 @@
+pub mod machinery
+pub mod Lines
+pub mod Words
+pub mod Answering
+pub mod Replies
+pub mod Vetting

@@ -1,0 +1,44 @@
+-- Lines of chunks that are only vetted, and what is written of their verdicts.
+use Rattle.std.specs.Prelude.{◌≡◌, ◌≢◌, ℕ, ◌⊎◌, List, MatchOption, Option, codes, take}
+use Rattle.std.specs.List.{AllZip, flat_map}
+use Rattle.std.specs.Io.KnownBytes.{Appends}
+use Rattle.nc_decode.specs.declared.instruction.Mark.{Mark}
+use Rattle.nc_vet.specs.Chunk.{IsValid}
+use Rattle.nc_vet.specs.Faults.{HasFault}
+use Rattle.nc_vet.specs.declared.fault.VetFault.{VetFault}
+use Rattle.nc_vet.specs.declared.fault.VetFault.TheVariants.{OutOfMemory}
+use Rattle.nc_lines.specs.Lines.{bad_line}
+use Rattle.nc_lines.specs.Words.{chunk_in}
+use Rattle.nc_lines.specs.Replies.{reply_line, refused_reply, fault_words}
+
+-- the bytes are a valid chunk at this base for this limit
+abbrev pub IsValidAt : ℕ → ℕ → List ℕ → Type 0
+IsValidAt base limit bytes = (marks : List Mark) × IsValid (record { base = base; limit = limit; code = bytes; marks = marks })
+
+-- a chunk's verdict: `ok` if it is valid for this limit, and otherwise its fault
+abbrev pub SaysVerdict : ℕ → ℕ → List ℕ → List ℕ → Type 0
+SaysVerdict limit base bytes reply =
+    (IsValidAt base limit bytes × (reply ≡ reply_line (codes "ok")))
+    ⊎ ((fault : VetFault) × HasFault base limit bytes fault × (fault ≢ OutOfMemory)
+    × (reply ≡ reply_line (refused_reply (fault_words fault))))
+
+-- the reply to a line: the verdict on the chunk that it names, or `bad line` where it names none
+abbrev pub VetsLine : ℕ → List ℕ → List ℕ → Type 0
+VetsLine limit line reply = MatchOption (chunk_in line) (reply ≡ bad_line) (λ placed. SaysVerdict limit placed.0 placed.1 reply)
+
+-- the replies to these lines, one after the other
+abbrev pub VetsLines : ℕ → List (List ℕ) → List ℕ → Type 0
+VetsLines limit lines replies = (each : List (List ℕ)) × AllZip (VetsLine limit) lines each × (replies ≡ flat_map (λ reply. reply) each)
+
+-- exactly the replies to these lines were written
+pub record HasVetted (limit : ℕ) (before after : Option (List ℕ)) (lines : List (List ℕ)) : Type 0 where
+  pub replies : List ℕ
+  pub verdicts : VetsLines limit lines replies
+  pub written : Appends before after replies
+
+-- a beginning of the replies to these lines was written
+pub record HasBegunVetted (limit : ℕ) (before after : Option (List ℕ)) (lines : List (List ℕ)) : Type 0 where
+  pub replies : List ℕ
+  pub count : ℕ
+  pub verdicts : VetsLines limit lines replies
+  pub written : Appends before after (take count replies)

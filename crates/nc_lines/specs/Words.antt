@@ -1,0 +1,32 @@
+-- What the words of a line spell.
+use Rattle.std.specs.Prelude.{ℕ, ◌==◌, ◌&&◌, List, [], ◌∷◌, Option, Some, None, if◌then◌else◌, length, slice_index}
+use Rattle.std.specs.Option.{option_map, option_and_then}
+use Rattle.std.specs.Result.{result_ok}
+use Rattle.std.specs.Global.{Vec}
+use Rattle.std.specs.Int.{w32, from_be_bytes}
+use Rattle.hex.specs.Hex.{decode_of, decode_sized}
+use Rattle.nc_lines.specs.Lines.{words_in, is_long}
+
+-- an address or a choice: exactly eight digits of either case
+abbrev pub address_in : List ℕ → Option ℕ
+address_in word = option_map (from_be_bytes w32) (result_ok (decode_sized word 4))
+
+-- pairs of digits, at least one; or none, as `-`
+abbrev pub bytes_in : List ℕ → Option (List ℕ)
+bytes_in word =
+    if length word == 0 then None
+    else if (length word == 1) && (slice_index word 0 == 45) then Some []
+    else result_ok (decode_of word)
+
+-- an address, and the bytes that are to stand there
+abbrev pub placed_in : List (List ℕ) → Option (ℕ × List ℕ)
+placed_in (at ∷ bytes ∷ []) = option_and_then (λ a. option_map (λ found. (a, found)) (bytes_in bytes)) (address_in at)
+placed_in _ = None
+
+-- the chunk that a line names which is only to be vetted: an address and bytes; every other line is a bad line
+abbrev pub chunk_in : List ℕ → Option (ℕ × List ℕ)
+chunk_in line = if is_long line then None else placed_in (words_in line)
+
+-- an address and bytes, without where the bytes lie in memory
+abbrev pub plain : (ℕ × Vec ℕ) → ℕ × List ℕ
+plain placed = (placed.0, placed.1.items)

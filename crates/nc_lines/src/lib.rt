@@ -1,0 +1,26 @@
+//! Lines in, one reply line for each out; and lines of chunks that are only vetted.
+//!
+//! [`answer_all`] reads lines of any length in pieces, and hands each to whatever replies to one line (a [`Responder`]).
+//! [`vet_lines`] vets the chunks that lines name, several at a time: `batch` gathers the lines, and `verdicts` writes what
+//! was found of them. [`words_of`] and its neighbours read what a line's words spell, [`push_fault`] writes the reply to a
+//! chunk that has a fault.
+#![tactic(auto)]
+
+mod batch;
+mod fault;
+mod lines;
+mod output;
+mod replies;
+mod responder;
+mod stream;
+mod verdicts;
+mod vetting;
+mod words;
+
+pub use fault::ReplayFault;
+pub use lines::LINE_LIMIT;
+pub use replies::{push_address, push_fault};
+pub use responder::Responder;
+pub use stream::answer_all;
+pub use vetting::vet_lines;
+pub use words::{address_of, placed_of, words_of};

@@ -1,0 +1,111 @@
+//! Bytes gathered into lines, each answered as it ends. No more is kept of a line than shows that it is too long.
+
+ghost use Rattle.std.specs.Prelude.{◌≡◌, ◌++◌, ◌<◌, ◌≤◌, ℕ, List, Option, OnOk, IfOk, length, take, slice_index};
+ghost use Rattle.nc_lines.specs.Lines.{kept_of};
+ghost use Rattle.nc_lines.specs.machinery.Progress.{AnswersKept, IsOpen, Stands, FeedsPart, Feeds};
+
+use crate::fault::ReplayFault;
+use crate::output::write_out;
+use crate::responder::Responder;
+use std::alloc::{AllocError, Global};
+use std::io::Write;
+
+/// The longest line that is read, in bytes, without its end.
+pub const LINE_LIMIT: usize = 1_048_576;
+
+/// Answers a line, of which `line` has what is kept, and then keeps nothing.
+pub(crate) fn answer_line<S: Responder, W: Write>(
+    alloc: Global,
+    responder: &mut S,
+    writer: &mut W,
+    line: &mut Vec<u8>,
+) -> Result<(), ReplayFault>
+    ensures { (part : List ℕ) → line.old.items ≡ kept_of part →
+        AnswersKept S.answers responder.old responder.new (W.contents writer.old) (W.contents writer.new) line.new.items part result }
+{
+    let mut out = Vec::new(alloc);
+    match responder.answer(line.as_slice(), &mut out) {
+        Ok(()) => {}
+        Err(_) => return Err(ReplayFault::OutOfMemory),
+    }
+    match write_out(writer, out.as_slice()) {
+        Ok(()) => {}
+        Err(_) => return Err(ReplayFault::WriteFailed),
+    }
+    line.clear();
+    Ok(())
+}
+
+/// The place of the first end of a line, or how many bytes there are if none of them is one.
+fn first_end(bytes: &[u8]) -> usize
+    ensures within { result ≤ length bytes.now }
+    ensures open { IsOpen (take result bytes.now) }
+    ensures end { result < length bytes.now → slice_index bytes.now result ≡ 10 }
+{
+    for i in 0..bytes.len() {
+        if bytes[i] == b'\n' {
+            return i;
+        }
+    }
+    bytes.len()
+}
+
+/// Adds what is to be kept of more bytes of a line.
+fn keep(line: &mut Vec<u8>, part: &[u8]) -> Result<(), AllocError>
+    ensures { OnOk result ((whole : List ℕ) → line.old.items ≡ kept_of whole → line.new.items ≡ kept_of (whole ++ part.now)) }
+{
+    let room = (LINE_LIMIT + 1).saturating_sub(line.len());
+    let count = room.min(part.len());
+    line.extend_from_slice(&part[..count])
+}
+
+/// Takes the next bytes up to the first end of a line, or all of them, and answers the line if it has ended. The answer
+/// is how many bytes were taken.
+fn feed_part<S: Responder, W: Write>(
+    alloc: Global,
+    responder: &mut S,
+    writer: &mut W,
+    line: &mut Vec<u8>,
+    rest: &[u8],
+) -> Result<usize, ReplayFault>
+    requires { 0 < length rest.now }
+    ensures count { IfOk result (λ count. (0 < count) × (count ≤ length rest.now)) }
+    ensures feeds { (start : S) (before : Option (List ℕ)) (bytes : List ℕ)
+        → Stands S.answers start before bytes responder.old (W.contents writer.old) line.old.items
+        → FeedsPart S.answers start before bytes rest.now responder.new (W.contents writer.new) line.new.items result }
+{
+    let end = first_end(rest);
+    match keep(line, &rest[..end]) {
+        Ok(()) => {}
+        Err(_) => return Err(ReplayFault::OutOfMemory),
+    }
+    if end == rest.len() {
+        return Ok(end);
+    }
+    match answer_line(alloc, responder, writer, line) {
+        Ok(()) => Ok(end + 1),
+        Err(fault) => Err(fault),
+    }
+}
+
+/// Takes the next bytes, and answers each line as it ends.
+pub(crate) fn feed<S: Responder, W: Write>(
+    alloc: Global,
+    responder: &mut S,
+    writer: &mut W,
+    line: &mut Vec<u8>,
+    piece: &[u8],
+) -> Result<(), ReplayFault>
+    ensures { (start : S) (before : Option (List ℕ)) (bytes : List ℕ)
+        → Stands S.answers start before bytes responder.old (W.contents writer.old) line.old.items
+        → Feeds S.answers start before (bytes ++ piece.now) responder.new (W.contents writer.new) line.new.items result }
+{
+    let mut rest = piece;
+    while !rest.is_empty() {
+        match feed_part(alloc, responder, writer, line, rest) {
+            Ok(count) => rest = &rest[count..],
+            Err(fault) => return Err(fault),
+        }
+    }
+    Ok(())
+}

@@ -1,0 +1,98 @@
+//! The lines of a reader, answered one after the other.
+
+ghost use Rattle.std.specs.Prelude.{◌≡◌, ◌≢◌, ◌++◌, ℕ, List, Option, OnOk, IfErr, IfSome, IsErrOf};
+ghost use Rattle.std.specs.Io.KnownBytes.{Consumes, IsAtEnd};
+ghost use Rattle.nc_lines.specs.Lines.{lines_of, ended_lines};
+ghost use Rattle.nc_lines.specs.Answering.{IsAnswered, IsBegun, IsCutShort};
+ghost use Rattle.nc_lines.specs.machinery.Progress.{Stands, Finishes};
+
+use crate::fault::ReplayFault;
+use crate::lines::{answer_line, feed};
+use crate::responder::Responder;
+use std::alloc::Global;
+use std::io::{Read, Write};
+
+/// Answers the last line, if it has no end.
+fn answer_rest<S: Responder, W: Write>(
+    alloc: Global,
+    responder: &mut S,
+    writer: &mut W,
+    line: &mut Vec<u8>,
+) -> Result<(), ReplayFault>
+    ensures { (start : S) (before : Option (List ℕ)) (bytes : List ℕ)
+        → Stands S.answers start before bytes responder.old (W.contents writer.old) line.old.items
+        → Finishes S.answers start before bytes responder.new (W.contents writer.new) result }
+{
+    if line.is_empty() {
+        return Ok(());
+    }
+    answer_line(alloc, responder, writer, line)
+}
+
+/// Answers the last line, if it has no end, and flushes.
+fn finish<S: Responder, W: Write>(
+    alloc: Global,
+    responder: &mut S,
+    writer: &mut W,
+    line: &mut Vec<u8>,
+) -> Result<(), ReplayFault>
+    ensures { (start : S) (before : Option (List ℕ)) (bytes : List ℕ)
+        → Stands S.answers start before bytes responder.old (W.contents writer.old) line.old.items
+        → Finishes S.answers start before bytes responder.new (W.contents writer.new) result }
+{
+    match answer_rest(alloc, responder, writer, line) {
+        Ok(()) => {}
+        Err(fault) => return Err(fault),
+    }
+    match writer.flush() {
+        Ok(()) => Ok(()),
+        Err(_) => Err(ReplayFault::WriteFailed),
+    }
+}
+
+/// Reads all lines and answers each, as soon as its end was read.
+pub fn answer_all<S: Responder, R: Read, W: Write>(
+    alloc: Global,
+    responder: &mut S,
+    reader: &mut R,
+    writer: &mut W,
+) -> Result<(), ReplayFault>
+    // The whole input was read, and exactly its answers were written.
+    ensures ok { OnOk result (IfSome (R.remaining reader.old) (λ input.
+        IsAnswered S.answers responder.old responder.new (W.contents writer.old) (W.contents writer.new) (lines_of input))) }
+    ensures read { OnOk result (IsAtEnd (R.remaining reader.new)) }
+
+    // A beginning of the answers was written.
+    ensures write_failed { IsErrOf result ReplayFault.WriteFailed → IfSome (R.remaining reader.old) (λ input.
+        IsBegun S.answers responder.old (W.contents writer.old) (W.contents writer.new) (lines_of input)) }
+
+    // The answers to all lines whose end was read were written.
+    ensures read_failed { IsErrOf result ReplayFault.ReadFailed → (front : List ℕ)
+        × Consumes (R.remaining reader.old) (R.remaining reader.new) front
+        × IsAnswered S.answers responder.old responder.new (W.contents writer.old) (W.contents writer.new) (ended_lines front) }
+
+    // The answers to all lines before the one that failed were written.
+    ensures out_of_memory { IsErrOf result ReplayFault.OutOfMemory → IfSome (R.remaining reader.old) (λ input.
+        IsCutShort S.answers responder.old (W.contents writer.old) (W.contents writer.new) (lines_of input)) }
+
+    // No other fault comes.
+    ensures faults { IfErr result (λ fault. (fault ≢ ReplayFault.BadSize) × (fault ≢ ReplayFault.BadSeats)
+        × (fault ≢ ReplayFault.BadWorkers)) }
+{
+    let mut line = Vec::new(alloc);
+    let mut piece = [0u8; 4096];
+    for _ in 0..u64::MAX {
+        let count = match reader.read(&mut piece) {
+            Ok(count) => count,
+            Err(_) => return Err(ReplayFault::ReadFailed),
+        };
+        if count == 0 {
+            return finish(alloc, responder, writer, &mut line);
+        }
+        match feed(alloc, responder, writer, &mut line, &piece[..count]) {
+            Ok(()) => {}
+            Err(fault) => return Err(fault),
+        }
+    }
+    Err(ReplayFault::ReadFailed)
+}

@@ -1,0 +1,77 @@
+//! The words of a line, and what they spell.
+
+ghost use Rattle.std.specs.Prelude.{◌≡◌, IfOk, map};
+ghost use Rattle.std.specs.Option.{option_map};
+ghost use Rattle.nc_lines.specs.Lines.{words_in};
+ghost use Rattle.nc_lines.specs.Words.{address_in, bytes_in, chunk_in, placed_in, plain};
+
+use crate::lines::LINE_LIMIT;
+use hex::FromHexError;
+use std::alloc::{AllocError, Global};
+
+/// The words of a line, each between two spaces or at an end; two spaces beside each other have an empty word between them.
+pub fn words_of(alloc: Global, line: &[u8]) -> Result<Vec<&[u8]>, AllocError>
+    ensures { IfOk result (λ words. map (λ word. word.now) words.items ≡ words_in line.now) }
+{
+    line.split(|b| *b == b' ').collect(alloc)
+}
+
+/// An address or a choice of exactly eight hexadecimal digits of either case.
+pub fn address_of(word: &[u8]) -> Option<u32>
+    ensures { result ≡ address_in word.now }
+{
+    let mut bytes = [0u8; 4];
+    match hex::decode_to_slice(word, &mut bytes) {
+        Ok(()) => Some(u32::from_be_bytes(bytes)),
+        Err(_) => None,
+    }
+}
+
+/// Bytes of two hexadecimal digits each, at least one; or none, written `-`.
+fn bytes_of(alloc: Global, word: &[u8]) -> Result<Option<Vec<u8>>, AllocError>
+    ensures { IfOk result (λ found. option_map (λ bytes. bytes.items) found ≡ bytes_in word.now) }
+{
+    if word.len() == 0 {
+        return Ok(None);
+    }
+    if word.len() == 1 && word[0] == b'-' {
+        return Ok(Some(Vec::new(alloc)));
+    }
+    match hex::decode(alloc, word) {
+        Ok(bytes) => Ok(Some(bytes)),
+        Err(FromHexError::OutOfMemory) => Err(AllocError),
+        Err(_) => Ok(None),
+    }
+}
+
+/// An address, and the bytes that are to stand there.
+pub fn placed_of(alloc: Global, words: &[&[u8]]) -> Result<Option<(u32, Vec<u8>)>, AllocError>
+    ensures { IfOk result (λ found. option_map plain found ≡ placed_in (map (λ word. word.now) words.now)) }
+{
+    match words {
+        [at, bytes] => {
+            let Some(at) = address_of(at) else {
+                return Ok(None);
+            };
+            match bytes_of(alloc, bytes)? {
+                Some(bytes) => Ok(Some((at, bytes))),
+                None => Ok(None),
+            }
+        }
+        _ => Ok(None),
+    }
+}
+
+/// The address and bytes of a line that names a chunk to be vetted, or nothing where it is a bad line.
+pub(crate) fn placed_in_line(
+    alloc: Global,
+    line: &[u8],
+) -> Result<Option<(u32, Vec<u8>)>, AllocError>
+    ensures { IfOk result (λ found. option_map plain found ≡ chunk_in line.now) }
+{
+    if line.len() > LINE_LIMIT {
+        return Ok(None);
+    }
+    let words = words_of(alloc, line)?;
+    placed_of(alloc, words.as_slice())
+}
