@@ -1,0 +1,24 @@
+use Rattle.std.proofs.Common.{◌/◌, ◌%◌, Some, None, arith, ap, sym, ◌∙◌}
+use Rattle.std.specs.Option.{is_some}
+use Rattle.std.proofs.lemmas.List.{get_or_default}
+use Rattle.nc_text.specs.machinery.Pages.{Slot, byte_if_made, mark_if_made}
+use Rattle.nc_text.proofs.Tables.{made_within, one_page, same_made}
+use Rattle.nc_text.proofs.table.set.Goals as goal
+
+pub returns-in-Some-clause-other : goal.returns-in-Some-clause-other
+returns-in-Some-clause-other c =
+    let inside = made_within c.args.pages.now (c.args.at / 4096) c.requires.ready in
+    let e = get_or_default c.args.pages.now (c.args.at / 4096) None c.index-pages-at.result inside ∙ c.in-Some.is in
+    λ k ne. one_page mark_if_made c.args.pages.now (c.args.at / 4096) (Some c.set.new.self) k inside (λ same. c.set.ensures.other (k % 4096) (λ b. ne (omega (arith, same, b))) ∙ ap (λ (o : Slot). mark_if_made o (k % 4096)) (sym e))
+
+pub returns-in-Some-clause-bytes : goal.returns-in-Some-clause-bytes
+returns-in-Some-clause-bytes c =
+    let inside = made_within c.args.pages.now (c.args.at / 4096) c.requires.ready in
+    let e = get_or_default c.args.pages.now (c.args.at / 4096) None c.index-pages-at.result inside ∙ c.in-Some.is in
+    λ k. one_page byte_if_made c.args.pages.now (c.args.at / 4096) (Some c.set.new.self) k inside (λ _. c.set.ensures.bytes (k % 4096) ∙ ap (λ (o : Slot). byte_if_made o (k % 4096)) (sym e))
+
+pub returns-in-Some-clause-made : goal.returns-in-Some-clause-made
+returns-in-Some-clause-made c =
+    let inside = made_within c.args.pages.now (c.args.at / 4096) c.requires.ready in
+    let e = get_or_default c.args.pages.now (c.args.at / 4096) None c.index-pages-at.result inside ∙ c.in-Some.is in
+    same_made c.args.pages.now (c.args.at / 4096) (Some c.set.new.self) (ap is_some (sym e))
