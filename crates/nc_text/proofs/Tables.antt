@@ -1,5 +1,7 @@
 -- What stands at the places of a table of pages, of which one page was changed.
 use Rattle.std.proofs.Common.{◌≡◌, ◌≢◌, ℕ, ◌+◌, ◌/◌, ◌%◌, ◌<◌, ◌≤◌, Bool, true, false, suc, zero, List, [], ◌∷◌, map, length, get_or, set, replicate, Some, None, arith, ◌⊎◌, refl, sym, ap, subst, ◌∙◌, inl, inr}
+use Rattle.std.specs.Prelude.{Box}
+use Rattle.std.specs.declared.alloc.Global.{Global}
 use Rattle.std.specs.Option.{is_some}
 use Rattle.std.specs.List.{range_with_len}
 use Rattle.std.specs.Int.{bit_at}
@@ -40,17 +42,28 @@ fresh_marks masks n k is lt =
     ∙ (ap (λ (m : Masks). mark_in m (k % 32)) (get_or-replicate n (k / 32) unused_masks unused_masks lt)
     ∙ (bare_at (k % 32) (omega arith) ∙ unused_mark_in k))
 
--- one mark of one bundle changed
-pub one_mark : (masks : List Masks) (new : Masks) (at k : ℕ) → at / 32 < length masks → k ≢ at → ((i : ℕ) → i < 32 → i ≢ at % 32 → mark_in new i ≡ mark_in (get_or masks (at / 32) unused_masks) i) → mark_in (get_or (set masks (at / 32) new) (k / 32) unused_masks) (k % 32) ≡ mark_in (get_or masks (k / 32) unused_masks) (k % 32)
-one_mark masks new at k inside ne same =
-    elim (cases_eq (k / 32) (at / 32)) [
+-- one bundle changed: what is said of each place of it is said of each place
+pub one_bundle : (masks : List Masks) (b : ℕ) (new : Masks) (k : ℕ) → b < length masks
+    → (k / 32 ≡ b → mark_in new (k % 32) ≡ mark_in (get_or masks b unused_masks) (k % 32))
+    → mark_in (get_or (set masks b new) (k / 32) unused_masks) (k % 32) ≡ mark_in (get_or masks (k / 32) unused_masks) (k % 32)
+one_bundle masks b new k inside same =
+    elim (cases_eq (k / 32) b) [
       | inl e ↦
-          ap (λ (j : ℕ). mark_in (get_or (set masks (at / 32) new) j unused_masks) (k % 32)) e
-          ∙ (ap (λ (m : Masks). mark_in m (k % 32)) (get_or-set_same masks (at / 32) new unused_masks inside)
-          ∙ (same (k % 32) (omega arith) (λ b. ne (omega (arith, e, b)))
-          ∙ ap (λ (j : ℕ). mark_in (get_or masks j unused_masks) (k % 32)) (sym e)))
-      | inr other ↦ ap (λ (m : Masks). mark_in m (k % 32)) (get_or-set_other masks (at / 32) (k / 32) new unused_masks other)
+          ap (λ (j : ℕ). mark_in (get_or (set masks b new) j unused_masks) (k % 32)) e
+          ∙ (ap (λ (m : Masks). mark_in m (k % 32)) (get_or-set_same masks b new unused_masks inside)
+          ∙ (same e ∙ ap (λ (j : ℕ). mark_in (get_or masks j unused_masks) (k % 32)) (sym e)))
+      | inr other ↦ ap (λ (m : Masks). mark_in m (k % 32)) (get_or-set_other masks b (k / 32) new unused_masks other)
     ]
+
+-- what stands at a place of the bundle that was changed
+pub in_bundle : (masks : List Masks) (new : Masks) (at k : ℕ) → at / 32 < length masks → at % 32 + k < 32
+    → mark_in (get_or (set masks (at / 32) new) ((at + k) / 32) unused_masks) ((at + k) % 32) ≡ mark_in new (at % 32 + k)
+in_bundle masks new at k inside small =
+    let bundle : (at + k) / 32 ≡ at / 32 = omega (arith, small) in
+    let place : (at + k) % 32 ≡ at % 32 + k = omega (arith, small) in
+    ap (λ (j : ℕ). mark_in (get_or (set masks (at / 32) new) j unused_masks) ((at + k) % 32)) bundle
+    ∙ (ap (λ (m : Masks). mark_in m ((at + k) % 32)) (get_or-set_same masks (at / 32) new unused_masks inside)
+    ∙ ap (λ (j : ℕ). mark_in new j) place)
 
 -- one page changed: what is said of each place of it is said of each place
 pub one_page : {X : Type 0} (F : Slot → ℕ → X) (pages : List Slot) (i : ℕ) (new : Slot) (k : ℕ) → i < length pages → (k / 4096 ≡ i → F new (k % 4096) ≡ F (get_or pages i None) (k % 4096)) → F (get_or (set pages i new) (k / 4096) None) (k % 4096) ≡ F (get_or pages (k / 4096) None) (k % 4096)
@@ -62,6 +75,15 @@ one_page F pages i new k inside same =
           ∙ (same e ∙ ap (λ (j : ℕ). F (get_or pages j None) (k % 4096)) (sym e)))
       | inr other ↦ ap (λ (o : Slot). F o (k % 4096)) (get_or-set_other pages i (k / 4096) new None other)
     ]
+
+-- what is said of a place of the page that was changed
+pub on_page : {X : Type 0} (F : Slot → ℕ → X) (pages : List Slot) (new : Slot) (at k : ℕ) → at / 4096 < length pages → at % 32 + k < 32
+    → F (get_or (set pages (at / 4096) new) ((at + k) / 4096) None) ((at + k) % 4096) ≡ F new (at % 4096 + k)
+on_page F pages new at k inside small =
+    let page : (at + k) / 4096 ≡ at / 4096 = omega (arith, small) in
+    let place : (at + k) % 4096 ≡ at % 4096 + k = omega (arith, small) in
+    ap (λ (j : ℕ). F (get_or (set pages (at / 4096) new) j None) ((at + k) % 4096)) page
+    ∙ (ap (λ (o : Slot). F o ((at + k) % 4096)) (get_or-set_same pages (at / 4096) new None inside) ∙ ap (λ (j : ℕ). F new j) place)
 
 -- whether a page is made
 pub made_at : (pages : List Slot) (i : ℕ) → get_or (map is_some pages) i false ≡ is_some (get_or pages i None)
@@ -138,7 +160,7 @@ making_made old new first i so here =
     }
 
 -- one more that is made now
-pub making_more : (old new : List Slot) (first i : ℕ) (page : Page) → IsMaking old new first i → first ≤ i → i < length new → get_or new i None ≡ None → ((k : ℕ) → k < 4096 → byte_on page k ≡ 244) → ((k : ℕ) → k < 4096 → mark_on page k ≡ unused_mark k) → IsMaking old (set new i (Some page)) first (i + 1)
+pub making_more : (old new : List Slot) (first i : ℕ) (page : Box Page Global) → IsMaking old new first i → first ≤ i → i < length new → get_or new i None ≡ None → ((k : ℕ) → k < 4096 → byte_on page.value k ≡ 244) → ((k : ℕ) → k < 4096 → mark_on page.value k ≡ unused_mark k) → IsMaking old (set new i (Some page)) first (i + 1)
 making_more old new first i page so low inside unmade bytes marks =
     let here : is_some (get_or (set new i (Some page)) i None) ≡ true = ap is_some (get_or-set_same new i (Some page) None inside) in
     record {

@@ -2,6 +2,7 @@
 
 ghost use Rattle.std.specs.Prelude.{◌≡◌, ◌≢◌, ℕ, ◌<◌, if◌then◌else◌};
 ghost use Rattle.std.specs.Int.{bit_at};
+ghost use Rattle.nc_text.specs.MarkedText.{unused_mark};
 
 use nc_decode::Mark;
 
@@ -21,9 +22,10 @@ pub(crate) struct Masks {
 }
 
 impl Masks {
-    ghost use Rattle.std.specs.Prelude.{◌≡◌, ◌≢◌, ℕ, ◌<◌};
+    ghost use Rattle.std.specs.Prelude.{◌≡◌, ◌≢◌, ℕ, ◌+◌, ◌<◌, ◌≤◌, ◌⊎◌, All, length, slice_index_or};
+    ghost use Rattle.nc_decode.specs.declared.instruction.Mark.TheVariants.{Unmarked};
     ghost use Rattle.nc_text.specs.machinery.Masks.{mark_in, unused_masks};
-    ghost use Rattle.nc_text.specs.MarkedText.{NamesRegister};
+    ghost use Rattle.nc_text.specs.MarkedText.{NamesRegister, unused_mark};
 
     /// The marks of a bundle that no chunk uses.
     pub(crate) fn unused() -> Self
@@ -70,6 +72,48 @@ impl Masks {
         self.low = with_bit(self.low, at, register % 2 == 1);
         self.middle = with_bit(self.middle, at, register / 2 % 2 == 1);
         self.high = with_bit(self.high, at, register / 4 % 2 == 1);
+    }
+
+    /// Sets the marks of the places from one on.
+    pub(crate) fn set_from(&mut self, from: u32, marks: &[Mark])
+        requires inside { from + length marks.now ≤ 32 }
+        requires registers { All NamesRegister marks.now }
+        ensures within { (k : ℕ) → k < length marks.now → mark_in self.new (from + k) ≡ slice_index_or marks.now k Unmarked }
+        ensures others { (k : ℕ) → k < 32 → (k < from) ⊎ (from + length marks.now ≤ k) → mark_in self.new k ≡ mark_in self.old k }
+    {
+        let mut masks = *self;
+        for i in 0..marks.len() {
+            masks.set(from + i as u32, marks[i]);
+        }
+        *self = masks;
+    }
+
+    /// Leaves only the bundle's start marked among so many places from one on.
+    pub(crate) fn unmark(&mut self, from: u32, len: u32)
+        requires inside { from + len ≤ 32 }
+        ensures within { (k : ℕ) → k < len → mark_in self.new (from + k) ≡ unused_mark (from + k) }
+        ensures others { (k : ℕ) → k < 32 → (k < from) ⊎ (from + len ≤ k) → mark_in self.new k ≡ mark_in self.old k }
+    {
+        if len == 32 {
+            *self = Masks::unused();
+            return;
+        }
+        let mut masks = *self;
+        for i in 0..len {
+            masks.set(from + i, unused_mark(from + i));
+        }
+        *self = masks;
+    }
+}
+
+/// The mark of a place of a bundle that no chunk uses.
+fn unused_mark(at: u32) -> Mark
+    ensures { result ≡ unused_mark at }
+{
+    if at % 32 == 0 {
+        Mark::Plain
+    } else {
+        Mark::Unmarked
     }
 }
 

@@ -22,7 +22,8 @@ pub(crate) struct Page {
 }
 
 impl Page {
-    ghost use Rattle.std.specs.Prelude.{◌≡◌, ◌≢◌, ℕ, ◌<◌, IfOk};
+    ghost use Rattle.std.specs.Prelude.{◌≡◌, ◌≢◌, ℕ, ◌+◌, ◌%◌, ◌<◌, ◌≤◌, ◌⊎◌, All, length, slice_index_or, IfOk};
+    ghost use Rattle.nc_decode.specs.declared.instruction.Mark.TheVariants.{Unmarked};
     ghost use Rattle.nc_text.specs.machinery.Pages.{byte_on, mark_on};
     ghost use Rattle.nc_text.specs.MarkedText.{unused_mark, NamesRegister};
 
@@ -64,14 +65,26 @@ impl Page {
         self.bytes[at] = byte;
     }
 
-    /// Sets one mark.
-    pub(crate) fn set(&mut self, at: usize, mark: Mark)
+    /// Sets the marks of a span that lies in one bundle.
+    pub(crate) fn set_marks(&mut self, at: usize, marks: &[Mark])
         requires inside { at < 4096 }
-        requires register { NamesRegister mark }
-        ensures same { mark_on self.new at ≡ mark }
-        ensures other { (k : ℕ) → k ≢ at → mark_on self.new k ≡ mark_on self.old k }
+        requires one_bundle { at % 32 + length marks.now ≤ 32 }
+        requires registers { All NamesRegister marks.now }
+        ensures within { (k : ℕ) → k < length marks.now → mark_on self.new (at + k) ≡ slice_index_or marks.now k Unmarked }
+        ensures others { (k : ℕ) → (k < at) ⊎ (at + length marks.now ≤ k) → mark_on self.new k ≡ mark_on self.old k }
         ensures bytes { (k : ℕ) → byte_on self.new k ≡ byte_on self.old k }
     {
-        self.masks[at / 32].set((at % 32) as u32, mark);
+        self.masks[at / 32].set_from((at % 32) as u32, marks);
+    }
+
+    /// Leaves only bundle starts marked in a span that lies in one bundle.
+    pub(crate) fn unmark(&mut self, at: usize, len: usize)
+        requires inside { at < 4096 }
+        requires one_bundle { at % 32 + len ≤ 32 }
+        ensures within { (k : ℕ) → k < len → mark_on self.new (at + k) ≡ unused_mark (at + k) }
+        ensures others { (k : ℕ) → (k < at) ⊎ (at + len ≤ k) → mark_on self.new k ≡ mark_on self.old k }
+        ensures bytes { (k : ℕ) → byte_on self.new k ≡ byte_on self.old k }
+    {
+        self.masks[at / 32].unmark((at % 32) as u32, len as u32);
     }
 }

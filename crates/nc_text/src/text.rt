@@ -44,7 +44,7 @@ pub enum TextFault {
 pub struct Text {
     alloc: Global,
     size: usize,
-    pages: Vec<Option<Page>>,
+    pages: Vec<Option<Box<Page>>>,
 }
 
 impl Model for Text {

@@ -1,5 +1,6 @@
 -- What stands at a place of a table of pages, some of which aren't made.
-use Rattle.std.specs.Prelude.{ℕ, ◌/◌, ◌%◌, List, map, Option, None, Some, slice_index, slice_index_or}
+use Rattle.std.specs.Prelude.{ℕ, ◌/◌, ◌%◌, List, map, Option, None, Some, Box, slice_index, slice_index_or}
+use Rattle.std.specs.declared.alloc.Global.{Global}
 use Rattle.std.specs.Option.{is_some}
 use Rattle.std.specs.List.{range_with_len}
 use Rattle.nc_decode.specs.declared.instruction.Mark.{Mark}
@@ -10,7 +11,7 @@ use Rattle.nc_text.specs.Ready.{TextState}
 
 -- a page of a table, if it is made
 abbrev pub Slot : Type 0
-Slot = Option Page
+Slot = Option (Box Page Global)
 
 -- the byte at a place of a page
 abbrev pub byte_on : Page → ℕ → ℕ
@@ -23,12 +24,12 @@ mark_on page k = mark_in (slice_index_or page.masks.items (k / 32) unused_masks)
 -- the byte at a place of a page that may not be made
 abbrev pub byte_if_made : Slot → ℕ → ℕ
 byte_if_made None k = 0xF4
-byte_if_made (Some page) k = byte_on page k
+byte_if_made (Some page) k = byte_on page.value k
 
 -- the mark there
 abbrev pub mark_if_made : Slot → ℕ → Mark
 mark_if_made None k = unused_mark k
-mark_if_made (Some page) k = mark_on page k
+mark_if_made (Some page) k = mark_on page.value k
 
 -- the page that a place lies in, by its number from the region's first place on
 abbrev pub page_of : List Slot → ℕ → Slot
