@@ -1,5 +1,5 @@
 -- A region stays one when a chunk of it becomes stops and is retired.
-use Rattle.std.proofs.Common.{◌≡◌, ◌≢◌, ℕ, zero, suc, ◌+◌, ◌-◌, ◌<◌, ◌≤◌, ◌⊎◌, List, [], ◌∷◌, length, get_or, set, replicate}
+use Rattle.std.proofs.Common.{◌≡◌, ◌≢◌, ℕ, zero, suc, ◌+◌, ◌-◌, ◌<◌, ◌≤◌, ◌⊎◌, Bool, List, [], ◌∷◌, length, get_or, set, replicate}
 use Rattle.std.proofs.Common.{Some, None, inl, inr, arith, refl, ◌∙◌, sym, ap, subst, ⊎_elim}
 use Rattle.std.specs.List.{slice_get}
 use Rattle.std.proofs.lemmas.Bool.{cases_lt}
@@ -146,15 +146,27 @@ retired_is chunk base len stamp base_is len_is =
     ap (λ (b : ℕ). let c : Chunk = record { base = b; length = len; state = Retired stamp } in c) (sym base_is)
     ∙ ap (λ (n : ℕ). let c : Chunk = record { base = chunk.base; length = n; state = Retired stamp } in c) len_is
 
+-- a region with these marks and pages
+abbrev with_parts : Region → List Mark → List Bool → Region
+with_parts r marks made =
+    record {
+      marked = record { bytes = r.marked.bytes; marks = marks };
+      made = made;
+      chunks = r.chunks;
+      keeper = r.keeper;
+      told = r.told;
+    }
+
 -- what a deletion leaves, by its parts
 pub deleted_is : (old new : Region) (k base len stamp : ℕ) (chunk : Chunk) → slice_get old.chunks k ≡ Some chunk → chunk.state ≡ Live
     → chunk.base ≡ base → len ≡ chunk.length
     → old.keeper.numbers.generation < 4611686018427387904 → stamp ≡ old.keeper.numbers.generation + 1
     → new.marked.bytes ≡ with_span old.marked.bytes (base - 65536) (replicate len 244) → new.marked.marks ≡ old.marked.marks
+    → new.made ≡ old.made
     → new.chunks ≡ set old.chunks k (record { base = base; length = len; state = Retired stamp })
     → new.keeper ≡ record old.keeper { numbers = generation_raised old.keeper.numbers }
     → Tells old.told new.told (acts_of_delete old.marked.marks base len) → IsDeleted old new base stamp
-deleted_is old new k base len stamp chunk listed live base_is len_is room stamp_is bytes marks chunks keeper told =
+deleted_is old new k base len stamp chunk listed live base_is len_is room stamp_is bytes marks made chunks keeper told =
     record {
       index = k;
       chunk = chunk;
@@ -166,8 +178,6 @@ deleted_is old new k base len stamp chunk listed live base_is len_is room stamp_
       bytes = bytes ∙ ap (λ (n : ℕ). with_span old.marked.bytes (base - 65536) (replicate n 244)) len_is;
       chunks = chunks ∙ ap (λ (d : Chunk). set old.chunks k d) (retired_is chunk base len stamp base_is len_is);
       keeper = keeper;
-      others = ap (λ (m : List Mark). let r : Region =
-          record { marked = record { bytes = new.marked.bytes; marks = m }; chunks = new.chunks; keeper = new.keeper; told = new.told } in
-          r) marks;
+      others = ap (λ (m : List Mark). with_parts new m new.made) marks ∙ ap (λ (d : List Bool). with_parts new old.marked.marks d) made;
       acts = subst (λ (n : ℕ). Tells old.told new.told (acts_of_delete old.marked.marks base n)) len_is told;
     }

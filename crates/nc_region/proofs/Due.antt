@@ -138,20 +138,24 @@ few limit from [] rising placed le = omega (arith, le)
 few limit from (c ∷ rest) rising placed le =
     omega (arith, rising.0, placed.0.some, few limit (c.base + c.length) rest rising.1 placed.1 (omega (arith, placed.0.high)))
 
+-- a region with these pages
+abbrev with_pages : Region → List Bool → Region
+with_pages r made = record { marked = r.marked; made = made; chunks = r.chunks; keeper = r.keeper; told = r.told }
+
 -- what reclaiming leaves, by its parts
 pub reclaimed_is : (old new : Region) (between : Option (List Act)) (count least : ℕ) → HasLooked old.keeper new.keeper
     → least ≡ least_number new.keeper.numbers
     → new.chunks ≡ kept least old.chunks → count ≡ length (freed least old.chunks)
-    → new.marked ≡ unmarked old.marked (freed least old.chunks)
+    → new.marked ≡ unmarked old.marked (freed least old.chunks) → new.made ≡ old.made
     → Tells old.told between (Look ∷ []) → Tells between new.told (unmarkings (freed least old.chunks)) → IsReclaimed old new count
-reclaimed_is old new between count least looked is chunks count_is marked first second =
+reclaimed_is old new between count least looked is chunks count_is marked made first second =
     record {
       looked = looked;
       chunks = chunks ∙ ap (λ (n : ℕ). kept n old.chunks) is;
       count_is = count_is ∙ ap (λ (n : ℕ). length (freed n old.chunks)) is;
       marked = marked ∙ ap (λ (n : ℕ). unmarked old.marked (freed n old.chunks)) is;
       bytes = ap (λ (m : MarkedText). m.bytes) marked ∙ unmarked_bytes old.marked (freed least old.chunks);
-      others = refl;
+      others = ap (λ (d : List Bool). with_pages new d) made;
       acts = subst (λ (n : ℕ). Tells old.told new.told (Look ∷ unmarkings (freed n old.chunks))) is
           (tells_more old.told between new.told (Look ∷ []) (unmarkings (freed least old.chunks)) first second);
     }

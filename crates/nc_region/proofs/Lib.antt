@@ -26,6 +26,7 @@ pub mod Due
 pub mod Deleting
 pub mod Deleted
 pub mod Inserting
+pub mod ReadyPlaces
 pub mod Windows
 pub mod Walking
 pub mod OneWalk

@@ -1,5 +1,5 @@
 -- A region: a text and the chunks in it.
-use Rattle.std.specs.Prelude.{◌≡◌, ◌≢◌, ℕ, ◌+◌, ◌-◌, ◌<◌, ◌≤◌, ◌⊎◌, ⊤, List, [], ◌∷◌, Option, length, take, drop, slice_index}
+use Rattle.std.specs.Prelude.{◌≡◌, ◌≢◌, ℕ, ◌+◌, ◌-◌, ◌<◌, ◌≤◌, ◌⊎◌, ⊤, Bool, List, [], ◌∷◌, Option, length, take, drop, slice_index}
 use Rattle.std.specs.Prelude.{slice_index_or}
 use Rattle.std.specs.List.{insert}
 use Rattle.nc_decode.specs.declared.instruction.Mark.TheVariants.{Unmarked}
@@ -9,6 +9,7 @@ use Rattle.nc_decode.specs.Bundles.{IsLawfulLimit}
 use Rattle.nc_text.specs.Places.{InRegion, limit_of, byte_at}
 use Rattle.nc_text.specs.Marks.{mark_at}
 use Rattle.nc_text.specs.MarkedText.{MarkedText, IsText, with_span, unused_mark, unused_text}
+use Rattle.nc_text.specs.Ready.{AreReady, GetsReady}
 use Rattle.nc_gens.specs.Seen.{KeeperState}
 use Rattle.nc_region.specs.declared.acts.Act.{Act}
 use Rattle.nc_region.specs.declared.chunk.Chunk.{Chunk}
@@ -19,10 +20,11 @@ use Rattle.nc_region.specs.declared.fault.CreateFault.TheVariants.{WrongLimit, O
 use Rattle.nc_region.specs.Chunks.{HasGoodSpan}
 use Rattle.nc_region.specs.Each.{Each}
 
--- What contracts see of a region: bytes and marks, the chunks by rising base, the keeper with the generation and each
--- seat's bound, and the acts told so far.
+-- What contracts see of a region: bytes and marks, the pages that are made, the chunks by rising base, the keeper with the
+-- generation and each seat's bound, and the acts told so far.
 pub record Region : Type 0 where
   pub marked : MarkedText
+  pub made : List Bool
   pub chunks : List Chunk
   pub keeper : KeeperState
   pub told : Option (List Act)
@@ -30,6 +32,7 @@ pub record Region : Type 0 where
 -- what contracts see of a `Plain`
 pub record PlainState : Type 0 where
   pub marked : MarkedText
+  pub made : List Bool
   pub keeper : KeeperState
 
 -- threads may enter it
@@ -67,6 +70,10 @@ pub record IsRegion (marked : MarkedText) (chunks : List Chunk) : Type 0 where
   pub unused : (at : ℕ) → InRegion marked.bytes at → Each (λ (c : Chunk). IsInChunk c at → ⊥) chunks
       → mark_at marked.marks at ≡ unused_mark at
 
+-- Every place of each listed chunk is ready. Every region keeps this too.
+abbrev pub AreChunksReady : List Bool → List Chunk → Type 0
+AreChunksReady made chunks = Each (λ (c : Chunk). AreReady made c.base c.length) chunks
+
 -- a text in which nothing was changed yet
 abbrev pub IsNew : MarkedText → Type 0
 IsNew marked = (limit : ℕ) × IsLawfulLimit limit × (marked ≡ unused_text limit)
@@ -96,13 +103,20 @@ IsInserted old new c = (k : ℕ) × FitsAt c.base c.length old k × (new ≡ ins
 abbrev pub live_chunk : vet.MarkedChunk → Chunk
 live_chunk v = record { base = v.base; length = length v.code; state = Live }
 
--- The region after the chunk was created: the span holds its code and its marks, and it is in the list. All else that
--- a region has is as before, except for the acts told.
+-- The region after the chunk was created: the span holds its code and its marks, and it is in the list. Pages of the span
+-- may have been made. All else that a region has is as before, except for the acts told.
 pub record IsCreated (old new : Region) (v : vet.MarkedChunk) : Type 0 where
   pub bytes : new.marked.bytes ≡ with_span old.marked.bytes (v.base - 0x10000) v.code
   pub marks : new.marked.marks ≡ with_span old.marked.marks (v.base - 0x10000) v.marks
   pub chunks : IsInserted old.chunks new.chunks (live_chunk v)
-  pub others : new ≡ record old { marked = new.marked; chunks = new.chunks; told = new.told }
+  pub ready : GetsReady old.made new.made v.base (length v.code)
+  pub others : new ≡ record old { marked = new.marked; made = new.made; chunks = new.chunks; told = new.told }
+
+-- The region after a refused creation: it is as before. Only where memory was refused, pages of the span may have been made.
+abbrev pub IsRefused : Region → Region → vet.MarkedChunk → CreateFault → Type 0
+IsRefused old new v WrongLimit = new ≡ old
+IsRefused old new v Occupied = new ≡ old
+IsRefused old new v OutOfMemory = (new ≡ record old { made = new.made }) × GetsReady old.made new.made v.base (length v.code)
 
 -- when each refusal of `create` comes; only the last one depends on the memory that is there
 abbrev pub MayRefuse : Region → vet.MarkedChunk → CreateFault → Type 0

@@ -1,10 +1,11 @@
 //! The text and the generations behind a region, by its acts.
 
-ghost use Rattle.std.specs.Prelude.{◌≡◌, ◌+◌, ◌^◌, ◌<◌, ◌≤◌, ◌↔◌, ℕ, List, [], ◌∷◌, Option, length, All, IsOk, IfOk, OnOk, OnErr};
+ghost use Rattle.std.specs.Prelude.{◌≡◌, ◌+◌, ◌^◌, ◌<◌, ◌≤◌, ◌↔◌, ℕ, List, [], ◌∷◌, Option, length, All, IsOk, IfOk, IfErr, IsTrue, OnOk, OnErr, Bool};
 ghost use Rattle.nc_decode.specs.declared.instruction.Mark.{Mark};
 ghost use Rattle.nc_text.specs.Marks.{IsClosed, mark_at};
 ghost use Rattle.nc_text.specs.Places.{InRegion, SpanInRegion, byte_at, limit_of};
 ghost use Rattle.nc_text.specs.MarkedText.{MarkedText, IsText, with_byte, with_marks, without_marks, NamesRegister, KeepsMarks, AreStops};
+ghost use Rattle.nc_text.specs.Ready.{IsReady, AreReady, GetsReady};
 ghost use Rattle.nc_gens.specs.Rule.{generation_raised};
 ghost use Rattle.nc_gens.specs.Seen.{KeeperState, HasLooked, HasMet, least_number};
 ghost use Rattle.nc_region.specs.declared.acts.Act.{Act};
@@ -12,6 +13,7 @@ ghost use Rattle.nc_region.specs.Acts.{Tells};
 
 use nc_decode::Mark;
 use nc_gens::{GensFull, Pass};
+use nc_text::TextFault;
 
 /// One atomic change that a region makes, or one look at its generations.
 #[derive(Clone, Copy, Debug, PartialEq, Eq)]
@@ -37,17 +39,38 @@ pub trait Acts {
     /// Bytes and marks.
     ghost marked: { Self → MarkedText };
 
+    /// Which pages are made.
+    ghost made: { Self → List Bool };
+
     /// The keeper.
     ghost keeper: { Self → KeeperState };
 
     /// The acts so far, while they are told.
     ghost told: { Self → Option (List Act) };
 
+    /// Makes the pages of a span. It is no act that is told.
+    fn ready(&mut self, at: u32, len: u32) -> Result<(), TextFault>
+        requires inside { SpanInRegion (marked self.old).bytes at len }
+        ensures ready { IfOk result (λ _. AreReady (made self.new) at len) }
+        ensures only { GetsReady (made self.old) (made self.new) at len }
+        ensures fault { IfErr result (λ fault. fault ≡ TextFault.OutOfMemory) }
+        ensures marked { marked self.new ≡ marked self.old }
+        ensures whole { IsText (marked self.new) }
+        ensures keeper { keeper self.new ≡ keeper self.old }
+        ensures told { told self.new ≡ told self.old };
+
+    /// Whether every place of a span is ready.
+    fn is_ready(&self, at: u32, len: u32) -> bool
+        requires { SpanInRegion (marked self.now).bytes at len }
+        ensures { IsTrue result ↔ AreReady (made self.now) at len };
+
     /// Puts one byte.
     fn put(&mut self, at: u32, byte: u8)
         requires inside { InRegion (marked self.old).bytes at }
+        requires ready { IsReady (made self.old) at }
         requires closed { IsClosed (with_byte (marked self.old) at byte).bytes (marked self.old).marks }
         ensures marked { marked self.new ≡ with_byte (marked self.old) at byte }
+        ensures made { made self.new ≡ made self.old }
         ensures whole { IsText (marked self.new) }
         ensures keeper { keeper self.new ≡ keeper self.old }
         ensures told { Tells (told self.old) (told self.new) (Act.Put at byte ∷ []) };
@@ -55,10 +78,12 @@ pub trait Acts {
     /// Sets the marks of a span.
     fn mark_span(&mut self, at: u32, marks: &[Mark])
         requires inside { SpanInRegion (marked self.old).bytes at (length marks.now) }
+        requires ready { AreReady (made self.old) at (length marks.now) }
         requires registers { All NamesRegister marks.now }
         requires keeps { KeepsMarks (marked self.old).marks (with_marks (marked self.old) at marks.now).marks }
         requires closed { IsClosed (marked self.old).bytes (with_marks (marked self.old) at marks.now).marks }
         ensures marked { marked self.new ≡ with_marks (marked self.old) at marks.now }
+        ensures made { made self.new ≡ made self.old }
         ensures whole { IsText (marked self.new) }
         ensures keeper { keeper self.new ≡ keeper self.old }
         ensures told { Tells (told self.old) (told self.new) (Act.MarkSpan at (length marks.now) ∷ []) };
@@ -69,6 +94,7 @@ pub trait Acts {
         requires stops { AreStops (marked self.old).bytes at len }
         requires closed { IsClosed (marked self.old).bytes (without_marks (marked self.old) at len).marks }
         ensures marked { marked self.new ≡ without_marks (marked self.old) at len }
+        ensures made { made self.new ≡ made self.old }
         ensures whole { IsText (marked self.new) }
         ensures keeper { keeper self.new ≡ keeper self.old }
         ensures told { Tells (told self.old) (told self.new) (Act.UnmarkSpan at len ∷ []) };
@@ -96,6 +122,7 @@ pub trait Acts {
             ≡ record (keeper self.old) { numbers = generation_raised (keeper self.old).numbers }) }
         ensures told { OnOk result (Tells (told self.old) (told self.new) (Act.Bump ∷ [])) }
         ensures marked { marked self.new ≡ marked self.old }
+        ensures made { made self.new ≡ made self.old }
         ensures full { OnErr result (((keeper self.old).numbers.generation ≡ 2 ^ 62) × (keeper self.new ≡ keeper self.old)) }
         ensures silent { OnErr result (told self.new ≡ told self.old) };
 
@@ -104,6 +131,7 @@ pub trait Acts {
         ensures looked { HasLooked (keeper self.old) (keeper self.new) }
         ensures least { result ≡ least_number (keeper self.new).numbers }
         ensures marked { marked self.new ≡ marked self.old }
+        ensures made { made self.new ≡ made self.old }
         ensures told { Tells (told self.old) (told self.new) (Act.Look ∷ []) };
 
     /// A pass and the keeper learn where the other stands. It is no act that is told.
@@ -111,6 +139,7 @@ pub trait Acts {
         requires { pass.old.table ≡ (keeper self.old).table }
         ensures met { HasMet pass.old (keeper self.old) pass.new (keeper self.new) }
         ensures marked { marked self.new ≡ marked self.old }
+        ensures made { made self.new ≡ made self.old }
         ensures told { told self.new ≡ told self.old };
 
     /// The generation.

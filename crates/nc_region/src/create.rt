@@ -4,6 +4,7 @@ ghost use Rattle.std.specs.Prelude.{◌≡◌, ◌+◌, ◌-◌, ◌<◌, ◌≤
 ghost use Rattle.nc_decode.specs.declared.instruction.Mark.{Mark};
 ghost use Rattle.nc_text.specs.Marks.{IsClosed};
 ghost use Rattle.nc_text.specs.Places.{limit_of};
+ghost use Rattle.nc_text.specs.Ready.{AreReady};
 ghost use Rattle.nc_text.specs.MarkedText.{MarkedText, IsText, with_span, NamesRegister};
 ghost use Rattle.nc_region.specs.Acts.{Tells, puts_where, is_inside, is_start, acts_of_create};
 ghost use Rattle.nc_region.specs.Chunks.{HasGoodSpan, IsClosedChunk, with_chunk};
@@ -18,8 +19,10 @@ pub(crate) fn put_chunk<A: Acts>(acts: &mut A, base: u32, code: &[u8], marks: &[
     requires chunk { IsClosedChunk base (limit_of (A.marked acts.old).bytes) code.now marks.now }
     requires registers { All NamesRegister marks.now }
     requires unused { IsUnused (A.marked acts.old) base (length code.now) }
+    requires ready { AreReady (A.made acts.old) base (length code.now) }
     ensures marked { A.marked acts.new ≡ with_chunk (A.marked acts.old) base code.now marks.now }
     ensures whole { IsText (A.marked acts.new) }
+    ensures made { A.made acts.new ≡ A.made acts.old }
     ensures keeper { A.keeper acts.new ≡ A.keeper acts.old }
     ensures told { Tells (A.told acts.old) (A.told acts.new) (acts_of_create base code.now) }
 {
@@ -33,9 +36,11 @@ fn put_inside<A: Acts>(acts: &mut A, base: u32, code: &[u8])
     requires whole { IsText (A.marked acts.old) }
     requires placed { HasGoodSpan base (limit_of (A.marked acts.old).bytes) (length code.now) }
     requires unused { IsUnused (A.marked acts.old) base (length code.now) }
+    requires ready { AreReady (A.made acts.old) base (length code.now) }
     ensures bytes { HasPut is_inside base code.now (length code.now) (A.marked acts.old).bytes (A.marked acts.new).bytes }
     ensures marks { (A.marked acts.new).marks ≡ (A.marked acts.old).marks }
     ensures whole { IsText (A.marked acts.new) }
+    ensures made { A.made acts.new ≡ A.made acts.old }
     ensures keeper { A.keeper acts.new ≡ A.keeper acts.old }
     ensures told { Tells (A.told acts.old) (A.told acts.new) (puts_where is_inside base code.now) }
 {
@@ -51,12 +56,14 @@ fn put_inside<A: Acts>(acts: &mut A, base: u32, code: &[u8])
 fn put_starts<A: Acts>(acts: &mut A, base: u32, code: &[u8])
     requires whole { IsText (A.marked acts.old) }
     requires placed { HasGoodSpan base (limit_of (A.marked acts.old).bytes) (length code.now) }
+    requires ready { AreReady (A.made acts.old) base (length code.now) }
     requires closed { IsClosed (with_span (A.marked acts.old).bytes (base - 65536) code.now) (A.marked acts.old).marks }
     requires almost { IsFinalBut (with_span (A.marked acts.old).bytes (base - 65536) code.now) (A.marked acts.old).bytes base
         (base + length code.now) }
     ensures bytes { (A.marked acts.new).bytes ≡ with_span (A.marked acts.old).bytes (base - 65536) code.now }
     ensures marks { (A.marked acts.new).marks ≡ (A.marked acts.old).marks }
     ensures whole { IsText (A.marked acts.new) }
+    ensures made { A.made acts.new ≡ A.made acts.old }
     ensures keeper { A.keeper acts.new ≡ A.keeper acts.old }
     ensures told { Tells (A.told acts.old) (A.told acts.new) (puts_where is_start base code.now) }
 {

@@ -3,6 +3,7 @@
 ghost use Rattle.std.specs.Prelude.{◌≡◌, ◌+◌, ◌-◌, ◌<◌, ◌≤◌, ◌^◌, ℕ, List, [], ◌∷◌, ◌++◌, length, replicate, true};
 ghost use Rattle.nc_decode.specs.declared.instruction.Mark.{Mark};
 ghost use Rattle.nc_text.specs.Places.{limit_of, byte_at};
+ghost use Rattle.nc_text.specs.Ready.{AreReady};
 ghost use Rattle.nc_text.specs.MarkedText.{MarkedText, IsText, with_span};
 ghost use Rattle.nc_gens.specs.Rule.{generation_raised};
 ghost use Rattle.nc_region.specs.Acts.{Tells, puts_where, is_mark, is_marked_at, is_unmarked_at, acts_of_delete};
@@ -19,11 +20,13 @@ const STOP: u8 = 0xF4;
 pub(crate) fn put_stops<A: Acts>(acts: &mut A, base: u32, len: u32) -> u64
     requires whole { IsText (A.marked acts.old) }
     requires placed { HasGoodSpan base (limit_of (A.marked acts.old).bytes) len }
+    requires ready { AreReady (A.made acts.old) base len }
     requires room { (A.keeper acts.old).numbers.generation < 2 ^ 62 }
     ensures bytes { (A.marked acts.new).bytes ≡ with_span (A.marked acts.old).bytes (base - 65536) (replicate len 244) }
     ensures marks { (A.marked acts.new).marks ≡ (A.marked acts.old).marks }
     ensures whole { IsText (A.marked acts.new) }
     ensures stamp { result ≡ (A.keeper acts.old).numbers.generation + 1 }
+    ensures made { A.made acts.new ≡ A.made acts.old }
     ensures keeper { A.keeper acts.new ≡ record (A.keeper acts.old) { numbers = generation_raised (A.keeper acts.old).numbers } }
     ensures told { Tells (A.told acts.old) (A.told acts.new) (acts_of_delete (A.marked acts.old).marks base len) }
 {
@@ -49,10 +52,12 @@ fn is_mark(mark: Mark) -> bool
 fn stop_marked<A: Acts>(acts: &mut A, base: u32, len: u32)
     requires whole { IsText (A.marked acts.old) }
     requires placed { HasGoodSpan base (limit_of (A.marked acts.old).bytes) len }
+    requires ready { AreReady (A.made acts.old) base len }
     ensures bytes { HasPut (is_marked_at (A.marked acts.old).marks) base (replicate len 244) len (A.marked acts.old).bytes
         (A.marked acts.new).bytes }
     ensures marks { (A.marked acts.new).marks ≡ (A.marked acts.old).marks }
     ensures whole { IsText (A.marked acts.new) }
+    ensures made { A.made acts.new ≡ A.made acts.old }
     ensures keeper { A.keeper acts.new ≡ A.keeper acts.old }
     ensures told { Tells (A.told acts.old) (A.told acts.new)
         (puts_where (is_marked_at (A.marked acts.old).marks) base (replicate len 244)) }
@@ -69,12 +74,14 @@ fn stop_marked<A: Acts>(acts: &mut A, base: u32, len: u32)
 fn stop_others<A: Acts>(acts: &mut A, base: u32, len: u32)
     requires whole { IsText (A.marked acts.old) }
     requires placed { HasGoodSpan base (limit_of (A.marked acts.old).bytes) len }
+    requires ready { AreReady (A.made acts.old) base len }
     requires stopped { (at : ℕ) → base ≤ at → at < base + len → is_marked_at (A.marked acts.old).marks at ≡ true
         → byte_at (A.marked acts.old).bytes at ≡ 244 }
     ensures bytes { HasPut (is_unmarked_at (A.marked acts.old).marks) base (replicate len 244) len (A.marked acts.old).bytes
         (A.marked acts.new).bytes }
     ensures marks { (A.marked acts.new).marks ≡ (A.marked acts.old).marks }
     ensures whole { IsText (A.marked acts.new) }
+    ensures made { A.made acts.new ≡ A.made acts.old }
     ensures keeper { A.keeper acts.new ≡ A.keeper acts.old }
     ensures told { Tells (A.told acts.old) (A.told acts.new)
         (puts_where (is_unmarked_at (A.marked acts.old).marks) base (replicate len 244)) }

@@ -8,6 +8,7 @@ ghost use Rattle.nc_decode.specs.Transfers.{is_direct, is_indirect, target};
 ghost use Rattle.nc_vet.specs.Chunk.{Piece, IsTarget, mark_of};
 ghost use Rattle.nc_text.specs.Marks.{IsClosed};
 ghost use Rattle.nc_text.specs.Places.{byte_at, limit_of};
+ghost use Rattle.nc_text.specs.Ready.{AreReady};
 ghost use Rattle.nc_text.specs.MarkedText.{MarkedText, IsText, with_span};
 ghost use Rattle.nc_region.specs.declared.chunk.Chunk.{Chunk};
 ghost use Rattle.nc_region.specs.Acts.{Tells, puts_where};
@@ -235,9 +236,11 @@ pub(crate) fn put_patch<A: Acts>(acts: &mut A, chunk: Chunk, at: u32, new: &[u8]
     requires whole { IsText (A.marked acts.old) }
     requires patch { CanPatch (A.marked acts.old) chunk at new.now }
     requires ends { at + length new.now ≤ chunk.base + chunk.length }
+    requires ready { AreReady (A.made acts.old) at (length new.now) }
     ensures bytes { (A.marked acts.new).bytes ≡ with_span (A.marked acts.old).bytes (at - 65536) new.now }
     ensures marks { (A.marked acts.new).marks ≡ (A.marked acts.old).marks }
     ensures whole { IsText (A.marked acts.new) }
+    ensures made { A.made acts.new ≡ A.made acts.old }
     ensures keeper { A.keeper acts.new ≡ A.keeper acts.old }
     ensures holds { HoldsValid (A.marked acts.new) chunk }
     ensures told { (news : List Piece) → AreBytesOf new.now news
@@ -258,10 +261,12 @@ pub(crate) fn put_patch<A: Acts>(acts: &mut A, chunk: Chunk, at: u32, new: &[u8]
 /// Replaces an instruction by one that is as long, unless its bytes stand there already.
 fn put_where_new<A: Acts>(acts: &mut A, at: u32, bytes: &[u8])
     requires whole { IsText (A.marked acts.old) }
+    requires ready { AreReady (A.made acts.old) at (length bytes.now) }
     requires replacing { IsReplacing (A.marked acts.old) at bytes.now }
     ensures bytes { (A.marked acts.new).bytes ≡ with_span (A.marked acts.old).bytes (at - 65536) bytes.now }
     ensures marks { (A.marked acts.new).marks ≡ (A.marked acts.old).marks }
     ensures whole { IsText (A.marked acts.new) }
+    ensures made { A.made acts.new ≡ A.made acts.old }
     ensures keeper { A.keeper acts.new ≡ A.keeper acts.old }
     ensures told { Tells (A.told acts.old) (A.told acts.new)
         (if stands_there (A.marked acts.old).bytes at bytes.now then [] else acts_of_instruction at bytes.now) }
@@ -275,10 +280,12 @@ fn put_where_new<A: Acts>(acts: &mut A, at: u32, bytes: &[u8])
 /// Replaces an instruction by one that is as long.
 fn put_instruction<A: Acts>(acts: &mut A, at: u32, bytes: &[u8])
     requires whole { IsText (A.marked acts.old) }
+    requires ready { AreReady (A.made acts.old) at (length bytes.now) }
     requires replacing { IsReplacing (A.marked acts.old) at bytes.now }
     ensures bytes { (A.marked acts.new).bytes ≡ with_span (A.marked acts.old).bytes (at - 65536) bytes.now }
     ensures marks { (A.marked acts.new).marks ≡ (A.marked acts.old).marks }
     ensures whole { IsText (A.marked acts.new) }
+    ensures made { A.made acts.new ≡ A.made acts.old }
     ensures keeper { A.keeper acts.new ≡ A.keeper acts.old }
     ensures told { Tells (A.told acts.old) (A.told acts.new) (acts_of_instruction at bytes.now) }
 {
@@ -295,10 +302,12 @@ fn put_instruction<A: Acts>(acts: &mut A, at: u32, bytes: &[u8])
 fn put_longer<A: Acts>(acts: &mut A, at: u32, first: u8, rest: &[u8])
     requires whole { IsText (A.marked acts.old) }
     requires some { 0 < length rest.now }
+    requires ready { AreReady (A.made acts.old) at (1 + length rest.now) }
     requires replacing { IsReplacing (A.marked acts.old) at (first ∷ rest.now) }
     ensures bytes { (A.marked acts.new).bytes ≡ with_span (A.marked acts.old).bytes (at - 65536) (first ∷ rest.now) }
     ensures marks { (A.marked acts.new).marks ≡ (A.marked acts.old).marks }
     ensures whole { IsText (A.marked acts.new) }
+    ensures made { A.made acts.new ≡ A.made acts.old }
     ensures keeper { A.keeper acts.new ≡ A.keeper acts.old }
     ensures told { Tells (A.told acts.old) (A.told acts.new)
         (Act.Put at 244 ∷ (puts_where any_place (at + 1) rest.now ++ (Act.Put at first ∷ []))) }
@@ -313,12 +322,14 @@ fn put_rest<A: Acts>(acts: &mut A, at: u32, rest: &[u8])
     requires whole { IsText (A.marked acts.old) }
     requires low { 65536 ≤ at }
     requires high { at + 1 + length rest.now ≤ limit_of (A.marked acts.old).bytes }
+    requires ready { AreReady (A.made acts.old) at (1 + length rest.now) }
     requires stopped { byte_at (A.marked acts.old).bytes at ≡ 244 }
     requires closed { (now : List ℕ) → IsInterim (A.marked acts.old).bytes now at (1 + length rest.now)
         → IsClosed now (A.marked acts.old).marks }
     ensures bytes { HasPut any_place (at + 1) rest.now (length rest.now) (A.marked acts.old).bytes (A.marked acts.new).bytes }
     ensures marks { (A.marked acts.new).marks ≡ (A.marked acts.old).marks }
     ensures whole { IsText (A.marked acts.new) }
+    ensures made { A.made acts.new ≡ A.made acts.old }
     ensures keeper { A.keeper acts.new ≡ A.keeper acts.old }
     ensures told { Tells (A.told acts.old) (A.told acts.new) (puts_where any_place (at + 1) rest.now) }
 {

@@ -5,7 +5,7 @@ ghost use Rattle.std.specs.Prelude.{◌≡◌, None};
 use crate::acts::Acts;
 use nc_decode::Mark;
 use nc_gens::{Gens, GensFull, Keeper, Pass};
-use nc_text::Text;
+use nc_text::{Text, TextFault};
 use std::marker::Model;
 
 /// A text beside a table of generations and its keeper. It tells nothing of its acts.
@@ -22,7 +22,7 @@ impl<'g> Model for Plain<'g> {
 
     ghost Value = { PlainState };
 
-    ghost view = { λ p. record { marked = p.text; keeper = p.keeper } };
+    ghost view = { λ p. record { marked = p.text.marked; made = p.text.made; keeper = p.keeper } };
 
     ghost invariant = { λ p. p.keeper.table ≡ p.gens.now };
 }
@@ -31,7 +31,7 @@ impl<'g> Plain<'g> {
     /// This text, beside this table and its keeper, each changed only by its own calls.
     pub fn new(text: Text, gens: &'g Gens, keeper: Keeper) -> Plain<'g>
         requires { keeper.table ≡ gens.now }
-        ensures { result ≡ record { marked = text; keeper = keeper } }
+        ensures { result ≡ record { marked = text.marked; made = text.made; keeper = keeper } }
     {
         Plain { text, gens, keeper }
     }
@@ -47,9 +47,19 @@ impl<'g> Plain<'g> {
 impl<'g> Acts for Plain<'g> {
     ghost marked = { λ p. p.marked };
 
+    ghost made = { λ p. p.made };
+
     ghost keeper = { λ p. p.keeper };
 
     ghost told = { λ p. None };
+
+    fn ready(&mut self, at: u32, len: u32) -> Result<(), TextFault> {
+        self.text.ready(at, len)
+    }
+
+    fn is_ready(&self, at: u32, len: u32) -> bool {
+        self.text.is_ready(at, len)
+    }
 
     fn put(&mut self, at: u32, byte: u8) {
         self.text.put(at, byte);

@@ -25,6 +25,7 @@ pub(crate) fn unmark_due<A: Acts>(acts: &mut A, chunks: &[Chunk], least: u64)
     requires region { IsRegion (A.marked acts.old) chunks.now }
     ensures region { IsRegion (A.marked acts.new) (kept least chunks.now) }
     ensures marked { A.marked acts.new ≡ unmarked (A.marked acts.old) (freed least chunks.now) }
+    ensures made { A.made acts.new ≡ A.made acts.old }
     ensures keeper { A.keeper acts.new ≡ A.keeper acts.old }
     ensures told { Tells (A.told acts.old) (A.told acts.new) (unmarkings (freed least chunks.now)) }
 {

@@ -6,6 +6,7 @@ ghost use Rattle.std.specs.Option.{option_map};
 ghost use Rattle.std.specs.Vec.{vec_len, vec_capacity};
 ghost use Rattle.nc_text.specs.MarkedText.{IsText, with_byte, with_marks, without_marks, NamesRegister, KeepsMarks, AreStops};
 ghost use Rattle.nc_text.specs.Marks.{IsClosed};
+ghost use Rattle.nc_text.specs.Ready.{IsReady, AreReady};
 ghost use Rattle.nc_text.specs.Places.{InRegion, SpanInRegion};
 ghost use Rattle.nc_region.specs.declared.acts.Act.{Act};
 ghost use Rattle.nc_gens.specs.Rule.{generation_raised};
@@ -15,6 +16,7 @@ ghost use Rattle.nc_region.specs.Acts.{Tells};
 use crate::acts::{Act, Acts};
 use nc_decode::Mark;
 use nc_gens::{GensFull, Pass};
+use nc_text::TextFault;
 use std::alloc::{AllocError, Global};
 
 /// Acts that are recorded, each at the end of a log as it is done.
@@ -71,14 +73,26 @@ impl<A: Acts + Drop> Recorder<A> {
 impl<A: Acts + Drop> Acts for Recorder<A> {
     ghost marked = { λ r. A.marked r.acts };
 
+    ghost made = { λ r. A.made r.acts };
+
     ghost keeper = { λ r. A.keeper r.acts };
 
     ghost told = { λ r. if r.full then None else Some r.log.items };
 
+    fn ready(&mut self, at: u32, len: u32) -> Result<(), TextFault> {
+        self.acts.ready(at, len)
+    }
+
+    fn is_ready(&self, at: u32, len: u32) -> bool {
+        self.acts.is_ready(at, len)
+    }
+
     fn put(&mut self, at: u32, byte: u8)
         requires inside { InRegion (A.marked self.old.acts).bytes at }
+        requires ready { IsReady (A.made self.old.acts) at }
         requires closed { IsClosed (with_byte (A.marked self.old.acts) at byte).bytes (A.marked self.old.acts).marks }
         ensures marked { A.marked self.new.acts ≡ with_byte (A.marked self.old.acts) at byte }
+        ensures made { A.made self.new.acts ≡ A.made self.old.acts }
         ensures whole { IsText (A.marked self.new.acts) }
         ensures keeper { A.keeper self.new.acts ≡ A.keeper self.old.acts }
         ensures told { Tells (if self.old.full then None else Some self.old.log.items)
@@ -91,10 +105,12 @@ impl<A: Acts + Drop> Acts for Recorder<A> {
 
     fn mark_span(&mut self, at: u32, marks: &[Mark])
         requires inside { SpanInRegion (A.marked self.old.acts).bytes at (length marks.now) }
+        requires ready { AreReady (A.made self.old.acts) at (length marks.now) }
         requires registers { All NamesRegister marks.now }
         requires keeps { KeepsMarks (A.marked self.old.acts).marks (with_marks (A.marked self.old.acts) at marks.now).marks }
         requires closed { IsClosed (A.marked self.old.acts).bytes (with_marks (A.marked self.old.acts) at marks.now).marks }
         ensures marked { A.marked self.new.acts ≡ with_marks (A.marked self.old.acts) at marks.now }
+        ensures made { A.made self.new.acts ≡ A.made self.old.acts }
         ensures whole { IsText (A.marked self.new.acts) }
         ensures keeper { A.keeper self.new.acts ≡ A.keeper self.old.acts }
         ensures told { Tells (if self.old.full then None else Some self.old.log.items)
@@ -110,6 +126,7 @@ impl<A: Acts + Drop> Acts for Recorder<A> {
         requires stops { AreStops (A.marked self.old.acts).bytes at len }
         requires closed { IsClosed (A.marked self.old.acts).bytes (without_marks (A.marked self.old.acts) at len).marks }
         ensures marked { A.marked self.new.acts ≡ without_marks (A.marked self.old.acts) at len }
+        ensures made { A.made self.new.acts ≡ A.made self.old.acts }
         ensures whole { IsText (A.marked self.new.acts) }
         ensures keeper { A.keeper self.new.acts ≡ A.keeper self.old.acts }
         ensures told { Tells (if self.old.full then None else Some self.old.log.items)
@@ -142,6 +159,7 @@ impl<A: Acts + Drop> Acts for Recorder<A> {
         ensures goes_on { OnOk result ((self.new.full ≡ false) ↔ ((self.old.full ≡ false)
             × (vec_len self.old.log < vec_capacity self.old.log))) }
         ensures marked { A.marked self.new.acts ≡ A.marked self.old.acts }
+        ensures made { A.made self.new.acts ≡ A.made self.old.acts }
         ensures full { OnErr result (((A.keeper self.old.acts).numbers.generation ≡ 2 ^ 62)
             × (A.keeper self.new.acts ≡ A.keeper self.old.acts)) }
         ensures silent { OnErr result ((self.new.full ≡ self.old.full) × (self.new.log.items ≡ self.old.log.items)) }
@@ -157,6 +175,7 @@ impl<A: Acts + Drop> Acts for Recorder<A> {
         ensures looked { HasLooked (A.keeper self.old.acts) (A.keeper self.new.acts) }
         ensures least { result ≡ least_number (A.keeper self.new.acts).numbers }
         ensures marked { A.marked self.new.acts ≡ A.marked self.old.acts }
+        ensures made { A.made self.new.acts ≡ A.made self.old.acts }
         ensures told { Tells (if self.old.full then None else Some self.old.log.items)
             (if self.new.full then None else Some self.new.log.items) (Act.Look ∷ []) }
         ensures goes_on { (self.new.full ≡ false) ↔ ((self.old.full ≡ false) × (vec_len self.old.log < vec_capacity self.old.log)) }

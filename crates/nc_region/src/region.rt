@@ -5,11 +5,12 @@ ghost use Rattle.nc_text.specs.Machine.{IsConfined};
 ghost use Rattle.nc_text.specs.Places.{InRegion, byte_at, limit_of};
 ghost use Rattle.nc_decode.specs.Bundles.{IsLawfulLimit};
 ghost use Rattle.nc_text.specs.MarkedText.{unused_text};
+ghost use Rattle.nc_text.specs.Ready.{unmade_pages};
 ghost use Rattle.nc_region.specs.Acts.{Tells, acts_of_create};
 ghost use Rattle.nc_gens.specs.Seen.{HasMet};
 ghost use Rattle.nc_region.specs.Quiet.{AreQuiet};
 ghost use Rattle.nc_region.specs.Deletion.{IsDeleted, MayRefuseDelete, IsReclaimed};
-ghost use Rattle.nc_region.specs.Region.{Region, IsRegion, IsNew, IsCreated, MayRefuse, Meets};
+ghost use Rattle.nc_region.specs.Region.{Region, IsRegion, AreChunksReady, IsNew, IsCreated, IsRefused, MayRefuse, Meets};
 ghost use Rattle.nc_vet.specs.Chunk.{Piece};
 ghost use Rattle.nc_region.specs.Patch.{IsPatch, MayRefusePatch, IsModified, AreBytesOf, acts_of_modify};
 ghost use Rattle.nc_region.specs.Trace.{IsTrace, IsOnlyTrace, IsSafeWalk, IsWalkStart, MayRefuseWalk};
@@ -49,13 +50,19 @@ pub struct RegionOf<A: Acts + Drop> {
 }
 
 impl<A: Acts + Drop> Model for RegionOf<A> {
-    ghost use Rattle.nc_region.specs.Region.{Region, IsRegion};
+    ghost use Rattle.nc_region.specs.Region.{Region, IsRegion, AreChunksReady};
 
     ghost Value = { Region };
 
-    ghost view = { λ r. record { marked = A.marked r.acts; chunks = r.chunks.items; keeper = A.keeper r.acts; told = A.told r.acts } };
+    ghost view = { λ r. record {
+      marked = A.marked r.acts;
+      made = A.made r.acts;
+      chunks = r.chunks.items;
+      keeper = A.keeper r.acts;
+      told = A.told r.acts;
+    } };
 
-    ghost invariant = { λ r. IsRegion (A.marked r.acts) r.chunks.items };
+    ghost invariant = { λ r. IsRegion (A.marked r.acts) r.chunks.items × AreChunksReady (A.made r.acts) r.chunks.items };
 }
 
 impl<'g> RegionOf<Plain<'g>> {
@@ -73,7 +80,13 @@ impl<'g> RegionOf<Plain<'g>> {
         ensures size { IfErr result (λ e. (e.1 ≡ RegionFault.BadSize) ↔ ¬ IsLawfulLimit (0x10000 + 32 * bundles)) }
         ensures given_back { IfErr result (λ e. e.0 ≡ keeper) }
         ensures region { IfOk result (λ r. r
-            ≡ record { marked = unused_text (0x10000 + 32 * bundles); chunks = []; keeper = keeper; told = None }) }
+            ≡ record {
+              marked = unused_text (0x10000 + 32 * bundles);
+              made = unmade_pages (0x10000 + 32 * bundles);
+              chunks = [];
+              keeper = keeper;
+              told = None;
+            }) }
         ensures confined { IfOk result (λ r. IsConfined r.marked.bytes) }
     {
         match Text::new(alloc, bundles) {
@@ -96,7 +109,13 @@ impl<A: Acts + Drop> RegionOf<A> {
     /// A region over a new text, without a chunk. It takes no memory.
     pub fn over(alloc: Global, acts: A) -> RegionOf<A>
         requires { IsNew (A.marked acts) }
-        ensures { result ≡ record { marked = A.marked acts; chunks = []; keeper = A.keeper acts; told = A.told acts } }
+        ensures { result ≡ record {
+          marked = A.marked acts;
+          made = A.made acts;
+          chunks = [];
+          keeper = A.keeper acts;
+          told = A.told acts;
+        } }
     {
         RegionOf {
             acts,
@@ -107,6 +126,7 @@ impl<A: Acts + Drop> RegionOf<A> {
     /// The `Acts` behind this region, for example to read its log.
     pub fn acts(&self) -> &A
         ensures marked { A.marked result.now ≡ self.now.marked }
+        ensures made { A.made result.now ≡ self.now.made }
         ensures keeper { A.keeper result.now ≡ self.now.keeper }
         ensures told { A.told result.now ≡ self.now.told }
     {
@@ -130,11 +150,12 @@ impl<A: Acts + Drop> RegionOf<A> {
     }
 
     /// How many chunks there are, live and retired. Every path through the text is safe, and every retired span is quiet:
-    /// its bytes are stops, and no thread outside it can come into it but at a bundle start.
+    /// its bytes are stops, and no thread outside it can come into it but at a bundle start. Every place of a chunk is ready.
     pub fn chunk_count(&self) -> usize
         ensures count { result ≡ length self.now.chunks }
         ensures confined { IsConfined self.now.marked.bytes }
         ensures quiet { AreQuiet self.now.marked self.now.chunks }
+        ensures ready { AreChunksReady self.now.made self.now.chunks }
         ensures region { IsRegion self.now.marked self.now.chunks }
     {
         self.chunks.len()
@@ -148,7 +169,8 @@ impl<A: Acts + Drop> RegionOf<A> {
     }
 
     /// Creates a chunk while threads may be running: its bytes that aren't bundle starts are put, then its marks are
-    /// set, then its bundle starts are put. A refusal changes nothing and gives the chunk back.
+    /// set, then its bundle starts are put. The pages of its span are made before. A refusal gives the chunk back and leaves
+    /// the region as it was; only where memory was refused, some of these pages may have been made.
     pub fn create(&mut self, vetted: Vetted) -> Result<(), (Vetted, CreateFault)>
         // The span holds the chunk's code and marks, and the chunk is in the list; all else is as before.
         ensures created { OnOk result (IsCreated self.old self.new vetted) }
@@ -158,7 +180,7 @@ impl<A: Acts + Drop> RegionOf<A> {
         ensures free { OnOk result ((vetted.limit ≡ limit_of self.old.marked.bytes)
             × ¬ Meets vetted.base (length vetted.code) self.old.chunks) }
         // Text, marks, chunks and acts are as before, and the chunk comes back.
-        ensures unchanged { IfErr result (λ e. (e.0 ≡ vetted) × (self.new ≡ self.old)) }
+        ensures unchanged { IfErr result (λ e. (e.0 ≡ vetted) × IsRefused self.old self.new vetted e.1) }
         // Each refusal comes where it is due.
         ensures refused { IfErr result (λ e. MayRefuse self.old vetted e.1) }
         ensures confined { IsConfined self.new.marked.bytes }
@@ -177,6 +199,9 @@ impl<A: Acts + Drop> RegionOf<A> {
         let Ok(marks) = vetted.marks(*self.chunks.allocator()) else {
             return Err((vetted, CreateFault::OutOfMemory));
         };
+        if self.acts.ready(base, length).is_err() {
+            return Err((vetted, CreateFault::OutOfMemory));
+        }
         put_chunk(&mut self.acts, base, vetted.code(), &marks);
         let chunk = Chunk {
             base,

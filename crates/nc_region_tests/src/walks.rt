@@ -3,7 +3,8 @@
 use crate::fixtures::{LIMIT, chunk, is_trace, region};
 use nc_gens::Gens;
 use nc_region::{End, Region, Trace, WalkFault};
-use nc_vet::Vetted;
+use nc_vet::{Vetted, vet};
+use std::alloc::Global;
 use std::test::Fail;
 
 /// A chunk's front, the choices of a walk from 00010000, and its trace.
@@ -99,5 +100,47 @@ fn long_walk(rt: HostRuntime) -> Result<(), Fail> {
         return Err(Fail::new("no walk"));
     };
     assert!(rt; is_trace(&trace, &places, End::More));
+    Ok(())
+}
+
+/// The limit of a region of the largest size, and the last bundle of its first page, after which a second page begins.
+const LARGEST: u32 = 0x0101_0000;
+
+const PAGE_END: u32 = 0x0001_0FE0;
+
+/// Two bundles that jump to each other's start, one at the end of a page and one at the beginning of the next.
+fn over_pages(alloc: Global) -> Result<Vetted, Fail> {
+    let mut code = Vec::new(alloc);
+    code.extend_from_slice(&[0xEB, 0x1E])?;
+    code.resize(32, 0x90)?;
+    code.extend_from_slice(&[0xEB, 0xDE])?;
+    code.resize(64, 0x90)?;
+    match vet(PAGE_END, LARGEST, code) {
+        Ok(vetted) => Ok(vetted),
+        Err((_, fault)) => Err(Fail::new(format_args!("{fault:?}"))),
+    }
+}
+
+/// The trace of a walk.
+fn walked(region: &Region<'_>, start: u32, choices: &[u32]) -> Result<Trace, Fail> {
+    match region.walk(start, choices) {
+        Ok(trace) => Ok(trace),
+        Err(fault) => Err(Fail::new(format_args!("{fault:?}"))),
+    }
+}
+
+#[test]
+fn walk_over_pages(rt: HostRuntime) -> Result<(), Fail> {
+    let alloc = rt.alloc();
+    let (gens, keeper, _passes) = Gens::new(alloc, 1)?;
+    let mut region = region(alloc, 524_288, &gens, keeper)?;
+    assert!(rt; region.create(over_pages(alloc)?).is_ok());
+    let trace = walked(&region, PAGE_END, &[0, 0])?;
+    assert!(rt;
+        is_trace(&trace, &[0x10FE0, 0x11000, 0x10FE0], End::More),
+        "{trace:?}"
+    );
+    let trace = walked(&region, 0x0100_FFE0, &[])?;
+    assert!(rt; is_trace(&trace, &[0x0100_FFE0], End::Stop), "{trace:?}");
     Ok(())
 }

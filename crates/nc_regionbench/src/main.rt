@@ -6,6 +6,10 @@
 //! `nc_regionbench checkin TIMES ROUNDS` checks in so many times through a shared region, and beside it does so many bare loads
 //! and stores of two atomic words, in the same order of memory. It prints the best time of one of each.
 //!
+//! `nc_regionbench new BUNDLES ROUNDS` makes a region of so many bundles, without a chunk, and prints the best time.
+//!
+//! `nc_regionbench walk BUNDLES STEPS ROUNDS` walks so many steps around a chunk of so many bundles, and prints the best time.
+//!
 //! Without these words it says how to call it.
 #![tactic(auto)]
 
@@ -172,6 +176,76 @@ fn measure_chunks(rt: &HostRuntime, load: Load, rounds: u32) -> io::Result<()> {
     )
 }
 
+/// What making a region took, where there is memory for it.
+fn new_once(rt: &HostRuntime, bundles: u32) -> io::Result<Duration> {
+    let Ok((gens, keeper, _passes)) = Gens::new(rt.alloc(), 1) else {
+        return Ok(Duration::MAX);
+    };
+    let start = Instant::now(rt)?;
+    let made = Region::new(rt.alloc(), bundles, &gens, keeper);
+    let taken = start.elapsed(rt)?;
+    Ok(if made.is_ok() { taken } else { Duration::MAX })
+}
+
+/// Times how long a region is made, in rounds, and prints the best time.
+fn measure_new(rt: &HostRuntime, bundles: u32, rounds: u32) -> io::Result<()> {
+    let mut best = Duration::MAX;
+    for _ in 0..rounds {
+        best = best.min(new_once(rt, bundles)?);
+    }
+    println!(rt; "a region of {bundles} bundles: {} ns", best.as_nanos())
+}
+
+/// Choices that lead a walk around a chunk, whose bundles have twelve instructions each, the last an indirect jump.
+fn choices(alloc: Global, load: Load, steps: u32) -> io::Result<Vec<u32>> {
+    let mut choices = Vec::new(alloc);
+    for i in 0..steps {
+        let next = (i / 12 + 1) % load.bundles.max(1);
+        let place = BASE.saturating_add(next.saturating_mul(32));
+        choices.push(if i % 12 == 11 { place } else { 0 })?;
+    }
+    Ok(choices)
+}
+
+/// What a walk took, and over how many places it went, where there is memory for it.
+fn walk_once(
+    rt: &HostRuntime,
+    load: Load,
+    choices: &[u32],
+) -> io::Result<Option<(Duration, usize)>> {
+    let Ok((gens, keeper, _passes)) = Gens::new(rt.alloc(), 1) else {
+        return Ok(None);
+    };
+    let Ok(mut region) = Region::new(rt.alloc(), load.region(), &gens, keeper) else {
+        return Ok(None);
+    };
+    create_all(&mut region, chunks(rt.alloc(), load)?);
+    let start = Instant::now(rt)?;
+    let Ok(trace) = region.walk(BASE, choices) else {
+        return Ok(None);
+    };
+    let taken = start.elapsed(rt)?;
+    Ok(Some((taken, trace.places.len())))
+}
+
+/// Times walks in rounds, and prints the best time and over how many places the last one went.
+fn measure_walk(rt: &HostRuntime, load: Load, steps: u32, rounds: u32) -> io::Result<()> {
+    let choices = choices(rt.alloc(), load, steps)?;
+    let mut best = Duration::MAX;
+    let mut places = 0;
+    for _ in 0..rounds {
+        if let Some((taken, long)) = walk_once(rt, load, &choices)? {
+            best = best.min(taken);
+            places = long;
+        }
+    }
+    println!(rt;
+        "{places} places in {} bundles: {} ns",
+        load.bundles,
+        best.as_nanos()
+    )
+}
+
 /// Checks in so many times.
 #[inline(never)]
 fn check_in_times(shared: &Shared<'_>, pass: &mut Pass, times: u32)
@@ -253,9 +327,22 @@ fn main(rt: HostRuntime) -> io::Result<()> {
         [_, what, times, rounds] if what.as_str() == "checkin" => {
             measure_check_in(&rt, number(times.as_str()), number(rounds.as_str()))
         }
+        [_, what, bundles, rounds] if what.as_str() == "new" => {
+            measure_new(&rt, number(bundles.as_str()), number(rounds.as_str()))
+        }
+        [_, what, bundles, steps, rounds] if what.as_str() == "walk" => {
+            let load = Load {
+                count: 1,
+                bundles: number(bundles.as_str()),
+            };
+            let steps = number(steps.as_str());
+            measure_walk(&rt, load, steps, number(rounds.as_str()))
+        }
         _ => {
             println!(&rt; "usage: nc_regionbench chunks COUNT BUNDLES ROUNDS")?;
-            println!(&rt; "       nc_regionbench checkin TIMES ROUNDS")
+            println!(&rt; "       nc_regionbench checkin TIMES ROUNDS")?;
+            println!(&rt; "       nc_regionbench new BUNDLES ROUNDS")?;
+            println!(&rt; "       nc_regionbench walk BUNDLES STEPS ROUNDS")
         }
     }
 }

@@ -5,6 +5,7 @@ use crate::walking::Copied;
 use nc_decode::{Mark, START};
 use nc_gens::{GensFull, Pass};
 use nc_region::Acts;
+use nc_text::TextFault;
 
 /// What was found after the acts so far.
 #[derive(Clone, Copy, Debug, PartialEq, Eq)]
@@ -120,9 +121,19 @@ fn copy<A: Acts>(acts: &A) -> Copied {
 impl<A: Acts + Drop> Acts for Watcher<A> {
     ghost marked = { λ w. A.marked w.acts };
 
+    ghost made = { λ w. A.made w.acts };
+
     ghost keeper = { λ w. A.keeper w.acts };
 
     ghost told = { λ w. A.told w.acts };
+
+    fn ready(&mut self, at: u32, len: u32) -> Result<(), TextFault> {
+        self.acts.ready(at, len)
+    }
+
+    fn is_ready(&self, at: u32, len: u32) -> bool {
+        self.acts.is_ready(at, len)
+    }
 
     fn put(&mut self, at: u32, byte: u8) {
         self.acts.put(at, byte);

@@ -1,5 +1,5 @@
 -- A new session stands for the first state of a script.
-use Rattle.std.proofs.Common.{◌≡◌, ℕ, zero, suc, ◌<◌, ◌≤◌, ◌+◌, List, [], ◌∷◌, ◌++◌, length, map, get_or, replicate, Option, Some, None}
+use Rattle.std.proofs.Common.{◌≡◌, ℕ, zero, suc, ◌<◌, ◌≤◌, ◌+◌, Bool, List, [], ◌∷◌, ◌++◌, length, map, get_or, replicate, Option, Some, None}
 use Rattle.std.proofs.Common.{refl, sym, ◌∙◌}
 use Rattle.std.proofs.Common.{subst, arith}
 use Rattle.std.proofs.lemmas.List.{map-append, length-map, length-replicate, get_or-replicate}
@@ -32,16 +32,16 @@ first_words table (suc n) i l =
     (λ j m. first_words table n j (omega (arith, m, long))) (refl, refl, omega arith, omega arith) i (omega (arith, l, long)))
 
 -- a session over a new region
-abbrev pub first_state : MarkedText → TableId → ℕ → SessionState
-first_state marked table n = record {
-  region = record { marked = marked; chunks = []; keeper = first_keeper table n; told = None };
+abbrev pub first_state : MarkedText → List Bool → TableId → ℕ → SessionState
+first_state marked made table n = record {
+  region = record { marked = marked; made = made; chunks = []; keeper = first_keeper table n; told = None };
   seats = record { table = table; passes = map (λ (p : PassState). Some p) (first_passes table n) };
 }
 
 -- its seats are all there, with the number 0
-pub first_fits : (marked : MarkedText) (table : TableId) (n : ℕ) → 1 ≤ n
-    → Fits (first_state marked table n) (replicate n (Staying 0)) 0
-first_fits marked table n some =
+pub first_fits : (marked : MarkedText) (made : List Bool) (table : TableId) (n : ℕ) → 1 ≤ n
+    → Fits (first_state marked made table n) (replicate n (Staying 0)) 0
+first_fits marked made table n some =
     let long = length-replicate n (Staying 0) in
     record {
       in_range = omega arith;

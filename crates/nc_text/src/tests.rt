@@ -1,5 +1,6 @@
 use crate::{Text, TextFault, law_of_closed};
 use nc_decode::Mark;
+use std::alloc::Global;
 
 /// Numbers of bundles, and the limit of the text or why there is none.
 static SIZES: [(u32, Result<u32, TextFault>); 8] = [
@@ -40,6 +41,7 @@ fn acts(rt: HostRuntime) -> Result<(), TextFault> {
         assert_eq!(rt; text.byte(at), 0xF4, "the byte at {at:x}");
         assert_eq!(rt; text.mark(at), first_mark(at), "the mark at {at:x}");
     }
+    text.ready(0x0001_0000, 64)?;
     text.mark_span(0x0001_0001, &[Mark::Plain, Mark::After(3)]);
     assert_eq!(rt; text.mark(0x0001_0000), Mark::Plain);
     assert_eq!(rt; text.mark(0x0001_0001), Mark::Plain);
@@ -55,5 +57,27 @@ fn acts(rt: HostRuntime) -> Result<(), TextFault> {
     assert_eq!(rt; text.byte(0x0001_0004), 0xF4);
     assert_eq!(rt; text.mark(0x0001_0003), Mark::Unmarked);
     law_of_closed();
+    Ok(())
+}
+
+/// A text of the largest size.
+fn largest(alloc: Global) -> Result<Text, TextFault> {
+    Text::new(alloc, 524_288)
+}
+
+#[test]
+fn pages(rt: HostRuntime) -> Result<(), TextFault> {
+    let mut text = largest(rt.alloc())?;
+    assert_eq!(rt; text.limit(), 0x0101_0000);
+    assert!(rt; !text.is_ready(0x0001_0fe0, 64));
+    text.ready(0x0001_0fe0, 64)?;
+    assert!(rt; text.is_ready(0x0001_0fe0, 64));
+    assert!(rt; !text.is_ready(0x0001_2000, 32));
+    assert!(rt; text.is_ready(0x0001_2000, 0));
+    assert_eq!(rt; text.byte(0x0001_0fff), 0xF4);
+    assert_eq!(rt; text.byte(0x0100_ffff), 0xF4);
+    assert_eq!(rt; text.mark(0x0001_1000), Mark::Plain);
+    assert_eq!(rt; text.mark(0x0001_2000), Mark::Plain);
+    assert_eq!(rt; text.mark(0x0001_2001), Mark::Unmarked);
     Ok(())
 }

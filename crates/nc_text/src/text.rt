@@ -1,20 +1,19 @@
 //! A text: the bytes of a region and their marks.
 
-ghost use Rattle.std.specs.Prelude.{◌≡◌, ◌+◌, ◌%◌, ◌-◌, ◌*◌, ◌≤◌, ◌<◌, ℕ, List, length, IfOk, All, ◌↔◌, ◌⊎◌};
+ghost use Rattle.std.specs.Prelude.{◌≡◌, ◌+◌, ◌%◌, ◌-◌, ◌*◌, ◌≤◌, ◌<◌, ℕ, List, length, IfOk, IfErr, IsTrue, All, ◌↔◌, ◌⊎◌};
 ghost use Rattle.nc_decode.specs.Bundles.{IsLawfulLimit};
 ghost use Rattle.nc_text.specs.Marks.{IsClosed, mark_at};
 ghost use Rattle.nc_text.specs.Places.{InRegion, SpanInRegion, byte_at, limit_of};
 ghost use Rattle.nc_text.specs.MarkedText.{MarkedText, IsText, with_byte, with_marks, without_marks, unused_text, NamesRegister};
 ghost use Rattle.nc_text.specs.MarkedText.{KeepsMarks, AreStops};
+ghost use Rattle.nc_text.specs.Ready.{TextState, IsReady, AreReady, GetsReady, unmade_pages};
 
-use crate::spans::{set_span, unmark, unused_marks};
+use crate::page::{PAGE, Page};
+use crate::table;
 use nc_decode::{MAX_BUNDLES, Mark, START};
 use std::alloc::Global;
 use std::marker::Model;
 use thiserror::Error;
-
-/// The byte of the instruction hlt, with which all unused text is filled.
-const STOP: u8 = 0xF4;
 
 /// Why no text is made.
 #[derive(Clone, Copy, Debug, PartialEq, Eq, Error)]
@@ -37,105 +36,154 @@ pub enum TextFault {
 /// bundle start below 00010000 (`law_of_closed`). That is the order of puts of Ansel et al. 2011, "Language-independent
 /// sandboxing of just-in-time compilation and self-modifying code", as one condition on each put.
 ///
+/// A text stands in pages of 4096 places. A page is made on first need, by `ready`, and stays; a place is *ready* if its page
+/// is made. A page that isn't made reads as F4, with only its bundle starts marked.
+///
 /// It promises nothing of threads that stand elsewhere, and executes nothing.
 #[derive(Drop)]
 pub struct Text {
-    bytes: Vec<u8>,
-    marks: Vec<Mark>,
+    alloc: Global,
+    size: usize,
+    pages: Vec<Option<Box<Page>>>,
 }
 
 impl Model for Text {
-    ghost use Rattle.nc_text.specs.MarkedText.{MarkedText, IsText};
+    ghost use Rattle.std.specs.Prelude.{◌≡◌, ◌+◌, ◌/◌, length};
+    ghost use Rattle.nc_text.specs.MarkedText.{IsText};
+    ghost use Rattle.nc_text.specs.Ready.{TextState};
+    ghost use Rattle.nc_text.specs.machinery.Pages.{text_of};
 
-    ghost Value = { MarkedText };
+    ghost Value = { TextState };
 
-    ghost view = { λ t. record { bytes = t.bytes.items; marks = t.marks.items } };
+    ghost view = { λ t. text_of t.pages.items t.size };
 
-    ghost invariant = { λ t. IsText (record { bytes = t.bytes.items; marks = t.marks.items }) };
+    ghost invariant = { λ t. IsText (text_of t.pages.items t.size).marked × (length t.pages.items ≡ (t.size + 4095) / 4096) };
 }
 
 impl Text {
     /// A text of this many bundles of 32 bytes: all F4, with exactly the bundle starts `Plain`. Its limit is 00010000 plus
-    /// 32 times `bundles`. No other call takes memory.
+    /// 32 times `bundles`. No page is made. Only `ready` takes memory besides this.
     ///
     /// # Errors
     ///
     /// `BadSize` exactly where that is no lawful limit, before any growth, and `OutOfMemory` only where a growth was refused.
     pub fn new(alloc: Global, bundles: u32) -> Result<Self, TextFault>
         ensures size { (result ≡ Err TextFault.BadSize) ↔ ¬ IsLawfulLimit (0x10000 + 32 * bundles) }
-        ensures marked { IfOk result (λ t. t ≡ unused_text (0x10000 + 32 * bundles)) }
-        ensures whole { IfOk result IsText }
+        ensures marked { IfOk result (λ t. t.marked ≡ unused_text (0x10000 + 32 * bundles)) }
+        ensures made { IfOk result (λ t. t.made ≡ unmade_pages (0x10000 + 32 * bundles)) }
+        ensures whole { IfOk result (λ t. IsText t.marked) }
     {
         if bundles < 2 || bundles > MAX_BUNDLES {
             return Err(TextFault::BadSize);
         }
-        let n = bundles as usize * 32;
-        let mut bytes = Vec::new(alloc);
-        let Ok(()) = bytes.resize(n, STOP) else {
+        let size = bundles as usize * 32;
+        let Ok(pages) = table::empty(alloc, size.div_ceil(PAGE)) else {
             return Err(TextFault::OutOfMemory);
         };
-        let Ok(marks) = unused_marks(alloc, n) else {
+        Ok(Text { alloc, size, pages })
+    }
+
+    /// Makes every page that meets the span of `len` places from `at` on and isn't made. No byte and no mark changes, no page
+    /// is lost, and no other page is made. An empty span meets no page, wherever `at` is.
+    ///
+    /// # Errors
+    ///
+    /// `OutOfMemory` only where a growth was refused. Some of the pages may then be made.
+    pub fn ready(&mut self, at: u32, len: u32) -> Result<(), TextFault>
+        requires inside { SpanInRegion self.old.marked.bytes at len }
+        ensures ready { IfOk result (λ _. AreReady self.new.made at len) }
+        ensures only { GetsReady self.old.made self.new.made at len }
+        ensures marked { self.new.marked ≡ self.old.marked }
+        ensures fault { IfErr result (λ fault. fault ≡ TextFault.OutOfMemory) }
+        ensures whole { IsText self.new.marked }
+    {
+        // Names a field, so that the early return is checked against the fields and not the whole.
+        let _open = &self.pages;
+        if len == 0 {
+            return Ok(());
+        }
+        let start = (at - START) as usize;
+        let end = (start + len as usize).div_ceil(PAGE);
+        let Ok(()) = table::make(self.alloc, &mut self.pages, start / PAGE, end) else {
             return Err(TextFault::OutOfMemory);
         };
-        Ok(Text { bytes, marks })
+        Ok(())
+    }
+
+    /// Whether every place of the span of `len` places from `at` on is ready. An empty span is. It takes no memory.
+    pub fn is_ready(&self, at: u32, len: u32) -> bool
+        requires inside { SpanInRegion self.now.marked.bytes at len }
+        ensures { IsTrue result ↔ AreReady self.now.made at len }
+    {
+        if len == 0 {
+            return true;
+        }
+        let start = (at - START) as usize;
+        let end = (start + len as usize).div_ceil(PAGE);
+        table::are_made(&self.pages, start / PAGE, end)
     }
 
     /// The address after the last byte: a multiple of 32.
     pub fn limit(&self) -> u32
-        ensures limit { result ≡ limit_of self.now.bytes }
-        ensures whole { IsText self.now }
+        ensures limit { result ≡ limit_of self.now.marked.bytes }
+        ensures whole { IsText self.now.marked }
     {
-        START + self.bytes.len() as u32
+        START + self.size as u32
     }
 
     /// The byte at an address of the region.
     pub fn byte(&self, at: u32) -> u8
-        requires { InRegion self.now.bytes at }
-        ensures { result ≡ byte_at self.now.bytes at }
+        requires { InRegion self.now.marked.bytes at }
+        ensures { result ≡ byte_at self.now.marked.bytes at }
     {
-        self.bytes[(at - START) as usize]
+        table::byte(&self.pages, (at - START) as usize)
     }
 
     /// The mark at an address of the region.
     pub fn mark(&self, at: u32) -> Mark
-        requires { InRegion self.now.bytes at }
-        ensures { result ≡ mark_at self.now.marks at }
+        requires { InRegion self.now.marked.bytes at }
+        ensures { result ≡ mark_at self.now.marked.marks at }
     {
-        self.marks[(at - START) as usize]
+        table::mark(&self.pages, (at - START) as usize)
     }
 
     /// Puts one byte at an address of the region. No mark changes, and no other byte.
     ///
-    /// The condition is that the text with that byte is closed under the same marks. A byte may be put that is there already.
+    /// The conditions are that the place is ready, and that the text with that byte is closed under the same marks. A byte may
+    /// be put that is there already.
     pub fn put(&mut self, at: u32, byte: u8)
-        requires inside { InRegion self.old.bytes at }
-        requires closed { IsClosed (with_byte self.old at byte).bytes self.old.marks }
-        ensures marked { self.new ≡ with_byte self.old at byte }
-        ensures whole { IsText self.new }
+        requires inside { InRegion self.old.marked.bytes at }
+        requires ready { IsReady self.old.made at }
+        requires closed { IsClosed (with_byte self.old.marked at byte).bytes self.old.marked.marks }
+        ensures marked { self.new.marked ≡ with_byte self.old.marked at byte }
+        ensures made { self.new.made ≡ self.old.made }
+        ensures whole { IsText self.new.marked }
     {
-        let index = (at - START) as usize;
-        self.bytes[index] = byte;
+        table::put(&mut self.pages, (at - START) as usize, byte);
     }
 
     /// Sets the marks of the span that begins at `at` and is as long as `marks`. No byte changes, and no mark outside. An
     /// empty span names no place, wherever `at` is, and changes nothing.
     ///
-    /// The conditions are that the span lies in the region, that the registers given are 0 to 7, that each place that is
-    /// marked keeps its mark or becomes `Plain`, so that no thread loses its place, and that the result is closed.
+    /// The conditions are that the span lies in the region, that its places are ready, that the registers given are 0 to 7,
+    /// that each place that is marked keeps its mark or becomes `Plain`, so that no thread loses its place, and that the
+    /// result is closed.
     pub fn mark_span(&mut self, at: u32, marks: &[Mark])
-        requires inside { SpanInRegion self.old.bytes at (length marks.now) }
+        requires inside { SpanInRegion self.old.marked.bytes at (length marks.now) }
+        requires ready { AreReady self.old.made at (length marks.now) }
         requires registers { All NamesRegister marks.now }
-        requires keeps { KeepsMarks self.old.marks (with_marks self.old at marks.now).marks }
-        requires closed { IsClosed self.old.bytes (with_marks self.old at marks.now).marks }
-        ensures marked { self.new ≡ with_marks self.old at marks.now }
-        ensures whole { IsText self.new }
+        requires keeps { KeepsMarks self.old.marked.marks (with_marks self.old.marked at marks.now).marks }
+        requires closed { IsClosed self.old.marked.bytes (with_marks self.old.marked at marks.now).marks }
+        ensures marked { self.new.marked ≡ with_marks self.old.marked at marks.now }
+        ensures made { self.new.made ≡ self.old.made }
+        ensures whole { IsText self.new.marked }
     {
         // Names a field, so that the early return is checked against the fields and not the whole.
-        let _open = &self.bytes;
+        let _open = &self.pages;
         if marks.is_empty() {
             return;
         }
-        set_span(&mut self.marks, (at - START) as usize, marks);
+        table::set_span(&mut self.pages, (at - START) as usize, marks);
     }
 
     /// Makes every place of the span of `len` bytes from `at` on `Unmarked` that isn't a bundle start. No byte changes, and no
@@ -144,17 +192,18 @@ impl Text {
     /// The conditions are that the span lies in the region, that every byte of it is F4, and that the result is closed. That
     /// no thread stands there isn't one of them: whoever calls has to know it.
     pub fn unmark_span(&mut self, at: u32, len: u32)
-        requires inside { SpanInRegion self.old.bytes at len }
-        requires stops { AreStops self.old.bytes at len }
-        requires closed { IsClosed self.old.bytes (without_marks self.old at len).marks }
-        ensures marked { self.new ≡ without_marks self.old at len }
-        ensures whole { IsText self.new }
+        requires inside { SpanInRegion self.old.marked.bytes at len }
+        requires stops { AreStops self.old.marked.bytes at len }
+        requires closed { IsClosed self.old.marked.bytes (without_marks self.old.marked at len).marks }
+        ensures marked { self.new.marked ≡ without_marks self.old.marked at len }
+        ensures made { self.new.made ≡ self.old.made }
+        ensures whole { IsText self.new.marked }
     {
         // Names a field, so that the early return is checked against the fields and not the whole.
-        let _open = &self.bytes;
+        let _open = &self.pages;
         if len == 0 {
             return;
         }
-        unmark(&mut self.marks, at, len);
+        table::unmark(&mut self.pages, (at - START) as usize, len as usize);
     }
 }

@@ -16,6 +16,9 @@ joins : (marked : MarkedText) (base : ℕ) (bytes : List ℕ) (marks : List Mark
 joins marked base bytes marks whole chunk unused =
     record { closed = whole.closed; as_long = whole.as_long; chunk = chunk; unused = unused }
 
+pub mark_span-requires-clause-ready : goal.mark_span-requires-clause-ready
+mark_span-requires-clause-ready g c = rw (c.put_inside.ensures.made, c.requires.chunk.as_long) c.requires.ready
+
 pub mark_span-requires-clause-keeps : goal.mark_span-requires-clause-keeps
 mark_span-requires-clause-keeps g c =
     let old = g.A.Acts.marked c.args.acts.now in
@@ -34,6 +37,9 @@ mark_span-requires-clause-closed g c =
     (with_span old.marks (c.args.base - 65536) c.args.marks.now) c.args.base (c.args.base + length c.args.code.now) (omega arith)
     (chunk_joins old c.args.base c.args.code.now c.args.marks.now j)
     (final_but_starts old now.bytes c.args.base c.args.code.now c.requires.chunk.placed c.requires.unused c.put_inside.ensures.bytes))
+
+pub put_starts-requires-clause-ready : goal.put_starts-requires-clause-ready
+put_starts-requires-clause-ready g c = rw (c.mark_span.ensures.made, c.put_inside.ensures.made) c.requires.ready
 
 pub put_starts-requires-clause-closed : goal.put_starts-requires-clause-closed
 put_starts-requires-clause-closed g c =

@@ -1,6 +1,7 @@
-use Rattle.std.proofs.Common.{◌+◌, ◌-◌, ◌∙◌, List, get_or, set, arith, sym, subst}
+use Rattle.std.proofs.Common.{Bool, ◌+◌, ◌-◌, ◌∙◌, List, get_or, set, arith, sym, subst}
 use Rattle.nc_decode.specs.declared.instruction.Mark.{Mark}
 use Rattle.nc_text.specs.Marks.{IsClosed}
+use Rattle.nc_text.specs.Ready.{IsReady}
 use Rattle.nc_region.specs.Acts.{is_inside}
 use Rattle.nc_region.proofs.Puts.{put_more, put_passed}
 use Rattle.nc_region.proofs.Told.{told_put, told_passed}
@@ -8,6 +9,10 @@ use Rattle.nc_region.proofs.Creating.{inside_closed}
 use Rattle.nc_region.proofs.SpanPlaces.{is_inside_true, is_inside_false}
 use Rattle.nc_region.proofs.create.put_inside.Goals as goal
 use Rattle.nc_region.proofs.create.put_inside.Goals.{then-at-ne0, else-at-ne0}
+
+pub put-requires-clause-ready : goal.put-requires-clause-ready
+put-requires-clause-ready g c =
+    subst (λ (made : List Bool). IsReady made (c.args.base + c.loop-i.i)) (sym c.loop-i.invariant.made) (c.requires.ready c.loop-i.i (omega arith))
 
 pub put-requires-clause-closed : goal.put-requires-clause-closed
 put-requires-clause-closed g c =
@@ -37,6 +42,7 @@ loop-i-preserved g c =
                 (omega (arith, c.requires.placed.high)) is);
             marks = rw e c.loop-i.invariant.marks;
             whole = w.put.ensures.whole;
+            made = w.put.ensures.made ∙ c.loop-i.invariant.made;
             keeper = w.put.ensures.keeper ∙ c.loop-i.invariant.keeper;
             told = told_put is_inside base c.args.code.now i _ _ _ (omega arith) is c.loop-i.invariant.told w.put.ensures.told;
           })
@@ -46,6 +52,7 @@ loop-i-preserved g c =
             bytes = put_passed is_inside base c.args.code.now i old.bytes now.bytes c.loop-i.invariant.bytes not;
             marks = c.loop-i.invariant.marks;
             whole = c.loop-i.invariant.whole;
+            made = c.loop-i.invariant.made;
             keeper = c.loop-i.invariant.keeper;
             told = told_passed is_inside base c.args.code.now i _ _ (omega arith) not c.loop-i.invariant.told;
           })

@@ -1,6 +1,7 @@
-use Rattle.std.proofs.Common.{◌∙◌, ◌≡◌, ℕ, ◌+◌, ◌-◌, List, length, get_or, set, arith, sym, subst}
+use Rattle.std.proofs.Common.{Bool, ◌∙◌, ◌≡◌, ℕ, ◌+◌, ◌-◌, List, length, get_or, set, arith, sym, subst}
 use Rattle.nc_decode.specs.declared.instruction.Mark.{Mark}
 use Rattle.nc_text.specs.Marks.{IsClosed}
+use Rattle.nc_text.specs.Ready.{IsReady}
 use Rattle.nc_text.specs.MarkedText.{with_span}
 use Rattle.nc_region.specs.Acts.{is_start}
 use Rattle.nc_region.specs.machinery.Between.{IsFinalBut}
@@ -9,6 +10,10 @@ use Rattle.nc_region.proofs.Creating.{final_but_closed, final_all, start_put, st
 use Rattle.nc_region.proofs.SpanPlaces.{is_start_true, is_start_false}
 use Rattle.nc_region.proofs.create.put_starts.Goals as goal
 use Rattle.nc_region.proofs.create.put_starts.Goals.{then-at-eq0, else-at-eq0}
+
+pub put-requires-clause-ready : goal.put-requires-clause-ready
+put-requires-clause-ready g c =
+    subst (λ (made : List Bool). IsReady made (c.args.base + c.loop-i.i)) (sym c.loop-i.invariant.made) (c.requires.ready c.loop-i.i (omega arith))
 
 pub put-requires-clause-closed : goal.put-requires-clause-closed
 put-requires-clause-closed g c =
@@ -39,6 +44,7 @@ loop-i-preserved g c =
                 (omega (arith, c.requires.placed.high)) (omega arith) c.loop-i.invariant.bytes);
             marks = rw e c.loop-i.invariant.marks;
             whole = w.put.ensures.whole;
+            made = w.put.ensures.made ∙ c.loop-i.invariant.made;
             keeper = w.put.ensures.keeper ∙ c.loop-i.invariant.keeper;
             told = told_put is_start base c.args.code.now i _ _ _ (omega arith) is c.loop-i.invariant.told w.put.ensures.told;
           })
@@ -49,6 +55,7 @@ loop-i-preserved g c =
                 (base + length c.args.code.now) w.if-at-eq0.false c.loop-i.invariant.bytes;
             marks = c.loop-i.invariant.marks;
             whole = c.loop-i.invariant.whole;
+            made = c.loop-i.invariant.made;
             keeper = c.loop-i.invariant.keeper;
             told = told_passed is_start base c.args.code.now i _ _ (omega arith) not c.loop-i.invariant.told;
           })

@@ -11,6 +11,7 @@ invariant-loop-i g l =
           (l.base + l.i) (l.base + length l.code);
       marks : (g.A.Acts.marked l.acts).marks ≡ (g.A.Acts.marked l.initial.acts).marks;
       whole : IsText (g.A.Acts.marked l.acts);
+      made : g.A.Acts.made l.acts ≡ g.A.Acts.made l.initial.acts;
       keeper : g.A.Acts.keeper l.acts ≡ g.A.Acts.keeper l.initial.acts;
       told : Tells (g.A.Acts.told l.initial.acts) (g.A.Acts.told l.acts) (puts_where is_start l.base (take l.i l.code));
     }

@@ -7,6 +7,9 @@ use Rattle.nc_region.proofs.Told.{tells_more}
 use Rattle.nc_region.proofs.Deleting.{all_stops}
 use Rattle.nc_region.proofs.delete.put_stops.Goals as goal
 
+pub stop_others-requires-clause-ready : goal.stop_others-requires-clause-ready
+stop_others-requires-clause-ready g c = rw c.stop_marked.ensures.made c.requires.ready
+
 pub returns-clause-bytes : goal.returns-clause-bytes
 returns-clause-bytes g c =
     let old = g.A.Acts.marked c.args.acts.now in

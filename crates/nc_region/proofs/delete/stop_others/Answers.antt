@@ -1,8 +1,9 @@
-use Rattle.std.proofs.Common.{◌≡◌, ℕ, ◌+◌, ◌-◌, ◌<◌, not, List, length, get_or, set, replicate, arith, sym, ap, subst, ◌∙◌}
+use Rattle.std.proofs.Common.{Bool, ◌≡◌, ℕ, ◌+◌, ◌-◌, ◌<◌, not, List, length, get_or, set, replicate, arith, sym, ap, subst, ◌∙◌}
 use Rattle.std.proofs.Common.{true, false}
 use Rattle.std.proofs.lemmas.List.{get_or-replicate, length-replicate}
 use Rattle.nc_decode.specs.declared.instruction.Mark.{Mark}
 use Rattle.nc_text.specs.Marks.{IsClosed}
+use Rattle.nc_text.specs.Ready.{IsReady}
 use Rattle.nc_region.specs.Acts.{is_unmarked_at}
 use Rattle.nc_region.specs.machinery.Between.{HasPut}
 use Rattle.nc_region.proofs.Puts.{put_more, put_passed}
@@ -10,6 +11,10 @@ use Rattle.nc_region.proofs.Told.{told_put, told_passed}
 use Rattle.nc_region.proofs.Deleting.{others_closed}
 use Rattle.nc_region.proofs.delete.stop_others.Goals as goal
 use Rattle.nc_region.proofs.delete.stop_others.Goals.{then-not-is_mark, else-not-is_mark}
+
+pub put-requires-clause-ready : goal.put-requires-clause-ready
+put-requires-clause-ready g c =
+    subst (λ (made : List Bool). IsReady made (c.args.base + c.loop-i.i)) (sym c.loop-i.invariant.made) (c.requires.ready c.loop-i.i (omega arith))
 
 pub put-requires-clause-closed : goal.put-requires-clause-closed
 put-requires-clause-closed g c =
@@ -49,6 +54,7 @@ loop-i-preserved g c =
                 (omega (arith, c.requires.placed.high)) is));
             marks = rw e c.loop-i.invariant.marks;
             whole = w.put.ensures.whole;
+            made = w.put.ensures.made ∙ c.loop-i.invariant.made;
             keeper = w.put.ensures.keeper ∙ c.loop-i.invariant.keeper;
             told = told_put (is_unmarked_at old.marks) base (replicate c.args.len 244) i _ _ _ short is c.loop-i.invariant.told
                 (rw byte w.put.ensures.told);
@@ -61,6 +67,7 @@ loop-i-preserved g c =
                 (replicate c.args.len 244) i old.bytes now.bytes c.loop-i.invariant.bytes is;
             marks = c.loop-i.invariant.marks;
             whole = c.loop-i.invariant.whole;
+            made = c.loop-i.invariant.made;
             keeper = c.loop-i.invariant.keeper;
             told = told_passed (is_unmarked_at old.marks) base (replicate c.args.len 244) i _ _ short is c.loop-i.invariant.told;
           })

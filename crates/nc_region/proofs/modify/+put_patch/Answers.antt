@@ -1,11 +1,13 @@
 use Rattle.std.proofs.Common.{◌≡◌, ℕ, ◌+◌, ◌-◌, ◌≤◌, cond, List, [], ◌++◌, length, take, drop, None, eqb-true}
 use Rattle.std.proofs.Common.{sym, subst, ◌∙◌, ap, arith, rules}
 use Rattle.std.proofs.lemmas.Bool.{eqb-false}
+use Rattle.std.proofs.lemmas.List.{length-take, length-drop}
 use Rattle.std.specs.Result.{result_ok}
 use Rattle.nc_decode.specs.Front.{first_instruction}
 use Rattle.nc_vet.specs.Chunk.{Piece}
 use Rattle.nc_text.specs.Places.{limit_of, byte_at}
 use Rattle.nc_text.specs.MarkedText.{MarkedText, with_span}
+use Rattle.nc_text.specs.Ready.{AreReady}
 use Rattle.nc_region.specs.declared.acts.Act.{Act}
 use Rattle.nc_region.specs.Acts.{Tells}
 use Rattle.nc_region.specs.Patch.{stands_there, acts_of_instruction, acts_of_modify}
@@ -15,6 +17,7 @@ use Rattle.nc_region.proofs.Creating.{same_code}
 use Rattle.nc_region.proofs.Told.{tells_none, tells_more}
 use Rattle.nc_region.proofs.NewInstructions.{none_of_none, not_found, parted, whole_again}
 use Rattle.nc_region.proofs.Standing.{lies}
+use Rattle.nc_region.proofs.ReadyPlaces.{ready_part}
 use Rattle.nc_region.proofs.Exchanged.{changed, changes_replace}
 use Rattle.nc_region.proofs.Turns.{turn, next_patch, spans_join, same_acts}
 use Rattle.nc_region.proofs.modify.+put_patch.Goals as goal
@@ -48,6 +51,13 @@ put_where_new-requires-clause-replacing g t c =
     subst (λ (z : List ℕ). IsReplacing (g.A.Acts.marked c.args.acts.now) c.args.at z) (sym p.front)
     (changes_replace marked c.args.chunk c.args.at patch.run.before (w.os ++ patch.run.after) w.o p.first w.change)
 
+pub put_where_new-requires-clause-ready : goal.put_where_new-requires-clause-ready
+put_where_new-requires-clause-ready g t c =
+    let is = sym c.decode.ensures.first ∙ ap result_ok c.in-Ok.is in
+    let p = parted c.args.new.now c.requires.patch.run.news c.in-Ok.instr c.requires.patch.run.bytes is in
+    ready_part _ c.args.at (length c.args.new.now) c.args.at _ c.requires.ready (omega arith)
+    (omega (arith, p.len, p.long, length-take {A = ℕ}, length-drop {A = ℕ}))
+
 pub put_patch-requires : goal.put_patch-requires
 put_patch-requires g t c =
     let marked = g.A.Acts.marked c.args.acts.now in
@@ -69,6 +79,10 @@ put_patch-requires g t c =
     (take (length c.args.new.now - c.in-Ok.instr.len) (drop c.in-Ok.instr.len c.args.new.now))) (sym same)
     (next_patch marked c.args.chunk c.args.at c.args.new.now patch p.first p.rest w c.from.result
     (take (length c.args.new.now - c.in-Ok.instr.len) (drop c.in-Ok.instr.len c.args.new.now)) (c.from.ensures ∙ p.len) p.behind) in
+    let ready : AreReady (g.A.Acts.made c.put_where_new.new.acts) (c.args.at + c.from.result)
+    (length (take (length c.args.new.now - c.in-Ok.instr.len) (drop c.in-Ok.instr.len c.args.new.now))) =
+    rw c.put_where_new.ensures.made (ready_part _ c.args.at (length c.args.new.now) (c.args.at + c.from.result) _ c.requires.ready
+    (omega arith) (omega (arith, c.from.ensures, p.len, p.long, length-take {A = ℕ}, length-drop {A = ℕ}))) in
     search rules
 
 pub returns-clause-bytes : goal.returns-clause-bytes

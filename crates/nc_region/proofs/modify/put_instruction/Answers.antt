@@ -1,8 +1,18 @@
 use Rattle.std.proofs.Common.{◌≡◌, ℕ, List, length, eqb-true, sym, ◌∙◌, subst, arith}
 use Rattle.std.proofs.lemmas.List.{length-take, length-drop}
 use Rattle.nc_text.specs.Marks.{IsClosed}
+use Rattle.nc_region.proofs.ReadyPlaces.{ready_part, ready_place}
 use Rattle.nc_region.proofs.Replacing.{single_span}
 use Rattle.nc_region.proofs.modify.put_instruction.Goals as goal
+
+pub put-requires-clause-ready : goal.put-requires-clause-ready
+put-requires-clause-ready g c =
+    ready_place _ c.args.at (length c.args.bytes.now) c.args.at c.requires.ready (omega arith) (omega (arith, c.requires.replacing.some))
+
+pub put_longer-requires-clause-ready : goal.put_longer-requires-clause-ready
+put_longer-requires-clause-ready g c =
+    ready_part _ c.args.at (length c.args.bytes.now) c.args.at _ c.requires.ready (omega arith)
+    (omega (arith, c.requires.replacing.some, length-take {A = ℕ}, length-drop {A = ℕ}))
 
 pub put-requires-clause-closed : goal.put-requires-clause-closed
 put-requires-clause-closed g c =

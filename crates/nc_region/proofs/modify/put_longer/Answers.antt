@@ -1,8 +1,20 @@
 use Rattle.std.proofs.Common.{◌+◌, ◌-◌, [], ◌∷◌, length, set, arith}
 use Rattle.nc_region.specs.declared.acts.Act.TheVariants.{Put}
+use Rattle.nc_region.proofs.ReadyPlaces.{ready_place}
 use Rattle.nc_region.proofs.Told.{tells_more}
 use Rattle.nc_region.proofs.Replacing.{patching_closed, patch_started, patching_over, patch_final}
 use Rattle.nc_region.proofs.modify.put_longer.Goals as goal
+
+pub put-requires-clause-ready : goal.put-requires-clause-ready
+put-requires-clause-ready g c = ready_place _ c.args.at (1 + length c.args.rest.now) c.args.at c.requires.ready (omega arith) (omega arith)
+
+pub put_rest-requires-clause-ready : goal.put_rest-requires-clause-ready
+put_rest-requires-clause-ready g c = rw c.put.ensures.made c.requires.ready
+
+pub put-requires-2-clause-ready : goal.put-requires-2-clause-ready
+put-requires-2-clause-ready g c =
+    rw (c.put_rest.ensures.made, c.put.ensures.made)
+    (ready_place _ c.args.at (1 + length c.args.rest.now) c.args.at c.requires.ready (omega arith) (omega arith))
 
 pub put-requires-clause-closed : goal.put-requires-clause-closed
 put-requires-clause-closed g c =

@@ -1,11 +1,17 @@
-use Rattle.std.proofs.Common.{◌+◌, ◌-◌, List, length, get_or, set, arith, sym, subst, ◌∙◌, refl}
+use Rattle.std.proofs.Common.{Bool, ◌+◌, ◌-◌, List, length, get_or, set, arith, sym, subst, ◌∙◌, refl}
 use Rattle.nc_decode.specs.declared.instruction.Mark.{Mark}
 use Rattle.nc_text.specs.Marks.{IsClosed}
+use Rattle.nc_text.specs.Ready.{IsReady}
 use Rattle.nc_region.specs.Patch.{any_place}
 use Rattle.nc_region.proofs.Puts.{put_more}
+use Rattle.nc_region.proofs.ReadyPlaces.{ready_place}
 use Rattle.nc_region.proofs.Told.{told_put}
 use Rattle.nc_region.proofs.Replacing.{patching_from_put}
 use Rattle.nc_region.proofs.modify.put_rest.Goals as goal
+
+pub put-requires-clause-ready : goal.put-requires-clause-ready
+put-requires-clause-ready g c =
+    subst (λ (made : List Bool). IsReady made (c.args.at + 1 + c.loop-i.i)) (sym c.loop-i.invariant.made) (ready_place _ c.args.at (1 + length c.args.rest.now) (c.args.at + 1 + c.loop-i.i) c.requires.ready (omega arith) (omega arith))
 
 pub put-requires-clause-closed : goal.put-requires-clause-closed
 put-requires-clause-closed g c =
@@ -33,6 +39,7 @@ loop-i-preserved g c =
           (omega (arith, c.requires.high)) refl);
       marks = rw e c.loop-i.invariant.marks;
       whole = c.put.ensures.whole;
+      made = c.put.ensures.made ∙ c.loop-i.invariant.made;
       keeper = c.put.ensures.keeper ∙ c.loop-i.invariant.keeper;
       told = told_put any_place (at + 1) c.args.rest.now i _ _ _ (omega arith) refl c.loop-i.invariant.told c.put.ensures.told;
     }

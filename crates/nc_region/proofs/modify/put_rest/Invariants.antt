@@ -11,6 +11,7 @@ invariant-loop-i g l =
       bytes : HasPut any_place (l.at + 1) l.rest l.i (g.A.Acts.marked l.initial.acts).bytes (g.A.Acts.marked l.acts).bytes;
       marks : (g.A.Acts.marked l.acts).marks ≡ (g.A.Acts.marked l.initial.acts).marks;
       whole : IsText (g.A.Acts.marked l.acts);
+      made : g.A.Acts.made l.acts ≡ g.A.Acts.made l.initial.acts;
       keeper : g.A.Acts.keeper l.acts ≡ g.A.Acts.keeper l.initial.acts;
       told : Tells (g.A.Acts.told l.initial.acts) (g.A.Acts.told l.acts) (puts_where any_place (l.at + 1) (take l.i l.rest));
     }

@@ -58,6 +58,7 @@ loop-i-preserved g c =
                 (get_or c.args.chunks.now c.loop-i.i none).length) c.loop-i.invariant.marked
                 ∙ (sym (unmarked_more (g.A.Acts.marked c.args.acts.now) (freed c.args.least (take c.loop-i.i c.args.chunks.now))
                 (get_or c.args.chunks.now c.loop-i.i none)) ∙ ap (unmarked (g.A.Acts.marked c.args.acts.now)) (sym list)));
+            made = w.unmark_span.ensures.made ∙ c.loop-i.invariant.made;
             keeper = w.unmark_span.ensures.keeper ∙ c.loop-i.invariant.keeper;
             told =
                 subst (λ (z : List Act). Tells (g.A.Acts.told c.args.acts.now) (g.A.Acts.told w.unmark_span.new.self) z)
@@ -74,6 +75,7 @@ loop-i-preserved g c =
             region = next_kept (g.A.Acts.marked c.loop-i.acts) c.args.least c.args.chunks.now c.loop-i.i none lt is
                 c.loop-i.invariant.region;
             marked = rw list c.loop-i.invariant.marked;
+            made = c.loop-i.invariant.made;
             keeper = c.loop-i.invariant.keeper;
             told = rw list c.loop-i.invariant.told;
           })

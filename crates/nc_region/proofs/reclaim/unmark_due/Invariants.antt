@@ -9,6 +9,7 @@ invariant-loop-i g l =
     record {
       region : IsRegion (g.A.Acts.marked l.acts) (kept l.least (take l.i l.chunks) ++ drop l.i l.chunks);
       marked : g.A.Acts.marked l.acts ≡ unmarked (g.A.Acts.marked l.initial.acts) (freed l.least (take l.i l.chunks));
+      made : g.A.Acts.made l.acts ≡ g.A.Acts.made l.initial.acts;
       keeper : g.A.Acts.keeper l.acts ≡ g.A.Acts.keeper l.initial.acts;
       told : Tells (g.A.Acts.told l.initial.acts) (g.A.Acts.told l.acts) (unmarkings (freed l.least (take l.i l.chunks)));
     }

@@ -8,7 +8,7 @@ use Rattle.nc_schedule_tests.proofs.tests.watched.Goals as goal
 
 pub over-requires : goal.over-requires
 over-requires c =
-    let long : limit_of c.in-Ok.text.bytes ≡ 65536 + 32 * c.args.bundles =
+    let long : limit_of c.in-Ok.text.marked.bytes ≡ 65536 + 32 * c.args.bundles =
     ap (λ (m : MarkedText). limit_of m.bytes) c.in-Ok.ensures.marked
     ∙ omega (arith, length-replicate {A = ℕ} (65536 + 32 * c.args.bundles - 65536) 244) in (
       65536 + 32 * c.args.bundles,

@@ -2,7 +2,7 @@ use Rattle.std.proofs.Common.{◌∙◌, ℕ, refl, ap, sym, subst}
 use Rattle.std.specs.Prelude.{codes}
 use Rattle.std.proofs.lemmas.Result.{on_ok_weaker}
 use Rattle.nc_vet.specs.Faults.{HasFault}
-use Rattle.nc_region.specs.Region.{Region, MayRefuse, live_chunk}
+use Rattle.nc_region.specs.Region.{Region, IsRefused, MayRefuse, live_chunk}
 use Rattle.nc_script.specs.Requests.{Create}
 use Rattle.nc_script.specs.machinery.Session.{FollowsIn}
 use Rattle.nc_lines.specs.Replies.{reply_line, refused_reply, fault_words}
@@ -52,7 +52,8 @@ returns-in-Err-default-Occupied-clause-follows c =
     (λ reply. FollowsIn (Create c.args.base c.args.bytes.items) old reply c.create.new.self)
     c.extend_from_slice-in-Err-default-Occupied.ensures.items
     (subst (λ (now : Region). FollowsIn (Create c.args.base c.args.bytes.items) old refused now)
-    (sym c.in-Err-default-Occupied.ensures.unchanged.1)
+    (sym (subst (IsRefused old c.create.new.self c.in-Ok.vetted) c.in-Err-default-Occupied.field-0-1-is
+    c.in-Err-default-Occupied.ensures.unchanged.1))
     (follows_same (Create c.args.base c.args.bytes.items) old refused
     (λ seats freed. as_asked c.in-Ok.vetted c.args.base c.args.bytes.items _ _ _ base_is code_is
     (crowded_serves old seats freed c.in-Ok.vetted c.limit-limit.ensures.region

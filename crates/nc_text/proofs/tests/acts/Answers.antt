@@ -1,5 +1,5 @@
 use Rattle.std.proofs.Common.{◌≡◌, ◌≢◌, ℕ, ◌+◌, ◌-◌, ◌%◌, ◌<◌, ◌≤◌, List, [], ◌∷◌, length, get_or, arith, inl, inr, refl, sym, subst}
-use Rattle.std.proofs.Common.{◌∙◌, ap}
+use Rattle.std.proofs.Common.{◌∙◌, ap, Bool}
 use Rattle.std.proofs.lemmas.Bool.{cases_lt}
 use Rattle.std.proofs.lemmas.Bool.Decides.{nat_tests}
 use Rattle.std.proofs.lemmas.List.{get_or-replicate, length-replicate}
@@ -9,6 +9,7 @@ use Rattle.nc_decode.specs.declared.instruction.Mark.TheVariants.{Unmarked, Plai
 use Rattle.nc_text.specs.Places.{byte_at}
 use Rattle.nc_text.specs.Marks.{IsClosed, Admits}
 use Rattle.nc_text.specs.MarkedText.{MarkedText, unused_mark, unused_marks, with_byte, with_span, with_marks, without_marks, unused_text}
+use Rattle.nc_text.specs.Ready.{IsReady, AreReady}
 use Rattle.nc_text.proofs.Fresh.{unused_closed, marked_within}
 use Rattle.nc_text.proofs.Closing.{closed_after_put}
 use Rattle.nc_text.proofs.SpanElements.{length-with_span, get_or-with_span_in, get_or-with_span_below, get_or-with_span_above}
@@ -110,16 +111,30 @@ closed_fourth =
     (ap (λ (at : ℕ). get_or third.marks (at - 65536) Unmarked) same ∙ unmarked_third) m.1 in
     inr (inl (other, stop_third now.place m.0 (omega (arith, marked_within third.marks now m, long_third)))))
 
+-- each place is ready
+ready_at : (made : List Bool) (at k : ℕ) → AreReady made 65536 64 → at ≡ 65536 + k → k < 64 → IsReady made at
+ready_at made at k all e lt = subst (λ (a : ℕ). IsReady made a) (sym e) (all k lt)
+
+pub mark_span-requires-clause-ready : goal.mark_span-requires-clause-ready
+mark_span-requires-clause-ready g c = λ k lt. ready_at c.ready.new.self.made (65537 + k) (1 + k) c.in_ok-ready.ensures.ready (omega arith)
+    (omega (arith, lt))
+
 pub mark_span-requires-clause-closed : goal.mark_span-requires-clause-closed
 mark_span-requires-clause-closed g c = subst (λ (t : MarkedText). IsClosed t.bytes (with_marks t 65537 two_marks).marks)
-    (sym c.in_ok-text.ensures.marked) closed_second
+    (sym (c.in_ok-ready.ensures.marked ∙ c.in_ok-text.ensures.marked)) closed_second
 
 pub unmark_span-requires-clause-closed : goal.unmark_span-requires-clause-closed
 unmark_span-requires-clause-closed g c =
     subst (λ (t : MarkedText). IsClosed t.bytes (without_marks t 65536 3).marks)
-    (sym (c.mark_span.ensures.marked ∙ ap (λ (t : MarkedText). with_marks t 65537 two_marks) c.in_ok-text.ensures.marked)) closed_third
+    (sym (c.mark_span.ensures.marked ∙ ap (λ (t : MarkedText). with_marks t 65537 two_marks)
+    (c.in_ok-ready.ensures.marked ∙ c.in_ok-text.ensures.marked))) closed_third
+
+pub put-requires-clause-ready : goal.put-requires-clause-ready
+put-requires-clause-ready g c =
+    subst (λ (made : List Bool). IsReady made 65539) (sym (c.unmark_span.ensures.made ∙ c.mark_span.ensures.made))
+    (ready_at c.ready.new.self.made 65539 3 c.in_ok-ready.ensures.ready refl (omega arith))
 
 pub put-requires-clause-closed : goal.put-requires-clause-closed
 put-requires-clause-closed g c = subst (λ (t : MarkedText). IsClosed (with_byte t 65539 0x90).bytes t.marks)
     (sym (c.unmark_span.ensures.marked ∙ ap (λ (t : MarkedText). without_marks t 65536 3) (c.mark_span.ensures.marked
-    ∙ ap (λ (t : MarkedText). with_marks t 65537 two_marks) c.in_ok-text.ensures.marked))) closed_fourth
+    ∙ ap (λ (t : MarkedText). with_marks t 65537 two_marks) (c.in_ok-ready.ensures.marked ∙ c.in_ok-text.ensures.marked)))) closed_fourth

@@ -7,6 +7,6 @@ use Rattle.nc_region.proofs.region.RegionOf+Plain.new.Goals as goal
 
 pub returns-in-Ok-clause-confined : goal.returns-in-Ok-clause-confined
 returns-in-Ok-clause-confined c =
-    let is : c.over.result.marked ≡ c.in-Ok.text = ap (λ (r : Region). r.marked) c.over.ensures
+    let is : c.over.result.marked ≡ c.in-Ok.text.marked = ap (λ (r : Region). r.marked) c.over.ensures
     ∙ ap (λ (p : PlainState). p.marked) c.new-in-Ok.ensures in
     subst (λ (k : MarkedText). IsConfined k.bytes) (sym is) (confined_if_closed _ _ c.in-Ok.ensures.whole.closed)

@@ -3,7 +3,7 @@ use Rattle.nc_region.proofs.QuietSpans.{quiet_spans}
 use Rattle.nc_region.proofs.region.RegionOf.chunk_count.Goals as goal
 
 pub returns-clause-confined : goal.returns-clause-confined
-returns-clause-confined g c = rw (← c.self.view_is) (confined_if_closed _ _ c.self.invariant.whole.closed)
+returns-clause-confined g c = rw (← c.self.view_is) (confined_if_closed _ _ c.self.invariant.0.whole.closed)
 
 pub returns-clause-quiet : goal.returns-clause-quiet
-returns-clause-quiet g c = rw (← c.self.view_is) (quiet_spans _ _ c.self.invariant)
+returns-clause-quiet g c = rw (← c.self.view_is) (quiet_spans _ _ c.self.invariant.0)

@@ -9,15 +9,16 @@ use Rattle.nc_region.specs.declared.chunk.ChunkState.TheVariants.{Live}
 use Rattle.nc_region.specs.Region.{Region, IsLive, IsRegion}
 use Rattle.nc_region.specs.Chunks.{HasGoodSpan}
 use Rattle.nc_region.proofs.EachMember.{each_get}
+use Rattle.nc_region.proofs.ReadyPlaces.{ready_listed, ready_set}
 use Rattle.nc_region.proofs.Deleted.{listed_there, retired_is, deleted_is, region_deleted}
 use Rattle.nc_region.proofs.region.RegionOf.delete.Goals as goal
 
 pub returns-in_default-clause-confined : goal.returns-in_default-clause-confined
-returns-in_default-clause-confined g c = rw (← c.self.view_is) (confined_if_closed _ _ c.self.invariant.whole.closed)
+returns-in_default-clause-confined g c = rw (← c.self.view_is) (confined_if_closed _ _ c.self.invariant.0.whole.closed)
 
 pub returns-then-generation-ge-LAST_GENERATION-clause-confined : goal.returns-then-generation-ge-LAST_GENERATION-clause-confined
 returns-then-generation-ge-LAST_GENERATION-clause-confined g c =
-    rw (← c.self.view_is) (confined_if_closed _ _ c.self.invariant.whole.closed)
+    rw (← c.self.view_is) (confined_if_closed _ _ c.self.invariant.0.whole.closed)
 
 pub returns-then-generation-ge-LAST_GENERATION-clause-refused : goal.returns-then-generation-ge-LAST_GENERATION-clause-refused
 returns-then-generation-ge-LAST_GENERATION-clause-refused g c =
@@ -45,10 +46,20 @@ put_stops-stamp-requires-clause-placed g c =
     ∙ get_or_from_slice_get c.self.inside.chunks.items c.in-Some.k f.0 c.index.result.now f.1 in
     let p = each_get (λ (d : Chunk). HasGoodSpan d.base
     (limit_of (g.A.Acts.marked c.self.inside.acts).bytes) d.length) c.self.inside.chunks.items c.in-Some.k f.0 there.0
-    c.self.invariant.placed in
+    c.self.invariant.0.placed in
     subst (λ (d : Chunk). HasGoodSpan c.args.base (limit_of (g.A.Acts.marked c.self.inside.acts).bytes) d.length) (sym is_chunk)
     (subst (λ (b : ℕ). HasGoodSpan b (limit_of (g.A.Acts.marked c.self.inside.acts).bytes) f.0.length) f.3
     (subst (λ (d : Chunk). HasGoodSpan d.base (limit_of (g.A.Acts.marked c.self.inside.acts).bytes) d.length) there.1 p))
+
+pub put_stops-stamp-requires-clause-ready : goal.put_stops-stamp-requires-clause-ready
+put_stops-stamp-requires-clause-ready g c =
+    let f : (x : Chunk) × (slice_get c.self.inside.chunks.items c.in-Some.k ≡ Some x) × (x.state ≡ Live) × (x.base ≡ c.args.base) =
+    rw (← c.deref.ensures.value) c.in-Some.ensures.some in
+    let there = listed_there c.self.inside.chunks.items c.in-Some.k f.0 f.1 in
+    let is_chunk : c.index.result.now ≡ f.0 = c.index.ensures
+    ∙ get_or_from_slice_get c.self.inside.chunks.items c.in-Some.k f.0 c.index.result.now f.1 in
+    rw (is_chunk, ← f.3)
+    (ready_listed (g.A.Acts.made c.self.inside.acts) c.self.inside.chunks.items c.in-Some.k f.0 c.self.invariant.1 there.0 f.0 there.1)
 
 pub set_chunk-requires : goal.set_chunk-requires
 set_chunk-requires g c =
@@ -67,11 +78,11 @@ invariant_of-self g c =
     let old = g.A.Acts.marked c.self.inside.acts in
     let list = c.set_chunk.ensures ∙ ap (λ (d : Chunk). set c.self.inside.chunks.items c.in-Some.k d)
     (retired_is f.0 c.args.base c.index.result.now.length c.put_stops-stamp.result f.3 (ap (λ (x : Chunk). x.length) is_chunk)) in
-    subst (IsRegion (g.A.Acts.marked c.put_stops-stamp.new.acts)) (sym list)
+    let region = subst (IsRegion (g.A.Acts.marked c.put_stops-stamp.new.acts)) (sym list)
     (region_deleted (g.A.Acts.marked c.self.inside.acts)
     (g.A.Acts.marked c.put_stops-stamp.new.acts) c.self.inside.chunks.items c.in-Some.k f.0 c.put_stops-stamp.result
     (record {
-      region = c.self.invariant;
+      region = c.self.invariant.0;
       inside = there.0;
       here = there.1;
       live = subst IsLive (sym f.2) tt;
@@ -82,7 +93,14 @@ invariant_of-self g c =
           (sym f.3)
           ∙ ap (λ (x : Chunk). with_span (g.A.Acts.marked c.self.inside.acts).bytes (f.0.base - 65536) (replicate x.length 244)) is_chunk);
       marks_are = c.put_stops-stamp.ensures.marks;
-    }))
+    })) in
+    let ready = ready_listed (g.A.Acts.made c.self.inside.acts) c.self.inside.chunks.items c.in-Some.k f.0 c.self.invariant.1 there.0
+    f.0 there.1 in (
+      region,
+      rw (c.set_chunk.ensures, c.put_stops-stamp.ensures.made)
+          (ready_set (g.A.Acts.made c.self.inside.acts) c.self.inside.chunks.items c.in-Some.k _ c.self.invariant.1
+          (rw (is_chunk, ← f.3) ready)),
+    )
 
 pub returns-clause-deleted : goal.returns-clause-deleted
 returns-clause-deleted g c =
@@ -93,6 +111,7 @@ returns-clause-deleted g c =
     ∙ get_or_from_slice_get c.self.inside.chunks.items c.in-Some.k f.0 c.index.result.now f.1 in
     let old : Region = record {
       marked = g.A.Acts.marked c.self.inside.acts;
+      made = g.A.Acts.made c.self.inside.acts;
       chunks = c.self.inside.chunks.items;
       keeper =
           g.A.Acts.keeper c.self.inside.acts;
@@ -100,6 +119,7 @@ returns-clause-deleted g c =
     } in
     let new : Region = record {
       marked = g.A.Acts.marked c.put_stops-stamp.new.acts;
+      made = g.A.Acts.made c.put_stops-stamp.new.acts;
       chunks = c.set_chunk.new.chunks.items;
       keeper =
           g.A.Acts.keeper c.put_stops-stamp.new.acts;
@@ -109,7 +129,8 @@ returns-clause-deleted g c =
     (deleted_is old new c.in-Some.k c.args.base c.index.result.now.length c.put_stops-stamp.result f.0 f.1 f.2 f.3
     (ap (λ (x : Chunk). x.length) is_chunk)
     (omega (arith, c.generation.ensures.generation, c.if-generation-ge-LAST_GENERATION.false))
-    c.put_stops-stamp.ensures.stamp c.put_stops-stamp.ensures.bytes c.put_stops-stamp.ensures.marks c.set_chunk.ensures
+    c.put_stops-stamp.ensures.stamp c.put_stops-stamp.ensures.bytes c.put_stops-stamp.ensures.marks
+    c.put_stops-stamp.ensures.made c.set_chunk.ensures
     c.put_stops-stamp.ensures.keeper c.put_stops-stamp.ensures.told)
 
 pub returns-clause-confined : goal.returns-clause-confined

@@ -1,31 +1,32 @@
-use Rattle.std.proofs.Common.{◌≡◌, true, false, ◌∙◌, arith, sym, subst}
+use Rattle.std.proofs.Common.{◌≡◌, true, false, ◌∙◌, length, arith, sym, subst}
 use Rattle.nc_text.proofs.Offered.{confined_if_closed}
 use Rattle.nc_region.specs.Patch.{IsRun, IsHeldBy, IsPatch, LeavesPairs, KeepsTargets, MayRefusePatch}
 use Rattle.nc_region.specs.declared.chunk.Chunk.{Chunk}
 use Rattle.nc_region.specs.declared.fault.ModifyFault.TheVariants.{Boundaries, PairTouched, BadTarget}
 use Rattle.nc_region.specs.Region.{Region}
 use Rattle.nc_region.proofs.Standing.{lies}
+use Rattle.nc_region.proofs.ReadyPlaces.{ready_part, ready_held}
 use Rattle.nc_region.proofs.Patched.{region_patched}
 use Rattle.nc_region.proofs.Runs.{run_along, held_same}
 use Rattle.nc_region.proofs.region.RegionOf.modify.Goals as goal
 
 pub returns-then-not-is_patch_span-clause-confined : goal.returns-then-not-is_patch_span-clause-confined
-returns-then-not-is_patch_span-clause-confined g c = rw (← c.self.view_is) (confined_if_closed _ _ c.self.invariant.whole.closed)
+returns-then-not-is_patch_span-clause-confined g c = rw (← c.self.view_is) (confined_if_closed _ _ c.self.invariant.0.whole.closed)
 
 pub returns-in_default-clause-confined : goal.returns-in_default-clause-confined
-returns-in_default-clause-confined g c = rw (← c.self.view_is) (confined_if_closed _ _ c.self.invariant.whole.closed)
+returns-in_default-clause-confined g c = rw (← c.self.view_is) (confined_if_closed _ _ c.self.invariant.0.whole.closed)
 
 pub returns-then-not-are_instructions-clause-confined : goal.returns-then-not-are_instructions-clause-confined
-returns-then-not-are_instructions-clause-confined g c = rw (← c.self.view_is) (confined_if_closed _ _ c.self.invariant.whole.closed)
+returns-then-not-are_instructions-clause-confined g c = rw (← c.self.view_is) (confined_if_closed _ _ c.self.invariant.0.whole.closed)
 
 pub returns-then-not-fits-clause-confined : goal.returns-then-not-fits-clause-confined
-returns-then-not-fits-clause-confined g c = rw (← c.self.view_is) (confined_if_closed _ _ c.self.invariant.whole.closed)
+returns-then-not-fits-clause-confined g c = rw (← c.self.view_is) (confined_if_closed _ _ c.self.invariant.0.whole.closed)
 
 pub returns-then-not-leaves_pairs-clause-confined : goal.returns-then-not-leaves_pairs-clause-confined
-returns-then-not-leaves_pairs-clause-confined g c = rw (← c.self.view_is) (confined_if_closed _ _ c.self.invariant.whole.closed)
+returns-then-not-leaves_pairs-clause-confined g c = rw (← c.self.view_is) (confined_if_closed _ _ c.self.invariant.0.whole.closed)
 
 pub returns-then-not-keeps_targets-clause-confined : goal.returns-then-not-keeps_targets-clause-confined
-returns-then-not-keeps_targets-clause-confined g c = rw (← c.self.view_is) (confined_if_closed _ _ c.self.invariant.whole.closed)
+returns-then-not-keeps_targets-clause-confined g c = rw (← c.self.view_is) (confined_if_closed _ _ c.self.invariant.0.whole.closed)
 
 pub returns-clause-confined : goal.returns-clause-confined
 returns-clause-confined g c = confined_if_closed _ _ c.put_patch.ensures.whole.closed
@@ -49,6 +50,19 @@ put_patch-requires-clause-patch g c =
       targets = (c.keeps_targets.ensures.exact run.holds run.news run.bytes).0 well;
     }
 
+pub put_patch-requires-clause-ready : goal.put_patch-requires-clause-ready
+put_patch-requires-clause-ready g c =
+    let marked = g.A.Acts.marked c.self.inside.acts in
+    let fits : c.fits.result ≡ true = c.if-not-fits.false in
+    let held : IsHeldBy c.self.inside.chunks.items c.args.at c.in-Some.chunk = rw (← c.deref.ensures.value) c.in-Some.ensures.some in
+    let run : IsRun (g.A.Acts.marked c.self.inside.acts) c.in-Some.chunk c.args.at c.args.new.now = c.fits.ensures.run fits in
+    let l = lies marked c.in-Some.chunk c.self.invariant.0.whole run.holds in
+    let spans : c.is_patch_span.result ≡ true = c.if-not-is_patch_span.false in
+    let span = c.is_patch_span.ensures.0 spans in
+    ready_part _ c.in-Some.chunk.base c.in-Some.chunk.length c.args.at (length c.args.new.now)
+    (ready_held _ c.self.inside.chunks.items c.in-Some.chunk c.self.invariant.1 held.0) held.2.0
+    (omega (arith, span.1, held.2.0, held.2.1, l.start, l.whole))
+
 pub returns-then-not-fits-clause-refused : goal.returns-then-not-fits-clause-refused
 returns-then-not-fits-clause-refused g c =
     let spans : c.is_patch_span.result ≡ true = c.if-not-is_patch_span.false in
@@ -56,6 +70,7 @@ returns-then-not-fits-clause-refused g c =
     let held : IsHeldBy c.self.inside.chunks.items c.args.at c.in-Some.chunk = rw (← c.deref.ensures.value) c.in-Some.ensures.some in
     let refused : MayRefusePatch (record {
       marked = g.A.Acts.marked c.self.inside.acts;
+      made = g.A.Acts.made c.self.inside.acts;
       chunks = c.self.inside.chunks.items;
       keeper =
           g.A.Acts.keeper c.self.inside.acts;
@@ -67,7 +82,7 @@ returns-then-not-fits-clause-refused g c =
       λ f.
           c.fits.ensures.none c.if-not-fits.true
           (subst (λ (d : Chunk). IsRun (g.A.Acts.marked c.self.inside.acts) d c.args.at c.args.new.now)
-          (held_same c.self.inside.chunks.items c.args.at c.in-Some.chunk f.0 c.self.invariant.rising held f.1) f.2),
+          (held_same c.self.inside.chunks.items c.args.at c.in-Some.chunk f.0 c.self.invariant.0.rising held f.1) f.2),
     ) in
     subst (λ (r : Region). MayRefusePatch r c.args.at c.args.new.now Boundaries) c.self.view_is refused
 
@@ -80,6 +95,7 @@ returns-then-not-leaves_pairs-clause-refused g c =
     let run : IsRun (g.A.Acts.marked c.self.inside.acts) c.in-Some.chunk c.args.at c.args.new.now = c.fits.ensures.run fits in
     let refused : MayRefusePatch (record {
       marked = g.A.Acts.marked c.self.inside.acts;
+      made = g.A.Acts.made c.self.inside.acts;
       chunks = c.self.inside.chunks.items;
       keeper =
           g.A.Acts.keeper c.self.inside.acts;
@@ -90,7 +106,7 @@ returns-then-not-leaves_pairs-clause-refused g c =
       λ f.
           let x = subst (λ (d : Chunk). (r : IsRun (g.A.Acts.marked c.self.inside.acts) d c.args.at c.args.new.now)
           × LeavesPairs (g.A.Acts.marked c.self.inside.acts) d c.args.at c.args.new.now r)
-          (held_same c.self.inside.chunks.items c.args.at c.in-Some.chunk f.0 c.self.invariant.rising held f.1) f.2 in
+          (held_same c.self.inside.chunks.items c.args.at c.in-Some.chunk f.0 c.self.invariant.0.rising held f.1) f.2 in
           let a = run_along (g.A.Acts.marked c.self.inside.acts) c.in-Some.chunk c.args.at c.args.new.now x.0 in
           let yes : c.leaves_pairs.result ≡ true =
           (c.leaves_pairs.ensures.exact a.begins a.news a.bytes a.runs).1 x.1 in
@@ -110,6 +126,7 @@ returns-then-not-keeps_targets-clause-refused g c =
     let b = run_along (g.A.Acts.marked c.self.inside.acts) c.in-Some.chunk c.args.at c.args.new.now run in
     let refused : MayRefusePatch (record {
       marked = g.A.Acts.marked c.self.inside.acts;
+      made = g.A.Acts.made c.self.inside.acts;
       chunks = c.self.inside.chunks.items;
       keeper =
           g.A.Acts.keeper c.self.inside.acts;
@@ -129,7 +146,7 @@ returns-then-not-keeps_targets-clause-refused g c =
           let x = subst (λ (d : Chunk). (r : IsRun (g.A.Acts.marked c.self.inside.acts) d c.args.at c.args.new.now)
           × LeavesPairs (g.A.Acts.marked c.self.inside.acts) d c.args.at c.args.new.now r
           × KeepsTargets (g.A.Acts.marked c.self.inside.acts) d c.args.at c.args.new.now r)
-          (held_same c.self.inside.chunks.items c.args.at c.in-Some.chunk f.0 c.self.invariant.rising held f.1) f.2 in
+          (held_same c.self.inside.chunks.items c.args.at c.in-Some.chunk f.0 c.self.invariant.0.rising held f.1) f.2 in
           let yes : c.keeps_targets.result ≡ true = (c.keeps_targets.ensures.exact x.0.holds x.0.news x.0.bytes).1 x.2 in
           let differ : true ≡ false = sym yes ∙ c.if-not-keeps_targets.true in
           cc,
@@ -142,12 +159,12 @@ invariant_of-self g c =
     let fits : c.fits.result ≡ true = c.if-not-fits.false in
     let held : IsHeldBy c.self.inside.chunks.items c.args.at c.in-Some.chunk = rw (← c.deref.ensures.value) c.in-Some.ensures.some in
     let run : IsRun (g.A.Acts.marked c.self.inside.acts) c.in-Some.chunk c.args.at c.args.new.now = c.fits.ensures.run fits in
-    let l = lies marked c.in-Some.chunk c.self.invariant.whole run.holds in
+    let l = lies marked c.in-Some.chunk c.self.invariant.0.whole run.holds in
     let spans : c.is_patch_span.result ≡ true = c.if-not-is_patch_span.false in
     let span = c.is_patch_span.ensures.0 spans in
-    region_patched marked (g.A.Acts.marked c.put_patch.new.acts) c.self.inside.chunks.items c.in-Some.chunk c.args.at c.args.new.now
+    let region = region_patched marked (g.A.Acts.marked c.put_patch.new.acts) c.self.inside.chunks.items c.in-Some.chunk c.args.at c.args.new.now
     (record {
-      region = c.self.invariant;
+      region = c.self.invariant.0;
       held = held;
       holds = c.put_patch.ensures.holds;
       whole = c.put_patch.ensures.whole;
@@ -158,7 +175,8 @@ invariant_of-self g c =
       high = omega (arith, l.high);
       ends =
           omega (arith, span.1, held.2.0, held.2.1, l.start, l.whole);
-    })
+    }) in
+    (region, rw c.put_patch.ensures.made c.self.invariant.1)
 
 pub returns-clause-lawful : goal.returns-clause-lawful
 returns-clause-lawful g c =
@@ -172,6 +190,7 @@ returns-clause-lawful g c =
     let held : IsHeldBy c.self.inside.chunks.items c.args.at c.in-Some.chunk = rw (← c.deref.ensures.value) c.in-Some.ensures.some in
     let lawful : IsPatch (record {
       marked = g.A.Acts.marked c.self.inside.acts;
+      made = g.A.Acts.made c.self.inside.acts;
       chunks = c.self.inside.chunks.items;
       keeper =
           g.A.Acts.keeper c.self.inside.acts;

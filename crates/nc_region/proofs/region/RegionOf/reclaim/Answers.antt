@@ -5,21 +5,32 @@ use Rattle.nc_text.proofs.Offered.{confined_if_closed}
 use Rattle.nc_gens.specs.Seen.{KeeperState, HasLooked, least_number}
 use Rattle.nc_region.specs.declared.chunk.Chunk.{Chunk}
 use Rattle.nc_region.specs.Acts.{Tells}
-use Rattle.nc_region.specs.Region.{Region}
-use Rattle.nc_region.specs.Deletion.{freed, unmarked, unmarkings}
+use Rattle.nc_region.specs.Region.{Region, IsRegion}
+use Rattle.nc_region.specs.Deletion.{freed, kept, unmarked, unmarkings}
+use Rattle.nc_region.proofs.ReadyPlaces.{ready_kept}
 use Rattle.nc_region.proofs.Due.{few, reclaimed_is}
 use Rattle.nc_region.proofs.region.RegionOf.reclaim.Goals as goal
 
+pub invariant_of-self : goal.invariant_of-self
+invariant_of-self g c =
+    let made = c.unmark_due.ensures.made ∙ c.look-least.ensures.made in
+    rw (c.remove_due.ensures.chunks) (
+      subst (λ (z : List Chunk). IsRegion (g.A.Acts.marked c.unmark_due.new.acts) (kept c.look-least.result z)) c.deref.ensures.value
+          c.unmark_due.ensures.region,
+      rw made (ready_kept (g.A.Acts.made c.self.inside.acts) c.look-least.result c.self.inside.chunks.items c.self.invariant.1),
+    )
+
 pub remove_due-requires : goal.remove_due-requires
 remove_due-requires g c =
-    let n = few (limit_of (g.A.Acts.marked c.self.inside.acts).bytes) 65536 c.self.inside.chunks.items c.self.invariant.rising
-    c.self.invariant.placed (omega (arith, c.self.invariant.whole.lawful.1)) in
-    omega (arith, n, c.self.invariant.whole.lawful.2)
+    let n = few (limit_of (g.A.Acts.marked c.self.inside.acts).bytes) 65536 c.self.inside.chunks.items c.self.invariant.0.rising
+    c.self.invariant.0.placed (omega (arith, c.self.invariant.0.whole.lawful.1)) in
+    omega (arith, n, c.self.invariant.0.whole.lawful.2)
 
 pub returns-clause-reclaimed : goal.returns-clause-reclaimed
 returns-clause-reclaimed g c =
     let old : Region = record {
       marked = g.A.Acts.marked c.self.inside.acts;
+      made = g.A.Acts.made c.self.inside.acts;
       chunks = c.self.inside.chunks.items;
       keeper =
           g.A.Acts.keeper c.self.inside.acts;
@@ -27,6 +38,7 @@ returns-clause-reclaimed g c =
     } in
     let new : Region = record {
       marked = g.A.Acts.marked c.unmark_due.new.acts;
+      made = g.A.Acts.made c.unmark_due.new.acts;
       chunks = c.remove_due.new.chunks.items;
       keeper =
           g.A.Acts.keeper c.unmark_due.new.acts;
@@ -41,6 +53,7 @@ returns-clause-reclaimed g c =
     (c.unmark_due.ensures.marked ∙ (ap (λ (m : MarkedText). unmarked m
     (freed c.look-least.result c.deref.result.now)) c.look-least.ensures.marked
     ∙ ap (λ (z : List Chunk). unmarked (g.A.Acts.marked c.self.inside.acts) (freed c.look-least.result z)) c.deref.ensures.value))
+    (c.unmark_due.ensures.made ∙ c.look-least.ensures.made)
     c.look-least.ensures.told
     (subst (λ (z : List Chunk). Tells (g.A.Acts.told c.look-least.new.self) (g.A.Acts.told c.unmark_due.new.acts)
     (unmarkings (freed c.look-least.result z))) c.deref.ensures.value c.unmark_due.ensures.told))

@@ -10,6 +10,7 @@ pub returns-in-Ok-clause-fits : goal.returns-in-Ok-clause-fits
 returns-in-Ok-clause-fits c =
     let n = length c.args.passes.items in
     let marked = c.in-Ok.region.marked in
+    let made = c.in-Ok.region.made in
     let table = c.args.gens.now in
     let keeper_is = ap (λ (r : Region). r.keeper) c.in-Ok.ensures.region ∙ c.requires.keeper in
     let passes_are = ap (λ (s : SeatsState). s.passes) c.in_ok-seats.ensures
@@ -19,7 +20,7 @@ returns-in-Ok-clause-fits c =
     let told_is = ap (λ (r : Region). r.told) c.in-Ok.ensures.region in
     subst (λ (s : SessionState). Fits s (replicate n (Staying 0)) 0)
     (λ j. record {
-      region = record { marked = marked; chunks = sym chunks_are j; keeper = sym keeper_is j; told = sym told_is j };
+      region = record { marked = marked; made = made; chunks = sym chunks_are j; keeper = sym keeper_is j; told = sym told_is j };
       seats = record { table = sym table_is j; passes = sym passes_are j };
     })
-    (first_fits marked table n c.requires.seats.0)
+    (first_fits marked made table n c.requires.seats.0)

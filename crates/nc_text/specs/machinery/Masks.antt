@@ -1,0 +1,19 @@
+-- The marks of one bundle, as five masks of 32 bits.
+use Rattle.std.specs.Prelude.{ℕ, ◌+◌, ◌*◌, ◌==◌, if◌then◌else◌}
+use Rattle.std.specs.Int.{bit_at}
+use Rattle.nc_decode.specs.declared.instruction.Mark.{Mark}
+use Rattle.nc_decode.specs.declared.instruction.Mark.TheVariants.{Unmarked, Plain, After}
+use Rattle.nc_text.specs.declared.masks.Masks.{Masks}
+
+-- the register that three bits name
+abbrev pub register_in : Masks → ℕ → ℕ
+register_in masks k = bit_at masks.low k + 2 * bit_at masks.middle k + 4 * bit_at masks.high k
+
+-- the mark of the place with this number in the bundle
+abbrev pub mark_in : Masks → ℕ → Mark
+mark_in masks k =
+    if bit_at masks.starts k == 1 then Plain else (if bit_at masks.seconds k == 1 then After (register_in masks k) else Unmarked)
+
+-- the marks of a bundle that no chunk uses
+abbrev pub unused_masks : Masks
+unused_masks = record { starts = 1; seconds = 0; low = 0; middle = 0; high = 0 }

@@ -1,0 +1,139 @@
+//! The marks of one bundle, as masks.
+
+ghost use Rattle.std.specs.Prelude.{◌≡◌, ◌≢◌, ℕ, ◌<◌, if◌then◌else◌};
+ghost use Rattle.std.specs.Int.{bit_at};
+ghost use Rattle.nc_text.specs.MarkedText.{unused_mark};
+
+use nc_decode::Mark;
+
+/// The marks of the 32 places of a bundle, a bit for each place in each mask.
+#[derive(Clone, Copy)]
+pub(crate) struct Masks {
+    /// Where an instruction starts that may be entered with anything masked: `Plain`.
+    pub(crate) starts: u32,
+    /// Where the second half of a pair starts: `After`.
+    pub(crate) seconds: u32,
+    /// The lowest bit of the register of each second half.
+    pub(crate) low: u32,
+    /// The middle bit.
+    pub(crate) middle: u32,
+    /// The highest bit.
+    pub(crate) high: u32,
+}
+
+impl Masks {
+    ghost use Rattle.std.specs.Prelude.{◌≡◌, ◌≢◌, ℕ, ◌+◌, ◌<◌, ◌≤◌, ◌⊎◌, All, length, slice_index_or};
+    ghost use Rattle.nc_decode.specs.declared.instruction.Mark.TheVariants.{Unmarked};
+    ghost use Rattle.nc_text.specs.machinery.Masks.{mark_in, unused_masks};
+    ghost use Rattle.nc_text.specs.MarkedText.{NamesRegister, unused_mark};
+
+    /// The marks of a bundle that no chunk uses.
+    pub(crate) fn unused() -> Self
+        ensures { result ≡ unused_masks }
+    {
+        Masks {
+            starts: 1,
+            seconds: 0,
+            low: 0,
+            middle: 0,
+            high: 0,
+        }
+    }
+
+    /// The mark of a place.
+    pub(crate) fn mark(&self, at: u32) -> Mark
+        requires { at < 32 }
+        ensures { result ≡ mark_in self.now at }
+    {
+        if bit(self.starts, at) == 1 {
+            Mark::Plain
+        } else if bit(self.seconds, at) == 1 {
+            let register = bit(self.low, at) + 2 * bit(self.middle, at) + 4 * bit(self.high, at);
+            Mark::After(register as u8)
+        } else {
+            Mark::Unmarked
+        }
+    }
+
+    /// Sets the mark of one place.
+    pub(crate) fn set(&mut self, at: u32, mark: Mark)
+        requires inside { at < 32 }
+        requires register { NamesRegister mark }
+        ensures same { mark_in self.new at ≡ mark }
+        ensures other { (k : ℕ) → k < 32 → k ≢ at → mark_in self.new k ≡ mark_in self.old k }
+    {
+        let (start, second, register) = match mark {
+            Mark::Unmarked => (false, false, 0),
+            Mark::Plain => (true, false, 0),
+            Mark::After(register) => (false, true, register),
+        };
+        self.starts = with_bit(self.starts, at, start);
+        self.seconds = with_bit(self.seconds, at, second);
+        self.low = with_bit(self.low, at, register % 2 == 1);
+        self.middle = with_bit(self.middle, at, register / 2 % 2 == 1);
+        self.high = with_bit(self.high, at, register / 4 % 2 == 1);
+    }
+
+    /// Sets the marks of the places from one on.
+    pub(crate) fn set_from(&mut self, from: u32, marks: &[Mark])
+        requires inside { from + length marks.now ≤ 32 }
+        requires registers { All NamesRegister marks.now }
+        ensures within { (k : ℕ) → k < length marks.now → mark_in self.new (from + k) ≡ slice_index_or marks.now k Unmarked }
+        ensures others { (k : ℕ) → k < 32 → (k < from) ⊎ (from + length marks.now ≤ k) → mark_in self.new k ≡ mark_in self.old k }
+    {
+        let mut masks = *self;
+        for i in 0..marks.len() {
+            masks.set(from + i as u32, marks[i]);
+        }
+        *self = masks;
+    }
+
+    /// Leaves only the bundle's start marked among so many places from one on.
+    pub(crate) fn unmark(&mut self, from: u32, len: u32)
+        requires inside { from + len ≤ 32 }
+        ensures within { (k : ℕ) → k < len → mark_in self.new (from + k) ≡ unused_mark (from + k) }
+        ensures others { (k : ℕ) → k < 32 → (k < from) ⊎ (from + len ≤ k) → mark_in self.new k ≡ mark_in self.old k }
+    {
+        if len == 32 {
+            *self = Masks::unused();
+            return;
+        }
+        let mut masks = *self;
+        for i in 0..len {
+            masks.set(from + i, unused_mark(from + i));
+        }
+        *self = masks;
+    }
+}
+
+/// The mark of a place of a bundle that no chunk uses.
+fn unused_mark(at: u32) -> Mark
+    ensures { result ≡ unused_mark at }
+{
+    if at % 32 == 0 {
+        Mark::Plain
+    } else {
+        Mark::Unmarked
+    }
+}
+
+/// One bit of a mask.
+fn bit(mask: u32, at: u32) -> u32
+    requires { at < 32 }
+    ensures { result ≡ bit_at mask at }
+{
+    (mask >> at) & 1
+}
+
+/// The mask with this bit on or off.
+fn with_bit(mask: u32, at: u32, on: bool) -> u32
+    requires { at < 32 }
+    ensures same { bit_at result at ≡ (if on then 1 else 0) }
+    ensures other { (k : ℕ) → k < 32 → k ≢ at → bit_at result k ≡ bit_at mask k }
+{
+    if on {
+        mask | (1 << at)
+    } else {
+        mask & !(1 << at)
+    }
+}

@@ -1,0 +1,90 @@
+//! One page of a text.
+
+ghost use Rattle.std.specs.Prelude.{◌≡◌, vec_len};
+
+use crate::masks::Masks;
+use nc_decode::Mark;
+use std::alloc::{AllocError, Global};
+
+/// The byte of the instruction hlt, with which all unused text is filled.
+const STOP: u8 = 0xF4;
+
+/// The places of one page.
+pub(crate) const PAGE: usize = 4096;
+
+/// 4096 bytes of a text and the marks of their 128 bundles.
+#[derive(Drop)]
+pub(crate) struct Page {
+    bytes: Vec<u8>,
+    masks: Vec<Masks>,
+    ghost all_bytes: { vec_len bytes ≡ 4096 },
+    ghost all_masks: { vec_len masks ≡ 128 },
+}
+
+impl Page {
+    ghost use Rattle.std.specs.Prelude.{◌≡◌, ◌≢◌, ℕ, ◌+◌, ◌%◌, ◌<◌, ◌≤◌, ◌⊎◌, All, length, slice_index_or, IfOk};
+    ghost use Rattle.nc_decode.specs.declared.instruction.Mark.TheVariants.{Unmarked};
+    ghost use Rattle.nc_text.specs.machinery.Pages.{byte_on, mark_on};
+    ghost use Rattle.nc_text.specs.MarkedText.{unused_mark, NamesRegister};
+
+    /// A page of stops, of which only bundle starts are marked.
+    pub(crate) fn new(alloc: Global) -> Result<Self, AllocError>
+        ensures bytes { IfOk result (λ page. (k : ℕ) → k < 4096 → byte_on page k ≡ 0xF4) }
+        ensures marks { IfOk result (λ page. (k : ℕ) → k < 4096 → mark_on page k ≡ unused_mark k) }
+    {
+        let mut bytes = Vec::new(alloc);
+        bytes.resize(PAGE, STOP)?;
+        let mut masks = Vec::new(alloc);
+        masks.resize(PAGE / 32, Masks::unused())?;
+        Ok(Page { bytes, masks })
+    }
+
+    /// The byte at a place.
+    pub(crate) fn byte(&self, at: usize) -> u8
+        requires { at < 4096 }
+        ensures { result ≡ byte_on self.now at }
+    {
+        self.bytes[at]
+    }
+
+    /// The mark at a place.
+    pub(crate) fn mark(&self, at: usize) -> Mark
+        requires { at < 4096 }
+        ensures { result ≡ mark_on self.now at }
+    {
+        self.masks[at / 32].mark((at % 32) as u32)
+    }
+
+    /// Puts one byte.
+    pub(crate) fn put(&mut self, at: usize, byte: u8)
+        requires { at < 4096 }
+        ensures same { byte_on self.new at ≡ byte }
+        ensures other { (k : ℕ) → k ≢ at → byte_on self.new k ≡ byte_on self.old k }
+        ensures marks { (k : ℕ) → mark_on self.new k ≡ mark_on self.old k }
+    {
+        self.bytes[at] = byte;
+    }
+
+    /// Sets the marks of a span that lies in one bundle.
+    pub(crate) fn set_marks(&mut self, at: usize, marks: &[Mark])
+        requires inside { at < 4096 }
+        requires one_bundle { at % 32 + length marks.now ≤ 32 }
+        requires registers { All NamesRegister marks.now }
+        ensures within { (k : ℕ) → k < length marks.now → mark_on self.new (at + k) ≡ slice_index_or marks.now k Unmarked }
+        ensures others { (k : ℕ) → (k < at) ⊎ (at + length marks.now ≤ k) → mark_on self.new k ≡ mark_on self.old k }
+        ensures bytes { (k : ℕ) → byte_on self.new k ≡ byte_on self.old k }
+    {
+        self.masks[at / 32].set_from((at % 32) as u32, marks);
+    }
+
+    /// Leaves only bundle starts marked in a span that lies in one bundle.
+    pub(crate) fn unmark(&mut self, at: usize, len: usize)
+        requires inside { at < 4096 }
+        requires one_bundle { at % 32 + len ≤ 32 }
+        ensures within { (k : ℕ) → k < len → mark_on self.new (at + k) ≡ unused_mark (at + k) }
+        ensures others { (k : ℕ) → (k < at) ⊎ (at + len ≤ k) → mark_on self.new k ≡ mark_on self.old k }
+        ensures bytes { (k : ℕ) → byte_on self.new k ≡ byte_on self.old k }
+    {
+        self.masks[at / 32].unmark((at % 32) as u32, len as u32);
+    }
+}

@@ -1,0 +1,191 @@
+//! A table of pages: bytes and marks by their numbers from the region's first place on.
+
+ghost use Rattle.std.specs.Prelude.{◌≡◌, ◌≢◌, ℕ, ◌+◌, ◌/◌, ◌%◌, ◌<◌, ◌≤◌, ◌⊎◌, ◌↔◌, IsTrue, All, length, map, true, None, IfOk, slice_index_or, replicate, ◌^◌};
+ghost use Rattle.nc_decode.specs.declared.instruction.Mark.TheVariants.{Unmarked};
+ghost use Rattle.std.specs.Option.{is_some};
+ghost use Rattle.nc_text.specs.machinery.Pages.{byte_on, mark_on, byte_of, mark_of, page_of};
+ghost use Rattle.nc_text.specs.MarkedText.{unused_mark, NamesRegister};
+
+use crate::page::{PAGE, Page};
+use nc_decode::Mark;
+use std::alloc::{AllocError, Global};
+
+/// The places of one bundle.
+const BUNDLE: usize = 32;
+
+/// What the byte of a page that isn't made reads as: the instruction hlt.
+const STOP: u8 = 0xF4;
+
+/// A table of so many pages, none of which is made.
+pub(crate) fn empty(alloc: Global, n: usize) -> Result<Vec<Option<Box<Page>>>, AllocError>
+    ensures { IfOk result (λ v. v.items ≡ replicate n None) }
+{
+    let mut pages = Vec::with_capacity(alloc, n)?;
+    for _page in 0..n {
+        pages.push(None)?;
+    }
+    Ok(pages)
+}
+
+/// The byte at a place.
+pub(crate) fn byte(pages: &[Option<Box<Page>>], at: usize) -> u8
+    requires { at / 4096 < length pages.now }
+    ensures { result ≡ byte_of pages.now at }
+{
+    match &pages[at / PAGE] {
+        None => STOP,
+        Some(page) => page.byte(at % PAGE),
+    }
+}
+
+/// The mark at a place.
+pub(crate) fn mark(pages: &[Option<Box<Page>>], at: usize) -> Mark
+    requires { at / 4096 < length pages.now }
+    ensures { result ≡ mark_of pages.now at }
+{
+    match &pages[at / PAGE] {
+        None => unused_mark(at),
+        Some(page) => page.mark(at % PAGE),
+    }
+}
+
+/// The mark at a place where no chunk uses it.
+fn unused_mark(at: usize) -> Mark
+    ensures { result ≡ unused_mark at }
+{
+    if at % 32 == 0 {
+        Mark::Plain
+    } else {
+        Mark::Unmarked
+    }
+}
+
+/// Puts one byte on a page that is made.
+pub(crate) fn put(pages: &mut [Option<Box<Page>>], at: usize, byte: u8)
+    requires ready { is_some (page_of pages.old at) ≡ true }
+    ensures same { byte_of pages.new at ≡ byte }
+    ensures other { (k : ℕ) → k ≢ at → byte_of pages.new k ≡ byte_of pages.old k }
+    ensures marks { (k : ℕ) → mark_of pages.new k ≡ mark_of pages.old k }
+    ensures made { map is_some pages.new ≡ map is_some pages.old }
+{
+    if let Some(page) = &mut pages[at / PAGE] {
+        page.put(at % PAGE, byte);
+    }
+}
+
+/// Sets the marks of a span that lies in one bundle, on a page that is made.
+fn set_part(pages: &mut [Option<Box<Page>>], at: usize, marks: &[Mark])
+    requires ready { is_some (page_of pages.old at) ≡ true }
+    requires one_bundle { at % 32 + length marks.now ≤ 32 }
+    requires registers { All NamesRegister marks.now }
+    ensures within { (k : ℕ) → k < length marks.now → mark_of pages.new (at + k) ≡ slice_index_or marks.now k Unmarked }
+    ensures others { (k : ℕ) → (k < at) ⊎ (at + length marks.now ≤ k) → mark_of pages.new k ≡ mark_of pages.old k }
+    ensures bytes { (k : ℕ) → byte_of pages.new k ≡ byte_of pages.old k }
+    ensures made { map is_some pages.new ≡ map is_some pages.old }
+{
+    if let Some(page) = &mut pages[at / PAGE] {
+        page.set_marks(at % PAGE, marks);
+    }
+}
+
+/// Sets the marks of a span on pages that are made, a bundle at a time.
+pub(crate) fn set_span(pages: &mut [Option<Box<Page>>], start: usize, marks: &[Mark])
+    requires ready { (k : ℕ) → k < length marks.now → is_some (page_of pages.old (start + k)) ≡ true }
+    requires registers { All NamesRegister marks.now }
+    requires fits { start + length marks.now < 2 ^ 63 }
+    ensures within { (k : ℕ) → k < length marks.now → mark_of pages.new (start + k) ≡ slice_index_or marks.now k Unmarked }
+    ensures below { (k : ℕ) → k < start → mark_of pages.new k ≡ mark_of pages.old k }
+    ensures above { (k : ℕ) → start + length marks.now ≤ k → mark_of pages.new k ≡ mark_of pages.old k }
+    ensures bytes { (k : ℕ) → byte_of pages.new k ≡ byte_of pages.old k }
+    ensures made { map is_some pages.new ≡ map is_some pages.old }
+{
+    let mut done = 0;
+    while done < marks.len() {
+        let at = start + done;
+        let part = (BUNDLE - at % BUNDLE).min(marks.len() - done);
+        set_part(pages, at, &marks[done..done + part]);
+        done += part;
+    }
+}
+
+/// Leaves only bundle starts marked in a span that lies in one bundle. Where its page isn't made, it is so already.
+fn unmark_part(pages: &mut [Option<Box<Page>>], at: usize, len: usize)
+    requires inside { at / 4096 < length pages.old }
+    requires one_bundle { at % 32 + len ≤ 32 }
+    ensures within { (k : ℕ) → k < len → mark_of pages.new (at + k) ≡ unused_mark (at + k) }
+    ensures others { (k : ℕ) → (k < at) ⊎ (at + len ≤ k) → mark_of pages.new k ≡ mark_of pages.old k }
+    ensures bytes { (k : ℕ) → byte_of pages.new k ≡ byte_of pages.old k }
+    ensures made { map is_some pages.new ≡ map is_some pages.old }
+{
+    if let Some(page) = &mut pages[at / PAGE] {
+        page.unmark(at % PAGE, len);
+    }
+}
+
+/// Leaves only bundle starts marked in a span, a bundle at a time.
+pub(crate) fn unmark(pages: &mut [Option<Box<Page>>], start: usize, len: usize)
+    requires fits { start + len < 2 ^ 63 }
+    requires inside { (k : ℕ) → k < len → (start + k) / 4096 < length pages.old }
+    ensures within { (k : ℕ) → start ≤ k → k < start + len → mark_of pages.new k ≡ unused_mark k }
+    ensures below { (k : ℕ) → k < start → mark_of pages.new k ≡ mark_of pages.old k }
+    ensures above { (k : ℕ) → start + len ≤ k → mark_of pages.new k ≡ mark_of pages.old k }
+    ensures bytes { (k : ℕ) → byte_of pages.new k ≡ byte_of pages.old k }
+    ensures made { map is_some pages.new ≡ map is_some pages.old }
+{
+    let mut done = 0;
+    while done < len {
+        let at = start + done;
+        let part = (BUNDLE - at % BUNDLE).min(len - done);
+        unmark_part(pages, at, part);
+        done += part;
+    }
+}
+
+/// A page of stops, of which only bundle starts are marked.
+fn boxed_page(alloc: Global) -> Result<Box<Page>, AllocError>
+    ensures bytes { IfOk result (λ page. (k : ℕ) → k < 4096 → byte_on page.value k ≡ 0xF4) }
+    ensures marks { IfOk result (λ page. (k : ℕ) → k < 4096 → mark_on page.value k ≡ unused_mark k) }
+{
+    let page = Page::new(alloc)?;
+    Ok(Box::new(alloc, page)?)
+}
+
+/// Makes the pages from the first up to, and without, the last.
+pub(crate) fn make(
+    alloc: Global,
+    pages: &mut [Option<Box<Page>>],
+    first: usize,
+    last: usize,
+) -> Result<(), AllocError>
+    requires order { first ≤ last }
+    requires inside { last ≤ length pages.old }
+    ensures made { IfOk result (λ _. (i : ℕ) → first ≤ i → i < last → is_some (slice_index_or pages.new i None) ≡ true) }
+    ensures kept { (i : ℕ) → is_some (slice_index_or pages.old i None) ≡ true → is_some (slice_index_or pages.new i None) ≡ true }
+    ensures needed { (i : ℕ) → is_some (slice_index_or pages.new i None) ≡ true
+        → (is_some (slice_index_or pages.old i None) ≡ true) ⊎ ((first ≤ i) × (i < last)) }
+    ensures bytes { (k : ℕ) → byte_of pages.new k ≡ byte_of pages.old k }
+    ensures marks { (k : ℕ) → mark_of pages.new k ≡ mark_of pages.old k }
+{
+    for i in first..last {
+        if pages[i].is_none() {
+            let Ok(page) = boxed_page(alloc) else {
+                return Err(AllocError);
+            };
+            pages[i] = Some(page);
+        }
+    }
+    Ok(())
+}
+
+/// Whether the pages from the first up to, and without, the last are made.
+pub(crate) fn are_made(pages: &[Option<Box<Page>>], first: usize, last: usize) -> bool
+    requires { last ≤ length pages.now }
+    ensures { IsTrue result ↔ ((i : ℕ) → first ≤ i → i < last → is_some (slice_index_or pages.now i None) ≡ true) }
+{
+    for number in first..last {
+        if pages[number].is_none() {
+            return false;
+        }
+    }
+    true
+}
