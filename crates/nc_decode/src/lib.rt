@@ -44,6 +44,3 @@ pub use decoding::decode;
 pub use instruction::{DecodeFault, Flow, Instr, Mark};
 pub use law::{law_of_automaton, law_of_fronts};
 pub use transfer::may_transfer;
-
-#[cfg(test)]
-mod tests;

@@ -21,8 +21,6 @@ mod opening;
 mod pass_calls;
 mod steps;
 mod table;
-#[cfg(test)]
-mod tests;
 mod view;
 
 pub use fault::{GensFault, GensFull};

@@ -19,6 +19,3 @@ pub use fault::WorkFault;
 pub use gate::{Gate, Open};
 pub use job::{Job, Verdict};
 pub use vetting::vet_all;
-
-#[cfg(test)]
-mod tests;

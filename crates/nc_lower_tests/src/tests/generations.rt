@@ -1,7 +1,7 @@
 ghost use Rattle.std.specs.Prelude.{◌≡◌, All};
 ghost use Rattle.std.specs.Thread.{IsSync};
 
-use crate::{Gens, GensFault, Keeper, Pass};
+use nc_gens::{Gens, GensFault, Keeper, Pass};
 use std::test::Fail;
 use std::thread::{Threads, for_each_mut, join_mut};
 

@@ -1,7 +1,7 @@
 //! Jobs with the verdicts that vetting one by one gives.
 
-use crate::{Gate, Job, Open, Verdict, WorkFault, vet_all};
 use nc_vet::VetFault;
+use nc_work::{Gate, Job, Open, Verdict, WorkFault, vet_all};
 use std::alloc::{AllocError, Global};
 use std::sync::atomic::{AtomicBool, AtomicU64, Ordering};
 use std::test::Fail;

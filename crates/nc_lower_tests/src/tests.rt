@@ -1,0 +1,3 @@
+mod generations;
+mod instructions;
+mod workers;
