@@ -5,11 +5,13 @@
    REFUSE_LATER   1 if each later one is refused too
    REFUSE_MARKED  1 if only those are counted that come after the program's second write to standard output and before its
                   third; otherwise all of them are
-   REFUSE_REPORT  the number of an open file, to which a byte is written for each refusal
+   REFUSE_REPORT  the number of an open file, to which a line is written for each refusal, and as the program ends a line with
+                  the number of allocations that it hasn't given back
 
    It stands on the C library's own allocator by the names that glibc gives it. */
 #include <errno.h>
 #include <stdatomic.h>
+#include <stdio.h>
 #include <stdlib.h>
 #include <sys/syscall.h>
 #include <unistd.h>
@@ -18,6 +20,7 @@ extern void *__libc_malloc(size_t size);
 extern void *__libc_calloc(size_t count, size_t size);
 extern void *__libc_realloc(void *old, size_t size);
 extern void *__libc_memalign(size_t align, size_t size);
+extern void __libc_free(void *old);
 
 static long nth;
 static long later;
@@ -25,6 +28,7 @@ static long marked;
 static long report;
 static atomic_long allocations;
 static atomic_long writes;
+static atomic_long kept;
 
 static long number(const char *name)
 {
@@ -48,29 +52,47 @@ static int refuses(void)
     long now = ++allocations;
     if (now != nth && !(later && now > nth))
         return 0;
-    syscall(SYS_write, (int)report, "r", 1);
+    syscall(SYS_write, (int)report, "refused\n", 8);
     errno = ENOMEM;
     return 1;
 }
 
+/* Counts an allocation, if there is one. */
+static void *counted(void *found)
+{
+    if (found)
+        kept++;
+    return found;
+}
+
 void *malloc(size_t size)
 {
-    return refuses() ? NULL : __libc_malloc(size);
+    return refuses() ? NULL : counted(__libc_malloc(size));
 }
 
 void *calloc(size_t count, size_t size)
 {
-    return refuses() ? NULL : __libc_calloc(count, size);
+    return refuses() ? NULL : counted(__libc_calloc(count, size));
 }
 
 void *realloc(void *old, size_t size)
 {
-    return refuses() ? NULL : __libc_realloc(old, size);
+    if (refuses())
+        return NULL;
+    void *found = __libc_realloc(old, size);
+    return old ? found : counted(found);
+}
+
+void free(void *old)
+{
+    if (old)
+        kept--;
+    __libc_free(old);
 }
 
 void *memalign(size_t align, size_t size)
 {
-    return refuses() ? NULL : __libc_memalign(align, size);
+    return refuses() ? NULL : counted(__libc_memalign(align, size));
 }
 
 void *aligned_alloc(size_t align, size_t size)
@@ -92,4 +114,19 @@ ssize_t write(int file, const void *bytes, size_t count)
     if (file == STDOUT_FILENO)
         writes++;
     return syscall(SYS_write, file, bytes, count);
+}
+
+/* Says what is kept, as the program ends. */
+__attribute__((destructor)) static void end(void)
+{
+    char line[32];
+    int length = snprintf(line, sizeof line, "%ld\n", (long)kept);
+    syscall(SYS_write, (int)report, line, length);
+}
+
+void _exit(int status)
+{
+    end();
+    for (;;)
+        syscall(SYS_exit_group, status);
 }
