@@ -19,6 +19,8 @@ mod fixtures;
 #[cfg(test)]
 mod lawful;
 #[cfg(test)]
+mod one_byte_off;
+#[cfg(test)]
 mod patches;
 #[cfg(test)]
 mod random_patches;

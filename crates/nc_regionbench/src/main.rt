@@ -10,17 +10,30 @@
 //!
 //! `nc_regionbench walk BUNDLES STEPS ROUNDS` walks so many steps around a chunk of so many bundles, and prints the best time.
 //!
+//! `nc_regionbench soak SECONDS` measures nothing: for so many seconds a writer creates, patches, deletes and reclaims chunks beside
+//! two threads that walk and check in. It prints what they did, and fails if an answer was wrong, if a walk stood where no
+//! instruction stands, or if the region differs from a plain model of it.
+//!
 //! Without these words it says how to call it.
 #![tactic(auto)]
+
+mod drawn;
+mod model;
+mod numbers;
+mod soak;
+mod writer;
 
 ghost use Rattle.std.specs.Prelude.{◌≡◌};
 
 use nc_gens::{Gens, Pass};
 use nc_region::{Region, Shared};
 use nc_vet::{Vetted, vet};
+use soak::soak;
 use std::alloc::Global;
+use std::sync::Wait;
 use std::sync::atomic::{AtomicU64, Ordering};
-use std::time::{Duration, Instant};
+use std::thread::Threads;
+use std::time::{Clock, Duration, Instant};
 use std::{env, io};
 
 /// The first address of a region.
@@ -312,6 +325,20 @@ fn number(word: &str) -> u32 {
     word.parse().unwrap_or(1).max(1)
 }
 
+/// Lets threads work side by side for so many seconds, and prints what they did.
+fn soak_for<R: Threads + Wait + Clock + Sync + Print + AllocGlobal>(
+    rt: &R,
+    seconds: u32,
+) -> io::Result<()> {
+    let (wrote, walked) = soak(rt, rt.alloc(), seconds)?;
+    println!(rt; "{wrote:?}")?;
+    println!(rt; "{walked:?}")?;
+    if wrote.wrong > 0 || walked.astray > 0 {
+        return Err(io::Error::from(io::ErrorKind::InvalidData));
+    }
+    Ok(())
+}
+
 fn main(rt: HostRuntime) -> io::Result<()> {
     let words = env::args(&rt)?;
     let words: Vec<String> = words.collect(rt.alloc())?;
@@ -338,11 +365,13 @@ fn main(rt: HostRuntime) -> io::Result<()> {
             let steps = number(steps.as_str());
             measure_walk(&rt, load, steps, number(rounds.as_str()))
         }
+        [_, what, seconds] if what.as_str() == "soak" => soak_for(&rt, number(seconds.as_str())),
         _ => {
             println!(&rt; "usage: nc_regionbench chunks COUNT BUNDLES ROUNDS")?;
             println!(&rt; "       nc_regionbench checkin TIMES ROUNDS")?;
             println!(&rt; "       nc_regionbench new BUNDLES ROUNDS")?;
-            println!(&rt; "       nc_regionbench walk BUNDLES STEPS ROUNDS")
+            println!(&rt; "       nc_regionbench walk BUNDLES STEPS ROUNDS")?;
+            println!(&rt; "       nc_regionbench soak SECONDS")
         }
     }
 }

@@ -1,6 +1,7 @@
 mod fakes;
 mod faults;
 mod filled;
+mod kinds;
 mod long;
 mod patching;
 mod reuse;

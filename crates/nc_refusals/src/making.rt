@@ -1,0 +1,70 @@
+//! Texts, tables of generations and regions made.
+
+use crate::shown::{after, before, print_bytes, print_region};
+use nc_decode::START;
+use nc_gens::{Gens, Keeper, Pass};
+use nc_region::Region;
+use nc_text::Text;
+use std::io::{Error, ErrorKind, Result};
+
+/// A text of 4 bundles.
+pub(crate) fn make_text<R: Print + AllocGlobal>(rt: &R) -> Result<()> {
+    before(rt)?;
+    let answer = Text::new(rt.alloc(), 4);
+    after(rt)?;
+    match answer {
+        Ok(text) => print_text(rt, &text),
+        Err(fault) => println!(rt; "{fault}"),
+    }
+}
+
+/// Prints a text: its bytes.
+fn print_text<R: Print + AllocGlobal>(rt: &R, text: &Text) -> Result<()> {
+    let mut bytes = Vec::new(rt.alloc());
+    for at in START..text.limit() {
+        bytes.push(text.byte(at))?;
+    }
+    print_bytes(rt, "ok", &bytes)
+}
+
+/// A table for two seats.
+pub(crate) fn make_gens<R: Print + AllocGlobal>(rt: &R) -> Result<()> {
+    before(rt)?;
+    let answer = Gens::new(rt.alloc(), 2);
+    after(rt)?;
+    match answer {
+        Ok((_gens, keeper, passes)) => print_table(rt, &keeper, &passes),
+        Err(fault) => println!(rt; "{fault}"),
+    }
+}
+
+/// Prints what a table begins with.
+fn print_table<R: Print>(rt: &R, keeper: &Keeper, passes: &[Pass]) -> Result<()> {
+    println!(rt; "ok, generation {}", keeper.generation())?;
+    for pass in passes {
+        println!(rt; "since {}", pass.since())?;
+    }
+    Ok(())
+}
+
+/// A region of 4 bundles; after a refusal another one, with the keeper that came back.
+pub(crate) fn make_region<R: Print + AllocGlobal>(rt: &R) -> Result<()> {
+    let Ok((gens, keeper, _passes)) = Gens::new(rt.alloc(), 1) else {
+        return Err(Error::from(ErrorKind::Other));
+    };
+    before(rt)?;
+    let answer = Region::new(rt.alloc(), 4, &gens, keeper);
+    after(rt)?;
+    let (keeper, fault) = match answer {
+        Ok(region) => {
+            println!(rt; "ok")?;
+            return print_region(rt, &region);
+        }
+        Err(refused) => refused,
+    };
+    println!(rt; "{fault}, generation {}", keeper.generation())?;
+    match Region::new(rt.alloc(), 4, &gens, keeper) {
+        Ok(region) => print_region(rt, &region),
+        Err((_, fault)) => println!(rt; "{fault}"),
+    }
+}

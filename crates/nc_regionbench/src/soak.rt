@@ -1,0 +1,237 @@
+//! Threads that walk and check in for as long as they are let, beside a writer that creates, patches, deletes and reclaims.
+//!
+//! The writer keeps a plain model of the region, judges each answer by it, and compares the whole region with it now and
+//! then and at the end. A walker looks at each place where it comes: an instruction has to stand there.
+
+ghost use Rattle.std.specs.Prelude.{◌≡◌};
+
+use crate::numbers::Numbers;
+use crate::writer::{Done, Writer};
+use nc_decode::{BUNDLE, START, decode};
+use nc_gens::{Gens, Pass};
+use nc_region::{Region, Trace};
+use std::alloc::Global;
+use std::io::{Error, ErrorKind, Result};
+use std::sync::atomic::{AtomicBool, Ordering};
+use std::sync::{Mutex, Wait};
+use std::thread::{Threads, join, yield_now};
+use std::time::{Clock, Duration, Instant};
+
+/// How many bundles the region has.
+pub const BUNDLES: u32 = 64;
+
+/// What a walker did: its walks, the places on them, its check-ins, and the places where no instruction stood.
+#[derive(Clone, Copy, Debug, Drop)]
+pub struct Walked {
+    pub walks: u64,
+    pub places: u64,
+    pub check_ins: u64,
+    pub astray: u64,
+}
+
+impl Walked {
+    /// What two walkers did.
+    fn and(self, other: Walked) -> Walked {
+        Walked {
+            walks: self.walks.saturating_add(other.walks),
+            places: self.places.saturating_add(other.places),
+            check_ins: self.check_ins.saturating_add(other.check_ins),
+            astray: self.astray.saturating_add(other.astray),
+        }
+    }
+}
+
+/// Whether an instruction stands at an address of the region, inside its bundle; a place below the region counts as one.
+fn stands_well(region: &Region<'_>, at: u32) -> bool {
+    if at < START {
+        return true;
+    }
+    let mut bytes = [0u8; 32];
+    let mut len = 0usize;
+    let end = (at - at % BUNDLE).saturating_add(BUNDLE);
+    for place in at..end {
+        if let Some(byte) = bytes.get_mut(len)
+            && place >= START
+            && place < region.limit()
+        {
+            *byte = region.byte(place);
+            len = len.saturating_add(1);
+        }
+    }
+    decode(bytes.get(..len).unwrap_or(&[])).is_ok()
+}
+
+/// How many places of a trace no instruction stands at.
+fn astray(region: &Region<'_>, trace: &Trace) -> u64 {
+    let mut astray = 0u64;
+    for at in trace.places.iter() {
+        if !stands_well(region, *at) {
+            astray = astray.saturating_add(1);
+        }
+    }
+    astray
+}
+
+/// Walks once from a bundle start, as these choices pick the steps.
+fn walk_once<R: Wait>(
+    rt: &R,
+    region: &Mutex<Region<'_>>,
+    start: u32,
+    choices: &[u32],
+    walked: &mut Walked,
+) {
+    let region = region.lock(rt);
+    if let Ok(trace) = region.walk(start, choices) {
+        walked.walks = walked.walks.saturating_add(1);
+        walked.places = walked.places.saturating_add(trace.places.len() as u64);
+        walked.astray = walked.astray.saturating_add(astray(&region, &trace));
+    }
+}
+
+/// Walks and checks in until it is told to stop, and then leaves.
+fn walk_on<R: Wait>(
+    rt: &R,
+    region: &Mutex<Region<'_>>,
+    gens: &Gens,
+    stop: &AtomicBool,
+    pass: Pass,
+    seed: u64,
+) -> Walked
+    requires { pass.table ≡ gens.now }
+{
+    let mut pass = pass;
+    let mut numbers = Numbers::new(seed);
+    let mut walked = Walked {
+        walks: 0,
+        places: 0,
+        check_ins: 0,
+        astray: 0,
+    };
+    for _ in 0..u64::MAX {
+        if stop.load(Ordering::SeqCst) {
+            break;
+        }
+        let start = START.saturating_add(BUNDLE.saturating_mul(numbers.below(BUNDLES)));
+        let target = START.saturating_add(numbers.below(BUNDLES.saturating_mul(BUNDLE)));
+        let choices = [
+            numbers.below(2),
+            0,
+            target,
+            numbers.below(2),
+            0,
+            target,
+            0,
+            target,
+        ];
+        walk_once(rt, region, start, &choices, &mut walked);
+        gens.check_in(&mut pass);
+        walked.check_ins = walked.check_ins.saturating_add(1);
+        // otherwise the lock is mostly taken again before another thread comes to it
+        yield_now();
+    }
+    gens.leave(pass);
+    walked
+}
+
+/// Writes for so long, and compares the whole region now and then.
+fn write_for<R: Wait + Clock>(
+    rt: &R,
+    alloc: Global,
+    region: &Mutex<Region<'_>>,
+    time: Duration,
+) -> Result<Writer> {
+    let mut writer = Writer::new(alloc, BUNDLES)?;
+    let start = Instant::now(rt)?;
+    for _ in 0..u64::MAX {
+        if start.elapsed(rt)? >= time {
+            break;
+        }
+        for _ in 0..256u32 {
+            writer.step(rt, alloc, region)?;
+            yield_now();
+        }
+        writer.compare(&region.lock(rt));
+    }
+    Ok(writer)
+}
+
+/// Writes for so long, and then tells the walkers to stop.
+fn write_on<R: Wait + Clock>(
+    rt: &R,
+    alloc: Global,
+    region: &Mutex<Region<'_>>,
+    stop: &AtomicBool,
+    time: Duration,
+) -> Result<Writer> {
+    let wrote = write_for(rt, alloc, region, time);
+    stop.store(true, Ordering::SeqCst);
+    wrote
+}
+
+/// Two walkers, each in a thread of its own.
+fn walk_both<R: Threads + Wait + Sync>(
+    rt: &R,
+    region: &Mutex<Region<'_>>,
+    gens: &Gens,
+    stop: &AtomicBool,
+    one: Pass,
+    other: Pass,
+) -> Walked
+    requires { (one.table ≡ gens.now) × (other.table ≡ gens.now) }
+{
+    let (first, second) = join(
+        rt,
+        move ||
+            requires { one.table ≡ gens.now }
+        { walk_on(rt, region, gens, stop, one, 2) },
+        move ||
+            requires { other.table ≡ gens.now }
+        { walk_on(rt, region, gens, stop, other, 3) },
+    );
+    first.and(second)
+}
+
+/// A writer beside two walkers, for so long: what the writer knows and what the walkers did.
+fn write_beside<R: Threads + Wait + Clock + Sync>(
+    rt: &R,
+    alloc: Global,
+    region: &Mutex<Region<'_>>,
+    gens: &Gens,
+    one: Pass,
+    other: Pass,
+    time: Duration,
+) -> (Result<Writer>, Walked)
+    requires { (one.table ≡ gens.now) × (other.table ≡ gens.now) }
+{
+    let stop = AtomicBool::new(false);
+    let stop = &stop;
+    join(
+        rt,
+        move || write_on(rt, alloc, region, stop, time),
+        move ||
+            requires { (one.table ≡ gens.now) × (other.table ≡ gens.now) }
+        { walk_both(rt, region, gens, stop, one, other) },
+    )
+}
+
+/// Lets them work for so many seconds, and says what they did.
+pub fn soak<R: Threads + Wait + Clock + Sync>(
+    rt: &R,
+    alloc: Global,
+    seconds: u32,
+) -> Result<(Done, Walked)> {
+    let Ok((gens, keeper, mut passes)) = Gens::new(alloc, 2) else {
+        return Err(Error::from(ErrorKind::OutOfMemory));
+    };
+    let one = passes.remove(0);
+    let other = passes.remove(0);
+    let Ok(region) = Region::new(alloc, BUNDLES, &gens, keeper) else {
+        return Err(Error::from(ErrorKind::OutOfMemory));
+    };
+    let region = Mutex::new(region);
+    let time = Duration::from_secs(u64::from(seconds));
+    let (wrote, walked) = write_beside(rt, alloc, &region, &gens, one, other, time);
+    let mut writer = wrote?;
+    writer.finish(&mut region.lock(rt));
+    Ok((writer.done(), walked))
+}
