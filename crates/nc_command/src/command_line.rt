@@ -7,6 +7,7 @@ use crate::asked::Ask;
 use clap::error::ErrorKind;
 use clap::{Arg, ArgMatches, Command, Error};
 use nc_decode::MAX_BUNDLES;
+use nc_gens::MOST_SEATS;
 use std::alloc::{AllocError, Global};
 
 /// An option that takes a number from `least` to `most`.
@@ -31,7 +32,7 @@ fn bundles_option<'a>(alloc: Global) -> Arg<'a> {
     option(
         alloc,
         "bundles",
-        "Size of the code region in 32-byte bundles, from 2 to 524288",
+        "Size of the code region in 32-byte bundles, from 2 to 2097152",
         2,
         MAX_BUNDLES,
         "2048",
@@ -43,9 +44,9 @@ fn replay_command<'a>(alloc: Global) -> Result<Command<'a>, AllocError> {
     let seats = option(
         alloc,
         "seats",
-        "Number of seats for threads, from 1 to 64",
+        "Number of seats for threads, from 1 to 256",
         1,
-        64,
+        MOST_SEATS as u32,
         "4",
     );
     Command::new(alloc, "replay")
@@ -107,7 +108,7 @@ pub fn ask<'a>(alloc: Global, words: &'a [&'a str]) -> Result<Ask, Error>
     if let Some(found) = matches.subcommand_matches("replay") {
         return Ok(Ask::Replay {
             bundles: number(found, "bundles", 2, MAX_BUNDLES),
-            seats: number(found, "seats", 1, 64),
+            seats: number(found, "seats", 1, MOST_SEATS as u32),
         });
     }
     if let Some(found) = matches.subcommand_matches("vet") {

@@ -10,7 +10,7 @@ IsBundleStart at = at % BUNDLE ≡ 0
 abbrev pub IsInOneBundle : ℕ → ℕ → Type 0
 IsInOneBundle at len = at % BUNDLE + len ≤ BUNDLE
 
--- a region may have so many bundles: from 2, of which the last is the guard, to 524288
+-- a region may have so many bundles: from 2, of which the last is the guard, to 2097152
 abbrev pub IsRegionSize : ℕ → Type 0
 IsRegionSize bundles = (MIN_BUNDLES ≤ bundles) × (bundles ≤ MAX_BUNDLES)
 

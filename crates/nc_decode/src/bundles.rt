@@ -12,8 +12,8 @@ pub const START: u32 = 0x10000;
 /// The fewest bundles of a region: one for code, and the guard.
 pub const MIN_BUNDLES: u32 = 2;
 
-/// The most bundles of a region.
-pub const MAX_BUNDLES: u32 = 524_288;
+/// The most bundles of a region, which is then 64 MiB.
+pub const MAX_BUNDLES: u32 = 2_097_152;
 
 /// A bundle starts at this address.
 #[inline(always)]

@@ -5,9 +5,9 @@ use Rattle.nc_gens.specs.declared.view.PassNumbers.{PassNumbers}
 use Rattle.nc_gens.specs.declared.view.KeeperNumbers.{KeeperNumbers}
 use Rattle.nc_gens.specs.Rule.{left_word, last_generation, first_pass_numbers, first_keeper_numbers, generation_seen, word_taken}
 
--- a table has 1 to 64 seats
+-- a table has 1 to 256 seats
 abbrev pub AreSeats : ℕ → Type 0
-AreSeats seats = (1 ≤ seats) × (seats ≤ 64)
+AreSeats seats = (1 ≤ seats) × (seats ≤ 256)
 
 -- What callers see of a pass. `table` is that of the `Gens` that was made with it.
 pub record PassState : Type 0 where

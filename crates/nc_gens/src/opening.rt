@@ -11,7 +11,7 @@ use arrayvec::ArrayVec;
 use std::alloc::{AllocError, Global};
 
 /// The most seats that a table has.
-pub const MOST_SEATS: usize = 64;
+pub const MOST_SEATS: usize = 256;
 
 impl Gens {
     /// The table, its keeper, and a pass for each seat, in the seats' order. The generation, every

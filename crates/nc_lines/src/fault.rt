@@ -17,7 +17,7 @@ pub enum ReplayFault {
     /// The number of bundles isn't that of a region.
     #[error("bad size")]
     BadSize,
-    /// The number of seats isn't in 1 to 64.
+    /// The number of seats isn't in 1 to 256.
     #[error("bad seats")]
     BadSeats,
     /// The number of workers isn't in 1 to 16.

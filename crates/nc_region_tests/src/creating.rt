@@ -27,10 +27,15 @@ fn limit(alloc: Global, bundles: u32) -> Result<u32, Fail> {
 
 #[test]
 fn sizes(rt: HostRuntime) -> Result<(), Fail> {
-    for bundles in [0, 1, 524_289, u32::MAX] {
+    for bundles in [0, 1, 2_097_153, u32::MAX] {
         assert_eq!(rt; refusal(rt.alloc(), bundles)?, Some(RegionFault::BadSize));
     }
-    for (bundles, end) in [(2, 0x10040), (4, LIMIT), (524_288, 0x101_0000)] {
+    for (bundles, end) in [
+        (2, 0x10040),
+        (4, LIMIT),
+        (524_288, 0x101_0000),
+        (2_097_152, 0x401_0000),
+    ] {
         assert_eq!(rt; limit(rt.alloc(), bundles)?, end);
     }
     Ok(())

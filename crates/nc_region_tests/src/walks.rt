@@ -103,8 +103,8 @@ fn long_walk(rt: HostRuntime) -> Result<(), Fail> {
     Ok(())
 }
 
-/// The limit of a region of the largest size, and the last bundle of its first page, after which a second page begins.
-const LARGEST: u32 = 0x0101_0000;
+/// The limit of a region of 16 MiB, and the last bundle of its first page, after which a second page begins.
+const LIMIT_OF_PAGES: u32 = 0x0101_0000;
 
 const PAGE_END: u32 = 0x0001_0FE0;
 
@@ -115,7 +115,7 @@ fn over_pages(alloc: Global) -> Result<Vetted, Fail> {
     code.resize(32, 0x90)?;
     code.extend_from_slice(&[0xEB, 0xDE])?;
     code.resize(64, 0x90)?;
-    match vet(PAGE_END, LARGEST, code) {
+    match vet(PAGE_END, LIMIT_OF_PAGES, code) {
         Ok(vetted) => Ok(vetted),
         Err((_, fault)) => Err(Fail::new(format_args!("{fault:?}"))),
     }
@@ -142,5 +142,15 @@ fn walk_over_pages(rt: HostRuntime) -> Result<(), Fail> {
     );
     let trace = walked(&region, 0x0100_FFE0, &[])?;
     assert!(rt; is_trace(&trace, &[0x0100_FFE0], End::Stop), "{trace:?}");
+    Ok(())
+}
+
+#[test]
+fn walk_in_the_largest_region(rt: HostRuntime) -> Result<(), Fail> {
+    let alloc = rt.alloc();
+    let (gens, keeper, _passes) = Gens::new(alloc, 256)?;
+    let region = region(alloc, 2_097_152, &gens, keeper)?;
+    let trace = walked(&region, 0x0400_FFE0, &[])?;
+    assert!(rt; is_trace(&trace, &[0x0400_FFE0], End::Stop), "{trace:?}");
     Ok(())
 }

@@ -3,14 +3,16 @@ use nc_decode::Mark;
 use std::alloc::Global;
 
 /// Numbers of bundles, and the limit of the text or why there is none.
-static SIZES: [(u32, Result<u32, TextFault>); 8] = [
+static SIZES: [(u32, Result<u32, TextFault>); 10] = [
     (0, Err(TextFault::BadSize)),
     (1, Err(TextFault::BadSize)),
     (2, Ok(0x0001_0040)),
     (4, Ok(0x0001_0080)),
     (2048, Ok(0x0002_0000)),
     (524_288, Ok(0x0101_0000)),
-    (524_289, Err(TextFault::BadSize)),
+    (524_289, Ok(0x0101_0020)),
+    (2_097_152, Ok(0x0401_0000)),
+    (2_097_153, Err(TextFault::BadSize)),
     (u32::MAX, Err(TextFault::BadSize)),
 ];
 

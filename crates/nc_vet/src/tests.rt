@@ -125,7 +125,10 @@ static SPANS: [(u32, u32, usize, Option<VetFault>); 20] = [
     (0x10000, 0x10020, 32, Some(OutOfRange)),
     (0x10000, 0x10090, 32, Some(OutOfRange)),
     (0x100_FFC0, 0x101_0000, 32, None),
-    (0x10000, 0x101_0020, 32, Some(OutOfRange)),
+    (0x10000, 0x101_0020, 32, None),
+    (0x400_FFC0, 0x401_0000, 32, None),
+    (0x400_FFE0, 0x401_0000, 32, Some(OutOfRange)),
+    (0x10000, 0x401_0020, 32, Some(OutOfRange)),
 ];
 
 /// Nops, in which the parts stand.

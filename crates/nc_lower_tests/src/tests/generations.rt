@@ -7,7 +7,7 @@ use std::thread::{Threads, for_each_mut, join_mut};
 
 #[test]
 fn bad_seats_are_refused(rt: HostRuntime) {
-    for seats in [0, 65, u32::MAX] {
+    for seats in [0, 257, u32::MAX] {
         let opened = Gens::new(rt.alloc(), seats);
         assert!(rt;
             matches!(&opened, Err(GensFault::BadSeats)),
@@ -31,7 +31,7 @@ fn check_in_after_looks(gens: &Gens, keeper: &mut Keeper, passes: &mut [Pass]) -
 
 #[test]
 fn a_look_waits_for_each_seat(rt: HostRuntime) -> Result<(), Fail> {
-    for seats in [1, 2, 64] {
+    for seats in [1, 2, 64, 256] {
         let (gens, mut keeper, mut passes) = Gens::new(rt.alloc(), seats)?;
         assert_eq!(rt; passes.len(), seats as usize);
         assert_eq!(rt; gens.bump(&mut keeper)?, 1);

@@ -45,9 +45,9 @@ fn words(rt: HostRuntime) -> Result<(), Fail> {
         })
     );
     assert_eq!(rt;
-        asked(rt.alloc(), &["vet", "--workers=16", "--bundles=524288"]),
+        asked(rt.alloc(), &["vet", "--workers=16", "--bundles=2097152"]),
         Some(Ask::Vet {
-            bundles: 524_288,
+            bundles: 2_097_152,
             workers: 16
         })
     );
@@ -66,10 +66,10 @@ fn words(rt: HostRuntime) -> Result<(), Fail> {
         })
     );
     assert_eq!(rt;
-        asked(rt.alloc(), &["replay", "--seats", "64", "--bundles", "2"]),
+        asked(rt.alloc(), &["replay", "--seats", "256", "--bundles", "2"]),
         Some(Ask::Replay {
             bundles: 2,
-            seats: 64
+            seats: 256
         })
     );
     Ok(())
@@ -83,12 +83,12 @@ fn bad_words(rt: HostRuntime) -> Result<(), Fail> {
         &["dump"],
         &["replay", "replay"],
         &["replay", "--bundles", "1"],
-        &["replay", "--bundles", "524289"],
+        &["replay", "--bundles", "2097153"],
         &["replay", "--bundles", "4294967298"],
         &["replay", "--bundles", "x"],
         &["replay", "--bundles"],
         &["replay", "--seats", "0"],
-        &["replay", "--seats", "65"],
+        &["replay", "--seats", "257"],
         &["replay", "--workers", "4"],
         &["vet", "--workers", "17"],
         &["vet", "--workers", "0"],

@@ -1,6 +1,6 @@
 //! Deletion, check-in and reclaiming, as scripts.
 
-use crate::tests::rows::{Row, written_and_owed};
+use crate::tests::rows::{Row, input_and_owed, written, written_and_owed};
 use std::test::Fail;
 
 /// A second creation at the same place changes nothing.
@@ -86,6 +86,14 @@ const SEATS: [Row; 7] = [
     (b"leave 000", b"ok"),
 ];
 
+/// With 256 seats the last one is seat 255.
+const MOST_SEATS: [Row; 4] = [
+    (b"checkin 255", b"ok"),
+    (b"checkin 256", b"refused NoSeat"),
+    (b"leave 256", b"refused NoSeat"),
+    (b"leave 255", b"ok"),
+];
+
 /// A walk through a chunk that is retired stops at once.
 const RETIRED_WALK: [Row; 5] = [
     (b"create 00010000 *", b"ok"),
@@ -120,5 +128,42 @@ fn two_seats(rt: HostRuntime) -> Result<(), Fail> {
         let (written, owed) = written_and_owed(rt.alloc(), rows, 2)?;
         assert_eq!(rt; written.as_slice(), owed.as_slice());
     }
+    Ok(())
+}
+
+#[test]
+fn most_seats(rt: HostRuntime) -> Result<(), Fail> {
+    let (written, owed) = written_and_owed(rt.alloc(), &MOST_SEATS, 256)?;
+    assert_eq!(rt; written.as_slice(), owed.as_slice());
+    Ok(())
+}
+
+/// A chunk created and deleted.
+const DELETED: [Row; 2] = [
+    (b"create 00010000 eb1e*", b"ok"),
+    (b"delete 00010000", b"stamp 1"),
+];
+
+/// Nothing is free until the last seat has left.
+const LAST_LEAVES: [Row; 3] = [
+    (b"reclaim", b"freed 0"),
+    (b"leave 255", b"ok"),
+    (b"reclaim", b"freed 1"),
+];
+
+/// A chunk is deleted, and all of 256 seats but the last one check in.
+#[test]
+fn last_of_the_most_seats(rt: HostRuntime) -> Result<(), Fail> {
+    let alloc = rt.alloc();
+    let (mut script, mut owed) = input_and_owed(alloc, &DELETED)?;
+    for seat in 0..255 {
+        let line = format!(in alloc; "checkin {seat}\n")?;
+        script.extend_from_slice(line.as_bytes())?;
+        owed.extend_from_slice(b"ok\n")?;
+    }
+    let (rest, rest_owed) = input_and_owed(alloc, &LAST_LEAVES)?;
+    script.extend_from_slice(&rest)?;
+    owed.extend_from_slice(&rest_owed)?;
+    assert_eq!(rt; written(alloc, &script, 256)?.as_slice(), owed.as_slice());
     Ok(())
 }

@@ -19,6 +19,16 @@ pub fn input_and_owed(alloc: Global, rows: &[Row]) -> Result<(Vec<u8>, Vec<u8>),
     Ok((input, owed))
 }
 
+/// What a script writes on four bundles for so many seats.
+pub fn written(alloc: Global, script: &[u8], seats: u32) -> Result<Vec<u8>, Fail> {
+    let mut written = Vec::new(alloc);
+    let mut reader = script;
+    match run(alloc, &mut reader, &mut written, 4, seats) {
+        Ok(()) => Ok(written),
+        Err(fault) => Err(Fail::new(format_args!("{fault}"))),
+    }
+}
+
 /// What these lines write as one script on four bundles for so many seats, and what they have to.
 pub fn written_and_owed(
     alloc: Global,
@@ -26,10 +36,5 @@ pub fn written_and_owed(
     seats: u32,
 ) -> Result<(Vec<u8>, Vec<u8>), Fail> {
     let (input, owed) = input_and_owed(alloc, rows)?;
-    let mut written = Vec::new(alloc);
-    let mut reader = input.as_slice();
-    match run(alloc, &mut reader, &mut written, 4, seats) {
-        Ok(()) => Ok((written, owed)),
-        Err(fault) => Err(Fail::new(format_args!("{fault}"))),
-    }
+    Ok((written(alloc, &input, seats)?, owed))
 }

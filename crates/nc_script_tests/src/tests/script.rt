@@ -281,11 +281,12 @@ fn sizes(rt: HostRuntime) -> Result<(), Fail> {
     for (bundles, seats, owed) in [
         (0, 1, Err(ReplayFault::BadSize)),
         (1, 0, Err(ReplayFault::BadSize)),
-        (524_289, 65, Err(ReplayFault::BadSize)),
+        (2_097_153, 257, Err(ReplayFault::BadSize)),
         (2, 0, Err(ReplayFault::BadSeats)),
-        (524_288, 65, Err(ReplayFault::BadSeats)),
+        (2_097_152, 257, Err(ReplayFault::BadSeats)),
         (2, 1, Ok(())),
         (524_288, 64, Ok(())),
+        (2_097_152, 256, Ok(())),
     ] {
         let mut written = Vec::new(rt.alloc());
         let mut reader = Pieces {

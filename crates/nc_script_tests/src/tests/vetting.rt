@@ -92,7 +92,7 @@ fn long_and_last_lines(rt: HostRuntime) -> Result<(), Fail> {
             rt.alloc(),
             &mut reader,
             &mut written,
-            524_288,
+            2_097_152,
             4,
             &Open,
         );
@@ -179,11 +179,11 @@ fn sizes(rt: HostRuntime) -> Result<(), Fail> {
     for (bundles, workers, owed) in [
         (0, 1, Err(ReplayFault::BadSize)),
         (1, 0, Err(ReplayFault::BadSize)),
-        (524_289, 17, Err(ReplayFault::BadSize)),
+        (2_097_153, 17, Err(ReplayFault::BadSize)),
         (2, 0, Err(ReplayFault::BadWorkers)),
-        (524_288, 17, Err(ReplayFault::BadWorkers)),
+        (2_097_152, 17, Err(ReplayFault::BadWorkers)),
         (2, 1, Ok(())),
-        (524_288, 16, Ok(())),
+        (2_097_152, 16, Ok(())),
     ] {
         let mut written = Vec::new(rt.alloc());
         let mut reader = Pieces {
