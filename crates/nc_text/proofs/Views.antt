@@ -5,6 +5,7 @@ use Rattle.std.proofs.lemmas.Bool.{cases_lt}
 use Rattle.std.proofs.lemmas.Bool.Decides.{nat_tests}
 use Rattle.std.proofs.lemmas.List.{drop_all, take_all, ext_get_or, length-set, get_or-replicate, get_or_past, length-replicate}
 use Rattle.std.proofs.lemmas.List.FromFn.{length-map-range_with_len, get_or-map-range_with_len}
+use Rattle.nc_decode.specs.Bundles.{IsLawfulLimit}
 use Rattle.nc_decode.specs.declared.instruction.Mark.{Mark}
 use Rattle.nc_decode.specs.declared.instruction.Mark.TheVariants.{Unmarked}
 use Rattle.nc_text.specs.machinery.Pages.{Slot, byte_if_made, mark_if_made, byte_of, mark_of, text_of}
@@ -88,7 +89,7 @@ pub text_with_byte : (marked : MarkedText) (at byte : ℕ) → IsText marked →
 text_with_byte marked at byte is closed =
     let long = length-set marked.bytes (at - 65536) byte in
     record {
-      lawful = subst (λ (n : ℕ). (n % 32 ≡ 0) × (65600 ≤ n) × (n ≤ 16842752)) (ap (λ (n : ℕ). 65536 + n) (sym long)) is.lawful;
+      lawful = subst IsLawfulLimit (ap (λ (n : ℕ). 65536 + n) (sym long)) is.lawful;
       as_long = is.as_long ∙ sym long;
       closed = closed;
     }

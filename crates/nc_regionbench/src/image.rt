@@ -1,0 +1,144 @@
+//! Chunks of real code: created, walked and deleted.
+
+use crate::numbers::Numbers;
+use nc_gens::Gens;
+use nc_region::Region;
+use nc_vet::{Vetted, vet};
+use std::alloc::Global;
+use std::time::{Duration, Instant};
+use std::{fs, io};
+
+/// The first address of a region.
+const BASE: u32 = 0x1_0000;
+
+/// The bytes of a chunk.
+const CHUNK: usize = 0x10_0000;
+
+/// The bytes of a bundle.
+const BUNDLE: u32 = 32;
+
+/// The choices of one walk.
+const CHOICES: u32 = 4096;
+
+/// What each part took, and how many places the walks went over.
+#[derive(Clone, Copy, Drop)]
+struct Times {
+    vet: Duration,
+    create: Duration,
+    walk: Duration,
+    delete: Duration,
+    places: u64,
+}
+
+/// Code of a chunk's length: the image as often as it fits, then nops. Transfers within an image stay within its copy.
+fn repeated(alloc: Global, image: &[u8]) -> io::Result<Vec<u8>> {
+    let mut code = Vec::with_capacity(alloc, CHUNK)?;
+    for _ in 0..CHUNK / image.len().max(1) {
+        code.extend_from_slice(image)?;
+    }
+    code.resize(CHUNK, 0x90)?;
+    Ok(code)
+}
+
+/// The region's bundles for so many chunks and the guard.
+fn bundles_for(count: u32) -> u32 {
+    count.saturating_mul(CHUNK as u32 / BUNDLE).saturating_add(1)
+}
+
+/// The chunks, vetted for their places.
+fn chunks(alloc: Global, image: &[u8], count: u32) -> io::Result<Vec<Vetted>> {
+    let limit = BASE.saturating_add(bundles_for(count).saturating_mul(BUNDLE));
+    let mut all = Vec::new(alloc);
+    for i in 0..count {
+        let code = repeated(alloc, image)?;
+        let base = BASE.saturating_add(i.saturating_mul(CHUNK as u32));
+        if let Ok(vetted) = vet(base, limit, code) {
+            all.push(vetted)?;
+        }
+    }
+    Ok(all)
+}
+
+/// Walks from bundle starts that are drawn, by choices that are drawn, until so many places were gone over.
+fn walk_about(alloc: Global, region: &Region<'_>, bundles: u32, steps: u64) -> io::Result<u64> {
+    let mut numbers = Numbers::new(1);
+    let mut choices = Vec::new(alloc);
+    for _ in 0..CHOICES {
+        choices.push(BASE.saturating_add(numbers.below(bundles).saturating_mul(BUNDLE)))?;
+    }
+    let mut places = 0u64;
+    for _ in 0..steps {
+        if places >= steps {
+            break;
+        }
+        let start = BASE.saturating_add(numbers.below(bundles).saturating_mul(BUNDLE));
+        if let Ok(trace) = region.walk(start, &choices) {
+            places = places.saturating_add(trace.places.len() as u64);
+        }
+    }
+    Ok(places)
+}
+
+/// Deletes the chunks, and counts those that were deleted.
+fn delete_all(region: &mut Region<'_>, count: u32) -> u32 {
+    let mut done = 0u32;
+    for i in 0..count {
+        if region.delete(BASE.saturating_add(i.saturating_mul(CHUNK as u32))).is_ok() {
+            done = done.saturating_add(1);
+        }
+    }
+    done
+}
+
+/// One region's life, where there is memory for it.
+fn live(rt: &HostRuntime, image: &[u8], count: u32, steps: u64) -> io::Result<Option<Times>> {
+    let start = Instant::now(rt)?;
+    let all = chunks(rt.alloc(), image, count)?;
+    let vet = start.elapsed(rt)?;
+    let Ok((gens, keeper, _passes)) = Gens::new(rt.alloc(), 1) else {
+        return Ok(None);
+    };
+    let Ok(mut region) = Region::new(rt.alloc(), bundles_for(count), &gens, keeper) else {
+        return Ok(None);
+    };
+    let start = Instant::now(rt)?;
+    for vetted in all {
+        if region.create(vetted).is_err() {
+            return Ok(None);
+        }
+    }
+    let create = start.elapsed(rt)?;
+    let start = Instant::now(rt)?;
+    let places = walk_about(rt.alloc(), &region, bundles_for(count), steps)?;
+    let walk = start.elapsed(rt)?;
+    let start = Instant::now(rt)?;
+    let deleted = delete_all(&mut region, count);
+    let delete = start.elapsed(rt)?;
+    let times = Times {
+        vet,
+        create,
+        walk,
+        delete,
+        places,
+    };
+    Ok(if deleted == count { Some(times) } else { None })
+}
+
+/// Creates, walks and deletes so many chunks of one mebibyte that are made of a file's image, and prints what each part took.
+pub fn measure_image(rt: &HostRuntime, path: &str, count: u32, steps: u32) -> io::Result<()> {
+    let mut image = Vec::new(rt.alloc());
+    let mut file = fs::open(rt, path)?;
+    file.read_to_end(&mut image)?;
+    image.truncate(CHUNK);
+    match live(rt, &image, count, u64::from(steps))? {
+        Some(times) => println!(rt;
+            "{count} chunks of {CHUNK} bytes: vet {} ns, create {} ns, delete {} ns; {} places in {} ns",
+            times.vet.as_nanos(),
+            times.create.as_nanos(),
+            times.delete.as_nanos(),
+            times.places,
+            times.walk.as_nanos()
+        ),
+        None => println!(rt; "not all chunks were created and deleted"),
+    }
+}
