@@ -1,17 +1,14 @@
 //! Calls that take no memory: they answer the same where every allocation is refused.
 
-use crate::chunks::{chunk, region, region_with};
+use crate::chunks::{chunk, region_with, table};
 use crate::shown::{after, before, print_region};
-use nc_gens::Gens;
 use nc_region::Shared;
-use std::io::{Error, ErrorKind, Result};
+use std::io::Result;
 use std::sync::Wait;
 
 /// A chunk is deleted; it is free only after the one seat has checked in, and then its place is taken again.
 pub(crate) fn retire<R: Print + AllocGlobal>(rt: &R) -> Result<()> {
-    let Ok((gens, keeper, mut passes)) = Gens::new(rt.alloc(), 1) else {
-        return Err(Error::from(ErrorKind::Other));
-    };
+    let (gens, keeper, mut passes) = table(rt.alloc(), 1)?;
     let mut pass = passes.remove(0);
     let mut region = region_with(rt.alloc(), &gens, keeper, &[0xEB, 0x1E])?;
     before(rt)?;
@@ -30,9 +27,7 @@ pub(crate) fn retire<R: Print + AllocGlobal>(rt: &R) -> Result<()> {
 
 /// Through the lock: a chunk is deleted, one seat checks in and the other one leaves.
 pub(crate) fn two_seats<R: Wait + Print + AllocGlobal>(rt: &R) -> Result<()> {
-    let Ok((gens, keeper, mut passes)) = Gens::new(rt.alloc(), 2) else {
-        return Err(Error::from(ErrorKind::Other));
-    };
+    let (gens, keeper, mut passes) = table(rt.alloc(), 2)?;
     let mut first = passes.remove(0);
     let second = passes.remove(0);
     let shared = Shared::new(region_with(rt.alloc(), &gens, keeper, &[0xEB, 0x1E])?);
@@ -48,12 +43,8 @@ pub(crate) fn two_seats<R: Wait + Print + AllocGlobal>(rt: &R) -> Result<()> {
 
 /// Patches of a constant, one of another length, and one of half a pair.
 pub(crate) fn patch<R: Print + AllocGlobal>(rt: &R) -> Result<()> {
-    let Ok((gens, keeper, _passes)) = Gens::new(rt.alloc(), 1) else {
-        return Err(Error::from(ErrorKind::Other));
-    };
-    let Ok((others, other_keeper, _others_passes)) = Gens::new(rt.alloc(), 1) else {
-        return Err(Error::from(ErrorKind::Other));
-    };
+    let (gens, keeper, _passes) = table(rt.alloc(), 1)?;
+    let (others, other_keeper, _others_passes) = table(rt.alloc(), 1)?;
     let mut constant = region_with(rt.alloc(), &gens, keeper, &[0xB8, 0x01, 0x00, 0x00, 0x00])?;
     let pair = [0x83, 0xE0, 0xE0, 0xFF, 0xE0];
     let mut paired = region_with(rt.alloc(), &others, other_keeper, &pair)?;
@@ -69,9 +60,7 @@ pub(crate) fn patch<R: Print + AllocGlobal>(rt: &R) -> Result<()> {
 
 /// Patches of a jump, most of which are refused.
 pub(crate) fn refuse_patches<R: Print + AllocGlobal>(rt: &R) -> Result<()> {
-    let Ok((gens, keeper, _passes)) = Gens::new(rt.alloc(), 1) else {
-        return Err(Error::from(ErrorKind::Other));
-    };
+    let (gens, keeper, _passes) = table(rt.alloc(), 1)?;
     let mut region = region_with(rt.alloc(), &gens, keeper, &[0xEB, 0xFE])?;
     before(rt)?;
     let beyond = region.modify(0x10000, &[0xEB, 0x7E]);
