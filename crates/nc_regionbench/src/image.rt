@@ -5,6 +5,7 @@ use nc_gens::Gens;
 use nc_region::Region;
 use nc_vet::{Vetted, vet};
 use std::alloc::Global;
+use std::io::Read;
 use std::time::{Duration, Instant};
 use std::{fs, io};
 
@@ -42,7 +43,9 @@ fn repeated(alloc: Global, image: &[u8]) -> io::Result<Vec<u8>> {
 
 /// The region's bundles for so many chunks and the guard.
 fn bundles_for(count: u32) -> u32 {
-    count.saturating_mul(CHUNK as u32 / BUNDLE).saturating_add(1)
+    count
+        .saturating_mul(CHUNK as u32 / BUNDLE)
+        .saturating_add(1)
 }
 
 /// The chunks, vetted for their places.
@@ -83,7 +86,10 @@ fn walk_about(alloc: Global, region: &Region<'_>, bundles: u32, steps: u64) -> i
 fn delete_all(region: &mut Region<'_>, count: u32) -> u32 {
     let mut done = 0u32;
     for i in 0..count {
-        if region.delete(BASE.saturating_add(i.saturating_mul(CHUNK as u32))).is_ok() {
+        if region
+            .delete(BASE.saturating_add(i.saturating_mul(CHUNK as u32)))
+            .is_ok()
+        {
             done = done.saturating_add(1);
         }
     }

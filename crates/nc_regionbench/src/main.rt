@@ -10,6 +10,12 @@
 //!
 //! `nc_regionbench walk BUNDLES STEPS ROUNDS` walks so many steps around a chunk of so many bundles, and prints the best time.
 //!
+//! `nc_regionbench seats COUNT SEATS ROUNDS` does what `chunks` does with chunks of one bundle, over so many seats, all of which
+//! check in before the chunks are reclaimed.
+//!
+//! `nc_regionbench image FILE COUNT STEPS` makes so many chunks of one mebibyte of a file's raw code, creates them in a region that
+//! they fill, walks over so many places from bundle starts that are drawn, and deletes the chunks.
+//!
 //! `nc_regionbench soak SECONDS` measures nothing: for so many seconds a writer creates, patches, deletes and reclaims chunks beside
 //! two threads that walk and check in. It prints what they did, and fails if an answer was wrong, if a walk stood where no
 //! instruction stands, or if the region differs from a plain model of it.
@@ -18,13 +24,15 @@
 #![tactic(auto)]
 
 mod drawn;
+mod image;
 mod model;
 mod numbers;
 mod soak;
 mod writer;
 
-ghost use Rattle.std.specs.Prelude.{◌≡◌};
+ghost use Rattle.std.specs.Prelude.{◌≡◌, All};
 
+use image::measure_image;
 use nc_gens::{Gens, Pass};
 use nc_region::{Region, Shared};
 use nc_vet::{Vetted, vet};
@@ -45,11 +53,12 @@ const BUNDLE: [u8; 32] = [
     0x00, 0x00, 0x00, 0x0F, 0xB6, 0xC0, 0x8D, 0x04, 0x80, 0x55, 0x5D, 0x83, 0xE1, 0xE0, 0xFF, 0xE1,
 ];
 
-/// How many chunks, and of how many bundles each.
+/// How many chunks, of how many bundles each, and over how many seats.
 #[derive(Clone, Copy, Drop)]
 struct Load {
     count: u32,
     bundles: u32,
+    seats: u32,
 }
 
 impl Load {
@@ -128,13 +137,21 @@ fn delete_all(region: &mut Region<'_>, load: Load) -> u32 {
     done
 }
 
+/// Each pass checks in.
+fn check_in_all(gens: &Gens, passes: &mut [Pass])
+    requires { All (λ p. p.table ≡ gens.now) passes.old }
+{
+    for pass in passes.iter_mut() {
+        gens.check_in(pass);
+    }
+}
+
 /// Creates, deletes and reclaims all chunks in a new region, where there is memory for it.
 fn live_once(rt: &HostRuntime, load: Load) -> io::Result<Option<Times>> {
     let all = chunks(rt.alloc(), load)?;
-    let Ok((gens, keeper, mut passes)) = Gens::new(rt.alloc(), 1) else {
+    let Ok((gens, keeper, mut passes)) = Gens::new(rt.alloc(), load.seats) else {
         return Ok(None);
     };
-    let mut pass = passes.remove(0);
     let Ok(mut region) = Region::new(rt.alloc(), load.region(), &gens, keeper) else {
         return Ok(None);
     };
@@ -144,7 +161,7 @@ fn live_once(rt: &HostRuntime, load: Load) -> io::Result<Option<Times>> {
     let start = Instant::now(rt)?;
     let deleted = delete_all(&mut region, load);
     let delete = start.elapsed(rt)?;
-    gens.check_in(&mut pass);
+    check_in_all(&gens, passes.as_mut_slice());
     let start = Instant::now(rt)?;
     let reclaimed = region.reclaim();
     let reclaim = start.elapsed(rt)?;
@@ -184,8 +201,8 @@ fn measure_chunks(rt: &HostRuntime, load: Load, rounds: u32) -> io::Result<()> {
     let delete = best.delete.as_nanos();
     let reclaim = best.reclaim.as_nanos();
     println!(rt;
-        "{} chunks of {} bundles: create {create} ns, delete {delete} ns, reclaim {reclaim} ns; done {:?}",
-        load.count, load.bundles, best.done
+        "{} chunks of {} bundles, {} seats: create {create} ns, delete {delete} ns, reclaim {reclaim} ns; done {:?}",
+        load.count, load.bundles, load.seats, best.done
     )
 }
 
@@ -348,6 +365,15 @@ fn main(rt: HostRuntime) -> io::Result<()> {
             let load = Load {
                 count: number(count.as_str()),
                 bundles: number(bundles.as_str()),
+                seats: 1,
+            };
+            measure_chunks(&rt, load, number(rounds.as_str()))
+        }
+        [_, what, count, seats, rounds] if what.as_str() == "seats" => {
+            let load = Load {
+                count: number(count.as_str()),
+                bundles: 1,
+                seats: number(seats.as_str()),
             };
             measure_chunks(&rt, load, number(rounds.as_str()))
         }
@@ -361,9 +387,14 @@ fn main(rt: HostRuntime) -> io::Result<()> {
             let load = Load {
                 count: 1,
                 bundles: number(bundles.as_str()),
+                seats: 1,
             };
             let steps = number(steps.as_str());
             measure_walk(&rt, load, steps, number(rounds.as_str()))
+        }
+        [_, what, file, count, steps] if what.as_str() == "image" => {
+            let count = number(count.as_str());
+            measure_image(&rt, file.as_str(), count, number(steps.as_str()))
         }
         [_, what, seconds] if what.as_str() == "soak" => soak_for(&rt, number(seconds.as_str())),
         _ => {
@@ -371,6 +402,8 @@ fn main(rt: HostRuntime) -> io::Result<()> {
             println!(&rt; "       nc_regionbench checkin TIMES ROUNDS")?;
             println!(&rt; "       nc_regionbench new BUNDLES ROUNDS")?;
             println!(&rt; "       nc_regionbench walk BUNDLES STEPS ROUNDS")?;
+            println!(&rt; "       nc_regionbench seats COUNT SEATS ROUNDS")?;
+            println!(&rt; "       nc_regionbench image FILE COUNT STEPS")?;
             println!(&rt; "       nc_regionbench soak SECONDS")
         }
     }
