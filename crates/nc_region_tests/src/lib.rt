@@ -21,7 +21,11 @@ mod lawful;
 #[cfg(test)]
 mod patches;
 #[cfg(test)]
+mod plain_text;
+#[cfg(test)]
 mod random_patches;
+#[cfg(test)]
+mod random_texts;
 #[cfg(test)]
 mod shared;
 #[cfg(test)]
