@@ -1,5 +1,5 @@
 -- While a chunk is created, the text stays closed.
-use Rattle.std.proofs.Common.{◌≡◌, ◌≢◌, ℕ, ◌+◌, ◌-◌, ◌%◌, ◌<◌, ◌≤◌, not, List, length, get_or, set, inl, inr, arith, ◌∙◌, sym, ap, subst}
+use Rattle.std.proofs.Common.{◌≡◌, ◌≢◌, ℕ, ◌+◌, ◌-◌, ◌%◌, ◌<◌, ◌≤◌, not, List, length, get_or, set, inl, inr, arith, ◌∙◌, sym, ap, subst, suc, zero}
 use Rattle.std.proofs.Common.{⊎_elim}
 use Rattle.std.proofs.lemmas.Bool.{cases_lt}
 use Rattle.std.proofs.lemmas.Bool.Decides.{eqb_tells}
@@ -148,6 +148,16 @@ pub start_passed : (final now : List ℕ) (base i to : ℕ) → (base + i) % 32 
 start_passed final now base i to not f =
     let next : base + i + 1 ≡ base + (i + 1) = omega arith in
     subst (λ (n : ℕ). IsFinalBut final now n to) next (final_passed final now (base + i) to not f)
+
+-- so are some that follow one another
+pub starts_passed : (final now : List ℕ) (base i to n : ℕ) → ((j : ℕ) → j < n → (base + (i + j)) % 32 ≢ 0) → IsFinalBut final now (base + i) to
+    → IsFinalBut final now (base + (i + n)) to
+starts_passed final now base i to zero none f = subst (λ (k : ℕ). IsFinalBut final now (base + k) to) (omega arith) f
+starts_passed final now base i to (suc n) none f =
+    let next : i + n + 1 ≡ i + suc n = omega arith in
+    subst (λ (k : ℕ). IsFinalBut final now (base + k) to) next
+    (start_passed final now base (i + n) to (none n (omega arith))
+    (starts_passed final now base i to n (λ j lt. none j (omega (arith, lt))) f))
 
 -- the span set hides what was put in it before
 pub same_final : (old now : List ℕ) (base : ℕ) (bytes : List ℕ) → 65536 ≤ base → base + length bytes ≤ 65536 + length old

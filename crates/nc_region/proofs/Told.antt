@@ -1,6 +1,6 @@
 -- The acts told, one call after another.
-use Rattle.std.proofs.Common.{◌≡◌, ℕ, ◌+◌, ◌<◌, Bool, true, false, cond, List, [], ◌∷◌, ◌++◌, length, get_or, take, Option, Some, None}
-use Rattle.std.proofs.Common.{arith, refl, ◌∙◌, sym, ap, subst, append_assoc, add-zero, suc}
+use Rattle.std.proofs.Common.{◌≡◌, ℕ, ◌+◌, ◌<◌, ◌≤◌, Bool, true, false, cond, List, [], ◌∷◌, ◌++◌, length, get_or, take, Option, Some, None}
+use Rattle.std.proofs.Common.{arith, refl, ◌∙◌, sym, ap, subst, append_assoc, add-zero, suc, zero}
 use Rattle.std.proofs.lemmas.List.{append-nil, take_more, length-take}
 use Rattle.nc_region.specs.declared.acts.Act.{Act}
 use Rattle.nc_region.specs.declared.acts.Act.TheVariants.{Put}
@@ -63,3 +63,15 @@ told_passed chosen base bytes i a b lt not first =
     ∙ (ap (λ (z : Bool). puts_where chosen base (take i bytes) ++ cond z (Put (base + i) (get_or bytes i 0) ∷ []) []) not
     ∙ append-nil (puts_where chosen base (take i bytes)))) in
     subst (λ (acts : List Act). Tells a b acts) (sym more) first
+
+-- nor do some that follow one another
+pub told_passed_all : (chosen : ℕ → Bool) (base : ℕ) (bytes : List ℕ) (i n : ℕ) (a b : Option (List Act)) → i + n ≤ length bytes
+    → ((j : ℕ) → j < n → chosen (base + (i + j)) ≡ false) → Tells a b (puts_where chosen base (take i bytes))
+    → Tells a b (puts_where chosen base (take (i + n) bytes))
+told_passed_all chosen base bytes i zero a b fits none first =
+    subst (λ (k : ℕ). Tells a b (puts_where chosen base (take k bytes))) (omega arith) first
+told_passed_all chosen base bytes i (suc n) a b fits none first =
+    let next : i + n + 1 ≡ i + suc n = omega arith in
+    subst (λ (k : ℕ). Tells a b (puts_where chosen base (take k bytes))) next
+    (told_passed chosen base bytes (i + n) a b (omega (arith, fits)) (none n (omega arith))
+    (told_passed_all chosen base bytes i n a b (omega (arith, fits)) (λ j lt. none j (omega (arith, lt))) first))

@@ -5,7 +5,7 @@ use Rattle.std.proofs.lemmas.List.{length-take, length-drop, get_or-take, get_or
 use Rattle.nc_decode.specs.declared.instruction.Instr.{Instr}
 use Rattle.nc_decode.specs.Bundles.{IsInOneBundle}
 use Rattle.nc_decode.specs.Front.{first_instruction}
-use Rattle.nc_decode.proofs.Offered.{depends_on_its_bytes}
+use Rattle.nc_decode.proofs.Offered.{depends_on_its_bytes, has_its_length}
 use Rattle.nc_text.specs.Places.{InRegion, byte_at, instruction_at}
 use Rattle.nc_text.proofs.Offered.{length_at}
 
@@ -36,6 +36,33 @@ found_in_window text window at n i inside is short long shows =
     get_or-take i.len (take n window) k 0 small
     ∙ (get_or-take n window k 0 (omega arith)
     ∙ (there ∙ (sym (get_or-drop (at - 65536) text k 0) ∙ sym (get_or-take i.len (drop (at - 65536) text) k 0 small))))))
+
+-- an instruction at the front of the window is one of the text
+pub shown_in_window : (text window : List ℕ) (at n : ℕ) (i : Instr) → InRegion text at → first_instruction (take n window) ≡ Some i
+    → at + n ≤ 65536 + length text → n ≤ length window → Shows window text at n → instruction_at text at ≡ Some i
+shown_in_window text window at n i inside is fits long shows =
+    let low : 65536 ≤ at = inside.0 in
+    let short = (has_its_length (take n window) i is).1 in
+    depends_on_its_bytes (take n window) (drop (at - 65536) text) i is
+    (ext_get_or 0 (take i.len (drop (at - 65536) text)) (take i.len (take n window))
+    (omega (
+      arith,
+      fits,
+      short,
+      low,
+      length-take i.len (take n window),
+      length-take n window,
+      length-take i.len (drop (at - 65536) text),
+      length-drop (at - 65536) text,
+    ))
+    (λ k lt.
+    let small : k < i.len = omega (arith, lt, length-take i.len (drop (at - 65536) text)) in
+    let smaller : k < n = omega (arith, small, short, length-take n window) in
+    let moved : at + k - 65536 ≡ at - 65536 + k = omega (arith, low) in
+    let there = shows k smaller ∙ ap (λ (m : ℕ). get_or text m 0) moved in
+    get_or-take i.len (drop (at - 65536) text) k 0 small
+    ∙ (get_or-drop (at - 65536) text k 0
+    ∙ (sym there ∙ (sym (get_or-take n window k 0 smaller) ∙ sym (get_or-take i.len (take n window) k 0 small))))))
 
 -- what an instruction that is there is known for
 from_some : (o : Option Instr) (at : ℕ) → IsSomeAnd o (λ i. IsInOneBundle at i.len) → (i : Instr) × (o ≡ Some i) × IsInOneBundle at i.len

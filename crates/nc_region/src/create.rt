@@ -67,10 +67,8 @@ fn put_starts<A: Acts>(acts: &mut A, base: u32, code: &[u8])
     ensures keeper { A.keeper acts.new ≡ A.keeper acts.old }
     ensures told { Tells (A.told acts.old) (A.told acts.new) (puts_where is_start base code.now) }
 {
-    for i in 0..code.len() {
-        let at = base + i as u32;
-        if at % 32 == 0 {
-            acts.put(at, code[i]);
-        }
+    for bundle in 0..code.len() / 32 {
+        let i = 32 * bundle;
+        acts.put(base + i as u32, code[i]);
     }
 }

@@ -14,6 +14,9 @@ use crate::trace::{End, Trace};
 use nc_decode::{BUNDLE, Flow, Instr, START, decode};
 use std::alloc::{AllocError, Global};
 
+/// How many bytes of an instruction are read first.
+const FEW: u32 = 6;
+
 /// Where a thread stands, and the register that the instruction just executed has masked.
 #[derive(Clone, Copy, Debug, Drop)]
 struct State {
@@ -97,28 +100,37 @@ fn instruction_or_end<A: Acts>(acts: &A, now: State) -> Result<Instr, End>
     Ok(instr)
 }
 
-/// The instruction that stands at a place, wholly inside its bundle.
+/// The instruction that stands at a place, wholly inside its bundle. Few instructions are longer than six bytes, so these
+/// are read first.
 pub(crate) fn instruction<A: Acts>(acts: &A, at: u32) -> Instr
     requires whole { IsText (A.marked acts.now) }
     requires inside { InRegion (A.marked acts.now).bytes at }
     requires stands { IsSomeAnd (instruction_at (A.marked acts.now).bytes at) (λ i. IsInOneBundle at i.len) }
     ensures { instruction_at (A.marked acts.now).bytes at ≡ Some result }
 {
-    let bytes = read_bundle(acts, at);
-    let Ok(instr) = decode(&bytes[..(BUNDLE - at % BUNDLE) as usize]) else {
+    let rest = BUNDLE - at % BUNDLE;
+    if rest > FEW {
+        let few = read(acts, at, FEW);
+        if let Ok(instr) = decode(&few[..FEW as usize]) {
+            return instr;
+        }
+    }
+    let bytes = read(acts, at, rest);
+    let Ok(instr) = decode(&bytes[..rest as usize]) else {
         unreachable!()
     };
     instr
 }
 
-/// The bytes from a place to the end of its bundle, and zeros after them.
-fn read_bundle<A: Acts>(acts: &A, at: u32) -> [u8; 32]
+/// So many bytes from a place on, in its bundle, and zeros after them.
+fn read<A: Acts>(acts: &A, at: u32, len: u32) -> [u8; 32]
     requires whole { IsText (A.marked acts.now) }
     requires inside { InRegion (A.marked acts.now).bytes at }
-    ensures { (k : ℕ) → k < 32 - at % 32 → slice_index result k ≡ byte_at (A.marked acts.now).bytes (at + k) }
+    requires one_bundle { at % 32 + len ≤ 32 }
+    ensures { (k : ℕ) → k < len → slice_index result k ≡ byte_at (A.marked acts.now).bytes (at + k) }
 {
     let mut bytes = [0; 32];
-    for k in 0..BUNDLE - at % BUNDLE {
+    for k in 0..len {
         bytes[k as usize] = acts.byte(at + k);
     }
     bytes

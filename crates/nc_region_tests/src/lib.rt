@@ -23,7 +23,11 @@ mod one_byte_off;
 #[cfg(test)]
 mod patches;
 #[cfg(test)]
+mod plain_text;
+#[cfg(test)]
 mod random_patches;
+#[cfg(test)]
+mod random_texts;
 #[cfg(test)]
 mod shared;
 #[cfg(test)]

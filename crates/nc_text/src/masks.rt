@@ -62,13 +62,12 @@ impl Masks {
         ensures same { mark_in self.new at ≡ mark }
         ensures other { (k : ℕ) → k < 32 → k ≢ at → mark_in self.new k ≡ mark_in self.old k }
     {
-        let (start, second, register) = match mark {
-            Mark::Unmarked => (false, false, 0),
-            Mark::Plain => (true, false, 0),
-            Mark::After(register) => (false, true, register),
+        self.starts = with_bit(self.starts, at, mark == Mark::Plain);
+        let Mark::After(register) = mark else {
+            self.seconds = with_bit(self.seconds, at, false);
+            return;
         };
-        self.starts = with_bit(self.starts, at, start);
-        self.seconds = with_bit(self.seconds, at, second);
+        self.seconds = with_bit(self.seconds, at, true);
         self.low = with_bit(self.low, at, register % 2 == 1);
         self.middle = with_bit(self.middle, at, register / 2 % 2 == 1);
         self.high = with_bit(self.high, at, register / 4 % 2 == 1);
@@ -131,9 +130,6 @@ fn with_bit(mask: u32, at: u32, on: bool) -> u32
     ensures same { bit_at result at ≡ (if on then 1 else 0) }
     ensures other { (k : ℕ) → k < 32 → k ≢ at → bit_at result k ≡ bit_at mask k }
 {
-    if on {
-        mask | (1 << at)
-    } else {
-        mask & !(1 << at)
-    }
+    let bit = 1 << at;
+    if on { mask | bit } else { mask & !bit }
 }

@@ -77,8 +77,8 @@ impl Vetted {
         ensures value { IfOk result (λ marks. marks.items ≡ self.now.marks) }
         ensures each { IfOk result (λ marks. length marks.items ≡ length self.now.code) }
     {
-        let mut marks = Vec::new(alloc);
         let code = self.code();
+        let mut marks = Vec::with_capacity(alloc, code.len())?;
         for i in 0..code.len() {
             marks.push(self.mark(i))?;
         }

@@ -1,6 +1,6 @@
 use Rattle.std.proofs.Common.{◌≡◌, ℕ, ◌+◌, ◌<◌, length, get_or}
 use Rattle.nc_text.specs.Places.{byte_at}
-use Rattle.nc_region.proofs.walk.read_bundle.Given as goal
+use Rattle.nc_region.proofs.walk.read.Given as goal
 
 abbrev pub invariant-loop-k : goal.invariant-loop-k
 invariant-loop-k g l =

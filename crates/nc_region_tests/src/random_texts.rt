@@ -1,0 +1,154 @@
+//! Chunks created, patched, deleted and reclaimed at random on both sides of the ends of pages. After each call of the text all
+//! places are compared with a plain text (`plain_text`), to which the same calls were made.
+ghost use Rattle.std.specs.Prelude.{◌≡◌};
+
+use crate::drawing::{Numbers, draw_chunk};
+use crate::plain_text::{PlainText, Twin};
+use nc_gens::{Gens, Keeper, Pass};
+use nc_region::{Plain, RegionOf};
+use nc_text::Text;
+use std::alloc::Global;
+use std::test::Fail;
+
+/// The bundles of the region: a page and three bundles of a second one.
+const BUNDLES: u32 = 131;
+
+/// Its limit.
+const LIMIT: u32 = 0x11060;
+
+/// The bundles from which chunks are drawn, eight from each: at the beginning, and from the end of the first page to the guard.
+static FROM: [u32; 2] = [0, 120];
+
+/// A region over a text beside a plain one.
+type Twinned<'g> = RegionOf<Twin<Plain<'g>>>;
+
+/// A new one.
+fn twinned<'g>(alloc: Global, gens: &'g Gens, keeper: Keeper) -> Result<Twinned<'g>, Fail>
+    requires { keeper.table ≡ gens.now }
+{
+    let text = match Text::new(alloc, BUNDLES) {
+        Ok(text) => text,
+        Err(fault) => return Err(Fail::new(format_args!("{fault:?}"))),
+    };
+    let plain = PlainText::new(alloc, 131 * 32)?;
+    Ok(RegionOf::over(alloc, Twin::new(Plain::new(text, gens, keeper), plain)))
+}
+
+/// How often each call did something.
+#[derive(Clone, Copy, Debug, Drop)]
+struct Done {
+    created: u32,
+    patched: u32,
+    deleted: u32,
+    freed: u32,
+}
+
+/// A chunk of one to three bundles.
+fn create(
+    alloc: Global,
+    numbers: &mut Numbers,
+    region: &mut Twinned<'_>,
+    done: &mut Done,
+) -> Result<(), Fail> {
+    let from = FROM.get(numbers.below(2)).copied().unwrap_or(0);
+    let bundle = from.saturating_add(u32::try_from(numbers.below(8)).unwrap_or(0));
+    let base = 0x10000u32.saturating_add(bundle.saturating_mul(32));
+    let bundles = numbers.below(3).saturating_add(1);
+    let vetted = draw_chunk(alloc, numbers, base, LIMIT, bundles)?;
+    if region.create(vetted).is_ok() {
+        done.created = done.created.saturating_add(1);
+    }
+    Ok(())
+}
+
+/// Patches of one byte at eight places of a chunk, where they are lawful.
+fn patch(numbers: &mut Numbers, region: &mut Twinned<'_>, base: u32, done: &mut Done) {
+    for _ in 0..8 {
+        let place = u32::try_from(numbers.below(32)).unwrap_or(0);
+        if region.modify(base.saturating_add(place), &[0x40]).is_ok() {
+            done.patched = done.patched.saturating_add(1);
+        }
+    }
+}
+
+/// One step of a region's life.
+fn step(
+    alloc: Global,
+    numbers: &mut Numbers,
+    region: &mut Twinned<'_>,
+    gens: &Gens,
+    pass: &mut Pass,
+    done: &mut Done,
+) -> Result<(), Fail>
+    requires { pass.old.table ≡ gens.now }
+    ensures { pass.new.table ≡ gens.now }
+{
+    let kind = numbers.below(8);
+    let number = numbers.below(region.chunk_count());
+    let base = region.chunk(number).map_or(0, |chunk| chunk.base);
+    match kind {
+        0 => {
+            gens.check_in(pass);
+            done.freed = done.freed.saturating_add(region.reclaim());
+        }
+        1 | 2 => {
+            if region.delete(base).is_ok() {
+                done.deleted = done.deleted.saturating_add(1);
+            }
+        }
+        3 => patch(numbers, region, base, done),
+        _ => create(alloc, numbers, region, done)?,
+    }
+    Ok(())
+}
+
+/// A hundred steps.
+fn live(
+    alloc: Global,
+    numbers: &mut Numbers,
+    region: &mut Twinned<'_>,
+    gens: &Gens,
+    pass: &mut Pass,
+    done: &mut Done,
+) -> Result<(), Fail>
+    requires { pass.old.table ≡ gens.now }
+{
+    for _ in 0..100 {
+        step(alloc, numbers, region, gens, pass, done)?;
+    }
+    Ok(())
+}
+
+#[test]
+fn random_texts(rt: HostRuntime) -> Result<(), Fail> {
+    let alloc = rt.alloc();
+    let (gens, keeper, mut passes) = Gens::new(alloc, 1)?;
+    let mut pass = passes.remove(0);
+    let mut region = twinned(alloc, &gens, keeper)?;
+    let mut numbers = Numbers::new(4096);
+    let mut done = Done {
+        created: 0,
+        patched: 0,
+        deleted: 0,
+        freed: 0,
+    };
+    live(
+        alloc,
+        &mut numbers,
+        &mut region,
+        &gens,
+        &mut pass,
+        &mut done,
+    )?;
+    let plain = region.acts().plain();
+    let (compared, differences) = plain.found();
+    assert_eq!(rt; differences, 0, "{done:?}");
+    assert_eq!(rt; plain.pages(), 2);
+    // each call did something, often enough
+    assert!(rt;
+        done.created >= 10 && done.patched >= 2 && done.deleted >= 5 && done.freed >= 3,
+        "{done:?}"
+    );
+    assert!(rt; compared >= 1000, "{compared}");
+    Ok(())
+}
