@@ -1,5 +1,6 @@
 -- While a chunk is created, the text stays closed.
-use Rattle.std.proofs.Common.{◌≡◌, ◌≢◌, ℕ, ◌+◌, ◌-◌, ◌%◌, ◌<◌, ◌≤◌, not, List, length, get_or, set, inl, inr, arith, ◌∙◌, sym, ap, subst, suc, zero}
+use Rattle.std.proofs.Common.{◌≡◌, ◌≢◌, ℕ, ◌+◌, ◌-◌, ◌%◌, ◌<◌, ◌≤◌, not, List, length, get_or, set, inl, inr, arith, ◌∙◌, sym}
+use Rattle.std.proofs.Common.{ap, subst, suc, zero}
 use Rattle.std.proofs.Common.{⊎_elim}
 use Rattle.std.proofs.lemmas.Bool.{cases_lt}
 use Rattle.std.proofs.lemmas.Bool.Decides.{eqb_tells}
@@ -150,7 +151,8 @@ start_passed final now base i to not f =
     subst (λ (n : ℕ). IsFinalBut final now n to) next (final_passed final now (base + i) to not f)
 
 -- so are some that follow one another
-pub starts_passed : (final now : List ℕ) (base i to n : ℕ) → ((j : ℕ) → j < n → (base + (i + j)) % 32 ≢ 0) → IsFinalBut final now (base + i) to
+pub starts_passed : (final now : List ℕ) (base i to n : ℕ) → ((j : ℕ) → j < n → (base + (i + j)) % 32 ≢ 0)
+    → IsFinalBut final now (base + i) to
     → IsFinalBut final now (base + (i + n)) to
 starts_passed final now base i to zero none f = subst (λ (k : ℕ). IsFinalBut final now (base + k) to) (omega arith) f
 starts_passed final now base i to (suc n) none f =

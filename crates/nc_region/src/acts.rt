@@ -1,6 +1,7 @@
 //! The text and the generations behind a region, by its acts.
 
-ghost use Rattle.std.specs.Prelude.{◌≡◌, ◌+◌, ◌^◌, ◌<◌, ◌≤◌, ◌↔◌, ℕ, List, [], ◌∷◌, Option, length, All, IsOk, IfOk, IfErr, IsTrue, OnOk, OnErr, Bool};
+ghost use Rattle.std.specs.Prelude.{◌≡◌, ◌+◌, ◌^◌, ◌<◌, ◌≤◌, ◌↔◌, ℕ, List, [], ◌∷◌, Option, length, All, IsOk, IfOk, IfErr};
+ghost use Rattle.std.specs.Prelude.{IsTrue, OnOk, OnErr, Bool};
 ghost use Rattle.nc_decode.specs.declared.instruction.Mark.{Mark};
 ghost use Rattle.nc_text.specs.Marks.{IsClosed, mark_at};
 ghost use Rattle.nc_text.specs.Places.{InRegion, SpanInRegion, byte_at, limit_of};

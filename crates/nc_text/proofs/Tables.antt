@@ -1,5 +1,6 @@
 -- What stands at the places of a table of pages, of which one page was changed.
-use Rattle.std.proofs.Common.{◌≡◌, ◌≢◌, ℕ, ◌+◌, ◌/◌, ◌%◌, ◌<◌, ◌≤◌, Bool, true, false, suc, zero, List, [], ◌∷◌, map, length, get_or, set, replicate, Some, None, arith, ◌⊎◌, refl, sym, ap, subst, ◌∙◌, inl, inr}
+use Rattle.std.proofs.Common.{◌≡◌, ◌≢◌, ℕ, ◌+◌, ◌/◌, ◌%◌, ◌<◌, ◌≤◌, Bool, true, false, suc, zero, List, [], ◌∷◌, map, length}
+use Rattle.std.proofs.Common.{get_or, set, replicate, Some, None, arith, ◌⊎◌, refl, sym, ap, subst, ◌∙◌, inl, inr}
 use Rattle.std.specs.Prelude.{Box}
 use Rattle.std.specs.declared.alloc.Global.{Global}
 use Rattle.std.specs.Option.{is_some}
@@ -8,7 +9,8 @@ use Rattle.std.specs.Int.{bit_at}
 use Rattle.std.proofs.lemmas.Bool.{cases_eq, cases_lt}
 use Rattle.std.proofs.lemmas.Bool.Decides.{nat_tests}
 use Rattle.std.proofs.lemmas.Nat.Bits.{bit_at-pow_other, bit_at-zero}
-use Rattle.std.proofs.lemmas.List.{ext_get_or, length-set, get_or-set_same, get_or-set_other, get_or-replicate, map-set, set-get_or, get_or_past}
+use Rattle.std.proofs.lemmas.List.{ext_get_or, length-set, get_or-set_same, get_or-set_other, get_or-replicate, map-set}
+use Rattle.std.proofs.lemmas.List.{set-get_or, get_or_past}
 use Rattle.std.proofs.lemmas.List.FromFn.{length-map-range_with_len, get_or-map-range_with_len}
 use Rattle.nc_text.specs.declared.masks.Masks.{Masks}
 use Rattle.nc_text.specs.declared.page.Page.{Page}
@@ -28,15 +30,17 @@ bare_at k lt =
           grind (arith, nat_tests, a, b, m)
     ]
 
--- the same mark is due at the place in the bundle, or in the page
+-- an unused place has the same mark by its number in the bundle
 pub unused_mark_in : (k : ℕ) → unused_mark (k % 32) ≡ unused_mark k
 unused_mark_in k = let e : k % 32 % 32 ≡ k % 32 = omega arith in grind (arith, nat_tests, e)
 
+-- and by its number on the page
 pub unused_mark_on : (k : ℕ) → unused_mark (k % 4096) ≡ unused_mark k
 unused_mark_on k = let e : k % 4096 % 32 ≡ k % 32 = omega arith in grind (arith, nat_tests, e)
 
 -- bundles of which each has its start alone marked
-pub fresh_marks : (masks : List Masks) (n k : ℕ) → masks ≡ replicate n unused_masks → k / 32 < n → mark_in (get_or masks (k / 32) unused_masks) (k % 32) ≡ unused_mark k
+pub fresh_marks : (masks : List Masks) (n k : ℕ) → masks ≡ replicate n unused_masks → k / 32 < n
+    → mark_in (get_or masks (k / 32) unused_masks) (k % 32) ≡ unused_mark k
 fresh_marks masks n k is lt =
     ap (λ (ms : List Masks). mark_in (get_or ms (k / 32) unused_masks) (k % 32)) is
     ∙ (ap (λ (m : Masks). mark_in m (k % 32)) (get_or-replicate n (k / 32) unused_masks unused_masks lt)
@@ -66,7 +70,9 @@ in_bundle masks new at k inside small =
     ∙ ap (λ (j : ℕ). mark_in new j) place)
 
 -- one page changed: what is said of each place of it is said of each place
-pub one_page : {X : Type 0} (F : Slot → ℕ → X) (pages : List Slot) (i : ℕ) (new : Slot) (k : ℕ) → i < length pages → (k / 4096 ≡ i → F new (k % 4096) ≡ F (get_or pages i None) (k % 4096)) → F (get_or (set pages i new) (k / 4096) None) (k % 4096) ≡ F (get_or pages (k / 4096) None) (k % 4096)
+pub one_page : {X : Type 0} (F : Slot → ℕ → X) (pages : List Slot) (i : ℕ) (new : Slot) (k : ℕ) → i < length pages
+    → (k / 4096 ≡ i → F new (k % 4096) ≡ F (get_or pages i None) (k % 4096)) → F (get_or (set pages i new) (k / 4096) None) (k % 4096) ≡ F
+    (get_or pages (k / 4096) None) (k % 4096)
 one_page F pages i new k inside same =
     elim (cases_eq (k / 4096) i) [
       | inl e ↦
@@ -92,26 +98,31 @@ made_at (page ∷ pages) zero = refl
 made_at (page ∷ pages) (suc i) = made_at pages i
 
 -- the same pages are made where one was changed
-pub same_made : (pages : List Slot) (i : ℕ) (new : Slot) → is_some new ≡ is_some (get_or pages i None) → map is_some (set pages i new) ≡ map is_some pages
+pub same_made : (pages : List Slot) (i : ℕ) (new : Slot) → is_some new ≡ is_some (get_or pages i None)
+    → map is_some (set pages i new) ≡ map is_some pages
 same_made pages i new e =
     map-set is_some pages i new ∙ (ap (set (map is_some pages) i) (e ∙ sym (made_at pages i)) ∙ set-get_or (map is_some pages) i false)
 
 -- so a page is made here where it is made there
-pub made_too : (pages others : List Slot) (i : ℕ) → map is_some pages ≡ map is_some others → is_some (get_or others i None) ≡ true → is_some (get_or pages i None) ≡ true
+pub made_too : (pages others : List Slot) (i : ℕ) → map is_some pages ≡ map is_some others → is_some (get_or others i None) ≡ true
+    → is_some (get_or pages i None) ≡ true
 made_too pages others i same made =
     sym (made_at pages i) ∙ (ap (λ (bs : List Bool). get_or bs i false) same ∙ (made_at others i ∙ made))
 
 -- lists that are made from functions which agree
-pub same_all : {X : Type 0} (d : X) (f g : ℕ → X) (n : ℕ) → ((k : ℕ) → k < n → g k ≡ f k) → map g (range_with_len 0 n) ≡ map f (range_with_len 0 n)
+pub same_all : {X : Type 0} (d : X) (f g : ℕ → X) (n : ℕ) → ((k : ℕ) → k < n → g k ≡ f k)
+    → map g (range_with_len 0 n) ≡ map f (range_with_len 0 n)
 same_all d f g n same =
     ext_get_or d (map g (range_with_len 0 n)) (map f (range_with_len 0 n))
     (length-map-range_with_len g 0 n ∙ sym (length-map-range_with_len f 0 n))
     (λ k lt.
     let short : k < n = omega (arith, lt, length-map-range_with_len g 0 n) in
-    get_or-map-range_with_len g 0 n k k d short (omega arith) ∙ (same k short ∙ sym (get_or-map-range_with_len f 0 n k k d short (omega arith))))
+    get_or-map-range_with_len g 0 n k k d short (omega arith)
+    ∙ (same k short ∙ sym (get_or-map-range_with_len f 0 n k k d short (omega arith))))
 
 -- or which agree but at one place
-pub same_but_one : {X : Type 0} (d : X) (f g : ℕ → X) (n at : ℕ) (x : X) → at < n → g at ≡ x → ((k : ℕ) → k ≢ at → g k ≡ f k) → map g (range_with_len 0 n) ≡ set (map f (range_with_len 0 n)) at x
+pub same_but_one : {X : Type 0} (d : X) (f g : ℕ → X) (n at : ℕ) (x : X) → at < n → g at ≡ x → ((k : ℕ) → k ≢ at → g k ≡ f k)
+    → map g (range_with_len 0 n) ≡ set (map f (range_with_len 0 n)) at x
 same_but_one d f g n at x inside here other =
     let long : length (map f (range_with_len 0 n)) ≡ n = length-map-range_with_len f 0 n in
     ext_get_or d (map g (range_with_len 0 n)) (set (map f (range_with_len 0 n)) at x)
@@ -119,8 +130,10 @@ same_but_one d f g n at x inside here other =
     (λ k lt.
     let short : k < n = omega (arith, lt, length-map-range_with_len g 0 n) in
     get_or-map-range_with_len g 0 n k k d short (omega arith) ∙ elim (cases_eq k at) [
-      | inl e ↦ ap g e ∙ (here ∙ (sym (get_or-set_same (map f (range_with_len 0 n)) at x d (omega (arith, long, inside))) ∙ ap (λ (j : ℕ). get_or (set (map f (range_with_len 0 n)) at x) j d) (sym e)))
-      | inr ne ↦ other k ne ∙ (sym (get_or-map-range_with_len f 0 n k k d short (omega arith)) ∙ sym (get_or-set_other (map f (range_with_len 0 n)) at k x d ne))
+      | inl e ↦ ap g e ∙ (here ∙ (sym (get_or-set_same (map f (range_with_len 0 n)) at x d (omega (arith, long, inside)))
+          ∙ ap (λ (j : ℕ). get_or (set (map f (range_with_len 0 n)) at x) j d) (sym e)))
+      | inr ne ↦ other k ne ∙ (sym (get_or-map-range_with_len f 0 n k k d short (omega arith))
+          ∙ sym (get_or-set_other (map f (range_with_len 0 n)) at k x d ne))
     ])
 
 -- a page that is not made has its bundle starts alone marked
@@ -149,10 +162,15 @@ pub record IsMaking (old new : List Slot) (first i : ℕ) : Type 0 where
   pub marks : (k : ℕ) → mark_of new k ≡ mark_of old k
 
 -- one more that was made already
-pub making_made : (old new : List Slot) (first i : ℕ) → IsMaking old new first i → is_some (get_or new i None) ≡ true → IsMaking old new first (i + 1)
+pub making_made : (old new : List Slot) (first i : ℕ) → IsMaking old new first i → is_some (get_or new i None) ≡ true
+    → IsMaking old new first (i + 1)
 making_made old new first i so here =
     record {
-      made = λ j low high. elim (cases_eq j i) [ inl e ↦ subst (λ (n : ℕ). is_some (get_or new n None) ≡ true) (sym e) here | inr ne ↦ so.made j low (omega arith) ];
+      made = λ j low high. elim (cases_eq j i) [
+        | inl e ↦ subst (λ (n : ℕ). is_some (get_or new n None) ≡ true) (sym e) here
+        | inr ne ↦
+            so.made j low (omega arith)
+      ];
       kept = so.kept;
       needed = λ j is. elim (so.needed j is) [ inl was ↦ inl was | inr r ↦ inr (r.0, omega (arith, r.1)) ];
       bytes = so.bytes;
@@ -160,7 +178,9 @@ making_made old new first i so here =
     }
 
 -- one more that is made now
-pub making_more : (old new : List Slot) (first i : ℕ) (page : Box Page Global) → IsMaking old new first i → first ≤ i → i < length new → get_or new i None ≡ None → ((k : ℕ) → k < 4096 → byte_on page.value k ≡ 244) → ((k : ℕ) → k < 4096 → mark_on page.value k ≡ unused_mark k) → IsMaking old (set new i (Some page)) first (i + 1)
+pub making_more : (old new : List Slot) (first i : ℕ) (page : Box Page Global) → IsMaking old new first i → first ≤ i → i < length new
+    → get_or new i None ≡ None → ((k : ℕ) → k < 4096 → byte_on page.value k ≡ 244)
+    → ((k : ℕ) → k < 4096 → mark_on page.value k ≡ unused_mark k) → IsMaking old (set new i (Some page)) first (i + 1)
 making_more old new first i page so low inside unmade bytes marks =
     let here : is_some (get_or (set new i (Some page)) i None) ≡ true = ap is_some (get_or-set_same new i (Some page) None inside) in
     record {
@@ -174,10 +194,13 @@ making_more old new first i page so low inside unmade bytes marks =
       ];
       needed = λ j is. elim (cases_eq j i) [
         | inl e ↦ inr (omega (arith, e, low), omega (arith, e))
-        | inr ne ↦ elim (so.needed j (ap is_some (sym (get_or-set_other new i j (Some page) None ne)) ∙ is)) [ inl was ↦ inl was | inr r ↦ inr (r.0, omega (arith, r.1)) ]
+        | inr ne ↦ elim (so.needed j (ap is_some (sym (get_or-set_other new i j (Some page) None ne))
+            ∙ is)) [ inl was ↦ inl was | inr r ↦ inr (r.0, omega (arith, r.1)) ]
       ];
-      bytes = λ k. one_page byte_if_made new i (Some page) k inside (λ e. bytes (k % 4096) (omega arith) ∙ ap (λ (o : Slot). byte_if_made o (k % 4096)) (sym unmade)) ∙ so.bytes k;
-      marks = λ k. one_page mark_if_made new i (Some page) k inside (λ e. marks (k % 4096) (omega arith) ∙ ap (λ (o : Slot). mark_if_made o (k % 4096)) (sym unmade)) ∙ so.marks k;
+      bytes = λ k. one_page byte_if_made new i (Some page) k inside (λ e. bytes (k % 4096) (omega arith)
+          ∙ ap (λ (o : Slot). byte_if_made o (k % 4096)) (sym unmade)) ∙ so.bytes k;
+      marks = λ k. one_page mark_if_made new i (Some page) k inside (λ e. marks (k % 4096) (omega arith)
+          ∙ ap (λ (o : Slot). mark_if_made o (k % 4096)) (sym unmade)) ∙ so.marks k;
     }
 
 -- a page that is not made is none

@@ -1,5 +1,7 @@
 -- What a text is seen as, after a change of its table.
-use Rattle.std.proofs.Common.{◌≡◌, ◌≢◌, ℕ, ◌+◌, ◌-◌, ◌*◌, ◌/◌, ◌%◌, ◌<◌, ◌≤◌, Bool, true, false, suc, zero, List, ◌∷◌, ◌++◌, map, length, get_or, set, take, drop, replicate, None, arith, ◌⊎◌, refl, sym, ap, subst, ◌∙◌, inl, inr, append-nil, min}
+use Rattle.std.proofs.Common.{◌≡◌, ◌≢◌, ℕ, ◌+◌, ◌-◌, ◌*◌, ◌/◌, ◌%◌, ◌<◌, ◌≤◌, Bool, true, false, suc, zero, List, ◌∷◌, ◌++◌}
+use Rattle.std.proofs.Common.{map, length, get_or, set, take, drop, replicate, None, arith, ◌⊎◌, refl, sym, ap, subst, ◌∙◌, inl}
+use Rattle.std.proofs.Common.{inr, append-nil, min}
 use Rattle.std.specs.Option.{is_some}
 use Rattle.std.proofs.lemmas.Bool.{cases_lt}
 use Rattle.std.proofs.lemmas.Bool.Decides.{nat_tests}
@@ -17,7 +19,8 @@ use Rattle.nc_text.proofs.SpanElements.{is_with_span, length-with_span}
 use Rattle.nc_text.proofs.Tables.{same_all, same_but_one, made_at, unused_mark_on}
 
 -- a list that was lent whole and came back as long
-pub whole_slice : {X : Type 0} → (new old : List X) (n : ℕ) → n ≡ length old → length new ≡ length old → take n (new ++ drop (length new) old) ≡ new
+pub whole_slice : {X : Type 0} → (new old : List X) (n : ℕ) → n ≡ length old → length new ≡ length old
+    → take n (new ++ drop (length new) old) ≡ new
 whole_slice new old n e long =
     ap (λ xs. take n (new ++ xs)) (drop_all (length new) old (omega arith)) ∙ (ap (take n) (append-nil new) ∙ take_all n new (omega arith))
 
@@ -85,7 +88,8 @@ span_seen old new size start marks fits within below above bytes made =
     ])) made
 
 -- a text with one byte put is one if it is closed
-pub text_with_byte : (marked : MarkedText) (at byte : ℕ) → IsText marked → IsClosed (with_byte marked at byte).bytes marked.marks → IsText (with_byte marked at byte)
+pub text_with_byte : (marked : MarkedText) (at byte : ℕ) → IsText marked → IsClosed (with_byte marked at byte).bytes marked.marks
+    → IsText (with_byte marked at byte)
 text_with_byte marked at byte is closed =
     let long = length-set marked.bytes (at - 65536) byte in
     record {
@@ -95,7 +99,8 @@ text_with_byte marked at byte is closed =
     }
 
 -- so is one with the marks of a span set
-pub text_with_marks : (marked : MarkedText) (at : ℕ) (marks : List Mark) → (at - 65536) + length marks ≤ length marked.bytes → IsText marked → IsClosed marked.bytes (with_marks marked at marks).marks → IsText (with_marks marked at marks)
+pub text_with_marks : (marked : MarkedText) (at : ℕ) (marks : List Mark) → (at - 65536) + length marks ≤ length marked.bytes
+    → IsText marked → IsClosed marked.bytes (with_marks marked at marks).marks → IsText (with_marks marked at marks)
 text_with_marks marked at marks fits is closed =
     record {
       lawful = is.lawful;
@@ -110,11 +115,17 @@ pub record IsSeenAs (table : List Slot) (size : ℕ) (new : TextState) : Type 0 
   pub long : length table ≡ (size + 4095) / 4096
 
 -- and what they then keep
-pub keeps_invariant : (table : List Slot) (size : ℕ) (new : TextState) → IsSeenAs table size new → IsText (text_of table size).marked × (length table ≡ (size + 4095) / 4096)
+pub keeps_invariant : (table : List Slot) (size : ℕ) (new : TextState) → IsSeenAs table size new
+    → IsText (text_of table size).marked × (length table ≡ (size + 4095) / 4096)
 keeps_invariant table size new is = (subst (λ (t : TextState). IsText t.marked) (sym is.seen) is.whole, is.long)
 
 -- a byte was put into a table that was lent
-pub put_done : (old lent new : List Slot) (size n at byte : ℕ) (now : TextState) → lent ≡ old → n ≡ length old → length new ≡ length lent → text_of old size ≡ now → IsText (text_of old size).marked × (length old ≡ (size + 4095) / 4096) → InRegion now.marked.bytes at → byte_of new (at - 65536) ≡ byte → ((k : ℕ) → k ≢ at - 65536 → byte_of new k ≡ byte_of lent k) → ((k : ℕ) → mark_of new k ≡ mark_of lent k) → map is_some new ≡ map is_some lent → IsClosed (with_byte now.marked at byte).bytes now.marked.marks → IsSeenAs (take n (new ++ drop (length new) old)) size (state (with_byte now.marked at byte) now.made)
+pub put_done : (old lent new : List Slot) (size n at byte : ℕ) (now : TextState) → lent ≡ old → n ≡ length old → length new ≡ length lent
+    → text_of old size ≡ now → IsText (text_of old size).marked × (length old ≡ (size + 4095) / 4096) → InRegion now.marked.bytes at →
+    byte_of new (at - 65536) ≡ byte → ((k : ℕ) → k ≢ at - 65536 → byte_of new k ≡ byte_of lent k)
+    → ((k : ℕ) → mark_of new k ≡ mark_of lent k) → map is_some new ≡ map is_some lent
+    → IsClosed (with_byte now.marked at byte).bytes now.marked.marks → IsSeenAs (take n (new ++ drop (length new) old)) size
+    (state (with_byte now.marked at byte) now.made)
 put_done old lent new size n at byte now loan many long view kept inside here other marks made closed =
     let long_old : length (text_of old size).marked.bytes ≡ size = bytes_long old size in
     let same : length (text_of old size).marked.bytes ≡ length now.marked.bytes = ap (λ (t : TextState). length t.marked.bytes) view in
@@ -132,7 +143,13 @@ put_done old lent new size n at byte now loan many long view kept inside here ot
     }
 
 -- the marks of a span were set in a table that was lent
-pub span_done : (old lent new : List Slot) (size n at : ℕ) (marks : List Mark) (now : TextState) → lent ≡ old → n ≡ length old → length new ≡ length lent → text_of old size ≡ now → IsText (text_of old size).marked × (length old ≡ (size + 4095) / 4096) → at - 65536 + length marks ≤ length now.marked.bytes → ((k : ℕ) → at - 65536 ≤ k → k < at - 65536 + length marks → mark_of new k ≡ get_or marks (k - (at - 65536)) Unmarked) → ((k : ℕ) → k < at - 65536 → mark_of new k ≡ mark_of lent k) → ((k : ℕ) → at - 65536 + length marks ≤ k → mark_of new k ≡ mark_of lent k) → ((k : ℕ) → byte_of new k ≡ byte_of lent k) → map is_some new ≡ map is_some lent → IsClosed now.marked.bytes (with_marks now.marked at marks).marks → IsSeenAs (take n (new ++ drop (length new) old)) size (state (with_marks now.marked at marks) now.made)
+pub span_done : (old lent new : List Slot) (size n at : ℕ) (marks : List Mark) (now : TextState) → lent ≡ old → n ≡ length old
+    → length new ≡ length lent → text_of old size ≡ now → IsText (text_of old size).marked × (length old ≡ (size + 4095) / 4096) → at -
+    65536 + length marks ≤ length now.marked.bytes → ((k : ℕ) → at - 65536 ≤ k → k < at - 65536 + length marks
+    → mark_of new k ≡ get_or marks (k - (at - 65536)) Unmarked) → ((k : ℕ) → k < at - 65536 → mark_of new k ≡ mark_of lent k) →
+    ((k : ℕ) → at - 65536 + length marks ≤ k → mark_of new k ≡ mark_of lent k) → ((k : ℕ) → byte_of new k ≡ byte_of lent k)
+    → map is_some new ≡ map is_some lent → IsClosed now.marked.bytes (with_marks now.marked at marks).marks → IsSeenAs
+    (take n (new ++ drop (length new) old)) size (state (with_marks now.marked at marks) now.made)
 span_done old lent new size n at marks now loan many long view kept fits within below above bytes made closed =
     let long_old : length (text_of old size).marked.bytes ≡ size = bytes_long old size in
     let same : length (text_of old size).marked.bytes ≡ length now.marked.bytes = ap (λ (t : TextState). length t.marked.bytes) view in
@@ -151,7 +168,8 @@ span_done old lent new size n at marks now loan many long view kept fits within 
     }
 
 -- a place that is ready lies on a page of the table that is made
-pub ready_made : (old lent : List Slot) (size at k : ℕ) (now : TextState) → lent ≡ old → text_of old size ≡ now → 65536 ≤ at → IsReady now.made (at + k) → is_some (get_or lent ((at - 65536 + k) / 4096) None) ≡ true
+pub ready_made : (old lent : List Slot) (size at k : ℕ) (now : TextState) → lent ≡ old → text_of old size ≡ now → 65536 ≤ at
+    → IsReady now.made (at + k) → is_some (get_or lent ((at - 65536 + k) / 4096) None) ≡ true
 ready_made old lent size at k now loan view low ready =
     let moved : at + k - 65536 ≡ at - 65536 + k = omega arith in
     let here = subst (λ (j : ℕ). get_or now.made (j / 4096) false ≡ true) moved ready in
@@ -159,29 +177,36 @@ ready_made old lent size at k now loan view low ready =
     ∙ (sym (made_at old ((at - 65536 + k) / 4096)) ∙ (ap (λ (t : TextState). get_or t.made ((at - 65536 + k) / 4096) false) view ∙ here))
 
 -- and the other way round
-pub made_ready : (table : List Slot) (size at k : ℕ) (now : TextState) → text_of table size ≡ now → 65536 ≤ at → is_some (get_or table ((at - 65536 + k) / 4096) None) ≡ true → IsReady now.made (at + k)
+pub made_ready : (table : List Slot) (size at k : ℕ) (now : TextState) → text_of table size ≡ now → 65536 ≤ at
+    → is_some (get_or table ((at - 65536 + k) / 4096) None) ≡ true → IsReady now.made (at + k)
 made_ready table size at k now view low made =
     let moved : at - 65536 + k ≡ at + k - 65536 = omega arith in
     subst (λ (j : ℕ). get_or now.made (j / 4096) false ≡ true) moved
     (sym (ap (λ (t : TextState). get_or t.made ((at - 65536 + k) / 4096) false) view) ∙ (made_at table ((at - 65536 + k) / 4096) ∙ made))
 
 -- each page of a span has a place of it
-pub place_on : (start len i last : ℕ) → 0 < len → start / 4096 ≤ i → i < last → last ≡ (start + len) / 4096 + min 1 ((start + len) % 4096) → (4096 * i - start < len) × ((start + (4096 * i - start)) / 4096 ≡ i)
+pub place_on : (start len i last : ℕ) → 0 < len → start / 4096 ≤ i → i < last → last ≡ (start + len) / 4096 + min 1 ((start + len) % 4096)
+    → (4096 * i - start < len) × ((start + (4096 * i - start)) / 4096 ≡ i)
 place_on start len i last some low high is = (omega arith, omega arith)
 
 -- and each place lies on a page of it
-pub page_within : (start len k last : ℕ) → k < len → last ≡ (start + len) / 4096 + min 1 ((start + len) % 4096) → (start / 4096 ≤ (start + k) / 4096) × ((start + k) / 4096 < last)
+pub page_within : (start len k last : ℕ) → k < len → last ≡ (start + len) / 4096 + min 1 ((start + len) % 4096)
+    → (start / 4096 ≤ (start + k) / 4096) × ((start + k) / 4096 < last)
 page_within start len k last within is = (omega arith, omega arith)
 
 -- the pages of a span that is ready are made
-pub all_made : (table : List Slot) (size at len last : ℕ) (now : TextState) → text_of table size ≡ now → 65536 ≤ at → 0 < len → last ≡ (at - 65536 + len) / 4096 + min 1 ((at - 65536 + len) % 4096) → AreReady now.made at len → (i : ℕ) → (at - 65536) / 4096 ≤ i → i < last → is_some (get_or table i None) ≡ true
+pub all_made : (table : List Slot) (size at len last : ℕ) (now : TextState) → text_of table size ≡ now → 65536 ≤ at → 0 < len
+    → last ≡ (at - 65536 + len) / 4096 + min 1 ((at - 65536 + len) % 4096) → AreReady now.made at len → (i : ℕ) → (at - 65536) / 4096 ≤ i
+    → i < last → is_some (get_or table i None) ≡ true
 all_made table size at len last now view low some end ready i from below =
     let on = place_on (at - 65536) len i last some from below end in
     subst (λ (j : ℕ). is_some (get_or table j None) ≡ true) on.1
     (ready_made table table size at (4096 * i - (at - 65536)) now refl view low (ready (4096 * i - (at - 65536)) on.0))
 
 -- and a span is ready whose pages are made
-pub all_ready : (table : List Slot) (size at len last : ℕ) (now : TextState) → text_of table size ≡ now → 65536 ≤ at → last ≡ (at - 65536 + len) / 4096 + min 1 ((at - 65536 + len) % 4096) → ((i : ℕ) → (at - 65536) / 4096 ≤ i → i < last → is_some (get_or table i None) ≡ true) → AreReady now.made at len
+pub all_ready : (table : List Slot) (size at len last : ℕ) (now : TextState) → text_of table size ≡ now → 65536 ≤ at
+    → last ≡ (at - 65536 + len) / 4096 + min 1 ((at - 65536 + len) % 4096) →
+    ((i : ℕ) → (at - 65536) / 4096 ≤ i → i < last → is_some (get_or table i None) ≡ true) → AreReady now.made at len
 all_ready table size at len last now view low end made =
     λ k within.
     let on = page_within (at - 65536) len k last within end in
@@ -192,15 +217,21 @@ abbrev pub with_made : TextState → List Slot → TextState
 with_made now new = state now.marked (map is_some new)
 
 -- where only pages were made, bytes and marks are as they were
-pub made_seen : (old lent new : List Slot) (size : ℕ) (now : TextState) → lent ≡ old → text_of old size ≡ now → ((k : ℕ) → byte_of new k ≡ byte_of lent k) → ((k : ℕ) → mark_of new k ≡ mark_of lent k) → text_of new size ≡ with_made now new
+pub made_seen : (old lent new : List Slot) (size : ℕ) (now : TextState) → lent ≡ old → text_of old size ≡ now
+    → ((k : ℕ) → byte_of new k ≡ byte_of lent k) → ((k : ℕ) → mark_of new k ≡ mark_of lent k) → text_of new size ≡ with_made now new
 made_seen old lent new size now loan view bytes marks =
     state_is _ _ _ _ _ _
-    (same_all 0 (byte_of old) (byte_of new) size (λ k lt. bytes k ∙ ap (λ (ps : List Slot). byte_of ps k) loan) ∙ ap (λ (t : TextState). t.marked.bytes) view)
-    (same_all Unmarked (mark_of old) (mark_of new) size (λ k lt. marks k ∙ ap (λ (ps : List Slot). mark_of ps k) loan) ∙ ap (λ (t : TextState). t.marked.marks) view)
+    (same_all 0 (byte_of old) (byte_of new) size (λ k lt. bytes k ∙ ap (λ (ps : List Slot). byte_of ps k) loan)
+    ∙ ap (λ (t : TextState). t.marked.bytes) view)
+    (same_all Unmarked (mark_of old) (mark_of new) size (λ k lt. marks k ∙ ap (λ (ps : List Slot). mark_of ps k) loan)
+    ∙ ap (λ (t : TextState). t.marked.marks) view)
     refl
 
 -- pages were made in a table that was lent
-pub make_done : (old lent new : List Slot) (size n : ℕ) (now : TextState) → lent ≡ old → n ≡ length old → length new ≡ length lent → text_of old size ≡ now → IsText (text_of old size).marked × (length old ≡ (size + 4095) / 4096) → ((k : ℕ) → byte_of new k ≡ byte_of lent k) → ((k : ℕ) → mark_of new k ≡ mark_of lent k) → IsSeenAs (take n (new ++ drop (length new) old)) size (with_made now new)
+pub make_done : (old lent new : List Slot) (size n : ℕ) (now : TextState) → lent ≡ old → n ≡ length old → length new ≡ length lent
+    → text_of old size ≡ now → IsText (text_of old size).marked × (length old ≡ (size + 4095) / 4096) →
+    ((k : ℕ) → byte_of new k ≡ byte_of lent k) → ((k : ℕ) → mark_of new k ≡ mark_of lent k)
+    → IsSeenAs (take n (new ++ drop (length new) old)) size (with_made now new)
 make_done old lent new size n now loan many long view kept bytes marks =
     let many_lent : length lent ≡ length old = ap (λ (ps : List Slot). length ps) loan in
     let table = whole_slice new old n many (long ∙ many_lent) in
@@ -212,7 +243,8 @@ make_done old lent new size n now loan many long view kept bytes marks =
     }
 
 -- a place on a page of the span
-meets : (at len place last : ℕ) → 65536 ≤ at → 0 < len → last ≡ (at - 65536 + len) / 4096 + min 1 ((at - 65536 + len) % 4096) → (at - 65536) / 4096 ≤ (place - 65536) / 4096 → (place - 65536) / 4096 < last → SharesPage at len place
+meets : (at len place last : ℕ) → 65536 ≤ at → 0 < len → last ≡ (at - 65536 + len) / 4096 + min 1 ((at - 65536 + len) % 4096)
+    → (at - 65536) / 4096 ≤ (place - 65536) / 4096 → (place - 65536) / 4096 < last → SharesPage at len place
 meets at len place last low some end from below =
     let on = place_on (at - 65536) len ((place - 65536) / 4096) last some from below end in
     record {
@@ -222,10 +254,15 @@ meets at len place last low some end from below =
     }
 
 -- only pages of the span were made
-pub gets_ready : (old lent new : List Slot) (size at len last : ℕ) (now : TextState) → lent ≡ old → text_of old size ≡ now → 65536 ≤ at → 0 < len → last ≡ (at - 65536 + len) / 4096 + min 1 ((at - 65536 + len) % 4096) → ((i : ℕ) → is_some (get_or lent i None) ≡ true → is_some (get_or new i None) ≡ true) → ((i : ℕ) → is_some (get_or new i None) ≡ true → (is_some (get_or lent i None) ≡ true) ⊎ (((at - 65536) / 4096 ≤ i) × (i < last))) → GetsReady now.made (with_made now new).made at len
+pub gets_ready : (old lent new : List Slot) (size at len last : ℕ) (now : TextState) → lent ≡ old → text_of old size ≡ now → 65536 ≤ at
+    → 0 < len → last ≡ (at - 65536 + len) / 4096 + min 1 ((at - 65536 + len) % 4096) →
+    ((i : ℕ) → is_some (get_or lent i None) ≡ true → is_some (get_or new i None) ≡ true)
+    → ((i : ℕ) → is_some (get_or new i None) ≡ true → (is_some (get_or lent i None) ≡ true) ⊎ (((at - 65536) / 4096 ≤ i) × (i < last)))
+    → GetsReady now.made (with_made now new).made at len
 gets_ready old lent new size at len last now loan view low some end keeps needs =
     let page = λ (place : ℕ). (place - 65536) / 4096 in
-    let seen = λ (i : ℕ). ap (λ (ps : List Slot). is_some (get_or ps i None)) loan ∙ (sym (made_at old i) ∙ ap (λ (t : TextState). get_or t.made i false) view) in
+    let seen = λ (i : ℕ). ap (λ (ps : List Slot). is_some (get_or ps i None)) loan
+    ∙ (sym (made_at old i) ∙ ap (λ (t : TextState). get_or t.made i false) view) in
     record {
       kept = λ place was. made_at new (page place) ∙ keeps (page place) (seen (page place) ∙ was);
       needed = λ place is. elim (needs (page place) (sym (made_at new (page place)) ∙ is)) [
@@ -242,6 +279,7 @@ unused_mark_up k = let e : (65536 + k) % 32 ≡ k % 32 = omega arith in grind (a
 abbrev pub unmade : Slot
 unmade = None
 
+-- none at any number
 pub unmade_at : (n i : ℕ) → get_or (replicate n unmade) i None ≡ None
 unmade_at n i =
     elim (cases_lt i n) [

@@ -1,6 +1,7 @@
 //! A table of pages: bytes and marks by their numbers from the region's first place on.
 
-ghost use Rattle.std.specs.Prelude.{◌≡◌, ◌≢◌, ℕ, ◌+◌, ◌/◌, ◌%◌, ◌<◌, ◌≤◌, ◌⊎◌, ◌↔◌, IsTrue, All, length, map, true, None, IfOk, slice_index_or, replicate, ◌^◌};
+ghost use Rattle.std.specs.Prelude.{◌≡◌, ◌≢◌, ℕ, ◌+◌, ◌/◌, ◌%◌, ◌<◌, ◌≤◌, ◌⊎◌, ◌↔◌, IsTrue, All, length, map, true, None, IfOk};
+ghost use Rattle.std.specs.Prelude.{slice_index_or, replicate, ◌^◌};
 ghost use Rattle.nc_decode.specs.declared.instruction.Mark.TheVariants.{Unmarked};
 ghost use Rattle.std.specs.Option.{is_some};
 ghost use Rattle.nc_text.specs.machinery.Pages.{byte_on, mark_on, byte_of, mark_of, page_of};
@@ -167,7 +168,8 @@ pub(crate) fn make(
     ensures marks { (k : ℕ) → mark_of pages.new k ≡ mark_of pages.old k }
 {
     for i in first..last {
-        if pages[i].is_none() {
+        let missing = pages[i].is_none();
+        if missing {
             let Ok(page) = boxed_page(alloc) else {
                 return Err(AllocError);
             };

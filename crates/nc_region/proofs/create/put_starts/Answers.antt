@@ -41,7 +41,8 @@ loop-bundle-preserved g c =
     let start : (base + i) % 32 ≡ 0 = omega (arith, c.requires.placed.start) in
     let none : (j : ℕ) → j < 31 → (base + (i + 1 + j)) % 32 ≢ 0 = λ j lt is. omega (arith, start, lt, is) in
     let more : i + 1 + 31 ≡ 32 * (c.loop-bundle.bundle + 1) = omega arith in
-    let put = start_put old.bytes now.bytes base c.args.code.now i c.requires.placed.low (omega (arith, c.requires.placed.high)) (omega arith)
+    let put = start_put old.bytes now.bytes base c.args.code.now i c.requires.placed.low (omega (arith, c.requires.placed.high))
+    (omega arith)
     c.loop-bundle.invariant.bytes in
     let told = told_put is_start base c.args.code.now i _ _ _ (omega arith) (is_start_true (base + i) start) c.loop-bundle.invariant.told
     c.put.ensures.told in

@@ -14,7 +14,8 @@ use Rattle.nc_region.proofs.delete.stop_marked.Goals.{then-is_mark, else-is_mark
 
 pub put-requires-clause-ready : goal.put-requires-clause-ready
 put-requires-clause-ready g c =
-    subst (λ (made : List Bool). IsReady made (c.args.base + c.loop-i.i)) (sym c.loop-i.invariant.made) (c.requires.ready c.loop-i.i (omega arith))
+    subst (λ (made : List Bool). IsReady made (c.args.base + c.loop-i.i)) (sym c.loop-i.invariant.made)
+    (c.requires.ready c.loop-i.i (omega arith))
 
 pub put-requires-clause-closed : goal.put-requires-clause-closed
 put-requires-clause-closed g c =

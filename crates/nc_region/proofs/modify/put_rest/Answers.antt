@@ -11,7 +11,8 @@ use Rattle.nc_region.proofs.modify.put_rest.Goals as goal
 
 pub put-requires-clause-ready : goal.put-requires-clause-ready
 put-requires-clause-ready g c =
-    subst (λ (made : List Bool). IsReady made (c.args.at + 1 + c.loop-i.i)) (sym c.loop-i.invariant.made) (ready_place _ c.args.at (1 + length c.args.rest.now) (c.args.at + 1 + c.loop-i.i) c.requires.ready (omega arith) (omega arith))
+    subst (λ (made : List Bool). IsReady made (c.args.at + 1 + c.loop-i.i)) (sym c.loop-i.invariant.made)
+    (ready_place _ c.args.at (1 + length c.args.rest.now) (c.args.at + 1 + c.loop-i.i) c.requires.ready (omega arith) (omega arith))
 
 pub put-requires-clause-closed : goal.put-requires-clause-closed
 put-requires-clause-closed g c =

@@ -11,7 +11,8 @@ pub returns-in-Some-clause-marks : goal.returns-in-Some-clause-marks
 returns-in-Some-clause-marks c =
     let inside = made_within c.args.pages.now (c.args.at / 4096) c.requires.ready in
     let e = get_or_default c.args.pages.now (c.args.at / 4096) None c.index-pages-at.result inside ∙ c.in-Some.is in
-    λ k. one_page mark_if_made c.args.pages.now (c.args.at / 4096) (Some (with_value c.in-Some.page c.put.new.self)) k inside (λ _. c.put.ensures.marks (k % 4096) ∙ (ap (λ (p : Page). mark_on p (k % 4096)) c.deref_mut.ensures.value
+    λ k. one_page mark_if_made c.args.pages.now (c.args.at / 4096) (Some (with_value c.in-Some.page c.put.new.self)) k inside
+    (λ _. c.put.ensures.marks (k % 4096) ∙ (ap (λ (p : Page). mark_on p (k % 4096)) c.deref_mut.ensures.value
     ∙ ap (λ (o : Slot). mark_if_made o (k % 4096)) (sym e)))
 
 pub returns-in-Some-clause-made : goal.returns-in-Some-clause-made

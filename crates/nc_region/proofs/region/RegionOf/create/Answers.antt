@@ -86,7 +86,14 @@ put_chunk-requires-clause-chunk g c =
     let v = c.args.vetted in
     let same : v.limit ≡ limit_of (g.A.Acts.marked c.self.inside.acts).bytes = sym c.limit.ensures.value
     ∙ (c.if-limit.false ∙ c.limit-2.ensures.limit) in
-    rw (c.ready.ensures.marked, c.base-base.ensures.value, c.code-2.ensures.value, (c.deref-2.ensures.value ∙ c.in-Ok.ensures.value), ← same)
+    rw (
+      c.ready.ensures.marked,
+      c.base-base.ensures.value,
+      c.code-2.ensures.value,
+      (c.deref-2.ensures.value
+          ∙ c.in-Ok.ensures.value),
+      ← same,
+    )
     (valid_chunk_is_closed v c.code.ensures.valid)
 
 pub put_chunk-requires-clause-registers : goal.put_chunk-requires-clause-registers
@@ -116,7 +123,13 @@ invariant_of-self-2 g c =
     let chunk : IsClosedChunk v.base (limit_of marked.bytes) v.code v.marks =
     subst (λ (l : ℕ). IsClosedChunk v.base l v.code v.marks) same (valid_chunk_is_closed v c.code.ensures.valid) in
     let put : g.A.Acts.marked c.put_chunk.new.acts ≡ with_chunk marked v.base v.code v.marks = c.put_chunk.ensures.marked
-    ∙ rw (c.ready.ensures.marked, c.base-base.ensures.value, c.code-2.ensures.value, (c.deref-2.ensures.value ∙ c.in-Ok.ensures.value)) refl in
+    ∙ rw (
+      c.ready.ensures.marked,
+      c.base-base.ensures.value,
+      c.code-2.ensures.value,
+      (c.deref-2.ensures.value
+          ∙ c.in-Ok.ensures.value),
+    ) refl in
     let list : c.insert_chunk.new.chunks.items ≡ insert c.self.inside.chunks.items c.in-Some.k (live_chunk v) =
     c.insert_chunk.ensures ∙ rw (c.reserve.ensures.items, c.base-base.ensures.value, c.code.ensures.value) refl in
     let region = region_with_chunk marked c.self.inside.chunks.items c.in-Some.k (live_chunk v) v.code v.marks

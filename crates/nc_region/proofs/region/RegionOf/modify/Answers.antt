@@ -162,7 +162,8 @@ invariant_of-self g c =
     let l = lies marked c.in-Some.chunk c.self.invariant.0.whole run.holds in
     let spans : c.is_patch_span.result ≡ true = c.if-not-is_patch_span.false in
     let span = c.is_patch_span.ensures.0 spans in
-    let region = region_patched marked (g.A.Acts.marked c.put_patch.new.acts) c.self.inside.chunks.items c.in-Some.chunk c.args.at c.args.new.now
+    let region = region_patched marked (g.A.Acts.marked c.put_patch.new.acts) c.self.inside.chunks.items c.in-Some.chunk c.args.at
+    c.args.new.now
     (record {
       region = c.self.invariant.0;
       held = held;

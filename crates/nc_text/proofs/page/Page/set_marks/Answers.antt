@@ -16,5 +16,6 @@ returns-clause-others c =
     let all = c.args.self.now.masks in
     let inside : c.args.at / 32 < length all.items = omega (arith, all.ok.0, c.args.self.now.all_masks) in
     λ k out. one_bundle all.items (c.args.at / 32) c.set_from.new.self k inside (λ same.
-    c.set_from.ensures.others (k % 32) (omega arith) (elim out [ inl low ↦ inl (omega (arith, same)) | inr high ↦ inr (omega (arith, same)) ])
+    c.set_from.ensures.others (k % 32) (omega arith) (elim out
+    [ inl low ↦ inl (omega (arith, same)) | inr high ↦ inr (omega (arith, same)) ])
     ∙ ap (λ (m : Masks). mark_in m (k % 32)) (get_or_read all.items (c.args.at / 32) _ inside c.index_mut.ensures.value unused_masks))

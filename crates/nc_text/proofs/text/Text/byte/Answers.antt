@@ -16,5 +16,6 @@ returns c =
     let long = bytes_long c.self.inside.pages.items c.self.inside.size in
     let same = ap (λ (t : TextState). length t.marked.bytes) c.self.view_is in
     c.byte.ensures ∙ (ap (λ (ps : List Slot). byte_of ps (c.args.at - 65536)) c.deref.ensures.value
-    ∙ (sym (byte_seen c.self.inside.pages.items c.self.inside.size (c.args.at - 65536) (omega (arith, long, same, c.requires.0, c.requires.1)))
+    ∙ (sym (byte_seen c.self.inside.pages.items c.self.inside.size (c.args.at - 65536)
+    (omega (arith, long, same, c.requires.0, c.requires.1)))
     ∙ ap (λ (t : TextState). get_or t.marked.bytes (c.args.at - 65536) 0) c.self.view_is))

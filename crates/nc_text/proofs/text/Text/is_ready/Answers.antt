@@ -18,8 +18,11 @@ pub returns : goal.returns
 returns c =
     let first = c.requires.inside 0 (omega arith) in
     let low : 65536 ≤ c.args.at = omega (arith, first.0) in (
-      λ yes_all. all_ready c.self.inside.pages.items c.self.inside.size c.args.at c.args.len c.div_ceil-end.result c.args.self.now c.self.view_is low c.div_ceil-end.ensures
-          (λ i from below. ap (λ (ps : List Slot). is_some (get_or ps i None)) (sym c.deref.ensures.value) ∙ c.are_made.ensures.0 yes_all i from below),
+      λ yes_all. all_ready c.self.inside.pages.items c.self.inside.size c.args.at c.args.len c.div_ceil-end.result c.args.self.now
+          c.self.view_is low c.div_ceil-end.ensures
+          (λ i from below. ap (λ (ps : List Slot). is_some (get_or ps i None)) (sym c.deref.ensures.value)
+          ∙ c.are_made.ensures.0 yes_all i from below),
       λ ready. c.are_made.ensures.1 (λ i from below. ap (λ (ps : List Slot). is_some (get_or ps i None)) c.deref.ensures.value
-          ∙ all_made c.self.inside.pages.items c.self.inside.size c.args.at c.args.len c.div_ceil-end.result c.args.self.now c.self.view_is low (omega arith) c.div_ceil-end.ensures ready i from below),
+          ∙ all_made c.self.inside.pages.items c.self.inside.size c.args.at c.args.len c.div_ceil-end.result c.args.self.now
+          c.self.view_is low (omega arith) c.div_ceil-end.ensures ready i from below),
     )

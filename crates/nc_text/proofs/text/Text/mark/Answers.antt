@@ -17,5 +17,6 @@ returns c =
     let long = bytes_long c.self.inside.pages.items c.self.inside.size in
     let same = ap (λ (t : TextState). length t.marked.bytes) c.self.view_is in
     c.mark.ensures ∙ (ap (λ (ps : List Slot). mark_of ps (c.args.at - 65536)) c.deref.ensures.value
-    ∙ (sym (mark_seen c.self.inside.pages.items c.self.inside.size (c.args.at - 65536) (omega (arith, long, same, c.requires.0, c.requires.1)))
+    ∙ (sym (mark_seen c.self.inside.pages.items c.self.inside.size (c.args.at - 65536)
+    (omega (arith, long, same, c.requires.0, c.requires.1)))
     ∙ ap (λ (t : TextState). get_or t.marked.marks (c.args.at - 65536) Unmarked) c.self.view_is))

@@ -9,7 +9,8 @@ use Rattle.nc_text.proofs.text.Text.mark_span.Goals as goal
 pub set_span-requires-clause-ready : goal.set_span-requires-clause-ready
 set_span-requires-clause-ready c = λ k lt.
     let first = c.requires.inside 0 (omega arith) in
-    ready_made c.self.inside.pages.items c.deref_mut.result.now c.self.inside.size c.args.at k c.args.self.now c.deref_mut.ensures.value c.self.view_is (omega (arith, first.0)) (c.requires.ready k lt)
+    ready_made c.self.inside.pages.items c.deref_mut.result.now c.self.inside.size c.args.at k c.args.self.now c.deref_mut.ensures.value
+    c.self.view_is (omega (arith, first.0)) (c.requires.ready k lt)
 
 pub invariant_of-self : goal.invariant_of-self
 invariant_of-self c =
@@ -17,8 +18,11 @@ invariant_of-self c =
     let some : 0 < length c.args.marks.now = grind (arith, nat_tests, c.is_empty.ensures, c.if-is_empty.false) in
     let first = c.requires.inside 0 some in
     let last = c.requires.inside (length c.args.marks.now - 1) (omega arith) in
-    span_done c.self.inside.pages.items c.deref_mut.result.now c.set_span.new.pages c.self.inside.size c.self.inside.pages.len c.args.at c.args.marks.now c.args.self.now c.deref_mut.ensures.value (omega (arith, c.self.inside.pages.ok.0)) c.set_span.auto.pages c.self.view_is c.self.invariant (omega (arith, first.0, last.1))
-    (λ k low high. subst (λ (j : ℕ). mark_of c.set_span.new.pages j ≡ get_or c.args.marks.now (k - (c.args.at - 65536)) Unmarked) (omega arith) (c.set_span.ensures.within (k - (c.args.at - 65536)) (omega arith)))
+    span_done c.self.inside.pages.items c.deref_mut.result.now c.set_span.new.pages c.self.inside.size c.self.inside.pages.len c.args.at
+    c.args.marks.now c.args.self.now c.deref_mut.ensures.value (omega (arith, c.self.inside.pages.ok.0)) c.set_span.auto.pages
+    c.self.view_is c.self.invariant (omega (arith, first.0, last.1))
+    (λ k low high. subst (λ (j : ℕ). mark_of c.set_span.new.pages j ≡ get_or c.args.marks.now (k - (c.args.at - 65536)) Unmarked)
+    (omega arith) (c.set_span.ensures.within (k - (c.args.at - 65536)) (omega arith)))
     c.set_span.ensures.below c.set_span.ensures.above c.set_span.ensures.bytes c.set_span.ensures.made c.requires.closed in
     keeps_invariant _ _ _ done
 
@@ -28,8 +32,11 @@ returns-clause-marked c =
     let some : 0 < length c.args.marks.now = grind (arith, nat_tests, c.is_empty.ensures, c.if-is_empty.false) in
     let first = c.requires.inside 0 some in
     let last = c.requires.inside (length c.args.marks.now - 1) (omega arith) in
-    span_done c.self.inside.pages.items c.deref_mut.result.now c.set_span.new.pages c.self.inside.size c.self.inside.pages.len c.args.at c.args.marks.now c.args.self.now c.deref_mut.ensures.value (omega (arith, c.self.inside.pages.ok.0)) c.set_span.auto.pages c.self.view_is c.self.invariant (omega (arith, first.0, last.1))
-    (λ k low high. subst (λ (j : ℕ). mark_of c.set_span.new.pages j ≡ get_or c.args.marks.now (k - (c.args.at - 65536)) Unmarked) (omega arith) (c.set_span.ensures.within (k - (c.args.at - 65536)) (omega arith)))
+    span_done c.self.inside.pages.items c.deref_mut.result.now c.set_span.new.pages c.self.inside.size c.self.inside.pages.len c.args.at
+    c.args.marks.now c.args.self.now c.deref_mut.ensures.value (omega (arith, c.self.inside.pages.ok.0)) c.set_span.auto.pages
+    c.self.view_is c.self.invariant (omega (arith, first.0, last.1))
+    (λ k low high. subst (λ (j : ℕ). mark_of c.set_span.new.pages j ≡ get_or c.args.marks.now (k - (c.args.at - 65536)) Unmarked)
+    (omega arith) (c.set_span.ensures.within (k - (c.args.at - 65536)) (omega arith)))
     c.set_span.ensures.below c.set_span.ensures.above c.set_span.ensures.bytes c.set_span.ensures.made c.requires.closed in
     ap (λ (t : TextState). t.marked) done.seen
 
@@ -39,8 +46,11 @@ returns-clause-made c =
     let some : 0 < length c.args.marks.now = grind (arith, nat_tests, c.is_empty.ensures, c.if-is_empty.false) in
     let first = c.requires.inside 0 some in
     let last = c.requires.inside (length c.args.marks.now - 1) (omega arith) in
-    span_done c.self.inside.pages.items c.deref_mut.result.now c.set_span.new.pages c.self.inside.size c.self.inside.pages.len c.args.at c.args.marks.now c.args.self.now c.deref_mut.ensures.value (omega (arith, c.self.inside.pages.ok.0)) c.set_span.auto.pages c.self.view_is c.self.invariant (omega (arith, first.0, last.1))
-    (λ k low high. subst (λ (j : ℕ). mark_of c.set_span.new.pages j ≡ get_or c.args.marks.now (k - (c.args.at - 65536)) Unmarked) (omega arith) (c.set_span.ensures.within (k - (c.args.at - 65536)) (omega arith)))
+    span_done c.self.inside.pages.items c.deref_mut.result.now c.set_span.new.pages c.self.inside.size c.self.inside.pages.len c.args.at
+    c.args.marks.now c.args.self.now c.deref_mut.ensures.value (omega (arith, c.self.inside.pages.ok.0)) c.set_span.auto.pages
+    c.self.view_is c.self.invariant (omega (arith, first.0, last.1))
+    (λ k low high. subst (λ (j : ℕ). mark_of c.set_span.new.pages j ≡ get_or c.args.marks.now (k - (c.args.at - 65536)) Unmarked)
+    (omega arith) (c.set_span.ensures.within (k - (c.args.at - 65536)) (omega arith)))
     c.set_span.ensures.below c.set_span.ensures.above c.set_span.ensures.bytes c.set_span.ensures.made c.requires.closed in
     ap (λ (t : TextState). t.made) done.seen
 
@@ -50,7 +60,10 @@ returns-clause-whole c =
     let some : 0 < length c.args.marks.now = grind (arith, nat_tests, c.is_empty.ensures, c.if-is_empty.false) in
     let first = c.requires.inside 0 some in
     let last = c.requires.inside (length c.args.marks.now - 1) (omega arith) in
-    span_done c.self.inside.pages.items c.deref_mut.result.now c.set_span.new.pages c.self.inside.size c.self.inside.pages.len c.args.at c.args.marks.now c.args.self.now c.deref_mut.ensures.value (omega (arith, c.self.inside.pages.ok.0)) c.set_span.auto.pages c.self.view_is c.self.invariant (omega (arith, first.0, last.1))
-    (λ k low high. subst (λ (j : ℕ). mark_of c.set_span.new.pages j ≡ get_or c.args.marks.now (k - (c.args.at - 65536)) Unmarked) (omega arith) (c.set_span.ensures.within (k - (c.args.at - 65536)) (omega arith)))
+    span_done c.self.inside.pages.items c.deref_mut.result.now c.set_span.new.pages c.self.inside.size c.self.inside.pages.len c.args.at
+    c.args.marks.now c.args.self.now c.deref_mut.ensures.value (omega (arith, c.self.inside.pages.ok.0)) c.set_span.auto.pages
+    c.self.view_is c.self.invariant (omega (arith, first.0, last.1))
+    (λ k low high. subst (λ (j : ℕ). mark_of c.set_span.new.pages j ≡ get_or c.args.marks.now (k - (c.args.at - 65536)) Unmarked)
+    (omega arith) (c.set_span.ensures.within (k - (c.args.at - 65536)) (omega arith)))
     c.set_span.ensures.below c.set_span.ensures.above c.set_span.ensures.bytes c.set_span.ensures.made c.requires.closed in
     (keeps_invariant _ _ _ done).0

@@ -15,51 +15,77 @@ make-requires-clause-inside c =
 
 pub invariant_of-self : goal.invariant_of-self
 invariant_of-self c =
-    let done = make_done c.self.inside.pages.items c.deref_mut.result.now c.make.new.pages c.self.inside.size c.self.inside.pages.len c.args.self.now c.deref_mut.ensures.value (omega (arith, c.self.inside.pages.ok.0)) c.make.auto.pages c.self.view_is c.self.invariant c.make.ensures.bytes c.make.ensures.marks in
+    let done = make_done c.self.inside.pages.items c.deref_mut.result.now c.make.new.pages c.self.inside.size c.self.inside.pages.len
+    c.args.self.now c.deref_mut.ensures.value (omega (arith, c.self.inside.pages.ok.0)) c.make.auto.pages c.self.view_is c.self.invariant
+    c.make.ensures.bytes c.make.ensures.marks in
     keeps_invariant _ _ _ done
 
 pub invariant_of-self-2 : goal.invariant_of-self-2
 invariant_of-self-2 c =
-    let done = make_done c.self.inside.pages.items c.deref_mut.result.now c.make.new.pages c.self.inside.size c.self.inside.pages.len c.args.self.now c.deref_mut.ensures.value (omega (arith, c.self.inside.pages.ok.0)) c.make.auto.pages c.self.view_is c.self.invariant c.make.ensures.bytes c.make.ensures.marks in
+    let done = make_done c.self.inside.pages.items c.deref_mut.result.now c.make.new.pages c.self.inside.size c.self.inside.pages.len
+    c.args.self.now c.deref_mut.ensures.value (omega (arith, c.self.inside.pages.ok.0)) c.make.auto.pages c.self.view_is c.self.invariant
+    c.make.ensures.bytes c.make.ensures.marks in
     keeps_invariant _ _ _ done
 
 pub returns-in_default-clause-only : goal.returns-in_default-clause-only
 returns-in_default-clause-only c =
-    let done = make_done c.self.inside.pages.items c.deref_mut.result.now c.make.new.pages c.self.inside.size c.self.inside.pages.len c.args.self.now c.deref_mut.ensures.value (omega (arith, c.self.inside.pages.ok.0)) c.make.auto.pages c.self.view_is c.self.invariant c.make.ensures.bytes c.make.ensures.marks in
+    let done = make_done c.self.inside.pages.items c.deref_mut.result.now c.make.new.pages c.self.inside.size c.self.inside.pages.len
+    c.args.self.now c.deref_mut.ensures.value (omega (arith, c.self.inside.pages.ok.0)) c.make.auto.pages c.self.view_is c.self.invariant
+    c.make.ensures.bytes c.make.ensures.marks in
     let first = c.requires.inside 0 (omega arith) in
     let low : 65536 ≤ c.args.at = omega (arith, first.0) in
-    subst (λ (t : TextState). GetsReady c.args.self.now.made t.made c.args.at c.args.len) (sym done.seen) (gets_ready c.self.inside.pages.items c.deref_mut.result.now c.make.new.pages c.self.inside.size c.args.at c.args.len c.div_ceil-end.result c.args.self.now c.deref_mut.ensures.value c.self.view_is low (omega arith) c.div_ceil-end.ensures c.make.ensures.kept c.make.ensures.needed)
+    subst (λ (t : TextState). GetsReady c.args.self.now.made t.made c.args.at c.args.len) (sym done.seen)
+    (gets_ready c.self.inside.pages.items c.deref_mut.result.now c.make.new.pages c.self.inside.size c.args.at c.args.len
+    c.div_ceil-end.result c.args.self.now c.deref_mut.ensures.value c.self.view_is low (omega arith) c.div_ceil-end.ensures
+    c.make.ensures.kept c.make.ensures.needed)
 
 pub returns-in_default-clause-marked : goal.returns-in_default-clause-marked
 returns-in_default-clause-marked c =
-    ap (λ (t : TextState). t.marked) (make_done c.self.inside.pages.items c.deref_mut.result.now c.make.new.pages c.self.inside.size c.self.inside.pages.len c.args.self.now c.deref_mut.ensures.value (omega (arith, c.self.inside.pages.ok.0)) c.make.auto.pages c.self.view_is c.self.invariant c.make.ensures.bytes c.make.ensures.marks).seen
+    ap (λ (t : TextState). t.marked) (make_done c.self.inside.pages.items c.deref_mut.result.now c.make.new.pages c.self.inside.size
+    c.self.inside.pages.len c.args.self.now c.deref_mut.ensures.value (omega (arith, c.self.inside.pages.ok.0)) c.make.auto.pages
+    c.self.view_is c.self.invariant c.make.ensures.bytes c.make.ensures.marks).seen
 
 pub returns-in_default-clause-whole : goal.returns-in_default-clause-whole
 returns-in_default-clause-whole c =
-    let done = make_done c.self.inside.pages.items c.deref_mut.result.now c.make.new.pages c.self.inside.size c.self.inside.pages.len c.args.self.now c.deref_mut.ensures.value (omega (arith, c.self.inside.pages.ok.0)) c.make.auto.pages c.self.view_is c.self.invariant c.make.ensures.bytes c.make.ensures.marks in
+    let done = make_done c.self.inside.pages.items c.deref_mut.result.now c.make.new.pages c.self.inside.size c.self.inside.pages.len
+    c.args.self.now c.deref_mut.ensures.value (omega (arith, c.self.inside.pages.ok.0)) c.make.auto.pages c.self.view_is c.self.invariant
+    c.make.ensures.bytes c.make.ensures.marks in
     (keeps_invariant _ _ _ done).0
 
 pub returns-clause-only : goal.returns-clause-only
 returns-clause-only c =
-    let done = make_done c.self.inside.pages.items c.deref_mut.result.now c.make.new.pages c.self.inside.size c.self.inside.pages.len c.args.self.now c.deref_mut.ensures.value (omega (arith, c.self.inside.pages.ok.0)) c.make.auto.pages c.self.view_is c.self.invariant c.make.ensures.bytes c.make.ensures.marks in
+    let done = make_done c.self.inside.pages.items c.deref_mut.result.now c.make.new.pages c.self.inside.size c.self.inside.pages.len
+    c.args.self.now c.deref_mut.ensures.value (omega (arith, c.self.inside.pages.ok.0)) c.make.auto.pages c.self.view_is c.self.invariant
+    c.make.ensures.bytes c.make.ensures.marks in
     let first = c.requires.inside 0 (omega arith) in
     let low : 65536 ≤ c.args.at = omega (arith, first.0) in
-    subst (λ (t : TextState). GetsReady c.args.self.now.made t.made c.args.at c.args.len) (sym done.seen) (gets_ready c.self.inside.pages.items c.deref_mut.result.now c.make.new.pages c.self.inside.size c.args.at c.args.len c.div_ceil-end.result c.args.self.now c.deref_mut.ensures.value c.self.view_is low (omega arith) c.div_ceil-end.ensures c.make.ensures.kept c.make.ensures.needed)
+    subst (λ (t : TextState). GetsReady c.args.self.now.made t.made c.args.at c.args.len) (sym done.seen)
+    (gets_ready c.self.inside.pages.items c.deref_mut.result.now c.make.new.pages c.self.inside.size c.args.at c.args.len
+    c.div_ceil-end.result c.args.self.now c.deref_mut.ensures.value c.self.view_is low (omega arith) c.div_ceil-end.ensures
+    c.make.ensures.kept c.make.ensures.needed)
 
 pub returns-clause-marked : goal.returns-clause-marked
 returns-clause-marked c =
-    ap (λ (t : TextState). t.marked) (make_done c.self.inside.pages.items c.deref_mut.result.now c.make.new.pages c.self.inside.size c.self.inside.pages.len c.args.self.now c.deref_mut.ensures.value (omega (arith, c.self.inside.pages.ok.0)) c.make.auto.pages c.self.view_is c.self.invariant c.make.ensures.bytes c.make.ensures.marks).seen
+    ap (λ (t : TextState). t.marked) (make_done c.self.inside.pages.items c.deref_mut.result.now c.make.new.pages c.self.inside.size
+    c.self.inside.pages.len c.args.self.now c.deref_mut.ensures.value (omega (arith, c.self.inside.pages.ok.0)) c.make.auto.pages
+    c.self.view_is c.self.invariant c.make.ensures.bytes c.make.ensures.marks).seen
 
 pub returns-clause-whole : goal.returns-clause-whole
 returns-clause-whole c =
-    let done = make_done c.self.inside.pages.items c.deref_mut.result.now c.make.new.pages c.self.inside.size c.self.inside.pages.len c.args.self.now c.deref_mut.ensures.value (omega (arith, c.self.inside.pages.ok.0)) c.make.auto.pages c.self.view_is c.self.invariant c.make.ensures.bytes c.make.ensures.marks in
+    let done = make_done c.self.inside.pages.items c.deref_mut.result.now c.make.new.pages c.self.inside.size c.self.inside.pages.len
+    c.args.self.now c.deref_mut.ensures.value (omega (arith, c.self.inside.pages.ok.0)) c.make.auto.pages c.self.view_is c.self.invariant
+    c.make.ensures.bytes c.make.ensures.marks in
     (keeps_invariant _ _ _ done).0
 
 pub returns-clause-ready : goal.returns-clause-ready
 returns-clause-ready c =
-    let done = make_done c.self.inside.pages.items c.deref_mut.result.now c.make.new.pages c.self.inside.size c.self.inside.pages.len c.args.self.now c.deref_mut.ensures.value (omega (arith, c.self.inside.pages.ok.0)) c.make.auto.pages c.self.view_is c.self.invariant c.make.ensures.bytes c.make.ensures.marks in
+    let done = make_done c.self.inside.pages.items c.deref_mut.result.now c.make.new.pages c.self.inside.size c.self.inside.pages.len
+    c.args.self.now c.deref_mut.ensures.value (omega (arith, c.self.inside.pages.ok.0)) c.make.auto.pages c.self.view_is c.self.invariant
+    c.make.ensures.bytes c.make.ensures.marks in
     let first = c.requires.inside 0 (omega arith) in
     let low : 65536 ≤ c.args.at = omega (arith, first.0) in
     let made = c.in-Ok.ensures.made in
     subst (λ (t : TextState). AreReady t.made c.args.at c.args.len) (sym done.seen)
-    (all_ready c.make.new.pages c.self.inside.size c.args.at c.args.len c.div_ceil-end.result (with_made c.args.self.now c.make.new.pages) (made_seen c.self.inside.pages.items c.deref_mut.result.now c.make.new.pages c.self.inside.size c.args.self.now c.deref_mut.ensures.value c.self.view_is c.make.ensures.bytes c.make.ensures.marks) low c.div_ceil-end.ensures made)
+    (all_ready c.make.new.pages c.self.inside.size c.args.at c.args.len c.div_ceil-end.result (with_made c.args.self.now c.make.new.pages)
+    (made_seen c.self.inside.pages.items c.deref_mut.result.now c.make.new.pages c.self.inside.size c.args.self.now
+    c.deref_mut.ensures.value c.self.view_is c.make.ensures.bytes c.make.ensures.marks) low c.div_ceil-end.ensures made)

@@ -22,9 +22,14 @@ invariant_of-self c =
     let first = c.requires.inside 0 (omega arith) in
     let last = c.requires.inside (c.args.len - 1) (omega arith) in
     let long = length-map-range_with_len unused_mark c.args.at c.args.len in
-    span_done c.self.inside.pages.items c.deref_mut.result.now c.unmark.new.pages c.self.inside.size c.self.inside.pages.len c.args.at (unused_marks c.args.at c.args.len) c.args.self.now c.deref_mut.ensures.value (omega (arith, c.self.inside.pages.ok.0)) c.unmark.auto.pages c.self.view_is c.self.invariant (omega (arith, first.0, last.1, long))
-    (λ k low high. c.unmark.ensures.within k low (omega (arith, long, high)) ∙ (sym (unused_mark_up k) ∙ sym (get_or-map-range_with_len unused_mark c.args.at c.args.len (k - (c.args.at - 65536)) (65536 + k) Unmarked (omega (arith, long, high, low)) (omega (arith, low, first.0)))))
-    c.unmark.ensures.below (λ k past. c.unmark.ensures.above k (omega (arith, long, past))) c.unmark.ensures.bytes c.unmark.ensures.made c.requires.closed in
+    span_done c.self.inside.pages.items c.deref_mut.result.now c.unmark.new.pages c.self.inside.size c.self.inside.pages.len c.args.at
+    (unused_marks c.args.at c.args.len) c.args.self.now c.deref_mut.ensures.value (omega (arith, c.self.inside.pages.ok.0))
+    c.unmark.auto.pages c.self.view_is c.self.invariant (omega (arith, first.0, last.1, long))
+    (λ k low high. c.unmark.ensures.within k low (omega (arith, long, high))
+    ∙ (sym (unused_mark_up k) ∙ sym (get_or-map-range_with_len unused_mark c.args.at c.args.len (k - (c.args.at - 65536)) (65536 + k)
+    Unmarked (omega (arith, long, high, low)) (omega (arith, low, first.0)))))
+    c.unmark.ensures.below (λ k past. c.unmark.ensures.above k (omega (arith, long, past))) c.unmark.ensures.bytes c.unmark.ensures.made
+    c.requires.closed in
     keeps_invariant _ _ _ done
 
 pub returns-clause-marked : goal.returns-clause-marked
@@ -33,9 +38,14 @@ returns-clause-marked c =
     let first = c.requires.inside 0 (omega arith) in
     let last = c.requires.inside (c.args.len - 1) (omega arith) in
     let long = length-map-range_with_len unused_mark c.args.at c.args.len in
-    span_done c.self.inside.pages.items c.deref_mut.result.now c.unmark.new.pages c.self.inside.size c.self.inside.pages.len c.args.at (unused_marks c.args.at c.args.len) c.args.self.now c.deref_mut.ensures.value (omega (arith, c.self.inside.pages.ok.0)) c.unmark.auto.pages c.self.view_is c.self.invariant (omega (arith, first.0, last.1, long))
-    (λ k low high. c.unmark.ensures.within k low (omega (arith, long, high)) ∙ (sym (unused_mark_up k) ∙ sym (get_or-map-range_with_len unused_mark c.args.at c.args.len (k - (c.args.at - 65536)) (65536 + k) Unmarked (omega (arith, long, high, low)) (omega (arith, low, first.0)))))
-    c.unmark.ensures.below (λ k past. c.unmark.ensures.above k (omega (arith, long, past))) c.unmark.ensures.bytes c.unmark.ensures.made c.requires.closed in
+    span_done c.self.inside.pages.items c.deref_mut.result.now c.unmark.new.pages c.self.inside.size c.self.inside.pages.len c.args.at
+    (unused_marks c.args.at c.args.len) c.args.self.now c.deref_mut.ensures.value (omega (arith, c.self.inside.pages.ok.0))
+    c.unmark.auto.pages c.self.view_is c.self.invariant (omega (arith, first.0, last.1, long))
+    (λ k low high. c.unmark.ensures.within k low (omega (arith, long, high))
+    ∙ (sym (unused_mark_up k) ∙ sym (get_or-map-range_with_len unused_mark c.args.at c.args.len (k - (c.args.at - 65536)) (65536 + k)
+    Unmarked (omega (arith, long, high, low)) (omega (arith, low, first.0)))))
+    c.unmark.ensures.below (λ k past. c.unmark.ensures.above k (omega (arith, long, past))) c.unmark.ensures.bytes c.unmark.ensures.made
+    c.requires.closed in
     ap (λ (t : TextState). t.marked) done.seen
 
 pub returns-clause-made : goal.returns-clause-made
@@ -44,9 +54,14 @@ returns-clause-made c =
     let first = c.requires.inside 0 (omega arith) in
     let last = c.requires.inside (c.args.len - 1) (omega arith) in
     let long = length-map-range_with_len unused_mark c.args.at c.args.len in
-    span_done c.self.inside.pages.items c.deref_mut.result.now c.unmark.new.pages c.self.inside.size c.self.inside.pages.len c.args.at (unused_marks c.args.at c.args.len) c.args.self.now c.deref_mut.ensures.value (omega (arith, c.self.inside.pages.ok.0)) c.unmark.auto.pages c.self.view_is c.self.invariant (omega (arith, first.0, last.1, long))
-    (λ k low high. c.unmark.ensures.within k low (omega (arith, long, high)) ∙ (sym (unused_mark_up k) ∙ sym (get_or-map-range_with_len unused_mark c.args.at c.args.len (k - (c.args.at - 65536)) (65536 + k) Unmarked (omega (arith, long, high, low)) (omega (arith, low, first.0)))))
-    c.unmark.ensures.below (λ k past. c.unmark.ensures.above k (omega (arith, long, past))) c.unmark.ensures.bytes c.unmark.ensures.made c.requires.closed in
+    span_done c.self.inside.pages.items c.deref_mut.result.now c.unmark.new.pages c.self.inside.size c.self.inside.pages.len c.args.at
+    (unused_marks c.args.at c.args.len) c.args.self.now c.deref_mut.ensures.value (omega (arith, c.self.inside.pages.ok.0))
+    c.unmark.auto.pages c.self.view_is c.self.invariant (omega (arith, first.0, last.1, long))
+    (λ k low high. c.unmark.ensures.within k low (omega (arith, long, high))
+    ∙ (sym (unused_mark_up k) ∙ sym (get_or-map-range_with_len unused_mark c.args.at c.args.len (k - (c.args.at - 65536)) (65536 + k)
+    Unmarked (omega (arith, long, high, low)) (omega (arith, low, first.0)))))
+    c.unmark.ensures.below (λ k past. c.unmark.ensures.above k (omega (arith, long, past))) c.unmark.ensures.bytes c.unmark.ensures.made
+    c.requires.closed in
     ap (λ (t : TextState). t.made) done.seen
 
 pub returns-clause-whole : goal.returns-clause-whole
@@ -55,7 +70,12 @@ returns-clause-whole c =
     let first = c.requires.inside 0 (omega arith) in
     let last = c.requires.inside (c.args.len - 1) (omega arith) in
     let long = length-map-range_with_len unused_mark c.args.at c.args.len in
-    span_done c.self.inside.pages.items c.deref_mut.result.now c.unmark.new.pages c.self.inside.size c.self.inside.pages.len c.args.at (unused_marks c.args.at c.args.len) c.args.self.now c.deref_mut.ensures.value (omega (arith, c.self.inside.pages.ok.0)) c.unmark.auto.pages c.self.view_is c.self.invariant (omega (arith, first.0, last.1, long))
-    (λ k low high. c.unmark.ensures.within k low (omega (arith, long, high)) ∙ (sym (unused_mark_up k) ∙ sym (get_or-map-range_with_len unused_mark c.args.at c.args.len (k - (c.args.at - 65536)) (65536 + k) Unmarked (omega (arith, long, high, low)) (omega (arith, low, first.0)))))
-    c.unmark.ensures.below (λ k past. c.unmark.ensures.above k (omega (arith, long, past))) c.unmark.ensures.bytes c.unmark.ensures.made c.requires.closed in
+    span_done c.self.inside.pages.items c.deref_mut.result.now c.unmark.new.pages c.self.inside.size c.self.inside.pages.len c.args.at
+    (unused_marks c.args.at c.args.len) c.args.self.now c.deref_mut.ensures.value (omega (arith, c.self.inside.pages.ok.0))
+    c.unmark.auto.pages c.self.view_is c.self.invariant (omega (arith, first.0, last.1, long))
+    (λ k low high. c.unmark.ensures.within k low (omega (arith, long, high))
+    ∙ (sym (unused_mark_up k) ∙ sym (get_or-map-range_with_len unused_mark c.args.at c.args.len (k - (c.args.at - 65536)) (65536 + k)
+    Unmarked (omega (arith, long, high, low)) (omega (arith, low, first.0)))))
+    c.unmark.ensures.below (λ k past. c.unmark.ensures.above k (omega (arith, long, past))) c.unmark.ensures.bytes c.unmark.ensures.made
+    c.requires.closed in
     (keeps_invariant _ _ _ done).0
