@@ -1,8 +1,8 @@
 //! What the calls are made on: chunks, and regions of 4 bundles.
-ghost use Rattle.std.specs.Prelude.{◌≡◌, IfOk};
+ghost use Rattle.std.specs.Prelude.{◌≡◌, All, IfOk, length};
 
 use nc_decode::START;
-use nc_gens::{Gens, Keeper};
+use nc_gens::{Gens, Keeper, Pass};
 use nc_region::Region;
 use nc_vet::{Vetted, vet};
 use std::alloc::{AllocError, Global};
@@ -31,6 +31,16 @@ pub(crate) fn code(
 /// What is said where the calls can't be prepared.
 fn unprepared() -> Error {
     Error::from(ErrorKind::Other)
+}
+
+/// A table of generations for so many seats.
+pub(crate) fn table(alloc: Global, seats: u32) -> Result<(Gens, Keeper, Vec<Pass>)>
+    ensures { IfOk result (λ r. (length r.2.items ≡ seats) × (r.1.table ≡ r.0) × All (λ p. p.table ≡ r.0) r.2.items) }
+{
+    match Gens::new(alloc, seats) {
+        Ok(table) => Ok(table),
+        Err(_) => Err(unprepared()),
+    }
 }
 
 /// A vetted chunk of one bundle at 00010000 that begins with these bytes.

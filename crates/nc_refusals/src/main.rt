@@ -19,10 +19,10 @@ use std::sync::Wait;
 use std::thread::Threads;
 use std::{env, io};
 use vetting::{vet_jobs, vet_jumps, vet_pair};
-use without::{patch, refuse_patches, retire, two_seats};
+use without::{patch, patch_pair, refuse_patches, retire, two_seats};
 
 /// The names of the calls.
-const CALLS: [&str; 13] = [
+const CALLS: [&str; 14] = [
     "vet-pair",
     "vet-jumps",
     "vet-all-1",
@@ -35,6 +35,7 @@ const CALLS: [&str; 13] = [
     "retire",
     "seats",
     "patch",
+    "patch-pair",
     "patch-refusals",
 ];
 
@@ -54,6 +55,7 @@ fn make<R: Threads + Wait + Sync + Print + AllocGlobal>(rt: &R, name: &str) -> i
         "retire" => retire(rt),
         "seats" => two_seats(rt),
         "patch" => patch(rt),
+        "patch-pair" => patch_pair(rt),
         "patch-refusals" => refuse_patches(rt),
         _ => println!(rt; "no such call"),
     }

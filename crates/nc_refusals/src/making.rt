@@ -1,11 +1,12 @@
 //! Texts, tables of generations and regions made.
 
+use crate::chunks::table;
 use crate::shown::{after, before, print_bytes, print_region};
 use nc_decode::START;
 use nc_gens::{Gens, Keeper, Pass};
 use nc_region::Region;
 use nc_text::Text;
-use std::io::{Error, ErrorKind, Result};
+use std::io::Result;
 
 /// A text of 4 bundles.
 pub(crate) fn make_text<R: Print + AllocGlobal>(rt: &R) -> Result<()> {
@@ -49,9 +50,7 @@ fn print_table<R: Print>(rt: &R, keeper: &Keeper, passes: &[Pass]) -> Result<()>
 
 /// A region of 4 bundles; after a refusal another one, with the keeper that came back.
 pub(crate) fn make_region<R: Print + AllocGlobal>(rt: &R) -> Result<()> {
-    let Ok((gens, keeper, _passes)) = Gens::new(rt.alloc(), 1) else {
-        return Err(Error::from(ErrorKind::Other));
-    };
+    let (gens, keeper, _passes) = table(rt.alloc(), 1)?;
     before(rt)?;
     let answer = Region::new(rt.alloc(), 4, &gens, keeper);
     after(rt)?;

@@ -1,21 +1,18 @@
 //! A chunk created, and a walk through it.
 
-use crate::chunks::{chunk, region, region_with};
+use crate::chunks::{chunk, region, region_with, table};
 use crate::shown::{after, before, print_region, print_trace, print_vetted};
 use nc_decode::START;
-use nc_gens::Gens;
 use nc_region::{CreateFault, Region, Trace, WalkFault};
 use nc_vet::Vetted;
-use std::io::{Error, ErrorKind, Result};
+use std::io::Result;
 
 /// A jump to the next bundle.
 const JUMP: [u8; 2] = [0xEB, 0x1E];
 
 /// A chunk that begins with a jump is created; after a refusal the region is shown, and the same chunk is created again.
 pub(crate) fn create_chunk<R: Print + AllocGlobal>(rt: &R) -> Result<()> {
-    let Ok((gens, keeper, _passes)) = Gens::new(rt.alloc(), 1) else {
-        return Err(Error::from(ErrorKind::Other));
-    };
+    let (gens, keeper, _passes) = table(rt.alloc(), 1)?;
     let mut region = region(rt.alloc(), &gens, keeper)?;
     let vetted = chunk(rt.alloc(), &JUMP)?;
     before(rt)?;
@@ -47,9 +44,7 @@ fn create_again<R: Print + AllocGlobal>(
 
 /// A walk from a jump to the next bundle; after a refusal the same walk again.
 pub(crate) fn walk_chunk<R: Print + AllocGlobal>(rt: &R) -> Result<()> {
-    let Ok((gens, keeper, _passes)) = Gens::new(rt.alloc(), 1) else {
-        return Err(Error::from(ErrorKind::Other));
-    };
+    let (gens, keeper, _passes) = table(rt.alloc(), 1)?;
     let region = region_with(rt.alloc(), &gens, keeper, &JUMP)?;
     before(rt)?;
     let answer = region.walk(START, &[0, 0]);

@@ -1,26 +1,42 @@
 //! Calls that take no memory: they answer the same where every allocation is refused.
+ghost use Rattle.std.specs.Prelude.{◌≡◌};
 
-use crate::chunks::{chunk, region, region_with};
+use crate::chunks::{chunk, region_with, table};
 use crate::shown::{after, before, print_region};
-use nc_gens::Gens;
-use nc_region::Shared;
-use std::io::{Error, ErrorKind, Result};
+use nc_gens::{Gens, Pass};
+use nc_region::{DeleteFault, ModifyFault, Region, Shared};
+use std::io::Result;
+use std::result;
 use std::sync::Wait;
+
+/// The stamp of a deletion, and how many chunks were freed before and after a seat was heard of.
+#[derive(Clone, Copy, Debug, Drop)]
+struct Reuse {
+    stamp: result::Result<u64, DeleteFault>,
+    early: u32,
+    late: u32,
+}
+
+/// Deletes the chunk at 00010000 and reclaims, before the one seat has checked in and after it.
+fn delete_and_reclaim(region: &mut Region<'_>, gens: &Gens, pass: &mut Pass) -> Reuse
+    requires { pass.old.table ≡ gens.now }
+{
+    let stamp = region.delete(0x10000);
+    let early = region.reclaim();
+    gens.check_in(pass);
+    let late = region.reclaim();
+    Reuse { stamp, early, late }
+}
 
 /// A chunk is deleted; it is free only after the one seat has checked in, and then its place is taken again.
 pub(crate) fn retire<R: Print + AllocGlobal>(rt: &R) -> Result<()> {
-    let Ok((gens, keeper, mut passes)) = Gens::new(rt.alloc(), 1) else {
-        return Err(Error::from(ErrorKind::Other));
-    };
+    let (gens, keeper, mut passes) = table(rt.alloc(), 1)?;
     let mut pass = passes.remove(0);
     let mut region = region_with(rt.alloc(), &gens, keeper, &[0xEB, 0x1E])?;
     before(rt)?;
-    let stamp = region.delete(0x10000);
-    let early = region.reclaim();
-    gens.check_in(&mut pass);
-    let late = region.reclaim();
+    let reuse = delete_and_reclaim(&mut region, &gens, &mut pass);
     after(rt)?;
-    println!(rt; "stamp {stamp:?}, freed {early}, freed {late}")?;
+    println!(rt; "{reuse:?}")?;
     match region.create(chunk(rt.alloc(), &[0xEB, 0x1E])?) {
         Ok(()) => println!(rt; "ok")?,
         Err((_, fault)) => println!(rt; "{fault}")?,
@@ -28,59 +44,82 @@ pub(crate) fn retire<R: Print + AllocGlobal>(rt: &R) -> Result<()> {
     print_region(rt, &region)
 }
 
-/// Through the lock: a chunk is deleted, one seat checks in and the other one leaves.
-pub(crate) fn two_seats<R: Wait + Print + AllocGlobal>(rt: &R) -> Result<()> {
-    let Ok((gens, keeper, mut passes)) = Gens::new(rt.alloc(), 2) else {
-        return Err(Error::from(ErrorKind::Other));
-    };
-    let mut first = passes.remove(0);
-    let second = passes.remove(0);
-    let shared = Shared::new(region_with(rt.alloc(), &gens, keeper, &[0xEB, 0x1E])?);
-    before(rt)?;
+/// Deletes the chunk at 00010000 through the lock and reclaims, after one seat has checked in and after the other one has left.
+fn delete_and_leave<R: Wait>(rt: &R, shared: &Shared<'_>, first: Pass, second: Pass) -> Reuse
+    requires { (first.table ≡ shared.now) × (second.table ≡ shared.now) }
+{
+    let mut first = first;
     let stamp = shared.delete(rt, 0x10000);
     shared.check_in(&mut first);
     let early = shared.reclaim(rt);
     shared.leave(second);
     let late = shared.reclaim(rt);
-    after(rt)?;
-    println!(rt; "stamp {stamp:?}, freed {early}, freed {late}")
+    Reuse { stamp, early, late }
 }
 
-/// Patches of a constant, one of another length, and one of half a pair.
-pub(crate) fn patch<R: Print + AllocGlobal>(rt: &R) -> Result<()> {
-    let Ok((gens, keeper, _passes)) = Gens::new(rt.alloc(), 1) else {
-        return Err(Error::from(ErrorKind::Other));
-    };
-    let Ok((others, other_keeper, _others_passes)) = Gens::new(rt.alloc(), 1) else {
-        return Err(Error::from(ErrorKind::Other));
-    };
-    let mut constant = region_with(rt.alloc(), &gens, keeper, &[0xB8, 0x01, 0x00, 0x00, 0x00])?;
-    let pair = [0x83, 0xE0, 0xE0, 0xFF, 0xE0];
-    let mut paired = region_with(rt.alloc(), &others, other_keeper, &pair)?;
+/// Through the lock: a chunk is deleted, one seat checks in and the other one leaves.
+pub(crate) fn two_seats<R: Wait + Print + AllocGlobal>(rt: &R) -> Result<()> {
+    let (gens, keeper, mut passes) = table(rt.alloc(), 2)?;
+    let first = passes.remove(0);
+    let second = passes.remove(0);
+    let shared = Shared::new(region_with(rt.alloc(), &gens, keeper, &[0xEB, 0x1E])?);
     before(rt)?;
-    let patched = constant.modify(0x10000, &[0xB8, 0x02, 0x00, 0x00, 0x00]);
-    let shorter = constant.modify(0x10000, &[0xEB, 0xFE, 0x90, 0x90, 0x90]);
-    let touched = paired.modify(0x10000, &[0x83, 0xE1, 0xE0, 0xFF, 0xE1]);
+    let reuse = delete_and_leave(rt, &shared, first, second);
     after(rt)?;
-    println!(rt; "{patched:?}, {shorter:?}, {touched:?}")?;
-    print_region(rt, &constant)?;
-    print_region(rt, &paired)
+    println!(rt; "{reuse:?}")
+}
+
+/// Patches a constant, and the same place with instructions of other lengths.
+fn patch_constant(region: &mut Region<'_>) -> [result::Result<(), ModifyFault>; 2] {
+    [
+        region.modify(0x10000, &[0xB8, 0x02, 0x00, 0x00, 0x00]),
+        region.modify(0x10000, &[0xEB, 0xFE, 0x90, 0x90, 0x90]),
+    ]
+}
+
+/// Patches of a constant, one of them with instructions of other lengths.
+pub(crate) fn patch<R: Print + AllocGlobal>(rt: &R) -> Result<()> {
+    let (gens, keeper, _passes) = table(rt.alloc(), 1)?;
+    let constant = [0xB8, 0x01, 0x00, 0x00, 0x00];
+    let mut region = region_with(rt.alloc(), &gens, keeper, &constant)?;
+    before(rt)?;
+    let answers = patch_constant(&mut region);
+    after(rt)?;
+    println!(rt; "{answers:?}")?;
+    print_region(rt, &region)
+}
+
+/// A patch of a masked jump by one of another register.
+pub(crate) fn patch_pair<R: Print + AllocGlobal>(rt: &R) -> Result<()> {
+    let (gens, keeper, _passes) = table(rt.alloc(), 1)?;
+    let pair = [0x83, 0xE0, 0xE0, 0xFF, 0xE0];
+    let mut region = region_with(rt.alloc(), &gens, keeper, &pair)?;
+    before(rt)?;
+    let answer = region.modify(0x10000, &[0x83, 0xE1, 0xE0, 0xFF, 0xE1]);
+    after(rt)?;
+    println!(rt; "{answer:?}")?;
+    print_region(rt, &region)
 }
 
 /// Patches of a jump, most of which are refused.
+fn patch_jump(region: &mut Region<'_>) -> [result::Result<(), ModifyFault>; 5] {
+    [
+        region.modify(0x10000, &[0xEB, 0x7E]),
+        region.modify(0x10000, &[0xEB, 0x1E]),
+        region.modify(0x1001F, &[0x90, 0x90]),
+        region.modify(0x10020, &[0x90]),
+        region.modify(0x10002, &[0xC3]),
+    ]
+}
+
+/// Patches of a jump, and a deletion where no chunk is.
 pub(crate) fn refuse_patches<R: Print + AllocGlobal>(rt: &R) -> Result<()> {
-    let Ok((gens, keeper, _passes)) = Gens::new(rt.alloc(), 1) else {
-        return Err(Error::from(ErrorKind::Other));
-    };
+    let (gens, keeper, _passes) = table(rt.alloc(), 1)?;
     let mut region = region_with(rt.alloc(), &gens, keeper, &[0xEB, 0xFE])?;
     before(rt)?;
-    let beyond = region.modify(0x10000, &[0xEB, 0x7E]);
-    let next = region.modify(0x10000, &[0xEB, 0x1E]);
-    let across = region.modify(0x1001F, &[0x90, 0x90]);
-    let unused = region.modify(0x10020, &[0x90]);
-    let barred = region.modify(0x10002, &[0xC3]);
+    let answers = patch_jump(&mut region);
     let missing = region.delete(0x10020);
     after(rt)?;
-    println!(rt; "{beyond:?}, {next:?}, {across:?}, {unused:?}, {barred:?}, {missing:?}")?;
+    println!(rt; "{answers:?} {missing:?}")?;
     print_region(rt, &region)
 }
