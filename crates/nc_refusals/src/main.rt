@@ -13,7 +13,7 @@ mod shown;
 mod vetting;
 mod without;
 
-use making::{make_gens, make_region, make_text};
+use making::{make_gens, make_pages, make_region, make_text};
 use region::{create_chunk, walk_chunk};
 use std::sync::Wait;
 use std::thread::Threads;
@@ -22,12 +22,13 @@ use vetting::{vet_jobs, vet_jumps, vet_pair};
 use without::{patch, patch_pair, refuse_patches, retire, two_seats};
 
 /// The names of the calls.
-const CALLS: [&str; 14] = [
+const CALLS: [&str; 15] = [
     "vet-pair",
     "vet-jumps",
     "vet-all-1",
     "vet-all-2",
     "text",
+    "ready",
     "gens",
     "region",
     "create",
@@ -48,6 +49,7 @@ fn make<R: Threads + Wait + Sync + Print + AllocGlobal>(rt: &R, name: &str) -> i
         "vet-all-1" => vet_jobs(rt, 1),
         "vet-all-2" => vet_jobs(rt, 2),
         "text" => make_text(rt),
+        "ready" => make_pages(rt),
         "gens" => make_gens(rt),
         "region" => make_region(rt),
         "create" => create_chunk(rt),

@@ -6,7 +6,7 @@ use nc_decode::START;
 use nc_gens::{Gens, Keeper, Pass};
 use nc_region::Region;
 use nc_text::Text;
-use std::io::Result;
+use std::io::{Error, ErrorKind, Result};
 
 /// A text of 4 bundles.
 pub(crate) fn make_text<R: Print + AllocGlobal>(rt: &R) -> Result<()> {
@@ -17,6 +17,27 @@ pub(crate) fn make_text<R: Print + AllocGlobal>(rt: &R) -> Result<()> {
         Ok(text) => print_text(rt, &text),
         Err(fault) => println!(rt; "{fault}"),
     }
+}
+
+/// The pages of two bundles of a text, in two pages; whether they are made is shown, and after a refusal they are made again.
+pub(crate) fn make_pages<R: Print + AllocGlobal>(rt: &R) -> Result<()> {
+    let Ok(mut text) = Text::new(rt.alloc(), 524_288) else {
+        return Err(Error::from(ErrorKind::Other));
+    };
+    before(rt)?;
+    let answer = text.ready(0x10FE0, 64);
+    after(rt)?;
+    match answer {
+        Ok(()) => println!(rt; "ok")?,
+        Err(fault) => println!(rt; "{fault}")?,
+    }
+    println!(rt; "{:02x} {:02x}", text.byte(0x10FE0), text.byte(0x11000))?;
+    let again = text.ready(0x10FE0, 64).is_ok();
+    println!(rt;
+        "{again} {} {}",
+        text.is_ready(0x10FE0, 64),
+        text.is_ready(0x12000, 32)
+    )
 }
 
 /// Prints a text: its bytes.
