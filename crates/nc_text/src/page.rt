@@ -1,10 +1,9 @@
 //! One page of a text.
 
-ghost use Rattle.std.specs.Prelude.{◌≡◌, vec_len};
+ghost use Rattle.std.specs.Prelude.{◌≡◌};
 
 use crate::masks::Masks;
 use nc_decode::Mark;
-use std::alloc::{AllocError, Global};
 
 /// The byte of the instruction hlt, with which all unused text is filled.
 const STOP: u8 = 0xF4;
@@ -12,13 +11,14 @@ const STOP: u8 = 0xF4;
 /// The places of one page.
 pub(crate) const PAGE: usize = 4096;
 
+/// The bundles of one page.
+const BUNDLES: usize = 128;
+
 /// 4096 bytes of a text and the marks of their 128 bundles.
 #[derive(Drop)]
 pub(crate) struct Page {
-    bytes: Vec<u8>,
-    masks: Vec<Masks>,
-    ghost all_bytes: { vec_len bytes ≡ 4096 },
-    ghost all_masks: { vec_len masks ≡ 128 },
+    bytes: [u8; PAGE],
+    masks: [Masks; BUNDLES],
 }
 
 impl Page {
@@ -28,15 +28,14 @@ impl Page {
     ghost use Rattle.nc_text.specs.MarkedText.{unused_mark, NamesRegister};
 
     /// A page of stops, of which only bundle starts are marked.
-    pub(crate) fn new(alloc: Global) -> Result<Self, AllocError>
-        ensures bytes { IfOk result (λ page. (k : ℕ) → k < 4096 → byte_on page k ≡ 0xF4) }
-        ensures marks { IfOk result (λ page. (k : ℕ) → k < 4096 → mark_on page k ≡ unused_mark k) }
+    pub(crate) fn new() -> Self
+        ensures bytes { (k : ℕ) → k < 4096 → byte_on result k ≡ 0xF4 }
+        ensures marks { (k : ℕ) → k < 4096 → mark_on result k ≡ unused_mark k }
     {
-        let mut bytes = Vec::new(alloc);
-        bytes.resize(PAGE, STOP)?;
-        let mut masks = Vec::new(alloc);
-        masks.resize(PAGE / 32, Masks::unused())?;
-        Ok(Page { bytes, masks })
+        Page {
+            bytes: [STOP; PAGE],
+            masks: [Masks::unused(); BUNDLES],
+        }
     }
 
     /// The byte at a place.

@@ -147,8 +147,7 @@ fn boxed_page(alloc: Global) -> Result<Box<Page>, AllocError>
     ensures bytes { IfOk result (λ page. (k : ℕ) → k < 4096 → byte_on page.value k ≡ 0xF4) }
     ensures marks { IfOk result (λ page. (k : ℕ) → k < 4096 → mark_on page.value k ≡ unused_mark k) }
 {
-    let page = Page::new(alloc)?;
-    Ok(Box::new(alloc, page)?)
+    Ok(Box::new(alloc, Page::new())?)
 }
 
 /// Makes the pages from the first up to, and without, the last.

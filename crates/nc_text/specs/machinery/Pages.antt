@@ -15,11 +15,11 @@ Slot = Option (Box Page Global)
 
 -- the byte at a place of a page
 abbrev pub byte_on : Page → ℕ → ℕ
-byte_on page k = slice_index page.bytes.items k
+byte_on page k = slice_index page.bytes k
 
 -- the mark at a place of a page
 abbrev pub mark_on : Page → ℕ → Mark
-mark_on page k = mark_in (slice_index_or page.masks.items (k / 32) unused_masks) (k % 32)
+mark_on page k = mark_in (slice_index_or page.masks (k / 32) unused_masks) (k % 32)
 
 -- the byte at a place of a page that may not be made
 abbrev pub byte_if_made : Slot → ℕ → ℕ

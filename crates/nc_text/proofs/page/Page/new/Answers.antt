@@ -1,10 +1,12 @@
-use Rattle.std.proofs.Common.{◌≡◌, replicate, arith}
-use Rattle.std.proofs.lemmas.Grind.{common_steps}
-use Rattle.nc_text.specs.machinery.Masks.{unused_masks}
+use Rattle.std.proofs.Common.{ℕ, replicate, arith, ap}
+use Rattle.std.proofs.lemmas.List.{get_or-replicate}
+use Rattle.nc_text.specs.declared.masks.Masks.{Masks}
 use Rattle.nc_text.proofs.Tables.{fresh_marks}
 use Rattle.nc_text.proofs.page.Page.new.Goals as goal
 
+pub returns-clause-bytes : goal.returns-clause-bytes
+returns-clause-bytes c = λ k lt. get_or-replicate {A = ℕ} 4096 k 244 0 lt
+
 pub returns-clause-marks : goal.returns-clause-marks
-returns-clause-marks c =
-    let all : c.resize-2.new.self.items ≡ replicate 128 unused_masks = grind (arith, common_steps, c.in_ok-resize-2.ensures.items) in
-    λ k lt. fresh_marks c.resize-2.new.self.items 128 k all (omega arith)
+returns-clause-marks c = λ k lt. fresh_marks (replicate 128 c.unused.result) 128 k (ap (λ (m : Masks). replicate 128 m) c.unused.ensures)
+    (omega arith)
