@@ -105,7 +105,7 @@ static FAULTY: [(usize, Parts, VetFault); 33] = [
 ];
 
 /// Base, limit and length of chunks of nops, and the fault that these show by themselves.
-static SPANS: [(u32, u32, usize, Option<VetFault>); 20] = [
+static SPANS: [(u32, u32, usize, Option<VetFault>); 23] = [
     (0x10000, LIMIT, 32, None),
     (0x10040, LIMIT, 32, None),
     (0x10060, LIMIT, 32, Some(OutOfRange)),
