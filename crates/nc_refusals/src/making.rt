@@ -19,11 +19,20 @@ pub(crate) fn make_text<R: Print + AllocGlobal>(rt: &R) -> Result<()> {
     }
 }
 
+/// A text of many pages. It is a function of its own and without a contract, so that no proof counts its places.
+fn large_text<R: Print + AllocGlobal>(rt: &R) -> Result<Text> {
+    match Text::new(rt.alloc(), 524_288) {
+        Ok(text) => Ok(text),
+        Err(_fault) => Err(Error::from(ErrorKind::Other)),
+    }
+}
+
 /// The pages of two bundles of a text, in two pages; whether they are made is shown, and after a refusal they are made again.
 pub(crate) fn make_pages<R: Print + AllocGlobal>(rt: &R) -> Result<()> {
-    let Ok(mut text) = Text::new(rt.alloc(), 524_288) else {
+    let mut text = large_text(rt)?;
+    if text.limit() != 0x0101_0000 {
         return Err(Error::from(ErrorKind::Other));
-    };
+    }
     before(rt)?;
     let answer = text.ready(0x10FE0, 64);
     after(rt)?;
