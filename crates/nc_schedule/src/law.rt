@@ -15,8 +15,7 @@ ghost use Rattle.nc_schedule.specs.Events.{Event, after, world_after, AreAllowed
 ///
 /// And each event does what it is for and no more: a span that is freed is whole bundles of the region, and no span that
 /// stays retired has a place of it, so it may be used again; a thread that is inside moves only as the machine does, and
-/// comes in only at a bundle start; and a byte changes only where it is put. No condition on the events can be taken away
-/// without losing one of these promises.
+/// comes in only at a bundle start; and a byte changes only where it is put.
 ///
 /// Not promised: that a span is ever freed, and anything of time.
 pub fn law_of_schedules()
