@@ -10,7 +10,7 @@ pub enum Ask {
 }
 
 /// How much is said of a file that is judged.
-#[derive(Clone, Copy, Debug, Drop, PartialEq, Eq)]
+#[derive(Clone, Copy, Drop)]
 pub enum Said {
     /// Only the verdict on each file that is refused.
     Quiet,
@@ -21,7 +21,7 @@ pub enum Said {
 }
 
 /// What a command line of `nc_check` asks for: to judge the code of files.
-#[derive(Debug, Drop)]
+#[derive(Drop)]
 pub struct CheckAsk<'a> {
     /// The address of each file's first byte.
     pub base: u32,
