@@ -1,0 +1,3 @@
+mod BundleFaults
+mod ReadFronts
+mod BundleLines
