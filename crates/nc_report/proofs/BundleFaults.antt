@@ -1,8 +1,10 @@
 -- What judging a bundle as a chunk of its own says of its reading.
-use Rattle.std.proofs.Common.{◌≡◌, ℕ, List, length, refl}
+use Rattle.std.proofs.Common.{◌≡◌, ◌≢◌, ℕ, List, Option, Some, None, Result, Ok, Err, sym, subst}
+use Rattle.std.specs.Prelude.{IfOk, MatchOption}
+use Rattle.std.specs.declared.alloc.AllocError.{AllocError}
 use Rattle.nc_decode.specs.declared.instruction.Mark.{Mark}
 use Rattle.nc_vet.specs.Chunk.{IsValid}
-use Rattle.nc_vet.specs.Faults.{HasFault, HasGoodSpan}
+use Rattle.nc_vet.specs.Faults.{HasFault}
 use Rattle.nc_vet.specs.declared.fault.VetFault.{VetFault}
 use Rattle.nc_vet.specs.declared.fault.VetFault.TheVariants.{BadBase, BadLength, OutOfRange, NotPermitted, Crosses, Bare, BadTarget}
 use Rattle.nc_vet.specs.declared.fault.VetFault.TheVariants.{OutOfMemory}
@@ -20,37 +22,41 @@ real (Bare at) r e = cc
 real (BadTarget at) r e = r
 real OutOfMemory r e = r
 
--- a bad target is no fault of reading
-not_target : (fault : VetFault) (at : ℕ) → IsOfReading fault → BadTarget at ≡ fault → ⊥
-not_target BadBase at r e = r
-not_target BadLength at r e = r
-not_target OutOfRange at r e = r
-not_target (NotPermitted x) at r e = cc
-not_target (Crosses x) at r e = cc
-not_target (Bare x) at r e = cc
-not_target (BadTarget x) at r e = r
-not_target OutOfMemory at r e = r
-
 -- a valid bundle reads well
 pub none_read : (base limit : ℕ) (code : List ℕ) (marks : List Mark)
     → IsValid (record { base = base; limit = limit; code = code; marks = marks })
     → (fault : VetFault) → IsOfReading fault → HasFault base limit code fault → ⊥
 none_read base limit code marks v fault r h = real fault r (none_valid base limit code marks fault v h)
 
--- so does one whose transfers go astray
-pub none_targeted : (base limit : ℕ) (code : List ℕ) (at : ℕ) → HasFault base limit code (BadTarget at)
-    → (fault : VetFault) → IsOfReading fault → HasFault base limit code fault → ⊥
-none_targeted base limit code at h fault r g =
-    not_target fault at r (one_fault base limit code (BadTarget at) fault h g (λ e. cc) (real fault r))
+-- so does one whose fault is another
+pub none_other : (base limit : ℕ) (code : List ℕ) (other : VetFault) → HasFault base limit code other → other ≢ OutOfMemory
+    → ¬ IsOfReading other → (fault : VetFault) → IsOfReading fault → HasFault base limit code fault → ⊥
+none_other base limit code other h some not fault r g =
+    not (subst IsOfReading (sym (one_fault base limit code other fault h g some (real fault r))) r)
 
--- any other fault of a bundle of good span, besides lack of memory, is one of reading
-pub one_read : (base limit : ℕ) (code : List ℕ) (fault : VetFault) → HasGoodSpan base limit (length code)
-    → (fault ≡ OutOfMemory → ⊥) → ((at : ℕ) → fault ≡ BadTarget at → ⊥) → HasFault base limit code fault → IsOfReading fault
-one_read base limit code BadBase g m t h = h (g.start, g.low)
-one_read base limit code BadLength g m t h = h.1 (g.some, g.whole)
-one_read base limit code OutOfRange g m t h = h.2 (g.lawful, g.high)
-one_read base limit code (NotPermitted at) g m t h = tt
-one_read base limit code (Crosses at) g m t h = tt
-one_read base limit code (Bare at) g m t h = tt
-one_read base limit code (BadTarget at) g m t h = t at (refl)
-one_read base limit code OutOfMemory g m t h = m (refl)
+-- what is found of a bundle from what is found of the fault that judging it gave
+pub read_by : (base limit : ℕ) (code : List ℕ) (fault : VetFault) (r : Result (Option VetFault) AllocError) → HasFault base limit code fault
+    → IfOk r (λ found. MatchOption found ((fault ≢ OutOfMemory) × ¬ IsOfReading fault) (λ read. (read ≡ fault) × IsOfReading read))
+    → IfOk r (λ found. MatchOption found ((other : VetFault) → IsOfReading other → ¬ HasFault base limit code other)
+    (λ read. IsOfReading read × HasFault base limit code read))
+read_by base limit code fault (Ok None) h f = none_other base limit code fault h f.0 f.1
+read_by base limit code fault (Ok (Some read)) h f = (f.1, subst (HasFault base limit code) (sym f.0) h)
+read_by base limit code fault (Err e) h f = tt
+
+-- what is found, where it is a fault
+pub some_found : (base limit : ℕ) (code : List ℕ) (found : Option VetFault) (fault : VetFault) → found ≡ Some fault
+    → MatchOption found ((other : VetFault) → IsOfReading other → ¬ HasFault base limit code other)
+    (λ read. IsOfReading read × HasFault base limit code read)
+    → IsOfReading fault × HasFault base limit code fault
+some_found base limit code None fault e f = absurd cc
+some_found base limit code (Some read) fault e f =
+    let same : read ≡ fault = cc in
+    (subst IsOfReading same f.0, subst (HasFault base limit code) same f.1)
+
+-- where it is none
+pub none_found : (base limit : ℕ) (code : List ℕ) (found : Option VetFault) → found ≡ None
+    → MatchOption found ((other : VetFault) → IsOfReading other → ¬ HasFault base limit code other)
+    (λ read. IsOfReading read × HasFault base limit code read)
+    → (other : VetFault) → IsOfReading other → ¬ HasFault base limit code other
+none_found base limit code None e f = f
+none_found base limit code (Some read) e f = absurd cc

@@ -18,9 +18,9 @@ none_spelled = λ before after p e. absurd (split_none before after p e)
 -- instructions with one more
 pub spelled_push : (front : List Piece) (p : Piece) → AreSpelled front → Spells p.bytes p.instr → AreSpelled (front ++ p ∷ [])
 spelled_push front p s spells = λ before after q e. elim (split_push front before after p q e) [
-    | inl w ↦ subst (λ (x : Piece). Spells x.bytes x.instr) w.1 spells
-    | inr w ↦ s before w.0 q w.1
-  ]
+  | inl w ↦ subst (λ (x : Piece). Spells x.bytes x.instr) w.1 spells
+  | inr w ↦ s before w.0 q w.1
+]
 
 -- at most one instruction is at the front
 one_at_front : (bytes : List ℕ) (i j : Instr) → IsAtFront bytes i → IsAtFront bytes j → i ≡ j

@@ -1,9 +1,10 @@
 //! The other bundles of a refused chunk, each read by itself.
 
-ghost use Rattle.std.specs.Prelude.{◌≡◌, ◌++◌, ◌+◌, ◌/◌, ◌<◌, ℕ, List, length, take, MatchOption, IfOk, IfErr, OnOk, OnErr};
+ghost use Rattle.std.specs.Prelude.{◌≡◌, ◌≢◌, ◌++◌, ◌+◌, ◌/◌, ◌<◌, ℕ, List, length, take, MatchOption, IfOk, IfErr, OnOk, OnErr};
 ghost use Rattle.std.specs.Io.KnownBytes.{Appends};
 ghost use Rattle.nc_vet.specs.Faults.{HasFault, HasGoodSpan};
 ghost use Rattle.nc_vet.specs.declared.fault.VetFault.{VetFault};
+ghost use Rattle.nc_vet.specs.declared.fault.VetFault.TheVariants as vet;
 ghost use Rattle.nc_report.specs.Report.{IsOfReading, ExplainsBundle, ExplainsOther, ExplainsOthers};
 ghost use Rattle.nc_report.specs.machinery.Found.{IsOfWriting, AddsLines, WritesLines, CutsLines, AreSomeOthers};
 
@@ -18,6 +19,20 @@ use std::io::Write;
 /// So many bytes of text are written at a time, or somewhat more.
 const PIECE: usize = 65536;
 
+/// The fault, if the reading of a bundle shows it. Lack of memory is no verdict.
+fn of_reading(fault: VetFault) -> Result<Option<VetFault>, AllocError>
+    ensures { IfOk result (λ found. MatchOption found ((fault ≢ vet.OutOfMemory) × ¬ IsOfReading fault)
+        (λ read. (read ≡ fault) × IsOfReading read)) }
+{
+    match fault {
+        VetFault::NotPermitted { .. } => Ok(Some(fault)),
+        VetFault::Crosses { .. } => Ok(Some(fault)),
+        VetFault::Bare { .. } => Ok(Some(fault)),
+        VetFault::OutOfMemory => Err(AllocError),
+        _ => Ok(None),
+    }
+}
+
 /// The fault that a bundle has when it is read by itself, if there is one. What its transfers go to isn't judged.
 fn read_fault(
     alloc: Global,
@@ -25,17 +40,14 @@ fn read_fault(
     limit: u32,
     bundle: &[u8],
 ) -> Result<Option<VetFault>, AllocError>
-    requires { HasGoodSpan address limit (length bundle.now) }
     ensures { IfOk result (λ found. MatchOption found
         ((fault : VetFault) → IsOfReading fault → ¬ HasFault address limit bundle.now fault)
         (λ fault. IsOfReading fault × HasFault address limit bundle.now fault)) }
 {
-    match judge(alloc, address, limit, bundle) {
-        Ok(_) => Ok(None),
-        Err(VetFault::BadTarget { .. }) => Ok(None),
-        Err(VetFault::OutOfMemory) => Err(AllocError),
-        Err(fault) => Ok(Some(fault)),
-    }
+    let Err(fault) = judge(alloc, address, limit, bundle) else {
+        return Ok(None);
+    };
+    of_reading(fault)
 }
 
 /// Adds what is said of a bundle, if it has a fault when it is read by itself.

@@ -106,8 +106,10 @@ fn write_more<W: Write>(
         (AreSomeMore detail limit base code.now fault)) }
     ensures faults { IfErr result IsOfWriting }
 {
-    if detail != Detail::All {
-        return Ok(());
+    match detail {
+        Detail::Brief => return Ok(()),
+        Detail::Usual => return Ok(()),
+        Detail::All => {}
     }
     let Some(at) = place_of(fault) else {
         return Ok(());
