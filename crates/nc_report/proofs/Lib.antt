@@ -1,0 +1,6 @@
+mod BundleFaults
+mod ReadFronts
+mod BundleLines
+mod Placed
+mod OtherBundles
+mod RefusedTexts

@@ -1,0 +1,2 @@
+-- Machinery of the proofs, cited by no public contract: what is found before it is written, and what of it was written.
+pub mod Found
