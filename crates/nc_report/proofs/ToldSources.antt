@@ -71,6 +71,28 @@ told_more limit base d values name names verdict verdicts before mid after count
           (Appends-trans before mid after (texts h.each) told.text h.written t.written);
     }
 
+-- the next name and verdict
+pub told_next : (limit base : ℕ) (d : Detail) (values : List SourceValue) (left names : List (Vec ℕ)) (rest verdicts : List AVerdict)
+    (name : Vec ℕ) (verdict : AVerdict) (before after : Option (List ℕ)) (count : ℕ)
+    → HasToldSome limit base d values left rest before after count → left ≡ name ∷ names → rest ≡ verdict ∷ verdicts
+    → HasToldSome limit base d values (name ∷ names) (verdict ∷ verdicts) before after count
+told_next limit base d values left names rest verdicts name verdict before after count h e f =
+    subst (λ (vs : List AVerdict). HasToldSome limit base d values (name ∷ names) vs before after count) f
+    (subst (λ (ns : List (Vec ℕ)). HasToldSome limit base d values ns rest before after count) e h)
+
+-- one, or nothing
+abbrev bit : Bool → ℕ
+bit b = cond b 1 0
+
+-- one source counts as one at most
+pub one_or_none : (limit base : ℕ) (d : Detail) (name code : List ℕ) (before after : Option (List ℕ)) (count : ℕ)
+    → TellsOne limit base d name code before after count → count ≤ 1
+one_or_none limit base d name code before after count t = omega (arith, t.counted, small t.told.refused)
+  where
+    small : (b : Bool) → bit b ≤ 1
+    small true = omega arith
+    small false = omega arith
+
 -- of the next source only a beginning was written
 pub told_cut : (limit base : ℕ) (d : Detail) (values : List SourceValue) (name : Vec ℕ) (names : List (Vec ℕ)) (verdict : AVerdict)
     (verdicts : List AVerdict) (before mid after : Option (List ℕ)) (count : ℕ)
