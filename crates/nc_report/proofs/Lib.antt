@@ -4,3 +4,6 @@ mod BundleLines
 mod Placed
 mod OtherBundles
 mod RefusedTexts
+mod ToldSources
+mod Counted
+mod BitCounts

@@ -22,15 +22,27 @@ abbrev OthersAt : ℕ → ℕ → List ℕ → ℕ → List (List ℕ) → Optio
 OthersAt limit base code count lines at =
     MatchOption at (lines ≡ []) (λ at. ExplainsOthers limit base code ((at - base) / 32) count lines)
 
+-- where they aren't asked for, there are none
+pub brief_more : (limit base : ℕ) (d : Detail) (code : List ℕ) (fault : VetFault) (count : ℕ) → d ≡ Brief
+    → AreMore d limit base code fault count []
+brief_more limit base d code fault count e = subst (λ (x : Detail). AreMore x limit base code fault count []) (sym e) refl
+
+pub usual_more : (limit base : ℕ) (d : Detail) (code : List ℕ) (fault : VetFault) (count : ℕ) → d ≡ Usual
+    → AreMore d limit base code fault count []
+usual_more limit base d code fault count e = subst (λ (x : Detail). AreMore x limit base code fault count []) (sym e) refl
+
 -- where a fault has no address, there are none
-pub none_more : (limit base : ℕ) (code : List ℕ) (fault : VetFault) (count : ℕ) → place_of fault ≡ None
-    → AreMore detail.All limit base code fault count []
-none_more limit base code fault count e = subst (OthersAt limit base code count []) (sym e) refl
+pub none_more : (limit base : ℕ) (d : Detail) (code : List ℕ) (fault : VetFault) (count : ℕ) → d ≡ detail.All → place_of fault ≡ None
+    → AreMore d limit base code fault count []
+none_more limit base d code fault count is e =
+    subst (λ (x : Detail). AreMore x limit base code fault count []) (sym is) (subst (OthersAt limit base code count []) (sym e) refl)
 
 -- where it has one, they are those on the bundles besides its own
-pub some_more : (limit base : ℕ) (code : List ℕ) (fault : VetFault) (count at : ℕ) (lines : List (List ℕ)) → place_of fault ≡ Some at
-    → ExplainsOthers limit base code ((at - base) / 32) count lines → AreMore detail.All limit base code fault count lines
-some_more limit base code fault count at lines e h = subst (OthersAt limit base code count lines) (sym e) h
+pub some_more : (limit base : ℕ) (d : Detail) (code : List ℕ) (fault : VetFault) (count at : ℕ) (lines : List (List ℕ)) → d ≡ detail.All
+    → place_of fault ≡ Some at → ExplainsOthers limit base code ((at - base) / 32) count lines
+    → AreMore d limit base code fault count lines
+some_more limit base d code fault count at lines is e h =
+    subst (λ (x : Detail). AreMore x limit base code fault count lines) (sym is) (subst (OthersAt limit base code count lines) (sym e) h)
 
 -- nothing more is written
 pub nothing_more : (before : Option (List ℕ)) (out : List ℕ) (Says : List (List ℕ) → Type 0) → Says [] → WritesLines before before out out Says

@@ -63,8 +63,9 @@ fn tell_all<W: Write>(
         let Some(name) = left.next() else {
             return Ok(refused);
         };
-        if tell(alloc, &name, &verdict, base, limit, detail, writer)? {
-            refused += 1;
+        match tell(alloc, name, verdict, base, limit, detail, writer) {
+            Ok(more) => refused += more,
+            Err(fault) => return Err(fault),
         }
     }
     Ok(refused)
@@ -117,7 +118,10 @@ pub fn report<W: Write, T: Threads + Wait + Sync>(
     let Ok(verdicts) = vet_all(rt, jobs, workers, &Open) else {
         return Err(ReportFault::OutOfMemory);
     };
-    let refused = tell_all(alloc, names, verdicts, base, limit, detail, writer)?;
+    let refused = match tell_all(alloc, names, verdicts, base, limit, detail, writer) {
+        Ok(refused) => refused,
+        Err(fault) => return Err(fault),
+    };
     match writer.flush() {
         Ok(()) => Ok(refused),
         Err(_) => Err(ReportFault::WriteFailed),

@@ -1,10 +1,11 @@
 //! What is written of one source.
 
-ghost use Rattle.std.specs.Prelude.{◌≡◌, ◌/◌, ℕ, List, length, IfOk, IfErr, OnOk, OnErr};
+ghost use Rattle.std.specs.Prelude.{◌≡◌, ◌/◌, ◌++◌, ℕ, List, length, IfOk, IfErr, OnOk, OnErr};
 ghost use Rattle.std.specs.Io.KnownBytes.{Appends};
 ghost use Rattle.nc_vet.specs.Faults.{HasFault};
-ghost use Rattle.nc_report.specs.Report.{IsAccepted, IsRefused, Tells};
-ghost use Rattle.nc_report.specs.machinery.Found.{IsFinding, code_in, IsPlaced, AddsAccepted, AddsRefused};
+ghost use Rattle.nc_lines.specs.Replies.{reply_line};
+ghost use Rattle.nc_report.specs.Report.{said_of, accepted_words, IsAccepted, IsRefused};
+ghost use Rattle.nc_report.specs.machinery.Found.{IsFinding, code_in, IsPlaced, AddsAccepted, AddsRefused, TellsOne};
 ghost use Rattle.nc_report.specs.machinery.Found.{IsOfWriting, IsCutOff, WritesLines, CutsLines, AreMore, AreSomeMore};
 
 use crate::counting::count_instructions;
@@ -20,22 +21,40 @@ use nc_work::Verdict;
 use std::alloc::{AllocError, Global};
 use std::io::Write;
 
+/// Adds the verdict on a source that is accepted.
+fn push_ok(
+    alloc: Global,
+    out: &mut Vec<u8>,
+    name: &[u8],
+    bytes: usize,
+    instructions: usize,
+) -> Result<(), AllocError>
+    ensures { OnOk result (out.new.items ≡ out.old.items ++ said_of name.now (reply_line (accepted_words bytes instructions))) }
+{
+    out.extend_from_slice(name)?;
+    out.extend_from_slice(b": ok, ")?;
+    push_number(alloc, out, bytes)?;
+    out.extend_from_slice(b" bytes, ")?;
+    push_number(alloc, out, instructions)?;
+    out.extend_from_slice(b" instructions\n")
+}
+
 /// Adds what is said of a source that is accepted.
 fn push_accepted(
     alloc: Global,
     out: &mut Vec<u8>,
     name: &[u8],
     chunk: &Vetted,
+    detail: Detail,
 ) -> Result<(), AllocError>
-    ensures { OnOk result (AddsAccepted out.old.items out.new.items name.now chunk.now.code) }
+    ensures { OnOk result (AddsAccepted out.old.items out.new.items detail name.now chunk.now) }
 {
-    let count = count_instructions(chunk);
-    out.extend_from_slice(name)?;
-    out.extend_from_slice(b": ok, ")?;
-    push_number(alloc, out, chunk.code().len())?;
-    out.extend_from_slice(b" bytes, ")?;
-    push_number(alloc, out, count)?;
-    out.extend_from_slice(b" instructions\n")
+    let bytes = chunk.code().len();
+    match detail {
+        Detail::Brief => Ok(()),
+        Detail::Usual => push_ok(alloc, out, name, bytes, count_instructions(chunk)),
+        Detail::All => push_ok(alloc, out, name, bytes, count_instructions(chunk)),
+    }
 }
 
 /// Writes what is said of a source that is accepted.
@@ -54,10 +73,7 @@ fn tell_accepted<W: Write>(
     ensures faults { IfErr result IsOfWriting }
 {
     let mut out = Vec::new(alloc);
-    if detail == Detail::Brief {
-        return Ok(());
-    }
-    match push_accepted(alloc, &mut out, name, chunk) {
+    match push_accepted(alloc, &mut out, name, chunk, detail) {
         Ok(()) => {}
         Err(_) => return Err(ReportFault::OutOfMemory),
     }
@@ -150,32 +166,30 @@ fn tell_refused<W: Write>(
     }
 }
 
-/// Writes what is said of a source with this verdict, and says whether it is refused.
+/// Writes what is said of a source with this verdict, and gives how many are refused: one or none.
 pub(crate) fn tell<W: Write>(
     alloc: Global,
-    name: &[u8],
-    verdict: &Verdict,
+    name: Vec<u8>,
+    verdict: Verdict,
     base: u32,
     limit: u32,
     detail: Detail,
     writer: &mut W,
-) -> Result<bool, ReportFault>
-    requires { IsFinding base limit verdict.now }
-    ensures ok { IfOk result (λ refused. (text : List ℕ)
-        × Tells limit base detail name.now (code_in verdict.now) (record { refused = refused; text = text })
-        × Appends (W.contents writer.old) (W.contents writer.new) text) }
+) -> Result<usize, ReportFault>
+    requires { IsFinding base limit verdict }
+    ensures ok { IfOk result (TellsOne limit base detail name.items (code_in verdict) (W.contents writer.old) (W.contents writer.new)) }
     ensures cut { OnErr result
-        (IsCutOff limit base detail name.now (code_in verdict.now) (W.contents writer.old) (W.contents writer.new)) }
+        (IsCutOff limit base detail name.items (code_in verdict) (W.contents writer.old) (W.contents writer.new)) }
     ensures faults { IfErr result IsOfWriting }
 {
     match verdict {
-        Ok(chunk) => match tell_accepted(alloc, name, chunk, detail, writer) {
-            Ok(()) => Ok(false),
+        Ok(chunk) => match tell_accepted(alloc, &name, &chunk, detail, writer) {
+            Ok(()) => Ok(0),
             Err(fault) => Err(fault),
         },
         Err((code, fault)) => {
-            match tell_refused(alloc, name, base, limit, code, *fault, detail, writer) {
-                Ok(()) => Ok(true),
+            match tell_refused(alloc, &name, base, limit, &code, fault, detail, writer) {
+                Ok(()) => Ok(1),
                 Err(fault) => Err(fault),
             }
         }

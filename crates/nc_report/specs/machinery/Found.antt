@@ -1,6 +1,6 @@
 -- Machinery of the proofs, cited by no public contract: verdicts with the names of their sources, and what was written.
 use Rattle.std.specs.Prelude.{◌≡◌, ◌≢◌, ℕ, ◌+◌, ◌-◌, ◌/◌, ◌%◌, ◌<◌, ◌≤◌, ◌⊎◌, Bool, List, [], ◌∷◌, ◌++◌, length, take, Result, Ok, Err, ⊤}
-use Rattle.std.specs.Prelude.{Option, MatchOption, All}
+use Rattle.std.specs.Prelude.{Option, MatchOption, All, if◌then◌else◌}
 use Rattle.std.specs.List.{AllZip, flat_map, count_by}
 use Rattle.std.specs.Global.{Vec}
 use Rattle.std.specs.Io.KnownBytes.{Appends}
@@ -19,7 +19,7 @@ use Rattle.nc_report.specs.declared.fault.ReportFault.TheVariants.{WriteFailed}
 use Rattle.nc_report.specs.declared.fault.ReportFault.TheVariants as report
 use Rattle.nc_report.specs.declared.source.Source.{Source}
 use Rattle.nc_report.specs.Listing.{barred, ShowsBundle}
-use Rattle.nc_report.specs.Report.{place_of, said_of, accepted_words, Explains, ExplainsOthers, detail_line, IsBeginning, Tells, Told}
+use Rattle.nc_report.specs.Report.{place_of, said_of, accepted_text, Explains, ExplainsOthers, detail_line, IsBeginning, Tells, Told}
 
 -- a verdict is true of the code in it
 abbrev pub IsFinding : ℕ → ℕ → Result MarkedChunk (Vec ℕ × VetFault) → Type 0
@@ -96,10 +96,18 @@ pub record HasInstructions (code : List ℕ) (count : ℕ) : Type 0 where
   pub counted : count ≡ length pieces
 
 -- what is said of a valid chunk was added
-pub record AddsAccepted (old new name code : List ℕ) : Type 0 where
+pub record AddsAccepted (old new : List ℕ) (detail : Detail) (name : List ℕ) (chunk : MarkedChunk) : Type 0 where
+  pub valid : IsValid chunk
   pub count : ℕ
-  pub has : HasInstructions code count
-  pub added : new ≡ old ++ said_of name (reply_line (accepted_words (length code) count))
+  pub has : HasInstructions chunk.code count
+  pub added : new ≡ old ++ accepted_text detail name (length chunk.code) count
+
+-- what is to be written of a source was written, and so many are refused, one or none
+pub record TellsOne (limit base : ℕ) (detail : Detail) (name code : List ℕ) (before after : Option (List ℕ)) (count : ℕ) : Type 0 where
+  pub told : Told
+  pub tells : Tells limit base detail name code told
+  pub counted : count ≡ (if told.refused then 1 else 0)
+  pub written : Appends before after told.text
 
 -- the lines on a fault, where they are asked for
 abbrev pub AreFirst : Detail → ℕ → List ℕ → VetFault → List (List ℕ) → Type 0
