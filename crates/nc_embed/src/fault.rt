@@ -7,6 +7,17 @@ use std::alloc::AllocError;
 use std::io;
 use thiserror::Error;
 
+/// Why code isn't loaded.
+#[derive(Clone, Copy, Debug, Drop, PartialEq, Eq, Error)]
+pub enum LoadFault {
+    /// The code is no valid chunk.
+    #[error("not admitted: {0}")]
+    NotAdmitted(VetFault),
+    /// The region has no place for it, or memory is out.
+    #[error("not created: {0}")]
+    NotCreated(CreateFault),
+}
+
 /// Why the host gives up: a call's own fault, or what only a host has.
 #[derive(Debug, Drop, Error)]
 pub enum HostFault {
@@ -14,10 +25,8 @@ pub enum HostFault {
     Gens(#[from] GensFault),
     #[error("no region: {0}")]
     Region(#[from] RegionFault),
-    #[error("not admitted: {0}")]
-    Vet(#[from] VetFault),
-    #[error("not created: {0}")]
-    Create(#[from] CreateFault),
+    #[error("{0}")]
+    Load(#[from] LoadFault),
     #[error("not patched: {0}")]
     Modify(#[from] ModifyFault),
     #[error("not deleted: {0}")]
@@ -26,8 +35,6 @@ pub enum HostFault {
     Walk(#[from] WalkFault),
     #[error("no thread was started")]
     NoThread,
-    #[error("too few seats")]
-    NoSeat,
     #[error(transparent)]
     Memory(#[from(alloc)] AllocError),
     #[error(transparent)]

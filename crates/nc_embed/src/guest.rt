@@ -4,40 +4,25 @@ ghost use Rattle.std.specs.Prelude.{◌≡◌};
 
 use crate::code::{BASE, FIRST_SERVICE, SECOND_SERVICE, THIRD};
 use crate::fault::HostFault;
-use crate::turns::Turns;
+use crate::turns::{DELETED, OTHER_MAY_GO, PATCHED, RELOADED, Turns};
 use nc_gens::Pass;
 use nc_region::{End, Shared};
 use std::sync::Wait;
 
-/// The turns: both threads have been inside once; the code is patched; both are inside; the code is deleted; the first
-/// thread is outside and has checked in; the second may go out; it has left; other code stands there.
-pub const BOTH_RUN: u32 = 2;
-
-pub const PATCHED: u32 = 3;
-
-pub const BOTH_INSIDE: u32 = 5;
-
-pub const DELETED: u32 = 6;
-
-pub const ONE_CHECKED_IN: u32 = 7;
-
-pub const OTHER_MAY_GO: u32 = 8;
-
-pub const OTHER_LEFT: u32 = 9;
-
-pub const RELOADED: u32 = 10;
-
-/// What a thread saw: how many of its walks ended where none may, and where its last walks ended.
+/// What a thread saw: how many of its walks ended where none may, how its last walk in the deleted code ended, and how one in
+/// the new code did.
 #[derive(Clone, Copy, Debug, Drop)]
 pub struct Seen {
     pub astray: u64,
-    pub after_delete: End,
-    pub after_reload: Option<End>,
+    pub in_deleted: End,
+    pub in_new: Option<End>,
 }
 
-/// One time inside. A real host saves its own registers and stack, loads those of the untrusted code, and jumps to `start`,
-/// which has to be a bundle start of the region. Control comes back at a bundle start of the trampoline zone; the host clears
-/// the direction flag there before it does anything else.
+/// One time inside, from a bundle start of the region. It answers where the thread came, and how that ended.
+///
+/// The walk stands where a real host saves its own stack and registers, loads those of the untrusted code and jumps there,
+/// without the lock. Control comes back at a bundle start of the trampoline zone, or by the signal of a stop. There the host
+/// first clears the direction flag and takes its own stack, and believes no register.
 fn run_inside(
     rt: &impl Wait,
     shared: &Shared<'_>,
@@ -49,7 +34,7 @@ fn run_inside(
     Ok((last, trace.end))
 }
 
-/// Runs the code again and again until it is patched, and checks in between: while this thread is outside, and only then.
+/// Runs the code again and again until it is patched. Between two times inside the thread is outside: only there it checks in.
 fn serve(
     rt: &impl Wait,
     shared: &Shared<'_>,
@@ -76,7 +61,7 @@ fn serve(
     Ok(astray)
 }
 
-/// Goes inside, and stands there in the third bundle while the host deletes the code; then goes on to where that leads.
+/// Goes inside, and stands there in the third bundle while the host deletes the code; then goes on from where it stands.
 fn stand_inside(
     rt: &impl Wait,
     shared: &Shared<'_>,
@@ -90,7 +75,7 @@ fn stand_inside(
     Ok(end)
 }
 
-/// The first thread's time with its pass: it stays, checks in once more, and runs what stands there next.
+/// The first thread's time with its pass. Once it is outside it checks in, and so it may come back for what is loaded next.
 fn stay(
     rt: &impl Wait,
     shared: &Shared<'_>,
@@ -101,19 +86,19 @@ fn stay(
     ensures { pass.new.table ≡ pass.old.table }
 {
     let astray = serve(rt, shared, turns, pass)?;
-    let after_delete = stand_inside(rt, shared, turns, DELETED)?;
+    let in_deleted = stand_inside(rt, shared, turns, DELETED)?;
     shared.check_in(pass);
     turns.pass_on(rt);
     turns.wait_for(rt, RELOADED);
     let (_, end) = run_inside(rt, shared, BASE, &[0, FIRST_SERVICE])?;
     Ok(Seen {
         astray,
-        after_delete,
-        after_reload: Some(end),
+        in_deleted,
+        in_new: Some(end),
     })
 }
 
-/// The second thread's time with its pass: it goes out only after the first, and has nothing to do then.
+/// The second thread's time with its pass: it is inside for longer than the first.
 fn go(
     rt: &impl Wait,
     shared: &Shared<'_>,
@@ -124,16 +109,16 @@ fn go(
     ensures { pass.new.table ≡ pass.old.table }
 {
     let astray = serve(rt, shared, turns, pass)?;
-    let after_delete = stand_inside(rt, shared, turns, OTHER_MAY_GO)?;
+    let in_deleted = stand_inside(rt, shared, turns, OTHER_MAY_GO)?;
     Ok(Seen {
         astray,
-        after_delete,
-        after_reload: None,
+        in_deleted,
+        in_new: None,
     })
 }
 
-/// A thread's whole life. Whatever came, it leaves at the end, outside and for good: a pass that is only dropped would hold
-/// back every later stamp.
+/// A thread's whole life. Whatever came, it leaves at its end, outside and for good: a pass that is only dropped holds back
+/// every later stamp.
 pub fn live(
     rt: &impl Wait,
     shared: &Shared<'_>,

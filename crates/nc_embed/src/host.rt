@@ -3,9 +3,9 @@
 ghost use Rattle.std.specs.Prelude.{◌≡◌};
 
 use crate::code::{BARE, BASE, BUNDLES, LIMIT, MASKED, SWITCH, SWITCHED, bundles};
-use crate::fault::HostFault;
-use crate::guest::{BOTH_INSIDE, BOTH_RUN, ONE_CHECKED_IN, OTHER_LEFT, Seen, live};
-use crate::turns::Turns;
+use crate::fault::{HostFault, LoadFault};
+use crate::guest::{Seen, live};
+use crate::turns::{BOTH_INSIDE, BOTH_RAN, ONE_CHECKED_IN, OTHER_LEFT, Turns};
 use nc_gens::{Gens, Pass};
 use nc_region::{CreateFault, Region, Shared};
 use nc_vet::vet;
@@ -15,19 +15,57 @@ use std::thread;
 use std::thread::Threads;
 
 /// Vets code without the lock, however long that takes, and takes the lock only for what has passed.
-fn load(rt: &impl Wait, shared: &Shared<'_>, base: u32, code: Vec<u8>) -> Result<(), HostFault> {
-    let vetted = vet(base, LIMIT, code).map_err(|(_code, fault)| fault)?;
-    shared.create(rt, vetted).map_err(|(_vetted, fault)| fault)?;
-    Ok(())
+fn load(rt: &impl Wait, shared: &Shared<'_>, base: u32, code: Vec<u8>) -> Result<(), LoadFault> {
+    let vetted = vet(base, LIMIT, code).map_err(|(_code, fault)| LoadFault::NotAdmitted(fault))?;
+    shared
+        .create(rt, vetted)
+        .map_err(|(_vetted, fault)| LoadFault::NotCreated(fault))
 }
 
-/// What the host does before any thread runs: code that is refused, and code that is loaded.
+/// Before any thread runs: code that is refused never comes to the lock, and other code is loaded.
 fn open<R: Wait + Print>(rt: &R, alloc: Global, shared: &Shared<'_>) -> Result<(), HostFault> {
     if let Err(fault) = load(rt, shared, BASE, bundles(alloc, &BARE)?) {
-        println!(rt; "bare jump: {fault}")?;
+        println!(rt; "a bare jump: {fault}")?;
     }
     load(rt, shared, BASE, bundles(alloc, &SWITCH)?)?;
     println!(rt; "loaded at {BASE:08x}")?;
+    Ok(())
+}
+
+/// While both threads run the code: a patch, and a deletion. No thread is stopped for either.
+fn change<R: Wait + Print>(rt: &R, shared: &Shared<'_>, turns: &Turns) -> Result<(), HostFault> {
+    turns.wait_for(rt, BOTH_RAN);
+    shared.modify(rt, BASE, &SWITCHED)?;
+    println!(rt; "patched while both ran")?;
+    turns.pass_on(rt);
+    turns.wait_for(rt, BOTH_INSIDE);
+    let stamp = shared.delete(rt, BASE)?;
+    let freed = shared.reclaim(rt);
+    println!(rt; "deleted with stamp {stamp} while both stood inside: {freed} freed")?;
+    turns.pass_on(rt);
+    Ok(())
+}
+
+/// The span is used again only after each seat has checked in since, or has left.
+fn load_again<R: Wait + Print>(
+    rt: &R,
+    alloc: Global,
+    shared: &Shared<'_>,
+    turns: &Turns,
+) -> Result<(), HostFault> {
+    turns.wait_for(rt, ONE_CHECKED_IN);
+    let freed = shared.reclaim(rt);
+    println!(rt; "one has checked in: {freed} freed")?;
+    if let Err(fault) = load(rt, shared, BASE, bundles(alloc, &MASKED)?) {
+        println!(rt; "other code there: {fault}")?;
+    }
+    turns.pass_on(rt);
+    turns.wait_for(rt, OTHER_LEFT);
+    let freed = shared.reclaim(rt);
+    println!(rt; "the other has left: {freed} freed")?;
+    load(rt, shared, BASE, bundles(alloc, &MASKED)?)?;
+    println!(rt; "other code there: loaded")?;
+    turns.pass_on(rt);
     Ok(())
 }
 
@@ -38,29 +76,8 @@ fn work<R: Wait + Print>(
     shared: &Shared<'_>,
     turns: &Turns,
 ) -> Result<(), HostFault> {
-    turns.wait_for(rt, BOTH_RUN);
-    shared.modify(rt, BASE, &SWITCHED)?;
-    println!(rt; "patched while both ran")?;
-    turns.pass_on(rt);
-    turns.wait_for(rt, BOTH_INSIDE);
-    let stamp = shared.delete(rt, BASE)?;
-    let freed = shared.reclaim(rt);
-    println!(rt; "deleted with stamp {stamp}; both inside: freed {freed}")?;
-    turns.pass_on(rt);
-    turns.wait_for(rt, ONE_CHECKED_IN);
-    let freed = shared.reclaim(rt);
-    println!(rt; "one has checked in: freed {freed}")?;
-    if let Err(fault) = load(rt, shared, BASE, bundles(alloc, &MASKED)?) {
-        println!(rt; "the span is not free: {fault}")?;
-    }
-    turns.pass_on(rt);
-    turns.wait_for(rt, OTHER_LEFT);
-    let freed = shared.reclaim(rt);
-    println!(rt; "the other has left: freed {freed}")?;
-    load(rt, shared, BASE, bundles(alloc, &MASKED)?)?;
-    println!(rt; "loaded at {BASE:08x}")?;
-    turns.pass_on(rt);
-    Ok(())
+    change(rt, shared, turns)?;
+    load_again(rt, alloc, shared, turns)
 }
 
 /// Two threads, each with a pass of its own, and the host beside them. Whoever fails lets the others go.
@@ -105,6 +122,18 @@ fn run_both<R: Threads + Wait + Print + Sync>(
     )
 }
 
+/// Shows what a thread saw.
+fn show<R: Print>(rt: &R, who: &str, seen: Seen) -> Result<(), HostFault> {
+    println!(rt;
+        "{who}: {} astray, {:?} in the deleted code",
+        seen.astray, seen.in_deleted
+    )?;
+    if let Some(end) = seen.in_new {
+        println!(rt; "{who}: {end:?} in the new code")?;
+    }
+    Ok(())
+}
+
 /// The whole story, from the seats to the last thread's leave.
 pub fn run<R: Threads + Wait + Print + Sync>(rt: &R, alloc: Global) -> Result<(), HostFault> {
     let (gens, keeper, mut passes) = Gens::new(alloc, 2)?;
@@ -114,16 +143,10 @@ pub fn run<R: Threads + Wait + Print + Sync>(rt: &R, alloc: Global) -> Result<()
     let shared = Shared::new(region);
     open(rt, alloc, &shared)?;
     let (first, second) = run_both(rt, alloc, &shared, one, other)?;
-    println!(rt;
-        "the first thread: {} astray, {:?}, {:?}",
-        first.astray, first.after_delete, first.after_reload
-    )?;
-    println!(rt;
-        "the second thread: {} astray, {:?}",
-        second.astray, second.after_delete
-    )?;
+    show(rt, "the first thread", first)?;
+    show(rt, "the second thread", second)?;
     shared.delete(rt, BASE)?;
     let freed = shared.reclaim(rt);
-    println!(rt; "all have left: freed {freed}")?;
+    println!(rt; "all have left: {freed} freed")?;
     Ok(())
 }

@@ -2,6 +2,24 @@
 
 use std::sync::{Condvar, Mutex, Wait};
 
+// Both threads have run the code; it is patched; both stand inside; it is deleted; the first thread has checked in; the second
+// may go out; it has left; other code stands there.
+pub const BOTH_RAN: u32 = 2;
+
+pub const PATCHED: u32 = 3;
+
+pub const BOTH_INSIDE: u32 = 5;
+
+pub const DELETED: u32 = 6;
+
+pub const ONE_CHECKED_IN: u32 = 7;
+
+pub const OTHER_MAY_GO: u32 = 8;
+
+pub const OTHER_LEFT: u32 = 9;
+
+pub const RELOADED: u32 = 10;
+
 /// The number of a turn, for which threads wait. It only grows.
 #[derive(Drop)]
 pub struct Turns {
