@@ -27,9 +27,6 @@ pub const SWITCH: [[u8; 5]; 3] = [
 /// Its first jump goes to the third bundle.
 pub const SWITCHED: [u8; 2] = [0xEB, 0x3E];
 
-/// The third bundle of the switch.
-pub const THIRD: u32 = BASE + 2 * BUNDLE;
-
 /// A masked jump on ecx: it goes to any bundle start below the limit.
 pub const MASKED: [[u8; 5]; 1] = [[0x83, 0xE1, 0xE0, 0xFF, 0xE1]];
 

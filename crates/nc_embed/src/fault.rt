@@ -8,7 +8,7 @@ use std::io;
 use thiserror::Error;
 
 /// Why code isn't loaded.
-#[derive(Clone, Copy, Debug, Drop, PartialEq, Eq, Error)]
+#[derive(Clone, Copy, Debug, Drop, Error)]
 pub enum LoadFault {
     /// The code is no valid chunk.
     #[error("not admitted: {0}")]

@@ -2,7 +2,7 @@
 
 ghost use Rattle.std.specs.Prelude.{◌≡◌};
 
-use crate::code::{BASE, FIRST_SERVICE, SECOND_SERVICE, THIRD};
+use crate::code::{BASE, FIRST_SERVICE, SECOND_SERVICE};
 use crate::fault::HostFault;
 use crate::turns::{DELETED, OTHER_MAY_GO, PATCHED, RELOADED, Turns};
 use nc_gens::Pass;
@@ -61,17 +61,17 @@ fn serve(
     Ok(astray)
 }
 
-/// Goes inside, and stands there in the third bundle while the host deletes the code; then goes on from where it stands.
+/// Goes inside, and stands there, at the start of the third bundle, while the host deletes the code; then goes on from where it stands.
 fn stand_inside(
     rt: &impl Wait,
     shared: &Shared<'_>,
     turns: &Turns,
     until: u32,
 ) -> Result<End, HostFault> {
-    run_inside(rt, shared, BASE, &[0])?;
+    let (place, _) = run_inside(rt, shared, BASE, &[0])?;
     turns.pass_on(rt);
     turns.wait_for(rt, until);
-    let (_, end) = run_inside(rt, shared, THIRD, &[0])?;
+    let (_, end) = run_inside(rt, shared, place, &[0])?;
     Ok(end)
 }
 

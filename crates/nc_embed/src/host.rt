@@ -7,7 +7,7 @@ use crate::fault::{HostFault, LoadFault};
 use crate::guest::{Seen, live};
 use crate::turns::{BOTH_INSIDE, BOTH_RAN, ONE_CHECKED_IN, OTHER_LEFT, Turns};
 use nc_gens::{Gens, Pass};
-use nc_region::{CreateFault, Region, Shared};
+use nc_region::{Region, Shared};
 use nc_vet::vet;
 use std::alloc::Global;
 use std::sync::Wait;
@@ -16,10 +16,14 @@ use std::thread::Threads;
 
 /// Vets code without the lock, however long that takes, and takes the lock only for what has passed.
 fn load(rt: &impl Wait, shared: &Shared<'_>, base: u32, code: Vec<u8>) -> Result<(), LoadFault> {
-    let vetted = vet(base, LIMIT, code).map_err(|(_code, fault)| LoadFault::NotAdmitted(fault))?;
-    shared
-        .create(rt, vetted)
-        .map_err(|(_vetted, fault)| LoadFault::NotCreated(fault))
+    let vetted = match vet(base, LIMIT, code) {
+        Ok(vetted) => vetted,
+        Err((_code, fault)) => return Err(LoadFault::NotAdmitted(fault)),
+    };
+    match shared.create(rt, vetted) {
+        Ok(()) => Ok(()),
+        Err((_vetted, fault)) => Err(LoadFault::NotCreated(fault)),
+    }
 }
 
 /// Before any thread runs: code that is refused never comes to the lock, and other code is loaded.
