@@ -12,7 +12,9 @@ use nc_vet::vet;
 use std::alloc::Global;
 use std::sync::{Mutex, Wait};
 
-/// Vets code and creates it: afterwards the chunk stands there, or nothing has changed.
+/// Vets code and creates it: afterwards the chunk stands there, or nothing has changed but that pages may have been made.
+///
+/// It vets while the region is lent. Once other threads wait for the lock, vet first, and take the lock for `create` only.
 pub fn load<A: Acts + Drop>(
     region: &mut RegionOf<A>,
     base: u32,
@@ -20,7 +22,7 @@ pub fn load<A: Acts + Drop>(
 ) -> Result<(), LoadFault>
     // The code was a valid chunk, its bytes and marks stand in its span, and all else is as before.
     ensures loaded { OnOk result (IsLoaded region.old region.new base code.items) }
-    // Bytes, marks, chunks, keeper and acts are as before.
+    // Bytes, marks, chunks, generation and acts are as before.
     ensures unchanged { OnErr result (IsAsBefore region.old region.new) }
     // Each refusal comes where it is due.
     ensures refused { IfErr result (MayRefuseLoad region.old base code.items) }
