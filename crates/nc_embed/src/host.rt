@@ -2,24 +2,21 @@
 
 ghost use Rattle.std.specs.Prelude.{◌≡◌};
 
+use crate::admitting::admit;
 use crate::code::{BARE, BASE, BUNDLES, LIMIT, MASKED, SWITCH, SWITCHED, bundles};
 use crate::fault::{HostFault, LoadFault};
 use crate::guest::{Seen, live};
 use crate::turns::{BOTH_INSIDE, BOTH_RAN, ONE_CHECKED_IN, OTHER_LEFT, Turns};
 use nc_gens::{Gens, Pass};
 use nc_region::{Region, Shared};
-use nc_vet::vet;
 use std::alloc::Global;
 use std::sync::Wait;
 use std::thread;
 use std::thread::Threads;
 
-/// Vets code without the lock, however long that takes, and takes the lock only for what has passed.
+/// Vets code first, however long that takes, and takes the lock only for what has passed.
 fn load(rt: &impl Wait, shared: &Shared<'_>, base: u32, code: Vec<u8>) -> Result<(), LoadFault> {
-    let vetted = match vet(base, LIMIT, code) {
-        Ok(vetted) => vetted,
-        Err((_code, fault)) => return Err(LoadFault::NotAdmitted(fault)),
-    };
+    let vetted = admit(base, LIMIT, code).map_err(LoadFault::NotAdmitted)?;
     match shared.create(rt, vetted) {
         Ok(()) => Ok(()),
         Err((_vetted, fault)) => Err(LoadFault::NotCreated(fault)),

@@ -5,6 +5,7 @@
 //! makes what is printed the same for every schedule. `image` is a host's own way to executable memory, and `mirrored` uses it.
 #![tactic(auto)]
 
+mod admitting;
 mod code;
 mod fault;
 mod guest;

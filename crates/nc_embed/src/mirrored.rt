@@ -3,12 +3,12 @@
 ghost use Rattle.std.specs.Prelude.{◌≡◌, OnOk, OnErr, IfErr};
 ghost use Rattle.nc_embed.specs.Load.{IsLoaded, IsAsBefore, MayRefuseLoad};
 
+use crate::admitting::admit;
 use crate::code::{BASE, BUNDLES, SWITCH, SWITCHED, bundles};
 use crate::fault::{HostFault, LoadFault};
 use crate::image::Image;
 use nc_gens::Gens;
 use nc_region::{Acts, RegionOf};
-use nc_vet::vet;
 use std::alloc::Global;
 use std::sync::{Mutex, Wait};
 
@@ -27,9 +27,9 @@ pub fn load<A: Acts + Drop>(
     // Each refusal comes where it is due.
     ensures refused { IfErr result (MayRefuseLoad region.old base code.items) }
 {
-    let vetted = match vet(base, region.limit(), code) {
+    let vetted = match admit(base, region.limit(), code) {
         Ok(vetted) => vetted,
-        Err((_code, fault)) => return Err(LoadFault::NotAdmitted(fault)),
+        Err(fault) => return Err(LoadFault::NotAdmitted(fault)),
     };
     match region.create(vetted) {
         Ok(()) => Ok(()),
