@@ -1,10 +1,36 @@
-//! What the program can be asked for.
+//! What the programs can be asked for.
 
-/// What a command line asks for.
+/// What a command line of `nc_replay` asks for.
 #[derive(Clone, Copy, Debug, Drop, PartialEq, Eq)]
 pub enum Ask {
     /// To run a script.
     Replay { bundles: u32, seats: u32 },
     /// To vet lines of chunks.
     Vet { bundles: u32, workers: u32 },
+}
+
+/// How much is said of a file that is judged.
+#[derive(Clone, Copy, Drop)]
+pub enum Said {
+    /// Only the verdict on each file that is refused.
+    Quiet,
+    /// The verdict on each file; and of one that is refused also the bundle of the fault, and what the fault means.
+    Usual,
+    /// As `Usual`, and the first fault of each further bundle.
+    All,
+}
+
+/// What a command line of `nc_check` asks for: to judge the code of files.
+#[derive(Drop)]
+pub struct CheckAsk<'a> {
+    /// The address of each file's first byte.
+    pub base: u32,
+    /// The size of the region in bundles.
+    pub bundles: u32,
+    /// The number of threads that judge.
+    pub workers: u32,
+    /// How much is said of each file.
+    pub said: Said,
+    /// The files, at least one; `-` is standard input.
+    pub files: Vec<&'a str>,
 }

@@ -11,7 +11,7 @@ use nc_gens::MOST_SEATS;
 use std::alloc::{AllocError, Global};
 
 /// An option that takes a number from `least` to `most`.
-fn option<'a>(
+pub(crate) fn option<'a>(
     alloc: Global,
     name: &'a str,
     help: &'a str,
@@ -28,14 +28,26 @@ fn option<'a>(
 }
 
 /// The option for the size of the region.
-fn bundles_option<'a>(alloc: Global) -> Arg<'a> {
+pub(crate) fn bundles_option<'a>(alloc: Global, default: &'a str) -> Arg<'a> {
     option(
         alloc,
         "bundles",
         "Size of the code region in 32-byte bundles, from 2 to 2097152",
         2,
         MAX_BUNDLES,
-        "2048",
+        default,
+    )
+}
+
+/// The option for the number of threads.
+pub(crate) fn workers_option<'a>(alloc: Global) -> Arg<'a> {
+    option(
+        alloc,
+        "workers",
+        "Number of threads that vet, from 1 to 16",
+        1,
+        16,
+        "4",
     )
 }
 
@@ -51,26 +63,18 @@ fn replay_command<'a>(alloc: Global) -> Result<Command<'a>, AllocError> {
     );
     Command::new(alloc, "replay")
         .about("Run a script from standard input and write one reply line for each of its lines")
-        .arg(bundles_option(alloc))?
+        .arg(bundles_option(alloc, "2048"))?
         .arg(seats)
 }
 
 /// The subcommand that vets lines of chunks.
 fn vet_command<'a>(alloc: Global) -> Result<Command<'a>, AllocError> {
-    let workers = option(
-        alloc,
-        "workers",
-        "Number of threads that vet, from 1 to 16",
-        1,
-        16,
-        "4",
-    );
     Command::new(alloc, "vet")
         .about(
             "Vet the chunks on standard input, one `<address> <bytes>` a line, and write one verdict for each",
         )
-        .arg(bundles_option(alloc))?
-        .arg(workers)
+        .arg(bundles_option(alloc, "2048"))?
+        .arg(workers_option(alloc))
 }
 
 /// The whole command line, without the program's own name.
@@ -87,7 +91,7 @@ fn program<'a>(alloc: Global) -> Result<Command<'a>, AllocError> {
 
 /// The number of an option. The option's parser has refused every number outside the range; what is left to do here is
 /// to give some number for the words that it has refused.
-fn number(found: &ArgMatches<'_>, name: &str, least: u32, most: u32) -> u32
+pub(crate) fn number(found: &ArgMatches<'_>, name: &str, least: u32, most: u32) -> u32
     requires { least ≤ most }
     ensures least { least ≤ result }
     ensures most { result ≤ most }
@@ -123,13 +127,16 @@ pub fn ask<'a>(alloc: Global, words: &'a [&'a str]) -> Result<Ask, Error>
 
 /// The fault of a command line with a word that is not valid UTF-8.
 pub fn not_utf8(alloc: Global) -> Error {
-    match program(alloc) {
-        Ok(mut program) => {
-            match program.error(ErrorKind::InvalidValue, "a word is not valid UTF-8 text") {
-                Ok(error) => error,
-                Err(error) => Error::from(error),
-            }
-        }
+    fault(program(alloc), "a word is not valid UTF-8 text")
+}
+
+/// The fault of a value of a program's command line.
+pub(crate) fn fault(program: Result<Command<'_>, AllocError>, message: &str) -> Error {
+    match program {
+        Ok(mut program) => match program.error(ErrorKind::InvalidValue, message) {
+            Ok(error) => error,
+            Err(error) => Error::from(error),
+        },
         Err(error) => Error::from(error),
     }
 }

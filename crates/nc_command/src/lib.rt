@@ -1,11 +1,13 @@
-//! The command line of `nc_replay`: what its words ask for.
+//! The command lines of `nc_replay` and `nc_check`: what their words ask for.
 //!
-//! [`ask`] reads the words by `clap`. It stands in a crate of its own, so that nothing else has to be checked with it: a check
-//! that proves how a command line is built takes long.
+//! [`ask`] and [`ask_check`] read the words by `clap`. They stand in a crate of their own, so that nothing else has to be
+//! checked with them: a check that proves how a command line is built takes long.
 #![tactic(auto)]
 
 mod asked;
+mod checking;
 mod command_line;
 
-pub use asked::Ask;
+pub use asked::{Ask, CheckAsk, Said};
+pub use checking::{ask_check, check_not_utf8};
 pub use command_line::{ask, not_utf8};

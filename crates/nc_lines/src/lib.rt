@@ -19,7 +19,8 @@ mod words;
 
 pub use fault::ReplayFault;
 pub use lines::LINE_LIMIT;
-pub use replies::{push_address, push_fault};
+pub use output::write_out;
+pub use replies::{push_address, push_fault, push_name};
 pub use responder::Responder;
 pub use stream::answer_all;
 pub use vetting::vet_lines;

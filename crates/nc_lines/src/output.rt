@@ -8,7 +8,7 @@ use crate::fault::ReplayFault;
 use std::io::Write;
 
 /// Writes all of the bytes. Any error and a write of no byte is a failure, after which a front of them was written.
-pub(crate) fn write_out<W: Write>(writer: &mut W, bytes: &[u8]) -> Result<(), ReplayFault>
+pub fn write_out<W: Write>(writer: &mut W, bytes: &[u8]) -> Result<(), ReplayFault>
     ensures all { OnOk result (Appends (W.contents writer.old) (W.contents writer.new) bytes.now) }
     ensures front { OnErr result ((n : ℕ) × Appends (W.contents writer.old) (W.contents writer.new) (take n bytes.now)) }
     ensures fault { IfErr result (λ e. e ≡ WriteFailed) }

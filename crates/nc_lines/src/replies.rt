@@ -17,7 +17,7 @@ pub fn push_address(out: &mut Vec<u8>, at: u32) -> Result<(), AllocError>
 }
 
 /// Adds a fault's name, with its place where it has one. Lack of memory is no answer.
-fn push_name(out: &mut Vec<u8>, fault: VetFault) -> Result<(), AllocError>
+pub fn push_name(out: &mut Vec<u8>, fault: VetFault) -> Result<(), AllocError>
     ensures { OnOk result ((fault ≢ vet.OutOfMemory) × (out.new.items ≡ out.old.items ++ fault_words fault)) }
 {
     match fault {

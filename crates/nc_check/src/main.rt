@@ -1,0 +1,83 @@
+//! The program `nc_check`: files of raw code, and the verdict on each.
+//!
+//! `ask_check` of `nc_command` reads the command line. `checking` goes through the files: `files` opens and reads them one
+//! after the other, and once a batch of them is there `report` of `nc_report` judges it and writes what was found. `outcome`
+//! says which status the program ends with, `progress` shows how far it is.
+#![tactic(auto)]
+
+mod checking;
+mod files;
+mod outcome;
+mod progress;
+
+use checking::check_files;
+use clap::error::ErrorKind as ClapKind;
+use nc_command::{CheckAsk, ask_check, check_not_utf8};
+use outcome::Halt;
+use progress::Progress;
+use std::env;
+use std::io::{ErrorKind, Input, IsTerminal};
+use std::process::ExitCode;
+use std::rt::{Env, Files};
+use std::sync::Wait;
+use std::thread::Threads;
+
+/// The words of the command line, the program's own name first.
+fn command_words<R: Env + AllocGlobal>(rt: &R) -> Result<Vec<String>, Halt> {
+    match env::args(rt) {
+        Ok(words) => match words.collect::<Vec<String>>(rt.alloc()) {
+            Ok(words) => Ok(words),
+            Err(_) => Err(Halt::OutOfMemory),
+        },
+        Err(error) if error.kind() == ErrorKind::OutOfMemory => Err(Halt::OutOfMemory),
+        Err(_) => Err(Halt::Words(check_not_utf8(rt.alloc()))),
+    }
+}
+
+/// Does what the command line asks for, and gives the status to end with.
+fn run<R: Threads + Wait + Sync + Env + AllocGlobal + Input + Files + Print + Eprint>(
+    rt: &R,
+    is_terminal: bool,
+) -> Result<u8, Halt> {
+    let words = command_words(rt)?;
+    let mut arguments = Vec::new(rt.alloc());
+    for word in words.iter().skip(1) {
+        match arguments.push(word.as_str()) {
+            Ok(()) => {}
+            Err(_) => return Err(Halt::OutOfMemory),
+        }
+    }
+    let ask: CheckAsk<'_> = match ask_check(rt.alloc(), arguments.as_slice()) {
+        Ok(ask) => ask,
+        Err(error) => return Err(Halt::Words(error)),
+    };
+    let progress = Progress::new(ask.files.len(), is_terminal);
+    check_files(rt, &ask, progress)
+}
+
+/// Prints why the program stops, and gives the status to end with.
+fn stop<R: Print + Eprint>(rt: &R, halt: &Halt) -> u8 {
+    if let Halt::Words(error) = halt {
+        if error.kind() != ClapKind::OutOfMemory {
+            if error.print(rt).is_ok() || error.use_stderr() {
+                return halt.status();
+            }
+            return stop_by(rt, &Halt::WriteFailed);
+        }
+    }
+    stop_by(rt, halt)
+}
+
+/// Prints a fault as one line on standard error. Where that can't be done nothing else is left to do.
+fn stop_by<R: Eprint>(rt: &R, halt: &Halt) -> u8 {
+    let _ = eprintln!(rt; "nc_check: {}", halt.text());
+    halt.status()
+}
+
+fn main(rt: HostRuntime) -> ExitCode {
+    let is_terminal = rt.stderr().is_terminal();
+    match run(&rt, is_terminal) {
+        Ok(status) => ExitCode::from(status),
+        Err(halt) => ExitCode::from(stop(&rt, &halt)),
+    }
+}

@@ -1,0 +1,63 @@
+//! How the program ends.
+
+ghost use Rattle.std.specs.Prelude.{◌≡◌, ◌<◌, ◌↔◌, true, false};
+
+use clap::error::ErrorKind;
+
+/// Why the program stops before it has been through its files.
+#[derive(Debug, Drop)]
+pub enum Halt {
+    /// The words of the command line ask for nothing that can be done, or for help.
+    Words(clap::Error),
+    /// There is no memory.
+    OutOfMemory,
+    /// What was found can't be written.
+    WriteFailed,
+}
+
+impl Halt {
+    /// The status that the program ends with: 0 after help, otherwise 2.
+    pub fn status(&self) -> u8 {
+        match self {
+            Halt::Words(error) => match error.kind() {
+                ErrorKind::DisplayHelp | ErrorKind::DisplayVersion => 0,
+                _ => 2,
+            },
+            _ => 2,
+        }
+    }
+
+    /// The fault in words; a command line's fault has a text of its own, unless that found no memory.
+    pub fn text(&self) -> &'static str {
+        match self {
+            Halt::WriteFailed => "write failed",
+            _ => "out of memory",
+        }
+    }
+}
+
+/// What was found of the files so far.
+#[derive(Clone, Copy, Debug, Drop, PartialEq, Eq)]
+pub struct Outcome {
+    /// A file couldn't be read, or was too long.
+    pub is_faulty: bool,
+    /// A file was refused.
+    pub is_refused: bool,
+}
+
+impl Outcome {
+    /// The status that the program ends with after it has been through its files.
+    pub fn status(self) -> u8
+        ensures faulty { (result ≡ 2) ↔ (self.is_faulty ≡ true) }
+        ensures refused { (result ≡ 1) ↔ ((self.is_faulty ≡ false) × (self.is_refused ≡ true)) }
+        ensures good { (result ≡ 0) ↔ ((self.is_faulty ≡ false) × (self.is_refused ≡ false)) }
+    {
+        if self.is_faulty {
+            2
+        } else if self.is_refused {
+            1
+        } else {
+            0
+        }
+    }
+}

@@ -1,0 +1,44 @@
+-- The number of instructions by marks.
+use Rattle.std.proofs.Common.{◌≡◌, ◌≢◌, ℕ, zero, suc, ◌+◌, ◌-◌, Bool, true, false, List, [], ◌∷◌, ◌++◌, length, map, cond, replicate, refl, sym, ◌∙◌, ap, arith}
+use Rattle.std.specs.List.{sum_by}
+use Rattle.std.proofs.lemmas.List.Sums.{sum_by-cons, sum_by-append}
+use Rattle.nc_decode.specs.declared.instruction.Mark.{Mark}
+use Rattle.nc_decode.specs.declared.instruction.Mark.TheVariants.{Unmarked, Plain, After}
+use Rattle.nc_decode.specs.Transfers.{is_indirect}
+use Rattle.nc_vet.specs.Chunk.{Piece, code_of, AreSpelled, instr_marks, marks_of, mark_of, MarkedChunk, IsValid}
+use Rattle.nc_report.specs.machinery.Found.{HasInstructions}
+use Rattle.nc_report.specs.machinery.Counts.{one}
+
+-- unmarked places count nothing
+none_counted : (n : ℕ) → sum_by one (replicate n Unmarked) ≡ 0
+none_counted zero = refl
+none_counted (suc n) = sum_by-cons one Unmarked (replicate n Unmarked) ∙ ap (λ (k : ℕ). 0 + k) (none_counted n)
+
+-- an instruction has a mark at its first byte
+marked_first : (b : Bool) (r : ℕ) → one (cond b (After r) Plain) ≡ 1
+marked_first true r = refl
+marked_first false r = refl
+
+-- an instruction counts as one
+one_counted : (p : Piece) → sum_by one (instr_marks p.instr) ≡ 1
+one_counted p =
+    sum_by-cons one (mark_of p.instr) (replicate (p.instr.len - 1) Unmarked)
+    ∙ ap (λ (n : ℕ). n + sum_by one (replicate (p.instr.len - 1) Unmarked)) (marked_first (is_indirect p.instr.flow) p.instr.reg)
+    ∙ ap (λ (n : ℕ). 1 + n) (none_counted (p.instr.len - 1))
+
+-- so instructions have as many marks as there are
+pub all_counted : (pieces : List Piece) → sum_by one (marks_of pieces) ≡ length pieces
+all_counted [] = refl
+all_counted (p ∷ ps) =
+    sum_by-append one (instr_marks p.instr) (marks_of ps)
+    ∙ ap (λ (n : ℕ). n + sum_by one (marks_of ps)) (one_counted p)
+    ∙ ap (λ (n : ℕ). 1 + n) (all_counted ps) ∙ omega arith
+
+-- a valid chunk has as many instructions as marks
+pub counted : (c : MarkedChunk) (count : ℕ) → IsValid c → count ≡ sum_by one c.marks → HasInstructions c.code count
+counted c count v e = record {
+  pieces = v.pieces;
+  spelled = v.sound.spelled;
+  parts = v.parts;
+  counted = e ∙ ap (λ (ms : List Mark). sum_by one ms) v.marks_are ∙ all_counted v.pieces;
+}

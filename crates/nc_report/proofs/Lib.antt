@@ -1,0 +1,9 @@
+mod BundleFaults
+mod ReadFronts
+mod BundleLines
+mod Placed
+mod OtherBundles
+mod RefusedTexts
+mod ToldSources
+mod Counted
+mod BitCounts

@@ -1,0 +1,162 @@
+-- The place of a fault: the instructions before it in its bundle are read from the bundle's start.
+use Rattle.std.proofs.Common.{◌≡◌, ◌≢◌, ℕ, ◌+◌, ◌-◌, ◌%◌, ◌<◌, ◌≤◌, List, [], ◌∷◌, ◌++◌, length, take, drop, refl, sym, subst, ◌∙◌, ap, arith, inl, inr}
+use Rattle.std.proofs.Common.{append_assoc, append-nil, Option, Some, None}
+use Rattle.std.specs.Prelude.{MatchOption, slice_range, ⊤}
+use Rattle.std.proofs.lemmas.Bool.{cases_lt}
+use Rattle.std.proofs.lemmas.List.{length-append, take-take, take_at, drop_at}
+use Rattle.nc_decode.specs.Bundles.{IsInOneBundle}
+use Rattle.nc_decode.proofs.Offered.{spells_some}
+use Rattle.nc_vet.specs.Chunk.{Piece, code_of, place, AreSpelled}
+use Rattle.nc_vet.specs.Faults.{HasFault, IsStuck, HasGoodSpan}
+use Rattle.nc_vet.specs.declared.fault.VetFault.{VetFault}
+use Rattle.nc_vet.specs.declared.fault.VetFault.TheVariants.{BadBase, BadLength, OutOfRange, NotPermitted, Crosses, Bare, BadTarget}
+use Rattle.nc_vet.specs.declared.fault.VetFault.TheVariants.{OutOfMemory}
+use Rattle.nc_vet.proofs.Offered.{code_of-append, place-push, place-append}
+use Rattle.nc_report.specs.Listing.{ShowsPlace}
+use Rattle.nc_report.specs.Report.{place_of, Explains, detail_line}
+use Rattle.nc_report.specs.Advice.{meaning_of}
+use Rattle.nc_report.specs.machinery.Found.{StandsAt, IsPlaced, AreInstructions, AddsBundle, AddsLines}
+
+-- each instruction lies in one bundle
+abbrev AreInside : List Piece → Type 0
+AreInside pieces = (before after : List Piece) (p : Piece) → pieces ≡ before ++ p ∷ after → IsInOneBundle (place before) (length p.bytes)
+
+-- instructions that are parted at a place
+record IsPartedAt (pieces : List Piece) (at : ℕ) : Type 0 where
+  pub earlier : List Piece
+  pub later : List Piece
+  pub parts : pieces ≡ earlier ++ later
+  pub stands : place earlier ≡ at
+
+-- instructions inside bundles part at each bundle start
+part_at : (pieces done left : List Piece) (at : ℕ) → AreInside pieces → pieces ≡ done ++ left → place done ≤ at → at ≤ place pieces
+    → at % 32 ≡ 0 → IsPartedAt pieces at
+part_at pieces done [] at inside e low high start = record {
+  earlier = done;
+  later = [];
+  parts = e;
+  stands = omega (arith, low, high, ap (λ (z : List Piece). place z) (e ∙ append-nil done));
+}
+part_at pieces done (p ∷ left) at inside e low high start =
+    elim (cases_lt (place done) at) [
+      | inl under ↦
+          (let room = inside done left p e in
+          part_at pieces (done ++ p ∷ []) left at inside (e ∙ sym (append_assoc done (p ∷ []) left))
+          (omega (arith, place-push done p, room, under, start)) high start)
+      | inr over ↦ record { earlier = done; later = p ∷ left; parts = e; stands = omega (arith, low, over) }
+    ]
+
+-- the later part of spelled instructions is spelled
+spelled_later : (pieces earlier later : List Piece) → AreSpelled pieces → pieces ≡ earlier ++ later → AreSpelled later
+spelled_later pieces earlier later s e = λ b a q h. s (earlier ++ b) a q
+    (e ∙ ap (λ (z : List Piece). earlier ++ z) h ∙ sym (append_assoc earlier b (q ∷ a)))
+
+-- the bytes before the place, in its bundle, are instructions
+pub placed_read : (base at : ℕ) (code : List ℕ) → StandsAt base code at
+    → AreInstructions (take ((at - base) % 32)
+    (take (((at - base) - (at - base) % 32 + 32) - ((at - base) - (at - base) % 32)) (drop ((at - base) - (at - base) % 32) code)))
+placed_read base at code s =
+    let to : at - base ≡ place s.front = omega (arith, s.here) in
+    let start = (at - base) - (at - base) % 32 in
+    let parted = part_at s.front [] s.front start s.inside refl (omega arith) (omega (arith, to)) (omega arith) in
+    let len : length (code_of parted.later) ≡ (at - base) % 32 =
+    omega (arith, to, ap (λ (z : List Piece). place z) parted.parts, place-append parted.earlier parted.later, parted.stands) in
+    let whole : code ≡ code_of parted.earlier ++ (code_of parted.later ++ s.rest) =
+    s.parts ∙ ap (λ (z : List Piece). code_of z ++ s.rest) parted.parts
+    ∙ ap (λ (z : List ℕ). z ++ s.rest) (code_of-append parted.earlier parted.later)
+    ∙ append_assoc (code_of parted.earlier) (code_of parted.later) s.rest in
+    let after : drop start code ≡ code_of parted.later ++ s.rest =
+    ap (λ (z : List ℕ). drop start z) whole ∙ drop_at (code_of parted.earlier) (code_of parted.later ++ s.rest) start parted.stands in
+    record {
+      pieces = parted.later;
+      spelled = spelled_later s.front parted.earlier parted.later s.spelled parted.parts;
+      parts = take-take ((at - base) % 32) ((start + 32) - start) (drop start code) (omega arith)
+          ∙ ap (λ (z : List ℕ). take ((at - base) % 32) z) after
+          ∙ take_at (code_of parted.later) s.rest ((at - base) % 32) len;
+    }
+
+-- what is asked of the address of a fault, or of none
+abbrev StandsIf : ℕ → List ℕ → Option ℕ → Type 0
+StandsIf base code at = MatchOption at ⊤ (λ at. StandsAt base code at)
+
+-- the address of a placed fault is a place
+pub placed_at : (base at : ℕ) (code : List ℕ) (fault : VetFault) → place_of fault ≡ Some at → IsPlaced base code fault
+    → StandsAt base code at
+placed_at base at code fault is p = subst (StandsIf base code) is p
+
+-- some bytes are at least one
+some_long : (xs : List ℕ) → xs ≢ [] → 0 < length xs
+some_long [] n = absurd (n refl)
+some_long (x ∷ xs) n = omega arith
+
+-- a fault of reading stands after a sound front
+stuck_placed : (base limit at : ℕ) (code : List ℕ) (fault : VetFault) → HasGoodSpan base limit (length code)
+    → (s : IsStuck base code fault) → at ≡ base + place s.front → StandsAt base code at
+stuck_placed base limit at code fault g s here = record {
+  front = s.front;
+  rest = s.rest;
+  parts = s.reads.parts;
+  spelled = s.reads.sound.spelled;
+  inside = s.reads.sound.inside;
+  here = here;
+  some = some_long s.rest s.some;
+  whole = g.whole;
+}
+
+-- so each fault that has an address stands at a place
+pub placed_fault : (base limit : ℕ) (code : List ℕ) (fault : VetFault) → HasFault base limit code fault → IsPlaced base code fault
+placed_fault base limit code BadBase h = tt
+placed_fault base limit code BadLength h = tt
+placed_fault base limit code OutOfRange h = tt
+placed_fault base limit code (NotPermitted at) h = stuck_placed base limit at code (NotPermitted at) h.0 h.1 h.1.why.0
+placed_fault base limit code (Crosses at) h = stuck_placed base limit at code (Crosses at) h.0 h.1 h.1.why.0
+placed_fault base limit code (Bare at) h = stuck_placed base limit at code (Bare at) h.0 h.1 h.1.why.0
+placed_fault base limit code (BadTarget at) h =
+    let (g, m) = h in
+    let one = spells_some m.piece.bytes m.piece.instr (m.sound.spelled m.before m.after m.piece refl) in
+    record {
+      front = m.before;
+      rest = code_of (m.piece ∷ m.after);
+      parts = m.parts ∙ code_of-append m.before (m.piece ∷ m.after);
+      spelled = λ b a q e. m.sound.spelled b (a ++ m.piece ∷ m.after) q
+          (ap (λ (z : List Piece). z ++ m.piece ∷ m.after) e ∙ append_assoc b (q ∷ a) (m.piece ∷ m.after));
+      inside = λ b a q e. m.sound.inside b (a ++ m.piece ∷ m.after) q
+          (ap (λ (z : List Piece). z ++ m.piece ∷ m.after) e ∙ append_assoc b (q ∷ a) (m.piece ∷ m.after));
+      here = m.here;
+      some = omega (arith, one.0, one.1, length-append m.piece.bytes (code_of m.after));
+      whole = g.whole;
+    }
+placed_fault base limit code OutOfMemory h = tt
+
+-- a line was added by itself
+pub line_added : (old new words : List ℕ) → new ≡ old ++ detail_line words → new ≡ old ++ (detail_line words ++ [])
+line_added old new words e = e ∙ ap (λ (z : List ℕ). old ++ z) (sym (append-nil (detail_line words)))
+
+-- what an address, or none, asks of the lines on a fault
+abbrev ExplainsAt : ℕ → List ℕ → VetFault → List (List ℕ) → Option ℕ → Type 0
+ExplainsAt base code fault lines at =
+    MatchOption at (lines ≡ meaning_of fault [] ∷ [])
+    (λ at. (line : List ℕ) × ShowsPlace base code at line × (lines ≡ line ∷ meaning_of fault (drop (at - base) code) ∷ []))
+
+-- what a fault without an address means was added
+pub explained_bare : (base : ℕ) (code old new : List ℕ) (fault : VetFault) → place_of fault ≡ None
+    → new ≡ old ++ detail_line (meaning_of fault []) → AddsLines old new (Explains base code fault)
+explained_bare base code old new fault none e = record {
+  lines = meaning_of fault [] ∷ [];
+  says = subst (ExplainsAt base code fault (meaning_of fault [] ∷ [])) (sym none) refl;
+  added = line_added old new (meaning_of fault []) e;
+}
+
+-- the bundle of a fault and what it means were added
+pub explained_at : (base at : ℕ) (code old mid new : List ℕ) (fault : VetFault) → place_of fault ≡ Some at
+    → AddsBundle old mid (base + ((at - base) - (at - base) % 32))
+    (slice_range code ((at - base) - (at - base) % 32) (((at - base) - (at - base) % 32) + 32)) ((at - base) % 32)
+    → new ≡ mid ++ detail_line (meaning_of fault (drop (at - base) code)) → AddsLines old new (Explains base code fault)
+explained_at base at code old mid new fault is b e =
+    let words = meaning_of fault (drop (at - base) code) in
+    record {
+      lines = b.line ∷ words ∷ [];
+      says = subst (ExplainsAt base code fault (b.line ∷ words ∷ [])) (sym is) (b.line, b.shows, refl);
+      added = line_added mid new words e ∙ ap (λ (z : List ℕ). z ++ (detail_line words ++ [])) b.added
+          ∙ append_assoc old (detail_line b.line) (detail_line words ++ []);
+    }

@@ -1,0 +1,4 @@
+pub mod machinery
+pub mod Listing
+pub mod Advice
+pub mod Report

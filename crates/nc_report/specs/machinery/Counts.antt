@@ -1,0 +1,21 @@
+-- Machinery of the proofs, cited by no public contract: how instructions are counted by marks, and by bits.
+use Rattle.std.specs.Prelude.{ℕ, Bool, ◌||◌}
+use Rattle.std.specs.List.{count_by, range_with_len}
+use Rattle.nc_decode.specs.declared.instruction.Mark.{Mark}
+use Rattle.nc_decode.specs.declared.instruction.Mark.TheVariants.{Unmarked, Plain, After}
+use Rattle.nc_vet.specs.declared.bundle.Bundle.{Bundle}
+use Rattle.nc_vet.specs.Bits.{is_start, is_second}
+
+-- one for a mark, and none for a place without one
+abbrev pub one : Mark → ℕ
+one Unmarked = 0
+one Plain = 1
+one (After reg) = 1
+
+-- an instruction begins at this byte of the bundle
+abbrev pub begins_at : Bundle → ℕ → Bool
+begins_at w k = is_second w k || is_start w k
+
+-- so many instructions begin in the bundle
+unfoldable pub begun_in : Bundle → ℕ
+begun_in w = count_by (begins_at w) (range_with_len 0 32)

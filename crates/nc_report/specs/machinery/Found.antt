@@ -1,0 +1,198 @@
+-- Machinery of the proofs, cited by no public contract: verdicts with the names of their sources, and what was written.
+use Rattle.std.specs.Prelude.{◌≡◌, ◌≢◌, ℕ, ◌+◌, ◌-◌, ◌/◌, ◌%◌, ◌<◌, ◌≤◌, ◌⊎◌, Bool, List, [], ◌∷◌, ◌++◌, length, take, Result, Ok, Err, ⊤}
+use Rattle.std.specs.Prelude.{Option, MatchOption, All, if◌then◌else◌}
+use Rattle.std.specs.List.{AllZip, flat_map, count_by}
+use Rattle.std.specs.Global.{Vec}
+use Rattle.std.specs.Io.KnownBytes.{Appends}
+use Rattle.nc_decode.specs.Bundles.{IsInOneBundle}
+use Rattle.nc_vet.specs.Chunk.{Piece, code_of, place, AreSpelled, MarkedChunk, IsValid}
+use Rattle.nc_vet.specs.Faults.{HasFault}
+use Rattle.nc_vet.specs.declared.fault.VetFault.{VetFault}
+use Rattle.nc_vet.specs.declared.fault.VetFault.TheVariants.{OutOfMemory}
+use Rattle.nc_work.specs.declared.job.Job.{Job}
+use Rattle.nc_lines.specs.Replies.{reply_line, refused_reply, fault_words}
+use Rattle.nc_report.specs.declared.detail.Detail.{Detail}
+use Rattle.nc_report.specs.declared.detail.Detail.TheVariants.{Brief}
+use Rattle.nc_report.specs.declared.detail.Detail.TheVariants as detail
+use Rattle.nc_report.specs.declared.fault.ReportFault.{ReportFault}
+use Rattle.nc_report.specs.declared.fault.ReportFault.TheVariants.{WriteFailed}
+use Rattle.nc_report.specs.declared.fault.ReportFault.TheVariants as report
+use Rattle.nc_report.specs.declared.source.Source.{Source}
+use Rattle.nc_report.specs.Listing.{barred, ShowsBundle}
+use Rattle.nc_report.specs.Report.{place_of, said_of, accepted_text, Explains, ExplainsOthers, detail_line, IsBeginning, Tells, Told}
+
+-- a verdict is true of the code in it
+abbrev pub IsFinding : ℕ → ℕ → Result MarkedChunk (Vec ℕ × VetFault) → Type 0
+IsFinding base limit (Ok v) = (v.base ≡ base) × (v.limit ≡ limit) × IsValid v
+IsFinding base limit (Err e) = HasFault base limit e.0.items e.1
+
+-- the code in a verdict
+abbrev pub code_in : Result MarkedChunk (Vec ℕ × VetFault) → List ℕ
+code_in (Ok v) = v.code
+code_in (Err e) = e.0.items
+
+-- a source without where its bytes lie in memory
+pub record SourceValue : Type 0 where
+  pub name : List ℕ
+  pub code : List ℕ
+
+-- names with the code of the verdicts, as long as there are both
+abbrev pub values_in : List (Vec ℕ) → List (Result MarkedChunk (Vec ℕ × VetFault)) → List SourceValue
+values_in [] verdicts = []
+values_in (name ∷ names) [] = []
+values_in (name ∷ names) (verdict ∷ verdicts) = record { name = name.items; code = code_in verdict } ∷ values_in names verdicts
+
+-- what is told of a source
+abbrev pub TellsValue : ℕ → ℕ → Detail → SourceValue → Told → Type 0
+TellsValue limit base detail value told = Tells limit base detail value.name value.code told
+
+-- Instructions inside their bundles end where the address is, and the code, which is whole bundles, goes on there.
+pub record StandsAt (base : ℕ) (code : List ℕ) (at : ℕ) : Type 0 where
+  pub front : List Piece
+  pub rest : List ℕ
+  pub parts : code ≡ code_of front ++ rest
+  pub spelled : AreSpelled front
+  pub inside : (before after : List Piece) (p : Piece) → front ≡ before ++ p ∷ after → IsInOneBundle (place before) (length p.bytes)
+  pub here : at ≡ base + place front
+  pub some : 0 < length rest
+  pub whole : length code % 32 ≡ 0
+
+-- the address of the fault, if it has one, is such a place
+abbrev pub IsPlaced : ℕ → List ℕ → VetFault → Type 0
+IsPlaced base code fault = MatchOption (place_of fault) ⊤ (λ at. StandsAt base code at)
+
+-- lines were added
+pub record AddsLines (old new : List ℕ) (Says : List (List ℕ) → Type 0) : Type 0 where
+  pub lines : List (List ℕ)
+  pub says : Says lines
+  pub added : new ≡ old ++ flat_map detail_line lines
+
+-- the bytes are whole instructions
+pub record AreInstructions (bytes : List ℕ) : Type 0 where
+  pub pieces : List Piece
+  pub spelled : AreSpelled pieces
+  pub parts : bytes ≡ code_of pieces
+
+-- instructions at the front of some bytes were listed, which have so many bytes
+pub record ListsFront (old new bytes : List ℕ) (read : ℕ) : Type 0 where
+  pub pieces : List Piece
+  pub rest : List ℕ
+  pub spelled : AreSpelled pieces
+  pub parts : bytes ≡ code_of pieces ++ rest
+  pub stands : place pieces ≡ read
+  pub added : new ≡ old ++ barred pieces
+
+-- the line of a bundle was added
+pub record AddsBundle (old new : List ℕ) (address : ℕ) (bundle : List ℕ) (before : ℕ) : Type 0 where
+  pub line : List ℕ
+  pub shows : ShowsBundle address bundle before line
+  pub added : new ≡ old ++ detail_line line
+
+-- the code has so many instructions
+pub record HasInstructions (code : List ℕ) (count : ℕ) : Type 0 where
+  pub pieces : List Piece
+  pub spelled : AreSpelled pieces
+  pub parts : code ≡ code_of pieces
+  pub counted : count ≡ length pieces
+
+-- what is said of a valid chunk was added
+pub record AddsAccepted (old new : List ℕ) (detail : Detail) (name : List ℕ) (chunk : MarkedChunk) : Type 0 where
+  pub valid : IsValid chunk
+  pub count : ℕ
+  pub has : HasInstructions chunk.code count
+  pub added : new ≡ old ++ accepted_text detail name (length chunk.code) count
+
+-- what is to be written of a source was written, and so many are refused, one or none
+pub record TellsOne (limit base : ℕ) (detail : Detail) (name code : List ℕ) (before after : Option (List ℕ)) (count : ℕ) : Type 0 where
+  pub told : Told
+  pub tells : Tells limit base detail name code told
+  pub counted : count ≡ (if told.refused then 1 else 0)
+  pub written : Appends before after told.text
+
+-- the lines on a fault, where they are asked for
+abbrev pub AreFirst : Detail → ℕ → List ℕ → VetFault → List (List ℕ) → Type 0
+AreFirst Brief base code fault lines = lines ≡ []
+AreFirst _ base code fault lines = Explains base code fault lines
+
+-- the lines on the first so many other bundles, where they are asked for
+abbrev pub AreMore : Detail → ℕ → ℕ → List ℕ → VetFault → ℕ → List (List ℕ) → Type 0
+AreMore detail.All limit base code fault count lines =
+    MatchOption (place_of fault) (lines ≡ []) (λ at. ExplainsOthers limit base code ((at - base) / 32) count lines)
+AreMore _ limit base code fault count lines = lines ≡ []
+
+-- what is said of a refused chunk was added, but for other bundles
+pub record AddsRefused (old new : List ℕ) (detail : Detail) (name : List ℕ) (base : ℕ) (code : List ℕ) (fault : VetFault) : Type 0 where
+  pub real : fault ≢ OutOfMemory
+  pub lines : List (List ℕ)
+  pub first : AreFirst detail base code fault lines
+  pub added : new ≡ old ++ (said_of name (reply_line (refused_reply (fault_words fault))) ++ flat_map detail_line lines)
+
+-- of a text that goes on by lines a front was written, and the rest is kept
+pub record WritesLines (before after : Option (List ℕ)) (old new : List ℕ) (Says : List (List ℕ) → Type 0) : Type 0 where
+  pub lines : List (List ℕ)
+  pub says : Says lines
+  pub part : List ℕ
+  pub written : Appends before after part
+  pub kept : part ++ new ≡ old ++ flat_map detail_line lines
+
+-- of a text that goes on by lines a front was written
+pub record CutsLines (before after : Option (List ℕ)) (old : List ℕ) (Says : List (List ℕ) → Type 0) : Type 0 where
+  pub lines : List (List ℕ)
+  pub says : Says lines
+  pub count : ℕ
+  pub written : Appends before after (take count (old ++ flat_map detail_line lines))
+
+-- the lines on the first bundles, as many as there are or fewer
+abbrev pub AreSomeMore : Detail → ℕ → ℕ → List ℕ → VetFault → List (List ℕ) → Type 0
+AreSomeMore detail limit base code fault lines =
+    (count : ℕ) × (count ≤ length code / 32) × AreMore detail limit base code fault count lines
+
+-- the lines on the first bundles besides one, as many as there are or fewer
+abbrev pub AreSomeOthers : ℕ → ℕ → List ℕ → ℕ → List (List ℕ) → Type 0
+AreSomeOthers limit base code own lines =
+    (count : ℕ) × (count ≤ length code / 32) × ExplainsOthers limit base code own count lines
+
+-- memory for the text wasn't there, or the writer failed
+abbrev pub IsOfWriting : ReportFault → Type 0
+IsOfWriting fault = (fault ≡ report.OutOfMemory) ⊎ (fault ≡ WriteFailed)
+
+-- a beginning of what is to be written of a source was written
+pub record IsCutOff (limit base : ℕ) (detail : Detail) (name code : List ℕ) (before after : Option (List ℕ)) : Type 0 where
+  pub part : List ℕ
+  pub begins : IsBeginning limit base detail name code part
+  pub written : Appends before after part
+
+-- how far the telling has come: some sources are told, and the names and verdicts that are left are of the others
+pub record HasToldSome (limit base : ℕ) (detail : Detail) (values : List SourceValue) (names : List (Vec ℕ))
+    (verdicts : List (Result MarkedChunk (Vec ℕ × VetFault))) (before after : Option (List ℕ)) (count : ℕ) : Type 0 where
+  pub done : List SourceValue
+  pub split : values ≡ done ++ values_in names verdicts
+  pub findings : All (IsFinding base limit) verdicts
+  pub paired : length names ≡ length verdicts
+  pub each : List Told
+  pub tells : AllZip (TellsValue limit base detail) done each
+  pub refused : count ≡ count_by (λ told. told.refused) each
+  pub written : Appends before after (flat_map (λ told. told.text) each)
+
+-- all sources are told
+pub record HasToldAll (limit base : ℕ) (detail : Detail) (values : List SourceValue) (before after : Option (List ℕ)) (count : ℕ) : Type 0 where
+  pub each : List Told
+  pub tells : AllZip (TellsValue limit base detail) values each
+  pub refused : count ≡ count_by (λ told. told.refused) each
+  pub written : Appends before after (flat_map (λ told. told.text) each)
+
+-- the first sources are told, and perhaps a beginning of the next
+pub record HasToldFirst (limit base : ℕ) (detail : Detail) (values : List SourceValue) (before after : Option (List ℕ)) : Type 0 where
+  pub first : List SourceValue
+  pub value : SourceValue
+  pub others : List SourceValue
+  pub split : values ≡ first ++ value ∷ others
+  pub each : List Told
+  pub tells : AllZip (TellsValue limit base detail) first each
+  pub part : List ℕ
+  pub next : IsBeginning limit base detail value.name value.code part
+  pub written : Appends before after (flat_map (λ told. told.text) each ++ part)
+
+-- a source and the job that it becomes
+abbrev pub job_of : ℕ → ℕ → Source → Job
+job_of base limit source = record { base = base; limit = limit; code = source.code }

@@ -1,0 +1,65 @@
+//! The number of instructions of a valid chunk.
+
+ghost use Rattle.std.specs.Prelude.{◌≡◌, ◌<◌, ◌≤◌, ◌^◌, length};
+ghost use Rattle.std.specs.List.{sum_by};
+ghost use Rattle.nc_report.specs.machinery.Found.{HasInstructions};
+ghost use Rattle.nc_report.specs.machinery.Counts.{one, begun_in};
+
+use nc_decode::BUNDLE;
+use nc_vet::{Bundle, Mark, Vetted};
+
+/// The number of instructions that begin in a bundle.
+#[inline(always)]
+fn begun(bundle: Bundle) -> usize
+    ensures value { result ≡ begun_in bundle }
+    ensures small { result ≤ 32 }
+{
+    ((bundle.ends << 1) | 1 | (bundle.pairs >> 1)).count_ones() as usize
+}
+
+/// The number of instructions that begin in some bundles.
+fn count_bits(bundles: &[Bundle]) -> usize
+    requires { length bundles.now < 2 ^ 58 }
+    ensures { result ≡ sum_by begun_in bundles.now }
+{
+    let mut count = 0;
+    for bundle in bundles {
+        count += begun(*bundle);
+    }
+    count
+}
+
+/// One for a mark, and none for a place without one.
+fn one(mark: Mark) -> usize
+    ensures value { result ≡ one mark }
+    ensures small { result ≤ 1 }
+{
+    match mark {
+        Mark::Unmarked => 0,
+        Mark::Plain => 1,
+        Mark::After(_) => 1,
+    }
+}
+
+/// The number of places of a chunk that are marked.
+fn count_marks(chunk: &Vetted) -> usize
+    ensures { result ≡ sum_by one chunk.now.marks }
+{
+    let length = chunk.code().len();
+    let mut count = 0;
+    for i in 0..length {
+        count += one(chunk.mark(i));
+    }
+    count
+}
+
+/// The number of instructions of a chunk.
+pub(crate) fn count_instructions(chunk: &Vetted) -> usize
+    ensures { HasInstructions chunk.now.code result }
+{
+    let length = chunk.code().len();
+    match chunk.bundles() {
+        Some(bundles) if BUNDLE as usize * bundles.len() == length => count_bits(bundles),
+        _ => count_marks(chunk),
+    }
+}

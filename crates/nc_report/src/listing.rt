@@ -1,0 +1,51 @@
+//! The bundle of an address, in hexadecimal.
+
+ghost use Rattle.std.specs.Prelude.{◌≡◌, ◌≤◌, List, length, take, IfOk, OnOk};
+ghost use Rattle.nc_vet.specs.Chunk.{Piece, code_of, AreSpelled};
+ghost use Rattle.nc_report.specs.machinery.Found.{AreInstructions, ListsFront, AddsBundle};
+
+use crate::numbers::push_bytes;
+use nc_decode::{BUNDLE, decode};
+use nc_lines::push_address;
+use std::alloc::{AllocError, Global};
+
+/// Adds the instructions at the front of these bytes, each with a bar after it, and gives how many bytes they have.
+fn push_read(out: &mut Vec<u8>, bytes: &[u8]) -> Result<usize, AllocError>
+    ensures lists { IfOk result (λ read. ListsFront out.old.items out.new.items bytes.now read) }
+    ensures within { IfOk result (λ read. read ≤ length bytes.now) }
+    ensures whole { AreInstructions bytes.now → IfOk result (λ read. read ≡ length bytes.now) }
+{
+    let mut at = 0;
+    while at < bytes.len() {
+        let Ok(instr) = decode(&bytes[at..]) else {
+            break;
+        };
+        let next = at + usize::from(instr.len);
+        push_bytes(out, &bytes[at..next])?;
+        out.extend_from_slice(b" |")?;
+        at = next;
+    }
+    Ok(at)
+}
+
+/// Adds the line of a bundle whose first byte has this address: its address, the instructions before a place of it, each
+/// with a bar after it, and then the other bytes.
+pub(crate) fn push_bundle(
+    out: &mut Vec<u8>,
+    address: u32,
+    bundle: &[u8],
+    before: usize,
+) -> Result<(), AllocError>
+    requires within { before ≤ length bundle.now }
+    requires read { AreInstructions (take before bundle.now) }
+    ensures { OnOk result (AddsBundle out.old.items out.new.items address bundle.now before) }
+{
+    out.extend_from_slice(b"  ")?;
+    push_address(out, address)?;
+    out.push(b':')?;
+    let read = push_read(out, &bundle[..before])?;
+    out.extend_from_slice(b" >")?;
+    push_bytes(out, &bundle[read..])?;
+    out.push(b'\n')?;
+    Ok(())
+}

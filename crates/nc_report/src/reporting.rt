@@ -1,0 +1,129 @@
+//! Vetting of sources, and the report of what was found.
+
+ghost use Rattle.std.specs.Prelude.{◌≡◌, ◌↔◌, All, map, length, IfOk, IfErr, OnErr, IsErrOf};
+ghost use Rattle.nc_decode.specs.Bundles.{IsRegionSize, limit_after};
+ghost use Rattle.nc_work.specs.Verdicts.{AreWorkers};
+ghost use Rattle.nc_report.specs.Report.{HasReported, HasBegunReport};
+ghost use Rattle.nc_report.specs.machinery.Found.{IsFinding, values_in, job_of, IsOfWriting, HasToldAll, HasToldFirst};
+
+use crate::detail::Detail;
+use crate::fault::ReportFault;
+use crate::source::Source;
+use crate::telling::tell;
+use nc_decode::{BUNDLE, START, is_region_size};
+use nc_work::{Job, Open, Verdict, vet_all};
+use std::alloc::{AllocError, Global};
+use std::io::Write;
+use std::sync::Wait;
+use std::thread::Threads;
+
+/// The names of sources, and a job for each. The code isn't copied.
+#[derive(Drop)]
+struct Parted {
+    names: Vec<Vec<u8>>,
+    jobs: Vec<Job>,
+}
+
+/// Parts sources into names and jobs.
+fn part(alloc: Global, sources: Vec<Source>, base: u32, limit: u32) -> Result<Parted, AllocError>
+    ensures names { IfOk result (λ p. p.names.items ≡ map (λ s. s.name) sources.items) }
+    ensures jobs { IfOk result (λ p. p.jobs.items ≡ map (job_of base limit) sources.items) }
+{
+    let mut names = Vec::with_capacity(alloc, sources.len())?;
+    let mut jobs = Vec::with_capacity(alloc, sources.len())?;
+    for Source { name, code } in sources {
+        names.push(name)?;
+        jobs.push(Job { base, limit, code })?;
+    }
+    Ok(Parted { names, jobs })
+}
+
+/// Writes what is said of each source, and gives how many are refused.
+fn tell_all<W: Write>(
+    alloc: Global,
+    names: Vec<Vec<u8>>,
+    verdicts: Vec<Verdict>,
+    base: u32,
+    limit: u32,
+    detail: Detail,
+    writer: &mut W,
+) -> Result<usize, ReportFault>
+    requires findings { All (IsFinding base limit) verdicts.items }
+    requires paired { length names.items ≡ length verdicts.items }
+    ensures ok { IfOk result (HasToldAll limit base detail (values_in names.items verdicts.items)
+        (W.contents writer.old) (W.contents writer.new)) }
+    ensures cut { OnErr result (HasToldFirst limit base detail (values_in names.items verdicts.items)
+        (W.contents writer.old) (W.contents writer.new)) }
+    ensures faults { IfErr result IsOfWriting }
+{
+    let mut left = names.into_iter();
+    let mut refused = 0;
+    for verdict in verdicts {
+        // each verdict has a name
+        let Some(name) = left.next() else {
+            return Ok(refused);
+        };
+        match tell(alloc, name, verdict, base, limit, detail, writer) {
+            Ok(more) => refused += more,
+            Err(fault) => return Err(fault),
+        }
+    }
+    Ok(refused)
+}
+
+/// Vets sources, each as a chunk at this base in a region of so many bundles, by so many workers, and writes in their
+/// order what was found. It gives the number of refused ones.
+///
+/// Of an accepted source one line is written: its name, `ok`, the numbers of its bytes and of its instructions. Of a
+/// refused one the first line is its name and what `vet_lines` replies to a chunk with its fault; lines after it begin
+/// with two spaces, and `detail` says which they are. Names are written as they are.
+///
+/// All sources are vetted before a byte is written. What is promised of bytes holds of a writer that tells its own;
+/// nothing is promised of when a device fails.
+pub fn report<W: Write, T: Threads + Wait + Sync>(
+    rt: &T,
+    alloc: Global,
+    sources: Vec<Source>,
+    base: u32,
+    bundles: u32,
+    workers: u32,
+    detail: Detail,
+    writer: &mut W,
+) -> Result<usize, ReportFault>
+    // The two numbers are tested first, in this order, before anything is written.
+    ensures bad_size { IsErrOf result ReportFault.BadSize ↔ ¬ IsRegionSize bundles }
+    ensures bad_workers { IsErrOf result ReportFault.BadWorkers ↔ (IsRegionSize bundles × ¬ AreWorkers workers) }
+    ensures untouched { ¬ (IsRegionSize bundles × AreWorkers workers) → writer.new ≡ writer.old }
+
+    // Exactly what is to be written of these sources was written, and the result is how many are refused.
+    ensures ok { IfOk result (HasReported (limit_after bundles) base detail (W.contents writer.old) (W.contents writer.new)
+        sources.items) }
+
+    // On a fault of the writer or of memory, all of some first sources was written, and perhaps a beginning of the next.
+    ensures write_failed { IsErrOf result ReportFault.WriteFailed →
+        HasBegunReport (limit_after bundles) base detail (W.contents writer.old) (W.contents writer.new) sources.items }
+    ensures out_of_memory { IsErrOf result ReportFault.OutOfMemory →
+        HasBegunReport (limit_after bundles) base detail (W.contents writer.old) (W.contents writer.new) sources.items }
+{
+    if !is_region_size(bundles) {
+        return Err(ReportFault::BadSize);
+    }
+    if !(1..=16).contains(&workers) {
+        return Err(ReportFault::BadWorkers);
+    }
+    let limit = START + BUNDLE * bundles;
+    let Ok(Parted { names, jobs }) = part(alloc, sources, base, limit) else {
+        return Err(ReportFault::OutOfMemory);
+    };
+    let Ok(verdicts) = vet_all(rt, jobs, workers, &Open) else {
+        return Err(ReportFault::OutOfMemory);
+    };
+    let refused = match tell_all(alloc, names, verdicts, base, limit, detail, writer) {
+        Ok(refused) => refused,
+        Err(fault) => return Err(fault),
+    };
+    match writer.flush() {
+        Ok(()) => Ok(refused),
+        Err(_) => Err(ReportFault::WriteFailed),
+    }
+}

@@ -1,0 +1,68 @@
+//! The reading of a source.
+
+ghost use Rattle.std.specs.Prelude.{◌≡◌, ◌≤◌, ◌<◌, ℕ, List, length, vec_len, Err, IfOk, OnOk, IfSome, IsErrOf};
+ghost use Rattle.std.specs.Io.KnownBytes.{Consumes, IsAtEnd};
+
+use crate::fault::SourceFault;
+use std::alloc::Global;
+use std::io::Read;
+
+/// The most bytes of a source: as many as the largest region has.
+pub const MOST_BYTES: usize = 67_108_864;
+
+/// Bytes that were read from one file, and the file's name as it is printed.
+#[derive(Drop)]
+pub struct Source {
+    pub name: Vec<u8>,
+    pub code: Vec<u8>,
+}
+
+/// Reads a source to its end. Room for `expected` bytes is made before; it is only a guess.
+///
+/// A reader that gives more than [`MOST_BYTES`] bytes isn't read further, so a device without end is refused after so
+/// many. Nothing is promised of when a reader fails.
+pub fn read_source<R: Read>(
+    alloc: Global,
+    name: Vec<u8>,
+    reader: &mut R,
+    expected: usize,
+) -> Result<Source, SourceFault>
+    // All bytes that the reader had, and the name as it was.
+    ensures name { IfOk result (λ source. source.name ≡ name) }
+    ensures code { IfOk result (λ source. IfSome (R.remaining reader.old) (λ input. source.code.items ≡ input)) }
+    ensures read { OnOk result (IsAtEnd (R.remaining reader.new)) }
+    ensures fits { IfOk result (λ source. vec_len source.code ≤ MOST_BYTES) }
+
+    // More bytes came than a source may have.
+    ensures too_long { IsErrOf result SourceFault.TooLong → (front : List ℕ)
+        × Consumes (R.remaining reader.old) (R.remaining reader.new) front × (MOST_BYTES < length front) }
+
+    // No more bytes came than that, and the reader failed, or there was no memory.
+    ensures read_failed { IsErrOf result SourceFault.ReadFailed → (front : List ℕ)
+        × Consumes (R.remaining reader.old) (R.remaining reader.new) front × (length front ≤ MOST_BYTES) }
+    ensures out_of_memory { IsErrOf result SourceFault.OutOfMemory → (front : List ℕ)
+        × Consumes (R.remaining reader.old) (R.remaining reader.new) front × (length front ≤ MOST_BYTES) }
+{
+    let Ok(mut code) = Vec::with_capacity(alloc, expected.min(MOST_BYTES)) else {
+        return Err(SourceFault::OutOfMemory);
+    };
+    let mut piece = [0u8; 32768];
+    // Each read but the last gives a byte.
+    for _ in 0..=MOST_BYTES {
+        let count = match reader.read(&mut piece) {
+            Ok(count) => count,
+            Err(_) => return Err(SourceFault::ReadFailed),
+        };
+        if count == 0 {
+            return Ok(Source { name, code });
+        }
+        if MOST_BYTES - code.len() < count {
+            return Err(SourceFault::TooLong);
+        }
+        match code.extend_from_slice(&piece[..count]) {
+            Ok(()) => {}
+            Err(_) => return Err(SourceFault::OutOfMemory),
+        }
+    }
+    Err(SourceFault::TooLong)
+}

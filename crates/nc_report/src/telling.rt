@@ -1,0 +1,197 @@
+//! What is written of one source.
+
+ghost use Rattle.std.specs.Prelude.{◌≡◌, ◌/◌, ◌++◌, ℕ, List, length, IfOk, IfErr, OnOk, OnErr};
+ghost use Rattle.std.specs.Io.KnownBytes.{Appends};
+ghost use Rattle.nc_vet.specs.Faults.{HasFault};
+ghost use Rattle.nc_lines.specs.Replies.{reply_line};
+ghost use Rattle.nc_report.specs.Report.{said_of, accepted_words, IsAccepted, IsRefused};
+ghost use Rattle.nc_report.specs.machinery.Found.{IsFinding, code_in, IsPlaced, AddsAccepted, AddsRefused, TellsOne};
+ghost use Rattle.nc_report.specs.machinery.Found.{IsOfWriting, IsCutOff, WritesLines, CutsLines, AreMore, AreSomeMore};
+
+use crate::counting::count_instructions;
+use crate::detail::Detail;
+use crate::explaining::{place_of, push_explained};
+use crate::fault::ReportFault;
+use crate::numbers::push_number;
+use crate::others::write_others;
+use nc_decode::BUNDLE;
+use nc_lines::{push_fault, write_out};
+use nc_vet::{VetFault, Vetted};
+use nc_work::Verdict;
+use std::alloc::{AllocError, Global};
+use std::io::Write;
+
+/// Adds the verdict on a source that is accepted.
+fn push_ok(
+    alloc: Global,
+    out: &mut Vec<u8>,
+    name: &[u8],
+    bytes: usize,
+    instructions: usize,
+) -> Result<(), AllocError>
+    ensures { OnOk result (out.new.items ≡ out.old.items ++ said_of name.now (reply_line (accepted_words bytes instructions))) }
+{
+    out.extend_from_slice(name)?;
+    out.extend_from_slice(b": ok, ")?;
+    push_number(alloc, out, bytes)?;
+    out.extend_from_slice(b" bytes, ")?;
+    push_number(alloc, out, instructions)?;
+    out.extend_from_slice(b" instructions\n")
+}
+
+/// Adds what is said of a source that is accepted.
+fn push_accepted(
+    alloc: Global,
+    out: &mut Vec<u8>,
+    name: &[u8],
+    chunk: &Vetted,
+    detail: Detail,
+) -> Result<(), AllocError>
+    ensures { OnOk result (AddsAccepted out.old.items out.new.items detail name.now chunk.now) }
+{
+    let bytes = chunk.code().len();
+    match detail {
+        Detail::Brief => Ok(()),
+        Detail::Usual => push_ok(alloc, out, name, bytes, count_instructions(chunk)),
+        Detail::All => push_ok(alloc, out, name, bytes, count_instructions(chunk)),
+    }
+}
+
+/// Writes what is said of a source that is accepted.
+fn tell_accepted<W: Write>(
+    alloc: Global,
+    name: &[u8],
+    chunk: &Vetted,
+    detail: Detail,
+    writer: &mut W,
+) -> Result<(), ReportFault>
+    ensures ok { OnOk result ((text : List ℕ)
+        × IsAccepted chunk.now.limit chunk.now.base detail name.now chunk.now.code text
+        × Appends (W.contents writer.old) (W.contents writer.new) text) }
+    ensures cut { OnErr result
+        (IsCutOff chunk.now.limit chunk.now.base detail name.now chunk.now.code (W.contents writer.old) (W.contents writer.new)) }
+    ensures faults { IfErr result IsOfWriting }
+{
+    let mut out = Vec::new(alloc);
+    match push_accepted(alloc, &mut out, name, chunk, detail) {
+        Ok(()) => {}
+        Err(_) => return Err(ReportFault::OutOfMemory),
+    }
+    match write_out(writer, &out) {
+        Ok(()) => Ok(()),
+        Err(_) => Err(ReportFault::WriteFailed),
+    }
+}
+
+/// Adds the verdict on a source that is refused, and what is said of its fault. Lack of memory is no verdict.
+fn push_refused(
+    out: &mut Vec<u8>,
+    name: &[u8],
+    base: u32,
+    code: &[u8],
+    fault: VetFault,
+    detail: Detail,
+) -> Result<(), AllocError>
+    requires { IsPlaced base code.now fault }
+    ensures { OnOk result (AddsRefused out.old.items out.new.items detail name.now base code.now fault) }
+{
+    out.extend_from_slice(name)?;
+    out.extend_from_slice(b": ")?;
+    push_fault(out, fault)?;
+    if detail == Detail::Brief {
+        return Ok(());
+    }
+    push_explained(out, base, code, fault)
+}
+
+/// Writes what is said of the other bundles of a refused source, where it is asked for. What isn't written is kept.
+fn write_more<W: Write>(
+    alloc: Global,
+    out: &mut Vec<u8>,
+    base: u32,
+    limit: u32,
+    code: &[u8],
+    fault: VetFault,
+    detail: Detail,
+    writer: &mut W,
+) -> Result<(), ReportFault>
+    requires { HasFault base limit code.now fault }
+    ensures ok { OnOk result (WritesLines (W.contents writer.old) (W.contents writer.new) out.old.items out.new.items
+        (AreMore detail limit base code.now fault (length code.now / 32))) }
+    ensures cut { OnErr result (CutsLines (W.contents writer.old) (W.contents writer.new) out.old.items
+        (AreSomeMore detail limit base code.now fault)) }
+    ensures faults { IfErr result IsOfWriting }
+{
+    match detail {
+        Detail::Brief => return Ok(()),
+        Detail::Usual => return Ok(()),
+        Detail::All => {}
+    }
+    let Some(at) = place_of(fault) else {
+        return Ok(());
+    };
+    let own = (at - base) as usize / BUNDLE as usize;
+    write_others(alloc, out, base, limit, code, own, writer)
+}
+
+/// Writes what is said of a source that is refused.
+fn tell_refused<W: Write>(
+    alloc: Global,
+    name: &[u8],
+    base: u32,
+    limit: u32,
+    code: &[u8],
+    fault: VetFault,
+    detail: Detail,
+    writer: &mut W,
+) -> Result<(), ReportFault>
+    requires { HasFault base limit code.now fault }
+    ensures ok { OnOk result ((text : List ℕ) × IsRefused limit base detail name.now code.now text
+        × Appends (W.contents writer.old) (W.contents writer.new) text) }
+    ensures cut { OnErr result (IsCutOff limit base detail name.now code.now (W.contents writer.old) (W.contents writer.new)) }
+    ensures faults { IfErr result IsOfWriting }
+{
+    let mut out = Vec::new(alloc);
+    match push_refused(&mut out, name, base, code, fault, detail) {
+        Ok(()) => {}
+        Err(_) => return Err(ReportFault::OutOfMemory),
+    }
+    match write_more(alloc, &mut out, base, limit, code, fault, detail, writer) {
+        Ok(()) => {}
+        Err(fault) => return Err(fault),
+    }
+    match write_out(writer, &out) {
+        Ok(()) => Ok(()),
+        Err(_) => Err(ReportFault::WriteFailed),
+    }
+}
+
+/// Writes what is said of a source with this verdict, and gives how many are refused: one or none.
+pub(crate) fn tell<W: Write>(
+    alloc: Global,
+    name: Vec<u8>,
+    verdict: Verdict,
+    base: u32,
+    limit: u32,
+    detail: Detail,
+    writer: &mut W,
+) -> Result<usize, ReportFault>
+    requires { IsFinding base limit verdict }
+    ensures ok { IfOk result (TellsOne limit base detail name.items (code_in verdict) (W.contents writer.old) (W.contents writer.new)) }
+    ensures cut { OnErr result
+        (IsCutOff limit base detail name.items (code_in verdict) (W.contents writer.old) (W.contents writer.new)) }
+    ensures faults { IfErr result IsOfWriting }
+{
+    match verdict {
+        Ok(chunk) => match tell_accepted(alloc, &name, &chunk, detail, writer) {
+            Ok(()) => Ok(0),
+            Err(fault) => Err(fault),
+        },
+        Err((code, fault)) => {
+            match tell_refused(alloc, &name, base, limit, &code, fault, detail, writer) {
+                Ok(()) => Ok(1),
+                Err(fault) => Err(fault),
+            }
+        }
+    }
+}

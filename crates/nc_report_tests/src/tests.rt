@@ -1,0 +1,2 @@
+//! Tests of reading sources and of reports.
+mod smoke;

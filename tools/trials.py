@@ -1,0 +1,38 @@
+"""What the scripts share that run a built program at its command lines and compare what it does."""
+
+import os
+import subprocess
+
+
+def closed(*numbers):
+    """Closes files before the program begins."""
+    def close():
+        for number in numbers:
+            os.close(number)
+    return close
+
+
+class Trials:
+    """One program, and how many of its cases were tried and failed."""
+
+    def __init__(self, program, folder=None):
+        self.program, self.folder = program, folder
+        self.tried = self.failed = 0
+
+    def run(self, words, stdin="", stdout=subprocess.PIPE, stderr=subprocess.PIPE, close=()):
+        """What the program writes, and its status. The input is text, bytes, or a file that stands open."""
+        given = stdin.encode() if isinstance(stdin, str) else stdin if isinstance(stdin, bytes) else None
+        done = subprocess.run([self.program] + words, input=given, stdin=None if given is not None else stdin, stdout=stdout,
+                              stderr=stderr, preexec_fn=closed(*close) if close else None, cwd=self.folder, timeout=60)
+        return (done.stdout or b"").decode(), (done.stderr or b"").decode(), done.returncode
+
+    def compare(self, name, found, wanted):
+        self.tried += 1
+        if found != wanted:
+            self.failed += 1
+            print("%s: %r in place of %r" % (name, found, wanted))
+
+    def finish(self):
+        """The status to end with, after a line of numbers."""
+        print("%d cases, %d failed" % (self.tried, self.failed))
+        return 1 if self.failed else 0
