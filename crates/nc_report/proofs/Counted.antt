@@ -1,11 +1,11 @@
 -- The number of instructions by marks.
-use Rattle.std.proofs.Common.{◌≡◌, ◌≢◌, ℕ, zero, suc, ◌+◌, ◌-◌, Bool, true, false, List, [], ◌∷◌, ◌++◌, length, map, cond, replicate, refl, sym, ◌∙◌, ap, arith}
+use Rattle.std.proofs.Common.{◌≡◌, ℕ, zero, suc, ◌+◌, ◌-◌, Bool, true, false, List, [], ◌∷◌, length, cond, replicate, refl, ◌∙◌, ap, arith}
 use Rattle.std.specs.List.{sum_by}
 use Rattle.std.proofs.lemmas.List.Sums.{sum_by-cons, sum_by-append}
 use Rattle.nc_decode.specs.declared.instruction.Mark.{Mark}
 use Rattle.nc_decode.specs.declared.instruction.Mark.TheVariants.{Unmarked, Plain, After}
 use Rattle.nc_decode.specs.Transfers.{is_indirect}
-use Rattle.nc_vet.specs.Chunk.{Piece, code_of, AreSpelled, instr_marks, marks_of, mark_of, MarkedChunk, IsValid}
+use Rattle.nc_vet.specs.Chunk.{Piece, instr_marks, marks_of, mark_of, MarkedChunk, IsValid}
 use Rattle.nc_report.specs.machinery.Found.{HasInstructions}
 use Rattle.nc_report.specs.machinery.Counts.{one}
 

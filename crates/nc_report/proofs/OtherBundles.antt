@@ -1,13 +1,13 @@
 -- Lines on the other bundles of a chunk, one bundle after the other.
-use Rattle.std.proofs.Common.{◌≡◌, ◌≢◌, ℕ, zero, suc, ◌+◌, ◌-◌, ◌*◌, ◌/◌, ◌<◌, ◌≤◌, List, [], ◌∷◌, ◌++◌, length, take, refl, sym, subst, ◌∙◌, ap}
-use Rattle.std.proofs.Common.{arith, append_assoc, append-nil, Option, Some, None, add-one, inr}
+use Rattle.std.proofs.Common.{◌≡◌, ℕ, zero, suc, ◌+◌, ◌/◌, ◌<◌, List, [], ◌∷◌, ◌++◌, length, take, refl, sym, subst, ◌∙◌, ap}
+use Rattle.std.proofs.Common.{arith, append_assoc, append-nil, Option, add-one, inr}
 use Rattle.std.specs.Prelude.{codes}
 use Rattle.std.specs.List.{AllZip, flat_map, range_with_len}
 use Rattle.std.specs.Io.KnownBytes.{Appends}
 use Rattle.std.proofs.KnownBytes.{Appends-trans, Appends-nil}
 use Rattle.std.proofs.lemmas.List.{take_at}
 use Rattle.std.proofs.Math.Seq.{take-append-add}
-use Rattle.nc_lines.specs.Replies.{reply_line, fault_words}
+use Rattle.nc_lines.specs.Replies.{fault_words}
 use Rattle.nc_vet.specs.Faults.{HasFault}
 use Rattle.nc_vet.specs.declared.fault.VetFault.{VetFault}
 use Rattle.nc_vet.proofs.Offered.{flat_map-append}

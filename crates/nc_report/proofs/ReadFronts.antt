@@ -1,12 +1,12 @@
 -- Instructions that are read one after the other from the front of some bytes.
-use Rattle.std.proofs.Common.{◌≡◌, ◌≢◌, ℕ, ◌+◌, ◌<◌, ◌≤◌, List, [], ◌∷◌, ◌++◌, length, take, drop, refl, sym, subst, ◌∙◌, ap, arith, inl, inr}
-use Rattle.std.proofs.Common.{append_assoc, append-nil, Some, Ok, Result}
+use Rattle.std.proofs.Common.{◌≡◌, ℕ, ◌+◌, ◌≤◌, List, [], ◌∷◌, ◌++◌, length, take, drop, refl, sym, subst, ◌∙◌, ap, arith, inl, inr}
+use Rattle.std.proofs.Common.{append_assoc, append-nil}
 use Rattle.std.specs.Prelude.{codes}
 use Rattle.std.proofs.lemmas.List.{length-append, take_at, drop_at, drop-drop, length-drop}
 use Rattle.nc_decode.specs.declared.instruction.Instr.{Instr}
 use Rattle.nc_decode.specs.Spelling.{Spells, IsAtFront}
 use Rattle.nc_decode.proofs.Offered.{spells_some, exact}
-use Rattle.nc_vet.specs.Chunk.{Piece, code_of, place, AreSpelled}
+use Rattle.nc_vet.specs.Chunk.{Piece, code_of, AreSpelled}
 use Rattle.nc_vet.proofs.Offered.{split_none, split_push, flat_map-append, code_of-append, place-push, spelled_after}
 use Rattle.nc_report.specs.Listing.{spaced, barred}
 use Rattle.nc_report.specs.machinery.Found.{AreInstructions, ListsFront}

@@ -1,5 +1,5 @@
 -- What is written of a refused source: its verdict, the lines on its fault, and those on other bundles.
-use Rattle.std.proofs.Common.{◌≡◌, ◌≢◌, ℕ, ◌+◌, ◌-◌, ◌/◌, ◌≤◌, List, [], ◌∷◌, ◌++◌, length, take, refl, sym, subst, ◌∙◌, ap, inr, arith}
+use Rattle.std.proofs.Common.{◌≡◌, ℕ, ◌+◌, ◌-◌, ◌/◌, List, [], ◌++◌, length, take, refl, sym, subst, ◌∙◌, ap, inr, arith}
 use Rattle.std.proofs.Common.{append_assoc, append-nil, Option, Some, None}
 use Rattle.std.specs.Prelude.{MatchOption}
 use Rattle.std.specs.List.{flat_map}
@@ -9,13 +9,12 @@ use Rattle.std.proofs.Math.Seq.{take-append-add}
 use Rattle.nc_lines.specs.Replies.{reply_line, refused_reply, fault_words}
 use Rattle.nc_vet.specs.Faults.{HasFault}
 use Rattle.nc_vet.specs.declared.fault.VetFault.{VetFault}
-use Rattle.nc_vet.specs.declared.fault.VetFault.TheVariants.{OutOfMemory}
 use Rattle.nc_vet.proofs.Offered.{flat_map-append}
 use Rattle.nc_report.specs.declared.detail.Detail.{Detail}
 use Rattle.nc_report.specs.declared.detail.Detail.TheVariants.{Brief, Usual}
 use Rattle.nc_report.specs.declared.detail.Detail.TheVariants as detail
-use Rattle.nc_report.specs.Report.{said_of, detail_line, place_of, ExplainsOthers, AreDetails, IsRefusedTo, IsRefused, IsBeginning, BeginsToTell}
-use Rattle.nc_report.specs.machinery.Found.{AddsRefused, AreFirst, AreMore, AreSomeMore, AreSomeOthers, WritesLines, CutsLines, IsCutOff}
+use Rattle.nc_report.specs.Report.{said_of, detail_line, place_of, ExplainsOthers, AreDetails, IsRefusedTo, IsRefused}
+use Rattle.nc_report.specs.machinery.Found.{AddsRefused, AreFirst, AreMore, AreSomeMore, WritesLines, CutsLines, IsCutOff}
 
 -- lines on other bundles, where there is an address or none
 abbrev OthersAt : ℕ → ℕ → List ℕ → ℕ → List (List ℕ) → Option ℕ → Type 0

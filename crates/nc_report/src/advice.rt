@@ -30,7 +30,7 @@ pub(crate) static ROWS: [Row; 71] = [
     // Transfers by memory.
     Row { mask: 0xFF_38_00, key: 0xFF_10_00, kind: Kind::CallByMemory },
     Row { mask: 0xFF_38_00, key: 0xFF_20_00, kind: Kind::JumpByMemory },
-    // Floating point: D8 to DF, FWAIT, SAHF and LAHF.
+    // Floating point, FWAIT, SAHF and LAHF.
     Row { mask: 0xF8_00_00, key: 0xD8_00_00, kind: Kind::FloatingPoint },
     Row { mask: 0xFF_00_00, key: 0x9B_00_00, kind: Kind::FloatingPoint },
     Row { mask: 0xFE_00_00, key: 0x9E_00_00, kind: Kind::FloatingPoint },

@@ -1,5 +1,5 @@
 -- Machinery of the proofs, cited by no public contract: verdicts with the names of their sources, and what was written.
-use Rattle.std.specs.Prelude.{◌≡◌, ◌≢◌, ℕ, ◌+◌, ◌-◌, ◌/◌, ◌%◌, ◌<◌, ◌≤◌, ◌⊎◌, Bool, List, [], ◌∷◌, ◌++◌, length, take, Result, Ok, Err, ⊤}
+use Rattle.std.specs.Prelude.{◌≡◌, ◌≢◌, ℕ, ◌+◌, ◌-◌, ◌/◌, ◌%◌, ◌<◌, ◌≤◌, ◌⊎◌, List, [], ◌∷◌, ◌++◌, length, take, Result, Ok, Err, ⊤}
 use Rattle.std.specs.Prelude.{Option, MatchOption, All, if◌then◌else◌}
 use Rattle.std.specs.List.{AllZip, flat_map, count_by}
 use Rattle.std.specs.Global.{Vec}

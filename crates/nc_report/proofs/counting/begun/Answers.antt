@@ -1,4 +1,4 @@
-use Rattle.std.proofs.Common.{◌≡◌, ◌≤◌, ℕ, subst, sym, arith}
+use Rattle.std.proofs.Common.{◌≤◌, ℕ, subst, sym, arith}
 use Rattle.nc_report.proofs.BitCounts.{ones_begun, begun_small}
 use Rattle.nc_report.proofs.counting.begun.Goals as goal
 

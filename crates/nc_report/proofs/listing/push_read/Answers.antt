@@ -1,4 +1,4 @@
-use Rattle.std.proofs.Common.{◌≡◌, ◌+◌, ◌-◌, ◌≤◌, ◌++◌, ℕ, List, drop, length, take, sym, subst, ap, ◌∙◌, arith, refl}
+use Rattle.std.proofs.Common.{◌≡◌, ◌+◌, ◌-◌, ◌++◌, ℕ, List, drop, take, sym, subst, ap, ◌∙◌, arith, refl}
 use Rattle.std.proofs.lemmas.List.{length-drop, take_rest}
 use Rattle.nc_decode.specs.Spelling.{IsAtFront}
 use Rattle.std.specs.Prelude.{codes}

@@ -1,4 +1,4 @@
-use Rattle.std.proofs.Common.{◌≡◌, ◌+◌, ◌/◌, ◌≤◌, length, arith, rules}
+use Rattle.std.proofs.Common.{arith}
 use Rattle.nc_report.specs.Report.{ExplainsOthers}
 use Rattle.nc_report.specs.machinery.Found.{AreSomeOthers}
 use Rattle.nc_report.proofs.OtherBundles.{none_written, written_more, cut_here, cut_in}

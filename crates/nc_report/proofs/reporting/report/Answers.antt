@@ -1,10 +1,8 @@
-use Rattle.std.proofs.Common.{◌≡◌, List, map, length, sym, subst, ap, ◌∙◌}
+use Rattle.std.proofs.Common.{List, length, subst, ap, ◌∙◌}
 use Rattle.std.specs.List.{AllZip}
 use Rattle.nc_decode.specs.Bundles.{limit_after}
 use Rattle.nc_work.specs.Verdicts.{IsVerdictOn}
 use Rattle.nc_work.specs.declared.job.Job.{Job}
-use Rattle.nc_report.specs.declared.source.Source.{Source}
-use Rattle.nc_report.specs.machinery.Found.{values_in}
 use Rattle.nc_report.proofs.ToldSources.{are_findings, are_values, reported, none_begun, all_begun, first_begun}
 use Rattle.nc_report.proofs.reporting.report.Goals as goal
 

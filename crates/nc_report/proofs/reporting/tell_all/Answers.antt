@@ -1,9 +1,9 @@
-use Rattle.std.proofs.Common.{◌≡◌, ℕ, List, length, arith, sym, subst, ap, ◌∙◌}
+use Rattle.std.proofs.Common.{ℕ, List, length, arith, sym, subst, ap, ◌∙◌}
 use Rattle.std.specs.Prelude.{All}
 use Rattle.std.specs.Global.{Vec}
 use Rattle.std.specs.Vec.Iter.{into_iter_items}
 use Rattle.nc_report.specs.machinery.Found.{IsFinding, SourceValue, values_in, HasToldFirst}
-use Rattle.nc_report.proofs.ToldSources.{AVerdict, told_none, told_next, one_or_none, told_more, told_cut, told_all}
+use Rattle.nc_report.proofs.ToldSources.{AVerdict, told_none, told_next, one_or_none, told_more, told_cut}
 use Rattle.nc_report.proofs.reporting.tell_all.Goals as goal
 
 pub loop-verdict-init : goal.loop-verdict-init

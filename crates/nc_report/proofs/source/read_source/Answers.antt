@@ -1,4 +1,4 @@
-use Rattle.std.proofs.Common.{◌++◌, take, length, arith}
+use Rattle.std.proofs.Common.{◌++◌, take, arith}
 use Rattle.std.proofs.lemmas.List.{length-append, length-take-le}
 use Rattle.std.proofs.KnownBytes.{Consumes-trans}
 use Rattle.nc_report.proofs.source.read_source.Goals as goal

@@ -5,11 +5,11 @@ use Rattle.nc_report.proofs.telling.tell_accepted.Goals as goal
 
 pub returns-in-Ok-write_out-clause-ok : goal.returns-in-Ok-write_out-clause-ok
 returns-in-Ok-write_out-clause-ok g c = (
-    c.push_accepted.new.out.items,
-    accepted c.args.chunk.now c.args.detail c.args.name.now _ c.push_accepted.new.out.items c.in-Ok.ensures c.new-out.ensures.items,
-    subst (λ (xs : List ℕ). Appends (g.W.Write.contents c.args.writer.now) (g.W.Write.contents c.write_out.new.writer) xs)
-        c.deref.ensures.value c.in-Ok-write_out.ensures.all,
-  )
+  c.push_accepted.new.out.items,
+  accepted c.args.chunk.now c.args.detail c.args.name.now _ c.push_accepted.new.out.items c.in-Ok.ensures c.new-out.ensures.items,
+  subst (λ (xs : List ℕ). Appends (g.W.Write.contents c.args.writer.now) (g.W.Write.contents c.write_out.new.writer) xs)
+      c.deref.ensures.value c.in-Ok-write_out.ensures.all,
+)
 
 pub returns-clause-cut : goal.returns-clause-cut
 returns-clause-cut g c =
@@ -17,8 +17,12 @@ returns-clause-cut g c =
     let front = c.in-Err-write_out.ensures.front in
     record {
       part = take front.0 out;
-      begins = inr (out, front.0,
-          inl (accepted c.args.chunk.now c.args.detail c.args.name.now _ out c.in-Ok.ensures c.new-out.ensures.items), refl);
+      begins = inr (
+        out,
+        front.0,
+        inl (accepted c.args.chunk.now c.args.detail c.args.name.now _ out c.in-Ok.ensures c.new-out.ensures.items),
+        refl,
+      );
       written = subst (λ (xs : List ℕ). Appends (g.W.Write.contents c.args.writer.now) (g.W.Write.contents c.write_out.new.writer)
           (take front.0 xs)) c.deref.ensures.value front.1;
     }

@@ -1,6 +1,6 @@
-use Rattle.std.proofs.Common.{◌≡◌, ◌-◌, ◌/◌, length, sym, ◌∙◌}
+use Rattle.std.proofs.Common.{◌-◌, ◌/◌, length, sym, ◌∙◌}
 use Rattle.std.proofs.lemmas.Result.{on_ok_weaker, on_err_weaker}
-use Rattle.nc_report.specs.Report.{ExplainsOthers, place_of}
+use Rattle.nc_report.specs.Report.{ExplainsOthers}
 use Rattle.nc_report.specs.machinery.Found.{AreMore, AreSomeMore, AreSomeOthers}
 use Rattle.nc_report.proofs.RefusedTexts.{brief_more, usual_more, none_more, some_more, nothing_more, writes_so, cuts_so}
 use Rattle.nc_report.proofs.telling.write_more.Goals as goal
