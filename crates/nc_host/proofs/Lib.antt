@@ -5,3 +5,4 @@ mod MarkReads
 mod Reading
 mod Accepted
 mod WholeLists
+mod Replacements

@@ -8,6 +8,8 @@ use Rattle.nc_decode.specs.declared.instruction.Mark.TheVariants.{Unmarked, Plai
 use Rattle.nc_vet.specs.declared.fault.VetFault.{VetFault}
 use Rattle.nc_vet.specs.declared.fault.VetFault.TheVariants.{BadBase, BadLength, OutOfRange, NotPermitted, Crosses, Bare, BadTarget}
 use Rattle.nc_vet.specs.declared.fault.VetFault.TheVariants.{OutOfMemory}
+use Rattle.nc_region.specs.declared.fault.ModifyFault.{ModifyFault}
+use Rattle.nc_region.specs.declared.fault.ModifyFault.TheVariants as patch
 use Rattle.nc_region.specs.declared.acts.Act.{Act}
 use Rattle.nc_region.specs.declared.acts.Act.TheVariants.{Put, MarkSpan, UnmarkSpan, Bump, Look}
 use Rattle.nc_host.specs.declared.answers.NcInstruction.{NcInstruction}
@@ -67,6 +69,15 @@ fault_place (Crosses at) = at
 fault_place (Bare at) = at
 fault_place (BadTarget at) = at
 fault_place _ = 0
+
+-- the number of a patch's fault
+abbrev pub patch_number : ModifyFault → ℕ
+patch_number patch.BadSpan = 16
+patch_number patch.NotLive = 17
+patch_number patch.NotPermitted = 18
+patch_number patch.Boundaries = 19
+patch_number patch.PairTouched = 20
+patch_number patch.BadTarget = 21
 
 -- an act
 abbrev pub act_of : Act → NcAct

@@ -12,7 +12,7 @@ use crate::vetting::admit;
 use std::alloc::Global;
 
 /// A refusal, with the number of acts that there is no room for.
-fn refused(verdict: NcVerdict, len: usize) -> NcActs
+pub(crate) fn refused(verdict: NcVerdict, len: usize) -> NcActs
     requires { verdict.fault ≡ 9 → len + 1 < 2 ^ 32 }
     ensures { result ≡ record { fault = verdict.fault; at = verdict.at; count = if verdict.fault == 9 then len + 1 else 0 } }
 {

@@ -54,3 +54,6 @@ pub struct NcActs {
 
 /// The buffer is too short.
 pub(crate) const NO_ROOM: u32 = 9;
+
+/// The allocator gave no memory.
+pub(crate) const NO_MEMORY: u32 = 8;

@@ -14,7 +14,9 @@ mod acting;
 mod answers;
 mod decoding;
 mod marking;
+mod patching;
 mod putting;
+mod replacing;
 mod vetting;
 
 pub use acting::{nc_host_create, nc_host_delete};

@@ -15,10 +15,10 @@ use nc_decode::{BUNDLE, Mark};
 use nc_vet::Marks;
 
 /// The byte of the instruction hlt.
-const STOP: u8 = 0xF4;
+pub(crate) const STOP: u8 = 0xF4;
 
 /// At this address this byte is put.
-fn put(at: u32, byte: u8) -> NcAct
+pub(crate) fn put(at: u32, byte: u8) -> NcAct
     ensures { result ≡ act_of (Act.Put at byte) }
 {
     NcAct {
@@ -51,7 +51,7 @@ fn bump() -> NcAct
 }
 
 /// Writes one more act. It answers how many there are then.
-fn write(acts: &mut [NcAct], count: usize, act: NcAct) -> usize
+pub(crate) fn write(acts: &mut [NcAct], count: usize, act: NcAct) -> usize
     requires { count < length acts.old }
     ensures acts { acts.new ≡ slice_set acts.old count act }
     ensures count { result ≡ count + 1 }

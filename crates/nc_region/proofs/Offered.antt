@@ -22,3 +22,4 @@ pub use Rattle.nc_region.proofs.Replacing.{single_span}
 pub use Rattle.nc_region.proofs.Turns.{turn, next_patch, spans_join, stands_same, same_acts}
 pub use Rattle.nc_region.proofs.Puts.{put_none, put_more, put_passed}
 pub use Rattle.nc_region.proofs.Freed.{region_freed}
+pub use Rattle.nc_region.proofs.NewInstructions.{Parted, parted, not_found, none_of_none, slice_rest}

@@ -21,6 +21,11 @@ pub record HasPutUpTo (chosen : ℕ → Bool) (at : ℕ) (bytes : List ℕ) (ini
   pub written : (start : List NcAct) (told : List Act) → HasWritten start initial from told
       → HasWritten start acts count (told ++ puts_where chosen at (take n bytes))
 
+-- these acts have come to those that stood in the buffer
+abbrev pub Adds : List NcAct → ℕ → List NcAct → ℕ → List Act → Type 0
+Adds initial from acts count added =
+    (start : List NcAct) (told : List Act) → HasWritten start initial from told → HasWritten start acts count (told ++ added)
+
 -- bundle starts, or the other places
 abbrev pub starts_if : Bool → ℕ → Bool
 starts_if true = is_start
