@@ -6,3 +6,4 @@ mod Reading
 mod Accepted
 mod WholeLists
 mod Replacements
+mod OnlyChunk

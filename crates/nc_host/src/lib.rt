@@ -6,8 +6,8 @@
 //!
 //! - [`nc_host_decode`]: the instruction at the front of some bytes.
 //! - [`nc_host_vet`], [`nc_host_marks`]: the verdict on a chunk, and its marks.
-//! - [`nc_host_create`], [`nc_host_delete`]: the acts by which a chunk is put into a text that threads are running, or turned into
-//!   stops, in their order.
+//! - [`nc_host_create`], [`nc_host_patch`], [`nc_host_delete`]: the acts by which a chunk is put into a text that threads are
+//!   running, changed there, or turned into stops, in their order.
 #![tactic(auto)]
 
 mod acting;
@@ -23,4 +23,5 @@ pub use acting::{nc_host_create, nc_host_delete};
 pub use answers::{NcAct, NcActs, NcInstruction, NcVerdict};
 pub use decoding::nc_host_decode;
 pub use marking::nc_host_marks;
+pub use patching::nc_host_patch;
 pub use vetting::nc_host_vet;

@@ -53,7 +53,14 @@ fn write_instruction(acts: &mut [NcAct], from: usize, at: u32, bytes: &[u8]) -> 
 }
 
 /// The same, unless the bytes stand there already.
-fn write_where_new(acts: &mut [NcAct], count: usize, base: u32, code: &[u8], from: usize, bytes: &[u8]) -> usize
+fn write_where_new(
+    acts: &mut [NcAct],
+    count: usize,
+    base: u32,
+    code: &[u8],
+    from: usize,
+    bytes: &[u8],
+) -> usize
     requires some { 0 < length bytes.now }
     requires ends { from + length bytes.now ≤ length code.now }
     requires high { base + length code.now < 2 ^ 32 }
@@ -71,7 +78,14 @@ fn write_where_new(acts: &mut [NcAct], count: usize, base: u32, code: &[u8], fro
 
 /// Writes the acts by which instructions of a chunk, from a place on, are replaced by others that are as long. It answers how
 /// many acts there are then.
-pub(crate) fn write_patch(acts: &mut [NcAct], count: usize, base: u32, code: &[u8], from: usize, new: &[u8]) -> usize
+pub(crate) fn write_patch(
+    acts: &mut [NcAct],
+    count: usize,
+    base: u32,
+    code: &[u8],
+    from: usize,
+    new: &[u8],
+) -> usize
     requires ends { from + length new.now ≤ length code.now }
     requires high { base + length code.now < 2 ^ 32 }
     requires room { count + 2 * length new.now ≤ length acts.old }

@@ -1,21 +1,46 @@
-use Rattle.std.proofs.Common.{rules, ◌≡◌, ◌+◌, ◌*◌, ◌≤◌, ◌<◌, ◌⊎◌, List, length, map, IfOk, None, ℕ, ◌-◌, ◌/◌, ◌%◌, Bool, true, false, nat_eq, nat_lt, [], ◌∷◌, ◌++◌, slice_index_or, slice_set, bit_and, bit_or, Fits, w8, w32, w64, Bor, MutBor}
-use Rattle.nc_decode.specs.declared.instruction.Mark.{Mark}
-use Rattle.nc_vet.specs.Chunk.{Piece, IsValid}
-use Rattle.nc_vet.specs.Listed.{listed}
-use Rattle.nc_region.specs.Patch.{AreBytesOf, acts_of_modify}
-use Rattle.nc_host.specs.Shown.{act_of, over, patch_number}
-use Rattle.nc_host.specs.Outcomes.{IsAccepted}
-use Rattle.nc_host.specs.Patches.{IsAnsweredFor, IsPatchOutcome, LiesWithin, AreBytesAt}
+use Rattle.std.proofs.Common.{ℕ, ◌+◌, ◌-◌, ◌*◌, ◌/◌, ap, ◌∙◌, None, Some}
+use Rattle.nc_text.specs.MarkedText.{unused_text}
+use Rattle.nc_region.specs.Region.{Region}
+use Rattle.nc_host.proofs.OnlyChunk.{created_only, limit_again, only_answer, patch_within}
 use Rattle.nc_host.proofs.patching.answer.Goals as goal
 
--- src/patching.rt:41:1
 pub returns-in-Ok-modify-clause-answer : goal.returns-in-Ok-modify-clause-answer
-returns-in-Ok-modify-clause-answer c = ?
+returns-in-Ok-modify-clause-answer c =
+    let v = c.args.vetted in
+    let text = ap (λ (r : Region). r.marked) c.in-Ok-new.ensures.region
+    ∙ (ap (λ (l : ℕ). unused_text (0x10000 + 32 * ((l - 0x10000) / 32))) c.limit.ensures.value
+    ∙ ap unused_text (limit_again v.base v.limit v.code v.marks c.requires)) in
+    let only = created_only c.in-Ok-new.region c.create.new.self v text (ap (λ (r : Region). r.chunks) c.in-Ok-new.ensures.region)
+    c.in-Ok-create.ensures.created in
+    record {
+      marks = v.marks;
+      valid = c.requires;
+      each = λ r one. only_answer c.create.new.self r v.base v.limit v.code v.marks c.args.at c.args.new.now None only one
+          c.in-Ok-modify.ensures.lawful;
+    }
 
--- src/patching.rt:41:1
 pub returns-in-Ok-modify-clause-within : goal.returns-in-Ok-modify-clause-within
-returns-in-Ok-modify-clause-within c = ?
+returns-in-Ok-modify-clause-within c = λ e.
+    let v = c.args.vetted in
+    let text = ap (λ (r : Region). r.marked) c.in-Ok-new.ensures.region
+    ∙ (ap (λ (l : ℕ). unused_text (0x10000 + 32 * ((l - 0x10000) / 32))) c.limit.ensures.value
+    ∙ ap unused_text (limit_again v.base v.limit v.code v.marks c.requires)) in
+    let only = created_only c.in-Ok-new.region c.create.new.self v text (ap (λ (r : Region). r.chunks) c.in-Ok-new.ensures.region)
+    c.in-Ok-create.ensures.created in
+    patch_within c.create.new.self v.base v.limit v.code v.marks c.args.at c.args.new.now only c.requires.base_is c.requires.length_is
+    c.in-Ok-modify.ensures.lawful
 
--- src/patching.rt:37:1
 pub returns-clause-answer : goal.returns-clause-answer
-returns-clause-answer c = ?
+returns-clause-answer c =
+    let v = c.args.vetted in
+    let text = ap (λ (r : Region). r.marked) c.in-Ok-new.ensures.region
+    ∙ (ap (λ (l : ℕ). unused_text (0x10000 + 32 * ((l - 0x10000) / 32))) c.limit.ensures.value
+    ∙ ap unused_text (limit_again v.base v.limit v.code v.marks c.requires)) in
+    let only = created_only c.in-Ok-new.region c.create.new.self v text (ap (λ (r : Region). r.chunks) c.in-Ok-new.ensures.region)
+    c.in-Ok-create.ensures.created in
+    record {
+      marks = v.marks;
+      valid = c.requires;
+      each = λ r one. only_answer c.create.new.self r v.base v.limit v.code v.marks c.args.at c.args.new.now (Some c.in-Err.fault) only one
+          c.in-Err.ensures.refused;
+    }

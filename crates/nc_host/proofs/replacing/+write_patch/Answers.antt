@@ -1,4 +1,4 @@
-use Rattle.std.proofs.Common.{◌≡◌, ◌+◌, ◌<◌, ℕ, List, length, None, arith, sym, ap, subst, ◌∙◌, eqb-true}
+use Rattle.std.proofs.Common.{◌≡◌, ◌+◌, ℕ, List, length, None, arith, sym, ap, subst, ◌∙◌, eqb-true}
 use Rattle.std.proofs.lemmas.Bool.{eqb-false}
 use Rattle.std.specs.Result.{result_ok}
 use Rattle.nc_decode.specs.Front.{first_instruction}
@@ -26,9 +26,9 @@ returns-clause-written t c = λ text news h b.
     let is = sym c.decode.ensures.first ∙ ap result_ok c.in-Ok.is in
     let q = parted c.args.new.now news c.in-Ok.instr b is in
     let more : Adds c.write_where_new-next.new.acts c.write_where_new-next.result c.write_patch.new.acts c.write_patch.result
-        (acts_of_modify text (c.args.base + c.args.from + c.in-Ok.instr.len) q.rest) =
-        subst (λ (k : ℕ). Adds c.write_where_new-next.new.acts c.write_where_new-next.result c.write_patch.new.acts c.write_patch.result
-        (acts_of_modify text k q.rest)) {x = c.args.base + (c.args.from + c.in-Ok.instr.len)} {y = c.args.base + c.args.from + c.in-Ok.instr.len}
-        (omega arith) (c.write_patch.ensures.written text q.rest h q.behind) in
+    (acts_of_modify text (c.args.base + c.args.from + c.in-Ok.instr.len) q.rest) =
+    subst (λ (k : ℕ). Adds c.write_where_new-next.new.acts c.write_where_new-next.result c.write_patch.new.acts c.write_patch.result
+    (acts_of_modify text k q.rest)) {x = c.args.base + (c.args.from + c.in-Ok.instr.len)} {y = c.args.base + c.args.from + c.in-Ok.instr.len}
+    (omega arith) (c.write_patch.ensures.written text q.rest h q.behind) in
     patch_added text (c.args.base + c.args.from) c.args.new.now news c.in-Ok.instr q c.args.acts.now c.write_where_new-next.new.acts
-        c.write_patch.new.acts c.args.count c.write_where_new-next.result c.write_patch.result (c.write_where_new-next.ensures.written text h) more
+    c.write_patch.new.acts c.args.count c.write_where_new-next.result c.write_patch.result (c.write_where_new-next.ensures.written text h) more
