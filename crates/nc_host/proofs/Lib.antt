@@ -7,3 +7,4 @@ mod Accepted
 mod WholeLists
 mod Replacements
 mod OnlyChunk
+mod AnyRegion

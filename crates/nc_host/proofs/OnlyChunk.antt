@@ -71,7 +71,7 @@ only_answer r s base limit code marks at new answer a b h =
     same_answer r s at new answer (a.text ∙ sym b.text) (a.chunks ∙ sym b.chunks) h
 
 -- the member of a list of one
-member_of_one : (x c : Chunk) (k : ℕ) → k < length (x ∷ []) → get_or (x ∷ []) k c ≡ c → x ≡ c
+pub member_of_one : (x c : Chunk) (k : ℕ) → k < length (x ∷ []) → get_or (x ∷ []) k c ≡ c → x ≡ c
 member_of_one x c zero lt e = e
 member_of_one x c (suc k) lt e = absurd (omega (arith, lt))
 

@@ -1,12 +1,12 @@
 -- What a host is told of a patch.
-use Rattle.std.specs.Prelude.{◌≡◌, ℕ, ◌+◌, ◌*◌, ◌<◌, ◌≤◌, ◌⊎◌, List, [], ◌∷◌, length, slice_index, Option, Some, None}
+use Rattle.std.specs.Prelude.{◌≡◌, ℕ, ◌+◌, ◌*◌, ◌<◌, ◌≤◌, ◌⊎◌, List, [], ◌∷◌, length, slice_index, Contains, Option, Some, None}
 use Rattle.nc_decode.specs.declared.instruction.Mark.{Mark}
-use Rattle.nc_text.specs.Places.{byte_at}
+use Rattle.nc_text.specs.Places.{limit_of, byte_at}
 use Rattle.nc_text.specs.MarkedText.{unused_text}
 use Rattle.nc_region.specs.declared.chunk.ChunkState.TheVariants.{Live}
 use Rattle.nc_region.specs.declared.fault.ModifyFault.{ModifyFault}
 use Rattle.nc_region.specs.Chunks.{with_chunk}
-use Rattle.nc_region.specs.Region.{Region}
+use Rattle.nc_region.specs.Region.{Region, IsRegion}
 use Rattle.nc_region.specs.Patch.{IsPatch, MayRefusePatch}
 use Rattle.nc_host.specs.Shown.{patch_number}
 use Rattle.nc_host.specs.Outcomes.{IsAccepted, IsChunkFault}
@@ -39,6 +39,13 @@ IsPatchOutcome base limit code at new room fault place =
 -- the chunk's bytes stand in the text
 abbrev pub AreBytesAt : List ℕ → ℕ → List ℕ → Type 0
 AreBytesAt text base code = (k : ℕ) → k < length code → byte_at text (base + k) ≡ slice_index code k
+
+-- in the region this chunk is live, whatever others there are
+pub record HasLive (r : Region) (base limit : ℕ) (code : List ℕ) : Type 0 where
+  pub region : IsRegion r.marked r.chunks
+  pub limit_is : limit_of r.marked.bytes ≡ limit
+  pub listed : Contains r.chunks (record { base = base; length = length code; state = Live })
+  pub bytes : AreBytesAt r.marked.bytes base code
 
 -- the new bytes lie in the chunk, and in one bundle
 abbrev pub LiesWithin : ℕ → List ℕ → ℕ → List ℕ → Type 0

@@ -4,10 +4,11 @@ ghost use Rattle.std.specs.Prelude.{◌≡◌, ◌+◌, ◌*◌, ◌≤◌, ◌<
 ghost use Rattle.nc_decode.specs.declared.instruction.Mark.{Mark};
 ghost use Rattle.nc_vet.specs.Chunk.{Piece, IsValid};
 ghost use Rattle.nc_vet.specs.Listed.{listed};
-ghost use Rattle.nc_region.specs.Patch.{AreBytesOf, acts_of_modify};
+ghost use Rattle.nc_region.specs.Region.{Region};
+ghost use Rattle.nc_region.specs.Patch.{AreBytesOf, IsPatch, acts_of_modify};
 ghost use Rattle.nc_host.specs.Shown.{act_of, over, patch_number};
 ghost use Rattle.nc_host.specs.Outcomes.{IsAccepted};
-ghost use Rattle.nc_host.specs.Patches.{IsAnsweredFor, IsPatchOutcome, LiesWithin, AreBytesAt};
+ghost use Rattle.nc_host.specs.Patches.{IsAnsweredFor, IsPatchOutcome, HasLive, LiesWithin, AreBytesAt};
 
 use crate::acting::refused;
 use crate::answers::{NO_MEMORY, NO_ROOM, NcAct, NcActs};
@@ -107,6 +108,8 @@ pub extern "C" fn nc_host_patch(
     acts: &mut [NcAct],
 ) -> NcActs
     ensures outcome { IsPatchOutcome base limit code.now at new.now (length acts.old) result.fault result.at }
+    // So the patch is lawful in every region in which the chunk is live.
+    ensures anywhere { result.fault ≡ 0 → (r : Region) → HasLive r base limit code.now → IsPatch r at new.now }
     // Exactly the acts of a patch, in their order, for any text in which the chunk's bytes stand there.
     ensures written { result.fault ≡ 0 → (text : List ℕ) (news : List Piece) → AreBytesAt text base code.now → AreBytesOf new.now news
         → (result.count ≡ length (acts_of_modify text at news))

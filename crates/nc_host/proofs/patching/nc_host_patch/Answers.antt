@@ -2,6 +2,10 @@ use Rattle.std.proofs.Common.{◌+◌, ◌-◌, ℕ, [], length, refl, arith, su
 use Rattle.nc_vet.specs.Listed.{listed}
 use Rattle.nc_region.specs.Patch.{acts_of_modify}
 use Rattle.nc_host.specs.machinery.Writing.{HasWritten, Adds}
+use Rattle.std.specs.Prelude.{Option}
+use Rattle.nc_region.specs.declared.fault.ModifyFault.{ModifyFault}
+use Rattle.nc_host.specs.Patches.{IsAnsweredFor}
+use Rattle.nc_host.proofs.AnyRegion.{lawful_anywhere}
 use Rattle.nc_host.proofs.OnlyChunk.{chunk_outcome, memory_outcome, at_least_eight}
 use Rattle.nc_host.proofs.patching.nc_host_patch.Goals as goal
 
@@ -30,3 +34,9 @@ returns-in-Ok-None-2-clause-written c = λ e text news h b.
     {x = c.args.base + (c.args.at - c.args.base)} {y = c.args.at} (omega (arith, within.0)) (c.write_patch-count.ensures.written text news h b) in
     let wrote = added c.args.acts.now [] none in
     (wrote.counted, wrote.buffer)
+
+pub returns-in-Ok-None-2-clause-anywhere : goal.returns-in-Ok-None-2-clause-anywhere
+returns-in-Ok-None-2-clause-anywhere c = λ e r live.
+    lawful_anywhere c.args.base c.args.limit c.args.code.now c.args.at c.args.new.now
+    (subst (λ (a : Option ModifyFault). IsAnsweredFor c.args.base c.args.limit c.args.code.now c.args.at c.args.new.now a)
+    c.in-Ok-None.field-0-is c.in-Ok-None.ensures.answer) r live
