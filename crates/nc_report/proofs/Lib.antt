@@ -7,3 +7,4 @@ mod RefusedTexts
 mod ToldSources
 mod Counted
 mod BitCounts
+mod OneLines

@@ -13,6 +13,7 @@ mod detail;
 mod explaining;
 mod fault;
 mod kind;
+mod law;
 mod listing;
 mod numbers;
 mod others;
@@ -23,5 +24,6 @@ mod words;
 
 pub use detail::Detail;
 pub use fault::{ReportFault, SourceFault};
+pub use law::law_of_details;
 pub use reporting::report;
 pub use source::{MOST_BYTES, Source, read_source};

@@ -1,2 +1,7 @@
 //! Tests of reading sources and of reports.
-mod smoke;
+
+mod devices;
+mod filled;
+mod meanings;
+mod reading;
+mod texts;

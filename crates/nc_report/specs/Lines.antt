@@ -1,0 +1,20 @@
+-- Lines of details: none has an end inside, so each stays behind its two spaces.
+use Rattle.std.specs.Prelude.{◌≢◌, ℕ, List, [], ◌∷◌, ⊤}
+use Rattle.nc_vet.specs.declared.fault.VetFault.{VetFault}
+use Rattle.nc_report.specs.declared.detail.Detail.{Detail}
+use Rattle.nc_report.specs.Report.{AreDetails}
+
+-- no byte of it is 0A
+abbrev pub IsOneLine : List ℕ → Type 0
+IsOneLine [] = ⊤
+IsOneLine (b ∷ bytes) = (b ≢ 10) × IsOneLine bytes
+
+-- so it is of each
+abbrev pub AreOneLine : List (List ℕ) → Type 0
+AreOneLine [] = ⊤
+AreOneLine (line ∷ lines) = IsOneLine line × AreOneLine lines
+
+-- each line of details is one line
+abbrev pub KeepsLines : Type 0
+KeepsLines = (limit base : ℕ) (detail : Detail) (code : List ℕ) (fault : VetFault) (count : ℕ) (lines : List (List ℕ))
+    → AreDetails limit base detail code fault count lines → AreOneLine lines
