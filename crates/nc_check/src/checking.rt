@@ -11,10 +11,11 @@ use std::rt::Files;
 use std::sync::Wait;
 use std::thread::Threads;
 
-/// Files that are judged together: until they have so many bytes ..
-const MANY_BYTES: usize = 33554432;
+/// Files are judged together until they have so many bytes for each worker: the memory of a small batch is used again by the
+/// next one, which the system would otherwise have to make anew ..
+const MANY_BYTES: usize = 1048576;
 
-/// .. or are so many.
+/// .. or until they are so many.
 const MANY_FILES: usize = 256;
 
 /// How much is written of a file.
@@ -68,6 +69,7 @@ pub fn check_files<R: Threads + Wait + Sync + AllocGlobal + Input + Files + Prin
         is_faulty: false,
         is_refused: false,
     };
+    let many_bytes = MANY_BYTES * ask.workers as usize;
     let mut sources = Vec::new(rt.alloc());
     let mut bytes = 0usize;
     for (at, file) in ask.files.iter().enumerate() {
@@ -86,8 +88,8 @@ pub fn check_files<R: Threads + Wait + Sync + AllocGlobal + Input + Files + Prin
                 outcome.is_faulty = true;
             }
         }
-        if bytes >= MANY_BYTES || sources.len() >= MANY_FILES {
-            progress.wipe(rt);
+        if bytes >= many_bytes || sources.len() >= MANY_FILES {
+            progress.yield_output(rt);
             outcome.is_refused |= judge(rt, ask, sources)?;
             progress.show(rt, at + 1);
             sources = Vec::new(rt.alloc());

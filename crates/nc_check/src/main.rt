@@ -38,6 +38,7 @@ fn command_words<R: Env + AllocGlobal>(rt: &R) -> Result<Vec<String>, Halt> {
 fn run<R: Threads + Wait + Sync + Env + AllocGlobal + Input + Files + Print + Eprint>(
     rt: &R,
     is_terminal: bool,
+    is_shared: bool,
 ) -> Result<u8, Halt> {
     let words = command_words(rt)?;
     let mut arguments = Vec::new(rt.alloc());
@@ -51,7 +52,7 @@ fn run<R: Threads + Wait + Sync + Env + AllocGlobal + Input + Files + Print + Ep
         Ok(ask) => ask,
         Err(error) => return Err(Halt::Words(error)),
     };
-    let progress = Progress::new(ask.files.len(), is_terminal);
+    let progress = Progress::new(ask.files.len(), is_terminal, is_shared);
     check_files(rt, &ask, progress)
 }
 
@@ -76,7 +77,8 @@ fn stop_by<R: Eprint>(rt: &R, halt: &Halt) -> u8 {
 
 fn main(rt: HostRuntime) -> ExitCode {
     let is_terminal = rt.stderr().is_terminal();
-    match run(&rt, is_terminal) {
+    let is_shared = rt.stdout().is_terminal();
+    match run(&rt, is_terminal, is_shared) {
         Ok(status) => ExitCode::from(status),
         Err(halt) => ExitCode::from(stop(&rt, &halt)),
     }
