@@ -159,10 +159,11 @@ NcActs nc_host_create(uint32_t base, uint32_t limit, const uint8_t *code, size_t
 /*
  * The acts of a patch: `new_len` bytes from the address `at` on, in the chunk `code` as it stands at `base`. They are instructions of the
  * same lengths as those that they replace.
- * Promised: the verdict is that on the patch of a region in which only this chunk stands (IsPatch, MayRefusePatch). For NC_OK the patch is
- * lawful in every region in which the chunk is live, whatever others there are, and the acts are exactly those of the patch
- * (acts_of_modify): for each instruction whose bytes change, a stop at its first byte, its further bytes, its first byte; for one of a
- * single byte only that. NC_NO_ROOM where the patch is lawful and the buffer has fewer than 2 * `new_len` places, which are always enough.
+ * Promised: the verdict is that on the patch of a region in which only this chunk stands (IsPatch, MayRefusePatch). A patch that is told
+ * lawful is lawful in every region in which the chunk is live, whatever others there are; and one that begins in the chunk and is lawful
+ * in such a region gets NC_OK, NC_OUT_OF_MEMORY or NC_NO_ROOM. For NC_OK the acts are exactly those of the patch (acts_of_modify): for
+ * each instruction whose bytes change, a stop at its first byte, its further bytes, its first byte; for one of a single byte only that.
+ * NC_NO_ROOM where the patch is lawful and the buffer has fewer than 2 * `new_len` places, which are always enough.
  * The host lends the bytes that stand in the text. If it lends others, the verdict is on those.
  * Cost: that of vetting and creating the chunk: `code` is vetted anew, and a region is made for the time of the call, in memory of some
  * five times the chunk's length and a byte for each 256 bytes of the region.
