@@ -142,16 +142,17 @@ NcVerdict nc_host_vet(uint32_t base, uint32_t limit, const uint8_t *code, size_t
 
 /*
  * The same verdict, and the marks of a valid chunk: one byte for each of its bytes, into the first `len` bytes of `marks`.
- * Promised: for NC_OK the chunk is valid with these marks (IsValid), which are the only ones. NC_NO_ROOM exactly where a valid chunk is
- * longer than the buffer.
+ * Promised: for NC_OK the chunk is valid with these marks (IsValid), which are the only ones. NC_NO_ROOM where the chunk is valid and the
+ * buffer is shorter.
  */
 NcVerdict nc_host_marks(uint32_t base, uint32_t limit, const uint8_t *code, size_t len, uint8_t *marks, size_t marks_len);
 
 /*
  * The acts of a creation: the chunk is vetted, and put into a span of the text that holds only stops.
  * Promised: for NC_OK exactly those of a creation (acts_of_create): `len` + 1 acts, of which the first `len` - `len` / 32 put the bytes
- * that aren't bundle starts, the next marks the span, and the others put the bundle starts. Between any two of them every path of every
- * thread is confined if the span was unused. NC_NO_ROOM where a valid chunk has `len` + 1 acts and the buffer has fewer places.
+ * that aren't bundle starts, the next marks the span, and the others put the bundle starts. NC_NO_ROOM where the chunk is valid and the
+ * buffer has fewer places. That every path is confined between any two of these acts is proved of a region's creation, which makes
+ * them in an unused span.
  * Not promised: that the span is unused; the host knows its chunks.
  */
 NcActs nc_host_create(uint32_t base, uint32_t limit, const uint8_t *code, size_t len, NcAct *acts, size_t acts_len);
@@ -165,8 +166,8 @@ NcActs nc_host_create(uint32_t base, uint32_t limit, const uint8_t *code, size_t
  * each instruction whose bytes change, a stop at its first byte, its further bytes, its first byte; for one of a single byte only that.
  * NC_NO_ROOM where the patch is lawful and the buffer has fewer than 2 * `new_len` places, which are always enough.
  * The host lends the bytes that stand in the text. If it lends others, the verdict is on those.
- * Cost: that of vetting and creating the chunk: `code` is vetted anew, and a region is made for the time of the call, in memory of some
- * five times the chunk's length and a byte for each 256 bytes of the region.
+ * Cost: some fifteen times that of nc_host_vet: `code` is vetted anew, and a region is made for the time of the call, in memory of some
+ * five times the chunk's length and a byte for each 256 bytes of the region. So a chunk that is patched often is better a short one.
  */
 NcActs nc_host_patch(uint32_t base, uint32_t limit, const uint8_t *code, size_t len, uint32_t at, const uint8_t *new_bytes, size_t new_len,
                      NcAct *acts, size_t acts_len);
