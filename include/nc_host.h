@@ -3,12 +3,12 @@
  *
  * They judge untrusted 32-bit x86 code, and give the acts by which a judged chunk is put into a text that threads are running, changed
  * there, or taken away. Each call is proved to keep the contract of the function of its name in crates/nc_host; the terms in
- * parentheses below are definitions in crates/nc_host/specs, and docs/DEFINITIONS.md explains them. That this header says the same is not
- * proved.
+ * parentheses below are definitions which that cites, and docs/DEFINITIONS.md explains them. That this header says the same is not proved.
  *
  * What every call keeps
- *   Memory      All memory is lent by the host for the time of the call. The library keeps nothing, and no pointer, between calls.
- *               It takes memory by malloc and gives all of it back before it returns. Without memory the fault is NC_OUT_OF_MEMORY.
+ *   Memory      Code and buffers are lent by the host for the time of the call. The library keeps nothing, and no pointer, between calls.
+ *               It takes memory of its own by malloc and gives all of it back before it returns. Without memory the fault is NC_OUT_OF_MEMORY.
+ *               64 KiB of stack are enough (tried, not proved).
  *   Threads     It starts none. Any thread may call, and several may at once, as long as nobody writes what a call reads or writes.
  *   Arguments   Numbers may be anything: a call answers, with a fault, where they make no sense. It is for the host to see that
  *               - a pointer with a length leads to so many bytes or elements, also where they are more than is used;
