@@ -3,12 +3,12 @@
  *
  * They judge untrusted 32-bit x86 code, and give the acts by which a judged chunk is put into a text that threads are running, changed
  * there, or taken away. Each call is proved to keep the contract of the function of its name in crates/nc_host; the terms in
- * parentheses below are definitions in crates/nc_host/specs, and docs/DEFINITIONS.md explains them. That this header says the same is not
- * proved.
+ * parentheses below are definitions which that cites, and docs/DEFINITIONS.md explains them. That this header says the same is not proved.
  *
  * What every call keeps
- *   Memory      All memory is lent by the host for the time of the call. The library keeps nothing, and no pointer, between calls.
- *               It takes memory by malloc and gives all of it back before it returns. Without memory the fault is NC_OUT_OF_MEMORY.
+ *   Memory      Code and buffers are lent by the host for the time of the call. The library keeps nothing, and no pointer, between calls.
+ *               It takes memory of its own by malloc and gives all of it back before it returns. Without memory the fault is NC_OUT_OF_MEMORY.
+ *               64 KiB of stack are enough (tried, not proved).
  *   Threads     It starts none. Any thread may call, and several may at once, as long as nobody writes what a call reads or writes.
  *   Arguments   Numbers may be anything: a call answers, with a fault, where they make no sense. It is for the host to see that
  *               - a pointer with a length leads to so many bytes or elements, also where they are more than is used;
@@ -142,16 +142,17 @@ NcVerdict nc_host_vet(uint32_t base, uint32_t limit, const uint8_t *code, size_t
 
 /*
  * The same verdict, and the marks of a valid chunk: one byte for each of its bytes, into the first `len` bytes of `marks`.
- * Promised: for NC_OK the chunk is valid with these marks (IsValid), which are the only ones. NC_NO_ROOM exactly where a valid chunk is
- * longer than the buffer.
+ * Promised: for NC_OK the chunk is valid with these marks (IsValid), which are the only ones. NC_NO_ROOM where the chunk is valid and the
+ * buffer is shorter.
  */
 NcVerdict nc_host_marks(uint32_t base, uint32_t limit, const uint8_t *code, size_t len, uint8_t *marks, size_t marks_len);
 
 /*
  * The acts of a creation: the chunk is vetted, and put into a span of the text that holds only stops.
  * Promised: for NC_OK exactly those of a creation (acts_of_create): `len` + 1 acts, of which the first `len` - `len` / 32 put the bytes
- * that aren't bundle starts, the next marks the span, and the others put the bundle starts. Between any two of them every path of every
- * thread is confined if the span was unused. NC_NO_ROOM where a valid chunk has `len` + 1 acts and the buffer has fewer places.
+ * that aren't bundle starts, the next marks the span, and the others put the bundle starts. NC_NO_ROOM where the chunk is valid and the
+ * buffer has fewer places. That every path is confined between any two of these acts is proved of a region's creation, which makes
+ * them in an unused span.
  * Not promised: that the span is unused; the host knows its chunks.
  */
 NcActs nc_host_create(uint32_t base, uint32_t limit, const uint8_t *code, size_t len, NcAct *acts, size_t acts_len);
@@ -159,13 +160,14 @@ NcActs nc_host_create(uint32_t base, uint32_t limit, const uint8_t *code, size_t
 /*
  * The acts of a patch: `new_len` bytes from the address `at` on, in the chunk `code` as it stands at `base`. They are instructions of the
  * same lengths as those that they replace.
- * Promised: the verdict is that on the patch of a region in which only this chunk stands (IsPatch, MayRefusePatch). For NC_OK the patch is
- * lawful in every region in which the chunk is live, whatever others there are, and the acts are exactly those of the patch
- * (acts_of_modify): for each instruction whose bytes change, a stop at its first byte, its further bytes, its first byte; for one of a
- * single byte only that. NC_NO_ROOM where the patch is lawful and the buffer has fewer than 2 * `new_len` places, which are always enough.
+ * Promised: the verdict is that on the patch of a region in which only this chunk stands (IsPatch, MayRefusePatch). A patch that is told
+ * lawful is lawful in every region in which the chunk is live, whatever others there are; and one that begins in the chunk and is lawful
+ * in such a region gets NC_OK, NC_OUT_OF_MEMORY or NC_NO_ROOM. For NC_OK the acts are exactly those of the patch (acts_of_modify): for
+ * each instruction whose bytes change, a stop at its first byte, its further bytes, its first byte; for one of a single byte only that.
+ * NC_NO_ROOM where the patch is lawful and the buffer has fewer than 2 * `new_len` places, which are always enough.
  * The host lends the bytes that stand in the text. If it lends others, the verdict is on those.
- * Cost: that of vetting and creating the chunk: `code` is vetted anew, and a region is made for the time of the call, in memory of some
- * five times the chunk's length and a byte for each 256 bytes of the region.
+ * Cost: some fifteen times that of nc_host_vet: `code` is vetted anew, and a region is made for the time of the call, in memory of some
+ * five times the chunk's length and a byte for each 256 bytes of the region. So a chunk that is patched often is better a short one.
  */
 NcActs nc_host_patch(uint32_t base, uint32_t limit, const uint8_t *code, size_t len, uint32_t at, const uint8_t *new_bytes, size_t new_len,
                      NcAct *acts, size_t acts_len);

@@ -1,18 +1,22 @@
 -- A patch that is lawful where only the chunk stands is lawful in every region in which the chunk is live.
-use Rattle.std.proofs.Common.{◌≡◌, ℕ, ◌+◌, ◌-◌, ◌<◌, List, [], ◌∷◌, length, get_or, refl, ap, arith, sym, subst, ◌∙◌, None, Contains}
+use Rattle.std.proofs.Common.{◌≡◌, ℕ, ◌+◌, ◌-◌, ◌<◌, ◌≤◌, List, [], ◌∷◌, length, get_or, refl, ap, arith, sym, subst, ◌∙◌, None, Some, Contains}
 use Rattle.std.proofs.lemmas.List.{ext_get_or, length-replicate}
+use Rattle.std.proofs.lemmas.List.FromFn.{length-map-range_with_len}
 use Rattle.nc_decode.specs.declared.instruction.Mark.{Mark}
-use Rattle.nc_vet.specs.Chunk.{Piece, IsTarget}
-use Rattle.nc_vet.proofs.Offered.{same_pieces}
-use Rattle.nc_text.specs.Places.{limit_of}
-use Rattle.nc_text.specs.MarkedText.{MarkedText, unused_text}
+use Rattle.nc_decode.specs.declared.instruction.Mark.TheVariants.{Unmarked}
+use Rattle.nc_region.specs.declared.fault.ModifyFault.{ModifyFault}
+use Rattle.nc_region.specs.declared.fault.ModifyFault.TheVariants.{BadSpan, NotLive, NotPermitted, Boundaries, PairTouched, BadTarget}
+use Rattle.nc_vet.specs.Chunk.{Piece, MarkedChunk, IsTarget}
+use Rattle.nc_vet.proofs.Offered.{same_pieces, valid_len}
+use Rattle.nc_text.specs.Places.{limit_of, byte_at}
+use Rattle.nc_text.specs.MarkedText.{MarkedText, unused_mark, unused_text}
 use Rattle.nc_text.proofs.Offered.{length-with_span, get_or-with_span_in}
 use Rattle.nc_region.specs.declared.chunk.Chunk.{Chunk}
 use Rattle.nc_region.specs.declared.chunk.ChunkState.TheVariants.{Live}
 use Rattle.nc_region.specs.Chunks.{with_chunk}
 use Rattle.nc_region.specs.Region.{Region, HoldsValid, IsLive}
-use Rattle.nc_region.specs.Patch.{IsRun, LeavesPairs, KeepsTargets, GoWell, IsPatch}
-use Rattle.nc_region.proofs.Offered.{each_get}
+use Rattle.nc_region.specs.Patch.{IsRun, LeavesPairs, KeepsTargets, GoWell, IsPatch, MayRefusePatch}
+use Rattle.nc_region.proofs.Offered.{each_get, held_same}
 use Rattle.nc_host.specs.Outcomes.{IsAccepted}
 use Rattle.nc_host.specs.Patches.{HasLive, IsAnsweredFor, AreBytesAt}
 use Rattle.nc_host.proofs.OnlyChunk.{member_of_one}
@@ -96,3 +100,79 @@ lawful_anywhere base limit code at new a r live =
       h.0,
       (c, (listed, h.1.1.1, h.1.1.2), (moved.run, moved.pairs, moved.targets)),
     )
+
+-- the text of only this chunk holds it
+only_holds : (base limit : ℕ) (code : List ℕ) (marks : List Mark) → IsAccepted base limit code marks
+    → HoldsValid (with_chunk (unused_text limit) base code marks) (record { base = base; length = length code; state = Live })
+only_holds base limit code marks v =
+    let v_chunk : MarkedChunk = record { base = base; limit = limit; code = code; marks = marks } in
+    let long = length-map-range_with_len unused_mark 65536 (limit - 65536) in
+    let as_long : length marks ≡ length code = valid_len v_chunk v in
+    record {
+      vetted = v_chunk;
+      valid = v;
+      base_is = refl;
+      limit_is = sym (only_limit base limit code marks v);
+      long = refl;
+      bytes_are = λ at i.
+          subst (λ (k : ℕ). byte_at (with_chunk (unused_text limit) base code marks).bytes k ≡ get_or code (at - base) 0)
+          {x = base + (at - base)} {y = at} (omega (arith, i.0)) (only_bytes base limit code marks v (at - base) (omega (arith, i.0, i.1)));
+      marks_are = λ at i.
+          let here : at - 65536 - (base - 65536) ≡ at - base = omega (arith, i.0, v.base_is.1) in
+          get_or-with_span_in (unused_text limit).marks (base - 65536) marks (at - 65536) Unmarked
+          (omega (arith, long, as_long, v.base_is.1, v.range.1)) (omega (arith, i.0)) (omega (arith, as_long, i.0, i.1, v.base_is.1))
+          ∙ ap (λ (n : ℕ). get_or marks n Unmarked) here;
+    }
+
+-- a live chunk is a valid one
+pub live_accepted : (r : Region) (base limit : ℕ) (code : List ℕ) → HasLive r base limit code
+    → (m : List Mark) × IsAccepted base limit code m
+live_accepted r base limit code live =
+    let chunk : Chunk = record { base = base; length = length code; state = Live } in
+    let h : HoldsValid r.marked chunk =
+    subst (λ (x : Chunk). IsLive x.state → HoldsValid r.marked x) live.listed.2
+    (each_get (λ (x : Chunk). IsLive x.state → HoldsValid r.marked x) r.chunks live.listed.0 chunk live.listed.1 live.region.live) tt in (
+      h.vetted.marks,
+      subst (λ (c : List ℕ). IsAccepted base limit c h.vetted.marks) (held_code r.marked chunk code h live.bytes refl)
+          (subst (λ (l : ℕ). IsAccepted base l h.vetted.code h.vetted.marks) (h.limit_is ∙ live.limit_is)
+          (subst (λ (b : ℕ). IsAccepted b h.vetted.limit h.vetted.code h.vetted.marks) h.base_is h.valid)),
+    )
+
+-- a patch of the chunk that is lawful in a region where it is live is lawful where only it stands
+lawful_only : (base limit : ℕ) (code : List ℕ) (marks : List Mark) (at : ℕ) (new : List ℕ) (r : Region) → IsAccepted base limit code marks
+    → HasLive r base limit code → base ≤ at → at < base + length code → IsPatch r at new
+    → IsPatch (record r {
+      marked = with_chunk (unused_text limit) base code marks;
+      chunks = record { base = base; length = length code; state = Live } ∷ [];
+    }) at new
+lawful_only base limit code marks at new r v live low high h =
+    let chunk : Chunk = record { base = base; length = length code; state = Live } in
+    let only : MarkedText = with_chunk (unused_text limit) base code marks in
+    let c = h.1.0 in
+    let same : c ≡ chunk = held_same r.chunks at chunk c live.region.rising (live.listed, tt, (low, high)) h.1.1 in
+    let holds : HoldsValid only c = subst (λ (x : Chunk). HoldsValid only x) (sym same) (only_holds base limit code marks v) in
+    let moved = run_moves r.marked only c at new code (live.limit_is ∙ sym (only_limit base limit code marks v))
+    (subst (λ (x : Chunk). AreBytesAt r.marked.bytes x.base code) (sym same) live.bytes)
+    (subst (λ (x : Chunk). AreBytesAt only.bytes x.base code) (sym same) (only_bytes base limit code marks v))
+    (ap (λ (x : Chunk). x.length) same) holds h.1.2.0 h.1.2.1 h.1.2.2 in (
+      h.0,
+      (c, ((0, omega arith, sym same), h.1.1.1, h.1.1.2), (moved.run, moved.pairs, moved.targets)),
+    )
+
+-- a lawful patch isn't refused
+not_refused : (r : Region) (at : ℕ) (new : List ℕ) (f : ModifyFault) → IsPatch r at new → MayRefusePatch r at new f → ⊥
+not_refused r at new BadSpan h m = m h.0
+not_refused r at new NotLive h m = m.1 (h.1.0, h.1.1)
+not_refused r at new NotPermitted h m = m.2 (h.1.2.0.news, h.1.2.0.bytes)
+not_refused r at new Boundaries h m = m.3 (h.1.0, h.1.1, h.1.2.0)
+not_refused r at new PairTouched h m = m.2 (h.1.0, h.1.1, (h.1.2.0, h.1.2.1))
+not_refused r at new BadTarget h m = m.2 h
+
+-- so a fault is answered only where the patch isn't lawful in any region in which the chunk is live
+pub refused_everywhere : (base limit : ℕ) (code : List ℕ) (at : ℕ) (new : List ℕ) (f : ModifyFault) → IsAnsweredFor base limit code at new (Some f)
+    → (r : Region) → HasLive r base limit code → base ≤ at → at < base + length code → IsPatch r at new → ⊥
+refused_everywhere base limit code at new f a r live low high h =
+    let chunk : Chunk = record { base = base; length = length code; state = Live } in
+    let only : MarkedText = with_chunk (unused_text limit) base code a.marks in
+    not_refused (record r { marked = only; chunks = chunk ∷ [] }) at new f (lawful_only base limit code a.marks at new r a.valid live low high h)
+    (a.each (record r { marked = only; chunks = chunk ∷ [] }) (record { text = refl; chunks = refl }))

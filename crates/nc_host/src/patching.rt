@@ -110,6 +110,9 @@ pub extern "C" fn nc_host_patch(
     ensures outcome { IsPatchOutcome base limit code.now at new.now (length acts.old) result.fault result.at }
     // So the patch is lawful in every region in which the chunk is live.
     ensures anywhere { result.fault ≡ 0 → (r : Region) → HasLive r base limit code.now → IsPatch r at new.now }
+    // And a patch of the chunk that is lawful in one of them is refused only for lack of memory, or of room.
+    ensures exact { (r : Region) → HasLive r base limit code.now → base ≤ at → at < base + length code.now → IsPatch r at new.now
+        → (result.fault ≡ 0) ⊎ ((result.fault ≡ 8) ⊎ (result.fault ≡ 9)) }
     // Exactly the acts of a patch, in their order, for any text in which the chunk's bytes stand there.
     ensures written { result.fault ≡ 0 → (text : List ℕ) (news : List Piece) → AreBytesAt text base code.now → AreBytesOf new.now news
         → (result.count ≡ length (acts_of_modify text at news))

@@ -13,7 +13,7 @@ pub use Rattle.nc_region.proofs.SpanPlaces.{is_start_false, start_or_not, span_w
 pub use Rattle.nc_region.proofs.Deleted.{region_deleted, listed_there}
 pub use Rattle.nc_region.proofs.Deleting.{all_stops}
 pub use Rattle.nc_region.proofs.QuietSpans.{quiet_chunks, quiet_spans}
-pub use Rattle.nc_region.proofs.Runs.{apart_by_index}
+pub use Rattle.nc_region.proofs.Runs.{apart_by_index, held_same}
 pub use Rattle.nc_region.proofs.Standing.{lies}
 pub use Rattle.nc_region.proofs.Exchanged.{changed, changed_holds, changed_text, changes_replace}
 pub use Rattle.nc_region.proofs.Patched.{region_patched}

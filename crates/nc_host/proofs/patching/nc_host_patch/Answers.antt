@@ -5,7 +5,8 @@ use Rattle.nc_host.specs.machinery.Writing.{HasWritten, Adds}
 use Rattle.std.specs.Prelude.{Option}
 use Rattle.nc_region.specs.declared.fault.ModifyFault.{ModifyFault}
 use Rattle.nc_host.specs.Patches.{IsAnsweredFor}
-use Rattle.nc_host.proofs.AnyRegion.{lawful_anywhere}
+use Rattle.nc_host.proofs.AnyRegion.{lawful_anywhere, live_accepted, refused_everywhere}
+use Rattle.nc_host.proofs.Accepted.{eight_or_nine}
 use Rattle.nc_host.proofs.OnlyChunk.{chunk_outcome, memory_outcome, at_least_eight}
 use Rattle.nc_host.proofs.patching.nc_host_patch.Goals as goal
 
@@ -40,3 +41,14 @@ returns-in-Ok-None-2-clause-anywhere c = λ e r live.
     lawful_anywhere c.args.base c.args.limit c.args.code.now c.args.at c.args.new.now
     (subst (λ (a : Option ModifyFault). IsAnsweredFor c.args.base c.args.limit c.args.code.now c.args.at c.args.new.now a)
     c.in-Ok-None.field-0-is c.in-Ok-None.ensures.answer) r live
+
+pub returns-in-Err-clause-exact : goal.returns-in-Err-clause-exact
+returns-in-Err-clause-exact c = λ r live low high h.
+    let m = live_accepted r c.args.base c.args.limit c.args.code.now live in
+    rw c.refused.ensures (eight_or_nine c.in-Err.verdict.fault 0 0 (c.in-Err.ensures.exact m.0 m.1))
+
+pub returns-in-Ok-Some-clause-exact : goal.returns-in-Ok-Some-clause-exact
+returns-in-Ok-Some-clause-exact c = λ r live low high h.
+    absurd (refused_everywhere c.args.base c.args.limit c.args.code.now c.args.at c.args.new.now c.in-Ok-Some.fault
+    (subst (λ (a : Option ModifyFault). IsAnsweredFor c.args.base c.args.limit c.args.code.now c.args.at c.args.new.now a)
+    c.in-Ok-Some.field-0-is c.in-Ok-Some.ensures.answer) r live low high h)
