@@ -2,6 +2,10 @@
 use Rattle.std.proofs.Common.{◌≡◌, ℕ, zero, suc, ◌+◌, ◌-◌, ◌*◌, ◌/◌, ◌<◌, ◌≤◌, List, [], ◌∷◌, length, get_or, refl, ap, arith, sym, subst, ◌∙◌}
 use Rattle.std.proofs.Common.{Option, Some, None, Contains, inr, ◌⊎◌, ⊎_elim}
 use Rattle.nc_vet.specs.declared.fault.VetFault.TheVariants.{OutOfMemory}
+use Rattle.nc_vet.specs.declared.fault.VetFault.{VetFault}
+use Rattle.nc_vet.specs.declared.fault.VetFault.TheVariants as vetted
+use Rattle.std.specs.Prelude.{◌==◌, false}
+use Rattle.nc_host.specs.Shown.{fault_number}
 use Rattle.std.specs.List.{insert}
 use Rattle.nc_decode.specs.declared.instruction.Mark.{Mark}
 use Rattle.nc_vet.specs.Chunk.{IsBase, IsLength}
@@ -118,3 +122,21 @@ memory_outcome base limit code marks at new room v =
 -- eight or more
 pub at_least_eight : (fault : ℕ) → (fault ≡ 8) ⊎ ((fault ≡ 9) × (0 < 0)) → (fault ≡ 0) ⊎ (8 ≤ fault)
 at_least_eight fault h = ⊎_elim (λ e. inr (omega (arith, e))) (λ e. absurd (omega (arith, e.1))) h
+
+-- the number of a fault isn't that of lack of room
+chunk_fault_not_nine : (f : VetFault) → (fault_number f == 9) ≡ false
+chunk_fault_not_nine vetted.BadBase = refl
+chunk_fault_not_nine vetted.BadLength = refl
+chunk_fault_not_nine vetted.OutOfRange = refl
+chunk_fault_not_nine (vetted.NotPermitted at) = refl
+chunk_fault_not_nine (vetted.Crosses at) = refl
+chunk_fault_not_nine (vetted.Bare at) = refl
+chunk_fault_not_nine (vetted.BadTarget at) = refl
+chunk_fault_not_nine vetted.OutOfMemory = refl
+
+pub chunk_not_nine : (base limit : ℕ) (code : List ℕ) (fault place : ℕ) → 0 < fault → IsOutcome base limit code 0 0 fault place
+    → (fault == 9) ≡ false
+chunk_not_nine base limit code fault place some h =
+    ⊎_elim (λ e. absurd (omega (arith, some, e.0)))
+    (λ r. ⊎_elim (λ e. absurd (omega (arith, e.2)))
+    (λ f. ap (λ (n : ℕ). n == 9) f.2 ∙ chunk_fault_not_nine f.0) r) h

@@ -1,6 +1,6 @@
 //! The verdict on a patch of a chunk, and its acts.
 
-ghost use Rattle.std.specs.Prelude.{◌≡◌, ◌+◌, ◌*◌, ◌≤◌, ◌<◌, ◌⊎◌, ℕ, List, length, map, IfOk, None};
+ghost use Rattle.std.specs.Prelude.{◌≡◌, ◌+◌, ◌*◌, ◌≤◌, ◌<◌, ◌⊎◌, ◌==◌, ℕ, List, length, map, IfOk, None, if◌then◌else◌};
 ghost use Rattle.nc_decode.specs.declared.instruction.Mark.{Mark};
 ghost use Rattle.nc_vet.specs.Chunk.{Piece, IsValid};
 ghost use Rattle.nc_vet.specs.Listed.{listed};
@@ -96,7 +96,7 @@ fn refusal(fault: u32, count: u32) -> NcActs
 ///
 /// The faults are 1 to 8 for the chunk itself, as in `nc_host_vet`; 16 to 21 for the patch; and 9 where the patch is lawful and the
 /// buffer has not twice as many places as there are new bytes, with `count` for how many are wanted. The buffer is as it was on
-/// each refusal. A call costs what a creation of the chunk costs, and as much memory again, which it gives back.
+/// each refusal. A call costs what it costs to make a region and to create the chunk there; the memory is given back.
 #[unsafe(no_mangle)]
 pub extern "C" fn nc_host_patch(
     alloc: Global,
@@ -118,7 +118,7 @@ pub extern "C" fn nc_host_patch(
         → (result.count ≡ length (acts_of_modify text at news))
         × (acts.new ≡ over (map act_of (acts_of_modify text at news)) acts.old) }
     ensures untouched { 0 < result.fault → acts.new ≡ acts.old }
-    ensures no_room { result.fault ≡ 9 → result.count ≡ 2 * length new.now }
+    ensures count { 0 < result.fault → result.count ≡ (if result.fault == 9 then 2 * length new.now else 0) }
     // A valid chunk has no fault of its own but lack of memory.
     ensures valid { (m : List Mark) → IsAccepted base limit code.now m → (result.fault ≡ 0) ⊎ (8 ≤ result.fault) }
 {

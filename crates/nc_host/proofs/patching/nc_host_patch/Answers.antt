@@ -7,7 +7,7 @@ use Rattle.nc_region.specs.declared.fault.ModifyFault.{ModifyFault}
 use Rattle.nc_host.specs.Patches.{IsAnsweredFor}
 use Rattle.nc_host.proofs.AnyRegion.{lawful_anywhere, live_accepted, refused_everywhere}
 use Rattle.nc_host.proofs.Accepted.{eight_or_nine}
-use Rattle.nc_host.proofs.OnlyChunk.{chunk_outcome, memory_outcome, at_least_eight}
+use Rattle.nc_host.proofs.OnlyChunk.{chunk_outcome, memory_outcome, at_least_eight, chunk_not_nine}
 use Rattle.nc_host.proofs.patching.nc_host_patch.Goals as goal
 
 pub returns-in-Err-clause-outcome : goal.returns-in-Err-clause-outcome
@@ -52,3 +52,11 @@ returns-in-Ok-Some-clause-exact c = λ r live low high h.
     absurd (refused_everywhere c.args.base c.args.limit c.args.code.now c.args.at c.args.new.now c.in-Ok-Some.fault
     (subst (λ (a : Option ModifyFault). IsAnsweredFor c.args.base c.args.limit c.args.code.now c.args.at c.args.new.now a)
     c.in-Ok-Some.field-0-is c.in-Ok-Some.ensures.answer) r live low high h)
+
+pub returns-in-Err-clause-count : goal.returns-in-Err-clause-count
+returns-in-Err-clause-count c = λ some.
+    rw (
+      c.refused.ensures,
+      chunk_not_nine c.args.base c.args.limit c.args.code.now c.in-Err.verdict.fault c.in-Err.verdict.at
+          c.in-Err.ensures.fault.0 c.in-Err.ensures.fault.1,
+    ) refl
