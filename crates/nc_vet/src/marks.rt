@@ -71,7 +71,7 @@ fn mark_at(code: &[u8], bundles: &[Bundle], k: usize) -> Mark
 impl Marks {
     /// The mark of a place of the code.
     #[inline(always)]
-    pub(crate) fn at(&self, code: &[u8], k: usize) -> Mark
+    pub fn at(&self, code: &[u8], k: usize) -> Mark
         requires place { k < length code.now }
         requires each { length (listed code.now self.now) ≡ length code.now }
         ensures { slice_get (listed code.now self.now) k ≡ Some result }

@@ -1,0 +1,153 @@
+//! The host: it loads, patches and deletes code while two threads run it.
+
+ghost use Rattle.std.specs.Prelude.{◌≡◌};
+
+use crate::admitting::admit;
+use crate::code::{BARE, BASE, BUNDLES, LIMIT, MASKED, SWITCH, SWITCHED, bundles};
+use crate::fault::{HostFault, LoadFault};
+use crate::guest::{Seen, live};
+use crate::turns::{BOTH_INSIDE, BOTH_RAN, ONE_CHECKED_IN, OTHER_LEFT, Turns};
+use nc_gens::{Gens, Pass};
+use nc_region::{Region, Shared};
+use std::alloc::Global;
+use std::sync::Wait;
+use std::thread;
+use std::thread::Threads;
+
+/// Vets code first, however long that takes, and takes the lock only for what has passed.
+fn load(rt: &impl Wait, shared: &Shared<'_>, base: u32, code: Vec<u8>) -> Result<(), LoadFault> {
+    let vetted = admit(base, LIMIT, code).map_err(LoadFault::NotAdmitted)?;
+    match shared.create(rt, vetted) {
+        Ok(()) => Ok(()),
+        Err((_vetted, fault)) => Err(LoadFault::NotCreated(fault)),
+    }
+}
+
+/// Before any thread runs: code that is refused never comes to the lock, and other code is loaded.
+fn open<R: Wait + Print>(rt: &R, alloc: Global, shared: &Shared<'_>) -> Result<(), HostFault> {
+    if let Err(fault) = load(rt, shared, BASE, bundles(alloc, &BARE)?) {
+        println!(rt; "a bare jump: {fault}")?;
+    }
+    load(rt, shared, BASE, bundles(alloc, &SWITCH)?)?;
+    println!(rt; "loaded at {BASE:08x}")?;
+    Ok(())
+}
+
+/// While both threads run the code: a patch, and a deletion. No thread is stopped for either.
+fn change<R: Wait + Print>(rt: &R, shared: &Shared<'_>, turns: &Turns) -> Result<(), HostFault> {
+    turns.wait_for(rt, BOTH_RAN);
+    shared.modify(rt, BASE, &SWITCHED)?;
+    println!(rt; "patched while both ran")?;
+    turns.pass_on(rt);
+    turns.wait_for(rt, BOTH_INSIDE);
+    let stamp = shared.delete(rt, BASE)?;
+    let freed = shared.reclaim(rt);
+    println!(rt; "deleted with stamp {stamp} while both stood inside: {freed} freed")?;
+    turns.pass_on(rt);
+    Ok(())
+}
+
+/// The span is used again only after each seat has checked in since, or has left.
+fn load_again<R: Wait + Print>(
+    rt: &R,
+    alloc: Global,
+    shared: &Shared<'_>,
+    turns: &Turns,
+) -> Result<(), HostFault> {
+    turns.wait_for(rt, ONE_CHECKED_IN);
+    let freed = shared.reclaim(rt);
+    println!(rt; "one has checked in: {freed} freed")?;
+    if let Err(fault) = load(rt, shared, BASE, bundles(alloc, &MASKED)?) {
+        println!(rt; "other code there: {fault}")?;
+    }
+    turns.pass_on(rt);
+    turns.wait_for(rt, OTHER_LEFT);
+    let freed = shared.reclaim(rt);
+    println!(rt; "the other has left: {freed} freed")?;
+    load(rt, shared, BASE, bundles(alloc, &MASKED)?)?;
+    println!(rt; "other code there: loaded")?;
+    turns.pass_on(rt);
+    Ok(())
+}
+
+/// What the host does while the threads run.
+fn work<R: Wait + Print>(
+    rt: &R,
+    alloc: Global,
+    shared: &Shared<'_>,
+    turns: &Turns,
+) -> Result<(), HostFault> {
+    change(rt, shared, turns)?;
+    load_again(rt, alloc, shared, turns)
+}
+
+/// Two threads, each with a pass of its own, and the host beside them. Whoever fails lets the others go.
+fn run_both<R: Threads + Wait + Print + Sync>(
+    rt: &R,
+    alloc: Global,
+    shared: &Shared<'_>,
+    one: Pass,
+    other: Pass,
+) -> Result<(Seen, Seen), HostFault>
+    requires { (one.table ≡ shared.now) × (other.table ≡ shared.now) }
+{
+    let turns = Turns::new();
+    let turns = &turns;
+    thread::scope(
+        thread::scope_env(),
+        rt,
+        move |scope|
+            requires { (one.table ≡ shared.now) × (other.table ≡ shared.now) }
+        {
+            let stays = move ||
+                requires { one.table ≡ shared.now }
+            { live(rt, shared, turns, one, true) };
+            let goes = move ||
+                requires { other.table ≡ shared.now }
+            { live(rt, shared, turns, other, false) };
+            let Ok(first) = scope.spawn(stays) else {
+                return Err(HostFault::NoThread);
+            };
+            let Ok(second) = scope.spawn(goes) else {
+                turns.give_up(rt);
+                return Err(HostFault::NoThread);
+            };
+            let worked = work(rt, alloc, shared, turns);
+            if worked.is_err() {
+                turns.give_up(rt);
+            }
+            let seen = (first.join(rt)?, second.join(rt)?);
+            worked?;
+            Ok(seen)
+        },
+    )
+}
+
+/// Shows what a thread saw.
+fn show<R: Print>(rt: &R, who: &str, seen: Seen) -> Result<(), HostFault> {
+    println!(rt;
+        "{who}: {} astray, {:?} in the deleted code",
+        seen.astray, seen.in_deleted
+    )?;
+    if let Some(end) = seen.in_new {
+        println!(rt; "{who}: {end:?} in the new code")?;
+    }
+    Ok(())
+}
+
+/// The whole story, from the seats to the last thread's leave.
+pub fn run<R: Threads + Wait + Print + Sync>(rt: &R, alloc: Global) -> Result<(), HostFault> {
+    let (gens, keeper, mut passes) = Gens::new(alloc, 2)?;
+    let one = passes.remove(0);
+    let other = passes.remove(0);
+    let region = Region::new(alloc, BUNDLES, &gens, keeper).map_err(|(_keeper, fault)| fault)?;
+    let shared = Shared::new(region);
+    open(rt, alloc, &shared)?;
+    let (first, second) = run_both(rt, alloc, &shared, one, other)?;
+    show(rt, "the first thread", first)?;
+    show(rt, "the second thread", second)?;
+    shared.delete(rt, BASE)?;
+    let freed = shared.reclaim(rt);
+    println!(rt; "all have left: {freed} freed")?;
+    Ok(())
+}

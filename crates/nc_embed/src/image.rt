@@ -1,0 +1,116 @@
+//! Acts of the host's own: each byte that a region puts goes also into memory of the host.
+
+ghost use Rattle.std.specs.Prelude.{◌≡◌, ◌+◌, ◌*◌, None, IfOk};
+ghost use Rattle.nc_text.specs.MarkedText.{unused_text};
+
+use crate::fault::HostFault;
+use nc_decode::{BUNDLE, Mark, START};
+use nc_gens::{Gens, GensFull, Keeper, Pass};
+use nc_region::{Acts, Plain, RegionFault};
+use nc_text::{Text, TextFault};
+use std::alloc::Global;
+
+/// The instruction hlt.
+const STOP: u8 = 0xF4;
+
+/// A text, and the memory of a host that holds the same bytes after every act.
+///
+/// Here the memory is a list of bytes. In a real host it is what the threads run: pages mapped twice, writable through an
+/// address that only the host has, and executable for the untrusted code.
+#[derive(Drop)]
+pub struct Image<'g> {
+    plain: Plain<'g>,
+    memory: Vec<u8>,
+    ghost same: { memory.items ≡ plain.marked.bytes },
+}
+
+impl<'g> Image<'g> {
+    /// Memory of stops, as a new text is.
+    pub fn new(
+        alloc: Global,
+        bundles: u32,
+        gens: &'g Gens,
+        keeper: Keeper,
+    ) -> Result<Image<'g>, HostFault>
+        requires { keeper.table ≡ gens.now }
+        ensures { IfOk result (λ i. i.plain.marked ≡ unused_text (0x10000 + 32 * bundles)) }
+    {
+        let text = match Text::new(alloc, bundles) {
+            Ok(text) => text,
+            Err(TextFault::BadSize) => return Err(HostFault::Region(RegionFault::BadSize)),
+            Err(TextFault::OutOfMemory) => return Err(HostFault::Region(RegionFault::OutOfMemory)),
+        };
+        let memory = Vec::from_elem(alloc, STOP, bundles as usize * BUNDLE as usize)?;
+        Ok(Image {
+            plain: Plain::new(text, gens, keeper),
+            memory,
+        })
+    }
+
+    /// The host's memory. It holds the bytes of the region, whatever the region has done.
+    pub fn memory(&self) -> &[u8]
+        ensures { result.now ≡ self.now.plain.marked.bytes }
+    {
+        &self.memory
+    }
+}
+
+impl<'g> Acts for Image<'g> {
+    ghost marked = { λ i. i.plain.marked };
+
+    ghost made = { λ i. i.plain.made };
+
+    ghost keeper = { λ i. i.plain.keeper };
+
+    ghost told = { λ i. None };
+
+    fn ready(&mut self, at: u32, len: u32) -> Result<(), TextFault> {
+        self.plain.ready(at, len)
+    }
+
+    fn is_ready(&self, at: u32, len: u32) -> bool {
+        self.plain.is_ready(at, len)
+    }
+
+    // The host's own store: one byte, by one atomic store, that every thread sees before the next one.
+    fn put(&mut self, at: u32, byte: u8) {
+        self.memory[(at - START) as usize] = byte;
+        self.plain.put(at, byte);
+    }
+
+    fn mark_span(&mut self, at: u32, marks: &[Mark]) {
+        self.plain.mark_span(at, marks);
+    }
+
+    fn unmark_span(&mut self, at: u32, len: u32) {
+        self.plain.unmark_span(at, len);
+    }
+
+    fn byte(&self, at: u32) -> u8 {
+        self.plain.byte(at)
+    }
+
+    fn limit(&self) -> u32 {
+        self.plain.limit()
+    }
+
+    fn mark(&self, at: u32) -> Mark {
+        self.plain.mark(at)
+    }
+
+    fn bump(&mut self) -> Result<u64, GensFull> {
+        self.plain.bump()
+    }
+
+    fn look(&mut self) -> u64 {
+        self.plain.look()
+    }
+
+    fn meet(&mut self, pass: &mut Pass) {
+        self.plain.meet(pass);
+    }
+
+    fn generation(&self) -> u64 {
+        self.plain.generation()
+    }
+}

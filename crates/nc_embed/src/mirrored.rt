@@ -1,0 +1,73 @@
+//! A region over acts of the host's own, behind a lock of the host's own.
+
+ghost use Rattle.std.specs.Prelude.{◌≡◌, OnOk, OnErr, IfErr};
+ghost use Rattle.nc_embed.specs.Load.{IsLoaded, IsAsBefore, MayRefuseLoad};
+
+use crate::admitting::admit;
+use crate::code::{BASE, BUNDLES, SWITCH, SWITCHED, bundles};
+use crate::fault::{HostFault, LoadFault};
+use crate::image::Image;
+use nc_gens::Gens;
+use nc_region::{Acts, RegionOf};
+use std::alloc::Global;
+use std::sync::{Mutex, Wait};
+
+/// Vets code and creates it: afterwards the chunk stands there, or nothing has changed but that pages may have been made.
+///
+/// It vets while the region is lent. Once other threads wait for the lock, vet first, and take the lock for `create` only.
+pub fn load<A: Acts + Drop>(
+    region: &mut RegionOf<A>,
+    base: u32,
+    code: Vec<u8>,
+) -> Result<(), LoadFault>
+    // The code was a valid chunk, its bytes and marks stand in its span, and all else is as before.
+    ensures loaded { OnOk result (IsLoaded region.old region.new base code.items) }
+    // Bytes, marks, chunks, generation and acts are as before.
+    ensures unchanged { OnErr result (IsAsBefore region.old region.new) }
+    // Each refusal comes where it is due.
+    ensures refused { IfErr result (MayRefuseLoad region.old base code.items) }
+{
+    let vetted = match admit(base, region.limit(), code) {
+        Ok(vetted) => vetted,
+        Err(fault) => return Err(LoadFault::NotAdmitted(fault)),
+    };
+    match region.create(vetted) {
+        Ok(()) => Ok(()),
+        Err((_vetted, fault)) => Err(LoadFault::NotCreated(fault)),
+    }
+}
+
+/// The host's memory: the bytes of the region.
+fn memory<'r, 'g>(region: &'r RegionOf<Image<'g>>) -> &'r [u8]
+    ensures { result.now ≡ region.now.marked.bytes }
+{
+    region.acts().memory()
+}
+
+/// Shows the first two bytes of the chunk in the host's memory.
+fn show<R: Wait + Print>(
+    rt: &R,
+    region: &Mutex<RegionOf<Image<'_>>>,
+    what: &str,
+) -> Result<(), HostFault> {
+    let region = region.lock(rt);
+    let [first, second, ..] = memory(&region) else {
+        return Ok(());
+    };
+    println!(rt; "{what}: {first:02x} {second:02x}")?;
+    Ok(())
+}
+
+/// The chunk's life once more, in memory of the host's own.
+pub fn run<R: Wait + Print>(rt: &R, alloc: Global) -> Result<(), HostFault> {
+    let (gens, keeper, _passes) = Gens::new(alloc, 1)?;
+    let image = Image::new(alloc, BUNDLES, &gens, keeper)?;
+    let mut region = RegionOf::over(alloc, image);
+    load(&mut region, BASE, bundles(alloc, &SWITCH)?)?;
+    let region = Mutex::new(region);
+    show(rt, &region, "memory after the load")?;
+    region.lock(rt).modify(BASE, &SWITCHED)?;
+    show(rt, &region, "memory after the patch")?;
+    region.lock(rt).delete(BASE)?;
+    show(rt, &region, "memory after the deletion")
+}

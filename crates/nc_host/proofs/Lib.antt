@@ -1,0 +1,10 @@
+mod Buffers
+mod PutLists
+mod WriteSteps
+mod MarkReads
+mod Reading
+mod Accepted
+mod WholeLists
+mod Replacements
+mod OnlyChunk
+mod AnyRegion

@@ -1,0 +1,39 @@
+use Rattle.std.proofs.Common.{arith, sym, ◌∙◌, ap, ℕ, length, set, replicate, true, false}
+use Rattle.std.proofs.lemmas.List.{length-replicate}
+use Rattle.nc_vet.specs.Listed.{listed}
+use Rattle.nc_host.specs.declared.answers.NcAct.{NcAct}
+use Rattle.nc_host.specs.machinery.Writing.{marked_if}
+use Rattle.nc_host.proofs.WriteSteps.{put_all}
+use Rattle.nc_host.proofs.WholeLists.{both_of_delete, first_written, deletion_written}
+use Rattle.nc_host.proofs.putting.write_deletion.Goals as goal
+
+pub write_stops-marked-requires-clause-room : goal.write_stops-marked-requires-clause-room
+write_stops-marked-requires-clause-room c =
+    omega (arith, c.requires.room, both_of_delete (listed c.args.code.now c.args.marks.now) c.args.base (length c.args.code.now))
+
+pub write_stops-count-requires-clause-room : goal.write_stops-count-requires-clause-room
+write_stops-count-requires-clause-room c =
+    let marks = listed c.args.code.now c.args.marks.now in
+    let len = length c.args.code.now in
+    let one = first_written (marked_if true marks c.args.base) c.args.base (replicate {A = ℕ} len 244) c.args.acts.now
+    c.write_stops-marked.new.acts len c.write_stops-marked.result (sym (length-replicate {A = ℕ} len 244)) c.write_stops-marked.ensures in
+    omega (arith, one.len, one.counted, c.requires.room, both_of_delete marks c.args.base len)
+
+pub write-requires : goal.write-requires
+write-requires c =
+    let marks = listed c.args.code.now c.args.marks.now in
+    let len = length c.args.code.now in
+    let end = sym (length-replicate {A = ℕ} len 244) in
+    let one = first_written (marked_if true marks c.args.base) c.args.base (replicate {A = ℕ} len 244) c.args.acts.now
+    c.write_stops-marked.new.acts len c.write_stops-marked.result end c.write_stops-marked.ensures in
+    let rest = put_all (marked_if false marks c.args.base) c.args.base (replicate {A = ℕ} len 244) c.write_stops-marked.new.acts
+    c.write_stops-marked.result len c.write_stops-count.new.acts c.write_stops-count.result end c.write_stops-count.ensures in
+    omega (arith, one.len, one.counted, rest.len, rest.counted, c.requires.room, both_of_delete marks c.args.base len)
+
+pub returns : goal.returns
+returns c = λ text stand.
+    deletion_written (listed c.args.code.now c.args.marks.now) text c.args.base (length c.args.code.now) c.args.acts.now
+    c.write_stops-marked.new.acts c.write_stops-count.new.acts c.write.new.acts c.write_stops-marked.result c.write_stops-count.result
+    c.write_stops-marked.ensures c.write_stops-count.ensures
+    (c.write.ensures.acts ∙ ap (λ (a : NcAct). set c.write_stops-count.new.acts c.write_stops-count.result a) c.bump.ensures)
+    c.requires.room stand (sym c.requires.each)

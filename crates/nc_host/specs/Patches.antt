@@ -1,0 +1,52 @@
+-- What a host is told of a patch.
+use Rattle.std.specs.Prelude.{◌≡◌, ℕ, ◌+◌, ◌*◌, ◌<◌, ◌≤◌, ◌⊎◌, List, [], ◌∷◌, length, slice_index, Contains, Option, Some, None}
+use Rattle.nc_decode.specs.declared.instruction.Mark.{Mark}
+use Rattle.nc_text.specs.Places.{limit_of, byte_at}
+use Rattle.nc_text.specs.MarkedText.{unused_text}
+use Rattle.nc_region.specs.declared.chunk.ChunkState.TheVariants.{Live}
+use Rattle.nc_region.specs.declared.fault.ModifyFault.{ModifyFault}
+use Rattle.nc_region.specs.Chunks.{with_chunk}
+use Rattle.nc_region.specs.Region.{Region, IsRegion}
+use Rattle.nc_region.specs.Patch.{IsPatch, MayRefusePatch}
+use Rattle.nc_host.specs.Shown.{patch_number}
+use Rattle.nc_host.specs.Outcomes.{IsAccepted, IsChunkFault}
+
+-- in the region only this chunk stands, live
+pub record HasOnly (r : Region) (base limit : ℕ) (code : List ℕ) (marks : List Mark) : Type 0 where
+  pub text : r.marked ≡ with_chunk (unused_text limit) base code marks
+  pub chunks : r.chunks ≡ record { base = base; length = length code; state = Live } ∷ []
+
+-- a lawful patch of the region has no fault; another has one that it may be refused for
+abbrev pub IsAnswered : Region → ℕ → List ℕ → Option ModifyFault → Type 0
+IsAnswered r at new None = IsPatch r at new
+IsAnswered r at new (Some fault) = MayRefusePatch r at new fault
+
+-- the code is a valid chunk, and so it is of a patch of each region in which only this chunk stands
+pub record IsAnsweredFor (base limit : ℕ) (code : List ℕ) (at : ℕ) (new : List ℕ) (answer : Option ModifyFault) : Type 0 where
+  pub marks : List Mark
+  pub valid : IsAccepted base limit code marks
+  pub each : (r : Region) → HasOnly r base limit code marks → IsAnswered r at new answer
+
+-- The outcome of a call that judges a patch and then writes its acts, at most two for each new byte: fault 0 for a lawful one, with
+-- room enough; 9 for a lawful one without; 16 to 21 for another; else the chunk's own fault.
+abbrev pub IsPatchOutcome : (base limit : ℕ) → List ℕ → (at : ℕ) → List ℕ → (room fault place : ℕ) → Type 0
+IsPatchOutcome base limit code at new room fault place =
+    ((fault ≡ 0) × (place ≡ 0) × (2 * length new ≤ room) × IsAnsweredFor base limit code at new None)
+    ⊎ (((fault ≡ 9) × (place ≡ 0) × (room < 2 * length new) × IsAnsweredFor base limit code at new None)
+    ⊎ (((f : ModifyFault) × (fault ≡ patch_number f) × (place ≡ 0) × IsAnsweredFor base limit code at new (Some f))
+    ⊎ IsChunkFault base limit code fault place))
+
+-- the chunk's bytes stand in the text
+abbrev pub AreBytesAt : List ℕ → ℕ → List ℕ → Type 0
+AreBytesAt text base code = (k : ℕ) → k < length code → byte_at text (base + k) ≡ slice_index code k
+
+-- in the region this chunk is live, whatever others there are
+pub record HasLive (r : Region) (base limit : ℕ) (code : List ℕ) : Type 0 where
+  pub region : IsRegion r.marked r.chunks
+  pub limit_is : limit_of r.marked.bytes ≡ limit
+  pub listed : Contains r.chunks (record { base = base; length = length code; state = Live })
+  pub bytes : AreBytesAt r.marked.bytes base code
+
+-- the new bytes lie in the chunk, and in one bundle
+abbrev pub LiesWithin : ℕ → List ℕ → ℕ → List ℕ → Type 0
+LiesWithin base code at new = (base ≤ at) × (at + length new ≤ base + length code) × (length new ≤ 32)

@@ -1,0 +1,92 @@
+-- What a host reads: numbers in the place of instructions, marks, faults and acts.
+use Rattle.std.specs.Prelude.{ℕ, ◌+◌, pos, List, ◌++◌, length, drop, Option, Some, None}
+use Rattle.nc_decode.specs.declared.instruction.Flow.{Flow}
+use Rattle.nc_decode.specs.declared.instruction.Flow.TheVariants.{Next, Branch, Jump, Call, IndirectJump, IndirectCall, Stop}
+use Rattle.nc_decode.specs.declared.instruction.Instr.{Instr}
+use Rattle.nc_decode.specs.declared.instruction.Mark.{Mark}
+use Rattle.nc_decode.specs.declared.instruction.Mark.TheVariants.{Unmarked, Plain, After}
+use Rattle.nc_vet.specs.declared.fault.VetFault.{VetFault}
+use Rattle.nc_vet.specs.declared.fault.VetFault.TheVariants.{BadBase, BadLength, OutOfRange, NotPermitted, Crosses, Bare, BadTarget}
+use Rattle.nc_vet.specs.declared.fault.VetFault.TheVariants.{OutOfMemory}
+use Rattle.nc_region.specs.declared.fault.ModifyFault.{ModifyFault}
+use Rattle.nc_region.specs.declared.fault.ModifyFault.TheVariants as patch
+use Rattle.nc_region.specs.declared.acts.Act.{Act}
+use Rattle.nc_region.specs.declared.acts.Act.TheVariants.{Put, MarkSpan, UnmarkSpan, Bump, Look}
+use Rattle.nc_host.specs.declared.answers.NcInstruction.{NcInstruction}
+use Rattle.nc_host.specs.declared.answers.NcAct.{NcAct}
+
+-- the number of a flow
+abbrev pub flow_number : Flow → ℕ
+flow_number Next = 1
+flow_number Branch = 2
+flow_number Jump = 3
+flow_number Call = 4
+flow_number IndirectJump = 5
+flow_number IndirectCall = 6
+flow_number Stop = 7
+
+-- 16 and the number of a register, or 0 for none
+abbrev pub register_number : Option ℕ → ℕ
+register_number None = 0
+register_number (Some register) = 16 + register
+
+-- an instruction
+abbrev pub instruction_of : Instr → NcInstruction
+instruction_of i = record {
+  fault = 0;
+  length = i.len;
+  flow = flow_number i.flow;
+  rel = i.rel;
+  register = i.reg;
+  masks = register_number i.masks;
+}
+
+-- no instruction, for this reason
+abbrev pub no_instruction : ℕ → NcInstruction
+no_instruction fault = record { fault = fault; length = 0; flow = 0; rel = pos 0; register = 0; masks = 0 }
+
+-- a mark: 0, 1, or 16 and the number of the register
+abbrev pub mark_number : Mark → ℕ
+mark_number Unmarked = 0
+mark_number Plain = 1
+mark_number (After register) = 16 + register
+
+-- the number of a chunk's fault
+abbrev pub fault_number : VetFault → ℕ
+fault_number BadBase = 1
+fault_number BadLength = 2
+fault_number OutOfRange = 3
+fault_number (NotPermitted at) = 4
+fault_number (Crosses at) = 5
+fault_number (Bare at) = 6
+fault_number (BadTarget at) = 7
+fault_number OutOfMemory = 8
+
+-- the address where it stands, for a fault that has one
+abbrev pub fault_place : VetFault → ℕ
+fault_place (NotPermitted at) = at
+fault_place (Crosses at) = at
+fault_place (Bare at) = at
+fault_place (BadTarget at) = at
+fault_place _ = 0
+
+-- the number of a patch's fault
+abbrev pub patch_number : ModifyFault → ℕ
+patch_number patch.BadSpan = 16
+patch_number patch.NotLive = 17
+patch_number patch.NotPermitted = 18
+patch_number patch.Boundaries = 19
+patch_number patch.PairTouched = 20
+patch_number patch.BadTarget = 21
+
+-- an act
+abbrev pub act_of : Act → NcAct
+act_of (Put at byte) = record { kind = 1; at = at; value = byte }
+act_of (MarkSpan at len) = record { kind = 2; at = at; value = len }
+act_of Bump = record { kind = 3; at = 0; value = 0 }
+act_of (UnmarkSpan at len) = record { kind = 4; at = at; value = len }
+act_of Look = record { kind = 5; at = 0; value = 0 }
+
+-- a buffer with these at its front; the rest of it is as it was
+abbrev pub over : {X : Type 0} → List X → List X → List X
+over front old = front ++ drop (length front) old

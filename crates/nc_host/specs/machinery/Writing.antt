@@ -1,0 +1,41 @@
+-- Acts written into a buffer, one after the other.
+use Rattle.std.specs.Prelude.{◌≡◌, ℕ, ◌+◌, ◌-◌, Bool, true, false, not, List, ◌++◌, take, length, map, slice_index_or}
+use Rattle.nc_decode.specs.declared.instruction.Mark.{Mark}
+use Rattle.nc_decode.specs.declared.instruction.Mark.TheVariants.{Unmarked}
+use Rattle.nc_region.specs.declared.acts.Act.{Act}
+use Rattle.nc_region.specs.Acts.{puts_where, is_start, is_inside, is_mark}
+use Rattle.nc_host.specs.declared.answers.NcAct.{NcAct}
+use Rattle.nc_host.specs.Shown.{act_of, over}
+
+-- so many acts stand at the front of the buffer
+pub record HasWritten (start now : List NcAct) (count : ℕ) (told : List Act) : Type 0 where
+  pub buffer : now ≡ over (map act_of told) start
+  pub counted : count ≡ length told
+
+-- Of these bytes the first so many have been looked at, and the puts of those at places that pass the test stand in the buffer
+-- after the acts that stood there at first, which were so many.
+pub record HasPutUpTo (chosen : ℕ → Bool) (at : ℕ) (bytes : List ℕ) (initial : List NcAct) (from n : ℕ) (acts : List NcAct) (count : ℕ)
+    : Type 0 where
+  pub len : length acts ≡ length initial
+  pub counted : count ≡ from + length (puts_where chosen at (take n bytes))
+  pub written : (start : List NcAct) (told : List Act) → HasWritten start initial from told
+      → HasWritten start acts count (told ++ puts_where chosen at (take n bytes))
+
+-- these acts have come to those that stood in the buffer
+abbrev pub Adds : List NcAct → ℕ → List NcAct → ℕ → List Act → Type 0
+Adds initial from acts count added =
+    (start : List NcAct) (told : List Act) → HasWritten start initial from told → HasWritten start acts count (told ++ added)
+
+-- bundle starts, or the other places
+abbrev pub starts_if : Bool → ℕ → Bool
+starts_if true = is_start
+starts_if false = is_inside
+
+-- a mark that stands for some state, or one that stands for none
+abbrev pub mark_if : Bool → Mark → Bool
+mark_if true mark = is_mark mark
+mark_if false mark = not (is_mark mark)
+
+-- marked places, or the others, by the marks of a chunk at this base
+abbrev pub marked_if : Bool → List Mark → ℕ → ℕ → Bool
+marked_if marked marks base at = mark_if marked (slice_index_or marks (at - base) Unmarked)

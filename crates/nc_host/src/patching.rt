@@ -1,0 +1,142 @@
+//! The verdict on a patch of a chunk, and its acts.
+
+ghost use Rattle.std.specs.Prelude.{◌≡◌, ◌+◌, ◌*◌, ◌≤◌, ◌<◌, ◌⊎◌, ◌==◌, ℕ, List, length, map, IfOk, None, if◌then◌else◌};
+ghost use Rattle.nc_decode.specs.declared.instruction.Mark.{Mark};
+ghost use Rattle.nc_vet.specs.Chunk.{Piece, IsValid};
+ghost use Rattle.nc_vet.specs.Listed.{listed};
+ghost use Rattle.nc_region.specs.Region.{Region};
+ghost use Rattle.nc_region.specs.Patch.{AreBytesOf, IsPatch, acts_of_modify};
+ghost use Rattle.nc_host.specs.Shown.{act_of, over, patch_number};
+ghost use Rattle.nc_host.specs.Outcomes.{IsAccepted};
+ghost use Rattle.nc_host.specs.Patches.{IsAnsweredFor, IsPatchOutcome, HasLive, LiesWithin, AreBytesAt};
+
+use crate::acting::refused;
+use crate::answers::{NO_MEMORY, NO_ROOM, NcAct, NcActs};
+use crate::replacing::write_patch;
+use crate::vetting::admit;
+use nc_decode::{BUNDLE, START};
+use nc_gens::Gens;
+use nc_region::{ModifyFault, Region};
+use nc_vet::{Marks, Vetted};
+use std::alloc::{AllocError, Global};
+
+/// The number of a patch's fault.
+fn patch_number(fault: ModifyFault) -> u32
+    ensures { result ≡ patch_number fault }
+{
+    match fault {
+        ModifyFault::BadSpan => 16,
+        ModifyFault::NotLive => 17,
+        ModifyFault::NotPermitted => 18,
+        ModifyFault::Boundaries => 19,
+        ModifyFault::PairTouched => 20,
+        ModifyFault::BadTarget => 21,
+    }
+}
+
+/// Why a patch of a valid chunk isn't lawful, or none if it is. A region is made in which only this chunk stands, and is asked.
+fn answer(
+    alloc: Global,
+    vetted: Vetted,
+    at: u32,
+    new: &[u8],
+) -> Result<Option<ModifyFault>, AllocError>
+    requires { IsValid vetted }
+    ensures answer { IfOk result (λ a. IsAnsweredFor vetted.base vetted.limit vetted.code at new.now a) }
+    ensures within { IfOk result (λ a. a ≡ None → LiesWithin vetted.base vetted.code at new.now) }
+{
+    let Ok((gens, keeper, _passes)) = Gens::new(alloc, 1) else {
+        return Err(AllocError);
+    };
+    let bundles = (vetted.limit() - START) / BUNDLE;
+    let Ok(mut region) = Region::new(alloc, bundles, &gens, keeper) else {
+        return Err(AllocError);
+    };
+    let Ok(()) = region.create(vetted) else {
+        return Err(AllocError);
+    };
+    match region.modify(at, new) {
+        Ok(()) => Ok(None),
+        Err(fault) => Ok(Some(fault)),
+    }
+}
+
+/// A copy of a valid chunk, and what is answered to a patch of it.
+fn judge_patch(
+    alloc: Global,
+    base: u32,
+    limit: u32,
+    code: &[u8],
+    marks: Marks,
+    at: u32,
+    new: &[u8],
+) -> Result<Option<ModifyFault>, AllocError>
+    requires { IsAccepted base limit code.now (listed code.now marks) }
+    ensures answer { IfOk result (λ a. IsAnsweredFor base limit code.now at new.now a) }
+    ensures within { IfOk result (λ a. a ≡ None → LiesWithin base code.now at new.now) }
+{
+    let copy = code.to_vec(alloc)?;
+    answer(alloc, Vetted::new(base, limit, copy, marks), at, new)
+}
+
+/// A refusal that has no address.
+fn refusal(fault: u32, count: u32) -> NcActs
+    ensures { result ≡ record { fault = fault; at = 0; count = count } }
+{
+    NcActs {
+        fault,
+        at: 0,
+        count,
+    }
+}
+
+/// Vets a chunk as it stands in a text, judges a patch of it, and writes the acts by which the patch is made while threads are running:
+/// for each instruction whose bytes change, rising, a stop at its first byte, its further bytes, its first byte; for one of a
+/// single byte only that.
+///
+/// The faults are 1 to 8 for the chunk itself, as in `nc_host_vet`; 16 to 21 for the patch; and 9 where the patch is lawful and the
+/// buffer has not twice as many places as there are new bytes, with `count` for how many are wanted. The buffer is as it was on
+/// each refusal. A call costs what it costs to make a region and to create the chunk there; the memory is given back.
+#[unsafe(no_mangle)]
+pub extern "C" fn nc_host_patch(
+    alloc: Global,
+    base: u32,
+    limit: u32,
+    code: &[u8],
+    at: u32,
+    new: &[u8],
+    acts: &mut [NcAct],
+) -> NcActs
+    ensures outcome { IsPatchOutcome base limit code.now at new.now (length acts.old) result.fault result.at }
+    // So the patch is lawful in every region in which the chunk is live.
+    ensures anywhere { result.fault ≡ 0 → (r : Region) → HasLive r base limit code.now → IsPatch r at new.now }
+    // And a patch of the chunk that is lawful in one of them is refused only for lack of memory, or of room.
+    ensures exact { (r : Region) → HasLive r base limit code.now → base ≤ at → at < base + length code.now → IsPatch r at new.now
+        → (result.fault ≡ 0) ⊎ ((result.fault ≡ 8) ⊎ (result.fault ≡ 9)) }
+    // Exactly the acts of a patch, in their order, for any text in which the chunk's bytes stand there.
+    ensures written { result.fault ≡ 0 → (text : List ℕ) (news : List Piece) → AreBytesAt text base code.now → AreBytesOf new.now news
+        → (result.count ≡ length (acts_of_modify text at news))
+        × (acts.new ≡ over (map act_of (acts_of_modify text at news)) acts.old) }
+    ensures untouched { 0 < result.fault → acts.new ≡ acts.old }
+    ensures count { 0 < result.fault → result.count ≡ (if result.fault == 9 then 2 * length new.now else 0) }
+    // A valid chunk has no fault of its own but lack of memory.
+    ensures valid { (m : List Mark) → IsAccepted base limit code.now m → (result.fault ≡ 0) ⊎ (8 ≤ result.fault) }
+{
+    let marks = match admit(alloc, base, limit, code, 0, 0) {
+        Ok(marks) => marks,
+        Err(verdict) => return refused(verdict, 0),
+    };
+    match judge_patch(alloc, base, limit, code, marks, at, new) {
+        Err(AllocError) => refusal(NO_MEMORY, 0),
+        Ok(Some(fault)) => refusal(patch_number(fault), 0),
+        Ok(None) if acts.len() < 2 * new.len() => refusal(NO_ROOM, 2 * new.len() as u32),
+        Ok(None) => {
+            let count = write_patch(acts, 0, base, code, (at - base) as usize, new);
+            NcActs {
+                fault: 0,
+                at: 0,
+                count: count as u32,
+            }
+        }
+    }
+}
