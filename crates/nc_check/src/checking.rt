@@ -5,18 +5,29 @@ use crate::outcome::{Halt, Outcome};
 use crate::progress::Progress;
 use nc_command::{CheckAsk, Said};
 use nc_report::{Detail, ReportFault, Source, SourceFault, report};
+use std::alloc::Global;
 use std::io;
 use std::io::Input;
 use std::rt::Files;
 use std::sync::Wait;
 use std::thread::Threads;
 
-/// Files are judged together until they have so many bytes for each worker: the memory of a small batch is used again by the
-/// next one, which the system would otherwise have to make anew ..
-const MANY_BYTES: usize = 1048576;
+/// Files are judged together until they have so many bytes for each worker but the first, so that one worker has each file by
+/// itself ..
+const MANY_BYTES: usize = 4 << 20;
 
 /// .. or until they are so many.
 const MANY_FILES: usize = 256;
+
+/// A block that is larger than most batches.
+const LARGE: usize = 31 << 20;
+
+/// Has the C library keep the memory of a batch for the next one: glibc does so for up to twice the size of the largest block
+/// that was given back (up to 32 MiB). Otherwise it would give much of it back to the system, which makes it anew, page by page.
+/// The block isn't touched. Where there is no memory for it nothing is lost but time.
+fn keep_memory(alloc: Global) {
+    let _ = Vec::<u8>::with_capacity(alloc, LARGE);
+}
 
 /// How much is written of a file.
 fn detail(said: Said) -> Detail {
@@ -65,11 +76,12 @@ pub fn check_files<R: Threads + Wait + Sync + AllocGlobal + Input + Files + Prin
     ask: &CheckAsk<'_>,
     mut progress: Progress,
 ) -> Result<u8, Halt> {
+    keep_memory(rt.alloc());
     let mut outcome = Outcome {
         is_faulty: false,
         is_refused: false,
     };
-    let many_bytes = MANY_BYTES * ask.workers as usize;
+    let many_bytes = MANY_BYTES * (ask.workers as usize).saturating_sub(1);
     let mut sources = Vec::new(rt.alloc());
     let mut bytes = 0usize;
     for (at, file) in ask.files.iter().enumerate() {
