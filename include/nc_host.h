@@ -17,16 +17,23 @@
  *   Refusals    A buffer is as it was when the fault isn't 0. Only so much of it is written as is said.
  *   Answers     The same arguments give the same answer, but for NC_OUT_OF_MEMORY.
  *   Execution   Nothing that is lent is ever executed.
+ *   Linking     The library is for Linux on x86-64, and wants liblibc_c.a of the toolchain after it (README.md has the command).
  *
  * What the host has to keep, without which no verdict protects it (docs/EMBEDDING.md says why):
- *   - Untrusted code can't write the region's text, and reads no more than it may.
+ *   - Untrusted code runs in a 32-bit code segment; in 64-bit mode the same bytes are other instructions. Nothing is executable in it but
+ *     the text and what is below NC_START.
+ *   - Untrusted code can't write the region's text, nor the code below NC_START, and reads no more than it may.
  *   - A segment ends at the limit, so that what goes there or above it traps.
  *   - Untrusted code is entered at bundle starts only, and bundle starts below NC_START hold trusted code or stops.
  *   - All places of the region that no chunk covers hold NC_STOP; the last bundle, the guard, always does.
  *   - Each act is made whole and in the order in which it is written, and seen so by every thread; a processor may ask for more than
  *     a store (serializing, other cores' instruction caches), and nothing is promised of that here.
- *   - One call at a time changes a text: the host has its own lock around asking for acts and making them.
- *   - Trusted code clears the direction flag when it is entered, since untrusted code may set it.
+ *   - One call at a time changes a text: the host has its own lock around asking for acts and making them. Where it makes the first act of
+ *     a call, it makes all the others too, before it asks for more.
+ *   - A thread that traps at the stop of a patch that is being made goes back to the same instruction afterwards: such a trap says nothing
+ *     against the code.
+ *   - Trusted code that is entered clears the direction flag, since untrusted code may set it, and uses no stack before it has loaded a stack
+ *     pointer of its own. It masks each address by which it goes back, after it has read it once.
  *   - A deleted span is used again only once every thread that may have stood in it has left the region or has been outside since the
  *     stamp was drawn.
  *
@@ -49,7 +56,7 @@ extern "C" {
 #define NC_START 0x10000u        /* the address of a region's first byte */
 #define NC_MIN_BUNDLES 2u        /* the fewest bundles of a region: one, and the guard */
 #define NC_MAX_BUNDLES 2097152u  /* the most: 64 MiB */
-#define NC_STOP 0xF4u            /* the byte of hlt, at which a thread ends */
+#define NC_STOP 0xF4u            /* the byte of hlt, at which a thread traps */
 
 /* the limit of a region of so many bundles: the address after its last byte */
 #define NC_LIMIT(bundles) (NC_START + NC_BUNDLE * (uint32_t)(bundles))
@@ -64,7 +71,7 @@ extern "C" {
 #define NC_BARE 6u            /* the indirect jump or call at the address doesn't directly follow the mask of its register */
 #define NC_BAD_TARGET 7u      /* the jump, branch or call at the address goes where none may go */
 #define NC_OUT_OF_MEMORY 8u   /* no memory; it says nothing of the code, but that 1 to 3 don't hold */
-#define NC_NO_ROOM 9u         /* the buffer is too short; all else is as for 0 */
+#define NC_NO_ROOM 9u         /* the buffer is too short, and as it was; the chunk is valid, and the patch lawful */
 #define NC_CUT_SHORT 10u      /* nc_host_decode: the bytes are the beginning of an instruction, and not all of it */
 
 /* The faults of a patch, of which the first is given, in this order. None has an address. */
@@ -92,7 +99,7 @@ extern "C" {
 /* The acts. */
 #define NC_PUT 1u   /* at the address `at` the byte `value` is put */
 #define NC_MARK 2u  /* from `at` on so many places as `value` get the marks of the chunk; a host that keeps no marks does nothing */
-#define NC_BUMP 3u  /* a stamp is drawn: from here on wait for threads before the span is used again */
+#define NC_BUMP 3u  /* a stamp is drawn: from here on wait for threads before the span is used again. `at` and `value` are 0 */
 
 typedef struct NcInstruction {
     uint32_t fault;   /* NC_OK, NC_NOT_PERMITTED or NC_CUT_SHORT; where it isn't NC_OK, all else is 0 */
