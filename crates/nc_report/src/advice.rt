@@ -18,9 +18,11 @@ pub(crate) struct Row {
 
 /// The kinds of bytes that are no permitted instruction. Of the rows that fit, the first is meant.
 #[rattlefmt::skip]
-pub(crate) static ROWS: [Row; 71] = [
+pub(crate) static ROWS: [Row; 75] = [
     // Returns and far transfers.
     Row { mask: 0xFE_00_00, key: 0xC2_00_00, kind: Kind::Return },
+    Row { mask: 0xFE_FE_00, key: 0xF2_C2_00, kind: Kind::Return },
+    Row { mask: 0xFF_FE_00, key: 0x66_C2_00, kind: Kind::Return },
     Row { mask: 0xFE_00_00, key: 0xCA_00_00, kind: Kind::Far },
     Row { mask: 0xFF_00_00, key: 0xCF_00_00, kind: Kind::Far },
     Row { mask: 0xFF_00_00, key: 0x9A_00_00, kind: Kind::Far },
@@ -34,8 +36,9 @@ pub(crate) static ROWS: [Row; 71] = [
     Row { mask: 0xF8_00_00, key: 0xD8_00_00, kind: Kind::FloatingPoint },
     Row { mask: 0xFF_00_00, key: 0x9B_00_00, kind: Kind::FloatingPoint },
     Row { mask: 0xFE_00_00, key: 0x9E_00_00, kind: Kind::FloatingPoint },
-    // Entries, hints and counting of bits, by the prefix F3.
+    // Entries and jumps, hints and counting of bits, by the prefixes F3 and 3E.
     Row { mask: 0xFF_FF_FF, key: 0xF3_0F_1E, kind: Kind::EntryMark },
+    Row { mask: 0xFF_FF_00, key: 0x3E_FF_00, kind: Kind::EntryMark },
     Row { mask: 0xFF_FF_00, key: 0xF3_90_00, kind: Kind::Pause },
     Row { mask: 0xFF_FF_FE, key: 0xF3_0F_BC, kind: Kind::TrailingZeros },
     Row { mask: 0xFF_FF_FF, key: 0xF3_0F_B8, kind: Kind::Population },
@@ -52,6 +55,7 @@ pub(crate) static ROWS: [Row; 71] = [
     Row { mask: 0xFF_FF_00, key: 0x0F_18_00, kind: Kind::Prefetch },
     Row { mask: 0xFF_FF_00, key: 0x0F_AE_00, kind: Kind::Fence },
     Row { mask: 0xFF_FF_00, key: 0x0F_38_00, kind: Kind::LaterMove },
+    Row { mask: 0xFF_FF_FF, key: 0x66_0F_38, kind: Kind::LaterMove },
     // Segment registers, after 0F.
     Row { mask: 0xFF_F6_00, key: 0x0F_A0_00, kind: Kind::SegmentRegister },
     Row { mask: 0xFF_FF_00, key: 0x0F_B2_00, kind: Kind::SegmentRegister },

@@ -12,13 +12,13 @@ pub(crate) const BAD_LENGTH: &[u8] =
     b"the code isn't whole bundles of 32 bytes, or there is none: fill the last bundle with 90 (nop)";
 /// The code doesn't fit.
 pub(crate) const OUT_OF_RANGE: &[u8] =
-    b"the code reaches into the region's last bundle, or beyond: choose more bundles, one more than the code has";
+    b"the code reaches into the region's last bundle, or beyond: choose a lower base, or more bundles, counted from 00010000 to one after the code";
 /// An instruction is cut by the end of its bundle.
 pub(crate) const CROSSES: &[u8] =
     b"an instruction crosses the end of its bundle: assemble with .bundle_align_mode 5, or put nops before it";
 /// An indirect transfer without its mask.
 pub(crate) const BARE: &[u8] =
-    b"a jump or call by a register that isn't masked: put `andl $-32` of the same register directly before it, in the same bundle";
+    b"a jump or call by a register that isn't masked: put `andl $-32` of the same register, in its three bytes, directly before it, in the same bundle; %esp has none";
 /// A direct transfer that goes nowhere allowed.
 pub(crate) const BAD_TARGET: &[u8] =
     b"a direct jump or call into an instruction or to the second half of a pair, or out of the code to no bundle start of the region";
@@ -38,7 +38,7 @@ pub(crate) const JUMP_BY_MEMORY: &[u8] =
     b"a jump by memory: load the address into a register, mask it, jump by it; for switch compile with -fno-jump-tables";
 
 pub(crate) const FLOATING_POINT: &[u8] =
-    b"floating point by x87: compile with -mno-80387 -msoft-float";
+    b"floating point by x87, or sahf: compile with -mno-80387 -msoft-float";
 
 pub(crate) const VECTOR: &[u8] = b"a vector instruction (SSE, MMX): compile with -mno-sse -mno-mmx";
 
@@ -58,7 +58,7 @@ pub(crate) const CLOCK: &[u8] = b"a read of a clock or counter: call the host";
 pub(crate) const PRIVILEGED: &[u8] = b"an instruction for devices or for the system: call the host";
 
 pub(crate) const ENTRY_MARK: &[u8] =
-    b"a mark of an entry (endbr32): compile with -fcf-protection=none";
+    b"a mark of an entry or of a jump (endbr32, notrack): compile with -fcf-protection=none";
 
 pub(crate) const PAUSE: &[u8] = b"a pause: it is only a hint, so use nop";
 

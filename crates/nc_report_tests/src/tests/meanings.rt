@@ -6,9 +6,12 @@ use std::test::Fail;
 
 /// Bytes at the start of a bundle whose other bytes are nops, the verdict on it at 00010000, and how the words begin.
 #[rattlefmt::skip]
-const MEANINGS: [(&[u8], &[u8], &[u8]); 46] = [
+const MEANINGS: [(&[u8], &[u8], &[u8]); 51] = [
     (b"\xc3", b"NotPermitted 00010000", b"a return"),
     (b"\xc2\x04\x00", b"NotPermitted 00010000", b"a return"),
+    (b"\xf3\xc3", b"NotPermitted 00010000", b"a return"),
+    (b"\xf2\xc3", b"NotPermitted 00010000", b"a return"),
+    (b"\x66\xc3", b"NotPermitted 00010000", b"a return"),
     (b"\xcb", b"NotPermitted 00010000", b"a far transfer"),
     (b"\xcf", b"NotPermitted 00010000", b"a far transfer"),
     (b"\x9a\x00\x00\x00\x00\x08\x00", b"NotPermitted 00010000", b"a far transfer"),
@@ -32,8 +35,10 @@ const MEANINGS: [(&[u8], &[u8], &[u8]); 46] = [
     (b"\xf3\x0f\xbc\xc0", b"NotPermitted 00010000", b"tzcnt or lzcnt"),
     (b"\xf3\x0f\xb8\xc0", b"NotPermitted 00010000", b"popcnt"),
     (b"\xf3\x0f\x1e\xfb", b"NotPermitted 00010000", b"a mark of an entry"),
+    (b"\x3e\xff\xe0", b"NotPermitted 00010000", b"a mark of an entry or of a jump"),
     (b"\xf3\x90", b"NotPermitted 00010000", b"a pause"),
     (b"\x0f\x38\xf0\x00", b"NotPermitted 00010000", b"movbe"),
+    (b"\x66\x0f\x38\xf0\x00", b"NotPermitted 00010000", b"movbe"),
     (b"\x66\x66\x90", b"NotPermitted 00010000", b"padding"),
     (b"\x66\x2e\x0f\x1f\x84\x00\x00\x00\x00\x00", b"NotPermitted 00010000", b"padding"),
     (b"\x2e\x8d\x74\x26\x00", b"NotPermitted 00010000", b"padding"),

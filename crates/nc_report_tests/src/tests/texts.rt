@@ -22,7 +22,7 @@ const TEXTS: [(Detail, &[u8]); 3] = [
         \x20 a return (ret): pop into a register, mask it, jump by it: see docs/GUIDE.md\n\
         \x20 also NotPermitted 00010040\n\
         \x20 00010040: > f3 0f 1e fb*\n\
-        \x20 a mark of an entry (endbr32): compile with -fcf-protection=none\n\
+        \x20 a mark of an entry or of a jump (endbr32, notrack): compile with -fcf-protection=none\n\
         c: refused BadLength\n\
         \x20 the code isn't whole bundles of 32 bytes, or there is none: fill the last bundle with 90 (nop)\n"),
 ];
