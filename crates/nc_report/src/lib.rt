@@ -2,9 +2,11 @@
 //!
 //! [`read_source`] reads a file's bytes, and [`report`] vets such sources by workers and writes what was found, in their
 //! order. Both stand over any reader and writer, so that their contracts can name the bytes. The first line of what is
-//! written of a source is its verdict; lines after it begin with two spaces. `telling` writes what is said of one
-//! source, `explaining` what is said of a fault, `listing` shows a bundle, `advice` knows what a refused instruction is, `others` looks through the other
-//! bundles of a refused chunk, and `counting` counts the instructions of a valid one.
+//! written of a source is its verdict; lines after it begin with two spaces.
+//!
+//! `telling` writes what is said of one source, `explaining` what is said of a fault, `listing` shows a bundle, `advice` knows
+//! what a refused instruction is, `others` looks through the other bundles of a refused chunk, and `counting` counts the
+//! instructions of a valid one.
 #![tactic(auto)]
 
 mod advice;
