@@ -9,7 +9,8 @@ pub enum Ask {
     Vet { bundles: u32, workers: u32 },
 }
 
-/// How much is said of a file that is judged.
+/// How much is said of a file that is judged. `nc_report` has a word of its own for it, so that a command line is proved without
+/// what stands on it.
 #[derive(Clone, Copy, Drop)]
 pub enum Said {
     /// Only the verdict on each file that is refused.

@@ -1,4 +1,4 @@
--- Lines of details: none has an end inside, so each stays behind its two spaces.
+-- Lines of details: none has an end inside, so each stands after its two spaces.
 use Rattle.std.specs.Prelude.{◌≢◌, ℕ, List, [], ◌∷◌, ⊤}
 use Rattle.nc_vet.specs.declared.fault.VetFault.{VetFault}
 use Rattle.nc_report.specs.declared.detail.Detail.{Detail}

@@ -10,7 +10,7 @@ use crate::words::*;
 pub(crate) enum Kind {
     /// Nothing more is known.
     General,
-    /// RET.
+    /// RET, also with a prefix.
     Return,
     /// A far transfer: to another segment, or IRET.
     Far,
@@ -18,7 +18,7 @@ pub(crate) enum Kind {
     CallByMemory,
     /// A jump whose address is in memory.
     JumpByMemory,
-    /// Floating point, and the instructions that move its flags.
+    /// Floating point, and the instructions that move its flags: SAHF and LAHF.
     FloatingPoint,
     /// SSE or MMX.
     Vector,
@@ -36,7 +36,7 @@ pub(crate) enum Kind {
     Clock,
     /// IN, OUT, and what only the system may do.
     Privileged,
-    /// ENDBR32 or ENDBR64.
+    /// ENDBR32 or ENDBR64, or an indirect transfer with the prefix NOTRACK.
     EntryMark,
     /// PAUSE.
     Pause,
