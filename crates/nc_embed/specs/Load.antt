@@ -3,7 +3,7 @@ use Rattle.std.specs.Prelude.{◌≡◌, ℕ, List}
 use Rattle.nc_text.specs.Places.{limit_of}
 use Rattle.nc_vet.specs.Chunk.{MarkedChunk, IsValid}
 use Rattle.nc_vet.specs.Faults.{HasFault}
-use Rattle.nc_region.specs.Region.{Region, IsCreated, MayRefuse}
+use Rattle.nc_region.specs.Region.{Region, IsCreated, IsRefused, MayRefuse}
 use Rattle.nc_embed.specs.declared.fault.LoadFault.{LoadFault}
 use Rattle.nc_embed.specs.declared.fault.LoadFault.TheVariants.{NotAdmitted, NotCreated}
 
@@ -18,12 +18,15 @@ pub record IsAdmitted (base limit : ℕ) (code : List ℕ) (v : MarkedChunk) : T
 abbrev pub IsLoaded : Region → Region → ℕ → List ℕ → Type 0
 IsLoaded old new base code = (v : MarkedChunk) × IsAdmitted base (limit_of old.marked.bytes) code v × IsCreated old new v
 
--- All that a region has is as before; only pages may have been made, which changes no byte.
-abbrev pub IsAsBefore : Region → Region → Type 0
-IsAsBefore old new = new ≡ record old { made = new.made }
-
 -- The code has this fault; or it is a valid chunk, and the region may refuse to create it for this reason.
 abbrev pub MayRefuseLoad : Region → ℕ → List ℕ → LoadFault → Type 0
 MayRefuseLoad r base code (NotAdmitted fault) = HasFault base (limit_of r.marked.bytes) code fault
 MayRefuseLoad r base code (NotCreated fault) =
     (v : MarkedChunk) × IsAdmitted base (limit_of r.marked.bytes) code v × MayRefuse r v fault
+
+-- What a refusal leaves: where the code isn't admitted, the region as it was; where a valid chunk isn't created, what the
+-- refused creation leaves: the region as it was, or, where memory was refused, with pages of the span made.
+abbrev pub IsLeft : Region → Region → ℕ → List ℕ → LoadFault → Type 0
+IsLeft old new base code (NotAdmitted fault) = new ≡ old
+IsLeft old new base code (NotCreated fault) =
+    (v : MarkedChunk) × IsAdmitted base (limit_of old.marked.bytes) code v × IsRefused old new v fault

@@ -1,7 +1,7 @@
 //! A region over acts of the host's own, behind a lock of the host's own.
 
-ghost use Rattle.std.specs.Prelude.{◌≡◌, OnOk, OnErr, IfErr};
-ghost use Rattle.nc_embed.specs.Load.{IsLoaded, IsAsBefore, MayRefuseLoad};
+ghost use Rattle.std.specs.Prelude.{◌≡◌, OnOk, IfErr};
+ghost use Rattle.nc_embed.specs.Load.{IsLoaded, IsLeft, MayRefuseLoad};
 
 use crate::admitting::admit;
 use crate::code::{BASE, BUNDLES, SWITCH, SWITCHED, bundles};
@@ -22,8 +22,8 @@ pub fn load<A: Acts + Drop>(
 ) -> Result<(), LoadFault>
     // The code was a valid chunk, its bytes and marks stand in its span, and all else is as before.
     ensures loaded { OnOk result (IsLoaded region.old region.new base code.items) }
-    // Bytes, marks, chunks, generation and acts are as before.
-    ensures unchanged { OnErr result (IsAsBefore region.old region.new) }
+    // The region is as it was; only where memory was refused, pages of the span may have been made.
+    ensures unchanged { IfErr result (IsLeft region.old region.new base code.items) }
     // Each refusal comes where it is due.
     ensures refused { IfErr result (MayRefuseLoad region.old base code.items) }
 {
