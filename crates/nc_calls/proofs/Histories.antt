@@ -97,12 +97,16 @@ grown_beside limit seats before events own old new v h is plain l threads stands
     grown limit seats before events old new (seated v woven.seats_after) h (record { allowed = woven.allowed; after_is = after_is })
     (stands_seated v woven.seats_after new stands) range
 
--- threads by themselves
-pub goes_on : (limit seats : ℕ) (before events : List Event) (r : Region) → HasLedTo limit seats before r → writers events ≡ []
-    → ThreadsMay (world_after (first_world limit seats) before) events → HasLedTo limit seats (before ++ events) r
-goes_on limit seats before events r h is threads =
-    grown_beside limit seats before events [] r r (world_after (first_world limit seats) before) h is tt
-    (leads_none (world_after (first_world limit seats) before)) threads h.stands h.in_range
+-- threads by themselves, and a call that was refused
+pub goes_on : (limit seats : ℕ) (before events : List Event) (old new : Region) → HasLedTo limit seats before old
+    → new ≡ record old { made = new.made } → writers events ≡ []
+    → ThreadsMay (world_after (first_world limit seats) before) events → HasLedTo limit seats (before ++ events) new
+goes_on limit seats before events old new h others is threads =
+    let w = world_after (first_world limit seats) before in
+    grown_beside limit seats before events [] old new w h is tt (leads_none w) threads
+    (subst (StandsFor w) (sym others)
+    (record { marked = h.stands.marked; keeper = h.stands.keeper; spans = h.stands.spans }))
+    (subst (λ (r : Region). r.keeper.numbers.generation ≤ last_generation) (sym others) h.in_range)
 
 -- a creation
 pub created : (limit seats : ℕ) (before events : List Event) (old new : Region) (v : MarkedChunk)

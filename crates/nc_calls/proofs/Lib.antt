@@ -10,4 +10,5 @@ pub mod Reclaiming
 pub mod Reclaimed
 pub mod Patching
 pub mod Modified
-pub mod Meeting
+pub mod Keeping
+pub mod Instances

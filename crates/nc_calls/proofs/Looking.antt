@@ -1,8 +1,9 @@
--- A look at all seats, with threads between its loads, and by which stamps it lets spans be freed.
+-- The keeper's events with threads between them, and by which stamps a look at all seats lets spans be freed.
 use Rattle.std.proofs.Common.{◌≡◌, ◌≢◌, ℕ, zero, suc, ◌+◌, ◌<◌, ◌≤◌, ◌⊎◌, ◌==◌, not, min, Bool, true, false, cond, List, [], ◌∷◌, ◌++◌}
 use Rattle.std.proofs.Common.{fold, length, get_or, map, inl, inr, arith, refl, ◌∙◌, sym, ap, subst, ne_eqb}
-use Rattle.std.specs.Prelude.{⊤, slice_index}
+use Rattle.std.specs.Prelude.{All, slice_index}
 use Rattle.std.specs.List.{range_with_len}
+use Rattle.std.proofs.lemmas.List.Elements.{All-nil, All-cons, All-head, All-tail}
 use Rattle.nc_gens.specs.declared.view.KeeperNumbers.{KeeperNumbers}
 use Rattle.nc_gens.specs.Rule.{left_word, last_generation}
 use Rattle.nc_gens.specs.Seen.{staying, least_or, least_number}
@@ -10,7 +11,7 @@ use Rattle.nc_schedule.specs.World.{World, Seat, seat_at, HasPassed}
 use Rattle.nc_schedule.specs.Events.{Event, Steps, Enters, Exits, Takes, Sees, Stores, Leaves, Puts, Marks, Bumps, Retires, Frees, Looks}
 use Rattle.nc_schedule.specs.Events.{IsAllowed, after, world_after, AreAllowed}
 use Rattle.nc_schedule.proofs.Offered.{Keeps}
-use Rattle.nc_calls.specs.Weaving.{is_writers, writers, ThreadsMay}
+use Rattle.nc_calls.specs.Weaving.{is_writers, writers, IsKeepers, ThreadsMay}
 
 -- ---- the least number
 
@@ -61,77 +62,68 @@ has_passed w stamp keeps range le k lt = go (seat_at w k).found_left refl
         let below = least_below w.keeper.generation w.keeper.bounds k (omega (arith, lt, keeps.bounds)) stays in
         inl (omega (arith, le, below))
 
--- ---- the loads
+-- ---- the keeper's events
 
 -- the world with this keeper and these seats
 abbrev pub placed : World → KeeperNumbers → List Seat → World
 placed w keeper seats = record w { keeper = keeper; seats = seats }
 
--- each is a look at a seat
-abbrev pub AreLooks : List Event → Type 0
-AreLooks [] = ⊤
-AreLooks (Looks k ∷ events) = AreLooks events
-AreLooks (event ∷ events) = ⊥
+-- the looks at all seats from one on are the keeper's
+pub looks_are : (a m : ℕ) → All IsKeepers (map Looks (range_with_len a m))
+looks_are a zero = All-nil IsKeepers
+looks_are a (suc m) = All-cons IsKeepers (Looks a) (map Looks (range_with_len (a + 1) m)) tt (looks_are (a + 1) m)
 
--- all seats from one on are looked at
-pub looks_are : (a m : ℕ) → AreLooks (map Looks (range_with_len a m))
-looks_are a zero = tt
-looks_are a (suc m) = looks_are (a + 1) m
-
--- All are allowed, and only the keeper's bounds and the seats are others afterwards.
-pub record Looked (w : World) (keeper : KeeperNumbers) (seats : List Seat) (events : List Event) : Type 0 where
+-- All are allowed, and only the keeper's numbers and the seats are others afterwards.
+pub record KeeperOnly (w : World) (keeper : KeeperNumbers) (seats : List Seat) (events : List Event) : Type 0 where
   pub allowed : AreAllowed (placed w keeper seats) events
   pub keeper_after : KeeperNumbers
   pub seats_after : List Seat
   pub after_is : world_after (placed w keeper seats) events ≡ placed w keeper_after seats_after
-  pub generation : keeper_after.generation ≡ keeper.generation
 
 -- one more event
-looked_more : (w : World) (keeper later : KeeperNumbers) (seats others : List Seat) (event : Event) (events : List Event)
+keeper_more : (w : World) (keeper later : KeeperNumbers) (seats others : List Seat) (event : Event) (events : List Event)
     → IsAllowed (placed w keeper seats) event → after (placed w keeper seats) event ≡ placed w later others
-    → later.generation ≡ keeper.generation → Looked w later others events → Looked w keeper seats (event ∷ events)
-looked_more w keeper later seats others event events allowed same generation rest =
+    → KeeperOnly w later others events → KeeperOnly w keeper seats (event ∷ events)
+keeper_more w keeper later seats others event events allowed same rest =
     record {
       allowed = (allowed, subst (λ (x : World). AreAllowed x events) (sym same) rest.allowed);
       keeper_after = rest.keeper_after;
       seats_after = rest.seats_after;
       after_is = ap (λ (x : World). world_after x events) same ∙ rest.after_is;
-      generation = rest.generation ∙ generation;
     }
 
--- the loads with threads between them
-pub looks_woven : (w : World) (events : List Event) (keeper : KeeperNumbers) (seats : List Seat) → AreLooks (writers events)
-    → ThreadsMay (placed w keeper seats) events → Looked w keeper seats events
-looks_woven w [] keeper seats looks threads =
-    record { allowed = tt; keeper_after = keeper; seats_after = seats; after_is = refl; generation = refl }
-looks_woven w (Steps k next ∷ events) keeper seats looks threads =
-    looked_more w keeper keeper seats _ (Steps k next) events (threads.0 refl) refl refl
-    (looks_woven w events keeper _ looks threads.1)
-looks_woven w (Enters k at ∷ events) keeper seats looks threads =
-    looked_more w keeper keeper seats _ (Enters k at) events (threads.0 refl) refl refl
-    (looks_woven w events keeper _ looks threads.1)
-looks_woven w (Exits k ∷ events) keeper seats looks threads =
-    looked_more w keeper keeper seats _ (Exits k) events (threads.0 refl) refl refl
-    (looks_woven w events keeper _ looks threads.1)
-looks_woven w (Takes k ∷ events) keeper seats looks threads =
-    looked_more w keeper keeper seats _ (Takes k) events (threads.0 refl) refl refl
-    (looks_woven w events keeper _ looks threads.1)
-looks_woven w (Sees k ∷ events) keeper seats looks threads =
-    looked_more w keeper keeper seats _ (Sees k) events (threads.0 refl) refl refl
-    (looks_woven w events keeper _ looks threads.1)
-looks_woven w (Stores k ∷ events) keeper seats looks threads =
-    looked_more w keeper keeper seats _ (Stores k) events (threads.0 refl) refl refl
-    (looks_woven w events keeper _ looks threads.1)
-looks_woven w (Leaves k ∷ events) keeper seats looks threads =
-    looked_more w keeper keeper seats _ (Leaves k) events (threads.0 refl) refl refl
-    (looks_woven w events keeper _ looks threads.1)
-looks_woven w (Puts at byte ∷ events) keeper seats looks threads = absurd looks
-looks_woven w (Marks at marks ∷ events) keeper seats looks threads = absurd looks
-looks_woven w (Bumps ∷ events) keeper seats looks threads = absurd looks
-looks_woven w (Retires base len ∷ events) keeper seats looks threads = absurd looks
-looks_woven w (Frees span ∷ events) keeper seats looks threads = absurd looks
-looks_woven w (Looks k ∷ events) keeper seats looks threads =
-    looked_more w keeper _ seats _ (Looks k) events tt refl refl (looks_woven w events _ _ looks threads.1)
+-- the keeper's events with threads between them
+pub keeper_woven : (w : World) (events : List Event) (keeper : KeeperNumbers) (seats : List Seat) → All IsKeepers (writers events)
+    → ThreadsMay (placed w keeper seats) events → KeeperOnly w keeper seats events
+keeper_woven w [] keeper seats own threads = record { allowed = tt; keeper_after = keeper; seats_after = seats; after_is = refl }
+keeper_woven w (Steps k next ∷ events) keeper seats own threads =
+    keeper_more w keeper keeper seats _ (Steps k next) events (threads.0 refl) refl (keeper_woven w events keeper _ own threads.1)
+keeper_woven w (Enters k at ∷ events) keeper seats own threads =
+    keeper_more w keeper keeper seats _ (Enters k at) events (threads.0 refl) refl (keeper_woven w events keeper _ own threads.1)
+keeper_woven w (Exits k ∷ events) keeper seats own threads =
+    keeper_more w keeper keeper seats _ (Exits k) events (threads.0 refl) refl (keeper_woven w events keeper _ own threads.1)
+keeper_woven w (Takes k ∷ events) keeper seats own threads =
+    keeper_more w keeper keeper seats _ (Takes k) events (threads.0 refl) refl (keeper_woven w events keeper _ own threads.1)
+keeper_woven w (Sees k ∷ events) keeper seats own threads =
+    keeper_more w keeper keeper seats _ (Sees k) events (threads.0 refl) refl (keeper_woven w events keeper _ own threads.1)
+keeper_woven w (Stores k ∷ events) keeper seats own threads =
+    keeper_more w keeper keeper seats _ (Stores k) events (threads.0 refl) refl (keeper_woven w events keeper _ own threads.1)
+keeper_woven w (Leaves k ∷ events) keeper seats own threads =
+    keeper_more w keeper keeper seats _ (Leaves k) events (threads.0 refl) refl (keeper_woven w events keeper _ own threads.1)
+keeper_woven w (Puts at byte ∷ events) keeper seats own threads =
+    absurd (All-head IsKeepers (Puts at byte) (writers events) own)
+keeper_woven w (Marks at marks ∷ events) keeper seats own threads =
+    absurd (All-head IsKeepers (Marks at marks) (writers events) own)
+keeper_woven w (Retires base len ∷ events) keeper seats own threads =
+    absurd (All-head IsKeepers (Retires base len) (writers events) own)
+keeper_woven w (Frees span ∷ events) keeper seats own threads =
+    absurd (All-head IsKeepers (Frees span) (writers events) own)
+keeper_woven w (Bumps ∷ events) keeper seats own threads =
+    keeper_more w keeper _ seats _ Bumps events tt refl
+    (keeper_woven w events _ _ (All-tail IsKeepers Bumps (writers events) own) threads.1)
+keeper_woven w (Looks k ∷ events) keeper seats own threads =
+    keeper_more w keeper _ seats _ (Looks k) events tt refl
+    (keeper_woven w events _ _ (All-tail IsKeepers (Looks k) (writers events) own) threads.1)
 
 -- ---- events parted where the first of the writer's end
 

@@ -1,6 +1,6 @@
 -- A schedule that has led to a region, and a reclaiming more.
 use Rattle.std.proofs.Common.{◌≡◌, ℕ, ◌≤◌, List, [], ◌++◌, map, arith, ◌∙◌, sym, ap, subst}
-use Rattle.std.specs.Prelude.{Contains, ◌↔◌}
+use Rattle.std.specs.Prelude.{All, Contains, ◌↔◌}
 use Rattle.std.specs.List.{range_with_len}
 use Rattle.nc_text.specs.Places.{limit_of}
 use Rattle.nc_text.specs.MarkedText.{MarkedText}
@@ -14,10 +14,10 @@ use Rattle.nc_region.specs.declared.chunk.Chunk.{Chunk}
 use Rattle.nc_region.specs.Deletion.{freed, unmarked, IsReclaimed}
 use Rattle.nc_region.specs.Quiet.{retired_spans}
 use Rattle.nc_region.specs.Region.{Region, IsRegion}
-use Rattle.nc_calls.specs.Weaving.{writers, ThreadsMay}
+use Rattle.nc_calls.specs.Weaving.{writers, IsKeepers, ThreadsMay}
 use Rattle.nc_calls.specs.Calls.{HasLedTo, reclaim_events}
 use Rattle.nc_calls.proofs.Histories.{grown}
-use Rattle.nc_calls.proofs.Looking.{AreLooks, Looked, looks_are, looks_woven, placed, part, threads_parted}
+use Rattle.nc_calls.proofs.Looking.{KeeperOnly, looks_are, keeper_woven, placed, part, threads_parted}
 use Rattle.nc_calls.proofs.Putting.{Leads, leads_more}
 use Rattle.nc_calls.proofs.Reclaiming.{FreesMay, frees, frees_same, frees_woven, frees_done, finds_all, keeper_stays}
 use Rattle.nc_calls.proofs.Woven.{seated}
@@ -41,9 +41,9 @@ reclaimed limit seats before events old new count h region is own threads found 
     (frees_same seats (retired_spans old.chunks) (freed (least_number new.keeper.numbers) old.chunks))) in
     let t = threads_parted w p.first p.second
     (subst (λ (z : List Event). ThreadsMay (world_after (first_world limit seats) before) z) p.is threads) in
-    let a : Looked (world_after (first_world limit seats) before) (world_after (first_world limit seats) before).keeper
+    let a : KeeperOnly (world_after (first_world limit seats) before) (world_after (first_world limit seats) before).keeper
     (world_after (first_world limit seats) before).seats p.first =
-    looks_woven w p.first w.keeper w.seats (subst AreLooks (sym p.first_is) (looks_are 0 seats)) t.0 in
+    keeper_woven w p.first w.keeper w.seats (subst (All IsKeepers) (sym p.first_is) (looks_are 0 seats)) t.0 in
     let keeps : Keeps (world_after (first_world limit seats) before) = keeps_reached limit seats before h.lawful h.allowed in
     let mid : World = placed (world_after (first_world limit seats) before) a.keeper_after a.seats_after in
     let keeps_mid : Keeps (placed (world_after (first_world limit seats) before) a.keeper_after a.seats_after) =
@@ -66,13 +66,13 @@ reclaimed limit seats before events old new count h region is own threads found 
     let keeper_is : a.keeper_after ≡ new.keeper.numbers =
     sym (keeper_stays p.second (placed (world_after (first_world limit seats) before) a.keeper_after a.seats_after) w.retired
     (least_number new.keeper.numbers) may) ∙ whole_keeper in
-    let range_old : w.keeper.generation ≤ last_generation =
-    subst (λ (k : KeeperNumbers). k.generation ≤ last_generation) (sym h.stands.keeper) h.in_range in
+    let range : a.keeper_after.generation ≤ last_generation =
+    subst (λ (k : KeeperNumbers). k.generation ≤ last_generation) (sym keeper_is) (omega (arith, is.looked.generation, h.in_range)) in
     let least_is : least_number new.keeper.numbers ≤ least_number a.keeper_after =
     subst (λ (k : KeeperNumbers). least_number new.keeper.numbers ≤ least_number k) (sym keeper_is) (omega arith) in
     let b = frees_woven p.second (placed (world_after (first_world limit seats) before) a.keeper_after a.seats_after) a.seats_after
     (least_number new.keeper.numbers) keeps_mid
-    (omega (arith, a.generation, range_old)) least_is may (subst (λ (x : World). ThreadsMay x p.second) a.after_is t.1) in
+    range least_is may (subst (λ (x : World). ThreadsMay x p.second) a.after_is t.1) in
     let end : World =
     seated (world_after (placed (world_after (first_world limit seats) before) a.keeper_after a.seats_after)
     (frees (retired_spans old.chunks) (freed (least_number new.keeper.numbers) old.chunks))) b.seats_after in

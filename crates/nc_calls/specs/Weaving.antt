@@ -24,6 +24,13 @@ is_writers (Looks k) = true
 abbrev pub writers : List Event → List Event
 writers events = filter is_writers events
 
+-- The keeper does it, and it is no act on a text or a chunk: the keeper raises the generation for no span, or looks at the
+-- word of a seat.
+abbrev pub IsKeepers : Event → Type 0
+IsKeepers Bumps = ⊤
+IsKeepers (Looks k) = ⊤
+IsKeepers event = ⊥
+
 -- each event that a thread does is allowed where it stands; of the writer's nothing is said
 abbrev pub ThreadsMay : World → List Event → Type 0
 ThreadsMay w [] = ⊤

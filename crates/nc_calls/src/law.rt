@@ -1,38 +1,50 @@
 //! The calls of a region are allowed events.
 
-ghost use Rattle.std.specs.Prelude.{◌≡◌, ℕ, ◌∷◌, ◌++◌, List, []};
+ghost use Rattle.std.specs.Prelude.{◌≡◌, ℕ, ◌≤◌, ◌++◌, List, [], All};
 ghost use Rattle.nc_decode.specs.Bundles.{IsLawfulLimit};
 ghost use Rattle.nc_vet.specs.Chunk.{MarkedChunk, Piece, IsValid};
 ghost use Rattle.nc_text.specs.Places.{limit_of};
 ghost use Rattle.nc_text.specs.MarkedText.{unused_text};
-ghost use Rattle.nc_gens.specs.Rule.{first_keeper_numbers};
-ghost use Rattle.nc_gens.specs.Seen.{least_number, PassState, HasMet};
+ghost use Rattle.nc_gens.specs.Rule.{last_generation};
+ghost use Rattle.nc_gens.specs.Seen.{least_number};
 ghost use Rattle.nc_schedule.specs.World.{first_world, AllStandSafe};
 ghost use Rattle.nc_schedule.specs.Events.{Event, world_after};
 ghost use Rattle.nc_region.specs.Region.{Region, IsRegion, IsCreated};
 ghost use Rattle.nc_region.specs.Deletion.{IsDeleted, IsReclaimed};
 ghost use Rattle.nc_region.specs.Patch.{IsPatch, IsModified, AreBytesOf};
-ghost use Rattle.nc_calls.specs.Weaving.{writers, ThreadsMay};
+ghost use Rattle.nc_calls.specs.Weaving.{writers, IsKeepers, ThreadsMay};
 ghost use Rattle.nc_calls.specs.Calls.{HasLedTo, create_events, modify_events, delete_events, reclaim_events};
 
 /// The acts of each call of a region are allowed events, whatever the threads do between them.
 ///
 /// A schedule has led to a region, and a call makes another of it. Then come some events, of which the writer's are the acts
 /// that the call's contract names, and of which those of the threads are allowed where they stand. All of them are allowed
-/// then, and with them the schedule has led to the region after the call. For a reclaiming it is a premise that the
-/// keeper's numbers afterwards are those of the world: no contract tells what stands in the words of seats, and a load
-/// finds what stands there.
+/// then, and with them the schedule has led to the region after the call. A refused call has no act; pages that it made are
+/// no part of a world.
+///
+/// Between two calls, and before the region was made, the keeper may act by itself: it draws a stamp for no span, it looks,
+/// or it meets a pass, which is a look at that pass's seat (`Looks`). Wherever the keeper looks, it is a premise that its
+/// numbers afterwards are those of the world: no contract tells what stands in the words of seats, and a load finds what
+/// stands there. That the generation is at most 2^62 is ensured of every keeper (`Keeper::generation`).
 ///
 /// So whatever calls are made one after the other, their events are those of `law_of_schedules`. It does nothing when it is
 /// called.
 pub fn law_of_calls()
-    // A new region, before any event.
-    ensures begins { (limit seats : ℕ) (r : Region) → IsLawfulLimit limit → r.marked ≡ unused_text limit → r.chunks ≡ []
-        → r.keeper.numbers ≡ first_keeper_numbers seats → HasLedTo limit seats [] r }
-    // Threads by themselves.
-    ensures goes_on { (limit seats : ℕ) (before events : List Event) (r : Region) → HasLedTo limit seats before r
-        → writers events ≡ [] → ThreadsMay (world_after (first_world limit seats) before) events
-        → HasLedTo limit seats (before ++ events) r }
+    // A new region, after what its keeper and the threads did before it was made. That may be nothing.
+    ensures begins { (limit seats : ℕ) (events : List Event) (r : Region) → IsLawfulLimit limit → r.marked ≡ unused_text limit
+        → r.chunks ≡ [] → All IsKeepers (writers events) → ThreadsMay (first_world limit seats) events
+        → (world_after (first_world limit seats) events).keeper ≡ r.keeper.numbers
+        → r.keeper.numbers.generation ≤ last_generation → HasLedTo limit seats events r }
+    // Threads by themselves, also beside a call that is refused.
+    ensures goes_on { (limit seats : ℕ) (before events : List Event) (old new : Region) → HasLedTo limit seats before old
+        → new ≡ record old { made = new.made } → writers events ≡ []
+        → ThreadsMay (world_after (first_world limit seats) before) events → HasLedTo limit seats (before ++ events) new }
+    // The keeper by itself, where it finds what stands in the seats' words: no text and no chunk changes.
+    ensures keeper { (limit seats : ℕ) (before events : List Event) (old new : Region) → HasLedTo limit seats before old
+        → new.marked ≡ old.marked → new.chunks ≡ old.chunks → All IsKeepers (writers events)
+        → ThreadsMay (world_after (first_world limit seats) before) events
+        → (world_after (first_world limit seats) (before ++ events)).keeper ≡ new.keeper.numbers
+        → new.keeper.numbers.generation ≤ last_generation → HasLedTo limit seats (before ++ events) new }
     // A creation.
     ensures created { (limit seats : ℕ) (before events : List Event) (old new : Region) (v : MarkedChunk)
         → HasLedTo limit seats before old → IsRegion old.marked old.chunks → IsValid v → v.limit ≡ limit_of old.marked.bytes
@@ -53,12 +65,6 @@ pub fn law_of_calls()
         → HasLedTo limit seats before old → IsRegion old.marked old.chunks → IsReclaimed old new count
         → writers events ≡ reclaim_events seats (least_number new.keeper.numbers) old.chunks
         → ThreadsMay (world_after (first_world limit seats) before) events
-        → (world_after (first_world limit seats) (before ++ events)).keeper ≡ new.keeper.numbers
-        → HasLedTo limit seats (before ++ events) new }
-    // A meeting of a pass and the keeper, where the keeper finds what stands in the seat's word.
-    ensures met { (limit seats : ℕ) (before events : List Event) (old new : Region) (pass after : PassState)
-        → HasLedTo limit seats before old → HasMet pass old.keeper after new.keeper → new ≡ record old { keeper = new.keeper }
-        → writers events ≡ Event.Looks pass.seat ∷ [] → ThreadsMay (world_after (first_world limit seats) before) events
         → (world_after (first_world limit seats) (before ++ events)).keeper ≡ new.keeper.numbers
         → HasLedTo limit seats (before ++ events) new }
     // After every event each thread inside stands on a safe state.

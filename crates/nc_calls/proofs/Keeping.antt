@@ -1,0 +1,59 @@
+-- A schedule that has led to a region, and events of the keeper more; and a new region over a keeper that was used.
+use Rattle.std.proofs.Common.{◌≡◌, ℕ, ◌≤◌, List, [], ◌++◌, arith, refl, ◌∙◌, sym, ap, subst}
+use Rattle.std.specs.Prelude.{All, Contains, ◌↔◌}
+use Rattle.nc_decode.specs.Bundles.{IsLawfulLimit}
+use Rattle.nc_text.specs.MarkedText.{unused_text}
+use Rattle.nc_gens.specs.Rule.{first_keeper_numbers, last_generation}
+use Rattle.nc_schedule.specs.Quiet.{Span}
+use Rattle.nc_schedule.specs.World.{World, first_world}
+use Rattle.nc_schedule.specs.Events.{Event, world_after}
+use Rattle.nc_schedule.proofs.Offered.{after_append}
+use Rattle.nc_region.specs.declared.chunk.Chunk.{Chunk}
+use Rattle.nc_region.specs.Quiet.{retired_spans}
+use Rattle.nc_region.specs.Region.{Region}
+use Rattle.nc_calls.specs.Weaving.{writers, IsKeepers, ThreadsMay}
+use Rattle.nc_calls.specs.Calls.{HasLedTo}
+use Rattle.nc_calls.proofs.Histories.{grown}
+use Rattle.nc_calls.proofs.Looking.{KeeperOnly, keeper_woven}
+
+-- the keeper by itself
+pub keeper : (limit seats : ℕ) (before events : List Event) (old new : Region) → HasLedTo limit seats before old
+    → new.marked ≡ old.marked → new.chunks ≡ old.chunks → All IsKeepers (writers events)
+    → ThreadsMay (world_after (first_world limit seats) before) events
+    → (world_after (first_world limit seats) (before ++ events)).keeper ≡ new.keeper.numbers
+    → new.keeper.numbers.generation ≤ last_generation → HasLedTo limit seats (before ++ events) new
+keeper limit seats before events old new h marked chunks own threads found range =
+    let w = world_after (first_world limit seats) before in
+    let a : KeeperOnly w w.keeper w.seats events = keeper_woven w events w.keeper w.seats own threads in
+    let keeper_is : a.keeper_after ≡ new.keeper.numbers =
+    sym (ap (λ (x : World). x.keeper) (after_append (first_world limit seats) before events ∙ a.after_is)) ∙ found in
+    grown limit seats before events old new _ h (record { allowed = a.allowed; after_is = a.after_is })
+    (record {
+      marked = h.stands.marked ∙ sym marked;
+      keeper = keeper_is;
+      spans = λ span. subst (λ (z : List Chunk). Contains w.retired span ↔ Contains (retired_spans z) span) (sym chunks)
+          (h.stands.spans span);
+    })
+    range
+
+-- A new region. It is the one over an unused keeper, after what this keeper did.
+pub begins : (limit seats : ℕ) (events : List Event) (r : Region) → IsLawfulLimit limit → r.marked ≡ unused_text limit → r.chunks ≡ []
+    → All IsKeepers (writers events) → ThreadsMay (first_world limit seats) events
+    → (world_after (first_world limit seats) events).keeper ≡ r.keeper.numbers
+    → r.keeper.numbers.generation ≤ last_generation → HasLedTo limit seats events r
+begins limit seats events r lawful marked chunks own threads found range =
+    let none : List Span = [] in
+    let unused : Region = record r { keeper = record r.keeper { numbers = first_keeper_numbers seats } } in
+    keeper limit seats [] events (record r { keeper = record r.keeper { numbers = first_keeper_numbers seats } }) r
+    (record {
+      lawful = lawful;
+      allowed = tt;
+      stands = record {
+        marked = sym marked;
+        keeper = refl;
+        spans = λ span. subst (λ (z : List Chunk). Contains none span ↔ Contains (retired_spans z) span) (sym chunks)
+            ((λ x. x), (λ x. x));
+      };
+      in_range = omega arith;
+    })
+    refl refl own threads found range
