@@ -5,8 +5,8 @@
 pub enum ChunkState {
     /// Its code stands in the text.
     Live,
-    /// Its bytes are stops, and its span waits for threads that may still stand in it. The number is the generation
-    /// with which it was retired.
+    /// Its bytes are stops, and its span waits for threads that may still stand between its bundle starts. The number is
+    /// the generation with which it was retired.
     Retired(u64),
 }
 

@@ -1,8 +1,8 @@
 //! A region of code: chunks created, patched, deleted and reclaimed while threads may be running in it.
 //!
 //! A host adds untrusted code to a region and takes it away again without stopping the threads that run there. Two things
-//! must never happen: that a thread leaves the paths of vetted code, and that a span is used again while a thread may still
-//! stand in it.
+//! must never happen: that a thread leaves the paths of vetted code, and that a span gets other code while a thread may
+//! still stand between the bundle starts of it.
 //!
 //! A *chunk* is whole bundles of vetted code (`nc_vet`). While it is *live* threads may enter it. A deleted chunk is
 //! *retired*: its bytes are stops, and it carries a *stamp*, the generation that was drawn after its last byte. Each thread

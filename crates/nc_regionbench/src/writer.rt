@@ -162,7 +162,7 @@ impl Writer {
         }
     }
 
-    /// Reclaims what no walker can stand in any more.
+    /// Reclaims the retired chunks that no walker holds back.
     fn reclaim(&mut self, region: &mut Region<'_>) {
         let freed = region.reclaim();
         if freed > self.model.retired() {

@@ -9,7 +9,8 @@
 //! step of one thread, one byte put, one atomic step on the table of generations. `IsAllowed` says when an event may happen;
 //! `after` is the world that it leaves, by the very definitions that the contracts of `nc_text` and `nc_gens` cite for the
 //! same changes. [`law_of_schedules`] says that no list of allowed events, however the threads and the writer take turns,
-//! brings a thread to a state that isn't safe, and that no thread stands in a span when it is freed.
+//! brings a thread to a state that isn't safe, and that no thread stands in a span that is freed except at a bundle start:
+//! bundle starts may be entered and jumped to at any time, and a thread that does so waits on the stop there.
 //!
 //! ```text
 //! law_of_schedules();   // does nothing; what it promises is its contract

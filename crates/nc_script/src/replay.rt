@@ -22,10 +22,10 @@ use std::io::{Read, Write};
 ///
 /// A line ends at a byte 0A or at the end of the input. `create` with an address and bytes vets a chunk and creates it,
 /// `modify` with an address and bytes replaces instructions of a chunk, `delete` with an address retires a chunk, `checkin`
-/// and `leave` with a seat are what the seat's thread does, `reclaim` frees the chunks that no thread can stand in any
-/// more, `walk` with an address and choices shows the places of a walk and its end, and `dump` shows every chunk. Every
-/// other line, and each of more than 1,048,576 bytes, is answered as a bad line. What is promised of bytes holds of a
-/// reader and a writer that tell theirs; nothing is promised of when a device fails.
+/// and `leave` with a seat are what the seat's thread does, `reclaim` frees each retired chunk for which every seat
+/// has checked in since its deletion or has left, `walk` with an address and choices shows the places of a walk and its
+/// end, and `dump` shows every chunk. Every other line, and each of more than 1,048,576 bytes, is answered as a bad line.
+/// What is promised of bytes holds of a reader and a writer that tell theirs; nothing is promised of when a device fails.
 pub fn run<R: Read, W: Write>(
     alloc: Global,
     reader: &mut R,
