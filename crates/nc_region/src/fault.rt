@@ -8,7 +8,7 @@ pub enum RegionFault {
     /// The number of bundles isn't that of a lawful limit.
     #[error("bad size")]
     BadSize,
-    /// No memory for bytes and marks.
+    /// No memory for the table of pages. No page is made yet.
     #[error("out of memory")]
     OutOfMemory,
 }
@@ -22,7 +22,8 @@ pub enum CreateFault {
     /// The chunk's span meets a chunk of the region.
     #[error("occupied")]
     Occupied,
-    /// No memory for the chunk list to grow.
+    /// No memory for the list of chunks, for the chunk's marks or for the pages of its span. Some of these pages may have
+    /// been made; nothing else has changed.
     #[error("out of memory")]
     OutOfMemory,
 }

@@ -34,7 +34,7 @@ fn check_span(base: u32, limit: u32, len: usize) -> Result<(), VetFault>
     Ok(())
 }
 
-/// Judges a chunk where it lies: the marks of a valid chunk, or its fault. `vet` answers by it.
+/// Judges a chunk where it lies: the marks of a valid chunk, or its fault. `vet` answers by it, and says what is judged.
 pub fn judge(alloc: Global, base: u32, limit: u32, code: &[u8]) -> Result<Marks, VetFault>
     ensures valid { IfOk result (λ marks.
         IsValid (record { base = base; limit = limit; code = code.now; marks = listed code.now marks })) }
@@ -48,7 +48,7 @@ pub fn judge(alloc: Global, base: u32, limit: u32, code: &[u8]) -> Result<Marks,
     }
 }
 
-/// Vets a chunk: reads it from its base, instruction by instruction, and judges where its jumps, branches and calls go.
+/// Vets a chunk: finds its instructions from its base on, and judges where its jumps, branches and calls go.
 ///
 /// A chunk is valid where it lies between the region's first byte and the guard, which is the last bundle below the
 /// limit, and is a list of permitted instructions such that
@@ -57,11 +57,16 @@ pub fn judge(alloc: Global, base: u32, limit: u32, code: &[u8]) -> Result<Marks,
 /// - each direct transfer into the chunk goes to the start of an instruction that is no such jump or call;
 /// - each direct transfer out of the chunk goes to a bundle start below the limit.
 ///
-/// The first three faults are tested in their order, before anything is allocated. The reading ends at the first
-/// instruction that breaks the first two rules; only where none does, targets are judged, and the first bad one is
-/// given. A chunk of the region's other code isn't looked at: any bundle start may be a target.
+/// The first three faults (`BadBase`, `BadLength`, `OutOfRange`) are tested in their order, before anything is allocated.
+/// Of `NotPermitted`, `Crosses` and `Bare` the one at the least address is given. Targets are judged only where there is
+/// none of these, and the first bad one is given. No other code of the region is looked at: any bundle start outside the
+/// chunk may be a target.
 ///
-/// It promises nothing of what the code does with data, and X. On each refusal the code comes back.
+/// The chunk is first read quickly: several bundles side by side, by an automaton. What this reading accepts is valid.
+/// Where it doesn't, the chunk is read once more, instruction by instruction, and this reading decides and names the fault.
+///
+/// Not promised: anything of what the code does with data, and that memory is there; a valid chunk is refused only for want
+/// of it. On each refusal the code comes back.
 ///
 /// The rules are C3 and C5 to C7 of table 1 of Yee et al., "Native Client: A Sandbox for Portable, Untrusted x86
 /// Native Code" (2009).
