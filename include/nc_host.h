@@ -7,17 +7,22 @@
  *
  * What every call keeps
  *   Memory      Code and buffers are lent by the host for the time of the call. The library keeps nothing, and no pointer, between calls.
- *               It takes memory of its own by malloc and gives all of it back before it returns. Without memory the fault is NC_OUT_OF_MEMORY.
- *               64 KiB of stack are enough (tried, not proved).
+ *               Each call but nc_host_decode takes memory of its own by malloc, and gives all of it back before it returns. Without
+ *               memory the fault is NC_OUT_OF_MEMORY. 64 KiB of stack are enough (tried, not proved).
  *   Threads     It starts none. Any thread may call, and several may at once, as long as nobody writes what a call reads or writes.
- *   Arguments   Numbers may be anything: a call answers, with a fault, where they make no sense. It is for the host to see that
- *               - a pointer with a length leads to so many bytes or elements, also where they are more than is used;
+ *   Arguments   Numbers other than lengths may be anything: a call answers, with a fault, where they make no sense. It is for the host to
+ *               see that
+ *               - a pointer with a length leads to that many bytes or elements, also where they are more than is used (so a length
+ *                 is below 2^63: a difference that has wrapped is none, and isn't found out by a fault);
  *               - no pointer is null (where the length is 0 any other address will do);
  *               - no buffer that is written overlaps another argument, and nobody changes what is lent while the call runs.
+ *   Allocator   malloc, realloc and free belong to one allocator, and align a block to each power of two up to 16 that divides its size.
+ *               No call but nc_host_decode is made from a signal handler, or in the child that a process with threads has forked.
  *   Refusals    A buffer is as it was when the fault isn't 0. Only so much of it is written as is said.
  *   Answers     The same arguments give the same answer, but for NC_OUT_OF_MEMORY.
  *   Execution   Nothing that is lent is ever executed.
- *   Linking     The library is for Linux on x86-64, and wants liblibc_c.a of the toolchain after it (README.md has the command).
+ *   Linking     The library is for Linux on x86-64 with the instructions of x86-64-v2, and wants liblibc_c.a of the toolchain after it
+ *               (README.md has the command).
  *
  * What the host has to keep, without which no verdict protects it (docs/EMBEDDING.md says why):
  *   - Untrusted code runs in a 32-bit code segment; in 64-bit mode the same bytes are other instructions. Nothing is executable in it but
@@ -26,19 +31,30 @@
  *   - A segment ends at the limit, so that what goes there or above it traps.
  *   - Untrusted code is entered at bundle starts only, and bundle starts below NC_START hold trusted code or stops.
  *   - All places of the region that no chunk covers hold NC_STOP; the last bundle, the guard, always does.
- *   - Each act is made whole and in the order in which it is written, and seen so by every thread; a processor may ask for more than
- *     a store (serializing, other cores' instruction caches), and nothing is promised of that here.
+ *   - Each act is made whole and in the order in which it is written, and seen so by every thread: a put is one atomic store of a byte. A
+ *     processor may ask for more (serializing, other cores' instruction caches), and nothing is promised of that here. It matters most
+ *     in a creation at NC_MARK; in a deletion before the first address that is lower than the one before; in a patch after a put to whose
+ *     address a later put of the call goes, and before that later put.
  *   - One call at a time changes a text: the host has its own lock around asking for acts and making them. Where it makes the first act of
  *     a call, it makes all the others too, before it asks for more.
- *   - A thread that traps at the stop of a patch that is being made goes back to the same instruction afterwards: such a trap says nothing
- *     against the code.
+ *   - The limit is the region's own, the same in every call.
+ *   - A patch and a deletion name a chunk by the base and the length with which it was created. A part of a chunk is not taken away and
+ *     not patched as a chunk of its own: what is left of it could jump between instructions, and no call would say so.
+ *   - A chunk is created only where no chunk stands, live or retired.
+ *   - A stop that a thread meets may be gone when the handler looks: that of a patch that was being made, or that of unused text where a
+ *     chunk is created. The trap doesn't tell it from a data fault. So the writer raises a count before the first act of a call and
+ *     after the last. The handler reads an even count, the byte, and the same count again. Where the byte is NC_STOP, the stop is the
+ *     code's own. Where it isn't, the thread goes back to the same instruction once; the same fault at the same count is the code's own.
+ *   - Signal handlers run on an alternate stack that no 32-bit stack pointer reaches (above 4 GiB, or disarmed while it is used), or
+ *     their signals are blocked while a thread is inside: a kernel takes the untrusted stack pointer as a flat address.
  *   - Trusted code that is entered clears the direction flag, since untrusted code may set it, and uses no stack before it has loaded a stack
  *     pointer of its own. It masks each address by which it goes back, after it has read it once.
  *   - A deleted span is used again only once every thread that may have stood in it has left the region or has been outside since the
- *     stamp was drawn.
+ *     stamp was drawn. Until then and afterwards its pages stay executable and full of NC_STOP: its bundle starts may be jumped to.
  *
- * What isn't here: a region behind its lock, with generations, check-ins and reuse of spans. It can't cross into C; a host in Rattle has
- * it from crates/nc_region. The marks of a text, and which of its chunks are live, are for a host in C to keep.
+ * What isn't here: a list of the chunks, stamps, check-ins, reuse of spans, and a lock. Only a lock can't be had in a static library of
+ * this toolchain; the others this library leaves to the host, and nothing of them is proved there. A host in Rattle has all of it
+ * from crates/nc_region.
  */
 #ifndef NC_HOST_H
 #define NC_HOST_H
@@ -58,7 +74,8 @@ extern "C" {
 #define NC_MAX_BUNDLES 2097152u  /* the most: 64 MiB */
 #define NC_STOP 0xF4u            /* the byte of hlt, at which a thread traps */
 
-/* the limit of a region of so many bundles: the address after its last byte */
+/* The limit of a region of that many bundles, the address after its last byte, for 2 to 2097152 of them. Other numbers may wrap round to
+   a lawful limit, so a number from elsewhere is compared with these two first. */
 #define NC_LIMIT(bundles) (NC_START + NC_BUNDLE * (uint32_t)(bundles))
 
 /* The faults. A chunk's first one is given: 1 to 3 in this order, then the one of 4 to 6 with the least address, then 7 with the least. */
@@ -98,7 +115,7 @@ extern "C" {
 
 /* The acts. */
 #define NC_PUT 1u   /* at the address `at` the byte `value` is put */
-#define NC_MARK 2u  /* from `at` on so many places as `value` get the marks of the chunk; a host that keeps no marks does nothing */
+#define NC_MARK 2u  /* `value` places from `at` on get the chunk's marks; a host that keeps no marks writes nothing, but makes a barrier */
 #define NC_BUMP 3u  /* a stamp is drawn: from here on wait for threads before the span is used again. `at` and `value` are 0 */
 
 typedef struct NcInstruction {
@@ -124,7 +141,7 @@ typedef struct NcAct {
 typedef struct NcActs {
     uint32_t fault;
     uint32_t at;     /* as in NcVerdict */
-    uint32_t count;  /* how many acts were written; for NC_NO_ROOM how many places are wanted; else 0 */
+    uint32_t count;  /* how many acts were written; for NC_NO_ROOM how many places are enough; else 0 */
 } NcActs;
 
 /* ---- Calls */
@@ -173,8 +190,10 @@ NcActs nc_host_create(uint32_t base, uint32_t limit, const uint8_t *code, size_t
  * each instruction whose bytes change, a stop at its first byte, its further bytes, its first byte; for one of a single byte only that.
  * NC_NO_ROOM where the patch is lawful and the buffer has fewer than 2 * `new_len` places, which are always enough.
  * The host lends the bytes that stand in the text. If it lends others, the verdict is on those.
- * Cost: some fifteen times that of nc_host_vet: `code` is vetted anew, and a region is made for the time of the call, in memory of some
- * five times the chunk's length and a byte for each 256 bytes of the region. So a chunk that is patched often is better a short one.
+ * Cost: `code` is vetted anew, and a region is made for the time of the call, in memory of some five times the chunk's length and a byte
+ * for each 256 bytes of the region. So the time has a part for the chunk, some fifteen to twenty times that of nc_host_vet, and a part
+ * for the region, whatever the chunk: for one of a few bundles some 5 microseconds in a region of 4 MiB and 50 in one of 64 MiB. For
+ * want of memory a patch may be refused.
  */
 NcActs nc_host_patch(uint32_t base, uint32_t limit, const uint8_t *code, size_t len, uint32_t at, const uint8_t *new_bytes, size_t new_len,
                      NcAct *acts, size_t acts_len);
@@ -185,6 +204,8 @@ NcActs nc_host_patch(uint32_t base, uint32_t limit, const uint8_t *code, size_t 
  * Promised: for NC_OK exactly those of a deletion (acts_of_delete) of a text in which the chunk's marks stand. The marks are read from
  * `code` anew, so that nobody can name a wrong order. NC_NO_ROOM as in nc_host_create.
  * The host lends the bytes that stand in the text. The marks of the span stay until it is used again.
+ * Cost: memory of half the code's length. For want of it a deletion may be refused; a host that must be able to delete keeps some in
+ * reserve.
  */
 NcActs nc_host_delete(uint32_t base, uint32_t limit, const uint8_t *code, size_t len, NcAct *acts, size_t acts_len);
 

@@ -72,7 +72,7 @@ impl<'g> Acts for Image<'g> {
         self.plain.is_ready(at, len)
     }
 
-    // The host's own store: one byte, by one atomic store, that every thread sees before the next one.
+    // The host's own store stands here. This one is a plain store into a list, since nothing runs what stands there.
     fn put(&mut self, at: u32, byte: u8) {
         self.memory[(at - START) as usize] = byte;
         self.plain.put(at, byte);
