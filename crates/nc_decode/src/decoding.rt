@@ -1,3 +1,5 @@
+//! The instruction at the front of some bytes: their shape first, then a test that all of it is there.
+
 ghost use Rattle.std.specs.Prelude.{◌≡◌, ◌≤◌, ◌<◌, ◌+◌, ◌↔◌, length, drop, IfOk};
 ghost use Rattle.std.specs.Result.{result_ok};
 ghost use Rattle.nc_decode.specs.Barred.{IsBarred};

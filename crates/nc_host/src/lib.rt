@@ -1,8 +1,8 @@
 //! Calls for a host in another language, over memory that the host lends.
 //!
-//! The library keeps nothing between two calls and starts no thread. Each call may be made from any thread, and answers for
-//! any arguments: a C compiler checks no condition, so none is asked for. `nc_host.h` is the header, and says of each call what it
-//! promises.
+//! The library keeps nothing between two calls and starts no thread. Each call may be made from any thread, but for those that take
+//! memory (all but the first) not from a signal handler or a forked child. Each answers for any arguments: a C compiler checks no
+//! condition, so none is asked for. `nc_host.h` is the header, and says of each call what it promises.
 //!
 //! - [`nc_host_decode`]: the instruction at the front of some bytes.
 //! - [`nc_host_vet`], [`nc_host_marks`]: the verdict on a chunk, and its marks.

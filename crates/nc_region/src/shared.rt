@@ -19,7 +19,8 @@ use std::sync::{Mutex, Wait};
 ///
 /// Whenever the lock is free the region is confined, since every value of `Region` is. Each call takes the lock and
 /// runs the call of `Region` with its name; it may wait for the lock, and nothing is promised of who comes first. What
-/// a call finds under the lock and leaves there is what the call of `Region` promises of it.
+/// a call finds under the lock and leaves there is what the call of `Region` promises of it; of these calls themselves no
+/// clause says that, since none can name the region at the moment when the lock is held.
 #[derive(Drop)]
 pub struct Shared<'g> {
     gens: &'g Gens,
@@ -37,7 +38,7 @@ impl<'g> Model for Shared<'g> {
 }
 
 impl<'g> Shared<'g> {
-    /// This region, for threads to share. Contracts see which table of generations it is over.
+    /// This region, for threads to share. Contracts see which table of generations it is over, and nothing of its chunks.
     pub fn new(region: Region<'g>) -> Shared<'g>
         ensures { result ≡ region.entry.keeper.table }
     {
@@ -100,7 +101,8 @@ impl<'g> Shared<'g> {
         self.region.lock(rt).modify(at, new)
     }
 
-    /// `Region::walk` under the lock: the trace through the text that stood there at that moment.
+    /// `Region::walk` under the lock: the trace through the text that stood there at that moment. By contract some confined
+    /// text has this trace.
     pub fn walk(&self, rt: &impl Wait, start: u32, choices: &[u32]) -> Result<Trace, WalkFault>
         // Whatever text was found under the lock, it is confined, and this is a walk through it from a bundle start of it.
         ensures trace { IfOk result (λ t. (text : List ℕ) × IsConfined text × IsWalkStart text start
