@@ -35,12 +35,12 @@
  *     processor may ask for more (serializing, other cores' instruction caches), and nothing is promised of that here. It matters most
  *     in a creation at NC_MARK; in a deletion before the first address that is lower than the one before; in a patch after a put to whose
  *     address a later put of the call goes, and before that later put.
- *   - One call at a time changes a text: the host has its own lock around asking for acts and making them. Where it makes the first act of
- *     a call, it makes all the others too, before it asks for more.
+ *   - One call at a time changes a text: the host has its own lock around asking for acts and making them (for a creation, around making
+ *     them). Where it makes the first act of a call, it makes all the others too, before it asks for more.
  *   - The limit is the region's own, the same in every call.
  *   - A patch and a deletion name a chunk by the base and the length with which it was created. A part of a chunk is not taken away and
  *     not patched as a chunk of its own: what is left of it could jump between instructions, and no call would say so.
- *   - A chunk is created only where no chunk stands, live or retired.
+ *   - A chunk is created only where no chunk stands, live or retired. (`base` + `len` may wrap as long as no call has judged the range.)
  *   - A stop that a thread meets may be gone when the handler looks: that of a patch that was being made, or that of unused text where a
  *     chunk is created. The trap doesn't tell it from a data fault. So the writer raises a count before the first act of a call and
  *     after the last. The handler reads an even count, the byte, and the same count again. Where the byte is NC_STOP, the stop is the
