@@ -3,7 +3,7 @@
 pub use Rattle.nc_region.proofs.OneWalk.{one_trace}
 pub use Rattle.nc_region.proofs.EachMember.{each_map, each_both, each_take, each_drop}
 pub use Rattle.nc_region.proofs.Creating.{final_all, final_but_starts, same_code}
-pub use Rattle.nc_region.proofs.EachMember.{each_append, each_get, each_from, each_at_set, each_middle}
+pub use Rattle.nc_region.proofs.EachMember.{each_append, each_set, each_get, each_from, each_at_set, each_middle}
 pub use Rattle.nc_region.proofs.Inserting.{unused_if_apart, region_with_chunk}
 pub use Rattle.nc_region.proofs.Joining.{Joins, chunk_joins, chunk_keeps}
 pub use Rattle.nc_region.proofs.Pieces.{valid_chunk_is_closed, chunk_names_registers}

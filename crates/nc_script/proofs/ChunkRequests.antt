@@ -5,9 +5,9 @@ use Rattle.std.specs.Prelude.{codes}
 use Rattle.nc_gens.specs.Seen.{KeeperState}
 use Rattle.nc_text.specs.Places.{limit_of}
 use Rattle.nc_text.specs.MarkedText.{with_span}
-use Rattle.nc_text.proofs.SpanElements.{length-with_span}
+use Rattle.nc_text.proofs.Offered.{length-with_span}
 use Rattle.std.proofs.lemmas.List.{length-replicate}
-use Rattle.nc_region.proofs.EachMember.{each_map, each_set, each_append, each_take, each_drop}
+use Rattle.nc_region.proofs.Offered.{each_map, each_set, each_append, each_take, each_drop}
 use Rattle.nc_region.specs.Region.{Region, IsRegion, IsLive}
 use Rattle.nc_region.specs.Region as region
 use Rattle.nc_region.specs.Patch.{IsPatch, MayRefusePatch, IsModified}

@@ -6,9 +6,9 @@ use Rattle.std.specs.List.{insert}
 use Rattle.std.proofs.lemmas.List.{map-append, ext_get_or}
 use Rattle.nc_text.specs.Places.{limit_of}
 use Rattle.nc_text.specs.MarkedText.{with_span}
-use Rattle.nc_text.proofs.SpanElements.{length-with_span, get_or-with_span_in, get_or-with_span_below, get_or-with_span_above}
+use Rattle.nc_text.proofs.Offered.{length-with_span, get_or-with_span_in, get_or-with_span_below, get_or-with_span_above}
 use Rattle.nc_region.specs.Each.{Each}
-use Rattle.nc_region.proofs.EachMember.{each_map, each_both, each_take, each_drop}
+use Rattle.nc_region.proofs.Offered.{each_map, each_both, each_take, each_drop}
 use Rattle.nc_region.specs.Chunks.{HasGoodSpan}
 use Rattle.nc_region.specs.Region.{FitsAt, Meets}
 use Rattle.nc_region.specs.declared.chunk.Chunk.{Chunk}

@@ -10,7 +10,7 @@ use Rattle.nc_vet.proofs.Offered.{one_fault}
 use Rattle.nc_region.specs.Region.{Region, IsRegion}
 use Rattle.nc_region.specs.Trace.{IsTrace, IsWalkStart}
 use Rattle.nc_region.specs.declared.trace.End.{End}
-use Rattle.nc_region.proofs.OneWalk.{one_trace}
+use Rattle.nc_region.proofs.Offered.{one_trace}
 use Rattle.nc_region.specs.Patch.{AreInstructions}
 use Rattle.nc_region.specs.declared.fault.ModifyFault.{ModifyFault}
 use Rattle.nc_region.specs.declared.fault.ModifyFault.TheVariants.{BadSpan, NotLive, NotPermitted, Boundaries, PairTouched, BadTarget}

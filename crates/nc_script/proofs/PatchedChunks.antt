@@ -6,10 +6,10 @@ use Rattle.std.specs.Prelude.{Contains}
 use Rattle.std.proofs.lemmas.Bool.{lt-ltb, le-leb, le-ltb, lt-leb, cases_lt}
 use Rattle.nc_text.specs.Places.{limit_of}
 use Rattle.nc_text.specs.MarkedText.{with_span}
-use Rattle.nc_text.proofs.SpanElements.{length-with_span, is_with_span, get_or-with_span_in, get_or-with_span_below}
-use Rattle.nc_text.proofs.SpanElements.{get_or-with_span_above}
+use Rattle.nc_text.proofs.Offered.{length-with_span, is_with_span, get_or-with_span_in, get_or-with_span_below}
+use Rattle.nc_text.proofs.Offered.{get_or-with_span_above}
 use Rattle.nc_region.specs.Each.{Each}
-use Rattle.nc_region.proofs.EachMember.{each_map}
+use Rattle.nc_region.proofs.Offered.{each_map}
 use Rattle.nc_region.specs.Chunks.{HasGoodSpan}
 use Rattle.nc_region.specs.Region.{IsRising, IsLive}
 use Rattle.nc_region.specs.declared.chunk.Chunk.{Chunk}

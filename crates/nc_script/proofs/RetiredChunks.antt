@@ -6,7 +6,7 @@ use Rattle.std.proofs.lemmas.List.{length-replicate}
 use Rattle.nc_text.specs.Places.{limit_of}
 use Rattle.nc_text.specs.MarkedText.{with_span}
 use Rattle.nc_region.specs.Each.{Each}
-use Rattle.nc_region.proofs.EachMember.{each_both}
+use Rattle.nc_region.proofs.Offered.{each_both}
 use Rattle.nc_region.specs.Chunks.{HasGoodSpan}
 use Rattle.nc_region.specs.Region.{IsRising, IsLive}
 use Rattle.nc_region.specs.Deletion as region

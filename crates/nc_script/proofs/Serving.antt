@@ -4,7 +4,7 @@ use Rattle.std.specs.Prelude.{codes}
 use Rattle.nc_region.specs.Region.{Region, IsRegion, IsCreated, Meets}
 use Rattle.nc_region.specs.declared.chunk.Chunk.{Chunk}
 use Rattle.nc_text.specs.MarkedText.{with_span}
-use Rattle.nc_text.proofs.SpanElements.{length-with_span}
+use Rattle.nc_text.proofs.Offered.{length-with_span}
 use Rattle.nc_vet.specs.Chunk as vet
 use Rattle.nc_vet.specs.Chunk.{IsValid}
 use Rattle.nc_script.specs.Script.{Script, Seat, IsInserted, Live}
