@@ -1,8 +1,9 @@
 //! A region that threads share: what its calls do under the lock.
+ghost use Rattle.std.specs.Prelude.{◌≡◌};
 
 use crate::fixtures::{LIMIT, chunk, is_trace, region};
-use nc_gens::Gens;
-use nc_region::{CreateFault, DeleteFault, End, ModifyFault, Shared, Trace};
+use nc_gens::{Gens, Keeper, Pass};
+use nc_region::{CreateFault, DeleteFault, End, ModifyFault, Region, Shared, Trace};
 use nc_vet::Vetted;
 use std::alloc::Global;
 use std::sync::Wait;
@@ -128,5 +129,70 @@ fn shared_patch(rt: HostRuntime) -> Result<(), Fail> {
         return Err(Fail::new("no walk"));
     };
     assert!(rt; is_trace(&trace, &[0x10000, 0x10040], End::Stop));
+    Ok(())
+}
+
+/// A region of 6 bundles that has been used: of four jumps to the next bundle the first is patched to jump to the third, the
+/// second is retired and the seat has checked in since, and then the fourth is retired.
+fn used_region<'g>(
+    alloc: Global,
+    gens: &'g Gens,
+    keeper: Keeper,
+    pass: &mut Pass,
+) -> Result<Region<'g>, Fail>
+    requires { (keeper.table ≡ gens.now) × (pass.old.table ≡ gens.now) }
+    ensures { pass.new.table ≡ gens.now }
+{
+    let mut region = region(alloc, 6, gens, keeper)?;
+    for base in [0x10000, 0x10020, 0x10040, 0x10060] {
+        if region
+            .create(chunk(alloc, base, 0x100C0, 1, &[0xEB, 0x1E])?)
+            .is_err()
+        {
+            return Err(Fail::new("not created"));
+        }
+    }
+    let patched = region.modify(0x10000, &[0xEB, 0x3E]);
+    let first = region.delete(0x10020);
+    gens.check_in(pass);
+    let second = region.delete(0x10060);
+    if patched != Ok(()) || first != Ok(1) || second != Ok(2) {
+        return Err(Fail::new("not patched, or another stamp"));
+    }
+    Ok(region)
+}
+
+/// In each of the four places a chunk is refused, since one stands there.
+fn are_occupied<R: Wait>(rt: &R, alloc: Global, shared: &Shared<'_>) -> Result<bool, Fail> {
+    for base in [0x10000, 0x10020, 0x10040, 0x10060] {
+        let Err((_, CreateFault::Occupied)) = shared.create(
+            rt,
+            chunk(alloc, base, 0x100C0, 1, &[])?,
+        ) else {
+            return Ok(false);
+        };
+    }
+    Ok(true)
+}
+
+#[test]
+fn shared_after_use(rt: HostRuntime) -> Result<(), Fail> {
+    let alloc = rt.alloc();
+    let (gens, keeper, mut passes) = Gens::new(alloc, 1)?;
+    let mut pass = passes.remove(0);
+    let shared = Shared::new(used_region(alloc, &gens, keeper, &mut pass)?);
+    assert_eq!(rt;
+        (shared.chunk_count(&rt), are_occupied(&rt, alloc, &shared)?),
+        (4, true)
+    );
+    let Ok(trace) = shared.walk(&rt, 0x10000, &[0, 0, 0]) else {
+        return Err(Fail::new("no walk"));
+    };
+    assert!(rt; is_trace(&trace, &[0x10000, 0x10040, 0x10060], End::Stop));
+    assert_eq!(rt; reclaim_and_count(&rt, &shared), (1, 3));
+    gens.check_in(&mut pass);
+    assert_eq!(rt; reclaim_and_count(&rt, &shared), (1, 2));
+    let deleted = (shared.delete(&rt, 0x10040), shared.delete(&rt, 0x10000));
+    assert_eq!(rt; deleted, (Ok(3), Ok(4)));
     Ok(())
 }
