@@ -31,10 +31,9 @@
  *   - A segment ends at the limit, so that what goes there or above it traps.
  *   - Untrusted code is entered at bundle starts only, and bundle starts below NC_START hold trusted code or stops.
  *   - All places of the region that no chunk covers hold NC_STOP; the last bundle, the guard, always does.
- *   - Each act is made whole and in the order in which it is written, and seen so by every thread: a put is one atomic store of a byte. A
- *     processor may ask for more (serializing, other cores' instruction caches), and nothing is promised of that here. It matters most
- *     in a creation at NC_MARK; in a deletion before the first address that is lower than the one before; in a patch after a put to whose
- *     address a later put of the call goes, and before that later put.
+ *   - Each put is one atomic store of one byte, made in the order in which it is written. At NC_SETTLE every processor that runs a thread
+ *     of the host executes a serializing instruction before the host goes on. Each thread executes one on its way in, after the host has
+ *     last counted it as outside. Nothing else is needed of processors: until one has serialized it may execute bytes as they were before.
  *   - One call at a time changes a text: the host has its own lock around asking for acts and making them (for a creation, around making
  *     them). Where it makes the first act of a call, it makes all the others too, before it asks for more.
  *   - The limit is the region's own, the same in every call.
@@ -113,10 +112,12 @@ extern "C" {
 #define NC_PLAIN 1u                /* an instruction starts there */
 #define NC_MASKED(reg) (16u + (reg)) /* an indirect jump or call on this register, directly after its mask */
 
-/* The acts. */
-#define NC_PUT 1u   /* at the address `at` the byte `value` is put */
-#define NC_MARK 2u  /* `value` places from `at` on get the chunk's marks; a host that keeps no marks writes nothing, but makes a barrier */
-#define NC_BUMP 3u  /* a stamp is drawn: from here on wait for threads before the span is used again. `at` and `value` are 0 */
+/* The acts, and the settlings among them. */
+#define NC_PUT 1u    /* at the address `at` the byte `value` is put */
+#define NC_MARK 2u   /* `value` places from `at` on get the chunk's marks; a host that keeps no marks does nothing */
+#define NC_BUMP 3u   /* a stamp is drawn: from here on wait for threads before the span is used again. `at` and `value` are 0 */
+#define NC_SETTLE 6u /* every processor that runs a thread of the host serializes, on Linux by membarrier with the command
+                        MEMBARRIER_CMD_PRIVATE_EXPEDITED_SYNC_CORE; no byte changes. `at` and `value` are 0. No call gives 4 or 5 */
 
 typedef struct NcInstruction {
     uint32_t fault;   /* NC_OK, NC_NOT_PERMITTED or NC_CUT_SHORT; where it isn't NC_OK, all else is 0 */
@@ -141,7 +142,7 @@ typedef struct NcAct {
 typedef struct NcActs {
     uint32_t fault;
     uint32_t at;     /* as in NcVerdict */
-    uint32_t count;  /* how many acts were written; for NC_NO_ROOM how many places are enough; else 0 */
+    uint32_t count;  /* how many acts were written, settlings among them; for NC_NO_ROOM how many places are enough; else 0 */
 } NcActs;
 
 /* ---- Calls */
@@ -173,10 +174,10 @@ NcVerdict nc_host_marks(uint32_t base, uint32_t limit, const uint8_t *code, size
 
 /*
  * The acts of a creation: the chunk is vetted, and put into a span of the text that holds only stops.
- * Promised: for NC_OK exactly those of a creation (acts_of_create): `len` + 1 acts, of which the first `len` - `len` / 32 put the bytes
- * that aren't bundle starts, the next marks the span, and the others put the bundle starts. NC_NO_ROOM where the chunk is valid and the
- * buffer has fewer places. That every path is confined between any two of these acts is proved of a region's creation, which makes
- * them in an unused span.
+ * Promised: for NC_OK exactly those of a creation (log_of_create): `len` + 2 acts, of which the first `len` - `len` / 32 put the bytes
+ * that aren't bundle starts, the next is NC_SETTLE, the next marks the span, and the others put the bundle starts. NC_NO_ROOM where the
+ * chunk is valid and the buffer has fewer places. That every path is confined between any two of these acts is proved of a region's
+ * creation, which makes them in an unused span.
  * Not promised: that the span is unused; the host knows its chunks.
  */
 NcActs nc_host_create(uint32_t base, uint32_t limit, const uint8_t *code, size_t len, NcAct *acts, size_t acts_len);
@@ -186,9 +187,9 @@ NcActs nc_host_create(uint32_t base, uint32_t limit, const uint8_t *code, size_t
  * same lengths as those that they replace.
  * Promised: the verdict is that on the patch of a region in which only this chunk stands (IsPatch, MayRefusePatch). A patch that is told
  * lawful is lawful in every region in which the chunk is live, whatever others there are; and one that begins in the chunk and is lawful
- * in such a region gets NC_OK, NC_OUT_OF_MEMORY or NC_NO_ROOM. For NC_OK the acts are exactly those of the patch (acts_of_modify): for
- * each instruction whose bytes change, a stop at its first byte, its further bytes, its first byte; for one of a single byte only that.
- * NC_NO_ROOM where the patch is lawful and the buffer has fewer than 2 * `new_len` places, which are always enough.
+ * in such a region gets NC_OK, NC_OUT_OF_MEMORY or NC_NO_ROOM. For NC_OK the acts are exactly those of the patch (log_of_modify): for
+ * each instruction whose bytes change, a stop at its first byte, NC_SETTLE, its further bytes, NC_SETTLE, its first byte; for one of a
+ * single byte only that. NC_NO_ROOM where the patch is lawful and the buffer has fewer than 3 * `new_len` places, which are always enough.
  * The host lends the bytes that stand in the text. If it lends others, the verdict is on those.
  * Cost: `code` is vetted anew, and a region is made for the time of the call, in memory of some five times the chunk's length and a byte
  * for each 256 bytes of the region. So the time has a part for the chunk, some fifteen to twenty times that of nc_host_vet, and a part
@@ -199,9 +200,9 @@ NcActs nc_host_patch(uint32_t base, uint32_t limit, const uint8_t *code, size_t 
                      NcAct *acts, size_t acts_len);
 
 /*
- * The acts of a deletion of the chunk `code` as it stands at `base`: `len` + 1 acts, stops at its marked places, stops at its others, the
- * stamp.
- * Promised: for NC_OK exactly those of a deletion (acts_of_delete) of a text in which the chunk's marks stand. The marks are read from
+ * The acts of a deletion of the chunk `code` as it stands at `base`: `len` + 2 acts, stops at its marked places, NC_SETTLE, stops at its
+ * others, the stamp.
+ * Promised: for NC_OK exactly those of a deletion (log_of_delete) of a text in which the chunk's marks stand. The marks are read from
  * `code` anew, so that nobody can name a wrong order. NC_NO_ROOM as in nc_host_create.
  * The host lends the bytes that stand in the text. The marks of the span stay until it is used again.
  * Cost: memory of half the code's length. For want of it a deletion may be refused; a host that must be able to delete keeps some in

@@ -10,7 +10,7 @@
 
 #define BUNDLES 4
 #define LEN 64
-#define ROOM (LEN + 1)
+#define ROOM (LEN + 2)
 
 /* The region's text, and the chunk that is put at its start. */
 static uint8_t text[BUNDLES * NC_BUNDLE];
@@ -90,10 +90,16 @@ static void show_act(const NcAct *act) {
         printf("  put %08x %02x\n", (unsigned)act->at, (unsigned)act->value);
     } else if (act->kind == NC_MARK) {
         printf("  mark %08x %u\n", (unsigned)act->at, (unsigned)act->value);
+    } else if (act->kind == NC_SETTLE) {
+        printf("  settle\n");
     } else {
         printf("  bump\n");
     }
 }
+
+/* Where no thread runs untrusted code, nothing has to be done. A real host makes every processor that runs one of its threads serialize: on
+ * Linux by syscall(SYS_membarrier, MEMBARRIER_CMD_PRIVATE_EXPEDITED_SYNC_CORE, 0, 0), for which it has registered when it began. */
+static void settle(void) {}
 
 /* Makes acts, in their order. In a real host each put is one that threads see whole, and the stamp is a number of the host's own. */
 static void make(const NcAct *acts, size_t count) {
@@ -101,6 +107,8 @@ static void make(const NcAct *acts, size_t count) {
     for (i = 0; i < count; i++) {
         if (acts[i].kind == NC_PUT) {
             text[acts[i].at - NC_START] = (uint8_t)acts[i].value;
+        } else if (acts[i].kind == NC_SETTLE) {
+            settle();
         }
     }
 }
@@ -118,6 +126,7 @@ static void create_chunk(void) {
     show_act(&acts[62]);
     show_act(&acts[63]);
     show_act(&acts[64]);
+    show_act(&acts[65]);
     make(acts, made.count);
     printf("the chunk stands in the text: %s\n", yes(memcmp(text, chunk, LEN) == 0));
 }
@@ -141,7 +150,7 @@ static void patch_chunk(void) {
     patch("mov eax, 7", NC_START, seven, sizeof seven, ROOM);
     patch("jmp 00010000", NC_START + 5, back, sizeof back, ROOM);
     patch("inc eax", NC_START + 7, inc, sizeof inc, ROOM);
-    patch("without room", NC_START + 5, back, sizeof back, 3);
+    patch("without room", NC_START + 5, back, sizeof back, 5);
     patch("across a bundle's end", NC_START + 31, two, sizeof two, ROOM);
     patch("outside", NC_START + 64, nop, sizeof nop, ROOM);
     patch("a return", NC_START + 7, ret, sizeof ret, ROOM);
@@ -159,8 +168,9 @@ static void delete_chunk(void) {
     show_act(&acts[1]);
     show_act(&acts[55]);
     show_act(&acts[56]);
-    show_act(&acts[63]);
+    show_act(&acts[57]);
     show_act(&acts[64]);
+    show_act(&acts[65]);
     make(acts, made.count);
     for (i = 0; i < sizeof text; i++) {
         stops += text[i] == NC_STOP;

@@ -10,6 +10,7 @@ const LEN: usize = 64;
 const STOP: u8 = 0xF4;
 const PUT: u32 = 1;
 const MARK: u32 = 2;
+const SETTLE: u32 = 6;
 
 #[repr(C)]
 struct Instruction {
@@ -152,14 +153,22 @@ fn show_act(act: &Act) {
     match act.kind {
         PUT => println!("  put {:08x} {:02x}", act.at, act.value),
         MARK => println!("  mark {:08x} {}", act.at, act.value),
+        SETTLE => println!("  settle"),
         _ => println!("  bump"),
     }
 }
 
+/// Where no thread runs untrusted code, nothing has to be done. A real host makes every processor that runs one of its threads serialize.
+fn settle() {}
+
 /// Makes acts, in their order.
 fn make(text: &mut [u8], acts: &[Act]) {
-    for act in acts.iter().filter(|act| act.kind == PUT) {
-        text[(act.at - START) as usize] = act.value as u8;
+    for act in acts {
+        match act.kind {
+            PUT => text[(act.at - START) as usize] = act.value as u8,
+            SETTLE => settle(),
+            _ => {}
+        }
     }
 }
 
@@ -168,12 +177,12 @@ fn yes(holds: bool) -> &'static str {
 }
 
 fn create_chunk(text: &mut [u8], code: &[u8]) {
-    let mut acts = [NO_ACT; LEN + 1];
+    let mut acts = [NO_ACT; LEN + 2];
     let answer = create(START, code, &mut acts[..LEN]);
     println!("create without room: fault {} count {}", answer.fault, answer.count);
     let answer = create(START, code, &mut acts);
     println!("create: fault {} count {}", answer.fault, answer.count);
-    for k in [0, 61, 62, 63, 64] {
+    for k in [0, 61, 62, 63, 64, 65] {
         show_act(&acts[k]);
     }
     make(text, &acts[..answer.count as usize]);
@@ -185,7 +194,7 @@ fn patch_chunk(text: &mut [u8]) {
         ("mov eax, 7", START, &[0xB8, 7, 0, 0, 0, 0xEB, 0x19], LEN),
         ("jmp 00010000", START + 5, &[0xEB, 0xF9], LEN),
         ("inc eax", START + 7, &[0x40], LEN),
-        ("without room", START + 5, &[0xEB, 0xF9], 3),
+        ("without room", START + 5, &[0xEB, 0xF9], 5),
         ("across a bundle's end", START + 31, &[0x90, 0x90], LEN),
         ("outside", START + 64, &[0x90], LEN),
         ("a return", START + 7, &[0xC3], LEN),
@@ -206,10 +215,10 @@ fn patch_chunk(text: &mut [u8]) {
 }
 
 fn delete_chunk(text: &mut [u8]) {
-    let mut acts = [NO_ACT; LEN + 1];
+    let mut acts = [NO_ACT; LEN + 2];
     let answer = delete(START, &text[..LEN], &mut acts);
     println!("delete: fault {} count {}", answer.fault, answer.count);
-    for k in [0, 1, 55, 56, 63, 64] {
+    for k in [0, 1, 55, 56, 57, 64, 65] {
         show_act(&acts[k]);
     }
     make(text, &acts[..answer.count as usize]);

@@ -1,83 +1,201 @@
 -- The acts of a creation are allowed events.
-use Rattle.std.proofs.Common.{◌≡◌, ℕ, ◌+◌, ◌-◌, ◌<◌, ◌≤◌, ◌⊎◌, Bool, All, List, [], ◌∷◌, ◌++◌, length, get_or, take, drop, inl, inr}
-use Rattle.std.proofs.Common.{arith, refl, ◌∙◌, sym, ap, subst, append_assoc}
+use Rattle.std.proofs.Common.{◌≡◌, ◌≢◌, ℕ, ◌+◌, ◌-◌, ◌%◌, ◌<◌, ◌≤◌, ◌⊎◌, All, List, [], ◌∷◌, ◌++◌, length, get_or, set, take, drop}
+use Rattle.std.proofs.Common.{None, Some, inl, inr, arith, refl, ◌∙◌, sym, ap, subst}
 use Rattle.std.specs.Prelude.{Contains}
 use Rattle.std.specs.List.{insert}
-use Rattle.std.proofs.lemmas.List.{take-append-drop}
+use Rattle.std.proofs.lemmas.Bool.{false≢true}
+use Rattle.std.proofs.lemmas.Bool.Decides.{eqb_tells}
+use Rattle.std.proofs.lemmas.List.{take-append-drop, length-set}
+use Rattle.nc_decode.specs.declared.instruction.Instr.{Instr}
 use Rattle.nc_decode.specs.declared.instruction.Mark.{Mark}
-use Rattle.nc_decode.specs.Bundles.{IsLawfulLimit}
-use Rattle.nc_text.specs.Places.{limit_of, byte_at}
-use Rattle.nc_text.specs.Marks.{Admits}
+use Rattle.nc_decode.specs.Bundles.{IsLawfulLimit, IsBundleStart, IsInOneBundle}
+use Rattle.nc_text.specs.Places.{limit_of, byte_at, instruction_at}
+use Rattle.nc_text.specs.Machine.{State, state}
+use Rattle.nc_text.specs.Marks.{Admits, IsMarked, IsClosed}
 use Rattle.nc_text.specs.MarkedText.{MarkedText, IsText, with_span}
-use Rattle.nc_text.proofs.Offered.{length-with_span}
+use Rattle.nc_text.proofs.Offered.{executes, length-with_span}
 use Rattle.nc_vet.specs.Chunk.{MarkedChunk, IsValid}
-use Rattle.nc_schedule.specs.Quiet.{Span}
-use Rattle.nc_schedule.specs.World.{World, IsSteady}
-use Rattle.nc_schedule.specs.Events.{Event, Marks}
-use Rattle.nc_region.specs.declared.acts.Act.{Act}
+use Rattle.nc_schedule.specs.Quiet.{Span, IsShut}
+use Rattle.nc_schedule.specs.World.{World}
+use Rattle.nc_schedule.specs.Events.{Event, Marks, Settles}
+use Rattle.nc_schedule.proofs.Offered.{Keeps, only_as_it_stands}
 use Rattle.nc_region.specs.declared.acts.Act.TheVariants.{MarkSpan}
 use Rattle.nc_region.specs.declared.chunk.Chunk.{Chunk}
-use Rattle.nc_region.specs.declared.chunk.ChunkState.TheVariants.{Retired}
 use Rattle.nc_region.specs.Acts.{is_inside, is_start, puts_where}
 use Rattle.nc_region.specs.Chunks.{HasGoodSpan, IsClosedChunk, with_chunk}
 use Rattle.nc_region.specs.machinery.Between.{IsUnused, HasPut, IsFinalBut}
-use Rattle.nc_region.specs.Each.{Each}
 use Rattle.nc_region.specs.Region.{IsRegion, FitsAt, live_chunk}
-use Rattle.nc_region.proofs.Offered.{final_all, final_but_starts, each_map, each_both, each_append, unused_if_apart, region_with_chunk}
-use Rattle.nc_region.proofs.Offered.{Joins, chunk_joins, chunk_keeps, valid_chunk_is_closed, rises_above, Before, Within, Behind}
-use Rattle.nc_region.proofs.Offered.{place_of, unused_is_start, is_inside_false, is_start_false, start_or_not, span_within, before_span}
-use Rattle.nc_calls.specs.Calls.{Details, no_details, events_of, events_of_act, create_events}
-use Rattle.nc_calls.proofs.Putting.{with_bytes, Leads, leads_one, leads_more, MayLay, lay_all}
-use Rattle.nc_calls.proofs.RetiredSpans.{AreSpansOf, all_spans, retired_each, retired_insert, region_steady}
-use Rattle.nc_calls.proofs.Steady.{text_of, StopsOrKeeps, SpansStop, IsBeside, spans_stop, steady_stops, steady_with_stops}
+use Rattle.nc_region.proofs.Offered.{final_all, final_but_starts, each_map, each_append, unused_if_apart, region_with_chunk, some_same}
+use Rattle.nc_region.proofs.Offered.{Joins, chunk_joins, chunk_keeps, valid_chunk_is_closed, Before, Within, Behind}
+use Rattle.nc_region.proofs.Offered.{place_of, unused_is_start, unused_at_start, is_inside_false, is_start_false, start_or_not, span_within, before_span}
+use Rattle.nc_calls.specs.Calls.{no_details, create_events}
+use Rattle.nc_calls.specs.Views.{ViewsKeep, IsFree}
+use Rattle.nc_calls.proofs.Entries.{events_of, create_is}
+use Rattle.nc_calls.proofs.Good.{text_of, Good, KeepsInstruction, good_by_places, stop_ends}
+use Rattle.nc_calls.proofs.OnePut.{good_put_unread, byte_beside, byte_there}
+use Rattle.nc_calls.proofs.Parting.{Kept, region_good, region_stopped}
+use Rattle.nc_calls.proofs.Putting.{with_text, settled, Views, Leads, Reaches, leads_one, leads_more, settling_leads, settled_views, MayLay, lay_all}
+use Rattle.nc_calls.proofs.RetiredSpans.{AreSpansOf, retired_insert}
 
--- the events of acts after acts
-pub events_append : (d : Details) (xs ys : List Act) → events_of d (xs ++ ys) ≡ events_of d xs ++ events_of d ys
-events_append d [] ys = refl
-events_append d (x ∷ xs) ys =
-    ap (λ (z : List Event). events_of_act d x ++ z) (events_append d xs ys)
-    ∙ sym (append_assoc (events_of_act d x) (events_of d xs) (events_of d ys))
+-- every view is good where a call begins
+pub start_good : (w : World) (chunks : List Chunk) → Keeps w → ViewsKeep w chunks
+    → Views (λ view. Good view w.marked.marks w.retired) w.marked.bytes w.earlier
+start_good w chunks keeps views = λ view v.
+    record { closed = keeps.closed view v; shut = keeps.shut view v; parted = views.parted view v }
 
--- outside the bytes nothing is put
-pub outside_put : (chosen : ℕ → Bool) (base : ℕ) (bytes : List ℕ) (count : ℕ) (old now : List ℕ) → HasPut chosen base bytes count old now
-    → count ≤ length bytes → (at : ℕ) → 65536 ≤ at → (at < base) ⊎ (base + length bytes ≤ at) → byte_at now at ≡ byte_at old at
-outside_put chosen base bytes count old now has le at low out =
-    elim out [ inl l ↦ has.below at low l | inr b ↦ has.above at (omega (arith, b, le)) ]
+-- an instruction at a marked place of a good text lies in one bundle
+pub in_one_bundle : (text : List ℕ) (marks : List Mark) (now : State) (i : Instr) → IsClosed text marks → IsMarked marks now
+    → instruction_at text now.place ≡ Some i → IsInOneBundle now.place i.len
+in_one_bundle text marks now i closed m is =
+    let e = executes text now m.0 (closed.safe now m) in
+    let same : e.i ≡ i = some_same (instruction_at text now.place) e.i i e.is is in
+    omega (arith, e.permitted.0, ap (λ (j : Instr). j.len) same)
 
--- while all but the bundle starts are put: at each marked place a stop, or what stood there
-inside_each : (old : MarkedText) (new : List ℕ) (base : ℕ) (bytes : List ℕ) (count : ℕ)
-    → HasGoodSpan base (limit_of old.bytes) (length bytes) → count ≤ length bytes
-    → IsUnused old base (length bytes) → HasPut is_inside base bytes count old.bytes new → StopsOrKeeps old.bytes new old.marks
-inside_each old new base bytes count placed le unused puts = λ now m.
-    elim (place_of base (length bytes) now.place) [
-      | Before l ↦ inr
-          (λ i is fits k lt. puts.below (now.place + k) (omega (arith, m.0)) (before_span now.place i.len k base fits lt placed.start l))
-      | Within low high ↦
-          inl (let start = unused_is_start now.place now.masked
-          (subst (λ (mark : Mark). Admits mark now.masked) (unused.unused now.place low high) m.1) in
-          puts.passed now.place low (is_inside_false now.place start) ∙ unused.stops now.place low high)
-      | Behind p ↦ inr (λ i is fits k lt. puts.above (now.place + k) (omega arith))
-    ]
+-- ---- the bytes that are no bundle starts
 
--- while the bundle starts are put: the same, of the final text
-final_each : (final now : List ℕ) (marks : List Mark) (from to : ℕ) → from ≤ to → IsFinalBut final now from to
-    → StopsOrKeeps final now marks
-final_each final now marks from to order f = λ s m.
-    elim (place_of from (to - from) s.place) [
-      | Before l ↦ inr (λ i is fits k lt.
-          elim (start_or_not (s.place + k)) [
-            | inl start ↦ f.before (s.place + k) (omega (arith, m.0)) (omega (arith, start.1, fits))
-            | inr inside ↦ f.inside (s.place + k) (omega (arith, m.0)) inside.1
-          ])
+-- the text is good, and stops stand at the bundle starts of the span
+record Filling (w : World) (base len : ℕ) (view : List ℕ) : Type 0 where
+  good : Good view w.marked.marks w.retired
+  stops : (at : ℕ) → base ≤ at → at < base + len → IsBundleStart at → byte_at view at ≡ 244
+
+-- what no instruction has may be put
+filling_clear : (w : World) (base len : ℕ) (view : List ℕ) (at : ℕ) → HasGoodSpan base (limit_of w.marked.bytes) len
+    → IsUnused w.marked base len → Filling w base len view → base ≤ at → at < base + len → at % 32 ≢ 0
+    → (now : State) (i : Instr) (k : ℕ) → IsMarked w.marked.marks now → instruction_at view now.place ≡ Some i → k < i.len
+    → now.place + k ≢ at
+filling_clear w base len view at placed unused f low high not now i k m is lt same =
+    elim (place_of base len now.place) [
+      | Before l ↦ (let under = before_span now.place i.len k base (in_one_bundle view w.marked.marks now i f.good.closed m is) lt
+          placed.start l in omega (arith, under, same, low))
       | Within a b ↦
-          elim (start_or_not s.place) [
-            | inl start ↦ inl (f.stops s.place a (omega arith) start.1)
-            | inr inside ↦
-                inr (λ i is fits k lt. f.inside (s.place + k) (omega (arith, m.0))
-                (λ at_start. omega (arith, inside.1, at_start, fits, lt)))
+          let start = unused_is_start now.place now.masked
+          (subst (λ (mark : Mark). Admits mark now.masked) (unused.unused now.place a b) m.1) in
+          let e = executes view now m.0 (f.good.closed.safe now m) in
+          elim (eqb_tells k 0) [
+            | inl none ↦ not (ap (λ (n : ℕ). n % 32) (sym same ∙ zero_more now.place k none.1) ∙ start)
+            | inr some ↦ stop_ends view now.place k i e.inside (f.stops now.place a b start) is (omega (arith, some.1)) lt
           ]
-      | Behind p ↦ inr (λ i is fits k lt. f.behind (s.place + k) (omega arith))
+      | Behind p ↦ omega (arith, p, same, high)
     ]
+  where
+    zero_more : (n k : ℕ) → k ≡ 0 → n + k ≡ n
+    zero_more n k e = omega (arith, e)
+
+-- all but the bundle starts may be put
+may_lay_inside : (w : World) (base : ℕ) (code : List ℕ) → HasGoodSpan base (limit_of w.marked.bytes) (length code)
+    → IsUnused w.marked base (length code) → MayLay w is_inside base code (Filling w base (length code))
+may_lay_inside w base code placed unused =
+    record {
+      low = placed.low;
+      good = λ view f. f.good;
+      put = λ view count lt chosen inside f.
+          let not : (base + count) % 32 ≢ 0 = λ start. false≢true (sym (is_inside_false (base + count) start) ∙ chosen) in
+          record {
+            good = good_put_unread view w.marked.marks w.retired (base + count) (get_or code count 0) f.good inside.0
+                (filling_clear w base (length code) view (base + count) placed unused f (omega arith) (omega (arith, lt)) not);
+            stops = λ at low high start.
+                byte_beside view (base + count) at (get_or code count 0) inside.0 (omega (arith, low, placed.low))
+                (λ same. not (ap (λ (n : ℕ). n % 32) (sym same) ∙ start))
+                ∙ f.stops at low high start;
+          };
+    }
+
+-- where a chunk fits, no live chunk is
+fits_free : (chunks : List Chunk) (base len k at : ℕ) → FitsAt base len chunks k → base ≤ at → at < base + len → IsFree chunks at
+fits_free chunks base len k at fit low high =
+    subst (λ (z : List Chunk). IsFree z at) (take-append-drop k chunks)
+    (each_append _ (take k chunks) (drop k chunks)
+    (each_map (λ (c : Chunk). c.base + c.length ≤ base) _ (λ c h live inside. omega (arith, h, inside.1, low)) (take k chunks) fit.1)
+    (each_map (λ (c : Chunk). base + len ≤ c.base) _ (λ c h live inside. omega (arith, h, inside.0, high)) (drop k chunks) fit.2))
+
+-- so it is where the call begins
+start_filling : (w : World) (chunks : List Chunk) (base len k : ℕ) → Keeps w → ViewsKeep w chunks → IsUnused w.marked base len
+    → 65536 ≤ base → FitsAt base len chunks k → Views (Filling w base len) w.marked.bytes w.earlier
+start_filling w chunks base len k keeps views unused above fit = λ view v.
+    record {
+      good = start_good w chunks keeps views view v;
+      stops = λ at low high start.
+          views.stopped view v (state at None) (
+            omega (arith, above, low),
+            subst (λ (mark : Mark). Admits mark None) (sym (unused.unused at low high ∙ unused_at_start at start)) tt,
+          )
+          (fits_free chunks base len k at fit low high);
+    }
+
+-- ---- the bundle starts
+
+-- the text is the final one, but for stops at bundle starts
+record IsNearly (final view : List ℕ) : Type 0 where
+  as_long : length view ≡ length final
+  each : (at : ℕ) → 65536 ≤ at → (byte_at view at ≡ byte_at final at) ⊎ ((byte_at view at ≡ 244) × IsBundleStart at)
+
+-- it is good then
+nearly_good : (final view : List ℕ) (marks : List Mark) (spans : List Span) → Good final marks spans → IsNearly final view
+    → Good view marks spans
+nearly_good final view marks spans good n =
+    good_by_places final view marks spans good n.as_long (λ now m.
+    elim (n.each now.place m.0) [
+      | inr stop ↦ inl stop.0
+      | inl same ↦ inr (record { old = final; good = good; as_long = n.as_long; kept = kept now m same })
+    ])
+  where
+    kept : (now : State) → IsMarked marks now → byte_at view now.place ≡ byte_at final now.place
+        → KeepsInstruction final view now.place
+    kept now m same = λ i is fits k lt.
+        elim (n.each (now.place + k) (omega (arith, m.0))) [
+          | inl there ↦ there
+          | inr stop ↦
+              let e : now.place + k ≡ now.place = omega (arith, stop.1, fits, lt) in
+              subst (λ (p : ℕ). byte_at view p ≡ byte_at final p) (sym e) same
+        ]
+
+-- the text without the bundle starts is nearly the final one
+nearly_first : (final mid : List ℕ) (base len : ℕ) → IsFinalBut final mid base (base + len) → IsNearly final mid
+nearly_first final mid base len f =
+    record {
+      as_long = f.as_long;
+      each = λ at low.
+          elim (start_or_not at) [
+            | inr inside ↦ inl (f.inside at low inside.1)
+            | inl start ↦
+                elim (place_of base len at) [
+                  | Before l ↦ inl (f.before at low l)
+                  | Within a b ↦ inr (f.stops at a b start.1, start.1)
+                  | Behind p ↦ inl (f.behind at p)
+                ]
+          ];
+    }
+
+-- the bundle starts may be put
+may_lay_starts : (w : World) (final : List ℕ) (base : ℕ) (code : List ℕ) → 65536 ≤ base → Good final w.marked.marks w.retired
+    → ((at : ℕ) → base ≤ at → at < base + length code → get_or code (at - base) 0 ≡ byte_at final at)
+    → MayLay w is_start base code (IsNearly final)
+may_lay_starts w final base code above good code_is =
+    record {
+      low = above;
+      good = λ view n. nearly_good final view w.marked.marks w.retired good n;
+      put = λ view count lt chosen inside n.
+          record {
+            as_long = length-set view (base + count - 65536) (get_or code count 0) ∙ n.as_long;
+            each = λ at low.
+                elim (eqb_tells at (base + count)) [
+                  | inl same ↦ inl
+                      (subst (λ (p : ℕ). byte_at (set view (base + count - 65536) (get_or code count 0)) p ≡ byte_at final p) (sym same.1)
+                      (byte_there view (base + count) (get_or code count 0) inside ∙ byte_is count lt))
+                  | inr other ↦
+                      let beside = byte_beside view (base + count) at (get_or code count 0) inside.0 low other.1 in
+                      elim (n.each at low) [
+                        | inl there ↦ inl (beside ∙ there)
+                        | inr stop ↦ inr (beside ∙ stop.0, stop.1)
+                      ]
+                ];
+          };
+    }
+  where
+    byte_is : (count : ℕ) → count < length code → get_or code count 0 ≡ byte_at final (base + count)
+    byte_is count lt =
+        let e : base + count - base ≡ count = omega arith in
+        ap (λ (n : ℕ). get_or code n 0) (sym e) ∙ code_is (base + count) (omega arith) (omega (arith, lt))
 
 -- some of the bundle starts put over a text that lacks them all
 final_from_puts : (final mid now : List ℕ) (base : ℕ) (bytes : List ℕ) (count : ℕ) → count ≤ length bytes
@@ -122,122 +240,26 @@ final_text marked base code marks whole j =
       closed = chunk_joins marked base code marks j;
     }
 
--- where a chunk fits, the retired spans lie beside it
-fits_beside : (chunks : List Chunk) (base len k : ℕ) (low : Each (λ (c : Chunk). 65536 ≤ c.base) chunks) → FitsAt base len chunks k
-    → Each (λ (c : Chunk). (stamp : ℕ) → c.state ≡ Retired stamp → IsBeside base len
-    (record { base = c.base; length = c.length; stamp = stamp })) chunks
-fits_beside chunks base len k low fit =
-    each_both (λ (c : Chunk). 65536 ≤ c.base) (λ (c : Chunk). (c.base + c.length ≤ base) ⊎ (base + len ≤ c.base))
-    (λ (c : Chunk). (stamp : ℕ) → c.state ≡ Retired stamp → IsBeside base len (record { base = c.base; length = c.length; stamp = stamp }))
-    (λ c l out stamp is. (l, out)) chunks low
-    (subst (Each (λ (c : Chunk). (c.base + c.length ≤ base) ⊎ (base + len ≤ c.base))) (take-append-drop k chunks)
-    (each_append (λ (c : Chunk). (c.base + c.length ≤ base) ⊎ (base + len ≤ c.base)) (take k chunks) (drop k chunks)
-    (each_map (λ (c : Chunk). c.base + c.length ≤ base) (λ (c : Chunk). (c.base + c.length ≤ base) ⊎ (base + len ≤ c.base))
-    (λ c h. inl h) (take k chunks) fit.1)
-    (each_map (λ (c : Chunk). base + len ≤ c.base) (λ (c : Chunk). (c.base + c.length ≤ base) ⊎ (base + len ≤ c.base)) (λ c h. inr h)
-    (drop k chunks) fit.2)))
-
--- what is known where a chunk is created in a world
-record Creates (w : World) (base : ℕ) (code : List ℕ) (marks : List Mark) : Type 0 where
-  whole : IsText w.marked
-  joins : Joins w.marked base code marks
-  steady : IsSteady w.marked w.retired
-  final : IsSteady (with_chunk w.marked base code marks) w.retired
-  beside : All (IsBeside base (length code)) w.retired
-
--- all but the bundle starts may be put
-may_lay_inside : (w : World) (base : ℕ) (code : List ℕ) (marks : List Mark) → Creates w base code marks
-    → MayLay w is_inside base code w.marked.bytes
-may_lay_inside w base code marks c =
+-- a valid chunk fits into a region's text
+chunk_fits : (marked : MarkedText) (chunks : List Chunk) (v : MarkedChunk) (k : ℕ) → IsRegion marked chunks → IsValid v
+    → v.limit ≡ limit_of marked.bytes → FitsAt v.base (length v.code) chunks k → Joins marked v.base v.code v.marks
+chunk_fits marked chunks v k region valid limit fit =
+    let chunk : IsClosedChunk v.base (limit_of marked.bytes) v.code v.marks =
+    subst (λ (l : ℕ). IsClosedChunk v.base l v.code v.marks) limit (valid_chunk_is_closed v valid) in
     record {
-      low = c.joins.chunk.placed.low;
-      fits = omega (arith, c.joins.chunk.placed.high);
-      good = λ now count le has.
-          steady_with_stops w.marked.bytes now w.marked.marks w.retired c.steady has.as_long
-          (inside_each w.marked now base code count c.joins.chunk.placed le c.joins.unused has)
-          (spans_stop w.marked.bytes now base (length code) w.retired c.beside (steady_stops w.marked w.retired c.steady)
-          (outside_put is_inside base code count w.marked.bytes now has le));
+      closed = region.whole.closed;
+      as_long = region.whole.as_long;
+      chunk = chunk;
+      unused = unused_if_apart marked chunks k v.base (length v.code) region chunk.placed fit.1 fit.2;
     }
 
--- a text that lacks only bundle starts of the final one is steady
-final_steady : (w : World) (base : ℕ) (code : List ℕ) (marks : List Mark) (now : List ℕ) (from to : ℕ) → Creates w base code marks
-    → from ≤ to
-    → IsFinalBut (with_chunk w.marked base code marks).bytes now from to → SpansStop now w.retired
-    → IsSteady (text_of now (with_chunk w.marked base code marks).marks) w.retired
-final_steady w base code marks now from to c order f stops =
-    steady_with_stops (with_chunk w.marked base code marks).bytes now
-    (with_chunk w.marked base code marks).marks w.retired c.final f.as_long
-    (final_each (with_chunk w.marked base code marks).bytes now (with_chunk w.marked base code marks).marks from to order f) stops
-
--- the chunk's acts lead to the text with the chunk
-creation_leads : (w : World) (base : ℕ) (code : List ℕ) (marks : List Mark) → Creates w base code marks
-    → Leads w (events_of (record no_details { marks = marks })
-    (puts_where is_inside base code ++ (MarkSpan base (length code) ∷ puts_where is_start base code)))
-    (record w { marked = with_chunk w.marked base code marks })
-creation_leads w base code marks c =
-    let d : Details = record no_details { marks = marks } in
-    let placed = c.joins.chunk.placed in
-    let final = with_chunk w.marked base code marks in
-    let fits : base + length code ≤ 65536 + length w.marked.bytes = omega (arith, placed.high) in
-    let a = lay_all w (record no_details { marks = marks }) is_inside base code (may_lay_inside w base code marks c) in
-    let mid = a.bytes in
-    let first = final_but_starts w.marked a.bytes base code placed c.joins.unused a.has in
-    let stops_mid : SpansStop a.bytes w.retired =
-    spans_stop w.marked.bytes a.bytes base (length code) w.retired c.beside (steady_stops w.marked w.retired c.steady)
-    (outside_put is_inside base code (length code) w.marked.bytes a.bytes a.has (omega arith)) in
-    let w1 : World = with_bytes w a.bytes in
-    let w2 : World = record w { marked = text_of a.bytes (with_chunk w.marked base code marks).marks } in
-    let code_is : (at : ℕ) → base ≤ at → at < base + length code → get_or code (at - base) 0 ≡ byte_at
-    (with_chunk w.marked base code marks).bytes at = λ at low high. sym
-    (span_within w.marked.bytes base code at 0 placed.low fits low high) in
-    let may : MayLay
-    (record w { marked = text_of a.bytes (with_chunk w.marked base code marks).marks }) is_start base code a.bytes = record {
-      low = placed.low;
-      fits = omega (arith, fits, a.has.as_long);
-      good = λ now count le has.
-          final_steady w base code marks now (base + count) (base + length code) c (omega (arith, le))
-          (final_from_puts (with_chunk w.marked base code marks).bytes a.bytes now base code count le code_is first has)
-          (spans_stop a.bytes now base (length code) w.retired c.beside stops_mid
-          (outside_put is_start base code count a.bytes now has le));
-    } in
-    let b = lay_all (record w { marked = text_of a.bytes (with_chunk w.marked base code marks).marks })
-    (record no_details { marks = marks }) is_start base code may in
-    let same : b.bytes ≡ (with_chunk w.marked base code marks).bytes =
-    final_all (with_chunk w.marked base code marks).bytes b.bytes (base + length code)
-    (final_from_puts (with_chunk w.marked base code marks).bytes a.bytes b.bytes base code (length code)
-    (omega arith) code_is first b.has) in
-    let marking : Leads (with_bytes w a.bytes) (Marks base marks ∷ [])
-    (record w { marked = text_of a.bytes (with_chunk w.marked base code marks).marks }) = leads_one (with_bytes w a.bytes)
-    (Marks base marks) (
-      λ k lt. (omega (arith, placed.low), omega (arith, placed.high, lt, c.joins.chunk.as_long, a.has.as_long)),
-      chunk_keeps w.marked base code marks c.joins,
-      final_steady w base code marks a.bytes base (base + length code) c (omega arith) first stops_mid,
-    ) in
-    let last : Leads (record w { marked = text_of a.bytes (with_chunk w.marked base code marks).marks })
-    (events_of (record no_details { marks = marks }) (puts_where is_start base code))
-    (record w { marked = with_chunk w.marked base code marks }) =
-    subst (λ (z : List ℕ). Leads (record w { marked = text_of a.bytes (with_chunk w.marked base code marks).marks })
-    (events_of (record no_details { marks = marks }) (puts_where is_start base code))
-    (record w { marked = text_of z (with_chunk w.marked base code marks).marks })) same b.leads in
-    subst (λ (z : List Event). Leads w z (record w { marked = with_chunk w.marked base code marks }))
-    (sym (events_append (record no_details { marks = marks }) (puts_where is_inside base code)
-    (MarkSpan base (length code) ∷ puts_where is_start base code)))
-    (leads_more w (with_bytes w a.bytes) (record w { marked = with_chunk w.marked base code marks }) _ _ a.leads
-    (leads_more (with_bytes w a.bytes) (record w { marked = text_of a.bytes (with_chunk w.marked base code marks).marks })
-    (record w { marked = with_chunk w.marked base code marks }) (Marks base marks ∷ []) _ marking last))
-
--- a valid chunk is created in a world that has a region's text and spans
-pub create_leads : (w : World) (chunks : List Chunk) (v : MarkedChunk) (k : ℕ) → IsRegion w.marked chunks → AreSpansOf w.retired chunks
-    → IsValid v → v.limit ≡ limit_of w.marked.bytes → FitsAt v.base (length v.code) chunks k
-    → Leads w (create_events v) (record w { marked = with_chunk w.marked v.base v.code v.marks })
-create_leads w chunks v k region are valid limit fit =
-    let chunk : IsClosedChunk v.base (limit_of w.marked.bytes) v.code v.marks =
-    subst (λ (l : ℕ). IsClosedChunk v.base l v.code v.marks) limit (valid_chunk_is_closed v valid) in
-    let unused = unused_if_apart w.marked chunks k v.base (length v.code) region chunk.placed fit.1 fit.2 in
-    let j : Joins w.marked v.base v.code v.marks =
-    record { closed = region.whole.closed; as_long = region.whole.as_long; chunk = chunk; unused = unused } in
-    let whole = final_text w.marked v.base v.code v.marks region.whole j in
-    let after = region_with_chunk w.marked chunks k (live_chunk v) v.code v.marks
+-- with the chunk it is a region's text
+pub created_region : (marked : MarkedText) (chunks : List Chunk) (v : MarkedChunk) (k : ℕ) → IsRegion marked chunks → IsValid v
+    → v.limit ≡ limit_of marked.bytes → FitsAt v.base (length v.code) chunks k
+    → IsRegion (with_chunk marked v.base v.code v.marks) (insert chunks k (live_chunk v))
+created_region marked chunks v k region valid limit fit =
+    let j = chunk_fits marked chunks v k region valid limit fit in
+    region_with_chunk marked chunks k (live_chunk v) v.code v.marks
     (record {
       region = region;
       vetted = v;
@@ -246,20 +268,111 @@ create_leads w chunks v k region are valid limit fit =
       limit_is = limit;
       code_is = refl;
       marks_is = refl;
-      chunk = chunk;
+      chunk = j.chunk;
       long = refl;
       above = fit.1;
       below = fit.2;
     })
-    tt whole in
-    creation_leads w v.base v.code v.marks
-    (record {
-      whole = region.whole;
-      joins = j;
-      steady = region_steady w.marked chunks w.retired region are;
-      final = region_steady (with_chunk w.marked v.base v.code v.marks) (insert chunks k (live_chunk v)) w.retired after
-          (λ span has. subst (λ (z : List Span). Contains z span) (sym (retired_insert chunks k (live_chunk v) tt)) (are span has));
-      beside = all_spans (IsBeside v.base (length v.code)) w.retired chunks are
-          (retired_each (IsBeside v.base (length v.code)) chunks
-          (fits_beside chunks v.base (length v.code) k (rises_above 65536 chunks region.rising) fit));
-    })
+    tt (final_text marked v.base v.code v.marks region.whole j)
+
+-- what is known where a chunk is created in a world
+record Creates (w : World) (chunks : List Chunk) (k base : ℕ) (code : List ℕ) (marks : List Mark) : Type 0 where
+  keeps : Keeps w
+  views : ViewsKeep w chunks
+  fit : FitsAt base (length code) chunks k
+  joins : Joins w.marked base code marks
+  final : Good (with_chunk w.marked base code marks).bytes (with_chunk w.marked base code marks).marks w.retired
+
+-- the world in which the chunk is marked and its bundle starts aren't put
+abbrev marked_world : World → ℕ → List ℕ → List Mark → List ℕ → World
+marked_world w base code marks mid = record (settled w mid) { marked = text_of mid (with_chunk w.marked base code marks).marks }
+
+-- the marks may be set
+marking_leads : (w : World) (chunks : List Chunk) (k base : ℕ) (code : List ℕ) (marks : List Mark) (mid : List ℕ)
+    → Creates w chunks k base code marks → length mid ≡ length w.marked.bytes
+    → IsNearly (with_chunk w.marked base code marks).bytes mid
+    → Leads (settled w mid) (Marks base marks ∷ []) (marked_world w base code marks mid)
+marking_leads w chunks k base code marks mid c long nearly =
+    let placed = c.joins.chunk.placed in
+    let good = nearly_good (with_chunk w.marked base code marks).bytes mid (with_chunk w.marked base code marks).marks w.retired
+    c.final nearly in
+    leads_one (settled w mid) (Marks base marks) (
+      λ j lt. (omega (arith, placed.low), omega (arith, placed.high, lt, c.joins.chunk.as_long, long)),
+      chunk_keeps w.marked base code marks c.joins,
+      λ view v. subst (λ (z : List ℕ). IsClosed z (with_chunk w.marked base code marks).marks
+          × All (IsShut z (with_chunk w.marked base code marks).marks) w.retired) (sym (only_as_it_stands mid view v)) (good.closed, good.shut),
+    )
+
+-- the chunk's acts lead to the text with the chunk, and every view is nearly that text
+creation_leads : (w : World) (chunks : List Chunk) (k base : ℕ) (code : List ℕ) (marks : List Mark) → Creates w chunks k base code marks
+    → Reaches w (events_of (record no_details { marks = marks }) (puts_where is_inside base code)
+    ++ (Settles ∷ events_of (record no_details { marks = marks }) (MarkSpan base (length code) ∷ puts_where is_start base code)))
+    (record w { marked = with_chunk w.marked base code marks }) (IsNearly (with_chunk w.marked base code marks).bytes)
+creation_leads w chunks k base code marks c =
+    let placed = c.joins.chunk.placed in
+    let final = (with_chunk w.marked base code marks).bytes in
+    let fits : base + length code ≤ 65536 + length w.marked.bytes = omega (arith, placed.high) in
+    let a = lay_all w (record no_details { marks = marks }) is_inside base code w.marked.bytes w.earlier
+    (Filling w base (length code)) (may_lay_inside w base code placed c.joins.unused) fits
+    (start_filling w chunks base (length code) k c.keeps c.views c.joins.unused placed.low c.fit) in
+    let first = final_but_starts w.marked a.bytes base code placed c.joins.unused a.has in
+    let nearly : IsNearly (with_chunk w.marked base code marks).bytes a.bytes =
+    nearly_first (with_chunk w.marked base code marks).bytes a.bytes base (length code) first in
+    let code_is : (at : ℕ) → base ≤ at → at < base + length code → get_or code (at - base) 0 ≡ byte_at
+    (with_chunk w.marked base code marks).bytes at = λ at low high. sym
+    (span_within w.marked.bytes base code at 0 placed.low fits low high) in
+    let w2 = marked_world w base code marks a.bytes in
+    let b = lay_all (marked_world w base code marks a.bytes) (record no_details { marks = marks }) is_start base code a.bytes []
+    (IsNearly (with_chunk w.marked base code marks).bytes)
+    (may_lay_starts (marked_world w base code marks a.bytes) (with_chunk w.marked base code marks).bytes base code placed.low c.final code_is)
+    (omega (arith, fits, a.has.as_long)) (settled_views (IsNearly (with_chunk w.marked base code marks).bytes) a.bytes nearly) in
+    let same : b.bytes ≡ (with_chunk w.marked base code marks).bytes =
+    final_all (with_chunk w.marked base code marks).bytes b.bytes (base + length code)
+    (final_from_puts (with_chunk w.marked base code marks).bytes a.bytes b.bytes base code (length code)
+    (omega arith) code_is first b.has) in
+    let last : Leads (marked_world w base code marks a.bytes)
+    (events_of (record no_details { marks = marks }) (puts_where is_start base code))
+    (record w { marked = with_chunk w.marked base code marks; earlier = b.earlier }) =
+    subst (λ (z : List ℕ). Leads (marked_world w base code marks a.bytes)
+    (events_of (record no_details { marks = marks }) (puts_where is_start base code))
+    (record w { marked = text_of z (with_chunk w.marked base code marks).marks; earlier = b.earlier })) same b.leads in
+    record {
+      earlier = b.earlier;
+      leads =
+          leads_more w (with_text w a.bytes a.earlier) (record w { marked = with_chunk w.marked base code marks; earlier = b.earlier }) _ _
+          a.leads
+          (leads_more (with_text w a.bytes a.earlier) (settled w a.bytes)
+          (record w { marked = with_chunk w.marked base code marks; earlier = b.earlier }) (Settles ∷ []) _
+          (settling_leads w a.bytes a.earlier)
+          (leads_more (settled w a.bytes) (marked_world w base code marks a.bytes)
+          (record w { marked = with_chunk w.marked base code marks; earlier = b.earlier }) (Marks base marks ∷ []) _
+          (marking_leads w chunks k base code marks a.bytes c a.has.as_long nearly) last));
+      views = subst (λ (z : List ℕ). Views (IsNearly (with_chunk w.marked base code marks).bytes) z b.earlier) same b.views;
+    }
+
+-- a valid chunk is created in a world that has a region's text and spans
+pub create_leads : (w : World) (chunks : List Chunk) (v : MarkedChunk) (k : ℕ) → Keeps w → ViewsKeep w chunks → IsRegion w.marked chunks
+    → AreSpansOf w.retired chunks → IsValid v → v.limit ≡ limit_of w.marked.bytes → FitsAt v.base (length v.code) chunks k
+    → Reaches w (create_events v) (record w { marked = with_chunk w.marked v.base v.code v.marks })
+    (Kept (with_chunk w.marked v.base v.code v.marks).marks (insert chunks k (live_chunk v)))
+create_leads w chunks v k keeps views region are valid limit fit =
+    let j = chunk_fits w.marked chunks v k region valid limit fit in
+    let after = created_region w.marked chunks v k region valid limit fit in
+    let final = region_good (with_chunk w.marked v.base v.code v.marks) (insert chunks k (live_chunk v)) w.retired after
+    (λ span has. subst (λ (z : List Span). Contains z span) (sym (retired_insert chunks k (live_chunk v) tt)) (are span has)) in
+    let stopped = region_stopped (with_chunk w.marked v.base v.code v.marks) (insert chunks k (live_chunk v)) after in
+    let r = creation_leads w chunks k v.base v.code v.marks
+    (record { keeps = keeps; views = views; fit = fit; joins = j; final = final }) in
+    record {
+      earlier = r.earlier;
+      leads = subst (λ (z : List Event). Leads w z (record w { marked = with_chunk w.marked v.base v.code v.marks; earlier = r.earlier }))
+          (sym (create_is v)) r.leads;
+      views = λ view is.
+          let n = r.views view is in
+          record {
+            parted = (nearly_good (with_chunk w.marked v.base v.code v.marks).bytes view
+                (with_chunk w.marked v.base v.code v.marks).marks w.retired final n).parted;
+            stopped = λ now m free.
+                elim (n.each now.place m.0) [ inl same ↦ same ∙ stopped now m free | inr stop ↦ stop.0 ];
+          };
+    }

@@ -1,20 +1,23 @@
 -- The acts of a deletion are allowed events.
-use Rattle.std.proofs.Common.{◌≡◌, ℕ, ◌+◌, ◌-◌, ◌<◌, ◌≤◌, true, not, All, List, [], ◌∷◌, ◌++◌, length, get_or, set, replicate, Option}
-use Rattle.std.proofs.Common.{inl, inr, arith, refl, ◌∙◌, sym, ap, subst, ⊎_elim}
-use Rattle.std.proofs.lemmas.Bool.{cases_lt}
-use Rattle.std.proofs.lemmas.List.{get_or-replicate, length-replicate}
+use Rattle.std.proofs.Common.{◌≡◌, ◌≢◌, ℕ, ◌+◌, ◌-◌, ◌<◌, ◌≤◌, ◌⊎◌, true, not, All, List, [], ◌∷◌, ◌++◌, length, get_or, set}
+use Rattle.std.proofs.Common.{replicate, Option, Some, None, inl, inr, arith, refl, ◌∙◌, sym, ap, subst, ⊎_elim}
+use Rattle.std.proofs.lemmas.Bool.{cases_lt, false≢true}
+use Rattle.std.proofs.lemmas.Bool.Decides.{eqb_tells}
+use Rattle.std.proofs.lemmas.List.{length-replicate, get_or-replicate, length-set}
 use Rattle.std.proofs.lemmas.List.Elements.{All-weaker}
+use Rattle.nc_decode.specs.declared.instruction.Instr.{Instr}
 use Rattle.nc_decode.specs.declared.instruction.Mark.{Mark}
 use Rattle.nc_decode.specs.declared.instruction.Mark.TheVariants.{Unmarked, Plain, After}
 use Rattle.nc_decode.specs.Bundles.{IsLawfulLimit}
-use Rattle.nc_text.specs.Places.{limit_of, byte_at}
-use Rattle.nc_text.specs.Marks.{Admits, mark_at}
-use Rattle.nc_text.specs.MarkedText.{MarkedText, IsText, with_span}
-use Rattle.nc_text.proofs.Offered.{length-with_span}
-use Rattle.nc_schedule.specs.Quiet.{IsQuiet}
-use Rattle.nc_schedule.specs.World.{World, IsSteady, AreApart}
-use Rattle.nc_schedule.specs.Events.{Event, Retires, IsAllowed, after, new_span}
-use Rattle.nc_region.specs.declared.acts.Act.TheVariants.{Bump}
+use Rattle.nc_text.specs.Places.{limit_of, byte_at, instruction_at}
+use Rattle.nc_text.specs.Machine.{State, state}
+use Rattle.nc_text.specs.Marks.{Admits, IsMarked, mark_at}
+use Rattle.nc_text.specs.MarkedText.{MarkedText, with_span}
+use Rattle.nc_text.proofs.Offered.{executes, length-with_span}
+use Rattle.nc_schedule.specs.Quiet.{IsQuiet, IsShut}
+use Rattle.nc_schedule.specs.World.{World, AreApart}
+use Rattle.nc_schedule.specs.Events.{Event, Settles, Retires, IsAllowed, after, new_span}
+use Rattle.nc_schedule.proofs.Offered.{Keeps, shut_if_quiet, as_it_stands}
 use Rattle.nc_region.specs.declared.chunk.Chunk.{Chunk}
 use Rattle.nc_region.specs.declared.chunk.ChunkState.TheVariants.{Retired}
 use Rattle.nc_region.specs.Acts.{is_mark, is_marked_at, is_unmarked_at, puts_where}
@@ -24,11 +27,15 @@ use Rattle.nc_region.specs.Each.{Each}
 use Rattle.nc_region.specs.Region.{IsLive, IsRising, IsRegion}
 use Rattle.nc_region.proofs.Offered.{region_deleted, all_stops, each_get, each_from, each_at_set, quiet_chunks, rises_get}
 use Rattle.nc_region.proofs.Offered.{apart_by_index, place_of, Before, Within, Behind, before_span}
-use Rattle.nc_calls.specs.Calls.{no_details, events_of, delete_events}
-use Rattle.nc_calls.proofs.Creation.{events_append, outside_put}
-use Rattle.nc_calls.proofs.Putting.{with_bytes, Leads, leads_one, leads_more, MayLay, lay_all}
-use Rattle.nc_calls.proofs.RetiredSpans.{AreSpansOf, all_spans, retired_each, region_steady}
-use Rattle.nc_calls.proofs.Steady.{text_of, StopsOrKeeps, IsBeside, spans_stop, steady_stops, steady_with_stops}
+use Rattle.nc_calls.specs.Calls.{no_details, delete_events}
+use Rattle.nc_calls.specs.Views.{ViewsKeep}
+use Rattle.nc_calls.proofs.Creation.{start_good, in_one_bundle}
+use Rattle.nc_calls.proofs.Entries.{events_of, delete_is}
+use Rattle.nc_calls.proofs.Good.{text_of, Good, KeepsInstruction, step_back, stop_ends}
+use Rattle.nc_calls.proofs.OnePut.{good_put_marked, good_put_unread, byte_beside, byte_there}
+use Rattle.nc_calls.proofs.Parting.{Kept, region_stopped}
+use Rattle.nc_calls.proofs.Putting.{with_text, settled, Views, Leads, Reaches, leads_one, leads_more, settling_leads, settled_views, MayLay, lay_all}
+use Rattle.nc_calls.proofs.RetiredSpans.{AreSpansOf, IsBeside, all_spans, retired_each}
 
 -- a mark that stands for a state is a mark
 admits_is_mark : (mark : Mark) (masked : Option ℕ) → Admits mark masked → is_mark mark ≡ true
@@ -36,35 +43,21 @@ admits_is_mark Unmarked masked m = absurd m
 admits_is_mark Plain masked m = refl
 admits_is_mark (After register) masked m = refl
 
+-- what is marked stands for some state
+pub marked_state : (mark : Mark) → is_mark mark ≡ true → (masked : Option ℕ) × Admits mark masked
+marked_state Unmarked is = absurd (false≢true is)
+marked_state Plain is = (None, tt)
+marked_state (After register) is = (Some register, refl)
+
+-- a place is unmarked, or marked
+pub unmarked_or_mark : (mark : Mark) → (mark ≡ Unmarked) ⊎ (is_mark mark ≡ true)
+unmarked_or_mark Unmarked = inl refl
+unmarked_or_mark Plain = inr refl
+unmarked_or_mark (After register) = inr refl
+
 -- each byte is a stop
-stop_byte : (base len at : ℕ) → base ≤ at → at < base + len → get_or (replicate {A = ℕ} len 244) (at - base) 0 ≡ 244
-stop_byte base len at low high = get_or-replicate len (at - base) 244 0 (omega arith)
-
--- while stops are put at marked places: at each marked place a stop, or what stood there
-marked_each : (old : MarkedText) (now : List ℕ) (base len count : ℕ) → HasGoodSpan base (limit_of old.bytes) len → count ≤ len
-    → HasPut (is_marked_at old.marks) base (replicate len 244) count old.bytes now → StopsOrKeeps old.bytes now old.marks
-marked_each old now base len count placed le puts = λ s m.
-    elim (place_of base count s.place) [
-      | Before l ↦ inr
-          (λ i is fits k lt. puts.below (s.place + k) (omega (arith, m.0)) (before_span s.place i.len k base fits lt placed.start l))
-      | Within a b ↦
-          inl (puts.put s.place a b (admits_is_mark (mark_at old.marks s.place) s.masked m.1) ∙ stop_byte base len s.place a (omega arith))
-      | Behind p ↦ inr (λ i is fits k lt. puts.above (s.place + k) (omega arith))
-    ]
-
--- and while they are put at the others
-others_each : (old : MarkedText) (now : List ℕ) (base len count : ℕ) → HasGoodSpan base (limit_of old.bytes) len
-    → ((at : ℕ) → base ≤ at → at < base + len → is_marked_at old.marks at ≡ true → byte_at old.bytes at ≡ 244) → count ≤ len
-    → HasPut (is_unmarked_at old.marks) base (replicate len 244) count old.bytes now → StopsOrKeeps old.bytes now old.marks
-others_each old now base len count placed stopped le puts = λ s m.
-    elim (place_of base len s.place) [
-      | Before l ↦ inr
-          (λ i is fits k lt. puts.below (s.place + k) (omega (arith, m.0)) (before_span s.place i.len k base fits lt placed.start l))
-      | Within a b ↦
-          let is = admits_is_mark (mark_at old.marks s.place) s.masked m.1 in
-          inl (puts.passed s.place a (ap not is) ∙ stopped s.place a b is)
-      | Behind p ↦ inr (λ i is fits k lt. puts.above (s.place + k) (omega arith))
-    ]
+stop_byte : (len k : ℕ) → k < len → get_or (replicate {A = ℕ} len 244) k 0 ≡ 244
+stop_byte len k lt = get_or-replicate len k 244 0 lt
 
 -- the retired spans lie beside a live chunk
 pub live_beside : (chunks : List Chunk) (k : ℕ) (c : Chunk) → IsRising 65536 chunks → k < length chunks → get_or chunks k c ≡ c
@@ -92,6 +85,8 @@ live_beside chunks k c rising lt here live =
 
 -- what is known where a live chunk is deleted in a world
 record IsDeleting (w : World) (chunks : List Chunk) (k : ℕ) (c : Chunk) : Type 0 where
+  keeps : Keeps w
+  views : ViewsKeep w chunks
   region : IsRegion w.marked chunks
   spans : AreSpansOf w.retired chunks
   inside : k < length chunks
@@ -111,48 +106,122 @@ beside_there w chunks k c r =
     all_spans (IsBeside c.base c.length) w.retired chunks r.spans
     (retired_each (IsBeside c.base c.length) chunks (live_beside chunks k c r.region.rising r.inside r.here r.live))
 
--- stops may be put at the marked places
-may_lay_marked : (w : World) (chunks : List Chunk) (k : ℕ) (c : Chunk) → IsDeleting w chunks k c
-    → MayLay w (is_marked_at w.marked.marks) c.base (replicate c.length 244) w.marked.bytes
-may_lay_marked w chunks k c r =
-    let p = placed_there w chunks k c r in
-    let n = length-replicate {A = ℕ} c.length 244 in
-    let steady = region_steady w.marked chunks w.retired r.region r.spans in
+-- ---- stops at the marked places
+
+-- at marked places stops may be put
+may_lay_marked : (w : World) (base len : ℕ) → 65536 ≤ base
+    → MayLay w (is_marked_at w.marked.marks) base (replicate len 244) (λ view. Good view w.marked.marks w.retired)
+may_lay_marked w base len low =
     record {
-      low = p.low;
-      fits = omega (arith, n, p.high);
-      good = λ now count le has.
-          steady_with_stops w.marked.bytes now w.marked.marks w.retired steady has.as_long
-          (marked_each w.marked now c.base c.length count p (omega (arith, n, le)) has)
-          (spans_stop w.marked.bytes now c.base (length (replicate {A = ℕ} c.length 244)) w.retired
-          (subst (λ (l : ℕ). All (IsBeside c.base l) w.retired) (sym n) (beside_there w chunks k c r))
-          (steady_stops w.marked w.retired steady)
-          (outside_put (is_marked_at w.marked.marks) c.base (replicate c.length 244) count w.marked.bytes now has le));
+      low = low;
+      good = λ view g. g;
+      put = λ view count lt chosen inside g.
+          let s = marked_state (mark_at w.marked.marks (base + count)) chosen in
+          good_put_marked view w.marked.marks w.retired (state (base + count) s.0) (get_or (replicate len 244) count 0) g inside
+          (inside.0, s.1) (inl (stop_byte len count (omega (arith, lt, length-replicate {A = ℕ} len 244))));
     }
 
--- and then at the others
-may_lay_others : (w : World) (chunks : List Chunk) (k : ℕ) (c : Chunk) (mid : List ℕ) → IsDeleting w chunks k c
-    → HasPut (is_marked_at w.marked.marks) c.base (replicate c.length 244) (length (replicate {A = ℕ} c.length 244)) w.marked.bytes mid
-    → MayLay (with_bytes w mid) (is_unmarked_at w.marked.marks) c.base (replicate c.length 244) mid
-may_lay_others w chunks k c mid r done =
-    let p = placed_there w chunks k c r in
-    let n = length-replicate {A = ℕ} c.length 244 in
-    let first = may_lay_marked w chunks k c r in
-    let steady = first.good mid (length (replicate {A = ℕ} c.length 244)) (omega arith) done in
-    let long : limit_of w.marked.bytes ≡ limit_of mid = ap (λ (z : ℕ). 65536 + z) (sym done.as_long) in
+-- ---- stops at the others
+
+-- the text is good, it is as another outside the span, and in the span each marked place is a stop
+record Emptied (w : World) (base len : ℕ) (mid view : List ℕ) : Type 0 where
+  good : Good view w.marked.marks w.retired
+  as_long : length view ≡ length mid
+  stops : (now : State) → IsMarked w.marked.marks now → base ≤ now.place → now.place < base + len → byte_at view now.place ≡ 244
+  outside : (at : ℕ) → 65536 ≤ at → (at < base) ⊎ (base + len ≤ at) → byte_at view at ≡ byte_at mid at
+
+-- no instruction has an unmarked place of the span
+emptied_clear : (w : World) (base len : ℕ) (mid view : List ℕ) (at : ℕ) → HasGoodSpan base (limit_of w.marked.bytes) len
+    → Emptied w base len mid view → base ≤ at → at < base + len → is_unmarked_at w.marked.marks at ≡ true
+    → (now : State) (i : Instr) (k : ℕ) → IsMarked w.marked.marks now → instruction_at view now.place ≡ Some i → k < i.len
+    → now.place + k ≢ at
+emptied_clear w base len mid view at placed f low high is_unmarked now i k m is lt same =
+    elim (place_of base len now.place) [
+      | Before l ↦ (let under = before_span now.place i.len k base (in_one_bundle view w.marked.marks now i f.good.closed m is) lt
+          placed.start l in omega (arith, under, same, low))
+      | Within a b ↦
+          let e = executes view now m.0 (f.good.closed.safe now m) in
+          let marked = admits_is_mark (mark_at w.marked.marks now.place) now.masked m.1 in
+          elim (eqb_tells k 0) [
+            | inl none ↦
+                let here : now.place ≡ at = omega (arith, same, none.1) in
+                false≢true (sym (ap not (subst (λ (p : ℕ). is_marked_at w.marked.marks p ≡ true) here marked)) ∙ is_unmarked)
+            | inr some ↦ stop_ends view now.place k i e.inside (f.stops now m a b) is (omega (arith, some.1)) lt
+          ]
+      | Behind p ↦ omega (arith, p, same, high)
+    ]
+
+-- at its unmarked places stops may be put
+may_lay_others : (w : World) (base len : ℕ) (mid : List ℕ) → HasGoodSpan base (limit_of w.marked.bytes) len
+    → MayLay w (is_unmarked_at w.marked.marks) base (replicate len 244) (Emptied w base len mid)
+may_lay_others w base len mid placed =
+    let n = length-replicate {A = ℕ} len 244 in
     record {
-      low = p.low;
-      fits = omega (arith, n, p.high, done.as_long);
-      good = λ now count le has.
-          steady_with_stops mid now w.marked.marks w.retired steady has.as_long
-          (others_each (text_of mid w.marked.marks) now c.base c.length count (subst (λ (l : ℕ). HasGoodSpan c.base l c.length) long p)
-          (λ at low high is. done.put at low (omega (arith, high, n)) is ∙ stop_byte c.base c.length at low high)
-          (omega (arith, n, le)) has)
-          (spans_stop mid now c.base (length (replicate {A = ℕ} c.length 244)) w.retired
-          (subst (λ (l : ℕ). All (IsBeside c.base l) w.retired) (sym n) (beside_there w chunks k c r))
-          (steady_stops (text_of mid w.marked.marks) w.retired steady)
-          (outside_put (is_unmarked_at w.marked.marks) c.base (replicate c.length 244) count mid now has le));
+      low = placed.low;
+      good = λ view f. f.good;
+      put = λ view count lt chosen inside f.
+          let stop = stop_byte len count (omega (arith, lt, n)) in
+          record {
+            good = good_put_unread view w.marked.marks w.retired (base + count) (get_or (replicate len 244) count 0) f.good inside.0
+                (emptied_clear w base len mid view (base + count) placed f (omega arith) (omega (arith, lt, n)) chosen);
+            as_long = length-set view (base + count - 65536) (get_or (replicate len 244) count 0) ∙ f.as_long;
+            stops = λ now m low high.
+                elim (eqb_tells now.place (base + count)) [
+                  | inl same ↦
+                      ap (λ (p : ℕ). byte_at (set view (base + count - 65536) (get_or (replicate len 244) count 0)) p) same.1
+                      ∙ (byte_there view (base + count) (get_or (replicate len 244) count 0) inside ∙ stop)
+                  | inr other ↦
+                      byte_beside view (base + count) now.place (get_or (replicate len 244) count 0) inside.0 m.0 other.1
+                      ∙ f.stops now m low high
+                ];
+            outside = λ at low out.
+                byte_beside view (base + count) at (get_or (replicate len 244) count 0) inside.0 low
+                (λ same. elim out [ inl l ↦ omega (arith, l, same) | inr b ↦ omega (arith, b, same, lt, n) ])
+                ∙ f.outside at low out;
+          };
     }
+
+-- once all marked places are stops, the text is such a one
+emptied_first : (w : World) (base len : ℕ) (mid : List ℕ) → Good mid w.marked.marks w.retired
+    → HasPut (is_marked_at w.marked.marks) base (replicate len 244) len w.marked.bytes mid → Emptied w base len mid mid
+emptied_first w base len mid good has =
+    record {
+      good = good;
+      as_long = refl;
+      stops = λ now m low high.
+          has.put now.place low high (admits_is_mark (mark_at w.marked.marks now.place) now.masked m.1)
+          ∙ stop_byte len (now.place - base) (omega arith);
+      outside = λ at low out. refl;
+    }
+
+-- outside the span an instruction is as in the other text
+emptied_keeps : (w : World) (base len : ℕ) (mid view other : List ℕ) (now : State) → HasGoodSpan base (limit_of w.marked.bytes) len
+    → Emptied w base len mid view → Emptied w base len mid other → IsMarked w.marked.marks now
+    → (base ≤ now.place → now.place < base + len → ⊥) → KeepsInstruction other view now.place
+emptied_keeps w base len mid view other now placed f g m out = λ i is fits k lt.
+    let beside : (now.place + k < base) ⊎ (base + len ≤ now.place + k) =
+    elim (place_of base len now.place) [
+      | Before l ↦ inl (before_span now.place i.len k base fits lt placed.start l)
+      | Within a b ↦ absurd (out a b)
+      | Behind p ↦ inr (omega (arith, p))
+    ] in
+    f.outside (now.place + k) (omega (arith, m.0)) beside ∙ sym (g.outside (now.place + k) (omega (arith, m.0)) beside)
+
+-- so the span is shut in the one where it is in the other
+emptied_shut : (w : World) (base len stamp : ℕ) (mid view other : List ℕ) → HasGoodSpan base (limit_of w.marked.bytes) len
+    → Emptied w base len mid view → Emptied w base len mid other
+    → IsShut other w.marked.marks (record { base = base; length = len; stamp = stamp })
+    → IsShut view w.marked.marks (record { base = base; length = len; stamp = stamp })
+emptied_shut w base len stamp mid view other placed f g shut =
+    record {
+      stops = λ now m inside. f.stops now m inside.0 inside.1;
+      unreached = λ now next m out step.
+          shut.unreached now next m out
+          (step_back other view w.marked.marks now next g.good.closed (f.as_long ∙ sym g.as_long) m
+          (emptied_keeps w base len mid view other now placed f g m (λ a b. out (a, b))) step);
+    }
+
+-- ---- the whole deletion
 
 -- the text in which the chunk is stops
 abbrev pub stopped : World → Chunk → MarkedText
@@ -166,74 +235,121 @@ stopped_long w chunks k c r =
     length-with_span w.marked.bytes (c.base - 65536) (replicate c.length 244)
     (omega (arith, length-replicate {A = ℕ} c.length 244, p.low, p.high))
 
+-- the list with the chunk retired
+abbrev retired_list : World → List Chunk → ℕ → Chunk → List Chunk
+retired_list w chunks k c = set chunks k (record c { state = Retired (w.keeper.generation + 1) })
+
+-- with the chunk retired it is a region's text
+region_after : (w : World) (chunks : List Chunk) (k : ℕ) (c : Chunk) → IsDeleting w chunks k c
+    → Good (stopped w c).bytes w.marked.marks w.retired → IsRegion (stopped w c) (retired_list w chunks k c)
+region_after w chunks k c r good =
+    let long = stopped_long w chunks k c r in
+    region_deleted w.marked (stopped w c) chunks k c (w.keeper.generation + 1)
+    (record {
+      region = r.region;
+      inside = r.inside;
+      here = r.here;
+      live = r.live;
+      whole = record {
+        lawful = subst IsLawfulLimit (ap (λ (z : ℕ). 65536 + z) (sym long)) r.region.whole.lawful;
+        as_long = r.region.whole.as_long ∙ sym long;
+        closed = good.closed;
+      };
+      bytes_are = refl;
+      marks_are = refl;
+    })
+
 -- its span may be retired then
-may_retire : (w : World) (chunks : List Chunk) (k : ℕ) (c : Chunk) → IsDeleting w chunks k c → IsSteady (stopped w c) w.retired
-    → IsAllowed (record w { marked = stopped w c }) (Retires c.base c.length)
-may_retire w chunks k c r steady =
+may_retire : (w : World) (chunks : List Chunk) (k : ℕ) (c : Chunk) (earlier : List (List ℕ)) (mid : List ℕ) → IsDeleting w chunks k c
+    → Views (Emptied w c.base c.length mid) (stopped w c).bytes earlier
+    → IsAllowed (record w { marked = stopped w c; earlier = earlier }) (Retires c.base c.length)
+may_retire w chunks k c earlier mid r views =
     let p = placed_there w chunks k c r in
     let long = stopped_long w chunks k c r in
-    let whole : IsText (stopped w c) = record {
-      lawful = subst IsLawfulLimit (ap (λ (z : ℕ). 65536 + z) (sym long)) r.region.whole.lawful;
-      as_long = r.region.whole.as_long ∙ sym long;
-      closed = steady.0;
-    } in
-    let after = region_deleted w.marked (stopped w c) chunks k c (w.keeper.generation + 1)
-    (record { region = r.region; inside = r.inside; here = r.here; live = r.live; whole = whole; bytes_are = refl; marks_are = refl }) in
+    let here = views (stopped w c).bytes (as_it_stands (stopped w c).bytes earlier) in
+    let after = region_after w chunks k c r here.good in
     let quiet = each_at_set
     (λ (d : Chunk). (IsLive d.state → ⊥) → (stamp : ℕ) → IsQuiet (stopped w c).bytes (stopped w c).marks
-    (record { base = d.base; length = d.length; stamp = stamp })) chunks k (record c {
-      state = Retired
-          (w.keeper.generation + 1);
-    }) r.inside
-    (quiet_chunks (stopped w c) (set chunks k (record c { state = Retired (w.keeper.generation + 1) })) after) in (
+    (record { base = d.base; length = d.length; stamp = stamp })) chunks k (record c { state = Retired (w.keeper.generation + 1) }) r.inside
+    (quiet_chunks (stopped w c) (retired_list w chunks k c) after) in
+    let shut = shut_if_quiet (stopped w c).bytes w.marked.marks
+    (record { base = c.base; length = c.length; stamp = w.keeper.generation + 1 }) (quiet (λ live. live) (w.keeper.generation + 1)) in (
       record { start = p.start; bundles = p.whole; low = p.low; high = omega (arith, p.high, long) },
       All-weaker (IsBeside c.base c.length) (AreApart (new_span (record w { marked = stopped w c }) c.base c.length))
           (λ span b. elim b.1 [ inl l ↦ inr l | inr h ↦ inl h ]) w.retired (beside_there w chunks k c r),
-      quiet (λ live. live) (w.keeper.generation + 1),
+      λ view v. emptied_shut w c.base c.length (w.keeper.generation + 1) mid view (stopped w c).bytes p (views view v) here shut,
     )
 
 -- the chunk's acts lead to the text without it, with one more retired span
 deletion_leads : (w : World) (chunks : List Chunk) (k : ℕ) (c : Chunk) → IsDeleting w chunks k c
-    → Leads w (delete_events w.marked.marks c.base c.length) (after (record w { marked = stopped w c }) (Retires c.base c.length))
+    → Reaches w (events_of (record no_details { base = c.base; len = c.length })
+    (puts_where (is_marked_at w.marked.marks) c.base (replicate c.length 244))
+    ++ (Settles ∷ (events_of (record no_details { base = c.base; len = c.length })
+    (puts_where (is_unmarked_at w.marked.marks) c.base (replicate c.length 244)) ++ Retires c.base c.length ∷ [])))
+    (after (record w { marked = stopped w c }) (Retires c.base c.length)) (Kept w.marked.marks (retired_list w chunks k c))
 deletion_leads w chunks k c r =
     let p = placed_there w chunks k c r in
     let n = length-replicate {A = ℕ} c.length 244 in
-    let first = puts_where (is_marked_at w.marked.marks) c.base (replicate c.length 244) in
-    let second = puts_where (is_unmarked_at w.marked.marks) c.base (replicate c.length 244) in
+    let fits : c.base + length (replicate {A = ℕ} c.length 244) ≤ 65536 + length w.marked.bytes = omega (arith, n, p.high) in
     let a = lay_all w (record no_details { base = c.base; len = c.length }) (is_marked_at w.marked.marks) c.base (replicate c.length 244)
-    (may_lay_marked w chunks k c r) in
-    let may = may_lay_others w chunks k c a.bytes r a.has in
-    let b = lay_all (with_bytes w a.bytes) (record no_details { base = c.base; len = c.length }) (is_unmarked_at w.marked.marks) c.base
-    (replicate c.length 244) may in
+    w.marked.bytes w.earlier (λ view. Good view w.marked.marks w.retired) (may_lay_marked w c.base c.length p.low) fits
+    (start_good w chunks r.keeps r.views) in
+    let done : HasPut (is_marked_at w.marked.marks) c.base (replicate c.length 244) c.length w.marked.bytes a.bytes =
+    subst (λ (l : ℕ). HasPut (is_marked_at w.marked.marks) c.base (replicate c.length 244) l w.marked.bytes a.bytes) n a.has in
+    let first = emptied_first w c.base c.length a.bytes (a.views a.bytes (as_it_stands a.bytes a.earlier)) done in
+    let b = lay_all w (record no_details { base = c.base; len = c.length }) (is_unmarked_at w.marked.marks) c.base
+    (replicate c.length 244) a.bytes [] (Emptied w c.base c.length a.bytes) (may_lay_others w c.base c.length a.bytes p)
+    (omega (arith, fits, a.has.as_long)) (settled_views (Emptied w c.base c.length a.bytes) a.bytes first) in
     let same : b.bytes ≡ (stopped w c).bytes =
-    all_stops w.marked.bytes a.bytes b.bytes w.marked.marks c.base c.length p.low (omega (arith, p.high))
-    (subst (λ (l : ℕ). HasPut (is_marked_at w.marked.marks) c.base (replicate c.length 244) l w.marked.bytes a.bytes) n a.has)
+    all_stops w.marked.bytes a.bytes b.bytes w.marked.marks c.base c.length p.low (omega (arith, p.high)) done
     (subst (λ (l : ℕ). HasPut (is_unmarked_at w.marked.marks) c.base (replicate c.length 244) l a.bytes b.bytes) n b.has) in
-    let steady : IsSteady (stopped w c) w.retired =
-    subst (λ (z : List ℕ). IsSteady (text_of z w.marked.marks) w.retired) same
-    (may.good b.bytes (length (replicate {A = ℕ} c.length 244)) (omega arith) b.has) in
-    let puts : Leads (with_bytes w a.bytes)
-    (events_of (record no_details { base = c.base; len = c.length })
-    (puts_where (is_unmarked_at w.marked.marks) c.base (replicate c.length 244))) (record w { marked = stopped w c }) =
-    subst (λ (z : List ℕ). Leads (with_bytes w a.bytes)
-    (events_of (record no_details { base = c.base; len = c.length })
-    (puts_where (is_unmarked_at w.marked.marks) c.base (replicate c.length 244))) (with_bytes w z)) same b.leads in
-    let last = leads_one (record w { marked = stopped w c }) (Retires c.base c.length) (may_retire w chunks k c r steady) in
-    subst (λ (z : List Event). Leads w z (after (record w { marked = stopped w c }) (Retires c.base c.length)))
-    (sym (events_append (record no_details { base = c.base; len = c.length })
-    (puts_where (is_marked_at w.marked.marks) c.base (replicate c.length 244))
-    (puts_where (is_unmarked_at w.marked.marks) c.base (replicate c.length 244) ++ Bump ∷ [])
-    ∙ ap (λ (z : List Event). events_of (record no_details { base = c.base; len = c.length })
-    (puts_where (is_marked_at w.marked.marks) c.base (replicate c.length 244)) ++ z) (events_append
-    (record no_details { base = c.base; len = c.length }) (puts_where (is_unmarked_at w.marked.marks) c.base (replicate c.length 244))
-    (Bump ∷ []))))
-    (leads_more w (with_bytes w a.bytes) (after (record w { marked = stopped w c }) (Retires c.base c.length)) _ _ a.leads
-    (leads_more (with_bytes w a.bytes) (record w { marked = stopped w c })
-    (after (record w { marked = stopped w c }) (Retires c.base c.length)) _ _ puts last))
+    let views : Views (Emptied w c.base c.length a.bytes) (stopped w c).bytes b.earlier =
+    subst (λ (z : List ℕ). Views (Emptied w c.base c.length a.bytes) z b.earlier) same b.views in
+    let end : World = after (record w { marked = stopped w c; earlier = b.earlier }) (Retires c.base c.length) in
+    let second : Leads (settled w a.bytes) (events_of (record no_details { base = c.base; len = c.length })
+    (puts_where (is_unmarked_at w.marked.marks) c.base (replicate c.length 244))) (record w { marked = stopped w c; earlier = b.earlier }) =
+    subst (λ (z : List ℕ). Leads (settled w a.bytes) (events_of (record no_details { base = c.base; len = c.length })
+    (puts_where (is_unmarked_at w.marked.marks) c.base (replicate c.length 244))) (with_text w z b.earlier)) same b.leads in
+    let last = leads_one (record w { marked = stopped w c; earlier = b.earlier }) (Retires c.base c.length)
+    (may_retire w chunks k c b.earlier a.bytes r views) in
+    let here = views (stopped w c).bytes (as_it_stands (stopped w c).bytes b.earlier) in
+    let region = region_after w chunks k c r here.good in
+    record {
+      earlier = b.earlier;
+      leads = leads_more w (with_text w a.bytes a.earlier) (after (record w { marked = stopped w c; earlier = b.earlier })
+          (Retires c.base c.length)) _ _ a.leads
+          (leads_more (with_text w a.bytes a.earlier) (settled w a.bytes) (after (record w { marked = stopped w c; earlier = b.earlier })
+          (Retires c.base c.length)) (Settles ∷ []) _ (settling_leads w a.bytes a.earlier)
+          (leads_more (settled w a.bytes) (record w { marked = stopped w c; earlier = b.earlier })
+          (after (record w { marked = stopped w c; earlier = b.earlier }) (Retires c.base c.length)) _ (Retires c.base c.length ∷ [])
+          second last));
+      views = λ view v.
+          let f = views view v in
+          record {
+            parted = f.good.parted;
+            stopped = λ now m free.
+                elim (place_of c.base c.length now.place) [
+                  | Before l ↦ f.outside now.place m.0 (inl l) ∙ (sym (here.outside now.place m.0 (inl l))
+                      ∙ region_stopped (stopped w c) (retired_list w chunks k c) region now m free)
+                  | Within x y ↦ f.stops now m x y
+                  | Behind q ↦ f.outside now.place m.0 (inr q) ∙ (sym (here.outside now.place m.0 (inr q))
+                      ∙ region_stopped (stopped w c) (retired_list w chunks k c) region now m free)
+                ];
+          };
+    }
 
 -- a live chunk is deleted in a world that has a region's text and spans
-pub delete_leads : (w : World) (chunks : List Chunk) (k : ℕ) (c : Chunk) → IsRegion w.marked chunks → AreSpansOf w.retired chunks
-    → k < length chunks → get_or chunks k c ≡ c → IsLive c.state
-    → Leads w (delete_events w.marked.marks c.base c.length) (after (record w { marked = stopped w c }) (Retires c.base c.length))
-delete_leads w chunks k c region spans inside here live =
-    deletion_leads w chunks k c (record { region = region; spans = spans; inside = inside; here = here; live = live })
+pub delete_leads : (w : World) (chunks : List Chunk) (k : ℕ) (c : Chunk) → Keeps w → ViewsKeep w chunks → IsRegion w.marked chunks
+    → AreSpansOf w.retired chunks → k < length chunks → get_or chunks k c ≡ c → IsLive c.state
+    → Reaches w (delete_events w.marked.marks c.base c.length) (after (record w { marked = stopped w c }) (Retires c.base c.length))
+    (Kept w.marked.marks (set chunks k (record c { state = Retired (w.keeper.generation + 1) })))
+delete_leads w chunks k c keeps views region spans inside here live =
+    let r = deletion_leads w chunks k c
+    (record { keeps = keeps; views = views; region = region; spans = spans; inside = inside; here = here; live = live }) in
+    record {
+      earlier = r.earlier;
+      leads = subst (λ (z : List Event). Leads w z
+          (record (after (record w { marked = stopped w c }) (Retires c.base c.length)) { earlier = r.earlier }))
+          (sym (delete_is w.marked.marks c.base c.length)) r.leads;
+      views = r.views;
+    }

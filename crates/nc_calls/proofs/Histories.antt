@@ -1,5 +1,5 @@
 -- Schedules that have led to a region, and one call more.
-use Rattle.std.proofs.Common.{◌≡◌, ℕ, ◌+◌, ◌-◌, ◌≤◌, Bool, true, false, cond, List, [], ◌∷◌, ◌++◌, length, set, replicate, arith, refl}
+use Rattle.std.proofs.Common.{◌≡◌, ℕ, ◌+◌, ◌-◌, ◌≤◌, Bool, true, false, cond, List, [], ◌∷◌, ◌++◌, set, replicate, arith}
 use Rattle.std.proofs.Common.{◌∙◌, sym, ap, subst, append-nil}
 use Rattle.std.specs.Prelude.{Contains, ◌↔◌}
 use Rattle.nc_decode.specs.declared.instruction.Mark.{Mark}
@@ -11,59 +11,71 @@ use Rattle.nc_gens.specs.Seen.{KeeperState}
 use Rattle.nc_vet.specs.Chunk.{MarkedChunk, IsValid}
 use Rattle.nc_schedule.specs.Quiet.{Span}
 use Rattle.nc_schedule.specs.World.{World, Seat, first_world}
-use Rattle.nc_schedule.specs.Events.{Event, world_after, AreAllowed}
-use Rattle.nc_schedule.proofs.Offered.{allowed_append, after_append}
-use Rattle.nc_region.specs.declared.acts.Act.{Act}
-use Rattle.nc_region.specs.declared.acts.Act.TheVariants.{Put, MarkSpan, Bump}
+use Rattle.nc_schedule.specs.Events.{Event, Settles, Marks, Retires, after, world_after, AreAllowed}
+use Rattle.nc_schedule.proofs.Offered.{Keeps, keeps_reached, allowed_append, after_append}
+use Rattle.nc_region.specs.declared.acts.Act.TheVariants.{Put}
 use Rattle.nc_region.specs.declared.chunk.Chunk.{Chunk}
 use Rattle.nc_region.specs.declared.chunk.ChunkState.TheVariants.{Retired}
 use Rattle.nc_region.specs.Acts.{puts_where, is_inside, is_start, is_marked_at, is_unmarked_at}
+use Rattle.nc_region.specs.Chunks.{with_chunk}
 use Rattle.nc_region.specs.Quiet.{retired_spans}
 use Rattle.nc_region.specs.Region.{Region, IsLive, IsRegion, IsCreated, live_chunk}
 use Rattle.nc_region.specs.Deletion.{IsDeleted}
 use Rattle.nc_region.proofs.Offered.{same_code, listed_there}
 use Rattle.nc_calls.specs.Weaving.{writers, ThreadsMay}
-use Rattle.nc_calls.specs.Calls.{StandsFor, HasLedTo, Details, events_of, create_events, delete_events}
+use Rattle.nc_calls.specs.Calls.{StandsFor, HasLedTo, Details, create_events, delete_events}
+use Rattle.nc_calls.specs.Views.{ViewsKeep}
 use Rattle.nc_calls.proofs.Creation.{create_leads}
-use Rattle.nc_calls.proofs.Deletion.{delete_leads}
-use Rattle.nc_calls.proofs.Putting.{Leads, leads_none}
+use Rattle.nc_calls.proofs.Deletion.{stopped, delete_leads}
+use Rattle.nc_calls.proofs.Entries.{events_of, create_is, delete_is}
+use Rattle.nc_calls.proofs.Parting.{Kept}
+use Rattle.nc_calls.proofs.Putting.{Leads, Reaches, Views, leads_none}
 use Rattle.nc_calls.proofs.RetiredSpans.{retired_insert, same_spans_retired}
 use Rattle.nc_calls.proofs.Woven.{ArePlain, weave, seated}
 
--- one put before plain events, or none
-plain_if : (b : Bool) (at byte : ℕ) (d : Details) (acts : List Act) → ArePlain (events_of d acts)
-    → ArePlain (events_of d (cond b (Put at byte ∷ acts) acts))
-plain_if true at byte d acts plain = plain
-plain_if false at byte d acts plain = plain
-
 -- puts before plain events
-pub plain_puts : (d : Details) (chosen : ℕ → Bool) (at : ℕ) (bytes : List ℕ) (more : List Act) → ArePlain (events_of d more)
-    → ArePlain (events_of d (puts_where chosen at bytes ++ more))
+pub plain_puts : (d : Details) (chosen : ℕ → Bool) (at : ℕ) (bytes : List ℕ) (more : List Event) → ArePlain more
+    → ArePlain (events_of d (puts_where chosen at bytes) ++ more)
 plain_puts d chosen at [] more plain = plain
-plain_puts d chosen at (byte ∷ rest) more plain =
-    subst (λ (z : List Act). ArePlain (events_of d z)) (sym (cond_append (chosen at) (Put at byte) (puts_where chosen (at + 1) rest) more))
-    (plain_if (chosen at) at byte d (puts_where chosen (at + 1) rest ++ more) (plain_puts d chosen (at + 1) rest more plain))
+plain_puts d chosen at (byte ∷ rest) more plain = go (chosen at) (plain_puts d chosen (at + 1) rest more plain)
   where
-    -- what comes after either of two lists
-    cond_append : (b : Bool) (x : Act) (xs ys : List Act) → cond b (x ∷ xs) xs ++ ys ≡ cond b (x ∷ (xs ++ ys)) (xs ++ ys)
-    cond_append true x xs ys = refl
-    cond_append false x xs ys = refl
+    go : (b : Bool) → ArePlain (events_of d (puts_where chosen (at + 1) rest) ++ more)
+        → ArePlain (events_of d (cond b (Put at byte ∷ puts_where chosen (at + 1) rest) (puts_where chosen (at + 1) rest)) ++ more)
+    go true p = p
+    go false p = p
 
 -- the events of a creation are plain
 create_plain : (v : MarkedChunk) → ArePlain (create_events v)
 create_plain v =
     let d : Details = record { marks = v.marks; base = 0; len = 0; seats = 0; spans = [] } in
-    plain_puts d is_inside v.base v.code (MarkSpan v.base (length v.code) ∷ puts_where is_start v.base v.code)
-    (subst (λ (z : List Act). ArePlain (events_of (record { marks = v.marks; base = 0; len = 0; seats = 0; spans = [] }) z))
-    (append-nil (puts_where is_start v.base v.code))
-    (plain_puts (record { marks = v.marks; base = 0; len = 0; seats = 0; spans = [] }) is_start v.base v.code [] tt))
+    let starts = events_of (record { marks = v.marks; base = 0; len = 0; seats = 0; spans = [] }) (puts_where is_start v.base v.code) in
+    subst ArePlain (sym (create_is v))
+    (plain_puts d is_inside v.base v.code
+    (Settles ∷ Marks v.base v.marks ∷ events_of (record { marks = v.marks; base = 0; len = 0; seats = 0; spans = [] })
+    (puts_where is_start v.base v.code))
+    (subst ArePlain (append-nil (events_of (record { marks = v.marks; base = 0; len = 0; seats = 0; spans = [] })
+    (puts_where is_start v.base v.code)))
+    (plain_puts (record { marks = v.marks; base = 0; len = 0; seats = 0; spans = [] }) is_start v.base v.code [] tt)))
 
 -- those of a deletion too
 delete_plain : (marks : List Mark) (base len : ℕ) → ArePlain (delete_events marks base len)
 delete_plain marks base len =
     let d : Details = record { marks = []; base = base; len = len; seats = 0; spans = [] } in
-    plain_puts d (is_marked_at marks) base (replicate len 244) (puts_where (is_unmarked_at marks) base (replicate len 244) ++ Bump ∷ [])
-    (plain_puts d (is_unmarked_at marks) base (replicate len 244) (Bump ∷ []) tt)
+    subst ArePlain (sym (delete_is marks base len))
+    (plain_puts d (is_marked_at marks) base (replicate len 244)
+    (Settles ∷ (events_of (record { marks = []; base = base; len = len; seats = 0; spans = [] })
+    (puts_where (is_unmarked_at marks) base (replicate len 244)) ++ Retires base len ∷ []))
+    (plain_puts d (is_unmarked_at marks) base (replicate len 244) (Retires base len ∷ []) tt))
+
+-- where a call's views keep what they have to, those of the world do, whoever sits in it
+pub views_kept : (w : World) (chunks : List Chunk) (seats : List Seat) → Views (Kept w.marked.marks chunks) w.marked.bytes w.earlier
+    → ViewsKeep (seated w seats) chunks
+views_kept w chunks seats views =
+    record { parted = λ view is. (views view is).parted; stopped = λ view is. (views view is).stopped }
+
+-- and back
+pub views_keep : (w : World) (chunks : List Chunk) → ViewsKeep w chunks → Views (Kept w.marked.marks chunks) w.marked.bytes w.earlier
+views_keep w chunks keep = λ view is. record { parted = keep.parted view is; stopped = keep.stopped view is }
 
 -- other seats make no other region
 stands_seated : (w : World) (seats : List Seat) (r : Region) → StandsFor w r → StandsFor (seated w seats) r
@@ -71,31 +83,43 @@ stands_seated w seats r s = record { marked = s.marked; keeper = s.keeper; spans
 
 -- events that are allowed, and lead to a world that stands for another region
 pub grown : (limit seats : ℕ) (before events : List Event) (old new : Region) (v : World) → HasLedTo limit seats before old
-    → Leads (world_after (first_world limit seats) before) events v → StandsFor v new
+    → Leads (world_after (first_world limit seats) before) events v → StandsFor v new → ViewsKeep v new.chunks
     → new.keeper.numbers.generation ≤ last_generation → HasLedTo limit seats (before ++ events) new
-grown limit seats before events old new v h l stands range =
+grown limit seats before events old new v h l stands views range =
+    let same = after_append (first_world limit seats) before events ∙ l.after_is in
     record {
       lawful = h.lawful;
       allowed = allowed_append (first_world limit seats) before events h.allowed l.allowed;
-      stands = subst (λ (w : World). StandsFor w new) (sym (after_append (first_world limit seats) before events ∙ l.after_is)) stands;
+      stands = subst (λ (w : World). StandsFor w new) (sym same) stands;
+      views = subst (λ (w : World). ViewsKeep w new.chunks) (sym same) views;
       in_range = range;
     }
 
 -- the same with threads between the writer's events
 pub grown_beside : (limit seats : ℕ) (before events own : List Event) (old new : Region) (v : World) → HasLedTo limit seats before old
-    → writers events ≡ own → ArePlain own → Leads (world_after (first_world limit seats) before) own v
+    → writers events ≡ own → ArePlain own
+    → Reaches (world_after (first_world limit seats) before) own v (Kept v.marked.marks new.chunks)
     → ThreadsMay (world_after (first_world limit seats) before) events → StandsFor v new
     → new.keeper.numbers.generation ≤ last_generation → HasLedTo limit seats (before ++ events) new
-grown_beside limit seats before events own old new v h is plain l threads stands range =
+grown_beside limit seats before events own old new v h is plain r threads stands range =
     let w = world_after (first_world limit seats) before in
+    let l = r.leads in
     let woven = weave w w.seats events (subst ArePlain (sym is) plain)
     (subst (λ (z : List Event). AreAllowed (world_after (first_world limit seats) before) z) (sym is) l.allowed) threads in
-    let after_is : world_after (world_after (first_world limit seats) before) events ≡ seated v woven.seats_after =
+    let after_is : world_after (world_after (first_world limit seats) before) events
+    ≡ seated (record v { earlier = r.earlier }) woven.seats_after =
     woven.after_is
     ∙ (ap (λ (z : List Event). seated (world_after (world_after (first_world limit seats) before) z) woven.seats_after) is
     ∙ ap (λ (x : World). seated x woven.seats_after) l.after_is) in
-    grown limit seats before events old new (seated v woven.seats_after) h (record { allowed = woven.allowed; after_is = after_is })
-    (stands_seated v woven.seats_after new stands) range
+    grown limit seats before events old new (seated (record v { earlier = r.earlier }) woven.seats_after) h
+    (record { allowed = woven.allowed; after_is = after_is })
+    (record { marked = stands.marked; keeper = stands.keeper; spans = stands.spans })
+    (views_kept (record v { earlier = r.earlier }) new.chunks woven.seats_after r.views) range
+
+-- what every world that has led to a region keeps
+pub kept_there : (limit seats : ℕ) (before : List Event) (r : Region) → HasLedTo limit seats before r
+    → Keeps (world_after (first_world limit seats) before)
+kept_there limit seats before r h = keeps_reached limit seats before h.lawful h.allowed
 
 -- threads by themselves, and a call that was refused
 pub goes_on : (limit seats : ℕ) (before events : List Event) (old new : Region) → HasLedTo limit seats before old
@@ -103,7 +127,13 @@ pub goes_on : (limit seats : ℕ) (before events : List Event) (old new : Region
     → ThreadsMay (world_after (first_world limit seats) before) events → HasLedTo limit seats (before ++ events) new
 goes_on limit seats before events old new h others is threads =
     let w = world_after (first_world limit seats) before in
-    grown_beside limit seats before events [] old new w h is tt (leads_none w) threads
+    let chunks : old.chunks ≡ new.chunks = sym (ap (λ (r : Region). r.chunks) others) in
+    grown_beside limit seats before events [] old new w h is tt
+    (record {
+      earlier = w.earlier;
+      leads = leads_none w;
+      views = views_keep w new.chunks (subst (ViewsKeep (world_after (first_world limit seats) before)) chunks h.views);
+    }) threads
     (subst (StandsFor w) (sym others)
     (record { marked = h.stands.marked; keeper = h.stands.keeper; spans = h.stands.spans }))
     (subst (λ (r : Region). r.keeper.numbers.generation ≤ last_generation) (sym others) h.in_range)
@@ -118,12 +148,17 @@ created limit seats before events old new v h region valid lim is own threads =
     let k = is.chunks.0 in
     let here = h.stands.marked in
     let keeper : new.keeper ≡ old.keeper = ap (λ (r : Region). r.keeper) is.others in
-    let l = create_leads w old.chunks v k (subst (λ (m : MarkedText). IsRegion m old.chunks) (sym here) region)
+    let l = create_leads w old.chunks v k (kept_there limit seats before old h) h.views
+    (subst (λ (m : MarkedText). IsRegion m old.chunks) (sym here) region)
     (λ span has. (h.stands.spans span).0 has) valid
     (lim ∙ ap (λ (m : MarkedText). limit_of m.bytes) (sym here)) is.chunks.1 in
+    let reached = subst (λ (z : List Chunk). Reaches (world_after (first_world limit seats) before) (create_events v)
+    (record (world_after (first_world limit seats) before) {
+      marked = with_chunk (world_after (first_world limit seats) before).marked v.base v.code v.marks;
+    }) (Kept (with_chunk (world_after (first_world limit seats) before).marked v.base v.code v.marks).marks z)) (sym is.chunks.2) l in
     let spans : retired_spans new.chunks ≡ retired_spans old.chunks =
     ap retired_spans is.chunks.2 ∙ retired_insert old.chunks k (live_chunk v) tt in
-    grown_beside limit seats before events (create_events v) old new _ h own (create_plain v) l threads
+    grown_beside limit seats before events (create_events v) old new _ h own (create_plain v) reached threads
     (record {
       marked =
           ap (λ (m : MarkedText). let x : MarkedText = record {
@@ -153,7 +188,8 @@ deleted limit seats before events old new base stamp h region is own threads =
     let here = h.stands.marked in
     let there = listed_there old.chunks is.index is.chunk is.listed in
     let live : IsLive is.chunk.state = subst IsLive (sym is.live) tt in
-    let l = delete_leads w old.chunks is.index is.chunk (subst (λ (m : MarkedText). IsRegion m old.chunks) (sym here) region)
+    let l = delete_leads w old.chunks is.index is.chunk (kept_there limit seats before old h) h.views
+    (subst (λ (m : MarkedText). IsRegion m old.chunks) (sym here) region)
     (λ span has. (h.stands.spans span).0 has) there.0 there.1 live in
     let own_is : writers events ≡ delete_events w.marked.marks is.chunk.base is.chunk.length =
     own ∙ (ap (λ (b : ℕ). delete_events old.marked.marks b is.chunk.length) (sym is.base_is)
@@ -164,7 +200,12 @@ deleted limit seats before events old new base stamp h region is own threads =
     is.chunks ∙ ap (λ (n : ℕ). set old.chunks is.index (record is.chunk { state = Retired n })) stamp_is in
     let keeper : new.keeper.numbers ≡ generation_raised old.keeper.numbers = ap (λ (x : KeeperState). x.numbers) is.keeper in
     grown_beside limit seats before events (delete_events w.marked.marks is.chunk.base is.chunk.length) old new _ h own_is
-    (delete_plain w.marked.marks is.chunk.base is.chunk.length) l threads
+    (delete_plain w.marked.marks is.chunk.base is.chunk.length)
+    (subst (λ (z : List Chunk). Reaches (world_after (first_world limit seats) before)
+    (delete_events (world_after (first_world limit seats) before).marked.marks is.chunk.base is.chunk.length)
+    (after (record (world_after (first_world limit seats) before) {
+      marked = stopped (world_after (first_world limit seats) before) is.chunk;
+    }) (Retires is.chunk.base is.chunk.length)) (Kept (world_after (first_world limit seats) before).marked.marks z)) (sym list) l) threads
     (record {
       marked =
           ap (λ (m : MarkedText). let x : MarkedText = record {

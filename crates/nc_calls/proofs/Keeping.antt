@@ -10,11 +10,15 @@ use Rattle.nc_schedule.specs.Events.{Event, world_after}
 use Rattle.nc_schedule.proofs.Offered.{after_append}
 use Rattle.nc_region.specs.declared.chunk.Chunk.{Chunk}
 use Rattle.nc_region.specs.Quiet.{retired_spans}
-use Rattle.nc_region.specs.Region.{Region}
+use Rattle.nc_region.specs.Region.{Region, IsRegion}
+use Rattle.nc_region.proofs.Offered.{region_of_new}
+use Rattle.nc_calls.specs.Views.{ViewsKeep}
 use Rattle.nc_calls.specs.Weaving.{writers, IsKeepers, ThreadsMay}
 use Rattle.nc_calls.specs.Calls.{HasLedTo}
 use Rattle.nc_calls.proofs.Histories.{grown}
-use Rattle.nc_calls.proofs.Looking.{KeeperOnly, keeper_woven}
+use Rattle.nc_calls.proofs.Looking.{KeeperOnly, keeper_woven, placed}
+use Rattle.nc_calls.proofs.Parting.{Kept, region_kept}
+use Rattle.nc_calls.proofs.Putting.{settled_views}
 
 -- the keeper by itself
 pub keeper : (limit seats : ℕ) (before events : List Event) (old new : Region) → HasLedTo limit seats before old
@@ -27,14 +31,24 @@ keeper limit seats before events old new h marked chunks own threads found range
     let a : KeeperOnly w w.keeper w.seats events = keeper_woven w events w.keeper w.seats own threads in
     let keeper_is : a.keeper_after ≡ new.keeper.numbers =
     sym (ap (λ (x : World). x.keeper) (after_append (first_world limit seats) before events ∙ a.after_is)) ∙ found in
-    grown limit seats before events old new _ h (record { allowed = a.allowed; after_is = a.after_is })
+    grown limit seats before events old new (placed w a.keeper_after a.seats_after) h
+    (record { allowed = a.allowed; after_is = a.after_is })
     (record {
       marked = h.stands.marked ∙ sym marked;
       keeper = keeper_is;
       spans = λ span. subst (λ (z : List Chunk). Contains w.retired span ↔ Contains (retired_spans z) span) (sym chunks)
           (h.stands.spans span);
     })
+    (subst (ViewsKeep (placed w a.keeper_after a.seats_after)) (sym chunks)
+    (record { parted = h.views.parted; stopped = h.views.stopped }))
     range
+
+-- the views of the first world
+first_views : (limit seats : ℕ) → IsLawfulLimit limit → ViewsKeep (first_world limit seats) []
+first_views limit seats lawful =
+    let region : IsRegion (unused_text limit) [] = region_of_new (unused_text limit) (limit, lawful, refl) in
+    let kept = settled_views (Kept (unused_text limit).marks []) (unused_text limit).bytes (region_kept (unused_text limit) [] region) in
+    record { parted = λ view v. (kept view v).parted; stopped = λ view v. (kept view v).stopped }
 
 -- A new region. It is the one over an unused keeper, after what this keeper did.
 pub begins : (limit seats : ℕ) (events : List Event) (r : Region) → IsLawfulLimit limit → r.marked ≡ unused_text limit → r.chunks ≡ []
@@ -54,6 +68,7 @@ begins limit seats events r lawful marked chunks own threads found range =
         spans = λ span. subst (λ (z : List Chunk). Contains none span ↔ Contains (retired_spans z) span) (sym chunks)
             ((λ x. x), (λ x. x));
       };
+      views = subst (ViewsKeep (first_world limit seats)) (sym chunks) (first_views limit seats lawful);
       in_range = omega arith;
     })
     refl refl own threads found range

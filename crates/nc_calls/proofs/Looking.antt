@@ -8,7 +8,8 @@ use Rattle.nc_gens.specs.declared.view.KeeperNumbers.{KeeperNumbers}
 use Rattle.nc_gens.specs.Rule.{left_word, last_generation}
 use Rattle.nc_gens.specs.Seen.{staying, least_or, least_number}
 use Rattle.nc_schedule.specs.World.{World, Seat, seat_at, HasPassed}
-use Rattle.nc_schedule.specs.Events.{Event, Steps, Enters, Exits, Takes, Sees, Stores, Leaves, Puts, Marks, Bumps, Retires, Frees, Looks}
+use Rattle.nc_schedule.specs.Events.{Event, Steps, Enters, Exits, Takes, Sees, Stores, Leaves, Puts, Settles, Marks, Bumps, Retires, Frees}
+use Rattle.nc_schedule.specs.Events.{Looks}
 use Rattle.nc_schedule.specs.Events.{IsAllowed, after, world_after, AreAllowed}
 use Rattle.nc_schedule.proofs.Offered.{Keeps}
 use Rattle.nc_calls.specs.Weaving.{is_writers, writers, IsKeepers, ThreadsMay}
@@ -112,6 +113,7 @@ keeper_woven w (Leaves k ∷ events) keeper seats own threads =
     keeper_more w keeper keeper seats _ (Leaves k) events (threads.0 refl) refl (keeper_woven w events keeper _ own threads.1)
 keeper_woven w (Puts at byte ∷ events) keeper seats own threads =
     absurd (All-head IsKeepers (Puts at byte) (writers events) own)
+keeper_woven w (Settles ∷ events) keeper seats own threads = absurd (All-head IsKeepers Settles (writers events) own)
 keeper_woven w (Marks at marks ∷ events) keeper seats own threads =
     absurd (All-head IsKeepers (Marks at marks) (writers events) own)
 keeper_woven w (Retires base len ∷ events) keeper seats own threads =

@@ -7,44 +7,45 @@ use Rattle.nc_gens.specs.Rule.{last_generation}
 use Rattle.nc_gens.specs.Seen.{KeeperState}
 use Rattle.nc_vet.specs.Chunk.{Piece}
 use Rattle.nc_schedule.specs.World.{first_world}
-use Rattle.nc_schedule.specs.Events.{Event, world_after}
-use Rattle.nc_region.specs.declared.acts.Act.{Act}
-use Rattle.nc_region.specs.declared.acts.Act.TheVariants.{Put}
+use Rattle.nc_schedule.specs.Events.{Event, Puts, Settles, world_after}
 use Rattle.nc_region.specs.declared.chunk.Chunk.{Chunk}
 use Rattle.nc_region.specs.Acts.{puts_where}
-use Rattle.nc_region.specs.Patch.{IsPatch, IsModified, AreBytesOf, any_place, stands_there, acts_of_instruction, acts_of_modify}
+use Rattle.nc_region.specs.Patch.{IsPatch, IsModified, AreBytesOf, any_place, stands_there}
 use Rattle.nc_region.specs.machinery.PatchSteps.{CanPatch}
 use Rattle.nc_region.specs.Quiet.{retired_spans}
 use Rattle.nc_region.specs.Region.{Region, IsRegion}
-use Rattle.nc_region.proofs.Offered.{same_code, lies}
+use Rattle.nc_region.proofs.Offered.{same_code, lies, changed}
 use Rattle.nc_calls.specs.Weaving.{writers, ThreadsMay}
-use Rattle.nc_calls.specs.Calls.{HasLedTo, no_details, events_of, modify_events}
-use Rattle.nc_calls.proofs.Histories.{grown_beside, plain_puts}
-use Rattle.nc_calls.proofs.Patching.{patch_leads}
+use Rattle.nc_calls.specs.Calls.{HasLedTo, no_details, modify_events}
+use Rattle.nc_calls.proofs.Creation.{start_good}
+use Rattle.nc_calls.proofs.Entries.{events_of, instruction_events, patch_events, modify_is}
+use Rattle.nc_calls.proofs.Histories.{grown_beside, plain_puts, kept_there}
+use Rattle.nc_calls.proofs.Parting.{Kept}
+use Rattle.nc_calls.proofs.Patching.{Sound, patch_leads}
+use Rattle.nc_calls.proofs.Putting.{Views, Reaches, reaches_as}
 use Rattle.nc_calls.proofs.Woven.{ArePlain}
 
--- the acts of one instruction are puts
-instruction_plain : (at : ℕ) (bytes : List ℕ) (more : List Act) → ArePlain (events_of no_details more)
-    → ArePlain (events_of no_details (acts_of_instruction at bytes ++ more))
+-- the events of one instruction are plain
+instruction_plain : (at : ℕ) (bytes : List ℕ) (more : List Event) → ArePlain more → ArePlain (instruction_events at bytes ++ more)
 instruction_plain at [] more plain = plain
 instruction_plain at (byte ∷ []) more plain = plain
 instruction_plain at (byte ∷ next ∷ rest) more plain =
-    subst (λ (z : List Act). ArePlain (events_of no_details z))
-    (sym (append_assoc (puts_where any_place (at + 1) (next ∷ rest)) (Put at byte ∷ []) more))
-    (plain_puts no_details any_place (at + 1) (next ∷ rest) (Put at byte ∷ more) plain)
+    subst ArePlain
+    (sym (append_assoc (events_of no_details (puts_where any_place (at + 1) (next ∷ rest))) (Settles ∷ Puts at byte ∷ []) more))
+    (plain_puts no_details any_place (at + 1) (next ∷ rest) (Settles ∷ Puts at byte ∷ more) plain)
 
 -- made or not
-turn_plain : (b : Bool) (at : ℕ) (bytes : List ℕ) (more : List Act) → ArePlain (events_of no_details more)
-    → ArePlain (events_of no_details (cond b [] (acts_of_instruction at bytes) ++ more))
+turn_plain : (b : Bool) (at : ℕ) (bytes : List ℕ) (more : List Event) → ArePlain more
+    → ArePlain (cond b [] (instruction_events at bytes) ++ more)
 turn_plain true at bytes more plain = plain
 turn_plain false at bytes more plain = instruction_plain at bytes more plain
 
--- so are those of a patch
-modify_plain : (text : List ℕ) (at : ℕ) (news : List Piece) → ArePlain (modify_events text at news)
-modify_plain text at [] = tt
-modify_plain text at (n ∷ ns) =
-    turn_plain (stands_there text at n.bytes) at n.bytes (acts_of_modify text (at + length n.bytes) ns)
-    (modify_plain text (at + length n.bytes) ns)
+-- those of a patch are plain
+patch_plain : (text : List ℕ) (at : ℕ) (news : List Piece) → ArePlain (patch_events text at news)
+patch_plain text at [] = tt
+patch_plain text at (n ∷ ns) =
+    turn_plain (stands_there text at n.bytes) at n.bytes (patch_events text (at + length n.bytes) ns)
+    (patch_plain text (at + length n.bytes) ns)
 
 -- a patch
 pub modified : (limit seats : ℕ) (before events : List Event) (old new : Region) (at : ℕ) (bytes : List ℕ) (news : List Piece)
@@ -59,13 +60,26 @@ modified limit seats before events old new at bytes news h region lawful b is ow
     let patch : CanPatch old.marked lawful.1.0 at bytes = record { run = lawful.1.2.0; pairs = lawful.1.2.1; targets = lawful.1.2.2 } in
     let l = lies old.marked lawful.1.0 region.whole lawful.1.2.0.holds in
     let ends : at + length bytes ≤ c.base + c.length = omega (arith, lawful.0.1, held.2.0, held.2.1, l.start, l.whole) in
+    let good = start_good w old.chunks (kept_there limit seats before old h) h.views in
+    let views : Views (λ view. Sound (world_after (first_world limit seats) before) old.chunks view)
+    (world_after (first_world limit seats) before).marked.bytes (world_after (first_world limit seats) before).earlier =
+    λ view v. record { good = good view v; stopped = h.views.stopped view v } in
     let leads = patch_leads news w old.chunks lawful.1.0 at bytes (subst (λ (m : MarkedText). IsRegion m old.chunks) (sym here) region)
     (λ span has. (h.stands.spans span).0 has)
-    held.0 held.1 held.2.0 (subst (λ (m : MarkedText). CanPatch m lawful.1.0 at bytes) (sym here) patch) b ends in
+    held.0 held.1 held.2.0 (subst (λ (m : MarkedText). CanPatch m lawful.1.0 at bytes) (sym here) patch) b ends views in
     let keeper : new.keeper ≡ old.keeper = ap (λ (r : Region). r.keeper) is.others in
     let chunks : new.chunks ≡ old.chunks = ap (λ (r : Region). r.chunks) is.others in
-    grown_beside limit seats before events (modify_events w.marked.bytes at news) old new _ h
-    (own ∙ ap (λ (m : MarkedText). modify_events m.bytes at news) (sym here)) (modify_plain w.marked.bytes at news) leads threads
+    grown_beside limit seats before events (patch_events w.marked.bytes at news) old new _ h
+    (own ∙ (ap (λ (m : MarkedText). modify_events m.bytes at news) (sym here) ∙ modify_is w.marked.bytes at news))
+    (patch_plain w.marked.bytes at news)
+    (subst (λ (z : List Chunk). Reaches (world_after (first_world limit seats) before)
+    (patch_events (world_after (first_world limit seats) before).marked.bytes at news)
+    (record (world_after (first_world limit seats) before) {
+      marked = changed (world_after (first_world limit seats) before).marked at bytes;
+    }) (Kept (world_after (first_world limit seats) before).marked.marks z)) (sym chunks)
+    (reaches_as w (patch_events w.marked.bytes at news) (record w { marked = changed w.marked at bytes })
+    (λ view. Sound w old.chunks view) (Kept w.marked.marks old.chunks)
+    (λ view s. record { parted = s.good.parted; stopped = s.stopped }) leads)) threads
     (record {
       marked =
           ap (λ (m : MarkedText). let x : MarkedText = record { bytes = with_span m.bytes (at - 65536) bytes; marks = m.marks } in x) here

@@ -1,134 +1,244 @@
 -- The acts of a patch are allowed events.
-use Rattle.std.proofs.Common.{◌≡◌, ℕ, ◌+◌, ◌-◌, ◌≤◌, Bool, true, false, cond, All, List, [], ◌∷◌, ◌++◌, length, set, take, drop, inl}
-use Rattle.std.proofs.Common.{inr, arith, refl, ◌∙◌, sym, ap, subst}
+use Rattle.std.proofs.Common.{◌≡◌, ◌≢◌, ℕ, ◌+◌, ◌-◌, ◌<◌, ◌≤◌, Bool, true, false, cond, List, [], ◌∷◌, ◌++◌, length, set}
+use Rattle.std.proofs.Common.{get_or, take, drop, Option, Some, inl, inr, arith, refl, ◌∙◌, sym, ap, subst, ⊎_elim}
 use Rattle.std.specs.Prelude.{Contains}
+use Rattle.std.proofs.lemmas.Bool.{cases_lt}
 use Rattle.std.proofs.lemmas.Bool.Decides.{eqb_tells}
 use Rattle.std.proofs.lemmas.List.{length-set, length-append, take-append-drop}
-use Rattle.std.proofs.lemmas.List.Elements.{All-weaker}
-use Rattle.nc_text.specs.Places.{byte_at}
+use Rattle.nc_decode.specs.declared.instruction.Instr.{Instr}
+use Rattle.nc_decode.specs.declared.instruction.Mark.{Mark}
+use Rattle.nc_decode.specs.declared.instruction.Mark.TheVariants.{Plain, After}
+use Rattle.nc_decode.specs.Transfers.{is_indirect}
+use Rattle.nc_text.specs.Places.{InRegion, byte_at, instruction_at}
+use Rattle.nc_text.specs.Machine.{State, state}
+use Rattle.nc_text.specs.Marks.{IsMarked, mark_at}
 use Rattle.nc_text.specs.MarkedText.{MarkedText, with_span}
-use Rattle.nc_vet.specs.Chunk.{Piece, code_of}
-use Rattle.nc_schedule.specs.World.{World, IsSteady}
-use Rattle.nc_schedule.specs.Events.{Event, Puts}
-use Rattle.nc_region.specs.declared.acts.Act.{Act}
-use Rattle.nc_region.specs.declared.acts.Act.TheVariants.{Put}
-use Rattle.nc_region.specs.declared.chunk.Chunk.{Chunk}
-use Rattle.nc_region.specs.Acts.{puts_where}
-use Rattle.nc_region.specs.Patch.{AreBytesOf, IsHeldBy, any_place, stands_there, acts_of_instruction, acts_of_modify}
-use Rattle.nc_region.specs.machinery.PatchSteps.{IsReplacing, IsInterim, CanPatch}
-use Rattle.nc_region.specs.Region.{IsLive, IsRegion}
-use Rattle.nc_region.proofs.Offered.{changed, changed_holds, changed_text, changes_replace, region_patched, patch_started}
-use Rattle.nc_region.proofs.Offered.{patching_from_put, patching_over, patch_final, single_span, span_behind, lies, turn, next_patch}
-use Rattle.nc_region.proofs.Offered.{spans_join, stands_same, same_acts}
+use Rattle.nc_text.proofs.Offered.{executes}
+use Rattle.nc_vet.specs.Chunk.{Piece, code_of, mark_of}
 use Rattle.nc_vet.proofs.Offered.{same_pieces}
-use Rattle.nc_calls.specs.Calls.{no_details, events_of}
-use Rattle.nc_calls.proofs.Creation.{events_append}
-use Rattle.nc_calls.proofs.Deletion.{live_beside}
-use Rattle.nc_calls.proofs.Putting.{with_bytes, Leads, leads_none, leads_one, leads_more, MayLay, lay_all}
-use Rattle.nc_calls.proofs.RetiredSpans.{AreSpansOf, all_spans, retired_each, region_steady}
-use Rattle.nc_calls.proofs.Steady.{text_of, StopsOrKeeps, IsBeside, spans_stop, steady_stops, steady_with_stops}
+use Rattle.nc_schedule.specs.Quiet.{Span}
+use Rattle.nc_schedule.specs.World.{World}
+use Rattle.nc_schedule.specs.Events.{Event, Puts, Settles}
+use Rattle.nc_schedule.proofs.Offered.{as_it_stands, only_as_it_stands}
+use Rattle.nc_region.specs.declared.chunk.Chunk.{Chunk}
+use Rattle.nc_region.specs.Acts.{is_mark, puts_where}
+use Rattle.nc_region.specs.Patch.{AreBytesOf, IsHeldBy, any_place, stands_there}
+use Rattle.nc_region.specs.machinery.PatchSteps.{Begins, IsReplacing, CanPatch}
+use Rattle.nc_region.specs.Region.{IsLive, IsInChunk, IsRegion}
+use Rattle.nc_region.proofs.Offered.{Changes, changed, changed_holds, changed_text, changes_replace, region_patched}
+use Rattle.nc_region.proofs.Offered.{patch_final, single_span, span_behind, lies, turn, next_patch, spans_join, stands_same, same_stands}
+use Rattle.nc_region.proofs.Offered.{stands_with, some_same, each_get}
+use Rattle.nc_calls.specs.Calls.{no_details}
+use Rattle.nc_calls.specs.Views.{IsFree, AreStopped}
+use Rattle.nc_calls.proofs.Deletion.{marked_state}
+use Rattle.nc_calls.proofs.Entries.{events_of, instruction_events, patch_events}
+use Rattle.nc_calls.proofs.Good.{text_of, Good, marked_inside, stop_ends}
+use Rattle.nc_calls.proofs.OnePut.{good_put_marked, good_put_unread, byte_beside, byte_there, not_unmarked}
+use Rattle.nc_calls.proofs.Parting.{region_good, region_stopped}
+use Rattle.nc_calls.proofs.Putting.{with_text, settled, Views, Leads, Reaches, leads_none, leads_more, put_leads, settling_leads, settled_views, MayLay, lay_all}
+use Rattle.nc_calls.proofs.RetiredSpans.{AreSpansOf}
 
--- an instruction is replaced in a world
-record Replaces (w : World) (at : ℕ) (new : List ℕ) : Type 0 where
+-- what every view keeps from one instruction to the next
+pub record SoundBy (marks : List Mark) (spans : List Span) (chunks : List Chunk) (view : List ℕ) : Type 0 where
+  pub good : Good view marks spans
+  pub stopped : AreStopped view marks chunks
+
+-- by a world's marks and retired spans
+abbrev pub Sound : World → List Chunk → List ℕ → Type 0
+Sound w chunks view = SoundBy w.marked.marks w.retired chunks view
+
+-- An instruction is replaced in a world: at a marked place of a live chunk, by one of the same length that ends in it.
+record Replaces (w : World) (chunks : List Chunk) (at : ℕ) (new : List ℕ) : Type 0 where
   replacing : IsReplacing w.marked at new
-  final : IsSteady (changed w.marked at new) w.retired
-  beside : All (IsBeside at (length new)) w.retired
+  final : Sound w chunks (changed w.marked at new).bytes
+  masked : Option ℕ
+  marked : IsMarked w.marked.marks (state at masked)
+  len : (i : Instr) → instruction_at (changed w.marked at new).bytes at ≡ Some i → i.len ≡ length new
+  held : (place : ℕ) → IsFree chunks place → at ≤ place → place < at + length new → ⊥
 
--- while it is replaced: at each marked place a stop, or what stands there finally
-interim_each : (marked : MarkedText) (at : ℕ) (new now : List ℕ) → IsReplacing marked at new
-    → IsInterim (with_span marked.bytes (at - 65536) new) now at (length new)
-    → StopsOrKeeps (with_span marked.bytes (at - 65536) new) now marked.marks
-interim_each marked at new now patch p = λ s m.
-    elim (eqb_tells s.place at) [
-      | inl here ↦ inl (ap (byte_at now) here.1 ∙ p.stop)
-      | inr other ↦ inr (λ i is fits k lt.
-          elim (patch.apart s i m other.1 is) [
-            | inl l ↦ p.before (s.place + k) (omega (arith, m.0)) (omega (arith, l, lt))
-            | inr b ↦ p.behind (s.place + k) (omega (arith, b))
-          ])
-    ]
+-- a put in the span leaves the stops outside of live chunks
+still_stopped : (w : World) (chunks : List Chunk) (at : ℕ) (new view : List ℕ) (here byte : ℕ) → Replaces w chunks at new
+    → at ≤ here → here < at + length new → AreStopped view w.marked.marks chunks
+    → AreStopped (set view (here - 65536) byte) w.marked.marks chunks
+still_stopped w chunks at new view here byte r low high stopped = λ now m free.
+    byte_beside view here now.place byte (omega (arith, low, r.replacing.low)) m.0
+    (λ same. r.held now.place free (omega (arith, same, low)) (omega (arith, same, high)))
+    ∙ stopped now m free
 
--- so the text is steady
-interim_steady : (w : World) (at : ℕ) (new now : List ℕ) → Replaces w at new
-    → IsInterim (with_span w.marked.bytes (at - 65536) new) now at (length new) → IsSteady (text_of now w.marked.marks) w.retired
-interim_steady w at new now r p =
-    steady_with_stops (with_span w.marked.bytes (at - 65536) new) now w.marked.marks w.retired r.final p.as_long
-    (interim_each w.marked at new now r.replacing p)
-    (spans_stop (with_span w.marked.bytes (at - 65536) new) now at (length new) w.retired r.beside
-    (steady_stops (changed w.marked at new) w.retired r.final)
-    (λ k low out. elim out [ inl l ↦ p.before k low l | inr b ↦ p.behind k b ]))
+-- a stop may be put at the first byte
+stop_put : (w : World) (chunks : List Chunk) (at : ℕ) (new view : List ℕ) → Replaces w chunks at new → InRegion view at
+    → Sound w chunks view → Sound w chunks (set view (at - 65536) 244)
+stop_put w chunks at new view r inside s =
+    record {
+      good = good_put_marked view w.marked.marks w.retired (state at r.masked) 244 s.good inside r.marked (inl refl);
+      stopped = still_stopped w chunks at new view at 244 r (omega arith) (omega (arith, r.replacing.some)) s.stopped;
+    }
+
+-- ---- one byte
+
+-- the byte may be put
+byte_put : (w : World) (chunks : List Chunk) (at byte : ℕ) (view : List ℕ) → Replaces w chunks at (byte ∷ []) → InRegion view at
+    → length view ≡ length (changed w.marked at (byte ∷ [])).bytes → byte_at (changed w.marked at (byte ∷ [])).bytes at ≡ byte
+    → Sound w chunks view → Sound w chunks (set view (at - 65536) byte)
+byte_put w chunks at byte view r inside long there s =
+    record {
+      good = good_put_marked view w.marked.marks w.retired (state at r.masked) byte s.good inside r.marked (inr (record {
+        old = (changed w.marked at (byte ∷ [])).bytes;
+        good = r.final.good;
+        as_long = length-set view (at - 65536) byte ∙ long;
+        kept = λ i is fits k lt.
+            let first : at + k ≡ at = omega (arith, r.len i is, lt) in
+            subst (λ (p : ℕ). byte_at (set view (at - 65536) byte) p ≡ byte_at (changed w.marked at (byte ∷ [])).bytes p) (sym first)
+            (byte_there view at byte inside ∙ sym there);
+      }));
+      stopped = still_stopped w chunks at (byte ∷ []) view at byte r (omega arith) (omega (arith, r.replacing.some)) s.stopped;
+    }
 
 -- one byte replaced
-single_leads : (w : World) (at byte : ℕ) → Replaces w at (byte ∷ [])
-    → Leads w (Puts at byte ∷ []) (with_bytes w (with_span w.marked.bytes (at - 65536) (byte ∷ [])))
-single_leads w at byte r =
+single_leads : (w : World) (chunks : List Chunk) (at byte : ℕ) → Replaces w chunks at (byte ∷ [])
+    → Views (λ view. Sound w chunks view) w.marked.bytes w.earlier
+    → Reaches w (Puts at byte ∷ []) (record w { marked = changed w.marked at (byte ∷ []) }) (λ view. Sound w chunks view)
+single_leads w chunks at byte r views =
+    let inside : InRegion w.marked.bytes at = (r.replacing.low, omega (arith, r.replacing.high)) in
     let same : set w.marked.bytes (at - 65536) byte ≡ with_span w.marked.bytes (at - 65536) (byte ∷ []) =
     single_span w.marked.bytes at (byte ∷ []) r.replacing.low r.replacing.high refl in
-    let l = leads_one w (Puts at byte) (
-      (r.replacing.low, omega (arith, r.replacing.high)),
-      subst (λ (z : List ℕ). IsSteady (text_of z w.marked.marks) w.retired)
-          (sym same) r.final,
-    ) in
-    subst (λ (z : List ℕ). Leads w (Puts at byte ∷ []) (with_bytes w z)) same l
+    let there : byte_at (changed w.marked at (byte ∷ [])).bytes at ≡ byte =
+    ap (λ (z : List ℕ). byte_at z at) (sym same) ∙ byte_there w.marked.bytes at byte inside in
+    let long : length (changed w.marked at (byte ∷ [])).bytes ≡ length w.marked.bytes =
+    ap (λ (z : List ℕ). length z) (sym same) ∙ length-set w.marked.bytes (at - 65536) byte in
+    let p = put_leads w (λ view. Sound w chunks view) w.marked.bytes w.earlier at byte inside (λ view s. s.good) views
+    (λ view is s. byte_put w chunks at byte view r (inside.0, omega (arith, inside.1, is.as_long)) (is.as_long ∙ sym long) there s) in
+    let is : p.bytes ≡ (changed w.marked at (byte ∷ [])).bytes = p.has ∙ same in
+    record {
+      earlier = p.earlier;
+      leads = subst (λ (z : List ℕ). Leads w (Puts at byte ∷ []) (with_text w z p.earlier)) is p.leads;
+      views = subst (λ (z : List ℕ). Views (λ view. Sound w chunks view) z p.earlier) is p.views;
+    }
 
--- the further bytes may be put while a stop stands at the first
-may_lay_rest : (w : World) (at first : ℕ) (rest : List ℕ) → Replaces w at (first ∷ rest)
-    → MayLay (with_bytes w (set w.marked.bytes (at - 65536) 244)) any_place (at + 1) rest (set w.marked.bytes (at - 65536) 244)
-may_lay_rest w at first rest r =
-    let s = patch_started w.marked at (first ∷ rest) r.replacing in
+-- ---- several bytes
+
+-- what every view keeps while the further bytes are put
+record Open (w : World) (chunks : List Chunk) (at : ℕ) (view : List ℕ) : Type 0 where
+  sound : Sound w chunks view
+  stop : byte_at view at ≡ 244
+
+-- no marked place lies inside the instruction
+none_inside : (w : World) (chunks : List Chunk) (at : ℕ) (new : List ℕ) → Replaces w chunks at new → (now : State)
+    → IsMarked w.marked.marks now → at < now.place → now.place < at + length new → ⊥
+none_inside w chunks at new r now m low high =
+    let e = executes (changed w.marked at new).bytes now m.0 (r.final.good.closed.safe now m) in
+    elim (r.replacing.apart now e.i m (λ same. omega (arith, same, low)) e.is) [
+      | inl l ↦ omega (arith, l, low)
+      | inr b ↦ omega (arith, b, high)
+    ]
+
+-- no instruction has one of its further bytes
+open_clear : (w : World) (chunks : List Chunk) (at : ℕ) (new view : List ℕ) (here : ℕ) → Replaces w chunks at new
+    → Open w chunks at view → at < here → here < at + length new → (now : State) (i : Instr) (k : ℕ) → IsMarked w.marked.marks now
+    → instruction_at view now.place ≡ Some i → k < i.len → now.place + k ≢ here
+open_clear w chunks at new view here r o low high now i k m is lt same =
+    elim (eqb_tells now.place at) [
+      | inl there ↦
+          let inside = marked_inside view view w.marked.marks now o.sound.good.closed refl m in
+          stop_ends view now.place k i inside (ap (byte_at view) there.1 ∙ o.stop) is (omega (arith, there.1, same, low)) lt
+      | inr other ↦
+          ⊎_elim
+          (λ (before : now.place < at).
+          let reach : now.place + (at - now.place) ≡ at = omega (arith, before) in
+          not_unmarked w.marked.marks (state at r.masked) r.marked
+          (subst (λ (p : ℕ). mark_at w.marked.marks p ≡ Mark.Unmarked) reach
+          (o.sound.good.parted now i (at - now.place) m is (omega (arith, before)) (omega (arith, before, same, low, lt)))))
+          (λ (from : at ≤ now.place). none_inside w chunks at new r now m (omega (arith, from, other.1)) (omega (arith, same, high)))
+          (cases_lt now.place at)
+    ]
+
+-- the further bytes may be put
+may_lay_rest : (w : World) (chunks : List Chunk) (at first : ℕ) (rest : List ℕ) → Replaces w chunks at (first ∷ rest)
+    → MayLay w any_place (at + 1) rest (Open w chunks at)
+may_lay_rest w chunks at first rest r =
     record {
       low = omega (arith, r.replacing.low);
-      fits = omega (arith, r.replacing.high, length-set w.marked.bytes (at - 65536) 244);
-      good = λ now count le has.
-          interim_steady w at (first ∷ rest) now r
-          (patching_over w.marked at (first ∷ rest) now (1 + length rest) (omega arith) r.replacing
-          (patching_from_put (set w.marked.bytes (at - 65536) 244) now at rest count (length rest) r.replacing.low le s.stop has));
+      good = λ view o. o.sound.good;
+      put = λ view count lt chosen inside o. record {
+        sound = record {
+          good = good_put_unread view w.marked.marks w.retired (at + 1 + count) (get_or rest count 0) o.sound.good inside.0
+              (open_clear w chunks at (first ∷ rest) view (at + 1 + count) r o (omega arith) (omega (arith, lt)));
+          stopped = still_stopped w chunks at (first ∷ rest) view (at + 1 + count) (get_or rest count 0) r (omega arith)
+              (omega (arith, lt)) o.sound.stopped;
+        };
+        stop = byte_beside view (at + 1 + count) at (get_or rest count 0) inside.0 r.replacing.low (λ same. omega (arith, same)) ∙ o.stop;
+      };
     }
 
 -- several bytes replaced
-longer_leads : (w : World) (at first : ℕ) (rest : List ℕ) → Replaces w at (first ∷ rest)
-    → Leads w (events_of no_details (Put at 244 ∷ (puts_where any_place (at + 1) rest ++ Put at first ∷ [])))
-    (with_bytes w (with_span w.marked.bytes (at - 65536) (first ∷ rest)))
-longer_leads w at first rest r =
-    let text0 = set w.marked.bytes (at - 65536) 244 in
-    let s = patch_started w.marked at (first ∷ rest) r.replacing in
-    let start = leads_one w (Puts at 244)
-    ((r.replacing.low, omega (arith, r.replacing.high)), interim_steady w at (first ∷ rest) (set w.marked.bytes (at - 65536) 244) r s) in
-    let a = lay_all (with_bytes w (set w.marked.bytes (at - 65536) 244)) no_details any_place (at + 1) rest
-    (may_lay_rest w at first rest r) in
-    let same : set a.bytes (at - 65536) first ≡ with_span w.marked.bytes (at - 65536) (first ∷ rest) =
+longer_leads : (w : World) (chunks : List Chunk) (at first : ℕ) (rest : List ℕ) → Replaces w chunks at (first ∷ rest)
+    → Views (λ view. Sound w chunks view) w.marked.bytes w.earlier
+    → Reaches w (Puts at 244 ∷ Settles ∷ (events_of no_details (puts_where any_place (at + 1) rest) ++ (Settles ∷ Puts at first ∷ [])))
+    (record w { marked = changed w.marked at (first ∷ rest) }) (λ view. Sound w chunks view)
+longer_leads w chunks at first rest r views =
+    let inside : InRegion w.marked.bytes at = (r.replacing.low, omega (arith, r.replacing.high)) in
+    let text0 : List ℕ = set w.marked.bytes (at - 65536) 244 in
+    let long0 : length (set w.marked.bytes (at - 65536) 244) ≡ length w.marked.bytes = length-set w.marked.bytes (at - 65536) 244 in
+    let p = put_leads w (λ view. Sound w chunks view) w.marked.bytes w.earlier at 244 inside (λ view s. s.good) views
+    (λ view is s. stop_put w chunks at (first ∷ rest) view r (inside.0, omega (arith, inside.1, is.as_long)) s) in
+    let started : Leads w (Puts at 244 ∷ []) (with_text w (set w.marked.bytes (at - 65536) 244) p.earlier) =
+    subst (λ (z : List ℕ). Leads w (Puts at 244 ∷ []) (with_text w z p.earlier)) p.has p.leads in
+    let opened : Open w chunks at (set w.marked.bytes (at - 65536) 244) = record {
+      sound = stop_put w chunks at (first ∷ rest) w.marked.bytes r inside (views w.marked.bytes (as_it_stands w.marked.bytes w.earlier));
+      stop = byte_there w.marked.bytes at 244 inside;
+    } in
+    let a = lay_all w no_details any_place (at + 1) rest (set w.marked.bytes (at - 65536) 244) [] (Open w chunks at)
+    (may_lay_rest w chunks at first rest r) (omega (arith, r.replacing.high, long0))
+    (settled_views (Open w chunks at) (set w.marked.bytes (at - 65536) 244) opened) in
+    let long : length a.bytes ≡ length w.marked.bytes = a.has.as_long ∙ long0 in
+    let same : set a.bytes (at - 65536) first ≡ (changed w.marked at (first ∷ rest)).bytes =
     patch_final w.marked at first rest a.bytes r.replacing a.has in
-    let long : length a.bytes ≡ length w.marked.bytes = a.has.as_long ∙ length-set w.marked.bytes (at - 65536) 244 in
-    let end : Leads (with_bytes w a.bytes) (Puts at first ∷ []) (with_bytes w (with_span w.marked.bytes (at - 65536) (first ∷ rest))) =
-    subst (λ (z : List ℕ). Leads (with_bytes w a.bytes) (Puts at first ∷ []) (with_bytes w z)) same
-    (leads_one (with_bytes w a.bytes) (Puts at first) (
-      (r.replacing.low, omega (arith, r.replacing.high, long)),
-      subst (λ (z : List ℕ). IsSteady (text_of z w.marked.marks) w.retired)
-          (sym same) r.final,
-    )) in
-    leads_more w (with_bytes w (set w.marked.bytes (at - 65536) 244))
-    (with_bytes w (with_span w.marked.bytes (at - 65536) (first ∷ rest))) (Puts at 244 ∷ [])
-    (events_of no_details (puts_where any_place (at + 1) rest ++ Put at first ∷ [])) start
-    (subst (λ (z : List Event). Leads (with_bytes w (set w.marked.bytes (at - 65536) 244)) z
-    (with_bytes w (with_span w.marked.bytes (at - 65536) (first ∷ rest)))) (sym
-    (events_append no_details (puts_where any_place (at + 1) rest) (Put at first ∷ [])))
-    (leads_more (with_bytes w (set w.marked.bytes (at - 65536) 244)) (with_bytes w a.bytes)
-    (with_bytes w (with_span w.marked.bytes (at - 65536) (first ∷ rest))) _ (Puts at first ∷ []) a.leads end))
+    let here = a.views a.bytes (as_it_stands a.bytes a.earlier) in
+    let b = put_leads w (λ view. Sound w chunks view) a.bytes [] at first (inside.0, omega (arith, inside.1, long)) (λ view s. s.good)
+    (settled_views (λ view. Sound w chunks view) a.bytes here.sound)
+    (λ view is s. subst (λ (z : List ℕ). Sound w chunks (set z (at - 65536) first)) (sym (only_as_it_stands a.bytes view is))
+    (subst (λ view. Sound w chunks view) (sym same) r.final)) in
+    let is : b.bytes ≡ (changed w.marked at (first ∷ rest)).bytes = b.has ∙ same in
+    let end : World = record w { marked = changed w.marked at (first ∷ rest); earlier = b.earlier } in
+    let last : Leads (settled w a.bytes) (Puts at first ∷ [])
+    (record w { marked = changed w.marked at (first ∷ rest); earlier = b.earlier }) =
+    subst (λ (z : List ℕ). Leads (settled w a.bytes) (Puts at first ∷ []) (with_text w z b.earlier)) is b.leads in
+    record {
+      earlier = b.earlier;
+      leads =
+          leads_more w (with_text w (set w.marked.bytes (at - 65536) 244) p.earlier)
+          (record w { marked = changed w.marked at (first ∷ rest); earlier = b.earlier }) (Puts at 244 ∷ []) _ started
+          (leads_more (with_text w (set w.marked.bytes (at - 65536) 244) p.earlier) (settled w (set w.marked.bytes (at - 65536) 244))
+          (record w { marked = changed w.marked at (first ∷ rest); earlier = b.earlier }) (Settles ∷ []) _
+          (settling_leads w (set w.marked.bytes (at - 65536) 244) p.earlier)
+          (leads_more (settled w (set w.marked.bytes (at - 65536) 244)) (with_text w a.bytes a.earlier)
+          (record w { marked = changed w.marked at (first ∷ rest); earlier = b.earlier }) _ (Settles ∷ Puts at first ∷ []) a.leads
+          (leads_more (with_text w a.bytes a.earlier) (settled w a.bytes)
+          (record w { marked = changed w.marked at (first ∷ rest); earlier = b.earlier }) (Settles ∷ []) (Puts at first ∷ [])
+          (settling_leads w a.bytes a.earlier) last)));
+      views = subst (λ (z : List ℕ). Views (λ view. Sound w chunks view) z b.earlier) is b.views;
+    }
 
 -- one instruction replaced
-instruction_leads : (w : World) (at : ℕ) (new : List ℕ) → Replaces w at new
-    → Leads w (events_of no_details (acts_of_instruction at new)) (with_bytes w (with_span w.marked.bytes (at - 65536) new))
-instruction_leads w at [] r = absurd (omega (arith, r.replacing.some))
-instruction_leads w at (byte ∷ []) r = single_leads w at byte r
-instruction_leads w at (byte ∷ next ∷ rest) r = longer_leads w at byte (next ∷ rest) r
+instruction_leads : (w : World) (chunks : List Chunk) (at : ℕ) (new : List ℕ) → Replaces w chunks at new
+    → Views (λ view. Sound w chunks view) w.marked.bytes w.earlier
+    → Reaches w (instruction_events at new) (record w { marked = changed w.marked at new }) (λ view. Sound w chunks view)
+instruction_leads w chunks at [] r views = absurd (omega (arith, r.replacing.some))
+instruction_leads w chunks at (byte ∷ []) r views = single_leads w chunks at byte r views
+instruction_leads w chunks at (byte ∷ next ∷ rest) r views = longer_leads w chunks at byte (next ∷ rest) r views
 
 -- or left as it stands
-turn_leads : (w : World) (at : ℕ) (new : List ℕ) → Replaces w at new → (b : Bool) → stands_there w.marked.bytes at new ≡ b
-    → Leads w (events_of no_details (cond b [] (acts_of_instruction at new))) (with_bytes w (with_span w.marked.bytes (at - 65536) new))
-turn_leads w at new r true is =
-    subst (λ (z : List ℕ). Leads w [] (with_bytes w z)) (stands_same w.marked.bytes at new r.replacing.low r.replacing.high is)
-    (leads_none w)
-turn_leads w at new r false is = instruction_leads w at new r
+turn_leads : (w : World) (chunks : List Chunk) (at : ℕ) (new : List ℕ) → Replaces w chunks at new
+    → Views (λ view. Sound w chunks view) w.marked.bytes w.earlier → (b : Bool) → stands_there w.marked.bytes at new ≡ b
+    → Reaches w (cond b [] (instruction_events at new)) (record w { marked = changed w.marked at new }) (λ view. Sound w chunks view)
+turn_leads w chunks at new r views true is =
+    let same : w.marked.bytes ≡ (changed w.marked at new).bytes = stands_same w.marked.bytes at new r.replacing.low r.replacing.high is in
+    record {
+      earlier = w.earlier;
+      leads = subst (λ (z : List ℕ). Leads w [] (with_text w z w.earlier)) same (leads_none w);
+      views = subst (λ (z : List ℕ). Views (λ view. Sound w chunks view) z w.earlier) same views;
+    }
+turn_leads w chunks at new r views false is = instruction_leads w chunks at new r views
 
 -- bytes are instructions in one way
 same_news : (bytes : List ℕ) (xs ys : List Piece) → AreBytesOf bytes xs → AreBytesOf bytes ys → xs ≡ ys
@@ -140,69 +250,158 @@ span_none xs start =
     let e : start + 0 ≡ start = omega arith in
     ap (λ (n : ℕ). take start xs ++ drop n xs) e ∙ take-append-drop start xs
 
--- the instructions of a patch, one after the other
-pub patch_leads : (news : List Piece) (w : World) (chunks : List Chunk) (c : Chunk) (at : ℕ) (new : List ℕ) → IsRegion w.marked chunks
-    → AreSpansOf w.retired chunks → Contains chunks c → IsLive c.state → c.base ≤ at → CanPatch w.marked c at new → AreBytesOf new news
-    → at + length new ≤ c.base + c.length
-    → Leads w (events_of no_details (acts_of_modify w.marked.bytes at news)) (with_bytes w (with_span w.marked.bytes (at - 65536) new))
-patch_leads [] w chunks c at new region are has live from patch b ends =
-    subst (λ (z : List ℕ). Leads w [] (with_bytes w z))
-    (sym (ap (λ (z : List ℕ). with_span w.marked.bytes (at - 65536) z) b.parts ∙ span_none w.marked.bytes (at - 65536))) (leads_none w)
-patch_leads (n ∷ ns) w chunks c at new region are has live from patch b ends =
-    let t = turn w.marked c at new patch n ns region.whole (same_news new patch.run.news (n ∷ ns) patch.run.bytes b) in
-    let rest = code_of ns in
+-- the mark of an instruction is a mark
+mark_is_mark : (i : Instr) → is_mark (mark_of i) ≡ true
+mark_is_mark i = go (is_indirect i.flow)
+  where
+    go : (b : Bool) → is_mark (cond b (After i.reg) Plain) ≡ true
+    go true = refl
+    go false = refl
+
+-- the new instruction stands at a marked place of the changed text
+new_stands : (marked : MarkedText) (c : Chunk) (at : ℕ) (before after : List Piece) (o n : Piece)
+    → (x : Changes marked c at before after o n)
+    → ((masked : Option ℕ) × IsMarked marked.marks (state at masked))
+    × ((i : Instr) → instruction_at (changed marked at n.bytes).bytes at ≡ Some i → i.len ≡ length n.bytes)
+new_stands marked c at before after o n x =
+    let l = lies marked c x.whole x.holds in
+    let begins : Begins (changed marked at n.bytes) c at =
+    record { holds = changed_holds marked c at before after o n x; before = before; rest = n ∷ after; parts = refl; here = x.here } in
+    let s = stands_with (changed marked at n.bytes) c at (changed_text marked c at before after o n x) begins n after refl in
+    let piece : s.piece ≡ n = first_of s.piece n s.rest after (sym s.is) in
+    let marked_here : is_mark (mark_at marked.marks at) ≡ true = ap is_mark s.mark ∙ mark_is_mark s.piece.instr in
+    let m = marked_state (mark_at marked.marks at) marked_here in (
+      (m.0, (omega (arith, l.low, x.here), m.1)),
+      λ i is.
+          ap (λ (j : Instr). j.len)
+          (some_same (instruction_at (changed marked at n.bytes).bytes at) i s.piece.instr is s.instr)
+          ∙ (s.len ∙ ap (λ (p : Piece). length p.bytes) piece),
+    )
+  where
+    first_of : (p q : Piece) (xs ys : List Piece) → p ∷ xs ≡ q ∷ ys → p ≡ q
+    first_of p q xs ys e = cc
+
+-- what is put from a place on is the same over a text that agrees from there on
+same_events : (a b : List ℕ) (at : ℕ) (ns : List Piece) → ((k : ℕ) → at ≤ k → byte_at a k ≡ byte_at b k)
+    → patch_events a at ns ≡ patch_events b at ns
+same_events a b at [] h = refl
+same_events a b at (n ∷ ns) h =
+    ap (λ (z : Bool). cond z [] (instruction_events at n.bytes) ++ patch_events a (at + length n.bytes) ns)
+    (same_stands a b at n.bytes h)
+    ∙ ap (λ (z : List Event). cond (stands_there b at n.bytes) [] (instruction_events at n.bytes) ++ z)
+    (same_events a b (at + length n.bytes) ns (λ k le. h k (omega (arith, le))))
+
+-- a place of a live chunk isn't free
+held_place : (chunks : List Chunk) (c : Chunk) (place : ℕ) → Contains chunks c → IsLive c.state → IsInChunk c place
+    → IsFree chunks place → ⊥
+held_place chunks c place has live inside free =
+    subst (λ (d : Chunk). IsLive d.state → IsInChunk d place → ⊥) has.2
+    (each_get (λ (d : Chunk). IsLive d.state → IsInChunk d place → ⊥) chunks has.0 c has.1 free) live inside
+
+-- what is known of the first instruction of a patch, and of what is left of it
+record Starts (marked : MarkedText) (chunks : List Chunk) (c : Chunk) (at : ℕ) (new : List ℕ) (n : Piece) (ns : List Piece) : Type 0 where
+  replacing : IsReplacing marked at n.bytes
+  region : IsRegion (changed marked at n.bytes) chunks
+  here : ((masked : Option ℕ) × IsMarked marked.marks (state at masked))
+      × ((i : Instr) → instruction_at (changed marked at n.bytes).bytes at ≡ Some i → i.len ≡ length n.bytes)
+  bytes_rest : AreBytesOf (code_of ns) ns
+  patch_rest : CanPatch (changed marked at n.bytes) c (at + length n.bytes) (code_of ns)
+  long : length new ≡ length n.bytes + length (code_of ns)
+  text : with_span (with_span marked.bytes (at - 65536) n.bytes) (at + length n.bytes - 65536) (code_of ns)
+      ≡ with_span marked.bytes (at - 65536) new
+
+-- a patch by some instructions starts with the first
+starts : (marked : MarkedText) (chunks : List Chunk) (c : Chunk) (at : ℕ) (new : List ℕ) (n : Piece) (ns : List Piece)
+    → IsRegion marked chunks → Contains chunks c → IsLive c.state → c.base ≤ at → CanPatch marked c at new → AreBytesOf new (n ∷ ns)
+    → at + length new ≤ c.base + c.length → Starts marked chunks c at new n ns
+starts marked chunks c at new n ns region has live from patch b ends =
+    let t = turn marked c at new patch n ns region.whole (same_news new patch.run.news (n ∷ ns) patch.run.bytes b) in
     let bytes_rest : AreBytesOf (code_of ns) ns =
     record { spelled = λ before behind p is. b.spelled (n ∷ before) behind p (ap (λ (z : List Piece). n ∷ z) is); parts = refl } in
-    let np = next_patch w.marked c at new patch n ns t (length n.bytes) (code_of ns) refl bytes_rest in
-    let rep = changes_replace w.marked c at patch.run.before (t.os ++ patch.run.after) t.o n t.change in
-    let l = lies w.marked c region.whole patch.run.holds in
+    let rep = changes_replace marked c at patch.run.before (t.os ++ patch.run.after) t.o n t.change in
+    let l = lies marked c region.whole patch.run.holds in
     let long : length new ≡ length n.bytes + length (code_of ns) =
     ap (λ (z : List ℕ). length z) b.parts ∙ length-append n.bytes (code_of ns) in
     let held : IsHeldBy chunks at c = (has, live, (from, omega (arith, ends, long, rep.some))) in
-    let after_region : IsRegion (changed w.marked at n.bytes) chunks =
-    region_patched w.marked (changed w.marked at n.bytes) chunks c at n.bytes
-    (record {
-      region = region;
-      held = held;
-      holds = changed_holds w.marked c at patch.run.before (t.os ++ patch.run.after) t.o n t.change;
-      whole = changed_text w.marked c at patch.run.before (t.os ++ patch.run.after) t.o n t.change;
-      bytes_are = refl;
-      marks_are = refl;
-      low = l.low;
-      high = omega (arith, l.high);
-      ends = omega (arith, ends, long);
-    }) in
-    let beside : All (IsBeside at (length n.bytes)) w.retired = All-weaker (IsBeside c.base c.length) (IsBeside at (length n.bytes))
-    (λ span h. (
-      h.0,
-      elim h.1 [
-        | inl under ↦ inl (omega (arith, under, from))
-        | inr over ↦ inr
-            (omega (arith, over, ends, long))
-      ],
-    )) w.retired
-    (all_spans (IsBeside c.base c.length) w.retired chunks are
-    (retired_each (IsBeside c.base c.length) chunks (live_beside chunks has.0 c region.rising has.1 has.2 live))) in
-    let first = turn_leads w at n.bytes
-    (record { replacing = rep; final = region_steady (changed w.marked at n.bytes) chunks w.retired after_region are; beside = beside })
-    (stands_there w.marked.bytes at n.bytes) refl in
-    let others = patch_leads ns (with_bytes w (with_span w.marked.bytes (at - 65536) n.bytes)) chunks c (at + length n.bytes)
-    (code_of ns) after_region are has live (omega (arith, from)) np bytes_rest (omega (arith, ends, long)) in
-    let same : acts_of_modify w.marked.bytes (at + length n.bytes) ns ≡ acts_of_modify (with_span w.marked.bytes (at - 65536) n.bytes)
+    record {
+      replacing = rep;
+      region = region_patched marked (changed marked at n.bytes) chunks c at n.bytes
+          (record {
+            region = region;
+            held = held;
+            holds = changed_holds marked c at patch.run.before (t.os ++ patch.run.after) t.o n t.change;
+            whole = changed_text marked c at patch.run.before (t.os ++ patch.run.after) t.o n t.change;
+            bytes_are = refl;
+            marks_are = refl;
+            low = l.low;
+            high = omega (arith, l.high);
+            ends = omega (arith, ends, long);
+          });
+      here = new_stands marked c at patch.run.before (t.os ++ patch.run.after) t.o n t.change;
+      bytes_rest = bytes_rest;
+      patch_rest = next_patch marked c at new patch n ns t (length n.bytes) (code_of ns) refl bytes_rest;
+      long = long;
+      text = spans_join marked.bytes at n.bytes (code_of ns) rep.low (omega (arith, ends, long, l.high))
+          ∙ ap (λ (z : List ℕ). with_span marked.bytes (at - 65536) z) (sym b.parts);
+    }
+
+-- a patch by no instruction leaves the text
+no_patch : (marked : MarkedText) (at : ℕ) (new : List ℕ) → AreBytesOf new [] → marked.bytes ≡ (changed marked at new).bytes
+no_patch marked at new b =
+    sym (ap (λ (z : List ℕ). with_span marked.bytes (at - 65536) z) b.parts ∙ span_none marked.bytes (at - 65536))
+
+-- with the patch it is a region's text
+pub patched_region : (news : List Piece) (marked : MarkedText) (chunks : List Chunk) (c : Chunk) (at : ℕ) (new : List ℕ)
+    → IsRegion marked chunks → Contains chunks c → IsLive c.state → c.base ≤ at → CanPatch marked c at new → AreBytesOf new news
+    → at + length new ≤ c.base + c.length → IsRegion (changed marked at new) chunks
+patched_region [] marked chunks c at new region has live from patch b ends =
+    subst (λ (z : List ℕ). IsRegion (text_of z marked.marks) chunks) (no_patch marked at new b) region
+patched_region (n ∷ ns) marked chunks c at new region has live from patch b ends =
+    let s = starts marked chunks c at new n ns region has live from patch b ends in
+    subst (λ (z : List ℕ). IsRegion (text_of z marked.marks) chunks) s.text
+    (patched_region ns (changed marked at n.bytes) chunks c (at + length n.bytes) (code_of ns) s.region has live (omega (arith, from))
+    s.patch_rest s.bytes_rest (omega (arith, ends, s.long)))
+
+-- the instructions of a patch, one after the other
+pub patch_leads : (news : List Piece) (w : World) (chunks : List Chunk) (c : Chunk) (at : ℕ) (new : List ℕ) → IsRegion w.marked chunks
+    → AreSpansOf w.retired chunks → Contains chunks c → IsLive c.state → c.base ≤ at → CanPatch w.marked c at new → AreBytesOf new news
+    → at + length new ≤ c.base + c.length → Views (λ view. Sound w chunks view) w.marked.bytes w.earlier
+    → Reaches w (patch_events w.marked.bytes at news) (record w { marked = changed w.marked at new }) (λ view. Sound w chunks view)
+patch_leads [] w chunks c at new region are has live from patch b ends views =
+    record {
+      earlier = w.earlier;
+      leads = subst (λ (z : List ℕ). Leads w [] (with_text w z w.earlier)) (no_patch w.marked at new b) (leads_none w);
+      views = subst (λ (z : List ℕ). Views (λ view. Sound w chunks view) z w.earlier) (no_patch w.marked at new b) views;
+    }
+patch_leads (n ∷ ns) w chunks c at new region are has live from patch b ends views =
+    let s = starts w.marked chunks c at new n ns region has live from patch b ends in
+    let replaces : Replaces w chunks at n.bytes = record {
+      replacing = s.replacing;
+      final = record {
+        good = region_good (changed w.marked at n.bytes) chunks w.retired s.region are;
+        stopped = region_stopped (changed w.marked at n.bytes) chunks s.region;
+      };
+      masked = s.here.0.0;
+      marked = s.here.0.1;
+      len = s.here.1;
+      held = λ place free low high. held_place chunks c place has live
+          (omega (arith, from, low), omega (arith, high, ends, s.long)) free;
+    } in
+    let first = turn_leads w chunks at n.bytes replaces views (stands_there w.marked.bytes at n.bytes) refl in
+    let others = patch_leads ns (record w { marked = changed w.marked at n.bytes; earlier = first.earlier }) chunks c (at + length n.bytes)
+    (code_of ns) s.region are has live (omega (arith, from)) s.patch_rest s.bytes_rest (omega (arith, ends, s.long)) first.views in
+    let same : patch_events w.marked.bytes (at + length n.bytes) ns ≡ patch_events (with_span w.marked.bytes (at - 65536) n.bytes)
     (at + length n.bytes) ns =
-    same_acts w.marked.bytes (with_span w.marked.bytes (at - 65536) n.bytes) (at + length n.bytes) ns
-    (λ k le. sym (span_behind w.marked.bytes at n.bytes k 0 rep.low rep.high le)) in
-    let text : with_span (with_span w.marked.bytes (at - 65536) n.bytes) (at + length n.bytes - 65536)
-    (code_of ns) ≡ with_span w.marked.bytes (at - 65536) new =
-    spans_join w.marked.bytes at n.bytes (code_of ns) rep.low (omega (arith, ends, long, l.high))
-    ∙ ap (λ (z : List ℕ). with_span w.marked.bytes (at - 65536) z) (sym b.parts) in
-    subst (λ (z : List Event). Leads w z (with_bytes w (with_span w.marked.bytes (at - 65536) new)))
-    (sym (events_append no_details (cond (stands_there w.marked.bytes at n.bytes) [] (acts_of_instruction at n.bytes))
-    (acts_of_modify w.marked.bytes (at + length n.bytes) ns)))
-    (leads_more w (with_bytes w (with_span w.marked.bytes (at - 65536) n.bytes))
-    (with_bytes w (with_span w.marked.bytes (at - 65536) new)) _ _ first
-    (subst (λ (z : List Act). Leads (with_bytes w (with_span w.marked.bytes (at - 65536) n.bytes)) (events_of no_details z)
-    (with_bytes w (with_span w.marked.bytes (at - 65536) new))) (sym same)
-    (subst (λ (z : List ℕ). Leads (with_bytes w (with_span w.marked.bytes (at - 65536) n.bytes))
-    (events_of no_details (acts_of_modify (with_span w.marked.bytes (at - 65536) n.bytes) (at + length n.bytes) ns))
-    (with_bytes w z)) text others)))
+    same_events w.marked.bytes (with_span w.marked.bytes (at - 65536) n.bytes) (at + length n.bytes) ns
+    (λ k le. sym (span_behind w.marked.bytes at n.bytes k 0 s.replacing.low s.replacing.high le)) in
+    record {
+      earlier = others.earlier;
+      leads = leads_more w (record w { marked = changed w.marked at n.bytes; earlier = first.earlier })
+          (record w { marked = changed w.marked at new; earlier = others.earlier }) _ _ first.leads
+          (subst (λ (z : List Event). Leads (record w { marked = changed w.marked at n.bytes; earlier = first.earlier }) z
+          (record w { marked = changed w.marked at new; earlier = others.earlier })) (sym same)
+          (subst (λ (z : List ℕ). Leads (record w { marked = changed w.marked at n.bytes; earlier = first.earlier })
+          (patch_events (with_span w.marked.bytes (at - 65536) n.bytes) (at + length n.bytes) ns)
+          (with_text w z others.earlier)) s.text others.leads));
+      views = subst (λ (z : List ℕ). Views (λ view. Sound w chunks view) z others.earlier) s.text others.views;
+    }

@@ -1,20 +1,35 @@
--- Puts, one after the other: each is allowed, and what they leave.
+-- Puts, one after the other: each is allowed, and what they leave, in the text and in every view.
 use Rattle.std.proofs.Common.{◌≡◌, ℕ, ◌+◌, ◌-◌, ◌<◌, ◌≤◌, Bool, true, false, cond, List, [], ◌∷◌, ◌++◌, length, get_or, set, drop, arith}
 use Rattle.std.proofs.Common.{refl, ◌∙◌, sym, ap, subst}
 use Rattle.std.proofs.lemmas.List.{drop_more, length-drop}
-use Rattle.nc_schedule.specs.World.{World, IsSteady}
-use Rattle.nc_schedule.specs.Events.{Event, Puts, IsAllowed, after, world_after, AreAllowed}
-use Rattle.nc_schedule.proofs.Offered.{allowed_append, after_append}
+use Rattle.nc_text.specs.Places.{InRegion}
+use Rattle.nc_schedule.specs.Views.{IsView}
+use Rattle.nc_schedule.specs.World.{World}
+use Rattle.nc_schedule.specs.Events.{Event, Puts, Settles, IsAllowed, after, world_after, AreAllowed}
+use Rattle.nc_schedule.proofs.Offered.{allowed_append, after_append, views_after_put, only_as_it_stands}
 use Rattle.nc_region.specs.declared.acts.Act.TheVariants.{Put}
 use Rattle.nc_region.specs.Acts.{puts_where}
 use Rattle.nc_region.specs.machinery.Between.{HasPut}
 use Rattle.nc_region.proofs.Offered.{put_none, put_more, put_passed}
-use Rattle.nc_calls.specs.Calls.{Details, events_of}
-use Rattle.nc_calls.proofs.Steady.{text_of}
+use Rattle.nc_calls.specs.Calls.{Details}
+use Rattle.nc_calls.proofs.Entries.{events_of}
+use Rattle.nc_calls.proofs.Good.{text_of, Good}
 
--- the world with these bytes
-abbrev pub with_bytes : World → List ℕ → World
-with_bytes w bytes = record w { marked = text_of bytes w.marked.marks }
+-- the world with these bytes, after those that stood before
+abbrev pub with_text : World → List ℕ → List (List ℕ) → World
+with_text w bytes earlier = record w { marked = text_of bytes w.marked.marks; earlier = earlier }
+
+-- the world with these bytes, and nothing put since it settled
+abbrev pub settled : World → List ℕ → World
+settled w bytes = with_text w bytes []
+
+-- what holds of every view of a text and of those that stood before it
+abbrev pub Views : (List ℕ → Type 0) → List ℕ → List (List ℕ) → Type 0
+Views V bytes earlier = (view : List ℕ) → IsView bytes earlier view → V view
+
+-- where nothing was put since the last settling, what holds of the text holds of every view
+pub settled_views : (V : List ℕ → Type 0) (bytes : List ℕ) → V bytes → Views V bytes []
+settled_views V bytes v = λ view is. subst V (sym (only_as_it_stands bytes view is)) v
 
 -- events that are allowed in one world and lead to another
 pub record Leads (w : World) (events : List Event) (v : World) : Type 0 where
@@ -37,71 +52,119 @@ leads_more w v u first second a b =
       after_is = after_append w first second ∙ (ap (λ (x : World). world_after x second) a.after_is ∙ b.after_is);
     }
 
--- what a run of puts leaves: bytes with P
-pub record HasLaid (w : World) (now : List ℕ) (events : List Event) (P : List ℕ → Type 0) : Type 0 where
+-- what some puts leave: bytes with P, and views with V
+pub record HasLaid (w : World) (now : List ℕ) (before : List (List ℕ)) (events : List Event) (P V : List ℕ → Type 0) : Type 0 where
   pub bytes : List ℕ
-  pub leads : Leads (with_bytes w now) events (with_bytes w bytes)
+  pub earlier : List (List ℕ)
+  pub leads : Leads (with_text w now before) events (with_text w bytes earlier)
   pub has : P bytes
+  pub views : Views V bytes earlier
 
--- what puts need: each text on the way is steady
-pub record MayLay (w : World) (chosen : ℕ → Bool) (base : ℕ) (bytes old : List ℕ) : Type 0 where
+-- events that lead to a world, but for what stood before, and every view of it has V
+pub record Reaches (w : World) (events : List Event) (v : World) (V : List ℕ → Type 0) : Type 0 where
+  pub earlier : List (List ℕ)
+  pub leads : Leads w events (record v { earlier = earlier })
+  pub views : Views V v.marked.bytes earlier
+
+-- what follows of each view
+pub reaches_as : (w : World) (events : List Event) (v : World) (V W : List ℕ → Type 0) → ((view : List ℕ) → V view → W view)
+    → Reaches w events v V → Reaches w events v W
+reaches_as w events v V W f r = record { earlier = r.earlier; leads = r.leads; views = λ view is. f view (r.views view is) }
+
+-- one put, where every view stays good
+pub put_leads : (w : World) (V : List ℕ → Type 0) (now : List ℕ) (before : List (List ℕ)) (at byte : ℕ) → InRegion now at
+    → ((view : List ℕ) → V view → Good view w.marked.marks w.retired) → Views V now before
+    → ((view : List ℕ) → IsView now before view → V view → V (set view (at - 65536) byte))
+    → HasLaid w now before (Puts at byte ∷ []) (λ bytes. bytes ≡ set now (at - 65536) byte) V
+put_leads w V now before at byte inside good views put =
+    let later : Views V (set now (at - 65536) byte) (now ∷ before) = views_after_put V now before at byte inside views
+    (λ view is. put view is (views view is)) in
+    record {
+      bytes = set now (at - 65536) byte;
+      earlier = now ∷ before;
+      leads = leads_one (with_text w now before) (Puts at byte) (
+        inside,
+        λ view is. let g = good view (later view is) in (g.closed, g.shut),
+      );
+      has = refl;
+      views = later;
+    }
+
+-- a settling
+pub settling_leads : (w : World) (now : List ℕ) (before : List (List ℕ)) → Leads (with_text w now before) (Settles ∷ []) (settled w now)
+settling_leads w now before = leads_one (with_text w now before) Settles tt
+
+-- what a run of puts needs: views with V are good, and have V again after each of the puts, in whatever order
+pub record MayLay (w : World) (chosen : ℕ → Bool) (base : ℕ) (bytes : List ℕ) (V : List ℕ → Type 0) : Type 0 where
   pub low : 65536 ≤ base
-  pub fits : base + length bytes ≤ 65536 + length old
-  pub good : (now : List ℕ) (count : ℕ) → count ≤ length bytes → HasPut chosen base bytes count old now
-      → IsSteady (text_of now w.marked.marks) w.retired
+  pub good : (view : List ℕ) → V view → Good view w.marked.marks w.retired
+  pub put : (view : List ℕ) (count : ℕ) → count < length bytes → chosen (base + count) ≡ true → InRegion view (base + count) → V view
+      → V (set view (base + count - 65536) (get_or bytes count 0))
 
 -- one more byte, put or passed over
-lay_one : (w : World) (d : Details) (chosen : ℕ → Bool) (base : ℕ) (bytes old : List ℕ) → MayLay w chosen base bytes old
-    → (byte : ℕ) (rest : List ℕ) (count at : ℕ) (now : List ℕ) → at ≡ base + count → count < length bytes
-    → byte ≡ get_or bytes count 0 → HasPut chosen base bytes count old now
-    → ((later : List ℕ) → HasPut chosen base bytes (count + 1) old later
-    → HasLaid w later (events_of d (puts_where chosen (at + 1) rest)) (HasPut chosen base bytes (length bytes) old))
+lay_one : (w : World) (d : Details) (chosen : ℕ → Bool) (base : ℕ) (bytes old : List ℕ) (V : List ℕ → Type 0)
+    → MayLay w chosen base bytes V → base + length bytes ≤ 65536 + length old
+    → (byte : ℕ) (rest : List ℕ) (count at : ℕ) (now : List ℕ) (before : List (List ℕ)) → at ≡ base + count → count < length bytes
+    → byte ≡ get_or bytes count 0 → HasPut chosen base bytes count old now → Views V now before
+    → ((later : List ℕ) (earlier : List (List ℕ)) → HasPut chosen base bytes (count + 1) old later → Views V later earlier
+    → HasLaid w later earlier (events_of d (puts_where chosen (at + 1) rest)) (HasPut chosen base bytes (length bytes) old) V)
     → (b : Bool) → chosen at ≡ b
-    → HasLaid w now (events_of d (cond b (Put at byte ∷ puts_where chosen (at + 1) rest) (puts_where chosen (at + 1) rest)))
-    (HasPut chosen base bytes (length bytes) old)
-lay_one w d chosen base bytes old may byte rest count at now here lt first has go true is =
+    → HasLaid w now before (events_of d (cond b (Put at byte ∷ puts_where chosen (at + 1) rest) (puts_where chosen (at + 1) rest)))
+    (HasPut chosen base bytes (length bytes) old) V
+lay_one w d chosen base bytes old V may fits byte rest count at now before here lt first has views go true is =
     let is_here : chosen (base + count) ≡ true = ap chosen (sym here) ∙ is in
     let next : HasPut chosen base bytes (count + 1) old (set now (at - 65536) byte) =
     subst (λ (b : ℕ). HasPut chosen base bytes (count + 1) old (set now (at - 65536) b)) (sym first)
     (subst (λ (a : ℕ). HasPut chosen base bytes (count + 1) old (set now (a - 65536) (get_or bytes count 0))) (sym here)
-    (put_more chosen base bytes count old now has may.low (omega (arith, may.fits, lt)) is_here)) in
-    let r = go (set now (at - 65536) byte) next in
+    (put_more chosen base bytes count old now has may.low (omega (arith, fits, lt)) is_here)) in
+    let inside : InRegion now at = (omega (arith, here, may.low), omega (arith, here, has.as_long, fits, lt)) in
+    let one = put_leads w V now before at byte inside may.good views
+    (λ view is_view v.
+    subst (λ (b : ℕ). V (set view (at - 65536) b)) (sym first)
+    (subst (λ (a : ℕ). V (set view (a - 65536) (get_or bytes count 0))) (sym here)
+    (may.put view count lt is_here
+    (omega (arith, may.low), omega (arith, here, inside.1, is_view.as_long)) v))) in
+    let r = go one.bytes one.earlier
+    (subst (HasPut chosen base bytes (count + 1) old) (sym one.has) next) one.views in
     record {
       bytes = r.bytes;
-      leads =
-          leads_more (with_bytes w now) (with_bytes w (set now (at - 65536) byte)) (with_bytes w r.bytes) (Puts at byte ∷ [])
-          (events_of d (puts_where chosen (at + 1) rest))
-          (leads_one (with_bytes w now) (Puts at byte) (
-            (omega (arith, here, may.low), omega (arith, here, has.as_long, may.fits, lt)),
-            may.good (set now (at - 65536) byte)
-                (count + 1) (omega (arith, lt)) next,
-          ))
-          r.leads;
+      earlier = r.earlier;
+      leads = leads_more (with_text w now before) (with_text w one.bytes one.earlier) (with_text w r.bytes r.earlier)
+          (Puts at byte ∷ []) (events_of d (puts_where chosen (at + 1) rest)) one.leads r.leads;
       has = r.has;
+      views = r.views;
     }
-lay_one w d chosen base bytes old may byte rest count at now here lt first has go false is =
-    go now (put_passed chosen base bytes count old now has (ap chosen (sym here) ∙ is))
+lay_one w d chosen base bytes old V may fits byte rest count at now before here lt first has views go false is =
+    go now before (put_passed chosen base bytes count old now has (ap chosen (sym here) ∙ is)) views
 
 -- the puts of what is left of the bytes
-lay : (w : World) (d : Details) (chosen : ℕ → Bool) (base : ℕ) (bytes old : List ℕ) → MayLay w chosen base bytes old
-    → (rest : List ℕ) (count at : ℕ) (now : List ℕ) → drop count bytes ≡ rest → at ≡ base + count → count ≤ length bytes
-    → HasPut chosen base bytes count old now
-    → HasLaid w now (events_of d (puts_where chosen at rest)) (HasPut chosen base bytes (length bytes) old)
-lay w d chosen base bytes old may [] count at now left here le has =
+lay : (w : World) (d : Details) (chosen : ℕ → Bool) (base : ℕ) (bytes old : List ℕ) (V : List ℕ → Type 0)
+    → MayLay w chosen base bytes V → base + length bytes ≤ 65536 + length old
+    → (rest : List ℕ) (count at : ℕ) (now : List ℕ) (before : List (List ℕ)) → drop count bytes ≡ rest → at ≡ base + count
+    → count ≤ length bytes → HasPut chosen base bytes count old now → Views V now before
+    → HasLaid w now before (events_of d (puts_where chosen at rest)) (HasPut chosen base bytes (length bytes) old) V
+lay w d chosen base bytes old V may fits [] count at now before left here le has views =
     let all : count ≡ length bytes = omega (arith, length-drop count bytes, ap (λ (z : List ℕ). length z) left, le) in
-    record { bytes = now; leads = leads_none (with_bytes w now); has = subst (λ (n : ℕ). HasPut chosen base bytes n old now) all has }
-lay w d chosen base bytes old may (byte ∷ rest) count at now left here le has =
+    record {
+      bytes = now;
+      earlier = before;
+      leads = leads_none (with_text w now before);
+      has = subst (λ (n : ℕ). HasPut chosen base bytes n old now) all has;
+      views = views;
+    }
+lay w d chosen base bytes old V may fits (byte ∷ rest) count at now before left here le has views =
     let lt : count < length bytes = omega (arith, length-drop count bytes, ap (λ (z : List ℕ). length z) left) in
     let both : byte ∷ rest ≡ get_or bytes count 0 ∷ drop (count + 1) bytes = sym left ∙ drop_more bytes count 0 lt in
     let first : byte ≡ get_or bytes count 0 = cc in
     let others : drop (count + 1) bytes ≡ rest = cc in
-    lay_one w d chosen base bytes old may byte rest count at now here lt first has
-    (λ later next. lay w d chosen base bytes old may rest (count + 1) (at + 1) later others (omega (arith, here)) (omega (arith, lt)) next)
+    lay_one w d chosen base bytes old V may fits byte rest count at now before here lt first has views
+    (λ later earlier next still. lay w d chosen base bytes old V may fits rest (count + 1) (at + 1) later earlier others
+    (omega (arith, here)) (omega (arith, lt)) next still)
     (chosen at) refl
 
 -- all of them
-pub lay_all : (w : World) (d : Details) (chosen : ℕ → Bool) (base : ℕ) (bytes : List ℕ) → MayLay w chosen base bytes w.marked.bytes
-    → HasLaid w w.marked.bytes (events_of d (puts_where chosen base bytes)) (HasPut chosen base bytes (length bytes) w.marked.bytes)
-lay_all w d chosen base bytes may =
-    lay w d chosen base bytes w.marked.bytes may bytes 0 base w.marked.bytes refl (omega arith) (omega arith)
-    (put_none chosen base bytes w.marked.bytes)
+pub lay_all : (w : World) (d : Details) (chosen : ℕ → Bool) (base : ℕ) (bytes now : List ℕ) (before : List (List ℕ))
+    (V : List ℕ → Type 0) → MayLay w chosen base bytes V → base + length bytes ≤ 65536 + length now → Views V now before
+    → HasLaid w now before (events_of d (puts_where chosen base bytes)) (HasPut chosen base bytes (length bytes) now) V
+lay_all w d chosen base bytes now before V may fits views =
+    lay w d chosen base bytes now V may fits bytes 0 base now before refl (omega arith) (omega arith) (put_none chosen base bytes now) views

@@ -1,5 +1,5 @@
 -- A schedule that has led to a region, and a reclaiming more.
-use Rattle.std.proofs.Common.{◌≡◌, ℕ, ◌≤◌, List, [], ◌++◌, map, arith, ◌∙◌, sym, ap, subst}
+use Rattle.std.proofs.Common.{◌≡◌, ℕ, ◌≤◌, List, [], ◌∷◌, ◌++◌, map, arith, ◌∙◌, sym, ap, subst}
 use Rattle.std.specs.Prelude.{All, Contains, ◌↔◌}
 use Rattle.std.specs.List.{range_with_len}
 use Rattle.nc_text.specs.Places.{limit_of}
@@ -11,11 +11,15 @@ use Rattle.nc_schedule.specs.World.{World, first_world}
 use Rattle.nc_schedule.specs.Events.{Event, Looks, world_after}
 use Rattle.nc_schedule.proofs.Offered.{Keeps, keeps_all, keeps_reached, after_append}
 use Rattle.nc_region.specs.declared.chunk.Chunk.{Chunk}
-use Rattle.nc_region.specs.Deletion.{freed, unmarked, IsReclaimed}
+use Rattle.nc_region.specs.declared.acts.Act.TheVariants.{Look}
+use Rattle.nc_region.specs.Deletion.{freed, kept, unmarked, unmarkings, IsReclaimed}
 use Rattle.nc_region.specs.Quiet.{retired_spans}
 use Rattle.nc_region.specs.Region.{Region, IsRegion}
 use Rattle.nc_calls.specs.Weaving.{writers, IsKeepers, ThreadsMay}
-use Rattle.nc_calls.specs.Calls.{HasLedTo, reclaim_events}
+use Rattle.nc_calls.specs.Calls.{HasLedTo, no_details, reclaim_events}
+use Rattle.nc_calls.specs.Views.{ViewsKeep}
+use Rattle.nc_calls.proofs.Entries.{unsettled_events}
+use Rattle.nc_calls.proofs.Freeing.{thinned, views_thinned}
 use Rattle.nc_calls.proofs.Histories.{grown}
 use Rattle.nc_calls.proofs.Looking.{KeeperOnly, looks_are, keeper_woven, placed, part, threads_parted}
 use Rattle.nc_calls.proofs.Putting.{Leads, leads_more}
@@ -37,8 +41,11 @@ reclaimed limit seats before events old new count h region is own threads found 
     let cs = freed (least_number new.keeper.numbers) old.chunks in
     let p = part events (map Looks (range_with_len 0 seats))
     (frees (retired_spans old.chunks) (freed (least_number new.keeper.numbers) old.chunks))
-    (own ∙ ap (λ (z : List Event). map Looks (range_with_len 0 seats) ++ z)
-    (frees_same seats (retired_spans old.chunks) (freed (least_number new.keeper.numbers) old.chunks))) in
+    (own
+    ∙ (unsettled_events (record no_details { seats = seats; spans = retired_spans old.chunks })
+    (Look ∷ unmarkings (freed (least_number new.keeper.numbers) old.chunks))
+    ∙ ap (λ (z : List Event). map Looks (range_with_len 0 seats) ++ z)
+    (frees_same seats (retired_spans old.chunks) (freed (least_number new.keeper.numbers) old.chunks)))) in
     let t = threads_parted w p.first p.second
     (subst (λ (z : List Event). ThreadsMay (world_after (first_world limit seats) before) z) p.is threads) in
     let a : KeeperOnly (world_after (first_world limit seats) before) (world_after (first_world limit seats) before).keeper
@@ -87,6 +94,13 @@ reclaimed limit seats before events old new count h region is own threads found 
     (frees (retired_spans old.chunks) (freed (least_number new.keeper.numbers) old.chunks))) b.seats_after) =
     leads_more w (placed (world_after (first_world limit seats) before) a.keeper_after a.seats_after) _ p.first p.second
     (record { allowed = a.allowed; after_is = a.after_is }) (record { allowed = b.allowed; after_is = end_is }) in
+    let thin = thinned p.second (placed (world_after (first_world limit seats) before) a.keeper_after a.seats_after) w.retired
+    (least_number new.keeper.numbers) keeps_mid b.allowed may in
+    let views_mid : ViewsKeep (placed (world_after (first_world limit seats) before) a.keeper_after a.seats_after) old.chunks =
+    record { parted = h.views.parted; stopped = h.views.stopped } in
+    let views_end = views_thinned (placed (world_after (first_world limit seats) before) a.keeper_after a.seats_after)
+    (world_after (placed (world_after (first_world limit seats) before) a.keeper_after a.seats_after) p.second) old.chunks
+    (least_number new.keeper.numbers) thin views_mid in
     grown limit seats before events old new _ h
     (subst (λ (z : List Event). Leads (world_after (first_world limit seats) before) z
     (seated (world_after (placed (world_after (first_world limit seats) before) a.keeper_after a.seats_after)
@@ -102,4 +116,8 @@ reclaimed limit seats before events old new count h region is own threads found 
           (freed (least_number new.keeper.numbers) old.chunks))).retired span ↔ Contains (retired_spans z) span)
           (sym is.chunks) (f.spans span);
     })
+    (subst (λ (z : List Chunk). ViewsKeep
+    (seated (world_after (placed (world_after (first_world limit seats) before) a.keeper_after a.seats_after)
+    (frees (retired_spans old.chunks) (freed (least_number new.keeper.numbers) old.chunks))) b.seats_after) z) (sym is.chunks)
+    (subst (λ (x : World). ViewsKeep x (kept (least_number new.keeper.numbers) old.chunks)) end_is views_end))
     (omega (arith, is.looked.generation, h.in_range))

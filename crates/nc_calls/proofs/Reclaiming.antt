@@ -12,7 +12,8 @@ use Rattle.nc_gens.specs.Rule.{last_generation}
 use Rattle.nc_gens.specs.Seen.{least_number}
 use Rattle.nc_schedule.specs.Quiet.{Span}
 use Rattle.nc_schedule.specs.World.{World, Seat, is_same_span}
-use Rattle.nc_schedule.specs.Events.{Event, Steps, Enters, Exits, Takes, Sees, Stores, Leaves, Puts, Marks, Bumps, Retires, Frees, Looks}
+use Rattle.nc_schedule.specs.Events.{Event, Steps, Enters, Exits, Takes, Sees, Stores, Leaves, Puts, Settles, Marks, Bumps, Retires, Frees}
+use Rattle.nc_schedule.specs.Events.{Looks}
 use Rattle.nc_schedule.specs.Events.{IsAllowed, after, world_after}
 use Rattle.nc_schedule.proofs.Offered.{Keeps, keeps_event}
 use Rattle.nc_region.specs.declared.chunk.Chunk.{Chunk}
@@ -25,7 +26,8 @@ use Rattle.nc_region.specs.Quiet.{with_retired, retired_spans}
 use Rattle.nc_region.specs.Region.{IsLive, IsRising, IsRegion}
 use Rattle.nc_region.proofs.Offered.{each_map, each_both, each_middle, region_freed, rises_above}
 use Rattle.nc_calls.specs.Weaving.{writers, ThreadsMay}
-use Rattle.nc_calls.specs.Calls.{span_from, events_of}
+use Rattle.nc_calls.specs.Calls.{span_from}
+use Rattle.nc_calls.proofs.Entries.{events_of}
 use Rattle.nc_calls.proofs.Looking.{has_passed}
 use Rattle.nc_calls.proofs.RetiredSpans.{AreSameSpans, retired_append, retired_head, each_contains, into_middle, out_of_middle}
 use Rattle.nc_calls.proofs.RetiredSpans.{the_middle, retired_each}
@@ -67,6 +69,7 @@ frees_woven (Leaves k ∷ events) w seats least keeps range le may threads =
     thread_more w seats _ (Leaves k) events (threads.0 refl) refl refl
     (frees_woven events w _ least (keeps_event (seated w seats) (Leaves k) keeps (threads.0 refl)) range le may threads.1)
 frees_woven (Puts at byte ∷ events) w seats least keeps range le may threads = absurd may
+frees_woven (Settles ∷ events) w seats least keeps range le may threads = absurd may
 frees_woven (Marks at marks ∷ events) w seats least keeps range le may threads = absurd may
 frees_woven (Bumps ∷ events) w seats least keeps range le may threads = absurd may
 frees_woven (Retires base len ∷ events) w seats least keeps range le may threads = absurd may
@@ -311,6 +314,7 @@ keeper_stays (Sees k ∷ events) w spans least may = keeper_stays events (after 
 keeper_stays (Stores k ∷ events) w spans least may = keeper_stays events (after w (Stores k)) spans least may
 keeper_stays (Leaves k ∷ events) w spans least may = keeper_stays events (after w (Leaves k)) spans least may
 keeper_stays (Puts at byte ∷ events) w spans least may = absurd may
+keeper_stays (Settles ∷ events) w spans least may = absurd may
 keeper_stays (Marks at marks ∷ events) w spans least may = absurd may
 keeper_stays (Bumps ∷ events) w spans least may = absurd may
 keeper_stays (Retires base len ∷ events) w spans least may = absurd may

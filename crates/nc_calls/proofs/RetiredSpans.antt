@@ -1,21 +1,19 @@
 -- The spans of retired chunks, as the world has them.
-use Rattle.std.proofs.Common.{◌≡◌, ℕ, ◌<◌, ◌⊎◌, All, List, [], ◌∷◌, ◌++◌, length, get_or, set, take, drop, suc, inl, inr, arith, refl}
+use Rattle.std.proofs.Common.{◌≡◌, ℕ, ◌+◌, ◌<◌, ◌≤◌, ◌⊎◌, All, List, [], ◌∷◌, ◌++◌, length, get_or, set, take, drop, suc, inl, inr, arith, refl}
 use Rattle.std.proofs.Common.{◌∙◌, sym, ap, subst}
 use Rattle.std.specs.Prelude.{Contains, ◌↔◌}
 use Rattle.std.specs.List.{insert}
 use Rattle.std.proofs.lemmas.List.{take-append-drop, set-get_or, set_split}
 use Rattle.std.proofs.lemmas.List.Elements.{Contains-get_or, Contains-push, Contains-push_cases, Contains-append_left}
 use Rattle.std.proofs.lemmas.List.Elements.{Contains-append_right, Contains-append_cases}
-use Rattle.nc_text.specs.MarkedText.{MarkedText}
-use Rattle.nc_schedule.specs.Quiet.{Span, IsQuiet}
-use Rattle.nc_schedule.specs.World.{IsSteady}
+use Rattle.nc_schedule.specs.Quiet.{Span}
 use Rattle.nc_region.specs.declared.chunk.Chunk.{Chunk}
 use Rattle.nc_region.specs.declared.chunk.ChunkState.{ChunkState}
 use Rattle.nc_region.specs.declared.chunk.ChunkState.TheVariants.{Live, Retired}
 use Rattle.nc_region.specs.Each.{Each}
 use Rattle.nc_region.specs.Quiet.{with_retired, retired_spans}
-use Rattle.nc_region.specs.Region.{IsLive, IsRegion}
-use Rattle.nc_region.proofs.Offered.{each_get, quiet_spans}
+use Rattle.nc_region.specs.Region.{IsLive}
+use Rattle.nc_region.proofs.Offered.{each_get}
 
 -- one chunk's span before others
 with_append : (c : Chunk) (s : ChunkState) (xs ys : List Span) → with_retired c s (xs ++ ys) ≡ with_retired c s xs ++ ys
@@ -71,12 +69,6 @@ AreSpansOf spans chunks = (span : Span) → Contains spans span → Contains (re
 pub all_spans : (P : Span → Type 0) (spans : List Span) (chunks : List Chunk) → AreSpansOf spans chunks → Each P (retired_spans chunks)
     → All P spans
 all_spans P spans chunks are h = all_contained P spans (λ span has. each_contains P (retired_spans chunks) span h (are span has))
-
--- a region's text is steady with its retired spans
-pub region_steady : (marked : MarkedText) (chunks : List Chunk) (spans : List Span) → IsRegion marked chunks → AreSpansOf spans chunks
-    → IsSteady marked spans
-region_steady marked chunks spans region are =
-    (region.whole.closed, all_spans (IsQuiet marked.bytes marked.marks) spans chunks are (quiet_spans marked chunks region))
 
 -- the spans of the world and of the chunks are the same, in any order
 abbrev pub AreSameSpans : List Span → List Chunk → Type 0
@@ -155,3 +147,7 @@ same_spans_retired spans chunks k c stamp lt here live same = λ span.
                 ((same span).1 (subst (λ (z : List Span). Contains z span) (sym old_is) old))
           ],
     )
+
+-- a span lies beside a place and those behind it, so many as the length says
+abbrev pub IsBeside : ℕ → ℕ → Span → Type 0
+IsBeside base len span = (65536 ≤ span.base) × ((span.base + span.length ≤ base) ⊎ (base + len ≤ span.base))

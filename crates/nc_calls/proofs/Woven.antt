@@ -2,7 +2,8 @@
 use Rattle.std.proofs.Common.{◌≡◌, true, List, [], ◌∷◌, refl, ◌∙◌, sym, ap, subst}
 use Rattle.std.specs.Prelude.{⊤}
 use Rattle.nc_schedule.specs.World.{World, Seat}
-use Rattle.nc_schedule.specs.Events.{Event, Steps, Enters, Exits, Takes, Sees, Stores, Leaves, Puts, Marks, Bumps, Retires, Frees, Looks}
+use Rattle.nc_schedule.specs.Events.{Event, Steps, Enters, Exits, Takes, Sees, Stores, Leaves, Puts, Settles, Marks, Bumps, Retires, Frees}
+use Rattle.nc_schedule.specs.Events.{Looks}
 use Rattle.nc_schedule.specs.Events.{IsAllowed, after, world_after, AreAllowed}
 use Rattle.nc_calls.specs.Weaving.{is_writers, writers, ThreadsMay}
 
@@ -10,10 +11,11 @@ use Rattle.nc_calls.specs.Weaving.{is_writers, writers, ThreadsMay}
 abbrev pub seated : World → List Seat → World
 seated w seats = record w { seats = seats }
 
--- each is a put, a marking, or draws a stamp
+-- each is a put, a settling, a marking, or draws a stamp
 abbrev pub ArePlain : List Event → Type 0
 ArePlain [] = ⊤
 ArePlain (Puts at byte ∷ events) = ArePlain events
+ArePlain (Settles ∷ events) = ArePlain events
 ArePlain (Marks at marks ∷ events) = ArePlain events
 ArePlain (Bumps ∷ events) = ArePlain events
 ArePlain (Retires base len ∷ events) = ArePlain events
@@ -70,6 +72,8 @@ weave w seats (Leaves k ∷ events) plain allowed threads =
 weave w seats (Puts at byte ∷ events) plain allowed threads =
     writer_more w seats (Puts at byte) events refl allowed.0 refl refl
     (weave (after w (Puts at byte)) seats events plain allowed.1 threads.1)
+weave w seats (Settles ∷ events) plain allowed threads =
+    writer_more w seats Settles events refl allowed.0 refl refl (weave (after w Settles) seats events plain allowed.1 threads.1)
 weave w seats (Marks at marks ∷ events) plain allowed threads =
     writer_more w seats (Marks at marks) events refl allowed.0 refl refl
     (weave (after w (Marks at marks)) seats events plain allowed.1 threads.1)

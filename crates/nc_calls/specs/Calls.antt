@@ -7,15 +7,18 @@ use Rattle.nc_gens.specs.Rule.{last_generation}
 use Rattle.nc_vet.specs.Chunk.{MarkedChunk, Piece}
 use Rattle.nc_schedule.specs.Quiet.{Span}
 use Rattle.nc_schedule.specs.World.{World, first_world}
-use Rattle.nc_schedule.specs.Events.{Event, Puts, Marks, Retires, Frees, Looks, world_after, AreAllowed}
+use Rattle.nc_schedule.specs.Events.{Event, Puts, Settles, Marks, Retires, Frees, Looks, world_after, AreAllowed}
 use Rattle.nc_region.specs.declared.acts.Act.{Act}
 use Rattle.nc_region.specs.declared.acts.Act.TheVariants.{Put, MarkSpan, UnmarkSpan, Bump, Look}
+use Rattle.nc_region.specs.declared.acts.Entry.{Entry}
+use Rattle.nc_region.specs.declared.acts.Entry.TheVariants.{Did, Settled}
 use Rattle.nc_region.specs.declared.chunk.Chunk.{Chunk}
-use Rattle.nc_region.specs.Acts.{acts_of_create, acts_of_delete}
-use Rattle.nc_region.specs.Patch.{acts_of_modify}
+use Rattle.nc_region.specs.Log.{unsettled, log_of_create, log_of_delete}
+use Rattle.nc_region.specs.Patch.{log_of_modify}
 use Rattle.nc_region.specs.Deletion.{freed, unmarkings}
 use Rattle.nc_region.specs.Quiet.{retired_spans}
 use Rattle.nc_region.specs.Region.{Region}
+use Rattle.nc_calls.specs.Views.{ViewsKeep}
 
 -- The world stands for the region: its text and marks, its keeper's numbers, and as retired spans those of its retired
 -- chunks, in any order.
@@ -24,12 +27,13 @@ pub record StandsFor (w : World) (r : Region) : Type 0 where
   pub keeper : w.keeper ≡ r.keeper.numbers
   pub spans : (span : Span) → Contains w.retired span ↔ Contains (retired_spans r.chunks) span
 
--- A schedule that has led to a region: each of its events was allowed where it stood, and the world that they leave stands
--- for the region. The generation is one that a table may have.
+-- A schedule that has led to a region: each of its events was allowed where it stood, the world that they leave stands for the
+-- region, and its views keep what a call needs of them. The generation is one that a table may have.
 pub record HasLedTo (limit seats : ℕ) (events : List Event) (r : Region) : Type 0 where
   pub lawful : IsLawfulLimit limit
   pub allowed : AreAllowed (first_world limit seats) events
   pub stands : StandsFor (world_after (first_world limit seats) events) r
+  pub views : ViewsKeep (world_after (first_world limit seats) events) r.chunks
   pub in_range : r.keeper.numbers.generation ≤ last_generation
 
 -- What acts leave open: the marks that a span gets, the span that a stamp is drawn for, the seats that a look goes over, and
@@ -54,27 +58,33 @@ events_of_act d (UnmarkSpan at len) = Frees (span_from d.spans at) ∷ []
 events_of_act d Bump = Retires d.base d.len ∷ []
 events_of_act d Look = map Looks (range_with_len 0 d.seats)
 
--- the events that acts are, one after the other
-abbrev pub events_of : Details → List Act → List Event
-events_of d acts = flat_map (events_of_act d) acts
+-- The events that an entry of a log is: those of an act, or a settling.
+abbrev pub events_of_entry : Details → Entry → List Event
+events_of_entry d (Did act) = events_of_act d act
+events_of_entry d Settled = Settles ∷ []
+
+-- the events that a log is, one entry after the other
+abbrev pub events_of_log : Details → List Entry → List Event
+events_of_log d log = flat_map (events_of_entry d) log
 
 -- nothing is left open
 abbrev pub no_details : Details
 no_details = record { marks = []; base = 0; len = 0; seats = 0; spans = [] }
 
--- a chunk is created: the acts that the contract of `create` names, with the chunk's marks
+-- a chunk is created: the acts and the settling that the contract of `create` names, with the chunk's marks
 abbrev pub create_events : MarkedChunk → List Event
-create_events v = events_of (record no_details { marks = v.marks }) (acts_of_create v.base v.code)
+create_events v = events_of_log (record no_details { marks = v.marks }) (log_of_create v.base v.code)
 
 -- a patch is made: those of `modify`
 abbrev pub modify_events : List ℕ → ℕ → List Piece → List Event
-modify_events text at news = events_of no_details (acts_of_modify text at news)
+modify_events text at news = events_of_log no_details (log_of_modify text at news)
 
 -- a chunk is deleted: those of `delete`, with its span retired as the stamp is drawn
 abbrev pub delete_events : List Mark → ℕ → ℕ → List Event
-delete_events marks base len = events_of (record no_details { base = base; len = len }) (acts_of_delete marks base len)
+delete_events marks base len = events_of_log (record no_details { base = base; len = len }) (log_of_delete marks base len)
 
--- retired chunks are reclaimed: those of `reclaim`, over so many seats
+-- retired chunks are reclaimed: those of `reclaim`, over this number of seats, with no settling among them
 abbrev pub reclaim_events : ℕ → ℕ → List Chunk → List Event
 reclaim_events seats least chunks =
-    events_of (record no_details { seats = seats; spans = retired_spans chunks }) (Look ∷ unmarkings (freed least chunks))
+    events_of_log (record no_details { seats = seats; spans = retired_spans chunks })
+    (unsettled (Look ∷ unmarkings (freed least chunks)))

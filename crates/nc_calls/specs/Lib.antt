@@ -1,2 +1,4 @@
 pub mod Weaving
+pub mod Views
 pub mod Calls
+pub mod Histories

@@ -1,24 +1,18 @@
 -- The writer's events among those of the threads.
 use Rattle.std.specs.Prelude.{◌≡◌, ⊤, Bool, true, false, List, [], ◌∷◌, filter}
 use Rattle.nc_schedule.specs.World.{World}
-use Rattle.nc_schedule.specs.Events.{Event, Steps, Enters, Exits, Takes, Sees, Stores, Leaves, Puts, Marks, Bumps, Retires, Frees, Looks}
-use Rattle.nc_schedule.specs.Events.{IsAllowed, after}
+use Rattle.nc_schedule.specs.Events.{Event, Puts, Settles, Marks, Bumps, Retires, Frees, Looks, ThreadMay, after}
 
 -- the writer does it, and no thread
 abbrev pub is_writers : Event → Bool
-is_writers (Steps k next) = false
-is_writers (Enters k at) = false
-is_writers (Exits k) = false
-is_writers (Takes k) = false
-is_writers (Sees k) = false
-is_writers (Stores k) = false
-is_writers (Leaves k) = false
 is_writers (Puts at byte) = true
+is_writers Settles = true
 is_writers (Marks at marks) = true
 is_writers Bumps = true
 is_writers (Retires base len) = true
 is_writers (Frees span) = true
 is_writers (Looks k) = true
+is_writers _ = false
 
 -- the writer's events among some, in their order
 abbrev pub writers : List Event → List Event
@@ -31,7 +25,7 @@ IsKeepers Bumps = ⊤
 IsKeepers (Looks k) = ⊤
 IsKeepers event = ⊥
 
--- each event that a thread does is allowed where it stands; of the writer's nothing is said
+-- each event that a thread does is one that it may do where it stands; of the writer's nothing is said
 abbrev pub ThreadsMay : World → List Event → Type 0
 ThreadsMay w [] = ⊤
-ThreadsMay w (event ∷ events) = (is_writers event ≡ false → IsAllowed w event) × ThreadsMay (after w event) events
+ThreadsMay w (event ∷ events) = (is_writers event ≡ false → ThreadMay w event) × ThreadsMay (after w event) events

@@ -1,19 +1,28 @@
-//! The calls of a region, seen as events of a schedule.
+//! What every history of a region keeps.
+//!
+//! Whoever wants to judge what is proved of a region opens [`law_of_histories`] first, in `src/history`: whatever calls are
+//! made, and whatever threads do between any two acts, each thread inside stands where the headline says. `docs/THEOREM.md`
+//! walks through it.
 //!
 //! `nc_schedule` says that no list of allowed events brings a thread to a state that isn't safe; `nc_region` says which acts
-//! each of its calls makes. This crate has the bridge between them: [`law_of_calls`] says that the acts of a call, with
-//! whatever the threads do between any two of them, are allowed events of a world that stands for the region, and leave a
-//! world that stands for the region after the call. What the keeper does by itself, before the region is made and after, and
-//! refused calls have clauses too. So what is proved of every schedule holds of every history of a region.
+//! each of its calls makes, and where it settles. This crate has the bridge between them: [`law_of_calls`] says that the acts
+//! and settlings of a call, with whatever the threads do between any two of them, are allowed events of a world that stands
+//! for the region, and leave a world that stands for the region after the call. What the keeper does by itself, before the
+//! region is made and after, and refused calls have clauses too. So what is proved of every schedule holds of every history
+//! of a region.
 //!
 //! ```text
-//! law_of_calls();   // does nothing; what it promises is its contract
+//! law_of_histories();   // does nothing; what it promises is its contract
+//! law_of_calls();
 //! ```
 //!
-//! Nothing of this runs: the crate has definitions and a proof. `specs/Weaving` parts the writer's events from those of the
-//! threads, `specs/Calls` says which events the acts of each call are.
+//! Nothing of this runs: the crate has definitions and proofs. `specs/Weaving` parts the writer's events from those of the
+//! threads, `specs/Calls` says which events the acts and settlings of each call are, `specs/Views` what every view keeps
+//! between two calls, and `specs/Histories` what a history is.
 #![tactic(auto)]
 
+mod history;
 mod law;
 
+pub use history::law_of_histories;
 pub use law::law_of_calls;

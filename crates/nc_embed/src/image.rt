@@ -64,6 +64,8 @@ impl<'g> Acts for Image<'g> {
 
     ghost told = { λ i. None };
 
+    ghost logged = { λ i. None };
+
     fn ready(&mut self, at: u32, len: u32) -> Result<(), TextFault> {
         self.plain.ready(at, len)
     }
@@ -76,6 +78,11 @@ impl<'g> Acts for Image<'g> {
     fn put(&mut self, at: u32, byte: u8) {
         self.memory[(at - START) as usize] = byte;
         self.plain.put(at, byte);
+    }
+
+    // The host's own means: every processor that runs one of its threads serializes before it returns.
+    fn settle(&mut self) {
+        self.plain.settle();
     }
 
     fn mark_span(&mut self, at: u32, marks: &[Mark]) {

@@ -4,9 +4,9 @@ use Rattle.std.specs.Prelude.{map, slice_get}
 use Rattle.std.proofs.lemmas.List.{append-nil, length-map, map-append, length-append, length-take-le, take_more}
 use Rattle.std.proofs.lemmas.Option.{get_or_from_slice_get}
 use Rattle.nc_decode.specs.declared.instruction.Mark.{Mark}
-use Rattle.nc_region.specs.declared.acts.Act.{Act}
+use Rattle.nc_region.specs.declared.acts.Entry.{Entry}
 use Rattle.nc_host.specs.declared.answers.NcAct.{NcAct}
-use Rattle.nc_host.specs.Shown.{act_of, mark_number, over}
+use Rattle.nc_host.specs.Shown.{entry_of, mark_number, over}
 use Rattle.nc_host.specs.machinery.Writing.{HasWritten}
 
 drop_none : {X : Type 0} (n : ℕ) → drop {A = X} n [] ≡ []
@@ -22,15 +22,15 @@ over_more {X} (x ∷ xs) [] y lt =
     absurd (omega (arith, lt, ap (λ (z : List X). length (x ∷ xs ++ z)) (drop_none (length (x ∷ xs))), ap (λ (z : List X). length z) (append-nil (x ∷ xs))))
 over_more (x ∷ xs) (s ∷ rest) y lt = ap (λ z. x ∷ z) (over_more xs rest y (omega (arith, lt)))
 
--- one more act
-pub write_one : (start now : List NcAct) (count : ℕ) (told : List Act) (a : Act) → HasWritten start now count told → count < length now
-    → HasWritten start (set now count (act_of a)) (count + 1) (told ++ a ∷ [])
-write_one start now count told a h lt =
-    let long : length (map act_of told) ≡ count = length-map told act_of ∙ sym h.counted in
+-- one more entry
+pub write_one : (start now : List NcAct) (count : ℕ) (log : List Entry) (a : Entry) → HasWritten start now count log → count < length now
+    → HasWritten start (set now count (entry_of a)) (count + 1) (log ++ a ∷ [])
+write_one start now count log a h lt =
+    let long : length (map entry_of log) ≡ count = length-map log entry_of ∙ sym h.counted in
     record {
-      buffer = rw (h.buffer, sym long, map-append act_of told (a ∷ []))
-          (over_more (map act_of told) start (act_of a) (subst (λ (z : List NcAct). length (map act_of told) < length z) h.buffer (omega (arith, lt, long))));
-      counted = omega (arith, h.counted, length-append told (a ∷ []));
+      buffer = rw (h.buffer, sym long, map-append entry_of log (a ∷ []))
+          (over_more (map entry_of log) start (entry_of a) (subst (λ (z : List NcAct). length (map entry_of log) < length z) h.buffer (omega (arith, lt, long))));
+      counted = omega (arith, h.counted, length-append log (a ∷ []));
     }
 
 -- one more mark

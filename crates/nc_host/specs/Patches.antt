@@ -27,12 +27,12 @@ pub record IsAnsweredFor (base limit : ℕ) (code : List ℕ) (at : ℕ) (new : 
   pub valid : IsAccepted base limit code marks
   pub each : (r : Region) → HasOnly r base limit code marks → IsAnswered r at new answer
 
--- The outcome of a call that judges a patch and then writes its acts, at most two for each new byte: fault 0 for a lawful one, with
--- room enough; 9 for a lawful one without; 16 to 21 for another; else the chunk's own fault.
+-- The outcome of a call that judges a patch and then writes its log, at most three entries for each new byte: fault 0 for a lawful
+-- one, with room enough; 9 for a lawful one without; 16 to 21 for another; else the chunk's own fault.
 abbrev pub IsPatchOutcome : (base limit : ℕ) → List ℕ → (at : ℕ) → List ℕ → (room fault place : ℕ) → Type 0
 IsPatchOutcome base limit code at new room fault place =
-    ((fault ≡ 0) × (place ≡ 0) × (2 * length new ≤ room) × IsAnsweredFor base limit code at new None)
-    ⊎ (((fault ≡ 9) × (place ≡ 0) × (room < 2 * length new) × IsAnsweredFor base limit code at new None)
+    ((fault ≡ 0) × (place ≡ 0) × (3 * length new ≤ room) × IsAnsweredFor base limit code at new None)
+    ⊎ (((fault ≡ 9) × (place ≡ 0) × (room < 3 * length new) × IsAnsweredFor base limit code at new None)
     ⊎ (((f : ModifyFault) × (fault ≡ patch_number f) × (place ≡ 0) × IsAnsweredFor base limit code at new (Some f))
     ⊎ IsChunkFault base limit code fault place))
 

@@ -1,4 +1,4 @@
--- What a host reads: numbers in the place of instructions, marks, faults and acts.
+-- What a host reads: numbers in the place of instructions, marks, faults, acts and settlings.
 use Rattle.std.specs.Prelude.{ℕ, ◌+◌, pos, List, ◌++◌, length, drop, Option, Some, None}
 use Rattle.nc_decode.specs.declared.instruction.Flow.{Flow}
 use Rattle.nc_decode.specs.declared.instruction.Flow.TheVariants.{Next, Branch, Jump, Call, IndirectJump, IndirectCall, Stop}
@@ -12,6 +12,8 @@ use Rattle.nc_region.specs.declared.fault.ModifyFault.{ModifyFault}
 use Rattle.nc_region.specs.declared.fault.ModifyFault.TheVariants as patch
 use Rattle.nc_region.specs.declared.acts.Act.{Act}
 use Rattle.nc_region.specs.declared.acts.Act.TheVariants.{Put, MarkSpan, UnmarkSpan, Bump, Look}
+use Rattle.nc_region.specs.declared.acts.Entry.{Entry}
+use Rattle.nc_region.specs.declared.acts.Entry.TheVariants.{Did, Settled}
 use Rattle.nc_host.specs.declared.answers.NcInstruction.{NcInstruction}
 use Rattle.nc_host.specs.declared.answers.NcAct.{NcAct}
 
@@ -86,6 +88,11 @@ act_of (MarkSpan at len) = record { kind = 2; at = at; value = len }
 act_of Bump = record { kind = 3; at = 0; value = 0 }
 act_of (UnmarkSpan at len) = record { kind = 4; at = at; value = len }
 act_of Look = record { kind = 5; at = 0; value = 0 }
+
+-- an act, or a settling
+abbrev pub entry_of : Entry → NcAct
+entry_of (Did act) = act_of act
+entry_of Settled = record { kind = 6; at = 0; value = 0 }
 
 -- a buffer with these at its front; the rest of it is as it was
 abbrev pub over : {X : Type 0} → List X → List X → List X

@@ -1,9 +1,9 @@
-//! The acts of a chunk that is created or deleted.
+//! The acts of a chunk that is created or deleted, with the settling of each.
 
 ghost use Rattle.std.specs.Prelude.{◌≡◌, ◌+◌, ◌^◌, ◌<◌, ◌⊎◌, ◌==◌, ◌||◌, List, length, map, if◌then◌else◌};
 ghost use Rattle.nc_decode.specs.declared.instruction.Mark.{Mark};
-ghost use Rattle.nc_region.specs.Acts.{acts_of_create, acts_of_delete};
-ghost use Rattle.nc_host.specs.Shown.{act_of, over};
+ghost use Rattle.nc_region.specs.Log.{log_of_create, log_of_delete};
+ghost use Rattle.nc_host.specs.Shown.{entry_of, over};
 ghost use Rattle.nc_host.specs.Outcomes.{IsAccepted, IsOutcome, StandAt};
 
 use crate::answers::{NO_ROOM, NcAct, NcActs, NcVerdict};
@@ -13,14 +13,14 @@ use std::alloc::Global;
 
 /// A refusal, with the number of acts that there is no room for.
 pub(crate) fn refused(verdict: NcVerdict, len: usize) -> NcActs
-    requires { verdict.fault ≡ 9 → len + 1 < 2 ^ 32 }
-    ensures { result ≡ record { fault = verdict.fault; at = verdict.at; count = if verdict.fault == 9 then len + 1 else 0 } }
+    requires { verdict.fault ≡ 9 → len + 2 < 2 ^ 32 }
+    ensures { result ≡ record { fault = verdict.fault; at = verdict.at; count = if verdict.fault == 9 then len + 2 else 0 } }
 {
     NcActs {
         fault: verdict.fault,
         at: verdict.at,
         count: if verdict.fault == NO_ROOM {
-            len as u32 + 1
+            len as u32 + 2
         } else {
             0
         },
@@ -28,7 +28,8 @@ pub(crate) fn refused(verdict: NcVerdict, len: usize) -> NcActs
 }
 
 /// Vets a chunk where it lies, and writes the acts by which it is put into an unused span of a text that threads are running: the
-/// bytes that aren't bundle starts, the marks of the span, the bundle starts. There is one act more than the code has bytes.
+/// bytes that aren't bundle starts, a settling, the marks of the span, the bundle starts. There are two acts more than the code has
+/// bytes.
 ///
 /// If the buffer has not so much room for a valid chunk, the fault is 9 and `count` says how much is wanted. The buffer is as it
 /// was on each refusal.
@@ -40,23 +41,23 @@ pub extern "C" fn nc_host_create(
     code: &[u8],
     acts: &mut [NcAct],
 ) -> NcActs
-    ensures outcome { IsOutcome base limit code.now (length code.now + 1) (length acts.old) result.fault result.at }
-    ensures count { result.count ≡ (if (result.fault == 0) || (result.fault == 9) then length code.now + 1 else 0) }
-    // Exactly the acts of a creation, in their order.
-    ensures written { result.fault ≡ 0 → (result.count ≡ length (acts_of_create base code.now))
-        × (acts.new ≡ over (map act_of (acts_of_create base code.now)) acts.old) }
+    ensures outcome { IsOutcome base limit code.now (length code.now + 2) (length acts.old) result.fault result.at }
+    ensures count { result.count ≡ (if (result.fault == 0) || (result.fault == 9) then length code.now + 2 else 0) }
+    // Exactly the acts of a creation and its settling, in their order.
+    ensures written { result.fault ≡ 0 → (result.count ≡ length (log_of_create base code.now))
+        × (acts.new ≡ over (map entry_of (log_of_create base code.now)) acts.old) }
     ensures untouched { 0 < result.fault → acts.new ≡ acts.old }
     // A valid chunk is refused only for lack of memory, or of room.
     ensures valid { (m : List Mark) → IsAccepted base limit code.now m
         → (result.fault ≡ 0) ⊎ ((result.fault ≡ 8) ⊎ (result.fault ≡ 9)) }
 {
-    match admit(alloc, base, limit, code, code.len() + 1, acts.len()) {
+    match admit(alloc, base, limit, code, code.len() + 2, acts.len()) {
         Ok(_marks) => {
             write_creation(acts, base, code);
             NcActs {
                 fault: 0,
                 at: 0,
-                count: code.len() as u32 + 1,
+                count: code.len() as u32 + 2,
             }
         }
         Err(verdict) => refused(verdict, code.len()),
@@ -64,7 +65,7 @@ pub extern "C" fn nc_host_create(
 }
 
 /// Vets a chunk as it stands in a text, and writes the acts by which it is deleted while threads are running: stops at its marked
-/// places, stops at its others, the stamp. There is one act more than the code has bytes.
+/// places, a settling, stops at its others, the stamp. There are two acts more than the code has bytes.
 ///
 /// The marks are those of the code that is lent, as `nc_host_marks` writes them. Refusals are as in `nc_host_create`.
 #[unsafe(no_mangle)]
@@ -75,24 +76,24 @@ pub extern "C" fn nc_host_delete(
     code: &[u8],
     acts: &mut [NcAct],
 ) -> NcActs
-    ensures outcome { IsOutcome base limit code.now (length code.now + 1) (length acts.old) result.fault result.at }
-    ensures count { result.count ≡ (if (result.fault == 0) || (result.fault == 9) then length code.now + 1 else 0) }
-    // Exactly the acts of a deletion, in their order, for any text in which the chunk's marks stand there.
+    ensures outcome { IsOutcome base limit code.now (length code.now + 2) (length acts.old) result.fault result.at }
+    ensures count { result.count ≡ (if (result.fault == 0) || (result.fault == 9) then length code.now + 2 else 0) }
+    // Exactly the acts of a deletion and its settling, in their order, for any text in which the chunk's marks stand there.
     ensures written { result.fault ≡ 0 → (m text : List Mark) → IsAccepted base limit code.now m → StandAt text base m
-        → (result.count ≡ length (acts_of_delete text base (length code.now)))
-        × (acts.new ≡ over (map act_of (acts_of_delete text base (length code.now))) acts.old) }
+        → (result.count ≡ length (log_of_delete text base (length code.now)))
+        × (acts.new ≡ over (map entry_of (log_of_delete text base (length code.now))) acts.old) }
     ensures untouched { 0 < result.fault → acts.new ≡ acts.old }
     // A valid chunk is refused only for lack of memory, or of room.
     ensures valid { (m : List Mark) → IsAccepted base limit code.now m
         → (result.fault ≡ 0) ⊎ ((result.fault ≡ 8) ⊎ (result.fault ≡ 9)) }
 {
-    match admit(alloc, base, limit, code, code.len() + 1, acts.len()) {
+    match admit(alloc, base, limit, code, code.len() + 2, acts.len()) {
         Ok(marks) => {
             write_deletion(acts, base, code, &marks);
             NcActs {
                 fault: 0,
                 at: 0,
-                count: code.len() as u32 + 1,
+                count: code.len() as u32 + 2,
             }
         }
         Err(verdict) => refused(verdict, code.len()),

@@ -28,7 +28,7 @@ pub struct NcVerdict {
     pub at: u32,
 }
 
-/// One act on a text.
+/// One act on a text, or a settling between two acts.
 #[repr(C)]
 #[derive(Clone, Copy, Debug, PartialEq, Eq)]
 pub struct NcAct {
@@ -48,7 +48,7 @@ pub struct NcActs {
     pub fault: u32,
     /// The address where the fault stands, for a fault that has one, else 0.
     pub at: u32,
-    /// How many acts there are: written where the fault is 0, wanted where it is that there is no room.
+    /// How many acts there are, settlings among them: written where the fault is 0, wanted where it is that there is no room.
     pub count: u32,
 }
 

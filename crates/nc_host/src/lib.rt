@@ -7,7 +7,7 @@
 //! - [`nc_host_decode`]: the instruction at the front of some bytes.
 //! - [`nc_host_vet`], [`nc_host_marks`]: the verdict on a chunk, and its marks.
 //! - [`nc_host_create`], [`nc_host_patch`], [`nc_host_delete`]: the acts by which a chunk is put into a text that threads are
-//!   running, changed there, or turned into stops, in their order.
+//!   running, changed there, or turned into stops, in their order, and where the host settles between them.
 #![tactic(auto)]
 
 mod acting;

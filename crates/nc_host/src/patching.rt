@@ -5,8 +5,8 @@ ghost use Rattle.nc_decode.specs.declared.instruction.Mark.{Mark};
 ghost use Rattle.nc_vet.specs.Chunk.{Piece, IsValid};
 ghost use Rattle.nc_vet.specs.Listed.{listed};
 ghost use Rattle.nc_region.specs.Region.{Region};
-ghost use Rattle.nc_region.specs.Patch.{AreBytesOf, IsPatch, acts_of_modify};
-ghost use Rattle.nc_host.specs.Shown.{act_of, over, patch_number};
+ghost use Rattle.nc_region.specs.Patch.{AreBytesOf, IsPatch, log_of_modify};
+ghost use Rattle.nc_host.specs.Shown.{entry_of, over, patch_number};
 ghost use Rattle.nc_host.specs.Outcomes.{IsAccepted};
 ghost use Rattle.nc_host.specs.Patches.{IsAnsweredFor, IsPatchOutcome, HasLive, LiesWithin, AreBytesAt};
 
@@ -91,11 +91,11 @@ fn refusal(fault: u32, count: u32) -> NcActs
 }
 
 /// Vets a chunk as it stands in a text, judges a patch of it, and writes the acts by which the patch is made while threads are running:
-/// for each instruction whose bytes change, rising, a stop at its first byte, its further bytes, its first byte; for one of a
-/// single byte only that.
+/// for each instruction whose bytes change, rising, a stop at its first byte, a settling, its further bytes, a settling, its first
+/// byte; for one of a single byte only that.
 ///
 /// The faults are 1 to 8 for the chunk itself, as in `nc_host_vet`; 16 to 21 for the patch; and 9 where the patch is lawful and the
-/// buffer has not twice as many places as there are new bytes, with `count` for how many are wanted. The buffer is as it was on
+/// buffer has not three times as many places as there are new bytes, with `count` for how many are wanted. The buffer is as it was on
 /// each refusal. A call costs what it costs to make a region and to create the chunk there; the memory is given back.
 #[unsafe(no_mangle)]
 pub extern "C" fn nc_host_patch(
@@ -113,12 +113,12 @@ pub extern "C" fn nc_host_patch(
     // And a patch of the chunk that is lawful in one of them is refused only for lack of memory, or of room.
     ensures exact { (r : Region) → HasLive r base limit code.now → base ≤ at → at < base + length code.now → IsPatch r at new.now
         → (result.fault ≡ 0) ⊎ ((result.fault ≡ 8) ⊎ (result.fault ≡ 9)) }
-    // Exactly the acts of a patch, in their order, for any text in which the chunk's bytes stand there.
+    // Exactly the acts of a patch and their settlings, in their order, for any text in which the chunk's bytes stand there.
     ensures written { result.fault ≡ 0 → (text : List ℕ) (news : List Piece) → AreBytesAt text base code.now → AreBytesOf new.now news
-        → (result.count ≡ length (acts_of_modify text at news))
-        × (acts.new ≡ over (map act_of (acts_of_modify text at news)) acts.old) }
+        → (result.count ≡ length (log_of_modify text at news))
+        × (acts.new ≡ over (map entry_of (log_of_modify text at news)) acts.old) }
     ensures untouched { 0 < result.fault → acts.new ≡ acts.old }
-    ensures count { 0 < result.fault → result.count ≡ (if result.fault == 9 then 2 * length new.now else 0) }
+    ensures count { 0 < result.fault → result.count ≡ (if result.fault == 9 then 3 * length new.now else 0) }
     // A valid chunk has no fault of its own but lack of memory.
     ensures valid { (m : List Mark) → IsAccepted base limit code.now m → (result.fault ≡ 0) ⊎ (8 ≤ result.fault) }
 {
@@ -129,7 +129,7 @@ pub extern "C" fn nc_host_patch(
     match judge_patch(alloc, base, limit, code, marks, at, new) {
         Err(AllocError) => refusal(NO_MEMORY, 0),
         Ok(Some(fault)) => refusal(patch_number(fault), 0),
-        Ok(None) if acts.len() < 2 * new.len() => refusal(NO_ROOM, 2 * new.len() as u32),
+        Ok(None) if acts.len() < 3 * new.len() => refusal(NO_ROOM, 3 * new.len() as u32),
         Ok(None) => {
             let count = write_patch(acts, 0, base, code, (at - base) as usize, new);
             NcActs {

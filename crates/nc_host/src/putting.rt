@@ -1,11 +1,13 @@
-//! The acts of a creation and of a deletion, written into a host's buffer.
+//! The acts of a creation and of a deletion with their settlings, written into a host's buffer.
 
 ghost use Rattle.std.specs.Prelude.{◌≡◌, ◌+◌, ◌<◌, ◌≤◌, ◌^◌, List, [], ◌∷◌, ◌++◌, length, replicate, slice_set};
 ghost use Rattle.nc_decode.specs.declared.instruction.Mark.{Mark};
 ghost use Rattle.nc_vet.specs.Listed.{listed};
 ghost use Rattle.nc_region.specs.declared.acts.Act.{Act};
-ghost use Rattle.nc_region.specs.Acts.{puts_where, acts_of_create, acts_of_delete};
-ghost use Rattle.nc_host.specs.Shown.{act_of};
+ghost use Rattle.nc_region.specs.declared.acts.Entry.{Entry};
+ghost use Rattle.nc_region.specs.Acts.{puts_where};
+ghost use Rattle.nc_region.specs.Log.{log_of_create, log_of_delete};
+ghost use Rattle.nc_host.specs.Shown.{act_of, entry_of};
 ghost use Rattle.nc_host.specs.Outcomes.{StandAt};
 ghost use Rattle.nc_host.specs.machinery.Writing.{HasWritten, HasPutUpTo, starts_if, mark_if, marked_if};
 ghost use Rattle.nc_host.specs.declared.answers.NcAct.{NcAct};
@@ -45,6 +47,17 @@ fn bump() -> NcAct
 {
     NcAct {
         kind: 3,
+        at: 0,
+        value: 0,
+    }
+}
+
+/// The host settles.
+pub(crate) fn settle() -> NcAct
+    ensures { result ≡ entry_of Entry.Settled }
+{
+    NcAct {
+        kind: 6,
         at: 0,
         value: 0,
     }
@@ -122,27 +135,29 @@ fn write_stops(
     count
 }
 
-/// Writes the acts of a creation.
+/// Writes the acts of a creation, with its settling.
 pub(crate) fn write_creation(acts: &mut [NcAct], base: u32, code: &[u8])
     requires high { base + length code.now < 2 ^ 32 }
-    requires room { length code.now + 1 ≤ length acts.old }
-    ensures { HasWritten acts.old acts.new (length code.now + 1) (acts_of_create base code.now) }
+    requires room { length code.now + 2 ≤ length acts.old }
+    ensures { HasWritten acts.old acts.new (length code.now + 2) (log_of_create base code.now) }
 {
     let count = write_code(acts, 0, base, code, false);
-    let count = write(acts, count, mark_span(base, code.len() as u32));
-    write_code(acts, count, base, code, true);
+    let settled = write(acts, count, settle());
+    let marked = write(acts, settled, mark_span(base, code.len() as u32));
+    write_code(acts, marked, base, code, true);
 }
 
-/// Writes the acts of a deletion.
+/// Writes the acts of a deletion, with its settling.
 pub(crate) fn write_deletion(acts: &mut [NcAct], base: u32, code: &[u8], marks: &Marks)
     requires low { 65536 ≤ base }
     requires high { base + length code.now < 2 ^ 32 }
     requires each { length (listed code.now marks.now) ≡ length code.now }
-    requires room { length code.now + 1 ≤ length acts.old }
+    requires room { length code.now + 2 ≤ length acts.old }
     ensures { (text : List Mark) → StandAt text base (listed code.now marks.now)
-        → HasWritten acts.old acts.new (length code.now + 1) (acts_of_delete text base (length code.now)) }
+        → HasWritten acts.old acts.new (length code.now + 2) (log_of_delete text base (length code.now)) }
 {
     let marked = write_stops(acts, 0, base, code, marks, true);
-    let count = write_stops(acts, marked, base, code, marks, false);
+    let settled = write(acts, marked, settle());
+    let count = write_stops(acts, settled, base, code, marks, false);
     write(acts, count, bump());
 }

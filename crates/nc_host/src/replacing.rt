@@ -1,13 +1,13 @@
-//! The acts of a patch, written into a host's buffer.
+//! The acts of a patch with their settlings, written into a host's buffer.
 
 ghost use Rattle.std.specs.Prelude.{◌≡◌, ◌+◌, ◌*◌, ◌<◌, ◌≤◌, ◌^◌, ℕ, List, [], ◌∷◌, ◌++◌, length, if◌then◌else◌};
 ghost use Rattle.nc_vet.specs.Chunk.{Piece};
-ghost use Rattle.nc_region.specs.Patch.{AreBytesOf, stands_there, any_place, acts_of_instruction, acts_of_modify};
+ghost use Rattle.nc_region.specs.Patch.{AreBytesOf, stands_there, any_place, log_of_instruction, log_of_modify};
 ghost use Rattle.nc_host.specs.Patches.{AreBytesAt};
 ghost use Rattle.nc_host.specs.machinery.Writing.{HasPutUpTo, Adds};
 
 use crate::answers::NcAct;
-use crate::putting::{STOP, put, write};
+use crate::putting::{STOP, put, settle, write};
 use nc_decode::decode;
 
 /// These bytes stand in the code from this place on.
@@ -34,22 +34,25 @@ fn write_all(acts: &mut [NcAct], from: usize, at: u32, bytes: &[u8]) -> usize
     count
 }
 
-/// Writes the acts by which an instruction is replaced by one that is as long. It answers how many acts there are then.
+/// Writes the acts by which an instruction is replaced by one that is as long, with their settlings. It answers how many acts
+/// there are then.
 fn write_instruction(acts: &mut [NcAct], from: usize, at: u32, bytes: &[u8]) -> usize
     requires some { 0 < length bytes.now }
     requires high { at + length bytes.now < 2 ^ 32 }
-    requires room { from + 2 * length bytes.now ≤ length acts.old }
+    requires room { from + 3 * length bytes.now ≤ length acts.old }
     ensures len { length acts.new ≡ length acts.old }
-    ensures within { result ≤ from + 2 * length bytes.now }
-    ensures written { Adds acts.old from acts.new result (acts_of_instruction at bytes.now) }
+    ensures within { result ≤ from + 3 * length bytes.now }
+    ensures written { Adds acts.old from acts.new result (log_of_instruction at bytes.now) }
 {
     let first = bytes[0];
     if bytes.len() == 1 {
         return write(acts, from, put(at, first));
     }
     let count = write(acts, from, put(at, STOP));
-    let count = write_all(acts, count, at + 1, &bytes[1..]);
-    write(acts, count, put(at, first))
+    let stopped = write(acts, count, settle());
+    let count = write_all(acts, stopped, at + 1, &bytes[1..]);
+    let settled = write(acts, count, settle());
+    write(acts, settled, put(at, first))
 }
 
 /// The same, unless the bytes stand there already.
@@ -64,11 +67,11 @@ fn write_where_new(
     requires some { 0 < length bytes.now }
     requires ends { from + length bytes.now ≤ length code.now }
     requires high { base + length code.now < 2 ^ 32 }
-    requires room { count + 2 * length bytes.now ≤ length acts.old }
+    requires room { count + 3 * length bytes.now ≤ length acts.old }
     ensures len { length acts.new ≡ length acts.old }
-    ensures within { result ≤ count + 2 * length bytes.now }
+    ensures within { result ≤ count + 3 * length bytes.now }
     ensures written { (text : List ℕ) → AreBytesAt text base code.now → Adds acts.old count acts.new result
-        (if stands_there text (base + from) bytes.now then [] else acts_of_instruction (base + from) bytes.now) }
+        (if stands_there text (base + from) bytes.now then [] else log_of_instruction (base + from) bytes.now) }
 {
     if stands(code, from, bytes) {
         return count;
@@ -88,11 +91,11 @@ pub(crate) fn write_patch(
 ) -> usize
     requires ends { from + length new.now ≤ length code.now }
     requires high { base + length code.now < 2 ^ 32 }
-    requires room { count + 2 * length new.now ≤ length acts.old }
+    requires room { count + 3 * length new.now ≤ length acts.old }
     ensures len { length acts.new ≡ length acts.old }
-    ensures within { result ≤ count + 2 * length new.now }
+    ensures within { result ≤ count + 3 * length new.now }
     ensures written { (text : List ℕ) (news : List Piece) → AreBytesAt text base code.now → AreBytesOf new.now news
-        → Adds acts.old count acts.new result (acts_of_modify text (base + from) news) }
+        → Adds acts.old count acts.new result (log_of_modify text (base + from) news) }
 {
     if new.is_empty() {
         return count;

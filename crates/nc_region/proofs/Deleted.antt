@@ -16,6 +16,7 @@ use Rattle.nc_region.specs.Chunks.{HasGoodSpan}
 use Rattle.nc_region.specs.Each.{Each}
 use Rattle.nc_gens.specs.Rule.{generation_raised}
 use Rattle.nc_region.specs.Acts.{Tells, acts_of_delete}
+use Rattle.nc_region.specs.Log.{Logs, log_of_delete}
 use Rattle.nc_region.specs.Deletion.{IsDeleted}
 use Rattle.nc_region.specs.Region.{Region, IsLive, IsInChunk, IsRising, HoldsValid, IsRegion}
 use Rattle.nc_region.proofs.AgreesOutside.{AgreesOutside, LiesBeside, still_holds}
@@ -155,6 +156,7 @@ with_parts r marks made =
       chunks = r.chunks;
       keeper = r.keeper;
       told = r.told;
+      logged = r.logged;
     }
 
 -- what a deletion leaves, by its parts
@@ -165,8 +167,9 @@ pub deleted_is : (old new : Region) (k base len stamp : ℕ) (chunk : Chunk) →
     → new.made ≡ old.made
     → new.chunks ≡ set old.chunks k (record { base = base; length = len; state = Retired stamp })
     → new.keeper ≡ record old.keeper { numbers = generation_raised old.keeper.numbers }
-    → Tells old.told new.told (acts_of_delete old.marked.marks base len) → IsDeleted old new base stamp
-deleted_is old new k base len stamp chunk listed live base_is len_is room stamp_is bytes marks made chunks keeper told =
+    → Tells old.told new.told (acts_of_delete old.marked.marks base len)
+    → Logs old.logged new.logged (log_of_delete old.marked.marks base len) → IsDeleted old new base stamp
+deleted_is old new k base len stamp chunk listed live base_is len_is room stamp_is bytes marks made chunks keeper told log =
     record {
       index = k;
       chunk = chunk;
@@ -180,4 +183,5 @@ deleted_is old new k base len stamp chunk listed live base_is len_is room stamp_
       keeper = keeper;
       others = ap (λ (m : List Mark). with_parts new m new.made) marks ∙ ap (λ (d : List Bool). with_parts new old.marked.marks d) made;
       acts = subst (λ (n : ℕ). Tells old.told new.told (acts_of_delete old.marked.marks base n)) len_is told;
+      log = subst (λ (n : ℕ). Logs old.logged new.logged (log_of_delete old.marked.marks base n)) len_is log;
     }

@@ -7,18 +7,23 @@ use Rattle.std.proofs.Math.Seq.{take-suc, drop-cons}
 use Rattle.nc_text.specs.MarkedText.{MarkedText, without_marks}
 use Rattle.nc_region.specs.declared.acts.Act.{Act}
 use Rattle.nc_region.specs.declared.acts.Act.TheVariants.{UnmarkSpan, Look}
+use Rattle.nc_region.specs.declared.acts.Entry.{Entry}
+use Rattle.nc_region.specs.declared.acts.Entry.TheVariants.{Did}
 use Rattle.nc_region.specs.declared.chunk.Chunk.{Chunk}
 use Rattle.nc_region.specs.declared.chunk.ChunkState.{ChunkState}
 use Rattle.nc_region.specs.declared.chunk.ChunkState.TheVariants.{Live, Retired}
 use Rattle.nc_region.specs.Chunks.{HasGoodSpan}
 use Rattle.nc_region.specs.Each.{Each}
+use Rattle.nc_region.specs.Quiet.{IsQuiet}
 use Rattle.nc_region.specs.Region.{Region, IsLive, IsRising, IsRegion}
 use Rattle.nc_gens.specs.Seen.{HasLooked, least_number}
 use Rattle.nc_region.specs.Acts.{Tells}
+use Rattle.nc_region.specs.Log.{Logs, unsettled}
 use Rattle.nc_region.specs.Deletion.{is_due, freed, kept, unmarked, unmarkings, IsReclaimed}
 use Rattle.nc_region.proofs.Told.{tells_more}
+use Rattle.nc_region.proofs.Logged.{logs_more}
 use Rattle.nc_schedule.proofs.Offered.{MayFree}
-use Rattle.nc_region.proofs.Freed.{span_of, frees, region_freed}
+use Rattle.nc_region.proofs.Freed.{span_of, dead_is_quiet, frees, region_freed}
 
 -- what is due isn't live
 due_dead : (least : ℕ) (s : ChunkState) → is_due least s ≡ true → IsLive s → ⊥
@@ -90,6 +95,14 @@ next_frees marked least chunks i d lt is region =
     frees marked (kept least (take i chunks)) (drop (suc i) chunks) (get_or chunks i d)
     (subst (IsRegion marked) (at_seam least chunks i d lt) region) (due_dead least (get_or chunks i d).state is)
 
+-- it is quiet
+pub next_quiet : (marked : MarkedText) (least : ℕ) (chunks : List Chunk) (i : ℕ) (d : Chunk) → i < length chunks
+    → is_due least (get_or chunks i d).state ≡ true → IsRegion marked (kept least (take i chunks) ++ drop i chunks)
+    → IsQuiet marked.bytes marked.marks (span_of (get_or chunks i d))
+next_quiet marked least chunks i d lt is region =
+    dead_is_quiet marked (kept least (take i chunks)) (drop (suc i) chunks) (get_or chunks i d)
+    (subst (IsRegion marked) (at_seam least chunks i d lt) region) (due_dead least (get_or chunks i d).state is)
+
 -- the region once it is freed
 pub next_freed : (marked : MarkedText) (least : ℕ) (chunks : List Chunk) (i : ℕ) (d : Chunk) → i < length chunks
     → is_due least (get_or chunks i d).state ≡ true → IsRegion marked (kept least (take i chunks) ++ drop i chunks)
@@ -140,15 +153,19 @@ few limit from (c ∷ rest) rising placed le =
 
 -- a region with these pages
 abbrev with_pages : Region → List Bool → Region
-with_pages r made = record { marked = r.marked; made = made; chunks = r.chunks; keeper = r.keeper; told = r.told }
+with_pages r made =
+    record { marked = r.marked; made = made; chunks = r.chunks; keeper = r.keeper; told = r.told; logged = r.logged }
 
 -- what reclaiming leaves, by its parts
-pub reclaimed_is : (old new : Region) (between : Option (List Act)) (count least : ℕ) → HasLooked old.keeper new.keeper
+pub reclaimed_is : (old new : Region) (between : Option (List Act)) (halfway : Option (List Entry)) (count least : ℕ)
+    → HasLooked old.keeper new.keeper
     → least ≡ least_number new.keeper.numbers
     → new.chunks ≡ kept least old.chunks → count ≡ length (freed least old.chunks)
     → new.marked ≡ unmarked old.marked (freed least old.chunks) → new.made ≡ old.made
-    → Tells old.told between (Look ∷ []) → Tells between new.told (unmarkings (freed least old.chunks)) → IsReclaimed old new count
-reclaimed_is old new between count least looked is chunks count_is marked made first second =
+    → Tells old.told between (Look ∷ []) → Tells between new.told (unmarkings (freed least old.chunks))
+    → Logs old.logged halfway (Did Look ∷ []) → Logs halfway new.logged (unsettled (unmarkings (freed least old.chunks)))
+    → IsReclaimed old new count
+reclaimed_is old new between halfway count least looked is chunks count_is marked made first second look rest =
     record {
       looked = looked;
       chunks = chunks ∙ ap (λ (n : ℕ). kept n old.chunks) is;
@@ -158,4 +175,6 @@ reclaimed_is old new between count least looked is chunks count_is marked made f
       others = ap (λ (d : List Bool). with_pages new d) made;
       acts = subst (λ (n : ℕ). Tells old.told new.told (Look ∷ unmarkings (freed n old.chunks))) is
           (tells_more old.told between new.told (Look ∷ []) (unmarkings (freed least old.chunks)) first second);
+      log = subst (λ (n : ℕ). Logs old.logged new.logged (unsettled (Look ∷ unmarkings (freed n old.chunks)))) is
+          (logs_more old.logged halfway new.logged (Did Look ∷ []) (unsettled (unmarkings (freed least old.chunks))) look rest);
     }

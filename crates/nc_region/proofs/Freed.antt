@@ -9,7 +9,7 @@ use Rattle.nc_region.specs.Quiet.{Span, IsQuiet}
 use Rattle.nc_region.specs.Region.{IsLive, IsInChunk, IsRising, HoldsValid, IsRegion}
 use Rattle.nc_region.proofs.AgreesOutside.{AgreesOutside, LiesBeside, still_holds}
 use Rattle.nc_region.proofs.EachMember.{each_map, each_both, each_middle, each_out, each_in}
-use Rattle.nc_schedule.proofs.Offered.{MayFree, freed_within, freed_before, freed_behind, freed_long, freed_closed}
+use Rattle.nc_schedule.proofs.Offered.{shut_if_quiet, MayFree, freed_within, freed_before, freed_behind, freed_long, freed_closed}
 use Rattle.nc_region.proofs.QuietSpans.{quiet_chunks}
 use Rattle.nc_region.proofs.Rising.{rises_above}
 use Rattle.nc_region.proofs.SpanPlaces.{place_of, Before, Within, Behind}
@@ -39,6 +39,14 @@ lie_beside from (b ∷ before) after c rising = (
 abbrev pub span_of : Chunk → Span
 span_of c = record { base = c.base; length = c.length; stamp = 0 }
 
+-- a retired chunk's span is quiet
+pub dead_is_quiet : (marked : MarkedText) (before after : List Chunk) (c : Chunk) → IsRegion marked (before ++ c ∷ after)
+    → (IsLive c.state → ⊥) → IsQuiet marked.bytes marked.marks (span_of c)
+dead_is_quiet marked before after c region dead =
+    each_middle (λ (d : Chunk). (IsLive d.state → ⊥) → (stamp : ℕ)
+    → IsQuiet marked.bytes marked.marks (record { base = d.base; length = d.length; stamp = stamp })) before after c
+    (quiet_chunks marked (before ++ c ∷ after) region) dead 0
+
 -- a retired chunk's span may be freed
 pub frees : (marked : MarkedText) (before after : List Chunk) (c : Chunk) → IsRegion marked (before ++ c ∷ after) → (IsLive c.state → ⊥)
     → MayFree marked (span_of c)
@@ -49,10 +57,7 @@ frees marked before after c region dead =
       whole =
           let placed = each_middle (λ (d : Chunk). HasGoodSpan d.base (limit_of marked.bytes) d.length) before after c region.placed in
           record { start = placed.start; bundles = placed.whole; low = placed.low; high = omega (arith, placed.high) };
-      quiet =
-          each_middle (λ (d : Chunk). (IsLive d.state → ⊥) → (stamp : ℕ)
-          → IsQuiet marked.bytes marked.marks (record { base = d.base; length = d.length; stamp = stamp })) before after c
-          (quiet_chunks marked (before ++ c ∷ after) region) dead 0;
+      shut = shut_if_quiet marked.bytes marked.marks (span_of c) (dead_is_quiet marked before after c region dead);
     }
 
 -- outside it nothing is changed

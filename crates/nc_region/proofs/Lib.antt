@@ -1,6 +1,7 @@
 pub mod EachMember
 pub mod SpanPlaces
 pub mod Told
+pub mod Logged
 pub mod Puts
 pub mod Alone
 pub mod Joining

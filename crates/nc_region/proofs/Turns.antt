@@ -13,9 +13,10 @@ use Rattle.nc_text.specs.Places.{limit_of, byte_at}
 use Rattle.nc_text.specs.MarkedText.{MarkedText, IsText, with_span}
 use Rattle.nc_text.proofs.Offered.{length-with_span}
 use Rattle.nc_region.specs.declared.acts.Act.{Act}
+use Rattle.nc_region.specs.declared.acts.Entry.{Entry}
 use Rattle.nc_region.specs.declared.chunk.Chunk.{Chunk}
 use Rattle.nc_region.specs.Patch.{AreBytesOf, lengths, SparesPairs, GoWell, stands_there, acts_of_instruction}
-use Rattle.nc_region.specs.Patch.{acts_of_modify}
+use Rattle.nc_region.specs.Patch.{acts_of_modify, log_of_instruction, log_of_modify}
 use Rattle.nc_region.specs.machinery.PatchSteps.{CanPatch}
 use Rattle.nc_region.proofs.SpanPlaces.{place_of, Before, Within, Behind, span_within, span_before, span_behind}
 use Rattle.nc_region.proofs.NewInstructions.{some_same}
@@ -217,7 +218,7 @@ stands_same text at bytes low fits e =
     ]))
 
 -- what stands from a place on is the same in texts that agree there
-same_stands : (a b : List ℕ) (at : ℕ) (bytes : List ℕ) → ((k : ℕ) → at ≤ k → byte_at a k ≡ byte_at b k)
+pub same_stands : (a b : List ℕ) (at : ℕ) (bytes : List ℕ) → ((k : ℕ) → at ≤ k → byte_at a k ≡ byte_at b k)
     → stands_there a at bytes ≡ stands_there b at bytes
 same_stands a b at [] h = refl
 same_stands a b at (x ∷ rest) h = ap (λ (z : ℕ). (z == x) && stands_there a (at + 1) rest) (h at (omega arith))
@@ -232,3 +233,13 @@ same_acts a b at (n ∷ ns) h =
     (same_stands a b at n.bytes h)
     ∙ ap (λ (z : List Act). cond (stands_there b at n.bytes) [] (acts_of_instruction at n.bytes) ++ z)
     (same_acts a b (at + length n.bytes) ns (λ k le. h k (omega (arith, le))))
+
+-- and the same log
+pub same_log : (a b : List ℕ) (at : ℕ) (ns : List Piece) → ((k : ℕ) → at ≤ k → byte_at a k ≡ byte_at b k)
+    → log_of_modify a at ns ≡ log_of_modify b at ns
+same_log a b at [] h = refl
+same_log a b at (n ∷ ns) h =
+    ap (λ (z : Bool). cond z [] (log_of_instruction at n.bytes) ++ log_of_modify a (at + length n.bytes) ns)
+    (same_stands a b at n.bytes h)
+    ∙ ap (λ (z : List Entry). cond (stands_there b at n.bytes) [] (log_of_instruction at n.bytes) ++ z)
+    (same_log a b (at + length n.bytes) ns (λ k le. h k (omega (arith, le))))

@@ -12,6 +12,7 @@ use Rattle.nc_region.specs.declared.chunk.ChunkState.TheVariants.{Live, Retired}
 use Rattle.nc_region.specs.declared.fault.DeleteFault.{DeleteFault}
 use Rattle.nc_region.specs.declared.fault.DeleteFault.TheVariants.{NoChunk, GensFull}
 use Rattle.nc_region.specs.Acts.{Tells, acts_of_delete}
+use Rattle.nc_region.specs.Log.{Logs, unsettled, log_of_delete}
 use Rattle.nc_region.specs.Region.{Region, IsLive}
 
 -- some live chunk of the list has this base
@@ -20,7 +21,7 @@ HasLive chunks base = (c : Chunk) × Contains chunks c × IsLive c.state × (c.b
 
 -- The region after the chunk of this base was deleted: it was live, its bytes are stops, it is retired, and its stamp is
 -- the next generation, which is the keeper's now. All else that a region has is as before. Where acts are told, they are
--- those of the deletion, in their order.
+-- those of the deletion, in their order; where they are logged, with one settling among them.
 pub record IsDeleted (old new : Region) (base stamp : ℕ) : Type 0 where
   pub index : ℕ
   pub chunk : Chunk
@@ -38,8 +39,10 @@ pub record IsDeleted (old new : Region) (base stamp : ℕ) : Type 0 where
     keeper =
         new.keeper;
     told = new.told;
+    logged = new.logged;
   }
   pub acts : Tells old.told new.told (acts_of_delete old.marked.marks base chunk.length)
+  pub log : Logs old.logged new.logged (log_of_delete old.marked.marks base chunk.length)
 
 -- when each refusal of `delete` comes: the first of the two that holds
 abbrev pub MayRefuseDelete : Region → ℕ → DeleteFault → Type 0
@@ -71,11 +74,13 @@ unmarkings chunks = map (λ (c : Chunk). UnmarkSpan c.base c.length) chunks
 -- The region after retired chunks were reclaimed, so many as `count` says: the keeper has looked, exactly the chunks with
 -- a stamp of at most its least number have left the list, and their spans are unmarked. All else that a region has is as
 -- before; no byte changed. Where acts are told, they are one look and then one unmarking for each chunk freed, rising.
+-- It never settles.
 pub record IsReclaimed (old new : Region) (count : ℕ) : Type 0 where
   pub looked : HasLooked old.keeper new.keeper
   pub chunks : new.chunks ≡ kept (least_number new.keeper.numbers) old.chunks
   pub count_is : count ≡ length (freed (least_number new.keeper.numbers) old.chunks)
   pub marked : new.marked ≡ unmarked old.marked (freed (least_number new.keeper.numbers) old.chunks)
   pub bytes : new.marked.bytes ≡ old.marked.bytes
-  pub others : new ≡ record old { marked = new.marked; chunks = new.chunks; keeper = new.keeper; told = new.told }
+  pub others : new ≡ record old { marked = new.marked; chunks = new.chunks; keeper = new.keeper; told = new.told; logged = new.logged }
   pub acts : Tells old.told new.told (Look ∷ unmarkings (freed (least_number new.keeper.numbers) old.chunks))
+  pub log : Logs old.logged new.logged (unsettled (Look ∷ unmarkings (freed (least_number new.keeper.numbers) old.chunks)))

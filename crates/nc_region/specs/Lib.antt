@@ -1,6 +1,7 @@
 pub mod machinery
 pub mod Each
 pub mod Acts
+pub mod Log
 pub mod Chunks
 pub mod Region
 pub mod Quiet

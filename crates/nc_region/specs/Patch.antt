@@ -8,10 +8,13 @@ use Rattle.nc_text.specs.Places.{limit_of, byte_at}
 use Rattle.nc_text.specs.MarkedText.{MarkedText, with_span}
 use Rattle.nc_region.specs.declared.acts.Act.{Act}
 use Rattle.nc_region.specs.declared.acts.Act.TheVariants.{Put}
+use Rattle.nc_region.specs.declared.acts.Entry.{Entry}
+use Rattle.nc_region.specs.declared.acts.Entry.TheVariants.{Did, Settled}
 use Rattle.nc_region.specs.declared.chunk.Chunk.{Chunk}
 use Rattle.nc_region.specs.declared.fault.ModifyFault.{ModifyFault}
 use Rattle.nc_region.specs.declared.fault.ModifyFault.TheVariants.{BadSpan, NotLive, NotPermitted, Boundaries, PairTouched, BadTarget}
 use Rattle.nc_region.specs.Acts.{puts_where}
+use Rattle.nc_region.specs.Log.{unsettled}
 use Rattle.nc_region.specs.Region.{Region, IsLive, IsInChunk, HoldsValid}
 
 -- so many bytes, at least one, lie in one bundle
@@ -111,10 +114,11 @@ MayRefusePatch r at new Boundaries = IsPatchSpan at (length new) × IsHeld r.chu
 MayRefusePatch r at new PairTouched = IsPatchSpan at (length new) × Fits r at new × ¬ FitsBesidePairs r at new
 MayRefusePatch r at new BadTarget = IsPatchSpan at (length new) × FitsBesidePairs r at new × ¬ IsPatch r at new
 
--- The region after a patch: the new bytes stand there. All else that a region has is as before, except for the acts told.
+-- The region after a patch: the new bytes stand there. All else that a region has is as before, except for
+-- the acts told and logged.
 pub record IsModified (old new : Region) (at : ℕ) (bytes : List ℕ) : Type 0 where
   pub patched : new.marked.bytes ≡ with_span old.marked.bytes (at - 0x10000) bytes
-  pub others : new ≡ record old { marked = record old.marked { bytes = new.marked.bytes }; told = new.told }
+  pub others : new ≡ record old { marked = record old.marked { bytes = new.marked.bytes }; told = new.told; logged = new.logged }
 
 -- these bytes stand there already
 abbrev pub stands_there : List ℕ → ℕ → List ℕ → Bool
@@ -137,3 +141,17 @@ abbrev pub acts_of_modify : List ℕ → ℕ → List Piece → List Act
 acts_of_modify text at [] = []
 acts_of_modify text at (p ∷ rest) =
     (if stands_there text at p.bytes then [] else acts_of_instruction at p.bytes) ++ acts_of_modify text (at + length p.bytes) rest
+
+-- One instruction is replaced: one of several bytes settles twice, after the stop at its first byte and after its further bytes;
+-- one of a single byte never.
+abbrev pub log_of_instruction : ℕ → List ℕ → List Entry
+log_of_instruction at [] = []
+log_of_instruction at (byte ∷ []) = Did (Put at byte) ∷ []
+log_of_instruction at (byte ∷ next ∷ rest) =
+    Did (Put at 0xF4) ∷ Settled ∷ (unsettled (puts_where any_place (at + 1) (next ∷ rest)) ++ (Settled ∷ Did (Put at byte) ∷ []))
+
+-- A patch is made: each instruction whose bytes don't stand there already is replaced, rising.
+abbrev pub log_of_modify : List ℕ → ℕ → List Piece → List Entry
+log_of_modify text at [] = []
+log_of_modify text at (p ∷ rest) =
+    (if stands_there text at p.bytes then [] else log_of_instruction at p.bytes) ++ log_of_modify text (at + length p.bytes) rest

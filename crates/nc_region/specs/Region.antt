@@ -12,6 +12,7 @@ use Rattle.nc_text.specs.MarkedText.{MarkedText, IsText, with_span, unused_mark,
 use Rattle.nc_text.specs.Ready.{AreReady, GetsReady}
 use Rattle.nc_gens.specs.Seen.{KeeperState}
 use Rattle.nc_region.specs.declared.acts.Act.{Act}
+use Rattle.nc_region.specs.declared.acts.Entry.{Entry}
 use Rattle.nc_region.specs.declared.chunk.Chunk.{Chunk}
 use Rattle.nc_region.specs.declared.chunk.ChunkState.{ChunkState}
 use Rattle.nc_region.specs.declared.chunk.ChunkState.TheVariants.{Live, Retired}
@@ -21,13 +22,14 @@ use Rattle.nc_region.specs.Chunks.{HasGoodSpan}
 use Rattle.nc_region.specs.Each.{Each}
 
 -- What contracts see of a region: bytes and marks, the pages that are made, the chunks by rising base, the keeper with the
--- generation and each seat's bound, and the acts told so far.
+-- generation and each seat's bound, the acts told so far, and these with the settlings among them, while they are logged.
 pub record Region : Type 0 where
   pub marked : MarkedText
   pub made : List Bool
   pub chunks : List Chunk
   pub keeper : KeeperState
   pub told : Option (List Act)
+  pub logged : Option (List Entry)
 
 -- what contracts see of a `Plain`
 pub record PlainState : Type 0 where
@@ -104,13 +106,19 @@ abbrev pub live_chunk : vet.MarkedChunk → Chunk
 live_chunk v = record { base = v.base; length = length v.code; state = Live }
 
 -- The region after the chunk was created: the span holds its code and its marks, and it is in the list. Pages of the span
--- may have been made. All else that a region has is as before, except for the acts told.
+-- may have been made. All else that a region has is as before, except for the acts told and logged.
 pub record IsCreated (old new : Region) (v : vet.MarkedChunk) : Type 0 where
   pub bytes : new.marked.bytes ≡ with_span old.marked.bytes (v.base - 0x10000) v.code
   pub marks : new.marked.marks ≡ with_span old.marked.marks (v.base - 0x10000) v.marks
   pub chunks : IsInserted old.chunks new.chunks (live_chunk v)
   pub ready : GetsReady old.made new.made v.base (length v.code)
-  pub others : new ≡ record old { marked = new.marked; made = new.made; chunks = new.chunks; told = new.told }
+  pub others : new ≡ record old {
+    marked = new.marked;
+    made = new.made;
+    chunks = new.chunks;
+    told = new.told;
+    logged = new.logged;
+  }
 
 -- The region after a refused creation: it is as before. Only where memory was refused, pages of the span may have been made.
 abbrev pub IsRefused : Region → Region → vet.MarkedChunk → CreateFault → Type 0

@@ -10,7 +10,9 @@ ghost use Rattle.nc_text.specs.Ready.{IsReady, AreReady, GetsReady};
 ghost use Rattle.nc_gens.specs.Rule.{generation_raised};
 ghost use Rattle.nc_gens.specs.Seen.{KeeperState, HasLooked, HasMet, least_number};
 ghost use Rattle.nc_region.specs.declared.acts.Act.{Act};
+ghost use Rattle.nc_region.specs.declared.acts.Entry.{Entry};
 ghost use Rattle.nc_region.specs.Acts.{Tells};
+ghost use Rattle.nc_region.specs.Log.{Logs};
 
 use nc_decode::Mark;
 use nc_gens::{GensFull, Pass};
@@ -31,11 +33,20 @@ pub enum Act {
     Look,
 }
 
+/// One entry of a log: an act, or a settling between two acts.
+#[derive(Clone, Copy, Debug, PartialEq, Eq)]
+pub enum Entry {
+    /// This act was done.
+    Did(Act),
+    /// The region settled.
+    Settled,
+}
+
 /// What a region does its work by: a text, changed one act at a time, and the keeper of a table of generations.
 ///
 /// Conditions and promises are those of `nc_text::Text` and `nc_gens::Gens`; an act on the text leaves the keeper as it is,
 /// and the other way round. A value may tell its puts, spans marked and unmarked, bumps and looks; each adds itself at the
-/// end. One that tells nothing says `None`, for good.
+/// end. One that tells nothing says `None`, for good. Beside them it may log the same acts with the settlings among them.
 pub trait Acts {
     /// Bytes and marks.
     ghost marked: { Self → MarkedText };
@@ -49,6 +60,9 @@ pub trait Acts {
     /// The acts so far, while they are told.
     ghost told: { Self → Option (List Act) };
 
+    /// The acts so far with the settlings among them, while they are logged.
+    ghost logged: { Self → Option (List Entry) };
+
     /// Makes the pages of a span. It is no act that is told.
     fn ready(&mut self, at: u32, len: u32) -> Result<(), TextFault>
         requires inside { SpanInRegion (marked self.old).bytes at len }
@@ -58,7 +72,8 @@ pub trait Acts {
         ensures marked { marked self.new ≡ marked self.old }
         ensures whole { IsText (marked self.new) }
         ensures keeper { keeper self.new ≡ keeper self.old }
-        ensures told { told self.new ≡ told self.old };
+        ensures told { told self.new ≡ told self.old }
+        ensures logged { logged self.new ≡ logged self.old };
 
     /// Whether every place of a span is ready.
     fn is_ready(&self, at: u32, len: u32) -> bool
@@ -74,7 +89,18 @@ pub trait Acts {
         ensures made { made self.new ≡ made self.old }
         ensures whole { IsText (marked self.new) }
         ensures keeper { keeper self.new ≡ keeper self.old }
-        ensures told { Tells (told self.old) (told self.new) (Act.Put at byte ∷ []) };
+        ensures told { Tells (told self.old) (told self.new) (Act.Put at byte ∷ []) }
+        ensures logged { Logs (logged self.old) (logged self.new) (Entry.Did (Act.Put at byte) ∷ []) };
+
+    /// Makes every thread that executes fetch anew: once it has returned, no byte is executed that was overwritten before the
+    /// call. It changes no byte, no mark and no number, and is no act that is told.
+    fn settle(&mut self)
+        ensures logged { Logs (logged self.old) (logged self.new) (Entry.Settled ∷ []) }
+        ensures marked { marked self.new ≡ marked self.old }
+        ensures made { made self.new ≡ made self.old }
+        ensures whole { IsText (marked self.new) }
+        ensures keeper { keeper self.new ≡ keeper self.old }
+        ensures told { told self.new ≡ told self.old };
 
     /// Sets the marks of a span.
     fn mark_span(&mut self, at: u32, marks: &[Mark])
@@ -87,7 +113,8 @@ pub trait Acts {
         ensures made { made self.new ≡ made self.old }
         ensures whole { IsText (marked self.new) }
         ensures keeper { keeper self.new ≡ keeper self.old }
-        ensures told { Tells (told self.old) (told self.new) (Act.MarkSpan at (length marks.now) ∷ []) };
+        ensures told { Tells (told self.old) (told self.new) (Act.MarkSpan at (length marks.now) ∷ []) }
+        ensures logged { Logs (logged self.old) (logged self.new) (Entry.Did (Act.MarkSpan at (length marks.now)) ∷ []) };
 
     /// Takes the marks of a span back, except for its bundle starts.
     fn unmark_span(&mut self, at: u32, len: u32)
@@ -98,7 +125,8 @@ pub trait Acts {
         ensures made { made self.new ≡ made self.old }
         ensures whole { IsText (marked self.new) }
         ensures keeper { keeper self.new ≡ keeper self.old }
-        ensures told { Tells (told self.old) (told self.new) (Act.UnmarkSpan at len ∷ []) };
+        ensures told { Tells (told self.old) (told self.new) (Act.UnmarkSpan at len ∷ []) }
+        ensures logged { Logs (logged self.old) (logged self.new) (Entry.Did (Act.UnmarkSpan at len) ∷ []) };
 
     /// The byte at an address.
     fn byte(&self, at: u32) -> u8
@@ -122,10 +150,12 @@ pub trait Acts {
         ensures raised { OnOk result (keeper self.new
             ≡ record (keeper self.old) { numbers = generation_raised (keeper self.old).numbers }) }
         ensures told { OnOk result (Tells (told self.old) (told self.new) (Act.Bump ∷ [])) }
+        ensures logged { OnOk result (Logs (logged self.old) (logged self.new) (Entry.Did Act.Bump ∷ [])) }
         ensures marked { marked self.new ≡ marked self.old }
         ensures made { made self.new ≡ made self.old }
         ensures full { OnErr result (((keeper self.old).numbers.generation ≡ 2 ^ 62) × (keeper self.new ≡ keeper self.old)) }
-        ensures silent { OnErr result (told self.new ≡ told self.old) };
+        ensures silent { OnErr result (told self.new ≡ told self.old) }
+        ensures unlogged { OnErr result (logged self.new ≡ logged self.old) };
 
     /// Loads each seat's word, and answers the keeper's least number.
     fn look(&mut self) -> u64
@@ -133,7 +163,8 @@ pub trait Acts {
         ensures least { result ≡ least_number (keeper self.new).numbers }
         ensures marked { marked self.new ≡ marked self.old }
         ensures made { made self.new ≡ made self.old }
-        ensures told { Tells (told self.old) (told self.new) (Act.Look ∷ []) };
+        ensures told { Tells (told self.old) (told self.new) (Act.Look ∷ []) }
+        ensures logged { Logs (logged self.old) (logged self.new) (Entry.Did Act.Look ∷ []) };
 
     /// A pass and the keeper learn where the other stands. It is no act that is told.
     fn meet(&mut self, pass: &mut Pass)
@@ -141,7 +172,8 @@ pub trait Acts {
         ensures met { HasMet pass.old (keeper self.old) pass.new (keeper self.new) }
         ensures marked { marked self.new ≡ marked self.old }
         ensures made { made self.new ≡ made self.old }
-        ensures told { told self.new ≡ told self.old };
+        ensures told { told self.new ≡ told self.old }
+        ensures logged { logged self.new ≡ logged self.old };
 
     /// The generation.
     fn generation(&self) -> u64

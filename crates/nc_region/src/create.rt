@@ -6,7 +6,9 @@ ghost use Rattle.nc_text.specs.Marks.{IsClosed};
 ghost use Rattle.nc_text.specs.Places.{limit_of};
 ghost use Rattle.nc_text.specs.Ready.{AreReady};
 ghost use Rattle.nc_text.specs.MarkedText.{MarkedText, IsText, with_span, NamesRegister};
+ghost use Rattle.nc_region.specs.declared.acts.Entry.{Entry};
 ghost use Rattle.nc_region.specs.Acts.{Tells, puts_where, is_inside, is_start, acts_of_create};
+ghost use Rattle.nc_region.specs.Log.{Logs, unsettled, log_of_create};
 ghost use Rattle.nc_region.specs.Chunks.{HasGoodSpan, IsClosedChunk, with_chunk};
 ghost use Rattle.nc_region.specs.machinery.Between.{IsUnused, HasPut, IsFinalBut};
 
@@ -25,13 +27,14 @@ pub(crate) fn put_chunk<A: Acts>(acts: &mut A, base: u32, code: &[u8], marks: &[
     ensures made { A.made acts.new ≡ A.made acts.old }
     ensures keeper { A.keeper acts.new ≡ A.keeper acts.old }
     ensures told { Tells (A.told acts.old) (A.told acts.new) (acts_of_create base code.now) }
+    ensures log { Logs (A.logged acts.old) (A.logged acts.new) (log_of_create base code.now) }
 {
     put_inside(acts, base, code);
     acts.mark_span(base, marks);
     put_starts(acts, base, code);
 }
 
-/// Puts the bytes that aren't bundle starts, rising.
+/// Puts the bytes that aren't bundle starts, rising, and settles.
 fn put_inside<A: Acts>(acts: &mut A, base: u32, code: &[u8])
     requires whole { IsText (A.marked acts.old) }
     requires placed { HasGoodSpan base (limit_of (A.marked acts.old).bytes) (length code.now) }
@@ -43,6 +46,8 @@ fn put_inside<A: Acts>(acts: &mut A, base: u32, code: &[u8])
     ensures made { A.made acts.new ≡ A.made acts.old }
     ensures keeper { A.keeper acts.new ≡ A.keeper acts.old }
     ensures told { Tells (A.told acts.old) (A.told acts.new) (puts_where is_inside base code.now) }
+    ensures log { Logs (A.logged acts.old) (A.logged acts.new)
+        (unsettled (puts_where is_inside base code.now) ++ Entry.Settled ∷ []) }
 {
     for i in 0..code.len() {
         let at = base + i as u32;
@@ -50,6 +55,7 @@ fn put_inside<A: Acts>(acts: &mut A, base: u32, code: &[u8])
             acts.put(at, code[i]);
         }
     }
+    acts.settle();
 }
 
 /// Puts the bundle starts, rising.
@@ -66,6 +72,7 @@ fn put_starts<A: Acts>(acts: &mut A, base: u32, code: &[u8])
     ensures made { A.made acts.new ≡ A.made acts.old }
     ensures keeper { A.keeper acts.new ≡ A.keeper acts.old }
     ensures told { Tells (A.told acts.old) (A.told acts.new) (puts_where is_start base code.now) }
+    ensures log { Logs (A.logged acts.old) (A.logged acts.new) (unsettled (puts_where is_start base code.now)) }
 {
     for bundle in 0..code.len() / 32 {
         let i = 32 * bundle;

@@ -6,7 +6,9 @@ ghost use Rattle.nc_text.specs.Places.{limit_of, byte_at};
 ghost use Rattle.nc_text.specs.Ready.{AreReady};
 ghost use Rattle.nc_text.specs.MarkedText.{MarkedText, IsText, with_span};
 ghost use Rattle.nc_gens.specs.Rule.{generation_raised};
+ghost use Rattle.nc_region.specs.declared.acts.Entry.{Entry};
 ghost use Rattle.nc_region.specs.Acts.{Tells, puts_where, is_mark, is_marked_at, is_unmarked_at, acts_of_delete};
+ghost use Rattle.nc_region.specs.Log.{Logs, unsettled, log_of_delete};
 ghost use Rattle.nc_region.specs.Chunks.{HasGoodSpan};
 ghost use Rattle.nc_region.specs.machinery.Between.{HasPut};
 
@@ -29,6 +31,7 @@ pub(crate) fn put_stops<A: Acts>(acts: &mut A, base: u32, len: u32) -> u64
     ensures made { A.made acts.new ≡ A.made acts.old }
     ensures keeper { A.keeper acts.new ≡ record (A.keeper acts.old) { numbers = generation_raised (A.keeper acts.old).numbers } }
     ensures told { Tells (A.told acts.old) (A.told acts.new) (acts_of_delete (A.marked acts.old).marks base len) }
+    ensures log { Logs (A.logged acts.old) (A.logged acts.new) (log_of_delete (A.marked acts.old).marks base len) }
 {
     stop_marked(acts, base, len);
     stop_others(acts, base, len);
@@ -48,7 +51,7 @@ fn is_mark(mark: Mark) -> bool
     }
 }
 
-/// Puts stops at the marked places, rising.
+/// Puts stops at the marked places, rising, and settles.
 fn stop_marked<A: Acts>(acts: &mut A, base: u32, len: u32)
     requires whole { IsText (A.marked acts.old) }
     requires placed { HasGoodSpan base (limit_of (A.marked acts.old).bytes) len }
@@ -61,6 +64,8 @@ fn stop_marked<A: Acts>(acts: &mut A, base: u32, len: u32)
     ensures keeper { A.keeper acts.new ≡ A.keeper acts.old }
     ensures told { Tells (A.told acts.old) (A.told acts.new)
         (puts_where (is_marked_at (A.marked acts.old).marks) base (replicate len 244)) }
+    ensures log { Logs (A.logged acts.old) (A.logged acts.new)
+        (unsettled (puts_where (is_marked_at (A.marked acts.old).marks) base (replicate len 244)) ++ Entry.Settled ∷ []) }
 {
     for i in 0..len {
         let at = base + i;
@@ -68,6 +73,7 @@ fn stop_marked<A: Acts>(acts: &mut A, base: u32, len: u32)
             acts.put(at, STOP);
         }
     }
+    acts.settle();
 }
 
 /// Puts stops at the other places, rising.
@@ -85,6 +91,8 @@ fn stop_others<A: Acts>(acts: &mut A, base: u32, len: u32)
     ensures keeper { A.keeper acts.new ≡ A.keeper acts.old }
     ensures told { Tells (A.told acts.old) (A.told acts.new)
         (puts_where (is_unmarked_at (A.marked acts.old).marks) base (replicate len 244)) }
+    ensures log { Logs (A.logged acts.old) (A.logged acts.new)
+        (unsettled (puts_where (is_unmarked_at (A.marked acts.old).marks) base (replicate len 244))) }
 {
     for i in 0..len {
         let at = base + i;

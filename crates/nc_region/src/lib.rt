@@ -46,10 +46,10 @@ mod shared;
 mod trace;
 mod walk;
 
-pub use acts::{Act, Acts};
+pub use acts::{Act, Acts, Entry};
 pub use chunk::{Chunk, ChunkState};
 pub use fault::{CreateFault, DeleteFault, ModifyFault, RegionFault, WalkFault};
-pub use law::law_of_chunks;
+pub use law::{law_of_chunks, law_of_logs};
 pub use nc_schedule::law_of_schedules;
 pub use plain::Plain;
 pub use recorder::Recorder;

@@ -12,12 +12,14 @@ ghost use Rattle.nc_text.specs.Ready.{AreReady};
 ghost use Rattle.nc_text.specs.MarkedText.{MarkedText, IsText, with_span};
 ghost use Rattle.nc_region.specs.declared.chunk.Chunk.{Chunk};
 ghost use Rattle.nc_region.specs.Acts.{Tells, puts_where};
+ghost use Rattle.nc_region.specs.Log.{Logs, unsettled};
 ghost use Rattle.nc_region.specs.machinery.Between.{HasPut};
 ghost use Rattle.nc_region.specs.declared.acts.Act.{Act};
+ghost use Rattle.nc_region.specs.declared.acts.Entry.{Entry};
 ghost use Rattle.nc_region.specs.Region.{HoldsValid, IsInChunk};
 ghost use Rattle.nc_region.specs.Patch.{IsPatchSpan, AreBytesOf, AreInstructions, IsRun, SparesPair, SparesPairs, GoWell};
 ghost use Rattle.nc_region.specs.Patch.{stands_there, any_place};
-ghost use Rattle.nc_region.specs.Patch.{acts_of_instruction, acts_of_modify};
+ghost use Rattle.nc_region.specs.Patch.{acts_of_instruction, acts_of_modify, log_of_instruction, log_of_modify};
 ghost use Rattle.nc_region.specs.machinery.PatchSteps.{IsReplacing, IsInterim, Begins, Along, RunsAlong, is_after, KeepsTransfer, CanPatch};
 
 use crate::acts::Acts;
@@ -245,6 +247,8 @@ pub(crate) fn put_patch<A: Acts>(acts: &mut A, chunk: Chunk, at: u32, new: &[u8]
     ensures holds { HoldsValid (A.marked acts.new) chunk }
     ensures told { (news : List Piece) → AreBytesOf new.now news
         → Tells (A.told acts.old) (A.told acts.new) (acts_of_modify (A.marked acts.old).bytes at news) }
+    ensures log { (news : List Piece) → AreBytesOf new.now news
+        → Logs (A.logged acts.old) (A.logged acts.new) (log_of_modify (A.marked acts.old).bytes at news) }
 {
     if new.is_empty() {
         return;
@@ -270,6 +274,8 @@ fn put_where_new<A: Acts>(acts: &mut A, at: u32, bytes: &[u8])
     ensures keeper { A.keeper acts.new ≡ A.keeper acts.old }
     ensures told { Tells (A.told acts.old) (A.told acts.new)
         (if stands_there (A.marked acts.old).bytes at bytes.now then [] else acts_of_instruction at bytes.now) }
+    ensures log { Logs (A.logged acts.old) (A.logged acts.new)
+        (if stands_there (A.marked acts.old).bytes at bytes.now then [] else log_of_instruction at bytes.now) }
 {
     if stands_there(acts, at, bytes) {
         return;
@@ -288,6 +294,7 @@ fn put_instruction<A: Acts>(acts: &mut A, at: u32, bytes: &[u8])
     ensures made { A.made acts.new ≡ A.made acts.old }
     ensures keeper { A.keeper acts.new ≡ A.keeper acts.old }
     ensures told { Tells (A.told acts.old) (A.told acts.new) (acts_of_instruction at bytes.now) }
+    ensures log { Logs (A.logged acts.old) (A.logged acts.new) (log_of_instruction at bytes.now) }
 {
     let first = bytes[0];
     let rest = &bytes[1..];
@@ -311,13 +318,15 @@ fn put_longer<A: Acts>(acts: &mut A, at: u32, first: u8, rest: &[u8])
     ensures keeper { A.keeper acts.new ≡ A.keeper acts.old }
     ensures told { Tells (A.told acts.old) (A.told acts.new)
         (Act.Put at 244 ∷ (puts_where any_place (at + 1) rest.now ++ (Act.Put at first ∷ []))) }
+    ensures log { Logs (A.logged acts.old) (A.logged acts.new) (Entry.Did (Act.Put at 244) ∷ Entry.Settled
+        ∷ (unsettled (puts_where any_place (at + 1) rest.now) ++ (Entry.Settled ∷ Entry.Did (Act.Put at first) ∷ []))) }
 {
     acts.put(at, STOP);
     put_rest(acts, at, rest);
     acts.put(at, first);
 }
 
-/// Puts all bytes but the first, rising, while a stop stands at the first.
+/// Puts all bytes but the first, rising, while a stop stands at the first. It settles before them and after them.
 fn put_rest<A: Acts>(acts: &mut A, at: u32, rest: &[u8])
     requires whole { IsText (A.marked acts.old) }
     requires low { 65536 ≤ at }
@@ -332,8 +341,12 @@ fn put_rest<A: Acts>(acts: &mut A, at: u32, rest: &[u8])
     ensures made { A.made acts.new ≡ A.made acts.old }
     ensures keeper { A.keeper acts.new ≡ A.keeper acts.old }
     ensures told { Tells (A.told acts.old) (A.told acts.new) (puts_where any_place (at + 1) rest.now) }
+    ensures log { Logs (A.logged acts.old) (A.logged acts.new) (Entry.Settled
+        ∷ (unsettled (puts_where any_place (at + 1) rest.now) ++ Entry.Settled ∷ [])) }
 {
+    acts.settle(); // Each thread that comes here stops.
     for i in 0..rest.len() {
         acts.put(at + 1 + i as u32, rest[i]);
     }
+    acts.settle(); // Behind the first byte only new ones are read.
 }

@@ -53,6 +53,8 @@ impl<'g> Acts for Plain<'g> {
 
     ghost told = { λ p. None };
 
+    ghost logged = { λ p. None };
+
     fn ready(&mut self, at: u32, len: u32) -> Result<(), TextFault> {
         self.text.ready(at, len)
     }
@@ -63,6 +65,11 @@ impl<'g> Acts for Plain<'g> {
 
     fn put(&mut self, at: u32, byte: u8) {
         self.text.put(at, byte);
+    }
+
+    fn settle(&mut self) {
+        // Called for what it ensures.
+        let _facts = self.text.limit();
     }
 
     fn mark_span(&mut self, at: u32, marks: &[Mark]) {

@@ -4,6 +4,7 @@ ghost use Rattle.std.specs.Prelude.{◌≡◌, ◌+◌, ◌<◌, ◌^◌, ℕ, l
 ghost use Rattle.nc_text.specs.MarkedText.{IsText};
 ghost use Rattle.nc_region.specs.declared.chunk.Chunk.{Chunk};
 ghost use Rattle.nc_region.specs.Acts.{Tells};
+ghost use Rattle.nc_region.specs.Log.{Logs, unsettled};
 ghost use Rattle.nc_region.specs.Region.{IsRegion};
 ghost use Rattle.nc_region.specs.Deletion.{is_due, freed, kept, unmarked, unmarkings};
 
@@ -28,6 +29,7 @@ pub(crate) fn unmark_due<A: Acts>(acts: &mut A, chunks: &[Chunk], least: u64)
     ensures made { A.made acts.new ≡ A.made acts.old }
     ensures keeper { A.keeper acts.new ≡ A.keeper acts.old }
     ensures told { Tells (A.told acts.old) (A.told acts.new) (unmarkings (freed least chunks.now)) }
+    ensures log { Logs (A.logged acts.old) (A.logged acts.new) (unsettled (unmarkings (freed least chunks.now))) }
 {
     for i in 0..chunks.len() {
         let chunk = chunks[i];

@@ -1,6 +1,6 @@
 //! A recorder of acts, for tests and for whoever wants to see the order of single bytes.
 
-ghost use Rattle.std.specs.Prelude.{◌≡◌, ◌↔◌, ◌+◌, ◌<◌, ◌≤◌, [], ◌∷◌, Some, None, IfOk, IsOk, OnOk, OnErr, ◌^◌, length, All};
+ghost use Rattle.std.specs.Prelude.{◌≡◌, ◌↔◌, ◌+◌, ◌*◌, ◌<◌, ◌≤◌, [], ◌∷◌, Some, None, IfOk, IsOk, OnOk, OnErr, ◌^◌, length, All};
 ghost use Rattle.std.specs.Prelude.{if◌then◌else◌, false};
 ghost use Rattle.std.specs.Option.{option_map};
 ghost use Rattle.std.specs.Vec.{vec_len, vec_capacity};
@@ -9,11 +9,13 @@ ghost use Rattle.nc_text.specs.Marks.{IsClosed};
 ghost use Rattle.nc_text.specs.Ready.{IsReady, AreReady};
 ghost use Rattle.nc_text.specs.Places.{InRegion, SpanInRegion};
 ghost use Rattle.nc_region.specs.declared.acts.Act.{Act};
+ghost use Rattle.nc_region.specs.declared.acts.Entry.{Entry};
 ghost use Rattle.nc_gens.specs.Rule.{generation_raised};
 ghost use Rattle.nc_gens.specs.Seen.{HasLooked, least_number};
 ghost use Rattle.nc_region.specs.Acts.{Tells};
+ghost use Rattle.nc_region.specs.Log.{Logs};
 
-use crate::acts::{Act, Acts};
+use crate::acts::{Act, Acts, Entry};
 use nc_decode::Mark;
 use nc_gens::{GensFull, Pass};
 use nc_text::TextFault;
@@ -23,26 +25,39 @@ use std::alloc::{AllocError, Global};
 ///
 /// The log takes its room when it is made. From the first act on for which there is no room it tells nothing, for
 /// good; the acts themselves are done all the same. Each of its acts says so (`goes_on`).
+///
+/// A second log, with room of its own, has the same acts with the settlings among them (`logs_on`).
 #[derive(Drop)]
 pub struct Recorder<A: Acts + Drop> {
     acts: A,
     log: Vec<Act>,
     full: bool,
+    entries: Vec<Entry>,
+    entries_full: bool,
 }
 
 impl<A: Acts + Drop> Recorder<A> {
-    /// Records the next acts, with room for so many.
+    /// Records the next acts, with room for this many, and in the second log for as many settlings more.
     pub fn new(alloc: Global, acts: A, room: usize) -> Result<Recorder<A>, AllocError>
         ensures acts { IfOk result (λ r. r.acts ≡ acts) }
         ensures told { IfOk result (λ r. (r.log.items ≡ []) × (r.full ≡ false)) }
         ensures room { IfOk result (λ r. vec_len r.log + room ≤ vec_capacity r.log) }
+        ensures logged { IfOk result (λ r. (r.entries.items ≡ []) × (r.entries_full ≡ false)) }
+        ensures entries { IfOk result (λ r. vec_len r.entries + 2 * room ≤ vec_capacity r.entries) }
     {
+        let Some(both) = room.checked_mul(2) else {
+            return Err(AllocError);
+        };
         let mut log = Vec::new(alloc);
         log.reserve(room)?;
+        let mut entries = Vec::new(alloc);
+        entries.reserve(both)?;
         Ok(Recorder {
             acts,
             log,
             full: false,
+            entries,
+            entries_full: false,
         })
     }
 
@@ -53,19 +68,52 @@ impl<A: Acts + Drop> Recorder<A> {
         if self.full { None } else { Some(&self.log) }
     }
 
+    /// The acts so far with the settlings among them, first to last, while they are logged.
+    pub fn entries(&self) -> Option<&[Entry]>
+        ensures { option_map (λ entries. entries.now) result ≡ ⟦<Recorder<A> as Acts>⟧.logged self.now }
+    {
+        if self.entries_full {
+            None
+        } else {
+            Some(&self.entries)
+        }
+    }
+
     fn record(&mut self, act: Act)
         ensures acts { self.new.acts ≡ self.old.acts }
         // It goes on telling exactly where it told and there was room.
         ensures goes_on { (self.new.full ≡ false) ↔ ((self.old.full ≡ false) × (vec_len self.old.log < vec_capacity self.old.log)) }
         ensures told { Tells (if self.old.full then None else Some self.old.log.items)
             (if self.new.full then None else Some self.new.log.items) (act ∷ []) }
+        ensures logged { Logs (if self.old.entries_full then None else Some self.old.entries.items)
+            (if self.new.entries_full then None else Some self.new.entries.items) (Entry.Did act ∷ []) }
+        ensures logs_on { (self.new.entries_full ≡ false) ↔ ((self.old.entries_full ≡ false)
+            × (vec_len self.old.entries < vec_capacity self.old.entries)) }
     {
+        self.enter(Entry::Did(act));
         if self.full || self.log.len() == self.log.capacity() {
             self.full = true;
             return;
         }
         if self.log.push(act).is_err() {
             self.full = true;
+        }
+    }
+
+    fn enter(&mut self, entry: Entry)
+        ensures acts { self.new.acts ≡ self.old.acts }
+        ensures told { (self.new.log ≡ self.old.log) × (self.new.full ≡ self.old.full) }
+        ensures logged { Logs (if self.old.entries_full then None else Some self.old.entries.items)
+            (if self.new.entries_full then None else Some self.new.entries.items) (entry ∷ []) }
+        ensures logs_on { (self.new.entries_full ≡ false) ↔ ((self.old.entries_full ≡ false)
+            × (vec_len self.old.entries < vec_capacity self.old.entries)) }
+    {
+        if self.entries_full || self.entries.len() == self.entries.capacity() {
+            self.entries_full = true;
+            return;
+        }
+        if self.entries.push(entry).is_err() {
+            self.entries_full = true;
         }
     }
 }
@@ -78,6 +126,8 @@ impl<A: Acts + Drop> Acts for Recorder<A> {
     ghost keeper = { λ r. A.keeper r.acts };
 
     ghost told = { λ r. if r.full then None else Some r.log.items };
+
+    ghost logged = { λ r. if r.entries_full then None else Some r.entries.items };
 
     fn ready(&mut self, at: u32, len: u32) -> Result<(), TextFault> {
         self.acts.ready(at, len)
@@ -98,9 +148,29 @@ impl<A: Acts + Drop> Acts for Recorder<A> {
         ensures told { Tells (if self.old.full then None else Some self.old.log.items)
             (if self.new.full then None else Some self.new.log.items) (Act.Put at byte ∷ []) }
         ensures goes_on { (self.new.full ≡ false) ↔ ((self.old.full ≡ false) × (vec_len self.old.log < vec_capacity self.old.log)) }
+        ensures logged { Logs (if self.old.entries_full then None else Some self.old.entries.items)
+            (if self.new.entries_full then None else Some self.new.entries.items) (Entry.Did (Act.Put at byte) ∷ []) }
+        ensures logs_on { (self.new.entries_full ≡ false) ↔ ((self.old.entries_full ≡ false)
+            × (vec_len self.old.entries < vec_capacity self.old.entries)) }
     {
         self.acts.put(at, byte);
         self.record(Act::Put(at, byte));
+    }
+
+    fn settle(&mut self)
+        ensures logged { Logs (if self.old.entries_full then None else Some self.old.entries.items)
+            (if self.new.entries_full then None else Some self.new.entries.items) (Entry.Settled ∷ []) }
+        ensures logs_on { (self.new.entries_full ≡ false) ↔ ((self.old.entries_full ≡ false)
+            × (vec_len self.old.entries < vec_capacity self.old.entries)) }
+        ensures marked { A.marked self.new.acts ≡ A.marked self.old.acts }
+        ensures made { A.made self.new.acts ≡ A.made self.old.acts }
+        ensures whole { IsText (A.marked self.new.acts) }
+        ensures keeper { A.keeper self.new.acts ≡ A.keeper self.old.acts }
+        ensures told { (self.new.log ≡ self.old.log) × (self.new.full ≡ self.old.full) }
+        ensures handed_on { Logs (A.logged self.old.acts) (A.logged self.new.acts) (Entry.Settled ∷ []) }
+    {
+        self.acts.settle();
+        self.enter(Entry::Settled);
     }
 
     fn mark_span(&mut self, at: u32, marks: &[Mark])
@@ -116,6 +186,10 @@ impl<A: Acts + Drop> Acts for Recorder<A> {
         ensures told { Tells (if self.old.full then None else Some self.old.log.items)
             (if self.new.full then None else Some self.new.log.items) (Act.MarkSpan at (length marks.now) ∷ []) }
         ensures goes_on { (self.new.full ≡ false) ↔ ((self.old.full ≡ false) × (vec_len self.old.log < vec_capacity self.old.log)) }
+        ensures logged { Logs (if self.old.entries_full then None else Some self.old.entries.items)
+            (if self.new.entries_full then None else Some self.new.entries.items) (Entry.Did (Act.MarkSpan at (length marks.now)) ∷ []) }
+        ensures logs_on { (self.new.entries_full ≡ false) ↔ ((self.old.entries_full ≡ false)
+            × (vec_len self.old.entries < vec_capacity self.old.entries)) }
     {
         self.acts.mark_span(at, marks);
         self.record(Act::MarkSpan(at, marks.len() as u32));
@@ -132,6 +206,10 @@ impl<A: Acts + Drop> Acts for Recorder<A> {
         ensures told { Tells (if self.old.full then None else Some self.old.log.items)
             (if self.new.full then None else Some self.new.log.items) (Act.UnmarkSpan at len ∷ []) }
         ensures goes_on { (self.new.full ≡ false) ↔ ((self.old.full ≡ false) × (vec_len self.old.log < vec_capacity self.old.log)) }
+        ensures logged { Logs (if self.old.entries_full then None else Some self.old.entries.items)
+            (if self.new.entries_full then None else Some self.new.entries.items) (Entry.Did (Act.UnmarkSpan at len) ∷ []) }
+        ensures logs_on { (self.new.entries_full ≡ false) ↔ ((self.old.entries_full ≡ false)
+            × (vec_len self.old.entries < vec_capacity self.old.entries)) }
     {
         self.acts.unmark_span(at, len);
         self.record(Act::UnmarkSpan(at, len));
@@ -158,11 +236,17 @@ impl<A: Acts + Drop> Acts for Recorder<A> {
             (if self.new.full then None else Some self.new.log.items) (Act.Bump ∷ [])) }
         ensures goes_on { OnOk result ((self.new.full ≡ false) ↔ ((self.old.full ≡ false)
             × (vec_len self.old.log < vec_capacity self.old.log))) }
+        ensures logged { OnOk result (Logs (if self.old.entries_full then None else Some self.old.entries.items)
+            (if self.new.entries_full then None else Some self.new.entries.items) (Entry.Did Act.Bump ∷ [])) }
+        ensures logs_on { OnOk result ((self.new.entries_full ≡ false) ↔ ((self.old.entries_full ≡ false)
+            × (vec_len self.old.entries < vec_capacity self.old.entries))) }
         ensures marked { A.marked self.new.acts ≡ A.marked self.old.acts }
         ensures made { A.made self.new.acts ≡ A.made self.old.acts }
         ensures full { OnErr result (((A.keeper self.old.acts).numbers.generation ≡ 2 ^ 62)
             × (A.keeper self.new.acts ≡ A.keeper self.old.acts)) }
         ensures silent { OnErr result ((self.new.full ≡ self.old.full) × (self.new.log.items ≡ self.old.log.items)) }
+        ensures unlogged { OnErr result ((self.new.entries_full ≡ self.old.entries_full)
+            × (self.new.entries.items ≡ self.old.entries.items)) }
     {
         let answer = self.acts.bump();
         if answer.is_ok() {
@@ -179,6 +263,10 @@ impl<A: Acts + Drop> Acts for Recorder<A> {
         ensures told { Tells (if self.old.full then None else Some self.old.log.items)
             (if self.new.full then None else Some self.new.log.items) (Act.Look ∷ []) }
         ensures goes_on { (self.new.full ≡ false) ↔ ((self.old.full ≡ false) × (vec_len self.old.log < vec_capacity self.old.log)) }
+        ensures logged { Logs (if self.old.entries_full then None else Some self.old.entries.items)
+            (if self.new.entries_full then None else Some self.new.entries.items) (Entry.Did Act.Look ∷ []) }
+        ensures logs_on { (self.new.entries_full ≡ false) ↔ ((self.old.entries_full ≡ false)
+            × (vec_len self.old.entries < vec_capacity self.old.entries)) }
     {
         let least = self.acts.look();
         self.record(Act::Look);

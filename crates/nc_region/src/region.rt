@@ -7,12 +7,13 @@ ghost use Rattle.nc_decode.specs.Bundles.{IsLawfulLimit};
 ghost use Rattle.nc_text.specs.MarkedText.{unused_text};
 ghost use Rattle.nc_text.specs.Ready.{unmade_pages};
 ghost use Rattle.nc_region.specs.Acts.{Tells, acts_of_create};
+ghost use Rattle.nc_region.specs.Log.{Logs, log_of_create};
 ghost use Rattle.nc_gens.specs.Seen.{HasMet};
 ghost use Rattle.nc_region.specs.Quiet.{AreQuiet};
 ghost use Rattle.nc_region.specs.Deletion.{IsDeleted, MayRefuseDelete, IsReclaimed};
 ghost use Rattle.nc_region.specs.Region.{Region, IsRegion, AreChunksReady, IsNew, IsCreated, IsRefused, MayRefuse, Meets};
 ghost use Rattle.nc_vet.specs.Chunk.{Piece};
-ghost use Rattle.nc_region.specs.Patch.{IsPatch, MayRefusePatch, IsModified, AreBytesOf, acts_of_modify};
+ghost use Rattle.nc_region.specs.Patch.{IsPatch, MayRefusePatch, IsModified, AreBytesOf, acts_of_modify, log_of_modify};
 ghost use Rattle.nc_region.specs.Trace.{IsTrace, IsOnlyTrace, IsSafeWalk, IsWalkStart, MayRefuseWalk};
 
 use crate::acts::Acts;
@@ -60,6 +61,7 @@ impl<A: Acts + Drop> Model for RegionOf<A> {
       chunks = r.chunks.items;
       keeper = A.keeper r.acts;
       told = A.told r.acts;
+      logged = A.logged r.acts;
     } };
 
     ghost invariant = { λ r. IsRegion (A.marked r.acts) r.chunks.items × AreChunksReady (A.made r.acts) r.chunks.items };
@@ -86,6 +88,7 @@ impl<'g> RegionOf<Plain<'g>> {
               chunks = [];
               keeper = keeper;
               told = None;
+              logged = None;
             }) }
         ensures confined { IfOk result (λ r. IsConfined r.marked.bytes) }
     {
@@ -115,6 +118,7 @@ impl<A: Acts + Drop> RegionOf<A> {
           chunks = [];
           keeper = A.keeper acts;
           told = A.told acts;
+          logged = A.logged acts;
         } }
     {
         RegionOf {
@@ -129,6 +133,7 @@ impl<A: Acts + Drop> RegionOf<A> {
         ensures made { A.made result.now ≡ self.now.made }
         ensures keeper { A.keeper result.now ≡ self.now.keeper }
         ensures told { A.told result.now ≡ self.now.told }
+        ensures logged { A.logged result.now ≡ self.now.logged }
     {
         &self.acts
     }
@@ -168,14 +173,16 @@ impl<A: Acts + Drop> RegionOf<A> {
         self.chunks.get(i).copied()
     }
 
-    /// Creates a chunk while threads may be running: its bytes that aren't bundle starts are put, then its marks are
-    /// set, then its bundle starts are put. The pages of its span are made before. A refusal gives the chunk back and leaves
-    /// the region as it was; only where memory was refused, some of these pages may have been made.
+    /// Creates a chunk while threads may be running: its bytes that aren't bundle starts are put, then the region settles,
+    /// then its marks are set, then its bundle starts are put. The pages of its span are made before. A refusal gives the
+    /// chunk back and leaves the region as it was; only where memory was refused, some of these pages may have been made.
     pub fn create(&mut self, vetted: Vetted) -> Result<(), (Vetted, CreateFault)>
         // The span holds the chunk's code and marks, and the chunk is in the list; all else is as before.
         ensures created { OnOk result (IsCreated self.old self.new vetted) }
         // Exactly the acts of a creation were done, where they are told.
         ensures acts { OnOk result (Tells self.old.told self.new.told (acts_of_create vetted.base vetted.code)) }
+        // The region settled once, before the marks were set.
+        ensures log { OnOk result (Logs self.old.logged self.new.logged (log_of_create vetted.base vetted.code)) }
         // It is created only for this region's limit, where no chunk stands.
         ensures free { OnOk result ((vetted.limit ≡ limit_of self.old.marked.bytes)
             × ¬ Meets vetted.base (length vetted.code) self.old.chunks) }
@@ -214,7 +221,8 @@ impl<A: Acts + Drop> RegionOf<A> {
 
     /// Replaces instructions of a live chunk by others of the same lengths, while threads may be running: one after the
     /// other, rising. One whose bytes stay gets no put; one of a single byte gets one put; of a longer one the first byte
-    /// becomes a stop, then its further bytes are put, then its first byte. A refusal changes nothing. It takes no memory.
+    /// becomes a stop, then its further bytes are put, then its first byte, and the region settles before the further bytes
+    /// and after them. A refusal changes nothing. It takes no memory.
     ///
     /// The new bytes are instructions that lie in one bundle, each takes the place of one that is as long, and direct
     /// transfers keep the rule of a valid chunk. The mask of an indirect transfer keeps its bytes, and an indirect transfer
@@ -226,6 +234,9 @@ impl<A: Acts + Drop> RegionOf<A> {
         // Exactly the acts of a patch were done, where they are told.
         ensures acts { OnOk result ((news : List Piece) → AreBytesOf new.now news
             → Tells self.old.told self.new.told (acts_of_modify self.old.marked.bytes at news)) }
+        // The region settled twice for each instruction of more than one byte that was replaced.
+        ensures log { OnOk result ((news : List Piece) → AreBytesOf new.now news
+            → Logs self.old.logged self.new.logged (log_of_modify self.old.marked.bytes at news)) }
         // Only lawful patches are made.
         ensures lawful { OnOk result (IsPatch self.old at new.now) }
         // Text, marks, chunks and acts are as before.
@@ -258,9 +269,9 @@ impl<A: Acts + Drop> RegionOf<A> {
         Ok(())
     }
 
-    /// Deletes the live chunk of this base: puts stops at its marked places, rising, then at its other places, rising; then
-    /// draws a stamp, and answers it. The chunk stays in the list, retired with that stamp, and its marks stay, until every
-    /// seat has checked in since or has left (`reclaim`). A refusal changes nothing. It takes no memory.
+    /// Deletes the live chunk of this base: puts stops at its marked places, rising; settles; puts stops at its other places,
+    /// rising; then draws a stamp, and answers it. The chunk stays in the list, retired with that stamp, and its marks stay,
+    /// until every seat has checked in since or has left (`reclaim`). A refusal changes nothing. It takes no memory.
     pub fn delete(&mut self, base: u32) -> Result<u64, DeleteFault>
         // The chunk's bytes are stops, and it is retired with the answer as its stamp; all else is as before. Exactly the
         // acts of a deletion were done, where they are told.

@@ -29,6 +29,8 @@ mod random_patches;
 #[cfg(test)]
 mod random_texts;
 #[cfg(test)]
+mod settlings;
+#[cfg(test)]
 mod shared;
 #[cfg(test)]
 mod walks;

@@ -151,6 +151,8 @@ impl<A: Acts + Drop> Acts for Twin<A> {
 
     ghost told = { λ t. A.told t.acts };
 
+    ghost logged = { λ t. A.logged t.acts };
+
     fn ready(&mut self, at: u32, len: u32) -> Result<(), TextFault> {
         let answer = self.acts.ready(at, len);
         if answer.is_ok() {
@@ -167,6 +169,11 @@ impl<A: Acts + Drop> Acts for Twin<A> {
     fn put(&mut self, at: u32, byte: u8) {
         self.acts.put(at, byte);
         self.plain.put(at, byte);
+        self.plain.compare(&self.acts);
+    }
+
+    fn settle(&mut self) {
+        self.acts.settle();
         self.plain.compare(&self.acts);
     }
 

@@ -8,8 +8,8 @@ use Rattle.nc_decode.specs.declared.instruction.Mark.{Mark}
 use Rattle.nc_text.specs.Machine.{State}
 use Rattle.nc_text.specs.Marks.{IsClosed}
 use Rattle.nc_text.proofs.Offered.{IsKnown}
-use Rattle.nc_schedule.specs.Quiet.{Span, IsWithin, IsQuiet}
-use Rattle.nc_schedule.specs.World.{World, Seat, first_seat, seat_at, IsWhole, AreApart, is_same_span}
+use Rattle.nc_schedule.specs.Quiet.{Span, IsWithin, IsShut}
+use Rattle.nc_schedule.specs.World.{World, Seat, first_seat, seat_at, IsViewOf, IsWhole, AreApart, is_same_span}
 use Rattle.nc_schedule.specs.Events.{with_seat}
 
 -- whoever stands within a retired span came before its stamp
@@ -41,8 +41,8 @@ SeatsKeep w marks retired generation =
 -- what is kept of a world
 pub record Keeps (w : World) : Type 0 where
   pub as_long : length w.marked.marks ≡ length w.marked.bytes
-  pub closed : IsClosed w.marked.bytes w.marked.marks
-  pub quiet : All (IsQuiet w.marked.bytes w.marked.marks) w.retired
+  pub closed : (view : List ℕ) → IsViewOf w view → IsClosed view w.marked.marks
+  pub shut : (view : List ℕ) → IsViewOf w view → All (IsShut view w.marked.marks) w.retired
   pub whole : All (IsWhole w.marked.bytes) w.retired
   pub apart : OthersApart w.retired
   pub bounds : length w.keeper.bounds ≡ length w.seats
@@ -86,7 +86,7 @@ with_seat_keeps w k seat keeps s =
     record {
       as_long = keeps.as_long;
       closed = keeps.closed;
-      quiet = keeps.quiet;
+      shut = keeps.shut;
       whole = keeps.whole;
       apart = keeps.apart;
       bounds = keeps.bounds ∙ sym (length-set w.seats k seat);

@@ -1,6 +1,7 @@
 pub mod Offered
 pub mod SpanPlaces
 pub mod Unmarking
+pub mod Seeing
 pub mod Invariant
 pub mod ThreadEvents
 pub mod WriterEvents

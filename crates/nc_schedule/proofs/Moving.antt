@@ -7,53 +7,55 @@ use Rattle.nc_decode.specs.Bundles.{IsLawfulLimit}
 use Rattle.nc_text.specs.Places.{InRegion}
 use Rattle.nc_text.specs.Machine.{State}
 use Rattle.nc_schedule.specs.World.{World, Seat, first_seat, first_world, seat_at}
-use Rattle.nc_schedule.specs.Events.{Event, Steps, Enters, Exits, Takes, Sees, Stores, Leaves, Puts, Marks, Bumps, Retires, Frees, Looks}
+use Rattle.nc_schedule.specs.Events.{Event, Steps, Enters, Exits, Takes, Sees, Stores, Leaves, Puts, Settles, Marks, Bumps, Retires, Frees}
+use Rattle.nc_schedule.specs.Events.{Looks}
 use Rattle.nc_schedule.specs.Events.{IsAllowed, after, world_after, AreAllowed, IsMove, AllMove, ChangesBytes}
 use Rattle.nc_schedule.proofs.Schedules.{allowed_back}
 
 -- who stays where it is moves as a thread may
-pub stays : (text : List ℕ) (inside : Option State) → IsMove text inside inside
-stays text None = tt
-stays text (Some now) = inl refl
+pub stays : (w : World) (inside : Option State) → IsMove w inside inside
+stays w None = tt
+stays w (Some now) = inl refl
 
 -- if one seat's thread moves as a thread may, and the others are as they were, all do
-set_moves : (text : List ℕ) (seats : List Seat) (k : ℕ) (seat : Seat) → IsMove text (get_or seats k first_seat).inside seat.inside
-    → (j : ℕ) → j < length seats → IsMove text (get_or seats j first_seat).inside (get_or (set seats k seat) j first_seat).inside
-set_moves text seats k seat move j lt =
+set_moves : (w : World) (seats : List Seat) (k : ℕ) (seat : Seat) → IsMove w (get_or seats k first_seat).inside seat.inside
+    → (j : ℕ) → j < length seats → IsMove w (get_or seats j first_seat).inside (get_or (set seats k seat) j first_seat).inside
+set_moves w seats k seat move j lt =
     elim (eqb_tells j k) [
       | inl same ↦
-          subst (λ (i : ℕ). IsMove text (get_or seats i first_seat).inside (get_or (set seats k seat) i first_seat).inside) (sym same.1)
-          (subst (λ (it : Seat). IsMove text (get_or seats k first_seat).inside it.inside)
+          subst (λ (i : ℕ). IsMove w (get_or seats i first_seat).inside (get_or (set seats k seat) i first_seat).inside) (sym same.1)
+          (subst (λ (it : Seat). IsMove w (get_or seats k first_seat).inside it.inside)
           (sym (get_or-set_same seats k seat first_seat (omega (arith, lt, same.1)))) move)
       | inr other ↦
-          subst (λ (it : Seat). IsMove text (get_or seats j first_seat).inside it.inside)
-          (sym (get_or-set_other seats k j seat first_seat other.1)) (stays text (get_or seats j first_seat).inside)
+          subst (λ (it : Seat). IsMove w (get_or seats j first_seat).inside it.inside)
+          (sym (get_or-set_other seats k j seat first_seat other.1)) (stays w (get_or seats j first_seat).inside)
     ]
 
 -- from outside only a bundle start of the region is reached
-comes_in : (text : List ℕ) (inside : Option State) (next : State) → inside ≡ None → IsMove text None (Some next)
-    → IsMove text inside (Some next)
-comes_in text inside next is move = subst (λ (z : Option State). IsMove text z (Some next)) (sym is) move
+comes_in : (w : World) (inside : Option State) (next : State) → inside ≡ None → IsMove w None (Some next)
+    → IsMove w inside (Some next)
+comes_in w inside next is move = subst (λ (z : Option State). IsMove w z (Some next)) (sym is) move
 
 -- each event
 pub moves_event : (w : World) (event : Event) → IsAllowed w event → AllMove w (after w event)
 moves_event w (Steps k next) allowed =
-    set_moves w.marked.bytes w.seats k (record (seat_at w k) { inside = Some next })
-    (subst (λ (z : Option State). IsMove w.marked.bytes z (Some next)) (sym allowed.1) (inr allowed.2))
+    set_moves w w.seats k (record (seat_at w k) { inside = Some next })
+    (subst (λ (z : Option State). IsMove w z (Some next)) (sym allowed.1) (inr allowed.2))
 moves_event w (Enters k at) allowed =
-    set_moves w.marked.bytes w.seats k (record (seat_at w k) { inside = Some (record { place = at; masked = None }) })
-    (comes_in w.marked.bytes (seat_at w k).inside (record { place = at; masked = None }) allowed.0 (allowed.2, allowed.3, refl))
-moves_event w (Exits k) allowed = set_moves w.marked.bytes w.seats k (record (seat_at w k) { inside = None }) tt
-moves_event w (Takes k) allowed = set_moves w.marked.bytes w.seats k _ (stays w.marked.bytes (seat_at w k).inside)
-moves_event w (Sees k) allowed = set_moves w.marked.bytes w.seats k _ (stays w.marked.bytes (seat_at w k).inside)
-moves_event w (Stores k) allowed = set_moves w.marked.bytes w.seats k _ (stays w.marked.bytes (seat_at w k).inside)
-moves_event w (Leaves k) allowed = set_moves w.marked.bytes w.seats k _ (stays w.marked.bytes (seat_at w k).inside)
-moves_event w (Puts at byte) allowed = λ j lt. stays w.marked.bytes (seat_at w j).inside
-moves_event w (Marks at marks) allowed = λ j lt. stays w.marked.bytes (seat_at w j).inside
-moves_event w Bumps allowed = λ j lt. stays w.marked.bytes (seat_at w j).inside
-moves_event w (Retires base len) allowed = λ j lt. stays w.marked.bytes (seat_at w j).inside
-moves_event w (Frees span) allowed = λ j lt. stays w.marked.bytes (seat_at w j).inside
-moves_event w (Looks k) allowed = set_moves w.marked.bytes w.seats k _ (stays w.marked.bytes (seat_at w k).inside)
+    set_moves w w.seats k (record (seat_at w k) { inside = Some (record { place = at; masked = None }) })
+    (comes_in w (seat_at w k).inside (record { place = at; masked = None }) allowed.0 (allowed.2, allowed.3, refl))
+moves_event w (Exits k) allowed = set_moves w w.seats k (record (seat_at w k) { inside = None }) tt
+moves_event w (Takes k) allowed = set_moves w w.seats k _ (stays w (seat_at w k).inside)
+moves_event w (Sees k) allowed = set_moves w w.seats k _ (stays w (seat_at w k).inside)
+moves_event w (Stores k) allowed = set_moves w w.seats k _ (stays w (seat_at w k).inside)
+moves_event w (Leaves k) allowed = set_moves w w.seats k _ (stays w (seat_at w k).inside)
+moves_event w (Puts at byte) allowed = λ j lt. stays w (seat_at w j).inside
+moves_event w Settles allowed = λ j lt. stays w (seat_at w j).inside
+moves_event w (Marks at marks) allowed = λ j lt. stays w (seat_at w j).inside
+moves_event w Bumps allowed = λ j lt. stays w (seat_at w j).inside
+moves_event w (Retires base len) allowed = λ j lt. stays w (seat_at w j).inside
+moves_event w (Frees span) allowed = λ j lt. stays w (seat_at w j).inside
+moves_event w (Looks k) allowed = set_moves w w.seats k _ (stays w (seat_at w k).inside)
 
 -- a byte that is put stands there, and no other of the region changes
 put_changes : (text : List ℕ) (at byte : ℕ) → InRegion text at → ChangesBytes text (Puts at byte) (set text (at - 65536) byte)
@@ -73,6 +75,7 @@ bytes_event w (Sees k) allowed = refl
 bytes_event w (Stores k) allowed = refl
 bytes_event w (Leaves k) allowed = refl
 bytes_event w (Puts at byte) allowed = put_changes w.marked.bytes at byte allowed.0
+bytes_event w Settles allowed = refl
 bytes_event w (Marks at marks) allowed = refl
 bytes_event w Bumps allowed = refl
 bytes_event w (Retires base len) allowed = refl

@@ -6,15 +6,18 @@ use Rattle.std.proofs.lemmas.List.Elements.{All-nil, All-from_get_or}
 use Rattle.nc_decode.specs.Bundles.{IsLawfulLimit}
 use Rattle.nc_text.specs.Machine.{IsSafe}
 use Rattle.nc_text.proofs.Offered.{IsKnown, safe_if_known, new_is_text}
+use Rattle.nc_text.specs.Marks.{IsClosed}
 use Rattle.nc_text.specs.MarkedText.{unused_text}
-use Rattle.nc_schedule.specs.Quiet.{Span, IsQuiet}
-use Rattle.nc_schedule.specs.World.{World, Seat, first_seat, first_world, seat_at, IsWhole, AreApart, is_same_span}
+use Rattle.nc_schedule.specs.Quiet.{Span, IsShut}
+use Rattle.nc_schedule.specs.World.{World, Seat, first_seat, first_world, seat_at, IsViewOf, IsWhole, AreApart, is_same_span}
 use Rattle.nc_schedule.specs.World.{IsUsable, AllStandSafe, NoneIsWithin}
-use Rattle.nc_schedule.specs.Events.{Event, Steps, Enters, Exits, Takes, Sees, Stores, Leaves, Puts, Marks, Bumps, Retires, Frees, Looks}
+use Rattle.nc_schedule.specs.Events.{Event, Steps, Enters, Exits, Takes, Sees, Stores, Leaves, Puts, Settles, Marks, Bumps, Retires, Frees}
+use Rattle.nc_schedule.specs.Events.{Looks}
 use Rattle.nc_schedule.specs.Events.{IsAllowed, after, world_after, AreAllowed}
 use Rattle.nc_schedule.proofs.Invariant.{Keeps, SeatKeeps, if_map}
+use Rattle.nc_schedule.proofs.Seeing.{only_as_it_stands}
 use Rattle.nc_schedule.proofs.ThreadEvents.{keeps_steps, keeps_enters, keeps_exits, keeps_takes, keeps_sees, keeps_stores, keeps_leaves}
-use Rattle.nc_schedule.proofs.WriterEvents.{keeps_puts, keeps_marks, keeps_bumps, keeps_retires, keeps_frees, keeps_looks}
+use Rattle.nc_schedule.proofs.WriterEvents.{keeps_puts, keeps_settles, keeps_marks, keeps_bumps, keeps_retires, keeps_frees, keeps_looks}
 use Rattle.nc_schedule.proofs.WriterEvents.{none_is_within, freed_is_usable}
 
 -- each event
@@ -27,6 +30,7 @@ keeps_event w (Sees k) keeps allowed = keeps_sees w k keeps
 keeps_event w (Stores k) keeps allowed = keeps_stores w k keeps allowed
 keeps_event w (Leaves k) keeps allowed = keeps_leaves w k keeps allowed
 keeps_event w (Puts at byte) keeps allowed = keeps_puts w at byte keeps allowed
+keeps_event w Settles keeps allowed = keeps_settles w keeps
 keeps_event w (Marks at marks) keeps allowed = keeps_marks w at marks keeps allowed
 keeps_event w Bumps keeps allowed = keeps_bumps w keeps
 keeps_event w (Retires base len) keeps allowed = keeps_retires w base len keeps allowed
@@ -44,8 +48,9 @@ keeps_first limit seats lawful =
     let whole = new_is_text limit lawful in
     record {
       as_long = whole.as_long;
-      closed = whole.closed;
-      quiet = All-nil (IsQuiet (unused_text limit).bytes (unused_text limit).marks);
+      closed = λ view v. subst (λ (text : List ℕ). IsClosed text (unused_text limit).marks)
+          (sym (only_as_it_stands (unused_text limit).bytes view v)) whole.closed;
+      shut = λ view v. All-nil (IsShut view (unused_text limit).marks);
       whole = All-nil (IsWhole (unused_text limit).bytes);
       apart = All-nil (λ (one : Span). All (λ (other : Span). is_same_span one other ≡ false → AreApart one other) []);
       bounds = length-replicate {A = ℕ} seats 0 ∙ sym (length-replicate seats first_seat);
@@ -93,9 +98,9 @@ keeps_reached limit seats events lawful allowed = keeps_all (first_world limit s
 -- each thread stands on a safe state
 pub stand_safe : (w : World) → Keeps w → AllStandSafe w
 stand_safe w keeps =
-    All-from_get_or (λ (seat : Seat). IfSome seat.inside (IsSafe w.marked.bytes)) w.seats first_seat
-    (λ k lt. if_map (seat_at w k).inside (IsKnown w.marked.marks) (IsSafe w.marked.bytes)
-    (λ now known. safe_if_known w.marked.bytes w.marked.marks keeps.closed now known) (keeps.seats k lt).stands)
+    All-from_get_or (λ (seat : Seat). IfSome seat.inside (λ now. (view : List ℕ) → IsViewOf w view → IsSafe view now)) w.seats first_seat
+    (λ k lt. if_map (seat_at w k).inside (IsKnown w.marked.marks) (λ now. (view : List ℕ) → IsViewOf w view → IsSafe view now)
+    (λ now known view v. safe_if_known view w.marked.marks (keeps.closed view v) now known) (keeps.seats k lt).stands)
 
 -- so after every event
 pub safe_after : (limit seats : ℕ) (events later : List Event) → IsLawfulLimit limit

@@ -6,10 +6,11 @@ use Rattle.nc_text.specs.Machine.{State, state}
 use Rattle.nc_text.specs.Marks.{IsMarked}
 use Rattle.nc_text.proofs.Offered.{IsKnown, start_is_marked}
 use Rattle.nc_gens.specs.Rule.{generation_taken, generation_seen, since_stored, left_stored}
-use Rattle.nc_schedule.specs.Quiet.{Span, IsWithin, IsQuiet}
+use Rattle.nc_schedule.specs.Quiet.{Span, IsWithin, IsShut}
 use Rattle.nc_schedule.specs.World.{World, seat_at}
 use Rattle.nc_schedule.specs.Events.{Steps, Enters, Exits, Takes, Sees, Stores, Leaves, IsAllowed, after}
 use Rattle.nc_schedule.proofs.Invariant.{Keeps, CameBefore, if_none, some_at, none_is_some, with_seat_keeps}
+use Rattle.nc_schedule.proofs.Seeing.{as_it_stands}
 use Rattle.nc_schedule.proofs.Unmarking.{none_steps_in}
 
 -- a thread takes a step
@@ -19,15 +20,17 @@ keeps_steps w k next keeps allowed =
     (λ lt.
     let s = keeps.seats k lt in
     let now = allowed.0 in
-    let step = allowed.2 in
+    let view = allowed.2.0 in
+    let seen = allowed.2.1 in
+    let step = allowed.2.2 in
     let known = some_at (seat_at w k).inside (IsKnown w.marked.marks) now allowed.1 s.stands in
     let m : IsMarked w.marked.marks now = elim known [ inl m ↦ m | inr zone ↦ absurd (omega (arith, zone.0, step.0.0)) ] in
     record {
-      stands = keeps.closed.steps now next m step;
-      early = All-weaker (IsQuiet w.marked.bytes w.marked.marks)
+      stands = (keeps.closed view seen).steps now next m step;
+      early = All-weaker (IsShut view w.marked.marks)
           (λ (span : Span). IsWithin span next.place → (seat_at w k).pass.since < span.stamp)
-          (λ span quiet within. absurd
-          (none_steps_in w.marked.bytes w.marked.marks span quiet now next m step within)) w.retired keeps.quiet;
+          (λ span shut within. absurd
+          (none_steps_in view w.marked.marks span shut now next m step within)) w.retired (keeps.shut view seen);
       since = s.since;
       word = s.word;
       out = λ is. absurd (none_is_some now (sym (s.out is) ∙ allowed.1));
@@ -42,10 +45,12 @@ keeps_enters w k at keeps allowed =
     (λ lt.
     let s = keeps.seats k lt in
     record {
-      stands = inl (start_is_marked w.marked.bytes w.marked.marks keeps.closed (state at None) allowed.2 allowed.3);
-      early = All-weaker (IsQuiet w.marked.bytes w.marked.marks)
+      stands = inl (start_is_marked w.marked.bytes w.marked.marks
+          (keeps.closed w.marked.bytes (as_it_stands w.marked.bytes w.earlier)) (state at None) allowed.2 allowed.3);
+      early = All-weaker (IsShut w.marked.bytes w.marked.marks)
           (λ (span : Span). IsWithin span at → (seat_at w k).pass.since < span.stamp)
-          (λ span quiet within. absurd (within.1 allowed.3)) w.retired keeps.quiet;
+          (λ span shut within. absurd (within.1 allowed.3)) w.retired
+          (keeps.shut w.marked.bytes (as_it_stands w.marked.bytes w.earlier));
       since = s.since;
       word = s.word;
       out = λ is. absurd (false≢true (sym allowed.1 ∙ is));

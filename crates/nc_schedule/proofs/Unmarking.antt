@@ -1,4 +1,4 @@
--- A quiet span may be unmarked.
+-- A shut span may be unmarked.
 use Rattle.std.proofs.Common.{◌≡◌, ℕ, ◌+◌, ◌-◌, ◌%◌, ◌<◌, ◌≤◌, List, length, inl, inr, arith, ◌∙◌, sym, subst}
 use Rattle.std.proofs.lemmas.Bool.Decides.{eqb_tells}
 use Rattle.std.proofs.lemmas.List.FromFn.{length-map-range_with_len, get_or-map-range_with_len}
@@ -8,19 +8,23 @@ use Rattle.nc_text.specs.Machine.{State, Step}
 use Rattle.nc_text.specs.Marks.{IsMarked, IsClosed, mark_at, Admits}
 use Rattle.nc_text.specs.MarkedText.{MarkedText, without_marks, unused_mark, unused_marks}
 use Rattle.nc_text.proofs.Offered.{no_step_from_stop, length-with_span}
-use Rattle.nc_schedule.specs.Quiet.{Span, IsWithin, IsQuiet}
+use Rattle.nc_schedule.specs.Quiet.{Span, IsWithin, IsQuiet, IsShut}
 use Rattle.nc_schedule.specs.World.{IsWhole}
 use Rattle.nc_schedule.proofs.SpanPlaces.{place_of, Before, Within, Behind, span_before, span_within, span_behind, unused_is_start}
 use Rattle.nc_schedule.proofs.SpanPlaces.{unused_at_start}
 
--- no step leads into a quiet span but to a bundle start
-pub none_steps_in : (text : List ℕ) (marks : List Mark) (span : Span) → IsQuiet text marks span → (now next : State) → IsMarked marks now
+-- a quiet span is shut
+pub shut_if_quiet : (text : List ℕ) (marks : List Mark) (span : Span) → IsQuiet text marks span → IsShut text marks span
+shut_if_quiet text marks span quiet = record { stops = λ now m inside. quiet.stops now.place inside; unreached = quiet.unreached }
+
+-- no step leads into a shut span but to a bundle start
+pub none_steps_in : (text : List ℕ) (marks : List Mark) (span : Span) → IsShut text marks span → (now next : State) → IsMarked marks now
     → Step text now next → IsWithin span next.place → ⊥
-none_steps_in text marks span quiet now next m step within =
+none_steps_in text marks span shut now next m step within =
     elim (place_of span.base span.length now.place) [
-      | Before l ↦ quiet.unreached now next m (λ inside. omega (arith, inside.0, l)) step within
-      | Within a b ↦ no_step_from_stop text now next (quiet.stops now.place (a, b)) step
-      | Behind p ↦ quiet.unreached now next m (λ inside. omega (arith, inside.1, p)) step within
+      | Before l ↦ shut.unreached now next m (λ inside. omega (arith, inside.0, l)) step within
+      | Within a b ↦ no_step_from_stop text now next (shut.stops now m (a, b)) step
+      | Behind p ↦ shut.unreached now next m (λ inside. omega (arith, inside.1, p)) step within
     ]
 
 -- what holds where a span is freed
@@ -28,7 +32,7 @@ pub record MayFree (marked : MarkedText) (span : Span) : Type 0 where
   pub as_long : length marked.marks ≡ length marked.bytes
   pub closed : IsClosed marked.bytes marked.marks
   pub whole : IsWhole marked.bytes span
-  pub quiet : IsQuiet marked.bytes marked.marks span
+  pub shut : IsShut marked.bytes marked.marks span
 
 -- the marks afterwards
 abbrev pub freed_marks : MarkedText → Span → List Mark
@@ -118,16 +122,16 @@ freed_closed marked span f =
           let was = freed_was marked span f now m in
           elim (f.closed.steps now next was step) [
             | inl there ↦
-                inl (freed_stays marked span f next there (none_steps_in marked.bytes marked.marks span f.quiet now next was step))
+                inl (freed_stays marked span f next there (none_steps_in marked.bytes marked.marks span f.shut now next was step))
             | inr zone ↦ inr zone
           ];
     }
 
--- another quiet span stays quiet
-pub freed_quiet : (marked : MarkedText) (span other : Span) → MayFree marked span → IsQuiet marked.bytes marked.marks other
-    → IsQuiet marked.bytes (freed_marks marked span) other
-freed_quiet marked span other f quiet =
+-- another shut span stays shut
+pub freed_shut : (marked : MarkedText) (span other : Span) → MayFree marked span → IsShut marked.bytes marked.marks other
+    → IsShut marked.bytes (freed_marks marked span) other
+freed_shut marked span other f shut =
     record {
-      stops = quiet.stops;
-      unreached = λ now next m out step. quiet.unreached now next (freed_was marked span f now m) out step;
+      stops = λ now m inside. shut.stops now (freed_was marked span f now m) inside;
+      unreached = λ now next m out step. shut.unreached now next (freed_was marked span f now m) out step;
     }

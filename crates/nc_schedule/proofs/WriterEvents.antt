@@ -10,13 +10,14 @@ use Rattle.nc_decode.specs.declared.instruction.Mark.{Mark}
 use Rattle.nc_decode.specs.declared.instruction.Mark.TheVariants.{Unmarked, Plain, After}
 use Rattle.nc_text.specs.Machine.{State}
 use Rattle.nc_text.specs.Marks.{Admits, mark_at}
-use Rattle.nc_text.specs.MarkedText.{with_marks, with_span, StaysOrPlain}
+use Rattle.nc_text.specs.MarkedText.{MarkedText, with_marks, with_span, StaysOrPlain}
 use Rattle.nc_text.proofs.Offered.{IsKnown, length-with_span}
-use Rattle.nc_schedule.specs.Quiet.{Span, IsWithin, IsQuiet}
-use Rattle.nc_schedule.specs.World.{World, Seat, first_seat, seat_at, IsWhole, AreApart, IsUsable, is_same_span, NoneIsWithin}
-use Rattle.nc_schedule.specs.Events.{Puts, Marks, Bumps, Retires, Frees, Looks, IsAllowed, after, new_span}
+use Rattle.nc_schedule.specs.Quiet.{Span, IsWithin, IsShut}
+use Rattle.nc_schedule.specs.World.{World, Seat, first_seat, seat_at, IsViewOf, IsWhole, AreApart, IsUsable, is_same_span, NoneIsWithin}
+use Rattle.nc_schedule.specs.Events.{Puts, Settles, Marks, Bumps, Retires, Frees, Looks, IsAllowed, after, new_span}
 use Rattle.nc_schedule.proofs.Invariant.{Keeps, SeatKeeps, OthersApart, CameBefore, if_map, some_at, none_is_some}
-use Rattle.nc_schedule.proofs.Unmarking.{MayFree, freed_marks, freed_long, freed_stays, freed_closed, freed_quiet}
+use Rattle.nc_schedule.proofs.Unmarking.{MayFree, freed_marks, freed_long, freed_stays, freed_closed, freed_shut}
+use Rattle.nc_schedule.proofs.Seeing.{as_it_stands, settled_view}
 
 -- a byte is put
 pub keeps_puts : (w : World) (at byte : ℕ) → Keeps w → IsAllowed w (Puts at byte) → Keeps (after w (Puts at byte))
@@ -24,8 +25,8 @@ keeps_puts w at byte keeps allowed =
     let long = length-set w.marked.bytes (at - 65536) byte in
     record {
       as_long = keeps.as_long ∙ sym long;
-      closed = allowed.1.0;
-      quiet = allowed.1.1;
+      closed = λ view v. (allowed.1 view v).0;
+      shut = λ view v. (allowed.1 view v).1;
       whole = All-weaker (IsWhole w.marked.bytes) (IsWhole (set w.marked.bytes (at - 65536) byte))
           (λ span h. record {
             start = h.start;
@@ -34,6 +35,19 @@ keeps_puts w at byte keeps allowed =
             high = omega
                 (arith, h.high, long);
           }) w.retired keeps.whole;
+      apart = keeps.apart;
+      bounds = keeps.bounds;
+      seats = keeps.seats;
+    }
+
+-- what was read before may not be read any more
+pub keeps_settles : (w : World) → Keeps w → Keeps (after w Settles)
+keeps_settles w keeps =
+    record {
+      as_long = keeps.as_long;
+      closed = λ view v. keeps.closed view (settled_view w.marked.bytes w.earlier view v);
+      shut = λ view v. keeps.shut view (settled_view w.marked.bytes w.earlier view v);
+      whole = keeps.whole;
       apart = keeps.apart;
       bounds = keeps.bounds;
       seats = keeps.seats;
@@ -92,8 +106,8 @@ keeps_marks w at marks keeps allowed =
           (λ some. let first = allowed.0 0 some in let last = allowed.0 (length marks - 1) (omega (arith, some)) in omega
           (arith, some, first.0, last.1, keeps.as_long))
           ∙ keeps.as_long;
-      closed = allowed.2.0;
-      quiet = allowed.2.1;
+      closed = λ view v. (allowed.2 view v).0;
+      shut = λ view v. (allowed.2 view v).1;
       whole = keeps.whole;
       apart = keeps.apart;
       bounds = keeps.bounds;
@@ -110,7 +124,7 @@ keeps_bumps w keeps =
     record {
       as_long = keeps.as_long;
       closed = keeps.closed;
-      quiet = keeps.quiet;
+      shut = keeps.shut;
       whole = keeps.whole;
       apart = keeps.apart;
       bounds = keeps.bounds;
@@ -167,7 +181,7 @@ keeps_retires w base len keeps allowed =
     record {
       as_long = keeps.as_long;
       closed = keeps.closed;
-      quiet = All-cons (IsQuiet w.marked.bytes w.marked.marks) (new_span w base len) w.retired allowed.2 keeps.quiet;
+      shut = λ view v. All-cons (IsShut view w.marked.marks) (new_span w base len) w.retired (allowed.2 view v) (keeps.shut view v);
       whole = All-cons (IsWhole w.marked.bytes) (new_span w base len) w.retired allowed.0 keeps.whole;
       apart = one_more_apart (new_span w base len) w.retired allowed.1 keeps.apart;
       bounds = keeps.bounds;
@@ -215,27 +229,38 @@ known_after : (w : World) (span : Span) → MayFree w.marked span → (inside : 
 known_after w span f None known out = tt
 known_after w span f (Some now) known out = elim known [ inl m ↦ inl (freed_stays w.marked span f now m out) | inr zone ↦ inr zone ]
 
--- what a span in the list keeps
-may_free : (w : World) (span : Span) → Keeps w → Contains w.retired span → MayFree w.marked span
-may_free w span keeps has =
+-- a view with the world's marks
+abbrev pub seen_text : World → List ℕ → MarkedText
+seen_text w view = record { bytes = view; marks = w.marked.marks }
+
+-- what a span in the list keeps, in each view
+may_free : (w : World) (view : List ℕ) (span : Span) → Keeps w → IsViewOf w view → Contains w.retired span
+    → MayFree (seen_text w view) span
+may_free w view span keeps v has =
+    let whole = All-contains (IsWhole w.marked.bytes) w.retired span keeps.whole has in
     record {
-      as_long = keeps.as_long;
-      closed = keeps.closed;
-      whole = All-contains (IsWhole w.marked.bytes) w.retired span keeps.whole has;
-      quiet = All-contains (IsQuiet w.marked.bytes w.marked.marks) w.retired span keeps.quiet has;
+      as_long = keeps.as_long ∙ sym v.as_long;
+      closed = keeps.closed view v;
+      whole = record { start = whole.start; bundles = whole.bundles; low = whole.low; high = omega (arith, whole.high, v.as_long) };
+      shut = All-contains (IsShut view w.marked.marks) w.retired span (keeps.shut view v) has;
     }
+
+-- and in the text as it stands
+pub may_free_now : (w : World) (span : Span) → Keeps w → Contains w.retired span → MayFree w.marked span
+may_free_now w span keeps has = may_free w w.marked.bytes span keeps (as_it_stands w.marked.bytes w.earlier) has
 
 -- a span is freed
 pub keeps_frees : (w : World) (span : Span) → Keeps w → IsAllowed w (Frees span) → Keeps (after w (Frees span))
 keeps_frees w span keeps allowed =
-    let f = may_free w span keeps allowed.0 in
+    let f = may_free_now w span keeps allowed.0 in
     let others : Span → Bool = λ other. not (is_same_span span other) in
     record {
       as_long = freed_long w.marked span f ∙ keeps.as_long;
-      closed = freed_closed w.marked span f;
-      quiet = All-filter (λ other. not (is_same_span span other)) (IsQuiet w.marked.bytes (freed_marks w.marked span)) w.retired
-          (All-weaker (IsQuiet w.marked.bytes w.marked.marks) (IsQuiet w.marked.bytes (freed_marks w.marked span))
-          (λ other quiet. freed_quiet w.marked span other f quiet) w.retired keeps.quiet);
+      closed = λ view v. freed_closed (seen_text w view) span (may_free w view span keeps v allowed.0);
+      shut = λ view v. All-filter (λ other. not (is_same_span span other)) (IsShut view (freed_marks w.marked span)) w.retired
+          (All-weaker (IsShut view w.marked.marks) (IsShut view (freed_marks w.marked span))
+          (λ other shut. freed_shut (seen_text w view) span other (may_free w view span keeps v allowed.0) shut) w.retired
+          (keeps.shut view v));
       whole = All-filter (λ other. not (is_same_span span other)) (IsWhole w.marked.bytes) w.retired keeps.whole;
       apart = fewer_apart (λ other. not (is_same_span span other)) w.retired keeps.apart;
       bounds = keeps.bounds;
@@ -263,7 +288,7 @@ keeps_looks w k keeps =
     record {
       as_long = keeps.as_long;
       closed = keeps.closed;
-      quiet = keeps.quiet;
+      shut = keeps.shut;
       whole = keeps.whole;
       apart = keeps.apart;
       bounds = length-set w.keeper.bounds k (seat_at w k).pass.word

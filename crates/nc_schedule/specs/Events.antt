@@ -6,12 +6,12 @@ use Rattle.nc_text.specs.Places.{InRegion, SpanInRegion, byte_at}
 use Rattle.nc_text.specs.Machine.{State, state, Step}
 use Rattle.nc_text.specs.MarkedText.{with_byte, with_marks, without_marks, KeepsMarks}
 use Rattle.nc_gens.specs.Rule.{generation_taken, generation_seen, since_stored, left_stored, generation_raised, word_taken}
-use Rattle.nc_schedule.specs.Quiet.{Span, IsQuiet}
-use Rattle.nc_schedule.specs.World.{Seat, World, seat_at, IsSteady, IsWhole, AreApart, is_same_span, HasPassed}
+use Rattle.nc_schedule.specs.Quiet.{Span, IsShut}
+use Rattle.nc_schedule.specs.World.{Seat, World, seat_at, IsViewOf, IsSteady, IsWhole, AreApart, is_same_span, HasPassed}
 
 -- What a thread does, by the number of its seat: it steps, enters at a bundle start, goes outside; takes the generation
--- for its pass, sees it, stores what it took in its seat's word, leaves. What the writer does: it puts a byte, marks a
--- span, raises the generation, retires a span with the next generation as its stamp, frees a retired span, looks at
+-- for its pass, sees it, stores what it took in its seat's word, leaves. What the writer does: it puts a byte, settles, marks
+-- a span, raises the generation, retires a span with the next generation as its stamp, frees a retired span, looks at
 -- the word of a seat.
 pub data Event : Type 0 where
   Steps : (seat : ℕ) → (next : State) → Event
@@ -22,6 +22,7 @@ pub data Event : Type 0 where
   Stores : (seat : ℕ) → Event
   Leaves : (seat : ℕ) → Event
   Puts : (at : ℕ) → (byte : ℕ) → Event
+  Settles : Event
   Marks : (at : ℕ) → (marks : List Mark) → Event
   Bumps : Event
   Retires : (base : ℕ) → (len : ℕ) → Event
@@ -32,35 +33,11 @@ pub data Event : Type 0 where
 abbrev pub new_span : World → ℕ → ℕ → Span
 new_span w base len = record { base = base; length = len; stamp = w.keeper.generation + 1 }
 
--- The event may happen in this world. A change of the text leaves text and marks closed and every retired span quiet; marks
--- are added and none is lost; a span that is retired is whole bundles, apart from the others, and quiet; and it is freed
--- only where no seat holds its stamp back. A thread steps as the machine does, enters with its seat's right, and checks
--- in and leaves only while it is outside. An event of a number that no seat has changes no seat.
-abbrev pub IsAllowed : World → Event → Type 0
-IsAllowed w (Steps k next) = (now : State) × ((seat_at w k).inside ≡ Some now) × Step w.marked.bytes now next
-IsAllowed w (Enters k at) =
-    ((seat_at w k).inside ≡ None) × ((seat_at w k).has_left ≡ false) × InRegion w.marked.bytes at × IsBundleStart at
-IsAllowed w (Exits k) = ⊤
-IsAllowed w (Takes k) = (seat_at w k).inside ≡ None
-IsAllowed w (Sees k) = ⊤
-IsAllowed w (Stores k) = (seat_at w k).has_left ≡ false
-IsAllowed w (Leaves k) = (seat_at w k).inside ≡ None
-IsAllowed w (Puts at byte) = InRegion w.marked.bytes at × IsSteady (with_byte w.marked at byte) w.retired
-IsAllowed w (Marks at marks) =
-    SpanInRegion w.marked.bytes at (length marks) × KeepsMarks w.marked.marks (with_marks w.marked at marks).marks
-    × IsSteady (with_marks w.marked at marks) w.retired
-IsAllowed w Bumps = ⊤
-IsAllowed w (Retires base len) =
-    IsWhole w.marked.bytes (new_span w base len) × All (AreApart (new_span w base len)) w.retired
-    × IsQuiet w.marked.bytes w.marked.marks (new_span w base len)
-IsAllowed w (Frees span) = Contains w.retired span × HasPassed w span.stamp
-IsAllowed w (Looks k) = ⊤
-
 -- a seat changed
 abbrev pub with_seat : World → ℕ → Seat → World
 with_seat w k seat = record w { seats = slice_set w.seats k seat }
 
--- the world after an event
+-- The world after an event. A put leaves the bytes that stood before it to be read still, and a settling those that stand now.
 abbrev pub after : World → Event → World
 after w (Steps k next) = with_seat w k (record (seat_at w k) { inside = Some next })
 after w (Enters k at) = with_seat w k (record (seat_at w k) { inside = Some (state at None) })
@@ -69,7 +46,8 @@ after w (Takes k) = with_seat w k (record (seat_at w k) { pass = generation_take
 after w (Sees k) = with_seat w k (record (seat_at w k) { pass = generation_seen w.keeper.generation (seat_at w k).pass })
 after w (Stores k) = with_seat w k (record (seat_at w k) { pass = since_stored (seat_at w k).pass; has_left = false })
 after w (Leaves k) = with_seat w k (record (seat_at w k) { pass = left_stored (seat_at w k).pass; has_left = true })
-after w (Puts at byte) = record w { marked = with_byte w.marked at byte }
+after w (Puts at byte) = record w { marked = with_byte w.marked at byte; earlier = w.marked.bytes ∷ w.earlier }
+after w Settles = record w { earlier = [] }
 after w (Marks at marks) = record w { marked = with_marks w.marked at marks }
 after w Bumps = record w { keeper = generation_raised w.keeper }
 after w (Retires base len) = record w { keeper = generation_raised w.keeper; retired = new_span w base len ∷ w.retired }
@@ -78,6 +56,34 @@ after w (Frees span) =
 after w (Looks k) =
     let looked = with_seat w k (record (seat_at w k) { found_left = (seat_at w k).has_left }) in
     record looked { keeper = word_taken k (seat_at w k).pass.word w.keeper }
+
+-- What a thread may do in this world: it steps as the machine does by some view, enters with its seat's right, and checks in
+-- and leaves only while it is outside. An event of a number that no seat has changes no seat. Of the writer's events nothing is
+-- said.
+abbrev pub ThreadMay : World → Event → Type 0
+ThreadMay w (Steps k next) =
+    (now : State) × ((seat_at w k).inside ≡ Some now) × ((view : List ℕ) × IsViewOf w view × Step view now next)
+ThreadMay w (Enters k at) =
+    ((seat_at w k).inside ≡ None) × ((seat_at w k).has_left ≡ false) × InRegion w.marked.bytes at × IsBundleStart at
+ThreadMay w (Takes k) = (seat_at w k).inside ≡ None
+ThreadMay w (Stores k) = (seat_at w k).has_left ≡ false
+ThreadMay w (Leaves k) = (seat_at w k).inside ≡ None
+ThreadMay w _ = ⊤
+
+-- The event may happen in this world. A change of the text leaves, in every view, text and marks closed and every retired span
+-- shut; marks are added and none is lost; a span that is retired is whole bundles, apart from the others, and in every view
+-- shut; and it is freed only where no seat holds its stamp back. A thread does what it may, and any other event of the writer
+-- may come at any time.
+abbrev pub IsAllowed : World → Event → Type 0
+IsAllowed w (Puts at byte) = InRegion w.marked.bytes at × IsSteady (after w (Puts at byte))
+IsAllowed w (Marks at marks) =
+    SpanInRegion w.marked.bytes at (length marks) × KeepsMarks w.marked.marks (with_marks w.marked at marks).marks
+    × IsSteady (after w (Marks at marks))
+IsAllowed w (Retires base len) =
+    IsWhole w.marked.bytes (new_span w base len) × All (AreApart (new_span w base len)) w.retired
+    × ((view : List ℕ) → IsViewOf w view → IsShut view w.marked.marks (new_span w base len))
+IsAllowed w (Frees span) = Contains w.retired span × HasPassed w span.stamp
+IsAllowed w event = ThreadMay w event
 
 -- the world after some events
 abbrev pub world_after : World → List Event → World
@@ -89,16 +95,16 @@ abbrev pub AreAllowed : World → List Event → Type 0
 AreAllowed w [] = ⊤
 AreAllowed w (event ∷ events) = IsAllowed w event × AreAllowed (after w event) events
 
--- A place that a thread may come from and go to in one event, over the bytes before it: it stays where it is or takes a
--- step of the machine, comes in at a bundle start of the region with no register masked, or is outside afterwards.
-abbrev pub IsMove : List ℕ → Option State → Option State → Type 0
-IsMove text now None = ⊤
-IsMove text None (Some next) = InRegion text next.place × IsBundleStart next.place × (next.masked ≡ None)
-IsMove text (Some now) (Some next) = (next ≡ now) ⊎ Step text now next
+-- A place that a thread may come from and go to in one event, over the world before it: it stays where it is or takes a step
+-- of the machine by some view, comes in at a bundle start of the region with no register masked, or is outside afterwards.
+abbrev pub IsMove : World → Option State → Option State → Type 0
+IsMove w now None = ⊤
+IsMove w None (Some next) = InRegion w.marked.bytes next.place × IsBundleStart next.place × (next.masked ≡ None)
+IsMove w (Some now) (Some next) = (next ≡ now) ⊎ ((view : List ℕ) × IsViewOf w view × Step view now next)
 
--- so it is of the thread of each seat
+-- the thread of each seat moves so
 abbrev pub AllMove : World → World → Type 0
-AllMove before w = (k : ℕ) → k < length before.seats → IsMove before.marked.bytes (seat_at before k).inside (seat_at w k).inside
+AllMove before w = (k : ℕ) → k < length before.seats → IsMove before (seat_at before k).inside (seat_at w k).inside
 
 -- What an event does to the bytes: a put gives its place the byte and leaves every other place of the region as it was, and
 -- no other event changes a byte.

@@ -1,3 +1,4 @@
 pub mod Quiet
+pub mod Views
 pub mod World
 pub mod Events

@@ -24,3 +24,9 @@ IsWithin span at = IsInSpan span at × (at % 32 ≢ 0)
 pub record IsQuiet (text : List ℕ) (marks : List Mark) (span : Span) : Type 0 where
   pub stops : (at : ℕ) → IsInSpan span at → byte_at text at ≡ 0xF4
   pub unreached : (now next : State) → IsMarked marks now → ¬ IsInSpan span now.place → Step text now next → ¬ IsWithin span next.place
+
+-- A span is shut in a text if each place of it that is marked is a stop, and no state that a mark outside it stands for has a
+-- step to a place of it that is no bundle start. A quiet span is shut; the bytes of a shut one that aren't marked may be any.
+pub record IsShut (text : List ℕ) (marks : List Mark) (span : Span) : Type 0 where
+  pub stops : (now : State) → IsMarked marks now → IsInSpan span now.place → byte_at text now.place ≡ 0xF4
+  pub unreached : (now next : State) → IsMarked marks now → ¬ IsInSpan span now.place → Step text now next → ¬ IsWithin span next.place

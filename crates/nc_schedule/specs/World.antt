@@ -10,7 +10,8 @@ use Rattle.nc_text.specs.MarkedText.{MarkedText, unused_text}
 use Rattle.nc_gens.specs.declared.view.PassNumbers.{PassNumbers}
 use Rattle.nc_gens.specs.declared.view.KeeperNumbers.{KeeperNumbers}
 use Rattle.nc_gens.specs.Rule.{first_pass_numbers, first_keeper_numbers}
-use Rattle.nc_schedule.specs.Quiet.{Span, IsWithin, IsQuiet}
+use Rattle.nc_schedule.specs.Quiet.{Span, IsWithin, IsShut}
+use Rattle.nc_schedule.specs.Views.{IsView}
 
 -- What a world holds of one seat: where its thread stands, if it is inside the region; the numbers of its pass; whether it
 -- has left, and whether the keeper has found that. The flags tell it and not the number in its word, since the
@@ -21,9 +22,11 @@ pub record Seat : Type 0 where
   pub has_left : Bool
   pub found_left : Bool
 
--- The text with its marks, the retired spans, the keeper with the generation and a bound for each seat, and the seats.
+-- The text with its marks, the bytes as they stood before each put since the last settling, the retired spans, the keeper with
+-- the generation and a bound for each seat, and the seats.
 pub record World : Type 0 where
   pub marked : MarkedText
+  pub earlier : List (List ℕ)
   pub retired : List Span
   pub keeper : KeeperNumbers
   pub seats : List Seat
@@ -32,18 +35,28 @@ pub record World : Type 0 where
 abbrev pub first_seat : Seat
 first_seat = record { inside = None; pass = first_pass_numbers; has_left = false; found_left = false }
 
--- the world at first, up to a limit and with so many seats: unused text, and no retired span
+-- the world at first, up to a limit and with this number of seats: unused text, nothing put, and no retired span
 abbrev pub first_world : ℕ → ℕ → World
 first_world limit seats =
-    record { marked = unused_text limit; retired = []; keeper = first_keeper_numbers seats; seats = replicate seats first_seat }
+    record {
+      marked = unused_text limit;
+      earlier = [];
+      retired = [];
+      keeper = first_keeper_numbers seats;
+      seats = replicate seats first_seat;
+    }
 
 -- the seat of a number
 abbrev pub seat_at : World → ℕ → Seat
 seat_at w k = slice_index_or w.seats k first_seat
 
--- text and marks are closed, and every retired span is quiet
-abbrev pub IsSteady : MarkedText → List Span → Type 0
-IsSteady marked retired = IsClosed marked.bytes marked.marks × All (IsQuiet marked.bytes marked.marks) retired
+-- what a thread may read in this world
+abbrev pub IsViewOf : World → List ℕ → Type 0
+IsViewOf w view = IsView w.marked.bytes w.earlier view
+
+-- in every view text and marks are closed, and every retired span is shut
+abbrev pub IsSteady : World → Type 0
+IsSteady w = (view : List ℕ) → IsViewOf w view → IsClosed view w.marked.marks × All (IsShut view w.marked.marks) w.retired
 
 -- the span is whole bundles of the region
 pub record IsWhole (text : List ℕ) (span : Span) : Type 0 where
@@ -68,9 +81,9 @@ is_same_span one other = (one.base == other.base) && (one.length == other.length
 abbrev pub HasPassed : World → ℕ → Type 0
 HasPassed w stamp = (k : ℕ) → k < length w.seats → (stamp ≤ slice_index w.keeper.bounds k) ⊎ ((seat_at w k).found_left ≡ true)
 
--- each thread inside stands on a safe state
+-- each thread inside stands on a state that is safe in every view
 abbrev pub AllStandSafe : World → Type 0
-AllStandSafe w = All (λ (seat : Seat). IfSome seat.inside (IsSafe w.marked.bytes)) w.seats
+AllStandSafe w = All (λ (seat : Seat). IfSome seat.inside (λ now. (view : List ℕ) → IsViewOf w view → IsSafe view now)) w.seats
 
 -- no thread stands at a place of the span that is no bundle start
 abbrev pub NoneIsWithin : World → Span → Type 0

@@ -1,21 +1,29 @@
 //! What every schedule keeps.
 
-ghost use Rattle.std.specs.Prelude.{ℕ, List, [], ◌∷◌, ◌++◌};
+ghost use Rattle.std.specs.Prelude.{◌≡◌, ◌≢◌, ◌⊎◌, ℕ, length, List, [], ◌∷◌, ◌++◌};
 ghost use Rattle.nc_decode.specs.Bundles.{IsLawfulLimit};
+ghost use Rattle.nc_text.specs.Places.{InRegion, byte_at};
 ghost use Rattle.nc_schedule.specs.Quiet.{Span};
-ghost use Rattle.nc_schedule.specs.World.{first_world, IsUsable, AllStandSafe, NoneIsWithin};
+ghost use Rattle.nc_schedule.specs.World.{World, first_world, IsViewOf, IsUsable, AllStandSafe, NoneIsWithin};
 ghost use Rattle.nc_schedule.specs.Events.{Event, after, world_after, AreAllowed, AllMove, ChangesBytes};
 
 /// For every lawful limit, every number of seats and every list of events that are allowed where they stand, in whatever
-/// order threads and writer take turns: after every event each thread inside stands on a safe state, and whenever a retired
-/// span is freed, no thread stands at a place of it that isn't a bundle start. It does nothing when it is called.
+/// order threads and writer take turns: after every event each thread inside stands on a state that is safe in every view, and
+/// whenever a retired span is freed, no thread stands at a place of it that isn't a bundle start. It does nothing when it is
+/// called.
 ///
-/// A safe state is a permitted instruction wholly inside its bundle, an indirect transfer only with its register just
-/// masked, or a bundle start below 00010000. There are as many threads as seats, or fewer.
+/// A view is what a thread may read: each byte as it stood at any moment since the last settling, in any mixture. A safe
+/// state is a permitted instruction wholly inside its bundle, an indirect transfer only with its register just masked, or
+/// a bundle start below 00010000. There are as many threads as seats, or fewer.
 ///
 /// And each event does what it is for and no more: a span that is freed is whole bundles of the region, and no span that
-/// stays retired has a place of it, so it may be used again; a thread that is inside moves only as the machine does, and
-/// comes in only at a bundle start; and a byte changes only where it is put.
+/// stays retired has a place of it, so it may be used again; a thread that is inside moves only as the machine does by some
+/// view, and comes in only at a bundle start; and a byte changes only where it is put.
+///
+/// The text as it stands is always a view, and right after a settling the only one. A view stays one through every event but a
+/// settling, and each mixture of two views is a view. So a processor that fetches each instruction whole, as the bytes stand,
+/// is one of those of which the law speaks, and so is one that reads each byte as it stood at any moment since the last
+/// settling.
 ///
 /// Not promised: that a span is ever freed, and anything of time.
 pub fn law_of_schedules()
@@ -34,4 +42,12 @@ pub fn law_of_schedules()
         → AreAllowed (first_world limit seats) (events ++ event ∷ later)
         → ChangesBytes (world_after (first_world limit seats) events).marked.bytes event
         (after (world_after (first_world limit seats) events) event).marked.bytes }
+    ensures as_it_stands { (w : World) → IsViewOf w w.marked.bytes }
+    ensures settled { (w : World) (view : List ℕ) → IsViewOf (after w Event.Settles) view → view ≡ w.marked.bytes }
+    ensures lasts { (w : World) (event : Event) (view : List ℕ) → event ≢ Event.Settles → IsViewOf w view
+        → IsViewOf (after w event) view }
+    ensures mixed { (w : World) (one other view : List ℕ) → IsViewOf w one → IsViewOf w other
+        → length view ≡ length w.marked.bytes
+        → ((at : ℕ) → InRegion w.marked.bytes at → (byte_at view at ≡ byte_at one at) ⊎ (byte_at view at ≡ byte_at other at))
+        → IsViewOf w view }
 {}

@@ -1,30 +1,31 @@
--- Acts written into a buffer, one after the other.
+-- Entries of a log written into a buffer, one after the other.
 use Rattle.std.specs.Prelude.{◌≡◌, ℕ, ◌+◌, ◌-◌, Bool, true, false, not, List, ◌++◌, take, length, map, slice_index_or}
 use Rattle.nc_decode.specs.declared.instruction.Mark.{Mark}
 use Rattle.nc_decode.specs.declared.instruction.Mark.TheVariants.{Unmarked}
-use Rattle.nc_region.specs.declared.acts.Act.{Act}
+use Rattle.nc_region.specs.declared.acts.Entry.{Entry}
 use Rattle.nc_region.specs.Acts.{puts_where, is_start, is_inside, is_mark}
+use Rattle.nc_region.specs.Log.{unsettled}
 use Rattle.nc_host.specs.declared.answers.NcAct.{NcAct}
-use Rattle.nc_host.specs.Shown.{act_of, over}
+use Rattle.nc_host.specs.Shown.{entry_of, over}
 
--- so many acts stand at the front of the buffer
-pub record HasWritten (start now : List NcAct) (count : ℕ) (told : List Act) : Type 0 where
-  pub buffer : now ≡ over (map act_of told) start
-  pub counted : count ≡ length told
+-- so many entries stand at the front of the buffer
+pub record HasWritten (start now : List NcAct) (count : ℕ) (log : List Entry) : Type 0 where
+  pub buffer : now ≡ over (map entry_of log) start
+  pub counted : count ≡ length log
 
 -- Of these bytes the first so many have been looked at, and the puts of those at places that pass the test stand in the buffer
--- after the acts that stood there at first, which were so many.
+-- after the entries that stood there at first, which were so many.
 pub record HasPutUpTo (chosen : ℕ → Bool) (at : ℕ) (bytes : List ℕ) (initial : List NcAct) (from n : ℕ) (acts : List NcAct) (count : ℕ)
     : Type 0 where
   pub len : length acts ≡ length initial
   pub counted : count ≡ from + length (puts_where chosen at (take n bytes))
-  pub written : (start : List NcAct) (told : List Act) → HasWritten start initial from told
-      → HasWritten start acts count (told ++ puts_where chosen at (take n bytes))
+  pub written : (start : List NcAct) (log : List Entry) → HasWritten start initial from log
+      → HasWritten start acts count (log ++ unsettled (puts_where chosen at (take n bytes)))
 
--- these acts have come to those that stood in the buffer
-abbrev pub Adds : List NcAct → ℕ → List NcAct → ℕ → List Act → Type 0
+-- these entries have come to those that stood in the buffer
+abbrev pub Adds : List NcAct → ℕ → List NcAct → ℕ → List Entry → Type 0
 Adds initial from acts count added =
-    (start : List NcAct) (told : List Act) → HasWritten start initial from told → HasWritten start acts count (told ++ added)
+    (start : List NcAct) (log : List Entry) → HasWritten start initial from log → HasWritten start acts count (log ++ added)
 
 -- bundle starts, or the other places
 abbrev pub starts_if : Bool → ℕ → Bool

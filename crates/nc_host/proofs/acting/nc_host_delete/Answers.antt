@@ -19,4 +19,4 @@ returns-in-Ok-clause-written c = λ e m text valid stand.
 pub returns-in-Err-clause-valid : goal.returns-in-Err-clause-valid
 returns-in-Err-clause-valid c = λ m valid.
     rw c.refused.ensures
-    (eight_or_nine c.in-Err.verdict.fault (length c.args.code.now + 1) (length c.args.acts.now) (c.in-Err.ensures.exact m valid))
+    (eight_or_nine c.in-Err.verdict.fault (length c.args.code.now + 2) (length c.args.acts.now) (c.in-Err.ensures.exact m valid))

@@ -1,6 +1,6 @@
 use Rattle.std.proofs.Common.{◌+◌, ◌-◌, ℕ, [], length, refl, arith, subst}
 use Rattle.nc_vet.specs.Listed.{listed}
-use Rattle.nc_region.specs.Patch.{acts_of_modify}
+use Rattle.nc_region.specs.Patch.{log_of_modify}
 use Rattle.nc_host.specs.machinery.Writing.{HasWritten, Adds}
 use Rattle.std.specs.Prelude.{Option}
 use Rattle.nc_region.specs.declared.fault.ModifyFault.{ModifyFault}
@@ -30,8 +30,8 @@ pub returns-in-Ok-None-2-clause-written : goal.returns-in-Ok-None-2-clause-writt
 returns-in-Ok-None-2-clause-written c = λ e text news h b.
     let within = c.in-Ok-None.ensures.within c.in-Ok-None.field-0-is in
     let none : HasWritten c.args.acts.now c.args.acts.now 0 [] = record { buffer = refl; counted = refl } in
-    let added : Adds c.args.acts.now 0 c.write_patch-count.new.acts c.write_patch-count.result (acts_of_modify text c.args.at news) =
-    subst (λ (k : ℕ). Adds c.args.acts.now 0 c.write_patch-count.new.acts c.write_patch-count.result (acts_of_modify text k news))
+    let added : Adds c.args.acts.now 0 c.write_patch-count.new.acts c.write_patch-count.result (log_of_modify text c.args.at news) =
+    subst (λ (k : ℕ). Adds c.args.acts.now 0 c.write_patch-count.new.acts c.write_patch-count.result (log_of_modify text k news))
     {x = c.args.base + (c.args.at - c.args.base)} {y = c.args.at} (omega (arith, within.0)) (c.write_patch-count.ensures.written text news h b) in
     let wrote = added c.args.acts.now [] none in
     (wrote.counted, wrote.buffer)

@@ -8,24 +8,49 @@ use Rattle.nc_host.proofs.putting.write_creation.Goals as goal
 pub write_code-count-requires-clause-room : goal.write_code-count-requires-clause-room
 write_code-count-requires-clause-room c = omega (arith, c.requires.room, both_of_create c.args.base c.args.code.now)
 
-pub write-count-requires : goal.write-count-requires
-write-count-requires c =
+pub write-settled-requires : goal.write-settled-requires
+write-settled-requires c =
     let one = first_written is_inside c.args.base c.args.code.now c.args.acts.now c.write_code-count.new.acts (length c.args.code.now)
     c.write_code-count.result refl c.write_code-count.ensures in
     omega (arith, one.len, one.counted, c.requires.room, both_of_create c.args.base c.args.code.now)
+
+pub write-marked-requires : goal.write-marked-requires
+write-marked-requires c =
+    let one = first_written is_inside c.args.base c.args.code.now c.args.acts.now c.write_code-count.new.acts (length c.args.code.now)
+    c.write_code-count.result refl c.write_code-count.ensures in
+    let same : length c.write-settled.new.acts ≡ length c.write_code-count.new.acts =
+    ap (λ (z : List NcAct). length z) c.write-settled.ensures.acts
+    ∙ length-set c.write_code-count.new.acts c.write_code-count.result c.settle.result in
+    omega (arith, one.len, one.counted, c.requires.room, c.write-settled.ensures.count, same, both_of_create c.args.base c.args.code.now)
 
 pub write_code-requires-clause-room : goal.write_code-requires-clause-room
 write_code-requires-clause-room c =
     let one = first_written is_inside c.args.base c.args.code.now c.args.acts.now c.write_code-count.new.acts (length c.args.code.now)
     c.write_code-count.result refl c.write_code-count.ensures in
-    let same : length c.write-count.new.acts ≡ length c.write_code-count.new.acts =
-    ap (λ (z : List NcAct). length z) c.write-count.ensures.acts
-    ∙ length-set c.write_code-count.new.acts c.write_code-count.result c.mark_span.result in
-    omega (arith, one.len, one.counted, c.requires.room, c.write-count.ensures.count, same, both_of_create c.args.base c.args.code.now)
+    let same : length c.write-settled.new.acts ≡ length c.write_code-count.new.acts =
+    ap (λ (z : List NcAct). length z) c.write-settled.ensures.acts
+    ∙ length-set c.write_code-count.new.acts c.write_code-count.result c.settle.result in
+    let still : length c.write-marked.new.acts ≡ length c.write-settled.new.acts =
+    ap (λ (z : List NcAct). length z) c.write-marked.ensures.acts
+    ∙ length-set c.write-settled.new.acts c.write-settled.result c.mark_span.result in
+    omega (
+      arith,
+      one.len,
+      one.counted,
+      c.requires.room,
+      c.write-settled.ensures.count,
+      c.write-marked.ensures.count,
+      same,
+      still,
+      both_of_create c.args.base c.args.code.now,
+    )
 
 pub returns : goal.returns
 returns c =
-    creation_written c.args.base c.args.code.now c.args.acts.now c.write_code-count.new.acts c.write-count.new.acts c.write_code.new.acts
-    c.write_code-count.result c.write-count.result c.write_code.result c.write_code-count.ensures
-    (c.write-count.ensures.acts ∙ ap (λ (a : NcAct). set c.write_code-count.new.acts c.write_code-count.result a) c.mark_span.ensures)
-    c.write-count.ensures.count c.write_code.ensures c.requires.room
+    creation_written c.args.base c.args.code.now c.args.acts.now c.write_code-count.new.acts c.write-settled.new.acts c.write-marked.new.acts
+    c.write_code.new.acts c.write_code-count.result c.write-settled.result c.write-marked.result c.write_code.result
+    c.write_code-count.ensures
+    (c.write-settled.ensures.acts ∙ ap (λ (a : NcAct). set c.write_code-count.new.acts c.write_code-count.result a) c.settle.ensures)
+    c.write-settled.ensures.count
+    (c.write-marked.ensures.acts ∙ ap (λ (a : NcAct). set c.write-settled.new.acts c.write-settled.result a) c.mark_span.ensures)
+    c.write-marked.ensures.count c.write_code.ensures c.requires.room

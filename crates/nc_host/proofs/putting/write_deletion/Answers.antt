@@ -1,5 +1,5 @@
-use Rattle.std.proofs.Common.{arith, sym, ◌∙◌, ap, ℕ, length, set, replicate, true, false}
-use Rattle.std.proofs.lemmas.List.{length-replicate}
+use Rattle.std.proofs.Common.{arith, sym, ◌∙◌, ap, ℕ, List, ◌≡◌, length, set, replicate, true, false}
+use Rattle.std.proofs.lemmas.List.{length-replicate, length-set}
 use Rattle.nc_vet.specs.Listed.{listed}
 use Rattle.nc_host.specs.declared.answers.NcAct.{NcAct}
 use Rattle.nc_host.specs.machinery.Writing.{marked_if}
@@ -11,13 +11,24 @@ pub write_stops-marked-requires-clause-room : goal.write_stops-marked-requires-c
 write_stops-marked-requires-clause-room c =
     omega (arith, c.requires.room, both_of_delete (listed c.args.code.now c.args.marks.now) c.args.base (length c.args.code.now))
 
+pub write-settled-requires : goal.write-settled-requires
+write-settled-requires c =
+    let marks = listed c.args.code.now c.args.marks.now in
+    let len = length c.args.code.now in
+    let one = first_written (marked_if true marks c.args.base) c.args.base (replicate {A = ℕ} len 244) c.args.acts.now
+    c.write_stops-marked.new.acts len c.write_stops-marked.result (sym (length-replicate {A = ℕ} len 244)) c.write_stops-marked.ensures in
+    omega (arith, one.len, one.counted, c.requires.room, both_of_delete marks c.args.base len)
+
 pub write_stops-count-requires-clause-room : goal.write_stops-count-requires-clause-room
 write_stops-count-requires-clause-room c =
     let marks = listed c.args.code.now c.args.marks.now in
     let len = length c.args.code.now in
     let one = first_written (marked_if true marks c.args.base) c.args.base (replicate {A = ℕ} len 244) c.args.acts.now
     c.write_stops-marked.new.acts len c.write_stops-marked.result (sym (length-replicate {A = ℕ} len 244)) c.write_stops-marked.ensures in
-    omega (arith, one.len, one.counted, c.requires.room, both_of_delete marks c.args.base len)
+    let same : length c.write-settled.new.acts ≡ length c.write_stops-marked.new.acts =
+    ap (λ (z : List NcAct). length z) c.write-settled.ensures.acts
+    ∙ length-set c.write_stops-marked.new.acts c.write_stops-marked.result c.settle.result in
+    omega (arith, one.len, one.counted, c.requires.room, c.write-settled.ensures.count, same, both_of_delete marks c.args.base len)
 
 pub write-requires : goal.write-requires
 write-requires c =
@@ -26,14 +37,29 @@ write-requires c =
     let end = sym (length-replicate {A = ℕ} len 244) in
     let one = first_written (marked_if true marks c.args.base) c.args.base (replicate {A = ℕ} len 244) c.args.acts.now
     c.write_stops-marked.new.acts len c.write_stops-marked.result end c.write_stops-marked.ensures in
-    let rest = put_all (marked_if false marks c.args.base) c.args.base (replicate {A = ℕ} len 244) c.write_stops-marked.new.acts
-    c.write_stops-marked.result len c.write_stops-count.new.acts c.write_stops-count.result end c.write_stops-count.ensures in
-    omega (arith, one.len, one.counted, rest.len, rest.counted, c.requires.room, both_of_delete marks c.args.base len)
+    let same : length c.write-settled.new.acts ≡ length c.write_stops-marked.new.acts =
+    ap (λ (z : List NcAct). length z) c.write-settled.ensures.acts
+    ∙ length-set c.write_stops-marked.new.acts c.write_stops-marked.result c.settle.result in
+    let rest = put_all (marked_if false marks c.args.base) c.args.base (replicate {A = ℕ} len 244) c.write-settled.new.acts
+    c.write-settled.result len c.write_stops-count.new.acts c.write_stops-count.result end c.write_stops-count.ensures in
+    omega (
+      arith,
+      one.len,
+      one.counted,
+      same,
+      c.write-settled.ensures.count,
+      rest.len,
+      rest.counted,
+      c.requires.room,
+      both_of_delete marks c.args.base len,
+    )
 
 pub returns : goal.returns
 returns c = λ text stand.
     deletion_written (listed c.args.code.now c.args.marks.now) text c.args.base (length c.args.code.now) c.args.acts.now
-    c.write_stops-marked.new.acts c.write_stops-count.new.acts c.write.new.acts c.write_stops-marked.result c.write_stops-count.result
-    c.write_stops-marked.ensures c.write_stops-count.ensures
+    c.write_stops-marked.new.acts c.write-settled.new.acts c.write_stops-count.new.acts c.write.new.acts c.write_stops-marked.result
+    c.write-settled.result c.write_stops-count.result c.write_stops-marked.ensures
+    (c.write-settled.ensures.acts ∙ ap (λ (a : NcAct). set c.write_stops-marked.new.acts c.write_stops-marked.result a) c.settle.ensures)
+    c.write-settled.ensures.count c.write_stops-count.ensures
     (c.write.ensures.acts ∙ ap (λ (a : NcAct). set c.write_stops-count.new.acts c.write_stops-count.result a) c.bump.ensures)
     c.requires.room stand (sym c.requires.each)

@@ -4,9 +4,11 @@ use Rattle.nc_text.specs.Marks.{IsClosed}
 use Rattle.nc_text.specs.Places.{limit_of}
 use Rattle.nc_text.specs.MarkedText.{MarkedText, IsText, with_span, KeepsMarks}
 use Rattle.nc_region.specs.declared.acts.Act.TheVariants.{MarkSpan}
+use Rattle.nc_region.specs.declared.acts.Entry.TheVariants.{Did}
 use Rattle.nc_region.specs.Chunks.{IsClosedChunk, with_chunk}
 use Rattle.nc_region.specs.machinery.Between.{IsUnused}
 use Rattle.nc_region.proofs.Told.{tells_more}
+use Rattle.nc_region.proofs.Logged.{logs_more, logs_after}
 use Rattle.nc_region.proofs.Joining.{Joins, chunk_joins, chunk_keeps}
 use Rattle.nc_region.proofs.Creating.{final_but_closed, final_but_starts, same_final, same_code}
 use Rattle.nc_region.proofs.create.put_chunk.Goals as goal
@@ -73,3 +75,8 @@ pub returns-clause-told : goal.returns-clause-told
 returns-clause-told g c =
     rw (← c.requires.chunk.as_long) (tells_more _ _ _ _ _ c.put_inside.ensures.told
     (tells_more _ _ _ (MarkSpan c.args.base (length c.args.marks.now) ∷ []) _ c.mark_span.ensures.told c.put_starts.ensures.told))
+
+pub returns-clause-log : goal.returns-clause-log
+returns-clause-log g c =
+    rw (← c.requires.chunk.as_long) (logs_after _ _ _ _ _ c.put_inside.ensures.log
+    (logs_more _ _ _ (Did (MarkSpan c.args.base (length c.args.marks.now)) ∷ []) _ c.mark_span.ensures.logged c.put_starts.ensures.log))

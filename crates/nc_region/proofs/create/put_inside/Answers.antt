@@ -1,10 +1,11 @@
-use Rattle.std.proofs.Common.{Bool, ◌+◌, ◌-◌, ◌∙◌, List, get_or, set, arith, sym, subst}
+use Rattle.std.proofs.Common.{Bool, ◌+◌, ◌-◌, ◌∙◌, List, [], get_or, set, arith, sym, subst}
 use Rattle.nc_decode.specs.declared.instruction.Mark.{Mark}
 use Rattle.nc_text.specs.Marks.{IsClosed}
 use Rattle.nc_text.specs.Ready.{IsReady}
 use Rattle.nc_region.specs.Acts.{is_inside}
 use Rattle.nc_region.proofs.Puts.{put_more, put_passed}
 use Rattle.nc_region.proofs.Told.{told_put, told_passed}
+use Rattle.nc_region.proofs.Logged.{log_put, log_passed}
 use Rattle.nc_region.proofs.Creating.{inside_closed}
 use Rattle.nc_region.proofs.SpanPlaces.{is_inside_true, is_inside_false}
 use Rattle.nc_region.proofs.create.put_inside.Goals as goal
@@ -46,6 +47,7 @@ loop-i-preserved g c =
             made = w.put.ensures.made ∙ c.loop-i.invariant.made;
             keeper = w.put.ensures.keeper ∙ c.loop-i.invariant.keeper;
             told = told_put is_inside base c.args.code.now i _ _ _ (omega arith) is c.loop-i.invariant.told w.put.ensures.told;
+            log = log_put [] is_inside base c.args.code.now i _ _ _ (omega arith) is c.loop-i.invariant.log w.put.ensures.logged;
           })
       | else-at-ne0 w ↦
           let not = is_inside_false (base + i) w.if-at-ne0.false in
@@ -56,5 +58,6 @@ loop-i-preserved g c =
             made = c.loop-i.invariant.made;
             keeper = c.loop-i.invariant.keeper;
             told = told_passed is_inside base c.args.code.now i _ _ (omega arith) not c.loop-i.invariant.told;
+            log = log_passed is_inside base c.args.code.now i _ _ (omega arith) not c.loop-i.invariant.log;
           })
     ]

@@ -1,12 +1,14 @@
-use Rattle.std.proofs.Common.{◌∙◌, ◌≡◌, ◌≢◌, Bool, false, ℕ, ◌+◌, ◌*◌, ◌-◌, ◌%◌, ◌<◌, List, length, get_or, set, take, arith, sym, subst}
+use Rattle.std.proofs.Common.{◌∙◌, ◌≡◌, ◌≢◌, Bool, ℕ, ◌+◌, ◌*◌, ◌-◌, ◌%◌, ◌<◌, List, [], length, get_or, set, take, arith, sym, subst}
 use Rattle.std.proofs.lemmas.List.{take_all}
 use Rattle.nc_decode.specs.declared.instruction.Mark.{Mark}
 use Rattle.nc_text.specs.Marks.{IsClosed}
 use Rattle.nc_text.specs.Ready.{IsReady}
 use Rattle.nc_text.specs.MarkedText.{with_span}
 use Rattle.nc_region.specs.Acts.{Tells, puts_where, is_start}
+use Rattle.nc_region.specs.Log.{Logs, unsettled}
 use Rattle.nc_region.specs.machinery.Between.{IsFinalBut}
 use Rattle.nc_region.proofs.Told.{told_put, told_passed_all}
+use Rattle.nc_region.proofs.Logged.{log_put, log_passed_all}
 use Rattle.nc_region.proofs.Creating.{final_but_closed, final_all, start_put, starts_passed}
 use Rattle.nc_region.proofs.SpanPlaces.{is_start_true, is_start_false}
 use Rattle.nc_region.proofs.create.put_starts.Goals as goal
@@ -46,6 +48,8 @@ loop-bundle-preserved g c =
     c.loop-bundle.invariant.bytes in
     let told = told_put is_start base c.args.code.now i _ _ _ (omega arith) (is_start_true (base + i) start) c.loop-bundle.invariant.told
     c.put.ensures.told in
+    let log = log_put [] is_start base c.args.code.now i _ _ _ (omega arith) (is_start_true (base + i) start) c.loop-bundle.invariant.log
+    c.put.ensures.logged in
     record {
       bytes = rw e (subst (λ (n : ℕ). IsFinalBut (with_span old.bytes (base - 65536) c.args.code.now)
           (set now.bytes (base + i - 65536) (get_or c.args.code.now i 0)) (base + n) (base + length c.args.code.now)) more
@@ -59,6 +63,10 @@ loop-bundle-preserved g c =
           (puts_where is_start base (take n c.args.code.now))) more
           (told_passed_all is_start base c.args.code.now (i + 1) 31 _ _ (omega (arith, c.requires.placed.whole))
           (λ j lt. is_start_false (base + (i + 1 + j)) (none j lt)) told);
+      log = subst (λ (n : ℕ). Logs (g.A.Acts.logged c.args.acts.now) (g.A.Acts.logged c.put.new.self)
+          (unsettled (puts_where is_start base (take n c.args.code.now)))) more
+          (log_passed_all is_start base c.args.code.now (i + 1) 31 _ _ (omega (arith, c.requires.placed.whole))
+          (λ j lt. is_start_false (base + (i + 1 + j)) (none j lt)) log);
     }
 
 pub returns-clause-bytes : goal.returns-clause-bytes
@@ -75,3 +83,10 @@ returns-clause-told g c =
     let end : 32 * c.loop-bundle.bundle ≡ length c.args.code.now = omega (arith, c.requires.placed.whole) in
     subst (λ (z : List ℕ). Tells (g.A.Acts.told c.args.acts.now) (g.A.Acts.told c.loop-bundle.acts) (puts_where is_start c.args.base z))
     (take_all (32 * c.loop-bundle.bundle) c.args.code.now (omega arith)) c.loop-bundle.invariant.told
+
+pub returns-clause-log : goal.returns-clause-log
+returns-clause-log g c =
+    let end : 32 * c.loop-bundle.bundle ≡ length c.args.code.now = omega (arith, c.requires.placed.whole) in
+    subst (λ (z : List ℕ). Logs (g.A.Acts.logged c.args.acts.now) (g.A.Acts.logged c.loop-bundle.acts)
+    (unsettled (puts_where is_start c.args.base z)))
+    (take_all (32 * c.loop-bundle.bundle) c.args.code.now (omega arith)) c.loop-bundle.invariant.log

@@ -1,9 +1,11 @@
 use Rattle.std.proofs.Common.{List, [], ◌∷◌, replicate, arith, subst}
 use Rattle.nc_decode.specs.declared.instruction.Mark.{Mark}
 use Rattle.nc_region.specs.declared.acts.Act.TheVariants.{Bump}
+use Rattle.nc_region.specs.declared.acts.Entry.TheVariants.{Did}
 use Rattle.nc_region.specs.Acts.{is_unmarked_at}
 use Rattle.nc_region.specs.machinery.Between.{HasPut}
 use Rattle.nc_region.proofs.Told.{tells_more}
+use Rattle.nc_region.proofs.Logged.{logs_more, logs_after}
 use Rattle.nc_region.proofs.Deleting.{all_stops}
 use Rattle.nc_region.proofs.delete.put_stops.Goals as goal
 
@@ -24,3 +26,8 @@ pub returns-clause-told : goal.returns-clause-told
 returns-clause-told g c =
     let second = rw c.stop_marked.ensures.marks at c.stop_others.ensures.told in
     tells_more _ _ _ _ _ c.stop_marked.ensures.told (tells_more _ _ _ _ (Bump ∷ []) second c.in-Ok.ensures.told)
+
+pub returns-clause-log : goal.returns-clause-log
+returns-clause-log g c =
+    let second = rw c.stop_marked.ensures.marks at c.stop_others.ensures.log in
+    logs_after _ _ _ _ _ c.stop_marked.ensures.log (logs_more _ _ _ _ (Did Bump ∷ []) second c.in-Ok.ensures.logged)

@@ -1,4 +1,4 @@
-use Rattle.std.proofs.Common.{Bool, ◌≡◌, ℕ, ◌+◌, ◌-◌, ◌<◌, List, length, get_or, set, replicate, arith, sym, subst, ◌∙◌}
+use Rattle.std.proofs.Common.{Bool, ◌≡◌, ℕ, ◌+◌, ◌-◌, ◌<◌, List, [], length, get_or, set, replicate, arith, sym, subst, ◌∙◌}
 use Rattle.std.proofs.Common.{true, false}
 use Rattle.std.proofs.lemmas.List.{get_or-replicate, length-replicate}
 use Rattle.nc_decode.specs.declared.instruction.Mark.{Mark}
@@ -8,6 +8,7 @@ use Rattle.nc_region.specs.Acts.{is_marked_at}
 use Rattle.nc_region.specs.machinery.Between.{HasPut}
 use Rattle.nc_region.proofs.Puts.{put_more, put_passed}
 use Rattle.nc_region.proofs.Told.{told_put, told_passed}
+use Rattle.nc_region.proofs.Logged.{log_put, log_passed}
 use Rattle.nc_region.proofs.Deleting.{marked_closed}
 use Rattle.nc_region.proofs.delete.stop_marked.Goals as goal
 use Rattle.nc_region.proofs.delete.stop_marked.Goals.{then-is_mark, else-is_mark}
@@ -59,6 +60,8 @@ loop-i-preserved g c =
             keeper = w.put.ensures.keeper ∙ c.loop-i.invariant.keeper;
             told = told_put (is_marked_at old.marks) base (replicate c.args.len 244) i _ _ _ short is c.loop-i.invariant.told
                 (rw byte w.put.ensures.told);
+            log = log_put [] (is_marked_at old.marks) base (replicate c.args.len 244) i _ _ _ short is c.loop-i.invariant.log
+                (rw byte w.put.ensures.logged);
           })
       | else-is_mark w ↦
           let is : is_marked_at old.marks (base + i) ≡ false =
@@ -70,5 +73,6 @@ loop-i-preserved g c =
             made = c.loop-i.invariant.made;
             keeper = c.loop-i.invariant.keeper;
             told = told_passed (is_marked_at old.marks) base (replicate c.args.len 244) i _ _ short is c.loop-i.invariant.told;
+            log = log_passed (is_marked_at old.marks) base (replicate c.args.len 244) i _ _ short is c.loop-i.invariant.log;
           })
     ]

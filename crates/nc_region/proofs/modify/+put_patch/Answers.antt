@@ -9,17 +9,20 @@ use Rattle.nc_text.specs.Places.{limit_of, byte_at}
 use Rattle.nc_text.specs.MarkedText.{MarkedText, with_span}
 use Rattle.nc_text.specs.Ready.{AreReady}
 use Rattle.nc_region.specs.declared.acts.Act.{Act}
+use Rattle.nc_region.specs.declared.acts.Entry.{Entry}
 use Rattle.nc_region.specs.Acts.{Tells}
-use Rattle.nc_region.specs.Patch.{stands_there, acts_of_instruction, acts_of_modify}
+use Rattle.nc_region.specs.Log.{Logs}
+use Rattle.nc_region.specs.Patch.{stands_there, acts_of_instruction, acts_of_modify, log_of_instruction, log_of_modify}
 use Rattle.nc_region.specs.machinery.PatchSteps.{CanPatch, IsReplacing}
 use Rattle.nc_region.proofs.SpanPlaces.{span_behind}
 use Rattle.nc_region.proofs.Creating.{same_code}
 use Rattle.nc_region.proofs.Told.{tells_none, tells_more}
+use Rattle.nc_region.proofs.Logged.{logs_none, logs_more}
 use Rattle.nc_region.proofs.NewInstructions.{none_of_none, not_found, parted, whole_again}
 use Rattle.nc_region.proofs.Standing.{lies}
 use Rattle.nc_region.proofs.ReadyPlaces.{ready_part}
 use Rattle.nc_region.proofs.Exchanged.{changed, changes_replace}
-use Rattle.nc_region.proofs.Turns.{turn, next_patch, spans_join, same_acts}
+use Rattle.nc_region.proofs.Turns.{turn, next_patch, spans_join, same_acts, same_log}
 use Rattle.nc_region.proofs.modify.+put_patch.Goals as goal
 
 pub returns-then-is_empty-clause-told : goal.returns-then-is_empty-clause-told
@@ -29,6 +32,13 @@ returns-then-is_empty-clause-told g t c = λ news b.
     (sym (none_of_none c.args.new.now news (eqb-true _ _ (sym c.is_empty.ensures ∙ c.if-is_empty.true)) b))
     (tells_none (g.A.Acts.told c.args.acts.now))
 
+pub returns-then-is_empty-clause-log : goal.returns-then-is_empty-clause-log
+returns-then-is_empty-clause-log g t c = λ news b.
+    subst (λ (z : List Piece). Logs (g.A.Acts.logged c.args.acts.now) (g.A.Acts.logged c.args.acts.now)
+    (log_of_modify (g.A.Acts.marked c.args.acts.now).bytes c.args.at z))
+    (sym (none_of_none c.args.new.now news (eqb-true _ _ (sym c.is_empty.ensures ∙ c.if-is_empty.true)) b))
+    (logs_none (g.A.Acts.logged c.args.acts.now))
+
 pub returns-in_default-clause-bytes : goal.returns-in_default-clause-bytes
 returns-in_default-clause-bytes g t c =
     let none : first_instruction c.args.new.now ≡ None = sym c.decode.ensures.first ∙ ap result_ok c.in_default.is in
@@ -37,6 +47,12 @@ returns-in_default-clause-bytes g t c =
 
 pub returns-in_default-clause-told : goal.returns-in_default-clause-told
 returns-in_default-clause-told g t c =
+    let none : first_instruction c.args.new.now ≡ None = sym c.decode.ensures.first ∙ ap result_ok c.in_default.is in
+    let some = eqb-false (length c.args.new.now) 0 (sym c.is_empty.ensures ∙ c.if-is_empty.false) in
+    absurd (not_found c.args.new.now (omega (arith, some)) none c.requires.patch.run.news c.requires.patch.run.bytes)
+
+pub returns-in_default-clause-log : goal.returns-in_default-clause-log
+returns-in_default-clause-log g t c =
     let none : first_instruction c.args.new.now ≡ None = sym c.decode.ensures.first ∙ ap result_ok c.in_default.is in
     let some = eqb-false (length c.args.new.now) 0 (sym c.is_empty.ensures ∙ c.if-is_empty.false) in
     absurd (not_found c.args.new.now (omega (arith, some)) none c.requires.patch.run.news c.requires.patch.run.bytes)
@@ -141,3 +157,37 @@ returns-clause-told g t c = λ news b.
     subst (λ (z : List Piece). Tells (g.A.Acts.told c.args.acts.now) (g.A.Acts.told c.put_patch.new.acts)
     (acts_of_modify (g.A.Acts.marked c.args.acts.now).bytes c.args.at z)) (sym q.is)
     (tells_more _ _ _ _ _ one two)
+
+pub returns-clause-log : goal.returns-clause-log
+returns-clause-log g t c = λ news b.
+    let marked = g.A.Acts.marked c.args.acts.now in
+    let mid = g.A.Acts.marked c.put_where_new.new.acts in
+    let is = sym c.decode.ensures.first ∙ ap result_ok c.in-Ok.is in
+    let q = parted c.args.new.now news c.in-Ok.instr b is in
+    let patch = c.requires.patch in
+    let p = parted c.args.new.now patch.run.news c.in-Ok.instr patch.run.bytes is in
+    let w = turn marked c.args.chunk c.args.at c.args.new.now patch p.first p.rest c.requires.whole p.is in
+    let r = changes_replace marked c.args.chunk c.args.at patch.run.before (w.os ++ patch.run.after) w.o p.first w.change in
+    let one : Logs (g.A.Acts.logged c.args.acts.now) (g.A.Acts.logged c.put_where_new.new.acts)
+    (cond (stands_there (g.A.Acts.marked c.args.acts.now).bytes c.args.at q.first.bytes) []
+    (log_of_instruction c.args.at q.first.bytes)) =
+    subst (λ (z : List ℕ). Logs (g.A.Acts.logged c.args.acts.now) (g.A.Acts.logged c.put_where_new.new.acts)
+    (cond (stands_there (g.A.Acts.marked c.args.acts.now).bytes c.args.at z) []
+    (log_of_instruction c.args.at z))) q.front c.put_where_new.ensures.log in
+    let len : c.from.result ≡ length q.first.bytes = c.from.ensures ∙ q.len in
+    let agree : (k : ℕ) → c.args.at + length q.first.bytes ≤ k
+    → byte_at (g.A.Acts.marked c.put_where_new.new.acts).bytes k ≡ byte_at (g.A.Acts.marked c.args.acts.now).bytes k = λ k le.
+    (ap (λ (z : List ℕ). byte_at z k) (c.put_where_new.ensures.bytes
+    ∙ ap (λ (z : List ℕ). with_span (g.A.Acts.marked c.args.acts.now).bytes (c.args.at - 65536) z) p.front)
+    ∙ span_behind (g.A.Acts.marked c.args.acts.now).bytes c.args.at p.first.bytes k 0 r.low r.high (omega (arith, le, p.len, q.len))) in
+    let two : Logs (g.A.Acts.logged c.put_where_new.new.acts) (g.A.Acts.logged c.put_patch.new.acts)
+    (log_of_modify (g.A.Acts.marked c.args.acts.now).bytes (c.args.at + length q.first.bytes) q.rest) =
+    subst (λ (z : List Entry). Logs (g.A.Acts.logged c.put_where_new.new.acts) (g.A.Acts.logged c.put_patch.new.acts) z)
+    (same_log (g.A.Acts.marked c.put_where_new.new.acts).bytes (g.A.Acts.marked c.args.acts.now).bytes
+    (c.args.at + length q.first.bytes) q.rest agree)
+    (subst (λ (k : ℕ). Logs (g.A.Acts.logged c.put_where_new.new.acts) (g.A.Acts.logged c.put_patch.new.acts)
+    (log_of_modify (g.A.Acts.marked c.put_where_new.new.acts).bytes (c.args.at + k) q.rest)) len
+    (c.put_patch.ensures.log q.rest q.behind)) in
+    subst (λ (z : List Piece). Logs (g.A.Acts.logged c.args.acts.now) (g.A.Acts.logged c.put_patch.new.acts)
+    (log_of_modify (g.A.Acts.marked c.args.acts.now).bytes c.args.at z)) (sym q.is)
+    (logs_more _ _ _ _ _ one two)

@@ -1,7 +1,9 @@
 use Rattle.std.proofs.Common.{◌+◌, ◌-◌, [], ◌∷◌, length, set, arith}
 use Rattle.nc_region.specs.declared.acts.Act.TheVariants.{Put}
+use Rattle.nc_region.specs.declared.acts.Entry.TheVariants.{Did, Settled}
 use Rattle.nc_region.proofs.ReadyPlaces.{ready_place}
 use Rattle.nc_region.proofs.Told.{tells_more}
+use Rattle.nc_region.proofs.Logged.{logs_more, logs_after}
 use Rattle.nc_region.proofs.Replacing.{patching_closed, patch_started, patching_over, patch_final}
 use Rattle.nc_region.proofs.modify.put_longer.Goals as goal
 
@@ -56,3 +58,8 @@ pub returns-clause-told : goal.returns-clause-told
 returns-clause-told g c =
     tells_more _ _ _ (Put c.args.at 244 ∷ []) _ c.put.ensures.told
     (tells_more _ _ _ _ (Put c.args.at c.args.first ∷ []) c.put_rest.ensures.told c.put-2.ensures.told)
+
+pub returns-clause-log : goal.returns-clause-log
+returns-clause-log g c =
+    logs_more _ _ _ (Did (Put c.args.at 244) ∷ []) _ c.put.ensures.logged
+    (logs_after _ _ _ (Settled ∷ _) (Did (Put c.args.at c.args.first) ∷ []) c.put_rest.ensures.log c.put-2.ensures.logged)

@@ -1,11 +1,16 @@
-use Rattle.std.proofs.Common.{Bool, ◌+◌, ◌-◌, List, length, get_or, set, arith, sym, subst, ◌∙◌, refl}
+use Rattle.std.proofs.Common.{Bool, ℕ, ◌+◌, ◌-◌, List, [], ◌∷◌, length, get_or, set, arith, sym, subst, ◌∙◌, refl}
+use Rattle.std.proofs.lemmas.List.{take_all}
 use Rattle.nc_decode.specs.declared.instruction.Mark.{Mark}
 use Rattle.nc_text.specs.Marks.{IsClosed}
 use Rattle.nc_text.specs.Ready.{IsReady}
+use Rattle.nc_region.specs.declared.acts.Entry.TheVariants.{Settled}
+use Rattle.nc_region.specs.Acts.{puts_where}
+use Rattle.nc_region.specs.Log.{Logs, unsettled}
 use Rattle.nc_region.specs.Patch.{any_place}
 use Rattle.nc_region.proofs.Puts.{put_more}
 use Rattle.nc_region.proofs.ReadyPlaces.{ready_place}
 use Rattle.nc_region.proofs.Told.{told_put}
+use Rattle.nc_region.proofs.Logged.{log_put, ends_settled}
 use Rattle.nc_region.proofs.Replacing.{patching_from_put}
 use Rattle.nc_region.proofs.modify.put_rest.Goals as goal
 
@@ -43,4 +48,15 @@ loop-i-preserved g c =
       made = c.put.ensures.made ∙ c.loop-i.invariant.made;
       keeper = c.put.ensures.keeper ∙ c.loop-i.invariant.keeper;
       told = told_put any_place (at + 1) c.args.rest.now i _ _ _ (omega arith) refl c.loop-i.invariant.told c.put.ensures.told;
+      log = log_put (Settled ∷ []) any_place (at + 1) c.args.rest.now i _ _ _ (omega arith) refl c.loop-i.invariant.log c.put.ensures.logged;
     }
+
+-- names no step behind the loop, so that a settling left out there leaves the goal open
+pub returns-clause-log : goal.returns-clause-log
+returns-clause-log g c =
+    let log : Logs (g.A.Acts.logged c.args.acts.now) (g.A.Acts.logged c.loop-i.acts)
+    (Settled ∷ unsettled (puts_where any_place (c.args.at + 1) c.args.rest.now)) =
+    subst (λ (z : List ℕ). Logs (g.A.Acts.logged c.args.acts.now) (g.A.Acts.logged c.loop-i.acts)
+    (Settled ∷ unsettled (puts_where any_place (c.args.at + 1) z))) (take_all c.loop-i.i c.args.rest.now (omega arith))
+    c.loop-i.invariant.log in
+    search (ends_settled _ _ _ log)

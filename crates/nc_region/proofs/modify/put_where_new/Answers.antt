@@ -1,7 +1,9 @@
 use Rattle.std.proofs.Common.{[], cond, Bool, sym, subst, ◌∙◌}
 use Rattle.nc_region.specs.Acts.{Tells}
-use Rattle.nc_region.specs.Patch.{acts_of_instruction}
+use Rattle.nc_region.specs.Log.{Logs}
+use Rattle.nc_region.specs.Patch.{acts_of_instruction, log_of_instruction}
 use Rattle.nc_region.proofs.Told.{tells_none}
+use Rattle.nc_region.proofs.Logged.{logs_none}
 use Rattle.nc_region.proofs.Turns.{stands_same}
 use Rattle.nc_region.proofs.modify.put_where_new.Goals as goal
 
@@ -22,3 +24,15 @@ returns-clause-told g c =
     subst (λ (z : Bool). Tells (g.A.Acts.told c.args.acts.now) (g.A.Acts.told c.put_instruction.new.acts)
     (cond z [] (acts_of_instruction c.args.at c.args.bytes.now)))
     (sym (sym c.stands_there.ensures ∙ c.if-stands_there.false)) c.put_instruction.ensures.told
+
+pub returns-then-stands_there-clause-log : goal.returns-then-stands_there-clause-log
+returns-then-stands_there-clause-log g c =
+    subst (λ (z : Bool). Logs (g.A.Acts.logged c.args.acts.now) (g.A.Acts.logged c.args.acts.now)
+    (cond z [] (log_of_instruction c.args.at c.args.bytes.now))) (sym (sym c.stands_there.ensures ∙ c.if-stands_there.true))
+    (logs_none (g.A.Acts.logged c.args.acts.now))
+
+pub returns-clause-log : goal.returns-clause-log
+returns-clause-log g c =
+    subst (λ (z : Bool). Logs (g.A.Acts.logged c.args.acts.now) (g.A.Acts.logged c.put_instruction.new.acts)
+    (cond z [] (log_of_instruction c.args.at c.args.bytes.now)))
+    (sym (sym c.stands_there.ensures ∙ c.if-stands_there.false)) c.put_instruction.ensures.log

@@ -3,13 +3,15 @@ use Rattle.std.proofs.Common.{◌∙◌}
 use Rattle.nc_text.specs.MarkedText.{MarkedText, without_marks}
 use Rattle.nc_region.specs.declared.acts.Act.{Act}
 use Rattle.nc_region.specs.Acts.{Tells}
+use Rattle.nc_region.specs.Log.{Logs, unsettled}
 use Rattle.nc_region.specs.Region.{IsRegion}
 use Rattle.nc_region.specs.declared.chunk.Chunk.{Chunk}
 use Rattle.nc_region.specs.declared.chunk.ChunkState.TheVariants.{Live}
 use Rattle.nc_region.specs.Deletion.{is_due, freed, kept, unmarked, unmarkings}
 use Rattle.nc_region.proofs.Told.{tells_more}
+use Rattle.nc_region.proofs.Logged.{logs_acts}
 use Rattle.nc_schedule.proofs.Offered.{freed_closed}
-use Rattle.nc_region.proofs.Due.{take_more, freed_due, freed_other, unmarked_more, unmarkings_more, next_frees, next_freed, next_kept}
+use Rattle.nc_region.proofs.Due.{take_more, freed_due, freed_other, unmarked_more, unmarkings_more, next_frees, next_freed, next_kept, next_quiet}
 use Rattle.nc_region.proofs.reclaim.unmark_due.Goals as goal
 use Rattle.nc_region.proofs.reclaim.unmark_due.Goals.{then-is_due, else-is_due}
 
@@ -23,9 +25,9 @@ unmark_span-requires-clause-inside g c =
 pub unmark_span-requires-clause-stops : goal.unmark_span-requires-clause-stops
 unmark_span-requires-clause-stops g c =
     let none : Chunk = record { base = 0; length = 0; state = Live } in
-    let f = next_frees (g.A.Acts.marked c.loop-i.acts) c.args.least c.args.chunks.now c.loop-i.i none (omega arith) (sym c.is_due.ensures
-    ∙ c.if-is_due.true) c.loop-i.invariant.region in
-    λ k lt. f.quiet.stops _ (omega arith, omega (arith, lt))
+    let quiet = next_quiet (g.A.Acts.marked c.loop-i.acts) c.args.least c.args.chunks.now c.loop-i.i none (omega arith)
+    (sym c.is_due.ensures ∙ c.if-is_due.true) c.loop-i.invariant.region in
+    λ k lt. quiet.stops _ (omega arith, omega (arith, lt))
 
 pub unmark_span-requires-clause-closed : goal.unmark_span-requires-clause-closed
 unmark_span-requires-clause-closed g c =
@@ -65,6 +67,11 @@ loop-i-preserved g c =
                 (sym (ap unmarkings list
                 ∙ unmarkings_more (freed c.args.least (take c.loop-i.i c.args.chunks.now)) (get_or c.args.chunks.now c.loop-i.i none)))
                 (tells_more _ _ _ _ _ c.loop-i.invariant.told w.unmark_span.ensures.told);
+            log =
+                subst (λ (z : List Act). Logs (g.A.Acts.logged c.args.acts.now) (g.A.Acts.logged w.unmark_span.new.self) (unsettled z))
+                (sym (ap unmarkings list
+                ∙ unmarkings_more (freed c.args.least (take c.loop-i.i c.args.chunks.now)) (get_or c.args.chunks.now c.loop-i.i none)))
+                (logs_acts _ _ _ _ _ c.loop-i.invariant.log w.unmark_span.ensures.logged);
           })
       | else-is_due w ↦
           let is : is_due c.args.least (get_or c.args.chunks.now c.loop-i.i none).state ≡ false =
@@ -78,5 +85,6 @@ loop-i-preserved g c =
             made = c.loop-i.invariant.made;
             keeper = c.loop-i.invariant.keeper;
             told = rw list c.loop-i.invariant.told;
+            log = rw list c.loop-i.invariant.log;
           })
     ]

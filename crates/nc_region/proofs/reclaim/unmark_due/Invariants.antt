@@ -1,5 +1,6 @@
 use Rattle.std.proofs.Common.{◌≡◌, ◌++◌, take, drop}
 use Rattle.nc_region.specs.Acts.{Tells}
+use Rattle.nc_region.specs.Log.{Logs, unsettled}
 use Rattle.nc_region.specs.Region.{IsRegion}
 use Rattle.nc_region.specs.Deletion.{freed, kept, unmarked, unmarkings}
 use Rattle.nc_region.proofs.reclaim.unmark_due.Given as goal
@@ -12,4 +13,6 @@ invariant-loop-i g l =
       made : g.A.Acts.made l.acts ≡ g.A.Acts.made l.initial.acts;
       keeper : g.A.Acts.keeper l.acts ≡ g.A.Acts.keeper l.initial.acts;
       told : Tells (g.A.Acts.told l.initial.acts) (g.A.Acts.told l.acts) (unmarkings (freed l.least (take l.i l.chunks)));
+      log : Logs (g.A.Acts.logged l.initial.acts) (g.A.Acts.logged l.acts)
+          (unsettled (unmarkings (freed l.least (take l.i l.chunks))));
     }

@@ -1,5 +1,6 @@
 use Rattle.nc_schedule.proofs.Schedules.{safe_after, none_is_within_freed, usable_after_freed}
 use Rattle.nc_schedule.proofs.Moving.{moves_at, bytes_at}
+use Rattle.nc_schedule.proofs.Seeing.{as_it_stands, only_as_it_stands, lasts, mixed}
 use Rattle.nc_schedule.proofs.law.law_of_schedules.Goals as goal
 
 pub returns-clause-safe : goal.returns-clause-safe
@@ -16,3 +17,15 @@ returns-clause-moves c = moves_at
 
 pub returns-clause-bytes : goal.returns-clause-bytes
 returns-clause-bytes c = bytes_at
+
+pub returns-clause-as_it_stands : goal.returns-clause-as_it_stands
+returns-clause-as_it_stands c = λ w. as_it_stands w.marked.bytes w.earlier
+
+pub returns-clause-settled : goal.returns-clause-settled
+returns-clause-settled c = λ w view v. only_as_it_stands w.marked.bytes view v
+
+pub returns-clause-lasts : goal.returns-clause-lasts
+returns-clause-lasts c = lasts
+
+pub returns-clause-mixed : goal.returns-clause-mixed
+returns-clause-mixed c = λ w one other view a b long each. mixed w.marked.bytes w.earlier one other view a b long each

@@ -116,6 +116,7 @@ returns-clause-deleted g c =
       keeper =
           g.A.Acts.keeper c.self.inside.acts;
       told = g.A.Acts.told c.self.inside.acts;
+      logged = g.A.Acts.logged c.self.inside.acts;
     } in
     let new : Region = record {
       marked = g.A.Acts.marked c.put_stops-stamp.new.acts;
@@ -124,6 +125,7 @@ returns-clause-deleted g c =
       keeper =
           g.A.Acts.keeper c.put_stops-stamp.new.acts;
       told = g.A.Acts.told c.put_stops-stamp.new.acts;
+      logged = g.A.Acts.logged c.put_stops-stamp.new.acts;
     } in
     rw (← c.self.view_is)
     (deleted_is old new c.in-Some.k c.args.base c.index.result.now.length c.put_stops-stamp.result f.0 f.1 f.2 f.3
@@ -131,7 +133,7 @@ returns-clause-deleted g c =
     (omega (arith, c.generation.ensures.generation, c.if-generation-ge-LAST_GENERATION.false))
     c.put_stops-stamp.ensures.stamp c.put_stops-stamp.ensures.bytes c.put_stops-stamp.ensures.marks
     c.put_stops-stamp.ensures.made c.set_chunk.ensures
-    c.put_stops-stamp.ensures.keeper c.put_stops-stamp.ensures.told)
+    c.put_stops-stamp.ensures.keeper c.put_stops-stamp.ensures.told c.put_stops-stamp.ensures.log)
 
 pub returns-clause-confined : goal.returns-clause-confined
 returns-clause-confined g c = confined_if_closed _ _ c.put_stops-stamp.ensures.whole.closed

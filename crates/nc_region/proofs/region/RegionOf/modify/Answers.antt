@@ -75,6 +75,7 @@ returns-then-not-fits-clause-refused g c =
       keeper =
           g.A.Acts.keeper c.self.inside.acts;
       told = g.A.Acts.told c.self.inside.acts;
+      logged = g.A.Acts.logged c.self.inside.acts;
     }) c.args.at c.args.new.now Boundaries = (
       c.is_patch_span.ensures.0 spans,
       (c.in-Some.chunk, held),
@@ -100,6 +101,7 @@ returns-then-not-leaves_pairs-clause-refused g c =
       keeper =
           g.A.Acts.keeper c.self.inside.acts;
       told = g.A.Acts.told c.self.inside.acts;
+      logged = g.A.Acts.logged c.self.inside.acts;
     }) c.args.at c.args.new.now PairTouched = (
       span,
       (c.in-Some.chunk, held, run),
@@ -131,6 +133,7 @@ returns-then-not-keeps_targets-clause-refused g c =
       keeper =
           g.A.Acts.keeper c.self.inside.acts;
       told = g.A.Acts.told c.self.inside.acts;
+      logged = g.A.Acts.logged c.self.inside.acts;
     }) c.args.at c.args.new.now BadTarget = (
       span,
       (
@@ -196,6 +199,7 @@ returns-clause-lawful g c =
       keeper =
           g.A.Acts.keeper c.self.inside.acts;
       told = g.A.Acts.told c.self.inside.acts;
+      logged = g.A.Acts.logged c.self.inside.acts;
     }) c.args.at c.args.new.now = (
       c.is_patch_span.ensures.0 spans,
       (

@@ -5,6 +5,7 @@ use Rattle.nc_text.proofs.Offered.{confined_if_closed}
 use Rattle.nc_gens.specs.Seen.{KeeperState, HasLooked, least_number}
 use Rattle.nc_region.specs.declared.chunk.Chunk.{Chunk}
 use Rattle.nc_region.specs.Acts.{Tells}
+use Rattle.nc_region.specs.Log.{Logs, unsettled}
 use Rattle.nc_region.specs.Region.{Region, IsRegion}
 use Rattle.nc_region.specs.Deletion.{freed, kept, unmarked, unmarkings}
 use Rattle.nc_region.proofs.ReadyPlaces.{ready_kept}
@@ -35,6 +36,7 @@ returns-clause-reclaimed g c =
       keeper =
           g.A.Acts.keeper c.self.inside.acts;
       told = g.A.Acts.told c.self.inside.acts;
+      logged = g.A.Acts.logged c.self.inside.acts;
     } in
     let new : Region = record {
       marked = g.A.Acts.marked c.unmark_due.new.acts;
@@ -43,9 +45,10 @@ returns-clause-reclaimed g c =
       keeper =
           g.A.Acts.keeper c.unmark_due.new.acts;
       told = g.A.Acts.told c.unmark_due.new.acts;
+      logged = g.A.Acts.logged c.unmark_due.new.acts;
     } in
     rw (← c.self.view_is)
-    (reclaimed_is old new (g.A.Acts.told c.look-least.new.self) c.remove_due.result c.look-least.result
+    (reclaimed_is old new (g.A.Acts.told c.look-least.new.self) (g.A.Acts.logged c.look-least.new.self) c.remove_due.result c.look-least.result
     (subst (HasLooked (g.A.Acts.keeper c.self.inside.acts)) (sym c.unmark_due.ensures.keeper) c.look-least.ensures.looked)
     (c.look-least.ensures.least ∙ ap (λ (k : KeeperState). least_number k.numbers) (sym c.unmark_due.ensures.keeper))
     c.remove_due.ensures.chunks
@@ -56,7 +59,10 @@ returns-clause-reclaimed g c =
     (c.unmark_due.ensures.made ∙ c.look-least.ensures.made)
     c.look-least.ensures.told
     (subst (λ (z : List Chunk). Tells (g.A.Acts.told c.look-least.new.self) (g.A.Acts.told c.unmark_due.new.acts)
-    (unmarkings (freed c.look-least.result z))) c.deref.ensures.value c.unmark_due.ensures.told))
+    (unmarkings (freed c.look-least.result z))) c.deref.ensures.value c.unmark_due.ensures.told)
+    c.look-least.ensures.logged
+    (subst (λ (z : List Chunk). Logs (g.A.Acts.logged c.look-least.new.self) (g.A.Acts.logged c.unmark_due.new.acts)
+    (unsettled (unmarkings (freed c.look-least.result z)))) c.deref.ensures.value c.unmark_due.ensures.log))
 
 pub returns-clause-confined : goal.returns-clause-confined
 returns-clause-confined g c = confined_if_closed _ _ c.unmark_due.ensures.region.whole.closed

@@ -18,9 +18,17 @@ returns-in-Ok-clause-fits c =
     let table_is = ap (λ (s : SeatsState). s.table) c.in_ok-seats.ensures in
     let chunks_are = ap (λ (r : Region). r.chunks) c.in-Ok.ensures.region in
     let told_is = ap (λ (r : Region). r.told) c.in-Ok.ensures.region in
+    let logged_is = ap (λ (r : Region). r.logged) c.in-Ok.ensures.region in
     subst (λ (s : SessionState). Fits s (replicate n (Staying 0)) 0)
     (λ j. record {
-      region = record { marked = marked; made = made; chunks = sym chunks_are j; keeper = sym keeper_is j; told = sym told_is j };
+      region = record {
+        marked = marked;
+        made = made;
+        chunks = sym chunks_are j;
+        keeper = sym keeper_is j;
+        told = sym told_is j;
+        logged = sym logged_is j;
+      };
       seats = record { table = sym table_is j; passes = sym passes_are j };
     })
     (first_fits marked made table n c.requires.seats.0)

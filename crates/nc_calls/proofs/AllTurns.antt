@@ -1,0 +1,141 @@
+-- What every history of a region keeps.
+use Rattle.std.proofs.Common.{◌≡◌, ℕ, Bool, List, [], ◌∷◌, ◌++◌, refl, ◌∙◌, sym, ap, subst}
+use Rattle.std.specs.Prelude.{IfSome}
+use Rattle.std.proofs.lemmas.List.Elements.{All-weaker}
+use Rattle.nc_text.specs.Machine.{IsConfined, IsSafe}
+use Rattle.nc_text.specs.Headline.{Stands}
+use Rattle.nc_text.specs.MarkedText.{MarkedText, unused_text}
+use Rattle.nc_text.proofs.Offered.{confined_if_closed, stands_if_safe}
+use Rattle.nc_schedule.specs.Quiet.{Span}
+use Rattle.nc_schedule.specs.World.{World, Seat, first_world, IsViewOf, AllStandSafe, NoneIsWithin}
+use Rattle.nc_schedule.specs.Events.{Event, Frees, world_after, AreAllowed}
+use Rattle.nc_schedule.proofs.Offered.{safe_after, none_is_within_freed, if_map}
+use Rattle.nc_region.specs.declared.fault.CreateFault.{CreateFault}
+use Rattle.nc_region.specs.declared.fault.CreateFault.TheVariants.{WrongLimit, Occupied, OutOfMemory}
+use Rattle.nc_region.specs.Region.{Region, IsRegion, IsRefused}
+use Rattle.nc_region.proofs.Offered.{region_of_new}
+use Rattle.nc_vet.specs.Chunk.{MarkedChunk}
+use Rattle.nc_calls.specs.Weaving.{writers, ThreadsMay}
+use Rattle.nc_calls.specs.Calls.{StandsFor, HasLedTo}
+use Rattle.nc_calls.specs.Histories.{IsCall, Creates, Patches, Deletes, Reclaims, UsesKeeper, Refuses, Keeps, Turn, AreTurns, IsHistory}
+use Rattle.nc_calls.specs.Histories.{happened, region_at_end, AllStand}
+use Rattle.nc_calls.proofs.Histories.{goes_on, created, deleted}
+use Rattle.nc_calls.proofs.Instances.{refused}
+use Rattle.nc_calls.proofs.Keeping.{begins, keeper}
+use Rattle.nc_calls.proofs.Modified.{modified}
+use Rattle.nc_calls.proofs.Reclaimed.{reclaimed}
+use Rattle.nc_calls.proofs.StillRegion.{still_created, still_patched, still_deleted, still_reclaimed}
+
+-- what is kept from one call to the next
+record Stays (limit seats : ℕ) (before : List Event) (r : Region) : Type 0 where
+  led : HasLedTo limit seats before r
+  region : IsRegion r.marked r.chunks
+
+-- a region with the same text and chunks is one
+same_region : (old new : Region) → new.marked ≡ old.marked → new.chunks ≡ old.chunks → IsRegion old.marked old.chunks
+    → IsRegion new.marked new.chunks
+same_region old new marked chunks region =
+    subst (λ (m : MarkedText). IsRegion m new.chunks) (sym marked) (subst (IsRegion old.marked) (sym chunks) region)
+
+-- a refused creation leaves text and chunks
+pub refused_same : (old new : Region) (v : MarkedChunk) (fault : CreateFault) → IsRefused old new v fault
+    → new ≡ record old { made = new.made }
+refused_same old new v WrongLimit same = same ∙ ap (λ (z : List Bool). record old { made = z }) (sym (ap (λ (r : Region). r.made) same))
+refused_same old new v Occupied same = same ∙ ap (λ (z : List Bool). record old { made = z }) (sym (ap (λ (r : Region). r.made) same))
+refused_same old new v OutOfMemory pages = pages.0
+
+-- each call
+call_stays : (limit seats : ℕ) (before : List Event) (old : Region) (turn : Turn) → Stays limit seats before old
+    → ThreadsMay (world_after (first_world limit seats) before) turn.events
+    → (world_after (first_world limit seats) (before ++ turn.events)).keeper ≡ turn.region.keeper.numbers
+    → IsCall seats old turn.region (writers turn.events) → Stays limit seats (before ++ turn.events) turn.region
+call_stays limit seats before old turn s threads found (Creates v valid lim is own) = record {
+  led = created limit seats before turn.events old turn.region v s.led s.region valid lim is own threads;
+  region = still_created old turn.region v s.region valid lim is;
+}
+call_stays limit seats before old turn s threads found (Patches at bytes news lawful b is own) = record {
+  led = modified limit seats before turn.events old turn.region at bytes news s.led s.region lawful b is own threads;
+  region = still_patched old turn.region at bytes news s.region lawful b is;
+}
+call_stays limit seats before old turn s threads found (Deletes base stamp is own) = record {
+  led = deleted limit seats before turn.events old turn.region base stamp s.led s.region is own threads;
+  region = still_deleted old turn.region base stamp s.region is;
+}
+call_stays limit seats before old turn s threads found (Reclaims count is own) = record {
+  led = reclaimed limit seats before turn.events old turn.region count s.led s.region is own threads found;
+  region = still_reclaimed old turn.region count s.region is;
+}
+call_stays limit seats before old turn s threads found (UsesKeeper marked chunks own range) = record {
+  led = keeper limit seats before turn.events old turn.region s.led marked chunks own threads found range;
+  region = same_region old turn.region marked chunks s.region;
+}
+call_stays limit seats before old turn s threads found (Refuses v fault is own) =
+    let same = refused_same old turn.region v fault is in
+    record {
+      led = refused limit seats before turn.events old turn.region v fault s.led is own threads;
+      region = same_region old turn.region (ap (λ (r : Region). r.marked) same) (ap (λ (r : Region). r.chunks) same) s.region;
+    }
+call_stays limit seats before old turn s threads found (Keeps same own) =
+    let pages : turn.region ≡ record old { made = turn.region.made } =
+    same ∙ ap (λ (z : List Bool). record old { made = z }) (sym (ap (λ (r : Region). r.made) same)) in
+    record {
+      led = goes_on limit seats before turn.events old turn.region s.led pages own threads;
+      region = same_region old turn.region (ap (λ (r : Region). r.marked) same) (ap (λ (r : Region). r.chunks) same) s.region;
+    }
+
+-- one after the other
+turns_stay : (limit seats : ℕ) (turns : List Turn) (before : List Event) (r : Region) → Stays limit seats before r
+    → AreTurns limit seats before r turns → Stays limit seats (happened before turns) (region_at_end r turns)
+turns_stay limit seats [] before r s are = s
+turns_stay limit seats (turn ∷ rest) before r s are =
+    turns_stay limit seats rest (before ++ turn.events) turn.region
+    (call_stays limit seats before r turn s are.0.threads are.0.keeper are.0.call) are.1
+
+-- a whole history
+history_stays : (limit seats : ℕ) (first : List Event) (r : Region) (turns : List Turn) → IsHistory limit seats first r turns
+    → Stays limit seats (happened first turns) (region_at_end r turns)
+history_stays limit seats first r turns h =
+    turns_stay limit seats turns first r
+    (record {
+      led = begins limit seats first r h.lawful h.marked h.chunks h.keepers h.threads h.keeper h.in_range;
+      region = subst (λ (m : MarkedText). IsRegion m r.chunks) (sym h.marked)
+          (subst (IsRegion (unused_text limit)) (sym h.chunks) (region_of_new (unused_text limit) (limit, h.lawful, refl)));
+    }) h.turns_are
+
+-- what is safe in every view stands in every view
+all_stand : (w : World) → AllStandSafe w → AllStand w
+all_stand w safe =
+    All-weaker (λ (seat : Seat). IfSome seat.inside (λ now. (view : List ℕ) → IsViewOf w view → IsSafe view now))
+    (λ (seat : Seat). IfSome seat.inside (λ now. (view : List ℕ) → IsViewOf w view → Stands view now))
+    (λ seat s. if_map seat.inside (λ now. (view : List ℕ) → IsViewOf w view → IsSafe view now)
+    (λ now. (view : List ℕ) → IsViewOf w view → Stands view now)
+    (λ now is view v. stands_if_safe view now (is view v)) s) w.seats safe
+
+-- where threads stand after every event
+pub stand_always : (limit seats : ℕ) (first events later : List Event) (r : Region) (turns : List Turn)
+    → IsHistory limit seats first r turns → happened first turns ≡ events ++ later
+    → AllStand (world_after (first_world limit seats) events)
+stand_always limit seats first events later r turns h is =
+    let s = history_stays limit seats first r turns h in
+    all_stand (world_after (first_world limit seats) events)
+    (safe_after limit seats events later h.lawful (subst (AreAllowed (first_world limit seats)) is s.led.allowed))
+
+-- where none stands when a span is freed
+pub none_in_freed : (limit seats : ℕ) (first events later : List Event) (r : Region) (turns : List Turn) (span : Span)
+    → IsHistory limit seats first r turns → happened first turns ≡ events ++ Frees span ∷ later
+    → NoneIsWithin (world_after (first_world limit seats) events) span
+none_in_freed limit seats first events later r turns span h is =
+    let s = history_stays limit seats first r turns h in
+    none_is_within_freed limit seats events later span h.lawful (subst (AreAllowed (first_world limit seats)) is s.led.allowed)
+
+-- the world stands for the region
+pub text_at_end : (limit seats : ℕ) (first : List Event) (r : Region) (turns : List Turn) → IsHistory limit seats first r turns
+    → StandsFor (world_after (first_world limit seats) (happened first turns)) (region_at_end r turns)
+text_at_end limit seats first r turns h = (history_stays limit seats first r turns h).led.stands
+
+-- whose text is confined
+pub confined_at_end : (limit seats : ℕ) (first : List Event) (r : Region) (turns : List Turn) → IsHistory limit seats first r turns
+    → IsConfined (region_at_end r turns).marked.bytes
+confined_at_end limit seats first r turns h =
+    let s = history_stays limit seats first r turns h in
+    confined_if_closed (region_at_end r turns).marked.bytes (region_at_end r turns).marked.marks s.region.whole.closed

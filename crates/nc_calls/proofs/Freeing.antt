@@ -1,0 +1,132 @@
+-- What the views of a world keep while retired spans are freed: no byte changes, and marks are only taken away.
+use Rattle.std.proofs.Common.{◌≡◌, ℕ, ◌+◌, ◌≤◌, Bool, true, false, not, cond, List, [], ◌∷◌, inl, inr, arith, refl, ◌∙◌, sym, ap, subst}
+use Rattle.std.specs.Prelude.{filter}
+use Rattle.nc_decode.specs.declared.instruction.Mark.{Mark}
+use Rattle.nc_decode.specs.declared.instruction.Mark.TheVariants.{Unmarked}
+use Rattle.nc_text.specs.Machine.{State, state}
+use Rattle.nc_text.specs.Marks.{IsMarked, Admits, mark_at}
+use Rattle.nc_text.specs.MarkedText.{MarkedText}
+use Rattle.nc_schedule.specs.Quiet.{Span}
+use Rattle.nc_schedule.specs.Views.{IsView}
+use Rattle.nc_schedule.specs.World.{World, IsViewOf, is_same_span}
+use Rattle.nc_schedule.specs.Events.{Event, Steps, Enters, Exits, Takes, Sees, Stores, Leaves, Puts, Settles, Marks, Bumps, Retires, Frees}
+use Rattle.nc_schedule.specs.Events.{Looks, after, world_after, AreAllowed}
+use Rattle.nc_schedule.proofs.Offered.{Keeps, keeps_event, may_free_now, freed_was}
+use Rattle.nc_region.specs.declared.chunk.Chunk.{Chunk}
+use Rattle.nc_region.specs.declared.chunk.ChunkState.{ChunkState}
+use Rattle.nc_region.specs.declared.chunk.ChunkState.TheVariants.{Live, Retired}
+use Rattle.nc_region.specs.Deletion.{is_due, kept}
+use Rattle.nc_region.specs.Region.{IsLive}
+use Rattle.nc_calls.specs.Views.{ViewsKeep, IsFree}
+use Rattle.nc_calls.specs.Weaving.{writers}
+use Rattle.nc_calls.proofs.Deletion.{marked_state, unmarked_or_mark}
+use Rattle.nc_calls.proofs.Reclaiming.{FreesMay}
+
+-- the bytes, now and before, are the same, and what is marked now was marked before
+pub record IsThinned (w v : World) : Type 0 where
+  pub bytes : v.marked.bytes ≡ w.marked.bytes
+  pub earlier : v.earlier ≡ w.earlier
+  pub fewer : (now : State) → IsMarked v.marked.marks now → IsMarked w.marked.marks now
+
+-- nothing changed
+thinned_none : (w : World) → IsThinned w w
+thinned_none w = record { bytes = refl; earlier = refl; fewer = λ now m. m }
+
+-- a span is freed
+thinned_frees : (w : World) (span : Span) → Keeps w → AreAllowed w (Frees span ∷ []) → IsThinned w (after w (Frees span))
+thinned_frees w span keeps allowed =
+    record {
+      bytes = refl;
+      earlier = refl;
+      fewer = λ now m. freed_was w.marked span (may_free_now w span keeps allowed.0.0) now m;
+    }
+
+-- one after the other
+thinned_more : (w v u : World) → IsThinned w v → IsThinned v u → IsThinned w u
+thinned_more w v u a b =
+    record { bytes = b.bytes ∙ a.bytes; earlier = b.earlier ∙ a.earlier; fewer = λ now m. a.fewer now (b.fewer now m) }
+
+-- a thread's event, before others
+thinned_beside : (w v u : World) → v.marked ≡ w.marked → v.earlier ≡ w.earlier → IsThinned v u → IsThinned w u
+thinned_beside w v u marked earlier t =
+    thinned_more w v u
+    (record {
+      bytes = ap (λ (m : MarkedText). m.bytes) marked;
+      earlier = earlier;
+      fewer = λ now m. subst (λ (z : List Mark). IsMarked z now) (ap (λ (x : MarkedText). x.marks) marked) m;
+    }) t
+
+-- spans are freed, with threads in between
+pub thinned : (events : List Event) (w : World) (spans : List Span) (least : ℕ) → Keeps w → AreAllowed w events
+    → FreesMay spans least (writers events) → IsThinned w (world_after w events)
+thinned [] w spans least keeps a may = thinned_none w
+thinned (Steps k next ∷ events) w spans least keeps a may =
+    thinned_beside w (after w (Steps k next)) _ refl refl
+    (thinned events (after w (Steps k next)) spans least (keeps_event w (Steps k next) keeps a.0) a.1 may)
+thinned (Enters k at ∷ events) w spans least keeps a may =
+    thinned_beside w (after w (Enters k at)) _ refl refl
+    (thinned events (after w (Enters k at)) spans least (keeps_event w (Enters k at) keeps a.0) a.1 may)
+thinned (Exits k ∷ events) w spans least keeps a may =
+    thinned_beside w (after w (Exits k)) _ refl refl
+    (thinned events (after w (Exits k)) spans least (keeps_event w (Exits k) keeps a.0) a.1 may)
+thinned (Takes k ∷ events) w spans least keeps a may =
+    thinned_beside w (after w (Takes k)) _ refl refl
+    (thinned events (after w (Takes k)) spans least (keeps_event w (Takes k) keeps a.0) a.1 may)
+thinned (Sees k ∷ events) w spans least keeps a may =
+    thinned_beside w (after w (Sees k)) _ refl refl
+    (thinned events (after w (Sees k)) spans least (keeps_event w (Sees k) keeps a.0) a.1 may)
+thinned (Stores k ∷ events) w spans least keeps a may =
+    thinned_beside w (after w (Stores k)) _ refl refl
+    (thinned events (after w (Stores k)) spans least (keeps_event w (Stores k) keeps a.0) a.1 may)
+thinned (Leaves k ∷ events) w spans least keeps a may =
+    thinned_beside w (after w (Leaves k)) _ refl refl
+    (thinned events (after w (Leaves k)) spans least (keeps_event w (Leaves k) keeps a.0) a.1 may)
+thinned (Puts at byte ∷ events) w spans least keeps a may = absurd may
+thinned (Settles ∷ events) w spans least keeps a may = absurd may
+thinned (Marks at marks ∷ events) w spans least keeps a may = absurd may
+thinned (Bumps ∷ events) w spans least keeps a may = absurd may
+thinned (Retires base len ∷ events) w spans least keeps a may = absurd may
+thinned (Looks k ∷ events) w spans least keeps a may = absurd may
+thinned (Frees span ∷ events) w spans least keeps a may =
+    thinned_more w (after w (Frees span)) _ (thinned_frees w span keeps (a.0, tt))
+    (thinned events (after w (Frees span)) (filter (λ other. not (is_same_span span other)) spans) least
+    (keeps_event w (Frees span) keeps a.0) a.1 may.2)
+
+-- what isn't live isn't in the way
+free_if_kept : (least : ℕ) (chunks : List Chunk) (at : ℕ) → IsFree (kept least chunks) at → IsFree chunks at
+free_if_kept least [] at free = tt
+free_if_kept least (c ∷ rest) at free = go c.state refl (is_due least c.state) refl free (free_if_kept least rest at)
+  where
+    go : (s : ChunkState) → c.state ≡ s → (b : Bool) → is_due least c.state ≡ b
+        → IsFree (cond (not b) (c ∷ kept least rest) (kept least rest)) at → (IsFree (kept least rest) at → IsFree rest at)
+        → IsFree (c ∷ rest) at
+    go s is false due f rest_is = (f.0, rest_is f.1)
+    go Live is true due f rest_is = absurd (let no : false ≡ true = sym (ap (is_due least) is) ∙ due in cc)
+    go (Retired stamp) is true due f rest_is = ((λ live inside. subst IsLive is live), rest_is f)
+
+-- a place that isn't marked any more wasn't, or was and is
+still_unmarked : (w v : World) → IsThinned w v → (at : ℕ) → 65536 ≤ at → mark_at w.marked.marks at ≡ Unmarked
+    → mark_at v.marked.marks at ≡ Unmarked
+still_unmarked w v t at low was =
+    elim (unmarked_or_mark (mark_at v.marked.marks at)) [
+      | inl is ↦ is
+      | inr mark ↦
+          let s = marked_state (mark_at v.marked.marks at) mark in
+          absurd (subst (λ (m : Mark). Admits m s.0) was (t.fewer (state at s.0) (low, s.1)).1)
+    ]
+
+-- the views keep what they have to
+pub views_thinned : (w v : World) (chunks : List Chunk) (least : ℕ) → IsThinned w v → ViewsKeep w chunks → ViewsKeep v (kept least chunks)
+views_thinned w v chunks least t keep =
+    record {
+      parted = λ view is now i k m at some less.
+          still_unmarked w v t (now.place + k) (omega (arith, m.0))
+          (keep.parted view (view_before view is) now i k (t.fewer now m) at some less);
+      stopped = λ view is now m free.
+          keep.stopped view (view_before view is) now (t.fewer now m) (free_if_kept least chunks now.place free);
+    }
+  where
+    view_before : (view : List ℕ) → IsViewOf v view → IsViewOf w view
+    view_before view is =
+        subst (λ (bytes : List ℕ). IsView bytes w.earlier view) t.bytes
+        (subst (λ (earlier : List (List ℕ)). IsView v.marked.bytes earlier view) t.earlier is)

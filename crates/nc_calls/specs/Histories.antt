@@ -1,0 +1,79 @@
+-- Histories of a region: its calls one after the other, with whatever threads do between any two acts of them; and where threads
+-- may stand.
+use Rattle.std.specs.Prelude.{◌≡◌, ℕ, ◌≤◌, ⊤, List, [], ◌∷◌, ◌++◌, All, IfSome}
+use Rattle.nc_decode.specs.Bundles.{IsLawfulLimit}
+use Rattle.nc_vet.specs.Chunk.{MarkedChunk, Piece, IsValid}
+use Rattle.nc_text.specs.Places.{limit_of}
+use Rattle.nc_text.specs.Headline.{Stands}
+use Rattle.nc_text.specs.MarkedText.{unused_text}
+use Rattle.nc_gens.specs.Rule.{last_generation}
+use Rattle.nc_gens.specs.Seen.{least_number}
+use Rattle.nc_schedule.specs.World.{World, Seat, first_world, IsViewOf}
+use Rattle.nc_schedule.specs.Events.{Event, world_after}
+use Rattle.nc_region.specs.declared.fault.CreateFault.{CreateFault}
+use Rattle.nc_region.specs.Region.{Region, IsCreated, IsRefused}
+use Rattle.nc_region.specs.Deletion.{IsDeleted, IsReclaimed}
+use Rattle.nc_region.specs.Patch.{IsPatch, IsModified, AreBytesOf}
+use Rattle.nc_calls.specs.Weaving.{writers, IsKeepers, ThreadsMay}
+use Rattle.nc_calls.specs.Calls.{create_events, modify_events, delete_events, reclaim_events}
+
+-- What a call of a region does, by the words of its contract: the region that it leaves, and the events that it is. A creation
+-- that is refused has no event, and may have made pages. What else is refused, and what only asks, leaves the region as it was.
+-- The keeper may be used by itself.
+pub data IsCall (seats : ℕ) (old new : Region) (own : List Event) : Type 0 where
+  Creates : (v : MarkedChunk) → IsValid v → v.limit ≡ limit_of old.marked.bytes → IsCreated old new v → own ≡ create_events v
+      → IsCall seats old new own
+  Patches : (at : ℕ) (bytes : List ℕ) (news : List Piece) → IsPatch old at bytes → AreBytesOf bytes news → IsModified old new at bytes
+      → own ≡ modify_events old.marked.bytes at news → IsCall seats old new own
+  Deletes : (base stamp : ℕ) (is : IsDeleted old new base stamp) → own ≡ delete_events old.marked.marks base is.chunk.length
+      → IsCall seats old new own
+  Reclaims : (count : ℕ) → IsReclaimed old new count
+      → own ≡ reclaim_events seats (least_number new.keeper.numbers) old.chunks → IsCall seats old new own
+  UsesKeeper : new.marked ≡ old.marked → new.chunks ≡ old.chunks → All IsKeepers own → new.keeper.numbers.generation ≤ last_generation
+      → IsCall seats old new own
+  Refuses : (v : MarkedChunk) (fault : CreateFault) → IsRefused old new v fault → own ≡ [] → IsCall seats old new own
+  Keeps : new ≡ old → own ≡ [] → IsCall seats old new own
+
+-- A call in a history: all that happens from the call before it up to its end, and the region that it leaves.
+pub record Turn : Type 0 where
+  pub events : List Event
+  pub region : Region
+
+-- The call is one, threads do only what they may between its acts, and the keeper finds what stands in the words of the seats.
+pub record IsTurn (limit seats : ℕ) (before : List Event) (old : Region) (turn : Turn) : Type 0 where
+  pub call : IsCall seats old turn.region (writers turn.events)
+  pub threads : ThreadsMay (world_after (first_world limit seats) before) turn.events
+  pub keeper : (world_after (first_world limit seats) (before ++ turn.events)).keeper ≡ turn.region.keeper.numbers
+
+-- calls, one after the other, from a region to which some events have led
+abbrev pub AreTurns : ℕ → ℕ → List Event → Region → List Turn → Type 0
+AreTurns limit seats before r [] = ⊤
+AreTurns limit seats before r (turn ∷ rest) =
+    IsTurn limit seats before r turn × AreTurns limit seats (before ++ turn.events) turn.region rest
+
+-- A history of a region: a keeper that may have been used, with threads beside it; then the region, new, over that keeper; then
+-- its calls.
+pub record IsHistory (limit seats : ℕ) (first : List Event) (r : Region) (turns : List Turn) : Type 0 where
+  pub lawful : IsLawfulLimit limit
+  pub keepers : All IsKeepers (writers first)
+  pub threads : ThreadsMay (first_world limit seats) first
+  pub keeper : (world_after (first_world limit seats) first).keeper ≡ r.keeper.numbers
+  pub in_range : r.keeper.numbers.generation ≤ last_generation
+  pub marked : r.marked ≡ unused_text limit
+  pub chunks : r.chunks ≡ []
+  pub turns_are : AreTurns limit seats first r turns
+
+-- all that happened
+abbrev pub happened : List Event → List Turn → List Event
+happened first [] = first
+happened first (turn ∷ rest) = happened (first ++ turn.events) rest
+
+-- the region at the end
+abbrev pub region_at_end : Region → List Turn → Region
+region_at_end r [] = r
+region_at_end r (turn ∷ rest) = region_at_end turn.region rest
+
+-- Each thread that is inside stands, in every view, on a permitted instruction that isn't barred, wholly inside its bundle, on an
+-- indirect transfer only with that register just masked; or on a bundle start of the zone.
+abbrev pub AllStand : World → Type 0
+AllStand w = All (λ (seat : Seat). IfSome seat.inside (λ now. (view : List ℕ) → IsViewOf w view → Stands view now)) w.seats

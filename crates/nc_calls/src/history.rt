@@ -1,0 +1,44 @@
+//! What every history of a region keeps: the theorem at the top.
+
+ghost use Rattle.std.specs.Prelude.{◌≡◌, ℕ, ◌∷◌, ◌++◌, List};
+ghost use Rattle.nc_vet.specs.Chunk.{MarkedChunk};
+ghost use Rattle.nc_text.specs.Machine.{IsConfined};
+ghost use Rattle.nc_schedule.specs.Quiet.{Span};
+ghost use Rattle.nc_schedule.specs.World.{first_world, NoneIsWithin};
+ghost use Rattle.nc_schedule.specs.Events.{Event, world_after};
+ghost use Rattle.nc_region.specs.declared.fault.CreateFault.{CreateFault};
+ghost use Rattle.nc_region.specs.Region.{Region, IsRefused};
+ghost use Rattle.nc_calls.specs.Calls.{StandsFor};
+ghost use Rattle.nc_calls.specs.Histories.{Turn, IsHistory, AllStand, happened, region_at_end};
+
+/// For every history of a region, whatever calls are made on it, accepted or refused, in any order and over any keeper, and
+/// whatever its threads do between any two acts:
+///
+/// - after every event each thread inside stands, in every view, on a permitted instruction that isn't barred, wholly inside
+///   its bundle, on an indirect jump or call only with that register just masked, or on a bundle start of the zone;
+/// - whenever a retired span is freed, no thread stands at a place of it that isn't a bundle start;
+/// - the world at the end stands for the region at the end: its bytes and marks are the region's, and its retired spans
+///   those of the retired chunks; and the region's text is confined, so whoever enters it later is as safe;
+/// - a creation that was refused has changed nothing but pages made. (A refused patch or deletion leaves an equal region.)
+///
+/// A *view* has at each place one of the bytes that stood there since the last settling, in any mixture, so a thread may
+/// fetch each byte of an instruction at another moment. A *history* (`specs/Histories`) is a list of calls; what a call
+/// does is what its contract says of it. It does nothing when it is called.
+///
+/// What it takes for granted is in `ThreadsMay`, `IsTurn` and `IsHistory`: a thread enters at bundle starts and while its seat
+/// hasn't left, and its pass checks in and leaves only while it is outside; the keeper finds what stands in the seats'
+/// words; and puts and settlings reach execution in the order in which the calls make them.
+pub fn law_of_histories()
+    ensures stand { (limit seats : ℕ) (first events later : List Event) (r : Region) (turns : List Turn)
+        → IsHistory limit seats first r turns → happened first turns ≡ events ++ later
+        → AllStand (world_after (first_world limit seats) events) }
+    ensures freed { (limit seats : ℕ) (first events later : List Event) (r : Region) (turns : List Turn) (span : Span)
+        → IsHistory limit seats first r turns → happened first turns ≡ events ++ Event.Frees span ∷ later
+        → NoneIsWithin (world_after (first_world limit seats) events) span }
+    ensures text { (limit seats : ℕ) (first : List Event) (r : Region) (turns : List Turn) → IsHistory limit seats first r turns
+        → StandsFor (world_after (first_world limit seats) (happened first turns)) (region_at_end r turns) }
+    ensures confined { (limit seats : ℕ) (first : List Event) (r : Region) (turns : List Turn) → IsHistory limit seats first r turns
+        → IsConfined (region_at_end r turns).marked.bytes }
+    ensures refused { (old new : Region) (v : MarkedChunk) (fault : CreateFault) → IsRefused old new v fault
+        → new ≡ record old { made = new.made } }
+{}

@@ -1,0 +1,118 @@
+-- The entries logged, one call after another.
+use Rattle.std.proofs.Common.{◌≡◌, ℕ, ◌+◌, ◌<◌, ◌≤◌, Bool, true, false, cond, List, [], ◌∷◌, ◌++◌, length, get_or, take, replicate, Option}
+use Rattle.std.proofs.Common.{refl, ◌∙◌, sym, ap, subst, append_assoc}
+use Rattle.std.proofs.lemmas.List.{map-append}
+use Rattle.nc_decode.specs.declared.instruction.Mark.{Mark}
+use Rattle.nc_vet.specs.Chunk.{Piece}
+use Rattle.nc_region.specs.declared.acts.Act.{Act}
+use Rattle.nc_region.specs.declared.acts.Act.TheVariants.{Put, MarkSpan, Bump}
+use Rattle.nc_region.specs.declared.acts.Entry.{Entry}
+use Rattle.nc_region.specs.declared.acts.Entry.TheVariants.{Did, Settled}
+use Rattle.nc_region.specs.Acts.{puts_where, is_inside, is_start, is_marked_at, is_unmarked_at, acts_of_create, acts_of_delete}
+use Rattle.nc_region.specs.Log.{Logs, unsettled, acts_in, log_of_create, log_of_delete}
+use Rattle.nc_region.specs.Patch.{stands_there, any_place, acts_of_instruction, acts_of_modify, log_of_instruction, log_of_modify}
+use Rattle.nc_region.proofs.Told.{grows_none, grows_more, next_put, next_passed, all_passed}
+
+-- no entry is logged
+pub logs_none : (logged : Option (List Entry)) → Logs logged logged []
+logs_none logged = grows_none logged
+
+-- entries after entries
+pub logs_more : (a b c : Option (List Entry)) (xs ys : List Entry) → Logs a b xs → Logs b c ys → Logs a c (xs ++ ys)
+logs_more a b c xs ys first second = grows_more a b c xs ys first second
+
+-- entries after some of which a settling is the last
+pub logs_after : (a b c : Option (List Entry)) (xs ys : List Entry) → Logs a b (xs ++ Settled ∷ []) → Logs b c ys
+    → Logs a c (xs ++ Settled ∷ ys)
+logs_after a b c xs ys first second =
+    subst (λ (z : List Entry). Logs a c z) (append_assoc xs (Settled ∷ []) ys) (logs_more a b c (xs ++ Settled ∷ []) ys first second)
+
+-- one more settling
+pub ends_settled : (a b : Option (List Entry)) (xs : List Entry) → Logs a b xs → (c : Option (List Entry)) → Logs b c (Settled ∷ [])
+    → Logs a c (xs ++ Settled ∷ [])
+ends_settled a b xs first c last = logs_more a b c xs (Settled ∷ []) first last
+
+-- acts after acts, with no settling between
+pub logs_acts : (a b c : Option (List Entry)) (xs ys : List Act) → Logs a b (unsettled xs) → Logs b c (unsettled ys)
+    → Logs a c (unsettled (xs ++ ys))
+logs_acts a b c xs ys first second =
+    subst (λ (z : List Entry). Logs a c z) (sym (map-append Did xs ys)) (logs_more a b c (unsettled xs) (unsettled ys) first second)
+
+-- the entries of one more byte
+pub log_put : (front : List Entry) (chosen : ℕ → Bool) (base : ℕ) (bytes : List ℕ) (i : ℕ) (a b c : Option (List Entry)) → i < length bytes
+    → chosen (base + i) ≡ true → Logs a b (front ++ unsettled (puts_where chosen base (take i bytes)))
+    → Logs b c (Did (Put (base + i) (get_or bytes i 0)) ∷ []) → Logs a c (front ++ unsettled (puts_where chosen base (take (i + 1) bytes)))
+log_put front chosen base bytes i a b c lt is first second =
+    let acts = puts_where chosen base (take i bytes) in
+    let one : List Act = Put (base + i) (get_or bytes i 0) ∷ [] in
+    let whole : (front ++ unsettled acts) ++ unsettled one ≡ front ++ unsettled (puts_where chosen base (take (i + 1) bytes)) =
+    append_assoc front (unsettled acts) (unsettled one)
+    ∙ ap (λ (z : List Entry). front ++ z) (sym (map-append Did acts one))
+    ∙ ap (λ (z : List Act). front ++ unsettled z) (sym (next_put chosen base bytes i lt is)) in
+    subst (λ (z : List Entry). Logs a c z) whole (logs_more a b c (front ++ unsettled acts) (unsettled one) first second)
+
+-- a place that is not chosen logs nothing
+pub log_passed : (chosen : ℕ → Bool) (base : ℕ) (bytes : List ℕ) (i : ℕ) (a b : Option (List Entry)) → i < length bytes
+    → chosen (base + i) ≡ false → Logs a b (unsettled (puts_where chosen base (take i bytes)))
+    → Logs a b (unsettled (puts_where chosen base (take (i + 1) bytes)))
+log_passed chosen base bytes i a b lt not first =
+    subst (λ (acts : List Act). Logs a b (unsettled acts)) (sym (next_passed chosen base bytes i lt not)) first
+
+-- nor do some that follow one another
+pub log_passed_all : (chosen : ℕ → Bool) (base : ℕ) (bytes : List ℕ) (i n : ℕ) (a b : Option (List Entry)) → i + n ≤ length bytes
+    → ((j : ℕ) → j < n → chosen (base + (i + j)) ≡ false) → Logs a b (unsettled (puts_where chosen base (take i bytes)))
+    → Logs a b (unsettled (puts_where chosen base (take (i + n) bytes)))
+log_passed_all chosen base bytes i n a b fits none first =
+    subst (λ (acts : List Act). Logs a b (unsettled acts)) (sym (all_passed chosen base bytes i n fits none)) first
+
+-- the acts of two logs, one after the other
+acts_join : (xs ys : List Entry) → acts_in (xs ++ ys) ≡ acts_in xs ++ acts_in ys
+acts_join [] ys = refl
+acts_join (Did act ∷ rest) ys = ap (λ (z : List Act). act ∷ z) (acts_join rest ys)
+acts_join (Settled ∷ rest) ys = acts_join rest ys
+
+-- acts that are logged with no settling are these acts
+acts_back : (acts : List Act) → acts_in (unsettled acts) ≡ acts
+acts_back [] = refl
+acts_back (act ∷ rest) = ap (λ (z : List Act). act ∷ z) (acts_back rest)
+
+-- and so they are before others
+acts_before : (acts : List Act) (ys : List Entry) → acts_in (unsettled acts ++ ys) ≡ acts ++ acts_in ys
+acts_before acts ys = acts_join (unsettled acts) ys ∙ ap (λ (z : List Act). z ++ acts_in ys) (acts_back acts)
+
+-- the acts in the log of a creation
+pub created_acts : (base : ℕ) (code : List ℕ) → acts_in (log_of_create base code) ≡ acts_of_create base code
+created_acts base code =
+    acts_before (puts_where is_inside base code) (Settled ∷ Did (MarkSpan base (length code)) ∷ unsettled (puts_where is_start base code))
+    ∙ ap (λ (z : List Act). puts_where is_inside base code ++ MarkSpan base (length code) ∷ z) (acts_back (puts_where is_start base code))
+
+-- the acts in the log of a deletion
+pub deleted_acts : (marks : List Mark) (base len : ℕ) → acts_in (log_of_delete marks base len) ≡ acts_of_delete marks base len
+deleted_acts marks base len =
+    let first = puts_where (is_marked_at marks) base (replicate len 244) in
+    let second = puts_where (is_unmarked_at marks) base (replicate len 244) in
+    acts_before first (Settled ∷ (unsettled second ++ Did Bump ∷ []))
+    ∙ ap (λ (z : List Act). first ++ z) (acts_before second (Did Bump ∷ []))
+
+-- the acts in the log of one instruction
+instruction_acts : (at : ℕ) (bytes : List ℕ) → acts_in (log_of_instruction at bytes) ≡ acts_of_instruction at bytes
+instruction_acts at [] = refl
+instruction_acts at (byte ∷ []) = refl
+instruction_acts at (byte ∷ next ∷ rest) =
+    ap (λ (z : List Act). Put at 244 ∷ z)
+    (acts_before (puts_where any_place (at + 1) (next ∷ rest)) (Settled ∷ Did (Put at byte) ∷ []))
+
+-- of one that may stand there already
+chosen_acts : (b : Bool) (at : ℕ) (bytes : List ℕ)
+    → acts_in (cond b [] (log_of_instruction at bytes)) ≡ cond b [] (acts_of_instruction at bytes)
+chosen_acts true at bytes = refl
+chosen_acts false at bytes = instruction_acts at bytes
+
+-- the acts in the log of a patch
+pub modified_acts : (text : List ℕ) (at : ℕ) (news : List Piece) → acts_in (log_of_modify text at news) ≡ acts_of_modify text at news
+modified_acts text at [] = refl
+modified_acts text at (p ∷ rest) =
+    let b = stands_there text at p.bytes in
+    acts_join (cond b [] (log_of_instruction at p.bytes)) (log_of_modify text (at + length p.bytes) rest)
+    ∙ (ap (λ (z : List Act). z ++ acts_in (log_of_modify text (at + length p.bytes) rest)) (chosen_acts b at p.bytes)
+    ∙ ap (λ (z : List Act). cond b [] (acts_of_instruction at p.bytes) ++ z) (modified_acts text (at + length p.bytes) rest))

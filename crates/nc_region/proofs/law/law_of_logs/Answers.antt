@@ -1,0 +1,11 @@
+use Rattle.nc_region.proofs.Logged.{created_acts, deleted_acts, modified_acts}
+use Rattle.nc_region.proofs.law.law_of_logs.Goals as goal
+
+pub returns-clause-create : goal.returns-clause-create
+returns-clause-create c = created_acts
+
+pub returns-clause-delete : goal.returns-clause-delete
+returns-clause-delete c = deleted_acts
+
+pub returns-clause-modify : goal.returns-clause-modify
+returns-clause-modify c = modified_acts

@@ -1,0 +1,34 @@
+-- The acts of each call with the settlings among them.
+use Rattle.std.specs.Prelude.{◌≡◌, ℕ, List, [], ◌∷◌, ◌++◌, Option, IfSome, IsSomeAnd, length, map, replicate}
+use Rattle.nc_decode.specs.declared.instruction.Mark.{Mark}
+use Rattle.nc_region.specs.declared.acts.Act.{Act}
+use Rattle.nc_region.specs.declared.acts.Act.TheVariants.{MarkSpan, Bump}
+use Rattle.nc_region.specs.declared.acts.Entry.{Entry}
+use Rattle.nc_region.specs.declared.acts.Entry.TheVariants.{Did, Settled}
+use Rattle.nc_region.specs.Acts.{puts_where, is_start, is_inside, is_marked_at, is_unmarked_at}
+
+-- where it still logs, it logged before, and these entries have come to the end of the list
+abbrev pub Logs : Option (List Entry) → Option (List Entry) → List Entry → Type 0
+Logs before after entries = IfSome after (λ log. IsSomeAnd before (λ earlier. log ≡ earlier ++ entries))
+
+-- these acts, with no settling among them
+abbrev pub unsettled : List Act → List Entry
+unsettled acts = map Did acts
+
+-- A chunk is created: it settles once, after the bytes that aren't bundle starts and before the span is marked.
+abbrev pub log_of_create : ℕ → List ℕ → List Entry
+log_of_create base code =
+    unsettled (puts_where is_inside base code)
+    ++ (Settled ∷ Did (MarkSpan base (length code)) ∷ unsettled (puts_where is_start base code))
+
+-- A chunk is deleted: it settles once, after the stops at the marked places and before those at the others.
+abbrev pub log_of_delete : List Mark → ℕ → ℕ → List Entry
+log_of_delete marks base len =
+    unsettled (puts_where (is_marked_at marks) base (replicate len 0xF4))
+    ++ (Settled ∷ (unsettled (puts_where (is_unmarked_at marks) base (replicate len 0xF4)) ++ Did Bump ∷ []))
+
+-- the acts of a log
+abbrev pub acts_in : List Entry → List Act
+acts_in [] = []
+acts_in (Did act ∷ rest) = act ∷ acts_in rest
+acts_in (Settled ∷ rest) = acts_in rest
