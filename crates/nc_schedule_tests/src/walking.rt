@@ -47,18 +47,26 @@ impl Copied {
         }
     }
 
+    /// This instruction, at this address, is safe in each state for which the mark there stands, and leads only to such states.
+    pub(crate) fn is_right(&self, at: u32, instr: Instr) -> bool {
+        let masked = match self.mark(at) {
+            Some(Mark::Unmarked) | None => return true,
+            Some(Mark::Plain) => None,
+            Some(Mark::After(register)) => Some(register),
+        };
+        let allowed = !instr.flow.is_indirect() || masked == Some(instr.reg);
+        allowed && self.leads_well(at, instr)
+    }
+
     /// What stands at an index is safe in each state for which the mark there stands, and leads only to such states.
     fn is_good(&self, index: u32, mark: Mark) -> bool {
-        let masked = match mark {
-            Mark::Unmarked => return true,
-            Mark::Plain => None,
-            Mark::After(register) => Some(register),
-        };
+        if mark == Mark::Unmarked {
+            return true;
+        }
         let Some(instr) = self.instruction(index as usize) else {
             return false;
         };
-        let allowed = !instr.flow.is_indirect() || masked == Some(instr.reg);
-        allowed && self.leads_well(START.wrapping_add(index), instr)
+        self.is_right(START.wrapping_add(index), instr)
     }
 
     /// Every bundle start is plain.

@@ -102,7 +102,7 @@ impl<A: Acts + Drop> Watcher<A> {
 }
 
 /// The first 128 places of a text.
-fn copy<A: Acts>(acts: &A) -> Copied {
+pub(crate) fn copy<A: Acts>(acts: &A) -> Copied {
     let mut text = Copied {
         bytes: [0; 128],
         marks: [Mark::Unmarked; 128],
@@ -127,6 +127,8 @@ impl<A: Acts + Drop> Acts for Watcher<A> {
 
     ghost told = { λ w. A.told w.acts };
 
+    ghost logged = { λ w. A.logged w.acts };
+
     fn ready(&mut self, at: u32, len: u32) -> Result<(), TextFault> {
         self.acts.ready(at, len)
     }
@@ -139,6 +141,10 @@ impl<A: Acts + Drop> Acts for Watcher<A> {
         self.acts.put(at, byte);
         self.is_retired = false;
         self.look_round();
+    }
+
+    fn settle(&mut self) {
+        self.acts.settle();
     }
 
     fn mark_span(&mut self, at: u32, marks: &[Mark]) {

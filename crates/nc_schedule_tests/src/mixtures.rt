@@ -1,0 +1,193 @@
+//! A region's life as threads may read it that fetch each byte by itself: with every settling each mixture of bytes is right, and
+//! with one of them left out some mixture isn't.
+ghost use Rattle.std.specs.Prelude.{◌≡◌};
+
+use crate::viewer::Viewer;
+use crate::views::Found;
+use nc_gens::{Gens, Keeper};
+use nc_region::{Acts, Plain, RegionOf};
+use nc_text::Text;
+use nc_vet::{Vetted, vet};
+use std::alloc::Global;
+use std::test::Fail;
+
+/// The code that is created first, at 00010000.
+#[rattlefmt::skip]
+static FIRST: [u8; 64] = [
+    0x90,                               // 00010000
+    0xEB, 0x05,                         // 00010001: a jump to 00010008
+    0xB8, 0xC3, 0x90, 0x90, 0x90,       // 00010003: an operand of which the first byte is that of a return
+    0x90, 0x90, 0x90, 0x90, 0x90, 0x90, // 00010008
+    0x90, 0x90, 0x90, 0x90, 0x90, 0x90,
+    0x90, 0x90,
+    0xB0, 0x07,                         // 00010016
+    0xFF, 0xC7,                         // 00010018: inc edi
+    0xE9, 0x01, 0x00, 0x00, 0x00,       // 0001001A: a jump to 00010020
+    0x40,                               // 0001001F
+    0x83, 0xE0, 0xE0,                   // 00010020: a pair on register 0
+    0xFF, 0xE0,                         // 00010023
+    0xEB, 0x05,                         // 00010025: a jump to 0001002C
+    0xB8, 0x01, 0x02, 0x03, 0x04,       // 00010027
+    0x90, 0x90, 0x90, 0x90, 0x90, 0x90, // 0001002C
+    0x90, 0x90, 0x90,
+    0xB0, 0x08,                         // 00010035
+    0x90, 0x90, 0x90, 0x90, 0x90, 0x90, // 00010037
+    0x90, 0x90, 0x90,
+];
+
+/// The front of the code that is created beside it, at 00010040: a jump to 00010000. Nops are behind it.
+static BESIDE: [u8; 2] = [0xEB, 0xBE];
+
+/// In the first bundle: an instruction that keeps its bytes, a jump to 00010001 for `inc edi`, a call of 00001000 for the jump,
+/// and a single byte.
+#[rattlefmt::skip]
+static ONE_BUNDLE: [u8; 10] = [
+    0xB0, 0x07,
+    0xEB, 0xE7,
+    0xE8, 0xE1, 0x0F, 0xFF, 0xFF,
+    0x48,
+];
+
+/// In the second bundle: a mask that keeps its bytes, a masked call for the masked jump, and `xor ecx, ecx` for a jump.
+#[rattlefmt::skip]
+static NEXT_BUNDLE: [u8; 7] = [
+    0x83, 0xE0, 0xE0,
+    0xFF, 0xD0,
+    0x31, 0xC9,
+];
+
+/// The front of the code that is created at 00010000 when its span is used again. Nops are behind it, so instructions begin
+/// where operands stood.
+static AGAIN: [u8; 3] = [0x90, 0xB0, 0x07];
+
+/// What is read first that isn't right, if one settling is left out: its address and its bytes. Each settling has a row, in their
+/// order. A byte that was put since the settling before may be read, and so may those that it took the place of.
+static WRONG: [Option<(u32, &[u8])>; 14] = [
+    // The creation at 00010000. At 00010001 and 00010002 stops stood, and EB and 05 were put. Marked, the jump is read with the
+    // stop as its operand: to 00010003 - 12 = 0000FFF7, which is no bundle start.
+    Some((0x10001, &[0xEB, 0xF4])),
+    // The creation at 00010040. Its other marked places but the first have nops of one byte. When EB is put at the bundle
+    // start, the stop behind it is read as its operand: to 00010042 - 12 = 00010036, the second byte of B0 08.
+    Some((0x10040, &[0xEB, 0xF4])),
+    // The first one of EB E7 for FF C7. FF may still be read when E7 is put behind it: a jump to edi without its mask.
+    Some((0x10018, &[0xFF, 0xE7])),
+    // The second one. When EB is put, C7 may still be read: a jump to 0001001A - 57 = 0000FFE1, which is no bundle start.
+    Some((0x10018, &[0xEB, 0xC7])),
+    // The first one of E8 E1 0F FF FF for E9 01 00 00 00. E9 may still be read when E1 is put: to 0001001F + E1 = 00010100,
+    // above the limit.
+    Some((0x1001A, &[0xE9, 0xE1, 0x00, 0x00, 0x00])),
+    // The second one. When E8 is put, all four bytes of the operand may be old or new. All of them old, it is a call of 00010020;
+    // with the last one new, of FF010020.
+    Some((0x1001A, &[0xE8, 0x01, 0x00, 0x00, 0xFF])),
+    // Both of FF D0 for FF E0: only the stop, FF E0 and FF D0 can be read, and behind the mask each of them is right.
+    None,
+    None,
+    // The first one of 31 C9 for EB 05. EB may still be read when C9 is put: to 00010027 - 55 = 0000FFF0, no bundle start.
+    Some((0x10025, &[0xEB, 0xC9])),
+    // The second one. When 31 is put, 05 may still be read: `xor` with an operand of four bytes, those of the next instruction.
+    // It ends at 0001002B, the last byte of B8 01 02 03 04.
+    Some((0x10025, &[0x31, 0x05, 0xB8, 0x01, 0x02, 0x03])),
+    // Both of FF E0 for FF D0.
+    None,
+    None,
+    // The deletion. The first unmarked place is 00010002. When the stop is put there, EB may still be read before it.
+    Some((0x10001, &[0xEB, 0xF4])),
+    // The creation where code stood before. The deletion put stops at the unmarked places and did not settle after them. So C3
+    // may still be read at 00010004 when that is marked: a return. At 00010001 B0 may be read with 05, F4 or 07 as its operand,
+    // and at 00010003 a stop or a nop.
+    Some((0x10004, &[0xC3])),
+];
+
+/// A vetted chunk that begins with these bytes and is filled with nops, for a region of four bundles.
+fn chunk(alloc: Global, base: u32, front: &[u8], len: usize) -> Result<Vetted, Fail> {
+    let mut code = Vec::new(alloc);
+    code.extend_from_slice(front)?;
+    code.resize(len, 0x90)?;
+    match vet(base, 0x10080, code) {
+        Ok(vetted) => Ok(vetted),
+        Err((_, fault)) => Err(Fail::new(format_args!("{fault:?}"))),
+    }
+}
+
+/// A viewed region of so many bundles. For what may be read one settling is left out, or none for 0.
+fn viewed<'g>(
+    alloc: Global,
+    gens: &'g Gens,
+    keeper: Keeper,
+    bundles: u32,
+    left_out: u32,
+) -> Result<RegionOf<Viewer<Plain<'g>>>, Fail>
+    requires { keeper.table ≡ gens.now }
+{
+    let text = match Text::new(alloc, bundles) {
+        Ok(text) => text,
+        Err(fault) => return Err(Fail::new(format_args!("{fault:?}"))),
+    };
+    let plain = Plain::new(text, gens, keeper);
+    Ok(RegionOf::over(alloc, Viewer::new(plain, left_out)))
+}
+
+/// Creates a chunk, or says which fault there is.
+fn create<A: Acts + Drop>(region: &mut RegionOf<A>, vetted: Vetted) -> Result<(), Fail> {
+    match region.create(vetted) {
+        Ok(()) => Ok(()),
+        Err((_, fault)) => Err(Fail::new(format_args!("{fault:?}"))),
+    }
+}
+
+/// Replaces instructions, or says which fault there is.
+fn modify<A: Acts + Drop>(region: &mut RegionOf<A>, at: u32, new: &[u8]) -> Result<(), Fail> {
+    match region.modify(at, new) {
+        Ok(()) => Ok(()),
+        Err(fault) => Err(Fail::new(format_args!("{fault:?}"))),
+    }
+}
+
+/// Two chunks are created, the first is patched in both of its bundles, a masked call becomes a masked jump again, the chunk is
+/// deleted and reclaimed, and its span used again. For what may be read one settling is left out, or none for 0.
+fn live(alloc: Global, left_out: u32) -> Result<Found, Fail> {
+    let (gens, keeper, mut passes) = Gens::new(alloc, 1)?;
+    let mut pass = passes.remove(0);
+    let mut region = viewed(alloc, &gens, keeper, 4, left_out)?;
+    create(&mut region, chunk(alloc, 0x10000, &FIRST, 64)?)?;
+    create(&mut region, chunk(alloc, 0x10040, &BESIDE, 32)?)?;
+    modify(&mut region, 0x10016, &ONE_BUNDLE)?;
+    modify(&mut region, 0x10020, &NEXT_BUNDLE)?;
+    modify(&mut region, 0x10023, &[0xFF, 0xE0])?;
+    let stamp = region.delete(0x10000);
+    gens.check_in(&mut pass);
+    let freed = region.reclaim();
+    if stamp != Ok(1) || freed != 1 {
+        return Err(Fail::new("not freed"));
+    }
+    create(&mut region, chunk(alloc, 0x10000, &AGAIN, 64)?)?;
+    Ok(region.acts().found())
+}
+
+#[test]
+fn every_mixture(rt: HostRuntime) -> Result<(), Fail> {
+    let found = live(rt.alloc(), 0)?;
+    assert_eq!(rt; found.wrong, 0, "{:?}", found.first);
+    // 65 acts of the first creation, 33 of the second, 10, 6 and 3 of the patches, 64 puts of the deletion, one span unmarked,
+    // 65 acts of the last creation, and 14 settlings
+    assert_eq!(rt; (found.looks, found.settlings, found.missing), (261, 14, 0));
+    // once at each marked place after each of these, that would be 11619 readings
+    assert!(rt; found.readings > 11_619);
+    Ok(())
+}
+
+#[test]
+fn each_settling_left_out(rt: HostRuntime) -> Result<(), Fail> {
+    let mut left_out = 0u32;
+    for wrong in &WRONG {
+        left_out = left_out.saturating_add(1);
+        let found = live(rt.alloc(), left_out)?;
+        let first = match &found.first {
+            Some(reading) => Some((reading.at, reading.bytes())),
+            None => None,
+        };
+        assert_eq!(rt; first, *wrong, "settling {left_out}");
+        assert_eq!(rt; (found.looks, found.settlings, found.missing), (261, 14, 0));
+    }
+    Ok(())
+}
