@@ -1,7 +1,8 @@
 //! A region: a text by its acts, and the list of its chunks.
 
-ghost use Rattle.std.specs.Prelude.{◌≡◌, ◌+◌, ◌*◌, ◌↔◌, List, length, [], None, OnOk, OnErr, IfOk, IfErr, slice_get};
+ghost use Rattle.std.specs.Prelude.{◌≡◌, ◌+◌, ◌*◌, ◌↔◌, List, length, [], None, OnOk, OnErr, IfOk, IfErr, IfSome, IsNone, Contains, slice_get};
 ghost use Rattle.nc_text.specs.Machine.{IsConfined};
+ghost use Rattle.nc_text.specs.Marks.{mark_at};
 ghost use Rattle.nc_text.specs.Places.{InRegion, byte_at, limit_of};
 ghost use Rattle.nc_decode.specs.Bundles.{IsLawfulLimit};
 ghost use Rattle.nc_text.specs.MarkedText.{unused_text};
@@ -10,8 +11,10 @@ ghost use Rattle.nc_region.specs.Acts.{Tells, acts_of_create};
 ghost use Rattle.nc_region.specs.Log.{Logs, log_of_create};
 ghost use Rattle.nc_gens.specs.Seen.{HasMet};
 ghost use Rattle.nc_region.specs.Quiet.{AreQuiet};
-ghost use Rattle.nc_region.specs.Deletion.{IsDeleted, MayRefuseDelete, IsReclaimed};
+ghost use Rattle.nc_region.specs.Deletion.{HasLive, IsDeleted, MayRefuseDelete, IsReclaimed};
+ghost use Rattle.nc_vet.specs.Faults.{HasGoodSpan};
 ghost use Rattle.nc_region.specs.Region.{Region, IsRegion, AreChunksReady, IsNew, IsCreated, IsRefused, MayRefuse, Meets};
+ghost use Rattle.nc_region.specs.declared.chunk.ChunkState.{ChunkState};
 ghost use Rattle.nc_vet.specs.Chunk.{Piece};
 ghost use Rattle.nc_region.specs.Patch.{IsPatch, MayRefusePatch, IsModified, AreBytesOf, acts_of_modify, log_of_modify};
 ghost use Rattle.nc_region.specs.Trace.{IsTrace, IsOnlyTrace, IsSafeWalk, IsWalkStart, MayRefuseWalk};
@@ -29,7 +32,7 @@ use crate::plain::Plain;
 use crate::reclaim::{remove_due, unmark_due};
 use crate::trace::Trace;
 use crate::walk::walk_from;
-use nc_decode::{BUNDLE, START};
+use nc_decode::{BUNDLE, Mark, START};
 use nc_gens::{Gens, Keeper, LAST_GENERATION, Pass};
 use nc_text::{Text, TextFault};
 use nc_vet::Vetted;
@@ -154,6 +157,14 @@ impl<A: Acts + Drop> RegionOf<A> {
         self.acts.byte(at)
     }
 
+    /// The mark at an address of the region.
+    pub fn mark(&self, at: u32) -> Mark
+        requires { InRegion self.now.marked.bytes at }
+        ensures { result ≡ mark_at self.now.marked.marks at }
+    {
+        self.acts.mark(at)
+    }
+
     /// How many chunks there are, live and retired. Every path through the text is safe, and every retired span is quiet:
     /// its bytes are stops, and no thread outside it can come into it but at a bundle start. Every place of a chunk is ready.
     pub fn chunk_count(&self) -> usize
@@ -171,6 +182,21 @@ impl<A: Acts + Drop> RegionOf<A> {
         ensures { result ≡ slice_get self.now.chunks i }
     {
         self.chunks.get(i).copied()
+    }
+
+    /// The live chunk of this base, if there is one, by binary search.
+    pub fn live_at(&self, base: u32) -> Option<Chunk>
+        ensures found { IfSome result (λ c. Contains self.now.chunks c × (c.state ≡ ChunkState.Live) × (c.base ≡ base)) }
+        ensures none { IsNone result → ¬ HasLive self.now.chunks base }
+        // It is a span of whole bundles of the region.
+        ensures placed { IfSome result (λ c. HasGoodSpan c.base (limit_of self.now.marked.bytes) c.length) }
+    {
+        // Names a field, so that the first return is checked against the fields and not the whole.
+        let _open = &self.acts;
+        let Some(k) = live_at(&self.chunks, base) else {
+            return None;
+        };
+        Some(self.chunks[k])
     }
 
     /// Creates a chunk while threads may be running: its bytes that aren't bundle starts are put, then the region settles,
