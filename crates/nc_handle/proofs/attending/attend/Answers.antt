@@ -1,0 +1,15 @@
+use Rattle.std.proofs.Common.{◌<◌, ◌≤◌, ℕ, length, get_or, arith, sym, subst, ◌∙◌}
+use Rattle.nc_handle.proofs.Attended.{attended_next}
+use Rattle.nc_handle.proofs.attending.attend.Goals as goal
+
+pub loop-i-preserved : goal.loop-i-preserved
+loop-i-preserved c =
+    let lt : c.loop-i.i < length c.loop-i.passes = omega (arith, c.loop-i-test.true, c.loop-i.invariant.as_many) in
+    let table = c.loop-i.invariant.tables c.loop-i.i c.index-passes-i.result lt in
+    attended_next c.args.gens.now c.args.region.now c.args.passes.now c.loop-i.region c.attend_one.new.region c.loop-i.passes c.loop-i.i
+    c.attend_one.new.pass c.index-passes-i.result c.loop-i.invariant lt
+    (c.attend_one.ensures.same.0 ∙ table, c.attend_one.ensures.same.1)
+    c.attend_one.ensures.others c.attend_one.ensures.table c.attend_one.ensures.generation c.attend_one.ensures.raised
+    (subst (λ (n : ℕ). n < length c.attend_one.new.region.keeper.numbers.bounds) (sym c.attend_one.ensures.same.1) c.attend_one.ensures.inside)
+    (subst (λ (n : ℕ). c.loop-i.region.keeper.numbers.generation ≤ get_or c.attend_one.new.region.keeper.numbers.bounds n 0)
+    (sym c.attend_one.ensures.same.1) c.attend_one.ensures.bound)

@@ -1,0 +1,123 @@
+-- What contracts see of a region that owns all that it stands on, and when its calls are refused.
+use Rattle.std.specs.Prelude.{◌≡◌, ℕ, ◌+◌, ◌*◌, ◌^◌, ◌<◌, ◌≤◌, List, [], ◌∷◌, ◌++◌, Option, Some, None, Contains, IfSome, IsSome, All, length, map, slice_index}
+use Rattle.nc_decode.specs.Bundles.{IsLawfulLimit}
+use Rattle.nc_gens.specs.Seen.{AreSeats, PassState, Raised, first_keeper, first_passes}
+use Rattle.nc_text.specs.MarkedText.{unused_text}
+use Rattle.nc_text.specs.Ready.{unmade_pages}
+use Rattle.nc_vet.specs.Chunk.{MarkedChunk}
+use Rattle.nc_region.specs.declared.chunk.Chunk.{Chunk}
+use Rattle.nc_region.specs.declared.chunk.ChunkState.TheVariants.{Live}
+use Rattle.nc_region.specs.Region.{Region, IsRefused, MayRefuse}
+use Rattle.nc_region.specs.Deletion.{IsDeleted, MayRefuseDelete, IsReclaimed}
+use Rattle.nc_region.specs.Patch.{MayRefusePatch}
+use Rattle.nc_handle.specs.declared.fault.NewFault.{NewFault}
+use Rattle.nc_handle.specs.declared.fault.NewFault.TheVariants.{BadSeats, BadSize, OutOfMemory}
+use Rattle.nc_handle.specs.declared.fault.LoadFault.{LoadFault}
+use Rattle.nc_handle.specs.declared.fault.LoadFault.TheVariants as load
+use Rattle.nc_handle.specs.declared.fault.PatchFault.{PatchFault}
+use Rattle.nc_handle.specs.declared.fault.PatchFault.TheVariants as patch
+use Rattle.nc_handle.specs.declared.fault.RetireFault.{RetireFault}
+use Rattle.nc_handle.specs.declared.fault.RetireFault.TheVariants as retire
+
+-- The region, the passes that nobody has been given, and the chunk whose deletion is under way.
+pub record HeldState : Type 0 where
+  pub region : Region
+  pub passes : List PassState
+  pub begun : Option Chunk
+
+-- this is a live chunk of the list, with this base
+abbrev pub IsLiveAt : List Chunk → ℕ → Chunk → Type 0
+IsLiveAt chunks base c = Contains chunks c × (c.state ≡ Live) × (c.base ≡ base)
+
+-- the chunk whose deletion is under way is live, and a stamp is left for it
+abbrev pub CanEnd : Option Chunk → Region → Type 0
+CanEnd begun r = IfSome begun (λ c. IsLiveAt r.chunks c.base c × (r.keeper.numbers.generation < 2 ^ 62))
+
+-- A new region: nothing but stops, no chunk, no stamp drawn, and the pass of each seat.
+pub record IsFirst (bundles seats : ℕ) (h : HeldState) : Type 0 where
+  pub lawful : IsLawfulLimit (0x10000 + 32 * bundles)
+  pub marked : h.region.marked ≡ unused_text (0x10000 + 32 * bundles)
+  pub made : h.region.made ≡ unmade_pages (0x10000 + 32 * bundles)
+  pub chunks : h.region.chunks ≡ []
+  pub keeper : h.region.keeper ≡ first_keeper h.region.keeper.table seats
+  pub told : h.region.told ≡ None
+  pub logged : h.region.logged ≡ None
+  pub passes : h.passes ≡ first_passes h.region.keeper.table seats
+  pub begun : h.begun ≡ None
+
+-- when each refusal of `new` comes; only the last one depends on the memory that is there
+abbrev pub MayRefuseNew : ℕ → ℕ → NewFault → Type 0
+MayRefuseNew bundles seats BadSeats = ¬ AreSeats seats
+MayRefuseNew bundles seats BadSize = AreSeats seats × ¬ IsLawfulLimit (0x10000 + 32 * bundles)
+MayRefuseNew bundles seats OutOfMemory = AreSeats seats
+
+-- a buffer is lent, and it has less room than this
+abbrev pub IsShort : ℕ → ℕ → Type 0
+IsShort room wanted = (0 < room) × (room < wanted)
+
+-- a buffer is lent for a patch of at most a bundle, and it has less room than three acts for each new byte
+abbrev pub IsShortForPatch : ℕ → ℕ → Type 0
+IsShortForPatch room len = (len ≤ 32) × IsShort room (3 * len)
+
+-- when each refusal of `create` comes; only one of the region's own depends on the memory that is there
+abbrev pub MayRefuseLoad : HeldState → MarkedChunk → ℕ → LoadFault → Type 0
+MayRefuseLoad h v room load.Underway = IsSome h.begun
+MayRefuseLoad h v room (load.NoRoom wanted) = (h.begun ≡ None) × IsShort room (length v.code + 2) × (wanted ≡ length v.code + 2)
+MayRefuseLoad h v room (load.Refused fault) = (h.begun ≡ None) × (¬ IsShort room (length v.code + 2)) × MayRefuse h.region v fault
+
+-- What a refused creation leaves: all is as before. Only where the region was refused memory, pages of the span may have been made.
+abbrev pub IsNotLoaded : HeldState → HeldState → MarkedChunk → LoadFault → Type 0
+IsNotLoaded old new v load.Underway = new ≡ old
+IsNotLoaded old new v (load.NoRoom wanted) = new ≡ old
+IsNotLoaded old new v (load.Refused fault) = (new ≡ record old { region = new.region }) × IsRefused old.region new.region v fault
+
+-- when each refusal of `modify` comes
+abbrev pub MayRefuseModify : HeldState → ℕ → List ℕ → ℕ → PatchFault → Type 0
+MayRefuseModify h at new room patch.Underway = IsSome h.begun
+MayRefuseModify h at new room (patch.NoRoom wanted) =
+    (h.begun ≡ None) × IsShortForPatch room (length new) × (wanted ≡ 3 * length new)
+MayRefuseModify h at new room (patch.Refused fault) =
+    (h.begun ≡ None) × (¬ IsShortForPatch room (length new)) × MayRefusePatch h.region at new fault
+
+-- when no deletion begins
+abbrev pub MayRefuseBegin : HeldState → ℕ → ℕ → RetireFault → Type 0
+MayRefuseBegin h base room retire.Underway = IsSome h.begun
+MayRefuseBegin h base room (retire.Refused fault) = (h.begun ≡ None) × MayRefuseDelete h.region base fault
+MayRefuseBegin h base room (retire.NoRoom wanted) =
+    (h.begun ≡ None) × ((c : Chunk) × IsLiveAt h.region.chunks base c × IsShort room (c.length + 2) × (wanted ≡ c.length + 2))
+
+-- A deletion of this chunk is under way: it is live and has this base. All else is as before.
+pub record HasBegun (old new : HeldState) (base : ℕ) (c : Chunk) : Type 0 where
+  pub live : IsLiveAt old.region.chunks base c
+  pub room : old.region.keeper.numbers.generation < 2 ^ 62
+  pub none : old.begun ≡ None
+  pub others : new ≡ record old { begun = Some c }
+
+-- The deletion that was under way has ended: its chunk is deleted, with this stamp. All else is as before.
+pub record HasEnded (old new : HeldState) (stamp : ℕ) : Type 0 where
+  pub chunk : Chunk
+  pub begun : old.begun ≡ Some chunk
+  pub deleted : IsDeleted old.region new.region chunk.base stamp
+  pub others : new ≡ record old { region = new.region; begun = None }
+
+-- The last of the passes that nobody had been given went to a seat; all else is as before.
+pub record HasGiven (old new : HeldState) (guest : PassState) : Type 0 where
+  pub passes : old.passes ≡ new.passes ++ guest ∷ []
+  pub others : new ≡ record old { passes = new.passes }
+
+-- the pass has a seat of the region's table, and the keeper's bound for it is this number or a higher one
+abbrev pub IsIn : Region → ℕ → PassState → Type 0
+IsIn r number p = (p.seat < length r.keeper.numbers.bounds) × (number ≤ slice_index r.keeper.numbers.bounds p.seat)
+
+-- The region after the seats that nobody had been given were checked in for and retired chunks were reclaimed, so many as `count`
+-- says. In between, the keeper has met those passes, and nothing else has changed. The keeper's bounds for their seats are the
+-- generation now.
+pub record HasReclaimed (old new : HeldState) (count : ℕ) : Type 0 where
+  pub met : Region
+  pub keeper : met ≡ record old.region { keeper = met.keeper }
+  pub generation : met.keeper.numbers.generation ≡ old.region.keeper.numbers.generation
+  pub raised : Raised old.region.keeper.numbers.bounds met.keeper.numbers.bounds
+  pub reclaimed : IsReclaimed met new.region count
+  pub outside : All (IsIn new.region old.region.keeper.numbers.generation) new.passes
+  pub seats : map (λ (p : PassState). p.seat) new.passes ≡ map (λ (p : PassState). p.seat) old.passes
+  pub others : new ≡ record old { region = new.region; passes = new.passes }

@@ -1,0 +1,3 @@
+pub mod machinery
+pub mod Shown
+pub mod Held

@@ -1,0 +1,72 @@
+//! A seat, with a share of its table of generations.
+
+ghost use Rattle.std.specs.Prelude.{◌≡◌, ◌+◌, ◌≤◌};
+ghost use Rattle.std.specs.Arc.{arc_value};
+ghost use Rattle.nc_gens.specs.Rule.{generation_taken, since_stored};
+
+use nc_gens::{Gens, Pass};
+use std::alloc::Global;
+use std::marker::Model;
+use std::sync::Arc;
+
+/// A seat that was given: its pass, and a share of the table.
+#[derive(Drop)]
+pub struct Guest {
+    gens: Arc<Gens, Global>,
+    pass: Pass,
+}
+
+impl Model for Guest {
+    ghost use Rattle.std.specs.Prelude.{◌≡◌};
+    ghost use Rattle.std.specs.Arc.{arc_value};
+    ghost use Rattle.nc_gens.specs.Seen.{PassState};
+
+    ghost Value = { PassState };
+
+    ghost view = { λ g. g.pass };
+
+    ghost invariant = { λ g. g.pass.table ≡ arc_value g.gens };
+}
+
+impl Guest {
+    /// The seat of this pass, with a share of its table.
+    pub fn new(gens: Arc<Gens, Global>, pass: Pass) -> Guest
+        requires { pass.table ≡ arc_value gens }
+        ensures { result ≡ pass }
+    {
+        Guest { gens, pass }
+    }
+
+    /// The pass. The share of the table is given back.
+    pub(crate) fn into_pass(self) -> Pass
+        ensures { result ≡ self }
+    {
+        let Guest { pass, .. } = self;
+        pass
+    }
+
+    /// `Gens::check_in`: it takes no memory and no lock, never waits, and has no refusal.
+    ///
+    /// To be called while the seat's thread is outside the region: that can be seen in no contract here, and reclaiming
+    /// rests on it.
+    pub fn check_in(&mut self)
+        ensures same { (self.new.table ≡ self.old.table) × (self.new.seat ≡ self.old.seat) }
+        // One load of the generation, and one store of it.
+        ensures steps { self.new.numbers
+            ≡ since_stored (generation_taken self.new.numbers.since self.old.numbers) }
+        ensures loads { self.new.numbers.loads ≡ self.old.numbers.loads + 1 }
+        ensures published { self.new.numbers.word ≡ self.new.numbers.since }
+        ensures rises { self.old.numbers.since ≤ self.new.numbers.since }
+        ensures catches_up { self.old.numbers.seen ≤ self.new.numbers.since }
+    {
+        self.gens.check_in(&mut self.pass);
+    }
+
+    /// `Gens::leave`, and the share of the table is given back. It takes no lock and never waits.
+    ///
+    /// To be called while the seat's thread is outside the region, for good.
+    pub fn leave(self) {
+        let Guest { gens, pass } = self;
+        gens.leave(pass);
+    }
+}

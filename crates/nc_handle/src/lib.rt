@@ -1,0 +1,25 @@
+//! A region of code and the seats of its threads as values without a lifetime, for hosts that hold them by handles.
+//!
+//! [`Held`] is a region that owns all that it stands on: its text, a share of its table of generations, and the passes that
+//! nobody has been given yet. [`Guest`] is a seat with a share of the table. A host calls a `Held` under a lock of its own, one
+//! call at a time; a `Guest` is called by its own thread, without a lock.
+#![tactic(auto)]
+
+mod answers;
+mod attending;
+mod fault;
+mod guest;
+mod held;
+mod owned;
+mod putting;
+mod reading;
+mod region_calls;
+mod replacing;
+mod seats;
+mod window;
+
+pub use answers::NcAct;
+pub use fault::{LoadFault, NewFault, PatchFault, RetireFault, SeatFault};
+pub use guest::Guest;
+pub use held::Held;
+pub use owned::Owned;

@@ -1,0 +1,107 @@
+//! The acts of a region that owns its text and a share of its table of generations.
+
+ghost use Rattle.std.specs.Prelude.{◌≡◌, None};
+ghost use Rattle.std.specs.Arc.{arc_value};
+
+use nc_decode::Mark;
+use nc_gens::{Gens, GensFull, Keeper, Pass};
+use nc_region::Acts;
+use nc_text::{Text, TextFault};
+use std::alloc::Global;
+use std::marker::Model;
+use std::sync::Arc;
+
+/// A text, a share of a table of generations, and the table's keeper. It tells nothing of its acts.
+#[derive(Drop)]
+pub struct Owned {
+    text: Text,
+    gens: Arc<Gens, Global>,
+    keeper: Keeper,
+}
+
+impl Model for Owned {
+    ghost use Rattle.std.specs.Prelude.{◌≡◌};
+    ghost use Rattle.std.specs.Arc.{arc_value};
+    ghost use Rattle.nc_region.specs.Region.{PlainState};
+
+    ghost Value = { PlainState };
+
+    ghost view = { λ p. record { marked = p.text.marked; made = p.text.made; keeper = p.keeper } };
+
+    ghost invariant = { λ p. p.keeper.table ≡ arc_value p.gens };
+}
+
+impl Owned {
+    /// This text, beside this table and its keeper.
+    pub fn new(text: Text, gens: Arc<Gens, Global>, keeper: Keeper) -> Owned
+        requires { keeper.table ≡ arc_value gens }
+        ensures { result ≡ record { marked = text.marked; made = text.made; keeper = keeper } }
+    {
+        Owned { text, gens, keeper }
+    }
+}
+
+impl Acts for Owned {
+    ghost marked = { λ p. p.marked };
+
+    ghost made = { λ p. p.made };
+
+    ghost keeper = { λ p. p.keeper };
+
+    ghost told = { λ p. None };
+
+    ghost logged = { λ p. None };
+
+    fn ready(&mut self, at: u32, len: u32) -> Result<(), TextFault> {
+        self.text.ready(at, len)
+    }
+
+    fn is_ready(&self, at: u32, len: u32) -> bool {
+        self.text.is_ready(at, len)
+    }
+
+    fn put(&mut self, at: u32, byte: u8) {
+        self.text.put(at, byte);
+    }
+
+    fn settle(&mut self) {
+        // Called for what it ensures.
+        let _facts = self.text.limit();
+    }
+
+    fn mark_span(&mut self, at: u32, marks: &[Mark]) {
+        self.text.mark_span(at, marks);
+    }
+
+    fn unmark_span(&mut self, at: u32, len: u32) {
+        self.text.unmark_span(at, len);
+    }
+
+    fn byte(&self, at: u32) -> u8 {
+        self.text.byte(at)
+    }
+
+    fn limit(&self) -> u32 {
+        self.text.limit()
+    }
+
+    fn mark(&self, at: u32) -> Mark {
+        self.text.mark(at)
+    }
+
+    fn bump(&mut self) -> Result<u64, GensFull> {
+        self.gens.bump(&mut self.keeper)
+    }
+
+    fn look(&mut self) -> u64 {
+        self.gens.look(&mut self.keeper)
+    }
+
+    fn meet(&mut self, pass: &mut Pass) {
+        self.gens.meet(pass, &mut self.keeper);
+    }
+
+    fn generation(&self) -> u64 {
+        self.keeper.generation()
+    }
+}

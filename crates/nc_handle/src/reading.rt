@@ -1,0 +1,87 @@
+//! What a region that owns all that it stands on tells of itself.
+
+ghost use Rattle.std.specs.Prelude.{◌≡◌, ◌+◌, ◌*◌, ◌↔◌, ◌≤◌, ◌^◌, IfOk, IfErr, IfSome, IsNone, OnOk, length, slice_get};
+ghost use Rattle.nc_text.specs.Machine.{IsConfined};
+ghost use Rattle.nc_text.specs.Marks.{mark_at};
+ghost use Rattle.nc_text.specs.Places.{InRegion, byte_at, limit_of};
+ghost use Rattle.nc_region.specs.Quiet.{AreQuiet};
+ghost use Rattle.nc_region.specs.Region.{IsRegion, AreChunksReady};
+ghost use Rattle.nc_region.specs.Trace.{IsTrace, IsOnlyTrace, IsSafeWalk, IsWalkStart, MayRefuseWalk};
+
+use crate::held::Held;
+use nc_decode::{Mark, START};
+use nc_region::{Acts, Chunk, Trace, WalkFault};
+
+impl Held {
+    /// The address after the region's last byte.
+    pub fn limit(&self) -> u32
+        ensures { result ≡ limit_of self.now.region.marked.bytes }
+    {
+        self.region.limit()
+    }
+
+    /// The generation: the last stamp that was drawn, or 0.
+    pub fn generation(&self) -> u64
+        ensures generation { result ≡ self.now.region.keeper.numbers.generation }
+        ensures in_range { result ≤ 2 ^ 62 }
+    {
+        self.region.acts().generation()
+    }
+
+    /// The byte at an address, if it is one of the region.
+    pub fn byte(&self, at: u32) -> Option<u8>
+        ensures byte { IfSome result (λ b. b ≡ byte_at self.now.region.marked.bytes at) }
+        ensures outside { IsNone result ↔ ¬ InRegion self.now.region.marked.bytes at }
+    {
+        if at < START || at >= self.region.limit() {
+            return None;
+        }
+        Some(self.region.byte(at))
+    }
+
+    /// The mark at an address, if it is one of the region.
+    pub fn mark(&self, at: u32) -> Option<Mark>
+        ensures mark { IfSome result (λ m. m ≡ mark_at self.now.region.marked.marks at) }
+        ensures outside { IsNone result ↔ ¬ InRegion self.now.region.marked.bytes at }
+    {
+        if at < START || at >= self.region.limit() {
+            return None;
+        }
+        Some(self.region.mark(at))
+    }
+
+    /// How many chunks there are, live and retired, with what each region keeps.
+    pub fn chunk_count(&self) -> usize
+        ensures count { result ≡ length self.now.region.chunks }
+        ensures confined { IsConfined self.now.region.marked.bytes }
+        ensures quiet { AreQuiet self.now.region.marked self.now.region.chunks }
+        ensures region { IsRegion self.now.region.marked self.now.region.chunks }
+    {
+        self.region.chunk_count()
+    }
+
+    /// The chunk at an index of the list, by rising base, if there is one.
+    pub fn chunk(&self, i: usize) -> Option<Chunk>
+        ensures { result ≡ slice_get self.now.region.chunks i }
+    {
+        self.region.chunk(i)
+    }
+
+    /// The chunk whose deletion is under way.
+    pub fn begun(&self) -> Option<Chunk>
+        ensures { result ≡ self.now.begun }
+    {
+        self.begun
+    }
+
+    /// `RegionOf::walk`. Only its places take memory.
+    pub fn walk(&self, start: u32, choices: &[u32]) -> Result<Trace, WalkFault>
+        ensures trace { IfOk result (λ t. IsTrace self.now.region.marked.bytes start choices.now t.places.items t.end) }
+        ensures only { IfOk result (λ t. IsOnlyTrace self.now.region.marked.bytes start choices.now t.places.items t.end) }
+        ensures safe { IfOk result (λ t. IsSafeWalk self.now.region.marked.bytes start choices.now t.end) }
+        ensures begins { OnOk result (IsWalkStart self.now.region.marked.bytes start) }
+        ensures refused { IfErr result (MayRefuseWalk self.now.region.marked.bytes start) }
+    {
+        self.region.walk(start, choices)
+    }
+}

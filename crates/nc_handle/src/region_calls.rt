@@ -1,0 +1,176 @@
+//! The calls that change a region that owns all that it stands on, with the acts by which they change it.
+
+ghost use Rattle.std.specs.Prelude.{◌≡◌, ◌+◌, ◌*◌, ◌^◌, ◌<◌, ◌≤◌, ◌↔◌, ℕ, List, IfOk, IfErr, IfSome, IsNone, IsTrue, OnOk, OnErr, None, length};
+ghost use Rattle.nc_text.specs.Machine.{IsConfined};
+ghost use Rattle.nc_vet.specs.Chunk.{Piece};
+ghost use Rattle.nc_region.specs.Log.{log_of_create, log_of_delete};
+ghost use Rattle.nc_region.specs.Patch.{AreBytesOf, IsModified, IsPatch, log_of_modify};
+ghost use Rattle.nc_region.specs.Region.{IsCreated};
+ghost use Rattle.nc_handle.specs.Held.{IsShort, IsShortForPatch, HasBegun, HasEnded, IsNotLoaded, MayRefuseBegin, MayRefuseLoad, MayRefuseModify};
+ghost use Rattle.nc_handle.specs.Shown.{AreBytesAt, IsTold};
+
+use crate::answers::NcAct;
+use crate::fault::{LoadFault, PatchFault, RetireFault};
+use crate::held::Held;
+use crate::putting::{write_creation, write_deletion};
+use crate::replacing::write_patch;
+use crate::window::read_window;
+use nc_gens::LAST_GENERATION;
+use nc_region::{Acts, Chunk, DeleteFault};
+use nc_vet::Vetted;
+
+/// A buffer is lent, and it has less room than this.
+fn is_short(room: usize, wanted: usize) -> bool
+    ensures { IsTrue result ↔ IsShort room wanted }
+{
+    0 < room && room < wanted
+}
+
+/// A buffer is lent for a patch of at most a bundle, and it has less room than three acts for each new byte.
+fn is_short_for_patch(room: usize, len: usize) -> bool
+    ensures { IsTrue result ↔ IsShortForPatch room len }
+{
+    len <= 32 && is_short(room, 3 * len)
+}
+
+/// The acts of a patch are written if a buffer is lent. It answers how many.
+fn tell_patch(acts: &mut [NcAct], at: u32, before: &[u8], new: &[u8]) -> usize
+    requires long { length new.now ≤ length before.now }
+    requires high { at + length before.now < 2 ^ 32 }
+    requires room { ¬ IsShort (length acts.old) (3 * length new.now) }
+    ensures { (text : List ℕ) (news : List Piece) → AreBytesAt text at before.now → AreBytesOf new.now news
+        → IsTold acts.old acts.new result (log_of_modify text at news) }
+{
+    if acts.is_empty() {
+        return 0;
+    }
+    write_patch(acts, 0, at, before, 0, new)
+}
+
+impl Held {
+    /// `RegionOf::create`, with its acts. Each is written into the buffer with the settling among them, two more than the chunk has
+    /// bytes; a buffer without an element is none. It answers how many there are.
+    ///
+    /// A refusal gives the chunk back and leaves all as it was; only where memory was refused, pages of the chunk's span may
+    /// have been made.
+    pub fn create(
+        &mut self,
+        vetted: Vetted,
+        acts: &mut [NcAct],
+    ) -> Result<usize, (Vetted, LoadFault)>
+        // The span holds the chunk's code and marks, and the chunk is in the list; all else is as before.
+        ensures created { OnOk result (IsCreated self.old.region self.new.region vetted) }
+        ensures others { OnOk result (self.new ≡ record self.old { region = self.new.region }) }
+        // The acts written are those of a creation, with the settling.
+        ensures told { IfOk result (λ count. IsTold acts.old acts.new count (log_of_create vetted.base vetted.code)) }
+        // The chunk comes back, and the buffer is as it was.
+        ensures unchanged { IfErr result (λ e. (e.0 ≡ vetted) × IsNotLoaded self.old self.new vetted e.1) }
+        ensures untouched { OnErr result (acts.new ≡ acts.old) }
+        // Each refusal comes where it is due.
+        ensures refused { IfErr result (λ e. MayRefuseLoad self.old vetted (length acts.old) e.1) }
+    {
+        let base = vetted.base();
+        let length = vetted.code().len();
+        if self.begun.is_some() {
+            return Err((vetted, LoadFault::Underway));
+        }
+        if is_short(acts.len(), length + 2) {
+            return Err((vetted, LoadFault::NoRoom(length + 2)));
+        }
+        match self.region.create(vetted) {
+            Ok(()) => {
+                if acts.is_empty() {
+                    return Ok(0);
+                }
+                write_creation(acts, &self.region, base, length as u32);
+                Ok(length + 2)
+            }
+            Err((vetted, fault)) => Err((vetted, LoadFault::Refused(fault))),
+        }
+    }
+
+    /// `RegionOf::modify`, with its acts. Each is written into the buffer with the settlings among them, at most three for each new
+    /// byte; a buffer without an element is none. It answers how many were written. It takes no memory.
+    pub fn modify(&mut self, at: u32, new: &[u8], acts: &mut [NcAct]) -> Result<usize, PatchFault>
+        // The new bytes stand there; all else is as before.
+        ensures modified { OnOk result (IsModified self.old.region self.new.region at new.now) }
+        ensures others { OnOk result (self.new ≡ record self.old { region = self.new.region }) }
+        // Only lawful patches are made.
+        ensures lawful { OnOk result (IsPatch self.old.region at new.now) }
+        // The acts written are those of a patch of the region's own bytes, with the settlings.
+        ensures told { IfOk result (λ count. (news : List Piece) → AreBytesOf new.now news
+            → IsTold acts.old acts.new count (log_of_modify self.old.region.marked.bytes at news)) }
+        ensures unchanged { OnErr result (self.new ≡ self.old) }
+        ensures untouched { OnErr result (acts.new ≡ acts.old) }
+        // Each refusal comes exactly where it is due.
+        ensures refused { IfErr result (MayRefuseModify self.old at new.now (length acts.old)) }
+    {
+        if self.begun.is_some() {
+            return Err(PatchFault::Underway);
+        }
+        if is_short_for_patch(acts.len(), new.len()) {
+            return Err(PatchFault::NoRoom(3 * new.len()));
+        }
+        let before = read_window(&self.region, at);
+        match self.region.modify(at, new) {
+            Ok(()) => Ok(tell_patch(acts, at, &before[..new.len()], new)),
+            Err(fault) => Err(PatchFault::Refused(fault)),
+        }
+    }
+
+    /// The last step of a deletion: the chunk is deleted, as by `RegionOf::delete`, and its stamp drawn. It takes no memory.
+    pub fn end_delete(&mut self) -> Option<u64>
+        // Where a deletion is under way, it is never refused.
+        ensures ended { IfSome result (HasEnded self.old self.new) }
+        ensures none { IsNone result ↔ (self.old.begun ≡ None) }
+        ensures unchanged { IsNone result → self.new ≡ self.old }
+    {
+        let Some(chunk) = self.begun else {
+            return None;
+        };
+        match self.region.delete(chunk.base) {
+            Ok(stamp) => {
+                self.begun = None;
+                Some(stamp)
+            }
+            Err(_) => unreachable!(),
+        }
+    }
+
+    /// The first step of a deletion: its acts are written, the stops with the settling among them and the stamp, two more than the
+    /// chunk has bytes. Nothing else changes. The host makes them, and then `end_delete` draws the stamp; until then every call that
+    /// changes the region is refused. A buffer without an element is none. It answers how many acts there are. It takes no memory.
+    pub fn begin_delete(
+        &mut self,
+        base: u32,
+        acts: &mut [NcAct],
+    ) -> Result<(Chunk, usize), RetireFault>
+        ensures begun { IfOk result (λ r. HasBegun self.old self.new base r.0) }
+        // The acts written are those of a deletion, by the region's own marks, with the settling.
+        ensures told { IfOk result (λ r. IsTold acts.old acts.new r.1 (log_of_delete self.old.region.marked.marks base r.0.length)) }
+        ensures unchanged { OnErr result (self.new ≡ self.old) }
+        ensures untouched { OnErr result (acts.new ≡ acts.old) }
+        // Each refusal comes exactly where it is due.
+        ensures refused { IfErr result (MayRefuseBegin self.old base (length acts.old)) }
+    {
+        if self.begun.is_some() {
+            return Err(RetireFault::Underway);
+        }
+        let Some(chunk) = self.region.live_at(base) else {
+            return Err(RetireFault::Refused(DeleteFault::NoChunk));
+        };
+        if self.region.acts().generation() >= LAST_GENERATION {
+            return Err(RetireFault::Refused(DeleteFault::GensFull));
+        }
+        let wanted = chunk.length as usize + 2;
+        if is_short(acts.len(), wanted) {
+            return Err(RetireFault::NoRoom(wanted));
+        }
+        self.begun = Some(chunk);
+        if acts.is_empty() {
+            return Ok((chunk, 0));
+        }
+        write_deletion(acts, &self.region, base, chunk.length);
+        Ok((chunk, wanted))
+    }
+}

@@ -1,0 +1,63 @@
+//! The seats of a region that owns its table: given once each, and checked in for where nobody was given them.
+
+ghost use Rattle.std.specs.Prelude.{◌≡◌, ◌≤◌, ◌<◌, ◌↔◌, [], All, IfOk, IfSome, IsErrOf, IsNone, IsSome, OnErr, length, slice_index};
+ghost use Rattle.nc_gens.specs.Seen.{Raised};
+ghost use Rattle.nc_handle.specs.Held.{HasGiven, HasReclaimed};
+ghost use Rattle.nc_handle.specs.declared.fault.SeatFault.{SeatFault};
+
+use crate::attending::attend;
+use crate::fault::SeatFault;
+use crate::guest::Guest;
+use crate::held::Held;
+use std::alloc::Global;
+use std::sync::Arc;
+
+impl Held {
+    /// A seat that nobody has been given yet, in a box. A refusal leaves every pass where it was.
+    pub fn seat(&mut self, alloc: Global) -> Result<Box<Guest, Global>, SeatFault>
+        // The last of the passes is the seat's now; all else is as before.
+        ensures given { IfOk result (λ guest. HasGiven self.old self.new guest.value) }
+        // A refusal changes nothing. Where a seat is left, it is one of memory.
+        ensures unchanged { OnErr result (self.new ≡ self.old) }
+        ensures none_left { IsErrOf result SeatFault.NoneLeft ↔ (self.old.passes ≡ []) }
+    {
+        if self.passes.is_empty() {
+            return Err(SeatFault::NoneLeft);
+        }
+        let Ok(gens) = Arc::try_clone(&self.gens) else {
+            return Err(SeatFault::OutOfMemory);
+        };
+        let Some(pass) = self.passes.pop() else {
+            return Err(SeatFault::NoneLeft);
+        };
+        match Box::new(alloc, Guest::new(gens, pass)) {
+            Ok(guest) => Ok(guest),
+            Err(failed) => {
+                self.passes.push_reserved(failed.value.into_pass());
+                Err(SeatFault::OutOfMemory)
+            }
+        }
+    }
+
+    /// How many seats nobody has been given.
+    pub fn seats_left(&self) -> usize
+        ensures { result ≡ length self.now.passes }
+    {
+        self.passes.len()
+    }
+
+    /// Checks in for each seat that nobody has been given, and then frees what is due, as `RegionOf::reclaim`: it puts no byte.
+    /// While a deletion is under way it does nothing. It takes no memory.
+    pub fn reclaim(&mut self) -> Option<u32>
+        // No seat that nobody has been given holds anything back.
+        ensures reclaimed { IfSome result (HasReclaimed self.old self.new) }
+        ensures underway { IsNone result ↔ IsSome self.old.begun }
+        ensures unchanged { IsNone result → self.new ≡ self.old }
+    {
+        if self.begun.is_some() {
+            return None;
+        }
+        attend(&mut self.region, &self.gens, &mut self.passes);
+        Some(self.region.reclaim())
+    }
+}
