@@ -18,7 +18,8 @@
 //!
 //! `nc_regionbench soak SECONDS` measures nothing: for so many seconds a writer creates, patches, deletes and reclaims chunks beside
 //! two threads that walk and check in. It prints what they did, and fails if an answer was wrong, if a walk stood where no
-//! instruction stands, or if the region differs from a plain model of it.
+//! instruction stands, if the region differs from a plain model of it, or if threads that fetch each byte by itself might read a
+//! wrong instruction while bytes are put.
 //!
 //! Without these words it says how to call it.
 #![tactic(auto)]
@@ -28,6 +29,7 @@ mod image;
 mod model;
 mod numbers;
 mod soak;
+mod views;
 mod writer;
 
 ghost use Rattle.std.specs.Prelude.{◌≡◌, All};
@@ -350,7 +352,7 @@ fn soak_for<R: Threads + Wait + Clock + Sync + Print + AllocGlobal>(
     let (wrote, walked) = soak(rt, rt.alloc(), seconds)?;
     println!(rt; "{wrote:?}")?;
     println!(rt; "{walked:?}")?;
-    if wrote.wrong > 0 || walked.astray > 0 {
+    if wrote.wrong > 0 || wrote.readings.misread > 0 || walked.astray > 0 {
         return Err(io::Error::from(io::ErrorKind::InvalidData));
     }
     Ok(())

@@ -1,7 +1,8 @@
 //! A plain model of a region: its bytes and its chunks, changed as the rules say and compared with the region itself.
 
+use crate::views::Viewed;
 use nc_decode::START;
-use nc_region::{Chunk, ChunkState, Region};
+use nc_region::{Chunk, ChunkState};
 use std::alloc::{AllocError, Global};
 
 /// The byte of unused and retired spans.
@@ -120,7 +121,7 @@ impl Model {
     }
 
     /// The region's chunks are the model's, by rising base.
-    fn has_chunks(&self, region: &Region<'_>) -> bool {
+    fn has_chunks(&self, region: &Viewed<'_>) -> bool {
         let mut end = START;
         for i in 0..region.chunk_count() {
             let Some(chunk) = region.chunk(i) else {
@@ -135,7 +136,7 @@ impl Model {
     }
 
     /// The region's bytes are the model's.
-    fn has_bytes(&self, region: &Region<'_>) -> bool {
+    fn has_bytes(&self, region: &Viewed<'_>) -> bool {
         let mut at = START;
         for byte in self.bytes.iter() {
             if at < START || at >= region.limit() || region.byte(at) != *byte {
@@ -147,7 +148,7 @@ impl Model {
     }
 
     /// The whole region is as the model says.
-    pub fn is_of(&self, region: &Region<'_>) -> bool {
+    pub fn is_of(&self, region: &Viewed<'_>) -> bool {
         self.has_chunks(region) && self.has_bytes(region)
     }
 }

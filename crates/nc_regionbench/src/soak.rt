@@ -1,15 +1,18 @@
 //! Threads that walk and check in for as long as they are let, beside a writer that creates, patches, deletes and reclaims.
 //!
 //! The writer keeps a plain model of the region, judges each answer by it, and compares the whole region with it now and
-//! then and at the end. A walker looks at each place where it comes: an instruction has to stand there.
+//! then and at the end. A walker looks at each place where it comes: an instruction has to stand there. After each byte that is
+//! put, every mixture of bytes is read that a thread may fetch there one by one (`views`).
 
 ghost use Rattle.std.specs.Prelude.{◌≡◌};
 
 use crate::numbers::Numbers;
+use crate::views::{Viewed, Viewing};
 use crate::writer::{Done, Writer};
 use nc_decode::{BUNDLE, START, decode};
-use nc_gens::{Gens, Pass};
-use nc_region::{Region, Trace};
+use nc_gens::{Gens, Keeper, Pass};
+use nc_region::{Plain, RegionOf, Trace};
+use nc_text::Text;
 use std::alloc::Global;
 use std::io::{Error, ErrorKind, Result};
 use std::sync::atomic::{AtomicBool, Ordering};
@@ -42,7 +45,7 @@ impl Walked {
 }
 
 /// Whether an instruction stands at an address of the region, inside its bundle; a place below the region counts as one.
-fn stands_well(region: &Region<'_>, at: u32) -> bool {
+fn stands_well(region: &Viewed<'_>, at: u32) -> bool {
     if at < START {
         return true;
     }
@@ -62,7 +65,7 @@ fn stands_well(region: &Region<'_>, at: u32) -> bool {
 }
 
 /// How many places of a trace no instruction stands at.
-fn astray(region: &Region<'_>, trace: &Trace) -> u64 {
+fn astray(region: &Viewed<'_>, trace: &Trace) -> u64 {
     let mut astray = 0u64;
     for at in trace.places.iter() {
         if !stands_well(region, *at) {
@@ -75,7 +78,7 @@ fn astray(region: &Region<'_>, trace: &Trace) -> u64 {
 /// Walks once from a bundle start, as these choices pick the steps.
 fn walk_once<R: Wait>(
     rt: &R,
-    region: &Mutex<Region<'_>>,
+    region: &Mutex<Viewed<'_>>,
     start: u32,
     choices: &[u32],
     walked: &mut Walked,
@@ -91,7 +94,7 @@ fn walk_once<R: Wait>(
 /// Walks and checks in until it is told to stop, and then leaves.
 fn walk_on<R: Wait>(
     rt: &R,
-    region: &Mutex<Region<'_>>,
+    region: &Mutex<Viewed<'_>>,
     gens: &Gens,
     stop: &AtomicBool,
     pass: Pass,
@@ -137,7 +140,7 @@ fn walk_on<R: Wait>(
 fn write_for<R: Wait + Clock>(
     rt: &R,
     alloc: Global,
-    region: &Mutex<Region<'_>>,
+    region: &Mutex<Viewed<'_>>,
     time: Duration,
 ) -> Result<Writer> {
     let mut writer = Writer::new(alloc, BUNDLES)?;
@@ -159,7 +162,7 @@ fn write_for<R: Wait + Clock>(
 fn write_on<R: Wait + Clock>(
     rt: &R,
     alloc: Global,
-    region: &Mutex<Region<'_>>,
+    region: &Mutex<Viewed<'_>>,
     stop: &AtomicBool,
     time: Duration,
 ) -> Result<Writer> {
@@ -171,7 +174,7 @@ fn write_on<R: Wait + Clock>(
 /// Two walkers, each in a thread of its own.
 fn walk_both<R: Threads + Wait + Sync>(
     rt: &R,
-    region: &Mutex<Region<'_>>,
+    region: &Mutex<Viewed<'_>>,
     gens: &Gens,
     stop: &AtomicBool,
     one: Pass,
@@ -195,7 +198,7 @@ fn walk_both<R: Threads + Wait + Sync>(
 fn write_beside<R: Threads + Wait + Clock + Sync>(
     rt: &R,
     alloc: Global,
-    region: &Mutex<Region<'_>>,
+    region: &Mutex<Viewed<'_>>,
     gens: &Gens,
     one: Pass,
     other: Pass,
@@ -214,6 +217,17 @@ fn write_beside<R: Threads + Wait + Clock + Sync>(
     )
 }
 
+/// A region of so many bundles, whose bundle in motion is viewed.
+fn viewed<'g>(alloc: Global, gens: &'g Gens, keeper: Keeper, bundles: u32) -> Result<Viewed<'g>>
+    requires { keeper.table ≡ gens.now }
+{
+    let Ok(text) = Text::new(alloc, bundles) else {
+        return Err(Error::from(ErrorKind::OutOfMemory));
+    };
+    let plain = Plain::new(text, gens, keeper);
+    Ok(RegionOf::over(alloc, Viewing::new(plain)))
+}
+
 /// Lets them work for so many seconds, and says what they did.
 pub fn soak<R: Threads + Wait + Clock + Sync>(
     rt: &R,
@@ -225,10 +239,7 @@ pub fn soak<R: Threads + Wait + Clock + Sync>(
     };
     let one = passes.remove(0);
     let other = passes.remove(0);
-    let Ok(region) = Region::new(alloc, BUNDLES, &gens, keeper) else {
-        return Err(Error::from(ErrorKind::OutOfMemory));
-    };
-    let region = Mutex::new(region);
+    let region = Mutex::new(viewed(alloc, &gens, keeper, BUNDLES)?);
     let time = Duration::from_secs(u64::from(seconds));
     let (wrote, walked) = write_beside(rt, alloc, &region, &gens, one, other, time);
     let mut writer = wrote?;

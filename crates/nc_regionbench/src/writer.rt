@@ -3,14 +3,15 @@
 use crate::drawn::{draw_code, draw_patch};
 use crate::model::Model;
 use crate::numbers::Numbers;
+use crate::views::{Readings, Viewed};
 use nc_decode::START;
-use nc_region::{ChunkState, CreateFault, DeleteFault, ModifyFault, Region};
+use nc_region::{ChunkState, CreateFault, DeleteFault, ModifyFault};
 use nc_vet::vet;
 use std::alloc::{AllocError, Global};
 use std::sync::{Mutex, Wait};
 
 /// What the writer did: calls that were done, chunks that were freed, calls that were rightly refused, comparisons of the whole
-/// region, and what was wrong.
+/// region, mixtures that were read while bytes were put, and what was wrong.
 #[derive(Clone, Copy, Debug, Drop)]
 pub struct Done {
     pub created: u64,
@@ -20,6 +21,7 @@ pub struct Done {
     pub freed: u64,
     pub refused: u64,
     pub compared: u64,
+    pub readings: Readings,
     pub wrong: u64,
 }
 
@@ -54,6 +56,10 @@ impl Writer {
                 freed: 0,
                 refused: 0,
                 compared: 0,
+                readings: Readings {
+                    read: 0,
+                    misread: 0,
+                },
                 wrong: 0,
             },
         })
@@ -69,7 +75,7 @@ impl Writer {
         &mut self,
         rt: &R,
         alloc: Global,
-        region: &Mutex<Region<'_>>,
+        region: &Mutex<Viewed<'_>>,
     ) -> Result<(), AllocError> {
         match self.numbers.below(8) {
             0..=2 => return self.create(rt, alloc, region),
@@ -85,7 +91,7 @@ impl Writer {
         &mut self,
         rt: &R,
         alloc: Global,
-        region: &Mutex<Region<'_>>,
+        region: &Mutex<Viewed<'_>>,
     ) -> Result<(), AllocError> {
         let length = self.numbers.below(3).saturating_add(1);
         let first = self.numbers.below(self.bundles.saturating_sub(length));
@@ -118,7 +124,7 @@ impl Writer {
     }
 
     /// Patches a chunk, live or retired.
-    fn patch(&mut self, region: &mut Region<'_>) {
+    fn patch(&mut self, region: &mut Viewed<'_>) {
         let number = self.draw_chunk();
         let Some(chunk) = self.model.chunk(number) else {
             return;
@@ -145,7 +151,7 @@ impl Writer {
     }
 
     /// Deletes a chunk, live or retired.
-    fn delete(&mut self, region: &mut Region<'_>) {
+    fn delete(&mut self, region: &mut Viewed<'_>) {
         let number = self.draw_chunk();
         let Some(chunk) = self.model.chunk(number) else {
             return;
@@ -163,7 +169,7 @@ impl Writer {
     }
 
     /// Reclaims the retired chunks that no walker holds back.
-    fn reclaim(&mut self, region: &mut Region<'_>) {
+    fn reclaim(&mut self, region: &mut Viewed<'_>) {
         let freed = region.reclaim();
         if freed > self.model.retired() {
             count(&mut self.done.wrong);
@@ -174,7 +180,7 @@ impl Writer {
     }
 
     /// Compares the whole region with the model.
-    pub fn compare(&mut self, region: &Region<'_>) {
+    pub fn compare(&mut self, region: &Viewed<'_>) {
         count(&mut self.done.compared);
         if !self.model.is_of(region) {
             count(&mut self.done.wrong);
@@ -182,11 +188,12 @@ impl Writer {
     }
 
     /// After all walkers have left: one reclaim frees all that is retired, and the whole region is as the model says.
-    pub fn finish(&mut self, region: &mut Region<'_>) {
+    pub fn finish(&mut self, region: &mut Viewed<'_>) {
         self.reclaim(region);
         if self.model.retired() > 0 {
             count(&mut self.done.wrong);
         }
         self.compare(region);
+        self.done.readings = region.acts().readings();
     }
 }
