@@ -1,0 +1,59 @@
+//! Seats are given once each, and those that nobody was given hold nothing back.
+
+use nc_handle::{Guest, Held, SeatFault};
+use nc_vet::vet;
+use std::alloc::Global;
+use std::test::Fail;
+
+/// What may go to another thread.
+fn sent<T: Send>(value: T) -> T {
+    value
+}
+
+/// A region of eight bundles with two seats, and a chunk that was deleted.
+fn deleted(alloc: Global) -> Result<Held, Fail> {
+    let Ok(mut held) = Held::new(alloc, 8, 2) else {
+        return Err(Fail::new("no region"));
+    };
+    let code = Vec::from_elem(alloc, 0x90u8, 32)?;
+    let Ok(vetted) = vet(0x10000, 0x10100, code) else {
+        return Err(Fail::new("no chunk"));
+    };
+    if held.create(vetted, &mut []).is_err() || held.begin_delete(0x10000, &mut []).is_err() {
+        return Err(Fail::new("no deletion"));
+    }
+    let _stamp = held.end_delete();
+    Ok(held)
+}
+
+/// A seat of the region.
+fn seat(alloc: Global, held: &mut Held) -> Result<Box<Guest, Global>, Fail> {
+    match held.seat(alloc) {
+        Ok(guest) => Ok(sent(guest)),
+        Err(fault) => Err(Fail::new(format_args!("{fault:?}"))),
+    }
+}
+
+#[test]
+fn nobody_holds_back(rt: HostRuntime) -> Result<(), Fail> {
+    let alloc = rt.alloc();
+    let mut held = deleted(alloc)?;
+    assert_eq!(rt; held.reclaim(), Some(1));
+    Ok(())
+}
+
+#[test]
+fn guests_hold_back(rt: HostRuntime) -> Result<(), Fail> {
+    let alloc = rt.alloc();
+    let mut held = deleted(alloc)?;
+    let mut one = seat(alloc, &mut held)?;
+    let two = seat(alloc, &mut held)?;
+    assert_eq!(rt; held.seats_left(), 0);
+    assert!(rt; matches!(held.seat(alloc), Err(SeatFault::NoneLeft)));
+    assert_eq!(rt; held.reclaim(), Some(0));
+    one.check_in();
+    assert_eq!(rt; held.reclaim(), Some(0));
+    Box::into_inner(two).leave();
+    assert_eq!(rt; held.reclaim(), Some(1));
+    Ok(())
+}
