@@ -1,13 +1,10 @@
 -- What is read from a span of a text.
-use Rattle.std.proofs.Common.{◌≡◌, ℕ, ◌+◌, ◌-◌, ◌<◌, Bool, true, false, List, ◌++◌, length, get_or, take, drop, replicate, refl, ap, arith, sym, subst, ◌∙◌}
-use Rattle.std.proofs.lemmas.List.{get_or-drop, get_or-take, length-drop, length-take-le, get_or-replicate, length-replicate}
+use Rattle.std.proofs.Common.{◌≡◌, ℕ, ◌+◌, ◌-◌, ◌<◌, List, ◌++◌, length, get_or, take, drop, ap, arith, sym, subst, ◌∙◌}
+use Rattle.std.proofs.lemmas.List.{get_or-drop, get_or-take, length-drop, length-take-le}
 use Rattle.std.proofs.Math.Seq.{drop-append_seam, take-append_seam}
 use Rattle.nc_text.specs.Places.{byte_at, limit_of}
 use Rattle.nc_vet.specs.Faults.{HasGoodSpan}
 use Rattle.nc_text.specs.MarkedText.{with_span}
-use Rattle.nc_decode.specs.declared.instruction.Mark.{Mark}
-use Rattle.nc_text.specs.Marks.{mark_at}
-use Rattle.nc_handle.specs.machinery.Writing.{mark_if, marked_if}
 use Rattle.nc_handle.specs.Shown.{bytes_of}
 
 -- a span of the text has as many bytes as it has places
@@ -22,19 +19,6 @@ span_byte text base len n g lt =
     let here : base + n - 0x10000 ≡ base - 0x10000 + n = omega (arith, g.low) in
     sym (get_or-take len (drop (base - 0x10000) text) n 0 lt
     ∙ (get_or-drop (base - 0x10000) text n 0 ∙ ap (λ (k : ℕ). get_or text k 0) (sym here)))
-
--- a stop among as many as there are places
-pub stop_read : (n i : ℕ) → i < n → get_or (replicate {A = ℕ} n 244) i 0 ≡ 244
-stop_read n i lt = get_or-replicate n i 244 0 lt
-
--- a place of a list of stops
-pub within_stops : (n i : ℕ) → i < n → i < length (replicate {A = ℕ} n 244)
-within_stops n i lt = omega (arith, lt, length-replicate {A = ℕ} n 244)
-
--- whether a place is marked, by its mark
-pub mark_read : (marked : Bool) (marks : List Mark) (at : ℕ) → marked_if marked marks at ≡ mark_if marked (mark_at marks at)
-mark_read true marks at = refl
-mark_read false marks at = refl
 
 -- what was put into a span stands in it
 pub span_put : (text : List ℕ) (base : ℕ) (code : List ℕ) → HasGoodSpan base (limit_of text) (length code)

@@ -5,21 +5,19 @@
 //! call at a time; a `Guest` is called by its own thread, without a lock.
 #![tactic(auto)]
 
-mod answers;
 mod attending;
 mod fault;
 mod guest;
 mod held;
 mod owned;
-mod putting;
 mod reading;
 mod region_calls;
-mod replacing;
 mod seats;
+mod span;
 mod window;
 
-pub use answers::NcAct;
 pub use fault::{LoadFault, NewFault, PatchFault, RetireFault, SeatFault};
 pub use guest::Guest;
 pub use held::Held;
+pub use nc_acts::NcAct;
 pub use owned::Owned;

@@ -7,14 +7,14 @@ ghost use Rattle.nc_region.specs.Log.{log_of_create, log_of_delete};
 ghost use Rattle.nc_region.specs.Patch.{AreBytesOf, IsModified, IsPatch, log_of_modify};
 ghost use Rattle.nc_region.specs.Region.{IsCreated};
 ghost use Rattle.nc_handle.specs.Held.{IsShort, IsShortForPatch, HasBegun, HasEnded, IsNotLoaded, MayRefuseBegin, MayRefuseLoad, MayRefuseModify};
-ghost use Rattle.nc_handle.specs.Shown.{AreBytesAt, IsTold};
+ghost use Rattle.nc_acts.specs.Standing.{AreBytesAt};
+ghost use Rattle.nc_handle.specs.Shown.{IsTold};
 
-use crate::answers::NcAct;
 use crate::fault::{LoadFault, PatchFault, RetireFault};
 use crate::held::Held;
-use crate::putting::{write_creation, write_deletion};
-use crate::replacing::write_patch;
+use crate::span::Span;
 use crate::window::read_window;
+use nc_acts::{NcAct, write_creation, write_deletion, write_patch};
 use nc_gens::LAST_GENERATION;
 use nc_region::{Acts, Chunk, DeleteFault};
 use nc_vet::Vetted;
@@ -82,7 +82,12 @@ impl Held {
                 if acts.is_empty() {
                     return Ok(0);
                 }
-                write_creation(acts, &self.region, base, length as u32);
+                let span = Span {
+                    region: &self.region,
+                    base,
+                    length: length as u32,
+                };
+                write_creation(acts, base, &span);
                 Ok(length + 2)
             }
             Err((vetted, fault)) => Err((vetted, LoadFault::Refused(fault))),
@@ -170,7 +175,12 @@ impl Held {
         if acts.is_empty() {
             return Ok((chunk, 0));
         }
-        write_deletion(acts, &self.region, base, chunk.length);
+        let span = Span {
+            region: &self.region,
+            base,
+            length: chunk.length,
+        };
+        write_deletion(acts, base, &span);
         Ok((chunk, wanted))
     }
 }

@@ -1,10 +1,5 @@
-mod Buffers
-mod PutLists
-mod WriteSteps
-mod MarkReads
+mod WrittenMarks
 mod Reading
 mod Accepted
-mod WholeLists
-mod Replacements
 mod OnlyChunk
 mod AnyRegion

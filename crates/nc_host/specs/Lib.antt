@@ -1,4 +1,3 @@
-pub mod machinery
 pub mod Shown
 pub mod Outcomes
 pub mod Patches

@@ -1,13 +1,14 @@
 -- What a host is told of a patch.
-use Rattle.std.specs.Prelude.{◌≡◌, ℕ, ◌+◌, ◌*◌, ◌<◌, ◌≤◌, ◌⊎◌, List, [], ◌∷◌, length, slice_index, Contains, Option, Some, None}
+use Rattle.std.specs.Prelude.{◌≡◌, ℕ, ◌+◌, ◌*◌, ◌<◌, ◌≤◌, ◌⊎◌, List, [], ◌∷◌, length, Contains, Option, Some, None}
 use Rattle.nc_decode.specs.declared.instruction.Mark.{Mark}
-use Rattle.nc_text.specs.Places.{limit_of, byte_at}
+use Rattle.nc_text.specs.Places.{limit_of}
 use Rattle.nc_text.specs.MarkedText.{unused_text}
 use Rattle.nc_region.specs.declared.chunk.ChunkState.TheVariants.{Live}
 use Rattle.nc_region.specs.declared.fault.ModifyFault.{ModifyFault}
 use Rattle.nc_region.specs.Chunks.{with_chunk}
 use Rattle.nc_region.specs.Region.{Region, IsRegion}
 use Rattle.nc_region.specs.Patch.{IsPatch, MayRefusePatch}
+use Rattle.nc_acts.specs.Standing.{AreBytesAt}
 use Rattle.nc_host.specs.Shown.{patch_number}
 use Rattle.nc_host.specs.Outcomes.{IsAccepted, IsChunkFault}
 
@@ -35,10 +36,6 @@ IsPatchOutcome base limit code at new room fault place =
     ⊎ (((fault ≡ 9) × (place ≡ 0) × (room < 3 * length new) × IsAnsweredFor base limit code at new None)
     ⊎ (((f : ModifyFault) × (fault ≡ patch_number f) × (place ≡ 0) × IsAnsweredFor base limit code at new (Some f))
     ⊎ IsChunkFault base limit code fault place))
-
--- the chunk's bytes stand in the text
-abbrev pub AreBytesAt : List ℕ → ℕ → List ℕ → Type 0
-AreBytesAt text base code = (k : ℕ) → k < length code → byte_at text (base + k) ≡ slice_index code k
 
 -- in the region this chunk is live, whatever others there are
 pub record HasLive (r : Region) (base limit : ℕ) (code : List ℕ) : Type 0 where

@@ -1,5 +1,5 @@
--- What a host reads: numbers in the place of instructions, marks, faults, acts and settlings.
-use Rattle.std.specs.Prelude.{ℕ, ◌+◌, pos, List, ◌++◌, length, drop, Option, Some, None}
+-- What a host reads: numbers in the place of instructions, marks and faults.
+use Rattle.std.specs.Prelude.{ℕ, ◌+◌, pos, Option, Some, None}
 use Rattle.nc_decode.specs.declared.instruction.Flow.{Flow}
 use Rattle.nc_decode.specs.declared.instruction.Flow.TheVariants.{Next, Branch, Jump, Call, IndirectJump, IndirectCall, Stop}
 use Rattle.nc_decode.specs.declared.instruction.Instr.{Instr}
@@ -10,12 +10,7 @@ use Rattle.nc_vet.specs.declared.fault.VetFault.TheVariants.{BadBase, BadLength,
 use Rattle.nc_vet.specs.declared.fault.VetFault.TheVariants.{OutOfMemory}
 use Rattle.nc_region.specs.declared.fault.ModifyFault.{ModifyFault}
 use Rattle.nc_region.specs.declared.fault.ModifyFault.TheVariants as patch
-use Rattle.nc_region.specs.declared.acts.Act.{Act}
-use Rattle.nc_region.specs.declared.acts.Act.TheVariants.{Put, MarkSpan, UnmarkSpan, Bump, Look}
-use Rattle.nc_region.specs.declared.acts.Entry.{Entry}
-use Rattle.nc_region.specs.declared.acts.Entry.TheVariants.{Did, Settled}
 use Rattle.nc_host.specs.declared.answers.NcInstruction.{NcInstruction}
-use Rattle.nc_host.specs.declared.answers.NcAct.{NcAct}
 
 -- the number of a flow
 abbrev pub flow_number : Flow → ℕ
@@ -80,20 +75,3 @@ patch_number patch.NotPermitted = 18
 patch_number patch.Boundaries = 19
 patch_number patch.PairTouched = 20
 patch_number patch.BadTarget = 21
-
--- an act
-abbrev pub act_of : Act → NcAct
-act_of (Put at byte) = record { kind = 1; at = at; value = byte }
-act_of (MarkSpan at len) = record { kind = 2; at = at; value = len }
-act_of Bump = record { kind = 3; at = 0; value = 0 }
-act_of (UnmarkSpan at len) = record { kind = 4; at = at; value = len }
-act_of Look = record { kind = 5; at = 0; value = 0 }
-
--- an act, or a settling
-abbrev pub entry_of : Entry → NcAct
-entry_of (Did act) = act_of act
-entry_of Settled = record { kind = 6; at = 0; value = 0 }
-
--- a buffer with these at its front; the rest of it is as it was
-abbrev pub over : {X : Type 0} → List X → List X → List X
-over front old = front ++ drop (length front) old

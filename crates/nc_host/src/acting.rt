@@ -3,12 +3,13 @@
 ghost use Rattle.std.specs.Prelude.{◌≡◌, ◌+◌, ◌^◌, ◌<◌, ◌⊎◌, ◌==◌, ◌||◌, List, length, map, if◌then◌else◌};
 ghost use Rattle.nc_decode.specs.declared.instruction.Mark.{Mark};
 ghost use Rattle.nc_region.specs.Log.{log_of_create, log_of_delete};
-ghost use Rattle.nc_host.specs.Shown.{entry_of, over};
+ghost use Rattle.nc_acts.specs.Shown.{entry_of, over};
 ghost use Rattle.nc_host.specs.Outcomes.{IsAccepted, IsOutcome, StandAt};
 
-use crate::answers::{NO_ROOM, NcAct, NcActs, NcVerdict};
-use crate::putting::{write_creation, write_deletion};
+use crate::answers::{NO_ROOM, NcActs, NcVerdict};
+use crate::lent::Lent;
 use crate::vetting::admit;
+use nc_acts::{NcAct, write_creation, write_deletion};
 use std::alloc::Global;
 
 /// A refusal, with the number of acts that there is no room for.
@@ -52,8 +53,8 @@ pub extern "C" fn nc_host_create(
         → (result.fault ≡ 0) ⊎ ((result.fault ≡ 8) ⊎ (result.fault ≡ 9)) }
 {
     match admit(alloc, base, limit, code, code.len() + 2, acts.len()) {
-        Ok(_marks) => {
-            write_creation(acts, base, code);
+        Ok(own) => {
+            write_creation(acts, base, &Lent { code, marks: &own });
             NcActs {
                 fault: 0,
                 at: 0,
@@ -88,8 +89,8 @@ pub extern "C" fn nc_host_delete(
         → (result.fault ≡ 0) ⊎ ((result.fault ≡ 8) ⊎ (result.fault ≡ 9)) }
 {
     match admit(alloc, base, limit, code, code.len() + 2, acts.len()) {
-        Ok(marks) => {
-            write_deletion(acts, base, code, &marks);
+        Ok(own) => {
+            write_deletion(acts, base, &Lent { code, marks: &own });
             NcActs {
                 fault: 0,
                 at: 0,

@@ -13,15 +13,15 @@
 mod acting;
 mod answers;
 mod decoding;
+mod lent;
 mod marking;
 mod patching;
-mod putting;
-mod replacing;
 mod vetting;
 
 pub use acting::{nc_host_create, nc_host_delete};
-pub use answers::{NcAct, NcActs, NcInstruction, NcVerdict};
+pub use answers::{NcActs, NcInstruction, NcVerdict};
 pub use decoding::nc_host_decode;
 pub use marking::nc_host_marks;
+pub use nc_acts::NcAct;
 pub use patching::nc_host_patch;
 pub use vetting::nc_host_vet;

@@ -1,4 +1,4 @@
-use Rattle.std.proofs.Common.{◌≡◌, ◌+◌, List, length, subst}
+use Rattle.std.proofs.Common.{◌≡◌, ◌+◌, List, length, subst, arith}
 use Rattle.nc_decode.specs.declared.instruction.Mark.{Mark}
 use Rattle.nc_vet.specs.Listed.{listed}
 use Rattle.nc_vet.proofs.Offered.{valid_len}
@@ -6,14 +6,16 @@ use Rattle.nc_host.specs.Outcomes.{StandAt}
 use Rattle.nc_host.proofs.Accepted.{eight_or_nine, same_marks}
 use Rattle.nc_host.proofs.acting.nc_host_delete.Goals as goal
 
-pub write_deletion-requires-clause-each : goal.write_deletion-requires-clause-each
-write_deletion-requires-clause-each c = valid_len _ c.in-Ok.ensures.valid.0
+pub invariant_of-write_deletion : goal.invariant_of-write_deletion
+invariant_of-write_deletion c = record { each = valid_len _ c.in-Ok.ensures.valid.0 }
 
 pub returns-in-Ok-clause-written : goal.returns-in-Ok-clause-written
 returns-in-Ok-clause-written c = λ e m text valid stand.
-    let same : m ≡ listed c.args.code.now c.in-Ok.marks =
-    same_marks c.args.base c.args.limit c.args.code.now m (listed c.args.code.now c.in-Ok.marks) valid c.in-Ok.ensures.valid.0 in
-    let wrote = c.write_deletion.ensures text (subst (λ (z : List Mark). StandAt text c.args.base z) same stand) in
+    let own : List Mark = listed c.args.code.now c.in-Ok.own in
+    let same : m ≡ own = same_marks c.args.base c.args.limit c.args.code.now m own valid c.in-Ok.ensures.valid.0 in
+    let stands : StandAt text c.args.base own = subst (λ (z : List Mark). StandAt text c.args.base z) same stand in
+    let long : length own ≡ length c.args.code.now = valid_len _ c.in-Ok.ensures.valid.0 in
+    let wrote = c.write_deletion.ensures text (λ k lt. stands k (omega (arith, lt, long))) in
     (wrote.counted, wrote.buffer)
 
 pub returns-in-Err-clause-valid : goal.returns-in-Err-clause-valid

@@ -1,7 +1,7 @@
 use Rattle.std.proofs.Common.{◌∙◌, arith}
 use Rattle.std.proofs.lemmas.List.{length-set}
 use Rattle.nc_vet.specs.Listed.{listed}
-use Rattle.nc_host.proofs.Buffers.{write_mark}
+use Rattle.nc_host.proofs.WrittenMarks.{write_mark}
 use Rattle.nc_host.proofs.marking.write_marks.Goals as goal
 
 pub loop-i-preserved : goal.loop-i-preserved

@@ -1,0 +1,4 @@
+pub mod machinery
+pub mod Shown
+pub mod Standing
+pub mod Written

@@ -1,0 +1,13 @@
+//! One entry of a list of acts, as a host reads it.
+
+/// One act on a text, or a settling between two acts.
+#[repr(C)]
+#[derive(Clone, Copy, Debug, PartialEq, Eq)]
+pub struct NcAct {
+    /// The number of its kind.
+    pub kind: u32,
+    /// The address of its first place, or 0 for an act that has none.
+    pub at: u32,
+    /// The byte that is put, or how many places are marked.
+    pub value: u32,
+}

@@ -1,0 +1,16 @@
+//! Acts and settlings as a host reads them, and the writers of their lists into a buffer that it lends.
+//!
+//! An [`NcAct`] is an entry of the log by which `nc_region` changes a text. [`write_creation`], [`write_deletion`] and [`write_patch`]
+//! write such a log, from a chunk that is read place by place ([`ReadChunk`]) or from its bytes.
+#![tactic(auto)]
+
+mod act;
+mod entries;
+mod putting;
+mod reading;
+mod replacing;
+
+pub use act::NcAct;
+pub use putting::{write_creation, write_deletion};
+pub use reading::ReadChunk;
+pub use replacing::write_patch;

@@ -1,0 +1,40 @@
+//! A span of a region, read place by place.
+
+ghost use Rattle.nc_text.specs.Places.{limit_of};
+ghost use Rattle.nc_vet.specs.Faults.{HasGoodSpan};
+
+use crate::owned::Owned;
+use nc_acts::ReadChunk;
+use nc_decode::Mark;
+use nc_region::RegionOf;
+
+/// A span of a region in which a chunk stands.
+#[derive(Drop)]
+pub(crate) struct Span<'a> {
+    pub(crate) region: &'a RegionOf<Owned>,
+    pub(crate) base: u32,
+    pub(crate) length: u32,
+    ghost placed: { HasGoodSpan base (limit_of region.now.marked.bytes) length },
+}
+
+impl<'a> ReadChunk for Span<'a> {
+    ghost use Rattle.std.specs.Prelude.{◌+◌};
+    ghost use Rattle.nc_text.specs.Marks.{mark_at};
+    ghost use Rattle.nc_handle.specs.Shown.{bytes_of};
+
+    ghost code = { λ s. bytes_of s.region.now.marked.bytes s.base s.length };
+
+    ghost marks = { λ s k. mark_at s.region.now.marked.marks (s.base + k) };
+
+    fn len(&self) -> usize {
+        self.length as usize
+    }
+
+    fn byte(&self, i: usize) -> u8 {
+        self.region.byte(self.base + i as u32)
+    }
+
+    fn mark(&self, i: usize) -> Mark {
+        self.region.mark(self.base + i as u32)
+    }
+}
