@@ -45,11 +45,11 @@ pub record IsFirst (bundles seats : ℕ) (h : HeldState) : Type 0 where
   pub passes : h.passes ≡ first_passes h.region.keeper.table seats
   pub begun : h.begun ≡ None
 
--- when each refusal of `new` comes; only the last one depends on the memory that is there
+-- when each refusal of `new` comes, one at most for any two numbers; only the last one depends on the memory that is there
 abbrev pub MayRefuseNew : ℕ → ℕ → NewFault → Type 0
 MayRefuseNew bundles seats BadSeats = ¬ AreSeats seats
 MayRefuseNew bundles seats BadSize = AreSeats seats × ¬ IsLawfulLimit (0x10000 + 32 * bundles)
-MayRefuseNew bundles seats OutOfMemory = AreSeats seats
+MayRefuseNew bundles seats OutOfMemory = AreSeats seats × IsLawfulLimit (0x10000 + 32 * bundles)
 
 -- a buffer is lent, and it has less room than this
 abbrev pub IsShort : ℕ → ℕ → Type 0

@@ -1,19 +1,19 @@
 //! A region that owns all that it stands on.
 
-ghost use Rattle.std.specs.Prelude.{◌≡◌, ◌+◌, ◌*◌, ◌⊎◌, ◌↔◌, [], None, IfOk, IfErr, IsErrOf, length};
+ghost use Rattle.std.specs.Prelude.{◌≡◌, ◌+◌, ◌*◌, ◌↔◌, None, IfOk, IfErr, IsErrOf};
 ghost use Rattle.std.specs.Arc.{arc_value};
 ghost use Rattle.nc_decode.specs.Bundles.{IsLawfulLimit};
-ghost use Rattle.nc_gens.specs.Seen.{AreSeats, first_keeper, first_passes};
-ghost use Rattle.nc_text.specs.MarkedText.{unused_text};
-ghost use Rattle.nc_text.specs.Ready.{unmade_pages};
+ghost use Rattle.nc_gens.specs.Seen.{AreSeats};
 ghost use Rattle.nc_handle.specs.Held.{IsFirst, MayRefuseNew};
+ghost use Rattle.nc_handle.specs.declared.fault.NewFault.{NewFault};
 
 use crate::fault::NewFault;
 use crate::owned::Owned;
-use nc_gens::{Gens, GensFault, Pass};
+use nc_decode::is_region_size;
+use nc_gens::{Gens, MOST_SEATS, Pass};
 use nc_region::{Chunk, RegionOf};
-use nc_text::{Text, TextFault};
-use std::alloc::{AllocError, Global};
+use nc_text::Text;
+use std::alloc::Global;
 use std::marker::Model;
 use std::sync::Arc;
 
@@ -42,21 +42,25 @@ impl Model for Held {
 
 impl Held {
     /// A region of this many bundles without a chunk, with this many seats, of which none has been given. Its last bundle is
-    /// the guard, in which no chunk stands.
+    /// the guard, in which no chunk stands. Both numbers are tested before anything is allocated.
     pub fn new(alloc: Global, bundles: u32, seats: u32) -> Result<Held, NewFault>
         ensures made { IfOk result (IsFirst bundles seats) }
-        // Each refusal comes where it is due; the first two exactly there.
+        // The first two refusals come exactly where they are due, and the third only where neither is.
+        ensures bad_seats { IsErrOf result NewFault.BadSeats ↔ ¬ AreSeats seats }
+        ensures bad_size { IsErrOf result NewFault.BadSize ↔ (AreSeats seats × ¬ IsLawfulLimit (0x10000 + 32 * bundles)) }
         ensures refused { IfErr result (MayRefuseNew bundles seats) }
     {
-        let (gens, keeper, passes) = match Gens::new(alloc, seats) {
-            Ok(made) => made,
-            Err(GensFault::BadSeats) => return Err(NewFault::BadSeats),
-            Err(GensFault::OutOfMemory) => return Err(NewFault::OutOfMemory),
+        if seats == 0 || seats as usize > MOST_SEATS {
+            return Err(NewFault::BadSeats);
+        }
+        if !is_region_size(bundles) {
+            return Err(NewFault::BadSize);
+        }
+        let Ok((gens, keeper, passes)) = Gens::new(alloc, seats) else {
+            return Err(NewFault::OutOfMemory);
         };
-        let text = match Text::new(alloc, bundles) {
-            Ok(text) => text,
-            Err(TextFault::BadSize) => return Err(NewFault::BadSize),
-            Err(TextFault::OutOfMemory) => return Err(NewFault::OutOfMemory),
+        let Ok(text) = Text::new(alloc, bundles) else {
+            return Err(NewFault::OutOfMemory);
         };
         let Ok(gens) = Arc::new(alloc, gens) else {
             return Err(NewFault::OutOfMemory);

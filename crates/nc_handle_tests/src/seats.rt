@@ -1,6 +1,6 @@
 //! Seats are given once each, and those that nobody was given hold nothing back.
 
-use nc_handle::{Guest, Held, SeatFault};
+use nc_handle::{Guest, Held, NewFault, SeatFault};
 use nc_vet::vet;
 use std::alloc::Global;
 use std::test::Fail;
@@ -32,6 +32,25 @@ fn seat(alloc: Global, held: &mut Held) -> Result<Box<Guest, Global>, Fail> {
         Ok(guest) => Ok(sent(guest)),
         Err(fault) => Err(Fail::new(format_args!("{fault:?}"))),
     }
+}
+
+/// Why no region of so many bundles with so many seats is made, if none is.
+fn refusal(alloc: Global, bundles: u32, seats: u32) -> Option<NewFault> {
+    Held::new(alloc, bundles, seats).err()
+}
+
+#[test]
+fn first_fault_is_given(rt: HostRuntime) -> Result<(), Fail> {
+    let alloc = rt.alloc();
+    assert_eq!(rt; refusal(alloc, 2, 1), None);
+    assert_eq!(rt; refusal(alloc, 2, 256), None);
+    assert_eq!(rt; refusal(alloc, 2, 0), Some(NewFault::BadSeats));
+    assert_eq!(rt; refusal(alloc, 2, 257), Some(NewFault::BadSeats));
+    assert_eq!(rt; refusal(alloc, 1, 0), Some(NewFault::BadSeats));
+    assert_eq!(rt; refusal(alloc, 1, 1), Some(NewFault::BadSize));
+    assert_eq!(rt; refusal(alloc, 2097153, 256), Some(NewFault::BadSize));
+    assert_eq!(rt; refusal(alloc, u32::MAX, 1), Some(NewFault::BadSize));
+    Ok(())
 }
 
 #[test]
