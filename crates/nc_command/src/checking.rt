@@ -1,10 +1,10 @@
 //! What the words of the command line of `nc_check` ask for.
 
-ghost use Rattle.std.specs.Prelude.{◌≡◌, ℕ, IfOk, IfSome, Some};
+ghost use Rattle.std.specs.Prelude.{◌≡◌, ◌≤◌, ℕ, IfOk, IfSome, Some, length};
 ghost use Rattle.nc_command.specs.Checking.{SpellsBase, IsCheckInRange};
 
 use crate::asked::{CheckAsk, Said};
-use crate::command_line::{bundles_option, fault, number, workers_option};
+use crate::command_line::{bundles_option, fault, number, with, workers_option};
 use clap::{Arg, ArgAction, ArgMatches, Command, Error};
 use nc_decode::MAX_BUNDLES;
 use std::alloc::{AllocError, Global};
@@ -35,29 +35,41 @@ fn files<'a>(alloc: Global) -> Arg<'a> {
         .required(true)
 }
 
+/// The option for all faults, which excludes the one for a single line.
+fn all_option<'a>(alloc: Global) -> Result<Arg<'a>, AllocError> {
+    flag(
+        alloc,
+        "all",
+        "Also write the first fault of each further bundle",
+    )
+    .conflicts_with("quiet")
+}
+
+/// The command line before it has options.
+fn bare_program<'a>(alloc: Global) -> Result<Command<'a>, AllocError> {
+    Ok(
+        Command::new(alloc, "nc_check")
+            .bin_name("nc_check")?
+            .version("0.1.0")
+            .about("Judge files of raw 32-bit x86 code for a region of untrusted code")
+            .no_binary_name(true),
+    )
+}
+
 /// The whole command line, without the program's own name.
 fn program<'a>(alloc: Global) -> Result<Command<'a>, AllocError> {
+    let all = all_option(alloc)?;
     let quiet = flag(
         alloc,
         "quiet",
         "Write only one line for each file that is refused",
     );
-    let all = flag(
-        alloc,
-        "all",
-        "Also write the first fault of each further bundle",
-    );
-    Command::new(alloc, "nc_check")
-        .bin_name("nc_check")?
-        .version("0.1.0")
-        .about("Judge files of raw 32-bit x86 code for a region of untrusted code")
-        .no_binary_name(true)
-        .arg(base_option(alloc))?
-        .arg(bundles_option(alloc, "2097152"))?
-        .arg(workers_option(alloc))?
-        .arg(quiet)?
-        .arg(all.conflicts_with("quiet")?)?
-        .arg(files(alloc))
+    let program = with(bare_program(alloc), base_option(alloc));
+    let program = with(program, bundles_option(alloc, "2097152"));
+    let program = with(program, workers_option(alloc));
+    let program = with(program, quiet);
+    let program = with(program, all);
+    with(program, files(alloc))
 }
 
 /// The address that a text spells: 1 to 8 hexadecimal digits, with or without `0x` before them.
@@ -83,19 +95,22 @@ fn said(found: &ArgMatches<'_>) -> Said {
     }
 }
 
-/// Reads the words of a command line of `nc_check`, without the program's own name.
-pub fn ask_check<'a>(alloc: Global, words: &'a [&'a str]) -> Result<CheckAsk<'a>, Error>
-    // The numbers are in the ranges of the options, and there is a file.
-    ensures { IfOk result IsCheckInRange }
-{
-    let found = program(alloc)?.try_get_matches_from(words)?;
+/// The address that is asked for.
+fn base_asked(alloc: Global, found: &ArgMatches<'_>) -> Result<u32, Error> {
     let text = found.get_str("base").unwrap_or("00010000");
-    let Some(base) = base_of(text) else {
-        let message = format!(in alloc;
-            "invalid value '{text}' for '--base <ADDRESS>': not 1 to 8 hexadecimal digits"
-        )?;
-        return Err(fault(program(alloc), message.as_str()));
-    };
+    if let Some(base) = base_of(text) {
+        return Ok(base);
+    }
+    let message = format!(in alloc;
+        "invalid value '{text}' for '--base <ADDRESS>': not 1 to 8 hexadecimal digits"
+    )?;
+    Err(fault(program(alloc), message.as_str()))
+}
+
+/// The files that are named, at least one.
+fn files_asked<'a>(alloc: Global, found: &ArgMatches<'a>) -> Result<Vec<&'a str>, Error>
+    ensures { IfOk result (λ files. 1 ≤ length files.items) }
+{
     let mut files = Vec::new(alloc);
     for file in found.get_strs("files").unwrap_or(&[]) {
         files.push(*file)?;
@@ -104,6 +119,17 @@ pub fn ask_check<'a>(alloc: Global, words: &'a [&'a str]) -> Result<CheckAsk<'a>
         // this doesn't come: the parser has asked for a file
         return Err(fault(program(alloc), "a file is missing"));
     }
+    Ok(files)
+}
+
+/// Reads the words of a command line of `nc_check`, without the program's own name.
+pub fn ask_check<'a>(alloc: Global, words: &'a [&'a str]) -> Result<CheckAsk<'a>, Error>
+    // The numbers are in the ranges of the options, and there is a file.
+    ensures { IfOk result IsCheckInRange }
+{
+    let found = program(alloc)?.try_get_matches_from(words)?;
+    let base = base_asked(alloc, &found)?;
+    let files = files_asked(alloc, &found)?;
     Ok(CheckAsk {
         base,
         bundles: number(&found, "bundles", 2, MAX_BUNDLES),

@@ -51,6 +51,15 @@ pub(crate) fn workers_option<'a>(alloc: Global) -> Arg<'a> {
     )
 }
 
+/// A command line with one option more. A function that adds options without a branch of its own for each one is proved in
+/// a fraction of the time.
+pub(crate) fn with<'a>(
+    program: Result<Command<'a>, AllocError>,
+    option: Arg<'a>,
+) -> Result<Command<'a>, AllocError> {
+    program?.arg(option)
+}
+
 /// The subcommand that runs a script.
 fn replay_command<'a>(alloc: Global) -> Result<Command<'a>, AllocError> {
     let seats = option(
@@ -61,32 +70,40 @@ fn replay_command<'a>(alloc: Global) -> Result<Command<'a>, AllocError> {
         MOST_SEATS as u32,
         "4",
     );
-    Command::new(alloc, "replay")
-        .about("Run a script from standard input and write one reply line for each of its lines")
-        .arg(bundles_option(alloc, "2048"))?
-        .arg(seats)
+    let replay = Command::new(alloc, "replay").about(
+        "Run a script from standard input and write one reply line for each of its lines",
+    );
+    with(with(Ok(replay), bundles_option(alloc, "2048")), seats)
 }
 
 /// The subcommand that vets lines of chunks.
 fn vet_command<'a>(alloc: Global) -> Result<Command<'a>, AllocError> {
-    Command::new(alloc, "vet")
-        .about(
-            "Vet the chunks on standard input, one `<address> <bytes>` a line, and write one verdict for each",
-        )
-        .arg(bundles_option(alloc, "2048"))?
-        .arg(workers_option(alloc))
+    let vet = Command::new(alloc, "vet").about(
+        "Vet the chunks on standard input, one `<address> <bytes>` a line, and write one verdict for each",
+    );
+    with(
+        with(Ok(vet), bundles_option(alloc, "2048")),
+        workers_option(alloc),
+    )
+}
+
+/// The command line before it has subcommands.
+fn bare_program<'a>(alloc: Global) -> Result<Command<'a>, AllocError> {
+    Ok(
+        Command::new(alloc, "nc_replay")
+            .bin_name("nc_replay")?
+            .version("0.1.0")
+            .about("Validator and code region for untrusted 32-bit x86 code")
+            .no_binary_name(true)
+            .subcommand_required(true),
+    )
 }
 
 /// The whole command line, without the program's own name.
 fn program<'a>(alloc: Global) -> Result<Command<'a>, AllocError> {
-    Command::new(alloc, "nc_replay")
-        .bin_name("nc_replay")?
-        .version("0.1.0")
-        .about("Validator and code region for untrusted 32-bit x86 code")
-        .no_binary_name(true)
-        .subcommand_required(true)
-        .subcommand(replay_command(alloc)?)?
-        .subcommand(vet_command(alloc)?)
+    let replay = replay_command(alloc)?;
+    let program = bare_program(alloc)?.subcommand(replay)?;
+    program.subcommand(vet_command(alloc)?)
 }
 
 /// The number of an option. The option's parser has refused every number outside the range; what is left to do here is
