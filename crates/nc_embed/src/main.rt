@@ -2,7 +2,7 @@
 //!
 //! `host` goes the whole way with a region behind its lock: seats, code vetted before the lock is taken, two threads that run it
 //! while it is patched and deleted, reclaiming, and the same span used again. `guest` is one of these threads, and `turns`
-//! makes what is printed the same for every schedule. `image` is a host's own way to executable memory, and `mirrored` uses it.
+//! makes what is printed the same for every schedule. `mirrored` has a region over acts of the host's own (`nc_image`).
 #![tactic(auto)]
 
 mod admitting;
@@ -10,7 +10,6 @@ mod code;
 mod fault;
 mod guest;
 mod host;
-mod image;
 mod mirrored;
 mod turns;
 

@@ -3,7 +3,6 @@
 ghost use Rattle.std.specs.Prelude.{◌≡◌, ◌+◌, ◌*◌, None, IfOk};
 ghost use Rattle.nc_text.specs.MarkedText.{unused_text};
 
-use crate::fault::HostFault;
 use nc_decode::{BUNDLE, Mark, START};
 use nc_gens::{Gens, GensFull, Keeper, Pass};
 use nc_region::{Acts, Plain, RegionFault};
@@ -31,16 +30,18 @@ impl<'g> Image<'g> {
         bundles: u32,
         gens: &'g Gens,
         keeper: Keeper,
-    ) -> Result<Image<'g>, HostFault>
+    ) -> Result<Image<'g>, RegionFault>
         requires { keeper.table ≡ gens.now }
         ensures { IfOk result (λ i. i.plain.marked ≡ unused_text (0x10000 + 32 * bundles)) }
     {
         let text = match Text::new(alloc, bundles) {
             Ok(text) => text,
-            Err(TextFault::BadSize) => return Err(HostFault::Region(RegionFault::BadSize)),
-            Err(TextFault::OutOfMemory) => return Err(HostFault::Region(RegionFault::OutOfMemory)),
+            Err(TextFault::BadSize) => return Err(RegionFault::BadSize),
+            Err(TextFault::OutOfMemory) => return Err(RegionFault::OutOfMemory),
         };
-        let memory = Vec::from_elem(alloc, STOP, bundles as usize * BUNDLE as usize)?;
+        let Ok(memory) = Vec::from_elem(alloc, STOP, bundles as usize * BUNDLE as usize) else {
+            return Err(RegionFault::OutOfMemory);
+        };
         Ok(Image {
             plain: Plain::new(text, gens, keeper),
             memory,
