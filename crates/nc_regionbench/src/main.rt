@@ -29,7 +29,6 @@ mod image;
 mod model;
 mod numbers;
 mod soak;
-mod views;
 mod writer;
 
 ghost use Rattle.std.specs.Prelude.{◌≡◌, All};
@@ -352,7 +351,7 @@ fn soak_for<R: Threads + Wait + Clock + Sync + Print + AllocGlobal>(
     let (wrote, walked) = soak(rt, rt.alloc(), seconds)?;
     println!(rt; "{wrote:?}")?;
     println!(rt; "{walked:?}")?;
-    if wrote.wrong > 0 || wrote.readings.misread > 0 || walked.astray > 0 {
+    if wrote.wrong > 0 || wrote.found.wrong > 0 || wrote.found.missing > 0 || walked.astray > 0 {
         return Err(io::Error::from(io::ErrorKind::InvalidData));
     }
     Ok(())

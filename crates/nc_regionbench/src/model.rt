@@ -1,8 +1,8 @@
 //! A plain model of a region: its bytes and its chunks, changed as the rules say and compared with the region itself.
 
-use crate::views::Viewed;
 use nc_decode::START;
 use nc_region::{Chunk, ChunkState};
+use nc_views::Viewed;
 use std::alloc::{AllocError, Global};
 
 /// The byte of unused and retired spans.

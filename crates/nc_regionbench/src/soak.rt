@@ -1,18 +1,17 @@
 //! Threads that walk and check in for as long as they are let, beside a writer that creates, patches, deletes and reclaims.
 //!
 //! The writer keeps a plain model of the region, judges each answer by it, and compares the whole region with it now and
-//! then and at the end. A walker looks at each place where it comes: an instruction has to stand there. After each byte that is
-//! put, every mixture of bytes is read that a thread may fetch there one by one (`views`).
+//! then and at the end. A walker looks at each place where it comes: an instruction has to stand there. After each change of the
+//! text, every mixture of bytes is read that a thread may then fetch one by one (`nc_views`).
 
 ghost use Rattle.std.specs.Prelude.{◌≡◌};
 
 use crate::numbers::Numbers;
-use crate::views::{Viewed, Viewing};
 use crate::writer::{Done, Writer};
 use nc_decode::{BUNDLE, START, decode};
-use nc_gens::{Gens, Keeper, Pass};
-use nc_region::{Plain, RegionOf, Trace};
-use nc_text::Text;
+use nc_gens::{Gens, Pass};
+use nc_region::Trace;
+use nc_views::{Viewed, viewed};
 use std::alloc::Global;
 use std::io::{Error, ErrorKind, Result};
 use std::sync::atomic::{AtomicBool, Ordering};
@@ -217,17 +216,6 @@ fn write_beside<R: Threads + Wait + Clock + Sync>(
     )
 }
 
-/// A region of so many bundles, whose bundle in motion is viewed.
-fn viewed<'g>(alloc: Global, gens: &'g Gens, keeper: Keeper, bundles: u32) -> Result<Viewed<'g>>
-    requires { keeper.table ≡ gens.now }
-{
-    let Ok(text) = Text::new(alloc, bundles) else {
-        return Err(Error::from(ErrorKind::OutOfMemory));
-    };
-    let plain = Plain::new(text, gens, keeper);
-    Ok(RegionOf::over(alloc, Viewing::new(plain)))
-}
-
 /// Lets them work for so many seconds, and says what they did.
 pub fn soak<R: Threads + Wait + Clock + Sync>(
     rt: &R,
@@ -239,7 +227,10 @@ pub fn soak<R: Threads + Wait + Clock + Sync>(
     };
     let one = passes.remove(0);
     let other = passes.remove(0);
-    let region = Mutex::new(viewed(alloc, &gens, keeper, BUNDLES)?);
+    let Ok(region) = viewed(alloc, &gens, keeper, BUNDLES, 0) else {
+        return Err(Error::from(ErrorKind::OutOfMemory));
+    };
+    let region = Mutex::new(region);
     let time = Duration::from_secs(u64::from(seconds));
     let (wrote, walked) = write_beside(rt, alloc, &region, &gens, one, other, time);
     let mut writer = wrote?;

@@ -3,15 +3,15 @@
 use crate::drawn::{draw_code, draw_patch};
 use crate::model::Model;
 use crate::numbers::Numbers;
-use crate::views::{Readings, Viewed};
 use nc_decode::START;
 use nc_region::{ChunkState, CreateFault, DeleteFault, ModifyFault};
 use nc_vet::vet;
+use nc_views::{Found, Viewed};
 use std::alloc::{AllocError, Global};
 use std::sync::{Mutex, Wait};
 
 /// What the writer did: calls that were done, chunks that were freed, calls that were rightly refused, comparisons of the whole
-/// region, mixtures that were read while bytes were put, and what was wrong.
+/// region, what was found in reading mixtures of bytes, and what was wrong.
 #[derive(Clone, Copy, Debug, Drop)]
 pub struct Done {
     pub created: u64,
@@ -21,7 +21,7 @@ pub struct Done {
     pub freed: u64,
     pub refused: u64,
     pub compared: u64,
-    pub readings: Readings,
+    pub found: Found,
     pub wrong: u64,
 }
 
@@ -56,10 +56,7 @@ impl Writer {
                 freed: 0,
                 refused: 0,
                 compared: 0,
-                readings: Readings {
-                    read: 0,
-                    misread: 0,
-                },
+                found: Found::new(),
                 wrong: 0,
             },
         })
@@ -194,6 +191,6 @@ impl Writer {
             count(&mut self.done.wrong);
         }
         self.compare(region);
-        self.done.readings = region.acts().readings();
+        self.done.found = region.acts().found();
     }
 }

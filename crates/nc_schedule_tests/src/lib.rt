@@ -9,10 +9,6 @@ mod mixtures;
 #[cfg(test)]
 mod tests;
 #[cfg(test)]
-mod viewer;
-#[cfg(test)]
-mod views;
-#[cfg(test)]
 mod walking;
 #[cfg(test)]
 mod watcher;

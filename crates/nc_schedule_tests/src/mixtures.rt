@@ -1,13 +1,10 @@
 //! A region's life as threads may read it that fetch each byte by itself: with every settling each mixture of bytes is right, and
 //! with one of them left out some mixture isn't.
-ghost use Rattle.std.specs.Prelude.{◌≡◌};
 
-use crate::viewer::Viewer;
-use crate::views::Found;
-use nc_gens::{Gens, Keeper};
-use nc_region::{Acts, Plain, RegionOf};
-use nc_text::Text;
+use nc_gens::Gens;
+use nc_region::{Acts, RegionOf};
 use nc_vet::{Vetted, vet};
+use nc_views::{Found, viewed};
 use std::alloc::Global;
 use std::test::Fail;
 
@@ -109,24 +106,6 @@ fn chunk(alloc: Global, base: u32, front: &[u8], len: usize) -> Result<Vetted, F
     }
 }
 
-/// A viewed region of so many bundles. For what may be read one settling is left out, or none for 0.
-fn viewed<'g>(
-    alloc: Global,
-    gens: &'g Gens,
-    keeper: Keeper,
-    bundles: u32,
-    left_out: u32,
-) -> Result<RegionOf<Viewer<Plain<'g>>>, Fail>
-    requires { keeper.table ≡ gens.now }
-{
-    let text = match Text::new(alloc, bundles) {
-        Ok(text) => text,
-        Err(fault) => return Err(Fail::new(format_args!("{fault:?}"))),
-    };
-    let plain = Plain::new(text, gens, keeper);
-    Ok(RegionOf::over(alloc, Viewer::new(plain, left_out)))
-}
-
 /// Creates a chunk, or says which fault there is.
 fn create<A: Acts + Drop>(region: &mut RegionOf<A>, vetted: Vetted) -> Result<(), Fail> {
     match region.create(vetted) {
@@ -148,7 +127,10 @@ fn modify<A: Acts + Drop>(region: &mut RegionOf<A>, at: u32, new: &[u8]) -> Resu
 fn live(alloc: Global, left_out: u32) -> Result<Found, Fail> {
     let (gens, keeper, mut passes) = Gens::new(alloc, 1)?;
     let mut pass = passes.remove(0);
-    let mut region = viewed(alloc, &gens, keeper, 4, left_out)?;
+    let mut region = match viewed(alloc, &gens, keeper, 4, left_out) {
+        Ok(region) => region,
+        Err(fault) => return Err(Fail::new(format_args!("{fault:?}"))),
+    };
     create(&mut region, chunk(alloc, 0x10000, &FIRST, 64)?)?;
     create(&mut region, chunk(alloc, 0x10040, &BESIDE, 32)?)?;
     modify(&mut region, 0x10016, &ONE_BUNDLE)?;
@@ -169,10 +151,10 @@ fn every_mixture(rt: HostRuntime) -> Result<(), Fail> {
     let found = live(rt.alloc(), 0)?;
     assert_eq!(rt; found.wrong, 0, "{:?}", found.first);
     // 65 acts of the first creation, 33 of the second, 10, 6 and 3 of the patches, 64 puts of the deletion, one span unmarked,
-    // 65 acts of the last creation, and 14 settlings
-    assert_eq!(rt; (found.looks, found.settlings, found.missing), (261, 14, 0));
-    // once at each marked place after each of these, that would be 11619 readings
-    assert!(rt; found.readings > 11_619);
+    // and 65 acts of the last creation
+    assert_eq!(rt; (found.looks, found.settlings, found.missing), (247, 14, 0));
+    // once at each marked place of the bundle after each put, and of the text after each marking, that would be 2369 readings
+    assert!(rt; found.readings > 2369);
     Ok(())
 }
 
@@ -187,7 +169,7 @@ fn each_settling_left_out(rt: HostRuntime) -> Result<(), Fail> {
             None => None,
         };
         assert_eq!(rt; first, *wrong, "settling {left_out}");
-        assert_eq!(rt; (found.looks, found.settlings, found.missing), (261, 14, 0));
+        assert_eq!(rt; (found.looks, found.settlings, found.missing), (247, 14, 0));
     }
     Ok(())
 }

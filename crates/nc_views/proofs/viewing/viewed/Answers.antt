@@ -4,14 +4,14 @@ use Rattle.nc_decode.specs.Bundles.{IsLawfulLimit}
 use Rattle.nc_text.specs.Places.{limit_of}
 use Rattle.nc_text.specs.MarkedText.{MarkedText}
 use Rattle.nc_region.specs.Region.{PlainState}
-use Rattle.nc_schedule_tests.proofs.mixtures.viewed.Goals as goal
+use Rattle.nc_views.proofs.viewing.viewed.Goals as goal
 
 pub over-requires : goal.over-requires
 over-requires c =
-    let long : limit_of c.in-Ok.text.marked.bytes ≡ 65536 + 32 * c.args.bundles =
+    let long : limit_of c.in-Ok.text.marked.bytes ≡ 0x10000 + 32 * c.args.bundles =
     ap (λ (m : MarkedText). limit_of m.bytes) c.in-Ok.ensures.marked
-    ∙ omega (arith, length-replicate {A = ℕ} (65536 + 32 * c.args.bundles - 65536) 244) in (
-      65536 + 32 * c.args.bundles,
+    ∙ omega (arith, length-replicate {A = ℕ} (0x10000 + 32 * c.args.bundles - 0x10000) 0xF4) in (
+      0x10000 + 32 * c.args.bundles,
       subst IsLawfulLimit long c.in-Ok.ensures.whole.lawful,
-      rw c.new-2.ensures (ap (λ (p : PlainState). p.marked) c.new-plain.ensures ∙ c.in-Ok.ensures.marked),
+      rw c.new-viewing.ensures (ap (λ (p : PlainState). p.marked) c.new-plain.ensures ∙ c.in-Ok.ensures.marked),
     )
