@@ -63,10 +63,10 @@ fn put_starts<A: Acts>(acts: &mut A, base: u32, code: &[u8])
     requires whole { IsText (A.marked acts.old) }
     requires placed { HasGoodSpan base (limit_of (A.marked acts.old).bytes) (length code.now) }
     requires ready { AreReady (A.made acts.old) base (length code.now) }
-    requires closed { IsClosed (with_span (A.marked acts.old).bytes (base - 65536) code.now) (A.marked acts.old).marks }
-    requires almost { IsFinalBut (with_span (A.marked acts.old).bytes (base - 65536) code.now) (A.marked acts.old).bytes base
+    requires closed { IsClosed (with_span (A.marked acts.old).bytes (base - 0x10000) code.now) (A.marked acts.old).marks }
+    requires almost { IsFinalBut (with_span (A.marked acts.old).bytes (base - 0x10000) code.now) (A.marked acts.old).bytes base
         (base + length code.now) }
-    ensures bytes { (A.marked acts.new).bytes ≡ with_span (A.marked acts.old).bytes (base - 65536) code.now }
+    ensures bytes { (A.marked acts.new).bytes ≡ with_span (A.marked acts.old).bytes (base - 0x10000) code.now }
     ensures marks { (A.marked acts.new).marks ≡ (A.marked acts.old).marks }
     ensures whole { IsText (A.marked acts.new) }
     ensures made { A.made acts.new ≡ A.made acts.old }

@@ -24,7 +24,7 @@ pub(crate) fn put_stops<A: Acts>(acts: &mut A, base: u32, len: u32) -> u64
     requires placed { HasGoodSpan base (limit_of (A.marked acts.old).bytes) len }
     requires ready { AreReady (A.made acts.old) base len }
     requires room { (A.keeper acts.old).numbers.generation < 2 ^ 62 }
-    ensures bytes { (A.marked acts.new).bytes ≡ with_span (A.marked acts.old).bytes (base - 65536) (replicate len 244) }
+    ensures bytes { (A.marked acts.new).bytes ≡ with_span (A.marked acts.old).bytes (base - 0x10000) (replicate len 0xF4) }
     ensures marks { (A.marked acts.new).marks ≡ (A.marked acts.old).marks }
     ensures whole { IsText (A.marked acts.new) }
     ensures stamp { result ≡ (A.keeper acts.old).numbers.generation + 1 }
@@ -56,16 +56,16 @@ fn stop_marked<A: Acts>(acts: &mut A, base: u32, len: u32)
     requires whole { IsText (A.marked acts.old) }
     requires placed { HasGoodSpan base (limit_of (A.marked acts.old).bytes) len }
     requires ready { AreReady (A.made acts.old) base len }
-    ensures bytes { HasPut (is_marked_at (A.marked acts.old).marks) base (replicate len 244) len (A.marked acts.old).bytes
+    ensures bytes { HasPut (is_marked_at (A.marked acts.old).marks) base (replicate len 0xF4) len (A.marked acts.old).bytes
         (A.marked acts.new).bytes }
     ensures marks { (A.marked acts.new).marks ≡ (A.marked acts.old).marks }
     ensures whole { IsText (A.marked acts.new) }
     ensures made { A.made acts.new ≡ A.made acts.old }
     ensures keeper { A.keeper acts.new ≡ A.keeper acts.old }
     ensures told { Tells (A.told acts.old) (A.told acts.new)
-        (puts_where (is_marked_at (A.marked acts.old).marks) base (replicate len 244)) }
+        (puts_where (is_marked_at (A.marked acts.old).marks) base (replicate len 0xF4)) }
     ensures log { Logs (A.logged acts.old) (A.logged acts.new)
-        (unsettled (puts_where (is_marked_at (A.marked acts.old).marks) base (replicate len 244)) ++ Entry.Settled ∷ []) }
+        (unsettled (puts_where (is_marked_at (A.marked acts.old).marks) base (replicate len 0xF4)) ++ Entry.Settled ∷ []) }
 {
     for i in 0..len {
         let at = base + i;
@@ -82,17 +82,17 @@ fn stop_others<A: Acts>(acts: &mut A, base: u32, len: u32)
     requires placed { HasGoodSpan base (limit_of (A.marked acts.old).bytes) len }
     requires ready { AreReady (A.made acts.old) base len }
     requires stopped { (at : ℕ) → base ≤ at → at < base + len → is_marked_at (A.marked acts.old).marks at ≡ true
-        → byte_at (A.marked acts.old).bytes at ≡ 244 }
-    ensures bytes { HasPut (is_unmarked_at (A.marked acts.old).marks) base (replicate len 244) len (A.marked acts.old).bytes
+        → byte_at (A.marked acts.old).bytes at ≡ 0xF4 }
+    ensures bytes { HasPut (is_unmarked_at (A.marked acts.old).marks) base (replicate len 0xF4) len (A.marked acts.old).bytes
         (A.marked acts.new).bytes }
     ensures marks { (A.marked acts.new).marks ≡ (A.marked acts.old).marks }
     ensures whole { IsText (A.marked acts.new) }
     ensures made { A.made acts.new ≡ A.made acts.old }
     ensures keeper { A.keeper acts.new ≡ A.keeper acts.old }
     ensures told { Tells (A.told acts.old) (A.told acts.new)
-        (puts_where (is_unmarked_at (A.marked acts.old).marks) base (replicate len 244)) }
+        (puts_where (is_unmarked_at (A.marked acts.old).marks) base (replicate len 0xF4)) }
     ensures log { Logs (A.logged acts.old) (A.logged acts.new)
-        (unsettled (puts_where (is_unmarked_at (A.marked acts.old).marks) base (replicate len 244))) }
+        (unsettled (puts_where (is_unmarked_at (A.marked acts.old).marks) base (replicate len 0xF4))) }
 {
     for i in 0..len {
         let at = base + i;

@@ -239,7 +239,7 @@ pub(crate) fn put_patch<A: Acts>(acts: &mut A, chunk: Chunk, at: u32, new: &[u8]
     requires patch { CanPatch (A.marked acts.old) chunk at new.now }
     requires ends { at + length new.now ≤ chunk.base + chunk.length }
     requires ready { AreReady (A.made acts.old) at (length new.now) }
-    ensures bytes { (A.marked acts.new).bytes ≡ with_span (A.marked acts.old).bytes (at - 65536) new.now }
+    ensures bytes { (A.marked acts.new).bytes ≡ with_span (A.marked acts.old).bytes (at - 0x10000) new.now }
     ensures marks { (A.marked acts.new).marks ≡ (A.marked acts.old).marks }
     ensures whole { IsText (A.marked acts.new) }
     ensures made { A.made acts.new ≡ A.made acts.old }
@@ -267,7 +267,7 @@ fn put_where_new<A: Acts>(acts: &mut A, at: u32, bytes: &[u8])
     requires whole { IsText (A.marked acts.old) }
     requires ready { AreReady (A.made acts.old) at (length bytes.now) }
     requires replacing { IsReplacing (A.marked acts.old) at bytes.now }
-    ensures bytes { (A.marked acts.new).bytes ≡ with_span (A.marked acts.old).bytes (at - 65536) bytes.now }
+    ensures bytes { (A.marked acts.new).bytes ≡ with_span (A.marked acts.old).bytes (at - 0x10000) bytes.now }
     ensures marks { (A.marked acts.new).marks ≡ (A.marked acts.old).marks }
     ensures whole { IsText (A.marked acts.new) }
     ensures made { A.made acts.new ≡ A.made acts.old }
@@ -288,7 +288,7 @@ fn put_instruction<A: Acts>(acts: &mut A, at: u32, bytes: &[u8])
     requires whole { IsText (A.marked acts.old) }
     requires ready { AreReady (A.made acts.old) at (length bytes.now) }
     requires replacing { IsReplacing (A.marked acts.old) at bytes.now }
-    ensures bytes { (A.marked acts.new).bytes ≡ with_span (A.marked acts.old).bytes (at - 65536) bytes.now }
+    ensures bytes { (A.marked acts.new).bytes ≡ with_span (A.marked acts.old).bytes (at - 0x10000) bytes.now }
     ensures marks { (A.marked acts.new).marks ≡ (A.marked acts.old).marks }
     ensures whole { IsText (A.marked acts.new) }
     ensures made { A.made acts.new ≡ A.made acts.old }
@@ -311,14 +311,14 @@ fn put_longer<A: Acts>(acts: &mut A, at: u32, first: u8, rest: &[u8])
     requires some { 0 < length rest.now }
     requires ready { AreReady (A.made acts.old) at (1 + length rest.now) }
     requires replacing { IsReplacing (A.marked acts.old) at (first ∷ rest.now) }
-    ensures bytes { (A.marked acts.new).bytes ≡ with_span (A.marked acts.old).bytes (at - 65536) (first ∷ rest.now) }
+    ensures bytes { (A.marked acts.new).bytes ≡ with_span (A.marked acts.old).bytes (at - 0x10000) (first ∷ rest.now) }
     ensures marks { (A.marked acts.new).marks ≡ (A.marked acts.old).marks }
     ensures whole { IsText (A.marked acts.new) }
     ensures made { A.made acts.new ≡ A.made acts.old }
     ensures keeper { A.keeper acts.new ≡ A.keeper acts.old }
     ensures told { Tells (A.told acts.old) (A.told acts.new)
-        (Act.Put at 244 ∷ (puts_where any_place (at + 1) rest.now ++ (Act.Put at first ∷ []))) }
-    ensures log { Logs (A.logged acts.old) (A.logged acts.new) (Entry.Did (Act.Put at 244) ∷ Entry.Settled
+        (Act.Put at 0xF4 ∷ (puts_where any_place (at + 1) rest.now ++ (Act.Put at first ∷ []))) }
+    ensures log { Logs (A.logged acts.old) (A.logged acts.new) (Entry.Did (Act.Put at 0xF4) ∷ Entry.Settled
         ∷ (unsettled (puts_where any_place (at + 1) rest.now) ++ (Entry.Settled ∷ Entry.Did (Act.Put at first) ∷ []))) }
 {
     acts.put(at, STOP);
@@ -329,10 +329,10 @@ fn put_longer<A: Acts>(acts: &mut A, at: u32, first: u8, rest: &[u8])
 /// Puts all bytes but the first, rising, while a stop stands at the first. It settles before them and after them.
 fn put_rest<A: Acts>(acts: &mut A, at: u32, rest: &[u8])
     requires whole { IsText (A.marked acts.old) }
-    requires low { 65536 ≤ at }
+    requires low { 0x10000 ≤ at }
     requires high { at + 1 + length rest.now ≤ limit_of (A.marked acts.old).bytes }
     requires ready { AreReady (A.made acts.old) at (1 + length rest.now) }
-    requires stopped { byte_at (A.marked acts.old).bytes at ≡ 244 }
+    requires stopped { byte_at (A.marked acts.old).bytes at ≡ 0xF4 }
     requires closed { (now : List ℕ) → IsInterim (A.marked acts.old).bytes now at (1 + length rest.now)
         → IsClosed now (A.marked acts.old).marks }
     ensures bytes { HasPut any_place (at + 1) rest.now (length rest.now) (A.marked acts.old).bytes (A.marked acts.new).bytes }
