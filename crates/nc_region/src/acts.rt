@@ -92,8 +92,8 @@ pub trait Acts {
         ensures told { Tells (told self.old) (told self.new) (Act.Put at byte ∷ []) }
         ensures logged { Logs (logged self.old) (logged self.new) (Entry.Did (Act.Put at byte) ∷ []) };
 
-    /// Makes every thread that executes fetch anew: once it has returned, no byte is executed that was overwritten before the
-    /// call. It changes no byte, no mark and no number, and is no act that is told.
+    /// Makes every processor fetch anew: once it has returned, no byte is executed that was overwritten before the call.
+    /// It changes no byte, no mark and no number, and is no act that is told.
     fn settle(&mut self)
         ensures logged { Logs (logged self.old) (logged self.new) (Entry.Settled ∷ []) }
         ensures marked { marked self.new ≡ marked self.old }
