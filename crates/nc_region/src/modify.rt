@@ -4,7 +4,7 @@ ghost use Rattle.std.specs.Prelude.{◌≡◌, ◌≢◌, ◌+◌, ◌-◌, ◌<
 ghost use Rattle.std.specs.Prelude.{IsFalse, if◌then◌else◌};
 ghost use Rattle.nc_decode.specs.declared.instruction.Mark.{Mark};
 ghost use Rattle.nc_decode.specs.Bundles.{IsInOneBundle};
-ghost use Rattle.nc_decode.specs.Transfers.{is_direct, is_indirect, target};
+ghost use Rattle.nc_decode.specs.Transfers.{is_direct, target};
 ghost use Rattle.nc_vet.specs.Chunk.{Piece, IsTarget, mark_of};
 ghost use Rattle.nc_text.specs.Marks.{IsClosed};
 ghost use Rattle.nc_text.specs.Places.{byte_at, limit_of};
@@ -25,22 +25,10 @@ ghost use Rattle.nc_region.specs.machinery.PatchSteps.{IsReplacing, IsInterim, B
 use crate::acts::Acts;
 use crate::chunk::Chunk;
 use crate::walk::instruction;
-use nc_decode::{BUNDLE, Flow, Instr, Mark, decode};
+use nc_decode::{BUNDLE, Instr, Mark, decode};
 
 /// The byte of the instruction hlt.
 const STOP: u8 = 0xF4;
-
-fn is_indirect(flow: Flow) -> bool
-    ensures { result ≡ is_indirect flow }
-{
-    matches!(flow, Flow::IndirectJump | Flow::IndirectCall)
-}
-
-fn is_direct(flow: Flow) -> bool
-    ensures { result ≡ is_direct flow }
-{
-    matches!(flow, Flow::Branch | Flow::Jump | Flow::Call)
-}
 
 fn is_marked(mark: Mark) -> bool
     ensures { IsTrue result ↔ (mark ≢ Mark.Unmarked) }
@@ -123,8 +111,8 @@ fn keeps_transfer(mark: Mark, instr: Instr) -> bool
     ensures exact { (old : Instr) → mark ≡ mark_of old → IsTrue result ↔ KeepsTransfer old instr }
 {
     match mark {
-        Mark::After(register) => is_indirect(instr.flow) && instr.reg == register,
-        Mark::Plain => !is_indirect(instr.flow),
+        Mark::After(register) => instr.flow.is_indirect() && instr.reg == register,
+        Mark::Plain => !instr.flow.is_indirect(),
         Mark::Unmarked => false,
     }
 }
@@ -193,7 +181,7 @@ fn goes_well<A: Acts>(acts: &A, chunk: Chunk, instr: Instr, at: u32) -> bool
     ensures exact { (h : HoldsValid (A.marked acts.now) chunk) → IsTrue result
         ↔ (IsTrue (is_direct instr.flow) → IsTarget chunk.base (limit_of (A.marked acts.now).bytes) h.valid.pieces (target instr at)) }
 {
-    if !is_direct(instr.flow) {
+    if !instr.flow.is_direct() {
         return true;
     }
     is_good(acts, chunk, instr.target(at))
