@@ -16,7 +16,7 @@ use crate::acts::Acts;
 use nc_decode::Mark;
 
 /// The byte of the instruction hlt.
-const STOP: u8 = 0xF4;
+pub(crate) const STOP: u8 = 0xF4;
 
 /// Puts stops at all places of a chunk, and draws the stamp.
 pub(crate) fn put_stops<A: Acts>(acts: &mut A, base: u32, len: u32) -> u64

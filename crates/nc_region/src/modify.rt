@@ -24,11 +24,9 @@ ghost use Rattle.nc_region.specs.machinery.PatchSteps.{IsReplacing, IsInterim, B
 
 use crate::acts::Acts;
 use crate::chunk::Chunk;
+use crate::delete::STOP;
 use crate::walk::instruction;
 use nc_decode::{BUNDLE, Instr, Mark, decode};
-
-/// The byte of the instruction hlt.
-const STOP: u8 = 0xF4;
 
 fn is_marked(mark: Mark) -> bool
     ensures { IsTrue result ↔ (mark ≢ Mark.Unmarked) }
