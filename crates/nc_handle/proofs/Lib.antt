@@ -1,3 +1,6 @@
 pub mod SpanReads
 pub mod Attended
 pub mod PatchPlaces
+pub mod RegionBox
+pub mod SeatBox
+pub mod VettedBox

@@ -1,2 +1,5 @@
 pub mod Attending
 pub mod Window
+pub mod RegionHandle
+pub mod SeatHandle
+pub mod VettedHandle

@@ -1,0 +1,85 @@
+//! A handle to a seat.
+
+ghost use Rattle.std.specs.Prelude.{◌≡◌, Option, Some, None, IfSome, IsNone, MatchOption};
+ghost use Rattle.nc_handle.specs.machinery.SeatHandle.{may_own, may_coded};
+ghost use Rattle.nc_gens.specs.Seen.{PassState};
+
+use crate::guest::Guest;
+use crate::parts::Parts;
+use crate::sent::sent;
+use std::alloc::Global;
+use std::marker::Model;
+use std::mem::replace;
+use std::ptr::null_mut;
+
+/// A handle to a seat, or to nothing, as zeros are. Only this library follows its pointer.
+///
+/// A handle that is dropped frees nothing: what it holds comes back by `take` alone.
+#[repr(C)]
+#[derive(Drop)]
+pub struct NcSeat {
+    at: *mut u8,
+    alloc: Global,
+    pub ghost value: { Option PassState } by { may_coded },
+}
+
+impl Model for NcSeat {
+    ghost also_owns = { λ h. may_own h.alloc h.at h.value };
+}
+
+impl NcSeat {
+    /// A handle to nothing.
+    fn nothing(alloc: Global) -> NcSeat
+        ensures { result.value ≡ None }
+    {
+        NcSeat {
+            at: null_mut(),
+            alloc,
+        }
+    }
+
+    /// A handle to what these parts are of.
+    fn of_parts(parts: Parts<Guest, Global>) -> NcSeat
+        ensures { result.value ≡ Some parts.value }
+    {
+        let Parts { ptr, alloc } = parts;
+        NcSeat {
+            at: ptr as *mut u8,
+            alloc,
+        }
+    }
+
+    /// The parts of what the handle has, if it has something.
+    fn into_parts(self) -> Option<Parts<Guest, Global>>
+        ensures { MatchOption result (self.value ≡ None) (λ parts. self.value ≡ Some parts.value) }
+    {
+        let NcSeat { at, alloc } = self;
+        if at.is_null() {
+            None
+        } else {
+            Some(Parts {
+                ptr: at as *mut Guest,
+                alloc,
+            })
+        }
+    }
+
+    /// A handle to this seat, which may go to another thread.
+    pub fn of(boxed: Box<Guest, Global>) -> NcSeat
+        ensures { result.value ≡ Some boxed.value }
+    {
+        NcSeat::of_parts(Parts::of(sent(boxed)))
+    }
+
+    /// The seat, if the handle has one. Afterwards it has nothing.
+    pub fn take(&mut self, alloc: Global) -> Option<Box<Guest, Global>>
+        ensures some { IfSome result (λ boxed. self.old.value ≡ Some boxed.value) }
+        ensures none { IsNone result → self.old.value ≡ None }
+        ensures left { self.new.value ≡ None }
+    {
+        match replace(self, NcSeat::nothing(alloc)).into_parts() {
+            None => None,
+            Some(parts) => Some(parts.into_box()),
+        }
+    }
+}

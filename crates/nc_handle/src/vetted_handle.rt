@@ -1,0 +1,85 @@
+//! A handle to a vetted chunk.
+
+ghost use Rattle.std.specs.Prelude.{◌≡◌, Option, Some, None, IfSome, IsNone, MatchOption};
+ghost use Rattle.nc_handle.specs.machinery.VettedHandle.{may_own, may_coded};
+ghost use Rattle.nc_vet.specs.Chunk.{MarkedChunk};
+
+use crate::parts::Parts;
+use crate::sent::sent;
+use nc_vet::Vetted;
+use std::alloc::Global;
+use std::marker::Model;
+use std::mem::replace;
+use std::ptr::null_mut;
+
+/// A handle to a vetted chunk, or to nothing, as zeros are. Only this library follows its pointer.
+///
+/// A handle that is dropped frees nothing: what it holds comes back by `take` alone.
+#[repr(C)]
+#[derive(Drop)]
+pub struct NcVetted {
+    at: *mut u8,
+    alloc: Global,
+    pub ghost value: { Option MarkedChunk } by { may_coded },
+}
+
+impl Model for NcVetted {
+    ghost also_owns = { λ h. may_own h.alloc h.at h.value };
+}
+
+impl NcVetted {
+    /// A handle to nothing.
+    fn nothing(alloc: Global) -> NcVetted
+        ensures { result.value ≡ None }
+    {
+        NcVetted {
+            at: null_mut(),
+            alloc,
+        }
+    }
+
+    /// A handle to what these parts are of.
+    fn of_parts(parts: Parts<Vetted, Global>) -> NcVetted
+        ensures { result.value ≡ Some parts.value }
+    {
+        let Parts { ptr, alloc } = parts;
+        NcVetted {
+            at: ptr as *mut u8,
+            alloc,
+        }
+    }
+
+    /// The parts of what the handle has, if it has something.
+    fn into_parts(self) -> Option<Parts<Vetted, Global>>
+        ensures { MatchOption result (self.value ≡ None) (λ parts. self.value ≡ Some parts.value) }
+    {
+        let NcVetted { at, alloc } = self;
+        if at.is_null() {
+            None
+        } else {
+            Some(Parts {
+                ptr: at as *mut Vetted,
+                alloc,
+            })
+        }
+    }
+
+    /// A handle to this vetted chunk, which may go to another thread.
+    pub fn of(boxed: Box<Vetted, Global>) -> NcVetted
+        ensures { result.value ≡ Some boxed.value }
+    {
+        NcVetted::of_parts(Parts::of(sent(boxed)))
+    }
+
+    /// The vetted chunk, if the handle has one. Afterwards it has nothing.
+    pub fn take(&mut self, alloc: Global) -> Option<Box<Vetted, Global>>
+        ensures some { IfSome result (λ boxed. self.old.value ≡ Some boxed.value) }
+        ensures none { IsNone result → self.old.value ≡ None }
+        ensures left { self.new.value ≡ None }
+    {
+        match replace(self, NcVetted::nothing(alloc)).into_parts() {
+            None => None,
+            Some(parts) => Some(parts.into_box()),
+        }
+    }
+}
