@@ -51,9 +51,13 @@
  *   - A deleted span is used again only once every thread that may have stood in it has left the region or has been outside since the
  *     stamp was drawn. Until then and afterwards its pages stay executable and full of NC_STOP: its bundle starts may be jumped to.
  *
- * What isn't here: a list of the chunks, stamps, check-ins, reuse of spans, and a lock. Only a lock can't be had in a static library of
- * this toolchain; the others this library leaves to the host, and nothing of them is proved there. A host in Rattle has all of it
- * from crates/nc_region.
+ * Two ways to hold a region:
+ *   - By a handle (nc_region_new and the calls below it): the library keeps the list of the chunks, the region's bytes and marks, the
+ *     stamps and the check-ins, and says when a span may be used again. What a host has to keep of chunks, above, it then keeps by
+ *     these calls alone. The host has its own memory, in which it makes the acts that each change writes, and its own lock.
+ *   - Without (nc_host_create, nc_host_patch, nc_host_delete): the host has the list, the stamps and the reuse of spans, and nothing
+ *     of them is proved.
+ * Not here: a lock. A static library of this toolchain can't have one.
  */
 #ifndef NC_HOST_H
 #define NC_HOST_H
@@ -97,6 +101,20 @@ extern "C" {
 #define NC_PATCH_BOUNDARIES 19u     /* they don't take the place of whole instructions, each as long as the new one */
 #define NC_PATCH_PAIR_TOUCHED 20u   /* a mask would get other bytes, or an indirect transfer would come, go or change its register */
 #define NC_PATCH_BAD_TARGET 21u     /* a new jump, branch or call would go where none may go */
+
+/* The refusals of calls on handles, beside those above. */
+#define NC_NO_HANDLE 32u     /* the handle has nothing */
+#define NC_HANDLE_TAKEN 33u  /* the handle that is to be filled has something; so nothing leaks */
+#define NC_BAD_SEATS 34u     /* the number of seats isn't 1 to 256 */
+#define NC_BAD_SIZE 35u      /* the number of bundles isn't NC_MIN_BUNDLES to NC_MAX_BUNDLES */
+#define NC_NO_SEAT 36u       /* each seat has been given */
+#define NC_UNDER_WAY 37u     /* a deletion is under way */
+#define NC_NOT_BEGUN 38u     /* none is */
+#define NC_WRONG_LIMIT 39u   /* the chunk was vetted for another limit than the region's; nc_region_create never gives it */
+#define NC_OCCUPIED 40u      /* the span meets a chunk of the region, live or retired */
+#define NC_NO_CHUNK 41u      /* no live chunk has this base, or the list has no chunk at this index */
+#define NC_FULL 42u          /* there is no stamp left, after 2^62 deletions */
+#define NC_NO_PLACE 43u      /* the address is none of the region's */
 
 /* Where control goes after an instruction. */
 #define NC_FLOW_NEXT 1u           /* to the next one */
@@ -144,6 +162,48 @@ typedef struct NcActs {
     uint32_t at;     /* as in NcVerdict */
     uint32_t count;  /* how many acts were written, settlings among them; for NC_NO_ROOM how many places are enough; else 0 */
 } NcActs;
+
+/*
+ * Handles. A struct of the host's, in which all zeros are a handle that has nothing; only the library reads or writes its pointer. The
+ * host moves a handle and doesn't copy it: of two copies only one may ever be passed to a call.
+ */
+typedef struct NcRegion {
+    void *at;
+} NcRegion;
+
+typedef struct NcSeat {
+    void *at;
+} NcSeat;
+
+typedef struct NcChange {
+    uint32_t fault;
+    uint32_t at;   /* as in NcVerdict */
+    size_t count;  /* how many acts were written, settlings among them; for NC_NO_ROOM how many places are enough; else 0 */
+} NcChange;
+
+typedef struct NcStamp {
+    uint64_t stamp;  /* 1 and up, or 0 */
+    uint32_t fault;
+} NcStamp;
+
+typedef struct NcCount {
+    uint32_t fault;
+    uint32_t count;
+} NcCount;
+
+typedef struct NcChunk {
+    uint64_t stamp;    /* of a retired chunk its stamp, else 0 */
+    uint32_t fault;    /* where it isn't NC_OK, all else is 0 */
+    uint32_t base;
+    uint32_t length;
+    uint32_t retired;  /* 1, or 0 for a live chunk */
+} NcChunk;
+
+typedef struct NcPlace {
+    uint32_t fault;  /* where it isn't NC_OK, all else is 0 */
+    uint32_t byte;
+    uint32_t mark;   /* as nc_host_marks writes it */
+} NcPlace;
 
 /* ---- Calls */
 
@@ -209,6 +269,98 @@ NcActs nc_host_patch(uint32_t base, uint32_t limit, const uint8_t *code, size_t 
  * reserve.
  */
 NcActs nc_host_delete(uint32_t base, uint32_t limit, const uint8_t *code, size_t len, NcAct *acts, size_t acts_len);
+
+/* ---- Calls on handles */
+
+/*
+ * What all of them keep
+ *   Locks       Calls on one region are made one at a time: the host has its own lock around them, and around the acts that it makes in
+ *               its memory. Calls on one seat are made by one thread at a time, and need no lock, whatever runs on the region.
+ *   Threads     A handle may go to another thread, ordered by a lock, a thread's start or join, or a SeqCst atomic.
+ *   Refusals    Each leaves the region, the seats and the buffer as they were; but where memory was refused to a creation, the region may
+ *               have taken memory for the text of its span. A handle that has nothing is refused by NC_NO_HANDLE.
+ *   Acts        Each change writes the acts by which it changes the region's text, with the settlings among them, so that the host's
+ *               memory has the region's bytes once it has made them. A buffer of length 0 is none: nothing is written, and `count` is 0. In
+ *               a buffer that is too short nothing is written: NC_NO_ROOM, with `count` for what is enough.
+ *   Memory      What a region has taken is given back by nc_region_free, and what a seat has by nc_seat_leave; the table of stamps and
+ *               check-ins is given back with the last of them, in any order.
+ */
+
+/*
+ * Makes a region of so many bundles, all stops, without a chunk, with so many seats (IsFirst), for a handle that has nothing.
+ * Promised: NC_HANDLE_TAKEN for a handle that has something; else NC_BAD_SEATS and NC_BAD_SIZE exactly where they are due, in this order.
+ * Cost: memory for a table of the text's pages, and 8 bytes and more for each seat.
+ */
+uint32_t nc_region_new(uint32_t bundles, uint32_t seats, NcRegion *region);
+
+/*
+ * Frees a region; its handle has nothing then. Seats that were given stay usable, and are left one by one. A second call does nothing.
+ */
+void nc_region_free(NcRegion *region);
+
+/*
+ * Gives one of the region's seats to a handle that has nothing (HasGiven). Each is given once. A thread has one while it runs code of the
+ * region, and a seat that was left is not given again: a host with many threads keeps a pool.
+ */
+uint32_t nc_region_seat(NcRegion *region, NcSeat *seat);
+
+/*
+ * Vets the chunk and creates it in the region (IsCreated), and writes the acts as nc_host_create does.
+ * Promised: a refusal is NC_NO_HANDLE; else one of the chunk's own faults; else the first of NC_UNDER_WAY, NC_NO_ROOM, NC_OCCUPIED and
+ * NC_OUT_OF_MEMORY that holds. `len` + 2 places are enough.
+ * The host makes the acts after the call, before the next change.
+ * Cost: that of nc_host_vet, and a copy of the code. This is under the lock.
+ */
+NcChange nc_region_create(NcRegion *region, uint32_t base, const uint8_t *code, size_t len, NcAct *acts, size_t acts_len);
+
+/*
+ * Patches a chunk (IsPatch, IsModified), and writes the acts as nc_host_patch does.
+ * Promised: a refusal is NC_NO_HANDLE; else the first of NC_UNDER_WAY, NC_NO_ROOM (only for at most 32 bytes) and the faults of a patch
+ * that holds. 3 * `len` places are enough.
+ * The host makes the acts after the call, before the next change.
+ * Cost: that of the patch and of the bundles that its targets lie in, whatever the chunk; no memory.
+ */
+NcChange nc_region_patch(NcRegion *region, uint32_t at, const uint8_t *bytes, size_t len, NcAct *acts, size_t acts_len);
+
+/*
+ * The first step of a deletion: writes its acts as nc_host_delete does, and the region has the chunk still (HasBegun). Until the last step
+ * each call that changes the region is refused by NC_UNDER_WAY.
+ * Promised: a refusal is NC_NO_HANDLE; else the first of NC_UNDER_WAY, NC_NO_CHUNK, NC_FULL and NC_NO_ROOM that holds. Two places more than
+ * the chunk has bytes are enough.
+ * The host makes all acts but NC_BUMP, which is the last one, before it calls nc_region_end_delete, which is that act. A stamp that were
+ * drawn before the stops are there would free the span while a thread stands in it.
+ * Cost: that of writing the acts; no memory.
+ */
+NcChange nc_region_begin_delete(NcRegion *region, uint32_t base, NcAct *acts, size_t acts_len);
+
+/*
+ * The last step of a deletion: the chunk's bytes are stops, it is retired, and the stamp is drawn (HasEnded).
+ * Promised: it is refused only where no deletion is under way. No memory.
+ */
+NcStamp nc_region_end_delete(NcRegion *region);
+
+/*
+ * Checks in for each seat that nobody was given, and takes exactly those retired chunks from the list that no seat holds back
+ * (HasReclaimed): `count` of them. Their spans may be used again. It puts no byte, and writes no act; no memory.
+ */
+NcCount nc_region_reclaim(NcRegion *region);
+
+/* The chunk at an index of the list, by rising base; NC_NO_CHUNK behind the last one. It changes nothing. */
+NcChunk nc_region_chunk(NcRegion *region, size_t index);
+
+/* The byte and the mark at an address of the region. It changes nothing. */
+NcPlace nc_region_place(NcRegion *region, uint32_t at);
+
+/*
+ * The seat's thread is outside the region: one load and one store (HasCheckedIn). No lock, no memory, and it never waits.
+ * Not promised: that the thread is outside. The host calls it only then, before the thread goes in again, and once it is out.
+ */
+uint32_t nc_seat_check_in(NcSeat *seat);
+
+/*
+ * The seat's thread is outside for good; the handle has nothing then. A second call does nothing.
+ */
+void nc_seat_leave(NcSeat *seat);
 
 #ifdef __cplusplus
 }

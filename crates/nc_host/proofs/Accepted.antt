@@ -4,7 +4,7 @@ use Rattle.nc_decode.specs.declared.instruction.Mark.{Mark}
 use Rattle.nc_vet.specs.declared.fault.VetFault.{VetFault}
 use Rattle.nc_vet.specs.declared.fault.VetFault.TheVariants.{BadBase, BadLength, OutOfRange, NotPermitted, Crosses, Bare, BadTarget}
 use Rattle.nc_vet.specs.declared.fault.VetFault.TheVariants.{OutOfMemory}
-use Rattle.nc_vet.specs.Faults.{HasFault}
+use Rattle.nc_vet.specs.Faults.{HasFault, HasGoodSpan}
 use Rattle.nc_vet.proofs.Offered.{none_valid, one_reading}
 use Rattle.nc_host.specs.Shown.{fault_number}
 use Rattle.nc_host.specs.Outcomes.{IsAccepted}
@@ -39,6 +39,11 @@ small_fault OutOfMemory = omega arith
 -- a valid chunk ends below 2^32
 pub ends_low : (base limit : ℕ) (code : List ℕ) (marks : List Mark) → IsAccepted base limit code marks → base + length code + 32 ≤ 2 ^ 31
 ends_low base limit code marks v = omega (arith, v.range.0.2, v.range.1)
+
+-- nothing is wrong with its span
+pub good_span : (base limit : ℕ) (code : List ℕ) (marks : List Mark) → IsAccepted base limit code marks → HasGoodSpan base limit (length code)
+good_span base limit code marks v =
+    record { lawful = v.range.0; start = v.base_is.0; whole = v.length_is.1; some = v.length_is.0; low = v.base_is.1; high = v.range.1 }
 
 -- the outcome for a valid chunk, in the words of the exports
 pub eight_or_nine : (fault wanted room : ℕ) → (fault ≡ 8) ⊎ ((fault ≡ 9) × (room < wanted)) → (fault ≡ 0) ⊎ ((fault ≡ 8) ⊎ (fault ≡ 9))

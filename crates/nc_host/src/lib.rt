@@ -12,16 +12,30 @@
 
 mod acting;
 mod answers;
+mod changing;
+mod chunks;
 mod decoding;
+mod deleting;
 mod lent;
+mod looking;
 mod marking;
+mod numbers;
 mod patching;
+mod region_answers;
+mod regions;
+mod sitting;
 mod vetting;
 
 pub use acting::{nc_host_create, nc_host_delete};
 pub use answers::{NcActs, NcInstruction, NcVerdict};
+pub use changing::{nc_region_create, nc_region_patch};
 pub use decoding::nc_host_decode;
+pub use deleting::{nc_region_begin_delete, nc_region_end_delete, nc_region_reclaim};
+pub use looking::{nc_region_chunk, nc_region_place};
 pub use marking::nc_host_marks;
 pub use nc_acts::NcAct;
 pub use patching::nc_host_patch;
+pub use region_answers::{NcChange, NcChunk, NcCount, NcPlace, NcStamp};
+pub use regions::{nc_region_free, nc_region_new, nc_region_seat};
+pub use sitting::{nc_seat_check_in, nc_seat_leave};
 pub use vetting::nc_host_vet;

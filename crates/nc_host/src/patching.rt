@@ -23,7 +23,7 @@ use nc_vet::{Marks, Vetted};
 use std::alloc::{AllocError, Global};
 
 /// The number of a patch's fault.
-fn patch_number(fault: ModifyFault) -> u32
+pub(crate) fn patch_number(fault: ModifyFault) -> u32
     ensures { result ≡ patch_number fault }
 {
     match fault {

@@ -11,7 +11,7 @@ use nc_vet::{Marks, VetFault, judge};
 use std::alloc::Global;
 
 /// A fault as a host reads it.
-fn told(fault: VetFault) -> NcVerdict
+pub(crate) fn told(fault: VetFault) -> NcVerdict
     ensures { result ≡ record { fault = fault_number fault; at = fault_place fault } }
 {
     let (fault, at) = match fault {

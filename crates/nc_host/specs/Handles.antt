@@ -1,0 +1,102 @@
+-- What the calls on handles leave in them, and the numbers of their refusals.
+use Rattle.std.specs.Prelude.{◌≡◌, ℕ, ◌⊎◌, List, Option, Some, None}
+use Rattle.nc_text.specs.Places.{limit_of}
+use Rattle.nc_vet.specs.Chunk.{MarkedChunk, IsValid}
+use Rattle.nc_region.specs.declared.fault.CreateFault.TheVariants.{WrongLimit, Occupied, OutOfMemory}
+use Rattle.nc_region.specs.declared.fault.DeleteFault.TheVariants.{NoChunk, GensFull}
+use Rattle.nc_region.specs.Patch.{IsModified, IsPatch}
+use Rattle.nc_region.specs.Region.{IsCreated}
+use Rattle.nc_handle.specs.declared.fault.NewFault.{NewFault}
+use Rattle.nc_handle.specs.declared.fault.NewFault.TheVariants as new
+use Rattle.nc_handle.specs.declared.fault.SeatFault.{SeatFault}
+use Rattle.nc_handle.specs.declared.fault.SeatFault.TheVariants as seat
+use Rattle.nc_handle.specs.declared.fault.LoadFault.{LoadFault}
+use Rattle.nc_handle.specs.declared.fault.LoadFault.TheVariants as load
+use Rattle.nc_handle.specs.declared.fault.PatchFault.{PatchFault}
+use Rattle.nc_handle.specs.declared.fault.PatchFault.TheVariants as patch
+use Rattle.nc_handle.specs.declared.fault.RetireFault.{RetireFault}
+use Rattle.nc_handle.specs.declared.fault.RetireFault.TheVariants as retire
+use Rattle.nc_handle.specs.Held.{HeldState}
+use Rattle.nc_host.specs.Shown.{patch_number}
+
+-- The handle had something and has something, and this holds of the two.
+pub record IsDone {X : Type 0} (old new : Option X) (step : X → X → Type 0) : Type 0 where
+  pub before : X
+  pub after : X
+  pub had : old ≡ Some before
+  pub has : new ≡ Some after
+  pub did : step before after
+
+-- The fault is that the handle has nothing, or the number of one that may be given of what it has; for that one the other number is
+-- this function's.
+abbrev pub IsRefusal : {X F : Type 0} → Option X → (X → F → Type 0) → (F → ℕ) → (F → ℕ) → (fault count : ℕ) → Type 0
+IsRefusal {X} {F} held may number wanted fault count =
+    ((held ≡ None) × (fault ≡ 32) × (count ≡ 0))
+    ⊎ ((x : X) × (f : F) × (held ≡ Some x) × may x f × (fault ≡ number f) × (count ≡ wanted f))
+
+-- the number of a fault of `new`
+abbrev pub new_number : NewFault → ℕ
+new_number new.BadSeats = 34
+new_number new.BadSize = 35
+new_number new.OutOfMemory = 8
+
+-- the number of a fault of a seat that isn't given
+abbrev pub seat_number : SeatFault → ℕ
+seat_number seat.NoneLeft = 36
+seat_number seat.OutOfMemory = 8
+
+-- the number of a fault of a creation
+abbrev pub load_number : LoadFault → ℕ
+load_number load.Underway = 37
+load_number (load.NoRoom wanted) = 9
+load_number (load.Refused WrongLimit) = 39
+load_number (load.Refused Occupied) = 40
+load_number (load.Refused OutOfMemory) = 8
+
+-- how many acts there would be, where that is the fault
+abbrev pub load_wanted : LoadFault → ℕ
+load_wanted load.Underway = 0
+load_wanted (load.NoRoom wanted) = wanted
+load_wanted (load.Refused fault) = 0
+
+-- the number of a fault of a patch
+abbrev pub modify_number : PatchFault → ℕ
+modify_number patch.Underway = 37
+modify_number (patch.NoRoom wanted) = 9
+modify_number (patch.Refused fault) = patch_number fault
+
+-- how many acts there would be at most, where that is the fault
+abbrev pub modify_wanted : PatchFault → ℕ
+modify_wanted patch.Underway = 0
+modify_wanted (patch.NoRoom wanted) = wanted
+modify_wanted (patch.Refused fault) = 0
+
+-- the number of a fault of a deletion that doesn't begin
+abbrev pub retire_number : RetireFault → ℕ
+retire_number retire.Underway = 37
+retire_number (retire.NoRoom wanted) = 9
+retire_number (retire.Refused NoChunk) = 41
+retire_number (retire.Refused GensFull) = 42
+
+-- how many acts there would be, where that is the fault
+abbrev pub retire_wanted : RetireFault → ℕ
+retire_wanted retire.Underway = 0
+retire_wanted (retire.NoRoom wanted) = wanted
+retire_wanted (retire.Refused fault) = 0
+
+-- a valid chunk of this code at this base, for this region's limit
+abbrev pub IsChunkFor : HeldState → ℕ → List ℕ → MarkedChunk → Type 0
+IsChunkFor h base code v = (v.base ≡ base) × (v.limit ≡ limit_of h.region.marked.bytes) × (v.code ≡ code) × IsValid v
+
+-- the chunk was created in the region, and all else is as before
+abbrev pub HasLoaded : MarkedChunk → HeldState → HeldState → Type 0
+HasLoaded v old new = IsCreated old.region new.region v × (new ≡ record old { region = new.region })
+
+-- a lawful patch was made in the region, and all else is as before
+abbrev pub HasPatched : ℕ → List ℕ → HeldState → HeldState → Type 0
+HasPatched at bytes old new =
+    IsPatch old.region at bytes × IsModified old.region new.region at bytes × (new ≡ record old { region = new.region })
+
+-- all is as before, but that pages of the text may have been made
+abbrev pub IsSameButPages : HeldState → HeldState → Type 0
+IsSameButPages old new = new ≡ record old { region = record old.region { made = new.region.made } }

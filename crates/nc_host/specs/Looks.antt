@@ -1,0 +1,37 @@
+-- What a host reads of a region: numbers in the place of a chunk and of a place.
+use Rattle.std.specs.Prelude.{ℕ}
+use Rattle.nc_text.specs.Marks.{mark_at}
+use Rattle.nc_text.specs.Places.{byte_at}
+use Rattle.nc_region.specs.declared.chunk.Chunk.{Chunk}
+use Rattle.nc_region.specs.declared.chunk.ChunkState.{ChunkState}
+use Rattle.nc_region.specs.declared.chunk.ChunkState.TheVariants.{Live, Retired}
+use Rattle.nc_region.specs.Region.{Region}
+use Rattle.nc_host.specs.declared.region_answers.NcChunk.{NcChunk}
+use Rattle.nc_host.specs.declared.region_answers.NcPlace.{NcPlace}
+use Rattle.nc_host.specs.Shown.{mark_number}
+
+-- 1 for a retired chunk
+abbrev pub retired_of : ChunkState → ℕ
+retired_of Live = 0
+retired_of (Retired stamp) = 1
+
+-- its stamp, or 0
+abbrev pub stamp_of : ChunkState → ℕ
+stamp_of Live = 0
+stamp_of (Retired stamp) = stamp
+
+-- a chunk
+abbrev pub chunk_of : Chunk → NcChunk
+chunk_of c = record { stamp = stamp_of c.state; fault = 0; base = c.base; length = c.length; retired = retired_of c.state }
+
+-- no chunk, for this reason
+abbrev pub no_chunk : ℕ → NcChunk
+no_chunk fault = record { stamp = 0; fault = fault; base = 0; length = 0; retired = 0 }
+
+-- what stands at an address
+abbrev pub place_of : Region → ℕ → NcPlace
+place_of r at = record { fault = 0; byte = byte_at r.marked.bytes at; mark = mark_number (mark_at r.marked.marks at) }
+
+-- no place, for this reason
+abbrev pub no_place : ℕ → NcPlace
+no_place fault = record { fault = fault; byte = 0; mark = 0 }

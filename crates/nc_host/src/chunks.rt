@@ -1,0 +1,29 @@
+//! Vetted chunks.
+
+ghost use Rattle.std.specs.Prelude.{◌≡◌, ◌<◌, IfOk, IfErr};
+ghost use Rattle.nc_host.specs.Outcomes.{IsChunkFault};
+
+use crate::answers::NcVerdict;
+use crate::vetting::told;
+use nc_vet::{VetFault, Vetted, judge};
+use std::alloc::Global;
+
+/// A copy of these bytes as a vetted chunk, or their fault.
+pub(crate) fn vet_copy(
+    alloc: Global,
+    base: u32,
+    limit: u32,
+    code: &[u8],
+) -> Result<Vetted, NcVerdict>
+    ensures vetted { IfOk result (λ v. (v.base ≡ base) × (v.limit ≡ limit) × (v.code ≡ code.now)) }
+    ensures fault { IfErr result (λ e. (0 < e.fault) × IsChunkFault base limit code.now e.fault e.at) }
+{
+    let marks = match judge(alloc, base, limit, code) {
+        Ok(marks) => marks,
+        Err(fault) => return Err(told(fault)),
+    };
+    match code.to_vec(alloc) {
+        Ok(copy) => Ok(Vetted::new(base, limit, copy, marks)),
+        Err(_) => Err(told(VetFault::OutOfMemory)),
+    }
+}

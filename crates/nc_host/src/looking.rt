@@ -1,0 +1,96 @@
+//! What a region tells by its handle.
+
+ghost use Rattle.std.specs.Prelude.{◌≡◌, ◌<◌, ◌≤◌, ◌⊎◌, None, Some, length, slice_get};
+ghost use Rattle.nc_text.specs.Marks.{mark_at};
+ghost use Rattle.nc_text.specs.Places.{InRegion, byte_at};
+ghost use Rattle.nc_region.specs.declared.chunk.Chunk.{Chunk};
+ghost use Rattle.nc_handle.specs.Held.{HeldState};
+ghost use Rattle.nc_host.specs.Shown.{mark_number};
+ghost use Rattle.nc_host.specs.Looks.{chunk_of, no_chunk, place_of, no_place};
+
+use crate::numbers::{NO_CHUNK, NO_PLACE, NOTHING};
+use crate::region_answers::{NcChunk, NcPlace, no_chunk, no_place};
+use nc_decode::Mark;
+use nc_handle::{Held, NcRegion};
+use nc_region::{Chunk, ChunkState};
+use std::alloc::Global;
+
+/// A chunk as a host reads it.
+fn shown(chunk: Chunk) -> NcChunk
+    ensures { result ≡ chunk_of chunk }
+{
+    let (retired, stamp) = match chunk.state {
+        ChunkState::Live => (0, 0),
+        ChunkState::Retired(stamp) => (1, stamp),
+    };
+    NcChunk {
+        stamp,
+        fault: 0,
+        base: chunk.base,
+        length: chunk.length,
+        retired,
+    }
+}
+
+/// The chunk at an index of a region's list, by rising base, live or retired: so a host goes through all of them.
+#[unsafe(no_mangle)]
+pub extern "C" fn nc_region_chunk(alloc: Global, region: &mut NcRegion, index: usize) -> NcChunk
+    ensures same { region.new.value ≡ region.old.value }
+    ensures chunk { result.fault ≡ 0 → (h : HeldState) × (region.old.value ≡ Some h)
+        × ((c : Chunk) × (slice_get h.region.chunks index ≡ Some c) × (result ≡ chunk_of c)) }
+    ensures refused { 0 < result.fault → ((result ≡ no_chunk 32) × (region.old.value ≡ None))
+        ⊎ ((result ≡ no_chunk 41) × ((h : HeldState) × (region.old.value ≡ Some h) × (slice_get h.region.chunks index ≡ None))) }
+{
+    let Some(held) = region.take(alloc) else {
+        return no_chunk(NOTHING);
+    };
+    let chunk = held.chunk(index);
+    *region = NcRegion::of(held);
+    match chunk {
+        Some(chunk) => shown(chunk),
+        None => no_chunk(NO_CHUNK),
+    }
+}
+
+/// A mark as a host reads it.
+fn mark_number(mark: Mark) -> u32
+    ensures { result ≡ mark_number mark }
+{
+    match mark {
+        Mark::Unmarked => 0,
+        Mark::Plain => 1,
+        Mark::After(register) => 16 + u32::from(register),
+    }
+}
+
+/// What stands at a place, if it is one of the region.
+fn look_at(held: &Held, at: u32) -> NcPlace
+    ensures { ((result ≡ place_of held.now.region at) × InRegion held.now.region.marked.bytes at)
+        ⊎ ((result ≡ no_place 43) × ¬ InRegion held.now.region.marked.bytes at) }
+{
+    match (held.byte(at), held.mark(at)) {
+        (Some(byte), Some(mark)) => NcPlace {
+            fault: 0,
+            byte: u32::from(byte),
+            mark: mark_number(mark),
+        },
+        _ => no_place(NO_PLACE),
+    }
+}
+
+/// The byte and the mark at an address of a region.
+#[unsafe(no_mangle)]
+pub extern "C" fn nc_region_place(alloc: Global, region: &mut NcRegion, at: u32) -> NcPlace
+    ensures same { region.new.value ≡ region.old.value }
+    ensures place { result.fault ≡ 0 → (h : HeldState) × (region.old.value ≡ Some h)
+        × (result ≡ place_of h.region at) × InRegion h.region.marked.bytes at }
+    ensures refused { 0 < result.fault → ((result ≡ no_place 32) × (region.old.value ≡ None))
+        ⊎ ((result ≡ no_place 43) × ((h : HeldState) × (region.old.value ≡ Some h) × ¬ InRegion h.region.marked.bytes at)) }
+{
+    let Some(held) = region.take(alloc) else {
+        return no_place(NOTHING);
+    };
+    let place = look_at(&held, at);
+    *region = NcRegion::of(held);
+    place
+}

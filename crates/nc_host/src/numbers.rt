@@ -1,0 +1,84 @@
+//! The numbers of refusals.
+
+ghost use Rattle.std.specs.Prelude.{◌≡◌};
+ghost use Rattle.nc_host.specs.Handles.{new_number, seat_number, load_number, load_wanted, modify_number, modify_wanted, retire_number, retire_wanted};
+
+use crate::answers::{NO_MEMORY, NO_ROOM};
+use crate::patching::patch_number;
+use nc_handle::{LoadFault, NewFault, PatchFault, RetireFault, SeatFault};
+use nc_region::{CreateFault, DeleteFault};
+
+/// The handle has nothing.
+pub(crate) const NOTHING: u32 = 32;
+
+/// The handle that is to be filled has something.
+pub(crate) const TAKEN: u32 = 33;
+
+/// A deletion is under way.
+pub(crate) const UNDERWAY: u32 = 37;
+
+/// There is no such chunk.
+pub(crate) const NO_CHUNK: u32 = 41;
+
+/// The address is none of the region's.
+pub(crate) const NO_PLACE: u32 = 43;
+
+/// None is under way.
+pub(crate) const NOT_BEGUN: u32 = 38;
+
+/// The number of a fault of a region that isn't made.
+pub(crate) fn new_number(fault: NewFault) -> u32
+    ensures { result ≡ new_number fault }
+{
+    match fault {
+        NewFault::BadSeats => 34,
+        NewFault::BadSize => 35,
+        NewFault::OutOfMemory => NO_MEMORY,
+    }
+}
+
+/// Of a seat that isn't given.
+pub(crate) fn seat_number(fault: SeatFault) -> u32
+    ensures { result ≡ seat_number fault }
+{
+    match fault {
+        SeatFault::NoneLeft => 36,
+        SeatFault::OutOfMemory => NO_MEMORY,
+    }
+}
+
+/// Of a creation, with the number of acts that there is no room for.
+pub(crate) fn load_numbers(fault: LoadFault) -> (u32, usize)
+    ensures { (result.0 ≡ load_number fault) × (result.1 ≡ load_wanted fault) }
+{
+    match fault {
+        LoadFault::Underway => (UNDERWAY, 0),
+        LoadFault::NoRoom(wanted) => (NO_ROOM, wanted),
+        LoadFault::Refused(CreateFault::WrongLimit) => (39, 0),
+        LoadFault::Refused(CreateFault::Occupied) => (40, 0),
+        LoadFault::Refused(CreateFault::OutOfMemory) => (NO_MEMORY, 0),
+    }
+}
+
+/// Of a patch, with the number of acts that there is no room for.
+pub(crate) fn modify_numbers(fault: PatchFault) -> (u32, usize)
+    ensures { (result.0 ≡ modify_number fault) × (result.1 ≡ modify_wanted fault) }
+{
+    match fault {
+        PatchFault::Underway => (UNDERWAY, 0),
+        PatchFault::NoRoom(wanted) => (NO_ROOM, wanted),
+        PatchFault::Refused(fault) => (patch_number(fault), 0),
+    }
+}
+
+/// Of a deletion that doesn't begin, with the number of acts that there is no room for.
+pub(crate) fn retire_numbers(fault: RetireFault) -> (u32, usize)
+    ensures { (result.0 ≡ retire_number fault) × (result.1 ≡ retire_wanted fault) }
+{
+    match fault {
+        RetireFault::Underway => (UNDERWAY, 0),
+        RetireFault::NoRoom(wanted) => (NO_ROOM, wanted),
+        RetireFault::Refused(DeleteFault::NoChunk) => (NO_CHUNK, 0),
+        RetireFault::Refused(DeleteFault::GensFull) => (42, 0),
+    }
+}

@@ -1,0 +1,99 @@
+//! What the calls on handles answer: structs that C reads as they are.
+
+ghost use Rattle.std.specs.Prelude.{◌≡◌};
+ghost use Rattle.nc_host.specs.Looks.{no_chunk, no_place};
+
+/// A verdict on a change, and how many acts it has.
+#[repr(C)]
+#[derive(Clone, Copy, Debug, PartialEq, Eq)]
+pub struct NcChange {
+    /// 0, or the number of the fault.
+    pub fault: u32,
+    /// The address where the fault stands, for a fault that has one, else 0.
+    pub at: u32,
+    /// How many acts were written; for the fault that there is no room, how many there would be at most; else 0.
+    pub count: usize,
+}
+
+/// The stamp of a deletion.
+#[repr(C)]
+#[derive(Clone, Copy, Debug, PartialEq, Eq)]
+pub struct NcStamp {
+    /// The stamp, or 0.
+    pub stamp: u64,
+    /// 0, or the number of the fault.
+    pub fault: u32,
+}
+
+/// How many there are.
+#[repr(C)]
+#[derive(Clone, Copy, Debug, PartialEq, Eq)]
+pub struct NcCount {
+    /// 0, or the number of the fault.
+    pub fault: u32,
+    /// How many, or 0.
+    pub count: u32,
+}
+
+/// A chunk of a region's list.
+#[repr(C)]
+#[derive(Clone, Copy, Debug, PartialEq, Eq)]
+pub struct NcChunk {
+    /// Of a retired chunk the stamp, else 0.
+    pub stamp: u64,
+    /// 0, or the number of the fault; then all other fields are 0.
+    pub fault: u32,
+    /// The address of its first byte.
+    pub base: u32,
+    /// Its bytes.
+    pub length: u32,
+    /// 1 for a retired chunk, else 0.
+    pub retired: u32,
+}
+
+/// What stands at an address.
+#[repr(C)]
+#[derive(Clone, Copy, Debug, PartialEq, Eq)]
+pub struct NcPlace {
+    /// 0, or the number of the fault; then all other fields are 0.
+    pub fault: u32,
+    /// The byte.
+    pub byte: u32,
+    /// The number of the mark.
+    pub mark: u32,
+}
+
+/// No chunk, for this reason.
+pub(crate) fn no_chunk(fault: u32) -> NcChunk
+    ensures { result ≡ no_chunk fault }
+{
+    NcChunk {
+        stamp: 0,
+        fault,
+        base: 0,
+        length: 0,
+        retired: 0,
+    }
+}
+
+/// No place, for this reason.
+pub(crate) fn no_place(fault: u32) -> NcPlace
+    ensures { result ≡ no_place fault }
+{
+    NcPlace {
+        fault,
+        byte: 0,
+        mark: 0,
+    }
+}
+
+/// A change that isn't made, for this reason; where the reason is that there is no room, so much is wanted.
+pub(crate) fn no_change(fault: u32, count: usize) -> NcChange
+    ensures { result ≡ record { fault = fault; at = 0; count = count } }
+{
+    NcChange {
+        fault,
+        at: 0,
+        count,
+    }
+}

@@ -1,0 +1,95 @@
+//! Regions by handles: made, freed, and their seats given.
+
+ghost use Rattle.std.specs.Prelude.{◌≡◌, ◌<◌, ◌≤◌, ◌⊎◌, [], None, Some, IfOk, IfErr};
+ghost use Rattle.nc_gens.specs.Seen.{PassState};
+ghost use Rattle.nc_handle.specs.Held.{HeldState, IsFirst, MayRefuseNew, HasGiven};
+ghost use Rattle.nc_handle.specs.declared.fault.NewFault.{NewFault};
+ghost use Rattle.nc_handle.specs.declared.fault.SeatFault.{SeatFault};
+ghost use Rattle.nc_host.specs.Handles.{IsDone, new_number, seat_number};
+
+use crate::numbers::{NOTHING, TAKEN, new_number, seat_number};
+use nc_gens::MOST_SEATS;
+use nc_handle::{Held, NcRegion, NcSeat, NewFault};
+use std::alloc::Global;
+
+/// A new region in a box.
+fn make(alloc: Global, bundles: u32, seats: u32) -> Result<Box<Held, Global>, NewFault>
+    ensures made { IfOk result (λ boxed. IsFirst bundles seats boxed.value) }
+    ensures refused { IfErr result (MayRefuseNew bundles seats) }
+{
+    if seats == 0 || seats as usize > MOST_SEATS {
+        return Err(NewFault::BadSeats);
+    }
+    let held = match Held::new(alloc, bundles, seats) {
+        Ok(held) => held,
+        Err(fault) => return Err(fault),
+    };
+    match Box::new(alloc, held) {
+        Ok(boxed) => Ok(boxed),
+        Err(_) => Err(NewFault::OutOfMemory),
+    }
+}
+
+/// Makes a region of this many bundles with this many seats, of which none is given, for a handle that has nothing.
+#[unsafe(no_mangle)]
+pub extern "C" fn nc_region_new(
+    alloc: Global,
+    bundles: u32,
+    seats: u32,
+    region: &mut NcRegion,
+) -> u32
+    ensures made { result ≡ 0 → (region.old.value ≡ None) × ((h : HeldState) × (region.new.value ≡ Some h) × IsFirst bundles seats h) }
+    ensures unchanged { 0 < result → region.new.value ≡ region.old.value }
+    // A handle that has something is refused; else each refusal comes where it is due.
+    ensures refused { 0 < result → ((result ≡ 33) × ((h : HeldState) × (region.old.value ≡ Some h)))
+        ⊎ ((region.old.value ≡ None) × ((f : NewFault) × MayRefuseNew bundles seats f × (result ≡ new_number f))) }
+{
+    if let Some(kept) = region.take(alloc) {
+        *region = NcRegion::of(kept);
+        return TAKEN;
+    }
+    match make(alloc, bundles, seats) {
+        Ok(boxed) => {
+            *region = NcRegion::of(boxed);
+            0
+        }
+        Err(fault) => new_number(fault),
+    }
+}
+
+/// Frees a region. Seats that were given stay as they are, and are left one by one. A handle that has nothing stays so.
+#[unsafe(no_mangle)]
+pub extern "C" fn nc_region_free(alloc: Global, region: &mut NcRegion)
+    ensures { region.new.value ≡ None }
+{
+    drop(region.take(alloc));
+}
+
+/// Gives a seat that nobody has been given yet, for a handle that has nothing. A refusal leaves every pass where it was.
+#[unsafe(no_mangle)]
+pub extern "C" fn nc_region_seat(alloc: Global, region: &mut NcRegion, seat: &mut NcSeat) -> u32
+    ensures given { result ≡ 0 → (seat.old.value ≡ None) × ((guest : PassState) × (seat.new.value ≡ Some guest)
+        × IsDone region.old.value region.new.value (λ old new. HasGiven old new guest)) }
+    ensures unchanged { 0 < result → (region.new.value ≡ region.old.value) × (seat.new.value ≡ seat.old.value) }
+    ensures refused { 0 < result → ((result ≡ 33) × ((guest : PassState) × (seat.old.value ≡ Some guest)))
+        ⊎ (((result ≡ 32) × (region.old.value ≡ None))
+        ⊎ ((h : HeldState) × (region.old.value ≡ Some h) × ((f : SeatFault) × (result ≡ seat_number f)
+        × ((f ≡ SeatFault.NoneLeft) → h.passes ≡ [])))) }
+{
+    if let Some(kept) = seat.take(alloc) {
+        *seat = NcSeat::of(kept);
+        return TAKEN;
+    }
+    let Some(mut held) = region.take(alloc) else {
+        return NOTHING;
+    };
+    let given = held.seat(alloc);
+    *region = NcRegion::of(held);
+    match given {
+        Ok(guest) => {
+            *seat = NcSeat::of(guest);
+            0
+        }
+        Err(fault) => seat_number(fault),
+    }
+}

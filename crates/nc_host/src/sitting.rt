@@ -1,0 +1,33 @@
+//! Seats by handles.
+
+ghost use Rattle.std.specs.Prelude.{◌≡◌, ◌+◌, ◌<◌, ◌≤◌, ◌⊎◌, None};
+ghost use Rattle.nc_host.specs.Handles.{IsDone};
+ghost use Rattle.nc_host.specs.Seats.{HasCheckedIn};
+
+use crate::numbers::NOTHING;
+use nc_handle::NcSeat;
+use std::alloc::Global;
+
+/// The seat's thread is outside the region: it checks in. It takes no lock and no memory, and never waits.
+#[unsafe(no_mangle)]
+pub extern "C" fn nc_seat_check_in(alloc: Global, seat: &mut NcSeat) -> u32
+    ensures checked_in { result ≡ 0 → IsDone seat.old.value seat.new.value HasCheckedIn }
+    ensures nothing { 0 < result → (result ≡ 32) × (seat.old.value ≡ None) × (seat.new.value ≡ None) }
+{
+    let Some(mut guest) = seat.take(alloc) else {
+        return NOTHING;
+    };
+    guest.check_in();
+    *seat = NcSeat::of(guest);
+    0
+}
+
+/// The seat's thread is outside for good. A handle that has nothing stays so.
+#[unsafe(no_mangle)]
+pub extern "C" fn nc_seat_leave(alloc: Global, seat: &mut NcSeat)
+    ensures { seat.new.value ≡ None }
+{
+    if let Some(guest) = seat.take(alloc) {
+        Box::into_inner(guest).leave();
+    }
+}

@@ -1,0 +1,148 @@
+/*
+ * A host in C with a region by a handle: memory of its own follows the region by the acts that each call writes.
+ *
+ * It executes nothing. After each call it compares its memory with the region's bytes. tools/try-host compiles it as C and as C++ and
+ * compares what it prints with region.txt.
+ */
+#include "nc_host.h"
+
+#include <stdio.h>
+#include <string.h>
+
+#define BUNDLES 8
+#define LEN 64
+#define ROOM (LEN + 2)
+
+/* The memory that would be executed, and the buffer that is lent for acts. */
+static uint8_t memory[BUNDLES * NC_BUNDLE];
+static NcAct acts[ROOM];
+
+static NcRegion region;
+static NcSeat seat, other;
+
+/* Makes the acts of a call, up to the one that is no act on memory. */
+static void make(size_t count) {
+    size_t i;
+    for (i = 0; i < count; i++) {
+        if (acts[i].kind == NC_PUT) {
+            memory[acts[i].at - NC_START] = (uint8_t)acts[i].value;
+        }
+    }
+}
+
+/* Whether the memory has the region's bytes, at each of its addresses. */
+static const char *follows(void) {
+    uint32_t at;
+    for (at = NC_START; at < NC_LIMIT(BUNDLES); at++) {
+        NcPlace place = nc_region_place(&region, at);
+        if (place.fault != NC_OK || place.byte != memory[at - NC_START]) {
+            return "astray";
+        }
+    }
+    return "the same";
+}
+
+static void show(const char *name, NcChange change) {
+    make(change.fault == NC_OK ? change.count : 0);
+    printf("%s: fault %u at %08x count %u, memory %s\n", name, (unsigned)change.fault, (unsigned)change.at, (unsigned)change.count, follows());
+}
+
+static void show_chunks(void) {
+    size_t i;
+    for (i = 0;; i++) {
+        NcChunk chunk = nc_region_chunk(&region, i);
+        if (chunk.fault != NC_OK) {
+            printf("chunks: %u, then fault %u\n", (unsigned)i, (unsigned)chunk.fault);
+            return;
+        }
+        printf("chunk %08x length %u %s %u\n", (unsigned)chunk.base, (unsigned)chunk.length, chunk.retired ? "retired" : "live",
+               (unsigned)chunk.stamp);
+    }
+}
+
+static void show_place(uint32_t at) {
+    NcPlace place = nc_region_place(&region, at);
+    printf("place %08x: fault %u byte %02x mark %u\n", (unsigned)at, (unsigned)place.fault, (unsigned)place.byte, (unsigned)place.mark);
+}
+
+static void reclaim(void) {
+    NcCount freed = nc_region_reclaim(&region);
+    printf("reclaim: fault %u count %u, memory %s\n", (unsigned)freed.fault, (unsigned)freed.count, follows());
+}
+
+static void end_delete(void) {
+    NcStamp stamp = nc_region_end_delete(&region);
+    printf("end: fault %u stamp %u, memory %s\n", (unsigned)stamp.fault, (unsigned)stamp.stamp, follows());
+}
+
+/* Each call on handles that have nothing, and on ones that have something already. */
+static void refuse(void) {
+    uint8_t byte = NC_STOP;
+    printf("nothing: %u %u %u %u %u %u %u %u %u\n", (unsigned)nc_region_seat(&region, &seat),
+           (unsigned)nc_region_create(&region, NC_START, &byte, 1, acts, ROOM).fault,
+           (unsigned)nc_region_patch(&region, NC_START, &byte, 1, acts, ROOM).fault,
+           (unsigned)nc_region_begin_delete(&region, NC_START, acts, ROOM).fault, (unsigned)nc_region_end_delete(&region).fault,
+           (unsigned)nc_region_reclaim(&region).fault, (unsigned)nc_region_chunk(&region, 0).fault,
+           (unsigned)nc_region_place(&region, NC_START).fault, (unsigned)nc_seat_check_in(&seat));
+    nc_region_free(&region);
+    nc_seat_leave(&seat);
+}
+
+static void begin(void) {
+    printf("new: %u", (unsigned)nc_region_new(BUNDLES, 0, &region));
+    printf(" %u", (unsigned)nc_region_new(1, 2, &region));
+    printf(" %u", (unsigned)nc_region_new(BUNDLES, 2, &region));
+    printf(" %u\n", (unsigned)nc_region_new(BUNDLES, 2, &region));
+    memset(memory, NC_STOP, sizeof memory);
+    printf("seat: %u", (unsigned)nc_region_seat(&region, &seat));
+    printf(" %u\n", (unsigned)nc_region_seat(&region, &seat));
+}
+
+/* A deletion in two steps: the host's memory has its stops before the stamp is drawn. */
+static void delete_chunk(void) {
+    NcChange change = nc_region_begin_delete(&region, NC_START, acts, ROOM);
+    printf("begin: fault %u count %u, memory %s\n", (unsigned)change.fault, (unsigned)change.count, follows());
+    printf("under way: %u %u\n", (unsigned)nc_region_patch(&region, NC_START, memory, 1, acts, 0).fault,
+           (unsigned)nc_region_reclaim(&region).fault);
+    make(change.count);
+    end_delete();
+    end_delete();
+}
+
+int main(void) {
+    static const uint8_t mov[] = {0xB8, 0x07, 0x00, 0x00, 0x00}, ret[] = {0xC3};
+    uint8_t chunk[LEN];
+    memset(chunk, 0x90, LEN);
+    memcpy(chunk, "\xB8\x05\x00\x00\x00\xEB\x19", 7);
+    memcpy(chunk + NC_BUNDLE, "\x83\xE3\xE0\xFF\xE3", 5);
+    refuse();
+    begin();
+    show("create", nc_region_create(&region, NC_START, chunk, LEN, acts, ROOM));
+    show("create there again", nc_region_create(&region, NC_START + 32, chunk, LEN, acts, ROOM));
+    show("create by a short buffer", nc_region_create(&region, NC_START + 64, chunk, LEN, acts, ROOM - 1));
+    show("create a return", nc_region_create(&region, NC_START + 64, ret, 1, acts, ROOM));
+    show("patch", nc_region_patch(&region, NC_START, mov, sizeof mov, acts, ROOM));
+    show("patch by a return", nc_region_patch(&region, NC_START + 8, ret, sizeof ret, acts, ROOM));
+    show("patch elsewhere", nc_region_patch(&region, NC_START + 96, mov, sizeof mov, acts, ROOM));
+    show_place(NC_START + 1);
+    show_place(NC_START + 35);
+    show_place(NC_START - 1);
+    show_chunks();
+    delete_chunk();
+    show_chunks();
+    show("create in a retired span", nc_region_create(&region, NC_START, chunk, LEN, acts, ROOM));
+    reclaim();
+    printf("check-in: %u\n", (unsigned)nc_seat_check_in(&seat));
+    reclaim();
+    show("create again", nc_region_create(&region, NC_START, chunk, LEN, acts, ROOM));
+    show_chunks();
+    printf("last seats: %u", (unsigned)nc_region_seat(&region, &other));
+    nc_seat_leave(&other);
+    printf(" %u\n", (unsigned)nc_region_seat(&region, &other));
+    nc_region_free(&region);
+    nc_region_free(&region);
+    printf("after the region: %u\n", (unsigned)nc_seat_check_in(&seat));
+    nc_seat_leave(&seat);
+    nc_seat_leave(&seat);
+    return 0;
+}
