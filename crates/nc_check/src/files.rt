@@ -1,5 +1,7 @@
 //! The opening and reading of files.
 
+ghost use Rattle.std.specs.Prelude.{◌≡◌, IfOk};
+
 use nc_report::{Source, SourceFault, read_source};
 use std::fs;
 use std::fs::{File, OpenFile};
@@ -7,10 +9,9 @@ use std::io::Input;
 use std::rt::Files;
 
 /// Reads a file, or standard input where its name is `-`. A file that can't be opened can't be read either.
-pub fn read_file<R: Files + Input + AllocGlobal>(
-    rt: &R,
-    file: &str,
-) -> Result<Source, SourceFault> {
+pub fn read_file<R: Files + Input + AllocGlobal>(rt: &R, file: &str) -> Result<Source, SourceFault>
+    ensures { IfOk result (λ source. source.name.items ≡ file.now) }
+{
     let Ok(name) = Vec::from_slice(rt.alloc(), file.as_bytes()) else {
         return Err(SourceFault::OutOfMemory);
     };

@@ -5,6 +5,9 @@
 //! says which status the program ends with, `progress` shows how far it is.
 #![tactic(auto)]
 
+ghost use Rattle.std.specs.Prelude.{◌≡◌, ◌⊎◌};
+ghost use Rattle.nc_check.specs.Status.{status_of};
+
 mod checking;
 mod files;
 mod outcome;
@@ -56,8 +59,10 @@ fn run<R: Threads + Wait + Sync + Env + AllocGlobal + Input + Files + Print + Ep
     check_files(rt, &ask, progress)
 }
 
-/// Prints why the program stops, and gives the status to end with.
-fn stop<R: Print + Eprint>(rt: &R, halt: &Halt) -> u8 {
+/// Prints why the program stops, and gives the status to end with: 2 also where help can't be printed.
+fn stop<R: Print + Eprint>(rt: &R, halt: &Halt) -> u8
+    ensures { (result ≡ status_of halt.now) ⊎ (result ≡ 2) }
+{
     if let Halt::Words(error) = halt {
         if error.kind() != ClapKind::OutOfMemory {
             if error.print(rt).is_ok() || error.use_stderr() {
@@ -70,7 +75,9 @@ fn stop<R: Print + Eprint>(rt: &R, halt: &Halt) -> u8 {
 }
 
 /// Prints a fault as one line on standard error. Where that can't be done nothing else is left to do.
-fn stop_by<R: Eprint>(rt: &R, halt: &Halt) -> u8 {
+fn stop_by<R: Eprint>(rt: &R, halt: &Halt) -> u8
+    ensures { result ≡ status_of halt.now }
+{
     let _ = eprintln!(rt; "nc_check: {}", halt.text());
     halt.status()
 }

@@ -1,6 +1,7 @@
 //! How the program ends.
 
 ghost use Rattle.std.specs.Prelude.{◌≡◌, ◌<◌, ◌↔◌, true, false};
+ghost use Rattle.nc_check.specs.Status.{status_of};
 
 use clap::error::ErrorKind;
 
@@ -17,7 +18,9 @@ pub enum Halt {
 
 impl Halt {
     /// The status that the program ends with: 0 after help, otherwise 2.
-    pub fn status(&self) -> u8 {
+    pub fn status(&self) -> u8
+        ensures { result ≡ status_of self.now }
+    {
         match self {
             Halt::Words(error) => match error.kind() {
                 ErrorKind::DisplayHelp | ErrorKind::DisplayVersion => 0,
