@@ -61,7 +61,7 @@ fn run<R: Threads + Wait + Sync + Env + AllocGlobal + Input + Files + Print + Ep
 
 /// Prints why the program stops, and gives the status to end with: 2 also where help can't be printed.
 fn stop<R: Print + Eprint>(rt: &R, halt: &Halt) -> u8
-    ensures { (result ≡ status_of halt.now) ⊎ (result ≡ 2) }
+    ensures { (result ≡ status_of halt.now) ⊎ ((status_of halt.now ≡ 0) × (result ≡ 2)) }
 {
     if let Halt::Words(error) = halt {
         if error.kind() != ClapKind::OutOfMemory {
