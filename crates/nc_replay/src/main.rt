@@ -5,6 +5,9 @@
 //! `start` does what it asks for over any reader and writer, by the calls of `nc_script`.
 #![tactic(auto)]
 
+ghost use Rattle.std.specs.Prelude.{◌≡◌, ◌⊎◌};
+ghost use Rattle.nc_replay.specs.Status.{status_of};
+
 pub mod program;
 
 use clap::error::ErrorKind as ClapKind;
@@ -60,8 +63,10 @@ fn say<R: Eprint>(rt: &R, fault: ReplayFault) {
     let _ = eprintln!(rt; "nc_replay: {fault}");
 }
 
-/// Prints why the program stops, and gives the status to end with.
-fn stop<R: Print + Eprint>(rt: &R, halt: &Halt) -> u8 {
+/// Prints why the program stops, and gives the status to end with: 1 also where help can't be printed.
+fn stop<R: Print + Eprint>(rt: &R, halt: &Halt) -> u8
+    ensures { (result ≡ status_of halt.now) ⊎ ((status_of halt.now ≡ 0) × (result ≡ 1)) }
+{
     match halt {
         Halt::Fault(fault) => say(rt, *fault),
         Halt::Words(error) if error.kind() == ClapKind::OutOfMemory => {

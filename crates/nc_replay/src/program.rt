@@ -2,6 +2,7 @@
 
 ghost use Rattle.std.specs.Prelude.{◌≡◌, ◌⊎◌};
 ghost use Rattle.nc_replay.specs.Start.{IfWords, IfRun, HasReplayed, HasVettedLines};
+ghost use Rattle.nc_replay.specs.Status.{status_of};
 
 use clap::error::ErrorKind;
 use nc_command::{Ask, ask};
@@ -27,7 +28,9 @@ pub enum Halt {
 impl Halt {
     /// The status that the program ends with: 0 after help, 2 for a fault of the command line, and 1 for any other fault,
     /// also for lack of memory.
-    pub fn status(&self) -> u8 {
+    pub fn status(&self) -> u8
+        ensures { result ≡ status_of self.now }
+    {
         match self {
             Halt::Words(error) => match error.kind() {
                 ErrorKind::DisplayHelp | ErrorKind::DisplayVersion => 0,

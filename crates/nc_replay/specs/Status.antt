@@ -1,0 +1,19 @@
+-- The status that the program ends with where its work isn't done.
+use Rattle.std.specs.Prelude.{ℕ}
+use Rattle.clap.specs.Values.{kind_of}
+use Rattle.clap.specs.declared.error.kind.ErrorKind.{ErrorKind}
+use Rattle.clap.specs.declared.error.kind.ErrorKind.TheVariants.{DisplayHelp, DisplayVersion, OutOfMemory}
+use Rattle.nc_replay.specs.declared.program.Halt.{Halt}
+use Rattle.nc_replay.specs.declared.program.Halt.TheVariants.{Words, Fault}
+
+-- where the words of the command line ask for help or the version, where memory ran out, and where they are at fault
+abbrev pub status_of_words : ErrorKind → ℕ
+status_of_words DisplayHelp = 0
+status_of_words DisplayVersion = 0
+status_of_words OutOfMemory = 1
+status_of_words _ = 2
+
+-- 0 after help, 2 for a fault of the command line, and 1 for any other fault
+abbrev pub status_of : Halt → ℕ
+status_of (Words error) = status_of_words (kind_of error)
+status_of (Fault fault) = 1
