@@ -175,6 +175,10 @@ typedef struct NcSeat {
     void *at;
 } NcSeat;
 
+typedef struct NcVetted {
+    void *at;
+} NcVetted;
+
 typedef struct NcChange {
     uint32_t fault;
     uint32_t at;   /* as in NcVerdict */
@@ -314,6 +318,25 @@ uint32_t nc_region_seat(NcRegion *region, NcSeat *seat);
 NcChange nc_region_create(NcRegion *region, uint32_t base, const uint8_t *code, size_t len, NcAct *acts, size_t acts_len);
 
 /*
+ * Vets a chunk for a region with this limit and keeps a copy of it, for a handle that has nothing. No region is looked at, so no lock is
+ * wanted.
+ * Promised: NC_HANDLE_TAKEN for a handle that has something; else NC_OK only for a valid chunk, and 1 to 8 only for a chunk with that fault.
+ * Cost: that of nc_host_vet, and memory for a copy of the code and half as much for its marks, until it is loaded or freed.
+ */
+NcVerdict nc_vetted_new(uint32_t base, uint32_t limit, const uint8_t *code, size_t len, NcVetted *vetted);
+
+/* Frees a vetted chunk that isn't loaded. A second call does nothing. */
+void nc_vetted_free(NcVetted *vetted);
+
+/*
+ * Creates a vetted chunk in the region, and writes the acts as nc_region_create does; its handle has nothing then. A refusal leaves it
+ * there.
+ * Promised: a refusal is NC_NO_HANDLE, for either handle; else the first of NC_UNDER_WAY, NC_NO_ROOM, NC_WRONG_LIMIT, NC_OCCUPIED and
+ * NC_OUT_OF_MEMORY that holds.
+ */
+NcChange nc_region_load(NcRegion *region, NcVetted *vetted, NcAct *acts, size_t acts_len);
+
+/*
  * Patches a chunk (IsPatch, IsModified), and writes the acts as nc_host_patch does.
  * Promised: a refusal is NC_NO_HANDLE; else the first of NC_UNDER_WAY, NC_NO_ROOM (only for at most 32 bytes) and the faults of a patch
  * that holds. 3 * `len` places are enough.
@@ -350,6 +373,9 @@ NcChunk nc_region_chunk(NcRegion *region, size_t index);
 
 /* The byte and the mark at an address of the region. It changes nothing. */
 NcPlace nc_region_place(NcRegion *region, uint32_t at);
+
+/* The generation: the last stamp that was drawn, or 0. It changes nothing. */
+NcStamp nc_region_generation(NcRegion *region);
 
 /*
  * The seat's thread is outside the region: one load and one store (HasCheckedIn). No lock, no memory, and it never waits.

@@ -19,6 +19,7 @@ static NcAct acts[ROOM];
 
 static NcRegion region;
 static NcSeat seat, other;
+static NcVetted vetted;
 
 /* Makes the acts of a call, up to the one that is no act on memory. */
 static void make(size_t count) {
@@ -75,6 +76,13 @@ static void end_delete(void) {
     printf("end: fault %u stamp %u, memory %s\n", (unsigned)stamp.fault, (unsigned)stamp.stamp, follows());
 }
 
+/* A chunk that is vetted first, without the region, and created there afterwards. */
+static void load(uint32_t base, const uint8_t *code) {
+    NcVerdict verdict = nc_vetted_new(base, NC_LIMIT(BUNDLES), code, LEN, &vetted);
+    printf("vetted: fault %u at %08x\n", (unsigned)verdict.fault, (unsigned)verdict.at);
+    show("load", nc_region_load(&region, &vetted, acts, ROOM));
+}
+
 /* Each call on handles that have nothing, and on ones that have something already. */
 static void refuse(void) {
     uint8_t byte = NC_STOP;
@@ -84,8 +92,10 @@ static void refuse(void) {
            (unsigned)nc_region_begin_delete(&region, NC_START, acts, ROOM).fault, (unsigned)nc_region_end_delete(&region).fault,
            (unsigned)nc_region_reclaim(&region).fault, (unsigned)nc_region_chunk(&region, 0).fault,
            (unsigned)nc_region_place(&region, NC_START).fault, (unsigned)nc_seat_check_in(&seat));
+    printf("nothing: %u %u\n", (unsigned)nc_region_load(&region, &vetted, acts, ROOM).fault, (unsigned)nc_region_generation(&region).fault);
     nc_region_free(&region);
     nc_seat_leave(&seat);
+    nc_vetted_free(&vetted);
 }
 
 static void begin(void) {
@@ -136,6 +146,11 @@ int main(void) {
     reclaim();
     show("create again", nc_region_create(&region, NC_START, chunk, LEN, acts, ROOM));
     show_chunks();
+    load(NC_START + 96, chunk);
+    load(NC_START + 128, chunk);
+    load(NC_START + 128, chunk);
+    nc_vetted_free(&vetted);
+    printf("generation: %u\n", (unsigned)nc_region_generation(&region).stamp);
     printf("last seats: %u", (unsigned)nc_region_seat(&region, &other));
     nc_seat_leave(&other);
     printf(" %u\n", (unsigned)nc_region_seat(&region, &other));

@@ -6,8 +6,8 @@ use Rattle.std_alloc.proofs.BoxSteps.Form.{Bx}
 use Rattle.std_heap.specs.contracts.Global as Heap
 use Rattle.std_heap.specs.contracts.GlobalAllocator.TheImpl.{ghosts, dict}
 use Rattle.std_heap.proofs.Global.TheLaws as heap
-use Rattle.nc_vet.specs.contracts.vetted.Vetted as Host
-use Rattle.nc_vet.proofs.vetted.Vetted.TheLaws as host
+use Rattle.nc_handle.specs.contracts.kept.Kept as Host
+use Rattle.nc_handle.proofs.kept.Kept.TheLaws as host
 use Rattle.nc_handle.specs.contracts.parts.Parts as Parts
 use Rattle.nc_handle.specs.contracts.vetted_handle.NcVetted as Own
 

@@ -2,11 +2,11 @@
 
 ghost use Rattle.std.specs.Prelude.{◌≡◌, Option, Some, None, IfSome, IsNone, MatchOption};
 ghost use Rattle.nc_handle.specs.machinery.VettedHandle.{may_own, may_coded};
-ghost use Rattle.nc_vet.specs.Chunk.{MarkedChunk};
+ghost use Rattle.nc_handle.specs.declared.kept.Kept.{Kept};
 
+use crate::kept::Kept;
 use crate::parts::Parts;
 use crate::sent::sent;
-use nc_vet::Vetted;
 use std::alloc::Global;
 use std::marker::Model;
 use std::mem::replace;
@@ -20,7 +20,7 @@ use std::ptr::null_mut;
 pub struct NcVetted {
     at: *mut u8,
     alloc: Global,
-    pub ghost value: { Option MarkedChunk } by { may_coded },
+    pub ghost value: { Option Kept } by { may_coded },
 }
 
 impl Model for NcVetted {
@@ -39,7 +39,7 @@ impl NcVetted {
     }
 
     /// A handle to what these parts are of.
-    fn of_parts(parts: Parts<Vetted, Global>) -> NcVetted
+    fn of_parts(parts: Parts<Kept, Global>) -> NcVetted
         ensures { result.value ≡ Some parts.value }
     {
         let Parts { ptr, alloc } = parts;
@@ -50,7 +50,7 @@ impl NcVetted {
     }
 
     /// The parts of what the handle has, if it has something.
-    fn into_parts(self) -> Option<Parts<Vetted, Global>>
+    fn into_parts(self) -> Option<Parts<Kept, Global>>
         ensures { MatchOption result (self.value ≡ None) (λ parts. self.value ≡ Some parts.value) }
     {
         let NcVetted { at, alloc } = self;
@@ -58,21 +58,21 @@ impl NcVetted {
             None
         } else {
             Some(Parts {
-                ptr: at as *mut Vetted,
+                ptr: at as *mut Kept,
                 alloc,
             })
         }
     }
 
     /// A handle to this vetted chunk, which may go to another thread.
-    pub fn of(boxed: Box<Vetted, Global>) -> NcVetted
+    pub fn of(boxed: Box<Kept, Global>) -> NcVetted
         ensures { result.value ≡ Some boxed.value }
     {
         NcVetted::of_parts(Parts::of(sent(boxed)))
     }
 
     /// The vetted chunk, if the handle has one. Afterwards it has nothing.
-    pub fn take(&mut self, alloc: Global) -> Option<Box<Vetted, Global>>
+    pub fn take(&mut self, alloc: Global) -> Option<Box<Kept, Global>>
         ensures some { IfSome result (λ boxed. self.old.value ≡ Some boxed.value) }
         ensures none { IsNone result → self.old.value ≡ None }
         ensures left { self.new.value ≡ None }

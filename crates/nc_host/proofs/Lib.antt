@@ -3,3 +3,4 @@ mod Reading
 mod Accepted
 mod OnlyChunk
 mod AnyRegion
+pub mod Admitted

@@ -16,6 +16,7 @@ use Rattle.nc_handle.specs.declared.fault.PatchFault.{PatchFault}
 use Rattle.nc_handle.specs.declared.fault.PatchFault.TheVariants as patch
 use Rattle.nc_handle.specs.declared.fault.RetireFault.{RetireFault}
 use Rattle.nc_handle.specs.declared.fault.RetireFault.TheVariants as retire
+use Rattle.nc_handle.specs.declared.kept.Kept.{Kept}
 use Rattle.nc_handle.specs.Held.{HeldState}
 use Rattle.nc_host.specs.Shown.{patch_number}
 
@@ -84,9 +85,17 @@ retire_wanted retire.Underway = 0
 retire_wanted (retire.NoRoom wanted) = wanted
 retire_wanted (retire.Refused fault) = 0
 
--- a valid chunk of this code at this base, for this region's limit
+-- a valid chunk of this code at this base, for this limit
+abbrev pub IsVetted : (base limit : ℕ) → List ℕ → MarkedChunk → Type 0
+IsVetted base limit code v = (v.base ≡ base) × (v.limit ≡ limit) × (v.code ≡ code) × IsValid v
+
+-- the handle has such a chunk
+abbrev pub HasVetted : (base limit : ℕ) → List ℕ → Option Kept → Type 0
+HasVetted base limit code held = (k : Kept) × (held ≡ Some k) × ((v : MarkedChunk) × (k.chunk ≡ Some v) × IsVetted base limit code v)
+
+-- the same for this region's limit
 abbrev pub IsChunkFor : HeldState → ℕ → List ℕ → MarkedChunk → Type 0
-IsChunkFor h base code v = (v.base ≡ base) × (v.limit ≡ limit_of h.region.marked.bytes) × (v.code ≡ code) × IsValid v
+IsChunkFor h base code v = IsVetted base (limit_of h.region.marked.bytes) code v
 
 -- the chunk was created in the region, and all else is as before
 abbrev pub HasLoaded : MarkedChunk → HeldState → HeldState → Type 0

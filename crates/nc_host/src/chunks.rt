@@ -1,6 +1,7 @@
 //! Vetted chunks.
 
 ghost use Rattle.std.specs.Prelude.{◌≡◌, ◌<◌, IfOk, IfErr};
+ghost use Rattle.nc_host.specs.Handles.{IsVetted};
 ghost use Rattle.nc_host.specs.Outcomes.{IsChunkFault};
 
 use crate::answers::NcVerdict;
@@ -15,7 +16,7 @@ pub(crate) fn vet_copy(
     limit: u32,
     code: &[u8],
 ) -> Result<Vetted, NcVerdict>
-    ensures vetted { IfOk result (λ v. (v.base ≡ base) × (v.limit ≡ limit) × (v.code ≡ code.now)) }
+    ensures vetted { IfOk result (IsVetted base limit code.now) }
     ensures fault { IfErr result (λ e. (0 < e.fault) × IsChunkFault base limit code.now e.fault e.at) }
 {
     let marks = match judge(alloc, base, limit, code) {

@@ -9,7 +9,7 @@ ghost use Rattle.nc_host.specs.Shown.{mark_number};
 ghost use Rattle.nc_host.specs.Looks.{chunk_of, no_chunk, place_of, no_place};
 
 use crate::numbers::{NO_CHUNK, NO_PLACE, NOTHING};
-use crate::region_answers::{NcChunk, NcPlace, no_chunk, no_place};
+use crate::region_answers::{NcChunk, NcPlace, NcStamp, no_chunk, no_place};
 use nc_decode::Mark;
 use nc_handle::{Held, NcRegion};
 use nc_region::{Chunk, ChunkState};
@@ -93,4 +93,23 @@ pub extern "C" fn nc_region_place(alloc: Global, region: &mut NcRegion, at: u32)
     let place = look_at(&held, at);
     *region = NcRegion::of(held);
     place
+}
+
+/// The generation of a region: the last stamp that was drawn, or 0.
+#[unsafe(no_mangle)]
+pub extern "C" fn nc_region_generation(alloc: Global, region: &mut NcRegion) -> NcStamp
+    ensures same { region.new.value ≡ region.old.value }
+    ensures generation { result.fault ≡ 0 → (h : HeldState) × (region.old.value ≡ Some h)
+        × (result.stamp ≡ h.region.keeper.numbers.generation) }
+    ensures refused { 0 < result.fault → (result ≡ record { stamp = 0; fault = 32 }) × (region.old.value ≡ None) }
+{
+    let Some(held) = region.take(alloc) else {
+        return NcStamp {
+            stamp: 0,
+            fault: NOTHING,
+        };
+    };
+    let stamp = held.generation();
+    *region = NcRegion::of(held);
+    NcStamp { stamp, fault: 0 }
 }

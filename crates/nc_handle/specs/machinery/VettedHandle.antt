@@ -7,7 +7,7 @@ use denote.RawPtr.{Ptr, null_ptr}
 use Rattle.std.specs.Box.Ownership.{box_owns}
 use Rattle.std.specs.Global.{Global}
 use Rattle.std_heap.specs.contracts.GlobalAllocator.TheImpl.{ghosts}
-use Rattle.nc_vet.specs.contracts.vetted.Vetted.{the_row}
+use Rattle.nc_handle.specs.contracts.kept.Kept.{the_row}
 
 -- at null nothing, and else what a box with this pointer owns
 abbrev pub may_own : Global → Ptr → Option the_row.Denot → Fml

@@ -41,7 +41,7 @@ use Rattle.std_heap.specs.contracts.Global as Heap
 use Rattle.std_heap.specs.contracts.GlobalAllocator.TheImpl.{ghosts}
 use Rattle.std_heap.proofs.GlobalToken.{dealloc_token-Testable}
 use Rattle.nc_handle.specs.contracts.parts.Parts as Parts
-use Rattle.nc_vet.specs.contracts.vetted.Vetted as Host
+use Rattle.nc_handle.specs.contracts.kept.Kept as Host
 use Rattle.nc_handle.specs.contracts.vetted_handle.NcVetted as Own
 use Rattle.nc_handle.proofs.VettedBox.{E, FromOwn as From}
 use Rattle.nc_handle.specs.contracts.vetted_handle.NcVetted.into_parts as F

@@ -1,0 +1,138 @@
+//! Vetted chunks by handles: vetted without a lock, and created in a region.
+
+ghost use Rattle.std.specs.Prelude.{◌≡◌, ◌<◌, ◌⊎◌, None, Some, IfOk, IfErr, length};
+ghost use Rattle.nc_vet.specs.Chunk.{MarkedChunk};
+ghost use Rattle.nc_region.specs.Log.{log_of_create};
+ghost use Rattle.nc_handle.specs.Held.{HeldState, MayRefuseLoad};
+ghost use Rattle.nc_handle.specs.Shown.{IsTold};
+ghost use Rattle.nc_handle.specs.declared.fault.LoadFault.{LoadFault};
+ghost use Rattle.nc_handle.specs.declared.kept.Kept.{Kept};
+ghost use Rattle.nc_host.specs.Handles.{HasLoaded, HasVetted, IsDone, IsSameButPages, IsVetted, load_number, load_wanted};
+ghost use Rattle.nc_host.specs.Outcomes.{IsChunkFault};
+
+use crate::answers::NcVerdict;
+use crate::chunks::vet_copy;
+use crate::numbers::{NOTHING, TAKEN, load_numbers};
+use crate::region_answers::{NcChange, no_change};
+use crate::vetting::told;
+use nc_handle::{Held, Kept, NcAct, NcRegion, NcVetted};
+use nc_vet::VetFault;
+use std::alloc::Global;
+
+/// A copy of these bytes as a vetted chunk in a box, or their fault.
+fn keep(alloc: Global, base: u32, limit: u32, code: &[u8]) -> Result<Box<Kept, Global>, NcVerdict>
+    ensures vetted { IfOk result (λ boxed. (v : MarkedChunk) × (boxed.value.chunk ≡ Some v) × IsVetted base limit code.now v) }
+    ensures fault { IfErr result (λ e. (0 < e.fault) × IsChunkFault base limit code.now e.fault e.at) }
+{
+    let vetted = match vet_copy(alloc, base, limit, code) {
+        Ok(vetted) => vetted,
+        Err(verdict) => return Err(verdict),
+    };
+    let kept = Kept {
+        chunk: Some(vetted),
+    };
+    match Box::new(alloc, kept) {
+        Ok(boxed) => Ok(boxed),
+        Err(_) => Err(told(VetFault::OutOfMemory)),
+    }
+}
+
+/// Vets a chunk for a handle that has nothing: the library keeps a copy of the bytes, with their marks. No region is looked at.
+#[unsafe(no_mangle)]
+pub extern "C" fn nc_vetted_new(
+    alloc: Global,
+    base: u32,
+    limit: u32,
+    code: &[u8],
+    vetted: &mut NcVetted,
+) -> NcVerdict
+    ensures vetted { result.fault ≡ 0 → (vetted.old.value ≡ None) × HasVetted base limit code.now vetted.new.value }
+    ensures unchanged { 0 < result.fault → vetted.new.value ≡ vetted.old.value }
+    // A handle that has something is refused; else the fault is one that the chunk has.
+    ensures refused { 0 < result.fault → ((result ≡ record { fault = 33; at = 0 }) × ((k : Kept) × (vetted.old.value ≡ Some k)))
+        ⊎ ((vetted.old.value ≡ None) × IsChunkFault base limit code.now result.fault result.at) }
+{
+    if let Some(kept) = vetted.take(alloc) {
+        *vetted = NcVetted::of(kept);
+        return NcVerdict {
+            fault: TAKEN,
+            at: 0,
+        };
+    }
+    match keep(alloc, base, limit, code) {
+        Ok(boxed) => {
+            *vetted = NcVetted::of(boxed);
+            NcVerdict { fault: 0, at: 0 }
+        }
+        Err(verdict) => verdict,
+    }
+}
+
+/// Frees a vetted chunk that isn't loaded. A handle that has nothing stays so.
+#[unsafe(no_mangle)]
+pub extern "C" fn nc_vetted_free(alloc: Global, vetted: &mut NcVetted)
+    ensures { vetted.new.value ≡ None }
+{
+    drop(vetted.take(alloc));
+}
+
+/// Creates a vetted chunk in a region, and answers by numbers.
+fn load_kept(held: &mut Held, kept: &mut Kept, acts: &mut [NcAct]) -> NcChange
+    ensures created { result.fault ≡ 0 → (v : MarkedChunk) × (kept.old.chunk ≡ Some v) × HasLoaded v held.old held.new
+        × IsTold acts.old acts.new result.count (log_of_create v.base v.code) }
+    ensures untouched { 0 < result.fault → (acts.new ≡ acts.old) × (kept.new ≡ kept.old) }
+    ensures unchanged { 0 < result.fault → (held.new ≡ held.old) ⊎ ((result.fault ≡ 8) × IsSameButPages held.old held.new) }
+    ensures at { result.at ≡ 0 }
+    ensures refused { 0 < result.fault → ((result.fault ≡ 32) × (result.count ≡ 0) × (kept.old.chunk ≡ None))
+        ⊎ ((v : MarkedChunk) × (kept.old.chunk ≡ Some v) × ((f : LoadFault) × MayRefuseLoad held.old v (length acts.old) f
+        × (result.fault ≡ load_number f) × (result.count ≡ load_wanted f))) }
+{
+    let Some(vetted) = kept.chunk.take() else {
+        return no_change(NOTHING, 0);
+    };
+    match held.create(vetted, acts) {
+        Ok(count) => no_change(0, count),
+        Err((vetted, fault)) => {
+            kept.chunk = Some(vetted);
+            let (number, wanted) = load_numbers(fault);
+            no_change(number, wanted)
+        }
+    }
+}
+
+/// Creates a vetted chunk in a region, with its acts, as `nc_region_create` does; its handle has nothing then. A refusal leaves
+/// it in its handle.
+#[unsafe(no_mangle)]
+pub extern "C" fn nc_region_load(
+    alloc: Global,
+    region: &mut NcRegion,
+    vetted: &mut NcVetted,
+    acts: &mut [NcAct],
+) -> NcChange
+    // The acts written are those of a creation, with the settling.
+    ensures created { result.fault ≡ 0 → (vetted.new.value ≡ None) × ((k : Kept) × (vetted.old.value ≡ Some k)
+        × ((v : MarkedChunk) × (k.chunk ≡ Some v) × IsDone region.old.value region.new.value (HasLoaded v)
+        × IsTold acts.old acts.new result.count (log_of_create v.base v.code))) }
+    ensures untouched { 0 < result.fault → (acts.new ≡ acts.old) × (vetted.new.value ≡ vetted.old.value) }
+    ensures unchanged { 0 < result.fault → (region.new.value ≡ region.old.value)
+        ⊎ ((result.fault ≡ 8) × IsDone region.old.value region.new.value IsSameButPages) }
+    // Each refusal comes where it is due: there is no chunk or no region, or the region refuses the chunk.
+    ensures at { result.at ≡ 0 }
+    ensures refused { 0 < result.fault → ((result.fault ≡ 32) × (result.count ≡ 0)) ⊎ ((h : HeldState) × (k : Kept) × (v : MarkedChunk)
+        × (region.old.value ≡ Some h) × (vetted.old.value ≡ Some k) × (k.chunk ≡ Some v)
+        × ((f : LoadFault) × MayRefuseLoad h v (length acts.old) f × (result.fault ≡ load_number f) × (result.count ≡ load_wanted f))) }
+{
+    let Some(mut kept) = vetted.take(alloc) else {
+        return no_change(NOTHING, 0);
+    };
+    let Some(mut held) = region.take(alloc) else {
+        *vetted = NcVetted::of(kept);
+        return no_change(NOTHING, 0);
+    };
+    let change = load_kept(&mut held, &mut kept, acts);
+    *region = NcRegion::of(held);
+    if change.fault > 0 {
+        *vetted = NcVetted::of(kept);
+    }
+    change
+}
