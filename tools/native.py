@@ -1,0 +1,44 @@
+"""What the scripts share that compile C against the library of crates/nc_host, and the status of what is skipped."""
+
+import os
+import platform
+import shutil
+import subprocess
+
+from examples import TOP
+
+CRATE = os.path.join(TOP, "crates", "nc_host")
+LIBRARY = os.path.join(CRATE, "out", "libnc_host.a")
+INCLUDE = os.path.join(TOP, "include")
+WARN = ["-O2", "-Wall", "-Wextra", "-Werror", "-I" + INCLUDE]
+SKIPPED = 77
+
+
+def kit():
+    return os.environ.get("RATTLE_KIT") or os.path.dirname(subprocess.run(["rt", "doc"], capture_output=True, text=True, check=True).stdout.strip())
+
+
+def archives():
+    """The library and what it stands on, for a linker. It is built if it isn't there."""
+    if not os.path.exists(LIBRARY):
+        subprocess.run(["rt", "lib"], cwd=CRATE, stdin=subprocess.DEVNULL, stdout=subprocess.DEVNULL, check=True)
+    return [LIBRARY, os.path.join(kit(), "c", "liblibc_c.a")]
+
+
+def compiler():
+    return os.environ.get("CC", "gcc")
+
+
+def lacking():
+    """What isn't here without which no 32-bit code can be compiled and run, or None."""
+    if platform.machine() != "x86_64" or platform.system() != "Linux":
+        return "a Linux machine for x86-64"
+    if shutil.which(compiler()) is None:
+        return compiler()
+    return None
+
+
+def compiled(sources, program, words=()):
+    """A program from sources in GNU C11, linked with the library."""
+    subprocess.run([compiler(), "-std=gnu11"] + WARN + sources + archives() + list(words) + ["-o", program], check=True)
+    return program
