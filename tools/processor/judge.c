@@ -2,6 +2,7 @@
 #include "judge.h"
 
 #include "inside.h"
+#include "numbers.h"
 
 #include <string.h>
 
@@ -20,16 +21,6 @@ static const uint32_t REGISTERS[][8] = {
     {0x04, 0x00, 0x00, 0x08, 0x7010, 0x24, 0x0C, 0x10},
 };
 #define SETS (sizeof REGISTERS / sizeof *REGISTERS)
-
-/* Displacements and numbers. The last are instructions that trap, were they ever executed. */
-static const uint8_t NUMBERS[][10] = {
-    {0x10, 0x00, 0x00, 0x00, 0x01, 0x00, 0x00, 0x00, 0x00, 0x00},
-    {0xF8, 0x0F, 0x00, 0x00, 0xFF, 0xFF, 0xFF, 0xFF, 0xFF, 0xFF},
-    {0xE0, 0xFF, 0xFF, 0xFF, 0xE0, 0xFF, 0xFF, 0xFF, 0xFF, 0xFF},
-    {0xCC, 0xCC, 0xCC, 0xCC, 0x0F, 0x0B, 0xF4, 0xCC, 0xC3, 0xC3},
-};
-/* Displacements of near transfers; short ones get every byte. */
-static const uint32_t NEAR[] = {0, 1, 0x1F, 0x20, 0x7F, 0x80, 0xFF, 0x100, 0x7FFFFFFF, 0x80000000, 0xFFFF0000, 0xFFFFFF80, 0xFFFFFFFA, 0xFFFFFFFB, 0xFFFFFFFE, 0xFFFFFFFF, 0xCCCCCCCC, 0x0B0F0B0F};
 
 typedef struct Judge {
     Counts n;
@@ -219,30 +210,6 @@ static void judge_instruction(Judge *j, unsigned step) {
     }
 }
 
-/* Fills in numbers: for a transfer displacements, for others those above. */
-static void judge_numbers(Judge *j, unsigned step) {
-    const Beginning *b = j->about;
-    size_t left = (size_t)(b->length - b->count), i;
-    memset(j->bytes, 0, sizeof j->bytes);
-    memcpy(j->bytes, b->bytes, b->count);
-    if (b->flow != NC_FLOW_NEXT && left == 1) {
-        for (i = 0; i < 256; i++) {
-            j->bytes[b->count] = (uint8_t)i;
-            judge_instruction(j, step);
-        }
-    } else if (b->flow != NC_FLOW_NEXT && left == 4) {
-        for (i = 0; i < sizeof NEAR / sizeof *NEAR; i++) {
-            memcpy(j->bytes + b->count, &NEAR[i], 4);
-            judge_instruction(j, step);
-        }
-    } else {
-        for (i = 0; i < (left ? sizeof NUMBERS / sizeof *NUMBERS : 1); i++) {
-            memcpy(j->bytes + b->count, NUMBERS[i], left < sizeof NUMBERS[i] ? left : sizeof NUMBERS[i]);
-            judge_instruction(j, step);
-        }
-    }
-}
-
 /* Divisions whose quotient is too large whatever the registers hold: by AH, by EDX and by DX. */
 static int never_divides(const Beginning *b) {
     static const struct {
@@ -258,11 +225,14 @@ static int never_divides(const Beginning *b) {
 }
 
 static void judge_beginning(Judge *j, Beginning *b, unsigned step) {
+    size_t i;
     j->about = b;
     j->completed = j->divided = j->taken = j->passed = 0;
     j->n.beginnings++;
     inside_fill(0x7F);
-    judge_numbers(j, step);
+    for (i = 0; numbers_fill(b, i, j->bytes); i++) {
+        judge_instruction(j, step);
+    }
     if (b->flow != NC_FLOW_STOP && !j->completed) {
         if (j->divided && never_divides(b)) {
             j->n.never++;
