@@ -9,3 +9,4 @@ SECTIONS {
 }
 /* The host's trampolines: bundle starts below 00010000. */
 PROVIDE(host_exit = 0x00000020);
+PROVIDE(host_print = 0x00000040);

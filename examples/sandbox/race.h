@@ -1,0 +1,15 @@
+/* Threads inside while code is patched, deleted and replaced. */
+#ifndef RACE_H
+#define RACE_H
+
+#include <stdint.h>
+
+typedef struct Tally {
+    uint64_t stays, patches, deletions, creations, waits; /* waits: a deleted span was asked for, and not free yet */
+    uint64_t went_back, stopped, astray;
+} Tally;
+
+/* Runs so many threads for so many seconds. With `torn` patches are written byte by byte, without stops and settlings: a control. */
+Tally race(unsigned threads, unsigned seconds, int torn);
+
+#endif
