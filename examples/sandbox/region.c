@@ -6,7 +6,7 @@
 #include <stdlib.h>
 #include <string.h>
 
-#define CHUNKS 16
+#define CHUNKS 128
 #define OCCUPIED 100u /* faults of this file's own */
 #define FULL 101u
 #define NO_CHUNK 102u
