@@ -20,6 +20,9 @@
 #define HOST_CODE 0x33
 #define HOST_STACK 0x2B
 #define FLOATS 416 /* bytes of x87 and SSE state in the image of fxsave */
+#define STATUS 28  /* of control and status in front of them; behind these a mask that is the processor's own */
+#define X87_AT 32  /* eight registers, of which each fills 10 of 16 bytes */
+#define SSE_AT 160
 
 static uint8_t *writable; /* the same page, where bytes are put */
 static const Before *going;
@@ -63,6 +66,14 @@ static unsigned selector(char name) {
     return value & 0xFFFF;
 }
 
+static int same_floats(const uint8_t *now) {
+    int i, same = memcmp(now, floats, STATUS) == 0 && memcmp(now + SSE_AT, floats + SSE_AT, FLOATS - SSE_AT) == 0;
+    for (i = X87_AT; i < SSE_AT; i += 16) {
+        same = same && memcmp(now + i, floats + i, 10) == 0;
+    }
+    return same;
+}
+
 static void on_trap(int sig, siginfo_t *info, void *context) {
     static const int order[8] = {REG_RAX, REG_RCX, REG_RDX, REG_RBX, REG_RSP, REG_RBP, REG_RSI, REG_RDI};
     static const char text[] = "a fault of the host itself\n";
@@ -86,7 +97,7 @@ static void on_trap(int sig, siginfo_t *info, void *context) {
     coming->address = (uint32_t)reg[REG_CR2];
     coming->segments_stay = (segments & 0xFFFF) == CODE_SELECTOR && segments >> 48 == DATA_SELECTOR && selector('d') == DATA_SELECTOR &&
                             selector('e') == DATA_SELECTOR && selector('f') == 0 && selector('g') == 0;
-    coming->floats_stay = memcmp(at->uc_mcontext.fpregs, floats, FLOATS) == 0;
+    coming->floats_stay = same_floats((const uint8_t *)at->uc_mcontext.fpregs);
     reg[REG_RIP] = (greg_t)(uintptr_t)inside_landing;
     reg[REG_CSGSFS] = (greg_t)((segments & 0x0000FFFFFFFF0000ull) | HOST_CODE | (uint64_t)HOST_STACK << 48);
     reg[REG_EFL] = 0x202;
@@ -148,16 +159,14 @@ static int handle(void) {
 /* x87 and SSE state that no instruction happens to leave: every register another, with the control words of the C library. */
 static void lay_floats(void) {
     size_t i;
-    for (i = 32; i < FLOATS; i++) {
-        floats[i] = (i < 160 && i % 16 >= 10) ? 0 : (uint8_t)(i * 37 + 11);
+    for (i = X87_AT; i < FLOATS; i++) {
+        floats[i] = (i < SSE_AT && i % 16 >= 10) ? 0 : (uint8_t)(i * 37 + 11);
     }
     floats[0] = 0x7F;
     floats[1] = 0x03;
     floats[4] = 0xFF;  /* no x87 register is empty */
     floats[24] = 0xBF; /* each sticky flag of SSE is set, each exception masked */
     floats[25] = 0x1F;
-    floats[28] = 0xFF;
-    floats[29] = 0xFF;
 }
 
 const char *inside_begin(void) {

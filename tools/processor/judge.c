@@ -252,7 +252,7 @@ Counts judge(List *list, unsigned of_so_many, FILE *to) {
     j.to = to;
     for (i = 0; i < list->count; i++) {
         if (!list->all[i].sib || i % of_so_many == 0) {
-            judge_beginning(&j, &list->all[i], of_so_many == 1 ? 1 : 3);
+            judge_beginning(&j, &list->all[i], of_so_many == 1 ? 1 : 9);
         }
     }
     return j.n;
