@@ -204,7 +204,8 @@ static int run_cache(double seconds, unsigned threads) {
     __atomic_store_n(&over, 1, __ATOMIC_SEQ_CST);
     for (i = 0; i < threads; i++) {
         pthread_join(guests[i].thread, NULL);
-        stays += guests[i].stays, wrong += guests[i].wrong, resumed += guests[i].resumed, went_back += guests[i].went_back;
+        stays += guests[i].stays, wrong += guests[i].wrong;
+        resumed += guests[i].resumed, went_back += guests[i].went_back;
     }
     printf("an inline cache, changed while threads ran it: %s\n", stays != 0 && wrong == 0 ? "each sum right" : "WRONG");
     printf("times: %.0f changes a second, each a stub, a patch and a deletion; %.0f runs a second of %u values\n", (double)changes / seconds,

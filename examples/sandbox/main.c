@@ -56,7 +56,8 @@ static void try_code(const char *name, const uint8_t *bytes, size_t count) {
     guest_reg[ESP] = UNTRUSTED_DATA;
     if (verdict.fault != NC_OK) {
         host_run(TRIAL_AT);
-        printf("%s: refused, fault %u at %08x; at %08x still stands %s\n", name, (unsigned)verdict.fault, (unsigned)verdict.at, (unsigned)guest_place, name_of(guest_why));
+        printf("%s: refused, fault %u at %08x; at %08x still stands %s\n", name, (unsigned)verdict.fault, (unsigned)verdict.at,
+               (unsigned)guest_place, name_of(guest_why));
         return;
     }
     host_run(TRIAL_AT);
@@ -99,9 +100,11 @@ static void try_changes(void) {
 
 static int try_threads(unsigned threads, unsigned seconds, int torn) {
     Tally t = race(threads, seconds, torn);
-    printf("threads inside while code is patched%s, deleted and replaced: %s\n", torn ? " byte by byte" : "", t.astray ? "ASTRAY" : "nothing astray");
+    printf("threads inside while code is patched%s, deleted and replaced: %s\n", torn ? " byte by byte" : "",
+           t.astray ? "ASTRAY" : "nothing astray");
     printf("counts: %u threads, %llu stays, %llu patches, %llu deletions, %llu creations, %llu waits for check-ins\n", threads,
-           (unsigned long long)t.stays, (unsigned long long)t.patches, (unsigned long long)t.deletions, (unsigned long long)t.creations, (unsigned long long)t.waits);
+           (unsigned long long)t.stays, (unsigned long long)t.patches, (unsigned long long)t.deletions, (unsigned long long)t.creations,
+           (unsigned long long)t.waits);
     printf("counts: %llu stops of changes met, %llu stays ended in deleted code, %llu astray\n", (unsigned long long)t.went_back,
            (unsigned long long)t.stopped, (unsigned long long)t.astray);
     return t.astray != 0;

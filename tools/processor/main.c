@@ -12,9 +12,10 @@ static void show(const Counts *n) {
     printf("%llu beginnings, %llu instructions, %llu runs: %llu completed, %llu faulted, %llu cut short by the page's end\n",
            (unsigned long long)n->beginnings, (unsigned long long)n->instructions, (unsigned long long)n->runs,
            (unsigned long long)n->completed, (unsigned long long)n->faulted, (unsigned long long)n->cut);
-    printf("branches taken %llu, passed %llu; masks %llu; calls %llu; undefined %llu, all ud2; privileged %llu, all hlt; divisions that never end well %llu\n",
-           (unsigned long long)n->branches_taken, (unsigned long long)n->branches_passed, (unsigned long long)n->masks,
-           (unsigned long long)n->calls, (unsigned long long)n->undefined, (unsigned long long)n->privileged, (unsigned long long)n->never);
+    printf("branches taken %llu, passed %llu; masks %llu; calls %llu; ", (unsigned long long)n->branches_taken,
+           (unsigned long long)n->branches_passed, (unsigned long long)n->masks, (unsigned long long)n->calls);
+    printf("undefined %llu, all ud2; privileged %llu, all hlt; divisions that always overflow %llu\n", (unsigned long long)n->undefined,
+           (unsigned long long)n->privileged, (unsigned long long)n->never);
     printf("%llu differences\n", (unsigned long long)n->wrong);
 }
 
