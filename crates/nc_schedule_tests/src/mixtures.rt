@@ -2,7 +2,7 @@
 //! with one of them left out some mixture isn't.
 
 use nc_gens::Gens;
-use nc_region::{Acts, RegionOf};
+use nc_region::{Acts, ModifyFault, RegionOf};
 use nc_vet::{Vetted, vet};
 use nc_views::{Found, viewed};
 use std::alloc::Global;
@@ -114,11 +114,16 @@ fn create<A: Acts + Drop>(region: &mut RegionOf<A>, vetted: Vetted) -> Result<()
     }
 }
 
+/// The fault of a patch as that of a test. It is a function of its own, so that no proof goes through the faults at a patch.
+fn unpatched(fault: ModifyFault) -> Fail {
+    Fail::new(format_args!("{fault:?}"))
+}
+
 /// Replaces instructions, or says which fault there is.
 fn modify<A: Acts + Drop>(region: &mut RegionOf<A>, at: u32, new: &[u8]) -> Result<(), Fail> {
     match region.modify(at, new) {
         Ok(()) => Ok(()),
-        Err(fault) => Err(Fail::new(format_args!("{fault:?}"))),
+        Err(fault) => Err(unpatched(fault)),
     }
 }
 
