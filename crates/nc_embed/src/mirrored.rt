@@ -8,7 +8,7 @@ use crate::code::{BASE, BUNDLES, SWITCH, SWITCHED, bundles};
 use crate::fault::{HostFault, LoadFault};
 use nc_gens::Gens;
 use nc_image::Image;
-use nc_region::{Acts, RegionOf};
+use nc_region::{Acts, ModifyFault, RegionOf};
 use std::alloc::Global;
 use std::sync::{Mutex, Wait};
 
@@ -58,6 +58,11 @@ fn show<R: Wait + Print>(
     Ok(())
 }
 
+/// Patches the chunk. It is a function without a clause: a proof of the whole life needs to know nothing of this fault.
+fn switch<R: Wait>(rt: &R, region: &Mutex<RegionOf<Image<'_>>>) -> Result<(), ModifyFault> {
+    region.lock(rt).modify(BASE, &SWITCHED)
+}
+
 /// The chunk's life once more, in memory of the host's own.
 pub fn run<R: Wait + Print>(rt: &R, alloc: Global) -> Result<(), HostFault> {
     let (gens, keeper, _passes) = Gens::new(alloc, 1)?;
@@ -66,7 +71,7 @@ pub fn run<R: Wait + Print>(rt: &R, alloc: Global) -> Result<(), HostFault> {
     load(&mut region, BASE, bundles(alloc, &SWITCH)?)?;
     let region = Mutex::new(region);
     show(rt, &region, "memory after the load")?;
-    region.lock(rt).modify(BASE, &SWITCHED)?;
+    switch(rt, &region)?;
     show(rt, &region, "memory after the patch")?;
     region.lock(rt).delete(BASE)?;
     show(rt, &region, "memory after the deletion")

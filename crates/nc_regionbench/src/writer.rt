@@ -1,6 +1,6 @@
 //! A writer that judges each answer of a region by a plain model of it.
 
-use crate::drawn::{draw_code, draw_patch};
+use crate::drawn::{Patch, draw_code, draw_patch};
 use crate::model::Model;
 use crate::numbers::Numbers;
 use nc_decode::START;
@@ -28,6 +28,17 @@ pub struct Done {
 /// Adds one.
 fn count(number: &mut u64) {
     *number = number.saturating_add(1);
+}
+
+/// Patches a chunk, and answers why that was refused. This and the next function have no clause, so that a proof above them
+/// doesn't go through all faults of a call.
+fn patch_fault(region: &mut Viewed<'_>, patch: &Patch) -> Option<ModifyFault> {
+    region.modify(patch.at, patch.bytes()).err()
+}
+
+/// Deletes a chunk.
+fn delete_chunk(region: &mut Viewed<'_>, base: u32) -> Result<u64, DeleteFault> {
+    region.delete(base)
 }
 
 /// A writer, its model, and the last stamp that was drawn.
@@ -136,7 +147,7 @@ impl Writer {
             ChunkState::Live => patch.refused,
             ChunkState::Retired(_) => Some(ModifyFault::NotLive),
         };
-        let found = region.modify(patch.at, patch.bytes()).err();
+        let found = patch_fault(region, &patch);
         if found != wanted {
             count(&mut self.done.wrong);
         } else if found.is_none() {
@@ -154,7 +165,7 @@ impl Writer {
             return;
         };
         let next = self.stamp.saturating_add(1);
-        match (chunk.state, region.delete(chunk.base)) {
+        match (chunk.state, delete_chunk(region, chunk.base)) {
             (ChunkState::Live, Ok(stamp)) if stamp == next => {
                 self.stamp = next;
                 self.model.delete(number, next);
