@@ -159,5 +159,6 @@ int main(void) {
     printf("after the region: %u\n", (unsigned)nc_seat_check_in(&seat));
     nc_seat_leave(&seat);
     nc_seat_leave(&seat);
+    nc_seat_leave(&other);
     return 0;
 }

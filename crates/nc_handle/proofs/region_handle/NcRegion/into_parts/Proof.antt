@@ -1,11 +1,11 @@
 -- `into_parts` tests the pointer: null owns nothing, and what another owns goes with it.
-use mathlib.Core.Path.{◌≡◌, refl, sym, ap, subst}
+use mathlib.Core.Path.{◌≡◌, refl, sym, subst}
 use mathlib.Core.List.{List, [], ◌∷◌, ◌++◌}
 use lib.Dec.{lit<}
 use Rattle.std.specs.Prelude.{Option, Some, None}
 use seplogic.Ra.Ura.{Ura}
 use mir.Syntax.{Body}
-use mir.Val.{Val, vptr, vnull, vstruct, vcons, vnil, of_list}
+use mir.Val.{Val, vnull, vstruct, vcons, vnil, of_list}
 use mir.Raw.{raw as bare}
 use base.Logic.{SProp, ent, emp, id⊢, guard_i}
 use base.Fml.{ftrue, fsep}
@@ -24,7 +24,7 @@ use types.ByLocal.{alloc_all, pass_all, free_all, look_at, get, get_in, sets, se
 use denote.Exit.{yes}
 use denote.Param.{layout}
 use denote.RattleType.{RattleType}
-use denote.RawPtr.{Ptr, block_ptr, null_ptr, ptr_val, Testable, tests_null}
+use denote.RawPtr.{Ptr, block_ptr, ptr_val, Testable, tests_null}
 use denote.Signature.{type_at}
 use denote.Steps.{nothing}
 use denote.Triple.Spec.{triple_of}

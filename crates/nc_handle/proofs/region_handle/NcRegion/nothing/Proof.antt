@@ -21,7 +21,7 @@ use types.ByLocal.{alloc_all, pass_all, free_all, look_at, get, sets}
 use denote.RattleType.{Valss}
 use denote.RawPtr.{Ptr, RawPtr, null_ptr, ptr_val}
 use denote.Exit.{yes}
-use denote.Signature.{plain, type_at}
+use denote.Signature.{plain}
 use denote.Steps.{nothing}
 use denote.Struct.Struct.{within}
 use denote.Struct.Owning.{shape, to}
