@@ -1,6 +1,6 @@
 //! Regions by handles: made, freed, and their seats given.
 
-ghost use Rattle.std.specs.Prelude.{◌≡◌, ◌<◌, ◌≤◌, ◌⊎◌, [], None, Some, IfOk, IfErr};
+ghost use Rattle.std.specs.Prelude.{◌≡◌, ◌<◌, ◌≤◌, ◌⊎◌, ◌↔◌, [], None, Some, IfOk, IfErr};
 ghost use Rattle.nc_gens.specs.Seen.{PassState};
 ghost use Rattle.nc_handle.specs.Held.{HeldState, IsFirst, MayRefuseNew, HasGiven};
 ghost use Rattle.nc_handle.specs.declared.fault.NewFault.{NewFault};
@@ -74,7 +74,7 @@ pub extern "C" fn nc_region_seat(alloc: Global, region: &mut NcRegion, seat: &mu
     ensures refused { 0 < result → ((result ≡ 33) × ((guest : PassState) × (seat.old.value ≡ Some guest)))
         ⊎ (((result ≡ 32) × (region.old.value ≡ None))
         ⊎ ((h : HeldState) × (region.old.value ≡ Some h) × ((f : SeatFault) × (result ≡ seat_number f)
-        × ((f ≡ SeatFault.NoneLeft) → h.passes ≡ [])))) }
+        × ((f ≡ SeatFault.NoneLeft) ↔ (h.passes ≡ []))))) }
 {
     if let Some(kept) = seat.take(alloc) {
         *seat = NcSeat::of(kept);

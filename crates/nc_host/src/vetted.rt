@@ -118,7 +118,8 @@ pub extern "C" fn nc_region_load(
         ⊎ ((result.fault ≡ 8) × IsDone region.old.value region.new.value IsSameButPages) }
     // Each refusal comes where it is due: there is no chunk or no region, or the region refuses the chunk.
     ensures at { result.at ≡ 0 }
-    ensures refused { 0 < result.fault → ((result.fault ≡ 32) × (result.count ≡ 0)) ⊎ ((h : HeldState) × (k : Kept) × (v : MarkedChunk)
+    ensures refused { 0 < result.fault → ((result.fault ≡ 32) × (result.count ≡ 0) × ((vetted.old.value ≡ None) ⊎ ((region.old.value ≡ None)
+        ⊎ ((k : Kept) × (vetted.old.value ≡ Some k) × (k.chunk ≡ None))))) ⊎ ((h : HeldState) × (k : Kept) × (v : MarkedChunk)
         × (region.old.value ≡ Some h) × (vetted.old.value ≡ Some k) × (k.chunk ≡ Some v)
         × ((f : LoadFault) × MayRefuseLoad h v (length acts.old) f × (result.fault ≡ load_number f) × (result.count ≡ load_wanted f))) }
 {
