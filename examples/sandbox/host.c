@@ -52,7 +52,7 @@ uint32_t host_delete(uint32_t base) {
     told = region_begin_delete(host_region, base, acts, ROOM);
     if (told.fault == NC_OK) {
         text_make(acts, told.count);
-        region_end_delete(host_region, base);
+        region_end_delete(host_region);
     }
     pthread_mutex_unlock(&writer);
     return told.fault;

@@ -25,6 +25,7 @@ struct Region {
     Chunk chunks[CHUNKS];
     Seat seats[SEATS];
     uint64_t generation;
+    Chunk *ending; /* whose deletion is under way, or null */
 };
 
 static NcActs refused(uint32_t fault) {
@@ -87,16 +88,19 @@ NcActs region_patch(Region *region, uint32_t at, const uint8_t *bytes, size_t le
 
 NcActs region_begin_delete(Region *region, uint32_t base, NcAct *acts, size_t acts_len) {
     Chunk *chunk = meeting(region, base, 1);
+    NcActs answer;
     if (chunk == NULL || chunk->base != base || chunk->stamp != 0) {
         return refused(NO_CHUNK);
     }
-    return nc_host_delete(base, LIMIT, text_at(base), chunk->len, acts, acts_len);
+    answer = nc_host_delete(base, LIMIT, text_at(base), chunk->len, acts, acts_len);
+    region->ending = answer.fault == NC_OK ? chunk : NULL;
+    return answer;
 }
 
-void region_end_delete(Region *region, uint32_t base) {
-    Chunk *chunk = meeting(region, base, 1);
-    if (chunk != NULL && chunk->base == base) {
-        chunk->stamp = __atomic_add_fetch(&region->generation, 1, __ATOMIC_SEQ_CST);
+void region_end_delete(Region *region) {
+    if (region->ending != NULL) {
+        region->ending->stamp = __atomic_add_fetch(&region->generation, 1, __ATOMIC_SEQ_CST);
+        region->ending = NULL;
     }
 }
 

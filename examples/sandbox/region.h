@@ -16,7 +16,7 @@ NcActs region_patch(Region *region, uint32_t at, const uint8_t *bytes, size_t le
 
 /* The stops are made between these two; the second draws the stamp. */
 NcActs region_begin_delete(Region *region, uint32_t base, NcAct *acts, size_t acts_len);
-void region_end_delete(Region *region, uint32_t base);
+void region_end_delete(Region *region);
 
 /* How many deleted spans are free now: since their stamp every seat has checked in or has been left. */
 uint32_t region_reclaim(Region *region);
