@@ -85,7 +85,11 @@ static Times make_and_throw(double seconds, int sandboxed, uint32_t stack) {
             abort();
         }
         b = now();
-        sandboxed ? must(host_load(SHORT_AT, code.bytes, code.len).fault) : store(&code);
+        if (sandboxed) {
+            must(host_load(SHORT_AT, code.bytes, code.len).fault);
+        } else {
+            store(&code);
+        }
         c = now();
         t.wrong += !runs_right(SHORT_AT, ROUNDS, sums[k], stack);
         d = now();
@@ -94,7 +98,10 @@ static Times make_and_throw(double seconds, int sandboxed, uint32_t stack) {
             host_reclaim(); /* no other thread is inside: the span is free */
         }
         e = now();
-        t.generate += b - a, t.load += c - b, t.run += d - c, t.throw += e - d;
+        t.generate += b - a;
+        t.load += c - b;
+        t.run += d - c;
+        t.throw += e - d;
         t.chunks++;
         t.bytes += code.len;
     }
@@ -204,8 +211,10 @@ static int run_cache(double seconds, unsigned threads) {
     __atomic_store_n(&over, 1, __ATOMIC_SEQ_CST);
     for (i = 0; i < threads; i++) {
         pthread_join(guests[i].thread, NULL);
-        stays += guests[i].stays, wrong += guests[i].wrong;
-        resumed += guests[i].resumed, went_back += guests[i].went_back;
+        stays += guests[i].stays;
+        wrong += guests[i].wrong;
+        resumed += guests[i].resumed;
+        went_back += guests[i].went_back;
     }
     printf("an inline cache, changed while threads ran it: %s\n", stays != 0 && wrong == 0 ? "each sum right" : "WRONG");
     printf("times: %.0f changes a second, each a stub, a patch and a deletion; %.0f runs a second of %u values\n", (double)changes / seconds,

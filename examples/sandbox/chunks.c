@@ -81,10 +81,9 @@ static const uint8_t LENGTHS[KINDS] = {5, 6, 3, 2, 2, 1};
 
 static void lay_operation(uint8_t *at, const Operation *op) {
     static const uint8_t begins[KINDS][3] = {{0x05}, {0x81, 0xF2}, {0xC1, 0xC0, 7}, {0x31, 0xD0}, {0x01, 0xC2}, {0x40}};
-    memcpy(at, begins[op->kind], LENGTHS[op->kind] < 3 ? LENGTHS[op->kind] : op->kind == ADD ? 1 : op->kind == XOR_NUMBER ? 2 : 3);
-    if (op->kind <= XOR_NUMBER) {
-        lay32(at + LENGTHS[op->kind] - 4, op->number);
-    }
+    uint32_t numbers = op->kind == ADD || op->kind == XOR_NUMBER ? 4 : 0; /* bytes of its number, at its end */
+    memcpy(at, begins[op->kind], LENGTHS[op->kind] - numbers);
+    memcpy(at + LENGTHS[op->kind] - numbers, &op->number, numbers);
 }
 
 static void do_operation(Version *v, const Operation *op) {
@@ -98,23 +97,10 @@ static void do_operation(Version *v, const Operation *op) {
     }
 }
 
-/* mov ebx, id; mov eax; mov edx; mov ebp, rounds. Then bundles of operations, and at the end: dec ebp; jne the second bundle; and edi, -32;
-   jmp edi. */
-void chunks_lay_version(Version *v, uint64_t *random) {
+/* Operations from the second bundle up to the last one; how many. */
+static uint32_t lay_operations(Version *v, Operation *ops, uint64_t *random) {
     static const uint32_t numbers[] = {0xCCCCCCCC, 0x0B0F0B0F, 0xF1F1F1F1, 0xF4F4F4F4, 0xC3C3C3C3, 0x80CD80CD};
-    static const uint8_t end[] = {0x4D, 0x0F, 0x85, 0, 0, 0, 0, 0x83, 0xE7, 0xE0, 0xFF, 0xE7};
-    Operation ops[CHANGING_MAX];
-    uint32_t bundles = 4 + chunks_random(random) % 12, rounds = 1 + chunks_random(random) % 300, count = 0, at = NC_BUNDLE, r, k;
-    uint8_t *last = v->code + (bundles - 1) * NC_BUNDLE;
-    v->len = bundles * NC_BUNDLE;
-    v->id++;
-    v->eax = chunks_random(random);
-    v->edx = chunks_random(random);
-    memset(v->code, 0x90, sizeof v->code);
-    v->code[0] = 0xBB, lay32(v->code + 1, v->id);
-    v->code[5] = 0xB8, lay32(v->code + 6, v->eax);
-    v->code[10] = 0xBA, lay32(v->code + 11, v->edx);
-    v->code[15] = 0xBD, lay32(v->code + 16, rounds);
+    uint32_t count = 0, at = NC_BUNDLE;
     while (at < v->len - NC_BUNDLE) {
         Operation op = {chunks_random(random) % KINDS, numbers[chunks_random(random) % 6]};
         if (at % NC_BUNDLE + LENGTHS[op.kind] > NC_BUNDLE) {
@@ -125,11 +111,36 @@ void chunks_lay_version(Version *v, uint64_t *random) {
         at += LENGTHS[op.kind];
         ops[count++] = op;
     }
+    return count;
+}
+
+static void lay_mov(uint8_t *at, uint8_t opcode, uint32_t number) {
+    at[0] = opcode;
+    lay32(at + 1, number);
+}
+
+/* mov ebx, id; mov eax; mov edx; mov ebp, rounds. Then bundles of operations, and at the end: dec ebp; jne the second bundle; and edi, -32;
+   jmp edi. */
+void chunks_lay_version(Version *v, uint64_t *random) {
+    static const uint8_t end[] = {0x4D, 0x0F, 0x85, 0, 0, 0, 0, 0x83, 0xE7, 0xE0, 0xFF, 0xE7};
+    Operation ops[CHANGING_MAX];
+    uint32_t bundles = 4 + chunks_random(random) % 12, rounds = 1 + chunks_random(random) % 300, count, r, k;
+    uint8_t *last = v->code + (bundles - 1) * NC_BUNDLE;
+    v->len = bundles * NC_BUNDLE;
+    v->id++;
+    v->eax = chunks_random(random);
+    v->edx = chunks_random(random);
+    memset(v->code, 0x90, sizeof v->code);
+    lay_mov(v->code, 0xBB, v->id);
+    lay_mov(v->code + 5, 0xB8, v->eax);
+    lay_mov(v->code + 10, 0xBA, v->edx);
+    lay_mov(v->code + 15, 0xBD, rounds);
+    count = lay_operations(v, ops, random);
+    memcpy(last, end, sizeof end);
+    lay32(last + 3, (uint32_t)(v->code + NC_BUNDLE - (last + 7)));
     for (r = 0; r < rounds; r++) {
         for (k = 0; k < count; k++) {
             do_operation(v, &ops[k]);
         }
     }
-    memcpy(last, end, sizeof end);
-    lay32(last + 3, (uint32_t)(v->code + NC_BUNDLE - (last + 7)));
 }
