@@ -5,7 +5,7 @@
 
 #include "segment.h"
 
-#define PATCHED_AT 0x20000u /* a loop of ECX rounds, then a jump by ESI; five instructions of it are patched */
+#define PATCHED_AT 0x20000u /* a loop of ECX rounds, then a jump by ESI; four instructions of it are patched */
 #define PATCHED_LEN 96u
 #define ASIDE_AT 0x3FABE0u  /* one round of the loop may lead here, far away */
 #define ASIDE_LEN 32u
