@@ -1,10 +1,14 @@
 //! A region behind its lock, which threads share.
 
-ghost use Rattle.std.specs.Prelude.{◌≡◌, ◌+◌, ◌≤◌, ℕ, List, IfOk, IfErr};
+ghost use Rattle.std.specs.Prelude.{◌≡◌, ◌+◌, ◌≤◌, ℕ, List, IfOk, IfErr, OnOk};
 ghost use Rattle.nc_gens.specs.Rule.{generation_taken, since_stored};
 ghost use Rattle.nc_decode.specs.Bundles.{IsLawfulLimit};
 ghost use Rattle.nc_text.specs.Machine.{IsConfined};
 ghost use Rattle.nc_text.specs.Places.{limit_of};
+ghost use Rattle.nc_region.specs.Deletion.{IsDeleted, MayRefuseDelete};
+ghost use Rattle.nc_region.specs.Patch.{IsPatch, MayRefusePatch};
+ghost use Rattle.nc_region.specs.Region.{IsRegion, IsCreated, MayRefuse};
+ghost use Rattle.nc_region.specs.Region as spec;
 ghost use Rattle.nc_region.specs.Trace.{IsTrace, IsWalkStart, MayRefuseWalk};
 
 use crate::fault::{CreateFault, DeleteFault, ModifyFault, WalkFault};
@@ -19,8 +23,8 @@ use std::sync::{Mutex, Wait};
 ///
 /// Whenever the lock is free the region is confined, since every value of `Region` is. Each call takes the lock and
 /// runs the call of `Region` with its name; it may wait for the lock, and nothing is promised of who comes first. What
-/// a call finds under the lock and leaves there is what the call of `Region` promises of it; of these calls themselves no
-/// clause says that, since none can name the region at the moment when the lock is held.
+/// a call finds under the lock and leaves there is what the call of `Region` promises of it. No clause can name the region at
+/// the moment when the lock is held, so those of these calls say that some region was found from which the answer comes.
 #[derive(Drop)]
 pub struct Shared<'g> {
     gens: &'g Gens,
@@ -75,8 +79,14 @@ impl<'g> Shared<'g> {
     }
 
     /// `Region::delete` under the lock.
-    pub fn delete(&self, rt: &impl Wait, base: u32) -> Result<u64, DeleteFault> {
-        self.region.lock(rt).delete(base)
+    pub fn delete(&self, rt: &impl Wait, base: u32) -> Result<u64, DeleteFault>
+        // Whatever region was found under the lock, a live chunk of this base was deleted there, with this stamp.
+        ensures deleted { IfOk result (λ stamp. (old new : spec.Region) × IsRegion old.marked old.chunks
+            × IsDeleted old new base stamp) }
+        // A refusal is one that a region gives.
+        ensures refused { IfErr result (λ fault. (r : spec.Region) × IsRegion r.marked r.chunks × MayRefuseDelete r base fault) }
+    {
+        delete_in(&mut self.region.lock(rt), base)
     }
 
     /// `Region::reclaim` under the lock.
@@ -92,13 +102,22 @@ impl<'g> Shared<'g> {
     /// `Region::create` under the lock. A refusal gives the chunk back.
     pub fn create(&self, rt: &impl Wait, vetted: Vetted) -> Result<(), (Vetted, CreateFault)>
         ensures given_back { IfErr result (λ e. e.0 ≡ vetted) }
+        // Whatever region was found under the lock, the chunk was created there.
+        ensures created { OnOk result ((old new : spec.Region) × IsRegion old.marked old.chunks × IsCreated old new vetted) }
+        // A refusal is one that a region gives.
+        ensures refused { IfErr result (λ e. (r : spec.Region) × IsRegion r.marked r.chunks × MayRefuse r vetted e.1) }
     {
-        self.region.lock(rt).create(vetted)
+        create_in(&mut self.region.lock(rt), vetted)
     }
 
     /// `Region::modify` under the lock.
-    pub fn modify(&self, rt: &impl Wait, at: u32, new: &[u8]) -> Result<(), ModifyFault> {
-        self.region.lock(rt).modify(at, new)
+    pub fn modify(&self, rt: &impl Wait, at: u32, new: &[u8]) -> Result<(), ModifyFault>
+        // Whatever region was found under the lock, the patch is a lawful one of it.
+        ensures lawful { OnOk result ((r : spec.Region) × IsRegion r.marked r.chunks × IsPatch r at new.now) }
+        // A refusal is one that a region gives.
+        ensures refused { IfErr result (λ fault. (r : spec.Region) × IsRegion r.marked r.chunks × MayRefusePatch r at new.now fault) }
+    {
+        modify_in(&mut self.region.lock(rt), at, new)
     }
 
     /// `Region::walk` under the lock: the trace through the text that stood there at that moment. By contract some confined
@@ -112,6 +131,38 @@ impl<'g> Shared<'g> {
     {
         walk_confined(&self.region.lock(rt), start, choices)
     }
+}
+
+/// A chunk created in a region.
+fn create_in(region: &mut Region<'_>, vetted: Vetted) -> Result<(), (Vetted, CreateFault)>
+    ensures given_back { IfErr result (λ e. e.0 ≡ vetted) }
+    ensures created { OnOk result ((old new : spec.Region) × IsRegion old.marked old.chunks × IsCreated old new vetted) }
+    ensures refused { IfErr result (λ e. (r : spec.Region) × IsRegion r.marked r.chunks × MayRefuse r vetted e.1) }
+{
+    // Called for what it ensures.
+    let _facts = region.limit();
+    region.create(vetted)
+}
+
+/// A patch of a region.
+fn modify_in(region: &mut Region<'_>, at: u32, new: &[u8]) -> Result<(), ModifyFault>
+    ensures lawful { OnOk result ((r : spec.Region) × IsRegion r.marked r.chunks × IsPatch r at new.now) }
+    ensures refused { IfErr result (λ fault. (r : spec.Region) × IsRegion r.marked r.chunks × MayRefusePatch r at new.now fault) }
+{
+    // Called for what it ensures.
+    let _facts = region.limit();
+    region.modify(at, new)
+}
+
+/// A chunk of a region deleted.
+fn delete_in(region: &mut Region<'_>, base: u32) -> Result<u64, DeleteFault>
+    ensures deleted { IfOk result (λ stamp. (old new : spec.Region) × IsRegion old.marked old.chunks
+        × IsDeleted old new base stamp) }
+    ensures refused { IfErr result (λ fault. (r : spec.Region) × IsRegion r.marked r.chunks × MayRefuseDelete r base fault) }
+{
+    // Called for what it ensures.
+    let _facts = region.limit();
+    region.delete(base)
 }
 
 /// A walk through a region's text, which is confined.
