@@ -5,3 +5,6 @@ pub returns-in-Err-NotPermitted-clause-refused : goal.returns-in-Err-NotPermitte
 returns-in-Err-NotPermitted-clause-refused c =
     let none = c.decode_within.ensures.refused cc in
     (refl, none.0, none.1)
+
+pub returns-in-Err-Truncated-clause-refused : goal.returns-in-Err-Truncated-clause-refused
+returns-in-Err-Truncated-clause-refused c = (refl, c.decode_within.ensures.cut cc)
