@@ -1,0 +1,71 @@
+use Rattle.std.proofs.Common.{◌≡◌, List, ℕ, length, sym, subst, take, rules, arith, refl}
+use Rattle.std.proofs.lemmas.Option.{IfSome_then}
+use Rattle.std.proofs.lemmas.List.{take_all}
+use Rattle.std.specs.Io.KnownBytes.{Appends}
+use Rattle.std.proofs.KnownBytes.{Appends-kept}
+use Rattle.nc_lines.specs.Lines.{lines_of}
+use Rattle.nc_lines.specs.machinery.Batch.{HasGathered}
+use Rattle.nc_lines.specs.Vetting.{HasVetted, HasBegunVetted}
+use Rattle.nc_lines.proofs.VetReplies.{whole_reply}
+use Rattle.nc_lines.proofs.vetting.vet_and_write.Goals as goal
+
+pub returns-in-Err-clause-unwritten : goal.returns-in-Err-clause-unwritten
+returns-in-Err-clause-unwritten g c = λ _. refl
+
+pub returns-in-Err-write_out-clause-write_failed : goal.returns-in-Err-write_out-clause-write_failed
+returns-in-Err-write_out-clause-write_failed g c = λ _.
+    let limit : c.new-batch.result.limit ≡ c.args.limit = search rules in
+    let front = c.in-Err-write_out.ensures.front in
+    let vetted : (input : List ℕ) → HasGathered c.new-batch.result c.gather.new.batch (lines_of input)
+    → HasBegunVetted c.args.limit
+    (g.W.Write.contents c.args.writer.now) (g.W.Write.contents c.write_out.new.writer) (lines_of input) = λ input h. record {
+      replies = c.push_verdicts.new.out.items;
+      count = front.0;
+      verdicts = whole_reply c.new-batch.result c.gather.new.batch c.args.limit
+          (lines_of input) c.in-Ok-vet_all.verdicts.items c.new-out.result.items c.push_verdicts.new.out.items
+          limit c.new-batch.ensures.empty.0 c.new-batch.ensures.empty.1 h c.in-Ok-vet_all.ensures.verdicts c.new-out.ensures.items
+          c.in-Ok-push_verdicts.ensures;
+      written = subst (λ (xs : List ℕ). Appends (g.W.Write.contents c.args.writer.now) (g.W.Write.contents c.write_out.new.writer)
+          (take front.0 xs)) c.as_slice.ensures.value front.1;
+    } in
+    IfSome_then _ c.in-Ok.ensures.ok vetted
+
+pub returns-in-Ok-flush-clause-ok : goal.returns-in-Ok-flush-clause-ok
+returns-in-Ok-flush-clause-ok g c =
+    let limit : c.new-batch.result.limit ≡ c.args.limit = search rules in
+    let vetted : (input : List ℕ) → HasGathered c.new-batch.result c.gather.new.batch (lines_of input)
+    → HasVetted c.args.limit
+    (g.W.Write.contents c.args.writer.now) (g.W.Write.contents c.flush.new.self) (lines_of input) = λ input h. record {
+      replies = c.push_verdicts.new.out.items;
+      verdicts = whole_reply c.new-batch.result c.gather.new.batch c.args.limit
+          (lines_of input) c.in-Ok-vet_all.verdicts.items c.new-out.result.items c.push_verdicts.new.out.items
+          limit c.new-batch.ensures.empty.0 c.new-batch.ensures.empty.1 h c.in-Ok-vet_all.ensures.verdicts c.new-out.ensures.items
+          c.in-Ok-push_verdicts.ensures;
+      written = Appends-kept (g.W.Write.contents c.args.writer.now) (g.W.Write.contents c.write_out.new.writer)
+          (g.W.Write.contents c.flush.new.self) c.push_verdicts.new.out.items
+          (subst (λ (xs : List ℕ). Appends (g.W.Write.contents c.args.writer.now) (g.W.Write.contents c.write_out.new.writer) xs)
+          c.as_slice.ensures.value c.in-Ok-write_out.ensures.all) c.flush.ensures.bytes;
+    } in
+    IfSome_then _ c.in-Ok.ensures.ok vetted
+
+pub returns-clause-write_failed : goal.returns-clause-write_failed
+returns-clause-write_failed g c = λ _.
+    let limit : c.new-batch.result.limit ≡ c.args.limit = search rules in
+    let bytes = c.push_verdicts.new.out.items in
+    let vetted : (input : List ℕ) → HasGathered c.new-batch.result c.gather.new.batch (lines_of input)
+    → HasBegunVetted c.args.limit
+    (g.W.Write.contents c.args.writer.now) (g.W.Write.contents c.flush.new.self) (lines_of input) = λ input h. record {
+      replies = bytes;
+      count = length bytes;
+      verdicts = whole_reply c.new-batch.result c.gather.new.batch c.args.limit
+          (lines_of input) c.in-Ok-vet_all.verdicts.items c.new-out.result.items bytes
+          limit c.new-batch.ensures.empty.0 c.new-batch.ensures.empty.1 h c.in-Ok-vet_all.ensures.verdicts c.new-out.ensures.items
+          c.in-Ok-push_verdicts.ensures;
+      written = subst (λ (xs : List ℕ). Appends (g.W.Write.contents c.args.writer.now) (g.W.Write.contents c.flush.new.self) xs)
+          (sym (take_all (length bytes) bytes (omega arith)))
+          (Appends-kept (g.W.Write.contents c.args.writer.now) (g.W.Write.contents c.write_out.new.writer)
+          (g.W.Write.contents c.flush.new.self) c.push_verdicts.new.out.items
+          (subst (λ (xs : List ℕ). Appends (g.W.Write.contents c.args.writer.now) (g.W.Write.contents c.write_out.new.writer) xs)
+          c.as_slice.ensures.value c.in-Ok-write_out.ensures.all) c.flush.ensures.bytes);
+    } in
+    IfSome_then _ c.in-Ok.ensures.ok vetted
