@@ -64,6 +64,33 @@ pub fn run<R: Read, W: Write>(
     if seats == 0 || seats as usize > MOST_SEATS {
         return Err(ReplayFault::BadSeats);
     }
+    run_new(alloc, reader, writer, bundles, seats)
+}
+
+/// Runs a script on a new region whose two numbers are good.
+fn run_new<R: Read, W: Write>(
+    alloc: Global,
+    reader: &mut R,
+    writer: &mut W,
+    bundles: u32,
+    seats: u32,
+) -> Result<(), ReplayFault>
+    requires size { IsRegionSize bundles }
+    requires seats { AreSeats seats }
+    ensures ok { OnOk result (IfSome (R.remaining reader.old) (λ input.
+        HasAnswered bundles seats (W.contents writer.old) (W.contents writer.new) (lines_of input))) }
+    ensures read { OnOk result (IsAtEnd (R.remaining reader.new)) }
+    ensures write_failed { IsErrOf result ReplayFault.WriteFailed → IfSome (R.remaining reader.old) (λ input.
+        IsBegun AnswersOnly (new_script bundles seats) (W.contents writer.old) (W.contents writer.new) (lines_of input)) }
+    ensures read_failed { IsErrOf result ReplayFault.ReadFailed → (front : List ℕ)
+        × Consumes (R.remaining reader.old) (R.remaining reader.new) front
+        × HasAnswered bundles seats (W.contents writer.old) (W.contents writer.new) (ended_lines front) }
+    ensures out_of_memory { IsErrOf result ReplayFault.OutOfMemory
+        → ((reader.new ≡ reader.old) × (writer.new ≡ writer.old)) ⊎ IfSome (R.remaining reader.old) (λ input.
+        IsCutShort AnswersOnly (new_script bundles seats) (W.contents writer.old) (W.contents writer.new) (lines_of input)) }
+    ensures faults { IfErr result (λ fault. (fault ≢ ReplayFault.BadSize) × (fault ≢ ReplayFault.BadSeats)
+        × (fault ≢ ReplayFault.BadWorkers)) }
+{
     let Ok((gens, keeper, passes)) = Gens::new(alloc, seats) else {
         return Err(ReplayFault::OutOfMemory);
     };

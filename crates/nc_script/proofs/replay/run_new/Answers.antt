@@ -8,7 +8,7 @@ use Rattle.nc_script.specs.Run.{HasAnswered}
 use Rattle.nc_script.specs.Script.{Seat, Staying}
 use Rattle.nc_script.specs.machinery.Session.{FollowsLine}
 use Rattle.nc_script.proofs.Carried.{answered_script, begun_script, cut_script, some_weaker}
-use Rattle.nc_script.proofs.replay.run.Goals as goal
+use Rattle.nc_script.proofs.replay.run_new.Goals as goal
 
 pub returns-in-Ok-new-clause-ok : goal.returns-in-Ok-new-clause-ok
 returns-in-Ok-new-clause-ok g c =
