@@ -1,77 +1,18 @@
--- `none` writes a null pointer, which owns nothing.
-use mathlib.Core.Path.{refl, sym, subst}
-use mathlib.Core.List.{List, [], ◌∷◌, ◌++◌}
-use Rattle.std.specs.Prelude.{None}
-use seplogic.Ra.Ura.{Ura}
-use lib.Dec.{lit<}
-use mir.Val.{Val, vnull, vstruct, vnil, vcons}
-use base.Logic.{SProp, ent, emp, id⊢}
-use base.Fml.{ftrue, fsep}
-use prog.Memory.{Memory}
-use prog.Routine.{Routine}
-use prog.Wp.{WpFn, Tables}
-use types.Logic.{Logic}
-use contract.Monad.{Fun}
-use contract.Running.{tables, tables_of}
-use sound.WpLaws.{WpFn-mono}
-use types.Kit.{Item, ‵, raw, ◌⊛◌, ◌$◌, ◌∵◌, !, qed, by, move, drop, use1, join, split, fsplit, fjoin, feq_i, fpack, suffices, done}
-use types.Part.{agg}
-use types.Run.{no_more, and_then, lit, returns, enter}
-use types.ByLocal.{alloc_all, pass_all, free_all, look_at, get, sets}
-use denote.RattleType.{Valss}
-use denote.RawPtr.{Ptr, RawPtr, null_ptr, ptr_val}
-use denote.Exit.{yes}
-use denote.Signature.{plain}
-use denote.Steps.{nothing}
-use denote.Struct.Struct.{within}
-use denote.Struct.Owning.{shape, to}
-use denote.Triple.Spec.{triple_of}
-use denote.Triple.Table.{entered}
-use denote.Triple.Walked.{says, Stays, stay_dropped, walk_of, ends_at, Goes-dropped, walk_Meets}
-use Rattle.core.proofs.alloc.Calls.{handle_tells}
-use Rattle.std_alloc.proofs.ResultValues.{and_tt}
-use Rattle.core.proofs.alloc.Calls.{α}
-use mir.Val.{has_ty}
+-- A handle that could be to a vetted chunk, and is to nothing: its pointer is null.
+use mathlib.Core.Path.{refl}
+use Rattle.std.specs.Prelude.{◌≡◌, None}
 use Rattle.std_heap.specs.contracts.Global as Heap
-use Rattle.nc_handle.proofs.VettedBox.{E}
+use denote.RawPtr.{null_ptr}
+use Rattle.nc_handle.proofs.Handled.{meets, nothing_runs}
+use Rattle.nc_handle.proofs.kept.Kept.TheLaws.{the_row_laws}
+use Rattle.nc_handle.specs.contracts.kept.Kept.{the_row}
 use Rattle.nc_handle.specs.contracts.vetted_handle.NcVetted as Own
-use Rattle.nc_handle.specs.contracts.vetted_handle.NcVetted.nothing as F
 use Rattle.nc_handle.specs.contracts.vetted_handle.NcVetted.nothing.Key.{name as #self}
 use Rattle.nc_handle.proofs.vetted_handle.NcVetted.nothing.Statement as stated
 use Rattle.nc_handle.proofs.vetted_handle.NcVetted.nothing.Code as code
 
-abbrev stayed : Stays (F.ended).signature.params (F.ended).kept
-stayed = (stay_dropped (plain (λ _. Heap.the_row)) yes, tt)
-
-module _ {M : Type 1} {𝓤 : Ura M} (𝓛 : Logic 𝓤) (at_mem : Memory → SProp 𝓤) (run : Routine → Fun 𝓤) (𝓣 : Tables 𝓤 𝓛.H) where
-  open 𝓛 use {H}
-
-  walk : (z : (walk_of 𝓛 F.ended stayed (F.clauses 𝓛 at_mem run)).Ghost)
-      → ent 𝓤 ((walk_of 𝓛 F.ended stayed (F.clauses 𝓛 at_mem run)).pre z) (WpFn 𝓤 H 𝓣.C 𝓣.Λ code.function (z.0.4.0 ++ []) ((walk_of 𝓛 F.ended stayed (F.clauses 𝓛 at_mem run)).post z))
-  walk z =
-      let Post = (walk_of 𝓛 F.ended stayed (F.clauses 𝓛 at_mem run)).post z in
-      let a = z.0.3.0 in
-      let made : Own.the_row.Denot = record { at = null_ptr; alloc = a; value = None } in
-      qed 𝓛 ((‵ ftrue ⊛ ‵ (fsep (Heap.the_row.own_val a z.0.4.0) ftrue)) ∷ raw (emp 𝓤) ∷ []) ∵ split ! $ drop ! $ fsplit ! $
-      handle_tells E.al ! a z.0.4.0 (λ hv ws fa.
-      let w : Val = vstruct (vcons vnull (vcons hv vnil)) in
-      -- [the handle; true; nothing]: what the result owns
-      feq_i ! Ptr null_ptr null_ptr refl $ move ! (1 ∷ 0 ∷ []) $ nothing ! $ move ! (1 ∷ 0 ∷ []) $ fjoin ! $
-      feq_i ! (List Val) (vnull ∷ []) (ptr_val null_ptr ∷ []) refl $ fjoin ! $
-      feq_i ! (List Val) (w ∷ []) (w ∷ []) refl $ fjoin ! $
-      fpack ! (Valss (RawPtr ∷ Heap.the_row ∷ [])) (within (shape Own.the_type) (to Own.the_type made) (w ∷ [])) (vnull ∷ [], (hv ∷ [], tt)) $ fjoin ! $
-      use1 𝓛 (‵ (Own.the_row.own_val made (w ∷ []))) (id⊢ 𝓤 _) $ move ! (1 ∷ 2 ∷ []) $ drop ! $ drop ! $
-      let Γ : List (Item 𝓤) = ‵ (Own.the_row.own_val made (w ∷ [])) ∷ [] in
-      by ! (subst (λ (us : List Val). ent 𝓤 (types.Kit.⋆ 𝓛 Γ) (WpFn 𝓤 H 𝓣.C 𝓣.Λ code.function (us ++ []) Post)) (sym ws)
-      (qed 𝓛 Γ ∵ enter ! 𝓣.C 𝓣.Λ code.function (hv ∷ []) _ $ alloc_all ! (λ ls. pass_all ! refl (fa, tt) $
-      sets ! (agg ! (and_then ! (lit ! tt) (and_then ! (get ! refl) (no_more !)))) refl (and_tt (has_ty (α E.al) hv) fa.0, (record { fits = lit< tt }, (fa.1, tt))) $ returns ! (look_at ! 0 refl) $ free_all ! refl $
-      suffices ! _ (ends_at 𝓛 F.ended stayed (F.clauses 𝓛 at_mem run) z w made (tt, tt) (tt, tt)) $ says ! refl $
-      nothing ! $ nothing ! $ fjoin ! $ join ! $ nothing ! $ join ! $ done !))))
-
 pub nothing_spec : {M : Type 1} → stated.statement M
-unfolding tables_of
 nothing_spec 𝓤 𝓛 𝓜 𝓡 wired =
-    let 𝓣 : Tables 𝓤 𝓛.H = tables_of 𝓤 𝓛.H 𝓜 (tables 𝓤 𝓛.H 𝓜 𝓡 𝓡.env) in
-    entered 𝓤 𝓛.H (triple_of 𝓛 F.signature (F.spec 𝓛 𝓜.mem 𝓡.returns)) 𝓣.C 𝓣.Λ #self code.function (code.unfolded 𝓤 𝓛.H 𝓜 𝓡 wired)
-    (walk_Meets 𝓛 F.ended stayed (Goes-dropped 𝓛 0 (plain (λ _. Heap.the_row)) yes (λ κs x f. refl), tt) (F.clauses 𝓛 𝓜.mem 𝓡.returns) (WpFn 𝓤 𝓛.H 𝓣.C 𝓣.Λ code.function) (WpFn-mono 𝓤 𝓛.H 𝓛.laws 𝓣 code.function)
-    (walk 𝓛 𝓜.mem 𝓡.returns 𝓣))
+    meets Heap.the_row Own.the_row (λ alloc h. h.value ≡ None) (λ x. tt) (λ x f. refl)
+    𝓤 𝓛 𝓜 𝓡 #self code.function (code.unfolded 𝓤 𝓛.H 𝓜 𝓡 wired)
+    (λ 𝓣 alloc us Q k. nothing_runs the_row the_row_laws Own.struct.name 𝓛 𝓣 us Q alloc (λ w. k (record { at = null_ptr; alloc = alloc; value = None }) w refl))

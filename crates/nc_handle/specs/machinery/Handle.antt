@@ -1,0 +1,13 @@
+-- What a handle owns: nothing, or the same as a box.
+use Rattle.std.specs.Prelude.{Option, Some, None}
+use Rattle.std.specs.Box.Ownership.{box_owns}
+use Rattle.std.specs.Global.{Global}
+use Rattle.std_heap.specs.contracts.GlobalAllocator.TheImpl.{ghosts}
+use base.Fml.{Fml, feq}
+use denote.RattleType.{RattleType}
+use denote.RawPtr.{Ptr, null_ptr}
+
+-- at null nothing, and else what a box with this pointer owns, of a value of this type
+abbrev pub handle_owns : (held : RattleType) → Global → Ptr → Option held.Denot → Fml
+handle_owns held alloc at None = feq Ptr at null_ptr
+handle_owns held alloc at (Some value) = box_owns (ghosts.dealloc_token alloc) held at value
