@@ -8,7 +8,7 @@ ghost use Rattle.nc_region.specs.Patch.{AreBytesOf, IsModified, IsPatch, log_of_
 ghost use Rattle.nc_region.specs.Region.{IsCreated};
 ghost use Rattle.nc_handle.specs.Held.{IsShort, IsShortForPatch, HasBegun, HasEnded, IsNotLoaded, MayRefuseBegin, MayRefuseLoad, MayRefuseModify};
 ghost use Rattle.nc_acts.specs.Standing.{AreBytesAt};
-ghost use Rattle.nc_handle.specs.Shown.{IsTold};
+ghost use Rattle.nc_handle.specs.Shown.{IsTold, bytes_of};
 
 use crate::fault::{LoadFault, PatchFault, RetireFault};
 use crate::held::Held;
@@ -47,6 +47,31 @@ fn tell_patch(acts: &mut [NcAct], at: u32, before: &[u8], new: &[u8]) -> usize
     write_patch(acts, 0, at, before, 0, new)
 }
 
+/// The acts of the creation of the chunk that stands in a span are written if a buffer is lent. It answers how many.
+fn tell_creation(acts: &mut [NcAct], span: &Span) -> usize
+    requires room { ¬ IsShort (length acts.old) (span.now.length + 2) }
+    ensures { IsTold acts.old acts.new result
+        (log_of_create span.now.base (bytes_of span.now.region.now.marked.bytes span.now.base span.now.length)) }
+{
+    if acts.is_empty() {
+        return 0;
+    }
+    write_creation(acts, span.base, span);
+    span.length as usize + 2
+}
+
+/// The acts of the deletion of the chunk that stands in a span are written if a buffer is lent. It answers how many.
+fn tell_deletion(acts: &mut [NcAct], span: &Span) -> usize
+    requires room { ¬ IsShort (length acts.old) (span.now.length + 2) }
+    ensures { IsTold acts.old acts.new result (log_of_delete span.now.region.now.marked.marks span.now.base span.now.length) }
+{
+    if acts.is_empty() {
+        return 0;
+    }
+    write_deletion(acts, span.base, span);
+    span.length as usize + 2
+}
+
 impl Held {
     /// `RegionOf::create`, with its acts. Each is written into the buffer with the settling among them, two more than the chunk has
     /// bytes; a buffer without an element is none. It answers how many there are.
@@ -79,16 +104,12 @@ impl Held {
         }
         match self.region.create(vetted) {
             Ok(()) => {
-                if acts.is_empty() {
-                    return Ok(0);
-                }
                 let span = Span {
                     region: &self.region,
                     base,
                     length: length as u32,
                 };
-                write_creation(acts, base, &span);
-                Ok(length + 2)
+                Ok(tell_creation(acts, &span))
             }
             Err((vetted, fault)) => Err((vetted, LoadFault::Refused(fault))),
         }
@@ -172,15 +193,11 @@ impl Held {
             return Err(RetireFault::NoRoom(wanted));
         }
         self.begun = Some(chunk);
-        if acts.is_empty() {
-            return Ok((chunk, 0));
-        }
         let span = Span {
             region: &self.region,
             base,
             length: chunk.length,
         };
-        write_deletion(acts, base, &span);
-        Ok((chunk, wanted))
+        Ok((chunk, tell_deletion(acts, &span)))
     }
 }
