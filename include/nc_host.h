@@ -14,7 +14,8 @@
  *               see that
  *               - a pointer with a length leads to that many bytes or elements, also where they are more than is used (so a length
  *                 is below 2^63: a difference that has wrapped is none, and isn't found out by a fault);
- *               - no pointer is null (where the length is 0 any other address will do);
+ *               - no pointer is null, but one whose length is 0: nothing is read or written by that, so it may be null or any other
+ *                 address (tried for each call, not proved);
  *               - no buffer that is written overlaps another argument, and nobody changes what is lent while the call runs.
  *   Allocator   malloc, realloc and free belong to one allocator, and align a block to each power of two up to 16 that divides its size.
  *               No call but nc_host_decode is made from a signal handler, or in the child that a process with threads has forked.
@@ -305,6 +306,8 @@ void nc_region_free(NcRegion *region);
 /*
  * Gives one of the region's seats to a handle that has nothing (HasGiven). Each is given once. A thread has one while it runs code of the
  * region, and a seat that was left is not given again: a host with many threads keeps a pool.
+ * Promised: NC_HANDLE_TAKEN for a seat's handle that has something; else NC_NO_HANDLE; else NC_NO_SEAT exactly where each seat has been
+ * given, and NC_OUT_OF_MEMORY only where one is left (MayRefuseSeat). That seat stays to be given.
  */
 uint32_t nc_region_seat(NcRegion *region, NcSeat *seat);
 

@@ -119,6 +119,30 @@ static void delete_chunk(void) {
     end_delete();
 }
 
+/* Where a length is 0 the pointer may be null: no code, no bytes, and no buffer. */
+static void lend_nothing(const uint8_t *chunk, const uint8_t *mov) {
+    static NcRegion own;
+    uint32_t limit = NC_LIMIT(BUNDLES);
+    printf("null: %u", (unsigned)nc_host_decode(NULL, 0).fault);
+    printf(" %u", (unsigned)nc_host_vet(NC_START, limit, NULL, 0).fault);
+    printf(" %u", (unsigned)nc_host_marks(NC_START, limit, chunk, LEN, NULL, 0).fault);
+    printf(" %u", (unsigned)nc_host_create(NC_START, limit, chunk, LEN, NULL, 0).fault);
+    printf(" %u", (unsigned)nc_host_delete(NC_START, limit, chunk, LEN, NULL, 0).fault);
+    printf(" %u\n", (unsigned)nc_host_patch(NC_START, limit, chunk, LEN, NC_START, NULL, 0, NULL, 0).fault);
+    printf("null: %u", (unsigned)nc_region_new(BUNDLES, 1, &own));
+    printf(" %u", (unsigned)nc_region_create(&own, NC_START, NULL, 0, NULL, 0).fault);
+    printf(" %u", (unsigned)nc_region_create(&own, NC_START, chunk, LEN, NULL, 0).fault);
+    printf(" %u", (unsigned)nc_region_patch(&own, NC_START, mov, 5, NULL, 0).fault);
+    printf(" %u", (unsigned)nc_region_patch(&own, NC_START, NULL, 0, NULL, 0).fault);
+    printf(" %u", (unsigned)nc_region_begin_delete(&own, NC_START, NULL, 0).fault);
+    printf(" %u", (unsigned)nc_region_end_delete(&own).fault);
+    nc_region_free(&own);
+    printf(" %u", (unsigned)nc_vetted_new(NC_START, limit, NULL, 0, &vetted).fault);
+    printf(" %u", (unsigned)nc_vetted_new(NC_START, limit, chunk, LEN, &vetted).fault);
+    printf(" %u\n", (unsigned)nc_region_load(&region, &vetted, NULL, 0).fault);
+    nc_vetted_free(&vetted);
+}
+
 int main(void) {
     static const uint8_t mov[] = {0xB8, 0x07, 0x00, 0x00, 0x00}, ret[] = {0xC3};
     uint8_t chunk[LEN];
@@ -150,6 +174,7 @@ int main(void) {
     load(NC_START + 128, chunk);
     load(NC_START + 128, chunk);
     nc_vetted_free(&vetted);
+    lend_nothing(chunk, mov);
     printf("generation: %u\n", (unsigned)nc_region_generation(&region).stamp);
     printf("last seats: %u", (unsigned)nc_region_seat(&region, &other));
     nc_seat_leave(&other);

@@ -12,6 +12,8 @@ use Rattle.nc_region.specs.Deletion.{IsDeleted, MayRefuseDelete, IsReclaimed}
 use Rattle.nc_region.specs.Patch.{MayRefusePatch}
 use Rattle.nc_handle.specs.declared.fault.NewFault.{NewFault}
 use Rattle.nc_handle.specs.declared.fault.NewFault.TheVariants.{BadSeats, BadSize, OutOfMemory}
+use Rattle.nc_handle.specs.declared.fault.SeatFault.{SeatFault}
+use Rattle.nc_handle.specs.declared.fault.SeatFault.TheVariants as seat
 use Rattle.nc_handle.specs.declared.fault.LoadFault.{LoadFault}
 use Rattle.nc_handle.specs.declared.fault.LoadFault.TheVariants as load
 use Rattle.nc_handle.specs.declared.fault.PatchFault.{PatchFault}
@@ -35,6 +37,7 @@ CanEnd begun r = IfSome begun (λ c. IsLiveAt r.chunks c.base c × (r.keeper.num
 
 -- A new region: nothing but stops, no chunk, no stamp drawn, and the pass of each seat.
 pub record IsFirst (bundles seats : ℕ) (h : HeldState) : Type 0 where
+  pub numbers : AreSeats seats
   pub lawful : IsLawfulLimit (0x10000 + 32 * bundles)
   pub marked : h.region.marked ≡ unused_text (0x10000 + 32 * bundles)
   pub made : h.region.made ≡ unmade_pages (0x10000 + 32 * bundles)
@@ -50,6 +53,11 @@ abbrev pub MayRefuseNew : ℕ → ℕ → NewFault → Type 0
 MayRefuseNew bundles seats BadSeats = ¬ AreSeats seats
 MayRefuseNew bundles seats BadSize = AreSeats seats × ¬ IsLawfulLimit (0x10000 + 32 * bundles)
 MayRefuseNew bundles seats OutOfMemory = AreSeats seats × IsLawfulLimit (0x10000 + 32 * bundles)
+
+-- when each refusal of `seat` comes: no seat is left, or one is and there is no memory for it
+abbrev pub MayRefuseSeat : HeldState → SeatFault → Type 0
+MayRefuseSeat h seat.NoneLeft = h.passes ≡ []
+MayRefuseSeat h seat.OutOfMemory = ¬ (h.passes ≡ [])
 
 -- a buffer is lent, and it has less room than this
 abbrev pub IsShort : ℕ → ℕ → Type 0

@@ -1,8 +1,8 @@
 //! The seats of a region that owns its table: given once each, and checked in for where nobody was given them.
 
-ghost use Rattle.std.specs.Prelude.{◌≡◌, ◌≤◌, ◌<◌, ◌↔◌, [], All, IfOk, IfSome, IsErrOf, IsNone, IsSome, OnErr, length, slice_index};
+ghost use Rattle.std.specs.Prelude.{◌≡◌, ◌≤◌, ◌<◌, ◌↔◌, [], All, IfOk, IfErr, IfSome, IsErrOf, IsNone, IsSome, OnErr, length, slice_index};
 ghost use Rattle.nc_gens.specs.Seen.{Raised};
-ghost use Rattle.nc_handle.specs.Held.{HasGiven, HasReclaimed};
+ghost use Rattle.nc_handle.specs.Held.{HasGiven, HasReclaimed, MayRefuseSeat};
 ghost use Rattle.nc_handle.specs.declared.fault.SeatFault.{SeatFault};
 
 use crate::attending::attend;
@@ -17,8 +17,9 @@ impl Held {
     pub fn seat(&mut self, alloc: Global) -> Result<Box<Guest, Global>, SeatFault>
         // The last of the passes is the seat's now; all else is as before.
         ensures given { IfOk result (λ guest. HasGiven self.old self.new guest.value) }
-        // A refusal changes nothing. Where a seat is left, it is one of memory.
         ensures unchanged { OnErr result (self.new ≡ self.old) }
+        // Where a seat is left, a refusal is one of memory; where none is, it says so.
+        ensures refused { IfErr result (MayRefuseSeat self.old) }
         ensures none_left { IsErrOf result SeatFault.NoneLeft ↔ (self.old.passes ≡ []) }
     {
         if self.passes.is_empty() {

@@ -1,14 +1,13 @@
 //! Regions by handles: made, freed, and their seats given.
 
-ghost use Rattle.std.specs.Prelude.{◌≡◌, ◌<◌, ◌≤◌, ◌⊎◌, ◌↔◌, [], None, Some, IfOk, IfErr};
+ghost use Rattle.std.specs.Prelude.{◌≡◌, ◌<◌, ◌≤◌, ◌⊎◌, None, Some, IfOk, IfErr};
 ghost use Rattle.nc_gens.specs.Seen.{PassState};
-ghost use Rattle.nc_handle.specs.Held.{HeldState, IsFirst, MayRefuseNew, HasGiven};
+ghost use Rattle.nc_handle.specs.Held.{HeldState, IsFirst, MayRefuseNew, MayRefuseSeat, HasGiven};
 ghost use Rattle.nc_handle.specs.declared.fault.NewFault.{NewFault};
 ghost use Rattle.nc_handle.specs.declared.fault.SeatFault.{SeatFault};
 ghost use Rattle.nc_host.specs.Handles.{IsDone, new_number, seat_number};
 
 use crate::numbers::{NOTHING, TAKEN, new_number, seat_number};
-use nc_gens::MOST_SEATS;
 use nc_handle::{Held, NcRegion, NcSeat, NewFault};
 use std::alloc::Global;
 
@@ -17,9 +16,6 @@ fn make(alloc: Global, bundles: u32, seats: u32) -> Result<Box<Held, Global>, Ne
     ensures made { IfOk result (λ boxed. IsFirst bundles seats boxed.value) }
     ensures refused { IfErr result (MayRefuseNew bundles seats) }
 {
-    if seats == 0 || seats as usize > MOST_SEATS {
-        return Err(NewFault::BadSeats);
-    }
     let held = match Held::new(alloc, bundles, seats) {
         Ok(held) => held,
         Err(fault) => return Err(fault),
@@ -71,10 +67,11 @@ pub extern "C" fn nc_region_seat(alloc: Global, region: &mut NcRegion, seat: &mu
     ensures given { result ≡ 0 → (seat.old.value ≡ None) × ((guest : PassState) × (seat.new.value ≡ Some guest)
         × IsDone region.old.value region.new.value (λ old new. HasGiven old new guest)) }
     ensures unchanged { 0 < result → (region.new.value ≡ region.old.value) × (seat.new.value ≡ seat.old.value) }
+    // A handle that has something is refused, and one that has nothing. Else there is no seat left, or no memory for the one that is.
     ensures refused { 0 < result → ((result ≡ 33) × ((guest : PassState) × (seat.old.value ≡ Some guest)))
         ⊎ (((result ≡ 32) × (region.old.value ≡ None))
-        ⊎ ((h : HeldState) × (region.old.value ≡ Some h) × ((f : SeatFault) × (result ≡ seat_number f)
-        × ((f ≡ SeatFault.NoneLeft) ↔ (h.passes ≡ []))))) }
+        ⊎ ((h : HeldState) × (region.old.value ≡ Some h)
+        × ((f : SeatFault) × MayRefuseSeat h f × (result ≡ seat_number f)))) }
 {
     if let Some(kept) = seat.take(alloc) {
         *seat = NcSeat::of(kept);
