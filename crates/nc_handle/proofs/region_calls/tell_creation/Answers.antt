@@ -1,0 +1,14 @@
+use Rattle.std.proofs.Common.{length, arith, sym, ◌∙◌}
+use Rattle.std.proofs.lemmas.Bool.{eqb-false}
+use Rattle.nc_handle.proofs.SpanReads.{span_long}
+use Rattle.nc_handle.proofs.region_calls.tell_creation.Goals as goal
+
+pub returns : goal.returns
+returns c =
+    let some = eqb-false (length c.args.acts.now) 0 (sym c.is_empty.ensures ∙ c.if-is_empty.false) in
+    let span = c.args.span.now in
+    let wrote = c.write_creation.ensures in
+    record {
+      lent = λ lt. (omega (arith, wrote.counted, span_long span.region.now.marked.bytes span.base span.length span.placed), wrote.buffer);
+      not_lent = λ e. absurd (omega (arith, e, some));
+    }
