@@ -1,6 +1,6 @@
 //! Which acts a region tells, and in which order.
 
-use crate::fixtures::{Telling, chunk, telling};
+use crate::fixtures::{Telling, chunk};
 use nc_gens::Gens;
 use nc_region::Act;
 use nc_vet::Vetted;
@@ -49,7 +49,7 @@ fn owe_delete(acts: &mut Vec<Act>, base: u32, len: u32, unmarked: u32) -> Result
 
 /// Creates a chunk at 00010020, deletes it, and reclaims in vain.
 fn retire(region: &mut Telling<'_>, vetted: Vetted) {
-    let _created = region.create(vetted);
+    let _created = region.creates(vetted);
     let _stamp = region.delete(0x10020);
     let _none = region.reclaim();
 }
@@ -57,7 +57,7 @@ fn retire(region: &mut Telling<'_>, vetted: Vetted) {
 /// The acts that a region has told.
 fn told(alloc: Global, region: &Telling<'_>) -> Result<Vec<Act>, Fail> {
     let mut acts = Vec::new(alloc);
-    acts.extend_from_slice(region.acts().told().unwrap_or(&[]))?;
+    acts.extend_from_slice(region.told().unwrap_or(&[]))?;
     Ok(acts)
 }
 
@@ -65,7 +65,7 @@ fn told(alloc: Global, region: &Telling<'_>) -> Result<Vec<Act>, Fail> {
 fn life(alloc: Global, vetted: Vetted) -> Result<Vec<Act>, Fail> {
     let (gens, keeper, mut passes) = Gens::new(alloc, 1)?;
     let mut pass = passes.remove(0);
-    let mut region = telling(alloc, &gens, keeper, 8, 300)?;
+    let mut region = Telling::new(alloc, &gens, keeper, 8, 300)?;
     retire(&mut region, vetted);
     gens.check_in(&mut pass);
     let _one = region.reclaim();
@@ -95,15 +95,15 @@ fn create_telling(
     bundles: usize,
 ) -> Result<(bool, bool), Fail> {
     let vetted = chunk(alloc, base, 0x10100, bundles, &[])?;
-    let created = region.create(vetted).is_ok();
-    Ok((created, region.acts().told().is_some()))
+    let created = region.creates(vetted);
+    Ok((created, region.told().is_some()))
 }
 
 #[test]
 fn full_recorder(rt: HostRuntime) -> Result<(), Fail> {
     let alloc = rt.alloc();
     let (gens, keeper, _passes) = Gens::new(alloc, 1)?;
-    let mut region = telling(alloc, &gens, keeper, 8, 33)?;
+    let mut region = Telling::new(alloc, &gens, keeper, 8, 33)?;
     for (base, bundles, tells) in [(0x10000, 1, true), (0x10020, 1, false), (0x10060, 4, false)] {
         let created = create_telling(&mut region, alloc, base, bundles)?;
         assert_eq!(rt; created, (true, tells));

@@ -2,6 +2,7 @@
 ghost use Rattle.std.specs.Prelude.{◌≡◌, All};
 ghost use Rattle.std.specs.Thread.{IsSync};
 
+use crate::calls;
 use crate::fixtures::{chunk, region};
 use nc_gens::{Gens, Keeper, Pass};
 use nc_region::{DeleteFault, Shared};
@@ -36,13 +37,10 @@ fn all_check_in<R: Threads + Sync>(rt: &R, shared: &Shared<'_>, passes: &mut [Pa
 /// Creates 32 nops, deletes them and reclaims; the stamp has to be one more than the index. Answers how many were freed.
 fn write_one<R: Wait>(rt: &R, alloc: Global, shared: &Shared<'_>, i: u32) -> Result<u32, Fail> {
     let base = 0x10000u32.wrapping_add(i.wrapping_mul(32));
-    if shared
-        .create(rt, chunk(alloc, base, 0x11000, 1, &[])?)
-        .is_err()
-    {
+    if !calls::creates_shared(rt, shared, chunk(alloc, base, 0x11000, 1, &[])?) {
         return Err(Fail::new("not created"));
     }
-    if shared.delete(rt, base) != Ok(u64::from(i).wrapping_add(1)) {
+    if calls::delete_shared(rt, shared, base) != Ok(u64::from(i).wrapping_add(1)) {
         return Err(Fail::new("another stamp"));
     }
     Ok(shared.reclaim(rt))
@@ -96,10 +94,10 @@ fn retire_last<R: Wait>(
     shared: &Shared<'_>,
 ) -> Result<(Result<u64, DeleteFault>, bool), Fail> {
     let vetted = chunk(alloc, 0x10C80, 0x11000, 1, &[])?;
-    if shared.create(rt, vetted).is_err() {
+    if !calls::creates_shared(rt, shared, vetted) {
         return Err(Fail::new("not created"));
     }
-    let stamp = shared.delete(rt, 0x10C80);
+    let stamp = calls::delete_shared(rt, shared, 0x10C80);
     Ok((stamp, shared.chunk_count(rt) >= 1))
 }
 

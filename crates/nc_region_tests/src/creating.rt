@@ -1,9 +1,11 @@
 //! Regions made, and chunks created in them.
 
+use crate::calls;
 use crate::fixtures::{LIMIT, refused, region};
 use nc_gens::Gens;
 use nc_region::{Chunk, ChunkState, CreateFault, Region, RegionFault};
 use std::alloc::Global;
+use std::process::Abort;
 use std::test::Fail;
 
 /// What a region of so many bundles is refused for, if the keeper comes back.
@@ -42,7 +44,10 @@ fn sizes(rt: HostRuntime) -> Result<(), Fail> {
 }
 
 /// Where a chunk is tried, of how many bundles, for which limit, its refusal, and how many chunks there are then.
-static TRIES: [(u32, usize, u32, Option<CreateFault>, usize); 9] = [
+type Row = (u32, usize, u32, Option<CreateFault>, usize);
+
+/// The tries.
+static TRIES: [Row; 9] = [
     (0x10020, 2, 0x10100, None, 1),
     // the same place; chunks that end in it, begin in it, lie round it and in it
     (0x10020, 2, 0x10100, Some(CreateFault::Occupied), 1),
@@ -57,19 +62,30 @@ static TRIES: [(u32, usize, u32, Option<CreateFault>, usize); 9] = [
     (0x10060, 2, 0x10100, None, 3),
 ];
 
+/// Each try of these rows has its answer, and leaves so many chunks.
+fn try_all(
+    rt: &impl Abort,
+    alloc: Global,
+    region: &mut Region<'_>,
+    rows: &[Row],
+) -> Result<(), Fail> {
+    for (base, bundles, limit, fault, count) in rows {
+        let seen = refused(region, alloc, *base, *limit, *bundles)?;
+        assert_eq!(rt;
+            (seen, calls::chunk_count(region)),
+            (*fault, *count),
+            "{bundles} at {base:x}"
+        );
+    }
+    Ok(())
+}
+
 #[test]
 fn created_twice(rt: HostRuntime) -> Result<(), Fail> {
     let alloc = rt.alloc();
     let (gens, keeper, _passes) = Gens::new(alloc, 1)?;
     let mut region = region(alloc, 8, &gens, keeper)?;
-    for (base, bundles, limit, fault, count) in &TRIES {
-        let seen = refused(&mut region, alloc, *base, *limit, *bundles)?;
-        assert_eq!(rt;
-            (seen, region.chunk_count()),
-            (*fault, *count),
-            "{bundles} at {base:x}"
-        );
-    }
+    try_all(&rt, alloc, &mut region, &TRIES)?;
     let middle = Chunk {
         base: 0x10020,
         length: 64,

@@ -1,6 +1,7 @@
 //! Chunks deleted and reclaimed.
 ghost use Rattle.std.specs.Prelude.{◌≡◌};
 
+use crate::calls;
 use crate::fixtures::{LIMIT, chunk, refused, region};
 use nc_gens::{Gens, Pass};
 use nc_region::{CreateFault, DeleteFault, ModifyFault, Region};
@@ -23,8 +24,8 @@ fn delete_thirds(region: &mut Region<'_>) -> u32 {
     let mut right = 0u32;
     for i in 0..34u32 {
         let base = 0x10000u32.wrapping_add(i.wrapping_mul(96));
-        let first = region.delete(base).is_ok();
-        let second = region.delete(base);
+        let first = calls::delete(region, base).is_ok();
+        let second = calls::delete(region, base);
         if first && second == Err(DeleteFault::NoChunk) {
             right = right.wrapping_add(1);
         }
@@ -44,12 +45,15 @@ fn many_chunks(rt: HostRuntime) -> Result<(), Fail> {
         region.chunk(98).map(|c| c.base),
     );
     assert_eq!(rt;
-        (region.chunk_count(), bases),
+        (calls::chunk_count(&region), bases),
         (100, (Some(0x10020), Some(0x10C40)))
     );
     assert_eq!(rt; delete_thirds(&mut region), 34);
     gens.check_in(&mut pass);
-    assert_eq!(rt; (region.reclaim(), region.chunk_count()), (34, 66));
+    assert_eq!(rt;
+        (calls::reclaim(&mut region), calls::chunk_count(&region)),
+        (34, 66)
+    );
     let bases = (
         region.chunk(0).map(|c| c.base),
         region.chunk(2).map(|c| c.base),
@@ -63,11 +67,11 @@ fn delete_four(
     region: &mut Region<'_>,
     alloc: Global,
 ) -> Result<[Result<u64, DeleteFault>; 4], Fail> {
-    let none = region.delete(0x10000);
+    let none = calls::delete(region, 0x10000);
     let _created = refused(region, alloc, 0x10000, LIMIT, 1)?;
-    let inside = region.delete(0x10010);
-    let first = region.delete(0x10000);
-    let again = region.delete(0x10000);
+    let inside = calls::delete(region, 0x10010);
+    let first = calls::delete(region, 0x10000);
+    let again = calls::delete(region, 0x10000);
     Ok([none, inside, first, again])
 }
 
@@ -79,10 +83,10 @@ fn delete_and_leave(
 ) -> (Result<u64, DeleteFault>, u32, u32)
     requires { pass.table ≡ gens.now }
 {
-    let stamp = region.delete(0x10000);
-    let held = region.reclaim();
+    let stamp = calls::delete(region, 0x10000);
+    let held = calls::reclaim(region);
     gens.leave(pass);
-    (stamp, held, region.reclaim())
+    (stamp, held, calls::reclaim(region))
 }
 
 #[test]
@@ -95,11 +99,14 @@ fn deleted_and_reclaimed(rt: HostRuntime) -> Result<(), Fail> {
     let deleted = delete_four(&mut region, alloc)?;
     assert_eq!(rt; deleted, [missing, missing, Ok(1), missing]);
     // retired, until the seat has checked in
-    let early = (region.modify(0x10000, &[0x90]), region.reclaim());
+    let early = (
+        calls::modify(&mut region, 0x10000, &[0x90]),
+        calls::reclaim(&mut region),
+    );
     assert_eq!(rt; early, (Err(ModifyFault::NotLive), 0));
     let crowded = refused(&mut region, alloc, 0x10000, LIMIT, 1)?;
     gens.check_in(&mut pass);
-    let freed = region.reclaim();
+    let freed = calls::reclaim(&mut region);
     let anew = refused(&mut region, alloc, 0x10000, LIMIT, 1)?;
     assert_eq!(rt;
         (crowded, freed, anew),
@@ -117,11 +124,12 @@ fn a_seat_that_leaves(rt: HostRuntime) -> Result<(), Fail> {
     let second = passes.remove(1);
     let mut first = passes.remove(0);
     let mut region = region(alloc, 4, &gens, keeper)?;
-    assert!(rt; region.create(chunk(alloc, 0x10000, LIMIT, 1, &[])?).is_ok());
-    assert_eq!(rt; region.delete(0x10000), Ok(1));
+    let vetted = chunk(alloc, 0x10000, LIMIT, 1, &[])?;
+    assert!(rt; calls::creates(&mut region, vetted));
+    assert_eq!(rt; calls::delete(&mut region, 0x10000), Ok(1));
     gens.check_in(&mut first);
-    assert_eq!(rt; region.reclaim(), 0);
+    assert_eq!(rt; calls::reclaim(&mut region), 0);
     gens.leave(second);
-    assert_eq!(rt; region.reclaim(), 1);
+    assert_eq!(rt; calls::reclaim(&mut region), 1);
     Ok(())
 }

@@ -7,6 +7,8 @@
 #[cfg(test)]
 mod acts;
 #[cfg(test)]
+mod calls;
+#[cfg(test)]
 mod check_in;
 #[cfg(test)]
 mod creating;

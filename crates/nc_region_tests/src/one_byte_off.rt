@@ -1,6 +1,7 @@
 //! Chunks that lie in one byte: a masked jump and nops, with each byte set to each value. What is accepted is created in a
 //! region of its own and walked, and wherever a walk stands in the region, an instruction stands.
 
+use crate::calls;
 use crate::fixtures::{LIMIT, region};
 use nc_decode::{BUNDLE, START, decode};
 use nc_gens::Gens;
@@ -56,7 +57,7 @@ fn stands_on_instructions(
 /// Each walk from the chunk's start stands only on instructions while it is in the region.
 fn walks_on_instructions(alloc: Global, region: &Region<'_>) -> Result<bool, AllocError> {
     for choices in &CHOICES {
-        let Ok(trace) = region.walk(START, choices) else {
+        let Ok(trace) = calls::walk(region, START, choices) else {
             return Ok(false);
         };
         if !stands_on_instructions(alloc, region, &trace.places)? {
@@ -73,7 +74,7 @@ fn is_accepted(alloc: Global, code: Vec<u8>) -> Result<bool, Fail> {
     };
     let (gens, keeper, _passes) = Gens::new(alloc, 1)?;
     let mut region = region(alloc, 4, &gens, keeper)?;
-    if region.create(vetted).is_err() {
+    if !calls::creates(&mut region, vetted) {
         return Err(Fail::new("not created"));
     }
     if !walks_on_instructions(alloc, &region)? {

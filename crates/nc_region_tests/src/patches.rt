@@ -1,10 +1,12 @@
 //! Patches: each answer with the acts that it owes.
 
-use crate::fixtures::{LIMIT, Telling, chunk, is_trace, region, stands, telling};
+use crate::calls;
+use crate::fixtures::{LIMIT, Telling, chunk, is_trace, region};
 use nc_gens::Gens;
 use nc_region::{Act, DeleteFault, End, ModifyFault, Region, Trace};
 use nc_vet::Vetted;
 use std::alloc::Global;
+use std::process::Abort;
 use std::test::Fail;
 
 const DONE: Result<(), ModifyFault> = Ok(());
@@ -21,10 +23,18 @@ const PAIR_TOUCHED: Result<(), ModifyFault> = Err(ModifyFault::PairTouched);
 
 const BAD_TARGET: Result<(), ModifyFault> = Err(ModifyFault::BadTarget);
 
-/// A chunk's front, a patch of it, its answer, and the puts that it owes. The region has 4 bundles, and the chunk stands at
-/// 00010000 and is filled with nops.
+/// A chunk's front, a patch of it, its answer, and the puts that it owes.
+type Row = (
+    &'static [u8],
+    u32,
+    &'static [u8],
+    Result<(), ModifyFault>,
+    &'static [(u32, u8)],
+);
+
+/// The patches. The region has 4 bundles, and the chunk stands at 00010000 and is filled with nops.
 #[rattlefmt::skip]
-static PATCHES: [(&[u8], u32, &[u8], Result<(), ModifyFault>, &[(u32, u8)]); 49] = [
+static PATCHES: [Row; 49] = [
     // a stop at the first byte, the further bytes rising, the first byte
     (&[0xB8, 1, 0, 0, 0], 0x10000, &[0xB8, 2, 0, 0, 0], DONE,
         &[(0x10000, 0xF4), (0x10001, 2), (0x10002, 0), (0x10003, 0), (0x10004, 0), (0x10000, 0xB8)]),
@@ -130,7 +140,7 @@ fn patch(
     new: &[u8],
 ) -> Result<Result<(), ModifyFault>, Fail> {
     let vetted = chunk(alloc, 0x10000, LIMIT, 1, front)?;
-    if region.create(vetted).is_err() {
+    if !region.creates(vetted) {
         return Err(Fail::new("not created"));
     }
     Ok(region.modify(at, new))
@@ -139,7 +149,7 @@ fn patch(
 /// After the 33 acts of a creation the region has told exactly these puts.
 fn has_told(region: &Telling<'_>, alloc: Global, puts: &[(u32, u8)]) -> Result<bool, Fail> {
     let owed = as_acts(alloc, puts)?;
-    let told = region.acts().told().unwrap_or(&[]);
+    let told = region.told().unwrap_or(&[]);
     Ok(told.get(33..) == Some(owed.as_slice()))
 }
 
@@ -152,7 +162,7 @@ fn outcome(
     puts: &[(u32, u8)],
 ) -> Result<(Result<(), ModifyFault>, bool, bool), Fail> {
     let (gens, keeper, _passes) = Gens::new(alloc, 1)?;
-    let mut region = telling(alloc, &gens, keeper, 4, 100)?;
+    let mut region = Telling::new(alloc, &gens, keeper, 4, 100)?;
     let answer = patch(&mut region, alloc, front, at, new)?;
     let bytes = if answer.is_ok() {
         patched(alloc, front, at, new)?
@@ -160,13 +170,14 @@ fn outcome(
         filled(alloc, front)?
     };
     let told = has_told(&region, alloc, puts)?;
-    Ok((answer, told, stands(&region, 0x10000, &bytes)))
+    Ok((answer, told, region.stands(0x10000, &bytes)))
 }
 
-#[test]
-fn patches(rt: HostRuntime) -> Result<(), Fail> {
-    for (front, at, new, answer, puts) in &PATCHES {
-        let seen = outcome(rt.alloc(), front, *at, new, puts)?;
+/// Each patch of these rows has its answer, makes its puts, and leaves the bytes that are due. The table is named only at the
+/// call, so that no proof writes it out.
+fn try_patches(rt: &impl Abort, alloc: Global, rows: &[Row]) -> Result<(), Fail> {
+    for (front, at, new, answer, puts) in rows {
+        let seen = outcome(alloc, front, *at, new, puts)?;
         assert_eq!(rt;
             seen,
             (*answer, true, true),
@@ -176,8 +187,22 @@ fn patches(rt: HostRuntime) -> Result<(), Fail> {
     Ok(())
 }
 
+#[test]
+fn patches(rt: HostRuntime) -> Result<(), Fail> {
+    try_patches(&rt, rt.alloc(), &PATCHES)
+}
+
 /// A chunk's front, a patch at 00010000, and a walk from there by choices 0.
-static PATCHED_WALKS: [(&[u8], &[u8], &[u32], &[u32], End); 6] = [
+type PatchedWalk = (
+    &'static [u8],
+    &'static [u8],
+    &'static [u32],
+    &'static [u32],
+    End,
+);
+
+/// The walks.
+static PATCHED_WALKS: [PatchedWalk; 6] = [
     // a masked call
     (
         &[0x83, 0xE0, 0xE0, 0xFF, 0xE0],
@@ -218,25 +243,39 @@ fn walk_patched(
     new: &[u8],
     choices: &[u32],
 ) -> Option<Trace> {
-    if region.create(vetted).is_err() || region.modify(0x10000, new).is_err() {
+    if !calls::creates(region, vetted) || calls::modify(region, 0x10000, new).is_err() {
         return None;
     }
-    region.walk(0x10000, choices).ok()
+    calls::walk(region, 0x10000, choices).ok()
 }
 
-#[test]
-fn patched_walks(rt: HostRuntime) -> Result<(), Fail> {
-    for (front, new, choices, places, end) in &PATCHED_WALKS {
-        let alloc = rt.alloc();
-        let (gens, keeper, _passes) = Gens::new(alloc, 1)?;
-        let mut region = region(alloc, 4, &gens, keeper)?;
-        let vetted = chunk(alloc, 0x10000, LIMIT, 1, front)?;
-        let Some(trace) = walk_patched(&mut region, vetted, new, choices) else {
+/// The trace of the walk in a new region.
+fn patched_trace(
+    alloc: Global,
+    front: &[u8],
+    new: &[u8],
+    choices: &[u32],
+) -> Result<Option<Trace>, Fail> {
+    let (gens, keeper, _passes) = Gens::new(alloc, 1)?;
+    let mut region = region(alloc, 4, &gens, keeper)?;
+    let vetted = chunk(alloc, 0x10000, LIMIT, 1, front)?;
+    Ok(walk_patched(&mut region, vetted, new, choices))
+}
+
+/// Each walk of these rows goes over its places and ends as it should.
+fn try_walks(rt: &impl Abort, alloc: Global, rows: &[PatchedWalk]) -> Result<(), Fail> {
+    for (front, new, choices, places, end) in rows {
+        let Some(trace) = patched_trace(alloc, front, new, choices)? else {
             return Err(Fail::new("no walk"));
         };
         assert!(rt; is_trace(&trace, places, *end), "{new:?} {trace:?}");
     }
     Ok(())
+}
+
+#[test]
+fn patched_walks(rt: HostRuntime) -> Result<(), Fail> {
+    try_walks(&rt, rt.alloc(), &PATCHED_WALKS)
 }
 
 /// Creates two chunks, deletes the second, at 00010020, and lets the first jump there: the stamp and the answer.
@@ -245,8 +284,8 @@ fn jump_to_retired(
     one: Vetted,
     other: Vetted,
 ) -> (Result<u64, DeleteFault>, Result<(), ModifyFault>) {
-    let _one = region.create(one);
-    let _other = region.create(other);
+    let _one = region.creates(one);
+    let _other = region.creates(other);
     let stamp = region.delete(0x10020);
     (stamp, region.modify(0x10000, &[0xEB, 0x1E]))
 }
@@ -255,7 +294,7 @@ fn jump_to_retired(
 fn patch_beside_a_retired_chunk(rt: HostRuntime) -> Result<(), Fail> {
     let alloc = rt.alloc();
     let (gens, keeper, _passes) = Gens::new(alloc, 1)?;
-    let mut region = telling(alloc, &gens, keeper, 8, 200)?;
+    let mut region = Telling::new(alloc, &gens, keeper, 8, 200)?;
     let one = chunk(alloc, 0x10000, 0x10100, 1, &[0xEB, 0xFE])?;
     let other = chunk(alloc, 0x10020, 0x10100, 1, &[])?;
     let answers = jump_to_retired(&mut region, one, other);
@@ -265,7 +304,7 @@ fn patch_beside_a_retired_chunk(rt: HostRuntime) -> Result<(), Fail> {
         Act::Put(0x10001, 0x1E),
         Act::Put(0x10000, 0xEB),
     ];
-    let told = region.acts().told().unwrap_or(&[]);
+    let told = region.told().unwrap_or(&[]);
     assert_eq!(rt; told.get(99..), Some(puts.as_slice()));
     Ok(())
 }

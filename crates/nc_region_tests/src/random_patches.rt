@@ -2,7 +2,7 @@
 //! the rules (`lawful`): the answer, the acts and the bytes have to be the same.
 
 use crate::drawing::{Numbers, draw_chunk, draw_patch};
-use crate::fixtures::{Telling, chunk, stands, telling};
+use crate::fixtures::{Telling, chunk};
 use crate::lawful::{Standing, judge};
 use nc_gens::Gens;
 use nc_region::ModifyFault;
@@ -39,7 +39,7 @@ fn create_drawn(
     let vetted = draw_chunk(alloc, numbers, base, LIMIT, bundles)?;
     let mut code = Vec::new(alloc);
     code.extend_from_slice(vetted.code())?;
-    if region.create(vetted).is_err() {
+    if !region.creates(vetted) {
         return Err(Fail::new("not created"));
     }
     Ok(Standing { base, code })
@@ -54,8 +54,8 @@ fn lay_out(
     let mut live = Vec::new(alloc);
     live.push(create_drawn(alloc, numbers, region, 0x10020, 2)?)?;
     live.push(create_drawn(alloc, numbers, region, 0x10060, 1)?)?;
-    let retired = region.create(chunk(alloc, 0x10080, LIMIT, 1, &[])?);
-    if retired.is_err() || region.delete(0x10080) != Ok(1) {
+    let retired = region.creates(chunk(alloc, 0x10080, LIMIT, 1, &[])?);
+    if !retired || region.delete(0x10080) != Ok(1) {
         return Err(Fail::new("not retired"));
     }
     Ok(live)
@@ -76,11 +76,11 @@ fn write(live: &mut [Standing], at: u32, new: &[u8]) {
 /// The whole text is as it should be: the live chunks, and stops before and after them.
 fn text_stands(region: &Telling<'_>, live: &[Standing]) -> bool {
     for chunk in live {
-        if !stands(region, chunk.base, &chunk.code) {
+        if !region.stands(chunk.base, &chunk.code) {
             return false;
         }
     }
-    stands(region, 0x10000, STOPS.get(..32).unwrap_or(&[])) && stands(region, 0x10080, &STOPS)
+    region.stands(0x10000, STOPS.get(..32).unwrap_or(&[])) && region.stands(0x10080, &STOPS)
 }
 
 /// Draws a patch, has it judged both ways, and compares. Answers the number of its answer.
@@ -92,12 +92,12 @@ fn patch_once(
 ) -> Result<usize, Fail> {
     let drawn = draw_patch(alloc, numbers, live)?;
     let judged = judge(alloc, live, LIMIT, drawn.at, &drawn.new)?;
-    let before = region.acts().told().map_or(0, |acts| acts.len());
+    let before = region.told().map_or(0, |acts| acts.len());
     let answer = region.modify(drawn.at, &drawn.new);
     if answer.is_ok() {
         write(live, drawn.at, &drawn.new);
     }
-    let told = region.acts().told().unwrap_or(&[]);
+    let told = region.told().unwrap_or(&[]);
     let is_same = answer == judged.answer && told.get(before..) == Some(judged.acts.as_slice());
     if !is_same || !text_stands(region, live) {
         return Err(Fail::new(format_args!(
@@ -115,7 +115,7 @@ fn patch_once(
 /// Lays out a region, patches it forty times, and counts the answers.
 fn patch_region(alloc: Global, numbers: &mut Numbers, counts: &mut [u32; 7]) -> Result<(), Fail> {
     let (gens, keeper, _passes) = Gens::new(alloc, 1)?;
-    let mut region = telling(alloc, &gens, keeper, 8, 2000)?;
+    let mut region = Telling::new(alloc, &gens, keeper, 8, 2000)?;
     let mut live = lay_out(alloc, numbers, &mut region)?;
     for _ in 0..40 {
         let answer = patch_once(alloc, numbers, &mut region, &mut live)?;

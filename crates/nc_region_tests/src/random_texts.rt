@@ -2,6 +2,7 @@
 //! places are compared with a plain text (`plain_text`), to which the same calls were made.
 ghost use Rattle.std.specs.Prelude.{◌≡◌};
 
+use crate::calls;
 use crate::drawing::{Numbers, draw_chunk};
 use crate::plain_text::{PlainText, Twin};
 use nc_gens::{Gens, Keeper, Pass};
@@ -55,7 +56,7 @@ fn create(
     let base = 0x10000u32.saturating_add(bundle.saturating_mul(32));
     let bundles = numbers.below(3).saturating_add(1);
     let vetted = draw_chunk(alloc, numbers, base, LIMIT, bundles)?;
-    if region.create(vetted).is_ok() {
+    if calls::creates(region, vetted) {
         done.created = done.created.saturating_add(1);
     }
     Ok(())
@@ -65,7 +66,7 @@ fn create(
 fn patch(numbers: &mut Numbers, region: &mut Twinned<'_>, base: u32, done: &mut Done) {
     for _ in 0..8 {
         let place = u32::try_from(numbers.below(32)).unwrap_or(0);
-        if region.modify(base.saturating_add(place), &[0x40]).is_ok() {
+        if calls::modify(region, base.saturating_add(place), &[0x40]).is_ok() {
             done.patched = done.patched.saturating_add(1);
         }
     }
@@ -84,15 +85,15 @@ fn step(
     ensures { pass.new.table ≡ gens.now }
 {
     let kind = numbers.below(8);
-    let number = numbers.below(region.chunk_count());
+    let number = numbers.below(calls::chunk_count(region));
     let base = region.chunk(number).map_or(0, |chunk| chunk.base);
     match kind {
         0 => {
             gens.check_in(pass);
-            done.freed = done.freed.saturating_add(region.reclaim());
+            done.freed = done.freed.saturating_add(calls::reclaim(region));
         }
         1 | 2 => {
-            if region.delete(base).is_ok() {
+            if calls::delete(region, base).is_ok() {
                 done.deleted = done.deleted.saturating_add(1);
             }
         }

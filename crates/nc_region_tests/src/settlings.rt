@@ -1,6 +1,6 @@
 //! Where a region settles among its acts.
 
-use crate::fixtures::{Telling, chunk, telling};
+use crate::fixtures::{Telling, chunk};
 use nc_gens::Gens;
 use nc_region::{Act, DeleteFault, Entry, ModifyFault};
 use nc_vet::Vetted;
@@ -83,7 +83,7 @@ fn owe_delete(entries: &mut Vec<Entry>, len: u32) -> Result<(), Fail> {
 
 /// Creates the chunk, patches it, has a patch and a deletion refused, deletes it, and reclaims in vain.
 fn retire(region: &mut Telling<'_>, vetted: Vetted) -> bool {
-    let created = region.create(vetted).is_ok();
+    let created = region.creates(vetted);
     let patched = region.modify(BASE, &PATCH) == Ok(());
     let patch = region.modify(BASE, &[0xC3]) == Err(ModifyFault::NotPermitted);
     let deletion = region.delete(0x10000) == Err(DeleteFault::NoChunk);
@@ -94,26 +94,26 @@ fn retire(region: &mut Telling<'_>, vetted: Vetted) -> bool {
 /// The entries of a region's log.
 fn logged(alloc: Global, region: &Telling<'_>) -> Result<Vec<Entry>, Fail> {
     let mut entries = Vec::new(alloc);
-    entries.extend_from_slice(region.acts().entries().unwrap_or(&[]))?;
+    entries.extend_from_slice(region.entries().unwrap_or(&[]))?;
     Ok(entries)
 }
 
 /// The acts told are those of the log, in its order.
 fn has_told(alloc: Global, region: &Telling<'_>) -> Result<bool, Fail> {
     let mut acts = Vec::new(alloc);
-    for entry in region.acts().entries().unwrap_or(&[]) {
+    for entry in region.entries().unwrap_or(&[]) {
         if let Entry::Did(act) = entry {
             acts.push(*act)?;
         }
     }
-    Ok(region.acts().told() == Some(acts.as_slice()))
+    Ok(region.told() == Some(acts.as_slice()))
 }
 
 /// The chunk's life, until its span is free: its log.
 fn life(alloc: Global, vetted: Vetted) -> Result<Vec<Entry>, Fail> {
     let (gens, keeper, mut passes) = Gens::new(alloc, 1)?;
     let mut pass = passes.remove(0);
-    let mut region = telling(alloc, &gens, keeper, 8, 300)?;
+    let mut region = Telling::new(alloc, &gens, keeper, 8, 300)?;
     let retired = retire(&mut region, vetted);
     gens.check_in(&mut pass);
     if !retired || region.reclaim() != 1 || !has_told(alloc, &region)? {
@@ -140,13 +140,10 @@ fn settlings(rt: HostRuntime) -> Result<(), Fail> {
 /// Creates a chunk of one bundle: whether the region still tells, and whether it still logs.
 fn create_one(region: &mut Telling<'_>, alloc: Global, base: u32) -> Result<(bool, bool), Fail> {
     let vetted = chunk(alloc, base, 0x10100, 1, &[])?;
-    if region.create(vetted).is_err() {
+    if !region.creates(vetted) {
         return Err(Fail::new("not created"));
     }
-    Ok((
-        region.acts().told().is_some(),
-        region.acts().entries().is_some(),
-    ))
+    Ok((region.told().is_some(), region.entries().is_some()))
 }
 
 #[test]
@@ -154,7 +151,7 @@ fn full_log(rt: HostRuntime) -> Result<(), Fail> {
     let alloc = rt.alloc();
     let (gens, keeper, _passes) = Gens::new(alloc, 1)?;
     // room for 34 acts and for 68 entries; each creation takes 33 acts and 34 entries
-    let mut region = telling(alloc, &gens, keeper, 8, 34)?;
+    let mut region = Telling::new(alloc, &gens, keeper, 8, 34)?;
     for (base, keeps) in [
         (0x10000, (true, true)),
         (0x10020, (false, true)),

@@ -1,6 +1,7 @@
 //! A region that threads share: what its calls do under the lock.
 ghost use Rattle.std.specs.Prelude.{◌≡◌};
 
+use crate::calls;
 use crate::fixtures::{LIMIT, chunk, is_trace, region};
 use nc_gens::{Gens, Keeper, Pass};
 use nc_region::{CreateFault, DeleteFault, End, ModifyFault, Region, Shared, Trace};
@@ -17,10 +18,10 @@ fn create_and_walk<R: Wait>(
     base: u32,
     vetted: Vetted,
 ) -> Option<Trace> {
-    if shared.create(rt, vetted).is_err() {
+    if !calls::creates_shared(rt, shared, vetted) {
         return None;
     }
-    shared.walk(rt, base, &[0, 0, 0]).ok()
+    calls::walk_shared(rt, shared, base, &[0, 0, 0]).ok()
 }
 
 /// Two threads create and walk, each its own chunk.
@@ -59,7 +60,7 @@ fn two_threads(rt: HostRuntime) -> Result<(), Fail> {
     assert!(rt; first_long || is_trace(&first, &[0x10000, 0x10020], End::Stop));
     assert!(rt; second_long || is_trace(&second, &[0x10020, 0x10000], End::Stop));
     assert!(rt; first_long || second_long);
-    let Ok(after) = shared.walk(&rt, 0x10000, &[0, 0, 0]) else {
+    let Ok(after) = calls::walk_shared(&rt, &shared, 0x10000, &[0, 0, 0]) else {
         return Err(Fail::new("no walk after both"));
     };
     assert!(rt; is_trace(&after, &long, End::More));
@@ -75,8 +76,8 @@ fn create_both<R: Wait>(
 ) -> Result<(bool, Option<CreateFault>), Fail> {
     let first = chunk(alloc, 0x10000, LIMIT, 2, &[0xEB, 0x1E])?;
     let second = chunk(alloc, 0x10020, LIMIT, 1, &[0x40])?;
-    let created = shared.create(rt, first).is_ok();
-    match shared.create(rt, second) {
+    let created = calls::creates_shared(rt, shared, first);
+    match calls::create_shared(rt, shared, second) {
         Ok(()) => Ok((created, None)),
         Err((_, fault)) => Ok((created, Some(fault))),
     }
@@ -84,9 +85,13 @@ fn create_both<R: Wait>(
 
 /// The jump turned to 00010040, a return put after it, and a walk.
 fn patch_both<R: Wait>(rt: &R, shared: &Shared<'_>) -> (bool, Option<ModifyFault>, Option<Trace>) {
-    let patched = shared.modify(rt, 0x10000, &[0xEB, 0x3E]).is_ok();
-    let barred = shared.modify(rt, 0x10002, &[0xC3]).err();
-    (patched, barred, shared.walk(rt, 0x10000, &[0, 0]).ok())
+    let patched = calls::modify_shared(rt, shared, 0x10000, &[0xEB, 0x3E]).is_ok();
+    let barred = calls::modify_shared(rt, shared, 0x10002, &[0xC3]).err();
+    (
+        patched,
+        barred,
+        calls::walk_shared(rt, shared, 0x10000, &[0, 0]).ok(),
+    )
 }
 
 /// How many chunks a reclaim frees, and how many are left.
@@ -108,7 +113,10 @@ fn shared_calls(rt: HostRuntime) -> Result<(), Fail> {
         return Err(Fail::new("no walk"));
     };
     assert!(rt; is_trace(&trace, &[0x10000, 0x10040], End::Stop));
-    let deleted = (shared.delete(&rt, 0x10020), shared.delete(&rt, 0x10000));
+    let deleted = (
+        calls::delete_shared(&rt, &shared, 0x10020),
+        calls::delete_shared(&rt, &shared, 0x10000),
+    );
     assert_eq!(rt; deleted, (Err(DeleteFault::NoChunk), Ok(1)));
     assert_eq!(rt; reclaim_and_count(&rt, &shared), (0, 1));
     shared.check_in(&mut pass);
@@ -122,10 +130,13 @@ fn shared_patch(rt: HostRuntime) -> Result<(), Fail> {
     let alloc = rt.alloc();
     let (gens, keeper, _passes) = Gens::new(alloc, 1)?;
     let shared = Shared::new(region(alloc, 4, &gens, keeper)?);
-    let created = shared.create(&rt, chunk(alloc, 0x10000, LIMIT, 1, &[0xEB, 0x1E])?);
-    assert!(rt; created.is_ok());
-    assert_eq!(rt; shared.modify(&rt, 0x10000, &[0xEB, 0x3E]), Ok(()));
-    let Ok(trace) = shared.walk(&rt, 0x10000, &[0, 0]) else {
+    let vetted = chunk(alloc, 0x10000, LIMIT, 1, &[0xEB, 0x1E])?;
+    assert!(rt; calls::creates_shared(&rt, &shared, vetted));
+    assert_eq!(rt;
+        calls::modify_shared(&rt, &shared, 0x10000, &[0xEB, 0x3E]),
+        Ok(())
+    );
+    let Ok(trace) = calls::walk_shared(&rt, &shared, 0x10000, &[0, 0]) else {
         return Err(Fail::new("no walk"));
     };
     assert!(rt; is_trace(&trace, &[0x10000, 0x10040], End::Stop));
@@ -145,17 +156,14 @@ fn used_region<'g>(
 {
     let mut region = region(alloc, 6, gens, keeper)?;
     for base in [0x10000, 0x10020, 0x10040, 0x10060] {
-        if region
-            .create(chunk(alloc, base, 0x100C0, 1, &[0xEB, 0x1E])?)
-            .is_err()
-        {
+        if !calls::creates(&mut region, chunk(alloc, base, 0x100C0, 1, &[0xEB, 0x1E])?) {
             return Err(Fail::new("not created"));
         }
     }
-    let patched = region.modify(0x10000, &[0xEB, 0x3E]);
-    let first = region.delete(0x10020);
+    let patched = calls::modify(&mut region, 0x10000, &[0xEB, 0x3E]);
+    let first = calls::delete(&mut region, 0x10020);
     gens.check_in(pass);
-    let second = region.delete(0x10060);
+    let second = calls::delete(&mut region, 0x10060);
     if patched != Ok(()) || first != Ok(1) || second != Ok(2) {
         return Err(Fail::new("not patched, or another stamp"));
     }
@@ -165,8 +173,9 @@ fn used_region<'g>(
 /// In each of the four places a chunk is refused, since one stands there.
 fn are_occupied<R: Wait>(rt: &R, alloc: Global, shared: &Shared<'_>) -> Result<bool, Fail> {
     for base in [0x10000, 0x10020, 0x10040, 0x10060] {
-        let Err((_, CreateFault::Occupied)) = shared.create(
+        let Err((_, CreateFault::Occupied)) = calls::create_shared(
             rt,
+            shared,
             chunk(alloc, base, 0x100C0, 1, &[])?,
         ) else {
             return Ok(false);
@@ -185,14 +194,17 @@ fn shared_after_use(rt: HostRuntime) -> Result<(), Fail> {
         (shared.chunk_count(&rt), are_occupied(&rt, alloc, &shared)?),
         (4, true)
     );
-    let Ok(trace) = shared.walk(&rt, 0x10000, &[0, 0, 0]) else {
+    let Ok(trace) = calls::walk_shared(&rt, &shared, 0x10000, &[0, 0, 0]) else {
         return Err(Fail::new("no walk"));
     };
     assert!(rt; is_trace(&trace, &[0x10000, 0x10040, 0x10060], End::Stop));
     assert_eq!(rt; reclaim_and_count(&rt, &shared), (1, 3));
     gens.check_in(&mut pass);
     assert_eq!(rt; reclaim_and_count(&rt, &shared), (1, 2));
-    let deleted = (shared.delete(&rt, 0x10040), shared.delete(&rt, 0x10000));
+    let deleted = (
+        calls::delete_shared(&rt, &shared, 0x10040),
+        calls::delete_shared(&rt, &shared, 0x10000),
+    );
     assert_eq!(rt; deleted, (Ok(3), Ok(4)));
     Ok(())
 }

@@ -1,14 +1,19 @@
 //! Walks: their places and how they end.
 
+use crate::calls;
 use crate::fixtures::{LIMIT, chunk, is_trace, region};
 use nc_gens::Gens;
 use nc_region::{End, Region, Trace, WalkFault};
 use nc_vet::{Vetted, vet};
 use std::alloc::Global;
+use std::process::Abort;
 use std::test::Fail;
 
 /// A chunk's front, the choices of a walk from 00010000, and its trace.
-static WALKS: [(&[u8], &[u32], &[u32], End); 12] = [
+type Row = (&'static [u8], &'static [u32], &'static [u32], End);
+
+/// The walks.
+static WALKS: [Row; 12] = [
     (&[0xEB, 0x1E], &[0, 0], &[0x10000, 0x10020], End::Stop),
     (&[0x74, 0x1E], &[1], &[0x10000, 0x10020], End::Stop),
     (&[0x74, 0x1E], &[0], &[0x10000, 0x10002], End::More),
@@ -56,36 +61,47 @@ static WALKS: [(&[u8], &[u32], &[u32], End); 12] = [
 
 /// Creates a chunk at 00010000, and walks from there.
 fn create_and_walk(region: &mut Region<'_>, vetted: Vetted, choices: &[u32]) -> Option<Trace> {
-    if region.create(vetted).is_err() {
+    if !calls::creates(region, vetted) {
         return None;
     }
-    region.walk(0x10000, choices).ok()
+    calls::walk(region, 0x10000, choices).ok()
 }
 
 /// No walk begins at a place that is no bundle start of the region, and one begins at the guard.
 fn starts_only_at_bundles(region: &Region<'_>) -> bool {
     for start in [0x10003, LIMIT, 0xFFE0, 0xFFFF_FFE0] {
-        if region.walk(start, &[]).err() != Some(WalkFault::NotBundle) {
+        if calls::walk(region, start, &[]).err() != Some(WalkFault::NotBundle) {
             return false;
         }
     }
-    region.walk(0x10060, &[]).is_ok()
+    calls::walk(region, 0x10060, &[]).is_ok()
+}
+
+/// In a new region, the trace of a walk through a chunk, and whether walks begin only where they may.
+fn walk_anew(alloc: Global, front: &[u8], choices: &[u32]) -> Result<(Option<Trace>, bool), Fail> {
+    let (gens, keeper, _passes) = Gens::new(alloc, 1)?;
+    let mut region = region(alloc, 4, &gens, keeper)?;
+    let vetted = chunk(alloc, 0x10000, LIMIT, 1, front)?;
+    let trace = create_and_walk(&mut region, vetted, choices);
+    Ok((trace, starts_only_at_bundles(&region)))
+}
+
+/// Each walk of these rows goes over its places and ends as it should.
+fn try_walks(rt: &impl Abort, alloc: Global, rows: &[Row]) -> Result<(), Fail> {
+    for (front, choices, places, end) in rows {
+        let (trace, starts) = walk_anew(alloc, front, choices)?;
+        let Some(trace) = trace else {
+            return Err(Fail::new("no walk"));
+        };
+        assert!(rt; is_trace(&trace, places, *end), "{front:?} {trace:?}");
+        assert!(rt; starts);
+    }
+    Ok(())
 }
 
 #[test]
 fn walks(rt: HostRuntime) -> Result<(), Fail> {
-    for (front, choices, places, end) in &WALKS {
-        let alloc = rt.alloc();
-        let (gens, keeper, _passes) = Gens::new(alloc, 1)?;
-        let mut region = region(alloc, 4, &gens, keeper)?;
-        let vetted = chunk(alloc, 0x10000, LIMIT, 1, front)?;
-        let Some(trace) = create_and_walk(&mut region, vetted, choices) else {
-            return Err(Fail::new("no walk"));
-        };
-        assert!(rt; is_trace(&trace, places, *end), "{front:?} {trace:?}");
-        assert!(rt; starts_only_at_bundles(&region));
-    }
-    Ok(())
+    try_walks(&rt, rt.alloc(), &WALKS)
 }
 
 #[test]
@@ -123,7 +139,7 @@ fn over_pages(alloc: Global) -> Result<Vetted, Fail> {
 
 /// The trace of a walk.
 fn walked(region: &Region<'_>, start: u32, choices: &[u32]) -> Result<Trace, Fail> {
-    match region.walk(start, choices) {
+    match calls::walk(region, start, choices) {
         Ok(trace) => Ok(trace),
         Err(fault) => Err(Fail::new(format_args!("{fault:?}"))),
     }
@@ -134,7 +150,8 @@ fn walk_over_pages(rt: HostRuntime) -> Result<(), Fail> {
     let alloc = rt.alloc();
     let (gens, keeper, _passes) = Gens::new(alloc, 1)?;
     let mut region = region(alloc, 524_288, &gens, keeper)?;
-    assert!(rt; region.create(over_pages(alloc)?).is_ok());
+    let vetted = over_pages(alloc)?;
+    assert!(rt; calls::creates(&mut region, vetted));
     let trace = walked(&region, PAGE_END, &[0, 0])?;
     assert!(rt;
         is_trace(&trace, &[0x10FE0, 0x11000, 0x10FE0], End::More),
