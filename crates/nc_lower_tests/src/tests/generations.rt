@@ -1,7 +1,7 @@
 ghost use Rattle.std.specs.Prelude.{◌≡◌, All};
 ghost use Rattle.std.specs.Thread.{IsSync};
 
-use nc_gens::{Gens, GensFault, Keeper, Pass};
+use nc_gens::{Gens, GensFault, GensFull, Keeper, Pass};
 use std::test::Fail;
 use std::thread::{Threads, for_each_mut, join_mut};
 
@@ -16,6 +16,30 @@ fn bad_seats_are_refused(rt: HostRuntime) {
     }
 }
 
+/// `Gens::look`, of which the tests need only that the keeper stays with its table.
+fn look(gens: &Gens, keeper: &mut Keeper) -> u64
+    requires { keeper.old.table ≡ gens.now }
+    ensures { keeper.new.table ≡ gens.now }
+{
+    gens.look(keeper)
+}
+
+/// `Gens::bump`, of which the tests need only that the keeper stays with its table.
+fn bump(gens: &Gens, keeper: &mut Keeper) -> Result<u64, GensFull>
+    requires { keeper.old.table ≡ gens.now }
+    ensures { keeper.new.table ≡ gens.now }
+{
+    gens.bump(keeper)
+}
+
+/// `Gens::check_in`, of which the tests need only that the pass stays with its table.
+fn check_in(gens: &Gens, pass: &mut Pass)
+    requires { pass.old.table ≡ gens.now }
+    ensures { pass.new.table ≡ gens.now }
+{
+    gens.check_in(pass);
+}
+
 /// Each pass checks in after a look. The result is the greatest answer of the looks.
 fn check_in_after_looks(gens: &Gens, keeper: &mut Keeper, passes: &mut [Pass]) -> u64
     requires { (keeper.old.table ≡ gens.now) × All (λ p. p.table ≡ gens.now) passes.old }
@@ -23,8 +47,8 @@ fn check_in_after_looks(gens: &Gens, keeper: &mut Keeper, passes: &mut [Pass]) -
 {
     let mut greatest = 0;
     for pass in passes.iter_mut() {
-        greatest = greatest.max(gens.look(keeper));
-        gens.check_in(pass);
+        greatest = greatest.max(look(gens, keeper));
+        check_in(gens, pass);
     }
     greatest
 }
@@ -34,10 +58,10 @@ fn a_look_waits_for_each_seat(rt: HostRuntime) -> Result<(), Fail> {
     for seats in [1, 2, 64, 256] {
         let (gens, mut keeper, mut passes) = Gens::new(rt.alloc(), seats)?;
         assert_eq!(rt; passes.len(), seats as usize);
-        assert_eq!(rt; gens.bump(&mut keeper)?, 1);
+        assert_eq!(rt; bump(&gens, &mut keeper)?, 1);
         let early = check_in_after_looks(&gens, &mut keeper, passes.as_mut_slice());
         assert_eq!(rt; early, 0, "{seats} seats");
-        assert_eq!(rt; gens.look(&mut keeper), 1, "{seats} seats");
+        assert_eq!(rt; look(&gens, &mut keeper), 1, "{seats} seats");
     }
     Ok(())
 }
@@ -47,17 +71,17 @@ fn a_seat_that_leaves_is_not_waited_for(rt: HostRuntime) -> Result<(), Fail> {
     let (gens, mut keeper, mut passes) = Gens::new(rt.alloc(), 2)?;
     let second = passes.remove(1);
     let mut first = passes.remove(0);
-    gens.bump(&mut keeper)?;
-    gens.check_in(&mut first);
-    assert_eq!(rt; gens.look(&mut keeper), 0);
+    bump(&gens, &mut keeper)?;
+    check_in(&gens, &mut first);
+    assert_eq!(rt; look(&gens, &mut keeper), 0);
     gens.leave(second);
-    assert_eq!(rt; gens.look(&mut keeper), 1);
+    assert_eq!(rt; look(&gens, &mut keeper), 1);
 
     // Once all have left, the answer is the generation.
-    gens.bump(&mut keeper)?;
-    assert_eq!(rt; gens.look(&mut keeper), 1);
+    bump(&gens, &mut keeper)?;
+    assert_eq!(rt; look(&gens, &mut keeper), 1);
     gens.leave(first);
-    assert_eq!(rt; gens.look(&mut keeper), 2);
+    assert_eq!(rt; look(&gens, &mut keeper), 2);
     Ok(())
 }
 
@@ -65,8 +89,8 @@ fn a_seat_that_leaves_is_not_waited_for(rt: HostRuntime) -> Result<(), Fail> {
 fn a_pass_that_is_dropped_holds_back(rt: HostRuntime) -> Result<(), Fail> {
     let (gens, mut keeper, passes) = Gens::new(rt.alloc(), 1)?;
     drop(passes);
-    gens.bump(&mut keeper)?;
-    assert_eq!(rt; gens.look(&mut keeper), 0);
+    bump(&gens, &mut keeper)?;
+    assert_eq!(rt; look(&gens, &mut keeper), 0);
     Ok(())
 }
 

@@ -3,9 +3,10 @@
 use nc_vet::VetFault;
 use nc_work::{Gate, Job, Open, Verdict, WorkFault, vet_all};
 use std::alloc::{AllocError, Global};
+use std::sync::Wait;
 use std::sync::atomic::{AtomicBool, AtomicU64, Ordering};
 use std::test::Fail;
-use std::thread::yield_now;
+use std::thread::{Threads, yield_now};
 
 /// The most turns for which a gate waits.
 const TURNS: u64 = 10_000_000;
@@ -91,6 +92,20 @@ fn fault(verdict: &Verdict) -> Option<VetFault> {
     }
 }
 
+/// The faults of the verdicts on these jobs, in their order. It has no clause, so what the verdicts promise isn't known where
+/// they are compared.
+fn faults<G: Gate, R: Threads + Wait + Sync + AllocGlobal>(
+    rt: &R,
+    jobs: Vec<Job>,
+    workers: u32,
+    gate: &G,
+) -> Result<Vec<Option<VetFault>>, Fail> {
+    let Ok(verdicts) = vet_all(rt, jobs, workers, gate) else {
+        return Err(Fail::new("the jobs were refused"));
+    };
+    Ok(verdicts.iter().map(fault).collect(rt.alloc())?)
+}
+
 #[test]
 fn two_at_once(rt: HostRuntime) -> Result<(), Fail> {
     for (held, other) in [(0, 1), (1, 0)] {
@@ -100,20 +115,13 @@ fn two_at_once(rt: HostRuntime) -> Result<(), Fail> {
             done: AtomicBool::new(false),
             late: AtomicBool::new(false),
         };
-        let Ok(verdicts) = vet_all(&rt, bad_and_good(rt.alloc())?, 2, &gate) else {
-            return Err(Fail::new("the jobs were refused"));
-        };
+        let faults = faults(&rt, bad_and_good(rt.alloc())?, 2, &gate)?;
         assert!(rt;
             !gate.late.load(Ordering::SeqCst),
             "job {held} was held too long"
         );
-        let mut faults = verdicts.iter().map(fault);
-        assert_eq!(rt;
-            faults.next(),
-            Some(Some(VetFault::NotPermitted { at: BASE }))
-        );
-        assert_eq!(rt; faults.next(), Some(None));
-        assert_eq!(rt; faults.next(), None);
+        let wanted = [Some(VetFault::NotPermitted { at: BASE }), None];
+        assert_eq!(rt; faults.as_slice(), wanted.as_slice());
     }
     Ok(())
 }
@@ -162,29 +170,21 @@ fn any_number_of_workers(rt: HostRuntime) -> Result<(), Fail> {
     Ok(())
 }
 
+/// One chunk that is valid, one of a wrong length, and one at a wrong base.
+fn three_jobs(alloc: Global) -> Result<Vec<Job>, AllocError> {
+    let mut jobs = Vec::new(alloc);
+    jobs.push(job(alloc, 0x10020, 32, 0x90)?)?;
+    jobs.push(job(alloc, BASE, 1, 0xC3)?)?;
+    jobs.push(job(alloc, 0x10001, 32, 0x90)?)?;
+    Ok(jobs)
+}
+
 #[test]
 fn each_by_its_own_answer(rt: HostRuntime) -> Result<(), Fail> {
     for workers in 1..17u32 {
-        let mut jobs = Vec::new(rt.alloc());
-        jobs.push(job(rt.alloc(), 0x10020, 32, 0x90)?)?;
-        jobs.push(job(rt.alloc(), BASE, 1, 0xC3)?)?;
-        jobs.push(job(rt.alloc(), 0x10001, 32, 0x90)?)?;
-        let Ok(verdicts) = vet_all(&rt, jobs, workers, &Open) else {
-            return Err(Fail::new("the jobs were refused"));
-        };
-        let mut faults = verdicts.iter().map(fault);
-        assert_eq!(rt; faults.next(), Some(None), "{workers} workers");
-        assert_eq!(rt;
-            faults.next(),
-            Some(Some(VetFault::BadLength)),
-            "{workers} workers"
-        );
-        assert_eq!(rt;
-            faults.next(),
-            Some(Some(VetFault::BadBase)),
-            "{workers} workers"
-        );
-        assert_eq!(rt; faults.next(), None);
+        let faults = faults(&rt, three_jobs(rt.alloc())?, workers, &Open)?;
+        let wanted = [None, Some(VetFault::BadLength), Some(VetFault::BadBase)];
+        assert_eq!(rt; faults.as_slice(), wanted.as_slice(), "{workers} workers");
     }
     Ok(())
 }
