@@ -8,6 +8,11 @@ use Rattle.nc_region.proofs.Told.{told_put, told_passed}
 use Rattle.nc_region.proofs.Logged.{log_put, log_passed}
 use Rattle.nc_region.proofs.Creating.{inside_closed}
 use Rattle.nc_region.proofs.SpanPlaces.{is_inside_true, is_inside_false}
+use Rattle.std.proofs.Common.{ℕ}
+use Rattle.std.proofs.lemmas.List.{take_all}
+use Rattle.nc_region.specs.Acts.{puts_where}
+use Rattle.nc_region.specs.Log.{Logs, unsettled}
+use Rattle.nc_region.proofs.Logged.{ends_settled}
 use Rattle.nc_region.proofs.create.put_inside.Goals as goal
 use Rattle.nc_region.proofs.create.put_inside.Goals.{then-at-ne0, else-at-ne0}
 
@@ -61,3 +66,10 @@ loop-i-preserved g c =
             log = log_passed is_inside base c.args.code.now i _ _ (omega arith) not c.loop-i.invariant.log;
           })
     ]
+
+-- names no step behind the loop, so that a settling left out there leaves the goal open
+pub returns-clause-log : goal.returns-clause-log
+returns-clause-log g c =
+    let log = subst (λ (code : List ℕ). Logs (g.A.Acts.logged c.args.acts.now) (g.A.Acts.logged c.loop-i.acts)
+    (unsettled (puts_where is_inside c.args.base code))) (take_all c.loop-i.i c.args.code.now (omega arith)) c.loop-i.invariant.log in
+    search (ends_settled _ _ _ log)

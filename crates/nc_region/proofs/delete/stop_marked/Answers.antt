@@ -10,6 +10,10 @@ use Rattle.nc_region.proofs.Puts.{put_more, put_passed}
 use Rattle.nc_region.proofs.Told.{told_put, told_passed}
 use Rattle.nc_region.proofs.Logged.{log_put, log_passed}
 use Rattle.nc_region.proofs.Deleting.{marked_closed}
+use Rattle.std.proofs.lemmas.List.{take_all}
+use Rattle.nc_region.specs.Acts.{puts_where}
+use Rattle.nc_region.specs.Log.{Logs, unsettled}
+use Rattle.nc_region.proofs.Logged.{ends_settled}
 use Rattle.nc_region.proofs.delete.stop_marked.Goals as goal
 use Rattle.nc_region.proofs.delete.stop_marked.Goals.{then-is_mark, else-is_mark}
 
@@ -76,3 +80,13 @@ loop-i-preserved g c =
             log = log_passed (is_marked_at old.marks) base (replicate c.args.len 244) i _ _ short is c.loop-i.invariant.log;
           })
     ]
+
+-- names no step behind the loop, so that a settling left out there leaves the goal open
+pub returns-clause-log : goal.returns-clause-log
+returns-clause-log g c =
+    let stops = replicate c.args.len 244 in
+    let chosen = is_marked_at (g.A.Acts.marked c.args.acts.now).marks in
+    let log = subst (λ (bytes : List ℕ). Logs (g.A.Acts.logged c.args.acts.now) (g.A.Acts.logged c.loop-i.acts)
+    (unsettled (puts_where chosen c.args.base bytes))) (take_all c.loop-i.i stops (omega (arith, length-replicate {A = ℕ} c.args.len 244)))
+    c.loop-i.invariant.log in
+    search (ends_settled _ _ _ log)

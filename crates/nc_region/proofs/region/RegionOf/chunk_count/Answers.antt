@@ -1,3 +1,4 @@
+use Rattle.std.proofs.Common.{rules}
 use Rattle.nc_text.proofs.Offered.{confined_if_closed}
 use Rattle.nc_region.proofs.QuietSpans.{quiet_spans}
 use Rattle.nc_region.proofs.region.RegionOf.chunk_count.Goals as goal
@@ -7,3 +8,6 @@ returns-clause-confined g c = rw (← c.self.view_is) (confined_if_closed _ _ c.
 
 pub returns-clause-quiet : goal.returns-clause-quiet
 returns-clause-quiet g c = rw (← c.self.view_is) (quiet_spans _ _ c.self.invariant.0)
+
+pub returns-clause-count : goal.returns-clause-count
+returns-clause-count g c = search rules
