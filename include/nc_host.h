@@ -116,6 +116,7 @@ extern "C" {
 #define NC_NO_CHUNK 41u      /* no live chunk has this base, or the list has no chunk at this index */
 #define NC_FULL 42u          /* there is no stamp left, after 2^62 deletions */
 #define NC_NO_PLACE 43u      /* the address is none of the region's */
+#define NC_NO_START 44u      /* the address is no bundle start of the region, so no walk begins there */
 
 /* Where control goes after an instruction. */
 #define NC_FLOW_NEXT 1u           /* to the next one */
@@ -125,6 +126,12 @@ extern "C" {
 #define NC_FLOW_INDIRECT_JUMP 5u  /* where `reg` points */
 #define NC_FLOW_INDIRECT_CALL 6u  /* where `reg` points */
 #define NC_FLOW_STOP 7u           /* nowhere */
+
+/* How a walk ends. */
+#define NC_END_STOP 1u        /* on an instruction that goes nowhere */
+#define NC_END_TRAMPOLINE 2u  /* below NC_START, where only trusted code stands */
+#define NC_END_BEYOND 3u      /* by an indirect jump or call to the limit or above it */
+#define NC_END_MORE 4u        /* on an instruction for which no choice was left */
 
 /* The marks of a chunk's bytes. Registers are numbered as in ModRM: 0 EAX, 1 ECX, 2 EDX, 3 EBX, 4 ESP, 5 EBP, 6 ESI, 7 EDI. */
 #define NC_UNMARKED 0u             /* control never stands there */
@@ -209,6 +216,12 @@ typedef struct NcPlace {
     uint32_t byte;
     uint32_t mark;   /* as nc_host_marks writes it */
 } NcPlace;
+
+typedef struct NcWalk {
+    size_t count;    /* how many places were written; for NC_NO_ROOM how many there are; else 0 */
+    uint32_t fault;
+    uint32_t end;    /* where the fault is NC_OK, how the walk ended, else 0 */
+} NcWalk;
 
 /* ---- Calls */
 
@@ -376,6 +389,19 @@ NcChunk nc_region_chunk(NcRegion *region, size_t index);
 
 /* The byte and the mark at an address of the region. It changes nothing. */
 NcPlace nc_region_place(NcRegion *region, uint32_t at);
+
+/*
+ * A walk from a bundle start of the region, of which nothing is executed: the addresses over which it goes, the first to the last, are
+ * written into `places`. The choices stand for what data and flags would decide, and each step uses one up: at a branch 0 falls through
+ * and every other number goes to the target, an indirect jump or call goes to the number with its low five bits cleared, at any other
+ * instruction the number doesn't matter. The walk ends below NC_START, at a stop, where no choice is left, or where an indirect jump or
+ * call goes to the limit or above it. It changes nothing.
+ * Promised: for NC_OK the places and the end are those of the machine's walk, which are determined by start and choices, and all of it is
+ * safe (IsTold). Else the first of NC_NO_HANDLE, NC_NO_START, NC_OUT_OF_MEMORY and NC_NO_ROOM that holds; `places` is as it was.
+ * `choices_len` + 1 places are enough.
+ * Cost: memory for the places.
+ */
+NcWalk nc_region_walk(NcRegion *region, uint32_t start, const uint32_t *choices, size_t choices_len, uint32_t *places, size_t places_len);
 
 /* The generation: the last stamp that was drawn, or 0. It changes nothing. */
 NcStamp nc_region_generation(NcRegion *region);

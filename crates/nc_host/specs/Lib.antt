@@ -4,3 +4,4 @@ pub mod Patches
 pub mod Handles
 pub mod Seats
 pub mod Looks
+pub mod Walked

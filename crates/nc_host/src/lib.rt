@@ -1,8 +1,19 @@
-//! Calls for a host in another language, over memory that the host lends.
+//! Calls for a host in another language: on a region that it holds by a handle, and over memory that it lends.
 //!
-//! The library keeps nothing between two calls and starts no thread. Each call may be made from any thread, but for those that take
-//! memory (all but the first) not from a signal handler or a forked child. Each answers for any arguments: a C compiler checks no
+//! The library starts no thread, and keeps nothing between two calls but what a handle has. Each call may be made from any thread, but
+//! for those that take memory not from a signal handler or a forked child. Each answers for any arguments: a C compiler checks no
 //! condition, so none is asked for. `nc_host.h` is the header, and says of each call what it promises.
+//!
+//! By a handle:
+//!
+//! - [`nc_region_new`], [`nc_region_free`], [`nc_region_seat`]: a region, and a seat for each of its threads.
+//! - [`nc_region_create`], [`nc_region_patch`], [`nc_region_begin_delete`], [`nc_region_end_delete`]: the region is changed, and the acts
+//!   of the change are written, in their order, with the places where the host settles.
+//! - [`nc_vetted_new`], [`nc_vetted_free`], [`nc_region_load`]: a chunk that is vetted without a region, and created in one.
+//! - [`nc_region_reclaim`], [`nc_seat_check_in`], [`nc_seat_leave`]: when a deleted chunk's span may be used again.
+//! - [`nc_region_chunk`], [`nc_region_place`], [`nc_region_walk`], [`nc_region_generation`]: what a region has.
+//!
+//! Over lent memory:
 //!
 //! - [`nc_host_decode`]: the instruction at the front of some bytes.
 //! - [`nc_host_vet`], [`nc_host_marks`]: the verdict on a chunk, and its marks.
@@ -26,6 +37,7 @@ mod regions;
 mod sitting;
 mod vetted;
 mod vetting;
+mod walking;
 
 pub use acting::{nc_host_create, nc_host_delete};
 pub use answers::{NcActs, NcInstruction, NcVerdict};
@@ -36,8 +48,9 @@ pub use looking::{nc_region_chunk, nc_region_generation, nc_region_place};
 pub use marking::nc_host_marks;
 pub use nc_acts::NcAct;
 pub use patching::nc_host_patch;
-pub use region_answers::{NcChange, NcChunk, NcCount, NcPlace, NcStamp};
+pub use region_answers::{NcChange, NcChunk, NcCount, NcPlace, NcStamp, NcWalk};
 pub use regions::{nc_region_free, nc_region_new, nc_region_seat};
 pub use sitting::{nc_seat_check_in, nc_seat_leave};
 pub use vetted::{nc_region_load, nc_vetted_free, nc_vetted_new};
 pub use vetting::nc_host_vet;
+pub use walking::nc_region_walk;

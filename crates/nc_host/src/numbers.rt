@@ -23,6 +23,9 @@ pub(crate) const NO_CHUNK: u32 = 41;
 /// The address is none of the region's.
 pub(crate) const NO_PLACE: u32 = 43;
 
+/// No walk begins at the address.
+pub(crate) const NO_START: u32 = 44;
+
 /// None is under way.
 pub(crate) const NOT_BEGUN: u32 = 38;
 

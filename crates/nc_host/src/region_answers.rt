@@ -2,6 +2,7 @@
 
 ghost use Rattle.std.specs.Prelude.{◌≡◌};
 ghost use Rattle.nc_host.specs.Looks.{no_chunk, no_place};
+ghost use Rattle.nc_host.specs.Walked.{no_walk};
 
 /// A verdict on a change, and how many acts it has.
 #[repr(C)]
@@ -61,6 +62,29 @@ pub struct NcPlace {
     pub byte: u32,
     /// The number of the mark.
     pub mark: u32,
+}
+
+/// A walk through a region's text.
+#[repr(C)]
+#[derive(Clone, Copy, Debug, PartialEq, Eq)]
+pub struct NcWalk {
+    /// How many places were written; for the fault that there is no room, how many there are; else 0.
+    pub count: usize,
+    /// 0, or the number of the fault.
+    pub fault: u32,
+    /// How it ended: 1 to 4, or 0.
+    pub end: u32,
+}
+
+/// No walk, for this reason.
+pub(crate) fn no_walk(fault: u32) -> NcWalk
+    ensures { result ≡ no_walk fault }
+{
+    NcWalk {
+        count: 0,
+        fault,
+        end: 0,
+    }
 }
 
 /// No chunk, for this reason.

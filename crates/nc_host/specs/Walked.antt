@@ -1,0 +1,46 @@
+-- What a host is told of a walk.
+use Rattle.std.specs.Prelude.{◌≡◌, ◌⊎◌, ◌<◌, ℕ, List, length}
+use Rattle.nc_region.specs.declared.trace.End.{End}
+use Rattle.nc_region.specs.declared.trace.End.TheVariants.{Stop, Trampoline, Beyond, More}
+use Rattle.nc_region.specs.Trace.{IsTrace, IsOnlyTrace, IsSafeWalk, IsWalkStart}
+use Rattle.nc_acts.specs.Shown.{over}
+use Rattle.nc_host.specs.declared.region_answers.NcWalk.{NcWalk}
+
+-- the number of an end
+abbrev pub end_number : End → ℕ
+end_number Stop = 1
+end_number Trampoline = 2
+end_number Beyond = 3
+end_number More = 4
+
+-- a walk to this end, over so many places
+abbrev pub walk_of : ℕ → End → NcWalk
+walk_of count end = record { count = count; fault = 0; end = end_number end }
+
+-- no walk, for this reason
+abbrev pub no_walk : ℕ → NcWalk
+no_walk fault = record { count = 0; fault = fault; end = 0 }
+
+-- a walk of the machine over safe states, which start and choices determine; its places stand at the front of the buffer
+pub record IsTold (text : List ℕ) (start : ℕ) (choices : List ℕ) (told : NcWalk) (old new : List ℕ) : Type 0 where
+  pub places : List ℕ
+  pub end : End
+  pub trace : IsTrace text start choices places end
+  pub only : IsOnlyTrace text start choices places end
+  pub safe : IsSafeWalk text start choices end
+  pub numbers : told ≡ walk_of (length places) end
+  pub written : new ≡ over places old
+
+-- a walk for whose places the buffer is too short
+pub record IsTooLong (text : List ℕ) (start : ℕ) (choices : List ℕ) (room : ℕ) (told : NcWalk) : Type 0 where
+  pub places : List ℕ
+  pub end : End
+  pub trace : IsTrace text start choices places end
+  pub longer : room < length places
+  pub numbers : told ≡ record { count = length places; fault = 9; end = 0 }
+
+-- when a walk is refused; for want of memory only where it begins at a bundle start
+abbrev pub MayRefuseTold : List ℕ → ℕ → List ℕ → ℕ → NcWalk → Type 0
+MayRefuseTold text start choices room told =
+    ((told ≡ no_walk 44) × ¬ IsWalkStart text start)
+    ⊎ (((told ≡ no_walk 8) × IsWalkStart text start) ⊎ IsTooLong text start choices room told)
