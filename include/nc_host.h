@@ -78,45 +78,89 @@ extern "C" {
 #define NC_MAX_BUNDLES 2097152u  /* the most: 64 MiB */
 #define NC_STOP 0xF4u            /* the byte of hlt, at which a thread traps */
 
+/* The version that this header belongs to; nc_host_version tells the library's. Two versions agree on all that both have while the major
+   number is the same, and above 0. */
+#define NC_VERSION_MAJOR 0u
+#define NC_VERSION_MINOR 1u
+#define NC_VERSION_PATCH 0u
+#define NC_VERSION (NC_VERSION_MAJOR << 16 | NC_VERSION_MINOR << 8 | NC_VERSION_PATCH)
+
 /* The limit of a region of that many bundles, the address after its last byte, for 2 to 2097152 of them. Other numbers may wrap round to
    a lawful limit, so a number from elsewhere is compared with these two first. */
 #define NC_LIMIT(bundles) (NC_START + NC_BUNDLE * (uint32_t)(bundles))
 
-/* The faults. A chunk's first one is given: 1 to 3 in this order, then the one of 4 to 6 with the least address, then 7 with the least. */
+/*
+ * The faults.
+ *
+ *  0 to 10  Of a chunk the first one is given: 1 to 3 in this order, then the one of 4 to 6 with the least address, then 7 with the least.
+ *           8 says nothing of the code, but that 1 to 3 don't hold. Where it is 9, the chunk is valid, or the patch lawful. 10 is of
+ *           nc_host_decode alone.
+ * 16 to 21  Of a patch the first one is given, in this order. None has an address.
+ * 32 to 44  Of calls on handles, beside those above.
+ */
 #define NC_OK 0u
-#define NC_BAD_BASE 1u        /* the base is no multiple of 32, or lies below NC_START */
-#define NC_BAD_LENGTH 2u      /* the length is 0, or no multiple of 32 */
-#define NC_OUT_OF_RANGE 3u    /* the limit is that of no region, or the chunk reaches into the guard, the last bundle below it */
-#define NC_NOT_PERMITTED 4u   /* at the address no permitted instruction begins inside the bundle */
-#define NC_CROSSES 5u         /* at the address an instruction begins that would cross the end of the bundle */
-#define NC_BARE 6u            /* the indirect jump or call at the address doesn't directly follow the mask of its register */
-#define NC_BAD_TARGET 7u      /* the jump, branch or call at the address goes where none may go */
-#define NC_OUT_OF_MEMORY 8u   /* no memory; it says nothing of the code, but that 1 to 3 don't hold */
-#define NC_NO_ROOM 9u         /* the buffer is too short, and as it was; the chunk is valid, and the patch lawful */
-#define NC_CUT_SHORT 10u      /* nc_host_decode: the bytes are the beginning of an instruction, and not all of it */
+#define NC_BAD_BASE 1u
+#define NC_BAD_LENGTH 2u
+#define NC_OUT_OF_RANGE 3u
+#define NC_NOT_PERMITTED 4u
+#define NC_CROSSES 5u
+#define NC_BARE 6u
+#define NC_BAD_TARGET 7u
+#define NC_OUT_OF_MEMORY 8u
+#define NC_NO_ROOM 9u
+#define NC_CUT_SHORT 10u
+#define NC_PATCH_BAD_SPAN 16u
+#define NC_PATCH_NOT_LIVE 17u
+#define NC_PATCH_NOT_PERMITTED 18u
+#define NC_PATCH_BOUNDARIES 19u
+#define NC_PATCH_PAIR_TOUCHED 20u
+#define NC_PATCH_BAD_TARGET 21u
+#define NC_NO_HANDLE 32u
+#define NC_HANDLE_TAKEN 33u
+#define NC_BAD_SEATS 34u
+#define NC_BAD_SIZE 35u
+#define NC_NO_SEAT 36u
+#define NC_UNDER_WAY 37u
+#define NC_NOT_BEGUN 38u
+#define NC_WRONG_LIMIT 39u /* nc_region_create never gives it */
+#define NC_OCCUPIED 40u
+#define NC_NO_CHUNK 41u
+#define NC_FULL 42u
+#define NC_NO_PLACE 43u
+#define NC_NO_START 44u
 
-/* The faults of a patch, of which the first is given, in this order. None has an address. */
-#define NC_PATCH_BAD_SPAN 16u       /* there are no new bytes, or they don't lie in one bundle */
-#define NC_PATCH_NOT_LIVE 17u       /* they don't begin in the chunk */
-#define NC_PATCH_NOT_PERMITTED 18u  /* they aren't whole permitted instructions, one after the other */
-#define NC_PATCH_BOUNDARIES 19u     /* they don't take the place of whole instructions, each as long as the new one */
-#define NC_PATCH_PAIR_TOUCHED 20u   /* a mask would get other bytes, or an indirect transfer would come, go or change its register */
-#define NC_PATCH_BAD_TARGET 21u     /* a new jump, branch or call would go where none may go */
-
-/* The refusals of calls on handles, beside those above. */
-#define NC_NO_HANDLE 32u     /* the handle has nothing */
-#define NC_HANDLE_TAKEN 33u  /* the handle that is to be filled has something; so nothing leaks */
-#define NC_BAD_SEATS 34u     /* the number of seats isn't 1 to 256 */
-#define NC_BAD_SIZE 35u      /* the number of bundles isn't NC_MIN_BUNDLES to NC_MAX_BUNDLES */
-#define NC_NO_SEAT 36u       /* each seat has been given */
-#define NC_UNDER_WAY 37u     /* a deletion is under way */
-#define NC_NOT_BEGUN 38u     /* none is */
-#define NC_WRONG_LIMIT 39u   /* the chunk was vetted for another limit than the region's; nc_region_create never gives it */
-#define NC_OCCUPIED 40u      /* the span meets a chunk of the region, live or retired */
-#define NC_NO_CHUNK 41u      /* no live chunk has this base, or the list has no chunk at this index */
-#define NC_FULL 42u          /* there is no stamp left, after 2^62 deletions */
-#define NC_NO_PLACE 43u      /* the address is none of the region's */
-#define NC_NO_START 44u      /* the address is no bundle start of the region, so no walk begins there */
+/* What each fault says, as X(NC_BAD_BASE, "the base .."): so a host makes its messages, or has nc_fault_name, below. */
+#define NC_FAULTS(X) \
+    X(NC_OK, "no fault") \
+    X(NC_BAD_BASE, "the base is no multiple of 32, or lies below the region") \
+    X(NC_BAD_LENGTH, "the length is 0, or no multiple of 32") \
+    X(NC_OUT_OF_RANGE, "the limit is that of no region, or the chunk reaches into the guard, the last bundle below it") \
+    X(NC_NOT_PERMITTED, "at the address no permitted instruction begins inside the bundle") \
+    X(NC_CROSSES, "at the address an instruction begins that would cross the end of the bundle") \
+    X(NC_BARE, "the indirect jump or call at the address doesn't directly follow the mask of its register") \
+    X(NC_BAD_TARGET, "the jump, branch or call at the address goes where none may go") \
+    X(NC_OUT_OF_MEMORY, "there is no memory") \
+    X(NC_NO_ROOM, "the buffer is too short, and as it was") \
+    X(NC_CUT_SHORT, "the bytes are the beginning of an instruction, and not all of it") \
+    X(NC_PATCH_BAD_SPAN, "there are no new bytes, or they don't lie in one bundle") \
+    X(NC_PATCH_NOT_LIVE, "the new bytes don't begin in a live chunk") \
+    X(NC_PATCH_NOT_PERMITTED, "the new bytes aren't whole permitted instructions, one after the other") \
+    X(NC_PATCH_BOUNDARIES, "the new instructions don't take the place of whole ones, each as long as the new one") \
+    X(NC_PATCH_PAIR_TOUCHED, "a mask would get other bytes, or an indirect jump or call would come, go or change its register") \
+    X(NC_PATCH_BAD_TARGET, "a new jump, branch or call would go where none may go") \
+    X(NC_NO_HANDLE, "the handle has nothing") \
+    X(NC_HANDLE_TAKEN, "the handle that is to be filled has something; so nothing leaks") \
+    X(NC_BAD_SEATS, "the number of seats isn't 1 to 256") \
+    X(NC_BAD_SIZE, "the number of bundles isn't 2 to 2097152") \
+    X(NC_NO_SEAT, "each seat has been given") \
+    X(NC_UNDER_WAY, "a deletion is under way") \
+    X(NC_NOT_BEGUN, "no deletion is under way") \
+    X(NC_WRONG_LIMIT, "the chunk was vetted for another limit than the region's") \
+    X(NC_OCCUPIED, "the span meets a chunk of the region, live or retired") \
+    X(NC_NO_CHUNK, "no live chunk has this base, or the list has no chunk at this index") \
+    X(NC_FULL, "there is no stamp left, after 2^62 deletions") \
+    X(NC_NO_PLACE, "the address is none of the region's") \
+    X(NC_NO_START, "the address is no bundle start of the region, so no walk begins there")
 
 /* Where control goes after an instruction. */
 #define NC_FLOW_NEXT 1u           /* to the next one */
@@ -270,9 +314,10 @@ NcActs nc_host_create(uint32_t base, uint32_t limit, const uint8_t *code, size_t
  * single byte only that. NC_NO_ROOM where the patch is lawful and the buffer has fewer than 3 * `new_len` places, which are always enough.
  * The host lends the bytes that stand in the text. If it lends others, the verdict is on those.
  * Cost: `code` is vetted anew, and a region is made for the time of the call, in memory of some five times the chunk's length and a byte
- * for each 256 bytes of the region. So the time has a part for the chunk, some fifteen to twenty times that of nc_host_vet, and a part
- * for the region, whatever the chunk: for one of a few bundles some 5 microseconds in a region of 4 MiB and 50 in one of 64 MiB. For
- * want of memory a patch may be refused.
+ * for each 256 bytes of the region: nothing but its bytes tells the library that the chunk was accepted, and where its instructions begin.
+ * (nc_region_patch knows it, and looks only at the bundles of the patch and of its targets.) So the time has a part for the chunk, some
+ * fifteen to twenty times that of nc_host_vet, and a part for the region, whatever the chunk: for one of a few bundles some 5
+ * microseconds in a region of 4 MiB and 50 in one of 64 MiB. For want of memory a patch may be refused.
  */
 NcActs nc_host_patch(uint32_t base, uint32_t limit, const uint8_t *code, size_t len, uint32_t at, const uint8_t *new_bytes, size_t new_len,
                      NcAct *acts, size_t acts_len);
@@ -287,6 +332,9 @@ NcActs nc_host_patch(uint32_t base, uint32_t limit, const uint8_t *code, size_t 
  * reserve.
  */
 NcActs nc_host_delete(uint32_t base, uint32_t limit, const uint8_t *code, size_t len, NcAct *acts, size_t acts_len);
+
+/* The version of the library that is linked, to be compared with NC_VERSION. */
+uint32_t nc_host_version(void);
 
 /* ---- Calls on handles */
 
@@ -416,6 +464,30 @@ uint32_t nc_seat_check_in(NcSeat *seat);
  * The seat's thread is outside for good; the handle has nothing then. A second call does nothing.
  */
 void nc_seat_leave(NcSeat *seat);
+
+/*
+ * Names and sentences of faults, for a source that defines NC_FAULT_NAMES before it includes this header: "NC_BAD_BASE", and "the base is
+ * no multiple of 32, or lies below the region". Of a number that is no fault's both are "?". The library has no part in them.
+ */
+#ifdef NC_FAULT_NAMES
+#ifdef __GNUC__
+#define NC_UNUSED __attribute__((unused))
+#else
+#define NC_UNUSED
+#endif
+#define NC_NAME_OF(fault, sentence) case fault: return #fault;
+#define NC_SENTENCE_OF(fault, sentence) case fault: return sentence;
+
+NC_UNUSED static const char *nc_fault_name(uint32_t fault) {
+    switch (fault) { NC_FAULTS(NC_NAME_OF) }
+    return "?";
+}
+
+NC_UNUSED static const char *nc_fault_sentence(uint32_t fault) {
+    switch (fault) { NC_FAULTS(NC_SENTENCE_OF) }
+    return "?";
+}
+#endif
 
 #ifdef __cplusplus
 }

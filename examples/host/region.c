@@ -4,6 +4,7 @@
  * It executes nothing. After each call it compares its memory with the region's bytes. tools/try-host compiles it as C and as C++ and
  * compares what it prints with region.txt.
  */
+#define NC_FAULT_NAMES
 #include "nc_host.h"
 
 #include <stdio.h>
@@ -64,6 +65,23 @@ static void show_chunks(void) {
 static void show_place(uint32_t at) {
     NcPlace place = nc_region_place(&region, at);
     printf("place %08x: fault %u byte %02x mark %u\n", (unsigned)at, (unsigned)place.fault, (unsigned)place.byte, (unsigned)place.mark);
+}
+
+static void show_fault(uint32_t fault) {
+    printf("fault %u: %s, %s\n", (unsigned)fault, nc_fault_name(fault), nc_fault_sentence(fault));
+}
+
+/* A walk by some choices, into so many places. */
+static void show_walk(uint32_t start, size_t room) {
+    static const uint32_t choices[] = {0, 0, 0, NC_START + 64 + 5, 0};
+    uint32_t places[6];
+    NcWalk walk = nc_region_walk(&region, start, choices, 5, places, room);
+    size_t i;
+    printf("walk: %u count %u end %u", (unsigned)walk.fault, (unsigned)walk.count, (unsigned)walk.end);
+    for (i = 0; walk.fault == NC_OK && i < walk.count; i++) {
+        printf(" %08x", (unsigned)places[i]);
+    }
+    printf("\n");
 }
 
 static void reclaim(void) {
@@ -149,7 +167,12 @@ int main(void) {
     memset(chunk, 0x90, LEN);
     memcpy(chunk, "\xB8\x05\x00\x00\x00\xEB\x19", 7);
     memcpy(chunk + NC_BUNDLE, "\x83\xE3\xE0\xFF\xE3", 5);
+    printf("version: %s\n", nc_host_version() == NC_VERSION ? "the header's" : "another");
+    show_fault(NC_OK);
+    show_fault(NC_OCCUPIED);
+    show_fault(11);
     refuse();
+    show_walk(NC_START, 6);
     begin();
     show("create", nc_region_create(&region, NC_START, chunk, LEN, acts, ROOM));
     show("create there again", nc_region_create(&region, NC_START + 32, chunk, LEN, acts, ROOM));
@@ -161,6 +184,10 @@ int main(void) {
     show_place(NC_START + 1);
     show_place(NC_START + 35);
     show_place(NC_START - 1);
+    show_walk(NC_START, 6);
+    show_walk(NC_START, 4);
+    show_walk(NC_START + 1, 6);
+    show_walk(NC_LIMIT(BUNDLES), 6);
     show_chunks();
     delete_chunk();
     show_chunks();

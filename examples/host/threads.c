@@ -10,6 +10,7 @@
  * astray. tools/try-host compiles it as C and as C++.
  */
 #define _POSIX_C_SOURCE 199506L
+#define NC_FAULT_NAMES
 #include "nc_host.h"
 
 #include <pthread.h>
@@ -119,7 +120,7 @@ static void settle(void) {
 static void make(NcChange change) {
     size_t i;
     if (change.fault != NC_OK) {
-        printf("a change was refused: %u\n", (unsigned)change.fault);
+        printf("a change was refused: %s at %08x\n", nc_fault_sentence(change.fault), (unsigned)change.at);
         exit(1);
     }
     for (i = 0; i < change.count; i++) {

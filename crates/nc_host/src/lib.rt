@@ -13,6 +13,8 @@
 //! - [`nc_region_reclaim`], [`nc_seat_check_in`], [`nc_seat_leave`]: when a deleted chunk's span may be used again.
 //! - [`nc_region_chunk`], [`nc_region_place`], [`nc_region_walk`], [`nc_region_generation`]: what a region has.
 //!
+//! [`nc_host_version`] tells the library's version.
+//!
 //! Over lent memory:
 //!
 //! - [`nc_host_decode`]: the instruction at the front of some bytes.
@@ -35,6 +37,7 @@ mod patching;
 mod region_answers;
 mod regions;
 mod sitting;
+mod version;
 mod vetted;
 mod vetting;
 mod walking;
@@ -51,6 +54,7 @@ pub use patching::nc_host_patch;
 pub use region_answers::{NcChange, NcChunk, NcCount, NcPlace, NcStamp, NcWalk};
 pub use regions::{nc_region_free, nc_region_new, nc_region_seat};
 pub use sitting::{nc_seat_check_in, nc_seat_leave};
+pub use version::nc_host_version;
 pub use vetted::{nc_region_load, nc_vetted_free, nc_vetted_new};
 pub use vetting::nc_host_vet;
 pub use walking::nc_region_walk;
