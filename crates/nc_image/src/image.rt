@@ -1,6 +1,7 @@
 //! Acts of the host's own: each byte that a region puts goes also into memory of the host.
 
-ghost use Rattle.std.specs.Prelude.{◌≡◌, ◌+◌, ◌*◌, None, IfOk};
+ghost use Rattle.std.specs.Prelude.{◌≡◌, ◌+◌, ◌*◌, ◌↔◌, None, OnOk, IfOk, IfErr};
+ghost use Rattle.nc_decode.specs.Bundles.{IsLawfulLimit};
 ghost use Rattle.nc_text.specs.MarkedText.{unused_text};
 
 use nc_decode::{BUNDLE, Mark, START};
@@ -32,7 +33,10 @@ impl<'g> Image<'g> {
         keeper: Keeper,
     ) -> Result<Image<'g>, RegionFault>
         requires { keeper.table ≡ gens.now }
-        ensures { IfOk result (λ i. i.plain.marked ≡ unused_text (0x10000 + 32 * bundles)) }
+        ensures made { IfOk result (λ i. i.plain.marked ≡ unused_text (0x10000 + 32 * bundles)) }
+        // The wrong size is found exactly where it is one.
+        ensures lawful { OnOk result (IsLawfulLimit (0x10000 + 32 * bundles)) }
+        ensures size { IfErr result (λ e. (e ≡ RegionFault.BadSize) ↔ ¬ IsLawfulLimit (0x10000 + 32 * bundles)) }
     {
         let text = match Text::new(alloc, bundles) {
             Ok(text) => text,
