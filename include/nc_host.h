@@ -445,7 +445,7 @@ NcPlace nc_region_place(NcRegion *region, uint32_t at);
  * instruction the number doesn't matter. The walk ends below NC_START, at a stop, where no choice is left, or where an indirect jump or
  * call goes to the limit or above it. It changes nothing.
  * Promised: for NC_OK the places and the end are those of the machine's walk, which are determined by start and choices, and all of it is
- * safe (IsTold). Else the first of NC_NO_HANDLE, NC_NO_START, NC_OUT_OF_MEMORY and NC_NO_ROOM that holds; `places` is as it was.
+ * safe (IsShownWalk). Else the first of NC_NO_HANDLE, NC_NO_START, NC_OUT_OF_MEMORY and NC_NO_ROOM that holds; `places` is as it was.
  * `choices_len` + 1 places are enough.
  * Cost: memory for the places.
  */

@@ -21,10 +21,12 @@ walk_of count end = record { count = count; fault = 0; end = end_number end }
 abbrev pub no_walk : ℕ → NcWalk
 no_walk fault = record { count = 0; fault = fault; end = 0 }
 
--- a walk of the machine over safe states, which start and choices determine; its places stand at the front of the buffer
-pub record IsTold (text : List ℕ) (start : ℕ) (choices : List ℕ) (told : NcWalk) (old new : List ℕ) : Type 0 where
+-- a walk of the machine from a bundle start of the region, over safe states, which start and choices determine; its places stand at the
+-- front of the buffer
+pub record IsShownWalk (text : List ℕ) (start : ℕ) (choices : List ℕ) (told : NcWalk) (old new : List ℕ) : Type 0 where
   pub places : List ℕ
   pub end : End
+  pub begins : IsWalkStart text start
   pub trace : IsTrace text start choices places end
   pub only : IsOnlyTrace text start choices places end
   pub safe : IsSafeWalk text start choices end
@@ -32,15 +34,16 @@ pub record IsTold (text : List ℕ) (start : ℕ) (choices : List ℕ) (told : N
   pub written : new ≡ over places old
 
 -- a walk for whose places the buffer is too short
-pub record IsTooLong (text : List ℕ) (start : ℕ) (choices : List ℕ) (room : ℕ) (told : NcWalk) : Type 0 where
+pub record IsLongWalk (text : List ℕ) (start : ℕ) (choices : List ℕ) (room : ℕ) (told : NcWalk) : Type 0 where
   pub places : List ℕ
   pub end : End
+  pub begins : IsWalkStart text start
   pub trace : IsTrace text start choices places end
   pub longer : room < length places
   pub numbers : told ≡ record { count = length places; fault = 9; end = 0 }
 
 -- when a walk is refused; for want of memory only where it begins at a bundle start
-abbrev pub MayRefuseTold : List ℕ → ℕ → List ℕ → ℕ → NcWalk → Type 0
-MayRefuseTold text start choices room told =
+abbrev pub MayRefuseShownWalk : List ℕ → ℕ → List ℕ → ℕ → NcWalk → Type 0
+MayRefuseShownWalk text start choices room told =
     ((told ≡ no_walk 44) × ¬ IsWalkStart text start)
-    ⊎ (((told ≡ no_walk 8) × IsWalkStart text start) ⊎ IsTooLong text start choices room told)
+    ⊎ (((told ≡ no_walk 8) × IsWalkStart text start) ⊎ IsLongWalk text start choices room told)

@@ -3,7 +3,7 @@
 ghost use Rattle.std.specs.Prelude.{◌≡◌, ◌<◌, ◌≤◌, ◌⊎◌, None, Some, length};
 ghost use Rattle.nc_acts.specs.Shown.{over};
 ghost use Rattle.nc_handle.specs.Held.{HeldState};
-ghost use Rattle.nc_host.specs.Walked.{end_number, no_walk, IsTold, MayRefuseTold};
+ghost use Rattle.nc_host.specs.Walked.{end_number, no_walk, IsShownWalk, MayRefuseShownWalk};
 
 use crate::answers::{NO_MEMORY, NO_ROOM};
 use crate::numbers::{NO_START, NOTHING};
@@ -36,9 +36,9 @@ fn write_places(buffer: &mut [u32], places: &[u32])
 
 /// Walks, and writes the places if there is room for all of them.
 fn walk_into(held: &Held, start: u32, choices: &[u32], places: &mut [u32]) -> NcWalk
-    ensures told { result.fault ≡ 0 → IsTold held.now.region.marked.bytes start choices.now result places.old places.new }
+    ensures told { result.fault ≡ 0 → IsShownWalk held.now.region.marked.bytes start choices.now result places.old places.new }
     ensures refused { 0 < result.fault → (places.new ≡ places.old)
-        × MayRefuseTold held.now.region.marked.bytes start choices.now (length places.old) result }
+        × MayRefuseShownWalk held.now.region.marked.bytes start choices.now (length places.old) result }
 {
     let trace = match held.walk(start, choices) {
         Ok(trace) => trace,
@@ -73,10 +73,10 @@ pub extern "C" fn nc_region_walk(
 ) -> NcWalk
     ensures same { region.new.value ≡ region.old.value }
     ensures told { result.fault ≡ 0 → (h : HeldState) × (region.old.value ≡ Some h)
-        × IsTold h.region.marked.bytes start choices.now result places.old places.new }
+        × IsShownWalk h.region.marked.bytes start choices.now result places.old places.new }
     ensures refused { 0 < result.fault → (places.new ≡ places.old) × (((result ≡ no_walk 32) × (region.old.value ≡ None))
         ⊎ ((h : HeldState) × (region.old.value ≡ Some h)
-        × MayRefuseTold h.region.marked.bytes start choices.now (length places.old) result)) }
+        × MayRefuseShownWalk h.region.marked.bytes start choices.now (length places.old) result)) }
 {
     let Some(held) = region.take(alloc) else {
         return no_walk(NOTHING);

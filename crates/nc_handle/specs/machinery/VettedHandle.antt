@@ -1,4 +1,4 @@
--- What a handle to a vetted owns.
+-- What a handle to a vetted chunk owns.
 use Rattle.std.specs.Prelude.{Option}
 use Rattle.std.specs.Coded.{coded_option}
 use Rattle.std.specs.Global.{Global}
