@@ -1,3 +1,4 @@
+pub mod ReadBytes
 pub mod SpanReads
 pub mod Attended
 pub mod PatchPlaces

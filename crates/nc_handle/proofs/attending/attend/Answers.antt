@@ -1,5 +1,5 @@
 use Rattle.std.proofs.Common.{◌<◌, ◌≤◌, ℕ, length, get_or, arith, sym, subst, ◌∙◌}
-use Rattle.nc_handle.proofs.Attended.{attended_next}
+use Rattle.nc_handle.proofs.Attended.{attended_next, attended_all}
 use Rattle.nc_handle.proofs.attending.attend.Goals as goal
 
 pub loop-i-preserved : goal.loop-i-preserved
@@ -13,3 +13,8 @@ loop-i-preserved c =
     (subst (λ (n : ℕ). n < length c.attend_one.new.region.keeper.numbers.bounds) (sym c.attend_one.ensures.same.1) c.attend_one.ensures.inside)
     (subst (λ (n : ℕ). c.loop-i.region.keeper.numbers.generation ≤ get_or c.attend_one.new.region.keeper.numbers.bounds n 0)
     (sym c.attend_one.ensures.same.1) c.attend_one.ensures.bound)
+
+pub returns-clause-outside : goal.returns-clause-outside
+returns-clause-outside c =
+    attended_all c.args.gens.now c.args.region.now c.args.passes.now c.loop-i.region c.loop-i.passes c.loop-i.i c.loop-i.invariant
+    (omega (arith, c.loop-i-test.false, c.loop-i.invariant.as_many))
