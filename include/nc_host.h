@@ -6,10 +6,8 @@
  * parentheses below are definitions which that cites, and docs/DEFINITIONS.md explains them. That this header says the same is not proved.
  *
  * What every call keeps
- *   Memory      Code and buffers are lent by the host for the time of the call. The library keeps nothing, and no pointer, between calls.
- *               Each call but nc_host_decode takes memory of its own by malloc, and gives all of it back before it returns. Without
- *               memory the fault is NC_OUT_OF_MEMORY. 64 KiB of stack are enough (tried, not proved).
- *   Threads     It starts none. Any thread may call, and several may at once, as long as nobody writes what a call reads or writes.
+ *   Threads     The library starts none. Any thread may call, and several may at once, as long as nobody writes what a call reads or
+ *               writes; calls on one region are made one at a time.
  *   Arguments   Numbers other than lengths may be anything: a call answers, with a fault, where they make no sense. It is for the host to
  *               see that
  *               - a pointer with a length leads to that many bytes or elements, also where they are more than is used (so a length
@@ -18,12 +16,18 @@
  *                 address (tried for each call, not proved);
  *               - no buffer that is written overlaps another argument, and nobody changes what is lent while the call runs.
  *   Allocator   malloc, realloc and free belong to one allocator, and align a block to each power of two up to 16 that divides its size.
- *               No call but nc_host_decode is made from a signal handler, or in the child that a process with threads has forked.
+ *               No call but nc_host_decode is made from a signal handler, or in the child that a process with threads has forked. Without
+ *               memory the fault is NC_OUT_OF_MEMORY. 64 KiB of stack are enough (tried, not proved).
  *   Refusals    A buffer is as it was when the fault isn't 0. Only so much of it is written as is said.
- *   Answers     The same arguments give the same answer, but for NC_OUT_OF_MEMORY.
  *   Execution   Nothing that is lent is ever executed.
- *   Linking     The library is for Linux on x86-64 with the instructions of x86-64-v2, and wants liblibc_c.a of the toolchain after it
- *               (README.md has the command).
+ *   Linking     The library is for Linux on x86-64 with the instructions of x86-64-v2, and wants liblibc_c.a of the toolchain after it:
+ *               `gcc host.c libnc_host.a liblibc_c.a`. In another order the linker doesn't find rattle_dealloc.
+ *
+ * What the calls keep whose names begin with nc_host_ (for handles see "What all of them keep", below)
+ *   Memory      Code and buffers are lent by the host for the time of the call. The library keeps nothing, and no pointer, between calls.
+ *               Each call but nc_host_decode and nc_host_version takes memory of its own by malloc, and gives all of it back before it
+ *               returns.
+ *   Answers     The same arguments give the same answer, but for NC_OUT_OF_MEMORY.
  *
  * What the host has to keep, without which no verdict protects it (docs/EMBEDDING.md says why):
  *   - Untrusted code runs in a 32-bit code segment; in 64-bit mode the same bytes are other instructions. Nothing is executable in it but
@@ -32,9 +36,10 @@
  *   - A segment ends at the limit, so that what goes there or above it traps.
  *   - Untrusted code is entered at bundle starts only, and bundle starts below NC_START hold trusted code or stops.
  *   - All places of the region that no chunk covers hold NC_STOP; the last bundle, the guard, always does.
- *   - Each put is one atomic store of one byte, made in the order in which it is written. At NC_SETTLE every processor that runs a thread
- *     of the host executes a serializing instruction before the host goes on. Each thread executes one on its way in, after the host has
- *     last counted it as outside. Nothing else is needed of processors: until one has serialized it may execute bytes as they were before.
+ *   - Each put is one atomic store of one byte (memory_order_seq_cst), made in the order in which it is written. At NC_SETTLE every
+ *     processor that runs a thread of the host executes a serializing instruction before the host goes on. Each thread executes one on
+ *     its way in, after the host has last counted it as outside. Nothing else is needed of processors: until one has serialized it may
+ *     execute bytes as they were before.
  *   - One call at a time changes a text: the host has its own lock around asking for acts and making them (for a creation, around making
  *     them). Where it makes the first act of a call, it makes all the others too, before it asks for more.
  *   - The limit is the region's own, the same in every call.
@@ -93,8 +98,9 @@ extern "C" {
  * The faults.
  *
  *  0 to 10  Of a chunk the first one is given: 1 to 3 in this order, then the one of 4 to 6 with the least address, then 7 with the least.
- *           8 says nothing of the code, but that 1 to 3 don't hold. Where it is 9, the chunk is valid, or the patch lawful. 10 is of
- *           nc_host_decode alone.
+ *           8 says nothing of the code, but that 1 to 3 don't hold. 9 of a call without a handle says that the chunk is valid, or the
+ *           patch lawful; by a handle it comes before the faults of a patch. 10 is of nc_host_decode alone. docs/EMBEDDING.md has what a
+ *           compiler may emit, docs/GUIDE.md all permitted instructions.
  * 16 to 21  Of a patch the first one is given, in this order. None has an address.
  * 32 to 44  Of calls on handles, beside those above.
  */
@@ -138,7 +144,8 @@ extern "C" {
     X(NC_NOT_PERMITTED, "at the address no permitted instruction begins inside the bundle") \
     X(NC_CROSSES, "at the address an instruction begins that would cross the end of the bundle") \
     X(NC_BARE, "the indirect jump or call at the address doesn't directly follow the mask of its register") \
-    X(NC_BAD_TARGET, "the jump, branch or call at the address goes where none may go") \
+    X(NC_BAD_TARGET, "the jump, branch or call at the address goes neither to a bundle start below the limit nor to the start of an " \
+                     "instruction of the chunk that isn't the second one of a pair") \
     X(NC_OUT_OF_MEMORY, "there is no memory") \
     X(NC_NO_ROOM, "the buffer is too short, and as it was") \
     X(NC_CUT_SHORT, "the bytes are the beginning of an instruction, and not all of it") \
@@ -147,7 +154,8 @@ extern "C" {
     X(NC_PATCH_NOT_PERMITTED, "the new bytes aren't whole permitted instructions, one after the other") \
     X(NC_PATCH_BOUNDARIES, "the new instructions don't take the place of whole ones, each as long as the new one") \
     X(NC_PATCH_PAIR_TOUCHED, "a mask would get other bytes, or an indirect jump or call would come, go or change its register") \
-    X(NC_PATCH_BAD_TARGET, "a new jump, branch or call would go where none may go") \
+    X(NC_PATCH_BAD_TARGET, "a new jump, branch or call would go neither to a bundle start below the limit nor to the start of an " \
+                           "instruction of the chunk that isn't the second one of a pair") \
     X(NC_NO_HANDLE, "the handle has nothing") \
     X(NC_HANDLE_TAKEN, "the handle that is to be filled has something; so nothing leaks") \
     X(NC_BAD_SEATS, "the number of seats isn't 1 to 256") \
@@ -195,7 +203,7 @@ typedef struct NcInstruction {
     uint32_t flow;
     int32_t rel;      /* the displacement of a branch, jump or call, else 0 */
     uint32_t reg;     /* the register of an indirect jump or call, else 0 */
-    uint32_t masks;   /* 16 + the register that `and reg, -32` masks, or 0 */
+    uint32_t masks;   /* 16 + the register that `and reg, -32` masks, or 0: 83 E0+reg E0, any but ESP. Longer forms mask nothing */
 } NcInstruction;
 
 typedef struct NcVerdict {
@@ -346,8 +354,10 @@ uint32_t nc_host_version(void);
  *   Refusals    Each leaves the region, the seats and the buffer as they were; but where memory was refused to a creation, the region may
  *               have taken memory for the text of its span. A handle that has nothing is refused by NC_NO_HANDLE.
  *   Acts        Each change writes the acts by which it changes the region's text, with the settlings among them, so that the host's
- *               memory has the region's bytes once it has made them. A buffer of length 0 is none: nothing is written, and `count` is 0. In
- *               a buffer that is too short nothing is written: NC_NO_ROOM, with `count` for what is enough.
+ *               memory has the region's bytes once it has made them. In a buffer that is too short nothing is written, and nothing changes:
+ *               NC_NO_ROOM, with `count` for what is enough. But a length of 0 doesn't ask for the number: the change is made, `count`
+ *               is 0, and nobody is told its acts, so that memory no longer has the region's bytes. That is for a host without memory
+ *               of its own. A buffer that grows begins with some places. (nc_host_create and its neighbours refuse a length of 0.)
  *   Memory      What a region has taken is given back by nc_region_free, and what a seat has by nc_seat_leave; the table of stamps and
  *               check-ins is given back with the last of them, in any order.
  */
@@ -376,7 +386,8 @@ uint32_t nc_region_seat(NcRegion *region, NcSeat *seat);
  * Vets the chunk and creates it in the region (IsCreated), and writes the acts as nc_host_create does.
  * Promised: a refusal is NC_NO_HANDLE; else one of the chunk's own faults; else the first of NC_UNDER_WAY, NC_NO_ROOM, NC_OCCUPIED and
  * NC_OUT_OF_MEMORY that holds. `len` + 2 places are enough.
- * The host makes the acts after the call, before the next change.
+ * The host makes the acts after the call, before the next change. No call names a span that is free: nc_region_chunk tells the chunks, in
+ * rising order, and what lies between them is free.
  * Cost: that of nc_host_vet, and a copy of the code. This is under the lock.
  */
 NcChange nc_region_create(NcRegion *region, uint32_t base, const uint8_t *code, size_t len, NcAct *acts, size_t acts_len);
@@ -404,14 +415,16 @@ NcChange nc_region_load(NcRegion *region, NcVetted *vetted, NcAct *acts, size_t 
  * Patches a chunk (IsPatch, IsModified), and writes the acts as nc_host_patch does.
  * Promised: a refusal is NC_NO_HANDLE; else the first of NC_UNDER_WAY, NC_NO_ROOM (only for at most 32 bytes) and the faults of a patch
  * that holds. 3 * `len` places are enough.
+ * The bytes are whole instructions, also where only a number in one changes. Acts are written for those that differ, so `count` may be 0.
  * The host makes the acts after the call, before the next change.
  * Cost: that of the patch and of the bundles that its targets lie in, whatever the chunk; no memory.
  */
 NcChange nc_region_patch(NcRegion *region, uint32_t at, const uint8_t *bytes, size_t len, NcAct *acts, size_t acts_len);
 
 /*
- * The first step of a deletion: writes its acts as nc_host_delete does, and the region has the chunk still (HasBegun). Until the last step
- * each call that changes the region is refused by NC_UNDER_WAY.
+ * The first step of a deletion: writes its acts as nc_host_delete does, and the region has the chunk still (HasBegun). Until the last
+ * step, which can't be left out, each call that changes the region is refused by NC_UNDER_WAY; those that only look, and
+ * nc_region_seat, answer.
  * Promised: a refusal is NC_NO_HANDLE; else the first of NC_UNDER_WAY, NC_NO_CHUNK, NC_FULL and NC_NO_ROOM that holds. Two places more than
  * the chunk has bytes are enough.
  * The host makes all acts but NC_BUMP, which is the last one, before it calls nc_region_end_delete, which is that act. A stamp that were
@@ -429,10 +442,12 @@ NcStamp nc_region_end_delete(NcRegion *region);
 /*
  * Checks in for each seat that nobody was given, and takes exactly those retired chunks from the list that no seat holds back
  * (HasReclaimed): `count` of them. Their spans may be used again. It puts no byte, and writes no act; no memory.
+ * Promised: it is refused by NC_NO_HANDLE, or by NC_UNDER_WAY while a deletion is.
+ * Cost: a look at each seat and at each chunk.
  */
 NcCount nc_region_reclaim(NcRegion *region);
 
-/* The chunk at an index of the list, by rising base; NC_NO_CHUNK behind the last one. It changes nothing. */
+/* The chunk at an index of the list, by rising base; NC_NO_CHUNK behind the last one. It changes nothing. Cost: the same at each index. */
 NcChunk nc_region_chunk(NcRegion *region, size_t index);
 
 /* The byte and the mark at an address of the region. It changes nothing. */
@@ -455,7 +470,8 @@ NcWalk nc_region_walk(NcRegion *region, uint32_t start, const uint32_t *choices,
 NcStamp nc_region_generation(NcRegion *region);
 
 /*
- * The seat's thread is outside the region: one load and one store (HasCheckedIn). No lock, no memory, and it never waits.
+ * The seat's thread is outside the region: one load and one store, both memory_order_seq_cst (HasCheckedIn). No lock, no memory, and it
+ * never waits.
  * Not promised: that the thread is outside. The host calls it only then, before the thread goes in again, and once it is out.
  */
 uint32_t nc_seat_check_in(NcSeat *seat);
