@@ -363,7 +363,7 @@ uint32_t nc_host_version(void);
  */
 
 /*
- * Makes a region of so many bundles, all stops, without a chunk, with so many seats (IsFirst), for a handle that has nothing.
+ * Makes a region of `bundles` bundles, all stops, with no chunk and `seats` seats (IsFirst), for a handle that has nothing.
  * Promised: NC_HANDLE_TAKEN for a handle that has something; else NC_BAD_SEATS and NC_BAD_SIZE exactly where they are due, in this order.
  * Cost: memory for a table of the text's pages, and 8 bytes and more for each seat.
  */
