@@ -100,7 +100,7 @@ extern "C" {
  *  0 to 10  Of a chunk the first one is given: 1 to 3 in this order, then the one of 4 to 6 with the least address, then 7 with the least.
  *           8 says nothing of the code, but that 1 to 3 don't hold. 9 of a call without a handle says that the chunk is valid, or the
  *           patch lawful; by a handle it comes before the faults of a patch. 10 is of nc_host_decode alone. docs/EMBEDDING.md has what a
- *           compiler may emit, docs/GUIDE.md all permitted instructions.
+ *           compiler may emit, specs/Rows of nc_decode the table of permitted instructions.
  * 16 to 21  Of a patch the first one is given, in this order. None has an address.
  * 32 to 44  Of calls on handles, beside those above.
  */
