@@ -1,69 +1,71 @@
 /*
- * nc_host.h: calls of Reedbodkin for a host in C or C++.
+ * nc_host.h: the calls of Reedbodkin for a host in C or C++.
  *
  * They judge untrusted 32-bit x86 code, and give the acts by which a judged chunk is put into a text that threads are running, changed
- * there, or taken away. Each call is proved to keep the contract of the function of its name in crates/nc_host; the terms in
- * parentheses below are definitions which that cites, and docs/DEFINITIONS.md explains them. That this header says the same is not proved.
+ * there, or removed. Each call is proved to keep the contract of the function of the same name in crates/nc_host. The names in parentheses
+ * below, such as (IsValid), are definitions that this contract cites; docs/DEFINITIONS.md explains them. That this header says the same as
+ * the contracts is not proved.
  *
  * What every call keeps
- *   Threads     The library starts none. Any thread may call, and several may at once, as long as nobody writes what a call reads or
- *               writes; calls on one region are made one at a time.
- *   Arguments   Numbers other than lengths may be anything: a call answers, with a fault, where they make no sense. It is for the host to
- *               see that
- *               - a pointer with a length leads to that many bytes or elements, also where they are more than is used (so a length
- *                 is below 2^63: a difference that has wrapped is none, and isn't found out by a fault);
- *               - no pointer is null, but one whose length is 0: nothing is read or written by that, so it may be null or any other
- *                 address (tried for each call, not proved);
- *               - no buffer that is written overlaps another argument, and nobody changes what is lent while the call runs.
- *   Allocator   malloc, realloc and free belong to one allocator, and align a block to each power of two up to 16 that divides its size.
- *               No call but nc_host_decode is made from a signal handler, or in the child that a process with threads has forked. Without
- *               memory the fault is NC_OUT_OF_MEMORY. 64 KiB of stack are enough (tried, not proved).
- *   Refusals    A buffer is as it was when the fault isn't 0. Only so much of it is written as is said.
- *   Execution   Nothing that is lent is ever executed.
- *   Linking     The library is for Linux on x86-64 with the instructions of x86-64-v2, and wants liblibc_c.a of the toolchain after it:
- *               `gcc host.c libnc_host.a liblibc_c.a`. In another order the linker doesn't find rattle_dealloc.
+ *   Threads     The library starts no threads. Any thread may call, and several may call at once, as long as nobody writes what a call
+ *               reads or writes. Calls on one region must be made one at a time.
+ *   Arguments   Numbers other than lengths can have any value: where a value makes no sense, the call answers with a fault. The host must
+ *               ensure that
+ *               - a pointer with a length leads to that many bytes or elements, even where the call uses fewer (so a length is below 2^63:
+ *                 a difference that has wrapped is not a length, and no fault reveals it);
+ *               - no pointer is null, except one whose length is 0: nothing is read or written through it, so it may be null or any other
+ *                 address (tested for each call, not proved);
+ *               - no buffer that is written overlaps another argument, and nobody changes lent memory while the call runs.
+ *   Allocator   malloc, realloc and free must belong to one allocator, and align a block to each power of two up to 16 that divides its
+ *               size. No call except nc_host_decode may be made from a signal handler, or in the child that a process with threads has
+ *               forked. If memory runs out, the fault is NC_OUT_OF_MEMORY. 64 KiB of stack are enough (tested, not proved).
+ *   Refusals    If the fault isn't 0, a buffer is unchanged. No more of a buffer is written than is stated.
+ *   Execution   Lent memory is never executed.
+ *   Linking     The library is for Linux on x86-64 with the instructions of x86-64-v2. The toolchain's liblibc_c.a must follow it on the
+ *               command line: `gcc host.c libnc_host.a liblibc_c.a`. In another order the linker doesn't find rattle_dealloc.
  *
- * What the calls keep whose names begin with nc_host_ (for handles see "What all of them keep", below)
- *   Memory      Code and buffers are lent by the host for the time of the call. The library keeps nothing, and no pointer, between calls.
- *               Each call but nc_host_decode and nc_host_version takes memory of its own by malloc, and gives all of it back before it
+ * What the calls whose names begin with nc_host_ keep (for handles see "What all of them keep", below)
+ *   Memory      The host lends code and buffers for the duration of the call. The library keeps nothing between calls, not even a pointer.
+ *               Each call except nc_host_decode and nc_host_version allocates memory of its own by malloc, and frees all of it before it
  *               returns.
- *   Answers     The same arguments give the same answer, but for NC_OUT_OF_MEMORY.
+ *   Answers     The same arguments give the same answer, except for NC_OUT_OF_MEMORY.
  *
  * What the host has to keep, without which no verdict protects it (docs/EMBEDDING.md says why):
- *   - Untrusted code runs in a 32-bit code segment; in 64-bit mode the same bytes are other instructions. Nothing is executable in it but
- *     the text and what is below NC_START.
- *   - Untrusted code can't write the region's text, nor the code below NC_START, and reads no more than it may.
- *   - A segment ends at the limit, so that what goes there or above it traps.
- *   - Untrusted code is entered at bundle starts only, and bundle starts below NC_START hold trusted code or stops.
- *   - All places of the region that no chunk covers hold NC_STOP; the last bundle, the guard, always does.
- *   - Each put is one atomic store of one byte (memory_order_seq_cst), made in the order in which it is written. At NC_SETTLE every
- *     processor that runs a thread of the host executes a serializing instruction before the host goes on. Each thread executes one on
- *     its way in, after the host has last counted it as outside. Nothing else is needed of processors: until one has serialized it may
- *     execute bytes as they were before.
- *   - One call at a time changes a text: the host has its own lock around asking for acts and making them (for a creation, around making
- *     them). Where it makes the first act of a call, it makes all the others too, before it asks for more.
+ *   - Untrusted code runs in a 32-bit code segment; in 64-bit mode the same bytes are other instructions. Nothing in that segment is
+ *     executable except the text and what is below NC_START.
+ *   - Untrusted code can write neither the region's text nor the code below NC_START, and can read no more than it is allowed to.
+ *   - A segment ends at the limit, so that whatever goes to the limit or above it traps.
+ *   - Untrusted code is entered only at bundle starts, and bundle starts below NC_START hold trusted code or stops.
+ *   - Every address of the region that no chunk covers holds NC_STOP; those of the last bundle, the guard, always do.
+ *   - Each put is one atomic store of one byte (memory_order_seq_cst), and the puts are made in the order in which they are written. At
+ *     NC_SETTLE every processor that runs a thread of the host executes a serializing instruction before the host goes on. Each thread
+ *     executes one on its way in, after the host has last counted it as outside. Nothing else is required of processors: until a processor
+ *     has serialized, it may execute the old bytes.
+ *   - Only one call at a time changes a text: the host holds its own lock while it asks for acts and makes them (for a creation, while it
+ *     makes them). If it makes the first act of a call, it makes all the others before it asks for more.
  *   - The limit is the region's own, the same in every call.
- *   - A patch and a deletion name a chunk by the base and the length with which it was created. A part of a chunk is not taken away and
- *     not patched as a chunk of its own: what is left of it could jump between instructions, and no call would say so.
- *   - A chunk is created only where no chunk stands, live or retired. (`base` + `len` may wrap as long as no call has judged the range.)
- *   - A stop that a thread meets may be gone when the handler looks: that of a patch that was being made, or that of unused text where a
- *     chunk is created. The trap doesn't tell it from a data fault. So the writer raises a count before the first act of a call and
- *     after the last. The handler reads an even count, the byte, and the same count again. Where the byte is NC_STOP, the stop is the
- *     code's own. Where it isn't, the thread goes back to the same instruction once; the same fault at the same count is the code's own.
- *   - Signal handlers run on an alternate stack that no 32-bit stack pointer reaches (above 4 GiB, or disarmed while it is used), or
- *     their signals are blocked while a thread is inside: a kernel takes the untrusted stack pointer as a flat address.
- *   - Trusted code that is entered clears the direction flag, since untrusted code may set it, and uses no stack before it has loaded a stack
- *     pointer of its own. It masks each address by which it goes back, after it has read it once.
- *   - A deleted span is used again only once every thread that may have stood in it has left the region or has been outside since the
- *     stamp was drawn. Until then and afterwards its pages stay executable and full of NC_STOP: its bundle starts may be jumped to.
+ *   - A patch or a deletion names a chunk by the base and the length with which it was created. A part of a chunk is never deleted or
+ *     patched as a chunk of its own: the rest of the chunk could then jump between instructions, and no call would report it.
+ *   - A chunk is created only where there is no chunk, live or retired. (Until a call has judged the range, `base` + `len` may wrap.)
+ *   - A stop at which a thread traps may be gone when the handler looks: it belonged to a patch that was being made, or to unused text
+ *     where a chunk is being created. The trap doesn't tell it from a data fault. So the writer increments a count before the first act of
+ *     a call and after the last. The handler reads an even count, then the byte, then the same count again. If the byte is NC_STOP, the
+ *     stop is the code's own. If it isn't, the thread goes back to the same instruction once; the same fault at the same count is the
+ *     code's own.
+ *   - Signal handlers run on an alternate stack that no 32-bit stack pointer reaches (above 4 GiB, or disarmed while in use), or their
+ *     signals are blocked while a thread is inside: a kernel takes the untrusted stack pointer as a flat address.
+ *   - Trusted code that is entered clears the direction flag, since untrusted code may set it, and uses no stack before it has loaded its
+ *     own stack pointer. It reads each address by which it goes back once, and then masks it.
+ *   - A deleted span is reused only once every thread that may have been in it has left the region or has been outside since the stamp was
+ *     drawn. Until then and afterwards its pages stay executable and full of NC_STOP: threads may jump to its bundle starts.
  *
  * Two ways to hold a region:
  *   - By a handle (nc_region_new and the calls below it): the library keeps the list of the chunks, the region's bytes and marks, the
- *     stamps and the check-ins, and says when a span may be used again. What a host has to keep of chunks, above, it then keeps by
- *     these calls alone. The host has its own memory, in which it makes the acts that each change writes, and its own lock.
- *   - Without (nc_host_create, nc_host_patch, nc_host_delete): the host has the list, the stamps and the reuse of spans, and nothing
- *     of them is proved.
- * Not here: a lock. A static library of this toolchain can't have one.
+ *     stamps and the check-ins, and says when a span may be reused. These calls alone then fulfil the host's duties, above, that concern
+ *     chunks. The host has its own memory, in which it makes the acts that each change writes, and its own lock.
+ *   - Without a handle (nc_host_create, nc_host_patch, nc_host_delete): the host keeps the list and the stamps and decides when a span is
+ *     reused, and nothing about these is proved.
+ * The library has no lock: a static library of this toolchain can't have one.
  */
 #ifndef NC_HOST_H
 #define NC_HOST_H
@@ -77,32 +79,33 @@ extern "C" {
 
 /* ---- Numbers */
 
-#define NC_BUNDLE 32u            /* the bytes of a bundle; no instruction crosses the end of one */
+#define NC_BUNDLE 32u            /* bytes in a bundle; no instruction crosses the end of one */
 #define NC_START 0x10000u        /* the address of a region's first byte */
-#define NC_MIN_BUNDLES 2u        /* the fewest bundles of a region: one, and the guard */
+#define NC_MIN_BUNDLES 2u        /* the fewest bundles in a region: one, and the guard */
 #define NC_MAX_BUNDLES 2097152u  /* the most: 64 MiB */
 #define NC_STOP 0xF4u            /* the byte of hlt, at which a thread traps */
 
-/* The version that this header belongs to; nc_host_version tells the library's. Two versions agree on all that both have while the major
-   number is the same, and above 0. */
+/* The version of this header; nc_host_version returns that of the library. Two versions agree on everything that both have if their major
+   numbers are the same, and above 0. */
 #define NC_VERSION_MAJOR 0u
 #define NC_VERSION_MINOR 1u
 #define NC_VERSION_PATCH 0u
 #define NC_VERSION (NC_VERSION_MAJOR << 16 | NC_VERSION_MINOR << 8 | NC_VERSION_PATCH)
 
-/* The limit of a region of that many bundles, the address after its last byte, for 2 to 2097152 of them. Other numbers may wrap round to
-   a lawful limit, so a number from elsewhere is compared with these two first. */
+/* The limit of a region with this many bundles, from 2 to 2097152: the address after its last byte. Other numbers may wrap around to a
+   lawful limit, so compare a number from elsewhere with these two bounds first. */
 #define NC_LIMIT(bundles) (NC_START + NC_BUNDLE * (uint32_t)(bundles))
 
 /*
  * The faults.
  *
- *  0 to 10  Of a chunk the first one is given: 1 to 3 in this order, then the one of 4 to 6 with the least address, then 7 with the least.
- *           8 says nothing of the code, but that 1 to 3 don't hold. 9 of a call without a handle says that the chunk is valid, or the
- *           patch lawful; by a handle it comes before the faults of a patch. 10 is of nc_host_decode alone. docs/EMBEDDING.md has what a
- *           compiler may emit, specs/Rows of nc_decode the table of permitted instructions.
- * 16 to 21  Of a patch the first one is given, in this order. None has an address.
- * 32 to 44  Of calls on handles, beside those above.
+ *  0 to 10  For a chunk the first fault is returned: 1 to 3 in this order, then the one of 4 to 6 with the lowest address, then 7 with the
+ *           lowest address. 8 says nothing about the code, except that 1 to 3 don't hold. 9 from a call without a handle says that the
+ *           chunk is valid, or the patch lawful; from a call on a handle it comes before the faults of a patch. 10 comes only from
+ *           nc_host_decode. docs/EMBEDDING.md says what a compiler may emit; specs/Rows of nc_decode is the table of permitted
+ *           instructions.
+ * 16 to 21  For a patch the first of these is returned, in this order. None has an address.
+ * 32 to 44  From calls on handles, beside those above.
  */
 #define NC_OK 0u
 #define NC_BAD_BASE 1u
@@ -128,14 +131,14 @@ extern "C" {
 #define NC_NO_SEAT 36u
 #define NC_UNDER_WAY 37u
 #define NC_NOT_BEGUN 38u
-#define NC_WRONG_LIMIT 39u /* nc_region_create never gives it */
+#define NC_WRONG_LIMIT 39u /* never returned by nc_region_create */
 #define NC_OCCUPIED 40u
 #define NC_NO_CHUNK 41u
 #define NC_FULL 42u
 #define NC_NO_PLACE 43u
 #define NC_NO_START 44u
 
-/* What each fault says, as X(NC_BAD_BASE, "the base .."): so a host makes its messages, or has nc_fault_name, below. */
+/* What each fault says, as X(NC_BAD_BASE, "the base .."). A host can make its messages from this, or use nc_fault_name, below. */
 #define NC_FAULTS(X) \
     X(NC_OK, "no fault") \
     X(NC_BAD_BASE, "the base is no multiple of 32, or lies below the region") \
@@ -171,8 +174,8 @@ extern "C" {
     X(NC_NO_START, "the address is no bundle start of the region, so no walk begins there")
 
 /* Where control goes after an instruction. */
-#define NC_FLOW_NEXT 1u           /* to the next one */
-#define NC_FLOW_BRANCH 2u         /* to the next one or to its target */
+#define NC_FLOW_NEXT 1u           /* to the next instruction */
+#define NC_FLOW_BRANCH 2u         /* to the next instruction or to its target */
 #define NC_FLOW_JUMP 3u           /* to its target: its address, plus its length, plus `rel`, modulo 2^32 */
 #define NC_FLOW_CALL 4u           /* to its target */
 #define NC_FLOW_INDIRECT_JUMP 5u  /* where `reg` points */
@@ -180,35 +183,35 @@ extern "C" {
 #define NC_FLOW_STOP 7u           /* nowhere */
 
 /* How a walk ends. */
-#define NC_END_STOP 1u        /* on an instruction that goes nowhere */
-#define NC_END_TRAMPOLINE 2u  /* below NC_START, where only trusted code stands */
+#define NC_END_STOP 1u        /* at an instruction that goes nowhere */
+#define NC_END_TRAMPOLINE 2u  /* below NC_START, where there is only trusted code */
 #define NC_END_BEYOND 3u      /* by an indirect jump or call to the limit or above it */
-#define NC_END_MORE 4u        /* on an instruction for which no choice was left */
+#define NC_END_MORE 4u        /* at an instruction for which no choice was left */
 
 /* The marks of a chunk's bytes. Registers are numbered as in ModRM: 0 EAX, 1 ECX, 2 EDX, 3 EBX, 4 ESP, 5 EBP, 6 ESI, 7 EDI. */
-#define NC_UNMARKED 0u             /* control never stands there */
+#define NC_UNMARKED 0u             /* control is never there */
 #define NC_PLAIN 1u                /* an instruction starts there */
 #define NC_MASKED(reg) (16u + (reg)) /* an indirect jump or call on this register, directly after its mask */
 
 /* The acts, and the settlings among them. */
-#define NC_PUT 1u    /* at the address `at` the byte `value` is put */
-#define NC_MARK 2u   /* `value` places from `at` on get the chunk's marks; a host that keeps no marks does nothing */
-#define NC_BUMP 3u   /* a stamp is drawn: from here on wait for threads before the span is used again. `at` and `value` are 0 */
-#define NC_SETTLE 6u /* every processor that runs a thread of the host serializes, on Linux by membarrier with the command
-                        MEMBARRIER_CMD_PRIVATE_EXPEDITED_SYNC_CORE; no byte changes. `at` and `value` are 0. No call gives 4 or 5 */
+#define NC_PUT 1u    /* put the byte `value` at the address `at` */
+#define NC_MARK 2u   /* the `value` addresses from `at` on get the chunk's marks; a host that keeps no marks does nothing */
+#define NC_BUMP 3u   /* draw a stamp: the span may be reused only once every thread has been outside since. `at` and `value` are 0 */
+#define NC_SETTLE 6u /* make every processor that runs a thread of the host serialize, on Linux by membarrier with the command
+                        MEMBARRIER_CMD_PRIVATE_EXPEDITED_SYNC_CORE; no byte changes. `at` and `value` are 0. No call writes 4 or 5 */
 
 typedef struct NcInstruction {
-    uint32_t fault;   /* NC_OK, NC_NOT_PERMITTED or NC_CUT_SHORT; where it isn't NC_OK, all else is 0 */
+    uint32_t fault;   /* NC_OK, NC_NOT_PERMITTED or NC_CUT_SHORT; if it isn't NC_OK, all other fields are 0 */
     uint32_t length;  /* in bytes */
     uint32_t flow;
     int32_t rel;      /* the displacement of a branch, jump or call, else 0 */
     uint32_t reg;     /* the register of an indirect jump or call, else 0 */
-    uint32_t masks;   /* 16 + the register that `and reg, -32` masks, or 0: 83 E0+reg E0, any but ESP. Longer forms mask nothing */
+    uint32_t masks;   /* for `and reg, -32` spelled 83 E0+reg E0, any but ESP: 16 + that register; else 0. Longer forms mask nothing */
 } NcInstruction;
 
 typedef struct NcVerdict {
     uint32_t fault;
-    uint32_t at;  /* the address of a fault of 4 to 7, else 0 */
+    uint32_t at;  /* the address of a fault from 4 to 7, else 0 */
 } NcVerdict;
 
 typedef struct NcAct {
@@ -220,12 +223,12 @@ typedef struct NcAct {
 typedef struct NcActs {
     uint32_t fault;
     uint32_t at;     /* as in NcVerdict */
-    uint32_t count;  /* how many acts were written, settlings among them; for NC_NO_ROOM how many places are enough; else 0 */
+    uint32_t count;  /* the number of acts written, including settlings; for NC_NO_ROOM a buffer length that is enough; else 0 */
 } NcActs;
 
 /*
- * Handles. A struct of the host's, in which all zeros are a handle that has nothing; only the library reads or writes its pointer. The
- * host moves a handle and doesn't copy it: of two copies only one may ever be passed to a call.
+ * A handle is a struct of the host's. All zeros are an empty handle, one that has nothing. Only the library reads or writes its pointer.
+ * The host may move a handle and must not copy it: of two copies only one may ever be passed to a call.
  */
 typedef struct NcRegion {
     void *at;
@@ -242,7 +245,7 @@ typedef struct NcVetted {
 typedef struct NcChange {
     uint32_t fault;
     uint32_t at;   /* as in NcVerdict */
-    size_t count;  /* how many acts were written, settlings among them; for NC_NO_ROOM how many places are enough; else 0 */
+    size_t count;  /* the number of acts written, including settlings; for NC_NO_ROOM a buffer length that is enough; else 0 */
 } NcChange;
 
 typedef struct NcStamp {
@@ -256,146 +259,149 @@ typedef struct NcCount {
 } NcCount;
 
 typedef struct NcChunk {
-    uint64_t stamp;    /* of a retired chunk its stamp, else 0 */
-    uint32_t fault;    /* where it isn't NC_OK, all else is 0 */
+    uint64_t stamp;    /* the stamp of a retired chunk, else 0 */
+    uint32_t fault;    /* if it isn't NC_OK, all other fields are 0 */
     uint32_t base;
     uint32_t length;
     uint32_t retired;  /* 1, or 0 for a live chunk */
 } NcChunk;
 
 typedef struct NcPlace {
-    uint32_t fault;  /* where it isn't NC_OK, all else is 0 */
+    uint32_t fault;  /* if it isn't NC_OK, all other fields are 0 */
     uint32_t byte;
     uint32_t mark;   /* as nc_host_marks writes it */
 } NcPlace;
 
 typedef struct NcWalk {
-    size_t count;    /* how many places were written; for NC_NO_ROOM how many there are; else 0 */
+    size_t count;    /* the number of places written; for NC_NO_ROOM the number that there are; else 0 */
     uint32_t fault;
-    uint32_t end;    /* where the fault is NC_OK, how the walk ended, else 0 */
+    uint32_t end;    /* if the fault is NC_OK, how the walk ended, else 0 */
 } NcWalk;
 
 /* ---- Calls */
 
 /*
- * The instruction at the front of the bytes.
- * Promised: NC_OK exactly where a front of the bytes is a permitted instruction (IsAtFront), with what it says; NC_CUT_SHORT exactly
- * where the bytes are a proper front of one (IsProperFront), as no bytes are; NC_NOT_PERMITTED else.
- * Not promised: that it may stand at some address; nc_host_vet judges that.
- * Cost: no more than 12 bytes are looked at; no memory.
+ * Decodes the instruction at the start of the bytes.
+ * Promised: NC_OK exactly where the bytes begin with a whole permitted instruction (IsAtFront), with what that instruction says;
+ * NC_CUT_SHORT exactly where the bytes are a proper prefix of one (IsProperFront), as an empty list of bytes is; NC_NOT_PERMITTED
+ * otherwise.
+ * Not promised: that the instruction may stand at some address; nc_host_vet judges that.
+ * Cost: at most 12 bytes are looked at; no memory is allocated.
  */
 NcInstruction nc_host_decode(const uint8_t *code, size_t len);
 
 /*
- * The verdict on a chunk at `base` in the region with this limit.
- * Promised: NC_OK only for a valid chunk (IsValid); 1 to 8 only for a chunk with that fault there (HasFault). A valid chunk gets no other
- * fault than NC_OUT_OF_MEMORY.
- * Not promised: anything of what the code does with data, or of other chunks: any bundle start of the region may be a target.
+ * Returns the verdict on a chunk at `base` in the region with this limit.
+ * Promised: NC_OK only for a valid chunk (IsValid); 1 to 8 only for a chunk with that fault there (HasFault). The only fault that a valid
+ * chunk can get is NC_OUT_OF_MEMORY.
+ * Not promised: anything about what the code does with data, or about other chunks: any bundle start of the region may be a target.
  * Cost: one pass over the code, and memory of half the code's length.
  */
 NcVerdict nc_host_vet(uint32_t base, uint32_t limit, const uint8_t *code, size_t len);
 
 /*
- * The same verdict, and the marks of a valid chunk: one byte for each of its bytes, into the first `len` bytes of `marks`.
- * Promised: for NC_OK the chunk is valid with these marks (IsValid), which are the only ones. NC_NO_ROOM where the chunk is valid and the
- * buffer is shorter.
+ * Returns the verdict of nc_host_vet, and writes the marks of a valid chunk, one byte for each of its bytes, into the first `len` bytes of
+ * `marks`.
+ * Promised: for NC_OK the chunk is valid with these marks (IsValid), and with no others. NC_NO_ROOM if the chunk is valid and the buffer is
+ * shorter.
  */
 NcVerdict nc_host_marks(uint32_t base, uint32_t limit, const uint8_t *code, size_t len, uint8_t *marks, size_t marks_len);
 
 /*
- * The acts of a creation: the chunk is vetted, and put into a span of the text that holds only stops.
- * Promised: for NC_OK exactly those of a creation (log_of_create): `len` + 2 acts, of which the first `len` - `len` / 32 put the bytes
- * that aren't bundle starts, the next is NC_SETTLE, the next marks the span, and the others put the bundle starts. NC_NO_ROOM where the
- * chunk is valid and the buffer has fewer places. That every path is confined between any two of these acts is proved of a region's
- * creation, which makes them in an unused span.
+ * Vets a chunk, and writes the acts of its creation, which put it into a span of the text that holds only stops.
+ * Promised: for NC_OK exactly the `len` + 2 acts of a creation (log_of_create): the first `len` - `len` / 32 put the bytes that aren't at
+ * bundle starts, the next is NC_SETTLE, the next marks the span, and the others put the bytes at bundle starts. NC_NO_ROOM if the chunk is
+ * valid and the buffer has room for fewer acts. That every path is confined between any two of these acts is proved of a region's creation,
+ * which makes them in an unused span.
  * Not promised: that the span is unused; the host knows its chunks.
  */
 NcActs nc_host_create(uint32_t base, uint32_t limit, const uint8_t *code, size_t len, NcAct *acts, size_t acts_len);
 
 /*
- * The acts of a patch: `new_len` bytes from the address `at` on, in the chunk `code` as it stands at `base`. They are instructions of the
- * same lengths as those that they replace.
- * Promised: the verdict is that on the patch of a region in which only this chunk stands (IsPatch, MayRefusePatch). A patch that is told
- * lawful is lawful in every region in which the chunk is live, whatever others there are; and one that begins in the chunk and is lawful
- * in such a region gets NC_OK, NC_OUT_OF_MEMORY or NC_NO_ROOM. For NC_OK the acts are exactly those of the patch (log_of_modify): for
- * each instruction whose bytes change, a stop at its first byte, NC_SETTLE, its further bytes, NC_SETTLE, its first byte; for one of a
- * single byte only that. NC_NO_ROOM where the patch is lawful and the buffer has fewer than 3 * `new_len` places, which are always enough.
- * The host lends the bytes that stand in the text. If it lends others, the verdict is on those.
- * Cost: `code` is vetted anew, and a region is made for the time of the call, in memory of some five times the chunk's length and a byte
- * for each 256 bytes of the region: nothing but its bytes tells the library that the chunk was accepted, and where its instructions begin.
- * (nc_region_patch knows it, and looks only at the bundles of the patch and of its targets.) So the time has a part for the chunk, some
- * fifteen to twenty times that of nc_host_vet, and a part for the region, whatever the chunk: for one of a few bundles some 5
- * microseconds in a region of 4 MiB and 50 in one of 64 MiB. For want of memory a patch may be refused.
+ * Writes the acts of a patch: `new_len` new bytes from the address `at` on, in the chunk whose bytes at `base` are now `code`. The new
+ * bytes are instructions of the same lengths as those that they replace.
+ * Promised: the verdict is that on this patch of a region in which there is only this chunk (IsPatch, MayRefusePatch). A patch that is
+ * reported lawful is lawful in every region in which the chunk is live, whatever other chunks there are. A patch that begins in the chunk
+ * and is lawful in such a region gets NC_OK, NC_OUT_OF_MEMORY or NC_NO_ROOM. For NC_OK the acts are exactly those of the patch
+ * (log_of_modify): for each instruction whose bytes change, a stop at its first byte, NC_SETTLE, its further bytes, NC_SETTLE, its first
+ * byte; for an instruction of a single byte, only that byte. NC_NO_ROOM if the patch is lawful and the buffer has room for fewer than
+ * 3 * `new_len` acts; room for that many is always enough.
+ * The host must lend as `code` the bytes that are in the text. If it lends others, the verdict is on those.
+ * Cost: `code` is vetted again, and a region is made for the duration of the call, in memory of some five times the chunk's length and one
+ * byte for each 256 bytes of the region: only its bytes tell the library that the chunk was accepted, and where its instructions begin.
+ * (nc_region_patch knows this, and looks only at the bundles of the patch and of its targets.) So the time has a part for the chunk, some
+ * fifteen to twenty times that of nc_host_vet, and a part for the region, whatever the chunk: for a chunk of a few bundles some 5
+ * microseconds in a region of 4 MiB and 50 in one of 64 MiB. A patch may be refused for lack of memory.
  */
 NcActs nc_host_patch(uint32_t base, uint32_t limit, const uint8_t *code, size_t len, uint32_t at, const uint8_t *new_bytes, size_t new_len,
                      NcAct *acts, size_t acts_len);
 
 /*
- * The acts of a deletion of the chunk `code` as it stands at `base`: `len` + 2 acts, stops at its marked places, NC_SETTLE, stops at its
- * others, the stamp.
- * Promised: for NC_OK exactly those of a deletion (log_of_delete) of a text in which the chunk's marks stand. The marks are read from
- * `code` anew, so that nobody can name a wrong order. NC_NO_ROOM as in nc_host_create.
- * The host lends the bytes that stand in the text. The marks of the span stay until it is used again.
- * Cost: memory of half the code's length. For want of it a deletion may be refused; a host that must be able to delete keeps some in
+ * Writes the acts of a deletion of the chunk whose bytes at `base` are now `code`: `len` + 2 acts, which are stops at its marked places,
+ * NC_SETTLE, stops at its other places, and NC_BUMP.
+ * Promised: for NC_OK exactly the acts of a deletion (log_of_delete) of a text that has the chunk's marks. The marks are derived from
+ * `code` again, so that nobody can name a wrong order. NC_NO_ROOM as in nc_host_create.
+ * The host must lend as `code` the bytes that are in the text. The marks of the span stay until it is reused.
+ * Cost: memory of half the code's length. For lack of it a deletion may be refused; a host that must be able to delete keeps some in
  * reserve.
  */
 NcActs nc_host_delete(uint32_t base, uint32_t limit, const uint8_t *code, size_t len, NcAct *acts, size_t acts_len);
 
-/* The version of the library that is linked, to be compared with NC_VERSION. */
+/* Returns the version of the library that is linked, to be compared with NC_VERSION. */
 uint32_t nc_host_version(void);
 
 /* ---- Calls on handles */
 
 /*
  * What all of them keep
- *   Locks       Calls on one region are made one at a time: the host has its own lock around them, and around the acts that it makes in
- *               its memory. Calls on one seat are made by one thread at a time, and need no lock, whatever runs on the region.
- *   Threads     A handle may go to another thread, ordered by a lock, a thread's start or join, or a SeqCst atomic.
- *   Refusals    Each leaves the region, the seats and the buffer as they were; but where memory was refused to a creation, the region may
- *               have taken memory for the text of its span. A handle that has nothing is refused by NC_NO_HANDLE.
- *   Acts        Each change writes the acts by which it changes the region's text, with the settlings among them, so that the host's
- *               memory has the region's bytes once it has made them. In a buffer that is too short nothing is written, and nothing changes:
- *               NC_NO_ROOM, with `count` for what is enough. But a length of 0 doesn't ask for the number: the change is made, `count`
- *               is 0, and nobody is told its acts, so that memory no longer has the region's bytes. That is for a host without memory
- *               of its own. A buffer that grows begins with some places. (nc_host_create and its neighbours refuse a length of 0.)
- *   Memory      What a region has taken is given back by nc_region_free, and what a seat has by nc_seat_leave; the table of stamps and
- *               check-ins is given back with the last of them, in any order.
+ *   Locks       Calls on one region must be made one at a time: the host has its own lock around them, and around the acts that it makes in
+ *               its memory. Calls on one seat must be made by one thread at a time, and need no lock, whatever runs on the region.
+ *   Threads     A handle may go to another thread, if this is ordered by a lock, a thread's start or join, or a SeqCst atomic.
+ *   Refusals    Each refusal leaves the region, the seats and the buffer unchanged, except that after a creation refused for lack of memory
+ *               the region may have allocated memory for the text of its span. An empty handle is refused with NC_NO_HANDLE.
+ *   Acts        Each change writes the acts by which it changes the region's text, including the settlings, so that the host's memory has
+ *               the region's bytes once the host has made them. If a buffer is too short, nothing is written and nothing changes: the fault
+ *               is NC_NO_ROOM, and `count` is a length that is enough. But a length of 0 doesn't ask for this number: the change is made,
+ *               `count` is 0, and nobody is told its acts, so that the host's memory no longer has the region's bytes. That is for a host
+ *               without memory of its own. A buffer that is to grow begins with a length above 0. (nc_host_create and its neighbours refuse
+ *               a length of 0.)
+ *   Memory      nc_region_free frees what a region has allocated, and nc_seat_leave what a seat has; the table of stamps and check-ins is
+ *               freed with the last of them, in any order.
  */
 
 /*
- * Makes a region of `bundles` bundles, all stops, with no chunk and `seats` seats (IsFirst), for a handle that has nothing.
- * Promised: NC_HANDLE_TAKEN for a handle that has something; else NC_BAD_SEATS and NC_BAD_SIZE exactly where they are due, in this order.
+ * Makes a region of `bundles` bundles, all stops, with no chunk and `seats` seats (IsFirst), in an empty handle.
+ * Promised: NC_HANDLE_TAKEN for a handle that isn't empty; else NC_BAD_SEATS and NC_BAD_SIZE exactly where they apply, in this order.
  * Cost: memory for a table of the text's pages, and 8 bytes and more for each seat.
  */
 uint32_t nc_region_new(uint32_t bundles, uint32_t seats, NcRegion *region);
 
 /*
- * Frees a region; its handle has nothing then. Seats that were given stay usable, and are left one by one. A second call does nothing.
+ * Frees a region; its handle is empty then. Seats that were given stay usable, and are left one by one. A second call does nothing.
  */
 void nc_region_free(NcRegion *region);
 
 /*
- * Gives one of the region's seats to a handle that has nothing (HasGiven). Each is given once. A thread has one while it runs code of the
- * region, and a seat that was left is not given again: a host with many threads keeps a pool.
- * Promised: NC_HANDLE_TAKEN for a seat's handle that has something; else NC_NO_HANDLE; else NC_NO_SEAT exactly where each seat has been
- * given, and NC_OUT_OF_MEMORY only where one is left (MayRefuseSeat). That seat stays to be given.
+ * Gives one of the region's seats to an empty handle (HasGiven). A thread needs a seat while it runs code of the region. Each seat is given
+ * once, and not again after it was left: a host with many threads keeps a pool.
+ * Promised: NC_HANDLE_TAKEN for a seat's handle that isn't empty; else NC_NO_HANDLE; else NC_NO_SEAT exactly where each seat has been
+ * given, and NC_OUT_OF_MEMORY only where one is still to be given (MayRefuseSeat). That seat can still be given later.
  */
 uint32_t nc_region_seat(NcRegion *region, NcSeat *seat);
 
 /*
  * Vets the chunk and creates it in the region (IsCreated), and writes the acts as nc_host_create does.
  * Promised: a refusal is NC_NO_HANDLE; else one of the chunk's own faults; else the first of NC_UNDER_WAY, NC_NO_ROOM, NC_OCCUPIED and
- * NC_OUT_OF_MEMORY that holds. `len` + 2 places are enough.
- * The host makes the acts after the call, before the next change. No call names a span that is free: nc_region_chunk tells the chunks, in
- * rising order, and what lies between them is free.
+ * NC_OUT_OF_MEMORY that holds. A buffer of `len` + 2 acts is enough.
+ * The host must make the acts after the call, before the next change. No call names a free span: nc_region_chunk returns the chunks, in
+ * ascending order, and what lies between them is free.
  * Cost: that of nc_host_vet, and a copy of the code. This is under the lock.
  */
 NcChange nc_region_create(NcRegion *region, uint32_t base, const uint8_t *code, size_t len, NcAct *acts, size_t acts_len);
 
 /*
- * Vets a chunk for a region with this limit and keeps a copy of it, for a handle that has nothing. No region is looked at, so no lock is
- * wanted.
- * Promised: NC_HANDLE_TAKEN for a handle that has something; else NC_OK only for a valid chunk, and 1 to 8 only for a chunk with that fault.
+ * Vets a chunk for a region with this limit and keeps a copy of it, in an empty handle. No region is looked at, so no lock is needed.
+ * Promised: NC_HANDLE_TAKEN for a handle that isn't empty; else NC_OK only for a valid chunk, and 1 to 8 only for a chunk with that fault.
  * Cost: that of nc_host_vet, and memory for a copy of the code and half as much for its marks, until it is loaded or freed.
  */
 NcVerdict nc_vetted_new(uint32_t base, uint32_t limit, const uint8_t *code, size_t len, NcVetted *vetted);
@@ -404,8 +410,8 @@ NcVerdict nc_vetted_new(uint32_t base, uint32_t limit, const uint8_t *code, size
 void nc_vetted_free(NcVetted *vetted);
 
 /*
- * Creates a vetted chunk in the region, and writes the acts as nc_region_create does; its handle has nothing then. A refusal leaves it
- * there.
+ * Creates a vetted chunk in the region, and writes the acts as nc_region_create does; the chunk's handle is empty then. After a refusal it
+ * still has the chunk.
  * Promised: a refusal is NC_NO_HANDLE, for either handle; else the first of NC_UNDER_WAY, NC_NO_ROOM, NC_WRONG_LIMIT, NC_OCCUPIED and
  * NC_OUT_OF_MEMORY that holds.
  */
@@ -414,76 +420,78 @@ NcChange nc_region_load(NcRegion *region, NcVetted *vetted, NcAct *acts, size_t 
 /*
  * Patches a chunk (IsPatch, IsModified), and writes the acts as nc_host_patch does.
  * Promised: a refusal is NC_NO_HANDLE; else the first of NC_UNDER_WAY, NC_NO_ROOM (only for at most 32 bytes) and the faults of a patch
- * that holds. 3 * `len` places are enough.
- * The bytes are whole instructions, also where only a number in one changes. Acts are written for those that differ, so `count` may be 0.
- * The host makes the acts after the call, before the next change.
- * Cost: that of the patch and of the bundles that its targets lie in, whatever the chunk; no memory.
+ * that holds. A buffer of 3 * `len` acts is enough.
+ * The bytes must be whole instructions, even where only an immediate or a displacement in one changes. Acts are written for the
+ * instructions that differ, so `count` may be 0. The host must make the acts after the call, before the next change.
+ * Cost: that of the patch and of the bundles in which its targets lie, whatever the chunk; no memory is allocated.
  */
 NcChange nc_region_patch(NcRegion *region, uint32_t at, const uint8_t *bytes, size_t len, NcAct *acts, size_t acts_len);
 
 /*
- * The first step of a deletion: writes its acts as nc_host_delete does, and the region has the chunk still (HasBegun). Until the last
- * step, which can't be left out, each call that changes the region is refused by NC_UNDER_WAY; those that only look, and
- * nc_region_seat, answer.
- * Promised: a refusal is NC_NO_HANDLE; else the first of NC_UNDER_WAY, NC_NO_CHUNK, NC_FULL and NC_NO_ROOM that holds. Two places more than
- * the chunk has bytes are enough.
- * The host makes all acts but NC_BUMP, which is the last one, before it calls nc_region_end_delete, which is that act. A stamp that were
- * drawn before the stops are there would free the span while a thread stands in it.
- * Cost: that of writing the acts; no memory.
+ * The first step of a deletion: writes its acts as nc_host_delete does; the region still has the chunk (HasBegun). Until the last step,
+ * which can't be left out, each call that changes the region is refused with NC_UNDER_WAY; calls that only look, and nc_region_seat,
+ * answer.
+ * Promised: a refusal is NC_NO_HANDLE; else the first of NC_UNDER_WAY, NC_NO_CHUNK, NC_FULL and NC_NO_ROOM that holds. A buffer for two
+ * acts more than the chunk has bytes is enough.
+ * The host must make all acts except NC_BUMP, which is the last one, before it calls nc_region_end_delete, which is that act. A stamp drawn
+ * before the stops are there would free the span while a thread is in it.
+ * Cost: that of writing the acts; no memory is allocated.
  */
 NcChange nc_region_begin_delete(NcRegion *region, uint32_t base, NcAct *acts, size_t acts_len);
 
 /*
- * The last step of a deletion: the chunk's bytes are stops, it is retired, and the stamp is drawn (HasEnded).
- * Promised: it is refused only where no deletion is under way. No memory.
+ * The last step of a deletion: after it the chunk's bytes are stops, the chunk is retired, and the stamp is drawn (HasEnded).
+ * Promised: it is refused only where no deletion is under way. No memory is allocated.
  */
 NcStamp nc_region_end_delete(NcRegion *region);
 
 /*
- * Checks in for each seat that nobody was given, and takes exactly those retired chunks from the list that no seat holds back
- * (HasReclaimed): `count` of them. Their spans may be used again. It puts no byte, and writes no act; no memory.
- * Promised: it is refused by NC_NO_HANDLE, or by NC_UNDER_WAY while a deletion is.
+ * Checks in for each seat that nobody was given, and removes from the list exactly those retired chunks that no seat holds back
+ * (HasReclaimed): `count` of them. Their spans may be reused. It puts no byte, writes no act, and allocates no memory.
+ * Promised: it is refused with NC_NO_HANDLE, or with NC_UNDER_WAY while a deletion is under way.
  * Cost: a look at each seat and at each chunk.
  */
 NcCount nc_region_reclaim(NcRegion *region);
 
-/* The chunk at an index of the list, by rising base; NC_NO_CHUNK behind the last one. It changes nothing. Cost: the same at each index. */
+/* Returns the chunk at an index of the list, which is in ascending order of base; NC_NO_CHUNK past the last one. It changes nothing. Cost:
+   the same at each index. */
 NcChunk nc_region_chunk(NcRegion *region, size_t index);
 
-/* The byte and the mark at an address of the region. It changes nothing. */
+/* Returns the byte and the mark at an address of the region. It changes nothing. */
 NcPlace nc_region_place(NcRegion *region, uint32_t at);
 
 /*
- * A walk from a bundle start of the region, of which nothing is executed: the addresses over which it goes, the first to the last, are
- * written into `places`. The choices stand for what data and flags would decide, and each step uses one up: at a branch 0 falls through
- * and every other number goes to the target, an indirect jump or call goes to the number with its low five bits cleared, at any other
+ * Walks from a bundle start of the region, without executing anything, and writes the addresses over which the walk goes, from the first to
+ * the last, into `places`. The choices stand for what data and flags would decide, and each step uses one up. At a branch 0 falls through
+ * and every other number goes to the target; an indirect jump or call goes to the number with its low five bits cleared; at any other
  * instruction the number doesn't matter. The walk ends below NC_START, at a stop, where no choice is left, or where an indirect jump or
  * call goes to the limit or above it. It changes nothing.
- * Promised: for NC_OK the places and the end are those of the machine's walk, which are determined by start and choices, and all of it is
- * safe (IsShownWalk). Else the first of NC_NO_HANDLE, NC_NO_START, NC_OUT_OF_MEMORY and NC_NO_ROOM that holds; `places` is as it was.
- * `choices_len` + 1 places are enough.
+ * Promised: for NC_OK the places and the end are those of the machine's walk, which start and choices determine, and all of it is safe
+ * (IsShownWalk). Else the first of NC_NO_HANDLE, NC_NO_START, NC_OUT_OF_MEMORY and NC_NO_ROOM that holds; `places` is unchanged. A buffer
+ * of `choices_len` + 1 places is enough.
  * Cost: memory for the places.
  */
 NcWalk nc_region_walk(NcRegion *region, uint32_t start, const uint32_t *choices, size_t choices_len, uint32_t *places, size_t places_len);
 
-/* The generation: the last stamp that was drawn, or 0. It changes nothing. */
+/* Returns the generation: the last stamp that was drawn, or 0. It changes nothing. */
 NcStamp nc_region_generation(NcRegion *region);
 
 /*
- * The seat's thread is outside the region: one load and one store, both memory_order_seq_cst (HasCheckedIn). No lock, no memory, and it
- * never waits.
- * Not promised: that the thread is outside. The host calls it only then, before the thread goes in again, and once it is out.
+ * Checks in: reports that the seat's thread is outside the region, by one load and one store, both memory_order_seq_cst (HasCheckedIn). It
+ * takes no lock, allocates no memory, and never waits.
+ * Not promised: that the thread is outside. The host must call it only while the thread is outside; it calls it before the thread goes in
+ * again, and once the thread is out.
  */
 uint32_t nc_seat_check_in(NcSeat *seat);
 
 /*
- * The seat's thread is outside for good; the handle has nothing then. A second call does nothing.
+ * Leaves: reports that the seat's thread is outside for good; the handle is empty then. A second call does nothing.
  */
 void nc_seat_leave(NcSeat *seat);
 
 /*
  * Names and sentences of faults, for a source that defines NC_FAULT_NAMES before it includes this header: "NC_BAD_BASE", and "the base is
- * no multiple of 32, or lies below the region". Of a number that is no fault's both are "?". The library has no part in them.
+ * no multiple of 32, or lies below the region". For a number that is no fault both are "?". They are no part of the library.
  */
 #ifdef NC_FAULT_NAMES
 #ifdef __GNUC__
