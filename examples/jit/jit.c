@@ -216,7 +216,8 @@ static int run_cache(double seconds, unsigned threads) {
         resumed += guests[i].resumed;
         went_back += guests[i].went_back;
     }
-    printf("an inline cache, changed while threads ran it: %s\n", stays != 0 && wrong == 0 ? "each sum right" : "WRONG");
+    wrong += stays == 0;
+    printf("an inline cache, changed while threads ran it: %s\n", wrong == 0 ? "each sum right" : "WRONG");
     printf("times: %.0f changes a second, each a stub, a patch and a deletion; %.0f runs a second of %u values\n", (double)changes / seconds,
            (double)stays / seconds, (unsigned)ROUNDS);
     printf("counts: %u threads, %llu changes, %llu runs, %llu gone on from a stub that was no more, %llu stops of changes met, %llu waits, %llu wrong\n",
@@ -231,11 +232,14 @@ int main(int argc, char **argv) {
     Times inside, plain;
     int i, wrong;
     for (i = 1; i + 1 < argc; i += 2) {
-        threads = strcmp(argv[i], "--threads") == 0 ? (unsigned)atoi(argv[i + 1]) : threads;
-        seconds = strcmp(argv[i], "--seconds") == 0 ? (unsigned)atoi(argv[i + 1]) : seconds;
+        unsigned *number = strcmp(argv[i], "--threads") == 0 ? &threads : strcmp(argv[i], "--seconds") == 0 ? &seconds : NULL;
+        if (number == NULL) {
+            break;
+        }
+        *number = (unsigned)atoi(argv[i + 1]);
     }
-    if (threads < 1 || threads > SEATS) {
-        fputs("usage: jit [--seconds N] [--threads N], of 1 to 16 threads\n", stderr);
+    if (i != argc || seconds < 1 || threads < 1 || threads > SEATS) {
+        fputs("usage: jit [--seconds N] [--threads N], of 1 to 16 threads and at least one second\n", stderr);
         return 2;
     }
     if (refused != NULL) {
@@ -245,7 +249,7 @@ int main(int argc, char **argv) {
     inside = make_and_throw(seconds / 4.0, 1, STACK_OF_EACH);
     show_times("made, run and thrown away in the sandbox", &inside);
     plain = make_and_throw(seconds / 4.0, 0, STACK_OF_EACH);
-    show_times("the same bytes stored one by one, without one", &plain);
+    show_times("the same bytes stored one by one, without a sandbox", &plain);
     wrong = run_cache(seconds / 2.0, threads);
     return wrong || inside.wrong != 0 || plain.wrong != 0;
 }

@@ -115,12 +115,17 @@ int main(int argc, char **argv) {
     int torn = 0, i;
     const char *refused = host_begin();
     for (i = 3; i < argc; i++) {
-        torn |= strcmp(argv[i], "--control") == 0;
-        threads = strcmp(argv[i], "--threads") == 0 && i + 1 < argc ? (unsigned)atoi(argv[i + 1]) : threads;
-        seconds = strcmp(argv[i], "--seconds") == 0 && i + 1 < argc ? (unsigned)atoi(argv[i + 1]) : seconds;
+        unsigned *number = strcmp(argv[i], "--threads") == 0 ? &threads : strcmp(argv[i], "--seconds") == 0 ? &seconds : NULL;
+        if (number != NULL && i + 1 < argc) {
+            *number = (unsigned)atoi(argv[++i]);
+        } else if (strcmp(argv[i], "--control") == 0) {
+            torn = 1;
+        } else {
+            break;
+        }
     }
-    if (argc < 3 || threads < 1 || threads > SEATS) {
-        fputs("usage: sandbox CODE DATA [--control] [--seconds N] [--threads N], of 1 to 16 threads\n", stderr);
+    if (argc < 3 || i != argc || seconds < 1 || threads < 1 || threads > SEATS) {
+        fputs("usage: sandbox CODE DATA [--control] [--seconds N] [--threads N], of 1 to 16 threads and at least one second\n", stderr);
         return 2;
     }
     if (refused != NULL) {

@@ -126,11 +126,17 @@ static Tally sum(Tally all, const Tally *one) {
     return all;
 }
 
+static double now(void) {
+    struct timespec t;
+    clock_gettime(CLOCK_MONOTONIC, &t);
+    return (double)t.tv_sec + 1e-9 * (double)t.tv_nsec;
+}
+
 Tally race(unsigned threads, unsigned seconds, int torn) {
     static Guest guests[SEATS];
     Tally all = {0};
     uint64_t random = 88172645463325252ull;
-    time_t until;
+    double until;
     int live = 1;
     unsigned i;
     load_chunks(&random);
@@ -141,7 +147,7 @@ Tally race(unsigned threads, unsigned seconds, int torn) {
             abort();
         }
     }
-    for (until = time(NULL) + (time_t)seconds; time(NULL) < until;) {
+    for (until = now() + seconds; now() < until;) {
         change(&all, &random, torn, &live);
     }
     __atomic_store_n(&over, 1, __ATOMIC_SEQ_CST);
