@@ -200,6 +200,12 @@ extern "C" {
 #define NC_SETTLE 6u /* make every processor that runs a thread of the host serialize, on Linux by membarrier with the command
                         MEMBARRIER_CMD_PRIVATE_EXPEDITED_SYNC_CORE; no byte changes. `at` and `value` are 0. No call writes 4 or 5 */
 
+/* Runs: one act for many puts of one bundle, which begins at the address `at`. Bit k of `value`, counted from the lowest, is set if there is
+   a put at `at` + k. The puts are made in ascending order, each one a store of its own. Only nc_region_creation_runs and
+   nc_region_deletion_runs write them. */
+#define NC_PUT_RUN 7u  /* put the chunk's byte at each of these addresses */
+#define NC_STOP_RUN 8u /* put NC_STOP at each of these addresses */
+
 typedef struct NcInstruction {
     uint32_t fault;   /* NC_OK, NC_NOT_PERMITTED or NC_CUT_SHORT; if it isn't NC_OK, all other fields are 0 */
     uint32_t length;  /* in bytes */
@@ -362,9 +368,9 @@ uint32_t nc_host_version(void);
  *   Acts        Each change writes the acts by which it changes the region's text, including the settlings, so that the host's memory has
  *               the region's bytes once the host has made them. If a buffer is too short, nothing is written and nothing changes: the fault
  *               is NC_NO_ROOM, and `count` is a length that is enough. But a length of 0 doesn't ask for this number: the change is made,
- *               `count` is 0, and nobody is told its acts, so that the host's memory no longer has the region's bytes. That is for a host
- *               without memory of its own. A buffer that is to grow begins with a length above 0. (nc_host_create and its neighbours refuse
- *               a length of 0.)
+ *               `count` is 0, and its acts aren't told, so that the host's memory no longer has the region's bytes. That is for a host
+ *               without memory of its own, and for one that asks for the acts as runs (nc_region_creation_runs, nc_region_deletion_runs).
+ *               A buffer that is to grow begins with a length above 0. (nc_host_create and its neighbours refuse a length of 0.)
  *   Memory      nc_region_free frees what a region has allocated, and nc_seat_leave what a seat has; the table of stamps and check-ins is
  *               freed with the last of them, in any order.
  */
@@ -444,6 +450,27 @@ NcChange nc_region_begin_delete(NcRegion *region, uint32_t base, NcAct *acts, si
  * Promised: it is refused only where no deletion is under way. No memory is allocated.
  */
 NcStamp nc_region_end_delete(NcRegion *region);
+
+/*
+ * Writes the acts of the creation of the live chunk at `base`, as runs: for each bundle an NC_PUT_RUN of all its addresses but the first;
+ * NC_SETTLE; NC_MARK; and for each bundle an NC_PUT_RUN of its first address. These are `len` / 16 + 2 acts in the place of `len` + 2: for
+ * a chunk of 64 MiB 50 MB in the place of 800. The chunk's bytes are those that the region has now, so directly after a creation these are
+ * its acts (AreCreationRuns): a host makes a large chunk by nc_region_create, without a buffer, and then calls this. It changes nothing.
+ * Promised: a refusal is NC_NO_HANDLE; else NC_NO_CHUNK exactly where no live chunk has this base; else NC_NO_ROOM exactly where the buffer
+ * is shorter, and then `count` is the number of acts. A length of 0 asks for this number.
+ * Cost: that of reading the chunk twice; no memory is allocated.
+ */
+NcChange nc_region_creation_runs(NcRegion *region, uint32_t base, NcAct *acts, size_t acts_len);
+
+/*
+ * Writes the acts of the deletion that is under way, as runs: for each bundle an NC_STOP_RUN of its marked addresses; NC_SETTLE; for each
+ * bundle an NC_STOP_RUN of the others; and NC_BUMP (AreDeletionRuns). These are `len` / 16 + 2 acts. A host begins the deletion of a large
+ * chunk by nc_region_begin_delete, without a buffer, and then calls this. It changes nothing.
+ * Promised: a refusal is NC_NO_HANDLE; else NC_NOT_BEGUN exactly where no deletion is under way; else NC_NO_ROOM as in
+ * nc_region_creation_runs.
+ * Cost: that of reading the chunk's marks twice; no memory is allocated.
+ */
+NcChange nc_region_deletion_runs(NcRegion *region, NcAct *acts, size_t acts_len);
 
 /*
  * Checks in for each seat that nobody was given, and removes from the list exactly those retired chunks that no seat holds back

@@ -4,8 +4,8 @@
  *     costs COUNT BUNDLES ROUNDS
  *
  * A round makes a region, creates COUNT chunks of BUNDLES bundles of ordinary code in it, patches and deletes each of them, and reclaims
- * all. Creations, patches and deletions are made with a buffer for their acts, and without one. Beside them stand a call that only vets,
- * the loading of vetted chunks, and a check-in. docs/PERFORMANCE.md has numbers.
+ * all. Creations, patches and deletions are made with a buffer for their acts, and without one; creations and deletions also without one
+ * and then with their acts as runs. Beside them stand a call that only vets, the loading of vetted chunks, and a check-in. docs/PERFORMANCE.md has numbers.
  */
 #define _POSIX_C_SOURCE 199506L
 #include "nc_host.h"
@@ -15,11 +15,15 @@
 #include <string.h>
 #include <time.h>
 
-enum { VET, CREATE, CREATE_ACTS, LOAD, PATCH, PATCH_ACTS, DELETE, DELETE_ACTS, RECLAIM, CHECK_IN, KINDS };
+/* How a change tells its acts. A patch has none as runs. */
+enum { SILENT, ACTS, RUNS };
+
+/* What is timed; creations, patches and deletions in the order of the ways above. */
+enum { VET, CREATE, LOAD = CREATE + 3, PATCH, DELETE = PATCH + 2, RECLAIM = DELETE + 3, CHECK_IN, KINDS };
 
 static const char *const names[KINDS] = {
-    "vet", "create", "create, with acts", "load a vetted chunk", "patch", "patch, with acts", "delete", "delete, with acts", "reclaim a chunk",
-    "check in",
+    "vet", "create", "create, with acts", "create, with runs", "load a vetted chunk", "patch", "patch, with acts", "delete",
+    "delete, with acts", "delete, with runs", "reclaim a chunk", "check in",
 };
 
 /* Ordinary code with a branch and a masked jump in it, and the same with another number. */
@@ -63,10 +67,10 @@ static uint32_t base(uint32_t k) {
 }
 
 /* All chunks are patched, to another number each time, deleted and reclaimed. */
-static void patch_and_delete(int with_acts) {
+static void patch_and_delete(int way) {
     static uint8_t patch[5] = {0xB8, 0, 0, 0, 0};
-    NcAct *buffer = with_acts ? acts : NULL;
-    size_t places = with_acts ? room : 0;
+    NcAct *buffer = way == ACTS ? acts : NULL;
+    size_t places = way == ACTS ? room : 0;
     double start;
     uint32_t k;
     patch[1]++;
@@ -74,26 +78,30 @@ static void patch_and_delete(int with_acts) {
     for (k = 0; k < count; k++) {
         need(nc_region_patch(&region, base(k) + NUMBER_AT, patch, 5, buffer, places).fault == NC_OK);
     }
-    keep(with_acts ? PATCH_ACTS : PATCH, start, count);
+    keep(way == ACTS ? PATCH + 1 : PATCH, start, count);
     start = now();
     for (k = 0; k < count; k++) {
         need(nc_region_begin_delete(&region, base(k), buffer, places).fault == NC_OK);
+        need(way != RUNS || nc_region_deletion_runs(&region, acts, room).fault == NC_OK);
         need(nc_region_end_delete(&region).fault == NC_OK);
     }
-    keep(with_acts ? DELETE_ACTS : DELETE, start, count);
+    keep(DELETE + way, start, count);
     need(nc_seat_check_in(&seat) == NC_OK);
     start = now();
     need(nc_region_reclaim(&region).count == count);
     keep(RECLAIM, start, count);
 }
 
-static void create_all(int with_acts) {
+static void create_all(int way) {
+    NcAct *buffer = way == ACTS ? acts : NULL;
+    size_t places = way == ACTS ? room : 0;
     double start = now();
     uint32_t k;
     for (k = 0; k < count; k++) {
-        need(nc_region_create(&region, base(k), code, len, with_acts ? acts : NULL, with_acts ? room : 0).fault == NC_OK);
+        need(nc_region_create(&region, base(k), code, len, buffer, places).fault == NC_OK);
+        need(way != RUNS || nc_region_creation_runs(&region, base(k), acts, room).fault == NC_OK);
     }
-    keep(with_acts ? CREATE_ACTS : CREATE, start, count);
+    keep(CREATE + way, start, count);
 }
 
 static void load_all(uint32_t limit) {
@@ -112,15 +120,16 @@ static void load_all(uint32_t limit) {
 static void do_round(uint32_t bundles) {
     uint32_t limit = NC_LIMIT(bundles), k;
     double start = now();
+    int way;
     for (k = 0; k < count; k++) {
         need(nc_host_vet(base(k), limit, code, len).fault == NC_OK);
     }
     keep(VET, start, count);
     need(nc_region_new(bundles, 1, &region) == NC_OK && nc_region_seat(&region, &seat) == NC_OK);
-    create_all(0);
-    patch_and_delete(0);
-    create_all(1);
-    patch_and_delete(1);
+    for (way = SILENT; way <= RUNS; way++) {
+        create_all(way);
+        patch_and_delete(way);
+    }
     load_all(limit);
     start = now();
     for (k = 0; k < 100000; k++) {

@@ -1,10 +1,11 @@
 /*
  * A host in C that answers the lines of a script as `nc_replay replay` does, by a region's handle.
  *
- *     script BUNDLES SEATS [acts]
+ *     script BUNDLES SEATS [acts|runs]
  *
  * It executes nothing. Memory of its own follows the region by the acts that each change writes; after each line both must hold the same
- * bytes, or it says where they differ and ends. With the word `acts` each act is printed below the reply to its line.
+ * bytes, or it says where they differ and ends. With the word `acts` each act is printed below the reply to its line. With `runs` too, and
+ * then those of creations and deletions are taken as runs, and written out.
  */
 #include "nc_host.h"
 
@@ -17,6 +18,7 @@
 #define MAX_BYTES (MAX_BUNDLES * NC_BUNDLE)
 #define MAX_CHOICES 1024
 #define MAX_LINE (2 * MAX_BYTES + 64)
+#define MAX_RUNS (2 * MAX_BUNDLES + 2)
 
 static const char *const names[] = {
     "ok", "BadBase", "BadLength", "OutOfRange", "NotPermitted", "Crosses", "Bare", "BadTarget", "OutOfMemory", "NoRoom",
@@ -27,12 +29,12 @@ static const char *const names[] = {
 
 static char line[MAX_LINE];
 static uint8_t code[MAX_BYTES], memory[MAX_BYTES];
-static NcAct acts[MAX_BYTES + 2];
+static NcAct acts[MAX_BYTES + 2], runs[MAX_RUNS];
 static uint32_t choices[MAX_CHOICES], places[MAX_CHOICES + 1];
 static NcRegion region;
 static NcSeat seats[MAX_SEATS];
 static uint32_t bundles, seat_count;
-static int shows_acts;
+static int shows_acts, takes_runs;
 
 static void refused(uint32_t fault, uint32_t at) {
     printf("refused %s", names[fault]);
@@ -76,6 +78,46 @@ static void answer(NcChange change) {
     make(change.count);
 }
 
+/* Writes out runs of a chunk of this code at this base: each act for which they stand. How many there are. */
+static size_t write_out(size_t run_count, uint32_t base) {
+    size_t count = 0, i;
+    unsigned k;
+    for (i = 0; i < run_count; i++) {
+        NcAct run = runs[i];
+        if (run.kind != NC_PUT_RUN && run.kind != NC_STOP_RUN) {
+            acts[count++] = run;
+            continue;
+        }
+        for (k = 0; k < NC_BUNDLE; k++) {
+            if (run.value >> k & 1) {
+                acts[count].kind = NC_PUT;
+                acts[count].at = run.at + k;
+                acts[count].value = run.kind == NC_PUT_RUN ? code[run.at + k - base] : NC_STOP;
+                count++;
+            }
+        }
+    }
+    return count;
+}
+
+/* A call that writes runs needs all its acts, and a buffer that is shorter by one has to be refused, with their number. */
+static size_t counted(NcChange told, NcChange short_of_one) {
+    if (told.fault != NC_OK || short_of_one.fault != NC_NO_ROOM || short_of_one.count != told.count) {
+        printf("runs refused: %s\n", names[told.fault]);
+        exit(1);
+    }
+    return told.count;
+}
+
+static void create(uint32_t base, size_t len) {
+    NcChange change = nc_region_create(&region, base, code, len, acts, takes_runs ? 0 : MAX_BYTES + 2);
+    if (takes_runs && change.fault == NC_OK) {
+        NcChange told = nc_region_creation_runs(&region, base, runs, MAX_RUNS);
+        change.count = write_out(counted(told, nc_region_creation_runs(&region, base, runs, told.count - 1)), base);
+    }
+    answer(change);
+}
+
 /* The bytes of a word of pairs of hexadecimal digits, or none for `-`; how many there are. */
 static size_t bytes_of(const char *word) {
     size_t len = 0;
@@ -88,11 +130,15 @@ static size_t bytes_of(const char *word) {
 
 /* A deletion: the host's memory has the stops before the stamp is drawn. */
 static void delete_chunk(uint32_t base) {
-    NcChange change = nc_region_begin_delete(&region, base, acts, MAX_BYTES + 2);
+    NcChange change = nc_region_begin_delete(&region, base, acts, takes_runs ? 0 : MAX_BYTES + 2);
     NcStamp stamp;
     if (change.fault != NC_OK) {
         refused(change.fault, change.at);
         return;
+    }
+    if (takes_runs) {
+        NcChange told = nc_region_deletion_runs(&region, runs, MAX_RUNS);
+        change.count = write_out(counted(told, nc_region_deletion_runs(&region, runs, told.count - 1)), base);
     }
     stamp.stamp = 1 + nc_region_generation(&region).stamp;
     printf("stamp %lu\n", (unsigned long)stamp.stamp);
@@ -165,7 +211,7 @@ static void obey(void) {
     unsigned seat = first ? (unsigned)strtoul(first, NULL, 10) : 0;
     if (strcmp(name, "create") == 0) {
         size_t len = bytes_of(strtok(NULL, " \n"));
-        answer(nc_region_create(&region, at, code, len, acts, MAX_BYTES + 2));
+        create(at, len);
     } else if (strcmp(name, "modify") == 0) {
         size_t len = bytes_of(strtok(NULL, " \n"));
         answer(nc_region_patch(&region, at, code, len, acts, MAX_BYTES + 2));
@@ -192,6 +238,7 @@ int main(int count, char **words) {
     bundles = (uint32_t)strtoul(words[1], NULL, 10);
     seat_count = (uint32_t)strtoul(words[2], NULL, 10);
     shows_acts = count > 3;
+    takes_runs = shows_acts && strcmp(words[3], "runs") == 0;
     if (bundles > MAX_BUNDLES || nc_region_new(bundles, seat_count, &region) != NC_OK) {
         return 2;
     }

@@ -4,4 +4,7 @@ mod WriteSteps
 mod MarkReads
 mod WholeLists
 mod Replacements
+mod RunLists
+mod RunSteps
+mod RunWhole
 pub mod Offered

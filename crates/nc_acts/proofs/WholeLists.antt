@@ -82,7 +82,7 @@ stands_so marked marks text base len k h lt =
     ap (λ (n : ℕ). mark_if marked (marks n)) here ∙ ap (λ (z : Mark). mark_if marked z) (sym (h k lt))
 
 -- so the same stops are put
-same_stops : (marked : Bool) (marks : ℕ → Mark) (text : List Mark) (base len : ℕ) → AreMarksAt text base len marks
+pub same_stops : (marked : Bool) (marks : ℕ → Mark) (text : List Mark) (base len : ℕ) → AreMarksAt text base len marks
     → puts_where (marked_if marked marks base) base (replicate {A = ℕ} len 244)
     ≡ puts_where (λ at. mark_if marked (mark_at text at)) base (replicate {A = ℕ} len 244)
 same_stops marked marks text base len h =

@@ -1,2 +1,3 @@
 -- Definitions that only private contracts cite.
 pub mod Writing
+pub mod Running

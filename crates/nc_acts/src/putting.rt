@@ -14,7 +14,7 @@ use crate::reading::ReadChunk;
 use nc_decode::{BUNDLE, Mark};
 
 /// The place is a bundle start, or it is none.
-fn is_chosen(at: u32, starts: bool) -> bool
+pub(crate) fn is_chosen(at: u32, starts: bool) -> bool
     ensures { result ≡ starts_if starts at }
 {
     if starts {
@@ -25,7 +25,7 @@ fn is_chosen(at: u32, starts: bool) -> bool
 }
 
 /// The mark stands for some state, or it stands for none.
-fn is_as(mark: Mark, marked: bool) -> bool
+pub(crate) fn is_as(mark: Mark, marked: bool) -> bool
     ensures { result ≡ mark_if marked mark }
 {
     match mark {

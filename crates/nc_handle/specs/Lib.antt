@@ -1,3 +1,4 @@
 pub mod machinery
 pub mod Shown
+pub mod Runs
 pub mod Held

@@ -69,3 +69,14 @@ pub enum RetireFault {
     #[error("no room for {0} acts")]
     NoRoom(usize),
 }
+
+/// Why the runs of a creation or of a deletion aren't told.
+#[derive(Clone, Copy, Debug, PartialEq, Eq, Error)]
+pub enum RunsFault {
+    /// No live chunk has the base, or no deletion is under way.
+    #[error("no chunk")]
+    NoChunk,
+    /// The buffer for the acts is too short: this many elements are wanted.
+    #[error("no room for {0} acts")]
+    NoRoom(usize),
+}

@@ -15,6 +15,7 @@ mod parts;
 mod reading;
 mod region_calls;
 mod region_handle;
+mod runs;
 mod seat_handle;
 mod seats;
 mod sent;
@@ -22,7 +23,7 @@ mod span;
 mod vetted_handle;
 mod window;
 
-pub use fault::{LoadFault, NewFault, PatchFault, RetireFault, SeatFault};
+pub use fault::{LoadFault, NewFault, PatchFault, RetireFault, RunsFault, SeatFault};
 pub use guest::Guest;
 pub use held::Held;
 pub use kept::Kept;

@@ -1,6 +1,6 @@
 //! A host's memory follows a region by the acts that its calls write.
 
-use nc_handle::{Held, LoadFault, NcAct, PatchFault, RetireFault};
+use nc_handle::{Held, LoadFault, NcAct, PatchFault, RetireFault, RunsFault};
 use nc_vet::{Vetted, vet};
 use std::alloc::Global;
 use std::test::Fail;
@@ -111,5 +111,64 @@ fn refusals(rt: HostRuntime) -> Result<(), Fail> {
     );
     assert!(rt; held.reclaim().is_none());
     assert_eq!(rt; held.end_delete(), Some(1));
+    Ok(())
+}
+
+/// The runs of the creation of the chunk: a kind, an address and a value each.
+const CREATION_RUNS: [(u32, u32, u32); 6] = [
+    (7, 0x10020, 0xFFFF_FFFE),
+    (7, 0x10040, 0xFFFF_FFFE),
+    (6, 0, 0),
+    (2, 0x10020, 64),
+    (7, 0x10020, 1),
+    (7, 0x10040, 1),
+];
+
+/// Those of its deletion: the first instruction has five bytes, and each other one byte.
+const DELETION_RUNS: [(u32, u32, u32); 6] = [
+    (8, 0x10020, 0xFFFF_FFE1),
+    (8, 0x10040, 0xFFFF_FFFF),
+    (6, 0, 0),
+    (8, 0x10020, 0x0000_001E),
+    (8, 0x10040, 0),
+    (3, 0, 0),
+];
+
+/// The acts are these.
+fn are(acts: &[NcAct], rows: &[(u32, u32, u32)]) -> bool {
+    let same = |(act, row): (&NcAct, &(u32, u32, u32))| (act.kind, act.at, act.value) == *row;
+    acts.len() == rows.len() && acts.iter().zip(rows).all(same)
+}
+
+#[test]
+fn runs(rt: HostRuntime) -> Result<(), Fail> {
+    let alloc = rt.alloc();
+    let mut held = held(alloc)?;
+    let empty = NcAct {
+        kind: 0,
+        at: 0,
+        value: 0,
+    };
+    let mut acts = Vec::from_elem(alloc, empty, 6)?;
+    assert_eq!(rt;
+        held.creation_runs(BASE, &mut acts),
+        Err(RunsFault::NoChunk)
+    );
+    let created = held.create(chunk(alloc)?, &mut []);
+    assert!(rt; matches!(created, Ok(0)));
+    assert_eq!(rt;
+        held.creation_runs(BASE, &mut []),
+        Err(RunsFault::NoRoom(6))
+    );
+    assert_eq!(rt; held.creation_runs(BASE, &mut acts), Ok(6));
+    assert!(rt; are(&acts, &CREATION_RUNS));
+    assert_eq!(rt; held.deletion_runs(&mut acts), Err(RunsFault::NoChunk));
+    assert!(rt; held.begin_delete(BASE, &mut []).is_ok());
+    assert_eq!(rt;
+        held.deletion_runs(&mut acts[..5]),
+        Err(RunsFault::NoRoom(6))
+    );
+    assert_eq!(rt; held.deletion_runs(&mut acts), Ok(6));
+    assert!(rt; are(&acts, &DELETION_RUNS));
     Ok(())
 }

@@ -11,6 +11,7 @@
 //!   of the change are written, in their order, with the places where the host settles.
 //! - [`nc_vetted_new`], [`nc_vetted_free`], [`nc_region_load`]: a chunk that is vetted without a region, and created in one.
 //! - [`nc_region_reclaim`], [`nc_seat_check_in`], [`nc_seat_leave`]: when a deleted chunk's span may be used again.
+//! - [`nc_region_creation_runs`], [`nc_region_deletion_runs`]: the same acts with one for the puts of a bundle.
 //! - [`nc_region_chunk`], [`nc_region_place`], [`nc_region_walk`], [`nc_region_generation`]: what a region has.
 //!
 //! [`nc_host_version`] tells the library's version.
@@ -36,6 +37,7 @@ mod numbers;
 mod patching;
 mod region_answers;
 mod regions;
+mod running;
 mod sitting;
 mod version;
 mod vetted;
@@ -53,6 +55,7 @@ pub use nc_acts::NcAct;
 pub use patching::nc_host_patch;
 pub use region_answers::{NcChange, NcChunk, NcCount, NcPlace, NcStamp, NcWalk};
 pub use regions::{nc_region_free, nc_region_new, nc_region_seat};
+pub use running::{nc_region_creation_runs, nc_region_deletion_runs};
 pub use sitting::{nc_seat_check_in, nc_seat_leave};
 pub use version::nc_host_version;
 pub use vetted::{nc_region_load, nc_vetted_free, nc_vetted_new};

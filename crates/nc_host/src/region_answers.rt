@@ -72,7 +72,8 @@ pub struct NcWalk {
     pub count: usize,
     /// 0, or the number of the fault.
     pub fault: u32,
-    /// How it ended: 1 to 4, or 0.
+    /// How it ended: 1 at a stop, 2 below the region, 3 by an indirect jump or call to the limit or above it, 4 where no choice was left;
+    /// 0 where there is a fault.
     pub end: u32,
 }
 

@@ -1,7 +1,7 @@
 //! How long a region's calls take.
 //!
-//! `nc_regionbench chunks COUNT BUNDLES ROUNDS` creates so many chunks of so many bundles in a new region, deletes all of them,
-//! and reclaims all of them by one call. It prints the best time of each of the three.
+//! `nc_regionbench chunks COUNT BUNDLES ROUNDS` creates so many chunks of so many bundles in a new region, patches an instruction of
+//! each, deletes all of them, and reclaims all of them by one call. It prints the best time of each of the four.
 //!
 //! `nc_regionbench checkin TIMES ROUNDS` checks in so many times through a shared region, and beside it does so many bare loads
 //! and stores of two atomic words, in the same order of memory. It prints the best time of one of each.
@@ -54,6 +54,12 @@ const BUNDLE: [u8; 32] = [
     0x00, 0x00, 0x00, 0x0F, 0xB6, 0xC0, 0x8D, 0x04, 0x80, 0x55, 0x5D, 0x83, 0xE1, 0xE0, 0xFF, 0xE1,
 ];
 
+/// Where in the bundle an instruction stands that is patched, and what is put there: mov eax, 2 for mov eax, 1.
+const PATCH_AT: u32 = 14;
+
+/// The new instruction.
+const PATCH: [u8; 5] = [0xB8, 0x02, 0x00, 0x00, 0x00];
+
 /// How many chunks, of how many bundles each, and over how many seats.
 #[derive(Clone, Copy, Drop)]
 struct Load {
@@ -87,13 +93,14 @@ impl Load {
     }
 }
 
-/// What each part took, and how many chunks were created, deleted and reclaimed.
+/// What each part took, and how many chunks were created, patched, deleted and reclaimed.
 #[derive(Clone, Copy, Drop)]
 struct Times {
     create: Duration,
+    patch: Duration,
     delete: Duration,
     reclaim: Duration,
-    done: [u32; 3],
+    done: [u32; 4],
 }
 
 /// A chunk of the region.
@@ -127,6 +134,18 @@ fn create_all(region: &mut Region<'_>, all: Vec<Vetted>) -> u32 {
     done
 }
 
+/// Patches the first bundle of each chunk, and counts those that were patched.
+fn patch_all(region: &mut Region<'_>, load: Load) -> u32 {
+    let mut done = 0u32;
+    for i in 0..load.count {
+        let at = load.base(i).saturating_add(PATCH_AT);
+        if region.modify(at, &PATCH).is_ok() {
+            done = done.saturating_add(1);
+        }
+    }
+    done
+}
+
 /// Deletes the chunks, and counts those that were deleted.
 fn delete_all(region: &mut Region<'_>, load: Load) -> u32 {
     let mut done = 0u32;
@@ -147,7 +166,7 @@ fn check_in_all(gens: &Gens, passes: &mut [Pass])
     }
 }
 
-/// Creates, deletes and reclaims all chunks in a new region, where there is memory for it.
+/// Creates, patches, deletes and reclaims all chunks in a new region, where there is memory for it.
 fn live_once(rt: &HostRuntime, load: Load) -> io::Result<Option<Times>> {
     let all = chunks(rt.alloc(), load)?;
     let Ok((gens, keeper, mut passes)) = Gens::new(rt.alloc(), load.seats) else {
@@ -160,6 +179,9 @@ fn live_once(rt: &HostRuntime, load: Load) -> io::Result<Option<Times>> {
     let created = create_all(&mut region, all);
     let create = start.elapsed(rt)?;
     let start = Instant::now(rt)?;
+    let patched = patch_all(&mut region, load);
+    let patch = start.elapsed(rt)?;
+    let start = Instant::now(rt)?;
     let deleted = delete_all(&mut region, load);
     let delete = start.elapsed(rt)?;
     check_in_all(&gens, passes.as_mut_slice());
@@ -168,9 +190,10 @@ fn live_once(rt: &HostRuntime, load: Load) -> io::Result<Option<Times>> {
     let reclaim = start.elapsed(rt)?;
     Ok(Some(Times {
         create,
+        patch,
         delete,
         reclaim,
-        done: [created, deleted, reclaimed],
+        done: [created, patched, deleted, reclaimed],
     }))
 }
 
@@ -179,6 +202,7 @@ fn best_of(a: Times, b: Times) -> Times {
     let done = b.done;
     Times {
         create: a.create.min(b.create),
+        patch: a.patch.min(b.patch),
         delete: a.delete.min(b.delete),
         reclaim: a.reclaim.min(b.reclaim),
         done,
@@ -189,9 +213,10 @@ fn best_of(a: Times, b: Times) -> Times {
 fn measure_chunks(rt: &HostRuntime, load: Load, rounds: u32) -> io::Result<()> {
     let mut best = Times {
         create: Duration::MAX,
+        patch: Duration::MAX,
         delete: Duration::MAX,
         reclaim: Duration::MAX,
-        done: [0; 3],
+        done: [0; 4],
     };
     for _ in 0..rounds {
         if let Some(times) = live_once(rt, load)? {
@@ -199,10 +224,11 @@ fn measure_chunks(rt: &HostRuntime, load: Load, rounds: u32) -> io::Result<()> {
         }
     }
     let create = best.create.as_nanos();
+    let patch = best.patch.as_nanos();
     let delete = best.delete.as_nanos();
     let reclaim = best.reclaim.as_nanos();
     println!(rt;
-        "{} chunks of {} bundles, {} seats: create {create} ns, delete {delete} ns, reclaim {reclaim} ns; done {:?}",
+        "{} chunks of {} bundles, {} seats: create {create} ns, patch {patch} ns, delete {delete} ns, reclaim {reclaim} ns; done {:?}",
         load.count, load.bundles, load.seats, best.done
     )
 }

@@ -67,7 +67,7 @@ pub fn run<R: Read, W: Write>(
     run_new(alloc, reader, writer, bundles, seats)
 }
 
-/// Runs a script on a new region whose two numbers are good.
+/// Runs a script on a new region with valid numbers of bundles and of seats.
 fn run_new<R: Read, W: Write>(
     alloc: Global,
     reader: &mut R,

@@ -1,0 +1,54 @@
+-- Runs written into a buffer, one after the other.
+use Rattle.std.specs.Prelude.{◌≡◌, ℕ, zero, suc, ◌+◌, ◌*◌, ◌/◌, ◌%◌, ◌==◌, Bool, true, false, List, ◌++◌, length, take, replicate}
+use Rattle.nc_decode.specs.declared.instruction.Mark.{Mark}
+use Rattle.nc_region.specs.declared.acts.Entry.{Entry}
+use Rattle.nc_region.specs.Acts.{puts_where, is_start, is_inside}
+use Rattle.nc_region.specs.Log.{unsettled}
+use Rattle.nc_acts.specs.declared.act.NcAct.{NcAct}
+use Rattle.nc_acts.specs.declared.runs.Places.{Places}
+use Rattle.nc_acts.specs.declared.runs.Places.TheVariants.{Inside, Starts, Marked, Unmarked}
+use Rattle.nc_acts.specs.Runs.{Run, PutRun, StopRun, HasRuns}
+use Rattle.nc_acts.specs.machinery.Writing.{marked_if}
+
+-- whether a run of these places has this one, of a chunk with these marks at this base
+abbrev pub picks : Places → (ℕ → Mark) → ℕ → ℕ → Bool
+picks Inside marks base at = is_inside at
+picks Starts marks base at = is_start at
+picks Marked marks base at = marked_if true marks base at
+picks Unmarked marks base at = marked_if false marks base at
+
+-- what runs of these places put: the chunk's bytes, or stops
+abbrev pub bytes_for : Places → List ℕ → List ℕ
+bytes_for Inside code = code
+bytes_for Starts code = code
+bytes_for Marked code = replicate (length code) 0xF4
+bytes_for Unmarked code = replicate (length code) 0xF4
+
+-- a run of these places
+abbrev pub run_at : Places → ℕ → ℕ → Run
+run_at Inside at bits = PutRun at bits
+run_at Starts at bits = PutRun at bits
+run_at Marked at bits = StopRun at bits
+run_at Unmarked at bits = StopRun at bits
+
+-- of so many places from this address on the number has the bits of those that pass the test, and no others
+abbrev pub AreBits : (ℕ → Bool) → ℕ → ℕ → ℕ → Type 0
+AreBits chosen at zero bits = bits ≡ 0
+AreBits chosen at (suc n) bits = ((bits % 2 == 1) ≡ chosen at) × AreBits chosen (at + 1) n (bits / 2)
+
+-- the same, kept together
+pub record HasBits (chosen : ℕ → Bool) (at n bits : ℕ) : Type 0 where
+  pub are : AreBits chosen at n bits
+
+-- these entries have come to those for which runs stood in the buffer
+abbrev pub AddsRuns : ℕ → List ℕ → List NcAct → ℕ → List NcAct → ℕ → List Entry → Type 0
+AddsRuns base code initial from acts count added =
+    (start : List NcAct) (log : List Entry) → HasRuns start initial from base code log → HasRuns start acts count base code (log ++ added)
+
+-- The runs of so many bundles stand in the buffer after what stood there at first.
+pub record HasRunUpTo (places : Places) (marks : ℕ → Mark) (base : ℕ) (code : List ℕ) (initial : List NcAct) (from n : ℕ)
+    (acts : List NcAct) (count : ℕ) : Type 0 where
+  pub len : length acts ≡ length initial
+  pub counted : count ≡ from + n
+  pub written : AddsRuns base code initial from acts count
+      (unsettled (puts_where (picks places marks base) base (take (32 * n) (bytes_for places code))))

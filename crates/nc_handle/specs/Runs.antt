@@ -1,0 +1,39 @@
+-- The acts of a chunk of a region as runs: how many there are, and when they aren't told.
+use Rattle.std.specs.Prelude.{◌≡◌, ℕ, ◌+◌, ◌*◌, ◌/◌, ◌<◌, List, Some, None}
+use Rattle.nc_acts.specs.declared.act.NcAct.{NcAct}
+use Rattle.nc_acts.specs.Runs.{HasRuns}
+use Rattle.nc_region.specs.declared.chunk.Chunk.{Chunk}
+use Rattle.nc_region.specs.Deletion.{HasLive}
+use Rattle.nc_region.specs.Log.{log_of_create, log_of_delete}
+use Rattle.nc_handle.specs.declared.fault.RunsFault.{RunsFault}
+use Rattle.nc_handle.specs.declared.fault.RunsFault.TheVariants.{NoChunk, NoRoom}
+use Rattle.nc_handle.specs.Held.{HeldState, IsLiveAt}
+use Rattle.nc_handle.specs.Shown.{bytes_of}
+
+-- two for each bundle of so many bytes, and two more
+abbrev pub runs_of : ℕ → ℕ
+runs_of len = 2 * (len / 32) + 2
+
+-- the runs written, so many, stand for the creation of this chunk with the bytes that it has in the region
+abbrev pub AreCreationRuns : HeldState → Chunk → List NcAct → List NcAct → ℕ → Type 0
+AreCreationRuns h c old new count =
+    (count ≡ runs_of c.length) × HasRuns old new count c.base (bytes_of h.region.marked.bytes c.base c.length)
+    (log_of_create c.base (bytes_of h.region.marked.bytes c.base c.length))
+
+-- the runs written, so many, stand for the deletion of this chunk of the region
+abbrev pub AreDeletionRuns : HeldState → Chunk → List NcAct → List NcAct → ℕ → Type 0
+AreDeletionRuns h c old new count =
+    (count ≡ runs_of c.length) × HasRuns old new count c.base (bytes_of h.region.marked.bytes c.base c.length)
+    (log_of_delete h.region.marked.marks c.base c.length)
+
+-- when the runs of a creation aren't told: no live chunk has this base, or the buffer is too short for those of the one that has
+abbrev pub MayRefuseCreationRuns : HeldState → ℕ → ℕ → RunsFault → Type 0
+MayRefuseCreationRuns h base room NoChunk = ¬ HasLive h.region.chunks base
+MayRefuseCreationRuns h base room (NoRoom wanted) =
+    (c : Chunk) × IsLiveAt h.region.chunks base c × (room < runs_of c.length) × (wanted ≡ runs_of c.length)
+
+-- when the runs of a deletion aren't told: none is under way, or the buffer is too short for those of the one that is
+abbrev pub MayRefuseDeletionRuns : HeldState → ℕ → RunsFault → Type 0
+MayRefuseDeletionRuns h room NoChunk = h.begun ≡ None
+MayRefuseDeletionRuns h room (NoRoom wanted) =
+    (c : Chunk) × (h.begun ≡ Some c) × (room < runs_of c.length) × (wanted ≡ runs_of c.length)
