@@ -1,16 +1,17 @@
-//! A region over acts of the host's own, behind a lock of the host's own.
+//! A region over acts of the host's own: behind a lock of the host's own, and shared by `SharedOf`.
 
-ghost use Rattle.std.specs.Prelude.{◌≡◌, OnOk, IfErr};
+ghost use Rattle.std.specs.Prelude.{◌≡◌, IfOk, OnOk, IfErr};
 ghost use Rattle.nc_embed.specs.Load.{IsLoaded, IsLeft, MayRefuseLoad};
 
 use crate::admitting::admit;
 use crate::code::{BASE, BUNDLES, SWITCH, SWITCHED, bundles};
 use crate::fault::{HostFault, LoadFault};
-use nc_gens::Gens;
+use nc_gens::{Gens, Keeper, Pass};
 use nc_image::Image;
-use nc_region::{Acts, ModifyFault, RegionOf};
+use nc_region::{Acts, End, ModifyFault, RegionOf, SharedOf, WalkFault};
 use std::alloc::Global;
 use std::sync::{Mutex, Wait};
+use std::thread::{Threads, join};
 
 /// Vets code and creates it: afterwards the chunk stands there, or nothing has changed but that pages may have been made.
 ///
@@ -75,4 +76,62 @@ pub fn run<R: Wait + Print>(rt: &R, alloc: Global) -> Result<(), HostFault> {
     show(rt, &region, "memory after the patch")?;
     region.lock(rt).delete(BASE)?;
     show(rt, &region, "memory after the deletion")
+}
+
+/// A region in memory of the host's own, with the chunk in it, for threads to share.
+fn shared_image<'g>(
+    alloc: Global,
+    gens: &'g Gens,
+    keeper: Keeper,
+) -> Result<SharedOf<'g, Image<'g>>, HostFault>
+    requires { keeper.table ≡ gens.now }
+    ensures { IfOk result (λ s. s ≡ gens.now) }
+{
+    let image = Image::new(alloc, BUNDLES, gens, keeper)?;
+    let mut region = RegionOf::over(alloc, image);
+    load(&mut region, BASE, bundles(alloc, &SWITCH)?)?;
+    Ok(SharedOf::over(region, gens))
+}
+
+/// A thread's time with its pass: it runs the code, checks in outside, and leaves for good.
+fn visit(rt: &impl Wait, shared: &SharedOf<'_, Image<'_>>, pass: Pass) -> Result<End, WalkFault>
+    requires { pass.table ≡ shared.now }
+{
+    let mut pass = pass;
+    let trace = shared.walk(rt, BASE, &[0, 0]);
+    shared.check_in(&mut pass);
+    shared.leave(pass);
+    Ok(trace?.end)
+}
+
+/// The code is patched while a thread runs it.
+fn visit_and_switch<R: Threads + Wait + Sync>(
+    rt: &R,
+    shared: &SharedOf<'_, Image<'_>>,
+    pass: Pass,
+) -> (Result<End, WalkFault>, Result<(), ModifyFault>)
+    requires { pass.table ≡ shared.now }
+{
+    join(
+        rt,
+        move || visit(rt, shared, pass),
+        move || shared.modify(rt, BASE, &SWITCHED),
+    )
+}
+
+/// The chunk's life once more: threads share the region.
+pub fn run_shared<R: Threads + Wait + Print + Sync>(
+    rt: &R,
+    alloc: Global,
+) -> Result<(), HostFault> {
+    let (gens, keeper, mut passes) = Gens::new(alloc, 1)?;
+    let pass = passes.remove(0);
+    let shared = shared_image(alloc, &gens, keeper)?;
+    let (end, patched) = visit_and_switch(rt, &shared, pass);
+    let end = end?;
+    patched?;
+    shared.delete(rt, BASE)?;
+    let freed = shared.reclaim(rt);
+    println!(rt; "in memory of the host's own, patched beside a thread: {end:?}, {freed} freed")?;
+    Ok(())
 }

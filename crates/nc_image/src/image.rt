@@ -34,6 +34,7 @@ impl<'g> Image<'g> {
     ) -> Result<Image<'g>, RegionFault>
         requires { keeper.table ≡ gens.now }
         ensures made { IfOk result (λ i. i.plain.marked ≡ unused_text (0x10000 + 32 * bundles)) }
+        ensures keeper { IfOk result (λ i. i.plain.keeper ≡ keeper) }
         // The wrong size is found exactly where it is one.
         ensures lawful { OnOk result (IsLawfulLimit (0x10000 + 32 * bundles)) }
         ensures size { IfErr result (λ e. (e ≡ RegionFault.BadSize) ↔ ¬ IsLawfulLimit (0x10000 + 32 * bundles)) }

@@ -14,7 +14,8 @@
 //! [`modify`](RegionOf::modify) replaces instructions of a live one by others of the same lengths,
 //! [`delete`](RegionOf::delete) retires one, [`reclaim`](RegionOf::reclaim) frees what is due, and
 //! [`walk`](RegionOf::walk) shows where a path goes. [`Shared`] is a region behind a lock, with check-in beside the lock.
-//! [`RegionOf`] over a [`Recorder`] writes each act down.
+//! [`RegionOf`] is a region over any [`Acts`], for example over a [`Recorder`], which writes each act down, and [`SharedOf`]
+//! is one behind a lock.
 //!
 //! ```text
 //! let (gens, keeper, mut passes) = Gens::new(alloc, 1)?;
@@ -54,5 +55,5 @@ pub use nc_schedule::law_of_schedules;
 pub use plain::Plain;
 pub use recorder::Recorder;
 pub use region::{Region, RegionOf};
-pub use shared::Shared;
+pub use shared::{Shared, SharedOf};
 pub use trace::{End, Trace};

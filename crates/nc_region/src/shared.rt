@@ -11,27 +11,34 @@ ghost use Rattle.nc_region.specs.Region.{IsRegion, IsCreated, MayRefuse};
 ghost use Rattle.nc_region.specs.Region as spec;
 ghost use Rattle.nc_region.specs.Trace.{IsTrace, IsWalkStart, MayRefuseWalk};
 
+use crate::acts::Acts;
 use crate::fault::{CreateFault, DeleteFault, ModifyFault, WalkFault};
-use crate::region::Region;
+use crate::plain::Plain;
+use crate::region::{Region, RegionOf};
 use crate::trace::Trace;
 use nc_gens::{Gens, Pass};
 use nc_vet::Vetted;
 use std::marker::Model;
 use std::sync::{Mutex, Wait};
 
+/// A region over a text that tells nothing of its acts, shared by threads.
+pub type Shared<'g> = SharedOf<'g, Plain<'g>>;
+
 /// A region that threads share by reference, behind a lock.
 ///
-/// Whenever the lock is free the region is confined, since every value of `Region` is. Each call takes the lock and
-/// runs the call of `Region` with its name; it may wait for the lock, and nothing is promised of who comes first. What
-/// a call finds under the lock and leaves there is what the call of `Region` promises of it. No clause can name the region at
-/// the moment when the lock is held, so those of these calls say that some region was found from which the answer comes.
+/// Whenever the lock is free the region is confined, since every value of `RegionOf` is. Each call takes the lock and
+/// runs the call of `RegionOf` with its name; it may wait for the lock, and nothing is promised of who comes first. What
+/// a call finds under the lock and leaves there is what the call of `RegionOf` promises of it. No clause can name the region
+/// at the moment when the lock is held, so those of these calls say that some region was found from which the answer comes.
+///
+/// Threads can share it if its acts may go to another thread.
 #[derive(Drop)]
-pub struct Shared<'g> {
+pub struct SharedOf<'g, A: Acts + Drop> {
     gens: &'g Gens,
-    region: Mutex<Region<'g>>,
+    region: Mutex<RegionOf<A>>,
 }
 
-impl<'g> Model for Shared<'g> {
+impl<'g, A: Acts + Drop> Model for SharedOf<'g, A> {
     ghost use Rattle.atomic_table.specs.Seated.{TableId, table_id_coded};
 
     ghost Value = { TableId };
@@ -41,13 +48,24 @@ impl<'g> Model for Shared<'g> {
     ghost view = { λ s. s.gens.now };
 }
 
-impl<'g> Shared<'g> {
+impl<'g> SharedOf<'g, Plain<'g>> {
     /// This region, for threads to share. Contracts see which table of generations it is over, and nothing of its chunks.
     pub fn new(region: Region<'g>) -> Shared<'g>
         ensures { result ≡ region.entry.keeper.table }
     {
         let gens = region.gens();
-        Shared {
+        SharedOf::over(region, gens)
+    }
+}
+
+impl<'g, A: Acts + Drop> SharedOf<'g, A> {
+    /// This region, for threads to share, beside the table of generations to which its keeper belongs: `check_in` and
+    /// `leave` need the table without the lock. Contracts see which table it is, and nothing of the region's chunks.
+    pub fn over(region: RegionOf<A>, gens: &'g Gens) -> SharedOf<'g, A>
+        requires { region.keeper.table ≡ gens.now }
+        ensures { result ≡ region.keeper.table }
+    {
+        SharedOf {
             gens,
             region: Mutex::new(region),
         }
@@ -134,7 +152,10 @@ impl<'g> Shared<'g> {
 }
 
 /// A chunk created in a region.
-fn create_in(region: &mut Region<'_>, vetted: Vetted) -> Result<(), (Vetted, CreateFault)>
+fn create_in<A: Acts + Drop>(
+    region: &mut RegionOf<A>,
+    vetted: Vetted,
+) -> Result<(), (Vetted, CreateFault)>
     ensures given_back { IfErr result (λ e. e.0 ≡ vetted) }
     ensures created { OnOk result ((old new : spec.Region) × IsRegion old.marked old.chunks × IsCreated old new vetted) }
     ensures refused { IfErr result (λ e. (r : spec.Region) × IsRegion r.marked r.chunks × MayRefuse r vetted e.1) }
@@ -145,7 +166,11 @@ fn create_in(region: &mut Region<'_>, vetted: Vetted) -> Result<(), (Vetted, Cre
 }
 
 /// A patch of a region.
-fn modify_in(region: &mut Region<'_>, at: u32, new: &[u8]) -> Result<(), ModifyFault>
+fn modify_in<A: Acts + Drop>(
+    region: &mut RegionOf<A>,
+    at: u32,
+    new: &[u8],
+) -> Result<(), ModifyFault>
     ensures lawful { OnOk result ((r : spec.Region) × IsRegion r.marked r.chunks × IsPatch r at new.now) }
     ensures refused { IfErr result (λ fault. (r : spec.Region) × IsRegion r.marked r.chunks × MayRefusePatch r at new.now fault) }
 {
@@ -155,7 +180,7 @@ fn modify_in(region: &mut Region<'_>, at: u32, new: &[u8]) -> Result<(), ModifyF
 }
 
 /// A chunk of a region deleted.
-fn delete_in(region: &mut Region<'_>, base: u32) -> Result<u64, DeleteFault>
+fn delete_in<A: Acts + Drop>(region: &mut RegionOf<A>, base: u32) -> Result<u64, DeleteFault>
     ensures deleted { IfOk result (λ stamp. (old new : spec.Region) × IsRegion old.marked old.chunks
         × IsDeleted old new base stamp) }
     ensures refused { IfErr result (λ fault. (r : spec.Region) × IsRegion r.marked r.chunks × MayRefuseDelete r base fault) }
@@ -166,7 +191,11 @@ fn delete_in(region: &mut Region<'_>, base: u32) -> Result<u64, DeleteFault>
 }
 
 /// A walk through a region's text, which is confined.
-fn walk_confined(region: &Region<'_>, start: u32, choices: &[u32]) -> Result<Trace, WalkFault>
+fn walk_confined<A: Acts + Drop>(
+    region: &RegionOf<A>,
+    start: u32,
+    choices: &[u32],
+) -> Result<Trace, WalkFault>
     ensures trace { IfOk result (λ t. (text : List ℕ) × IsConfined text × IsWalkStart text start
         × IsTrace text start choices.now t.places.items t.end) }
     ensures refused { IfErr result (λ e. (text : List ℕ) × IsLawfulLimit (limit_of text) × MayRefuseWalk text start e) }

@@ -3,7 +3,9 @@
 //! What a call ensures is known at each later line of a function that makes it, and each proof there has to look at it. The
 //! tests compare answers and need none of that, so they make the calls through these functions, which say nothing.
 
-use nc_region::{Acts, CreateFault, DeleteFault, ModifyFault, RegionOf, Shared, Trace, WalkFault};
+use nc_region::{
+    Acts, CreateFault, DeleteFault, ModifyFault, RegionOf, SharedOf, Trace, WalkFault,
+};
 use nc_vet::Vetted;
 use std::sync::Wait;
 
@@ -56,43 +58,47 @@ pub(crate) fn walk<A: Acts + Drop>(
     region.walk(start, choices)
 }
 
-/// `Shared::create`.
-pub(crate) fn create_shared<R: Wait>(
+/// `SharedOf::create`.
+pub(crate) fn create_shared<R: Wait, A: Acts + Drop>(
     rt: &R,
-    shared: &Shared<'_>,
+    shared: &SharedOf<'_, A>,
     vetted: Vetted,
 ) -> Result<(), (Vetted, CreateFault)> {
     shared.create(rt, vetted)
 }
 
-/// `Shared::create`: whether the chunk was created.
-pub(crate) fn creates_shared<R: Wait>(rt: &R, shared: &Shared<'_>, vetted: Vetted) -> bool {
+/// `SharedOf::create`: whether the chunk was created.
+pub(crate) fn creates_shared<R: Wait, A: Acts + Drop>(
+    rt: &R,
+    shared: &SharedOf<'_, A>,
+    vetted: Vetted,
+) -> bool {
     create_shared(rt, shared, vetted).is_ok()
 }
 
-/// `Shared::modify`.
-pub(crate) fn modify_shared<R: Wait>(
+/// `SharedOf::modify`.
+pub(crate) fn modify_shared<R: Wait, A: Acts + Drop>(
     rt: &R,
-    shared: &Shared<'_>,
+    shared: &SharedOf<'_, A>,
     at: u32,
     new: &[u8],
 ) -> Result<(), ModifyFault> {
     shared.modify(rt, at, new)
 }
 
-/// `Shared::delete`.
-pub(crate) fn delete_shared<R: Wait>(
+/// `SharedOf::delete`.
+pub(crate) fn delete_shared<R: Wait, A: Acts + Drop>(
     rt: &R,
-    shared: &Shared<'_>,
+    shared: &SharedOf<'_, A>,
     base: u32,
 ) -> Result<u64, DeleteFault> {
     shared.delete(rt, base)
 }
 
-/// `Shared::walk`.
-pub(crate) fn walk_shared<R: Wait>(
+/// `SharedOf::walk`.
+pub(crate) fn walk_shared<R: Wait, A: Acts + Drop>(
     rt: &R,
-    shared: &Shared<'_>,
+    shared: &SharedOf<'_, A>,
     start: u32,
     choices: &[u32],
 ) -> Result<Trace, WalkFault> {
