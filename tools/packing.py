@@ -1,0 +1,100 @@
+"""What an installation consists of: each path below PREFIX, with its file or its link."""
+
+import os
+import re
+import stat
+from string import Template
+
+from building import DEFAULT, libraries, program
+from examples import TOP
+from placing import File, Link
+
+PROGRAMS = ["nc_check", "nc_replay"]
+REWRITER = "examples/compile/to-bundles"
+SHARE, DOC = "share/reedbodkin/", "share/doc/reedbodkin/"
+
+# Files of the repository, and where they go. A folder's files go below the second path; the last one is there where there is such a header.
+FILES = [
+    ("include/nc_host.h", "include/nc_host.h"),
+    ("examples/compile/chunk.ld", SHARE + "chunk.ld"),
+    ("docs/man/nc_check.1", "share/man/man1/nc_check.1"),
+    ("docs/man/nc_replay.1", "share/man/man1/nc_replay.1"),
+    ("packaging/completions/nc_check.bash", "share/bash-completion/completions/nc_check"),
+    ("packaging/completions/nc_replay.bash", "share/bash-completion/completions/nc_replay"),
+    ("packaging/completions/_nc_check", "share/zsh/site-functions/_nc_check"),
+    ("packaging/completions/_nc_replay", "share/zsh/site-functions/_nc_replay"),
+    ("packaging/NOTICE", DOC + "NOTICE"),
+    ("README.md", DOC + "README.md"),
+    ("VERSION", DOC + "VERSION"),
+    ("docs", DOC + "docs"),
+    ("docs/charts", DOC + "docs/charts"),
+    ("examples/host", DOC + "examples/host"),
+    ("examples/compile/sample.c", DOC + "examples/compile/sample.c"),
+    ("examples/first.script", DOC + "examples/first.script"),
+    ("examples/vet.lines", DOC + "examples/vet.lines"),
+]
+OPTIONAL = [("include/nc_host.hpp", "include/nc_host.hpp")]
+
+# Templates of packaging/, and where they go.
+TEMPLATES = [
+    ("nc_host.pc.in", "lib/pkgconfig/nc_host.pc"),
+    ("nc_host-static.pc.in", "lib/pkgconfig/nc_host-static.pc"),
+    ("nc_hostConfig.cmake.in", "lib/cmake/nc_host/nc_hostConfig.cmake"),
+    ("nc_hostConfigVersion.cmake.in", "lib/cmake/nc_host/nc_hostConfigVersion.cmake"),
+]
+
+
+class Words(Template):
+    """Words such as @VERSION@ in a text."""
+
+    pattern = r"@(?:(?P<escaped>@)|(?P<named>[A-Z]+)@|(?P<braced>(?!))|(?P<invalid>(?!)))"
+
+
+def read(path):
+    with open(os.path.join(TOP, path), "rb") as file:
+        return file.read()
+
+
+def version():
+    """The version, as it stands in the file VERSION."""
+    text = read("VERSION").decode()
+    if not re.fullmatch(r"\d+\.\d+\.\d+\n", text):
+        raise ValueError("VERSION isn't a line such as 1.2.3")
+    return text.strip()
+
+
+def filled(template, **more):
+    """A template of packaging/, with the version and other words put in."""
+    number = version()
+    major, minor, _ = number.split(".")
+    return Words(read("packaging/" + template).decode()).substitute(VERSION=number, MAJOR=major, MINOR=minor, **more)
+
+
+def copied(path, to):
+    """A file of the repository, or each file of a folder."""
+    place = os.path.join(TOP, path)
+    if os.path.isdir(place):
+        names = [name for name in sorted(os.listdir(place)) if os.path.isfile(os.path.join(place, name))]
+        return {key: file for name in names for key, file in copied(path + "/" + name, to + "/" + name).items()}
+    return {to: File(read(path), 0o755 if os.stat(place).st_mode & stat.S_IXUSR else 0o644)}
+
+
+def tree(cpu=DEFAULT, anew=False):
+    """All of it, for a processor; what is built already isn't built again, if it isn't to be made anew."""
+    number = version()
+    soname = "libnc_host.so." + number.split(".")[0]
+    made = {}
+    for path, to in FILES + [pair for pair in OPTIONAL if os.path.exists(os.path.join(TOP, pair[0]))]:
+        made.update(copied(path, to))
+    for template, to in TEMPLATES:
+        made[to] = File(filled(template).encode(), 0o644)
+    made["bin/nc-bundle"] = File(read(REWRITER).replace(b"to-bundles", b"nc-bundle"), 0o755)
+    for name in PROGRAMS:
+        made["bin/" + name] = File(program(name, cpu, anew), 0o755)
+    static, shared = libraries(cpu, soname, anew)
+    made["lib/libnc_host.a"] = File(static, 0o644)
+    made["lib/libnc_host.so." + number] = File(shared, 0o755)
+    made["lib/" + soname] = Link("libnc_host.so." + number)
+    made["lib/libnc_host.so"] = Link(soname)
+    made[SHARE + "processor"] = File((cpu + "\n").encode(), 0o644)
+    return made

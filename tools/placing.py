@@ -1,0 +1,144 @@
+#!/usr/bin/env python3
+"""Installs Reedbodkin below a folder, and takes it away again. In a release this is the script `install`.
+
+Usage: ./install PREFIX [--destdir DIR] [--uninstall]
+
+It copies the folders bin, include, lib and share beside it to PREFIX; with --destdir to DIR/PREFIX, as a packager wants it.
+PREFIX/share/reedbodkin/manifest lists what was put there and the folders that were made for it. --uninstall removes exactly that: a folder
+stays that was there before, or has something else in it. An earlier installation is replaced. Where a file is there that no installation
+has put there, nothing is done, and the status is 1.
+"""
+
+import argparse
+import os
+import stat
+import sys
+from typing import NamedTuple
+
+FOLDERS = ["bin", "include", "lib", "share"]
+MANIFEST = "share/reedbodkin/manifest"
+
+
+class File(NamedTuple):
+    content: bytes
+    mode: int
+
+
+class Link(NamedTuple):
+    target: str
+
+
+class Refusal(Exception):
+    """Why nothing was done."""
+
+
+def tree_of(folder):
+    """The files and links below these folders of a folder."""
+    found = {}
+    for place, _, names in sorted(entry for top in FOLDERS for entry in os.walk(os.path.join(folder, top))):
+        for name in names:
+            path = os.path.join(place, name)
+            if os.path.islink(path):
+                found[os.path.relpath(path, folder)] = Link(os.readlink(path))
+            else:
+                with open(path, "rb") as file:
+                    found[os.path.relpath(path, folder)] = File(file.read(), stat.S_IMODE(os.stat(path).st_mode))
+    return found
+
+
+def put(path, entry):
+    if isinstance(entry, Link):
+        os.symlink(entry.target, path)
+        return
+    with open(path, "wb") as file:
+        file.write(entry.content)
+    os.chmod(path, entry.mode)
+
+
+def make_folder(path):
+    """Makes a folder, and those above it; returns the ones that weren't there."""
+    if os.path.isdir(path):
+        return []
+    made = make_folder(os.path.dirname(path))
+    os.mkdir(path)
+    os.chmod(path, 0o755)
+    return made + [path]
+
+
+def lines_of(root):
+    """The lines of the manifest, none where nothing is installed."""
+    try:
+        with open(os.path.join(root, MANIFEST), encoding="utf-8") as file:
+            return file.read().splitlines()
+    except FileNotFoundError:
+        return []
+
+
+def remove(root, lines):
+    """Removes the files of a manifest, and those of its folders that are empty then. Lines of folders end with a slash."""
+    paths = [(os.path.normpath(os.path.join(root, line)), line.endswith("/")) for line in lines]
+    for path, is_folder in paths:
+        if not is_folder and os.path.lexists(path):
+            os.unlink(path)
+    for path in sorted((path for path, is_folder in paths if is_folder), key=len, reverse=True):
+        if os.path.isdir(path) and not os.listdir(path):
+            os.rmdir(path)
+
+
+def install(root, tree):
+    """Puts a tree below a folder, in the place of an earlier one."""
+    earlier = lines_of(root)
+    foreign = [path for path in sorted(tree) if path not in earlier and os.path.lexists(os.path.join(root, path))]
+    if foreign:
+        raise Refusal("not of an earlier installation, so remove it first: " + ", ".join(os.path.join(root, path) for path in foreign))
+    remove(root, earlier)
+    lines = sorted(tree) + [MANIFEST]
+    for path in lines:
+        for folder in make_folder(os.path.dirname(os.path.join(root, path))):
+            lines.append(os.path.relpath(folder, root) + "/")
+        if path in tree:
+            put(os.path.join(root, path), tree[path])
+        if path == MANIFEST:
+            break
+    put(os.path.join(root, MANIFEST), File("".join(line + "\n" for line in lines).encode(), 0o644))
+    print("%d files below %s" % (len(tree), root))
+
+
+def uninstall(root):
+    lines = lines_of(root)
+    if not lines:
+        raise Refusal("nothing is installed: there is no %s" % os.path.join(root, MANIFEST))
+    remove(root, lines)
+    left = [line for line in lines if os.path.lexists(os.path.normpath(os.path.join(root, line)))]
+    print("removed from %s" % root + (", but for folders with something else in them: " + ", ".join(left) if left else ""))
+
+
+def command_line(text):
+    """What every installation is told: where."""
+    line = argparse.ArgumentParser(description=text.split("\n")[0], epilog="\n".join(text.split("\n")[4:]),
+                                   formatter_class=argparse.RawDescriptionHelpFormatter)
+    line.add_argument("prefix", metavar="PREFIX", help="the folder, such as /usr/local")
+    line.add_argument("--destdir", metavar="DIR", default="", help="put everything below DIR, as if it were the root")
+    line.add_argument("--uninstall", action="store_true", help="remove what was installed there")
+    return line
+
+
+def carry_out(asked, tree):
+    """Installs or uninstalls; `tree` makes what is to be installed. The status."""
+    root = os.path.abspath(asked.prefix)
+    if asked.destdir:
+        root = os.path.join(os.path.abspath(asked.destdir), root.lstrip("/"))
+    try:
+        uninstall(root) if asked.uninstall else install(root, tree())
+    except (Refusal, OSError) as fault:
+        print("install: %s" % fault, file=sys.stderr)
+        return 1
+    return 0
+
+
+def main():
+    return carry_out(command_line(__doc__).parse_args(), lambda: tree_of(os.path.dirname(os.path.abspath(__file__))))
+
+
+if __name__ == "__main__":
+    sys.exit(main())
