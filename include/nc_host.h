@@ -21,7 +21,8 @@
  *               forked. If memory runs out, the fault is NC_OUT_OF_MEMORY. 64 KiB of stack are enough (tested, not proved).
  *   Refusals    If the fault isn't 0, a buffer is unchanged. No more of a buffer is written than is stated.
  *   Execution   Lent memory is never executed.
- *   Linking     The library is for Linux on x86-64 with the instructions of x86-64-v2. The toolchain's liblibc_c.a must follow it on the
+ *   Linking     The library is for Linux on x86-64 with the instructions of x86-64-v2, where it wasn't built for others. As tools/install
+ *               installs it, it needs nothing but the C library. As `rt lib` builds it, the toolchain's liblibc_c.a must follow it on the
  *               command line: `gcc host.c libnc_host.a liblibc_c.a`. In another order the linker doesn't find rattle_dealloc.
  *
  * What the calls whose names begin with nc_host_ keep (for handles see "What all of them keep", below)

@@ -5,6 +5,7 @@ out/cpu/NAME of its crate, and what stands in out stays.
 """
 
 import contextlib
+import fcntl
 import os
 import shutil
 import subprocess
@@ -14,7 +15,7 @@ from examples import TOP
 from native import kit
 
 DEFAULT = "x86-64-v2"
-PROCESSORS = ["x86-64", DEFAULT, "x86-64-v3", "x86-64-v4"]
+PROCESSORS = ["x86-64", DEFAULT, "x86-64-v3"]
 MERGING = ["ld", "objcopy", "ar"]
 # A program that is built for a processor which this one isn't says so, and ends with this status.
 LACKING = 127
@@ -58,19 +59,17 @@ def put_aside(out, name):
 
 
 def product(crate, name, cpu, anew):
-    """The path of a program or a library."""
+    """The path of a program or a library. Two of these scripts don't build in a crate at once."""
     folder = os.path.join(TOP, "crates", crate)
     out, verb = os.path.join(folder, "out"), "lib" if name.endswith(".a") else "run"
-    if cpu == DEFAULT:
-        if anew or not os.path.exists(os.path.join(out, name)):
-            run_rt(folder, verb, cpu)
-        return os.path.join(out, name)
-    apart = os.path.join(out, "cpu", cpu)
-    if anew or not os.path.exists(os.path.join(apart, name)):
-        os.makedirs(apart, exist_ok=True)
-        with put_aside(out, name):
-            run_rt(folder, verb, cpu)
-            os.replace(os.path.join(out, name), os.path.join(apart, name))
+    apart = out if cpu == DEFAULT else os.path.join(out, "cpu", cpu)
+    os.makedirs(apart, exist_ok=True)
+    with open(os.path.join(out, "building"), "w", encoding="utf-8") as lock:
+        fcntl.flock(lock, fcntl.LOCK_EX)
+        if anew or not os.path.exists(os.path.join(apart, name)):
+            with contextlib.nullcontext() if apart == out else put_aside(out, name):
+                run_rt(folder, verb, cpu)
+                os.replace(os.path.join(out, name), os.path.join(apart, name))
     return os.path.join(apart, name)
 
 
