@@ -55,14 +55,18 @@ def put(path, entry):
     os.chmod(path, entry.mode)
 
 
-def make_folder(path):
-    """Makes a folder, and those above it; returns the ones that weren't there."""
-    if os.path.isdir(path):
-        return []
-    made = make_folder(os.path.dirname(path))
-    os.mkdir(path)
-    os.chmod(path, 0o755)
-    return made + [path]
+def make_folder(path, made):
+    """Makes a folder, and those above it; the ones that weren't there are added to the list."""
+    if not os.path.isdir(path):
+        make_folder(os.path.dirname(path), made)
+        os.mkdir(path)
+        made.append(path)
+        os.chmod(path, 0o755)
+
+
+def lines_for(root, files, folders):
+    """What the manifest has to say of these files and of the folders made for them."""
+    return sorted(files) + [os.path.relpath(folder, root) + "/" for folder in folders]
 
 
 def lines_of(root):
@@ -78,7 +82,7 @@ def remove(root, lines):
     """Removes the files of a manifest, and those of its folders that are empty then. Lines of folders end with a slash."""
     paths = [(os.path.normpath(os.path.join(root, line)), line.endswith("/")) for line in lines]
     for path, is_folder in paths:
-        if not is_folder and os.path.lexists(path):
+        if not is_folder and path.startswith(root + os.sep) and os.path.lexists(path):
             os.unlink(path)
     for path in sorted((path for path, is_folder in paths if is_folder), key=len, reverse=True):
         if os.path.isdir(path) and not os.listdir(path):
@@ -86,21 +90,22 @@ def remove(root, lines):
 
 
 def install(root, tree):
-    """Puts a tree below a folder, in the place of an earlier one."""
+    """Puts a tree below a folder, in the place of an earlier one; where that fails, nothing of either is left."""
     earlier = lines_of(root)
     foreign = [path for path in sorted(tree) if path not in earlier and os.path.lexists(os.path.join(root, path))]
     if foreign:
         raise Refusal("not of an earlier installation, so remove it first: " + ", ".join(os.path.join(root, path) for path in foreign))
     remove(root, earlier)
-    lines = sorted(tree) + [MANIFEST]
-    for path in lines:
-        for folder in make_folder(os.path.dirname(os.path.join(root, path))):
-            lines.append(os.path.relpath(folder, root) + "/")
-        if path in tree:
-            put(os.path.join(root, path), tree[path])
-        if path == MANIFEST:
-            break
-    put(os.path.join(root, MANIFEST), File("".join(line + "\n" for line in lines).encode(), 0o644))
+    files, made = {**tree, MANIFEST: File(b"", 0o644)}, []
+    try:
+        for path in sorted(files):
+            make_folder(os.path.dirname(os.path.join(root, path)), made)
+            put(os.path.join(root, path), files[path])
+        with open(os.path.join(root, MANIFEST), "w", encoding="utf-8") as manifest:
+            manifest.writelines(line + "\n" for line in lines_for(root, files, made))
+    except OSError:
+        remove(root, lines_for(root, files, made))
+        raise
     print("%d files below %s" % (len(tree), root))
 
 
