@@ -27,7 +27,7 @@ class Missing(Exception):
 
 def command(name):
     if shutil.which(name) is None:
-        raise Missing("%s isn't here (Debian has gcc and binutils)" % name)
+        raise Missing(name + " isn't here")
     return name
 
 
@@ -102,6 +102,8 @@ def link(archive, soname, folder):
 def libraries(cpu, soname, anew):
     """The bytes of the static and of the shared library, which link without the toolchain."""
     own = product("nc_host", "libnc_host.a", cpu, anew)
+    if "RATTLE_KIT" not in os.environ:
+        command("rt")
     with tempfile.TemporaryDirectory() as folder:
         archive = merge([own, os.path.join(kit(), "c", "liblibc_c.a")], folder)
         files = []
