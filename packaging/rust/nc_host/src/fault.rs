@@ -1,0 +1,137 @@
+//! The faults of nc_host.h.
+
+use crate::ffi;
+use std::error::Error;
+use std::fmt;
+
+/// Writes the enum and what is said of each fault. The first two names are those of a fault's address, and of a length that is enough.
+macro_rules! faults {
+    ($at:ident, $enough:ident; $($variant:ident $({ $field:ident: $of:ty })? = $number:literal, $name:literal, $sentence:literal;)*) => {
+        /// Why a call was refused. The numbers and the sentences are those of nc_host.h.
+        #[non_exhaustive]
+        #[derive(Clone, Copy, Debug, PartialEq, Eq, Hash)]
+        pub enum Fault {
+            $(
+                #[doc = $sentence]
+                $variant $({
+                    /// What is told beside the fault: the address, or the length of a buffer that is enough.
+                    $field: $of,
+                })?,
+            )*
+            /// A fault that this crate doesn't know, from a newer library.
+            Other(u32),
+        }
+
+        impl Fault {
+            /// Its number in nc_host.h.
+            pub fn number(self) -> u32 {
+                match self {
+                    $(Fault::$variant { .. } => $number,)*
+                    Fault::Other(number) => number,
+                }
+            }
+
+            /// Its name in nc_host.h, such as `NC_BAD_BASE`, or `?`.
+            pub fn name(self) -> &'static str {
+                match self {
+                    $(Fault::$variant { .. } => $name,)*
+                    Fault::Other(_) => "?",
+                }
+            }
+
+            /// What it says, such as `the base is no multiple of 32, or lies below the region`, or `?`.
+            pub fn sentence(self) -> &'static str {
+                match self {
+                    $(Fault::$variant { .. } => $sentence,)*
+                    Fault::Other(_) => "?",
+                }
+            }
+
+            /// The fault of an answer of [`ffi`](crate::ffi), by its fields `fault`, `at` and `count`. `None` for `NC_OK`.
+            #[allow(unused_variables)] // most faults have neither an address nor a length
+            pub fn of(number: u32, $at: u32, $enough: usize) -> Option<Fault> {
+                Some(match number {
+                    ffi::NC_OK => return None,
+                    $($number => Fault::$variant $({ $field })?,)*
+                    other => Fault::Other(other),
+                })
+            }
+        }
+    };
+}
+
+faults! {
+    at, enough;
+    BadBase = 1, "NC_BAD_BASE", "the base is no multiple of 32, or lies below the region";
+    BadLength = 2, "NC_BAD_LENGTH", "the length is 0, or no multiple of 32";
+    OutOfRange = 3, "NC_OUT_OF_RANGE",
+        "the limit is that of no region, or the chunk reaches into the guard, the last bundle below it";
+    NotPermitted { at: u32 } = 4, "NC_NOT_PERMITTED",
+        "at the address no permitted instruction begins inside the bundle";
+    Crosses { at: u32 } = 5, "NC_CROSSES",
+        "at the address an instruction begins that would cross the end of the bundle";
+    Bare { at: u32 } = 6, "NC_BARE",
+        "the indirect jump or call at the address doesn't directly follow the mask of its register";
+    BadTarget { at: u32 } = 7, "NC_BAD_TARGET",
+        "the jump, branch or call at the address goes neither to a bundle start below the limit nor to the start of \
+         an instruction of the chunk that isn't the second one of a pair";
+    OutOfMemory = 8, "NC_OUT_OF_MEMORY", "there is no memory";
+    NoRoom { enough: usize } = 9, "NC_NO_ROOM", "the buffer is too short, and as it was";
+    CutShort = 10, "NC_CUT_SHORT", "the bytes are the beginning of an instruction, and not all of it";
+    PatchBadSpan = 16, "NC_PATCH_BAD_SPAN", "there are no new bytes, or they don't lie in one bundle";
+    PatchNotLive = 17, "NC_PATCH_NOT_LIVE", "the new bytes don't begin in a live chunk";
+    PatchNotPermitted = 18, "NC_PATCH_NOT_PERMITTED",
+        "the new bytes aren't whole permitted instructions, one after the other";
+    PatchBoundaries = 19, "NC_PATCH_BOUNDARIES",
+        "the new instructions don't take the place of whole ones, each as long as the new one";
+    PatchPairTouched = 20, "NC_PATCH_PAIR_TOUCHED",
+        "a mask would get other bytes, or an indirect jump or call would come, go or change its register";
+    PatchBadTarget = 21, "NC_PATCH_BAD_TARGET",
+        "a new jump, branch or call would go neither to a bundle start below the limit nor to the start of an \
+         instruction of the chunk that isn't the second one of a pair";
+    NoHandle = 32, "NC_NO_HANDLE", "the handle has nothing";
+    HandleTaken = 33, "NC_HANDLE_TAKEN", "the handle that is to be filled has something; so nothing leaks";
+    BadSeats = 34, "NC_BAD_SEATS", "the number of seats isn't 1 to 256";
+    BadSize = 35, "NC_BAD_SIZE", "the number of bundles isn't 2 to 2097152";
+    NoSeat = 36, "NC_NO_SEAT", "each seat has been given";
+    UnderWay = 37, "NC_UNDER_WAY", "a deletion is under way";
+    NotBegun = 38, "NC_NOT_BEGUN", "no deletion is under way";
+    WrongLimit = 39, "NC_WRONG_LIMIT", "the chunk was vetted for another limit than the region's";
+    Occupied = 40, "NC_OCCUPIED", "the span meets a chunk of the region, live or retired";
+    NoChunk = 41, "NC_NO_CHUNK", "no live chunk has this base, or the list has no chunk at this index";
+    Full = 42, "NC_FULL", "there is no stamp left, after 2^62 deletions";
+    NoPlace = 43, "NC_NO_PLACE", "the address is none of the region's";
+    NoStart = 44, "NC_NO_START", "the address is no bundle start of the region, so no walk begins there";
+}
+
+impl Fault {
+    /// `Ok` where the number is `NC_OK`.
+    pub(crate) fn check(number: u32, at: u32, enough: usize) -> Result<(), Fault> {
+        Fault::of(number, at, enough).map_or(Ok(()), Err)
+    }
+
+    /// The address of a fault that has one.
+    pub fn at(self) -> Option<u32> {
+        match self {
+            Fault::NotPermitted { at } | Fault::Crosses { at } | Fault::Bare { at } | Fault::BadTarget { at } => {
+                Some(at)
+            }
+            _ => None,
+        }
+    }
+}
+
+impl fmt::Display for Fault {
+    fn fmt(&self, f: &mut fmt::Formatter<'_>) -> fmt::Result {
+        match *self {
+            Fault::Other(number) => write!(f, "fault {number}"),
+            Fault::NoRoom { enough } => write!(f, "{} ({enough} is enough)", self.sentence()),
+            fault => match fault.at() {
+                Some(at) => write!(f, "{} ({at:08x})", fault.sentence()),
+                None => f.write_str(fault.sentence()),
+            },
+        }
+    }
+}
+
+impl Error for Fault {}
