@@ -1,9 +1,9 @@
 /*
  * nc_host.hpp: regions, seats and vetted chunks of nc_host.h as C++ values.
  *
- * It needs C++17, and neither exceptions nor RTTI. Each member makes one call of the library, which its comment names: nc_host.h says what
- * that call promises, what it costs, and what the host has to keep. Nothing is proved of this header. The calls over lent memory, whose
- * names begin with nc_host_, keep nothing, so they are made as they are, by nc_host.h.
+ * It needs C++17, and neither exceptions nor RTTI. A member makes the call of the library that its comment names (a deletion makes two), and
+ * nc_host.h says what that call promises, what it costs, and what the host has to keep. Nothing is proved of this header. The calls over
+ * lent memory, whose names begin with nc_host_, have no handle, so there is nothing to wrap: a host makes them by nc_host.h.
  *
  *   Locks     "Under the lock" means the host's own lock for the region: calls on one region must be made one at a time, those that only
  *             look included, so no member is const. The lock also covers the acts that the host makes for a change. "No lock" means that
@@ -18,6 +18,10 @@
  */
 #ifndef NC_HOST_HPP
 #define NC_HOST_HPP
+
+#if __cplusplus < 201703L
+#error "nc_host.hpp needs C++17"
+#endif
 
 #include "nc_host.h"
 
@@ -338,7 +342,7 @@ class Region {
     }
 
     /* A deletion: nc_region_begin_delete; then `make(deletion)`, which makes its acts in the host's memory; then nc_region_end_delete, whose
-       stamp is returned. Under the lock, all of it. Where the first step is refused, `make` isn't called. So the last step is made once, and
+       stamp is returned. Under the lock, all of it. If the first step is refused, `make` isn't called. So the last step is made once, and
        after the acts. Only an exception from `make` leaves it out: the region then refuses changes until resume_delete, since a stamp that
        was drawn before the stops are in place would free the span too early. */
     template <class Make>

@@ -3,6 +3,7 @@
 
 #include <array>
 #include <atomic>
+#include <chrono>
 #include <cstdio>
 #include <cstring>
 #include <functional>
@@ -166,6 +167,7 @@ void runs_written_out() {
     CHECK(created_runs && created_runs->size() == LEN / 16 + 2);
     CHECK(!nc::visit(*created_runs, one_by_one) && one_by_one.acts.empty());
     CHECK(!nc::visit(*created_runs, NC_START, code, one_by_one) && one_by_one.acts.empty());
+    CHECK(!nc::visit(*created_runs, NC_START + LEN, nc::Bytes(code).first(NC_BUNDLE), one_by_one) && one_by_one.acts.empty());
     CHECK(nc::visit(*created_runs, NC_START + LEN, code, one_by_one) && one_by_one.same_as(*created));
     CHECK(region.creation_runs(NC_START + LEN, nc::Buffer()).fault().enough() == LEN / 16 + 2);
     auto stamp = region.delete_chunk(NC_START + LEN, acts, [&](nc::Deletion &deletion) {
@@ -264,12 +266,13 @@ struct Host {
     Memory memory;
 };
 
-// One of the threads: its chunk is created, patched and deleted until some creations were made, beside the others and their chunks.
+// One of the threads: its chunk is created, patched and deleted until that was done some times, beside the others and their chunks.
 void run(Host &host, nc::Seat seat, std::uint32_t base) {
     const std::uint8_t other[] = {0xB8, 7, 0, 0, 0};
     Room acts;
-    for (int made = 0; made < 200 && failures == 0;) {
-        CHECK(seat.check_in().ok());
+    for (int made = 0, tries = 0; made < 200 && failures == 0; tries++) {
+        CHECK(tries < 100000 && seat.check_in().ok());
+        std::this_thread::sleep_for(std::chrono::microseconds(tries % 2));
         std::lock_guard<std::mutex> guard(host.lock);
         auto created = host.region.create(base, chunk_code(), acts);
         if (!created) {

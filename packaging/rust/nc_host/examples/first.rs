@@ -1,4 +1,4 @@
-//! A first host in Rust: what examples/host/first.c does, by the safe face of the library.
+//! A first host in Rust: what examples/host/first.c does, by the safe interface of the library.
 //!
 //! It executes nothing, and has no thread but its own. tools/try-bindings compares what it prints with first.txt.
 

@@ -1,6 +1,6 @@
 //! The declarations of include/nc_host.h, by the header's own names. `tests/layout.rs` compares sizes, offsets and numbers with the header.
 //!
-//! The header says what each call promises and what its caller must keep. The safe face above this module makes each call on a handle;
+//! The header says what each call promises and what its caller must keep. The safe interface above this module makes each call on a handle;
 //! the calls over lent memory, whose names begin with `nc_host_`, are here only.
 
 use std::ffi::c_void;

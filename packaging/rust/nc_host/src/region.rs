@@ -27,18 +27,18 @@ pub struct Region {
 // sends.
 unsafe impl Send for Region {}
 
-// Every SAFETY comment below that says "as above" means these rules of nc_host.h:
+// The rules of nc_host.h that the SAFETY comments of this file cite, and why they are kept:
 // - "Locks": calls on one region must be made one at a time. `&mut self` ensures it, and `&self` too, since a Region isn't Sync and no call
 //   calls back.
 // - "Arguments": a pointer with a length leads to that many elements, as a slice's does, and a slice is shorter than 2^63 bytes. For a length
 //   of 0 the pointer may be any address. No buffer that is written overlaps another argument, since it is borrowed by `&mut`, and nobody
 //   changes lent memory meanwhile, since it is borrowed.
-// - "A handle": all zeros are an empty one; it isn't copied, and only the library reads or writes its pointer.
+// - "A handle": all zeros are an empty one, it isn't copied, and only the library reads or writes its pointer.
 impl Region {
     /// `nc_region_new`: a region of this many bundles, all stops, with no chunk and this many seats.
     pub fn new(bundles: u32, seats: u32) -> Result<Region, Fault> {
         let mut region = Region { handle: UnsafeCell::new(NcRegion { at: ptr::null_mut() }) };
-        // SAFETY: as above; the handle is empty.
+        // SAFETY: "A handle": it is empty.
         let fault = unsafe { ffi::nc_region_new(bundles, seats, region.handle.get_mut()) };
         Fault::check(fault, 0, 0)?;
         Ok(region)
@@ -47,7 +47,7 @@ impl Region {
     /// `nc_region_seat`: one of the seats that wasn't given yet. It is given while a deletion is under way, too.
     pub fn seat(&mut self) -> Result<Seat, Fault> {
         let mut handle = NcSeat { at: ptr::null_mut() };
-        // SAFETY: as above; the seat's handle is empty.
+        // SAFETY: "Locks"; and "A handle": the seat's is empty.
         let fault = unsafe { ffi::nc_region_seat(self.handle.get_mut(), &mut handle) };
         Fault::check(fault, 0, 0)?;
         Ok(Seat::of(handle))
@@ -56,7 +56,7 @@ impl Region {
     /// `nc_region_create`: vets a chunk and creates it. A buffer of two acts more than the code has bytes is enough.
     pub fn create<'a>(&mut self, base: u32, code: &[u8], buffer: &'a mut [RawAct]) -> Result<Acts<'a>, Fault> {
         let (acts, room) = (buffer.as_mut_ptr(), buffer.len());
-        // SAFETY: as above.
+        // SAFETY: "Locks" and "Arguments".
         let change =
             unsafe { ffi::nc_region_create(self.handle.get_mut(), base, code.as_ptr(), code.len(), acts, room) };
         Acts::written(change, buffer)
@@ -65,7 +65,7 @@ impl Region {
     /// `nc_region_load`: creates a vetted chunk. A refusal gives it back.
     pub fn load<'a>(&mut self, mut vetted: Vetted, buffer: &'a mut [RawAct]) -> Result<Acts<'a>, NotLoaded> {
         let (acts, room) = (buffer.as_mut_ptr(), buffer.len());
-        // SAFETY: as above; the chunk's handle is used by this call alone, since it was moved here.
+        // SAFETY: "Locks" and "Arguments"; the chunk was moved here, so no other call uses its handle.
         let change = unsafe { ffi::nc_region_load(self.handle.get_mut(), &mut vetted.handle, acts, room) };
         Acts::written(change, buffer).map_err(|fault| NotLoaded { fault, vetted })
     }
@@ -73,7 +73,7 @@ impl Region {
     /// `nc_region_patch`: whole instructions in the place of others of the same lengths. A buffer of three acts for each byte is enough.
     pub fn patch<'a>(&mut self, at: u32, bytes: &[u8], buffer: &'a mut [RawAct]) -> Result<Acts<'a>, Fault> {
         let (acts, room) = (buffer.as_mut_ptr(), buffer.len());
-        // SAFETY: as above.
+        // SAFETY: "Locks" and "Arguments".
         let change =
             unsafe { ffi::nc_region_patch(self.handle.get_mut(), at, bytes.as_ptr(), bytes.len(), acts, room) };
         Acts::written(change, buffer)
@@ -82,7 +82,7 @@ impl Region {
     /// `nc_region_begin_delete`: the first step of a deletion. [`Deletion::finish`] is the last.
     pub fn begin_delete<'a>(&'a mut self, base: u32, buffer: &'a mut [RawAct]) -> Result<Deletion<'a>, Fault> {
         let (acts, room) = (buffer.as_mut_ptr(), buffer.len());
-        // SAFETY: as above.
+        // SAFETY: "Locks" and "Arguments".
         let change = unsafe { ffi::nc_region_begin_delete(self.handle.get_mut(), base, acts, room) };
         let acts = Acts::written(change, buffer)?;
         Ok(Deletion { region: self, acts })
@@ -101,14 +101,14 @@ impl Region {
     /// `nc_region_creation_runs`: the acts of the creation of the live chunk at this base, as runs. It changes nothing.
     pub fn creation_runs<'a>(&self, base: u32, buffer: &'a mut [RawAct]) -> Result<Acts<'a>, Fault> {
         let (acts, room) = (buffer.as_mut_ptr(), buffer.len());
-        // SAFETY: as above.
+        // SAFETY: "Locks" and "Arguments".
         let change = unsafe { ffi::nc_region_creation_runs(self.handle.get(), base, acts, room) };
         Acts::written(change, buffer)
     }
 
     /// `nc_region_reclaim`: removes the retired chunks that no seat holds back, and returns how many.
     pub fn reclaim(&mut self) -> Result<u32, Fault> {
-        // SAFETY: as above.
+        // SAFETY: "Locks".
         let freed = unsafe { ffi::nc_region_reclaim(self.handle.get_mut()) };
         Fault::check(freed.fault, 0, 0)?;
         Ok(freed.count)
@@ -116,7 +116,7 @@ impl Region {
 
     /// `nc_region_chunk`: the chunk at an index of the list, which is in ascending order of base.
     pub fn chunk(&self, index: usize) -> Option<Chunk> {
-        // SAFETY: as above.
+        // SAFETY: "Locks".
         let chunk = unsafe { ffi::nc_region_chunk(self.handle.get(), index) };
         (chunk.fault == ffi::NC_OK).then(|| Chunk::of(chunk))
     }
@@ -128,7 +128,7 @@ impl Region {
 
     /// `nc_region_place`: the byte and the mark at an address; `None` where it is none of the region's.
     pub fn place(&self, at: u32) -> Option<Place> {
-        // SAFETY: as above.
+        // SAFETY: "Locks".
         let place = unsafe { ffi::nc_region_place(self.handle.get(), at) };
         (place.fault == ffi::NC_OK).then(|| Place::of(place))
     }
@@ -137,7 +137,7 @@ impl Region {
     /// enough.
     pub fn walk<'a>(&self, start: u32, choices: &[u32], places: &'a mut [u32]) -> Result<Walk<'a>, Fault> {
         let (to, room) = (places.as_mut_ptr(), places.len());
-        // SAFETY: as above.
+        // SAFETY: "Locks" and "Arguments".
         let walk = unsafe { ffi::nc_region_walk(self.handle.get(), start, choices.as_ptr(), choices.len(), to, room) };
         Fault::check(walk.fault, 0, walk.count)?;
         Ok(Walk { places: &places[..walk.count], end: End::of(walk.end) })
@@ -145,14 +145,14 @@ impl Region {
 
     /// `nc_region_generation`: the last stamp that was drawn, or 0.
     pub fn generation(&self) -> u64 {
-        // SAFETY: as above.
+        // SAFETY: "Locks".
         unsafe { ffi::nc_region_generation(self.handle.get()) }.stamp
     }
 }
 
 impl Drop for Region {
     fn drop(&mut self) {
-        // SAFETY: as above; nc_region_free may be called for any handle, which isn't used again.
+        // SAFETY: "Locks"; nc_region_free may be called for any handle, and this one isn't used again.
         unsafe { ffi::nc_region_free(self.handle.get_mut()) }
     }
 }
@@ -165,7 +165,7 @@ impl fmt::Debug for Region {
 
 fn runs<'b>(region: &Region, buffer: &'b mut [RawAct]) -> Result<Acts<'b>, Fault> {
     let (acts, room) = (buffer.as_mut_ptr(), buffer.len());
-    // SAFETY: as for the calls of Region.
+    // SAFETY: "Locks" and "Arguments".
     let change = unsafe { ffi::nc_region_deletion_runs(region.handle.get(), acts, room) };
     Acts::written(change, buffer)
 }
@@ -205,7 +205,7 @@ impl<'a> Deletion<'a> {
     ///
     /// [`Act::Bump`]: crate::Act::Bump
     pub fn finish(self) -> u64 {
-        // SAFETY: as for the calls of Region, which the guard borrows by `&mut`.
+        // SAFETY: "Locks": the guard borrows the region by `&mut`.
         let drawn = unsafe { ffi::nc_region_end_delete(self.region.handle.get_mut()) };
         debug_assert_eq!(drawn.fault, ffi::NC_OK, "a deletion is under way while there is a guard");
         drawn.stamp

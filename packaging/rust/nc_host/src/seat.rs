@@ -39,7 +39,7 @@ impl Seat {
 
 impl Drop for Seat {
     fn drop(&mut self) {
-        // SAFETY: as for a check-in; and the handle isn't used again.
+        // SAFETY: nc_host.h, "Locks", as for a check-in; and the handle isn't used again.
         unsafe { ffi::nc_seat_leave(&mut self.handle) }
     }
 }

@@ -1,8 +1,9 @@
-//! The safe face over the library itself: the life of a chunk, refusals, runs, and seats in threads.
+//! The safe interface over the library itself: the life of a chunk, refusals, runs, and seats in threads.
 
 use nc_host::{limit, Act, Acts, Chunk, End, Fault, Mark, RawAct, Region, Seat, Vetted, BUNDLE, START, STOP};
 use std::sync::Mutex;
 use std::thread;
+use std::time::Duration;
 
 const BUNDLES: u32 = 16;
 const LEN: usize = 2 * BUNDLE;
@@ -200,10 +201,15 @@ impl Writer {
 }
 
 fn live(writer: &Mutex<Writer>, mut seat: Seat, base: u32) {
-    let mut lives = 0;
+    let (mut lives, mut tries) = (0, 0);
     while lives < 200 {
         seat.check_in();
-        lives += u32::from(writer.lock().expect("no thread panics").live_once(base).is_some());
+        match writer.lock().expect("no thread panics").live_once(base) {
+            Some(_) => lives += 1,
+            None => tries += 1,
+        }
+        assert!(tries < 100_000, "a seat holds a span back");
+        thread::sleep(Duration::from_micros(tries % 2));
     }
 }
 
@@ -233,5 +239,27 @@ fn a_seat_outlives_its_region() -> Result<(), Fault> {
     drop(region);
     seat.check_in();
     seat.leave();
+    Ok(())
+}
+
+/// How much memory the process has, in bytes, where the system tells.
+fn resident() -> Option<usize> {
+    let told = std::fs::read_to_string("/proc/self/statm").ok()?;
+    Some(4096 * told.split(' ').nth(1)?.parse::<usize>().ok()?)
+}
+
+#[test]
+fn what_is_dropped_is_freed() -> Result<(), Fault> {
+    const MIB: usize = 1 << 20;
+    let (code, bundles) = (vec![0x90; MIB], (MIB / BUNDLE) as u32 + 1);
+    let before = resident();
+    for _ in 0..100 {
+        Vetted::new(START, limit(bundles).expect("a lawful number of bundles"), &code)?;
+        Region::new(bundles, 1)?.create(START, &code, &mut [])?;
+    }
+    match (before, resident()) {
+        (Some(before), Some(after)) => assert!(after < before + 50 * MIB, "{before} bytes became {after}"),
+        _ => println!("skipped: whether what is dropped is freed: the system doesn't tell"),
+    }
     Ok(())
 }
