@@ -8,9 +8,9 @@
  *   Locks     "Under the lock" means the host's own lock for the region: calls on one region must be made one at a time, those that only
  *             look included, so no member is const. The lock also covers the acts that the host makes for a change. "No lock" means that
  *             the call needs none, as long as one thread at a time uses the value.
- *   Values    Region, Seat and Vetted own a handle. They are moved and never copied; a default-constructed and a moved-from value are
- *             empty. The destructor frees or leaves, and so does an assignment before it takes the other handle. An empty value may be
- *             used: its calls are refused with NC_NO_HANDLE.
+ *   Values    Region, Seat and Vetted own a handle. They are moved and never copied. A default-constructed and a moved-from value are
+ *             empty and may be used: their calls are refused with NC_NO_HANDLE. A destructor frees or leaves, and so does an assignment
+ *             before it takes the other handle; for a Region that is a call under the lock, too.
  *   Threads   A value may go to another thread, as nc_host.h says of handles.
  *   Buffers   A call that writes acts returns the written part of the buffer. An empty buffer means what a length of 0 does in nc_host.h:
  *             a change is made, and its acts aren't told.
