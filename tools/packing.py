@@ -13,9 +13,13 @@ PROGRAMS = ["nc_check", "nc_replay"]
 REWRITER = "examples/compile/to-bundles"
 SHARE, DOC = "share/reedbodkin/", "share/doc/reedbodkin/"
 
-# Files of the repository, and where they go. A folder's files go below the second path; the last one is there where there is such a header.
+# Files of the repository, and where they go. A folder's files go below the second path.
 FILES = [
     ("include/nc_host.h", "include/nc_host.h"),
+    ("include/nc_host.hpp", "include/nc_host.hpp"),
+    ("packaging/rust/nc_host", SHARE + "rust/nc_host"),
+    ("packaging/rust/nc_host/src", SHARE + "rust/nc_host/src"),
+    ("packaging/rust/nc_host/examples", SHARE + "rust/nc_host/examples"),
     ("examples/compile/chunk.ld", SHARE + "chunk.ld"),
     ("docs/man/nc_check.1", "share/man/man1/nc_check.1"),
     ("docs/man/nc_replay.1", "share/man/man1/nc_replay.1"),
@@ -33,7 +37,6 @@ FILES = [
     ("examples/first.script", DOC + "examples/first.script"),
     ("examples/vet.lines", DOC + "examples/vet.lines"),
 ]
-OPTIONAL = [("include/nc_host.hpp", "include/nc_host.hpp")]
 
 # Templates of packaging/, and where they go.
 TEMPLATES = [
@@ -84,7 +87,7 @@ def tree(cpu=DEFAULT, anew=False):
     number = version()
     soname = "libnc_host.so." + number.split(".")[0]
     made = {}
-    for path, to in FILES + [pair for pair in OPTIONAL if os.path.exists(os.path.join(TOP, pair[0]))]:
+    for path, to in FILES:
         made.update(copied(path, to))
     for template, to in TEMPLATES:
         made[to] = File(filled(template).encode(), 0o644)
