@@ -25,6 +25,11 @@ def archives():
     return [LIBRARY, os.path.join(kit(), "c", "liblibc_c.a")]
 
 
+def has_cargo():
+    """Whether cargo is here, with a toolchain of Rust that it can run."""
+    return shutil.which("cargo") is not None and subprocess.run(["cargo", "--version"], capture_output=True).returncode == 0
+
+
 def compiler():
     return os.environ.get("CC", "gcc")
 
