@@ -139,7 +139,8 @@ extern "C" {
 #define NC_NO_PLACE 43u
 #define NC_NO_START 44u
 
-/* What each fault says, as X(NC_BAD_BASE, "the base .."). A host can make its messages from this, or use nc_fault_name, below. */
+/* What each fault says, as X(NC_BAD_BASE, "the base .."). A host can make its messages from this, or define
+   NC_FAULT_NAMES and use nc_fault_name, below. */
 #define NC_FAULTS(X) \
     X(NC_OK, "no fault") \
     X(NC_BAD_BASE, "the base is no multiple of 32, or lies below the region") \

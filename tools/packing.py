@@ -82,6 +82,14 @@ def copied(path, to):
     return {to: File(read(path), 0o755 if os.stat(place).st_mode & stat.S_IXUSR else 0o644)}
 
 
+def without_links(text, place, made):
+    """A page without its links to files that aren't installed: their words stay."""
+    def kept(link):
+        to = os.path.normpath(os.path.join(os.path.dirname(place), link[2]))
+        return link[0] if "://" in link[2] or any(path == to or path.startswith(to + "/") for path in made) else link[1]
+    return re.sub(r"\[([^\]\n]+)\]\(([^)#\s]+)(?:#[^)\s]*)?\)", kept, text)
+
+
 def tree(cpu=DEFAULT, anew=False):
     """All of it, for a processor; what is built already isn't built again, if it isn't to be made anew."""
     number = version()
@@ -89,6 +97,8 @@ def tree(cpu=DEFAULT, anew=False):
     made = {}
     for path, to in FILES:
         made.update(copied(path, to))
+    for path in [path for path in made if path.endswith(".md")]:
+        made[path] = File(without_links(made[path].content.decode(), path, made).encode(), made[path].mode)
     for template, to in TEMPLATES:
         made[to] = File(filled(template).encode(), 0o644)
     made["bin/nc-bundle"] = File(read(REWRITER).replace(b"to-bundles", b"nc-bundle"), 0o755)

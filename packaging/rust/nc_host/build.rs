@@ -1,4 +1,4 @@
-//! Names the library to the linker: from the folder NC_HOST_LIB_DIR, which has libnc_host.a and liblibc_c.a, else by pkg-config.
+//! Names the library to the linker: from the folder NC_HOST_LIB_DIR, which has libnc_host.a, else by pkg-config.
 
 use std::path::Path;
 use std::process::{exit, Command};
@@ -17,13 +17,16 @@ fn main() {
     }
 }
 
-/// liblibc_c.a follows libnc_host.a, which needs it.
+/// The library as it is installed is enough by itself. As `rt lib` makes it, liblibc_c.a has to be beside it, which follows it.
 fn from_folder(folder: &str) -> Result<(), String> {
     let known = std::fs::canonicalize(folder).map_err(|error| format!("NC_HOST_LIB_DIR is {folder}: {error}"))?;
     for name in ["libnc_host.a", "liblibc_c.a"] {
         let file = known.join(name);
         if !file.exists() {
-            return Err(format!("NC_HOST_LIB_DIR is {folder}, which has no {name}"));
+            if name == "libnc_host.a" {
+                return Err(format!("NC_HOST_LIB_DIR is {folder}, which has no {name}"));
+            }
+            continue;
         }
         println!("cargo:rerun-if-changed={}", file.display());
         link(file.to_str().ok_or("NC_HOST_LIB_DIR isn't UTF-8")?);
@@ -37,7 +40,10 @@ fn from_pkg_config() -> Result<(), String> {
     let output = run.map_err(|error| format!("NC_HOST_LIB_DIR isn't set, and {program} can't be run: {error}"))?;
     if !output.status.success() {
         let said = String::from_utf8_lossy(&output.stderr);
-        return Err(format!("NC_HOST_LIB_DIR isn't set, and {program} knows no nc_host: {}", said.trim()));
+        return Err(format!(
+            "NC_HOST_LIB_DIR isn't set, and {program} knows no nc_host, for which PKG_CONFIG_PATH has to name the folder of nc_host.pc: {}",
+            said.trim()
+        ));
     }
     String::from_utf8_lossy(&output.stdout).split_whitespace().for_each(link);
     Ok(())
