@@ -1,0 +1,89 @@
+//! Whether a file is well-formed.
+
+ghost use Rattle.std.specs.Prelude.{◌<◌, ◌↔◌, IsTrue, IfErr, OnOk, IfNone, IfSome};
+ghost use Rattle.nc_elf.specs.Header.{e_phnum, HasTable};
+ghost use Rattle.nc_elf.specs.Segments.{AreGood, IsGood, HasCode, IsWellFormed};
+ghost use Rattle.nc_elf.specs.Faults.{HasFault, HasSegmentFault};
+ghost use Rattle.nc_elf.specs.machinery.Pass.{IsFloor};
+
+use crate::fault::{ElfFault, SegmentFault};
+use crate::header::check_header;
+use crate::program::{header_count, program_header};
+
+/// The number of addresses.
+const TOP: u64 = 1 << 32;
+
+/// The first fault of a loaded segment, which may begin at the floor or above.
+fn segment_fault(file: &[u8], number: usize, floor: u64) -> Option<SegmentFault>
+    requires table { HasTable file.now }
+    requires listed { number < e_phnum file.now }
+    requires floor { IsFloor file.now number floor }
+    ensures none { IfNone result (IsGood file.now number) }
+    ensures some { IfSome result (HasSegmentFault file.now number) }
+{
+    let header = program_header(file, number);
+    if header.offset as usize + header.file_len as usize > file.len() {
+        return Some(SegmentFault::BeyondFile);
+    }
+    if header.file_len > header.memory_len {
+        return Some(SegmentFault::BeyondMemory);
+    }
+    if header.end() > TOP {
+        return Some(SegmentFault::Wraps);
+    }
+    if (header.address as u64) < floor {
+        return Some(SegmentFault::OutOfOrder);
+    }
+    if header.is_executable() && header.is_writable() {
+        return Some(SegmentFault::WritableCode);
+    }
+    if header.is_executable() && header.file_len < header.memory_len {
+        return Some(SegmentFault::UnfilledCode);
+    }
+    None
+}
+
+/// The first of the faults of the loaded segments.
+fn check_segments(file: &[u8]) -> Result<(), ElfFault>
+    requires { HasTable file.now }
+    ensures fine { OnOk result (AreGood file.now (e_phnum file.now)) }
+    ensures fault { IfErr result (HasFault file.now) }
+{
+    let mut floor = 0;
+    for number in 0..header_count(file) {
+        let header = program_header(file, number);
+        if header.is_load() {
+            if let Some(fault) = segment_fault(file, number, floor) {
+                return Err(ElfFault::BadSegment { number, fault });
+            }
+            floor = header.end();
+        }
+    }
+    Ok(())
+}
+
+/// Whether a program header names code.
+fn has_code(file: &[u8]) -> bool
+    requires { HasTable file.now }
+    ensures { IsTrue result ↔ HasCode file.now }
+{
+    for number in 0..header_count(file) {
+        if program_header(file, number).is_code() {
+            return true;
+        }
+    }
+    false
+}
+
+/// The first of the faults of a file.
+pub(crate) fn check(file: &[u8]) -> Result<(), ElfFault>
+    ensures fine { OnOk result (IsWellFormed file.now) }
+    ensures fault { IfErr result (HasFault file.now) }
+{
+    check_header(file)?;
+    check_segments(file)?;
+    if !has_code(file) {
+        return Err(ElfFault::NoCode);
+    }
+    Ok(())
+}

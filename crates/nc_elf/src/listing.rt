@@ -1,0 +1,53 @@
+//! The list of a file's segments of code.
+
+ghost use Rattle.std.specs.Prelude.{◌≡◌, ◌≢◌, ◌↔◌, IfOk, IfErr, OnOk, All, AllPairs};
+ghost use Rattle.nc_elf.specs.declared.fault.ElfFault.{ElfFault};
+ghost use Rattle.nc_elf.specs.Header.{HasTable};
+ghost use Rattle.nc_elf.specs.Segments.{segments_of, IsWellFormed, IsPlaced, EndsBefore};
+ghost use Rattle.nc_elf.specs.Faults.{HasFault};
+
+use crate::checks::check;
+use crate::fault::ElfFault;
+use crate::program::{header_count, program_header};
+use crate::segment::Segment;
+use std::alloc::{AllocError, Global};
+
+/// The segments of code that the program headers name.
+fn list_segments(alloc: Global, file: &[u8]) -> Result<Vec<Segment>, AllocError>
+    requires { HasTable file.now }
+    ensures { IfOk result (λ segments. segments.items ≡ segments_of file.now) }
+{
+    let mut segments = Vec::new(alloc);
+    for number in 0..header_count(file) {
+        let header = program_header(file, number);
+        if header.is_code() {
+            segments.push(header.segment())?;
+        }
+    }
+    Ok(segments)
+}
+
+/// The segments of code of a linked 32-bit x86 file, in the order of its program headers.
+pub fn code_segments(alloc: Global, file: &[u8]) -> Result<Vec<Segment>, ElfFault>
+    // All segments of code that the program headers name, and nothing else.
+    ensures segments { IfOk result (λ segments. segments.items ≡ segments_of file.now) }
+    // The file is linked, for the processor, and its loaded segments have no fault.
+    ensures well_formed { OnOk result (IsWellFormed file.now) }
+    // Each segment has bytes, which lie in the file, and in memory below 2^32.
+    ensures placed { IfOk result (λ segments. All (IsPlaced file.now) segments.items) }
+    // Each ends where the later ones begin, or before.
+    ensures apart { IfOk result (λ segments. AllPairs EndsBefore segments.items) }
+    // A refusal names the file's fault.
+    ensures fault { IfErr result (HasFault file.now) }
+    // A fault is given exactly when it is due, except for lack of memory.
+    ensures exact { (fault : ElfFault) → fault ≢ ElfFault.OutOfMemory
+        → ((result ≡ Err fault) ↔ HasFault file.now fault) }
+{
+    if let Err(fault) = check(file) {
+        return Err(fault);
+    }
+    match list_segments(alloc, file) {
+        Ok(segments) => Ok(segments),
+        Err(AllocError) => Err(ElfFault::OutOfMemory),
+    }
+}

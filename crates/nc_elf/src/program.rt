@@ -1,0 +1,124 @@
+//! Program headers, each of which names a segment.
+
+ghost use Rattle.std.specs.Prelude.{◌≡◌, ◌+◌, ◌<◌};
+ghost use Rattle.nc_elf.specs.Header.{e_phnum, HasTable};
+ghost use Rattle.nc_elf.specs.Segments.{program_header, is_load, is_executable, is_writable, is_code, segment_of};
+
+use crate::header::{E_PHNUM, E_PHOFF};
+use crate::numbers::{u16_at, u32_at};
+use crate::segment::Segment;
+
+/// The length of a program header.
+pub(crate) const PROGRAM_HEADER_LEN: usize = 32;
+
+// Where a program header's fields stand, by their names in the System V ABI.
+const P_TYPE: usize = 0;
+
+const P_OFFSET: usize = 4;
+
+const P_VADDR: usize = 8;
+
+const P_FILESZ: usize = 16;
+
+const P_MEMSZ: usize = 20;
+
+const P_FLAGS: usize = 24;
+
+/// The type of a segment that is loaded.
+const PT_LOAD: u32 = 1;
+
+/// The flag of an executable segment.
+const PF_X: u32 = 1;
+
+/// The flag of a writable segment.
+const PF_W: u32 = 2;
+
+/// What a program header says of its segment.
+#[derive(Clone, Copy, Debug, Drop, PartialEq, Eq)]
+pub(crate) struct ProgramHeader {
+    /// The segment's type.
+    pub kind: u32,
+    /// Where its bytes begin in the file.
+    pub offset: u32,
+    /// Where its bytes begin in memory.
+    pub address: u32,
+    /// The number of its bytes in the file.
+    pub file_len: u32,
+    /// The number of its bytes in memory.
+    pub memory_len: u32,
+    /// Whether it may be executed, written and read.
+    pub flags: u32,
+}
+
+impl ProgramHeader {
+    /// The segment is loaded into memory.
+    pub(crate) fn is_load(self) -> bool
+        ensures { result ≡ is_load self }
+    {
+        self.kind == PT_LOAD
+    }
+
+    /// The segment is executable.
+    pub(crate) fn is_executable(self) -> bool
+        ensures { result ≡ is_executable self }
+    {
+        self.flags & PF_X == PF_X
+    }
+
+    /// The segment is writable.
+    pub(crate) fn is_writable(self) -> bool
+        ensures { result ≡ is_writable self }
+    {
+        self.flags & PF_W == PF_W
+    }
+
+    /// The segment is loaded and executable, and has bytes in the file.
+    pub(crate) fn is_code(self) -> bool
+        ensures { result ≡ is_code self }
+    {
+        self.is_load() && self.is_executable() && self.file_len > 0
+    }
+
+    /// The first address after the segment.
+    pub(crate) fn end(self) -> u64
+        ensures { result ≡ self.address + self.memory_len }
+    {
+        u64::from(self.address) + u64::from(self.memory_len)
+    }
+
+    /// Where the bytes lie that the file has of the segment.
+    pub(crate) fn segment(self) -> Segment
+        ensures { result ≡ segment_of self }
+    {
+        Segment {
+            address: self.address,
+            offset: self.offset,
+            len: self.file_len,
+        }
+    }
+}
+
+/// The number of program headers.
+pub(crate) fn header_count(file: &[u8]) -> usize
+    requires { HasTable file.now }
+    ensures { result ≡ e_phnum file.now }
+{
+    u16_at(file, E_PHNUM) as usize
+}
+
+/// The program header of this number, counted from 0.
+pub(crate) fn program_header(file: &[u8], number: usize) -> ProgramHeader
+    requires table { HasTable file.now }
+    requires listed { number < e_phnum file.now }
+    ensures { result ≡ program_header file.now number }
+{
+    let at = u32_at(file, E_PHOFF) as usize + PROGRAM_HEADER_LEN * number;
+    ProgramHeader {
+        kind: u32_at(file, at + P_TYPE),
+        offset: u32_at(file, at + P_OFFSET),
+        address: u32_at(file, at + P_VADDR),
+        file_len: u32_at(file, at + P_FILESZ),
+        memory_len: u32_at(file, at + P_MEMSZ),
+        flags: u32_at(file, at + P_FLAGS),
+    }
+}

@@ -1,0 +1,85 @@
+//! The symbols of code: names for addresses.
+
+ghost use Rattle.std.specs.Prelude.{◌≡◌, ◌+◌, ◌≤◌, ◌<◌, IfOk, IfSome, IfNone, All, [], length};
+ghost use Rattle.nc_elf.specs.declared.sections.SymbolSections.{SymbolSections};
+ghost use Rattle.nc_elf.specs.Sections.{AreSymbolSections, HasSymbols};
+ghost use Rattle.nc_elf.specs.Symbols.{symbols_of, AreAscending, AreSorted, IsNamed, IsNearest, name_of};
+
+use crate::entries::{entry_count, listed_symbol, symbol_entry};
+use crate::sections::{SymbolSections, symbol_sections};
+use std::alloc::{AllocError, Global};
+
+/// An address and where its name lies in the file.
+#[derive(Clone, Copy, Debug, Drop, PartialEq, Eq)]
+pub struct Symbol {
+    /// The address.
+    pub address: u32,
+    /// The offset of the name's first byte in the file.
+    pub name_at: usize,
+    /// The number of the name's bytes.
+    pub name_len: usize,
+}
+
+impl Symbol {
+    /// The symbol's name, where it lies in its file.
+    pub fn name<'a>(self, file: &'a [u8]) -> &'a [u8]
+        requires { self.name_at + self.name_len ≤ length file.now }
+        ensures { result.now ≡ name_of file.now self }
+    {
+        &file[self.name_at..self.name_at + self.name_len]
+    }
+}
+
+/// The symbols of the entries that are listed, in the table's order.
+fn list_symbols(
+    alloc: Global,
+    file: &[u8],
+    sections: SymbolSections,
+) -> Result<Vec<Symbol>, AllocError>
+    requires { AreSymbolSections file.now sections }
+    ensures listed { IfOk result (λ symbols. symbols.items ≡ symbols_of file.now sections) }
+    ensures named { IfOk result (λ symbols. All (IsNamed file.now) symbols.items) }
+{
+    let mut symbols = Vec::new(alloc);
+    for number in 0..entry_count(sections.symbols) {
+        let entry = symbol_entry(file, sections.symbols, number);
+        if let Some(symbol) = listed_symbol(file, sections.names, entry) {
+            symbols.push(symbol)?;
+        }
+    }
+    Ok(symbols)
+}
+
+/// The symbols of code that the file's table of symbols names, by ascending address. A file without such a table, or with a malformed
+/// one, has none.
+pub fn code_symbols(alloc: Global, file: &[u8]) -> Result<Vec<Symbol>, AllocError>
+    // The symbols of all entries that are listed, sorted; those of one address in the table's order.
+    ensures symbols { (t : SymbolSections) → AreSymbolSections file.now t
+        → IfOk result (λ symbols. AreSorted (symbols_of file.now t) symbols.items) }
+    // Without a well-formed table there are none.
+    ensures none { ¬ HasSymbols file.now → IfOk result (λ symbols. symbols.items ≡ []) }
+    // Each name is short and lies in the file.
+    ensures named { IfOk result (λ symbols. All (IsNamed file.now) symbols.items) }
+    // They ascend, as `nearest` wants them.
+    ensures ascending { IfOk result (λ symbols. AreAscending symbols.items) }
+{
+    let Some(sections) = symbol_sections(file) else {
+        return Ok(Vec::new(alloc));
+    };
+    let mut symbols = list_symbols(alloc, file, sections)?;
+    symbols.sort_by_key(|symbol| symbol.address)?;
+    Ok(symbols)
+}
+
+/// The last symbol whose address is at most this one, by binary search.
+pub fn nearest(symbols: &[Symbol], address: u32) -> Option<Symbol>
+    requires { AreAscending symbols.now }
+    ensures some { IfSome result (IsNearest symbols.now address) }
+    ensures none { IfNone result (All (λ (s : Symbol). address < s.address) symbols.now) }
+{
+    let count = symbols.partition_point(|symbol| symbol.address <= address);
+    if count == 0 {
+        return None;
+    }
+    Some(symbols[count - 1])
+}
