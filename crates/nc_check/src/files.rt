@@ -5,26 +5,77 @@ ghost use Rattle.std.specs.Prelude.{◌≡◌, IfOk};
 use nc_report::{Source, SourceFault, read_source};
 use std::fs;
 use std::fs::{File, OpenFile};
-use std::io::Input;
+use std::io::{ErrorKind, Input};
 use std::rt::Files;
 
-/// Reads a file, or standard input where its name is `-`. A file that can't be opened can't be read either.
-pub fn read_file<R: Files + Input + AllocGlobal>(rt: &R, file: &str) -> Result<Source, SourceFault>
+/// Why a file isn't judged.
+#[derive(Clone, Copy, Debug, Drop, PartialEq, Eq)]
+pub enum Unread {
+    /// No file has this name.
+    Missing,
+    /// The system doesn't let this user read it.
+    Denied,
+    /// It is a directory.
+    Directory,
+    /// Its device or the system failed.
+    Failed,
+    /// It is longer than the largest region.
+    TooLong,
+    /// There is no memory for it.
+    OutOfMemory,
+}
+
+impl Unread {
+    /// The reason in words.
+    pub fn text(self) -> &'static str {
+        match self {
+            Unread::Missing => "cannot be read: no such file",
+            Unread::Denied => "cannot be read: permission denied",
+            Unread::Directory => "cannot be read: it is a directory",
+            Unread::Failed => "cannot be read",
+            Unread::TooLong => "longer than the largest region",
+            Unread::OutOfMemory => "out of memory",
+        }
+    }
+}
+
+/// Why a file wasn't opened.
+fn not_opened(kind: ErrorKind) -> Unread {
+    match kind {
+        ErrorKind::NotFound => Unread::Missing,
+        ErrorKind::PermissionDenied => Unread::Denied,
+        ErrorKind::IsADirectory => Unread::Directory,
+        _ => Unread::Failed,
+    }
+}
+
+/// Why a file that was opened wasn't read to its end.
+fn not_read(fault: SourceFault) -> Unread {
+    match fault {
+        SourceFault::TooLong => Unread::TooLong,
+        SourceFault::OutOfMemory => Unread::OutOfMemory,
+        _ => Unread::Failed,
+    }
+}
+
+/// Reads a file, or standard input where its name is `-`.
+pub fn read_file<R: Files + Input + AllocGlobal>(rt: &R, file: &str) -> Result<Source, Unread>
     ensures { IfOk result (λ source. source.name.items ≡ file.now) }
 {
     let Ok(name) = Vec::from_slice(rt.alloc(), file.as_bytes()) else {
-        return Err(SourceFault::OutOfMemory);
+        return Err(Unread::OutOfMemory);
     };
     if file == "-" {
-        return read_source(rt.alloc(), name, &mut rt.reader(), 0);
+        return read_source(rt.alloc(), name, &mut rt.reader(), 0).map_err(not_read);
     }
     let mut opened = match File::open(rt, file) {
         Ok(opened) => opened,
-        Err(_) => return Err(SourceFault::ReadFailed),
+        Err(error) => return Err(not_opened(error.kind())),
     };
     let expected = match opened.metadata() {
+        Ok(metadata) if metadata.is_dir() => return Err(Unread::Directory),
         Ok(metadata) => metadata.len() as usize,
         Err(_) => 0,
     };
-    read_source(rt.alloc(), name, &mut opened, expected)
+    read_source(rt.alloc(), name, &mut opened, expected).map_err(not_read)
 }

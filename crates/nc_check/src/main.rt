@@ -1,16 +1,18 @@
-//! The program `nc_check`: files of raw code, and the verdict on each.
+//! The program `nc_check`: files of code, and the verdict on each.
 //!
 //! `ask_check` of `nc_command` reads the command line. `checking` goes through the files: `files` opens and reads them one
-//! after the other, and once a batch of them is there `report` of `nc_report` judges it and writes what was found. `outcome`
-//! says which status the program ends with, `progress` shows how far it is.
+//! after the other, `parts` has the segments of code of an ELF file, and once a `batch` is full `report` of `nc_report` judges it
+//! and writes what was found. `outcome` says which status the program ends with, `progress` shows how far it is.
 #![tactic(auto)]
 
 ghost use Rattle.std.specs.Prelude.{◌≡◌, ◌⊎◌};
 ghost use Rattle.nc_check.specs.Status.{status_of};
 
+mod batch;
 mod checking;
 mod files;
 mod outcome;
+mod parts;
 mod progress;
 
 use checking::check_files;
@@ -65,20 +67,25 @@ fn stop<R: Print + Eprint>(rt: &R, halt: &Halt) -> u8
 {
     if let Halt::Words(error) = halt {
         if error.kind() != ClapKind::OutOfMemory {
-            if error.print(rt).is_ok() || error.use_stderr() {
-                return halt.status();
-            }
-            return stop_by(rt, &Halt::WriteFailed);
+            return match error.print(rt) {
+                Err(fault) if !error.use_stderr() => {
+                    stop_by(rt, &Halt::of_writing(fault.kind() == ErrorKind::BrokenPipe))
+                }
+                _ => halt.status(),
+            };
         }
     }
     stop_by(rt, halt)
 }
 
-/// Prints a fault as one line on standard error. Where that can't be done nothing else is left to do.
+/// Prints a fault as one line on standard error, if anything is said of it. Where that can't be done nothing else is left
+/// to do.
 fn stop_by<R: Eprint>(rt: &R, halt: &Halt) -> u8
     ensures { result ≡ status_of halt.now }
 {
-    let _ = eprintln!(rt; "nc_check: {}", halt.text());
+    if let Some(text) = halt.text() {
+        let _ = eprintln!(rt; "nc_check: {text}");
+    }
     halt.status()
 }
 

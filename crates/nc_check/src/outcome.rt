@@ -4,6 +4,7 @@ ghost use Rattle.std.specs.Prelude.{◌≡◌, ◌<◌, ◌↔◌, true, false};
 ghost use Rattle.nc_check.specs.Status.{status_of};
 
 use clap::error::ErrorKind;
+use std::io::ErrorKind as IoKind;
 
 /// Why the program stops before it has been through its files.
 #[derive(Debug, Drop)]
@@ -14,6 +15,8 @@ pub enum Halt {
     OutOfMemory,
     /// What was found can't be written.
     WriteFailed,
+    /// Nobody reads what is written, as where a pipe is closed: a write failed, and nothing is said of it.
+    OutputClosed,
 }
 
 impl Halt {
@@ -30,11 +33,30 @@ impl Halt {
         }
     }
 
-    /// The fault in words; a command line's fault has a text of its own, unless that found no memory.
-    pub fn text(&self) -> &'static str {
+    /// A write failed, perhaps because nobody reads what is written.
+    pub fn of_writing(is_closed: bool) -> Halt {
+        if is_closed {
+            Halt::OutputClosed
+        } else {
+            Halt::WriteFailed
+        }
+    }
+
+    /// Something wasn't written, for an error of this kind.
+    pub fn of_output(kind: IoKind) -> Halt {
+        match kind {
+            IoKind::OutOfMemory => Halt::OutOfMemory,
+            _ => Halt::of_writing(kind == IoKind::BrokenPipe),
+        }
+    }
+
+    /// The fault in words, if anything is said of it; a command line's fault has a text of its own, unless that found no
+    /// memory.
+    pub fn text(&self) -> Option<&'static str> {
         match self {
-            Halt::WriteFailed => "write failed",
-            _ => "out of memory",
+            Halt::OutputClosed => None,
+            Halt::WriteFailed => Some("write failed"),
+            _ => Some("out of memory"),
         }
     }
 }

@@ -1,29 +1,54 @@
 -- A text that spells an address is read as that address.
-use Rattle.std.proofs.Common.{◌≡◌, ◌≢◌, rules, ◌<◌, ◌≤◌, ◌^◌, ◌⊎◌, ◌∷◌, [], ℕ, List, Option, Some, None, Result, Ok, Err, Bor, length, drop, inl, inr, refl, sym, ◌∙◌, ap, subst, arith}
-use Rattle.std.specs.Prelude.{MatchOption, unwrap_or}
+use Rattle.std.proofs.Common.{◌≡◌, ◌≢◌, rules, ◌<◌, ◌≤◌, ◌^◌, ◌∷◌, [], ℕ, List, Option, Some, None, Result, Ok, Err, Bor, length, get_or, drop, inl, inr, refl, sym, ◌∙◌, ap, subst, arith}
+use Rattle.std.specs.Prelude.{MatchOption, slice_index, unwrap_or}
 use Rattle.std.specs.Result.{result_ok}
 use Rattle.std.specs.Str.Pattern.{FindsTextPrefix, StripsPrefix}
 use Rattle.std.specs.Str.Parse.{AllDigits, IsNumeral, ParsesUnsigned, digits_value, without_leading_plus}
 use Rattle.std.specs.Char.{digit_value}
 use Rattle.std.proofs.lemmas.Int.Digits.{digits_value-lt}
 use Rattle.std.proofs.Math.Nat.{pow-le-pow_right}
+use Rattle.nc_command.specs.Checking.{EndsInDigits}
 
-no_x : (digits rest : List ℕ) → digits ≡ 48 ∷ 120 ∷ rest → AllDigits 16 digits → ⊥
-no_x digits rest is all = let head = subst (AllDigits 16) is all in absurd (omega (arith, head.1.0))
+-- no digit is `x`, and none is `X`
+no_small : (digits rest : List ℕ) → digits ≡ 48 ∷ 120 ∷ rest → AllDigits 16 digits → ⊥
+no_small digits rest is all = let head = subst (AllDigits 16) is all in absurd (omega (arith, head.1.0))
 
--- the digits are what is left after `0x`, if that stands first
-pub stripped : (text : Bor (List ℕ)) (digits : List ℕ) (r : Option (Bor (List ℕ)))
-    → MatchOption r (FindsTextPrefix (48 ∷ 120 ∷ []) text.now None) (λ x. StripsPrefix (FindsTextPrefix (48 ∷ 120 ∷ [])) text.now x.now)
-    → (text.now ≡ digits) ⊎ (text.now ≡ 48 ∷ 120 ∷ digits) → IsNumeral 16 digits → (unwrap_or r text).now ≡ digits
-stripped text digits None lacks (inl is) numeral = is
-stripped text digits None lacks (inr is) numeral = absurd (lacks digits is)
-stripped text digits (Some x) strips (inl is) numeral = absurd (no_x digits _ (sym is ∙ strips.1.1) numeral.1)
-stripped text digits (Some x) strips (inr is) numeral = strips.2 ∙ ap (λ k. drop k text.now) strips.1.0 ∙ ap (drop 2) is
+no_large : (digits rest : List ℕ) → digits ≡ 48 ∷ 88 ∷ rest → AllDigits 16 digits → ⊥
+no_large digits rest is all = let head = subst (AllDigits 16) is all in absurd (omega (arith, head.1.0))
+
+-- one prefix isn't the other
+not_both : (a b : List ℕ) → 48 ∷ 120 ∷ a ≡ 48 ∷ 88 ∷ b → ⊥
+not_both a b e = let same : 120 ≡ 88 = ap (λ (l : List ℕ). get_or l 1 0) e in absurd (omega (arith, same))
+
+-- the digits are what is left after `0x`
+pub after_small : (text : Bor (List ℕ)) (digits : List ℕ) (x : Bor (List ℕ)) → StripsPrefix (FindsTextPrefix (48 ∷ 120 ∷ [])) text.now x.now
+    → EndsInDigits text.now digits → IsNumeral 16 digits → x.now ≡ digits
+after_small text digits x strips (inl is) numeral = absurd (no_small digits _ (sym is ∙ strips.1.1) numeral.1)
+after_small text digits x strips (inr (inl is)) numeral = strips.2 ∙ ap (λ k. drop k text.now) strips.1.0 ∙ ap (drop 2) is
+after_small text digits x strips (inr (inr is)) numeral = absurd (not_both _ digits (sym strips.1.1 ∙ is))
+
+-- or after `0X`, if that stands first
+pub after_large : (text : Bor (List ℕ)) (digits : List ℕ) (r : Option (Bor (List ℕ))) → FindsTextPrefix (48 ∷ 120 ∷ []) text.now None
+    → MatchOption r (FindsTextPrefix (48 ∷ 88 ∷ []) text.now None) (λ x. StripsPrefix (FindsTextPrefix (48 ∷ 88 ∷ [])) text.now x.now)
+    → EndsInDigits text.now digits → IsNumeral 16 digits → (unwrap_or r text).now ≡ digits
+after_large text digits r lacks other (inr (inl is)) numeral = absurd (lacks digits is)
+after_large text digits None lacks other (inl is) numeral = is
+after_large text digits None lacks other (inr (inr is)) numeral = absurd (other digits is)
+after_large text digits (Some x) lacks strips (inl is) numeral = absurd (no_large digits _ (sym is ∙ strips.1.1) numeral.1)
+after_large text digits (Some x) lacks strips (inr (inr is)) numeral = strips.2 ∙ ap (λ k. drop k text.now) strips.1.0 ∙ ap (drop 2) is
 
 -- a numeral has no plus in front
 no_plus : (digits : List ℕ) → IsNumeral 16 digits → without_leading_plus digits ≡ digits
 no_plus [] numeral = refl
 no_plus (c ∷ cs) numeral = let apart : c ≢ 43 = λ e. let bad : digit_value 43 < 16 = subst (λ d. digit_value d < 16) e numeral.1.0 in absurd (omega (arith, bad)) in search rules
+
+-- nor begins with one
+pub no_plus_first : (digits text : List ℕ) → text ≡ digits → IsNumeral 16 digits → slice_index text 0 ≡ 43 → ⊥
+no_plus_first [] text same numeral plus = absurd (omega (arith, numeral.0))
+no_plus_first (c ∷ cs) text same numeral plus =
+    let first : c ≡ 43 = sym (ap (λ (l : List ℕ). slice_index l 0) same) ∙ plus in
+    let bad : digit_value 43 < 16 = subst (λ (d : ℕ). digit_value d < 16) first numeral.1.0 in
+    absurd (omega (arith, bad))
 
 -- a numeral of at most eight digits is below 2 ^ 32
 small_value : (digits : List ℕ) → IsNumeral 16 digits → length digits ≤ 8 → digits_value 16 digits < 2 ^ 32

@@ -1,11 +1,11 @@
--- Which numbers a command line may ask for.
+-- Which numbers a command line of `nc_replay` may ask for.
 use Rattle.nc_gens.specs.Seen.{AreSeats}
 use Rattle.nc_decode.specs.Bundles.{IsRegionSize}
 use Rattle.nc_work.specs.Verdicts.{AreWorkers}
 use Rattle.nc_command.specs.declared.asked.Ask.{Ask}
 use Rattle.nc_command.specs.declared.asked.Ask.TheVariants.{Replay, Vet}
 
--- the numbers that are asked for are those of a region, of seats, of workers
+-- the numbers that a command line of `nc_replay` asks for are those of a region, of seats, of workers
 abbrev pub IsInRange : Ask → Type 0
 IsInRange (Replay bundles seats) = IsRegionSize bundles × AreSeats seats
 IsInRange (Vet bundles workers) = IsRegionSize bundles × AreWorkers workers

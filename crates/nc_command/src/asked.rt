@@ -17,15 +17,21 @@ pub enum Said {
     Quiet,
     /// The verdict on each file; and of one that is refused also the bundle of the fault, and what the fault means.
     Usual,
-    /// As `Usual`, and the first fault of each further bundle.
+    /// As `Usual`, and each further fault, and how many there are.
     All,
+    /// As `Usual`, and the addresses outside of an accepted file that its direct transfers go to.
+    Calls,
+    /// The verdict on each file, as an object of JSON in one line.
+    Object,
 }
 
 /// What a command line of `nc_check` asks for: to judge the code of files.
 #[derive(Drop)]
 pub struct CheckAsk<'a> {
-    /// The address of each file's first byte.
+    /// The address of the first byte of each file of raw code.
     pub base: u32,
+    /// Whether files that begin as ELF files are raw code too.
+    pub raw: bool,
     /// The size of the region in bundles.
     pub bundles: u32,
     /// The number of threads that judge.

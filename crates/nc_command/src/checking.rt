@@ -1,7 +1,8 @@
 //! What the words of the command line of `nc_check` ask for.
 
-ghost use Rattle.std.specs.Prelude.{◌≡◌, ◌≤◌, ℕ, IfOk, IfSome, Some, length};
-ghost use Rattle.nc_command.specs.Checking.{SpellsBase, IsCheckInRange};
+ghost use Rattle.std.specs.Prelude.{◌≡◌, ◌≤◌, ℕ, List, IfOk, IfSome, Some, length};
+ghost use Rattle.std.specs.Str.Parse.{IsNumeral};
+ghost use Rattle.nc_command.specs.Checking.{EndsInDigits, SpellsBase, IsCheckInRange};
 
 use crate::asked::{CheckAsk, Said};
 use crate::command_line::{bundles_option, fault, number, with, workers_option};
@@ -22,7 +23,7 @@ fn base_option<'a>(alloc: Global) -> Arg<'a> {
     Arg::new(alloc, "base")
         .long("base")
         .value_name("ADDRESS")
-        .help("Address of each file's first byte, 1 to 8 hexadecimal digits")
+        .help("Address of a raw file's first byte, 1 to 8 hexadecimal digits")
         .default_value("00010000")
 }
 
@@ -30,7 +31,7 @@ fn base_option<'a>(alloc: Global) -> Arg<'a> {
 fn files<'a>(alloc: Global) -> Arg<'a> {
     Arg::new(alloc, "files")
         .value_name("FILE")
-        .help("Files of raw code; `-` is standard input")
+        .help("ELF files and files of raw code; `-` is standard input")
         .num_args(1..)
         .required(true)
 }
@@ -40,9 +41,32 @@ fn all_option<'a>(alloc: Global) -> Result<Arg<'a>, AllocError> {
     flag(
         alloc,
         "all",
-        "Also write the first fault of each further bundle",
+        "Also write each further fault, and how many there are",
     )
     .conflicts_with("quiet")
+}
+
+/// The option for the transfers out of a file, which excludes those for less and for more on a refused file.
+fn calls_option<'a>(alloc: Global) -> Result<Arg<'a>, AllocError> {
+    let calls = flag(
+        alloc,
+        "calls",
+        "Also write the addresses outside an accepted file that it jumps to and calls (00000000: unresolved symbols)",
+    );
+    calls.conflicts_with("quiet")?.conflicts_with("all")
+}
+
+/// The forms in which verdicts are written.
+static FORMATS: [&str; 2] = ["text", "json"];
+
+/// The option for the form in which verdicts are written.
+fn format_option<'a>(alloc: Global) -> Arg<'a> {
+    Arg::new(alloc, "format")
+        .long("format")
+        .value_name("FORMAT")
+        .help("How the verdicts are written")
+        .value_parser(FORMATS.as_slice())
+        .default_value("text")
 }
 
 /// The command line before it has options.
@@ -51,7 +75,7 @@ fn bare_program<'a>(alloc: Global) -> Result<Command<'a>, AllocError> {
         Command::new(alloc, "nc_check")
             .bin_name("nc_check")?
             .version("0.1.0")
-            .about("Judge files of raw 32-bit x86 code for a region of untrusted code")
+            .about("Judge files of 32-bit x86 code for a region of untrusted code")
             .no_binary_name(true),
     )
 }
@@ -59,40 +83,76 @@ fn bare_program<'a>(alloc: Global) -> Result<Command<'a>, AllocError> {
 /// The whole command line, without the program's own name.
 fn program<'a>(alloc: Global) -> Result<Command<'a>, AllocError> {
     let all = all_option(alloc)?;
+    let calls = calls_option(alloc)?;
     let quiet = flag(
         alloc,
         "quiet",
         "Write only one line for each file that is refused",
     );
+    let raw = flag(
+        alloc,
+        "raw",
+        "Judge each file as raw code, also one that begins as an ELF file",
+    );
     let program = with(bare_program(alloc), base_option(alloc));
+    let program = with(program, raw);
     let program = with(program, bundles_option(alloc, "2097152"));
     let program = with(program, workers_option(alloc));
     let program = with(program, quiet);
     let program = with(program, all);
+    let program = with(program, calls);
+    let program = with(program, format_option(alloc));
     with(program, files(alloc))
 }
 
-/// The address that a text spells: 1 to 8 hexadecimal digits, with or without `0x` before them.
+/// A text without the `0x` or `0X` at its front.
+fn without_prefix(text: &str) -> &str
+    ensures is { EndsInDigits text.now result.now }
+    ensures only { (digits : List ℕ) → EndsInDigits text.now digits → IsNumeral 16 digits → result.now ≡ digits }
+{
+    match text.strip_prefix("0x") {
+        Some(digits) => digits,
+        None => text.strip_prefix("0X").unwrap_or(text),
+    }
+}
+
+/// The address that a text spells: 1 to 8 hexadecimal digits, with or without `0x` or `0X` before them.
 fn base_of(text: &str) -> Option<u32>
     ensures spelled { IfSome result (SpellsBase text.now) }
     ensures only { (base : ℕ) → SpellsBase text.now base → result ≡ Some base }
 {
-    let digits = text.strip_prefix("0x").unwrap_or(text);
+    let digits = without_prefix(text);
     if digits.len() > 8 || digits.starts_with('+') {
         return None;
     }
     u32::from_str_radix(digits, 16).ok()
 }
 
-/// How much is asked to be said of a file.
-fn said(found: &ArgMatches<'_>) -> Said {
+/// How much is asked to be said of a file in text, and the option that asks for it.
+fn said_in_text(found: &ArgMatches<'_>) -> (Said, &'static str) {
     if found.get_flag("quiet") {
-        Said::Quiet
+        (Said::Quiet, "--quiet")
     } else if found.get_flag("all") {
-        Said::All
+        (Said::All, "--all")
+    } else if found.get_flag("calls") {
+        (Said::Calls, "--calls")
     } else {
-        Said::Usual
+        (Said::Usual, "")
     }
+}
+
+/// How much is asked to be said of a file, and in which form. An object says the same of each file, so an option that asks for
+/// less or more excludes it.
+fn said(alloc: Global, found: &ArgMatches<'_>) -> Result<Said, Error> {
+    let (said, option) = said_in_text(found);
+    if found.get_str("format") != Some("json") {
+        return Ok(said);
+    }
+    if option.is_empty() {
+        return Ok(Said::Object);
+    }
+    let message = format!(in alloc; "the argument '--format json' cannot be used with '{option}'")?;
+    Err(fault(program(alloc), message.as_str()))
 }
 
 /// The address that is asked for.
@@ -132,9 +192,10 @@ pub fn ask_check<'a>(alloc: Global, words: &'a [&'a str]) -> Result<CheckAsk<'a>
     let files = files_asked(alloc, &found)?;
     Ok(CheckAsk {
         base,
+        raw: found.get_flag("raw"),
         bundles: number(&found, "bundles", 2, MAX_BUNDLES),
         workers: number(&found, "workers", 1, 16),
-        said: said(&found),
+        said: said(alloc, &found)?,
         files,
     })
 }

@@ -4,3 +4,4 @@ pub mod Words
 pub mod Answering
 pub mod Replies
 pub mod Vetting
+pub mod Piped

@@ -7,7 +7,7 @@ abbrev pub onto_line : ℕ → List (List ℕ) → List (List ℕ)
 onto_line b [] = (b ∷ []) ∷ []
 onto_line b (line ∷ lines) = (b ∷ line) ∷ lines
 
--- the lines of an input; after a last 0A there is none
+-- the lines of an input; a line ends at a byte 0A or at the end of the input; after a last 0A there is none
 abbrev pub lines_of : List ℕ → List (List ℕ)
 lines_of [] = []
 lines_of (b ∷ bytes) = if b == 10 then [] ∷ lines_of bytes else onto_line b (lines_of bytes)
@@ -30,11 +30,11 @@ line_limit = 1048576
 abbrev pub is_long : List ℕ → Bool
 is_long line = nat_lt line_limit (length line)
 
--- what is kept of a line while it is read
+-- what is kept of a line while it is read: at most 1048577 bytes, one more than a line may have
 abbrev pub kept_of : List ℕ → List ℕ
 kept_of line = take (line_limit + 1) line
 
--- the parts between spaces; beside each space too many stands an empty one, which spells nothing
+-- the parts of a line between single spaces; where spaces follow each other there are empty parts, which spell nothing
 abbrev pub words_in : List ℕ → List (List ℕ)
 words_in line = slice_split (λ b. b == 32) line
 

@@ -1,4 +1,4 @@
--- How a chunk's verdict is written: its fault's name, an address in lower-case digits, and an end.
+-- How a chunk's verdict is written.
 use Rattle.std.specs.Prelude.{ℕ, List, [], ◌∷◌, ◌++◌, codes}
 use Rattle.std.specs.Int.{w32, to_be_bytes}
 use Rattle.hex.specs.Hex.{encode_lower}
@@ -6,19 +6,19 @@ use Rattle.nc_vet.specs.declared.fault.VetFault.{VetFault}
 use Rattle.nc_vet.specs.declared.fault.VetFault.TheVariants.{BadBase, BadLength, OutOfRange, NotPermitted, Crosses, Bare, BadTarget}
 use Rattle.nc_vet.specs.declared.fault.VetFault.TheVariants.{OutOfMemory}
 
--- a reply and its end
+-- a reply with its end, a byte 0A
 abbrev pub reply_line : List ℕ → List ℕ
 reply_line reply = reply ++ 10 ∷ []
 
--- a refusal, with its name
+-- `refused` and a name
 abbrev pub refused_reply : List ℕ → List ℕ
 refused_reply name = codes "refused " ++ name
 
--- eight digits
+-- an address as eight digits in lower case
 abbrev pub address_digits : ℕ → List ℕ
 address_digits at = encode_lower (to_be_bytes w32 at)
 
--- a fault's name, and its place where it has one
+-- a chunk's fault by its name, with its address if it has one
 abbrev pub fault_words : VetFault → List ℕ
 fault_words BadBase = codes "BadBase"
 fault_words BadLength = codes "BadLength"

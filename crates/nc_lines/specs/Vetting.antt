@@ -15,7 +15,8 @@ use Rattle.nc_lines.specs.Replies.{reply_line, refused_reply, fault_words}
 abbrev pub IsValidAt : ℕ → ℕ → List ℕ → Type 0
 IsValidAt base limit bytes = (marks : List Mark) × IsValid (record { base = base; limit = limit; code = bytes; marks = marks })
 
--- a chunk's verdict: `ok` if it is valid for this limit, and otherwise its fault
+-- the reply to a chunk that is only vetted: `ok` if it is valid for this limit, else `refused` with its fault; lack of
+-- memory is no verdict
 abbrev pub SaysVerdict : ℕ → ℕ → List ℕ → List ℕ → Type 0
 SaysVerdict limit base bytes reply =
     (IsValidAt base limit bytes × (reply ≡ reply_line (codes "ok")))
@@ -30,7 +31,8 @@ VetsLine limit line reply = MatchOption (chunk_in line) (reply ≡ bad_line) (λ
 abbrev pub VetsLines : ℕ → List (List ℕ) → List ℕ → Type 0
 VetsLines limit lines replies = (each : List (List ℕ)) × AllZip (VetsLine limit) lines each × (replies ≡ flat_map (λ reply. reply) each)
 
--- exactly the replies to these lines were written
+-- Exactly the replies to these lines were written: `ok` if the line names a valid chunk, `refused` and the fault if it
+-- names another, else `bad line`. Lack of memory is no verdict.
 pub record HasVetted (limit : ℕ) (before after : Option (List ℕ)) (lines : List (List ℕ)) : Type 0 where
   pub replies : List ℕ
   pub verdicts : VetsLines limit lines replies

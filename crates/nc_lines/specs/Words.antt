@@ -7,18 +7,18 @@ use Rattle.std.specs.Int.{w32, from_be_bytes}
 use Rattle.hex.specs.Hex.{decode_of, decode_sized}
 use Rattle.nc_lines.specs.Lines.{words_in, is_long}
 
--- an address or a choice: exactly eight digits of either case
+-- the address that a word spells: exactly eight hexadecimal digits, in either case
 abbrev pub address_in : List ℕ → Option ℕ
 address_in word = option_map (from_be_bytes w32) (result_ok (decode_sized word 4))
 
--- pairs of digits, at least one; or none, as `-`
+-- the bytes that a word spells: pairs of hexadecimal digits, at least one, or `-` for none
 abbrev pub bytes_in : List ℕ → Option (List ℕ)
 bytes_in word =
     if length word == 0 then None
     else if (length word == 1) && (slice_index word 0 == 45) then Some []
     else result_ok (decode_of word)
 
--- an address, and the bytes that are to stand there
+-- an address and the bytes that follow it; bytes are pairs of hexadecimal digits, or `-` for none
 abbrev pub placed_in : List (List ℕ) → Option (ℕ × List ℕ)
 placed_in (at ∷ bytes ∷ []) = option_and_then (λ a. option_map (λ found. (a, found)) (bytes_in bytes)) (address_in at)
 placed_in _ = None

@@ -20,13 +20,14 @@ IfWords (Ok x) P = ⊤
 IfWords (Err (Words error)) P = P
 IfWords (Err (Fault fault)) P = ⊤
 
--- what holds of the outcome where it went on from there
+-- what holds of the outcome where the program went on after its command line
 abbrev pub IfRun : {T : Type 0} → Result T Halt → (Result T ReplayFault → Type 0) → Type 0
 IfRun (Ok x) P = P (Ok x)
 IfRun (Err (Words error)) P = ⊤
 IfRun (Err (Fault fault)) P = P (Err fault)
 
--- A script was run, with this outcome: what `run` ensures. Before and after it the reader and the writer had these bytes.
+-- a script was run with numbers in range, with this outcome and these bytes read and written: what `run` of nc_script
+-- ensures
 pub record HasReplayed {T : Type 0} (untouched : Type 0) (input left before after : Option (List ℕ))
     (outcome : Result T ReplayFault) : Type 0 where
   pub bundles : ℕ
@@ -42,7 +43,8 @@ pub record HasReplayed {T : Type 0} (untouched : Type 0) (input left before afte
   pub out_of_memory : IsErrOf outcome OutOfMemory → untouched
       ⊎ IfSome input (λ bytes. IsCutShort AnswersOnly (new_script bundles seats) before after (lines_of bytes))
 
--- Lines of chunks were vetted, with this outcome: what `vet_lines` ensures.
+-- lines of chunks were vetted with numbers in range, with this outcome and these bytes read and written: what
+-- `vet_lines` of nc_lines ensures
 pub record HasVettedLines {T : Type 0} (unwritten : Type 0) (input left before after : Option (List ℕ))
     (outcome : Result T ReplayFault) : Type 0 where
   pub bundles : ℕ

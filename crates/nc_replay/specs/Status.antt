@@ -13,7 +13,7 @@ status_of_words DisplayVersion = 0
 status_of_words OutOfMemory = 1
 status_of_words _ = 2
 
--- 0 after help, 2 for a fault of the command line, and 1 for any other fault
+-- the status where the program stops: 0 after help or the version, 2 for a fault of the command line, else 1
 abbrev pub status_of : Halt → ℕ
 status_of (Words error) = status_of_words (kind_of error)
 status_of (Fault fault) = 1

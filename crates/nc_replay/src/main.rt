@@ -12,9 +12,9 @@ pub mod program;
 
 use clap::error::ErrorKind as ClapKind;
 pub use nc_command::{Ask, ask, not_utf8};
-pub use nc_script::{ReplayFault, run, vet_lines};
+pub use nc_script::{Piped, ReplayFault, run, vet_lines};
 use program::{Halt, start};
-use std::io::{ErrorKind, Input};
+use std::io::{ErrorKind, Input, Write};
 use std::process::ExitCode;
 use std::rt::Env;
 use std::sync::Wait;
@@ -37,9 +37,10 @@ fn command_words<R: Env + AllocGlobal>(rt: &R) -> Result<Vec<String>, Halt> {
     }
 }
 
-/// Does what the command line asks for.
-fn run_words<R: Threads + Wait + Sync + Env + AllocGlobal + Input + Print>(
+/// Does what the command line asks for, and writes to this writer.
+fn run_words<R: Threads + Wait + Sync + Env + AllocGlobal + Input, W: Write>(
     rt: &R,
+    writer: &mut W,
 ) -> Result<(), Halt> {
     let words = command_words(rt)?;
     let mut arguments = Vec::new(rt.alloc());
@@ -54,7 +55,7 @@ fn run_words<R: Threads + Wait + Sync + Env + AllocGlobal + Input + Print>(
         rt.alloc(),
         arguments.as_slice(),
         &mut rt.reader(),
-        &mut io::writer(rt),
+        writer,
     )
 }
 
@@ -63,19 +64,29 @@ fn say<R: Eprint>(rt: &R, fault: ReplayFault) {
     let _ = eprintln!(rt; "nc_replay: {fault}");
 }
 
+/// Prints a failed write, unless nobody reads what is written.
+fn say_unwritten<R: Eprint>(rt: &R, is_closed: bool) {
+    if !is_closed {
+        say(rt, ReplayFault::WriteFailed);
+    }
+}
+
 /// Prints why the program stops, and gives the status to end with: 1 also where help can't be printed.
-fn stop<R: Print + Eprint>(rt: &R, halt: &Halt) -> u8
+fn stop<R: Print + Eprint>(rt: &R, halt: &Halt, is_closed: bool) -> u8
     ensures { (result ≡ status_of halt.now) ⊎ ((status_of halt.now ≡ 0) × (result ≡ 1)) }
 {
     match halt {
+        Halt::Fault(ReplayFault::WriteFailed) => say_unwritten(rt, is_closed),
         Halt::Fault(fault) => say(rt, *fault),
         Halt::Words(error) if error.kind() == ClapKind::OutOfMemory => {
             say(rt, ReplayFault::OutOfMemory);
         }
         Halt::Words(error) => {
-            if error.print(rt).is_err() && !error.use_stderr() {
-                say(rt, ReplayFault::WriteFailed);
-                return Halt::Fault(ReplayFault::WriteFailed).status();
+            if let Err(fault) = error.print(rt) {
+                if !error.use_stderr() {
+                    say_unwritten(rt, fault.kind() == ErrorKind::BrokenPipe);
+                    return Halt::Fault(ReplayFault::WriteFailed).status();
+                }
             }
         }
     }
@@ -83,8 +94,9 @@ fn stop<R: Print + Eprint>(rt: &R, halt: &Halt) -> u8
 }
 
 fn main(rt: HostRuntime) -> ExitCode {
-    match run_words(&rt) {
+    let mut writer = Piped::new(io::writer(&rt));
+    match run_words(&rt, &mut writer) {
         Ok(()) => ExitCode::SUCCESS,
-        Err(halt) => ExitCode::from(stop(&rt, &halt)),
+        Err(halt) => ExitCode::from(stop(&rt, &halt, writer.is_closed())),
     }
 }

@@ -2,6 +2,7 @@
 use Rattle.std.proofs.Common.{◌≡◌, ◌≢◌, ℕ, ◌+◌, ◌-◌, ◌%◌, ◌<◌, ◌≤◌, List, [], ◌∷◌, ◌++◌, length, take, drop, refl, sym, subst, ◌∙◌, ap, arith, inl, inr}
 use Rattle.std.proofs.Common.{append_assoc, append-nil, Option, Some, None}
 use Rattle.std.specs.Prelude.{MatchOption, slice_range, ⊤}
+use Rattle.std.specs.List.{flat_map}
 use Rattle.std.proofs.lemmas.Bool.{cases_lt}
 use Rattle.std.proofs.lemmas.List.{length-append, take-take, take_at, drop_at}
 use Rattle.nc_decode.specs.Bundles.{IsInOneBundle}
@@ -11,25 +12,25 @@ use Rattle.nc_vet.specs.Faults.{HasFault, IsStuck, HasGoodSpan}
 use Rattle.nc_vet.specs.declared.fault.VetFault.{VetFault}
 use Rattle.nc_vet.specs.declared.fault.VetFault.TheVariants.{BadBase, BadLength, OutOfRange, NotPermitted, Crosses, Bare, BadTarget}
 use Rattle.nc_vet.specs.declared.fault.VetFault.TheVariants.{OutOfMemory}
-use Rattle.nc_vet.proofs.Offered.{code_of-append, place-push, place-append}
+use Rattle.nc_vet.proofs.Offered.{code_of-append, place-push, place-append, flat_map-append}
 use Rattle.nc_report.specs.Listing.{ShowsPlace}
-use Rattle.nc_report.specs.Report.{place_of, Explains, detail_line}
-use Rattle.nc_report.specs.Advice.{meaning_of}
-use Rattle.nc_report.specs.machinery.Found.{StandsAt, IsPlaced, AreInstructions, AddsBundle, AddsLines}
+use Rattle.nc_report.specs.Report.{place_of, AddsTarget, Explains, detail_line}
+use Rattle.nc_report.specs.Advice.{words_about}
+use Rattle.nc_report.specs.machinery.Found.{StandsAt, IsPlaced, IsRealTarget, AreInstructions, AddsBundle, AddsLines}
 
 -- each instruction lies in one bundle
-abbrev AreInside : List Piece → Type 0
+abbrev pub AreInside : List Piece → Type 0
 AreInside pieces = (before after : List Piece) (p : Piece) → pieces ≡ before ++ p ∷ after → IsInOneBundle (place before) (length p.bytes)
 
 -- instructions that are parted at a place
-record IsPartedAt (pieces : List Piece) (at : ℕ) : Type 0 where
+pub record IsPartedAt (pieces : List Piece) (at : ℕ) : Type 0 where
   pub earlier : List Piece
   pub later : List Piece
   pub parts : pieces ≡ earlier ++ later
   pub stands : place earlier ≡ at
 
 -- instructions inside bundles part at each bundle start
-part_at : (pieces done left : List Piece) (at : ℕ) → AreInside pieces → pieces ≡ done ++ left → place done ≤ at → at ≤ place pieces
+pub part_at : (pieces done left : List Piece) (at : ℕ) → AreInside pieces → pieces ≡ done ++ left → place done ≤ at → at ≤ place pieces
     → at % 32 ≡ 0 → IsPartedAt pieces at
 part_at pieces done [] at inside e low high start = record {
   earlier = done;
@@ -128,35 +129,53 @@ placed_fault base limit code (BadTarget at) h =
     }
 placed_fault base limit code OutOfMemory h = tt
 
+-- a refused transfer of the code is a real one
+pub real_target : (limit base : ℕ) (code : List ℕ) (fault : VetFault) → HasFault base limit code fault → IsRealTarget limit base code fault
+real_target limit base code BadBase h = tt
+real_target limit base code BadLength h = tt
+real_target limit base code OutOfRange h = tt
+real_target limit base code (NotPermitted at) h = tt
+real_target limit base code (Crosses at) h = tt
+real_target limit base code (Bare at) h = tt
+real_target limit base code (BadTarget at) h = h
+real_target limit base code OutOfMemory h = tt
+
 -- a line was added by itself
 pub line_added : (old new words : List ℕ) → new ≡ old ++ detail_line words → new ≡ old ++ (detail_line words ++ [])
 line_added old new words e = e ∙ ap (λ (z : List ℕ). old ++ z) (sym (append-nil (detail_line words)))
 
 -- what an address, or none, asks of the lines on a fault
-abbrev ExplainsAt : ℕ → List ℕ → VetFault → List (List ℕ) → Option ℕ → Type 0
-ExplainsAt base code fault lines at =
-    MatchOption at (lines ≡ meaning_of fault [] ∷ [])
-    (λ at. (line : List ℕ) × ShowsPlace base code at line × (lines ≡ line ∷ meaning_of fault (drop (at - base) code) ∷ []))
+abbrev ExplainsAt : ℕ → ℕ → List ℕ → VetFault → List (List ℕ) → Option ℕ → Type 0
+ExplainsAt limit base code fault lines at =
+    MatchOption at (lines ≡ words_about code fault 0 ∷ [])
+    (λ at. (line : List ℕ) × ShowsPlace base code at line × ((goes : List (List ℕ)) × AddsTarget limit base code fault goes
+    × (lines ≡ line ∷ (goes ++ words_about code fault (at - base) ∷ []))))
 
 -- what a fault without an address means was added
-pub explained_bare : (base : ℕ) (code old new : List ℕ) (fault : VetFault) → place_of fault ≡ None
-    → new ≡ old ++ detail_line (meaning_of fault []) → AddsLines old new (Explains base code fault)
-explained_bare base code old new fault none e = record {
-  lines = meaning_of fault [] ∷ [];
-  says = subst (ExplainsAt base code fault (meaning_of fault [] ∷ [])) (sym none) refl;
-  added = line_added old new (meaning_of fault []) e;
+pub explained_bare : (limit base : ℕ) (code old new : List ℕ) (fault : VetFault) → place_of fault ≡ None
+    → new ≡ old ++ detail_line (words_about code fault 0) → AddsLines old new (Explains limit base code fault)
+explained_bare limit base code old new fault none e = record {
+  lines = words_about code fault 0 ∷ [];
+  says = subst (ExplainsAt limit base code fault (words_about code fault 0 ∷ [])) (sym none) refl;
+  added = line_added old new (words_about code fault 0) e;
 }
 
--- the bundle of a fault and what it means were added
-pub explained_at : (base at : ℕ) (code old mid new : List ℕ) (fault : VetFault) → place_of fault ≡ Some at
+-- the bundle of a fault, where it goes, and what it means were added
+pub explained_at : (limit base at : ℕ) (code old mid said new : List ℕ) (fault : VetFault) → place_of fault ≡ Some at
     → AddsBundle old mid (base + ((at - base) - (at - base) % 32))
     (slice_range code ((at - base) - (at - base) % 32) (((at - base) - (at - base) % 32) + 32)) ((at - base) % 32)
-    → new ≡ mid ++ detail_line (meaning_of fault (drop (at - base) code)) → AddsLines old new (Explains base code fault)
-explained_at base at code old mid new fault is b e =
-    let words = meaning_of fault (drop (at - base) code) in
+    → AddsLines mid said (AddsTarget limit base code fault)
+    → new ≡ said ++ detail_line (words_about code fault (at - base)) → AddsLines old new (Explains limit base code fault)
+explained_at limit base at code old mid said new fault is b goes e =
+    let words = words_about code fault (at - base) in
     record {
-      lines = b.line ∷ words ∷ [];
-      says = subst (ExplainsAt base code fault (b.line ∷ words ∷ [])) (sym is) (b.line, b.shows, refl);
-      added = line_added mid new words e ∙ ap (λ (z : List ℕ). z ++ (detail_line words ++ [])) b.added
-          ∙ append_assoc old (detail_line b.line) (detail_line words ++ []);
+      lines = b.line ∷ (goes.lines ++ words ∷ []);
+      says = subst (ExplainsAt limit base code fault (b.line ∷ (goes.lines ++ words ∷ []))) (sym is)
+          (b.line, b.shows, (goes.lines, goes.says, refl));
+      added = line_added said new words e
+          ∙ ap (λ (z : List ℕ). z ++ (detail_line words ++ []))
+          (goes.added ∙ ap (λ (z : List ℕ). z ++ flat_map detail_line goes.lines) b.added)
+          ∙ append_assoc (old ++ detail_line b.line) (flat_map detail_line goes.lines) (detail_line words ++ [])
+          ∙ append_assoc old (detail_line b.line) (flat_map detail_line goes.lines ++ (detail_line words ++ []))
+          ∙ ap (λ (z : List ℕ). old ++ (detail_line b.line ++ z)) (sym (flat_map-append detail_line goes.lines (words ∷ [])));
     }

@@ -23,7 +23,7 @@ spelled_push front p s spells = λ before after q e. elim (split_push front befo
 ]
 
 -- at most one instruction is at the front
-one_at_front : (bytes : List ℕ) (i j : Instr) → IsAtFront bytes i → IsAtFront bytes j → i ≡ j
+pub one_at_front : (bytes : List ℕ) (i j : Instr) → IsAtFront bytes i → IsAtFront bytes j → i ≡ j
 one_at_front bytes i j f g =
     let e = sym ((exact bytes i).1 f) ∙ (exact bytes j).1 g in cc
 

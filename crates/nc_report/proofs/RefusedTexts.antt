@@ -1,7 +1,7 @@
--- What is written of a refused source: its verdict, the lines on its fault, and those on other bundles.
-use Rattle.std.proofs.Common.{◌≡◌, ℕ, ◌+◌, ◌-◌, ◌/◌, List, [], ◌++◌, length, take, refl, sym, subst, ◌∙◌, ap, inr, arith}
+-- What is written of a refused source: its verdict, the lines on its fault, and those on its other faults.
+use Rattle.std.proofs.Common.{◌≡◌, ℕ, ◌+◌, ◌-◌, List, [], ◌++◌, length, take, refl, sym, subst, ◌∙◌, ap, inr}
 use Rattle.std.proofs.Common.{append_assoc, append-nil, Option, Some, None}
-use Rattle.std.specs.Prelude.{MatchOption}
+use Rattle.std.specs.Prelude.{◌≢◌, MatchOption, codes}
 use Rattle.std.specs.List.{flat_map}
 use Rattle.std.specs.Io.KnownBytes.{Appends}
 use Rattle.std.proofs.KnownBytes.{Appends-trans, Appends-nil}
@@ -9,39 +9,55 @@ use Rattle.std.proofs.Math.Seq.{take-append-add}
 use Rattle.nc_lines.specs.Replies.{reply_line, refused_reply, fault_words}
 use Rattle.nc_vet.specs.Faults.{HasFault}
 use Rattle.nc_vet.specs.declared.fault.VetFault.{VetFault}
+use Rattle.nc_vet.specs.declared.fault.VetFault.TheVariants.{OutOfMemory}
 use Rattle.nc_vet.proofs.Offered.{flat_map-append}
 use Rattle.nc_report.specs.declared.detail.Detail.{Detail}
-use Rattle.nc_report.specs.declared.detail.Detail.TheVariants.{Brief, Usual}
+use Rattle.nc_report.specs.declared.detail.Detail.TheVariants.{Brief, Usual, Calls, Object}
 use Rattle.nc_report.specs.declared.detail.Detail.TheVariants as detail
-use Rattle.nc_report.specs.Report.{said_of, detail_line, place_of, ExplainsOthers, AreDetails, IsRefusedTo, IsRefused}
-use Rattle.nc_report.specs.machinery.Found.{AddsRefused, AreFirst, AreMore, AreSomeMore, WritesLines, CutsLines, IsCutOff}
+use Rattle.nc_report.specs.Report.{said_of, refused_text, detail_line, place_of, ReportsOthers, ReportsSome, AreDetailsBy, IsRefusedBy, IsRefused}
+use Rattle.nc_report.specs.machinery.Found.{AddsRefused, AreFirst, AreMoreBy, AreMore, AreSomeMore, WritesLines, CutsLines, IsCutOff}
 
--- lines on other bundles, where there is an address or none
-abbrev OthersAt : ℕ → ℕ → List ℕ → ℕ → List (List ℕ) → Option ℕ → Type 0
-OthersAt limit base code count lines at =
-    MatchOption at (lines ≡ []) (λ at. ExplainsOthers limit base code ((at - base) / 32) count lines)
+-- other lines, where there is an address or none
+abbrev OthersAt : (ℕ → List (List ℕ) → Type 0) → ℕ → List (List ℕ) → Option ℕ → Type 0
+OthersAt Others base lines at = MatchOption at (lines ≡ []) (λ at. Others (at - base) lines)
 
 -- where they aren't asked for, there are none
-pub brief_more : (limit base : ℕ) (d : Detail) (code : List ℕ) (fault : VetFault) (count : ℕ) → d ≡ Brief
-    → AreMore d limit base code fault count []
-brief_more limit base d code fault count e = subst (λ (x : Detail). AreMore x limit base code fault count []) (sym e) refl
+pub brief_more : (Others : ℕ → List (List ℕ) → Type 0) (base : ℕ) (d : Detail) (fault : VetFault) → d ≡ Brief → AreMoreBy Others d base fault []
+brief_more Others base d fault e = subst (λ (x : Detail). AreMoreBy Others x base fault []) (sym e) refl
 
-pub usual_more : (limit base : ℕ) (d : Detail) (code : List ℕ) (fault : VetFault) (count : ℕ) → d ≡ Usual
-    → AreMore d limit base code fault count []
-usual_more limit base d code fault count e = subst (λ (x : Detail). AreMore x limit base code fault count []) (sym e) refl
+pub usual_more : (Others : ℕ → List (List ℕ) → Type 0) (base : ℕ) (d : Detail) (fault : VetFault) → d ≡ Usual → AreMoreBy Others d base fault []
+usual_more Others base d fault e = subst (λ (x : Detail). AreMoreBy Others x base fault []) (sym e) refl
+
+pub calls_more : (Others : ℕ → List (List ℕ) → Type 0) (base : ℕ) (d : Detail) (fault : VetFault) → d ≡ Calls → AreMoreBy Others d base fault []
+calls_more Others base d fault e = subst (λ (x : Detail). AreMoreBy Others x base fault []) (sym e) refl
+
+pub object_more : (Others : ℕ → List (List ℕ) → Type 0) (base : ℕ) (d : Detail) (fault : VetFault) → d ≡ Object → AreMoreBy Others d base fault []
+object_more Others base d fault e = subst (λ (x : Detail). AreMoreBy Others x base fault []) (sym e) refl
 
 -- where a fault has no address, there are none
-pub none_more : (limit base : ℕ) (d : Detail) (code : List ℕ) (fault : VetFault) (count : ℕ) → d ≡ detail.All → place_of fault ≡ None
-    → AreMore d limit base code fault count []
-none_more limit base d code fault count is e =
-    subst (λ (x : Detail). AreMore x limit base code fault count []) (sym is) (subst (OthersAt limit base code count []) (sym e) refl)
+pub none_more : (Others : ℕ → List (List ℕ) → Type 0) (base : ℕ) (d : Detail) (fault : VetFault) → d ≡ detail.All → place_of fault ≡ None
+    → AreMoreBy Others d base fault []
+none_more Others base d fault is e =
+    subst (λ (x : Detail). AreMoreBy Others x base fault []) (sym is) (subst (OthersAt Others base []) (sym e) refl)
 
--- where it has one, they are those on the bundles besides its own
-pub some_more : (limit base : ℕ) (d : Detail) (code : List ℕ) (fault : VetFault) (count at : ℕ) (lines : List (List ℕ)) → d ≡ detail.All
-    → place_of fault ≡ Some at → ExplainsOthers limit base code ((at - base) / 32) count lines
-    → AreMore d limit base code fault count lines
-some_more limit base d code fault count at lines is e h =
-    subst (λ (x : Detail). AreMore x limit base code fault count lines) (sym is) (subst (OthersAt limit base code count lines) (sym e) h)
+-- where it has one, they are those on the other places
+pub some_more : (Others : ℕ → List (List ℕ) → Type 0) (base : ℕ) (d : Detail) (fault : VetFault) (at : ℕ) (lines : List (List ℕ))
+    → d ≡ detail.All → place_of fault ≡ Some at → Others (at - base) lines → AreMoreBy Others d base fault lines
+some_more Others base d fault at lines is e h =
+    subst (λ (x : Detail). AreMoreBy Others x base fault lines) (sym is) (subst (OthersAt Others base lines) (sym e) h)
+
+-- all lines are some first ones
+all_first : (limit base : ℕ) (d : Detail) (code : List ℕ) (fault : VetFault) (lines : List (List ℕ)) → AreMore d limit base code fault lines
+    → AreSomeMore d limit base code fault lines
+all_first limit base Brief code fault lines h = h
+all_first limit base Usual code fault lines h = h
+all_first limit base Calls code fault lines h = h
+all_first limit base Object code fault lines h = h
+all_first limit base detail.All code fault lines h = at_place (place_of fault) h
+  where
+    at_place : (at : Option ℕ) → OthersAt (ReportsOthers limit base code) base lines at → OthersAt (ReportsSome limit base code) base lines at
+    at_place None h = h
+    at_place (Some at) h = inr (inr h)
 
 -- nothing more is written
 pub nothing_more : (before : Option (List ℕ)) (out : List ℕ) (Says : List (List ℕ) → Type 0) → Says [] → WritesLines before before out out Says
@@ -64,64 +80,116 @@ pub cuts_so : (before after : Option (List ℕ)) (old : List ℕ) (P Q : List (L
     → ((lines : List (List ℕ)) → P lines → Q lines) → CutsLines before after old Q
 cuts_so before after old P Q w f = record { lines = w.lines; says = f w.lines w.says; count = w.count; written = w.written }
 
--- the lines on a fault and those on other bundles are the details
-details : (d : Detail) (limit base : ℕ) (code : List ℕ) (fault : VetFault) (count : ℕ) (first more : List (List ℕ))
-    → AreFirst d base code fault first → AreMore d limit base code fault count more → AreDetails limit base d code fault count (first ++ more)
-details Brief limit base code fault count first more f m = ap (λ (z : List (List ℕ)). z ++ more) f ∙ m
-details Usual limit base code fault count first more f m =
-    subst (AreFirst Usual base code fault) (sym (ap (λ (z : List (List ℕ)). first ++ z) m ∙ append-nil first)) f
-details detail.All limit base code fault count first more f m = (first, more, refl, f, m)
+-- the lines on a fault and the other ones are the details
+details : (Others : ℕ → List (List ℕ) → Type 0) (d : Detail) (limit base : ℕ) (code : List ℕ) (fault : VetFault) (first more : List (List ℕ))
+    → AreFirst d limit base code fault first → AreMoreBy Others d base fault more → AreDetailsBy Others limit base d code fault (first ++ more)
+details Others Brief limit base code fault first more f m = ap (λ (z : List (List ℕ)). z ++ more) f ∙ m
+details Others Object limit base code fault first more f m = ap (λ (z : List (List ℕ)). z ++ more) f ∙ m
+details Others Calls limit base code fault first more f m =
+    subst (AreFirst Calls limit base code fault) (sym (ap (λ (z : List (List ℕ)). first ++ z) m ∙ append-nil first)) f
+details Others Usual limit base code fault first more f m =
+    subst (AreFirst Usual limit base code fault) (sym (ap (λ (z : List (List ℕ)). first ++ z) m ∙ append-nil first)) f
+details Others detail.All limit base code fault first more f m = (first, more, refl, f, m)
 
--- the text of a refused source, with lines on other bundles up to so many
-refused_to : (limit base : ℕ) (d : Detail) (name code old out : List ℕ) (fault : VetFault) (count : ℕ) (more : List (List ℕ))
-    → HasFault base limit code fault → AddsRefused old out d name base code fault → old ≡ [] → AreMore d limit base code fault count more
-    → IsRefusedTo limit base d name code count (out ++ flat_map detail_line more)
-refused_to limit base d name code old out fault count more h a none m =
+-- the verdict, and lines after others
+verdict_more : (name : List ℕ) (fault : VetFault) (first more : List (List ℕ))
+    → (said_of name (reply_line (refused_reply (fault_words fault))) ++ flat_map detail_line first) ++ flat_map detail_line more
+    ≡ said_of name (reply_line (refused_reply (fault_words fault))) ++ flat_map detail_line (first ++ more)
+verdict_more name fault first more =
     let verdict = said_of name (reply_line (refused_reply (fault_words fault))) in
-    record {
-      fault = fault;
-      has = h;
-      real = a.real;
-      lines = a.lines ++ more;
-      details = details d limit base code fault count a.lines more a.first m;
-      written = ap (λ (z : List ℕ). z ++ flat_map detail_line more)
-          (a.added ∙ ap (λ (z : List ℕ). z ++ (verdict ++ flat_map detail_line a.lines)) none)
-          ∙ append_assoc verdict (flat_map detail_line a.lines) (flat_map detail_line more)
-          ∙ ap (λ (z : List ℕ). verdict ++ z) (sym (flat_map-append detail_line a.lines more));
-    }
+    append_assoc verdict (flat_map detail_line first) (flat_map detail_line more)
+    ∙ ap (λ (z : List ℕ). verdict ++ z) (sym (flat_map-append detail_line first more))
+
+-- the text goes on by these lines
+text_more : (Others : ℕ → List (List ℕ) → Type 0) (d : Detail) (base : ℕ) (name code : List ℕ) (fault : VetFault) (first more : List (List ℕ))
+    → AreMoreBy Others d base fault more
+    → refused_text d base name code fault first ++ flat_map detail_line more ≡ refused_text d base name code fault (first ++ more)
+text_more Others Brief base name code fault first more m = verdict_more name fault first more
+text_more Others Usual base name code fault first more m = verdict_more name fault first more
+text_more Others Calls base name code fault first more m = verdict_more name fault first more
+text_more Others detail.All base name code fault first more m = verdict_more name fault first more
+text_more Others Object base name code fault first more m =
+    let text = refused_text Object base name code fault first in
+    ap (λ (z : List (List ℕ)). text ++ flat_map detail_line z) m ∙ append-nil text
+
+-- the verdict was added by itself, where no lines are asked for
+pub verdict_added : (old new : List ℕ) (d : Detail) (name : List ℕ) (limit base : ℕ) (code : List ℕ) (fault : VetFault) → d ≡ Brief
+    → fault ≢ OutOfMemory → new ≡ ((old ++ name) ++ codes ": ") ++ reply_line (refused_reply (fault_words fault))
+    → AddsRefused old new d name limit base code fault
+verdict_added old new d name limit base code fault is some e = record {
+  real = some;
+  lines = [];
+  first = subst (λ (x : Detail). AreFirst x limit base code fault []) (sym is) refl;
+  added = subst (λ (x : Detail). new ≡ old ++ refused_text x base name code fault []) (sym is)
+      (e ∙ joined old name (reply_line (refused_reply (fault_words fault))));
+}
+  where
+    joined : (xs ys zs : List ℕ) → ((xs ++ ys) ++ codes ": ") ++ zs ≡ xs ++ (said_of ys zs ++ [])
+    joined xs ys zs = simp (append_assoc, append-nil)
+
+-- the verdict was added as an object
+pub object_added : (old new : List ℕ) (d : Detail) (name : List ℕ) (limit base : ℕ) (code : List ℕ) (fault : VetFault) → d ≡ Object
+    → fault ≢ OutOfMemory → new ≡ old ++ refused_text Object base name code fault [] → AddsRefused old new d name limit base code fault
+object_added old new d name limit base code fault is some e = record {
+  real = some;
+  lines = [];
+  first = subst (λ (x : Detail). AreFirst x limit base code fault []) (sym is) refl;
+  added = subst (λ (x : Detail). new ≡ old ++ refused_text x base name code fault []) (sym is) e;
+}
+
+-- the text of a refused source
+refused_by : (Others : ℕ → List (List ℕ) → Type 0) (limit base : ℕ) (d : Detail) (name code old out : List ℕ) (fault : VetFault)
+    (more : List (List ℕ)) → HasFault base limit code fault → AddsRefused old out d name limit base code fault → old ≡ []
+    → AreMoreBy Others d base fault more
+    → IsRefusedBy limit base d (AreDetailsBy Others limit base d code) name code (out ++ flat_map detail_line more)
+refused_by Others limit base d name code old out fault more h a none m = record {
+  fault = fault;
+  has = h;
+  real = a.real;
+  lines = a.lines ++ more;
+  details = details Others d limit base code fault a.lines more a.first m;
+  written = ap (λ (z : List ℕ). z ++ flat_map detail_line more)
+      (a.added ∙ ap (λ (z : List ℕ). z ++ refused_text d base name code fault a.lines) none)
+      ∙ text_more Others d base name code fault a.lines more m;
+}
 
 -- all of it was written
 pub refused_told : (before mid after : Option (List ℕ)) (limit base : ℕ) (d : Detail) (name code old out kept : List ℕ) (fault : VetFault)
-    → HasFault base limit code fault → AddsRefused old out d name base code fault → old ≡ []
-    → WritesLines before mid out kept (AreMore d limit base code fault (length code / 32)) → Appends mid after kept
+    → HasFault base limit code fault → AddsRefused old out d name limit base code fault → old ≡ []
+    → WritesLines before mid out kept (AreMore d limit base code fault) → Appends mid after kept
     → (text : List ℕ) × IsRefused limit base d name code text × Appends before after text
 refused_told before mid after limit base d name code old out kept fault h a none w p = (
   out ++ flat_map detail_line w.lines,
-  refused_to limit base d name code old out fault (length code / 32) w.lines h a none w.says,
+  refused_by (ReportsOthers limit base code) limit base d name code old out fault w.lines h a none w.says,
   subst (Appends before after) w.kept (Appends-trans before mid after w.part kept w.written p),
 )
 
--- a beginning of it was written before the lines on other bundles were made
+-- a beginning of it was written before the last lines were made
 pub refused_cut : (before after : Option (List ℕ)) (limit base : ℕ) (d : Detail) (name code old out : List ℕ) (fault : VetFault)
-    → HasFault base limit code fault → AddsRefused old out d name base code fault → old ≡ []
+    → HasFault base limit code fault → AddsRefused old out d name limit base code fault → old ≡ []
     → CutsLines before after out (AreSomeMore d limit base code fault) → IsCutOff limit base d name code before after
 refused_cut before after limit base d name code old out fault h a none w =
     let text = out ++ flat_map detail_line w.lines in
     record {
       part = take w.count text;
-      begins = inr (text, w.count, inr (w.says.0, w.says.1, refused_to limit base d name code old out fault w.says.0 w.lines h a none w.says.2), refl);
+      begins = inr (
+        text,
+        w.count,
+        inr (refused_by (ReportsSome limit base code) limit base d name code old out fault w.lines h a none w.says),
+        refl,
+      );
       written = w.written;
     }
 
 -- or afterwards
 pub refused_cut_last : (before mid after : Option (List ℕ)) (limit base : ℕ) (d : Detail) (name code old out kept : List ℕ) (n : ℕ)
-    (fault : VetFault) → HasFault base limit code fault → AddsRefused old out d name base code fault → old ≡ []
-    → WritesLines before mid out kept (AreMore d limit base code fault (length code / 32)) → Appends mid after (take n kept)
+    (fault : VetFault) → HasFault base limit code fault → AddsRefused old out d name limit base code fault → old ≡ []
+    → WritesLines before mid out kept (AreMore d limit base code fault) → Appends mid after (take n kept)
     → IsCutOff limit base d name code before after
 refused_cut_last before mid after limit base d name code old out kept n fault h a none w p =
     refused_cut before after limit base d name code old out fault h a none (record {
       lines = w.lines;
-      says = (length code / 32, omega arith, w.says);
+      says = all_first limit base d code fault w.lines w.says;
       count = length w.part + n;
       written = subst (Appends before after)
           (sym (ap (take (length w.part + n)) (sym w.kept) ∙ take-append-add w.part kept n))

@@ -14,11 +14,14 @@ use Rattle.nc_vet.proofs.Offered.{flat_map-append}
 use Rattle.nc_work.specs.Verdicts.{IsVerdictOn}
 use Rattle.nc_work.specs.declared.job.Job.{Job}
 use Rattle.nc_report.specs.declared.detail.Detail.{Detail}
-use Rattle.nc_report.specs.declared.detail.Detail.TheVariants.{Brief}
+use Rattle.nc_report.specs.declared.detail.Detail.TheVariants.{Brief, Calls, Object}
+use Rattle.nc_lines.specs.Replies.{reply_line}
+use Rattle.nc_report.specs.Outside.{ListsOutside}
+use Rattle.nc_report.specs.Objects.{accepted_object}
 use Rattle.nc_report.specs.declared.source.Source.{Source}
-use Rattle.nc_report.specs.Report.{Tells, Told, accepted_text, IsAccepted, IsRefused, HasReported, HasBegunReport, IsBeginning, IsBeginningOfNext}
-use Rattle.nc_report.specs.machinery.Found.{IsFinding, code_in, AddsAccepted, SourceValue, values_in, TellsValue, TellsOne, IsCutOff, HasToldSome, HasToldAll, HasToldFirst, job_of}
-use Rattle.nc_report.proofs.OtherBundles.{zip_more}
+use Rattle.nc_report.specs.Report.{Tells, Told, said_of, accepted_words, accepted_text, detail_line, AreCalls, IsAccepted, IsRefused, HasReported, HasBegunReport, IsBeginning, IsBeginningOfNext}
+use Rattle.nc_report.specs.machinery.Found.{IsFinding, code_in, AddsLines, HasInstructions, AddsAccepted, SourceValue, values_in, TellsValue, TellsOne, IsCutOff, HasToldSome, HasToldAll, HasToldFirst, job_of}
+use Rattle.nc_report.proofs.FurtherLines.{zip_more}
 
 -- a verdict
 abbrev pub AVerdict : Type 0
@@ -284,8 +287,11 @@ accepted chunk d name old out a none = record {
   pieces = a.has.pieces;
   spelled = a.has.spelled;
   parts = a.has.parts;
-  written = a.added ∙ ap (λ (z : List ℕ). z ++ accepted_text d name (length chunk.code) a.count) none
-      ∙ ap (accepted_text d name (length chunk.code)) a.has.counted;
+  lines = a.lines;
+  calls = a.calls;
+  written = a.added
+      ∙ ap (λ (z : List ℕ). z ++ (accepted_text d chunk.base name (length chunk.code) a.count ++ flat_map detail_line a.lines)) none
+      ∙ ap (λ (n : ℕ). accepted_text d chunk.base name (length chunk.code) n ++ flat_map detail_line a.lines) a.has.counted;
 }
 
 -- so it is where nothing is written of it
@@ -294,8 +300,41 @@ adds_none chunk d name out v e = record {
   valid = v;
   count = length v.pieces;
   has = record { pieces = v.pieces; spelled = v.sound.spelled; parts = v.parts; counted = refl };
-  added = subst (λ (x : Detail). out ≡ out ++ accepted_text x name (length chunk.code) (length v.pieces)) (sym e) (sym (append-nil out));
+  lines = [];
+  calls = subst (λ (x : Detail). AreCalls x chunk.base v.pieces []) (sym e) refl;
+  added = subst (λ (x : Detail). out ≡ out ++ (accepted_text x chunk.base name (length chunk.code) (length v.pieces) ++ [])) (sym e) (sym (append-nil out));
 }
+
+-- and where the lines on its transfers that go outside come after its verdict
+pub adds_calls : (chunk : MarkedChunk) (name old mid new : List ℕ) (count : ℕ) (has : HasInstructions chunk.code count) → IsValid chunk
+    → mid ≡ old ++ said_of name (reply_line (accepted_words (length chunk.code) count))
+    → AddsLines mid new (ListsOutside chunk.base has.pieces) → AddsAccepted old new Calls name chunk
+adds_calls chunk name old mid new count has v e a =
+    let verdict = said_of name (reply_line (accepted_words (length chunk.code) count)) in
+    record {
+      valid = v;
+      count = count;
+      has = has;
+      lines = a.lines;
+      calls = a.says;
+      added = a.added ∙ ap (λ (z : List ℕ). z ++ flat_map detail_line a.lines) e
+          ∙ append_assoc old verdict (flat_map detail_line a.lines);
+    }
+
+-- and where its verdict is an object
+pub adds_object : (chunk : MarkedChunk) (d : Detail) (name old new : List ℕ) (count : ℕ) → HasInstructions chunk.code count → IsValid chunk
+    → d ≡ Object → new ≡ old ++ reply_line (accepted_object chunk.base name (length chunk.code) count) → AddsAccepted old new d name chunk
+adds_object chunk d name old new count has v is e =
+    let object = reply_line (accepted_object chunk.base name (length chunk.code) count) in
+    record {
+      valid = v;
+      count = count;
+      has = has;
+      lines = [];
+      calls = subst (λ (x : Detail). AreCalls x chunk.base has.pieces []) (sym is) refl;
+      added = subst (λ (x : Detail). new ≡ old ++ (accepted_text x chunk.base name (length chunk.code) count ++ [])) (sym is)
+          (e ∙ ap (λ (z : List ℕ). old ++ z) (sym (append-nil object)));
+    }
 
 -- an accepted source is told, and not counted
 pub tells_accepted : (base limit : ℕ) (chunk : MarkedChunk) (d : Detail) (name : List ℕ) (before after : Option (List ℕ))

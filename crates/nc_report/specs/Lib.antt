@@ -1,5 +1,12 @@
 pub mod machinery
 pub mod Listing
 pub mod Advice
+pub mod Targets
+pub mod Outside
+pub mod Objects
+pub mod Lengths
+pub mod Reading
+pub mod Further
+pub mod Totals
 pub mod Report
 pub mod Lines

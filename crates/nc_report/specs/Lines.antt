@@ -1,8 +1,8 @@
 -- Lines of details: none has an end inside, so each stands after its two spaces.
-use Rattle.std.specs.Prelude.{◌≢◌, ℕ, List, [], ◌∷◌, ⊤}
+use Rattle.std.specs.Prelude.{◌≢◌, ◌⊎◌, ℕ, List, [], ◌∷◌, ⊤}
 use Rattle.nc_vet.specs.declared.fault.VetFault.{VetFault}
 use Rattle.nc_report.specs.declared.detail.Detail.{Detail}
-use Rattle.nc_report.specs.Report.{AreDetails}
+use Rattle.nc_report.specs.Report.{AreDetails, AreFirstDetails}
 
 -- no byte of it is 0A
 abbrev pub IsOneLine : List ℕ → Type 0
@@ -14,7 +14,7 @@ abbrev pub AreOneLine : List (List ℕ) → Type 0
 AreOneLine [] = ⊤
 AreOneLine (line ∷ lines) = IsOneLine line × AreOneLine lines
 
--- each line of details is one line
+-- no line of details, all or some first ones, has a byte 0A in it
 abbrev pub KeepsLines : Type 0
-KeepsLines = (limit base : ℕ) (detail : Detail) (code : List ℕ) (fault : VetFault) (count : ℕ) (lines : List (List ℕ))
-    → AreDetails limit base detail code fault count lines → AreOneLine lines
+KeepsLines = (limit base : ℕ) (detail : Detail) (code : List ℕ) (fault : VetFault) (lines : List (List ℕ))
+    → AreDetails limit base detail code fault lines ⊎ AreFirstDetails limit base detail code fault lines → AreOneLine lines

@@ -1,7 +1,7 @@
 -- What is written of sources: a verdict, and of a refused one what its fault is and means.
-use Rattle.std.specs.Prelude.{◌≡◌, ◌≢◌, ℕ, ◌+◌, ◌*◌, ◌-◌, ◌/◌, ◌≤◌, ◌⊎◌, Bool, true, false, List, [], ◌∷◌, ◌++◌, length, drop, take, codes}
-use Rattle.std.specs.Prelude.{MatchOption, Option, Some, None, slice_range, ⊤}
-use Rattle.std.specs.List.{AllZip, flat_map, range_with_len, count_by}
+use Rattle.std.specs.Prelude.{◌≡◌, ◌≢◌, ℕ, ◌-◌, ◌≤◌, ◌⊎◌, Bool, true, false, List, [], ◌∷◌, ◌++◌, length, take, codes}
+use Rattle.std.specs.Prelude.{MatchOption, Option, Some, None}
+use Rattle.std.specs.List.{AllZip, flat_map, count_by}
 use Rattle.std.specs.Fmt.{decimal}
 use Rattle.std.specs.Io.KnownBytes.{Appends}
 use Rattle.nc_vet.specs.Chunk.{Piece, code_of, AreSpelled}
@@ -11,11 +11,18 @@ use Rattle.nc_vet.specs.declared.fault.VetFault.TheVariants.{NotPermitted, Cross
 use Rattle.nc_lines.specs.Replies.{reply_line, refused_reply, fault_words}
 use Rattle.nc_lines.specs.Vetting.{IsValidAt}
 use Rattle.nc_report.specs.declared.detail.Detail.{Detail}
-use Rattle.nc_report.specs.declared.detail.Detail.TheVariants.{Brief, Usual}
+use Rattle.nc_report.specs.declared.detail.Detail.TheVariants.{Brief, Usual, Calls, Object}
 use Rattle.nc_report.specs.declared.detail.Detail.TheVariants as detail
 use Rattle.nc_report.specs.declared.source.Source.{Source}
 use Rattle.nc_report.specs.Listing.{ShowsPlace}
-use Rattle.nc_report.specs.Advice.{meaning_of}
+use Rattle.nc_report.specs.declared.steps.Step.{Step}
+use Rattle.nc_report.specs.Advice.{words_about}
+use Rattle.nc_report.specs.Targets.{NamesTarget}
+use Rattle.nc_report.specs.Outside.{ListsOutside}
+use Rattle.nc_report.specs.Objects.{accepted_object, refused_object}
+use Rattle.nc_report.specs.Reading.{IsReading, spots_of}
+use Rattle.nc_report.specs.Further.{lines_to}
+use Rattle.nc_report.specs.Totals.{last_lines}
 
 -- what is said of a source of this name
 abbrev pub said_of : List ℕ → List ℕ → List ℕ
@@ -27,9 +34,19 @@ accepted_words bytes instructions =
     codes "ok, " ++ (decimal bytes ++ (codes " bytes, " ++ (decimal instructions ++ codes " instructions")))
 
 -- what is written of an accepted source
-abbrev pub accepted_text : Detail → List ℕ → ℕ → ℕ → List ℕ
-accepted_text Brief name bytes instructions = []
-accepted_text _ name bytes instructions = said_of name (reply_line (accepted_words bytes instructions))
+abbrev pub accepted_text : Detail → ℕ → List ℕ → ℕ → ℕ → List ℕ
+accepted_text Brief base name bytes instructions = []
+accepted_text Object base name bytes instructions = reply_line (accepted_object base name bytes instructions)
+accepted_text _ base name bytes instructions = said_of name (reply_line (accepted_words bytes instructions))
+
+-- a line of details, which begins with two spaces
+abbrev pub detail_line : List ℕ → List ℕ
+detail_line line = codes "  " ++ reply_line line
+
+-- the lines on an accepted source of these instructions: where they are asked for, those on its transfers that go outside
+abbrev pub AreCalls : Detail → ℕ → List Piece → List (List ℕ) → Type 0
+AreCalls Calls base pieces lines = ListsOutside base pieces lines
+AreCalls _ base pieces lines = lines ≡ []
 
 -- the code is a valid chunk of so many instructions, and this is written of it
 pub record IsAccepted (limit base : ℕ) (detail : Detail) (name code text : List ℕ) : Type 0 where
@@ -37,7 +54,9 @@ pub record IsAccepted (limit base : ℕ) (detail : Detail) (name code text : Lis
   pub pieces : List Piece
   pub spelled : AreSpelled pieces
   pub parts : code ≡ code_of pieces
-  pub written : text ≡ accepted_text detail name (length code) (length pieces)
+  pub lines : List (List ℕ)
+  pub calls : AreCalls detail base pieces lines
+  pub written : text ≡ accepted_text detail base name (length code) (length pieces) ++ flat_map detail_line lines
 
 -- the address of a fault, if it has one
 abbrev pub place_of : VetFault → Option ℕ
@@ -47,62 +66,73 @@ place_of (Bare at) = Some at
 place_of (BadTarget at) = Some at
 place_of _ = None
 
--- the lines on a fault: its bundle, if it has an address, and what it means
-abbrev pub Explains : ℕ → List ℕ → VetFault → List (List ℕ) → Type 0
-Explains base code fault lines =
-    MatchOption (place_of fault) (lines ≡ meaning_of fault [] ∷ [])
-    (λ at. (line : List ℕ) × ShowsPlace base code at line × (lines ≡ line ∷ meaning_of fault (drop (at - base) code) ∷ []))
+-- the line on where a refused direct transfer goes; on other faults there is none
+abbrev pub AddsTarget : ℕ → ℕ → List ℕ → VetFault → List (List ℕ) → Type 0
+AddsTarget limit base code (BadTarget at) lines = (line : List ℕ) × NamesTarget limit base code at line × (lines ≡ line ∷ [])
+AddsTarget limit base code _ lines = lines ≡ []
 
--- a fault that the reading of a bundle shows, whatever its transfers go to
-abbrev pub IsOfReading : VetFault → Type 0
-IsOfReading (NotPermitted at) = ⊤
-IsOfReading (Crosses at) = ⊤
-IsOfReading (Bare at) = ⊤
-IsOfReading _ = ⊥
+-- the lines on a fault: its bundle, if it has an address, where a refused direct transfer goes, and what the fault means
+abbrev pub Explains : ℕ → ℕ → List ℕ → VetFault → List (List ℕ) → Type 0
+Explains limit base code fault lines =
+    MatchOption (place_of fault) (lines ≡ words_about code fault 0 ∷ [])
+    (λ at. (line : List ℕ) × ShowsPlace base code at line × ((goes : List (List ℕ)) × AddsTarget limit base code fault goes
+    × (lines ≡ line ∷ (goes ++ words_about code fault (at - base) ∷ []))))
 
--- the lines on a bundle that is read by itself: none where the reading shows no fault
-abbrev pub ExplainsBundle : ℕ → ℕ → List ℕ → List (List ℕ) → Type 0
-ExplainsBundle limit address bundle lines =
-    ((lines ≡ []) × ((fault : VetFault) → IsOfReading fault → ¬ HasFault address limit bundle fault))
-    ⊎ ((fault : VetFault) × IsOfReading fault × HasFault address limit bundle fault
-    × ((more : List (List ℕ)) × Explains address bundle fault more × (lines ≡ (codes "also " ++ fault_words fault) ∷ more)))
+-- The lines on the faults at the first so many places of a refused chunk, but for that at one of them, by the reading of it.
+pub record ReportsFirst (limit base : ℕ) (code : List ℕ) (own count : ℕ) (lines : List (List ℕ)) : Type 0 where
+  pub steps : List Step
+  pub reading : IsReading code steps
+  pub within : count ≤ length code
+  pub is : lines ≡ lines_to base limit code (spots_of steps) own count
 
--- the lines on the bundle of this number, which isn't the one of the chunk's own fault; on that one there are none
-abbrev pub ExplainsOther : ℕ → ℕ → List ℕ → ℕ → ℕ → List (List ℕ) → Type 0
-ExplainsOther limit base code own k lines =
-    ((k ≡ own) × (lines ≡ []))
-    ⊎ ((k ≢ own) × ExplainsBundle limit (base + 32 * k) (slice_range code (32 * k) (32 * k + 32)) lines)
+-- The lines on all faults of a refused chunk, but for that at one place, and then the last lines.
+pub record ReportsOthers (limit base : ℕ) (code : List ℕ) (own : ℕ) (lines : List (List ℕ)) : Type 0 where
+  pub steps : List Step
+  pub reading : IsReading code steps
+  pub is : lines ≡ lines_to base limit code (spots_of steps) own (length code) ++ last_lines base limit code (spots_of steps)
 
--- the lines on the first so many bundles
-pub record ExplainsOthers (limit base : ℕ) (code : List ℕ) (own count : ℕ) (lines : List (List ℕ)) : Type 0 where
-  pub each : List (List (List ℕ))
-  pub explains : AllZip (ExplainsOther limit base code own) (range_with_len 0 count) each
-  pub joined : lines ≡ flat_map (λ ls. ls) each
+-- of these lines none, those on the first so many places, or all
+abbrev pub ReportsSome : ℕ → ℕ → List ℕ → ℕ → List (List ℕ) → Type 0
+ReportsSome limit base code own lines =
+    (lines ≡ []) ⊎ ((count : ℕ) × ReportsFirst limit base code own count lines) ⊎ ReportsOthers limit base code own lines
 
--- the lines on a refused source: none, those on its fault, or also those on its first so many bundles
-abbrev pub AreDetails : ℕ → ℕ → Detail → List ℕ → VetFault → ℕ → List (List ℕ) → Type 0
-AreDetails limit base Brief code fault count lines = lines ≡ []
-AreDetails limit base Usual code fault count lines = Explains base code fault lines
-AreDetails limit base detail.All code fault count lines =
-    (usual others : List (List ℕ)) × (lines ≡ usual ++ others) × Explains base code fault usual
-    × MatchOption (place_of fault) (others ≡ []) (λ at. ExplainsOthers limit base code ((at - base) / 32) count others)
+-- The lines on a refused source: none, those on its fault, or also the others, of which this holds with the place of the fault,
+-- if it has one.
+abbrev pub AreDetailsBy : (ℕ → List (List ℕ) → Type 0) → ℕ → ℕ → Detail → List ℕ → VetFault → List (List ℕ) → Type 0
+AreDetailsBy Others limit base Brief code fault lines = lines ≡ []
+AreDetailsBy Others limit base Object code fault lines = lines ≡ []
+AreDetailsBy Others limit base Usual code fault lines = Explains limit base code fault lines
+AreDetailsBy Others limit base Calls code fault lines = Explains limit base code fault lines
+AreDetailsBy Others limit base detail.All code fault lines =
+    (usual others : List (List ℕ)) × (lines ≡ usual ++ others) × Explains limit base code fault usual
+    × MatchOption (place_of fault) (others ≡ []) (λ at. Others (at - base) others)
 
--- a line of details, which begins with two spaces
-abbrev pub detail_line : List ℕ → List ℕ
-detail_line line = codes "  " ++ reply_line line
+-- all lines on a refused source
+abbrev pub AreDetails : ℕ → ℕ → Detail → List ℕ → VetFault → List (List ℕ) → Type 0
+AreDetails limit base detail code fault lines = AreDetailsBy (ReportsOthers limit base code) limit base detail code fault lines
 
--- the code has this fault, and this is written of it, with the other bundles' lines up to so many
-pub record IsRefusedTo (limit base : ℕ) (detail : Detail) (name code : List ℕ) (count : ℕ) (text : List ℕ) : Type 0 where
+-- some first ones of them
+abbrev pub AreFirstDetails : ℕ → ℕ → Detail → List ℕ → VetFault → List (List ℕ) → Type 0
+AreFirstDetails limit base detail code fault lines = AreDetailsBy (ReportsSome limit base code) limit base detail code fault lines
+
+-- what is written of a source that has this fault, with these lines of details
+abbrev pub refused_text : Detail → ℕ → List ℕ → List ℕ → VetFault → List (List ℕ) → List ℕ
+refused_text Object base name code fault lines = reply_line (refused_object base name code fault (place_of fault))
+refused_text _ base name code fault lines =
+    said_of name (reply_line (refused_reply (fault_words fault))) ++ flat_map detail_line lines
+
+-- the code has a fault, and this is written of it, with details of which this holds
+pub record IsRefusedBy (limit base : ℕ) (detail : Detail) (Details : VetFault → List (List ℕ) → Type 0) (name code text : List ℕ) : Type 0 where
   pub fault : VetFault
   pub has : HasFault base limit code fault
   pub real : fault ≢ OutOfMemory
   pub lines : List (List ℕ)
-  pub details : AreDetails limit base detail code fault count lines
-  pub written : text ≡ said_of name (reply_line (refused_reply (fault_words fault))) ++ flat_map detail_line lines
+  pub details : Details fault lines
+  pub written : text ≡ refused_text detail base name code fault lines
 
 -- and this is all of it
 abbrev pub IsRefused : ℕ → ℕ → Detail → List ℕ → List ℕ → List ℕ → Type 0
-IsRefused limit base detail name code text = IsRefusedTo limit base detail name code (length code / 32) text
+IsRefused limit base detail name code text = IsRefusedBy limit base detail (AreDetails limit base detail code) name code text
 
 -- what is written of a source, and whether it is refused
 pub record Told : Type 0 where
@@ -115,7 +145,7 @@ Tells limit base detail name code told =
     ((told.refused ≡ false) × IsAccepted limit base detail name code told.text)
     ⊎ ((told.refused ≡ true) × IsRefused limit base detail name code told.text)
 
--- exactly what is to be written of these sources was written, and so many are refused
+-- exactly what is to be written of these sources was written, in their order, and this is how many are refused
 pub record HasReported (limit base : ℕ) (detail : Detail) (before after : Option (List ℕ)) (sources : List Source) (count : ℕ) : Type 0 where
   pub each : List Told
   pub tells : AllZip (λ source told. Tells limit base detail source.name.items source.code.items told) sources each
@@ -126,7 +156,7 @@ pub record HasReported (limit base : ℕ) (detail : Detail) (before after : Opti
 abbrev pub BeginsToTell : ℕ → ℕ → Detail → List ℕ → List ℕ → List ℕ → Type 0
 BeginsToTell limit base detail name code text =
     IsAccepted limit base detail name code text
-    ⊎ ((count : ℕ) × (count ≤ length code / 32) × IsRefusedTo limit base detail name code count text)
+    ⊎ IsRefusedBy limit base detail (AreFirstDetails limit base detail code) name code text
 
 -- a beginning of what is to be written of a source, or nothing
 abbrev pub IsBeginning : ℕ → ℕ → Detail → List ℕ → List ℕ → List ℕ → Type 0
@@ -139,7 +169,8 @@ IsBeginningOfNext limit base detail [] part = part ≡ []
 IsBeginningOfNext limit base detail (source ∷ others) part =
     IsBeginning limit base detail source.name.items source.code.items part
 
--- all that is to be written of some first sources was written, and perhaps a beginning of what is of the next one
+-- all that is to be written of some first sources was written, and of the next one, if there is one, nothing or a
+-- beginning
 pub record HasBegunReport (limit base : ℕ) (detail : Detail) (before after : Option (List ℕ)) (sources : List Source) : Type 0 where
   pub first : List Source
   pub others : List Source

@@ -1,10 +1,12 @@
 //! Which refused bytes are of which kind, and what a fault means.
 
-ghost use Rattle.std.specs.Prelude.{◌≡◌, slice_index};
-ghost use Rattle.nc_report.specs.Advice.{kind_in, key_of, meaning_of};
+ghost use Rattle.std.specs.Prelude.{◌≡◌, ◌≤◌, length, slice_index, take};
+ghost use Rattle.std.specs.List.{list_all};
+ghost use Rattle.nc_report.specs.Advice.{kind_in, key_of, is_cut_prefix, meaning_of, is_elf, is_archive, is_of_text, is_text, words_about};
 
 use crate::kind::Kind;
 use crate::words::*;
+use nc_decode::BUNDLE;
 use nc_vet::VetFault;
 
 /// The kind of bytes whose first three, as one number of 24 bits of which the first byte has the highest, are `key`
@@ -18,7 +20,7 @@ pub(crate) struct Row {
 
 /// The kinds of bytes that are no permitted instruction. Of the rows that fit, the first is meant.
 #[rattlefmt::skip]
-pub(crate) static ROWS: [Row; 75] = [
+pub(crate) static ROWS: [Row; 124] = [
     // Returns and far transfers.
     Row { mask: 0xFE_00_00, key: 0xC2_00_00, kind: Kind::Return },
     Row { mask: 0xFE_FE_00, key: 0xF2_C2_00, kind: Kind::Return },
@@ -27,88 +29,142 @@ pub(crate) static ROWS: [Row; 75] = [
     Row { mask: 0xFF_00_00, key: 0xCF_00_00, kind: Kind::Far },
     Row { mask: 0xFF_00_00, key: 0x9A_00_00, kind: Kind::Far },
     Row { mask: 0xFF_00_00, key: 0xEA_00_00, kind: Kind::Far },
+    // Group 5: with a register, what isn't a near transfer is nothing; in memory, far and near transfers.
+    Row { mask: 0xFF_C0_00, key: 0xFF_C0_00, kind: Kind::General },
     Row { mask: 0xFF_38_00, key: 0xFF_18_00, kind: Kind::Far },
     Row { mask: 0xFF_38_00, key: 0xFF_28_00, kind: Kind::Far },
-    // Transfers by memory.
-    Row { mask: 0xFF_38_00, key: 0xFF_10_00, kind: Kind::CallByMemory },
-    Row { mask: 0xFF_38_00, key: 0xFF_20_00, kind: Kind::JumpByMemory },
+    Row { mask: 0xFF_38_00, key: 0xFF_10_00, kind: Kind::CallThroughMemory },
+    Row { mask: 0xFF_38_00, key: 0xFF_20_00, kind: Kind::JumpThroughMemory },
     // Floating point, FWAIT, SAHF and LAHF.
     Row { mask: 0xF8_00_00, key: 0xD8_00_00, kind: Kind::FloatingPoint },
     Row { mask: 0xFF_00_00, key: 0x9B_00_00, kind: Kind::FloatingPoint },
     Row { mask: 0xFE_00_00, key: 0x9E_00_00, kind: Kind::FloatingPoint },
     // Entries and jumps, hints and counting of bits, by the prefixes F3 and 3E.
     Row { mask: 0xFF_FF_FF, key: 0xF3_0F_1E, kind: Kind::EntryMark },
-    Row { mask: 0xFF_FF_00, key: 0x3E_FF_00, kind: Kind::EntryMark },
+    Row { mask: 0xFF_FF_38, key: 0x3E_FF_10, kind: Kind::EntryMark },
+    Row { mask: 0xFF_FF_38, key: 0x3E_FF_20, kind: Kind::EntryMark },
     Row { mask: 0xFF_FF_00, key: 0xF3_90_00, kind: Kind::Pause },
     Row { mask: 0xFF_FF_FE, key: 0xF3_0F_BC, kind: Kind::TrailingZeros },
     Row { mask: 0xFF_FF_FF, key: 0xF3_0F_B8, kind: Kind::Population },
-    // The system, after 0F: SYSCALL, SYSENTER, SYSEXIT, RDTSC to RDPMC, and what only the system may do.
-    Row { mask: 0xFF_FF_00, key: 0x0F_05_00, kind: Kind::SystemCall },
+    // The system, after 0F: SYSCALL and SYSRET, SYSENTER and SYSEXIT, and what only the system may do.
+    Row { mask: 0xFF_FD_00, key: 0x0F_05_00, kind: Kind::SystemCall },
     Row { mask: 0xFF_FE_00, key: 0x0F_34_00, kind: Kind::SystemCall },
-    Row { mask: 0xFF_FC_00, key: 0x0F_30_00, kind: Kind::Clock },
-    Row { mask: 0xFF_FE_00, key: 0x0F_00_00, kind: Kind::Privileged },
-    Row { mask: 0xFF_FC_00, key: 0x0F_08_00, kind: Kind::Privileged },
-    Row { mask: 0xFF_F8_00, key: 0x0F_20_00, kind: Kind::Privileged },
+    Row { mask: 0xFF_FF_FF, key: 0x0F_01_F9, kind: Kind::Clock },
+    Row { mask: 0xFF_FD_00, key: 0x0F_31_00, kind: Kind::Clock },
+    Row { mask: 0xFF_FF_F0, key: 0x0F_C7_F0, kind: Kind::Clock },
+    Row { mask: 0xFF_FF_30, key: 0x0F_C7_30, kind: Kind::Privileged },
+    Row { mask: 0xFF_FD_00, key: 0x0F_30_00, kind: Kind::Privileged },
+    Row { mask: 0xFF_FC_00, key: 0x0F_00_00, kind: Kind::Privileged },
     Row { mask: 0xFF_FF_00, key: 0x0F_06_00, kind: Kind::Privileged },
-    // Prefetches, fences and moves of later processors.
+    Row { mask: 0xFF_FE_00, key: 0x0F_08_00, kind: Kind::Privileged },
+    Row { mask: 0xFF_FC_00, key: 0x0F_20_00, kind: Kind::Privileged },
+    Row { mask: 0xFF_FF_00, key: 0x0F_37_00, kind: Kind::Privileged },
+    Row { mask: 0xFF_FE_00, key: 0x0F_78_00, kind: Kind::Privileged },
+    Row { mask: 0xFF_FF_00, key: 0x0F_AA_00, kind: Kind::Privileged },
+    // Undefined instructions: UD1 and UD0.
+    Row { mask: 0xFF_FF_00, key: 0x0F_B9_00, kind: Kind::Trap },
+    Row { mask: 0xFF_FF_00, key: 0x0F_FF_00, kind: Kind::Trap },
+    Row { mask: 0xFF_FF_FF, key: 0x66_0F_FF, kind: Kind::Trap },
+    Row { mask: 0xFE_FF_FF, key: 0xF2_0F_FF, kind: Kind::Trap },
+    // Prefetches, and other hints that are long nops.
     Row { mask: 0xFF_FF_00, key: 0x0F_0D_00, kind: Kind::Prefetch },
-    Row { mask: 0xFF_FF_00, key: 0x0F_18_00, kind: Kind::Prefetch },
-    Row { mask: 0xFF_FF_00, key: 0x0F_AE_00, kind: Kind::Fence },
-    Row { mask: 0xFF_FF_00, key: 0x0F_38_00, kind: Kind::LaterMove },
-    Row { mask: 0xFF_FF_FF, key: 0x66_0F_38, kind: Kind::LaterMove },
+    Row { mask: 0xFF_F8_C0, key: 0x0F_18_C0, kind: Kind::Padding },
+    Row { mask: 0xFF_FF_20, key: 0x0F_18_00, kind: Kind::Prefetch },
+    Row { mask: 0xFF_FE_00, key: 0x0F_1A_00, kind: Kind::General },
+    Row { mask: 0xFF_F8_00, key: 0x0F_18_00, kind: Kind::Padding },
+    // Groups 15 and 9: fences with a register, state in memory.
+    Row { mask: 0xFF_FF_F8, key: 0x0F_AE_E8, kind: Kind::Fence },
+    Row { mask: 0xFF_FF_F0, key: 0x0F_AE_F0, kind: Kind::Fence },
+    Row { mask: 0xFF_FF_C0, key: 0x0F_AE_C0, kind: Kind::General },
+    Row { mask: 0xFF_FF_00, key: 0x0F_AE_00, kind: Kind::State },
+    Row { mask: 0xFF_FF_38, key: 0x0F_C7_18, kind: Kind::State },
+    Row { mask: 0xFF_FF_30, key: 0x0F_C7_20, kind: Kind::State },
     // Segment registers, after 0F.
     Row { mask: 0xFF_F6_00, key: 0x0F_A0_00, kind: Kind::SegmentRegister },
     Row { mask: 0xFF_FF_00, key: 0x0F_B2_00, kind: Kind::SegmentRegister },
     Row { mask: 0xFF_FE_00, key: 0x0F_B4_00, kind: Kind::SegmentRegister },
-    // Vectors, after 0F, also by prefixes.
+    // Opcodes of three bytes.
+    Row { mask: 0xFF_FD_00, key: 0x0F_38_00, kind: Kind::Later },
+    Row { mask: 0xFF_FF_FD, key: 0x66_0F_38, kind: Kind::Later },
+    Row { mask: 0xFE_FF_FD, key: 0xF2_0F_38, kind: Kind::Later },
+    // Vectors, after 0F.
+    Row { mask: 0xFF_FE_00, key: 0x0F_0E_00, kind: Kind::Vector },
     Row { mask: 0xFF_F8_00, key: 0x0F_10_00, kind: Kind::Vector },
     Row { mask: 0xFF_F8_00, key: 0x0F_28_00, kind: Kind::Vector },
     Row { mask: 0xFF_F0_00, key: 0x0F_50_00, kind: Kind::Vector },
     Row { mask: 0xFF_E0_00, key: 0x0F_60_00, kind: Kind::Vector },
-    Row { mask: 0xFF_FF_00, key: 0x0F_3A_00, kind: Kind::Vector },
-    Row { mask: 0xFF_FF_00, key: 0x0F_C2_00, kind: Kind::Vector },
+    Row { mask: 0xFF_FE_00, key: 0x0F_C2_00, kind: Kind::Vector },
     Row { mask: 0xFF_FE_00, key: 0x0F_C4_00, kind: Kind::Vector },
     Row { mask: 0xFF_FF_00, key: 0x0F_C6_00, kind: Kind::Vector },
     Row { mask: 0xFF_F0_00, key: 0x0F_D0_00, kind: Kind::Vector },
     Row { mask: 0xFF_E0_00, key: 0x0F_E0_00, kind: Kind::Vector },
-    Row { mask: 0xFF_FF_00, key: 0x66_0F_00, kind: Kind::Vector },
-    Row { mask: 0xFF_FF_00, key: 0xF2_0F_00, kind: Kind::Vector },
-    Row { mask: 0xFF_FF_00, key: 0xF3_0F_00, kind: Kind::Vector },
-    // Interrupts.
-    Row { mask: 0xFF_00_00, key: 0xCC_00_00, kind: Kind::Breakpoint },
-    Row { mask: 0xFE_00_00, key: 0xCC_00_00, kind: Kind::SystemCall },
+    // Vectors, after 66 0F.
+    Row { mask: 0xFF_FF_F8, key: 0x66_0F_10, kind: Kind::Vector },
+    Row { mask: 0xFF_FF_F8, key: 0x66_0F_28, kind: Kind::Vector },
+    Row { mask: 0xFF_FF_F0, key: 0x66_0F_50, kind: Kind::Vector },
+    Row { mask: 0xFF_FF_E0, key: 0x66_0F_60, kind: Kind::Vector },
+    Row { mask: 0xFF_FF_FF, key: 0x66_0F_C2, kind: Kind::Vector },
+    Row { mask: 0xFF_FF_FE, key: 0x66_0F_C4, kind: Kind::Vector },
+    Row { mask: 0xFF_FF_FF, key: 0x66_0F_C6, kind: Kind::Vector },
+    Row { mask: 0xFF_FF_F0, key: 0x66_0F_D0, kind: Kind::Vector },
+    Row { mask: 0xFF_FF_E0, key: 0x66_0F_E0, kind: Kind::Vector },
+    // Vectors, after F2 0F and F3 0F.
+    Row { mask: 0xFE_FF_F8, key: 0xF2_0F_10, kind: Kind::Vector },
+    Row { mask: 0xFE_FF_F8, key: 0xF2_0F_28, kind: Kind::Vector },
+    Row { mask: 0xFE_FF_F0, key: 0xF2_0F_50, kind: Kind::Vector },
+    Row { mask: 0xFE_FF_E0, key: 0xF2_0F_60, kind: Kind::Vector },
+    Row { mask: 0xFE_FF_FF, key: 0xF2_0F_C2, kind: Kind::Vector },
+    Row { mask: 0xFE_FF_F0, key: 0xF2_0F_D0, kind: Kind::Vector },
+    Row { mask: 0xFE_FF_E0, key: 0xF2_0F_E0, kind: Kind::Vector },
+    // Interrupts, and BOUND where it isn't AVX-512.
+    Row { mask: 0xFF_00_00, key: 0xCC_00_00, kind: Kind::Trap },
+    Row { mask: 0xFF_00_00, key: 0xF1_00_00, kind: Kind::Trap },
+    Row { mask: 0xFF_00_00, key: 0xCD_00_00, kind: Kind::SystemCall },
     Row { mask: 0xFF_00_00, key: 0xCE_00_00, kind: Kind::SystemCall },
-    Row { mask: 0xFF_00_00, key: 0xF1_00_00, kind: Kind::Breakpoint },
+    Row { mask: 0xFF_C0_00, key: 0x62_C0_00, kind: Kind::Avx },
+    Row { mask: 0xFF_00_00, key: 0x62_00_00, kind: Kind::SystemCall },
+    // AVX with a register, where without one it is LES or LDS; XOP where it isn't POP.
+    Row { mask: 0xFE_C0_00, key: 0xC4_C0_00, kind: Kind::Avx },
+    Row { mask: 0xFE_00_00, key: 0xC4_00_00, kind: Kind::SegmentRegister },
+    Row { mask: 0xFF_38_00, key: 0x8F_00_00, kind: Kind::PopMemory },
+    Row { mask: 0xFF_08_00, key: 0x8F_08_00, kind: Kind::Avx },
+    Row { mask: 0xFF_10_00, key: 0x8F_10_00, kind: Kind::Avx },
     // Padding: 66 before another prefix, and segments before a long nop or LEA.
-    Row { mask: 0xFF_FF_00, key: 0x66_66_00, kind: Kind::Padding },
-    Row { mask: 0xFF_E7_00, key: 0x66_26_00, kind: Kind::Padding },
-    Row { mask: 0xFF_FF_FF, key: 0x2E_0F_1F, kind: Kind::Padding },
+    Row { mask: 0xFF_FF_FF, key: 0x66_66_90, kind: Kind::Padding },
+    Row { mask: 0xFF_FF_FF, key: 0x66_66_66, kind: Kind::Padding },
+    Row { mask: 0xFF_FF_E7, key: 0x66_66_26, kind: Kind::Padding },
+    Row { mask: 0xFF_FF_FF, key: 0x66_66_0F, kind: Kind::Padding },
+    Row { mask: 0xFF_E7_FF, key: 0x66_26_0F, kind: Kind::Padding },
+    Row { mask: 0xE7_FF_FF, key: 0x26_0F_1F, kind: Kind::Padding },
     Row { mask: 0xE7_FF_00, key: 0x26_8D_00, kind: Kind::Padding },
-    // Segment prefixes: 26, 2E, 36, 3E, 64, 65; and segment registers.
+    // Segment prefixes, also after 66: 26, 2E, 36, 3E, 64, 65; and segment registers.
     Row { mask: 0xE7_00_00, key: 0x26_00_00, kind: Kind::Segment },
     Row { mask: 0xFE_00_00, key: 0x64_00_00, kind: Kind::Segment },
+    Row { mask: 0xFF_E7_00, key: 0x66_26_00, kind: Kind::Segment },
+    Row { mask: 0xFF_FE_00, key: 0x66_64_00, kind: Kind::Segment },
     Row { mask: 0xFD_00_00, key: 0x8C_00_00, kind: Kind::SegmentRegister },
     Row { mask: 0xFE_00_00, key: 0x06_00_00, kind: Kind::SegmentRegister },
     Row { mask: 0xFF_00_00, key: 0x0E_00_00, kind: Kind::SegmentRegister },
     Row { mask: 0xF6_00_00, key: 0x16_00_00, kind: Kind::SegmentRegister },
-    // AVX, where it isn't a load of a segment register.
-    Row { mask: 0xFE_00_00, key: 0xC4_00_00, kind: Kind::Avx },
-    Row { mask: 0xFF_00_00, key: 0x62_00_00, kind: Kind::Avx },
-    // Devices and the system: INS to OUTS, IN and OUT, CLI and STI.
+    // Devices and the system: INS to OUTS, also repeated, IN and OUT, CLI and STI, ARPL.
     Row { mask: 0xFC_00_00, key: 0x6C_00_00, kind: Kind::Privileged },
+    Row { mask: 0xFE_FC_00, key: 0xF2_6C_00, kind: Kind::Privileged },
     Row { mask: 0xF4_00_00, key: 0xE4_00_00, kind: Kind::Privileged },
     Row { mask: 0xFE_00_00, key: 0xFA_00_00, kind: Kind::Privileged },
+    Row { mask: 0xFF_00_00, key: 0x63_00_00, kind: Kind::Privileged },
     // Single instructions.
     Row { mask: 0xFF_00_00, key: 0x67_00_00, kind: Kind::AddressSize },
-    Row { mask: 0xFF_00_00, key: 0x8F_00_00, kind: Kind::PopMemory },
     Row { mask: 0xFF_00_00, key: 0xC8_00_00, kind: Kind::Frame },
     Row { mask: 0xFE_00_00, key: 0x9C_00_00, kind: Kind::Flags },
     Row { mask: 0xFE_00_00, key: 0x60_00_00, kind: Kind::AllRegisters },
     Row { mask: 0xFF_00_00, key: 0xD7_00_00, kind: Kind::TableByte },
     // Prefixes before what they don't fit.
-    Row { mask: 0xFF_00_00, key: 0x66_00_00, kind: Kind::Prefix },
-    Row { mask: 0xFE_00_00, key: 0xF2_00_00, kind: Kind::Prefix },
-    Row { mask: 0xFF_00_00, key: 0xF0_00_00, kind: Kind::Prefix },
+    Row { mask: 0xFF_00_00, key: 0xF0_00_00, kind: Kind::Lock },
+    Row { mask: 0xFF_FF_00, key: 0x66_F0_00, kind: Kind::Lock },
+    Row { mask: 0xFE_FF_00, key: 0xF2_F0_00, kind: Kind::Lock },
+    Row { mask: 0xFF_FE_00, key: 0x66_F2_00, kind: Kind::Repeat },
+    Row { mask: 0xFE_00_00, key: 0xF2_00_00, kind: Kind::Repeat },
+    Row { mask: 0xFF_00_00, key: 0x66_00_00, kind: Kind::OperandSize },
 ];
 
 /// A byte, or 0 after the last.
@@ -138,18 +194,89 @@ fn kind_in(rows: &[Row], key: u32) -> Kind
     Kind::General
 }
 
-/// What a fault means, in plain words; the bytes are those that begin where it stands.
-pub(crate) fn words_for(fault: VetFault, bytes: &[u8]) -> &'static [u8]
+/// A prefix stands in the last byte of its bundle, away from its instruction.
+fn is_cut_prefix(at: u32, byte: u8) -> bool
+    ensures { result ≡ is_cut_prefix at byte }
+{
+    at % BUNDLE == 31 && (byte == 0xF0 || byte == 0xF2 || byte == 0xF3)
+}
+
+/// What a fault means; the bytes are those from its place on, or all of the code where it has none.
+fn meaning(fault: VetFault, bytes: &[u8]) -> &'static [u8]
     ensures { result.now ≡ meaning_of fault bytes.now }
 {
     match fault {
         VetFault::BadBase => BAD_BASE,
+        VetFault::BadLength if bytes.len() == 0 => EMPTY_FILE,
         VetFault::BadLength => BAD_LENGTH,
         VetFault::OutOfRange => OUT_OF_RANGE,
         VetFault::NotPermitted { .. } => kind_in(&ROWS, key_of(bytes)).words(),
+        VetFault::Crosses { at } if is_cut_prefix(at, byte_at(bytes, 0)) => CUT_PREFIX,
         VetFault::Crosses { .. } => CROSSES,
         VetFault::Bare { .. } => BARE,
         VetFault::BadTarget { .. } => BAD_TARGET,
         VetFault::OutOfMemory => NO_MEMORY,
     }
+}
+
+/// The code begins as an ELF file does.
+fn is_elf(code: &[u8]) -> bool
+    ensures { result ≡ is_elf code.now }
+{
+    key_of(code) == 0x7F_45_4C && byte_at(code, 3) == 0x46
+}
+
+/// The code begins as an archive does, as `ar` makes it.
+fn is_archive(code: &[u8]) -> bool
+    ensures { result ≡ is_archive code.now }
+{
+    code.starts_with(b"!<arch>\n")
+}
+
+/// A byte of ASCII text: a printable character, a tab, or the end of a line.
+fn is_of_text(byte: u8) -> bool
+    ensures { result ≡ is_of_text byte }
+{
+    (byte >= 0x20 && byte < 0x7F) || byte == b'\t' || byte == b'\n' || byte == b'\r'
+}
+
+/// Each of these bytes is one of text.
+fn are_of_text(bytes: &[u8]) -> bool
+    ensures { result ≡ list_all is_of_text bytes.now }
+{
+    bytes.iter().all(|byte| is_of_text(*byte))
+}
+
+/// The bytes that would be the first bundle, or all if there are fewer.
+fn first_bundle(code: &[u8]) -> &[u8]
+    ensures { result.now ≡ take 32 code.now }
+{
+    if code.len() < BUNDLE as usize {
+        return code;
+    }
+    &code[..BUNDLE as usize]
+}
+
+/// The bytes that would be the first bundle are text.
+fn is_text(code: &[u8]) -> bool
+    ensures { result ≡ is_text code.now }
+{
+    code.len() > 0 && are_of_text(first_bundle(code))
+}
+
+/// What is said of a fault at a place of some code, 0 where it has none.
+pub(crate) fn words_about(code: &[u8], fault: VetFault, place: usize) -> &'static [u8]
+    requires { place ≤ length code.now }
+    ensures { result.now ≡ words_about code.now fault place }
+{
+    if is_elf(code) {
+        return ELF_FILE;
+    }
+    if is_archive(code) {
+        return ARCHIVE;
+    }
+    if is_text(code) {
+        return TEXT;
+    }
+    meaning(fault, &code[place..])
 }

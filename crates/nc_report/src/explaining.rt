@@ -1,11 +1,12 @@
-//! The lines on a fault: its bundle, and what it means.
+//! The lines on a fault: its bundle, where a refused transfer goes, and what the fault means.
 
 ghost use Rattle.std.specs.Prelude.{◌≡◌, ◌++◌, OnOk};
-ghost use Rattle.nc_report.specs.Report.{place_of, detail_line, Explains};
-ghost use Rattle.nc_report.specs.machinery.Found.{IsPlaced, AddsLines};
+ghost use Rattle.nc_report.specs.Report.{place_of, detail_line, AddsTarget, Explains};
+ghost use Rattle.nc_report.specs.machinery.Found.{IsPlaced, IsRealTarget, AddsLines};
 
-use crate::advice::words_for;
+use crate::advice::words_about;
 use crate::listing::push_bundle;
+use crate::targets::push_target;
 use nc_decode::BUNDLE;
 use nc_vet::VetFault;
 use std::alloc::{AllocError, Global};
@@ -24,7 +25,7 @@ pub(crate) fn place_of(fault: VetFault) -> Option<u32>
 }
 
 /// Adds a line of words.
-fn push_words(out: &mut Vec<u8>, words: &[u8]) -> Result<(), AllocError>
+pub(crate) fn push_words(out: &mut Vec<u8>, words: &[u8]) -> Result<(), AllocError>
     ensures { OnOk result (out.new.items ≡ out.old.items ++ detail_line words.now) }
 {
     out.extend_from_slice(b"  ")?;
@@ -33,23 +34,43 @@ fn push_words(out: &mut Vec<u8>, words: &[u8]) -> Result<(), AllocError>
     Ok(())
 }
 
-/// Adds the bundle of a fault, if it has an address, and what the fault means.
-pub(crate) fn push_explained(
+/// Adds where a refused direct transfer goes, and why it may not. For any other fault it adds nothing.
+fn push_more(
     out: &mut Vec<u8>,
+    limit: u32,
     base: u32,
     code: &[u8],
     fault: VetFault,
 ) -> Result<(), AllocError>
-    requires { IsPlaced base code.now fault }
-    ensures { OnOk result (AddsLines out.old.items out.new.items (Explains base code.now fault)) }
+    requires { IsRealTarget limit base code.now fault }
+    ensures { OnOk result (AddsLines out.old.items out.new.items (AddsTarget limit base code.now fault)) }
+{
+    match fault {
+        VetFault::BadTarget { at } => push_target(out, limit, base, code, at),
+        _ => Ok(()),
+    }
+}
+
+/// Adds the bundle of a fault, if it has an address, where a refused direct transfer goes, and what the fault means.
+pub(crate) fn push_explained(
+    out: &mut Vec<u8>,
+    limit: u32,
+    base: u32,
+    code: &[u8],
+    fault: VetFault,
+) -> Result<(), AllocError>
+    requires placed { IsPlaced base code.now fault }
+    requires real { IsRealTarget limit base code.now fault }
+    ensures { OnOk result (AddsLines out.old.items out.new.items (Explains limit base code.now fault)) }
 {
     let Some(at) = place_of(fault) else {
-        return push_words(out, words_for(fault, &[]));
+        return push_words(out, words_about(code, fault, 0));
     };
     let size = BUNDLE as usize;
     let place = (at - base) as usize;
     let before = place % size;
     let start = place - before;
     push_bundle(out, base + start as u32, &code[start..start + size], before)?;
-    push_words(out, words_for(fault, &code[place..]))
+    push_more(out, limit, base, code, fault)?;
+    push_words(out, words_about(code, fault, place))
 }

@@ -15,26 +15,28 @@ pub(crate) enum Kind {
     /// A far transfer: to another segment, or IRET.
     Far,
     /// A call whose address is in memory.
-    CallByMemory,
+    CallThroughMemory,
     /// A jump whose address is in memory.
-    JumpByMemory,
-    /// Floating point, and the instructions that move its flags: SAHF and LAHF.
+    JumpThroughMemory,
+    /// x87 floating point, and the instructions that move its flags: SAHF and LAHF.
     FloatingPoint,
-    /// SSE or MMX.
+    /// SSE, SSE2, SSE3, MMX or 3DNow.
     Vector,
-    /// AVX, or LES, LDS or BOUND.
+    /// AVX, AVX-512 or XOP.
     Avx,
+    /// FXSAVE, FXRSTOR, LDMXCSR, STMXCSR, XSAVE and its neighbours, CLFLUSH.
+    State,
     /// A prefetch.
     Prefetch,
-    /// A fence, or what is in its group.
+    /// LFENCE, MFENCE or SFENCE.
     Fence,
-    /// INT, INTO, SYSCALL, SYSENTER.
+    /// INT, INTO, BOUND, SYSCALL, SYSENTER and the returns from them.
     SystemCall,
-    /// INT3 or INT1.
-    Breakpoint,
-    /// RDTSC and its neighbours.
+    /// INT3, INT1, UD0 or UD1.
+    Trap,
+    /// RDTSC, RDTSCP, RDPMC, RDRAND, RDSEED.
     Clock,
-    /// IN, OUT, and what only the system may do.
+    /// IN, OUT, and what only the operating system may do or has a use for.
     Privileged,
     /// ENDBR32 or ENDBR64, or an indirect transfer with the prefix NOTRACK.
     EntryMark,
@@ -44,13 +46,13 @@ pub(crate) enum Kind {
     TrailingZeros,
     /// POPCNT.
     Population,
-    /// MOVBE, or a vector instruction of three bytes.
-    LaterMove,
-    /// A long nop, or LEA as one, with more prefixes than one.
+    /// MOVBE, CRC32, SSSE3, SSE4 and the like: the opcodes of three bytes.
+    Later,
+    /// A long nop, or LEA as one, in a form that isn't permitted.
     Padding,
     /// A segment prefix.
     Segment,
-    /// A segment register moved, pushed or popped.
+    /// A segment register moved, pushed, popped or loaded with a pointer.
     SegmentRegister,
     /// The prefix 67.
     AddressSize,
@@ -64,8 +66,12 @@ pub(crate) enum Kind {
     AllRegisters,
     /// XLAT.
     TableByte,
-    /// A prefix that doesn't fit.
-    Prefix,
+    /// The prefix F0 where it isn't permitted.
+    Lock,
+    /// The prefixes F2 and F3 where they aren't permitted.
+    Repeat,
+    /// The prefix 66 where it isn't permitted.
+    OperandSize,
 }
 
 impl Kind {
@@ -77,22 +83,23 @@ impl Kind {
             Kind::General => GENERAL,
             Kind::Return => RETURN,
             Kind::Far => FAR,
-            Kind::CallByMemory => CALL_BY_MEMORY,
-            Kind::JumpByMemory => JUMP_BY_MEMORY,
+            Kind::CallThroughMemory => CALL_THROUGH_MEMORY,
+            Kind::JumpThroughMemory => JUMP_THROUGH_MEMORY,
             Kind::FloatingPoint => FLOATING_POINT,
             Kind::Vector => VECTOR,
             Kind::Avx => AVX,
+            Kind::State => STATE,
             Kind::Prefetch => PREFETCH,
             Kind::Fence => FENCE,
             Kind::SystemCall => SYSTEM_CALL,
-            Kind::Breakpoint => BREAKPOINT,
+            Kind::Trap => TRAP,
             Kind::Clock => CLOCK,
             Kind::Privileged => PRIVILEGED,
             Kind::EntryMark => ENTRY_MARK,
             Kind::Pause => PAUSE,
             Kind::TrailingZeros => TRAILING_ZEROS,
             Kind::Population => POPULATION,
-            Kind::LaterMove => LATER_MOVE,
+            Kind::Later => LATER,
             Kind::Padding => PADDING,
             Kind::Segment => SEGMENT,
             Kind::SegmentRegister => SEGMENT_REGISTER,
@@ -102,7 +109,9 @@ impl Kind {
             Kind::Flags => FLAGS,
             Kind::AllRegisters => ALL_REGISTERS,
             Kind::TableByte => TABLE_BYTE,
-            Kind::Prefix => PREFIX,
+            Kind::Lock => LOCK,
+            Kind::Repeat => REPEAT,
+            Kind::OperandSize => OPERAND_SIZE,
         }
     }
 }

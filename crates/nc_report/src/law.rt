@@ -1,9 +1,16 @@
-//! The law of details.
+//! The laws of details and of readings.
 
 ghost use Rattle.nc_report.specs.Lines.{KeepsLines};
+ghost use Rattle.nc_report.specs.Reading.{IsReadOneWay};
 
 /// Each line of details is one line, so it begins with the two spaces that are written before it, and none can be taken
 /// for a verdict. It does nothing when it is called.
 pub fn law_of_details()
     ensures { KeepsLines }
+{}
+
+/// The reading of a refused chunk is determined by the chunk's code, and so are the lines on its faults. It does nothing
+/// when it is called.
+pub fn law_of_readings()
+    ensures { IsReadOneWay }
 {}

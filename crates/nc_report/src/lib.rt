@@ -4,28 +4,44 @@
 //! order. Both stand over any reader and writer, so that their contracts can name the bytes. The first line of what is
 //! written of a source is its verdict; lines after it begin with two spaces.
 //!
-//! `telling` writes what is said of one source, `explaining` what is said of a fault, `listing` shows a bundle, `advice` knows
-//! what a refused instruction is, `others` looks through the other bundles of a refused chunk, and `counting` counts the
-//! instructions of a valid one.
+//! `telling` writes what is said of one source, `explaining` what is said of a fault, `listing` shows a bundle, `targets` says
+//! where a refused direct transfer goes, `advice` knows what a refused instruction is, and `counting` counts the instructions of
+//! a valid chunk.
+//!
+//! All faults of a refused chunk are found by one reading of it: `steps` reads it past its faults, with the lengths that
+//! `lengths` knows ([`known_len`]), and gives a `spot` for each byte; `further` finds the faults by the spots, `aim` says where
+//! a bad transfer goes, `others` writes the lines on each fault, and `totals` counts them.
 #![tactic(auto)]
 
 mod advice;
+mod aim;
 mod counting;
 mod detail;
 mod explaining;
 mod fault;
+mod further;
 mod kind;
 mod law;
+mod lengths;
 mod listing;
 mod numbers;
+mod objects;
 mod others;
+mod outside;
 mod reporting;
 mod source;
+mod spot;
+mod steps;
+mod targets;
 mod telling;
+mod totals;
 mod words;
 
 pub use detail::Detail;
 pub use fault::{ReportFault, SourceFault};
-pub use law::law_of_details;
+pub use law::{law_of_details, law_of_readings};
+pub use lengths::known_len;
+pub use nc_lines::Piped;
+pub use objects::push_file_object;
 pub use reporting::report;
 pub use source::{MOST_BYTES, Source, read_source};

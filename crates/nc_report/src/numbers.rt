@@ -16,7 +16,7 @@ pub(crate) fn push_number(alloc: Global, out: &mut Vec<u8>, number: usize) -> Re
 }
 
 /// Adds the two digits of a byte.
-fn push_byte(out: &mut Vec<u8>, byte: u8) -> Result<(), AllocError>
+pub(crate) fn push_byte(out: &mut Vec<u8>, byte: u8) -> Result<(), AllocError>
     ensures { OnOk result (out.new.items ≡ out.old.items ++ encode_lower (byte ∷ [])) }
 {
     let mut digits = [0u8; 2];

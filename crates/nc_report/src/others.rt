@@ -1,103 +1,164 @@
-//! The other bundles of a refused chunk, each read by itself.
+//! The other faults of a refused chunk, by one reading of all of it.
 
-ghost use Rattle.std.specs.Prelude.{◌≡◌, ◌≢◌, ◌++◌, ◌+◌, ◌/◌, ◌<◌, ℕ, List, length, take, MatchOption, IfOk, IfErr, OnOk, OnErr};
+ghost use Rattle.std.specs.Prelude.{◌≡◌, ◌++◌, ◌∷◌, [], ◌+◌, ◌-◌, ◌%◌, ◌<◌, ◌≤◌, ◌^◌, ℕ, Bool, List, length, take, codes, if◌then◌else◌, Some, IfErr, OnOk, OnErr};
+ghost use Rattle.std.specs.List.{flat_map};
 ghost use Rattle.std.specs.Io.KnownBytes.{Appends};
-ghost use Rattle.nc_vet.specs.Faults.{HasFault, HasGoodSpan};
-ghost use Rattle.nc_vet.specs.declared.fault.VetFault.{VetFault};
-ghost use Rattle.nc_vet.specs.declared.fault.VetFault.TheVariants as vet;
-ghost use Rattle.nc_report.specs.Report.{IsOfReading, ExplainsBundle, ExplainsOther, ExplainsOthers};
-ghost use Rattle.nc_report.specs.machinery.Found.{IsOfWriting, AddsLines, WritesLines, CutsLines, AreSomeOthers};
+ghost use Rattle.nc_vet.specs.Faults.{HasGoodSpan};
+ghost use Rattle.nc_report.specs.Listing.{spaced};
+ghost use Rattle.nc_report.specs.Further.{parted, listing, goes_lines, lines_on, lines_at};
+ghost use Rattle.nc_report.specs.Report.{detail_line, ReportsOthers, ReportsSome};
+ghost use Rattle.nc_report.specs.machinery.Found.{IsOfWriting, WritesLines, CutsLines, AreLinesTo, AreSomeLines};
 
-use crate::explaining::push_explained;
+use crate::advice::words_about;
+use crate::aim::push_aim;
+use crate::explaining::push_words;
 use crate::fault::ReportFault;
+use crate::further::{fault_at, is_begun};
+use crate::numbers::{push_byte, push_bytes};
+use crate::spot::{Spot, spot_at};
+use crate::steps::read_spots;
+use crate::totals::push_last;
 use nc_decode::BUNDLE;
-use nc_lines::{push_name, write_out};
-use nc_vet::{VetFault, judge};
+use nc_lines::{push_address, push_name, write_out};
+use nc_vet::VetFault;
 use std::alloc::{AllocError, Global};
 use std::io::Write;
 
 /// So many bytes of text are written at a time, or somewhat more.
 const PIECE: usize = 65536;
 
-/// The fault, if the reading of a bundle shows it. Lack of memory is no verdict.
-fn of_reading(fault: VetFault) -> Result<Option<VetFault>, AllocError>
-    ensures { IfOk result (λ found. MatchOption found ((fault ≢ vet.OutOfMemory) × ¬ IsOfReading fault)
-        (λ read. (read ≡ fault) × IsOfReading read)) }
+/// Adds a byte after a space, and perhaps a bar after it.
+fn push_barred(out: &mut Vec<u8>, byte: u8, barred: bool) -> Result<(), AllocError>
+    ensures { OnOk result (out.new.items ≡ out.old.items ++ (spaced (byte ∷ []) ++ (if barred then codes " |" else []))) }
 {
-    match fault {
-        VetFault::NotPermitted { .. } => Ok(Some(fault)),
-        VetFault::Crosses { .. } => Ok(Some(fault)),
-        VetFault::Bare { .. } => Ok(Some(fault)),
-        VetFault::OutOfMemory => Err(AllocError),
-        _ => Ok(None),
+    out.push(b' ')?;
+    push_byte(out, byte)?;
+    if barred {
+        out.extend_from_slice(b" |")?;
     }
+    Ok(())
 }
 
-/// The fault that a bundle has when it is read by itself, if there is one. What its transfers go to isn't judged.
-fn read_fault(
-    alloc: Global,
-    address: u32,
-    limit: u32,
-    bundle: &[u8],
-) -> Result<Option<VetFault>, AllocError>
-    ensures { IfOk result (λ found. MatchOption found
-        ((fault : VetFault) → IsOfReading fault → ¬ HasFault address limit bundle.now fault)
-        (λ fault. IsOfReading fault × HasFault address limit bundle.now fault)) }
-{
-    let Err(fault) = judge(alloc, address, limit, bundle) else {
-        return Ok(None);
-    };
-    of_reading(fault)
-}
-
-/// Adds what is said of a bundle, if it has a fault when it is read by itself.
-fn push_bundle_fault(
-    alloc: Global,
+/// Adds so many bytes from a place on, with a bar before each instruction but the first.
+fn push_parted(
     out: &mut Vec<u8>,
-    address: u32,
-    limit: u32,
-    bundle: &[u8],
+    code: &[u8],
+    spots: &[Spot],
+    start: usize,
+    count: usize,
 ) -> Result<(), AllocError>
-    requires { HasGoodSpan address limit (length bundle.now) }
-    ensures { OnOk result (AddsLines out.old.items out.new.items (ExplainsBundle limit address bundle.now)) }
+    requires { start + count ≤ length code.now }
+    ensures { OnOk result (out.new.items ≡ out.old.items ++ parted code.now spots.now start count) }
 {
-    match read_fault(alloc, address, limit, bundle)? {
-        Some(fault) => {
-            out.extend_from_slice(b"  also ")?;
-            push_name(out, fault)?;
-            out.push(b'\n')?;
-            push_explained(out, address, bundle, fault)
-        }
-        None => Ok(()),
+    for n in 0..count {
+        let k = start + n;
+        push_barred(out, code[k], is_begun(spot_at(spots, k + 1)))?;
     }
+    Ok(())
 }
 
-/// Adds what is said of the bundle of this number, if it isn't the one of the chunk's own fault.
-fn push_other(
-    alloc: Global,
+/// Adds the line of the bundle of a fault at this place.
+fn push_listing(
+    out: &mut Vec<u8>,
+    base: u32,
+    code: &[u8],
+    spots: &[Spot],
+    k: usize,
+) -> Result<(), AllocError>
+    requires span { base + length code.now < 2 ^ 32 }
+    requires whole { length code.now % 32 ≡ 0 }
+    requires within { k < length code.now }
+    ensures { OnOk result (out.new.items ≡ out.old.items ++ detail_line (listing base code.now spots.now k)) }
+{
+    let size = BUNDLE as usize;
+    let before = k % size;
+    let start = k - before;
+    out.extend_from_slice(b"  ")?;
+    push_address(out, base + start as u32)?;
+    out.push(b':')?;
+    push_parted(out, code, spots, start, before)?;
+    out.extend_from_slice(b" >")?;
+    push_bytes(out, &code[k..start + size])?;
+    out.push(b'\n')?;
+    Ok(())
+}
+
+/// Adds where a direct transfer goes that goes where it may not. Of other faults it adds nothing.
+fn push_goes(
     out: &mut Vec<u8>,
     base: u32,
     limit: u32,
     code: &[u8],
+    spots: &[Spot],
+    k: usize,
+    fault: VetFault,
+) -> Result<(), AllocError>
+    requires span { base + length code.now < 2 ^ 32 }
+    requires each { length spots.now ≡ length code.now }
+    requires within { k < length code.now }
+    ensures { OnOk result (out.new.items ≡ out.old.items ++ flat_map detail_line (goes_lines base limit code.now spots.now k fault)) }
+{
+    match fault {
+        VetFault::BadTarget { .. } => push_aim(
+            out,
+            base,
+            limit,
+            spots,
+            &code[k..],
+            base + k as u32,
+        ),
+        _ => Ok(()),
+    }
+}
+
+/// Adds the lines on a fault at this place.
+fn push_also(
+    out: &mut Vec<u8>,
+    base: u32,
+    limit: u32,
+    code: &[u8],
+    spots: &[Spot],
+    k: usize,
+    fault: VetFault,
+) -> Result<(), AllocError>
+    requires span { base + length code.now < 2 ^ 32 }
+    requires whole { length code.now % 32 ≡ 0 }
+    requires each { length spots.now ≡ length code.now }
+    requires within { k < length code.now }
+    ensures { OnOk result (out.new.items ≡ out.old.items
+        ++ flat_map detail_line (lines_on base limit code.now spots.now k (Some fault))) }
+{
+    out.extend_from_slice(b"  also ")?;
+    push_name(out, fault)?;
+    out.push(b'\n')?;
+    push_listing(out, base, code, spots, k)?;
+    push_goes(out, base, limit, code, spots, k, fault)?;
+    push_words(out, words_about(code, fault, k))
+}
+
+/// Adds the lines on a place of the code, if there is a fault that isn't the chunk's own.
+fn push_place(
+    out: &mut Vec<u8>,
+    base: u32,
+    limit: u32,
+    code: &[u8],
+    spots: &[Spot],
     own: usize,
     k: usize,
 ) -> Result<(), AllocError>
-    requires span { HasGoodSpan base limit (length code.now) }
-    requires within { k < length code.now / 32 }
-    ensures { OnOk result (AddsLines out.old.items out.new.items (ExplainsOther limit base code.now own k)) }
+    requires span { base + length code.now < 2 ^ 32 }
+    requires whole { length code.now % 32 ≡ 0 }
+    requires each { length spots.now ≡ length code.now }
+    requires within { k < length code.now }
+    ensures { OnOk result (out.new.items ≡ out.old.items ++ flat_map detail_line (lines_at base limit code.now spots.now own k)) }
 {
     if k == own {
         return Ok(());
     }
-    let size = BUNDLE as usize;
-    let start = size * k;
-    push_bundle_fault(
-        alloc,
-        out,
-        base + start as u32,
-        limit,
-        &code[start..start + size],
-    )
+    match fault_at(base, limit, code, spots, k) {
+        Some(fault) => push_also(out, base, limit, code, spots, k, fault),
+        None => Ok(()),
+    }
 }
 
 /// Writes what is kept where it is much. What isn't written is kept.
@@ -119,7 +180,40 @@ fn write_much<W: Write>(out: &mut Vec<u8>, writer: &mut W) -> Result<(), ReportF
     Ok(())
 }
 
-/// Writes what is said of all bundles but one. What isn't written is kept.
+/// Writes the lines on all places of the code. What isn't written is kept.
+fn write_places<W: Write>(
+    out: &mut Vec<u8>,
+    base: u32,
+    limit: u32,
+    code: &[u8],
+    spots: &[Spot],
+    own: usize,
+    writer: &mut W,
+) -> Result<(), ReportFault>
+    requires span { base + length code.now < 2 ^ 32 }
+    requires whole { length code.now % 32 ≡ 0 }
+    requires each { length spots.now ≡ length code.now }
+    ensures ok { OnOk result (WritesLines (W.contents writer.old) (W.contents writer.new) out.old.items out.new.items
+        (AreLinesTo base limit code.now spots.now own (length code.now))) }
+    ensures cut { OnErr result (CutsLines (W.contents writer.old) (W.contents writer.new) out.old.items
+        (AreSomeLines base limit code.now spots.now own)) }
+    ensures faults { IfErr result IsOfWriting }
+{
+    for k in 0..code.len() {
+        match push_place(out, base, limit, code, spots, own, k) {
+            Ok(()) => {}
+            Err(_) => return Err(ReportFault::OutOfMemory),
+        }
+        match write_much(out, writer) {
+            Ok(()) => {}
+            Err(fault) => return Err(fault),
+        }
+    }
+    Ok(())
+}
+
+/// Reads all of the code once, past its faults, and writes what is said of each fault but the one at this place, and at the
+/// end how many there are. What isn't written is kept.
 pub(crate) fn write_others<W: Write>(
     alloc: Global,
     out: &mut Vec<u8>,
@@ -131,20 +225,20 @@ pub(crate) fn write_others<W: Write>(
 ) -> Result<(), ReportFault>
     requires { HasGoodSpan base limit (length code.now) }
     ensures ok { OnOk result (WritesLines (W.contents writer.old) (W.contents writer.new) out.old.items out.new.items
-        (ExplainsOthers limit base code.now own (length code.now / 32))) }
+        (ReportsOthers limit base code.now own)) }
     ensures cut { OnErr result (CutsLines (W.contents writer.old) (W.contents writer.new) out.old.items
-        (AreSomeOthers limit base code.now own)) }
+        (ReportsSome limit base code.now own)) }
     ensures faults { IfErr result IsOfWriting }
 {
-    for k in 0..code.len() / BUNDLE as usize {
-        match push_other(alloc, out, base, limit, code, own, k) {
-            Ok(()) => {}
-            Err(_) => return Err(ReportFault::OutOfMemory),
-        }
-        match write_much(out, writer) {
-            Ok(()) => {}
-            Err(fault) => return Err(fault),
-        }
+    let Ok(spots) = read_spots(alloc, code) else {
+        return Err(ReportFault::OutOfMemory);
+    };
+    match write_places(out, base, limit, code, &spots, own, writer) {
+        Ok(()) => {}
+        Err(fault) => return Err(fault),
     }
-    Ok(())
+    match push_last(alloc, out, base, limit, code, &spots) {
+        Ok(()) => Ok(()),
+        Err(_) => Err(ReportFault::OutOfMemory),
+    }
 }

@@ -1,11 +1,11 @@
 //! What is written of one source.
 
-ghost use Rattle.std.specs.Prelude.{◌≡◌, ◌/◌, ◌++◌, ℕ, List, length, IfOk, IfErr, OnOk, OnErr};
+ghost use Rattle.std.specs.Prelude.{◌≡◌, ◌++◌, ℕ, List, IfOk, IfErr, OnOk, OnErr};
 ghost use Rattle.std.specs.Io.KnownBytes.{Appends};
 ghost use Rattle.nc_vet.specs.Faults.{HasFault};
 ghost use Rattle.nc_lines.specs.Replies.{reply_line};
 ghost use Rattle.nc_report.specs.Report.{said_of, accepted_words, IsAccepted, IsRefused};
-ghost use Rattle.nc_report.specs.machinery.Found.{IsFinding, code_in, IsPlaced, AddsAccepted, AddsRefused, TellsOne};
+ghost use Rattle.nc_report.specs.machinery.Found.{IsFinding, code_in, IsPlaced, IsRealTarget, AddsAccepted, AddsRefused, TellsOne};
 ghost use Rattle.nc_report.specs.machinery.Found.{IsOfWriting, IsCutOff, WritesLines, CutsLines, AreMore, AreSomeMore};
 
 use crate::counting::count_instructions;
@@ -13,8 +13,9 @@ use crate::detail::Detail;
 use crate::explaining::{place_of, push_explained};
 use crate::fault::ReportFault;
 use crate::numbers::push_number;
+use crate::objects::{push_accepted_object, push_refused_object};
 use crate::others::write_others;
-use nc_decode::BUNDLE;
+use crate::outside::push_outside;
 use nc_lines::{push_fault, write_out};
 use nc_vet::{VetFault, Vetted};
 use nc_work::Verdict;
@@ -39,6 +40,20 @@ fn push_ok(
     out.extend_from_slice(b" instructions\n")
 }
 
+/// Adds the verdict on a source that is accepted, and the addresses outside of it that its direct transfers go to.
+fn push_calls(
+    alloc: Global,
+    out: &mut Vec<u8>,
+    name: &[u8],
+    chunk: &Vetted,
+) -> Result<(), AllocError>
+    ensures { OnOk result (AddsAccepted out.old.items out.new.items Detail.Calls name.now chunk.now) }
+{
+    let code = chunk.code();
+    push_ok(alloc, out, name, code.len(), count_instructions(chunk))?;
+    push_outside(alloc, out, chunk.base(), code)
+}
+
 /// Adds what is said of a source that is accepted.
 fn push_accepted(
     alloc: Global,
@@ -54,6 +69,11 @@ fn push_accepted(
         Detail::Brief => Ok(()),
         Detail::Usual => push_ok(alloc, out, name, bytes, count_instructions(chunk)),
         Detail::All => push_ok(alloc, out, name, bytes, count_instructions(chunk)),
+        Detail::Calls => push_calls(alloc, out, name, chunk),
+        Detail::Object => {
+            let count = count_instructions(chunk);
+            push_accepted_object(alloc, out, name, chunk.base(), bytes, count)
+        }
     }
 }
 
@@ -85,26 +105,32 @@ fn tell_accepted<W: Write>(
 
 /// Adds the verdict on a source that is refused, and what is said of its fault. Lack of memory is no verdict.
 fn push_refused(
+    alloc: Global,
     out: &mut Vec<u8>,
     name: &[u8],
+    limit: u32,
     base: u32,
     code: &[u8],
     fault: VetFault,
     detail: Detail,
 ) -> Result<(), AllocError>
-    requires { IsPlaced base code.now fault }
-    ensures { OnOk result (AddsRefused out.old.items out.new.items detail name.now base code.now fault) }
+    requires placed { IsPlaced base code.now fault }
+    requires real { IsRealTarget limit base code.now fault }
+    ensures { OnOk result (AddsRefused out.old.items out.new.items detail name.now limit base code.now fault) }
 {
+    if detail == Detail::Object {
+        return push_refused_object(alloc, out, name, base, code, fault);
+    }
     out.extend_from_slice(name)?;
     out.extend_from_slice(b": ")?;
     push_fault(out, fault)?;
     if detail == Detail::Brief {
         return Ok(());
     }
-    push_explained(out, base, code, fault)
+    push_explained(out, limit, base, code, fault)
 }
 
-/// Writes what is said of the other bundles of a refused source, where it is asked for. What isn't written is kept.
+/// Writes what is said of the other faults of a refused source, where it is asked for. What isn't written is kept.
 fn write_more<W: Write>(
     alloc: Global,
     out: &mut Vec<u8>,
@@ -117,7 +143,7 @@ fn write_more<W: Write>(
 ) -> Result<(), ReportFault>
     requires { HasFault base limit code.now fault }
     ensures ok { OnOk result (WritesLines (W.contents writer.old) (W.contents writer.new) out.old.items out.new.items
-        (AreMore detail limit base code.now fault (length code.now / 32))) }
+        (AreMore detail limit base code.now fault)) }
     ensures cut { OnErr result (CutsLines (W.contents writer.old) (W.contents writer.new) out.old.items
         (AreSomeMore detail limit base code.now fault)) }
     ensures faults { IfErr result IsOfWriting }
@@ -125,13 +151,14 @@ fn write_more<W: Write>(
     match detail {
         Detail::Brief => return Ok(()),
         Detail::Usual => return Ok(()),
+        Detail::Calls => return Ok(()),
+        Detail::Object => return Ok(()),
         Detail::All => {}
     }
     let Some(at) = place_of(fault) else {
         return Ok(());
     };
-    let own = (at - base) as usize / BUNDLE as usize;
-    write_others(alloc, out, base, limit, code, own, writer)
+    write_others(alloc, out, base, limit, code, (at - base) as usize, writer)
 }
 
 /// Writes what is said of a source that is refused.
@@ -152,7 +179,7 @@ fn tell_refused<W: Write>(
     ensures faults { IfErr result IsOfWriting }
 {
     let mut out = Vec::new(alloc);
-    match push_refused(&mut out, name, base, code, fault, detail) {
+    match push_refused(alloc, &mut out, name, limit, base, code, fault, detail) {
         Ok(()) => {}
         Err(_) => return Err(ReportFault::OutOfMemory),
     }

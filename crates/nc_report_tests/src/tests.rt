@@ -2,6 +2,12 @@
 
 mod devices;
 mod filled;
+mod lengths;
 mod meanings;
+mod objects;
+mod others;
+mod outside;
+mod pipes;
 mod reading;
+mod targets;
 mod texts;

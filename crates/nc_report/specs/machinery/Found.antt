@@ -1,5 +1,5 @@
 -- Machinery of the proofs, cited by no public contract: verdicts with the names of their sources, and what was written.
-use Rattle.std.specs.Prelude.{◌≡◌, ◌≢◌, ℕ, ◌+◌, ◌-◌, ◌/◌, ◌%◌, ◌<◌, ◌≤◌, ◌⊎◌, List, [], ◌∷◌, ◌++◌, length, take, Result, Ok, Err, ⊤}
+use Rattle.std.specs.Prelude.{◌≡◌, ◌≢◌, ℕ, ◌+◌, ◌-◌, ◌%◌, ◌<◌, ◌≤◌, ◌⊎◌, List, [], ◌∷◌, ◌++◌, length, take, Result, Ok, Err, ⊤}
 use Rattle.std.specs.Prelude.{Option, MatchOption, All, if◌then◌else◌}
 use Rattle.std.specs.List.{AllZip, flat_map, count_by}
 use Rattle.std.specs.Global.{Vec}
@@ -8,18 +8,19 @@ use Rattle.nc_decode.specs.Bundles.{IsInOneBundle}
 use Rattle.nc_vet.specs.Chunk.{Piece, code_of, place, AreSpelled, MarkedChunk, IsValid}
 use Rattle.nc_vet.specs.Faults.{HasFault}
 use Rattle.nc_vet.specs.declared.fault.VetFault.{VetFault}
-use Rattle.nc_vet.specs.declared.fault.VetFault.TheVariants.{OutOfMemory}
+use Rattle.nc_vet.specs.declared.fault.VetFault.TheVariants.{BadTarget, OutOfMemory}
 use Rattle.nc_work.specs.declared.job.Job.{Job}
-use Rattle.nc_lines.specs.Replies.{reply_line, refused_reply, fault_words}
 use Rattle.nc_report.specs.declared.detail.Detail.{Detail}
-use Rattle.nc_report.specs.declared.detail.Detail.TheVariants.{Brief}
+use Rattle.nc_report.specs.declared.detail.Detail.TheVariants.{Brief, Object}
 use Rattle.nc_report.specs.declared.detail.Detail.TheVariants as detail
 use Rattle.nc_report.specs.declared.fault.ReportFault.{ReportFault}
 use Rattle.nc_report.specs.declared.fault.ReportFault.TheVariants.{WriteFailed}
 use Rattle.nc_report.specs.declared.fault.ReportFault.TheVariants as report
 use Rattle.nc_report.specs.declared.source.Source.{Source}
+use Rattle.nc_report.specs.declared.spot.Spot.{Spot}
 use Rattle.nc_report.specs.Listing.{barred, ShowsBundle}
-use Rattle.nc_report.specs.Report.{place_of, said_of, accepted_text, Explains, ExplainsOthers, detail_line, IsBeginning, Tells, Told}
+use Rattle.nc_report.specs.Report.{place_of, accepted_text, refused_text, AreCalls, Explains, ReportsOthers, ReportsSome, detail_line, IsBeginning, Tells, Told}
+use Rattle.nc_report.specs.Further.{lines_to}
 
 -- a verdict is true of the code in it
 abbrev pub IsFinding : ℕ → ℕ → Result MarkedChunk (Vec ℕ × VetFault) → Type 0
@@ -100,7 +101,9 @@ pub record AddsAccepted (old new : List ℕ) (detail : Detail) (name : List ℕ)
   pub valid : IsValid chunk
   pub count : ℕ
   pub has : HasInstructions chunk.code count
-  pub added : new ≡ old ++ accepted_text detail name (length chunk.code) count
+  pub lines : List (List ℕ)
+  pub calls : AreCalls detail chunk.base has.pieces lines
+  pub added : new ≡ old ++ (accepted_text detail chunk.base name (length chunk.code) count ++ flat_map detail_line lines)
 
 -- what is to be written of a source was written, and so many are refused, one or none
 pub record TellsOne (limit base : ℕ) (detail : Detail) (name code : List ℕ) (before after : Option (List ℕ)) (count : ℕ) : Type 0 where
@@ -109,23 +112,44 @@ pub record TellsOne (limit base : ℕ) (detail : Detail) (name code : List ℕ) 
   pub counted : count ≡ (if told.refused then 1 else 0)
   pub written : Appends before after told.text
 
+-- a refused direct transfer really is one: the code has this fault; of others nothing is asked
+abbrev pub IsRealTarget : ℕ → ℕ → List ℕ → VetFault → Type 0
+IsRealTarget limit base code (BadTarget at) = HasFault base limit code (BadTarget at)
+IsRealTarget limit base code _ = ⊤
+
 -- the lines on a fault, where they are asked for
-abbrev pub AreFirst : Detail → ℕ → List ℕ → VetFault → List (List ℕ) → Type 0
-AreFirst Brief base code fault lines = lines ≡ []
-AreFirst _ base code fault lines = Explains base code fault lines
+abbrev pub AreFirst : Detail → ℕ → ℕ → List ℕ → VetFault → List (List ℕ) → Type 0
+AreFirst Brief limit base code fault lines = lines ≡ []
+AreFirst Object limit base code fault lines = lines ≡ []
+AreFirst _ limit base code fault lines = Explains limit base code fault lines
 
--- the lines on the first so many other bundles, where they are asked for
-abbrev pub AreMore : Detail → ℕ → ℕ → List ℕ → VetFault → ℕ → List (List ℕ) → Type 0
-AreMore detail.All limit base code fault count lines =
-    MatchOption (place_of fault) (lines ≡ []) (λ at. ExplainsOthers limit base code ((at - base) / 32) count lines)
-AreMore _ limit base code fault count lines = lines ≡ []
+-- the other lines, of which this holds with the place of the fault, where they are asked for
+abbrev pub AreMoreBy : (ℕ → List (List ℕ) → Type 0) → Detail → ℕ → VetFault → List (List ℕ) → Type 0
+AreMoreBy Others detail.All base fault lines = MatchOption (place_of fault) (lines ≡ []) (λ at. Others (at - base) lines)
+AreMoreBy Others _ base fault lines = lines ≡ []
 
--- what is said of a refused chunk was added, but for other bundles
-pub record AddsRefused (old new : List ℕ) (detail : Detail) (name : List ℕ) (base : ℕ) (code : List ℕ) (fault : VetFault) : Type 0 where
+-- all of them
+abbrev pub AreMore : Detail → ℕ → ℕ → List ℕ → VetFault → List (List ℕ) → Type 0
+AreMore detail limit base code fault lines = AreMoreBy (ReportsOthers limit base code) detail base fault lines
+
+-- some first ones
+abbrev pub AreSomeMore : Detail → ℕ → ℕ → List ℕ → VetFault → List (List ℕ) → Type 0
+AreSomeMore detail limit base code fault lines = AreMoreBy (ReportsSome limit base code) detail base fault lines
+
+-- the lines on the first so many places, by what is found there
+abbrev pub AreLinesTo : ℕ → ℕ → List ℕ → List Spot → ℕ → ℕ → List (List ℕ) → Type 0
+AreLinesTo base limit code spots own count lines = lines ≡ lines_to base limit code spots own count
+
+-- the lines on some first places
+abbrev pub AreSomeLines : ℕ → ℕ → List ℕ → List Spot → ℕ → List (List ℕ) → Type 0
+AreSomeLines base limit code spots own lines = (count : ℕ) × (count ≤ length code) × AreLinesTo base limit code spots own count lines
+
+-- what is said of a refused chunk was added, but for its other faults
+pub record AddsRefused (old new : List ℕ) (detail : Detail) (name : List ℕ) (limit base : ℕ) (code : List ℕ) (fault : VetFault) : Type 0 where
   pub real : fault ≢ OutOfMemory
   pub lines : List (List ℕ)
-  pub first : AreFirst detail base code fault lines
-  pub added : new ≡ old ++ (said_of name (reply_line (refused_reply (fault_words fault))) ++ flat_map detail_line lines)
+  pub first : AreFirst detail limit base code fault lines
+  pub added : new ≡ old ++ refused_text detail base name code fault lines
 
 -- of a text that goes on by lines a front was written, and the rest is kept
 pub record WritesLines (before after : Option (List ℕ)) (old new : List ℕ) (Says : List (List ℕ) → Type 0) : Type 0 where
@@ -141,16 +165,6 @@ pub record CutsLines (before after : Option (List ℕ)) (old : List ℕ) (Says :
   pub says : Says lines
   pub count : ℕ
   pub written : Appends before after (take count (old ++ flat_map detail_line lines))
-
--- the lines on the first bundles, as many as there are or fewer
-abbrev pub AreSomeMore : Detail → ℕ → ℕ → List ℕ → VetFault → List (List ℕ) → Type 0
-AreSomeMore detail limit base code fault lines =
-    (count : ℕ) × (count ≤ length code / 32) × AreMore detail limit base code fault count lines
-
--- the lines on the first bundles besides one, as many as there are or fewer
-abbrev pub AreSomeOthers : ℕ → ℕ → List ℕ → ℕ → List (List ℕ) → Type 0
-AreSomeOthers limit base code own lines =
-    (count : ℕ) × (count ≤ length code / 32) × ExplainsOthers limit base code own count lines
 
 -- memory for the text wasn't there, or the writer failed
 abbrev pub IsOfWriting : ReportFault → Type 0

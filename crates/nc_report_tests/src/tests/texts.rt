@@ -13,18 +13,19 @@ const TEXTS: [(Detail, &[u8]); 3] = [
     (Detail::Usual, b"a.bin: ok, 32 bytes, 29 instructions\n\
         b: refused NotPermitted 00010003\n\
         \x20 00010000: 55 | 89 e5 | > c3*\n\
-        \x20 a return (ret): pop into a register, mask it, jump by it: see docs/GUIDE.md\n\
+        \x20 a return (ret): compile with nc-cc, or pop the address into a register, mask it, and jump through it: see docs/GUIDE.md\n\
         c: refused BadLength\n\
-        \x20 the code isn't whole bundles of 32 bytes, or there is none: fill the last bundle with 90 (nop)\n"),
+        \x20 the code is not whole bundles of 32 bytes: link it with nc-cc or chunk.ld, or fill the last bundle with 90 (nop)\n"),
     (Detail::All, b"a.bin: ok, 32 bytes, 29 instructions\n\
         b: refused NotPermitted 00010003\n\
         \x20 00010000: 55 | 89 e5 | > c3*\n\
-        \x20 a return (ret): pop into a register, mask it, jump by it: see docs/GUIDE.md\n\
+        \x20 a return (ret): compile with nc-cc, or pop the address into a register, mask it, and jump through it: see docs/GUIDE.md\n\
         \x20 also NotPermitted 00010040\n\
         \x20 00010040: > f3 0f 1e fb*\n\
-        \x20 a mark of an entry or of a jump (endbr32, notrack): compile with -fcf-protection=none\n\
+        \x20 a mark of control-flow enforcement (endbr32, notrack): compile with nc-cc, or with -fcf-protection=none\n\
+        \x20 2 faults: 2 NotPermitted\n\
         c: refused BadLength\n\
-        \x20 the code isn't whole bundles of 32 bytes, or there is none: fill the last bundle with 90 (nop)\n"),
+        \x20 the code is not whole bundles of 32 bytes: link it with nc-cc or chunk.ld, or fill the last bundle with 90 (nop)\n"),
 ];
 
 /// A pair between nops; three bundles, of which the first and the last have faults; and code that is no whole bundle.

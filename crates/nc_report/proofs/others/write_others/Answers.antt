@@ -1,25 +1,45 @@
-use Rattle.std.proofs.Common.{arith}
-use Rattle.nc_report.specs.Report.{ExplainsOthers}
-use Rattle.nc_report.specs.machinery.Found.{AreSomeOthers}
-use Rattle.nc_report.proofs.OtherBundles.{none_written, written_more, cut_here, cut_in}
+use Rattle.std.proofs.Common.{◌++◌, List, [], length, refl, sym, subst, ap, ◌∙◌, arith, inl}
+use Rattle.std.specs.List.{flat_map}
+use Rattle.std.proofs.KnownBytes.{Appends-nil}
+use Rattle.nc_report.specs.declared.spot.Spot.{Spot}
+use Rattle.nc_report.specs.Totals.{last_lines}
+use Rattle.nc_report.specs.Report.{detail_line, ReportsOthers, ReportsSome}
+use Rattle.nc_report.specs.machinery.Found.{AreLinesTo, AreSomeLines}
+use Rattle.nc_report.specs.machinery.Seen.{HasSpots}
+use Rattle.nc_report.proofs.FurtherLines.{written_more, cut_here, some_lines, all_lines}
+use Rattle.nc_report.proofs.RefusedTexts.{nothing_more, cuts_so}
 use Rattle.nc_report.proofs.others.write_others.Goals as goal
 
-pub loop-k-init : goal.loop-k-init
-loop-k-init g c = none_written _ _ _ _ _ _
+pub returns-in_default-clause-cut : goal.returns-in_default-clause-cut
+returns-in_default-clause-cut g c =
+    let Q = ReportsSome c.args.limit c.args.base c.args.code.now c.args.own in
+    cut_here _ _ _ _ Q Q (nothing_more _ _ Q (inl refl)) (λ lines h. h)
 
 pub returns-in-Err-clause-cut : goal.returns-in-Err-clause-cut
 returns-in-Err-clause-cut g c =
-    cut_here _ _ _ _ (ExplainsOthers c.args.limit c.args.base c.args.code.now c.args.own c.loop-k.k)
-    (AreSomeOthers c.args.limit c.args.base c.args.code.now c.args.own)
-    c.loop-k.invariant (λ lines h. (c.loop-k.k, omega arith, h))
+    let spots = subst (HasSpots c.args.code.now) (sym c.deref.ensures.value) c.in-Ok.ensures in
+    cuts_so _ _ _ (AreSomeLines c.args.base c.args.limit c.args.code.now c.deref.result.now c.args.own)
+    (ReportsSome c.args.limit c.args.base c.args.code.now c.args.own) c.in-Err.ensures.cut
+    (λ lines h. some_lines c.args.limit c.args.base c.args.code.now c.deref.result.now c.args.own lines spots h)
 
-pub returns-in-Err-write_much-clause-cut : goal.returns-in-Err-write_much-clause-cut
-returns-in-Err-write_much-clause-cut g c =
-    cut_in _ _ _ _ _ _ c.in-Err-write_much.ensures.cut.0 c.args.limit c.args.base c.args.code.now c.args.own c.loop-k.k
-    c.loop-k.invariant c.in-Ok.ensures c.in-Err-write_much.ensures.cut.1 (omega arith)
+pub returns-in-Ok-push_last-clause-ok : goal.returns-in-Ok-push_last-clause-ok
+returns-in-Ok-push_last-clause-ok g c =
+    let code = c.args.code.now in
+    let spots = subst (HasSpots code) (sym c.deref.ensures.value) c.in-Ok.ensures in
+    written_more _ _ _ _ c.write_places.new.out.items _ _ []
+    (AreLinesTo c.args.base c.args.limit code c.deref.result.now c.args.own (length code))
+    (ReportsOthers c.args.limit c.args.base code c.args.own) (last_lines c.args.base c.args.limit code c.deref.result.now)
+    c.in-Ok-write_places.ensures.ok
+    (c.in-Ok-push_last.ensures
+    ∙ ap (λ (z : List Spot). c.write_places.new.out.items ++ flat_map detail_line (last_lines c.args.base c.args.limit code z))
+    (c.deref-2.ensures.value ∙ sym c.deref.ensures.value))
+    (λ lines h. all_lines c.args.limit c.args.base code c.deref.result.now c.args.own lines spots h)
+    (Appends-nil _) refl
 
-pub loop-k-preserved : goal.loop-k-preserved
-loop-k-preserved g c =
-    let (part, appended, kept) = c.in-Ok-write_much.ensures.ok in
-    written_more _ _ _ _ _ _ _ part c.args.limit c.args.base c.args.code.now c.args.own c.loop-k.k c.loop-k.invariant c.in-Ok.ensures
-    appended kept
+pub returns-clause-cut : goal.returns-clause-cut
+returns-clause-cut g c =
+    let code = c.args.code.now in
+    let spots = subst (HasSpots code) (sym c.deref.ensures.value) c.in-Ok.ensures in
+    cut_here _ _ _ _ (AreLinesTo c.args.base c.args.limit code c.deref.result.now c.args.own (length code))
+    (ReportsSome c.args.limit c.args.base code c.args.own) c.in-Ok-write_places.ensures.ok
+    (λ lines h. some_lines c.args.limit c.args.base code c.deref.result.now c.args.own lines spots (length code, omega arith, h))

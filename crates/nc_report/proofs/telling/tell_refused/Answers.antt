@@ -1,11 +1,14 @@
 use Rattle.std.proofs.Common.{List, ℕ, subst, take}
 use Rattle.std.specs.Io.KnownBytes.{Appends}
-use Rattle.nc_report.proofs.Placed.{placed_fault}
+use Rattle.nc_report.proofs.Placed.{placed_fault, real_target}
 use Rattle.nc_report.proofs.RefusedTexts.{refused_told, refused_cut, refused_cut_last}
 use Rattle.nc_report.proofs.telling.tell_refused.Goals as goal
 
-pub push_refused-requires : goal.push_refused-requires
-push_refused-requires g c = placed_fault c.args.base c.args.limit c.args.code.now c.args.fault c.requires
+pub push_refused-requires-clause-placed : goal.push_refused-requires-clause-placed
+push_refused-requires-clause-placed g c = placed_fault c.args.base c.args.limit c.args.code.now c.args.fault c.requires
+
+pub push_refused-requires-clause-real : goal.push_refused-requires-clause-real
+push_refused-requires-clause-real g c = real_target c.args.limit c.args.base c.args.code.now c.args.fault c.requires
 
 pub returns-in-Err-write_more-clause-cut : goal.returns-in-Err-write_more-clause-cut
 returns-in-Err-write_more-clause-cut g c =

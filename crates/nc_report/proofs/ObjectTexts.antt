@@ -1,0 +1,52 @@
+-- Members of an object, written one after the other.
+use Rattle.std.proofs.Common.{◌≡◌, ℕ, ◌-◌, List, [], ◌∷◌, ◌++◌, sym, subst, ◌∙◌, ap, append_assoc, Option, Some}
+use Rattle.std.specs.Prelude.{codes}
+use Rattle.nc_vet.specs.declared.fault.VetFault.{VetFault}
+use Rattle.nc_lines.specs.Replies.{reply_line, address_digits}
+use Rattle.nc_report.specs.Advice.{words_about}
+use Rattle.nc_report.specs.Objects.{string_member, place_members}
+
+-- three lists after another one
+joined3 : (o a b c : List ℕ) → ((o ++ a) ++ b) ++ c ≡ o ++ (a ++ (b ++ c))
+joined3 o a b c = append_assoc (o ++ a) b c ∙ append_assoc o a (b ++ c)
+
+-- four members and the end of an object
+pub four_members : (o a b c d n1 n2 n3 n4 n5 : List ℕ) → n1 ≡ o ++ a → n2 ≡ n1 ++ b → n3 ≡ n2 ++ c → n4 ≡ n3 ++ d → n5 ≡ n4 ++ codes "}\n"
+    → n5 ≡ o ++ reply_line (a ++ (b ++ (c ++ (d ++ codes "}"))))
+four_members o a b c d n1 n2 n3 n4 n5 e1 e2 e3 e4 e5 =
+    e5
+    ∙ ap (λ (z : List ℕ). z ++ codes "}\n")
+    (e4 ∙ ap (λ (z : List ℕ). z ++ d) (e3 ∙ ap (λ (z : List ℕ). z ++ c) (e2 ∙ ap (λ (z : List ℕ). z ++ b) e1) ∙ joined3 o a b c))
+    ∙ append_assoc (o ++ (a ++ (b ++ c))) d (codes "}\n")
+    ∙ append_assoc o (a ++ (b ++ c)) (d ++ codes "}\n")
+    ∙ ap (λ (z : List ℕ). o ++ z) (inner a b c d)
+  where
+    last : (x : List ℕ) → (x ++ codes "}") ++ 10 ∷ [] ≡ x ++ codes "}\n"
+    last x = append_assoc x (codes "}") (10 ∷ [])
+
+    inner : (x y z u : List ℕ) → (x ++ (y ++ z)) ++ (u ++ codes "}\n") ≡ (x ++ (y ++ (z ++ (u ++ codes "}")))) ++ 10 ∷ []
+    inner x y z u =
+        append_assoc x (y ++ z) (u ++ codes "}\n")
+        ∙ ap (λ (s : List ℕ). x ++ s)
+        (append_assoc y z (u ++ codes "}\n")
+        ∙ ap (λ (s : List ℕ). y ++ s)
+        (ap (λ (s : List ℕ). z ++ s) (sym (last u)) ∙ sym (append_assoc z (u ++ codes "}") (10 ∷ [])))
+        ∙ sym (append_assoc y (z ++ (u ++ codes "}")) (10 ∷ [])))
+        ∙ sym (append_assoc x (y ++ (z ++ (u ++ codes "}"))) (10 ∷ []))
+
+-- five members and the end of an object
+pub five_members : (o a b c d e n1 n2 n3 n4 n5 n6 : List ℕ) → n1 ≡ o ++ a → n2 ≡ n1 ++ b → n3 ≡ n2 ++ c → n4 ≡ n3 ++ d → n5 ≡ n4 ++ e
+    → n6 ≡ n5 ++ codes "}\n" → n6 ≡ o ++ reply_line (a ++ (b ++ (c ++ (d ++ (e ++ codes "}")))))
+five_members o a b c d e n1 n2 n3 n4 n5 n6 e1 e2 e3 e4 e5 e6 =
+    four_members o (a ++ b) c d e n2 n3 n4 n5 n6 (e2 ∙ ap (λ (z : List ℕ). z ++ b) e1 ∙ append_assoc o a b) e3 e4 e5 e6
+    ∙ ap (λ (z : List ℕ). o ++ reply_line z) (append_assoc a b (c ++ (d ++ (e ++ codes "}"))))
+
+-- the members on a fault's address and on what it means
+pub placed_members : (base at : ℕ) (code o n1 n2 words : List ℕ) (fault : VetFault) (place : Option ℕ) → place ≡ Some at
+    → n1 ≡ o ++ string_member (codes "at") (address_digits at) → n2 ≡ n1 ++ string_member (codes "meaning") words
+    → words ≡ words_about code fault (at - base) → n2 ≡ o ++ place_members base code fault place
+placed_members base at code o n1 n2 words fault place is e1 e2 same =
+    subst (λ (p : Option ℕ). n2 ≡ o ++ place_members base code fault p) (sym is)
+    (e2 ∙ ap (λ (z : List ℕ). z ++ string_member (codes "meaning") words) e1
+    ∙ append_assoc o (string_member (codes "at") (address_digits at)) (string_member (codes "meaning") words)
+    ∙ ap (λ (z : List ℕ). o ++ (string_member (codes "at") (address_digits at) ++ string_member (codes "meaning") z)) same)

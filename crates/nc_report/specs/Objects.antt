@@ -1,0 +1,66 @@
+-- Verdicts as objects of JSON (RFC 8259), each in a line of its own.
+use Rattle.std.specs.Prelude.{ℕ, ◌-◌, List, [], ◌∷◌, ◌++◌, ◌==◌, ◌||◌, if◌then◌else◌, nat_le, nat_lt, codes, Option, Some, None}
+use Rattle.std.specs.List.{flat_map}
+use Rattle.std.specs.Fmt.{decimal}
+use Rattle.hex.specs.Hex.{encode_lower}
+use Rattle.nc_vet.specs.declared.fault.VetFault.{VetFault}
+use Rattle.nc_vet.specs.declared.fault.VetFault.TheVariants.{BadBase, BadLength, OutOfRange, NotPermitted, Crosses, Bare, BadTarget}
+use Rattle.nc_vet.specs.declared.fault.VetFault.TheVariants.{OutOfMemory}
+use Rattle.nc_lines.specs.Replies.{address_digits}
+use Rattle.nc_report.specs.Advice.{words_about}
+
+-- a byte in a string: after a backslash if it is a quotation mark or a backslash; by its number from 0 to 1F and from 7F on
+abbrev pub escaped : ℕ → List ℕ
+escaped byte =
+    if byte == 0x22 || byte == 0x5C then 0x5C ∷ byte ∷ []
+    else (if nat_lt byte 0x20 || nat_le 0x7F byte then codes "\\u00" ++ encode_lower (byte ∷ []) else byte ∷ [])
+
+-- bytes as a string
+abbrev pub string_of : List ℕ → List ℕ
+string_of bytes = 0x22 ∷ (flat_map escaped bytes ++ 0x22 ∷ [])
+
+-- the member that comes first, the name of a file
+abbrev pub file_member : List ℕ → List ℕ
+file_member name = codes "{\"file\":" ++ string_of name
+
+-- a later member whose value is a string, or a number
+abbrev pub string_member : List ℕ → List ℕ → List ℕ
+string_member name value = codes "," ++ (string_of name ++ (codes ":" ++ string_of value))
+
+abbrev pub number_member : List ℕ → ℕ → List ℕ
+number_member name value = codes "," ++ (string_of name ++ (codes ":" ++ decimal value))
+
+-- a fault's name
+abbrev pub fault_name : VetFault → List ℕ
+fault_name BadBase = codes "BadBase"
+fault_name BadLength = codes "BadLength"
+fault_name OutOfRange = codes "OutOfRange"
+fault_name (NotPermitted at) = codes "NotPermitted"
+fault_name (Crosses at) = codes "Crosses"
+fault_name (Bare at) = codes "Bare"
+fault_name (BadTarget at) = codes "BadTarget"
+fault_name OutOfMemory = codes "OutOfMemory"
+
+-- the members on a fault's address, if it has one, and on what the fault means
+abbrev pub place_members : ℕ → List ℕ → VetFault → Option ℕ → List ℕ
+place_members base code fault None = string_member (codes "meaning") (words_about code fault 0)
+place_members base code fault (Some at) =
+    string_member (codes "at") (address_digits at) ++ string_member (codes "meaning") (words_about code fault (at - base))
+
+-- a source that is accepted
+abbrev pub accepted_object : ℕ → List ℕ → ℕ → ℕ → List ℕ
+accepted_object base name bytes instructions =
+    file_member name ++ (string_member (codes "address") (address_digits base) ++ (string_member (codes "verdict") (codes "ok")
+    ++ (number_member (codes "bytes") bytes ++ (number_member (codes "instructions") instructions ++ codes "}"))))
+
+-- one that is refused, for a fault that has this address or none
+abbrev pub refused_object : ℕ → List ℕ → List ℕ → VetFault → Option ℕ → List ℕ
+refused_object base name code fault at =
+    file_member name ++ (string_member (codes "address") (address_digits base) ++ (string_member (codes "verdict") (codes "refused")
+    ++ (string_member (codes "fault") (fault_name fault) ++ (place_members base code fault at ++ codes "}"))))
+
+-- the object of JSON for a file that is refused before any of it is judged: its name, the fault and what that means
+abbrev pub file_object : List ℕ → List ℕ → List ℕ → List ℕ
+file_object name fault meaning =
+    file_member name ++ (string_member (codes "verdict") (codes "refused")
+    ++ (string_member (codes "fault") fault ++ (string_member (codes "meaning") meaning ++ codes "}")))

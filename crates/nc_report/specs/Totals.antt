@@ -1,0 +1,78 @@
+-- What is said at the end of the faults that the reading of a refused chunk finds: how many there are of each kind, and whether
+-- the code is in bundles at all.
+use Rattle.std.specs.Prelude.{ℕ, ◌+◌, ◌*◌, ◌/◌, Bool, true, false, not, ◌==◌, nat_lt, List, [], ◌∷◌, ◌++◌, length, codes, get_or}
+use Rattle.std.specs.Prelude.{Option, Some, if◌then◌else◌}
+use Rattle.std.specs.List.{count_by, range_with_len}
+use Rattle.std.specs.Fmt.{decimal}
+use Rattle.nc_vet.specs.declared.fault.VetFault.{VetFault}
+use Rattle.nc_vet.specs.declared.fault.VetFault.TheVariants.{NotPermitted, Crosses, Bare, BadTarget}
+use Rattle.nc_report.specs.declared.spot.Spot.{Spot}
+use Rattle.nc_report.specs.declared.spot.Spot.TheVariants.{Inside}
+use Rattle.nc_report.specs.declared.totals.Counts.{Counts}
+use Rattle.nc_report.specs.declared.words.TheConstants.{NOT_IN_BUNDLES}
+use Rattle.nc_report.specs.Further.{is_begun, fault_at}
+
+-- the fault at a place is of this kind
+abbrev pub is_crosses : Option VetFault → Bool
+is_crosses (Some (Crosses at)) = true
+is_crosses _ = false
+
+abbrev pub is_refused : Option VetFault → Bool
+is_refused (Some (NotPermitted at)) = true
+is_refused _ = false
+
+abbrev pub is_bare : Option VetFault → Bool
+is_bare (Some (Bare at)) = true
+is_bare _ = false
+
+abbrev pub is_mistargeted : Option VetFault → Bool
+is_mistargeted (Some (BadTarget at)) = true
+is_mistargeted _ = false
+
+-- so many of the first places have a fault that passes a test
+abbrev pub count_of : (Option VetFault → Bool) → ℕ → ℕ → List ℕ → List Spot → ℕ → ℕ
+count_of test base limit code spots count = count_by (λ k. test (fault_at base limit code spots k)) (range_with_len 0 count)
+
+-- how many faults of each kind the first so many places have
+abbrev pub counts_to : ℕ → ℕ → List ℕ → List Spot → ℕ → Counts
+counts_to base limit code spots count = record {
+  crosses = count_of is_crosses base limit code spots count;
+  not_permitted = count_of is_refused base limit code spots count;
+  bare = count_of is_bare base limit code spots count;
+  bad_target = count_of is_mistargeted base limit code spots count;
+}
+
+-- kinds with their numbers, each number that isn't 0 with its kind's name, and a comma before each but the first
+abbrev pub kinds_from : Bool → List (ℕ × List ℕ) → List ℕ
+kinds_from begun [] = []
+kinds_from begun ((n, name) ∷ kinds) =
+    if n == 0 then kinds_from begun kinds
+    else ((if begun then codes ", " else []) ++ (decimal n ++ (codes " " ++ (name ++ kinds_from true kinds))))
+
+-- how many faults there are
+abbrev pub total : Counts → ℕ
+total counts = counts.crosses + counts.not_permitted + counts.bare + counts.bad_target
+
+-- the line of totals
+abbrev pub totals_line : Counts → List ℕ
+totals_line counts =
+    decimal (total counts) ++ ((if total counts == 1 then codes " fault: " else codes " faults: ")
+    ++ kinds_from false ((counts.crosses, codes "Crosses") ∷ (counts.not_permitted, codes "NotPermitted")
+    ∷ (counts.bare, codes "Bare") ∷ (counts.bad_target, codes "BadTarget") ∷ []))
+
+-- so many of the first bundles begin inside an instruction
+abbrev pub starts_inside : List Spot → ℕ → ℕ
+starts_inside spots count = count_by (λ n. not (is_begun (get_or spots (32 * n) Inside))) (range_with_len 0 count)
+
+-- the line on code of which more than half of the bundles do
+abbrev pub adrift_lines : ℕ → ℕ → List (List ℕ)
+adrift_lines inside bundles =
+    if nat_lt bundles (2 * inside) then
+    (codes "the code isn't in bundles: " ++ (decimal inside ++ (codes " of " ++ (decimal bundles ++ NOT_IN_BUNDLES.now)))) ∷ []
+    else []
+
+-- the last lines
+abbrev pub last_lines : ℕ → ℕ → List ℕ → List Spot → List (List ℕ)
+last_lines base limit code spots =
+    totals_line (counts_to base limit code spots (length code))
+    ∷ adrift_lines (starts_inside spots (length spots / 32)) (length spots / 32)

@@ -1,0 +1,57 @@
+-- Machinery of the proofs, cited by no public contract: where sound code is parted, and which line on a target was added.
+use Rattle.std.specs.Prelude.{◌≡◌, ℕ, ◌+◌, ◌<◌, ◌≤◌, List, ◌∷◌, ◌++◌, length}
+use Rattle.nc_vet.specs.Chunk.{Piece, code_of, place, AreSound, IsTarget}
+use Rattle.nc_report.specs.Report.{detail_line}
+use Rattle.nc_report.specs.Targets.{SaysWhy}
+
+-- sound code has an end of an instruction, or its beginning, at a place
+pub record IsReadTo (code : List ℕ) (at : ℕ) : Type 0 where
+  pub before : List Piece
+  pub after : List Piece
+  pub parts : code ≡ code_of (before ++ after)
+  pub sound : AreSound (before ++ after)
+  pub here : place before ≡ at
+
+-- an instruction of sound code begins at a place, and goes on to another
+pub record StepsFrom (code : List ℕ) (at next : ℕ) : Type 0 where
+  pub before : List Piece
+  pub piece : Piece
+  pub after : List Piece
+  pub parts : code ≡ code_of (before ++ piece ∷ after)
+  pub sound : AreSound (before ++ piece ∷ after)
+  pub here : place before ≡ at
+  pub some : 0 < length piece.bytes
+  pub to : next ≡ at + length piece.bytes
+
+-- the instruction of sound code that covers a place begins there
+pub record CoversPlace (code : List ℕ) (at start : ℕ) : Type 0 where
+  pub before : List Piece
+  pub piece : Piece
+  pub after : List Piece
+  pub parts : code ≡ code_of (before ++ piece ∷ after)
+  pub sound : AreSound (before ++ piece ∷ after)
+  pub here : place before ≡ start
+  pub low : start ≤ at
+  pub high : at < start + length piece.bytes
+
+-- the code is sound, and no direct transfer of it may go there
+pub record IsNoTarget (limit base : ℕ) (code : List ℕ) (to : ℕ) : Type 0 where
+  pub pieces : List Piece
+  pub parts : code ≡ code_of pieces
+  pub sound : AreSound pieces
+  pub bad : ¬ IsTarget base limit pieces to
+
+-- why none may was added
+pub record AddsWhy (old new : List ℕ) (limit base : ℕ) (code : List ℕ) (to : ℕ) : Type 0 where
+  pub pieces : List Piece
+  pub parts : code ≡ code_of pieces
+  pub sound : AreSound pieces
+  pub words : List ℕ
+  pub says : SaysWhy limit base pieces to words
+  pub added : new ≡ old ++ words
+
+-- a line was added
+pub record AddsAim (old new : List ℕ) (Names : List ℕ → Type 0) : Type 0 where
+  pub line : List ℕ
+  pub names : Names line
+  pub added : new ≡ old ++ detail_line line

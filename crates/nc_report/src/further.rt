@@ -1,0 +1,80 @@
+//! The faults that the reading of a refused chunk finds.
+
+ghost use Rattle.std.specs.Prelude.{◌≡◌, ◌<◌, ◌+◌, ◌^◌, length};
+ghost use Rattle.nc_decode.specs.Front.{first_instruction};
+ghost use Rattle.nc_report.specs.Further.{is_open, is_begun, may_go, goes_astray, fault_by, fault_at};
+
+use crate::spot::{Spot, spot_at};
+use nc_decode::{decode, is_bundle_start};
+use nc_vet::VetFault;
+
+/// A direct transfer may go where this is found. What lies in skipped bytes isn't known.
+fn is_open(spot: Spot) -> bool
+    ensures { result ≡ is_open spot }
+{
+    !matches!(spot, Spot::Inside | Spot::Second)
+}
+
+/// An instruction, or the bytes that are skipped after one, end before this byte.
+pub(crate) fn is_begun(spot: Spot) -> bool
+    ensures { result ≡ is_begun spot }
+{
+    !matches!(spot, Spot::Inside | Spot::Skipped)
+}
+
+/// A direct transfer may go to this address.
+fn may_go(base: u32, limit: u32, spots: &[Spot], to: u32) -> bool
+    requires { base + length spots.now < 2 ^ 32 }
+    ensures { result ≡ may_go base limit spots.now to }
+{
+    if base <= to && to < base + spots.len() as u32 {
+        is_open(spot_at(spots, (to - base) as usize))
+    } else {
+        is_bundle_start(to) && to < limit
+    }
+}
+
+/// The instruction at the front of these bytes, which begin at this address, is a direct transfer that goes where it may not.
+fn goes_astray(base: u32, limit: u32, spots: &[Spot], rest: &[u8], at: u32) -> bool
+    requires span { base + length spots.now < 2 ^ 32 }
+    requires fits { at + length rest.now < 2 ^ 32 }
+    ensures { result ≡ goes_astray base limit spots.now at (first_instruction rest.now) }
+{
+    let Ok(instr) = decode(rest) else {
+        return false;
+    };
+    instr.flow.is_direct() && !may_go(base, limit, spots, instr.target(at))
+}
+
+/// The fault at an address, by what is found there.
+fn fault_by(spot: Spot, astray: bool, at: u32) -> Option<VetFault>
+    ensures { result ≡ fault_by spot astray at }
+{
+    match spot {
+        Spot::Inside | Spot::Skipped | Spot::Second => None,
+        Spot::Entry if astray => Some(VetFault::BadTarget { at }),
+        Spot::Entry => None,
+        Spot::NotPermitted => Some(VetFault::NotPermitted { at }),
+        Spot::Crosses => Some(VetFault::Crosses { at }),
+        Spot::Bare => Some(VetFault::Bare { at }),
+    }
+}
+
+/// The fault at a place of the code, if there is one.
+pub(crate) fn fault_at(
+    base: u32,
+    limit: u32,
+    code: &[u8],
+    spots: &[Spot],
+    k: usize,
+) -> Option<VetFault>
+    requires span { base + length code.now < 2 ^ 32 }
+    requires each { length spots.now ≡ length code.now }
+    requires within { k < length code.now }
+    ensures { result ≡ fault_at base limit code.now spots.now k }
+{
+    let at = base + k as u32;
+    let spot = spot_at(spots, k);
+    let astray = spot == Spot::Entry && goes_astray(base, limit, spots, &code[k..], at);
+    fault_by(spot, astray, at)
+}

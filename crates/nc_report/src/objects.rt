@@ -1,0 +1,197 @@
+//! Verdicts as objects of JSON, each in a line of its own.
+
+ghost use Rattle.std.specs.Prelude.{◌≡◌, ◌≢◌, ◌++◌, codes, IfOk, OnOk};
+ghost use Rattle.std.specs.List.{flat_map};
+ghost use Rattle.nc_vet.specs.declared.fault.VetFault.TheVariants as vet;
+ghost use Rattle.nc_lines.specs.Replies.{reply_line, address_digits};
+ghost use Rattle.nc_report.specs.Report.{place_of};
+ghost use Rattle.nc_report.specs.Objects.{escaped, string_of, file_member, string_member, number_member, fault_name};
+ghost use Rattle.nc_report.specs.Objects.{place_members, accepted_object, refused_object, file_object};
+ghost use Rattle.nc_report.specs.machinery.Found.{IsPlaced};
+
+use crate::advice::words_about;
+use crate::explaining::place_of;
+use crate::numbers::{push_byte, push_number};
+use nc_lines::push_address;
+use nc_vet::VetFault;
+use std::alloc::{AllocError, Global};
+
+/// Adds a byte of a string.
+fn push_escaped(out: &mut Vec<u8>, byte: u8) -> Result<(), AllocError>
+    ensures { OnOk result (out.new.items ≡ out.old.items ++ escaped byte) }
+{
+    if byte == b'"' || byte == b'\\' {
+        out.extend_from_slice(&[b'\\', byte])
+    } else if byte < 0x20 || byte >= 0x7f {
+        out.extend_from_slice(b"\\u00")?;
+        push_byte(out, byte)
+    } else {
+        out.push(byte)?;
+        Ok(())
+    }
+}
+
+/// Adds the bytes of a string.
+fn push_inner(out: &mut Vec<u8>, bytes: &[u8]) -> Result<(), AllocError>
+    ensures { OnOk result (out.new.items ≡ out.old.items ++ flat_map escaped bytes.now) }
+{
+    for byte in bytes {
+        push_escaped(out, *byte)?;
+    }
+    Ok(())
+}
+
+/// Adds a string.
+fn push_string(out: &mut Vec<u8>, bytes: &[u8]) -> Result<(), AllocError>
+    ensures { OnOk result (out.new.items ≡ out.old.items ++ string_of bytes.now) }
+{
+    out.push(b'"')?;
+    push_inner(out, bytes)?;
+    out.push(b'"')?;
+    Ok(())
+}
+
+/// Adds the first member, a file's name.
+fn push_file(out: &mut Vec<u8>, name: &[u8]) -> Result<(), AllocError>
+    ensures { OnOk result (out.new.items ≡ out.old.items ++ file_member name.now) }
+{
+    out.extend_from_slice(b"{\"file\":")?;
+    push_string(out, name)
+}
+
+/// Adds a member's name, with the comma before it and the colon after it.
+fn push_name_of(out: &mut Vec<u8>, name: &[u8]) -> Result<(), AllocError>
+    ensures { OnOk result (out.new.items ≡ out.old.items ++ (codes "," ++ (string_of name.now ++ codes ":"))) }
+{
+    out.push(b',')?;
+    push_string(out, name)?;
+    out.push(b':')?;
+    Ok(())
+}
+
+/// Adds a member whose value is a string.
+fn push_member(out: &mut Vec<u8>, name: &[u8], value: &[u8]) -> Result<(), AllocError>
+    ensures { OnOk result (out.new.items ≡ out.old.items ++ string_member name.now value.now) }
+{
+    push_name_of(out, name)?;
+    push_string(out, value)
+}
+
+/// Adds a member whose value is a number.
+fn push_count(alloc: Global, out: &mut Vec<u8>, name: &[u8], value: usize) -> Result<(), AllocError>
+    ensures { OnOk result (out.new.items ≡ out.old.items ++ number_member name.now value) }
+{
+    push_name_of(out, name)?;
+    push_number(alloc, out, value)
+}
+
+/// Adds a member whose value is an address.
+fn push_place(alloc: Global, out: &mut Vec<u8>, name: &[u8], at: u32) -> Result<(), AllocError>
+    ensures { OnOk result (out.new.items ≡ out.old.items ++ string_member name.now (address_digits at)) }
+{
+    let mut digits = Vec::new(alloc);
+    push_address(&mut digits, at)?;
+    push_member(out, name, &digits)
+}
+
+/// Adds the end of an object and of its line.
+fn push_end(out: &mut Vec<u8>) -> Result<(), AllocError>
+    ensures { OnOk result (out.new.items ≡ out.old.items ++ codes "}\n") }
+{
+    out.extend_from_slice(b"}\n")
+}
+
+/// A fault's name. Lack of memory is no verdict.
+fn fault_name(fault: VetFault) -> Result<&'static [u8], AllocError>
+    ensures { IfOk result (λ name. (fault ≢ vet.OutOfMemory) × (name.now ≡ fault_name fault)) }
+{
+    match fault {
+        VetFault::BadBase => Ok(b"BadBase"),
+        VetFault::BadLength => Ok(b"BadLength"),
+        VetFault::OutOfRange => Ok(b"OutOfRange"),
+        VetFault::NotPermitted { .. } => Ok(b"NotPermitted"),
+        VetFault::Crosses { .. } => Ok(b"Crosses"),
+        VetFault::Bare { .. } => Ok(b"Bare"),
+        VetFault::BadTarget { .. } => Ok(b"BadTarget"),
+        VetFault::OutOfMemory => Err(AllocError),
+    }
+}
+
+/// Adds the members on a fault's address, if it has one, and on what the fault means.
+fn push_places(
+    alloc: Global,
+    out: &mut Vec<u8>,
+    base: u32,
+    code: &[u8],
+    fault: VetFault,
+) -> Result<(), AllocError>
+    requires { IsPlaced base code.now fault }
+    ensures { OnOk result (out.new.items ≡ out.old.items ++ place_members base code.now fault (place_of fault)) }
+{
+    let Some(at) = place_of(fault) else {
+        return push_member(out, b"meaning", words_about(code, fault, 0));
+    };
+    push_place(alloc, out, b"at", at)?;
+    push_member(
+        out,
+        b"meaning",
+        words_about(code, fault, (at - base) as usize),
+    )
+}
+
+/// Adds the object of a source that is accepted, and the end of its line.
+pub(crate) fn push_accepted_object(
+    alloc: Global,
+    out: &mut Vec<u8>,
+    name: &[u8],
+    base: u32,
+    bytes: usize,
+    instructions: usize,
+) -> Result<(), AllocError>
+    ensures { OnOk result (out.new.items ≡ out.old.items ++ reply_line (accepted_object base name.now bytes instructions)) }
+{
+    push_file(out, name)?;
+    push_place(alloc, out, b"address", base)?;
+    push_member(out, b"verdict", b"ok")?;
+    push_count(alloc, out, b"bytes", bytes)?;
+    push_count(alloc, out, b"instructions", instructions)?;
+    push_end(out)
+}
+
+/// Adds the object of a source that is refused, and the end of its line. Lack of memory is no verdict.
+pub(crate) fn push_refused_object(
+    alloc: Global,
+    out: &mut Vec<u8>,
+    name: &[u8],
+    base: u32,
+    code: &[u8],
+    fault: VetFault,
+) -> Result<(), AllocError>
+    requires { IsPlaced base code.now fault }
+    ensures { OnOk result ((fault ≢ vet.OutOfMemory) × (out.new.items ≡ out.old.items
+        ++ reply_line (refused_object base name.now code.now fault (place_of fault)))) }
+{
+    push_file(out, name)?;
+    push_place(alloc, out, b"address", base)?;
+    push_member(out, b"verdict", b"refused")?;
+    push_member(out, b"fault", fault_name(fault)?)?;
+    push_places(alloc, out, base, code, fault)?;
+    push_end(out)
+}
+
+/// Adds the object of a file that is refused before any of it is judged, for a fault with this name and this meaning, and the
+/// end of its line.
+pub fn push_file_object(
+    out: &mut Vec<u8>,
+    name: &[u8],
+    fault: &[u8],
+    meaning: &[u8],
+) -> Result<(), AllocError>
+    ensures { OnOk result (out.new.items ≡ out.old.items ++ reply_line (file_object name.now fault.now meaning.now)) }
+{
+    push_file(out, name)?;
+    push_member(out, b"verdict", b"refused")?;
+    push_member(out, b"fault", fault)?;
+    push_member(out, b"meaning", meaning)?;
+    push_end(out)
+}

@@ -1,0 +1,118 @@
+//! The addresses outside of a chunk that its direct transfers go to.
+
+ghost use Rattle.std.specs.Prelude.{◌≡◌, ◌++◌, ◌+◌, ◌<◌, ◌^◌, ◌==◌, if◌then◌else◌, List, length, codes, IfOk, OnOk};
+ghost use Rattle.std.specs.List.Sorted.{IsNonDecreasing};
+ghost use Rattle.nc_vet.specs.Chunk.{Piece, code_of, AreSpelled};
+ghost use Rattle.nc_report.specs.Outside.{sent_outside, row_words, ListsOutside};
+ghost use Rattle.nc_report.specs.Report.{detail_line};
+ghost use Rattle.nc_report.specs.machinery.Found.{AddsLines};
+ghost use Rattle.nc_report.specs.machinery.Runs.{IsSent, IsRun, AddsCounts};
+
+use crate::numbers::push_number;
+use nc_decode::{Instr, decode};
+use nc_lines::push_address;
+use std::alloc::{AllocError, Global};
+
+/// Adds the address outside of the code that an instruction at this address transfers to, if it is a direct transfer to one.
+fn push_sent(
+    sent: &mut Vec<u32>,
+    base: u32,
+    length: usize,
+    at: u32,
+    instr: &Instr,
+) -> Result<(), AllocError>
+    requires { at + instr.now.len < 2 ^ 32 }
+    ensures { OnOk result (sent.new.items ≡ sent.old.items ++ sent_outside base length instr.now at) }
+{
+    if !instr.flow.is_direct() {
+        return Ok(());
+    }
+    let to = instr.target(at);
+    if to < base || (to - base) as usize >= length {
+        sent.push(to)?;
+    }
+    Ok(())
+}
+
+/// The addresses outside of the code to which its direct transfers go, in the order of the instructions.
+fn all_sent(alloc: Global, base: u32, code: &[u8]) -> Result<Vec<u32>, AllocError>
+    requires { base + length code.now < 2 ^ 32 }
+    ensures { IfOk result (λ sent. IsSent base code.now sent.items) }
+{
+    let mut sent = Vec::new(alloc);
+    let mut at = 0;
+    while at < code.len() {
+        let Ok(instr) = decode(&code[at..]) else {
+            break;
+        };
+        push_sent(&mut sent, base, code.len(), base + at as u32, &instr)?;
+        at += usize::from(instr.len);
+    }
+    Ok(sent)
+}
+
+/// How many numbers at the front are the same.
+fn run_of(numbers: &[u32]) -> usize
+    requires { 0 < length numbers.now }
+    ensures { IsRun numbers.now result }
+{
+    let mut count = 1;
+    while count < numbers.len() && numbers[count] == numbers[0] {
+        count += 1;
+    }
+    count
+}
+
+/// The word after a number of transfers, and the space before it.
+fn transfers(times: usize) -> &'static [u8]
+    ensures { result.now ≡ (if times == 1 then codes " transfer" else codes " transfers") }
+{
+    if times == 1 {
+        b" transfer"
+    } else {
+        b" transfers"
+    }
+}
+
+/// Adds the line on an address and the number of transfers that go there.
+fn push_row(alloc: Global, out: &mut Vec<u8>, to: u32, times: usize) -> Result<(), AllocError>
+    ensures { OnOk result (out.new.items ≡ out.old.items ++ detail_line (row_words (record { to = to; times = times }))) }
+{
+    out.extend_from_slice(b"  -> ")?;
+    push_address(out, to)?;
+    out.extend_from_slice(b": ")?;
+    push_number(alloc, out, times)?;
+    out.extend_from_slice(transfers(times))?;
+    out.push(b'\n')?;
+    Ok(())
+}
+
+/// Adds a line for each of these numbers, which ascend, with how often it occurs.
+fn push_counts(alloc: Global, out: &mut Vec<u8>, numbers: &[u32]) -> Result<(), AllocError>
+    requires { IsNonDecreasing numbers.now }
+    ensures { OnOk result (AddsCounts numbers.now out.old.items out.new.items) }
+{
+    let mut rest = numbers;
+    while !rest.is_empty() {
+        let times = run_of(rest);
+        push_row(alloc, out, rest[0], times)?;
+        rest = &rest[times..];
+    }
+    Ok(())
+}
+
+/// Adds the lines on the addresses outside of some code that its direct transfers go to.
+pub(crate) fn push_outside(
+    alloc: Global,
+    out: &mut Vec<u8>,
+    base: u32,
+    code: &[u8],
+) -> Result<(), AllocError>
+    requires { base + length code.now < 2 ^ 32 }
+    ensures { OnOk result ((pieces : List Piece) → AreSpelled pieces → code.now ≡ code_of pieces
+        → AddsLines out.old.items out.new.items (ListsOutside base pieces)) }
+{
+    let mut sent = all_sent(alloc, base, code)?;
+    sent.sort_unstable();
+    push_counts(alloc, out, &sent)
+}

@@ -1,0 +1,33 @@
+//! What the reading of a refused chunk finds at a byte.
+
+ghost use Rattle.std.specs.Prelude.{◌≡◌, get_or};
+
+/// What the reading of a refused chunk finds at a byte.
+#[derive(Clone, Copy, Debug, PartialEq, Eq)]
+pub(crate) enum Spot {
+    /// No first byte of an instruction.
+    Inside,
+    /// A byte that is skipped, because the length of the instruction before it isn't known.
+    Skipped,
+    /// An instruction that may stand there begins, and it is no second half of a pair.
+    Entry,
+    /// The second half of a pair begins.
+    Second,
+    /// No permitted instruction begins here.
+    NotPermitted,
+    /// The end of the bundle cuts an instruction that begins here.
+    Crosses,
+    /// An indirect transfer without its mask begins.
+    Bare,
+}
+
+/// What is found at a byte; after the last one, nothing begins.
+pub(crate) fn spot_at(spots: &[Spot], k: usize) -> Spot
+    ensures { result ≡ get_or spots.now k Spot.Inside }
+{
+    if k < spots.len() {
+        spots[k]
+    } else {
+        Spot::Inside
+    }
+}

@@ -1,0 +1,105 @@
+//! Where a refused direct transfer goes, and why it may not.
+
+ghost use Rattle.std.specs.Prelude.{◌≡◌, ◌<◌, ◌++◌, length, OnOk};
+ghost use Rattle.nc_vet.specs.Faults.{HasFault};
+ghost use Rattle.nc_vet.specs.declared.fault.VetFault.TheVariants as vet;
+ghost use Rattle.nc_report.specs.Targets.{why_outside, NamesTarget};
+ghost use Rattle.nc_report.specs.machinery.Aims.{IsReadTo, StepsFrom, CoversPlace, IsNoTarget, AddsWhy, AddsAim};
+
+use crate::words::{BEYOND_REGION, IN_ZONE, INSIDE, OUTSIDE_CODE, SECOND_HALF};
+use nc_decode::{BUNDLE, START, decode};
+use nc_lines::push_address;
+use std::alloc::AllocError;
+
+/// The bytes of a mask.
+const MASK: u32 = 3;
+
+/// The place after the instruction that begins at a place of sound code.
+fn after(code: &[u8], at: usize) -> usize
+    requires parted { IsReadTo code.now at }
+    requires within { at < length code.now }
+    ensures { StepsFrom code.now at result }
+{
+    match decode(&code[at..]) {
+        Ok(instr) => at + usize::from(instr.len),
+        Err(_) => unreachable!(),
+    }
+}
+
+/// Where the instruction begins that covers a place of sound code. At each bundle start one begins.
+fn covering(code: &[u8], place: usize) -> usize
+    requires parted { IsReadTo code.now 0 }
+    requires within { place < length code.now }
+    ensures { CoversPlace code.now place result }
+{
+    let mut at = place - place % BUNDLE as usize;
+    while at < place {
+        let next = after(code, at);
+        if place < next {
+            break;
+        }
+        at = next;
+    }
+    at
+}
+
+/// Why a direct transfer may not go to an address outside the code.
+pub(crate) fn why_outside(limit: u32, to: u32) -> &'static [u8]
+    ensures { result.now ≡ why_outside limit to }
+{
+    if limit <= to {
+        BEYOND_REGION
+    } else if to < START {
+        IN_ZONE
+    } else {
+        OUTSIDE_CODE
+    }
+}
+
+/// Adds why a direct transfer of sound code may not go to an address.
+fn push_why(
+    out: &mut Vec<u8>,
+    limit: u32,
+    base: u32,
+    code: &[u8],
+    to: u32,
+) -> Result<(), AllocError>
+    requires { IsNoTarget limit base code.now to }
+    ensures { OnOk result (AddsWhy out.old.items out.new.items limit base code.now to) }
+{
+    if to < base || code.len() <= (to - base) as usize {
+        return out.extend_from_slice(why_outside(limit, to));
+    }
+    let place = (to - base) as usize;
+    let start = covering(code, place);
+    if start < place {
+        out.extend_from_slice(INSIDE)?;
+        return push_address(out, base + start as u32);
+    }
+    // What begins there is the second half of a pair.
+    out.extend_from_slice(SECOND_HALF)?;
+    push_address(out, to - MASK)
+}
+
+/// Adds the line on where the transfer at this address goes, and why it may not.
+pub(crate) fn push_target(
+    out: &mut Vec<u8>,
+    limit: u32,
+    base: u32,
+    code: &[u8],
+    at: u32,
+) -> Result<(), AllocError>
+    requires { HasFault base limit code.now (vet.BadTarget at) }
+    ensures { OnOk result (AddsAim out.old.items out.new.items (NamesTarget limit base code.now at)) }
+{
+    let to = match decode(&code[(at - base) as usize..]) {
+        Ok(instr) => instr.target(at),
+        Err(_) => unreachable!(),
+    };
+    out.extend_from_slice(b"  -> ")?;
+    push_address(out, to)?;
+    out.extend_from_slice(b": ")?;
+    push_why(out, limit, base, code, to)?;
+    out.push(b'\n')?;
+    Ok(())
+}

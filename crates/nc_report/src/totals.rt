@@ -1,0 +1,177 @@
+//! What is said at the end of the faults of a refused chunk.
+
+ghost use Rattle.std.specs.Prelude.{◌≡◌, ◌<◌, ◌≤◌, ◌+◌, ◌/◌, ◌^◌, ◌++◌, Bool, if◌then◌else◌, codes, length, not, ◌==◌, ◌||◌, OnOk, IfOk};
+ghost use Rattle.std.specs.Fmt.{decimal};
+ghost use Rattle.std.specs.List.{flat_map};
+ghost use Rattle.nc_report.specs.Report.{detail_line};
+ghost use Rattle.nc_report.specs.Totals.{counts_to, total, totals_line, starts_inside, adrift_lines, last_lines};
+ghost use Rattle.nc_report.specs.machinery.Seen.{counted, kind_words};
+
+use crate::further::{fault_at, is_begun};
+use crate::numbers::push_number;
+use crate::spot::{Spot, spot_at};
+use crate::words::NOT_IN_BUNDLES;
+use nc_decode::BUNDLE;
+use nc_vet::VetFault;
+use std::alloc::{AllocError, Global};
+
+/// How many faults of each kind there are.
+#[derive(Clone, Copy, Debug, PartialEq, Eq)]
+pub(crate) struct Counts {
+    pub crosses: usize,
+    pub not_permitted: usize,
+    pub bare: usize,
+    pub bad_target: usize,
+}
+
+/// One more where there is a fault, by its kind.
+fn counted(counts: Counts, found: Option<VetFault>) -> Counts
+    requires crosses { counts.crosses < 2 ^ 63 }
+    requires not_permitted { counts.not_permitted < 2 ^ 63 }
+    requires bare { counts.bare < 2 ^ 63 }
+    requires bad_target { counts.bad_target < 2 ^ 63 }
+    ensures { result ≡ counted counts found }
+{
+    let mut counts = counts;
+    match found {
+        Some(VetFault::Crosses { .. }) => counts.crosses += 1,
+        Some(VetFault::NotPermitted { .. }) => counts.not_permitted += 1,
+        Some(VetFault::Bare { .. }) => counts.bare += 1,
+        Some(VetFault::BadTarget { .. }) => counts.bad_target += 1,
+        _ => {}
+    }
+    counts
+}
+
+/// How many faults of each kind the code has.
+fn count_faults(base: u32, limit: u32, code: &[u8], spots: &[Spot]) -> Counts
+    requires span { base + length code.now < 2 ^ 32 }
+    requires each { length spots.now ≡ length code.now }
+    ensures { result ≡ counts_to base limit code.now spots.now (length code.now) }
+{
+    let mut counts = Counts {
+        crosses: 0,
+        not_permitted: 0,
+        bare: 0,
+        bad_target: 0,
+    };
+    for k in 0..code.len() {
+        counts = counted(counts, fault_at(base, limit, code, spots, k));
+    }
+    counts
+}
+
+/// One for a test that holds.
+fn one(holds: bool) -> usize
+    ensures value { result ≡ (if holds then 1 else 0) }
+    ensures small { result ≤ 1 }
+{
+    if holds { 1 } else { 0 }
+}
+
+/// How many bundles begin inside an instruction.
+fn count_inside(spots: &[Spot]) -> usize
+    ensures value { result ≡ starts_inside spots.now (length spots.now / 32) }
+    ensures within { result ≤ length spots.now / 32 }
+{
+    let mut inside = 0;
+    for n in 0..spots.len() / BUNDLE as usize {
+        inside += one(!is_begun(spot_at(spots, BUNDLE as usize * n)));
+    }
+    inside
+}
+
+/// Adds a number of faults with the name of their kind, if it isn't 0, and tells whether a kind has been written.
+fn push_kind(
+    alloc: Global,
+    out: &mut Vec<u8>,
+    begun: bool,
+    n: usize,
+    name: &[u8],
+) -> Result<bool, AllocError>
+    ensures added { OnOk result (out.new.items ≡ out.old.items ++ kind_words begun n name.now) }
+    ensures begun { IfOk result (λ b. b ≡ (begun || not (n == 0))) }
+{
+    if n == 0 {
+        return Ok(begun);
+    }
+    if begun {
+        out.extend_from_slice(b", ")?;
+    }
+    push_number(alloc, out, n)?;
+    out.push(b' ')?;
+    out.extend_from_slice(name)?;
+    Ok(true)
+}
+
+/// Adds how many faults there are in all.
+fn push_total(alloc: Global, out: &mut Vec<u8>, n: usize) -> Result<(), AllocError>
+    ensures { OnOk result (out.new.items ≡ (out.old.items ++ decimal n) ++ (if n == 1 then codes " fault: " else codes " faults: ")) }
+{
+    push_number(alloc, out, n)?;
+    if n == 1 {
+        out.extend_from_slice(b" fault: ")
+    } else {
+        out.extend_from_slice(b" faults: ")
+    }
+}
+
+/// Adds the line of totals.
+fn push_totals(alloc: Global, out: &mut Vec<u8>, counts: Counts) -> Result<(), AllocError>
+    requires { total counts < 2 ^ 63 }
+    ensures { OnOk result (out.new.items ≡ out.old.items ++ detail_line (totals_line counts)) }
+{
+    let n = counts.crosses + counts.not_permitted + counts.bare + counts.bad_target;
+    out.extend_from_slice(b"  ")?;
+    push_total(alloc, out, n)?;
+    let begun = push_kind(alloc, out, false, counts.crosses, b"Crosses")?;
+    let begun = push_kind(alloc, out, begun, counts.not_permitted, b"NotPermitted")?;
+    let begun = push_kind(alloc, out, begun, counts.bare, b"Bare")?;
+    let _begun = push_kind(alloc, out, begun, counts.bad_target, b"BadTarget")?;
+    out.push(b'\n')?;
+    Ok(())
+}
+
+/// Adds that the code isn't in bundles, if more than half of them begin inside an instruction.
+fn push_adrift(
+    alloc: Global,
+    out: &mut Vec<u8>,
+    inside: usize,
+    bundles: usize,
+) -> Result<(), AllocError>
+    requires { inside < 2 ^ 62 }
+    ensures { OnOk result (out.new.items ≡ out.old.items ++ flat_map detail_line (adrift_lines inside bundles)) }
+{
+    if 2 * inside <= bundles {
+        return Ok(());
+    }
+    out.extend_from_slice(b"  the code isn't in bundles: ")?;
+    push_number(alloc, out, inside)?;
+    out.extend_from_slice(b" of ")?;
+    push_number(alloc, out, bundles)?;
+    out.extend_from_slice(NOT_IN_BUNDLES)?;
+    out.push(b'\n')?;
+    Ok(())
+}
+
+/// Adds what is said at the end.
+pub(crate) fn push_last(
+    alloc: Global,
+    out: &mut Vec<u8>,
+    base: u32,
+    limit: u32,
+    code: &[u8],
+    spots: &[Spot],
+) -> Result<(), AllocError>
+    requires span { base + length code.now < 2 ^ 32 }
+    requires each { length spots.now ≡ length code.now }
+    ensures { OnOk result (out.new.items ≡ out.old.items ++ flat_map detail_line (last_lines base limit code.now spots.now)) }
+{
+    push_totals(alloc, out, count_faults(base, limit, code, spots))?;
+    push_adrift(
+        alloc,
+        out,
+        count_inside(spots),
+        spots.len() / BUNDLE as usize,
+    )
+}
