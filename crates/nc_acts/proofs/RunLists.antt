@@ -1,8 +1,9 @@
--- Puts by bits, and what runs stand for.
-use Rattle.std.proofs.Common.{◌≡◌, ℕ, zero, suc, ◌+◌, ◌*◌, ◌-◌, ◌/◌, ◌%◌, ◌<◌, ◌≤◌, ◌^◌, Bool, true, false, cond, List, [], ◌∷◌, ◌++◌}
-use Rattle.std.proofs.Common.{length, replicate, take, drop, refl, ap, arith, sym, subst, ◌∙◌, append_assoc}
-use Rattle.std.specs.Prelude.{◌==◌, map}
-use Rattle.std.proofs.lemmas.List.{length-take-le, length-drop, length-replicate, drop-replicate, take-replicate, append-nil}
+-- Puts by bits, the runs of some bundles, and what runs stand for.
+use Rattle.std.proofs.Common.{◌≡◌, ℕ, zero, suc, ◌+◌, ◌*◌, ◌-◌, ◌/◌, ◌%◌, ◌<◌, ◌≤◌, Bool, true, false, cond, List, [], ◌∷◌, ◌++◌, length, replicate, take}
+use Rattle.std.proofs.Common.{drop, refl, ap, arith, sym, subst, ◌∙◌, append_assoc, eqb-true}
+use Rattle.std.specs.Prelude.{◌==◌}
+use Rattle.std.proofs.lemmas.Bool.{eqb-false}
+use Rattle.std.proofs.lemmas.List.{length-take-le, length-drop, length-replicate, drop-replicate, take-replicate}
 use Rattle.std.proofs.Math.Seq.{take-add}
 use Rattle.nc_decode.specs.declared.instruction.Mark.{Mark}
 use Rattle.nc_region.specs.declared.acts.Act.{Act}
@@ -12,7 +13,7 @@ use Rattle.nc_region.specs.Acts.{puts_where}
 use Rattle.nc_region.specs.Log.{unsettled}
 use Rattle.nc_acts.specs.declared.runs.Places.{Places}
 use Rattle.nc_acts.specs.declared.runs.Places.TheVariants.{Inside, Starts, Marked, Unmarked}
-use Rattle.nc_acts.specs.Runs.{Run, PutRun, StopRun, puts_by_bits, entries_of, entries_in}
+use Rattle.nc_acts.specs.Runs.{Run, PutRun, StopRun, puts_by_bits, entries_of, entries_in, bits_where, bits_at, runs_where}
 use Rattle.nc_acts.specs.machinery.Running.{picks, bytes_for, run_at, AreBits, HasBits}
 use Rattle.nc_acts.proofs.PutLists.{puts_append}
 
@@ -93,3 +94,54 @@ entries_append base code [] ys = refl
 entries_append base code (x ∷ rest) ys =
     ap (λ (z : List Entry). entries_of base code x ++ z) (entries_append base code rest ys)
     ∙ sym (append_assoc (entries_of base code x) (entries_in base code rest) (entries_in base code ys))
+
+-- a bit before others
+bit_more : (b : Bool) (bits rest : ℕ) → (bits % 2 == 1) ≡ b → bits / 2 ≡ rest → bits ≡ cond b 1 0 + 2 * rest
+bit_more true bits rest h e = omega (arith, eqb-true (bits % 2) 1 h, e)
+bit_more false bits rest h e = omega (arith, eqb-false (bits % 2) 1 h, e)
+
+-- there is one number with these bits
+bits_are : (chosen : ℕ → Bool) (at n bits : ℕ) → AreBits chosen at n bits → bits ≡ bits_where chosen at n
+bits_are chosen at zero bits h = h
+bits_are chosen at (suc n) bits (here, more) =
+    bit_more (chosen at) bits (bits_where chosen (at + 1) n) here (bits_are chosen (at + 1) n (bits / 2) more)
+
+-- and one for a bundle
+pub bits_bundle : (chosen : ℕ → Bool) (at bits : ℕ) → HasBits chosen at 32 bits → bits ≡ bits_at chosen at
+unfolding bits_at
+bits_bundle chosen at bits h = bits_are chosen at 32 bits h.are
+
+-- the run of one more bundle
+pub runs_more : (run : ℕ → ℕ → Run) (chosen : ℕ → Bool) (at n : ℕ)
+    → runs_where run chosen at (suc n) ≡ runs_where run chosen at n ++ run (at + 32 * n) (bits_at chosen (at + 32 * n)) ∷ []
+runs_more run chosen at zero = ap (λ (k : ℕ). run k (bits_at chosen k) ∷ []) {x = at} {y = at + 32 * 0} (omega arith)
+runs_more run chosen at (suc n) =
+    ap (λ (z : List Run). run at (bits_at chosen at) ∷ z)
+    (runs_more run chosen (at + 32) n
+    ∙ ap (λ (k : ℕ). runs_where run chosen (at + 32) n ++ run k (bits_at chosen k) ∷ []) {x = at + 32 + 32 * n} {y = at + 32 * suc n} (omega arith))
+
+-- two tests that agree on the places have the same bits
+bits_same : (f g : ℕ → Bool) (at n : ℕ) → ((k : ℕ) → k < n → f (at + k) ≡ g (at + k)) → bits_where f at n ≡ bits_where g at n
+bits_same f g at zero h = refl
+bits_same f g at (suc n) h =
+    let here : f at ≡ g at = subst (λ (k : ℕ). f k ≡ g k) {x = at + 0} {y = at} (omega arith) (h 0 (omega arith)) in
+    let more : bits_where f (at + 1) n ≡ bits_where g (at + 1) n =
+    bits_same f g (at + 1) n
+    (λ k lt. subst (λ (m : ℕ). f m ≡ g m) {x = at + suc k} {y = at + 1 + k} (omega arith) (h (suc k) (omega (arith, lt)))) in
+    ap (λ (b : Bool). cond b 1 0 + 2 * bits_where f (at + 1) n) here ∙ ap (λ (m : ℕ). cond (g at) 1 0 + 2 * m) more
+
+-- those of a bundle
+bundle_same : (f g : ℕ → Bool) (at : ℕ) → ((k : ℕ) → k < 32 → f (at + k) ≡ g (at + k)) → bits_at f at ≡ bits_at g at
+unfolding bits_at
+bundle_same f g at h = bits_same f g at 32 h
+
+-- and the same runs
+pub runs_same : (run : ℕ → ℕ → Run) (f g : ℕ → Bool) (at n : ℕ) → ((k : ℕ) → k < 32 * n → f (at + k) ≡ g (at + k))
+    → runs_where run f at n ≡ runs_where run g at n
+runs_same run f g at zero h = refl
+runs_same run f g at (suc n) h =
+    let more : runs_where run f (at + 32) n ≡ runs_where run g (at + 32) n =
+    runs_same run f g (at + 32) n
+    (λ k lt. subst (λ (m : ℕ). f m ≡ g m) {x = at + (32 + k)} {y = at + 32 + k} (omega arith) (h (32 + k) (omega (arith, lt)))) in
+    ap (λ (b : ℕ). run at b ∷ runs_where run f (at + 32) n) (bundle_same f g at (λ k lt. h k (omega (arith, lt))))
+    ∙ ap (λ (z : List Run). run at (bits_at g at) ∷ z) more

@@ -75,7 +75,7 @@ creation_written base code acts acts1 acts2 acts3 acts4 n1 n2 n3 n4 h1 e2 m2 e3 
     (omega (arith, rest.counted, m2, m3, one.counted, both)) all
 
 -- a place is marked by a chunk's marks as by those of the text in which they stand
-stands_so : (marked : Bool) (marks : ℕ → Mark) (text : List Mark) (base len k : ℕ) → AreMarksAt text base len marks → k < len
+pub stands_so : (marked : Bool) (marks : ℕ → Mark) (text : List Mark) (base len k : ℕ) → AreMarksAt text base len marks → k < len
     → marked_if marked marks base (base + k) ≡ mark_if marked (mark_at text (base + k))
 stands_so marked marks text base len k h lt =
     let here : base + k - base ≡ k = omega arith in

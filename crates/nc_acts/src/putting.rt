@@ -65,9 +65,9 @@ fn write_stops<C: ReadChunk>(
     marked: bool,
 ) -> usize
     requires high { base + length (C.code chunk.now) < 2 ^ 32 }
-    requires room { from + length (puts_where (marked_if marked (C.marks chunk.now) base) base (replicate (length (C.code chunk.now)) 244))
+    requires room { from + length (puts_where (marked_if marked (C.marks chunk.now) base) base (replicate (length (C.code chunk.now)) 0xF4))
         ≤ length acts.old }
-    ensures { HasPutUpTo (marked_if marked (C.marks chunk.now) base) base (replicate (length (C.code chunk.now)) 244) acts.old from
+    ensures { HasPutUpTo (marked_if marked (C.marks chunk.now) base) base (replicate (length (C.code chunk.now)) 0xF4) acts.old from
         (length (C.code chunk.now)) acts.new result }
 {
     let mut count = from;

@@ -4,7 +4,7 @@ ghost use Rattle.std.specs.Prelude.{◌≡◌, ◌+◌, ◌*◌, ◌/◌, ◌%�
 ghost use Rattle.nc_decode.specs.declared.instruction.Mark.{Mark};
 ghost use Rattle.nc_region.specs.Acts.{puts_where};
 ghost use Rattle.nc_region.specs.Log.{log_of_create, log_of_delete, unsettled};
-ghost use Rattle.nc_acts.specs.Runs.{HasRuns, run_of};
+ghost use Rattle.nc_acts.specs.Runs.{HasRuns, run_of, runs_where, runs_of_create, runs_of_delete};
 ghost use Rattle.nc_acts.specs.Standing.{AreMarksAt};
 ghost use Rattle.nc_acts.specs.machinery.Running.{AddsRuns, HasBits, bytes_for, picks, run_at};
 
@@ -12,7 +12,6 @@ use crate::act::NcAct;
 use crate::entries::{bump, mark_span, settle, write};
 use crate::putting::{is_as, is_chosen};
 use crate::reading::ReadChunk;
-use nc_decode::BUNDLE;
 
 /// Which places of a bundle a run has.
 #[derive(Clone, Copy, Drop)]
@@ -83,6 +82,7 @@ fn write_runs<C: ReadChunk>(
     ensures len { length acts.new ≡ length acts.old }
     ensures count { result ≡ from + length (C.code chunk.now) / 32 }
     ensures added { AddsRuns base (C.code chunk.now) acts.old from acts.new result
+        (runs_where (run_at places) (picks places (C.marks chunk.now) base) base (length (C.code chunk.now) / 32))
         (unsettled (puts_where (picks places (C.marks chunk.now) base) base (bytes_for places (C.code chunk.now)))) }
 {
     let mut count = from;
@@ -98,7 +98,9 @@ pub fn write_creation_runs<C: ReadChunk>(acts: &mut [NcAct], base: u32, chunk: &
     requires high { base + length (C.code chunk.now) < 2 ^ 32 }
     requires whole { length (C.code chunk.now) % 32 ≡ 0 }
     requires room { 2 * (length (C.code chunk.now) / 32) + 2 ≤ length acts.old }
-    ensures { HasRuns acts.old acts.new (2 * (length (C.code chunk.now) / 32) + 2) base (C.code chunk.now) (log_of_create base (C.code chunk.now)) }
+    // These very runs, and they stand for this log.
+    ensures { HasRuns acts.old acts.new (2 * (length (C.code chunk.now) / 32) + 2) base (C.code chunk.now)
+        (runs_of_create base (C.code chunk.now)) (log_of_create base (C.code chunk.now)) }
 {
     let count = write_runs(acts, 0, base, chunk, Places::Inside);
     let settled = write(acts, count, settle());
@@ -114,7 +116,7 @@ pub fn write_deletion_runs<C: ReadChunk>(acts: &mut [NcAct], base: u32, chunk: &
     // For any text in which the chunk's marks stand there.
     ensures { (text : List Mark) → AreMarksAt text base (length (C.code chunk.now)) (C.marks chunk.now)
         → HasRuns acts.old acts.new (2 * (length (C.code chunk.now) / 32) + 2) base (C.code chunk.now)
-        (log_of_delete text base (length (C.code chunk.now))) }
+        (runs_of_delete text base (length (C.code chunk.now))) (log_of_delete text base (length (C.code chunk.now))) }
 {
     let marked = write_runs(acts, 0, base, chunk, Places::Marked);
     let settled = write(acts, marked, settle());

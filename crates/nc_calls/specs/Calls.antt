@@ -20,15 +20,16 @@ use Rattle.nc_region.specs.Quiet.{retired_spans}
 use Rattle.nc_region.specs.Region.{Region}
 use Rattle.nc_calls.specs.Views.{ViewsKeep}
 
--- The world stands for the region: its text and marks, its keeper's numbers, and as retired spans those of its retired
--- chunks, in any order.
+-- the world stands for the region: it has its text and marks, its keeper's numbers, and as retired spans those of its
+-- retired chunks, in any order
 pub record StandsFor (w : World) (r : Region) : Type 0 where
   pub marked : w.marked ≡ r.marked
   pub keeper : w.keeper ≡ r.keeper.numbers
   pub spans : (span : Span) → Contains w.retired span ↔ Contains (retired_spans r.chunks) span
 
--- A schedule that has led to a region: each of its events was allowed where it stood, the world that they leave stands for the
--- region, and its views keep what a call needs of them. The generation is one that a table may have.
+-- The events lead to the region: each was allowed where it happened, and the world they leave stands for the region. In
+-- every view of that world no instruction at a marked place reaches another marked place, and marked places outside
+-- live chunks hold F4. The limit is lawful, and the generation at most 2^62.
 pub record HasLedTo (limit seats : ℕ) (events : List Event) (r : Region) : Type 0 where
   pub lawful : IsLawfulLimit limit
   pub allowed : AreAllowed (first_world limit seats) events
@@ -36,8 +37,8 @@ pub record HasLedTo (limit seats : ℕ) (events : List Event) (r : Region) : Typ
   pub views : ViewsKeep (world_after (first_world limit seats) events) r.chunks
   pub in_range : r.keeper.numbers.generation ≤ last_generation
 
--- What acts leave open: the marks that a span gets, the span that a stamp is drawn for, the seats that a look goes over, and
--- the spans of which one is unmarked.
+-- what acts leave open: the marks that a span gets, the span that a stamp is drawn for, how many seats a look goes
+-- over, and the spans of which one is unmarked
 pub record Details : Type 0 where
   pub marks : List Mark
   pub base : ℕ
@@ -50,7 +51,8 @@ abbrev pub span_from : List Span → ℕ → Span
 span_from [] at = record { base = at; length = 0; stamp = 0 }
 span_from (span ∷ rest) at = if span.base == at then span else span_from rest at
 
--- The events that an act is. A look is a load of each seat's word, in the seats' order.
+-- the events that an act is: a put, a marking with these marks, the freeing of the span of that base, the retiring of
+-- this span, or a load of each seat's word in the seats' order
 abbrev pub events_of_act : Details → Act → List Event
 events_of_act d (Put at byte) = Puts at byte ∷ []
 events_of_act d (MarkSpan at len) = Marks at d.marks ∷ []
@@ -71,19 +73,20 @@ events_of_log d log = flat_map (events_of_entry d) log
 abbrev pub no_details : Details
 no_details = record { marks = []; base = 0; len = 0; seats = 0; spans = [] }
 
--- a chunk is created: the acts and the settling that the contract of `create` names, with the chunk's marks
+-- the events of the log of a creation, with the chunk's marks
 abbrev pub create_events : MarkedChunk → List Event
 create_events v = events_of_log (record no_details { marks = v.marks }) (log_of_create v.base v.code)
 
--- a patch is made: those of `modify`
+-- the events of the log of a patch
 abbrev pub modify_events : List ℕ → ℕ → List Piece → List Event
 modify_events text at news = events_of_log no_details (log_of_modify text at news)
 
--- a chunk is deleted: those of `delete`, with its span retired as the stamp is drawn
+-- the events of the log of a deletion, where drawing the stamp retires the chunk's span
 abbrev pub delete_events : List Mark → ℕ → ℕ → List Event
 delete_events marks base len = events_of_log (record no_details { base = base; len = len }) (log_of_delete marks base len)
 
--- retired chunks are reclaimed: those of `reclaim`, over this number of seats, with no settling among them
+-- the events of a reclaiming: one look at each of the seats in order, then each freed span is unmarked; it has no
+-- settling
 abbrev pub reclaim_events : ℕ → ℕ → List Chunk → List Event
 reclaim_events seats least chunks =
     events_of_log (record no_details { seats = seats; spans = retired_spans chunks })

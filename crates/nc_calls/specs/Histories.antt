@@ -1,5 +1,5 @@
--- Histories of a region: its calls one after the other, with whatever threads do between any two acts of them; and where threads
--- may stand.
+-- Histories of a region: its calls one after the other, with whatever threads do between any two acts of them; and
+-- where threads may be.
 use Rattle.std.specs.Prelude.{◌≡◌, ℕ, ◌≤◌, ⊤, List, [], ◌∷◌, ◌++◌, All, IfSome}
 use Rattle.nc_decode.specs.Bundles.{IsLawfulLimit}
 use Rattle.nc_vet.specs.Chunk.{MarkedChunk, Piece, IsValid}
@@ -17,9 +17,10 @@ use Rattle.nc_region.specs.Patch.{IsPatch, IsModified, AreBytesOf}
 use Rattle.nc_calls.specs.Weaving.{writers, IsKeepers, ThreadsMay}
 use Rattle.nc_calls.specs.Calls.{create_events, modify_events, delete_events, reclaim_events}
 
--- What a call of a region does, by the words of its contract: the region that it leaves, and the events that it is. A creation
--- that is refused has no event, and may have made pages. What else is refused, and what only asks, leaves the region as it was.
--- The keeper may be used by itself.
+-- What a call of a region does, by the words of its contract: the region that it leaves, and its own events. `Creates`,
+-- `Patches`, `Deletes` and `Reclaims` are the accepted calls, with the events of their logs. `UsesKeeper` uses the
+-- keeper by itself. `Refuses` is a refused creation, which has no event and may have made pages. `Keeps` is any other
+-- refusal, and a call that only asks: it has no event and leaves an equal region.
 pub data IsCall (seats : ℕ) (old new : Region) (own : List Event) : Type 0 where
   Creates : (v : MarkedChunk) → IsValid v → v.limit ≡ limit_of old.marked.bytes → IsCreated old new v → own ≡ create_events v
       → IsCall seats old new own
@@ -34,25 +35,27 @@ pub data IsCall (seats : ℕ) (old new : Region) (own : List Event) : Type 0 whe
   Refuses : (v : MarkedChunk) (fault : CreateFault) → IsRefused old new v fault → own ≡ [] → IsCall seats old new own
   Keeps : new ≡ old → own ≡ [] → IsCall seats old new own
 
--- A call in a history: all that happens from the call before it up to its end, and the region that it leaves.
+-- a call in a history: all events since the call before it, up to its own end, the threads' among them, and the region
+-- that it leaves
 pub record Turn : Type 0 where
   pub events : List Event
   pub region : Region
 
--- The call is one, threads do only what they may between its acts, and the keeper finds what stands in the words of the seats.
+-- after the events before, the writer's events of the turn are those of one call, threads do only what they may, and
+-- the keeper's numbers of the world are those of the region
 pub record IsTurn (limit seats : ℕ) (before : List Event) (old : Region) (turn : Turn) : Type 0 where
   pub call : IsCall seats old turn.region (writers turn.events)
   pub threads : ThreadsMay (world_after (first_world limit seats) before) turn.events
   pub keeper : (world_after (first_world limit seats) (before ++ turn.events)).keeper ≡ turn.region.keeper.numbers
 
--- calls, one after the other, from a region to which some events have led
+-- the turns are calls one after the other, from a region to which some events have led
 abbrev pub AreTurns : ℕ → ℕ → List Event → Region → List Turn → Type 0
 AreTurns limit seats before r [] = ⊤
 AreTurns limit seats before r (turn ∷ rest) =
     IsTurn limit seats before r turn × AreTurns limit seats (before ++ turn.events) turn.region rest
 
--- A history of a region: a keeper that may have been used, with threads beside it; then the region, new, over that keeper; then
--- its calls.
+-- a history of a region: a keeper that may have been used, with threads beside it; then the region, new, over that
+-- keeper, with a lawful limit; then its calls
 pub record IsHistory (limit seats : ℕ) (first : List Event) (r : Region) (turns : List Turn) : Type 0 where
   pub lawful : IsLawfulLimit limit
   pub keepers : All IsKeepers (writers first)
@@ -63,17 +66,16 @@ pub record IsHistory (limit seats : ℕ) (first : List Event) (r : Region) (turn
   pub chunks : r.chunks ≡ []
   pub turns_are : AreTurns limit seats first r turns
 
--- all that happened
+-- all events of a history
 abbrev pub happened : List Event → List Turn → List Event
 happened first [] = first
 happened first (turn ∷ rest) = happened (first ++ turn.events) rest
 
--- the region at the end
+-- the region that the last call of a history leaves
 abbrev pub region_at_end : Region → List Turn → Region
 region_at_end r [] = r
 region_at_end r (turn ∷ rest) = region_at_end turn.region rest
 
--- Each thread that is inside stands, in every view, on a permitted instruction that isn't barred, wholly inside its bundle, on an
--- indirect transfer only with that register just masked; or on a bundle start of the zone.
+-- each thread that is inside is, in every view, where `Stands` of nc_text says
 abbrev pub AllStand : World → Type 0
 AllStand w = All (λ (seat : Seat). IfSome seat.inside (λ now. (view : List ℕ) → IsViewOf w view → Stands view now)) w.seats

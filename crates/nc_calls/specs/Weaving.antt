@@ -18,14 +18,15 @@ is_writers _ = false
 abbrev pub writers : List Event → List Event
 writers events = filter is_writers events
 
--- The keeper does it, and it is no act on a text or a chunk: the keeper raises the generation for no span, or looks at the
--- word of a seat.
+-- an event of the keeper that is no act on a text or a chunk: the generation raised for no span, or a look at a seat's
+-- word
 abbrev pub IsKeepers : Event → Type 0
 IsKeepers Bumps = ⊤
 IsKeepers (Looks k) = ⊤
 IsKeepers event = ⊥
 
--- each event that a thread does is one that it may do where it stands; of the writer's nothing is said
+-- Each event that a thread does is one that it may do where it happens (`ThreadMay` of nc_schedule). Of the writer's
+-- events nothing is said.
 abbrev pub ThreadsMay : World → List Event → Type 0
 ThreadsMay w [] = ⊤
 ThreadsMay w (event ∷ events) = (is_writers event ≡ false → ThreadMay w event) × ThreadsMay (after w event) events

@@ -1,4 +1,4 @@
--- The automaton that reads one byte at a time, and what a run of it says of the bytes.
+-- The automaton that reads one byte at a time, and what its states say of the bytes.
 use Rattle.std.specs.Prelude.{ℕ, ◌≡◌, ◌+◌, ◌-◌, ◌%◌, ◌<◌, ◌≤◌, ◌⊎◌, List, [], ◌∷◌, length, drop, slice_index, get_or, Option, Some, None}
 use Rattle.std.specs.Prelude.{IsTrue, All, ◌==◌, if◌then◌else◌}
 use Rattle.std.specs.Int.{w8, w32, cast_signed, from_le_bytes}
@@ -7,7 +7,7 @@ use Rattle.nc_decode.specs.declared.instruction.Instr.{Instr}
 use Rattle.nc_decode.specs.Spelling.{Spells}
 use Rattle.nc_decode.specs.Transfers.{is_direct, is_indirect}
 
--- the state after one more byte
+-- the state after one more byte, by the program's table `NEXT`
 unfoldable pub next_state : ℕ → ℕ → ℕ
 next_state s b = get_or (get_or NEXT s []) b 0
 
@@ -38,15 +38,17 @@ pub record Ends (m e : ℕ) (bytes : List ℕ) (i : Instr) : Type 0 where
   pub masks : (r : ℕ) → masked_at e ≡ Some r → i.masks ≡ Some r
   pub paired : e ≡ AFTER_PAIR → (masked_at m ≡ Some i.reg) × (length bytes ≡ 2) × (i.reg ≡ slice_index bytes 1 % 8)
 
--- bytes that lead from one state after an instruction to the next such state are an instruction
+-- Bytes that lead from a state after an instruction to the next such state are one whole instruction. That state tells
+-- whether it is an indirect transfer, where the displacement of a direct one is, and which register it masks. An
+-- indirect transfer directly follows its mask.
 abbrev pub ReadsByStates : Type 0
 ReadsByStates = (m e : ℕ) (bytes : List ℕ) → END ≤ m → m < STATES → All (λ b. b < 256) bytes → Leads m bytes e → (i : Instr)
     × Ends m e bytes i
 
--- no number but those below STATES comes next
+-- the next state is always below `STATES`
 abbrev pub HasStates : Type 0
 HasStates = (s b : ℕ) → next_state s b < STATES
 
--- one byte is never an indirect transfer
+-- a single byte is never an indirect transfer
 abbrev pub NoneIsPaired : Type 0
 NoneIsPaired = (m b : ℕ) → END ≤ m → m < STATES → b < 256 → next_state m b ≡ AFTER_PAIR → ⊥

@@ -1,5 +1,5 @@
--- The instruction at the front of some bytes, as one function, and what is known of it.
--- The law `law_of_fronts` ties it to the relation of `Spelling`; whoever stands above cites only these words.
+-- The instruction at the front of some bytes as one function, and what is known of it. The law `law_of_fronts` ties it
+-- to the relation of `Spelling`; the crates above cite only these words.
 use Rattle.std.specs.Prelude.{◌≡◌, ◌≢◌, ◌↔◌, ℕ, ◌<◌, ◌≤◌, List, [], ◌∷◌, ◌++◌, length, take, Option, Some, None, nat_lt, if◌then◌else◌}
 use Rattle.std.specs.Prelude.{pos, IfSome, IsTrue}
 use Rattle.std.specs.Result.{result_ok}
@@ -16,15 +16,15 @@ abbrev pub leading_bytes : List ℕ → List ℕ
 leading_bytes [] = []
 leading_bytes (b ∷ rest) = if nat_lt b 256 then b ∷ leading_bytes rest else []
 
--- the instruction that is a front of these bytes
+-- the permitted instruction at the front of the bytes, if there is one; `decode` answers by it
 unfoldable pub first_instruction : List ℕ → Option Instr
 first_instruction bytes = result_ok (reading (leading_bytes bytes))
 
--- for every list of numbers: the function finds exactly what is at the front
+-- for every list of numbers, `first_instruction` finds `i` exactly where `IsAtFront bytes i`
 abbrev pub IsExact : Type 0
 IsExact = (bytes : List ℕ) (i : Instr) → (first_instruction bytes ≡ Some i) ↔ IsAtFront bytes i
 
--- no instruction is a proper front of another
+-- no permitted instruction is the beginning of a longer one
 abbrev pub IsPrefixFree : Type 0
 IsPrefixFree = (one more : List ℕ) (i j : Instr) → Spells one i → Spells (one ++ more) j → more ≡ []
 
@@ -32,44 +32,44 @@ IsPrefixFree = (one more : List ℕ) (i j : Instr) → Spells one i → Spells (
 abbrev pub plain : ℕ → Flow → Instr
 plain len flow = record { len = len; flow = flow; rel = pos 0; reg = 0; masks = None }
 
--- F4 is an instruction of one byte with the flow Stop
+-- F4 (HLT) is an instruction of one byte after which control goes nowhere, whatever bytes follow
 abbrev pub IsStopFirst : Type 0
 IsStopFirst = (rest : List ℕ) → first_instruction (0xF4 ∷ rest) ≡ Some (plain 1 Stop)
 
--- an instruction has at least one byte, and no more than there are
+-- the instruction at the front has at least one byte, and no more than there are
 abbrev pub HasItsLength : Type 0
 HasItsLength = (bytes : List ℕ) (i : Instr) → first_instruction bytes ≡ Some i → (1 ≤ i.len) × (i.len ≤ length bytes)
 
--- nothing after an instruction matters
+-- the bytes after an instruction don't matter
 abbrev pub DependsOnItsBytes : Type 0
 DependsOnItsBytes = (bytes others : List ℕ) (i : Instr) → first_instruction bytes ≡ Some i → take i.len others ≡ take i.len bytes
     → first_instruction others ≡ Some i
 
--- only an instruction that goes on to the next masks a register
+-- only an instruction that goes on to the next one masks a register
 abbrev pub MasksOnlyBeforeNext : Type 0
 MasksOnlyBeforeNext = (bytes : List ℕ) (i : Instr) → first_instruction bytes ≡ Some i → i.flow ≢ Next → i.masks ≡ None
 
--- registers are numbered from 0 to 7, and register 4, the stack's, is never masked
+-- registers are numbered from 0 to 7, and register 4, the stack pointer, is never masked
 abbrev pub NamesRegisters : Type 0
 NamesRegisters = (bytes : List ℕ) (i : Instr) → first_instruction bytes ≡ Some i → (i.reg < 8) × IfSome i.masks (λ r. (r < 8) × (r ≢ 4))
 
--- an instruction masks a register exactly where its bytes are that register's mask, for the registers 0 to 7 but 4
+-- an instruction masks a register exactly where its bytes are that register's `mask`, for the registers 0 to 7 but 4
 abbrev pub MasksExactly : Type 0
 MasksExactly = (bytes : List ℕ) (i : Instr) (r : ℕ) → first_instruction bytes ≡ Some i → (i.masks ≡ Some r)
     ↔ ((take i.len bytes ≡ mask r) × (r < 8) × (r ≢ 4))
 
--- after a prefix an instruction goes on to the next and masks nothing
+-- an instruction with a prefix goes on to the next one and masks nothing
 abbrev pub GoesOnAfterPrefix : Type 0
 GoesOnAfterPrefix = (bytes : List ℕ) (i : Instr) (s : Spells bytes i) → s.parts.prefix ≢ None → (i.flow ≡ Next) × (i.masks ≡ None)
 
--- no permitted instruction has a barred beginning
+-- no permitted instruction is barred (`IsBarred`)
 abbrev pub NeverBarred : Type 0
 NeverBarred = (bytes : List ℕ) (i : Instr) → Spells bytes i → ¬ IsBarred bytes
 
--- so none at the front of some bytes has one
+-- the bytes of the instruction that `first_instruction` finds are not barred
 abbrev pub NeverBarredAtFront : Type 0
 NeverBarredAtFront = (bytes : List ℕ) (i : Instr) → first_instruction bytes ≡ Some i → ¬ IsBarred (take i.len bytes)
 
--- a direct transfer begins with one of a few bytes
+-- a direct transfer begins with a byte of `may_transfer`
 abbrev pub BeginsAsTransfer : Type 0
 BeginsAsTransfer = (byte : ℕ) (rest : List ℕ) (i : Instr) → Spells (byte ∷ rest) i → IsTrue (is_direct i.flow) → IsTrue (may_transfer byte)

@@ -3,7 +3,7 @@ use Rattle.std.specs.Prelude.{ℕ, List}
 use Rattle.nc_decode.specs.declared.bundles.TheConstants.{MAX_BUNDLES}
 use Rattle.nc_decode.specs.Rows.{Row, PrefixRow, rows, prefix_rows, first_rows, first_prefix_rows}
 
--- the opcode table, the prefix table, and the most bundles of a region
+-- the opcode table, the prefix table, and the most bundles of a region: what may change from one version to the next
 pub record Profile : Type 0 where
   pub rows : List Row
   pub prefix_rows : List PrefixRow

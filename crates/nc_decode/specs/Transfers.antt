@@ -5,14 +5,14 @@ use Rattle.nc_decode.specs.declared.instruction.Instr.{Instr}
 use Rattle.nc_decode.specs.declared.instruction.Flow.{Flow}
 use Rattle.nc_decode.specs.declared.instruction.Flow.TheVariants.{Branch, Jump, Call, IndirectJump, IndirectCall}
 
--- a transfer to a target that the instruction itself names
+-- whether a flow is a direct transfer: a branch, a jump or a call to a target that the instruction names
 abbrev pub is_direct : Flow → Bool
 is_direct Branch = true
 is_direct Jump = true
 is_direct Call = true
 is_direct _ = false
 
--- a transfer to where a register points
+-- whether a flow is an indirect transfer: a jump or a call to where a register points
 abbrev pub is_indirect : Flow → Bool
 is_indirect IndirectJump = true
 is_indirect IndirectCall = true
@@ -22,11 +22,11 @@ is_indirect _ = false
 abbrev pub behind : Instr → ℕ → ℕ
 behind i at = at + i.len
 
--- the target of a direct transfer at this address, modulo 2^32
+-- the target of a direct transfer at an address: address, length and displacement, added modulo 2^32 (Intel SDM volume
+-- 2, JMP, Jcc and CALL)
 abbrev pub target : Instr → ℕ → ℕ
 target i at = (at + i.len + cast_unsigned w32 i.rel) % 2 ^ 32
 
--- a direct transfer may begin with this byte: the opcode of a branch, a jump or a call, or what stands before that of
--- a long branch
+-- whether a direct transfer may begin with this byte: 0F, 70 to 7F, or E0 to EB (Intel SDM volume 2, appendix A)
 abbrev pub may_transfer : ℕ → Bool
 may_transfer byte = byte == 0x0F || (nat_le 0x70 byte && nat_le byte 0x7F) || (nat_le 0xE0 byte && nat_le byte 0xEB)

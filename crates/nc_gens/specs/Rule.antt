@@ -1,6 +1,5 @@
--- The rule of the words, and what each step on them makes of the numbers.
--- Word 0 is the generation, and word i + 1 is the word of seat i. Who may step on the words has a token, and each token
--- has a view: what it knows of them.
+-- The rule of the words, and what each step on them makes of the numbers. Word 0 is the generation, and word i + 1 is
+-- the word of seat i. Who may step on the words has a token, and each token has a view: what it knows of them.
 use Rattle.std.specs.Prelude.{◌≡◌, ◌≢◌, ℕ, ◌+◌, ◌<◌, ◌≤◌, ◌⊎◌, true, List, length, replicate, slice_index, slice_set}
 use mathlib.Core.Option.{some}
 use lib.ListN.{get_elem?}
@@ -13,41 +12,41 @@ use Rattle.nc_gens.specs.declared.view.View.{View}
 abbrev pub left_word : ℕ
 left_word = 18446744073709551615
 
--- 2 ^ 62
+-- the last generation, 2^62
 abbrev pub last_generation : ℕ
 last_generation = 4611686018427387904
 
 -- What a step makes of the numbers of a pass, or of the keeper
 
--- a pass has loaded the generation n, and takes it as its `since`
+-- the numbers of a pass that has loaded a generation and takes it as its `since`
 abbrev pub generation_taken : ℕ → PassNumbers → PassNumbers
 generation_taken n p = record p { since = n; seen = n; loads = p.loads + 1 }
 
--- a pass has loaded the generation n, and its `since` stays
+-- the numbers of a pass that has loaded a generation, and whose `since` stays
 abbrev pub generation_seen : ℕ → PassNumbers → PassNumbers
 generation_seen n p = record p { seen = n; loads = p.loads + 1 }
 
--- a pass has stored its `since` in its own word
+-- the numbers of a pass that has stored its `since` in its own word
 abbrev pub since_stored : PassNumbers → PassNumbers
 since_stored p = record p { word = p.since }
 
--- a pass has stored "left" in its own word
+-- the numbers of a pass that has stored "left" in its own word
 abbrev pub left_stored : PassNumbers → PassNumbers
 left_stored p = record p { word = left_word }
 
--- the keeper has added one to the generation
+-- the keeper's numbers after it has added one to the generation
 abbrev pub generation_raised : KeeperNumbers → KeeperNumbers
 generation_raised k = record k { generation = k.generation + 1 }
 
--- the keeper has loaded n from the word of the seat i
+-- the keeper's numbers after it has loaded `n` from the word of seat `i` as its bound
 abbrev pub word_taken : ℕ → ℕ → KeeperNumbers → KeeperNumbers
 word_taken i n k = record k { bounds = slice_set k.bounds i n; looks = slice_set k.looks i (slice_index k.looks i + 1) }
 
--- all numbers begin at 0
+-- the numbers of a pass at first, all 0
 abbrev pub first_pass_numbers : PassNumbers
 first_pass_numbers = record { word = 0; since = 0; seen = 0; loads = 0 }
 
--- the keeper's generation and its bound of each seat begin at 0 too
+-- the keeper's numbers at first: the generation and the bound of each seat are 0
 abbrev pub first_keeper_numbers : ℕ → KeeperNumbers
 first_keeper_numbers seats = record { generation = 0; bounds = replicate seats 0; looks = replicate seats 0 }
 

@@ -1,4 +1,4 @@
--- What callers see of a pass and of the keeper. Of a `Gens` they see which table it is.
+-- What contracts see of a pass and of the keeper. Of a `Gens` they see which table it is.
 use Rattle.std.specs.Prelude.{◌≡◌, ℕ, zero, suc, ◌+◌, ◌++◌, ◌<◌, ◌≤◌, ◌==◌, not, min, fold, filter, List, [], ◌∷◌, length, slice_index}
 use Rattle.atomic_table.specs.Seated.{TableId}
 use Rattle.nc_gens.specs.declared.view.PassNumbers.{PassNumbers}
@@ -9,13 +9,13 @@ use Rattle.nc_gens.specs.Rule.{left_word, last_generation, first_pass_numbers, f
 abbrev pub AreSeats : ℕ → Type 0
 AreSeats seats = (1 ≤ seats) × (seats ≤ 256)
 
--- What callers see of a pass. `table` is that of the `Gens` that was made with it.
+-- what contracts see of a pass: its table (that of the `Gens` made with it), seat and numbers
 pub record PassState : Type 0 where
   pub table : TableId
   pub seat : ℕ
   pub numbers : PassNumbers
 
--- what callers see of the keeper, in the same way
+-- what contracts see of the keeper: its table and numbers
 pub record KeeperState : Type 0 where
   pub table : TableId
   pub numbers : KeeperNumbers
@@ -24,16 +24,16 @@ pub record KeeperState : Type 0 where
 abbrev pub first_pass : TableId → ℕ → PassState
 first_pass table seat = record { table = table; seat = seat; numbers = first_pass_numbers }
 
--- a pass for each seat below n, in order
+-- a pass for each seat below a number, in order, with all numbers 0
 abbrev pub first_passes : TableId → ℕ → List PassState
 first_passes table zero = []
 first_passes table (suc n) = first_passes table n ++ first_pass table n ∷ []
 
--- the keeper, as it is made
+-- the keeper of this number of seats as it is made, with all numbers 0
 abbrev pub first_keeper : TableId → ℕ → KeeperState
 first_keeper table seats = record { table = table; numbers = first_keeper_numbers seats }
 
--- the bounds of the seats that the keeper doesn't hold for left
+-- the bounds of the seats that the keeper doesn't count as left
 abbrev pub staying : List ℕ → List ℕ
 staying = filter (λ b. not (b == left_word))
 
@@ -42,19 +42,19 @@ abbrev pub least_or : ℕ → List ℕ → ℕ
 least_or other [] = other
 least_or other (b ∷ bs) = fold min b bs
 
--- the keeper's least number: the least bound of the seats that it doesn't hold for left, and the generation if there are none
+-- the least bound of the seats that the keeper doesn't count as left, or the generation if there are none
 abbrev pub least_number : KeeperNumbers → ℕ
 least_number k = least_or k.generation (staying k.bounds)
 
--- no number is lower than before
+-- no number of the list is lower than before
 abbrev pub Raised : List ℕ → List ℕ → Type 0
 Raised old new = (length new ≡ length old) × ((i : ℕ) → i < length old → slice_index old i ≤ slice_index new i)
 
--- each number is one more than before
+-- each number of the list is one more than before
 abbrev pub RaisedByOne : List ℕ → List ℕ → Type 0
 RaisedByOne old new = (length new ≡ length old) × ((i : ℕ) → i < length old → slice_index new i ≡ slice_index old i + 1)
 
--- The keeper after a look: the generation stays, each seat's word was loaded once, and no bound fell.
+-- the keeper after a look: table and generation stay, each seat's word was loaded once, and no bound fell
 pub record HasLooked (old new : KeeperState) : Type 0 where
   pub table : new.table ≡ old.table
   pub generation : new.numbers.generation ≡ old.numbers.generation
@@ -62,8 +62,9 @@ pub record HasLooked (old new : KeeperState) : Type 0 where
   pub counted : length new.numbers.looks ≡ length new.numbers.bounds
   pub raised : Raised old.numbers.bounds new.numbers.bounds
 
--- A pass and the keeper after they met, and what they know of each other: the keeper's bound for the seat isn't lowered
--- and is the pass's own word, which is at most its `since`; that is at most the generation, and `seen` is the generation.
+-- A pass and the keeper after they met. The pass has seen the generation, and its `since` stays. The keeper's bound for
+-- the seat didn't fall and is the pass's own word, which is at most its `since`, and that at most the generation, which
+-- is at most 2^62.
 pub record HasMet (old : PassState) (before : KeeperState) (new : PassState) (after : KeeperState) : Type 0 where
   pub pass : new ≡ record old { numbers = generation_seen before.numbers.generation old.numbers }
   pub keeper : after ≡ record before { numbers = word_taken old.seat old.numbers.word before.numbers }

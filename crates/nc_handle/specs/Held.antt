@@ -1,4 +1,4 @@
--- What contracts see of a region that owns all that it stands on, and when its calls are refused.
+-- What contracts see of a region that owns all that it needs, and when its calls are refused.
 use Rattle.std.specs.Prelude.{◌≡◌, ℕ, ◌+◌, ◌*◌, ◌^◌, ◌<◌, ◌≤◌, List, [], ◌∷◌, ◌++◌, Option, Some, None, Contains, IfSome, IsSome, All, length, map, slice_index}
 use Rattle.nc_decode.specs.Bundles.{IsLawfulLimit}
 use Rattle.nc_gens.specs.Seen.{AreSeats, PassState, Raised, first_keeper, first_passes}
@@ -21,13 +21,14 @@ use Rattle.nc_handle.specs.declared.fault.PatchFault.TheVariants as patch
 use Rattle.nc_handle.specs.declared.fault.RetireFault.{RetireFault}
 use Rattle.nc_handle.specs.declared.fault.RetireFault.TheVariants as retire
 
--- The region, the passes that nobody has been given, and the chunk whose deletion is under way.
+-- what contracts see of a `Held`: its region, the passes that nobody has been given, and the chunk whose deletion is
+-- under way, if any
 pub record HeldState : Type 0 where
   pub region : Region
   pub passes : List PassState
   pub begun : Option Chunk
 
--- this is a live chunk of the list, with this base
+-- the chunk is a live one of the list, with this base
 abbrev pub IsLiveAt : List Chunk → ℕ → Chunk → Type 0
 IsLiveAt chunks base c = Contains chunks c × (c.state ≡ Live) × (c.base ≡ base)
 
@@ -35,7 +36,8 @@ IsLiveAt chunks base c = Contains chunks c × (c.state ≡ Live) × (c.base ≡ 
 abbrev pub CanEnd : Option Chunk → Region → Type 0
 CanEnd begun r = IfSome begun (λ c. IsLiveAt r.chunks c.base c × (r.keeper.numbers.generation < 2 ^ 62))
 
--- A new region: nothing but stops, no chunk, no stamp drawn, and the pass of each seat.
+-- a new region of a lawful size with 1 to 256 seats: only F4, no page made, no chunk, no stamp drawn, nothing told, no
+-- pass given
 pub record IsFirst (bundles seats : ℕ) (h : HeldState) : Type 0 where
   pub numbers : AreSeats seats
   pub lawful : IsLawfulLimit (0x10000 + 32 * bundles)
@@ -48,13 +50,14 @@ pub record IsFirst (bundles seats : ℕ) (h : HeldState) : Type 0 where
   pub passes : h.passes ≡ first_passes h.region.keeper.table seats
   pub begun : h.begun ≡ None
 
--- when each refusal of `new` comes, one at most for any two numbers; only the last one depends on the memory that is there
+-- when each refusal of `new` comes: the seats aren't 1 to 256; they are, and the size isn't lawful; both are lawful,
+-- and memory ran out
 abbrev pub MayRefuseNew : ℕ → ℕ → NewFault → Type 0
 MayRefuseNew bundles seats BadSeats = ¬ AreSeats seats
 MayRefuseNew bundles seats BadSize = AreSeats seats × ¬ IsLawfulLimit (0x10000 + 32 * bundles)
 MayRefuseNew bundles seats OutOfMemory = AreSeats seats × IsLawfulLimit (0x10000 + 32 * bundles)
 
--- when each refusal of `seat` comes: no seat is left, or one is and there is no memory for it
+-- when each refusal of `seat` comes: no seat is left; or one is, and memory ran out
 abbrev pub MayRefuseSeat : HeldState → SeatFault → Type 0
 MayRefuseSeat h seat.NoneLeft = h.passes ≡ []
 MayRefuseSeat h seat.OutOfMemory = ¬ (h.passes ≡ [])
@@ -67,19 +70,22 @@ IsShort room wanted = (0 < room) × (room < wanted)
 abbrev pub IsShortForPatch : ℕ → ℕ → Type 0
 IsShortForPatch room len = (len ≤ 32) × IsShort room (3 * len)
 
--- when each refusal of `create` comes; only one of the region's own depends on the memory that is there
+-- when each refusal of `create` comes: a deletion is under way; or else a lent buffer has less room than two acts more
+-- than the chunk has bytes; or else the region refuses (`MayRefuse` of nc_region)
 abbrev pub MayRefuseLoad : HeldState → MarkedChunk → ℕ → LoadFault → Type 0
 MayRefuseLoad h v room load.Underway = IsSome h.begun
 MayRefuseLoad h v room (load.NoRoom wanted) = (h.begun ≡ None) × IsShort room (length v.code + 2) × (wanted ≡ length v.code + 2)
 MayRefuseLoad h v room (load.Refused fault) = (h.begun ≡ None) × (¬ IsShort room (length v.code + 2)) × MayRefuse h.region v fault
 
--- What a refused creation leaves: all is as before. Only where the region was refused memory, pages of the span may have been made.
+-- what a refused creation leaves: all as before, but where the region was refused memory, pages of the span may have
+-- been made
 abbrev pub IsNotLoaded : HeldState → HeldState → MarkedChunk → LoadFault → Type 0
 IsNotLoaded old new v load.Underway = new ≡ old
 IsNotLoaded old new v (load.NoRoom wanted) = new ≡ old
 IsNotLoaded old new v (load.Refused fault) = (new ≡ record old { region = new.region }) × IsRefused old.region new.region v fault
 
--- when each refusal of `modify` comes
+-- when each refusal of `modify` comes: a deletion is under way; or else a buffer lent for at most 32 new bytes has less
+-- room than three acts for each; or else the region refuses (`MayRefusePatch` of nc_region)
 abbrev pub MayRefuseModify : HeldState → ℕ → List ℕ → ℕ → PatchFault → Type 0
 MayRefuseModify h at new room patch.Underway = IsSome h.begun
 MayRefuseModify h at new room (patch.NoRoom wanted) =
@@ -87,28 +93,31 @@ MayRefuseModify h at new room (patch.NoRoom wanted) =
 MayRefuseModify h at new room (patch.Refused fault) =
     (h.begun ≡ None) × (¬ IsShortForPatch room (length new)) × MayRefusePatch h.region at new fault
 
--- when no deletion begins
+-- when no deletion begins: one is under way; or else the region refuses (`MayRefuseDelete` of nc_region), or a lent
+-- buffer has less room than two acts more than the live chunk has bytes
 abbrev pub MayRefuseBegin : HeldState → ℕ → ℕ → RetireFault → Type 0
 MayRefuseBegin h base room retire.Underway = IsSome h.begun
 MayRefuseBegin h base room (retire.Refused fault) = (h.begun ≡ None) × MayRefuseDelete h.region base fault
 MayRefuseBegin h base room (retire.NoRoom wanted) =
     (h.begun ≡ None) × ((c : Chunk) × IsLiveAt h.region.chunks base c × IsShort room (c.length + 2) × (wanted ≡ c.length + 2))
 
--- A deletion of this chunk is under way: it is live and has this base. All else is as before.
+-- The deletion of this live chunk of this base is under way, after none was, and a stamp is left for it. All else is as
+-- before.
 pub record HasBegun (old new : HeldState) (base : ℕ) (c : Chunk) : Type 0 where
   pub live : IsLiveAt old.region.chunks base c
   pub room : old.region.keeper.numbers.generation < 2 ^ 62
   pub none : old.begun ≡ None
   pub others : new ≡ record old { begun = Some c }
 
--- The deletion that was under way has ended: its chunk is deleted, with this stamp. All else is as before.
+-- The chunk whose deletion was under way is deleted with this stamp (`IsDeleted` of nc_region), and none is under way.
+-- All else is as before.
 pub record HasEnded (old new : HeldState) (stamp : ℕ) : Type 0 where
   pub chunk : Chunk
   pub begun : old.begun ≡ Some chunk
   pub deleted : IsDeleted old.region new.region chunk.base stamp
   pub others : new ≡ record old { region = new.region; begun = None }
 
--- The last of the passes that nobody had been given went to a seat; all else is as before.
+-- The last of the passes that nobody had been given went to a seat. All else is as before.
 pub record HasGiven (old new : HeldState) (guest : PassState) : Type 0 where
   pub passes : old.passes ≡ new.passes ++ guest ∷ []
   pub others : new ≡ record old { passes = new.passes }
@@ -117,10 +126,11 @@ pub record HasGiven (old new : HeldState) (guest : PassState) : Type 0 where
 abbrev pub IsIn : Region → ℕ → PassState → Type 0
 IsIn r number p = (p.seat < length r.keeper.numbers.bounds) × (number ≤ slice_index r.keeper.numbers.bounds p.seat)
 
--- The region after the seats that nobody had been given were checked in for and retired chunks were reclaimed, so many as `count`
--- says. In between, the keeper has met those passes, and nothing else has changed. The keeper's bounds for their seats are the
--- generation now.
+-- No deletion was under way. The passes that nobody has been given checked in, the keeper met them, and this many
+-- retired chunks were reclaimed (`IsReclaimed` of nc_region). These passes keep their seats, and the keeper's bounds
+-- for them are at least the generation. All else is as before.
 pub record HasReclaimed (old new : HeldState) (count : ℕ) : Type 0 where
+  pub none : old.begun ≡ None
   pub met : Region
   pub keeper : met ≡ record old.region { keeper = met.keeper }
   pub generation : met.keeper.numbers.generation ≡ old.region.keeper.numbers.generation

@@ -1,7 +1,7 @@
 -- The acts of a chunk of a region as runs: how many there are, and when they aren't told.
 use Rattle.std.specs.Prelude.{◌≡◌, ℕ, ◌+◌, ◌*◌, ◌/◌, ◌<◌, List, Some, None}
 use Rattle.nc_acts.specs.declared.act.NcAct.{NcAct}
-use Rattle.nc_acts.specs.Runs.{HasRuns}
+use Rattle.nc_acts.specs.Runs.{runs_of_create, runs_of_delete, HasRuns}
 use Rattle.nc_region.specs.declared.chunk.Chunk.{Chunk}
 use Rattle.nc_region.specs.Deletion.{HasLive}
 use Rattle.nc_region.specs.Log.{log_of_create, log_of_delete}
@@ -14,25 +14,27 @@ use Rattle.nc_handle.specs.Shown.{bytes_of}
 abbrev pub runs_of : ℕ → ℕ
 runs_of len = 2 * (len / 32) + 2
 
--- the runs written, so many, stand for the creation of this chunk with the bytes that it has in the region
+-- the front of the buffer has the runs of this chunk's creation, with its bytes in the region, and they stand for the
+-- log of that: two for each bundle and two more
 abbrev pub AreCreationRuns : HeldState → Chunk → List NcAct → List NcAct → ℕ → Type 0
 AreCreationRuns h c old new count =
-    (count ≡ runs_of c.length) × HasRuns old new count c.base (bytes_of h.region.marked.bytes c.base c.length)
-    (log_of_create c.base (bytes_of h.region.marked.bytes c.base c.length))
+    let code = bytes_of h.region.marked.bytes c.base c.length in
+    (count ≡ runs_of c.length) × HasRuns old new count c.base code (runs_of_create c.base code) (log_of_create c.base code)
 
--- the runs written, so many, stand for the deletion of this chunk of the region
+-- the front of the buffer has the runs of this chunk's deletion, by the region's marks, and they stand for the log of
+-- that: two for each bundle and two more
 abbrev pub AreDeletionRuns : HeldState → Chunk → List NcAct → List NcAct → ℕ → Type 0
 AreDeletionRuns h c old new count =
     (count ≡ runs_of c.length) × HasRuns old new count c.base (bytes_of h.region.marked.bytes c.base c.length)
-    (log_of_delete h.region.marked.marks c.base c.length)
+    (runs_of_delete h.region.marked.marks c.base c.length) (log_of_delete h.region.marked.marks c.base c.length)
 
--- when the runs of a creation aren't told: no live chunk has this base, or the buffer is too short for those of the one that has
+-- when the runs of a creation aren't told: no live chunk has this base, or the buffer is too short for them
 abbrev pub MayRefuseCreationRuns : HeldState → ℕ → ℕ → RunsFault → Type 0
 MayRefuseCreationRuns h base room NoChunk = ¬ HasLive h.region.chunks base
 MayRefuseCreationRuns h base room (NoRoom wanted) =
     (c : Chunk) × IsLiveAt h.region.chunks base c × (room < runs_of c.length) × (wanted ≡ runs_of c.length)
 
--- when the runs of a deletion aren't told: none is under way, or the buffer is too short for those of the one that is
+-- when the runs of a deletion aren't told: none is under way, or the buffer is too short for them
 abbrev pub MayRefuseDeletionRuns : HeldState → ℕ → RunsFault → Type 0
 MayRefuseDeletionRuns h room NoChunk = h.begun ≡ None
 MayRefuseDeletionRuns h room (NoRoom wanted) =

@@ -86,12 +86,14 @@ impl Held {
         // The span holds the chunk's code and marks, and the chunk is in the list; all else is as before.
         ensures created { OnOk result (IsCreated self.old.region self.new.region vetted) }
         ensures others { OnOk result (self.new ≡ record self.old { region = self.new.region }) }
+        // No deletion was under way, and a buffer that was lent had room for the acts.
+        ensures allowed { OnOk result ((self.old.begun ≡ None) × ¬ IsShort (length acts.old) (length vetted.code + 2)) }
         // The acts written are those of a creation, with the settling.
         ensures told { IfOk result (λ count. IsTold acts.old acts.new count (log_of_create vetted.base vetted.code)) }
         // The chunk comes back, and the buffer is as it was.
         ensures unchanged { IfErr result (λ e. (e.0 ≡ vetted) × IsNotLoaded self.old self.new vetted e.1) }
         ensures untouched { OnErr result (acts.new ≡ acts.old) }
-        // Each refusal comes where it is due.
+        // Each refusal comes exactly where it is due.
         ensures refused { IfErr result (λ e. MayRefuseLoad self.old vetted (length acts.old) e.1) }
     {
         let base = vetted.base();
@@ -123,6 +125,8 @@ impl Held {
         ensures others { OnOk result (self.new ≡ record self.old { region = self.new.region }) }
         // Only lawful patches are made.
         ensures lawful { OnOk result (IsPatch self.old.region at new.now) }
+        // No deletion was under way, and a buffer that was lent had room for three acts for each byte.
+        ensures allowed { OnOk result ((self.old.begun ≡ None) × ¬ IsShortForPatch (length acts.old) (length new.now)) }
         // The acts written are those of a patch of the region's own bytes, with the settlings.
         ensures told { IfOk result (λ count. (news : List Piece) → AreBytesOf new.now news
             → IsTold acts.old acts.new count (log_of_modify self.old.region.marked.bytes at news)) }
@@ -172,6 +176,8 @@ impl Held {
         acts: &mut [NcAct],
     ) -> Result<(Chunk, usize), RetireFault>
         ensures begun { IfOk result (λ r. HasBegun self.old self.new base r.0) }
+        // A buffer that was lent had room for the acts.
+        ensures allowed { IfOk result (λ r. ¬ IsShort (length acts.old) (r.0.length + 2)) }
         // The acts written are those of a deletion, by the region's own marks, with the settling.
         ensures told { IfOk result (λ r. IsTold acts.old acts.new r.1 (log_of_delete self.old.region.marked.marks base r.0.length)) }
         ensures unchanged { OnErr result (self.new ≡ self.old) }

@@ -1,7 +1,7 @@
 //! The acts of a creation and of a deletion as runs, worked out from what the region has now.
 
 ghost use Rattle.std.specs.Prelude.{◌≡◌, ◌≤◌, Some, IfOk, IfErr, OnErr, length};
-ghost use Rattle.nc_acts.specs.Runs.{HasRuns};
+ghost use Rattle.nc_acts.specs.Runs.{runs_of_create, runs_of_delete, HasRuns};
 ghost use Rattle.nc_region.specs.Log.{log_of_create, log_of_delete};
 ghost use Rattle.nc_region.specs.declared.chunk.Chunk.{Chunk};
 ghost use Rattle.nc_handle.specs.Held.{IsLiveAt};
@@ -25,6 +25,7 @@ fn tell_creation_runs(acts: &mut [NcAct], span: &Span)
     requires { runs_of span.now.length ≤ length acts.old }
     ensures { HasRuns acts.old acts.new (runs_of span.now.length) span.now.base
         (bytes_of span.now.region.now.marked.bytes span.now.base span.now.length)
+        (runs_of_create span.now.base (bytes_of span.now.region.now.marked.bytes span.now.base span.now.length))
         (log_of_create span.now.base (bytes_of span.now.region.now.marked.bytes span.now.base span.now.length)) }
 {
     write_creation_runs(acts, span.base, span);
@@ -35,6 +36,7 @@ fn tell_deletion_runs(acts: &mut [NcAct], span: &Span)
     requires { runs_of span.now.length ≤ length acts.old }
     ensures { HasRuns acts.old acts.new (runs_of span.now.length) span.now.base
         (bytes_of span.now.region.now.marked.bytes span.now.base span.now.length)
+        (runs_of_delete span.now.region.now.marked.marks span.now.base span.now.length)
         (log_of_delete span.now.region.now.marked.marks span.now.base span.now.length) }
 {
     write_deletion_runs(acts, span.base, span);
@@ -44,7 +46,7 @@ impl Held {
     /// The acts by which the creation of a live chunk with the bytes that stand there now would be made, as runs: two for each bundle of
     /// it, and two more. Directly after `create` these are the acts of that call. It answers how many there are.
     pub fn creation_runs(&self, base: u32, acts: &mut [NcAct]) -> Result<usize, RunsFault>
-        // The runs written stand for the acts of a creation of the chunk's bytes, with the settling.
+        // The runs of a creation of the chunk's bytes, which stand for its acts, with the settling.
         ensures told { IfOk result (λ count. (c : Chunk) × IsLiveAt self.now.region.chunks base c
             × AreCreationRuns self.now c acts.old acts.new count) }
         ensures untouched { OnErr result (acts.new ≡ acts.old) }
@@ -70,7 +72,7 @@ impl Held {
     /// The acts of the deletion that is under way, as runs: two for each bundle of its chunk, and two more. It answers how many there
     /// are.
     pub fn deletion_runs(&self, acts: &mut [NcAct]) -> Result<usize, RunsFault>
-        // The runs written stand for the acts of a deletion, by the region's own marks, with the settling.
+        // The runs of a deletion by the region's own marks, which stand for its acts, with the settling.
         ensures told { IfOk result (λ count. (c : Chunk) × (self.now.begun ≡ Some c)
             × AreDeletionRuns self.now c acts.old acts.new count) }
         ensures untouched { OnErr result (acts.new ≡ acts.old) }

@@ -20,7 +20,7 @@ use Rattle.nc_handle.specs.declared.kept.Kept.{Kept}
 use Rattle.nc_handle.specs.Held.{HeldState}
 use Rattle.nc_host.specs.Shown.{patch_number}
 
--- The handle had something and has something, and this holds of the two.
+-- the handle had a value and has one, and the relation holds of the two
 pub record IsDone {X : Type 0} (old new : Option X) (step : X → X → Type 0) : Type 0 where
   pub before : X
   pub after : X
@@ -28,25 +28,25 @@ pub record IsDone {X : Type 0} (old new : Option X) (step : X → X → Type 0) 
   pub has : new ≡ Some after
   pub did : step before after
 
--- The fault is that the handle has nothing, or the number of one that may be given of what it has; for that one the other number is
--- this function's.
+-- the fault is 32 and the handle has nothing; or it is the number of a refusal that its value may get, with what that
+-- refusal wants
 abbrev pub IsRefusal : {X F : Type 0} → Option X → (X → F → Type 0) → (F → ℕ) → (F → ℕ) → (fault count : ℕ) → Type 0
 IsRefusal {X} {F} held may number wanted fault count =
     ((held ≡ None) × (fault ≡ 32) × (count ≡ 0))
     ⊎ ((x : X) × (f : F) × (held ≡ Some x) × may x f × (fault ≡ number f) × (count ≡ wanted f))
 
--- the number of a fault of `new`
+-- the number of a refused `new`
 abbrev pub new_number : NewFault → ℕ
 new_number new.BadSeats = 34
 new_number new.BadSize = 35
 new_number new.OutOfMemory = 8
 
--- the number of a fault of a seat that isn't given
+-- the number of a refusal to give a seat
 abbrev pub seat_number : SeatFault → ℕ
 seat_number seat.NoneLeft = 36
 seat_number seat.OutOfMemory = 8
 
--- the number of a fault of a creation
+-- the number of a refused creation
 abbrev pub load_number : LoadFault → ℕ
 load_number load.Underway = 37
 load_number (load.NoRoom wanted) = 9
@@ -54,32 +54,32 @@ load_number (load.Refused WrongLimit) = 39
 load_number (load.Refused Occupied) = 40
 load_number (load.Refused OutOfMemory) = 8
 
--- how many acts there would be, where that is the fault
+-- how many acts a creation has that is refused for no room; otherwise 0
 abbrev pub load_wanted : LoadFault → ℕ
 load_wanted load.Underway = 0
 load_wanted (load.NoRoom wanted) = wanted
 load_wanted (load.Refused fault) = 0
 
--- the number of a fault of a patch
+-- the number of a refused patch
 abbrev pub modify_number : PatchFault → ℕ
 modify_number patch.Underway = 37
 modify_number (patch.NoRoom wanted) = 9
 modify_number (patch.Refused fault) = patch_number fault
 
--- how many acts there would be at most, where that is the fault
+-- how many acts a patch has at most that is refused for no room; otherwise 0
 abbrev pub modify_wanted : PatchFault → ℕ
 modify_wanted patch.Underway = 0
 modify_wanted (patch.NoRoom wanted) = wanted
 modify_wanted (patch.Refused fault) = 0
 
--- the number of a fault of a deletion that doesn't begin
+-- the number of a deletion that doesn't begin
 abbrev pub retire_number : RetireFault → ℕ
 retire_number retire.Underway = 37
 retire_number (retire.NoRoom wanted) = 9
 retire_number (retire.Refused NoChunk) = 41
 retire_number (retire.Refused GensFull) = 42
 
--- how many acts there would be, where that is the fault
+-- how many acts a deletion has that is refused for no room; otherwise 0
 abbrev pub retire_wanted : RetireFault → ℕ
 retire_wanted retire.Underway = 0
 retire_wanted (retire.NoRoom wanted) = wanted
@@ -89,23 +89,24 @@ retire_wanted (retire.Refused fault) = 0
 abbrev pub IsVetted : (base limit : ℕ) → List ℕ → MarkedChunk → Type 0
 IsVetted base limit code v = (v.base ≡ base) × (v.limit ≡ limit) × (v.code ≡ code) × IsValid v
 
--- the handle has such a chunk
+-- the handle has a valid chunk of this code at this base for this limit
 abbrev pub HasVetted : (base limit : ℕ) → List ℕ → Option Kept → Type 0
 HasVetted base limit code held = (k : Kept) × (held ≡ Some k) × ((v : MarkedChunk) × (k.chunk ≡ Some v) × IsVetted base limit code v)
 
--- the same for this region's limit
+-- the chunk is a valid one of this code at this base for the region's limit
 abbrev pub IsChunkFor : HeldState → ℕ → List ℕ → MarkedChunk → Type 0
 IsChunkFor h base code v = IsVetted base (limit_of h.region.marked.bytes) code v
 
--- the chunk was created in the region, and all else is as before
+-- no deletion was under way, the chunk was created in the region (`IsCreated`), and all else is as before
 abbrev pub HasLoaded : MarkedChunk → HeldState → HeldState → Type 0
-HasLoaded v old new = IsCreated old.region new.region v × (new ≡ record old { region = new.region })
+HasLoaded v old new = (old.begun ≡ None) × IsCreated old.region new.region v × (new ≡ record old { region = new.region })
 
--- a lawful patch was made in the region, and all else is as before
+-- no deletion was under way, a lawful patch (`IsPatch`) was made in the region (`IsModified`), and all else is as
+-- before
 abbrev pub HasPatched : ℕ → List ℕ → HeldState → HeldState → Type 0
 HasPatched at bytes old new =
-    IsPatch old.region at bytes × IsModified old.region new.region at bytes × (new ≡ record old { region = new.region })
+    (old.begun ≡ None) × IsPatch old.region at bytes × IsModified old.region new.region at bytes × (new ≡ record old { region = new.region })
 
--- all is as before, but that pages of the text may have been made
+-- all is as before, except that pages of the text may have been made
 abbrev pub IsSameButPages : HeldState → HeldState → Type 0
 IsSameButPages old new = new ≡ record old { region = record old.region { made = new.region.made } }

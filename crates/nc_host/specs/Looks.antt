@@ -1,4 +1,4 @@
--- What a host reads of a region: numbers in the place of a chunk and of a place.
+-- What a host reads of a region: numbers for a chunk and for a place.
 use Rattle.std.specs.Prelude.{ℕ}
 use Rattle.nc_text.specs.Marks.{mark_at}
 use Rattle.nc_text.specs.Places.{byte_at}
@@ -20,18 +20,18 @@ abbrev pub stamp_of : ChunkState → ℕ
 stamp_of Live = 0
 stamp_of (Retired stamp) = stamp
 
--- a chunk
+-- a chunk of a region as numbers: base, length, 1 if it is retired, and its stamp or 0
 abbrev pub chunk_of : Chunk → NcChunk
 chunk_of c = record { stamp = stamp_of c.state; fault = 0; base = c.base; length = c.length; retired = retired_of c.state }
 
--- no chunk, for this reason
+-- no chunk, for a fault of this number: all other fields are 0
 abbrev pub no_chunk : ℕ → NcChunk
 no_chunk fault = record { stamp = 0; fault = fault; base = 0; length = 0; retired = 0 }
 
--- what stands at an address
+-- the byte and the mark at an address of a region, as numbers
 abbrev pub place_of : Region → ℕ → NcPlace
 place_of r at = record { fault = 0; byte = byte_at r.marked.bytes at; mark = mark_number (mark_at r.marked.marks at) }
 
--- no place, for this reason
+-- no place, for a fault of this number: all other fields are 0
 abbrev pub no_place : ℕ → NcPlace
 no_place fault = record { fault = fault; byte = 0; mark = 0 }

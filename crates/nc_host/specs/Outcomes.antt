@@ -8,23 +8,23 @@ use Rattle.nc_vet.specs.Faults.{HasFault}
 use Rattle.nc_text.specs.Marks.{mark_at}
 use Rattle.nc_host.specs.Shown.{fault_number, fault_place}
 
--- the code is a valid chunk there, with these marks
+-- the code is a valid chunk at this base for this limit, with these marks
 abbrev pub IsAccepted : ℕ → ℕ → List ℕ → List Mark → Type 0
 IsAccepted base limit code marks = IsValid (record { base = base; limit = limit; code = code; marks = marks })
 
--- the number and the address are those of a fault that the chunk has
+-- the number, 1 to 8, and the address are those of a fault that the chunk has; the address is 0 for a fault without one
 abbrev pub IsChunkFault : ℕ → ℕ → List ℕ → ℕ → ℕ → Type 0
 IsChunkFault base limit code fault at =
     (f : VetFault) × HasFault base limit code f × (fault ≡ fault_number f) × (at ≡ fault_place f)
 
--- The outcome of a call that vets a chunk and then writes so many elements into a buffer with so much room: fault 0 for a valid
--- chunk with room enough; 9 for a valid one without; else the chunk's fault, 1 to 8, with its address.
+-- the outcome of a call that vets a chunk and then writes elements into a buffer: fault 0 for a valid chunk with room
+-- enough; 9 for a valid one without; else the chunk's fault, 1 to 8, with its address
 abbrev pub IsOutcome : (base limit : ℕ) → List ℕ → (wanted room : ℕ) → (fault at : ℕ) → Type 0
 IsOutcome base limit code wanted room fault at =
     ((fault ≡ 0) × (at ≡ 0) × (wanted ≤ room) × ((marks : List Mark) × IsAccepted base limit code marks))
     ⊎ (((fault ≡ 9) × (at ≡ 0) × (room < wanted) × ((marks : List Mark) × IsAccepted base limit code marks))
     ⊎ IsChunkFault base limit code fault at)
 
--- the marks of a text, from an address on, are these
+-- the marks of the text from the base on are these
 abbrev pub StandAt : List Mark → ℕ → List Mark → Type 0
 StandAt text base marks = (k : ℕ) → k < length marks → mark_at text (base + k) ≡ slice_index_or marks k Unmarked

@@ -12,24 +12,27 @@ use Rattle.nc_acts.specs.Standing.{AreBytesAt}
 use Rattle.nc_host.specs.Shown.{patch_number}
 use Rattle.nc_host.specs.Outcomes.{IsAccepted, IsChunkFault}
 
--- in the region only this chunk stands, live
+-- this chunk is the only one of the region, and live; the text is otherwise unused
 pub record HasOnly (r : Region) (base limit : ℕ) (code : List ℕ) (marks : List Mark) : Type 0 where
   pub text : r.marked ≡ with_chunk (unused_text limit) base code marks
   pub chunks : r.chunks ≡ record { base = base; length = length code; state = Live } ∷ []
 
--- a lawful patch of the region has no fault; another has one that it may be refused for
+-- no fault answers a lawful patch of the region (`IsPatch`), and a fault one that may be refused for it
+-- (`MayRefusePatch`)
 abbrev pub IsAnswered : Region → ℕ → List ℕ → Option ModifyFault → Type 0
 IsAnswered r at new None = IsPatch r at new
 IsAnswered r at new (Some fault) = MayRefusePatch r at new fault
 
--- the code is a valid chunk, and so it is of a patch of each region in which only this chunk stands
+-- the code is a valid chunk, and so the patch is answered in each region that has only this chunk (`IsAnswered`)
 pub record IsAnsweredFor (base limit : ℕ) (code : List ℕ) (at : ℕ) (new : List ℕ) (answer : Option ModifyFault) : Type 0 where
   pub marks : List Mark
   pub valid : IsAccepted base limit code marks
   pub each : (r : Region) → HasOnly r base limit code marks → IsAnswered r at new answer
 
--- The outcome of a call that judges a patch and then writes its log, at most three entries for each new byte: fault 0 for a lawful
--- one, with room enough; 9 for a lawful one without; 16 to 21 for another; else the chunk's own fault.
+-- The outcome of a call that judges a patch and then writes its log, at most three entries for each new byte: fault 0
+-- for a lawful patch with room enough; 9 for a lawful one without; 16 to 21 for a refused one; else the chunk's fault,
+-- 1 to 8. A patch is lawful or refused if it is so in each region that has only this chunk (`IsPatch`,
+-- `MayRefusePatch`).
 abbrev pub IsPatchOutcome : (base limit : ℕ) → List ℕ → (at : ℕ) → List ℕ → (room fault place : ℕ) → Type 0
 IsPatchOutcome base limit code at new room fault place =
     ((fault ≡ 0) × (place ≡ 0) × (3 * length new ≤ room) × IsAnsweredFor base limit code at new None)
@@ -37,7 +40,8 @@ IsPatchOutcome base limit code at new room fault place =
     ⊎ (((f : ModifyFault) × (fault ≡ patch_number f) × (place ≡ 0) × IsAnsweredFor base limit code at new (Some f))
     ⊎ IsChunkFault base limit code fault place))
 
--- in the region this chunk is live, whatever others there are
+-- the region keeps what every region keeps (`IsRegion`) and ends at the limit, and this chunk is live in it with these
+-- bytes
 pub record HasLive (r : Region) (base limit : ℕ) (code : List ℕ) : Type 0 where
   pub region : IsRegion r.marked r.chunks
   pub limit_is : limit_of r.marked.bytes ≡ limit

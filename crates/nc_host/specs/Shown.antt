@@ -1,4 +1,4 @@
--- What a host reads: numbers in the place of instructions, marks and faults.
+-- What a host reads: numbers for instructions, marks and faults.
 use Rattle.std.specs.Prelude.{ℕ, ◌+◌, pos, Option, Some, None}
 use Rattle.nc_decode.specs.declared.instruction.Flow.{Flow}
 use Rattle.nc_decode.specs.declared.instruction.Flow.TheVariants.{Next, Branch, Jump, Call, IndirectJump, IndirectCall, Stop}
@@ -27,7 +27,7 @@ abbrev pub register_number : Option ℕ → ℕ
 register_number None = 0
 register_number (Some register) = 16 + register
 
--- an instruction
+-- an instruction as numbers: length, flow (1 to 7), displacement, register, and 16 + r if it masks register r, else 0
 abbrev pub instruction_of : Instr → NcInstruction
 instruction_of i = record {
   fault = 0;
@@ -38,11 +38,11 @@ instruction_of i = record {
   masks = register_number i.masks;
 }
 
--- no instruction, for this reason
+-- no instruction, for a fault of this number: all other fields are 0
 abbrev pub no_instruction : ℕ → NcInstruction
 no_instruction fault = record { fault = fault; length = 0; flow = 0; rel = pos 0; register = 0; masks = 0 }
 
--- a mark: 0, 1, or 16 and the number of the register
+-- a mark as a number: 0 unmarked, 1 plain, 16 + r at an indirect transfer on register r
 abbrev pub mark_number : Mark → ℕ
 mark_number Unmarked = 0
 mark_number Plain = 1

@@ -17,12 +17,12 @@ end_number More = 4
 abbrev pub walk_of : ℕ → End → NcWalk
 walk_of count end = record { count = count; fault = 0; end = end_number end }
 
--- no walk, for this reason
+-- no walk, for a fault of this number: all other fields are 0
 abbrev pub no_walk : ℕ → NcWalk
 no_walk fault = record { count = 0; fault = fault; end = 0 }
 
--- a walk of the machine from a bundle start of the region, over safe states, which start and choices determine; its places stand at the
--- front of the buffer
+-- The walk told is a trace (`IsTrace`) over safe states, the only one by these choices from this bundle start of the
+-- region. Its places are at the front of the buffer; all after them is as before.
 pub record IsShownWalk (text : List ℕ) (start : ℕ) (choices : List ℕ) (told : NcWalk) (old new : List ℕ) : Type 0 where
   pub places : List ℕ
   pub end : End
@@ -33,7 +33,7 @@ pub record IsShownWalk (text : List ℕ) (start : ℕ) (choices : List ℕ) (tol
   pub numbers : told ≡ walk_of (length places) end
   pub written : new ≡ over places old
 
--- a walk for whose places the buffer is too short
+-- there is a walk over more places than the buffer has; what is told is 9, with the number of its places
 pub record IsLongWalk (text : List ℕ) (start : ℕ) (choices : List ℕ) (room : ℕ) (told : NcWalk) : Type 0 where
   pub places : List ℕ
   pub end : End
@@ -42,7 +42,8 @@ pub record IsLongWalk (text : List ℕ) (start : ℕ) (choices : List ℕ) (room
   pub longer : room < length places
   pub numbers : told ≡ record { count = length places; fault = 9; end = 0 }
 
--- when a walk is refused; for want of memory only where it begins at a bundle start
+-- when a walk is refused: 44 where none may begin; 8, lack of memory, only where one may; 9, with the number of places,
+-- if the buffer has fewer
 abbrev pub MayRefuseShownWalk : List ℕ → ℕ → List ℕ → ℕ → NcWalk → Type 0
 MayRefuseShownWalk text start choices room told =
     ((told ≡ no_walk 44) × ¬ IsWalkStart text start)

@@ -6,7 +6,7 @@ ghost use Rattle.nc_vet.specs.Chunk.{MarkedChunk, Piece};
 ghost use Rattle.nc_region.specs.Log.{log_of_create};
 ghost use Rattle.nc_region.specs.Patch.{AreBytesOf, IsModified, IsPatch, log_of_modify};
 ghost use Rattle.nc_region.specs.Region.{IsCreated};
-ghost use Rattle.nc_handle.specs.Held.{HeldState, MayRefuseLoad, MayRefuseModify};
+ghost use Rattle.nc_handle.specs.Held.{HeldState, IsShortForPatch, MayRefuseLoad, MayRefuseModify};
 ghost use Rattle.nc_handle.specs.Shown.{IsTold};
 ghost use Rattle.nc_handle.specs.declared.fault.LoadFault.{LoadFault};
 ghost use Rattle.nc_handle.specs.declared.fault.PatchFault.{PatchFault};
@@ -104,6 +104,7 @@ pub extern "C" fn nc_region_create(
 /// Patches a chunk, and answers by numbers.
 fn patch(held: &mut Held, at: u32, new: &[u8], acts: &mut [NcAct]) -> NcChange
     ensures modified { result.fault ≡ 0 → HasPatched at new.now held.old held.new }
+    ensures allowed { result.fault ≡ 0 → ¬ IsShortForPatch (length acts.old) (length new.now) }
     ensures told { result.fault ≡ 0 → (news : List Piece) → AreBytesOf new.now news
         → IsTold acts.old acts.new result.count (log_of_modify held.old.region.marked.bytes at news) }
     ensures untouched { 0 < result.fault → acts.new ≡ acts.old }
@@ -134,8 +135,10 @@ pub extern "C" fn nc_region_patch(
     bytes: &[u8],
     acts: &mut [NcAct],
 ) -> NcChange
-    // The new bytes stand there, by a lawful patch; all else is as before.
+    // No deletion was under way, and the new bytes stand there, by a lawful patch; all else is as before.
     ensures modified { result.fault ≡ 0 → IsDone region.old.value region.new.value (HasPatched at bytes.now) }
+    // A buffer that was lent had room for three acts for each byte.
+    ensures allowed { result.fault ≡ 0 → ¬ IsShortForPatch (length acts.old) (length bytes.now) }
     // The acts written are those of a patch of the region's own bytes, with the settlings.
     ensures told { result.fault ≡ 0 → (h : HeldState) (news : List Piece) → region.old.value ≡ Some h → AreBytesOf bytes.now news
         → IsTold acts.old acts.new result.count (log_of_modify h.region.marked.bytes at news) }

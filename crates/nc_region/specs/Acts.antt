@@ -7,7 +7,7 @@ use Rattle.nc_text.specs.Marks.{mark_at}
 use Rattle.nc_region.specs.declared.acts.Act.{Act}
 use Rattle.nc_region.specs.declared.acts.Act.TheVariants.{Put, MarkSpan, Bump}
 
--- where it still tells, it told before, and these acts have come to the end of the list
+-- if acts are told still, they were told before, and these acts have come to the end of the list
 abbrev pub Tells : Option (List Act) → Option (List Act) → List Act → Type 0
 Tells before after acts = IfSome after (λ told. IsSomeAnd before (λ earlier. told ≡ earlier ++ acts))
 
@@ -25,8 +25,8 @@ is_start at = at % 32 == 0
 abbrev pub is_inside : ℕ → Bool
 is_inside at = not (is_start at)
 
--- A chunk is created: the bytes that aren't bundle starts, then the marks of the whole chunk, then the bundle starts;
--- each rising. Each put is made.
+-- The acts of a creation: the bytes that aren't bundle starts, the marks of the whole chunk, the bundle starts; each in
+-- ascending order. Each put is made (Ansel et al. 2011).
 abbrev pub acts_of_create : ℕ → List ℕ → List Act
 acts_of_create base code =
     puts_where is_inside base code ++ (MarkSpan base (length code) ∷ puts_where is_start base code)
@@ -45,8 +45,8 @@ is_marked_at marks at = is_mark (mark_at marks at)
 abbrev pub is_unmarked_at : List Mark → ℕ → Bool
 is_unmarked_at marks at = not (is_marked_at marks at)
 
--- A chunk is deleted: stops at its marked places, then at its other places, each rising; then the stamp is drawn. Each
--- put is made.
+-- The acts of a deletion: F4 at the chunk's marked places, then at its other places, each in ascending order; then the
+-- stamp is drawn. Each put is made (Ansel et al. 2011).
 abbrev pub acts_of_delete : List Mark → ℕ → ℕ → List Act
 acts_of_delete marks base len =
     puts_where (is_marked_at marks) base (replicate len 0xF4) ++ (puts_where (is_unmarked_at marks) base (replicate len 0xF4) ++ Bump ∷ [])

@@ -1,4 +1,4 @@
--- A chunk of code by itself, and in a text.
+-- A chunk by itself, and in a text.
 use Rattle.std.specs.Prelude.{◌≡◌, ℕ, ◌-◌, List, length}
 use Rattle.nc_decode.specs.declared.instruction.Mark.{Mark}
 use Rattle.nc_text.specs.Marks.{IsClosed}
@@ -10,7 +10,7 @@ abbrev pub with_chunk : MarkedText → ℕ → List ℕ → List Mark → Marked
 with_chunk marked base bytes marks =
     record marked { bytes = with_span marked.bytes (base - 0x10000) bytes; marks = with_span marked.marks (base - 0x10000) marks }
 
--- A chunk that is closed by itself: in a text that is otherwise unused.
+-- the chunk has a good span and as many marks as bytes, and is closed by itself: in a text that is otherwise unused
 pub record IsClosedChunk (base limit : ℕ) (bytes : List ℕ) (marks : List Mark) : Type 0 where
   pub placed : HasGoodSpan base limit (length bytes)
   pub as_long : length marks ≡ length bytes

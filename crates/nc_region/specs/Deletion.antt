@@ -1,4 +1,4 @@
--- The region after a chunk was deleted, and after retired chunks were reclaimed.
+-- A region after a chunk was deleted, and after retired chunks were reclaimed.
 use Rattle.std.specs.Prelude.{◌≡◌, ℕ, ◌+◌, ◌-◌, ◌^◌, ◌<◌, Bool, false, not, nat_le, List, [], ◌∷◌, length, filter, map, replicate}
 use Rattle.std.specs.Prelude.{Contains, Some, slice_get, slice_set}
 use Rattle.nc_gens.specs.Rule.{generation_raised}
@@ -19,9 +19,9 @@ use Rattle.nc_region.specs.Region.{Region, IsLive}
 abbrev pub HasLive : List Chunk → ℕ → Type 0
 HasLive chunks base = (c : Chunk) × Contains chunks c × IsLive c.state × (c.base ≡ base)
 
--- The region after the chunk of this base was deleted: it was live, its bytes are stops, it is retired, and its stamp is
--- the next generation, which is the keeper's now. All else that a region has is as before. Where acts are told, they are
--- those of the deletion, in their order; where they are logged, with one settling among them.
+-- The region after the live chunk of this base was deleted: its bytes are F4, it is retired in its place of the list,
+-- and its marks stay. The stamp is the next generation, which is the keeper's now and at most 2^62. All else is as
+-- before. The acts told and entries logged are those of a deletion.
 pub record IsDeleted (old new : Region) (base stamp : ℕ) : Type 0 where
   pub index : ℕ
   pub chunk : Chunk
@@ -44,7 +44,7 @@ pub record IsDeleted (old new : Region) (base stamp : ℕ) : Type 0 where
   pub acts : Tells old.told new.told (acts_of_delete old.marked.marks base chunk.length)
   pub log : Logs old.logged new.logged (log_of_delete old.marked.marks base chunk.length)
 
--- when each refusal of `delete` comes: the first of the two that holds
+-- when each refusal of `delete` comes: no live chunk has this base; or one has, and the generation is 2^62
 abbrev pub MayRefuseDelete : Region → ℕ → DeleteFault → Type 0
 MayRefuseDelete r base NoChunk = ¬ HasLive r.chunks base
 MayRefuseDelete r base GensFull = HasLive r.chunks base × (r.keeper.numbers.generation ≡ 2 ^ 62)
@@ -71,10 +71,10 @@ unmarked marked (c ∷ rest) = unmarked (without_marks marked c.base c.length) r
 abbrev pub unmarkings : List Chunk → List Act
 unmarkings chunks = map (λ (c : Chunk). UnmarkSpan c.base c.length) chunks
 
--- The region after retired chunks were reclaimed, so many as `count` says: the keeper has looked, exactly the chunks with
--- a stamp of at most its least number have left the list, and their spans are unmarked. All else that a region has is as
--- before; no byte changed. Where acts are told, they are one look and then one unmarking for each chunk freed, rising.
--- It never settles.
+-- The region after a reclaiming: the keeper has looked, and exactly the retired chunks with a stamp of at most its
+-- least number, this many, have left the list. Their spans are unmarked except for bundle starts; no byte changed, and
+-- all else is as before. The acts are one look and then one unmarking for each chunk freed, in ascending order, with no
+-- settling.
 pub record IsReclaimed (old new : Region) (count : ℕ) : Type 0 where
   pub looked : HasLooked old.keeper new.keeper
   pub chunks : new.chunks ≡ kept (least_number new.keeper.numbers) old.chunks

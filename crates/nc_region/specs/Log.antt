@@ -7,7 +7,7 @@ use Rattle.nc_region.specs.declared.acts.Entry.{Entry}
 use Rattle.nc_region.specs.declared.acts.Entry.TheVariants.{Did, Settled}
 use Rattle.nc_region.specs.Acts.{puts_where, is_start, is_inside, is_marked_at, is_unmarked_at}
 
--- where it still logs, it logged before, and these entries have come to the end of the list
+-- if entries are logged still, they were logged before, and these entries have come to the end of the list
 abbrev pub Logs : Option (List Entry) → Option (List Entry) → List Entry → Type 0
 Logs before after entries = IfSome after (λ log. IsSomeAnd before (λ earlier. log ≡ earlier ++ entries))
 
@@ -15,19 +15,19 @@ Logs before after entries = IfSome after (λ log. IsSomeAnd before (λ earlier. 
 abbrev pub unsettled : List Act → List Entry
 unsettled acts = map Did acts
 
--- A chunk is created: it settles once, after the bytes that aren't bundle starts and before the span is marked.
+-- the log of a creation: its acts, with one settling after the bytes that aren't bundle starts and before the marks
 abbrev pub log_of_create : ℕ → List ℕ → List Entry
 log_of_create base code =
     unsettled (puts_where is_inside base code)
     ++ (Settled ∷ Did (MarkSpan base (length code)) ∷ unsettled (puts_where is_start base code))
 
--- A chunk is deleted: it settles once, after the stops at the marked places and before those at the others.
+-- the log of a deletion: its acts, with one settling after the F4 at the marked places and before those at the others
 abbrev pub log_of_delete : List Mark → ℕ → ℕ → List Entry
 log_of_delete marks base len =
     unsettled (puts_where (is_marked_at marks) base (replicate len 0xF4))
     ++ (Settled ∷ (unsettled (puts_where (is_unmarked_at marks) base (replicate len 0xF4)) ++ Did Bump ∷ []))
 
--- the acts of a log
+-- the acts of a log, without its settlings
 abbrev pub acts_in : List Entry → List Act
 acts_in [] = []
 acts_in (Did act ∷ rest) = act ∷ acts_in rest

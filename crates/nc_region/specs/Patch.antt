@@ -17,7 +17,7 @@ use Rattle.nc_region.specs.Acts.{puts_where}
 use Rattle.nc_region.specs.Log.{unsettled}
 use Rattle.nc_region.specs.Region.{Region, IsLive, IsInChunk, HoldsValid}
 
--- so many bytes, at least one, lie in one bundle
+-- the bytes are at least one, and lie in one bundle
 abbrev pub IsPatchSpan : ℕ → ℕ → Type 0
 IsPatchSpan at len = (0 < len) × IsInOneBundle at len
 
@@ -29,7 +29,7 @@ IsHeldBy chunks at c = Contains chunks c × IsLive c.state × IsInChunk c at
 abbrev pub IsHeld : List Chunk → ℕ → Type 0
 IsHeld chunks at = (c : Chunk) × IsHeldBy chunks at c
 
--- the bytes are these instructions, one after the other
+-- the bytes are these whole permitted instructions, one after the other
 pub record AreBytesOf (bytes : List ℕ) (pieces : List Piece) : Type 0 where
   pub spelled : AreSpelled pieces
   pub parts : bytes ≡ code_of pieces
@@ -42,8 +42,8 @@ AreInstructions bytes = (pieces : List Piece) × AreBytesOf bytes pieces
 abbrev pub lengths : List Piece → List ℕ
 lengths pieces = map (λ p. length p.bytes) pieces
 
--- The new bytes are instructions, and from the address on stand as many of the chunk's, each as long as the new one in
--- its place.
+-- The chunk is valid, and the new bytes are instructions. From `at` on the chunk has as many instructions, each as long
+-- as the new one in its place.
 pub record IsRun (marked : MarkedText) (c : Chunk) (at : ℕ) (new : List ℕ) : Type 0 where
   pub holds : HoldsValid marked c
   pub before : List Piece
@@ -55,36 +55,36 @@ pub record IsRun (marked : MarkedText) (c : Chunk) (at : ℕ) (new : List ℕ) :
   pub bytes : AreBytesOf new news
   pub as_long : lengths old ≡ lengths news
 
--- The first of these, if there is one, is an indirect transfer. In a valid chunk the instruction directly before it is then
--- the mask of a pair, and it is the second half.
+-- The list begins with an indirect transfer. In a valid chunk it is then the second half of a pair, and the instruction
+-- directly before it is the mask.
 abbrev pub GoesOnIndirectly : List Piece → Type 0
 GoesOnIndirectly [] = ⊥
 GoesOnIndirectly (p ∷ rest) = IsTrue (is_indirect p.instr.flow)
 
--- What the instruction that comes in the place of an old one may do to a pair, with what follows the old one: the mask of a
--- pair keeps its bytes; an indirect transfer takes the place of one on the same register, and of nothing else. So a masked
--- jump may become a masked call on its register, and a masked call a masked jump.
+-- what a new instruction may do to a pair in the place of an old one: the mask of a pair keeps its bytes; an indirect
+-- transfer, a jump or a call, is replaced by one on the same register, and nothing else is (Yee et al. 2009, nacljmp)
 pub record SparesPair (old : Piece) (rest : List Piece) (new : Piece) : Type 0 where
   pub mask : GoesOnIndirectly rest → new.bytes ≡ old.bytes
   pub transfer : is_indirect new.instr.flow ≡ is_indirect old.instr.flow
   pub register : IsTrue (is_indirect old.instr.flow) → new.instr.reg ≡ old.instr.reg
 
--- So does each of the new instructions, with the old ones and what follows them.
+-- each new instruction spares the pairs, in the place of an old one before what follows that (`SparesPair`)
 abbrev pub SparesPairs : (old news : List Piece) → Type 0
 SparesPairs old [] = ⊤
 SparesPairs [] (n ∷ news) = ⊤
 SparesPairs (o ∷ rest) (n ∷ news) = SparesPair o rest n × SparesPairs rest news
 
--- each direct transfer of these, which stand from an address on, goes to a good one
+-- each direct transfer of these instructions, from an address on, goes to a good address
 abbrev pub GoWell : (ℕ → Type 0) → ℕ → List Piece → Type 0
 GoWell good at [] = ⊤
 GoWell good at (p ∷ rest) = (IsTrue (is_direct p.instr.flow) → good (target p.instr at)) × GoWell good (at + length p.bytes) rest
 
--- the run is replaced so
+-- the new instructions spare the pairs of the chunk
 abbrev pub LeavesPairs : (marked : MarkedText) (c : Chunk) (at : ℕ) (new : List ℕ) → IsRun marked c at new → Type 0
 LeavesPairs marked c at new run = SparesPairs (run.old ++ run.after) run.news
 
--- the direct transfers that come go where those of a valid chunk may
+-- each direct transfer of the new instructions goes to a target that a valid chunk may have, judged by the chunk's own
+-- instructions
 abbrev pub KeepsTargets : (marked : MarkedText) (c : Chunk) (at : ℕ) (new : List ℕ) → IsRun marked c at new → Type 0
 KeepsTargets marked c at new run = GoWell (IsTarget c.base (limit_of marked.bytes) run.holds.valid.pieces) at run.news
 
@@ -97,15 +97,18 @@ Fits r at new = (c : Chunk) × IsHeldBy r.chunks at c × IsRun r.marked c at new
 abbrev pub FitsBesidePairs : Region → ℕ → List ℕ → Type 0
 FitsBesidePairs r at new = (c : Chunk) × IsHeldBy r.chunks at c × ((run : IsRun r.marked c at new) × LeavesPairs r.marked c at new run)
 
--- a lawful patch
+-- A lawful patch: the new bytes lie in one bundle and take the place of whole instructions of a live chunk, each as
+-- long. They leave its pairs alone (`SparesPair`), and direct transfers go where those of a valid chunk may (Yee et al.
+-- 2009, C7).
 abbrev pub IsPatch : Region → ℕ → List ℕ → Type 0
 IsPatch r at new =
     IsPatchSpan at (length new)
     × ((c : Chunk) × IsHeldBy r.chunks at c
     × ((run : IsRun r.marked c at new) × LeavesPairs r.marked c at new run × KeepsTargets r.marked c at new run))
 
--- The first of these that doesn't hold is the refusal: the bytes lie in one bundle; that is part of a live chunk; they
--- are whole instructions; they fit; they leave pairs alone; their targets are good.
+-- the refusal of a patch is the first of these that doesn't hold: the bytes lie in one bundle, at a place of a live
+-- chunk; they are whole instructions; they take the place of instructions of the chunk; they leave pairs alone; their
+-- targets are good
 abbrev pub MayRefusePatch : Region → ℕ → List ℕ → ModifyFault → Type 0
 MayRefusePatch r at new BadSpan = ¬ IsPatchSpan at (length new)
 MayRefusePatch r at new NotLive = IsPatchSpan at (length new) × ¬ IsHeld r.chunks at
@@ -114,8 +117,8 @@ MayRefusePatch r at new Boundaries = IsPatchSpan at (length new) × IsHeld r.chu
 MayRefusePatch r at new PairTouched = IsPatchSpan at (length new) × Fits r at new × ¬ FitsBesidePairs r at new
 MayRefusePatch r at new BadTarget = IsPatchSpan at (length new) × FitsBesidePairs r at new × ¬ IsPatch r at new
 
--- The region after a patch: the new bytes stand there. All else that a region has is as before, except for
--- the acts told and logged.
+-- The region after a patch: it has the new bytes at their place. All else is as before, except for the acts told and
+-- logged.
 pub record IsModified (old new : Region) (at : ℕ) (bytes : List ℕ) : Type 0 where
   pub patched : new.marked.bytes ≡ with_span old.marked.bytes (at - 0x10000) bytes
   pub others : new ≡ record old { marked = record old.marked { bytes = new.marked.bytes }; told = new.told; logged = new.logged }
@@ -136,7 +139,9 @@ acts_of_instruction at [] = []
 acts_of_instruction at (byte ∷ []) = Put at byte ∷ []
 acts_of_instruction at (byte ∷ next ∷ rest) = Put at 0xF4 ∷ (puts_where any_place (at + 1) (next ∷ rest) ++ Put at byte ∷ [])
 
--- A patch is made: each instruction whose bytes don't stand there already is replaced, rising.
+-- The acts of a patch: each instruction whose bytes aren't there already is replaced, in ascending order. One byte
+-- takes one put; a longer one takes F4 at its first byte, its further bytes in ascending order, then its first byte
+-- (Ansel et al. 2011).
 abbrev pub acts_of_modify : List ℕ → ℕ → List Piece → List Act
 acts_of_modify text at [] = []
 acts_of_modify text at (p ∷ rest) =
@@ -150,7 +155,7 @@ log_of_instruction at (byte ∷ []) = Did (Put at byte) ∷ []
 log_of_instruction at (byte ∷ next ∷ rest) =
     Did (Put at 0xF4) ∷ Settled ∷ (unsettled (puts_where any_place (at + 1) (next ∷ rest)) ++ (Settled ∷ Did (Put at byte) ∷ []))
 
--- A patch is made: each instruction whose bytes don't stand there already is replaced, rising.
+-- the log of a patch: its acts, where each longer instruction settles twice, after F4 and before its first byte is put
 abbrev pub log_of_modify : List ℕ → ℕ → List Piece → List Entry
 log_of_modify text at [] = []
 log_of_modify text at (p ∷ rest) =

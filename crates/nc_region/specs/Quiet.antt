@@ -17,6 +17,7 @@ abbrev pub retired_spans : List Chunk → List Span
 retired_spans [] = []
 retired_spans (c ∷ rest) = with_retired c c.state (retired_spans rest)
 
--- every retired span is quiet
+-- the span of each retired chunk is quiet: all its bytes are F4, and no state that a mark outside it stands for has a
+-- step into it, except to a bundle start
 abbrev pub AreQuiet : MarkedText → List Chunk → Type 0
 AreQuiet marked chunks = Each (IsQuiet marked.bytes marked.marks) (retired_spans chunks)

@@ -21,8 +21,8 @@ use Rattle.nc_region.specs.declared.fault.CreateFault.TheVariants.{WrongLimit, O
 use Rattle.nc_region.specs.Chunks.{HasGoodSpan}
 use Rattle.nc_region.specs.Each.{Each}
 
--- What contracts see of a region: bytes and marks, the pages that are made, the chunks by rising base, the keeper with the
--- generation and each seat's bound, the acts told so far, and these with the settlings among them, while they are logged.
+-- what contracts see of a region: bytes and marks, the pages that are made, the chunks by ascending base, the keeper,
+-- the acts told so far, and these with the settlings among them, while they are told and logged
 pub record Region : Type 0 where
   pub marked : MarkedText
   pub made : List Bool
@@ -31,13 +31,13 @@ pub record Region : Type 0 where
   pub told : Option (List Act)
   pub logged : Option (List Entry)
 
--- what contracts see of a `Plain`
+-- what contracts see of a `Plain`: bytes and marks, the pages that are made, and the keeper
 pub record PlainState : Type 0 where
   pub marked : MarkedText
   pub made : List Bool
   pub keeper : KeeperState
 
--- threads may enter it
+-- the chunk is live, so threads may enter it
 abbrev pub IsLive : ChunkState → Type 0
 IsLive Live = ⊤
 IsLive (Retired stamp) = ⊥
@@ -46,12 +46,12 @@ IsLive (Retired stamp) = ⊥
 abbrev pub IsInChunk : Chunk → ℕ → Type 0
 IsInChunk c at = (c.base ≤ at) × (at < c.base + c.length)
 
--- by rising base, without overlap
+-- the chunks ascend from a place on, without overlap
 abbrev pub IsRising : ℕ → List Chunk → Type 0
 IsRising from [] = ⊤
 IsRising from (c ∷ rest) = (from ≤ c.base) × IsRising (c.base + c.length) rest
 
--- in the chunk's span stand the bytes and the marks of a valid chunk of this base, for the text's limit
+-- the chunk's span has the bytes and the marks of a valid chunk of its base, for the text's limit (`IsValid` of nc_vet)
 pub record HoldsValid (marked : MarkedText) (c : Chunk) : Type 0 where
   pub vetted : vet.MarkedChunk
   pub valid : IsValid vetted
@@ -61,7 +61,8 @@ pub record HoldsValid (marked : MarkedText) (c : Chunk) : Type 0 where
   pub bytes_are : (at : ℕ) → IsInChunk c at → byte_at marked.bytes at ≡ slice_index vetted.code (at - c.base)
   pub marks_are : (at : ℕ) → IsInChunk c at → mark_at marked.marks at ≡ slice_index_or vetted.marks (at - c.base) Unmarked
 
--- What every region keeps. Outside live chunks all bytes are F4; outside all chunks only bundle starts are marked.
+-- What every region keeps: the text is closed, the chunks ascend and have good spans, and live ones hold valid chunks.
+-- Outside live chunks all bytes are F4, and outside all chunks only bundle starts are marked.
 pub record IsRegion (marked : MarkedText) (chunks : List Chunk) : Type 0 where
   pub whole : IsText marked
   pub rising : IsRising 0x10000 chunks
@@ -72,23 +73,23 @@ pub record IsRegion (marked : MarkedText) (chunks : List Chunk) : Type 0 where
   pub unused : (at : ℕ) → InRegion marked.bytes at → Each (λ (c : Chunk). IsInChunk c at → ⊥) chunks
       → mark_at marked.marks at ≡ unused_mark at
 
--- Every place of each listed chunk is ready. Every region keeps this too.
+-- each place of each listed chunk is ready; every region keeps this too
 abbrev pub AreChunksReady : List Bool → List Chunk → Type 0
 AreChunksReady made chunks = Each (λ (c : Chunk). AreReady made c.base c.length) chunks
 
--- a text in which nothing was changed yet
+-- the text is the unused one up to some lawful limit
 abbrev pub IsNew : MarkedText → Type 0
 IsNew marked = (limit : ℕ) × IsLawfulLimit limit × (marked ≡ unused_text limit)
 
--- all of a chunk list ends at or below a place
+-- all chunks of the list end at or below the place
 abbrev pub IsAboveAll : ℕ → List Chunk → Type 0
 IsAboveAll base chunks = Each (λ (d : Chunk). d.base + d.length ≤ base) chunks
 
--- all of it above the end of a span
+-- all chunks of the list begin at or above the place
 abbrev pub IsBelowAll : ℕ → List Chunk → Type 0
 IsBelowAll end chunks = Each (λ (d : Chunk). end ≤ d.base) chunks
 
--- the index in the list where a chunk of this span keeps it rising
+-- a chunk of this span keeps the list ascending where it is inserted at index `k`
 abbrev pub FitsAt : ℕ → ℕ → List Chunk → ℕ → Type 0
 FitsAt base len chunks k = (k ≤ length chunks) × IsAboveAll base (take k chunks) × IsBelowAll (base + len) (drop k chunks)
 
@@ -105,8 +106,8 @@ IsInserted old new c = (k : ℕ) × FitsAt c.base c.length old k × (new ≡ ins
 abbrev pub live_chunk : vet.MarkedChunk → Chunk
 live_chunk v = record { base = v.base; length = length v.code; state = Live }
 
--- The region after the chunk was created: the span holds its code and its marks, and it is in the list. Pages of the span
--- may have been made. All else that a region has is as before, except for the acts told and logged.
+-- The region after a chunk was created: its span has the chunk's code and marks, and the list has the chunk. Pages of
+-- the span may have been made. All else is as before, except for the acts told and logged.
 pub record IsCreated (old new : Region) (v : vet.MarkedChunk) : Type 0 where
   pub bytes : new.marked.bytes ≡ with_span old.marked.bytes (v.base - 0x10000) v.code
   pub marks : new.marked.marks ≡ with_span old.marked.marks (v.base - 0x10000) v.marks
@@ -120,13 +121,14 @@ pub record IsCreated (old new : Region) (v : vet.MarkedChunk) : Type 0 where
     logged = new.logged;
   }
 
--- The region after a refused creation: it is as before. Only where memory was refused, pages of the span may have been made.
+-- the region after a refused creation: as before, but where memory was refused, pages of the span may have been made
 abbrev pub IsRefused : Region → Region → vet.MarkedChunk → CreateFault → Type 0
 IsRefused old new v WrongLimit = new ≡ old
 IsRefused old new v Occupied = new ≡ old
 IsRefused old new v OutOfMemory = (new ≡ record old { made = new.made }) × GetsReady old.made new.made v.base (length v.code)
 
--- when each refusal of `create` comes; only the last one depends on the memory that is there
+-- when each refusal of `create` comes: the limits differ; they agree, and the span meets a chunk; they agree, it meets
+-- none, and memory ran out
 abbrev pub MayRefuse : Region → vet.MarkedChunk → CreateFault → Type 0
 MayRefuse r v WrongLimit = v.limit ≢ limit_of r.marked.bytes
 MayRefuse r v Occupied = (v.limit ≡ limit_of r.marked.bytes) × Meets v.base (length v.code) r.chunks

@@ -60,13 +60,15 @@ Walks text now choices [] end = EndsBy text now choices end
 Walks text now [] (next ∷ rest) end = ⊥
 Walks text now (choice ∷ choices) (next ∷ rest) end = GoesOn text now × Moves text now choice next × Walks text next choices rest end
 
--- The trace of a walk from a place with nothing masked: the places of its states, first to last, and its end.
+-- The trace of a walk from a place with nothing masked: the places of its states, and its end. At a branch the choice 0
+-- falls through and every other goes to the target; an indirect transfer goes to the bundle start that the choice
+-- names. The end is the first that applies: trampoline, stop, no choice left, or a transfer to the limit or above.
 pub record IsTrace (text : List ℕ) (start : ℕ) (choices places : List ℕ) (end : End) : Type 0 where
   pub states : List State
   pub walks : Walks text (state start None) choices states end
   pub places_are : places ≡ start ∷ map (λ (s : State). s.place) states
 
--- no other trace comes of these choices
+-- these choices have no other trace
 abbrev pub IsOnlyTrace : List ℕ → ℕ → List ℕ → List ℕ → End → Type 0
 IsOnlyTrace text start choices places end =
     (others : List ℕ) (last : End) → IsTrace text start choices others last → (others ≡ places) × (last ≡ end)
@@ -76,11 +78,11 @@ abbrev pub IsSafeWalk : List ℕ → ℕ → List ℕ → End → Type 0
 IsSafeWalk text start choices end =
     (states : List State) → Walks text (state start None) choices states end → AllSafe text (state start None ∷ states)
 
--- a walk begins at a bundle start of the region
+-- a walk may begin there: at a bundle start of the region
 abbrev pub IsWalkStart : List ℕ → ℕ → Type 0
 IsWalkStart text start = InRegion text start × IsBundleStart start
 
--- when each refusal of a walk comes; only the last one depends on the memory that is there
+-- when each refusal of a walk comes: `NotBundle` where none may begin, lack of memory only where one may
 abbrev pub MayRefuseWalk : List ℕ → ℕ → WalkFault → Type 0
 MayRefuseWalk text start NotBundle = ¬ IsWalkStart text start
 MayRefuseWalk text start OutOfMemory = IsWalkStart text start

@@ -9,10 +9,10 @@ use Rattle.nc_gens.specs.Rule.{generation_taken, generation_seen, since_stored, 
 use Rattle.nc_schedule.specs.Quiet.{Span, IsShut}
 use Rattle.nc_schedule.specs.World.{Seat, World, seat_at, IsViewOf, IsSteady, IsWhole, AreApart, is_same_span, HasPassed}
 
--- What a thread does, by the number of its seat: it steps, enters at a bundle start, goes outside; takes the generation
--- for its pass, sees it, stores what it took in its seat's word, leaves. What the writer does: it puts a byte, settles, marks
--- a span, raises the generation, retires a span with the next generation as its stamp, frees a retired span, looks at
--- the word of a seat.
+-- What a thread does, by the number of its seat: it `Steps`, `Enters` at a bundle start, `Exits`; its pass `Takes` the
+-- generation as its `since`, `Sees` it, `Stores` its `since` in its word, `Leaves`. What the writer does: it `Puts` a
+-- byte, `Settles`, `Marks` a span, `Bumps` the generation, `Retires` a span with the next generation as its stamp,
+-- `Frees` it, `Looks` at a seat's word.
 pub data Event : Type 0 where
   Steps : (seat : ℕ) → (next : State) → Event
   Enters : (seat : ℕ) → (at : ℕ) → Event
@@ -29,15 +29,15 @@ pub data Event : Type 0 where
   Frees : (span : Span) → Event
   Looks : (seat : ℕ) → Event
 
--- the span that is retired now
+-- the span that is retired now, with the next generation as its stamp
 abbrev pub new_span : World → ℕ → ℕ → Span
 new_span w base len = record { base = base; length = len; stamp = w.keeper.generation + 1 }
 
--- a seat changed
+-- the world with one seat changed
 abbrev pub with_seat : World → ℕ → Seat → World
 with_seat w k seat = record w { seats = slice_set w.seats k seat }
 
--- The world after an event. A put leaves the bytes that stood before it to be read still, and a settling those that stand now.
+-- The world after an event. A put adds the bytes before it to the earlier ones, and a settling drops all of those.
 abbrev pub after : World → Event → World
 after w (Steps k next) = with_seat w k (record (seat_at w k) { inside = Some next })
 after w (Enters k at) = with_seat w k (record (seat_at w k) { inside = Some (state at None) })
@@ -57,9 +57,10 @@ after w (Looks k) =
     let looked = with_seat w k (record (seat_at w k) { found_left = (seat_at w k).has_left }) in
     record looked { keeper = word_taken k (seat_at w k).pass.word w.keeper }
 
--- What a thread may do in this world: it steps as the machine does by some view, enters with its seat's right, and checks in
--- and leaves only while it is outside. An event of a number that no seat has changes no seat. Of the writer's events nothing is
--- said.
+-- Inside, a thread steps as the machine does by some view. Outside, it enters at a bundle start of the region if its
+-- seat hasn't left, takes the generation, or leaves. It may see the generation and go outside at any time, and store if
+-- its seat hasn't left. An event of a number that no seat has changes no seat; of the writer's events nothing is said
+-- (Ansel et al. 2011).
 abbrev pub ThreadMay : World → Event → Type 0
 ThreadMay w (Steps k next) =
     (now : State) × ((seat_at w k).inside ≡ Some now) × ((view : List ℕ) × IsViewOf w view × Step view now next)
@@ -70,10 +71,10 @@ ThreadMay w (Stores k) = (seat_at w k).has_left ≡ false
 ThreadMay w (Leaves k) = (seat_at w k).inside ≡ None
 ThreadMay w _ = ⊤
 
--- The event may happen in this world. A change of the text leaves, in every view, text and marks closed and every retired span
--- shut; marks are added and none is lost; a span that is retired is whole bundles, apart from the others, and in every view
--- shut; and it is freed only where no seat holds its stamp back. A thread does what it may, and any other event of the writer
--- may come at any time.
+-- When an event may happen. A put or a marking is in the region and leaves the world steady, and a marking keeps the
+-- marks that are there. A span is retired if it is whole bundles, apart from the retired spans, and shut in every view;
+-- a retired span is freed if no seat holds its stamp back. A thread does what it may; other events of the writer are
+-- always allowed (Ansel et al. 2011).
 abbrev pub IsAllowed : World → Event → Type 0
 IsAllowed w (Puts at byte) = InRegion w.marked.bytes at × IsSteady (after w (Puts at byte))
 IsAllowed w (Marks at marks) =
@@ -90,24 +91,25 @@ abbrev pub world_after : World → List Event → World
 world_after w [] = w
 world_after w (event ∷ events) = world_after (after w event) events
 
--- each event is allowed where it stands
+-- each of these events is allowed in the world that those before it leave
 abbrev pub AreAllowed : World → List Event → Type 0
 AreAllowed w [] = ⊤
 AreAllowed w (event ∷ events) = IsAllowed w event × AreAllowed (after w event) events
 
--- A place that a thread may come from and go to in one event, over the world before it: it stays where it is or takes a step
--- of the machine by some view, comes in at a bundle start of the region with no register masked, or is outside afterwards.
+-- how a thread may move in one event: it stays, takes a step of the machine by some view, comes in at a bundle start of
+-- the region with no register masked, or is outside afterwards
 abbrev pub IsMove : World → Option State → Option State → Type 0
 IsMove w now None = ⊤
 IsMove w None (Some next) = InRegion w.marked.bytes next.place × IsBundleStart next.place × (next.masked ≡ None)
 IsMove w (Some now) (Some next) = (next ≡ now) ⊎ ((view : List ℕ) × IsViewOf w view × Step view now next)
 
--- the thread of each seat moves so
+-- the thread of each seat stays, takes a step of the machine by some view, comes in at a bundle start of the region
+-- with no register masked, or is outside afterwards
 abbrev pub AllMove : World → World → Type 0
 AllMove before w = (k : ℕ) → k < length before.seats → IsMove before (seat_at before k).inside (seat_at w k).inside
 
--- What an event does to the bytes: a put gives its place the byte and leaves every other place of the region as it was, and
--- no other event changes a byte.
+-- what an event does to the bytes: a put gives its place the byte and leaves every other place of the region as it was;
+-- no other event changes a byte
 abbrev pub ChangesBytes : List ℕ → Event → List ℕ → Type 0
 ChangesBytes old (Puts at byte) new =
     (byte_at new at ≡ byte) × ((place : ℕ) → InRegion old place → place ≢ at → byte_at new place ≡ byte_at old place)

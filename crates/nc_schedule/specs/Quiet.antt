@@ -1,11 +1,11 @@
--- Retired spans, and when nobody can come into one but at its bundle starts.
+-- Retired spans, and when no thread can come into one except at its bundle starts.
 use Rattle.std.specs.Prelude.{◌≡◌, ◌≢◌, ℕ, ◌+◌, ◌%◌, ◌<◌, ◌≤◌, List}
 use Rattle.nc_decode.specs.declared.instruction.Mark.{Mark}
 use Rattle.nc_text.specs.Places.{byte_at}
 use Rattle.nc_text.specs.Machine.{State, Step}
 use Rattle.nc_text.specs.Marks.{IsMarked}
 
--- a retired span, with the generation that was its stamp
+-- a retired span, with the generation that is its stamp
 pub record Span : Type 0 where
   pub base : ℕ
   pub length : ℕ
@@ -25,8 +25,8 @@ pub record IsQuiet (text : List ℕ) (marks : List Mark) (span : Span) : Type 0 
   pub stops : (at : ℕ) → IsInSpan span at → byte_at text at ≡ 0xF4
   pub unreached : (now next : State) → IsMarked marks now → ¬ IsInSpan span now.place → Step text now next → ¬ IsWithin span next.place
 
--- A span is shut in a text if each place of it that is marked is a stop, and no state that a mark outside it stands for has a
--- step to a place of it that is no bundle start. A quiet span is shut; the bytes of a shut one that aren't marked may be any.
+-- A span is shut in a text if each marked place of it holds F4, and no state that a mark outside it stands for has a
+-- step into it, except to a bundle start. Unmarked places may hold any byte. A quiet span is shut.
 pub record IsShut (text : List ℕ) (marks : List Mark) (span : Span) : Type 0 where
   pub stops : (now : State) → IsMarked marks now → IsInSpan span now.place → byte_at text now.place ≡ 0xF4
   pub unreached : (now next : State) → IsMarked marks now → ¬ IsInSpan span now.place → Step text now next → ¬ IsWithin span next.place

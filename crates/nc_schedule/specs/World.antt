@@ -13,17 +13,17 @@ use Rattle.nc_gens.specs.Rule.{first_pass_numbers, first_keeper_numbers}
 use Rattle.nc_schedule.specs.Quiet.{Span, IsWithin, IsShut}
 use Rattle.nc_schedule.specs.Views.{IsView}
 
--- What a world holds of one seat: where its thread stands, if it is inside the region; the numbers of its pass; whether it
--- has left, and whether the keeper has found that. The flags tell it and not the number in its word, since the
--- generations of a world have no bound.
+-- What a world holds of one seat: where its thread is, if it is inside the region; the numbers of its pass; whether it
+-- has left, and whether the keeper has found that. These two are flags, since the generations of a world have no bound
+-- and no number could stand for "left".
 pub record Seat : Type 0 where
   pub inside : Option State
   pub pass : PassNumbers
   pub has_left : Bool
   pub found_left : Bool
 
--- The text with its marks, the bytes as they stood before each put since the last settling, the retired spans, the keeper with
--- the generation and a bound for each seat, and the seats.
+-- the text with its marks, the bytes before each put since the last settling, the retired spans, the keeper's numbers
+-- (the generation, and a bound for each seat), and the seats
 pub record World : Type 0 where
   pub marked : MarkedText
   pub earlier : List (List ℕ)
@@ -35,7 +35,8 @@ pub record World : Type 0 where
 abbrev pub first_seat : Seat
 first_seat = record { inside = None; pass = first_pass_numbers; has_left = false; found_left = false }
 
--- the world at first, up to a limit and with this number of seats: unused text, nothing put, and no retired span
+-- the first world, up to a limit and with this number of seats: all threads are outside, all numbers are 0, the text is
+-- unused, nothing was put, no span is retired
 abbrev pub first_world : ℕ → ℕ → World
 first_world limit seats =
     record {
@@ -50,7 +51,7 @@ first_world limit seats =
 abbrev pub seat_at : World → ℕ → Seat
 seat_at w k = slice_index_or w.seats k first_seat
 
--- what a thread may read in this world
+-- what a thread may read in the world: a view of its text and the earlier ones
 abbrev pub IsViewOf : World → List ℕ → Type 0
 IsViewOf w view = IsView w.marked.bytes w.earlier view
 
@@ -65,11 +66,11 @@ pub record IsWhole (text : List ℕ) (span : Span) : Type 0 where
   pub low : 0x10000 ≤ span.base
   pub high : span.base + span.length ≤ limit_of text
 
--- two spans have no place in common
+-- the two spans have no place in common
 abbrev pub AreApart : Span → Span → Type 0
 AreApart one other = (one.base + one.length ≤ other.base) ⊎ (other.base + other.length ≤ one.base)
 
--- The span may be used again: it is whole bundles of the region, and no retired span has a place of it.
+-- the span may be used again: it is whole bundles of the region, apart from the retired spans
 abbrev pub IsUsable : World → Span → Type 0
 IsUsable w span = IsWhole w.marked.bytes span × All (AreApart span) w.retired
 
@@ -77,14 +78,15 @@ IsUsable w span = IsWhole w.marked.bytes span × All (AreApart span) w.retired
 abbrev pub is_same_span : Span → Span → Bool
 is_same_span one other = (one.base == other.base) && (one.length == other.length) && (one.stamp == other.stamp)
 
--- No seat holds a stamp back: the keeper's bound of each is at least the stamp, or it has found that the seat has left.
+-- no seat holds the stamp back: the keeper's bound of each is at least the stamp, or the keeper has found that the seat
+-- has left (Ansel et al. 2011)
 abbrev pub HasPassed : World → ℕ → Type 0
 HasPassed w stamp = (k : ℕ) → k < length w.seats → (stamp ≤ slice_index w.keeper.bounds k) ⊎ ((seat_at w k).found_left ≡ true)
 
--- each thread inside stands on a state that is safe in every view
+-- each thread inside is in a state that is safe in every view (`IsSafe`)
 abbrev pub AllStandSafe : World → Type 0
 AllStandSafe w = All (λ (seat : Seat). IfSome seat.inside (λ now. (view : List ℕ) → IsViewOf w view → IsSafe view now)) w.seats
 
--- no thread stands at a place of the span that is no bundle start
+-- no thread is at a place of the span that is no bundle start
 abbrev pub NoneIsWithin : World → Span → Type 0
 NoneIsWithin w span = All (λ (seat : Seat). IfSome seat.inside (λ now. ¬ IsWithin span now.place)) w.seats

@@ -140,13 +140,13 @@ pub record ServesOnly (request : Request) (old : Script) (reply : List ℕ) (new
 abbrev pub IsSettled : Script → List ℕ → Type 0
 IsSettled old line = (request_in line ≢ Some Reclaim) ⊎ AllStay old
 
--- From old, this is an answer to the line, and new is the state after it; and there is no other, if the line leaves nothing
--- open.
+-- From the old state this is an answer to the line, which leads to the new state. There is no other if the line is no
+-- reclaim, or if no seat has left.
 pub record AnswersOnly (old : Script) (line reply : List ℕ) (new : Script) : Type 0 where
   pub serves : ServesLine old line reply new
   pub only : IsSettled old line → (other : List ℕ) (next : Script) → ServesLine old line other next → (other ≡ reply) × (next ≡ new)
 
--- at first there is no chunk, and each seat is there; all numbers begin at 0
+-- the first state: no chunk, each seat is there, and all numbers are 0
 abbrev pub new_script : ℕ → ℕ → Script
 new_script bundles seats = record {
   limit = 0x10000 + 32 * bundles;

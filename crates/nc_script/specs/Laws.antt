@@ -19,12 +19,13 @@ pub record IsBeginning (old : Script) (before after : Option (List ℕ)) (lines 
   pub written : Appends before after reply
   pub begins : (all : List ℕ) (last : Script) → AnswersLines ServesLine old lines all last → (rest : List ℕ) × (all ≡ reply ++ rest)
 
--- where no seat has left and none leaves, the lines have no other answers, and lead to no other state
+-- where no seat has left and no line asks for a leave, lines have no other answers and lead to no other state
 abbrev pub HasOneReply : Type 0
 HasOneReply = (old : Script) (lines : List (List ℕ)) (reply other : List ℕ) (new next : Script) → AllStay old → All IsNoLeave lines
     → AnswersLines AnswersOnly old lines reply new → AnswersLines ServesLine old lines other next → (other ≡ reply) × (next ≡ new)
 
--- a beginning of such answers to some first lines is one of the answers to all lines
+-- where no seat has left and no line asks for a leave, what was written of the answers to some first lines is a
+-- beginning of the answers to all
 abbrev pub BeginsAll : Type 0
 BeginsAll = (old : Script) (before after : Option (List ℕ)) (lines : List (List ℕ)) → AllStay old → All IsNoLeave lines
     → IsBegun AnswersOnly old before after lines
@@ -45,7 +46,8 @@ one_left = record {
   freed = 0;
 }
 
--- a reclaim may then free the chunk or not, as the keeper has seen the leave or not
+-- where one of two seats has checked in since a deletion and the other has left without that, a reclaim may free the
+-- chunk or not
 abbrev pub LeavesOpen : Type 0
 LeavesOpen =
     ((new : Script) × Serves Reclaim one_left (reply_line (freed_reply 0)) new)

@@ -51,7 +51,8 @@ KeepsTargets script at new r = GoWell (IsTarget r.base script.limit r.valid.piec
 abbrev pub ReplacesBesidePairs : Script → ℕ → List ℕ → Type 0
 ReplacesBesidePairs script at new = (r : Replaces script at new) × LeavesPairs script at new r
 
--- a lawful patch
+-- A lawful patch of a script's chunk: the new bytes lie in one bundle and take the place of whole instructions of a
+-- live chunk, each as long. Pairs are left alone, and direct transfers go where those of a valid chunk may.
 abbrev pub IsLawfulPatch : Script → ℕ → List ℕ → Type 0
 IsLawfulPatch script at new =
     IsPatchSpan at (length new) × ((r : Replaces script at new) × LeavesPairs script at new r × KeepsTargets script at new r)

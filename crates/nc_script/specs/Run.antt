@@ -4,7 +4,7 @@ use Rattle.nc_lines.specs.Answering.{IsAnswered}
 use Rattle.nc_script.specs.Answers.{AnswersOnly, new_script}
 use Rattle.nc_script.specs.Script.{Script}
 
--- exactly the answers to these lines were written, where at first there is no chunk and all seats are there
+-- exactly the answers to these lines were written, from the first state on
 abbrev pub HasAnswered : ℕ → ℕ → Option (List ℕ) → Option (List ℕ) → List (List ℕ) → Type 0
 HasAnswered bundles seats before after lines =
     (new : Script) × IsAnswered AnswersOnly (new_script bundles seats) new before after lines

@@ -1,4 +1,4 @@
--- Where a thread may stand, in the words of the instructions' relation: what safe comes to.
+-- Where a thread may be, by the relation of instructions and without the machine's own words.
 use Rattle.std.specs.Prelude.{◌≡◌, ℕ, ◌+◌, ◌-◌, ◌%◌, ◌<◌, ◌≤◌, ◌⊎◌, List, length, drop, Some, IsTrue}
 use Rattle.nc_decode.specs.declared.instruction.Instr.{Instr}
 use Rattle.nc_decode.specs.Spelling.{IsAtFront}
@@ -6,9 +6,8 @@ use Rattle.nc_decode.specs.Barred.{IsBarred}
 use Rattle.nc_decode.specs.Transfers.{is_indirect}
 use Rattle.nc_text.specs.Machine.{State}
 
--- In the region, at the front of the bytes up to the limit, a permitted instruction, wholly inside its bundle. It is not
--- barred: no return, interrupt, segment override and the like. If it is an indirect transfer, its register was just
--- masked.
+-- in the region, at the front of the bytes up to the limit, a permitted instruction that isn't barred, inside one
+-- bundle; if it is an indirect transfer, its register has just been masked
 pub record StandsInRegion (text : List ℕ) (now : State) : Type 0 where
   pub low : 0x10000 ≤ now.place
   pub high : now.place < 0x10000 + length text
@@ -18,6 +17,7 @@ pub record StandsInRegion (text : List ℕ) (now : State) : Type 0 where
   pub inside : now.place % 32 + instr.len ≤ 32
   pub masked : IsTrue (is_indirect instr.flow) → now.masked ≡ Some instr.reg
 
--- there, or on a bundle start below the region
+-- the place is a bundle start below 00010000; or it is one of the region, where a permitted instruction that isn't
+-- barred (`IsBarred`) lies in one bundle, and if that is an indirect transfer, its register has just been masked
 abbrev pub Stands : List ℕ → State → Type 0
 Stands text now = ((now.place < 0x10000) × (now.place % 32 ≡ 0)) ⊎ StandsInRegion text now

@@ -14,18 +14,18 @@ is_start w k = (k == 0) || (bit_at w.ends (k - 1) == 1)
 abbrev pub is_second : Bundle → ℕ → Bool
 is_second w k = bit_at w.pairs (k + 1) == 1
 
--- the mark there; the next byte names the register of an indirect transfer
+-- the mark at a byte of a bundle; the byte after it names the register of an indirect transfer
 abbrev pub bit_mark : Bundle → ℕ → ℕ → Mark
 bit_mark w k next = if is_second w k then After (next % 8) else (if is_start w k then Plain else Unmarked)
 
--- no instructions
+-- a bundle without instructions
 abbrev pub no_bits : Bundle
 no_bits = record { ends = 0; pairs = 0; shorts = 0; nears = 0 }
 
--- the mark of a place
+-- the mark of a place of a chunk, by the bits of its bundles
 abbrev pub mark_at : List ℕ → List Bundle → ℕ → Mark
 mark_at code bundles k = bit_mark (get_or bundles (k / 32) no_bits) (k % 32) (slice_index code (k + 1))
 
--- the marks of all places
+-- the marks of all places of a chunk, by the bits of its bundles
 abbrev pub marks_in : List ℕ → List Bundle → List Mark
 marks_in code bundles = map (mark_at code bundles) (range_with_len 0 (length code))

@@ -1,6 +1,5 @@
--- What a valid chunk is: a list of whole instructions, one after the other, that keeps four rules.
--- Places are counted from the chunk's base. A valid chunk's base is a bundle start, so a place lies in its bundle
--- as its address does.
+-- Valid chunks: lists of whole instructions, one after the other, that keep four rules. Places are counted from the
+-- chunk's base. A valid chunk's base is a bundle start, so a place lies in its bundle as its address does.
 use Rattle.std.specs.Prelude.{◌≡◌, ℕ, ◌+◌, ◌-◌, ◌/◌, ◌%◌, ◌<◌, ◌≤◌, ◌⊎◌, false, List, [], ◌∷◌, ◌++◌, length, replicate, Some, IsTrue}
 use Rattle.std.specs.Prelude.{if◌then◌else◌}
 use Rattle.std.specs.List.{flat_map}
@@ -12,20 +11,20 @@ use Rattle.nc_decode.specs.Profiles.{Profile, profile}
 use Rattle.nc_decode.specs.Spelling.{SpellsBy}
 use Rattle.nc_decode.specs.Transfers.{is_direct, is_indirect, target}
 
--- one instruction: its bytes, and what it says about control
+-- one instruction of a chunk: its bytes, and what they say about control
 pub record Piece : Type 0 where
   pub bytes : List ℕ
   pub instr : Instr
 
--- the bytes of some instructions, one after the other
+-- the bytes of some pieces, one after the other
 abbrev pub code_of : List Piece → List ℕ
 code_of pieces = flat_map (λ p. p.bytes) pieces
 
--- the place after some instructions
+-- the place after some pieces, counted from the chunk's base: the number of their bytes
 abbrev pub place : List Piece → ℕ
 place before = length (code_of before)
 
--- the instruction directly before is the mask of the register, in the same bundle
+-- the last of these pieces is the mask of the register, and begins in the same bundle as what follows it
 pub record FollowsMask (before : List Piece) (reg : ℕ) : Type 0 where
   pub earlier : List Piece
   pub mask : Piece
@@ -33,28 +32,28 @@ pub record FollowsMask (before : List Piece) (reg : ℕ) : Type 0 where
   pub masks : mask.instr.masks ≡ Some reg
   pub together : place earlier / 32 ≡ place before / 32
 
--- each is a whole instruction of a profile
+-- each piece is a whole instruction of a profile
 abbrev pub AreSpelledBy : Profile → List Piece → Type 0
 AreSpelledBy v pieces = (before after : List Piece) (p : Piece) → pieces ≡ before ++ p ∷ after → SpellsBy v p.bytes p.instr
 
--- each is a whole instruction that is permitted now
+-- each piece is a whole instruction that is permitted now
 abbrev pub AreSpelled : List Piece → Type 0
 AreSpelled pieces = AreSpelledBy profile pieces
 
--- instructions of a profile of which none crosses the end of a bundle, and each indirect transfer directly follows the
--- mask of its register in the same bundle
+-- the pieces are instructions of a profile; none crosses the end of a bundle, and each indirect transfer directly
+-- follows the mask of its register in the same bundle (Yee et al. 2009, C3, C5 and C6)
 pub record AreSoundBy (v : Profile) (pieces : List Piece) : Type 0 where
   pub spelled : AreSpelledBy v pieces
   pub inside : (before after : List Piece) (p : Piece) → pieces ≡ before ++ p ∷ after → IsInOneBundle (place before) (length p.bytes)
   pub paired : (before after : List Piece) (p : Piece) → pieces ≡ before ++ p ∷ after → IsTrue (is_indirect p.instr.flow)
       → FollowsMask before p.instr.reg
 
--- the same of the instructions that are permitted now
+-- `AreSoundBy` the profile that holds now
 abbrev pub AreSound : List Piece → Type 0
 AreSound pieces = AreSoundBy profile pieces
 
--- An instruction that is no second half of a pair begins at the place. In sound code the second halves are the
--- indirect transfers.
+-- A piece that is no indirect transfer begins at the place. In sound code the indirect transfers are the second halves
+-- of pairs.
 pub record IsEntry (pieces : List Piece) (at : ℕ) : Type 0 where
   pub before : List Piece
   pub after : List Piece
@@ -63,14 +62,15 @@ pub record IsEntry (pieces : List Piece) (at : ℕ) : Type 0 where
   pub here : place before ≡ at
   pub first : is_indirect piece.instr.flow ≡ false
 
--- The address lies in the chunk, where such an instruction begins, or it lies outside and is a bundle start below
--- the limit.
+-- the address lies in the chunk, where an instruction begins that is no indirect transfer (in sound code, no second
+-- half of a pair); or it lies outside and is a bundle start below the limit (Yee et al. 2009, C7; Ansel et al. 2011,
+-- section 3)
 abbrev pub IsTarget : ℕ → ℕ → List Piece → ℕ → Type 0
 IsTarget base limit pieces to =
     ((at : ℕ) × (to ≡ base + at) × (at < place pieces) × IsEntry pieces at)
     ⊎ (((to < base) ⊎ (base + place pieces ≤ to)) × IsBundleStart to × (to < limit))
 
--- each direct transfer goes to such an address
+-- each direct transfer of the pieces goes to a target
 abbrev pub AreTargets : ℕ → ℕ → List Piece → Type 0
 AreTargets base limit pieces =
     (before after : List Piece) (p : Piece) → pieces ≡ before ++ p ∷ after → IsTrue (is_direct p.instr.flow)
@@ -88,30 +88,33 @@ instr_marks i = mark_of i ∷ replicate (i.len - 1) Unmarked
 abbrev pub marks_of : List Piece → List Mark
 marks_of pieces = flat_map (λ p. instr_marks p.instr) pieces
 
--- a bundle start from the first byte of regions on
+-- the base is a bundle start from 00010000 on
 abbrev pub IsBase : ℕ → Type 0
 IsBase base = IsBundleStart base × (0x10000 ≤ base)
 
--- whole bundles, at least one
+-- the length is a positive number of whole bundles
 abbrev pub IsLength : ℕ → Type 0
 IsLength len = (0 < len) × (len % 32 ≡ 0)
 
--- the limit is lawful in a profile, and so many bytes from the base on end at the guard's first byte or before
+-- the limit is lawful in a profile, and the chunk ends at or before the guard, the last bundle below the limit
 abbrev pub IsInRangeBy : Profile → ℕ → ℕ → ℕ → Type 0
 IsInRangeBy v base limit len = IsLimitUpTo v.most_bundles limit × (base + len + 32 ≤ limit)
 
--- the limit is lawful now, and so many bytes from the base on end at the guard's first byte or before
+-- the limit is lawful, and the chunk ends at or before the guard, the last bundle below the limit (Yee et al. 2009, C1
+-- and C4)
 abbrev pub IsInRange : ℕ → ℕ → ℕ → Type 0
 IsInRange base limit len = IsInRangeBy profile base limit len
 
--- what callers see of a vetted chunk
+-- what contracts see of a vetted chunk: base, limit, code and marks
 pub record MarkedChunk : Type 0 where
   pub base : ℕ
   pub limit : ℕ
   pub code : List ℕ
   pub marks : List Mark
 
--- The code is a list of whole instructions of a profile that keep the rules, and the marks are theirs.
+-- Base, length and range are good, and the code is that of sound instructions of a profile (`AreSoundBy`) whose direct
+-- transfers go to targets. The marks are `After r` where an indirect transfer on register r begins, `Plain` where
+-- another instruction does, and `Unmarked` elsewhere (Yee et al. 2009, C1 to C7).
 pub record IsValidBy (v : Profile) (c : MarkedChunk) : Type 0 where
   pub base_is : IsBase c.base
   pub length_is : IsLength (length c.code)
@@ -122,6 +125,6 @@ pub record IsValidBy (v : Profile) (c : MarkedChunk) : Type 0 where
   pub targets : AreTargets c.base c.limit pieces
   pub marks_are : c.marks ≡ marks_of pieces
 
--- the chunk is valid by the rules that hold now
+-- the chunk is valid by the profile that holds now
 abbrev pub IsValid : MarkedChunk → Type 0
 IsValid c = IsValidBy profile c

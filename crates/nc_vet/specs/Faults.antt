@@ -1,4 +1,4 @@
--- Which fault a chunk has.
+-- The fault of a chunk that isn't valid.
 use Rattle.std.specs.Prelude.{◌≡◌, ◌≢◌, ℕ, ◌+◌, ◌-◌, ◌%◌, ◌<◌, ◌≤◌, List, [], ◌∷◌, ◌++◌, length, take, IsTrue}
 use Rattle.nc_decode.specs.declared.instruction.Instr.{Instr}
 use Rattle.nc_decode.specs.Bundles.{IsBundleStart, IsLawfulLimit}
@@ -9,7 +9,7 @@ use Rattle.nc_vet.specs.declared.fault.VetFault.TheVariants.{BadBase, BadLength,
 use Rattle.nc_vet.specs.declared.fault.VetFault.TheVariants.{OutOfMemory}
 use Rattle.nc_vet.specs.Chunk.{Piece, code_of, place, AreSound, IsTarget, IsBase, IsLength, IsInRange}
 
--- the code begins with these sound instructions, and this is the rest of it
+-- the code begins with these sound instructions, and `rest` is what follows them
 pub record IsSoundFront (code rest : List ℕ) (front : List Piece) : Type 0 where
   pub parts : code ≡ code_of front ++ rest
   pub sound : AreSound front
@@ -22,8 +22,9 @@ IsLongest code front = (other : List Piece) (rest : List ℕ) → IsSoundFront c
 abbrev pub bundle_rest : ℕ → List ℕ → List ℕ
 bundle_rest at rest = take (32 - at % 32) rest
 
--- What stands after a sound front: an instruction inside the bundle, only the beginning of one, or neither.
--- The fault has the address of that place.
+-- After sound instructions, up to the end of the bundle, comes a whole instruction (`Bare`: where those are the
+-- longest, it is an indirect transfer without its mask), only the beginning of one (`Crosses`), or neither
+-- (`NotPermitted`). The fault has the address of that place.
 abbrev pub StandsAfter : ℕ → List Piece → List ℕ → VetFault → Type 0
 StandsAfter base front rest (Bare at) = (at ≡ base + place front) × ((i : Instr) × IsAtFront (bundle_rest (place front) rest) i)
 StandsAfter base front rest (Crosses at) = (at ≡ base + place front) × IsProperFront (bundle_rest (place front) rest)
@@ -32,7 +33,7 @@ StandsAfter base front rest (NotPermitted at) =
     × ¬ IsProperFront (bundle_rest (place front) rest)
 StandsAfter base front rest _ = ⊥
 
--- the longest sound front isn't all of the code, and this fault stands after it
+-- the longest sound beginning isn't all of the code, and the fault says what comes after it
 pub record IsStuck (base : ℕ) (code : List ℕ) (fault : VetFault) : Type 0 where
   pub front : List Piece
   pub rest : List ℕ
@@ -41,8 +42,8 @@ pub record IsStuck (base : ℕ) (code : List ℕ) (fault : VetFault) : Type 0 wh
   pub some : rest ≢ []
   pub why : StandsAfter base front rest fault
 
--- All of the code is sound, a direct transfer with a bad target stands at the address, and each direct transfer before
--- it has a good one.
+-- All of the code is sound. The direct transfer at the address goes to no target, and each one before it goes to a
+-- target.
 pub record IsMistargeted (base limit : ℕ) (code : List ℕ) (at : ℕ) : Type 0 where
   pub before : List Piece
   pub piece : Piece
@@ -55,7 +56,8 @@ pub record IsMistargeted (base limit : ℕ) (code : List ℕ) (at : ℕ) : Type 
   pub least : (b a : List Piece) (p : Piece) → before ≡ b ++ p ∷ a → IsTrue (is_direct p.instr.flow)
       → IsTarget base limit (before ++ piece ∷ after) (target p.instr (base + place b))
 
--- whole bundles of a region below its guard: base, length and limit show no fault by themselves
+-- base, length and limit show no fault: the chunk is at least one whole bundle, from 00010000 on and below the guard,
+-- under a lawful limit (Yee et al. 2009, C4)
 pub record HasGoodSpan (base limit len : ℕ) : Type 0 where
   pub lawful : IsLawfulLimit limit
   pub start : IsBundleStart base
@@ -64,14 +66,19 @@ pub record HasGoodSpan (base limit len : ℕ) : Type 0 where
   pub low : 0x10000 ≤ base
   pub high : base + len + 32 ≤ limit
 
--- the first of the faults that base, length and limit show by themselves
+-- the first of the faults that base, length and limit show by themselves, in the order `BadBase`, `BadLength`,
+-- `OutOfRange`
 abbrev pub HasSpanFault : ℕ → ℕ → ℕ → VetFault → Type 0
 HasSpanFault base limit len BadBase = ¬ IsBase base
 HasSpanFault base limit len BadLength = IsBase base × ¬ IsLength len
 HasSpanFault base limit len OutOfRange = IsBase base × IsLength len × ¬ IsInRange base limit len
 HasSpanFault base limit len _ = ⊥
 
--- A chunk has this fault. Lack of memory says nothing of the code.
+-- The fault of a chunk. It is the first that base, length and limit show, in the order `BadBase`, `BadLength`,
+-- `OutOfRange`; else what comes after the longest sound beginning, up to the end of the bundle: a whole instruction
+-- (`Bare`), only the beginning of one (`Crosses`) or neither (`NotPermitted`); else the first direct transfer that goes
+-- to no target (`BadTarget`). Lack of memory says nothing of the code; it comes only where base, length and limit show
+-- no fault.
 abbrev pub HasFault : ℕ → ℕ → List ℕ → VetFault → Type 0
 HasFault base limit code (NotPermitted at) = HasGoodSpan base limit (length code) × IsStuck base code (NotPermitted at)
 HasFault base limit code (Crosses at) = HasGoodSpan base limit (length code) × IsStuck base code (Crosses at)

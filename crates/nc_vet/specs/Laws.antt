@@ -1,4 +1,4 @@
--- A chunk has one verdict, a code parts into instructions in at most one way, and a chunk that was valid stays valid.
+-- A chunk has one verdict, code consists of instructions in at most one way, and a chunk that was valid stays valid.
 use Rattle.std.specs.Prelude.{◌≡◌, ◌≢◌, ℕ, List}
 use Rattle.nc_vet.specs.declared.fault.VetFault.{VetFault}
 use Rattle.nc_vet.specs.declared.fault.VetFault.TheVariants.{OutOfMemory}
@@ -6,12 +6,12 @@ use Rattle.nc_decode.specs.Profiles.{first_profile, profile}
 use Rattle.nc_vet.specs.Chunk.{Piece, code_of, AreSpelled, MarkedChunk, IsValidBy, IsValid}
 use Rattle.nc_vet.specs.Faults.{HasFault}
 
--- two faults of one chunk, neither of which is lack of memory, are the same
+-- a chunk has at most one fault besides lack of memory
 abbrev pub HasOneFault : Type 0
 HasOneFault = (base limit : ℕ) (code : List ℕ) (f g : VetFault) → HasFault base limit code f → HasFault base limit code g
     → f ≢ OutOfMemory → g ≢ OutOfMemory → f ≡ g
 
--- a valid chunk has no fault except lack of memory
+-- a valid chunk has no fault besides lack of memory
 abbrev pub HasNoFault : Type 0
 HasNoFault = (c : MarkedChunk) (fault : VetFault) → IsValid c → HasFault c.base c.limit c.code fault → fault ≡ OutOfMemory
 
@@ -19,10 +19,10 @@ HasNoFault = (c : MarkedChunk) (fault : VetFault) → IsValid c → HasFault c.b
 abbrev pub HasOneReading : Type 0
 HasOneReading = (c d : MarkedChunk) → IsValid c → IsValid d → c.code ≡ d.code → c.marks ≡ d.marks
 
--- a code parts into whole instructions in at most one way: two lists of them with the same bytes are the same list
+-- two lists of whole instructions with the same bytes are the same list
 abbrev pub HasOneParting : Type 0
 HasOneParting = (xs ys : List Piece) → AreSpelled xs → AreSpelled ys → code_of xs ≡ code_of ys → xs ≡ ys
 
--- a chunk that was valid by the first profile is valid by the one that holds now, with the same marks
+-- a chunk that is valid by `first_profile` is valid by `profile`, with the same marks
 abbrev pub KeepsValid : Type 0
 KeepsValid = (c : MarkedChunk) → IsValidBy first_profile c → IsValidBy profile c

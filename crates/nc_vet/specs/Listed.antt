@@ -5,7 +5,8 @@ use Rattle.nc_vet.specs.declared.marks.Marks.{Marks}
 use Rattle.nc_vet.specs.declared.marks.Marks.TheVariants.{Bits, Each}
 use Rattle.nc_vet.specs.Bits.{marks_in}
 
--- the list of marks, one for each byte of the code, that is kept so
+-- the marks of a chunk, one for each byte of the code, from the form in which they are kept: the bits of its bundles,
+-- or a list
 abbrev pub listed : List ℕ → Marks → List Mark
 listed code (Bits bundles) = marks_in code bundles.items
 listed code (Each marks) = marks.items

@@ -5,8 +5,7 @@ use Rattle.nc_vet.specs.declared.fault.VetFault.{VetFault}
 use Rattle.nc_vet.specs.Chunk.{MarkedChunk, IsValid}
 use Rattle.nc_vet.specs.Faults.{HasFault}
 
--- What vetting may answer for a chunk: the chunk itself, which is valid, or its fault, and the code back as it was. Lack
--- of memory says nothing of the code, but comes only where base, length and limit show no fault.
+-- what vetting may answer: the chunk itself, which is valid; or its fault, and the code back as it was
 abbrev pub IsVerdict : ℕ → ℕ → Vec ℕ → Result MarkedChunk (Vec ℕ × VetFault) → Type 0
 IsVerdict base limit code (Ok v) = (v.base ≡ base) × (v.limit ≡ limit) × (v.code ≡ code.items) × IsValid v
 IsVerdict base limit code (Err e) = (e.0 ≡ code) × HasFault base limit code.items e.1

@@ -7,7 +7,7 @@ use Rattle.nc_region.specs.Log.{unsettled}
 use Rattle.nc_acts.specs.declared.act.NcAct.{NcAct}
 use Rattle.nc_acts.specs.declared.runs.Places.{Places}
 use Rattle.nc_acts.specs.declared.runs.Places.TheVariants.{Inside, Starts, Marked, Unmarked}
-use Rattle.nc_acts.specs.Runs.{Run, PutRun, StopRun, HasRuns}
+use Rattle.nc_acts.specs.Runs.{Run, PutRun, StopRun, runs_where, HasRuns}
 use Rattle.nc_acts.specs.machinery.Writing.{marked_if}
 
 -- whether a run of these places has this one, of a chunk with these marks at this base
@@ -40,15 +40,16 @@ AreBits chosen at (suc n) bits = ((bits % 2 == 1) ≡ chosen at) × AreBits chos
 pub record HasBits (chosen : ℕ → Bool) (at n bits : ℕ) : Type 0 where
   pub are : AreBits chosen at n bits
 
--- these entries have come to those for which runs stood in the buffer
-abbrev pub AddsRuns : ℕ → List ℕ → List NcAct → ℕ → List NcAct → ℕ → List Entry → Type 0
-AddsRuns base code initial from acts count added =
-    (start : List NcAct) (log : List Entry) → HasRuns start initial from base code log → HasRuns start acts count base code (log ++ added)
+-- these runs, which stand for these entries, have come to those that stood in the buffer
+abbrev pub AddsRuns : ℕ → List ℕ → List NcAct → ℕ → List NcAct → ℕ → List Run → List Entry → Type 0
+AddsRuns base code initial from acts count runs added =
+    (start : List NcAct) (before : List Run) (log : List Entry) → HasRuns start initial from base code before log
+    → HasRuns start acts count base code (before ++ runs) (log ++ added)
 
--- The runs of so many bundles stand in the buffer after what stood there at first.
+-- The runs of some first bundles stand in the buffer after what stood there at first.
 pub record HasRunUpTo (places : Places) (marks : ℕ → Mark) (base : ℕ) (code : List ℕ) (initial : List NcAct) (from n : ℕ)
     (acts : List NcAct) (count : ℕ) : Type 0 where
   pub len : length acts ≡ length initial
   pub counted : count ≡ from + n
-  pub written : AddsRuns base code initial from acts count
+  pub written : AddsRuns base code initial from acts count (runs_where (run_at places) (picks places marks base) base n)
       (unsettled (puts_where (picks places marks base) base (take (32 * n) (bytes_for places code))))

@@ -1,4 +1,4 @@
--- What the fields of a pass and of the keeper keep, and what callers see of them.
+-- What the fields of a pass and of the keeper keep.
 use Rattle.std.specs.Prelude.{◌≡◌, ◌≢◌, ℕ, ◌+◌, ◌-◌, ◌<◌, ◌≤◌, true, false, [], length, slice_index}
 use Rattle.nc_gens.specs.declared.table.Pass.TheInside as pass
 use Rattle.nc_gens.specs.declared.table.Keeper.TheInside as keeper
@@ -9,7 +9,8 @@ use Rattle.nc_gens.specs.Seen.{AreSeats, PassState, KeeperState}
 abbrev pub pass_state : pass.Inside → PassState
 pass_state a = record { table = a.token.table_id; seat = a.seat; numbers = a.token.me.0.pass }
 
--- what the fields of a pass keep
+-- the fields of a pass are what the table knows of it: its seat, and its `since`, at least its own word and at most the
+-- last generation it saw
 pub record IsPass (a : pass.Inside) : Type 0 where
   pub no_slots : a.token.me.1 ≡ []
   pub is_pass : a.token.me.0.is_pass ≡ true
@@ -26,7 +27,8 @@ pub record IsPass (a : pass.Inside) : Type 0 where
 abbrev pub keeper_state : keeper.Inside → KeeperState
 keeper_state a = record { table = a.token.table_id; numbers = a.token.me.0.keeper }
 
--- what the fields of the keeper keep
+-- the fields of the keeper are what the table knows of it: the generation, at most 2^62, and for each of 1 to 256 seats
+-- a bound, at most the generation unless it is "left"
 pub record IsKeeper (a : keeper.Inside) : Type 0 where
   pub no_slots : a.token.me.1 ≡ []
   pub is_keeper : a.token.me.0.is_keeper ≡ true

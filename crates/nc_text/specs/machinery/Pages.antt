@@ -1,4 +1,4 @@
--- What stands at a place of a table of pages, some of which aren't made.
+-- What is at a place of a table of pages, some of which aren't made.
 use Rattle.std.specs.Prelude.{ℕ, ◌/◌, ◌%◌, List, map, Option, None, Some, Box, slice_index, slice_index_or}
 use Rattle.std.specs.declared.alloc.Global.{Global}
 use Rattle.std.specs.Option.{is_some}
@@ -43,7 +43,8 @@ byte_of pages k = byte_if_made (page_of pages k) (k % 4096)
 abbrev pub mark_of : List Slot → ℕ → Mark
 mark_of pages k = mark_if_made (page_of pages k) (k % 4096)
 
--- the text of the first so many places
+-- the text of `size` places in a table of pages: bytes and marks of its pages, and where one isn't made, those of
+-- places that no chunk uses
 abbrev pub text_of : List Slot → ℕ → TextState
 text_of pages size =
     record {
