@@ -1,10 +1,34 @@
-/* Code at 00010000, where the text of a region begins; data elsewhere, where the host puts it. */
+/* Code at 00010000, where the text of a region begins, and data above the largest region, which ends at 04010000.
+
+   nc_base and nc_data, where they are defined (nc-cc: --base and --data), are other addresses. The file's segments are then: code (R+X), which
+   is the chunk; constants (R); data (R+W), whose rest beyond the file's bytes is to be zero; the heap may begin at _end. */
 ENTRY(start)
 SECTIONS {
-    .text 0x00010000 : { *(.text.start) *(.text .text.*) . = ALIGN(32); } = 0x90909090
-    .data 0x00200000 : { *(.rodata .rodata.*) *(.data .data.*) *(.bss .bss.* COMMON) }
-    /* Not in the chunk: only there when the script is told to run the sample. */
-    .host 0x00300000 : { *(.host) }
+    /* Not in the chunk: only there for a trial, with the code of a host for Linux, at a bundle start of the region. */
+    .host 0x03ff0000 : { *(.host) }
+
+    .text DEFINED(nc_base) ? nc_base : 0x00010000 : {
+        __text_start = .;
+        *(.text.start) *(.text .text.*)
+        INPUT_SECTION_FLAGS(SHF_EXECINSTR) *(*)
+        . = ALIGN(32);
+        __text_end = .;
+    } = 0x90909090
+
+    .rodata DEFINED(nc_data) ? nc_data : 0x04010000 : { __rodata_start = .; *(.rodata .rodata.*) }
+    . = ALIGN(0x1000);
+    .data : { __data_start = .; *(.data .data.*) *(.got .got.plt) }
+    .init_array : {
+        __init_array_start = .;
+        KEEP(*(SORT_BY_INIT_PRIORITY(.init_array.*) .init_array))
+        __init_array_end = .;
+        __fini_array_start = .;
+        KEEP(*(SORT_BY_INIT_PRIORITY(.fini_array.*) .fini_array))
+        __fini_array_end = .;
+    }
+    .bss : { __bss_start = .; *(.bss .bss.* COMMON) }
+    . = ALIGN(16);
+    _end = .;
     /DISCARD/ : { *(.comment) *(.note .note.*) *(.eh_frame .eh_frame_hdr) }
 }
 /* The host's trampolines: bundle starts below 00010000. */

@@ -100,20 +100,29 @@ static size_t write_out(size_t run_count, uint32_t base) {
     return count;
 }
 
-/* A call that writes runs needs all its acts, and a buffer that is shorter by one has to be refused, with their number. */
-static size_t counted(NcChange told, NcChange short_of_one) {
-    if (told.fault != NC_OK || short_of_one.fault != NC_NO_ROOM || short_of_one.count != told.count) {
+/* How many acts a call wrote as runs, which must not be refused. */
+static size_t written(NcChange told) {
+    if (told.fault != NC_OK) {
         printf("runs refused: %s\n", names[told.fault]);
         exit(1);
     }
     return told.count;
 }
 
+/* The same call with a buffer too short by one act must be refused, with the number of acts that it needs. */
+static void must_lack_room(NcChange told, size_t needed) {
+    if (told.fault != NC_NO_ROOM || told.count != needed) {
+        printf("runs in a buffer too short by one: %s, %lu\n", names[told.fault], (unsigned long)told.count);
+        exit(1);
+    }
+}
+
 static void create(uint32_t base, size_t len) {
     NcChange change = nc_region_create(&region, base, code, len, acts, takes_runs ? 0 : MAX_BYTES + 2);
     if (takes_runs && change.fault == NC_OK) {
-        NcChange told = nc_region_creation_runs(&region, base, runs, MAX_RUNS);
-        change.count = write_out(counted(told, nc_region_creation_runs(&region, base, runs, told.count - 1)), base);
+        size_t count = written(nc_region_creation_runs(&region, base, runs, MAX_RUNS));
+        must_lack_room(nc_region_creation_runs(&region, base, runs, count - 1), count);
+        change.count = write_out(count, base);
     }
     answer(change);
 }
@@ -137,8 +146,9 @@ static void delete_chunk(uint32_t base) {
         return;
     }
     if (takes_runs) {
-        NcChange told = nc_region_deletion_runs(&region, runs, MAX_RUNS);
-        change.count = write_out(counted(told, nc_region_deletion_runs(&region, runs, told.count - 1)), base);
+        size_t count = written(nc_region_deletion_runs(&region, runs, MAX_RUNS));
+        must_lack_room(nc_region_deletion_runs(&region, runs, count - 1), count);
+        change.count = write_out(count, base);
     }
     stamp.stamp = 1 + nc_region_generation(&region).stamp;
     printf("stamp %lu\n", (unsigned long)stamp.stamp);

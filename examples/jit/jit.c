@@ -1,4 +1,10 @@
-/* Code that is generated, run, patched and thrown away in a sandbox: jit [--seconds N] [--threads N]. examples/jit/build compiles it. */
+/*
+ * Code that is generated, run, patched and thrown away in a sandbox: jit [--seconds N] [--threads N]. examples/jit/build compiles it.
+ *
+ * N seconds is the whole time, of which the inline cache has half. The times are printed beside those of the same bytes stored one by one
+ * without a sandbox: loading is vetting, creating and making the acts, throwing away is deleting and reclaiming, so both cost more; running
+ * costs the same.
+ */
 #define _GNU_SOURCE
 #include "generate.h"
 

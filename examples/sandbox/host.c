@@ -1,4 +1,4 @@
-/* A lock around asking for acts and making them, and a service that untrusted code calls: docs/EMBEDDING.md, "Ways in". */
+/* A lock around asking for acts and making them, and a service that untrusted code calls: docs/EMBEDDING.md, "Ways in and out". */
 #include "host.h"
 
 #include "text.h"

@@ -1,4 +1,20 @@
-/* A host that executes: sandbox CODE DATA [--control] [--seconds N] [--threads N]. examples/sandbox/build compiles it, and CODE and DATA. */
+/*
+ * A host that executes: sandbox CODE DATA [--control] [--seconds N] [--threads N]. examples/sandbox/build compiles it, and CODE and DATA.
+ *
+ * First it runs CODE. Then it tries single bundles at TRIAL_AT, one on each line: where a bundle is loaded, a thread enters it, and the
+ * line has the address of the instruction that trapped, at a stop (F4) or by another fault. Then threads are inside for N seconds while
+ * code is patched, deleted and replaced, which these numbers count:
+ *
+ *   stays                          times inside, each from its entry to its way out
+ *   waits for check-ins            times that the writer wanted a deleted span and some thread had not checked in yet; nothing blocks
+ *   stops of changes met           traps at a stop of a change under way, after which the thread went back to the same instruction
+ *   stays ended in deleted code    these are right: three of four ways in lead to the chunk that is deleted and created
+ *   astray                         stays with a result that no version of the code can give
+ *
+ * With --control patches are written byte by byte, with neither stops nor settlings (creations and deletions keep theirs). Threads then
+ * execute halves of instructions; the first five such stays of each thread are shown on standard error. The status is 1 if a stay was
+ * astray, and 77, with a line that says what was refused, where the system makes no 32-bit segments.
+ */
 #include "host.h"
 #include "race.h"
 #include "text.h"
@@ -9,7 +25,7 @@
 
 #define SKIPPED 77
 #define CODE_MAX 32768u
-#define UNTRUSTED_DATA 0x200000u /* where examples/compile/chunk.ld puts data; the stack lies below it */
+#define UNTRUSTED_DATA 0x200000u /* where `build` puts data; the stack lies below it */
 #define TRIAL_AT 0x40000u
 
 static const char *name_of(uint32_t why) {

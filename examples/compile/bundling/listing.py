@@ -1,0 +1,146 @@
+"""A whole text: its statements with their sections, its labels, and which of them a pointer may hold."""
+
+import re
+
+from .sections import Sections
+from .statements import symbols
+
+DATA = {".byte", ".short", ".value", ".word", ".hword", ".2byte", ".long", ".int", ".4byte", ".quad", ".8byte", ".octa", ".float", ".single",
+        ".double", ".ascii", ".asciz", ".string", ".zero", ".skip", ".space", ".fill", ".uleb128", ".sleb128", ".org", ".nops", ".nop",
+        ".incbin"}
+EQUATES = {".set", ".equ", ".equiv", ".eqv"}
+GLOBALS = {".globl", ".global", ".weak"}
+MACROS = {".macro", ".rept", ".irp", ".irpc", ".altmacro", ".include", ".if", ".ifdef", ".ifndef", ".ifc", ".ifeq", ".ifne", ".else"}
+REFUSED = {
+    **dict.fromkeys(MACROS, "the assembler's macros and conditions aren't read: use those of the preprocessor, in a file .S"),
+    **dict.fromkeys([".intel_syntax", ".code16", ".code64", ".code16gcc"], "only 32-bit code in AT&T syntax is read: use -m32 -masm=att"),
+    **dict.fromkeys([".bundle_align_mode", ".bundle_lock", ".bundle_unlock"], "this text is in bundles already: assemble it as it is"),
+    **dict.fromkeys([".cfi_lsda", ".cfi_personality"], "exceptions aren't kept: compile with -fno-exceptions"),
+}
+
+NUMBERED = re.compile(r"(?<![\w.%])(?<!\w\$)(\d+)([bf])\b")
+HERE = re.compile(r"(?<![\w.])\.(?![\w.$])")
+BARE = re.compile(r'(?:[\w.$@]+|"[^"]+")$')
+JUMP = re.compile(r"(?:jmpl?|calll?|j[a-z]+|loop[a-z]*|xbegin)(?:,p[nt])?$")
+
+
+def is_direct(statement):
+    """Whether an instruction is a jump or a call to the label that it names."""
+    return bool(JUMP.match(statement.word)) and not statement.operands.startswith("*")
+
+
+def without_numbers(statements):
+    """The statements with names in the place of labels such as `1:`, `1b` and `1f`."""
+    seen = {}
+
+    def name(found):
+        number, direction = found.groups()
+        return f".Lnumbered_{number}_{seen.get(number, 0) + (direction == 'f')}"
+
+    for statement in statements:
+        if statement.kind == "label" and statement.word.isdigit():
+            seen[statement.word] = seen.get(statement.word, 0) + 1
+            yield statement._replace(word=f".Lnumbered_{statement.word}_{seen[statement.word]}")
+        elif '"' in statement.operands:
+            yield statement
+        else:
+            yield statement._replace(operands=NUMBERED.sub(name, statement.operands))
+
+
+class Listing:
+    """`sections[i]` is the section of `statements[i]`; for a directive that enters one, the entered one."""
+
+    def __init__(self, statements):
+        self.statements = list(without_numbers(statements))
+        self.sections = []
+        self.enters = set()
+        tracker = Sections()
+        for index, statement in enumerate(self.statements):
+            if statement.kind == "directive" and tracker.follow(statement):
+                self.enters.add(index)
+            self.sections.append(tracker.current)
+        self.after = self.successors()
+        self.labels = {statement.word: index for index, statement in self.code() if statement.kind == "label"}
+        self.globals = set(self.named_by(GLOBALS))
+        self.functions = self.globals | set(self.functions_by_type())
+        self.pointed = set()
+        for index, statement in enumerate(self.statements):
+            self.pointed.update(name for name in self.taken(index, statement) if name in self.labels)
+
+    def code(self):
+        """The statements of code sections."""
+        return ((index, statement) for index, statement in enumerate(self.statements) if self.sections[index].is_code)
+
+    def successors(self):
+        """For each statement of code the next one of its section."""
+        after, last = {}, {}
+        for index, _ in self.code():
+            section = self.sections[index]
+            if section in last:
+                after[last[section]] = index
+            last[section] = index
+        return after
+
+    def named_by(self, words):
+        """The code labels that directives with these words name."""
+        for statement in self.statements:
+            if statement.kind == "directive" and statement.word in words:
+                yield from (name for name in symbols(statement.operands) if name in self.labels)
+
+    def functions_by_type(self):
+        for statement in self.statements:
+            if statement.word == ".type" and re.search(r"[@%]function", statement.operands):
+                yield from (name for name in symbols(statement.operands.split(",")[0]) if name in self.labels)
+
+    def may_be_called_by_pointer(self, name):
+        return name in self.globals or name in self.functions and name in self.pointed
+
+    def begins_bundle(self, name):
+        """Whether a pointer may hold this label's address, so that it has to be a bundle start."""
+        return name in self.functions or name in self.pointed
+
+    def pointed_beside(self, index):
+        """Whether a pointer may hold a label inside the function in which a statement is. A function that the compiler has split counts with
+        all others."""
+        inner = {self.labels[name]: name for name in self.pointed - self.functions}
+        starts = {self.labels[name]: name for name in self.functions}
+        here = [place for place in sorted(starts) if self.sections[place] is self.sections[index]]
+        begin = max((place for place in here if place <= index), default=0)
+        end = min((place for place in here if place > index), default=len(self.statements))
+        if ".cold" in starts.get(begin, ""):
+            return bool(inner)
+        return any(begin <= place < end for place in inner if self.sections[place] is self.sections[index])
+
+    def taken(self, index, statement):
+        """The names whose addresses a statement takes."""
+        section = self.sections[index]
+        if statement.kind == "assignment":
+            names = symbols(statement.operands)
+        elif statement.kind == "directive" and statement.word in EQUATES:
+            names = symbols(statement.operands.partition(",")[2])
+        elif statement.kind == "directive" and statement.word in DATA and section.is_data and '"' not in statement.operands:
+            names = symbols(statement.operands)
+        elif statement.kind == "instruction" and section.is_code and not is_direct(statement):
+            names = [] if "_GLOBAL_OFFSET_TABLE_" in statement.operands else symbols(statement.operands)
+        else:
+            names = []
+        for name in names:
+            if name in self.labels and re.search(re.escape(name) + r"\s*[-+]\s*\d", statement.operands):
+                statement.refuse(f"`{name}` with a number added needn't be a bundle start: put a label there")
+        return names
+
+    def check(self):
+        """Refuses what can't be rewritten to the same meaning, whatever stands around it."""
+        for index, statement in enumerate(self.statements):
+            if statement.kind == "directive" and statement.word in REFUSED:
+                statement.refuse(REFUSED[statement.word])
+            if not self.sections[index].is_code:
+                continue
+            if statement.kind == "label" and statement.word.startswith('"'):
+                statement.refuse("a label in quotes isn't read: give it a plain name")
+            if statement.kind == "directive" and statement.word in DATA:
+                statement.refuse("data among code would be read as code: put it into a section of its own, or write the instruction's name")
+            if statement.kind == "instruction" and HERE.search(statement.operands):
+                statement.refuse("a distance from `.` changes with the padding: use a label")
+            if statement.kind == "instruction" and is_direct(statement) and not BARE.match(statement.operands):
+                statement.refuse("a distance from a label changes with the padding: jump to a label of its own")

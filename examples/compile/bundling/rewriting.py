@@ -1,0 +1,181 @@
+"""The rewriting itself: each statement of a listing as text for GNU as, in bundles."""
+
+import re
+
+from .arguments import REGISTERS, argument_in, is_set_before
+from .listing import Listing
+from .notes import noted
+from .statements import statements_of
+from .tables import PAD, Tables, is_jump_through_memory
+
+BUNDLE = 32
+FILL = "0x90"
+ALIGNMENTS = {".p2align", ".align", ".balign", ".p2alignw", ".p2alignl", ".balignw", ".balignl"}
+FOR_CLANG = {".addrsig", ".addrsig_sym"}
+OWN_ADDRESS = re.compile(r"\tmovl?\t\(%esp\), (%e(?:[a-d]x|[sd]i|bp))$")
+CALLS, JUMPS, RETURNS = {"call", "calll"}, {"jmp", "jmpl"}, {"ret", "retl"}
+
+
+class Bundler:
+    """What is written, section by section."""
+
+    def __init__(self, listing, keep_returns):
+        self.listing, self.keep_returns = listing, keep_returns
+        self.tables = Tables(listing)
+        self.bases = {}  # code section -> the label at its start, from which places are counted
+        self.base = None  # that label for the current section, or None outside of code
+        self.out = ["\t.bundle_align_mode 5", "\t.text"]
+        self.enter(listing.sections[0] if listing.sections and 0 not in listing.enters else None)
+
+    def emit(self, *lines):
+        self.out.extend("\t" + line for line in lines)
+
+    def locked(self, *lines):
+        """Instructions that stay together in one bundle."""
+        self.emit(".bundle_lock", *lines, ".bundle_unlock")
+
+    def start_bundle(self):
+        self.emit(f".p2align 5, {FILL}")
+
+    def end_bundle(self, length):
+        """Nops, so that the next `length` bytes end a bundle."""
+        self.emit(f".skip ({BUNDLE - length} - (. - {self.base})) & {BUNDLE - 1}, {FILL}")
+
+    def enter(self, section):
+        """Another section. Each code section begins a bundle, so that places can be counted from its start."""
+        if section is None or not section.is_code:
+            self.base = None
+            return
+        if section not in self.bases:
+            self.bases[section] = f".Lbundles_{len(self.bases)}"
+            self.start_bundle()
+            self.out.append(self.bases[section] + ":")
+        self.base = self.bases[section]
+
+    def mask_and_go(self, word, register, before=()):
+        self.locked(*before, f"andl $-{BUNDLE}, {register}", f"{word} *{register}")
+
+    def ret(self, index, statement):
+        popped = statement.operands.lstrip("$")
+        reader = OWN_ADDRESS.match(self.listing.statements[index - 1].text) if index else None
+        if self.keep_returns:
+            self.out.append(statement.text)
+        elif reader and not popped:
+            # The function tells its return address, as for position-independent code. Compilers know that it changes no other register.
+            self.out.pop()
+            self.mask_and_go("jmp", reader.group(1), [f"popl {reader.group(1)}"])
+        elif popped:
+            self.mask_and_go("jmp", "%ecx", ["popl %ecx", f"addl ${popped}, %esp"])
+        else:
+            self.mask_and_go("jmp", "%ecx", ["popl %ecx"])
+
+    def call(self, index, statement):
+        target = statement.operands
+        if target.startswith("*"):
+            register = self.loaded(index, statement)
+            self.end_bundle(5)  # `and` has 3 bytes, `call` by a register 2
+            self.mask_and_go("call", register)
+        else:
+            self.end_bundle(5)
+            self.emit(f"call {target}")
+
+    def jump(self, index, statement):
+        """A jump by a register or memory: by a table of labels, or out of the function."""
+        kind = self.tables.kind(index, statement) if is_jump_through_memory(statement) else "end"
+        if kind is None:
+            statement.refuse("a jump through memory to labels of a function: compile with -fno-jump-tables (a switch), or keep the label's "
+                             "address in a register, by -mindirect-branch-register (gcc) or asm(\"\" : \"+r\"(label))")
+        if kind == "table":
+            self.emit("pushl %ecx")
+        self.mask_and_go("jmp", self.loaded(index, statement, is_free=kind == "table"))
+
+    def loaded(self, index, statement, is_free=False):
+        """The register with the target, into which it is loaded first if it is in memory."""
+        target = statement.operands[1:].strip()
+        if target in REGISTERS:
+            return target
+        if not is_free and is_set_before(self.listing, index, "%ecx"):
+            statement.refuse("%ecx has an argument, and the target has to be loaded into it: call by a register (gcc has "
+                             "-mindirect-branch-register), or don't declare the pointer fastcall, thiscall or regparm(3)")
+        self.emit(f"movl {target}, %ecx")
+        return "%ecx"
+
+    def finish(self, section):
+        """The end of a code section: the labels of tables by which jumps save %ecx, and whole bundles."""
+        self.out.append(section.directive)
+        for name in self.tables.pads(section):
+            self.start_bundle()
+            self.out.append(PAD + name + ":")
+            self.emit("popl %ecx", f"jmp {name}")
+        self.start_bundle()
+
+    def instruction(self, index, statement):
+        word, operands = statement.word, statement.operands
+        if word in RETURNS | CALLS | JUMPS and not all(prefix.startswith("rep") for prefix in statement.prefixes):
+            statement.refuse("a prefix before a jump, a call or a return isn't kept: leave it out")
+        if word in RETURNS:
+            self.ret(index, statement)
+        elif word in CALLS:
+            self.call(index, statement)
+        elif word in JUMPS and operands.startswith("*"):
+            self.jump(index, statement)
+        elif word == "pause" or word == "nop" and statement.prefixes:
+            self.emit("nop")  # a hint for loops that wait
+        elif word.startswith("bsf") and statement.prefixes:
+            self.out.append(statement._replace(prefixes=()).text)  # with the prefix it is TZCNT; a compiler means either
+        else:
+            self.out.append(statement.text)
+
+    def label(self, statement):
+        if self.base and self.listing.begins_bundle(statement.word):
+            self.check_argument(statement)
+            self.start_bundle()
+        self.out.append(statement.text)
+
+    def check_argument(self, statement):
+        """A call through memory loads %ecx, so no function that a pointer may lead to takes an argument there."""
+        if self.listing.may_be_called_by_pointer(statement.word) and argument_in(self.listing, statement.word, "%ecx"):
+            statement.refuse(f"`{statement.word}` takes an argument in %ecx, which calls through memory overwrite: "
+                             "declare it without fastcall, thiscall and regparm(3), or static and call it by its name only")
+
+    def directive(self, index, statement):
+        if index in self.listing.enters:
+            self.out.append(statement.text)
+            self.enter(self.listing.sections[index])
+        elif index in self.tables.padded:
+            self.out.append(self.tables.replaced(index).text)
+        elif self.base and statement.word in ALIGNMENTS:
+            self.alignment(statement)
+        elif statement.word not in FOR_CLANG:
+            self.out.append(statement.text)
+
+    def alignment(self, statement):
+        """An alignment in code is for speed, unless it is to more than a bundle."""
+        found = re.match(r"(\d+)\s*(?:,[^,]*)?$", statement.operands)
+        if not found:
+            return
+        bits = int(found.group(1)) if statement.word.startswith(".p2") else int(found.group(1)).bit_length() - 1
+        if bits > 5:
+            self.emit(f".p2align {bits}, {FILL}")
+
+    def write(self):
+        """Everything, and whole bundles in each code section."""
+        for index, statement in enumerate(self.listing.statements):
+            if statement.kind == "label":
+                self.label(statement)
+            elif statement.kind == "directive":
+                self.directive(index, statement)
+            elif statement.kind == "instruction" and self.base:
+                self.instruction(index, statement)
+            else:
+                self.out.append(statement.text)
+        for section in self.bases:
+            self.finish(section)
+        return noted("\n".join(self.out) + "\n")
+
+
+def rewritten(text, keep_returns=False):
+    """The text in bundles. A Refusal says what isn't kept, and on which line."""
+    listing = Listing(statements_of(text))
+    listing.check()
+    return Bundler(listing, keep_returns).write()
