@@ -103,7 +103,7 @@ extern "C" {
  *  0 to 10  For a chunk the first fault is returned: 1 to 3 in this order, then the one of 4 to 6 with the lowest address, then 7 with the
  *           lowest address. 8 says nothing about the code, except that 1 to 3 don't hold. 9 from a call without a handle says that the
  *           chunk is valid, or the patch lawful; from a call on a handle it comes before the faults of a patch. 10 comes only from
- *           nc_host_decode. docs/EMBEDDING.md says what a compiler may emit; specs/Rows of nc_decode is the table of permitted
+ *           nc_host_decode. docs/GUIDE.md says what a compiler may emit; specs/Rows of nc_decode is the table of permitted
  *           instructions.
  * 16 to 21  For a patch the first of these is returned, in this order. None has an address.
  * 32 to 44  From calls on handles, beside those above.

@@ -10,7 +10,7 @@ from examples import TOP
 from placing import File, Link
 
 PROGRAMS = ["nc_check", "nc_replay"]
-REWRITER = "examples/compile/to-bundles"
+REWRITER, DRIVER = "examples/compile/to-bundles", "examples/compile/nc-cc"
 SHARE, DOC = "share/reedbodkin/", "share/doc/reedbodkin/"
 
 # Files of the repository, and where they go. A folder's files go below the second path.
@@ -21,6 +21,7 @@ FILES = [
     ("packaging/rust/nc_host/src", SHARE + "rust/nc_host/src"),
     ("packaging/rust/nc_host/examples", SHARE + "rust/nc_host/examples"),
     ("examples/compile/chunk.ld", SHARE + "chunk.ld"),
+    ("examples/compile/bundling", SHARE + "bundling"),
     ("docs/man/nc_check.1", "share/man/man1/nc_check.1"),
     ("docs/man/nc_replay.1", "share/man/man1/nc_replay.1"),
     ("packaging/completions/nc_check.bash", "share/bash-completion/completions/nc_check"),
@@ -29,10 +30,16 @@ FILES = [
     ("packaging/completions/_nc_replay", "share/zsh/site-functions/_nc_replay"),
     ("packaging/NOTICE", DOC + "NOTICE"),
     ("README.md", DOC + "README.md"),
+    ("SECURITY.md", DOC + "SECURITY.md"),
+    ("CHANGELOG.md", DOC + "CHANGELOG.md"),
     ("VERSION", DOC + "VERSION"),
     ("docs", DOC + "docs"),
     ("docs/charts", DOC + "docs/charts"),
     ("examples/host", DOC + "examples/host"),
+    ("examples/library", DOC + "examples/library"),
+    ("examples/library/trials", DOC + "examples/library/trials"),
+    ("examples/library/musl", DOC + "examples/library/musl"),
+    ("examples/library/musl/bits", DOC + "examples/library/musl/bits"),
     ("examples/compile/sample.c", DOC + "examples/compile/sample.c"),
     ("examples/first.script", DOC + "examples/first.script"),
     ("examples/vet.lines", DOC + "examples/vet.lines"),
@@ -102,6 +109,7 @@ def tree(cpu=DEFAULT, anew=False):
     for template, to in TEMPLATES:
         made[to] = File(filled(template).encode(), 0o644)
     made["bin/nc-bundle"] = File(read(REWRITER).replace(b"to-bundles", b"nc-bundle"), 0o755)
+    made["bin/nc-cc"] = File(read(DRIVER), 0o755)
     for name in PROGRAMS:
         made["bin/" + name] = File(program(name, cpu, anew), 0o755)
     static, shared = libraries(cpu, soname, anew)

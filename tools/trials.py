@@ -1,7 +1,9 @@
 """What the scripts share that run a built program at its command lines and compare what it does."""
 
+import fcntl
 import os
 import subprocess
+import tempfile
 
 
 def closed(*numbers):
@@ -19,12 +21,38 @@ class Trials:
         self.program, self.folder = program, folder
         self.tried = self.failed = 0
 
+    def lay(self, name, content):
+        """Puts a file into the folder in which the program runs."""
+        with open(os.path.join(self.folder, name), "wb") as file:
+            file.write(content)
+
     def run(self, words, stdin="", stdout=subprocess.PIPE, stderr=subprocess.PIPE, close=()):
         """What the program writes, and its status. The input is text, bytes, or a file that stands open."""
         given = stdin.encode() if isinstance(stdin, str) else stdin if isinstance(stdin, bytes) else None
         done = subprocess.run([self.program] + words, input=given, stdin=None if given is not None else stdin, stdout=stdout,
                               stderr=stderr, preexec_fn=closed(*close) if close else None, cwd=self.folder, timeout=60)
         return (done.stdout or b"").decode(), (done.stderr or b"").decode(), done.returncode
+
+    def run_unread(self, words, stdin, count):
+        """The same where the reader of standard output takes this many bytes and is gone. The pipe holds one page, so a program
+        that has more to write than that waits for the reader and doesn't outrun it."""
+        reader, writer = os.pipe()
+        fcntl.fcntl(writer, fcntl.F_SETPIPE_SZ, 4096)
+        if count == 0:
+            os.close(reader)
+        with tempfile.TemporaryFile() as given, tempfile.TemporaryFile() as err:
+            given.write(stdin.encode())
+            given.seek(0)
+            child = subprocess.Popen([self.program] + words, stdin=given, stdout=writer, stderr=err, cwd=self.folder)
+            os.close(writer)
+            taken = b""
+            while len(taken) < count:
+                taken += os.read(reader, count - len(taken))
+            if count > 0:
+                os.close(reader)
+            status = child.wait(timeout=60)
+            err.seek(0)
+            return taken.decode(), err.read().decode(), status
 
     def compare(self, name, found, wanted):
         self.tried += 1

@@ -5,7 +5,8 @@ _nc_check() {
     --base) words=00010000 ;;
     --bundles) words=2097152 ;;
     --workers) words=$(echo {1..16}) ;;
-    *) [[ $word != -* ]] || words="--base --bundles --workers --quiet --all --help --version -h -V" ;;
+    --format) words="text json" ;;
+    *) [[ $word != -* ]] || words="--base --raw --bundles --workers --quiet --all --calls --format --help --version -h -V" ;;
     esac
     mapfile -t COMPREPLY < <(compgen -W "$words" -- "$word")
 }

@@ -1,6 +1,12 @@
 //! A first host in Rust: what examples/host/first.c does, by the safe interface of the library.
 //!
-//! It executes nothing, and has no thread but its own. tools/try-bindings compares what it prints with first.txt.
+//! It executes nothing, and has no thread but its own. tools/try-bindings compares what it prints with first.txt. From the top of the
+//! repository, with the library built and `kit` set as in README.md:
+//!
+//!     mkdir -p out && cp crates/nc_host/out/libnc_host.a "$kit/c/liblibc_c.a" out
+//!     (cd packaging/rust/nc_host && NC_HOST_LIB_DIR=../../../out cargo run --example first)
+//!
+//! Without `NC_HOST_LIB_DIR` the crate asks pkg-config for `nc_host`.
 
 use nc_host::{Act, Acts, Fault, RawAct, Region, BUNDLE, START, STOP};
 use std::sync::atomic::{AtomicU8, Ordering::SeqCst};

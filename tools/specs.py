@@ -1,0 +1,154 @@
+"""What the definitions of specs/ say: their lines, their comments, what each of them cites, and what a law rests on."""
+
+import pathlib
+import re
+import sys
+
+STANDS_FOR = {("nc_decode", "specs/machinery/Reading.antt", "reading"): ("nc_decode", "specs/Front.antt", "IsExact")}
+
+IMPORT = re.compile(r"^\s*(?:ghost |pub )*use Rattle\.(nc_\w+)\.specs\.([\w.]+?)(?:\.\{([^}]*)\}| as (\w+));?", re.M)
+START = re.compile(r"^(?:(?:abbrev|unfoldable) )?(?:pub )?(?:(record|data) )?([A-Za-z_][\w']*)(?: |$)")
+TYPE = re.compile(r"^(?:pub(?:\(crate\))? )?(?:struct|enum|const) (\w+)")
+WORD = re.compile(r"(?<![\w.])[A-Za-z_][\w']*(?:\.[A-Za-z_][\w']*)*")
+LABEL = re.compile(r"(?<=[{;])\s*\w+ =(?= )")
+BOUND = re.compile(r"\(([^():]*) :")
+NAME = re.compile(r"[a-z_][\w']*")
+
+
+def counted(lines):
+    """The lines that say something, without comments at their ends."""
+    kept = [re.sub(r"\s*(--|//).*", "", line) for line in lines]
+    return [line for line in kept if line.strip() and not line.strip().startswith("#[")]
+
+
+class File:
+    """The definitions of one file, by name, with the comment above each; the comment at its head; and what it imports."""
+
+    def __init__(self, crate, path):
+        text = pathlib.Path("crates", crate, path).read_text(encoding="utf-8")
+        self.crate, self.path, self.parts, self.owner, self.comments = crate, path, {}, {}, {}
+        self.about = " ".join(line.strip("- ") for line in re.match(r"(--.*\n)*", text).group().splitlines())
+        (self.cut_types if path.startswith("src/") else self.cut_definitions)(text)
+        self.imports, self.modules = {}, {}
+        for source, module, names, alias in IMPORT.findall(text):
+            if alias:
+                self.modules[alias] = (source, *place_of(source, module))
+            for name in filter(None, map(str.strip, names.split(","))):
+                own, _, other = name.partition(" as ")
+                file, kind = place_of(source, module)
+                self.imports[other or own] = (source, file, kind or own)
+
+    def cut_definitions(self, text):
+        """Finds each definition, with the constructors of a data type as names of it."""
+        name, above = None, []
+        for raw in text.split("\n"):
+            if raw.startswith("--"):
+                above.append(raw.strip("- "))
+                continue
+            for line in counted([raw]):
+                name = self.cut_line(line, name, above)
+            above = []
+
+    def cut_line(self, line, name, above):
+        """The name of the definition that a line is of, after the one of the line before, with the comment above it."""
+        head = START.match(line)
+        if re.match(r"(use|pub use|pub mod|module|infix)", line):
+            return None if line.startswith("module") else name
+        if head and (re.match(r"(abbrev|unfoldable|pub|record|data) ", line) or head.group(2) not in self.parts):
+            name, self.constructors = head.group(2), head.group(1) == "data"
+            self.parts[name], self.owner[name], self.comments[name] = [], name, " ".join(above)
+        elif name and self.constructors and re.match(r"^  \w+ :", line):
+            self.owner[line.split()[0]] = name
+        if name:
+            self.parts[name].append(line)
+        return name
+
+    def cut_types(self, text):
+        """Finds each struct, enum and constant of a file of the program."""
+        name = None
+        for line in counted(text.split("\n")):
+            head = TYPE.match(line)
+            if head:
+                name = head.group(1)
+                self.parts[name], self.owner[name] = [], name
+            if name:
+                self.parts[name].append(line)
+                name = None if line in ("}", "];") or line.endswith(";") and len(self.parts[name]) == 1 else name
+
+    def arguments(self, name):
+        """The names of a definition's arguments: those of a record, or those that all its equations give; or none."""
+        head, *lines = self.parts[name]
+        if " record " in head:
+            return [word for group in BOUND.findall(head) for word in group.split()]
+        equations = [re.sub(r"\{\w+\} ", "", line).split(" =")[0].split()[1:] for line in lines if line.startswith(name + " ")]
+        same = equations and all(words == equations[0] for words in equations) and all(map(NAME.fullmatch, equations[0]))
+        return equations[0] if same else []
+
+    def names(self, lines, but=()):
+        """Whatever these lines cite of this project: crate, file and name."""
+        for word in WORD.findall(LABEL.sub("", "\n".join(lines))):
+            module, _, inner = word.partition(".")
+            if inner and module in self.modules:
+                yield (*self.modules[module][:2], inner)
+            elif module in self.imports:
+                yield self.imports[module]
+            elif module in self.owner and self.owner[module] not in but:
+                yield self.crate, self.path, self.owner[module]
+
+
+def place_of(crate, module):
+    """The file of a module of specs/, and the type that it is of, if it is a type of the program."""
+    declared = re.match(r"declared\.([\w.]+?)\.([A-Z]\w*)(?:\.TheVariants)?$", module)
+    if not declared:
+        return "specs/" + module.replace(".", "/") + ".antt", None
+    return "src/" + declared.group(1).replace(".", "/") + ".rt", None if declared.group(2) == "TheConstants" else declared.group(2)
+
+
+class Files:
+    """Files of the crates, each read once."""
+
+    def __init__(self):
+        self.files = {}
+
+    def file(self, crate, path):
+        if (crate, path) not in self.files:
+            self.files[crate, path] = File(crate, path)
+        return self.files[crate, path]
+
+    def resolved(self, key):
+        """Where a name is defined: a constructor with its type, a name that a file hands on where that has it from."""
+        crate, path, name = key
+        file = self.file(crate, path)
+        return (crate, path, file.owner[name]) if name in file.owner else self.resolved(file.imports[name])
+
+
+class Definitions(Files):
+    """Whatever a law's contract rests on, or a definition, each with what was found to cite it."""
+
+    def __init__(self, root):
+        super().__init__()
+        self.found, self.root = {}, root
+        todo = [(key, root) for key in self.law(root) or self.definition(root)]
+        while todo:
+            key, by = todo.pop(0)
+            crate, path, name = key = self.resolved(STANDS_FOR.get(key, key))
+            if key not in self.found:
+                self.found[key] = by
+                file = self.file(crate, path)
+                todo += [(other, name) for other in file.names(file.parts[name], {name})]
+
+    def law(self, name):
+        """The definitions that the clauses of a public function name, or None if there is no such function."""
+        for source in sorted(pathlib.Path("crates").glob("nc_*/src/**/*.rt")):
+            clauses = re.search(rf"^pub fn {name}\(.*?^{{", source.read_text(encoding="utf-8"), re.M | re.S)
+            if clauses:
+                file = self.file(source.parts[1], "/".join(source.parts[2:]))
+                return file.names(counted(clauses.group().split("\n")))
+        return None
+
+    def definition(self, name):
+        """The public definition of this name."""
+        for source in sorted(pathlib.Path("crates").glob("nc_*/specs/**/*.antt")):
+            if re.search(rf"^(?:abbrev |unfoldable )?pub (?:record |data )?{name} ", source.read_text(encoding="utf-8"), re.M):
+                return [(source.parts[1], "/".join(source.parts[2:]), name)]
+        sys.exit(f"no public function and no definition {name} in crates/nc_*")
