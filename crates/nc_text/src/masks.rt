@@ -1,8 +1,10 @@
 //! The marks of one bundle, as masks.
 
-ghost use Rattle.std.specs.Prelude.{◌≡◌, ◌≢◌, ℕ, ◌<◌, if◌then◌else◌};
+ghost use Rattle.std.specs.Prelude.{◌≡◌, ◌≢◌, ℕ, ◌<◌, if◌then◌else◌, length, slice_index_or};
 ghost use Rattle.std.specs.Int.{bit_at};
+ghost use Rattle.nc_decode.specs.declared.instruction.Mark.{Mark};
 ghost use Rattle.nc_text.specs.MarkedText.{unused_mark};
+ghost use Rattle.nc_text.specs.machinery.Masks.{plain_bit};
 
 use nc_decode::Mark;
 
@@ -24,7 +26,7 @@ pub(crate) struct Masks {
 impl Masks {
     ghost use Rattle.std.specs.Prelude.{◌≡◌, ◌≢◌, ℕ, ◌+◌, ◌<◌, ◌≤◌, ◌⊎◌, All, length, slice_index_or};
     ghost use Rattle.nc_decode.specs.declared.instruction.Mark.TheVariants.{Unmarked};
-    ghost use Rattle.nc_text.specs.machinery.Masks.{mark_in, unused_masks};
+    ghost use Rattle.nc_text.specs.machinery.Masks.{mark_in, start_only, unused_masks};
     ghost use Rattle.nc_text.specs.MarkedText.{NamesRegister, unused_mark};
 
     /// The marks of a bundle that no chunk uses.
@@ -73,6 +75,39 @@ impl Masks {
         self.high = with_bit(self.high, at, register / 4 % 2 == 1);
     }
 
+    /// The masks of a bundle with these marks.
+    fn of(marks: &[Mark]) -> Self
+        requires whole { length marks.now ≡ 32 }
+        requires registers { All NamesRegister marks.now }
+        ensures { (k : ℕ) → k < 32 → mark_in result k ≡ slice_index_or marks.now k Unmarked }
+    {
+        let mut masks = Masks {
+            starts: starts_of(marks),
+            seconds: 0,
+            low: 0,
+            middle: 0,
+            high: 0,
+        };
+        for i in 0..32 {
+            masks.add_second(i, marks[i as usize]);
+        }
+        masks
+    }
+
+    /// Sets the mark of a place that has it unless it is `After`.
+    fn add_second(&mut self, at: u32, mark: Mark)
+        requires inside { at < 32 }
+        requires register { NamesRegister mark }
+        requires start { mark_in self.old at ≡ start_only mark }
+        ensures same { mark_in self.new at ≡ mark }
+        ensures other { (k : ℕ) → k < 32 → k ≢ at → mark_in self.new k ≡ mark_in self.old k }
+    {
+        match mark {
+            Mark::Unmarked | Mark::Plain => {}
+            Mark::After(_) => self.set(at, mark),
+        }
+    }
+
     /// Sets the marks of the places from one on.
     pub(crate) fn set_from(&mut self, from: u32, marks: &[Mark])
         requires inside { from + length marks.now ≤ 32 }
@@ -80,6 +115,10 @@ impl Masks {
         ensures within { (k : ℕ) → k < length marks.now → mark_in self.new (from + k) ≡ slice_index_or marks.now k Unmarked }
         ensures others { (k : ℕ) → k < 32 → (k < from) ⊎ (from + length marks.now ≤ k) → mark_in self.new k ≡ mark_in self.old k }
     {
+        if marks.len() == 32 {
+            *self = Masks::of(marks);
+            return;
+        }
         let mut masks = *self;
         for i in 0..marks.len() {
             masks.set(from + i as u32, marks[i]);
@@ -113,6 +152,29 @@ fn unused_mark(at: u32) -> Mark
         Mark::Plain
     } else {
         Mark::Unmarked
+    }
+}
+
+/// The places of a bundle that are `Plain`. Twice the mask so far and one more bit is cheaper than a bit at a place, and has no
+/// branch, which real code would make hard to predict.
+fn starts_of(marks: &[Mark]) -> u32
+    requires { length marks.now ≡ 32 }
+    ensures { (k : ℕ) → k < 32 → bit_at result k ≡ plain_bit (slice_index_or marks.now k Mark.Unmarked) }
+{
+    let mut starts = 0;
+    for n in 0..32 {
+        starts = 2 * starts + plain_bit(marks[31 - n]);
+    }
+    starts
+}
+
+/// 1 for `Plain`, otherwise 0.
+fn plain_bit(mark: Mark) -> u32
+    ensures { result ≡ plain_bit mark }
+{
+    match mark {
+        Mark::Plain => 1,
+        Mark::Unmarked | Mark::After(_) => 0,
     }
 }
 

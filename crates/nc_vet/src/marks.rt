@@ -1,11 +1,13 @@
 //! The marks of a chunk, in the form in which they are kept.
 
-ghost use Rattle.std.specs.Prelude.{◌≡◌, ◌<◌, length, slice_index, slice_get, get_or, Some};
-ghost use Rattle.nc_vet.specs.Bits.{no_bits, bit_mark, mark_at};
+ghost use Rattle.std.specs.Prelude.{◌≡◌, ◌<◌, ◌+◌, ◌*◌, ◌%◌, ◌^◌, ◌++◌, ℕ, length, slice_index, slice_index_or, slice_get, get_or, Some, OnOk};
+ghost use Rattle.nc_decode.specs.declared.instruction.Mark.{Mark};
+ghost use Rattle.nc_vet.specs.Bits.{no_bits, bit_mark, mark_at, marks_in};
 ghost use Rattle.nc_vet.specs.Listed.{listed};
 
 use crate::bundle::Bundle;
 use nc_decode::Mark;
+use std::alloc::AllocError;
 
 /// The marks of a chunk. They mean nothing without its code.
 #[derive(Drop)]
@@ -66,6 +68,36 @@ fn mark_at(code: &[u8], bundles: &[Bundle], k: usize) -> Mark
     ensures { result ≡ mark_at code.now bundles.now k }
 {
     bit_mark(bundle_at(bundles, k / 32), k % 32, byte_at(code, k + 1))
+}
+
+/// The marks of the bundle that begins at this place.
+#[inline(always)]
+fn bundle_marks(code: &[u8], bundle: Bundle, start: usize) -> [Mark; 32]
+    requires { start + 32 < 2 ^ 63 }
+    ensures long { length result ≡ 32 }
+    ensures each { (k : ℕ) → k < 32 → slice_index_or result k Mark.Unmarked ≡ bit_mark bundle k (slice_index code.now (start + k + 1)) }
+{
+    let mut marks = [Mark::Unmarked; 32];
+    for k in 0..32 {
+        marks[k] = bit_mark(bundle, k, byte_at(code, start + k + 1));
+    }
+    marks
+}
+
+/// Adds the marks of all places of the code, bundle by bundle.
+pub(crate) fn push_marks(
+    marks: &mut Vec<Mark>,
+    code: &[u8],
+    bundles: &[Bundle],
+) -> Result<(), AllocError>
+    requires { length code.now % 32 ≡ 0 }
+    ensures { OnOk result (marks.new.items ≡ marks.old.items ++ marks_in code.now bundles.now) }
+{
+    for n in 0..code.len() / 32 {
+        let more = bundle_marks(code, bundle_at(bundles, n), 32 * n);
+        marks.extend_from_slice(&more)?;
+    }
+    Ok(())
 }
 
 impl Marks {

@@ -4,7 +4,7 @@ ghost use Rattle.std.specs.Prelude.{◌≡◌, ◌<◌, length, slice_get, Some,
 ghost use Rattle.nc_vet.specs.Bits.{marks_in};
 
 use crate::bundle::Bundle;
-use crate::marks::Marks;
+use crate::marks::{Marks, push_marks};
 use nc_decode::Mark;
 use std::alloc::{AllocError, Global};
 use std::marker::Model;
@@ -79,8 +79,9 @@ impl Vetted {
     {
         let code = self.code();
         let mut marks = Vec::with_capacity(alloc, code.len())?;
-        for i in 0..code.len() {
-            marks.push(self.mark(i))?;
+        match &self.marks {
+            Marks::Bits(bundles) => push_marks(&mut marks, code, bundles)?,
+            Marks::Each(each) => marks.extend_from_slice(each)?,
         }
         Ok(marks)
     }

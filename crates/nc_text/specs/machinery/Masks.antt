@@ -17,3 +17,13 @@ mark_in masks k =
 -- the marks of a bundle that no chunk uses
 abbrev pub unused_masks : Masks
 unused_masks = record { starts = 1; seconds = 0; low = 0; middle = 0; high = 0 }
+
+-- 1 for the start of an instruction that may be entered with anything masked
+abbrev pub plain_bit : Mark → ℕ
+plain_bit Plain = 1
+plain_bit _ = 0
+
+-- the mark, unless it is that of a second half
+abbrev pub start_only : Mark → Mark
+start_only Plain = Plain
+start_only _ = Unmarked
