@@ -33,8 +33,8 @@ pub laid_more : (code : List ℕ) (bundles : List Bundle) (n : ℕ) (more : List
 laid_more code bundles n more long lt each =
     let fits : 32 * n + length more ≤ length (marks_in code bundles) = omega (arith, long, lt, length-marks_in code bundles) in
     take_with Unmarked (32 * n) (marks_in code bundles) more fits (λ k k-lt. (
-      marks_in-at code bundles (32 * n + k) Unmarked (omega (arith, k-lt, fits, length-marks_in code bundles))
-      ∙ (ap (λ (m : ℕ). bit_mark (get_or bundles m no_bits) ((32 * n + k) % 32) (slice_index code (32 * n + k + 1))) {y = n} (omega (arith, k-lt, long))
-      ∙ (ap (λ (m : ℕ). bit_mark (get_or bundles n no_bits) m (slice_index code (32 * n + k + 1))) {x = (32 * n + k) % 32} {y = k} (omega (arith, k-lt, long))
-      ∙ sym (each k (omega (arith, k-lt, long)))))))
+    marks_in-at code bundles (32 * n + k) Unmarked (omega (arith, k-lt, fits, length-marks_in code bundles))
+    ∙ (ap (λ (m : ℕ). bit_mark (get_or bundles m no_bits) ((32 * n + k) % 32) (slice_index code (32 * n + k + 1))) {y = n} (omega (arith, k-lt, long))
+    ∙ (ap (λ (m : ℕ). bit_mark (get_or bundles n no_bits) m (slice_index code (32 * n + k + 1))) {x = (32 * n + k) % 32} {y = k} (omega (arith, k-lt, long))
+    ∙ sym (each k (omega (arith, k-lt, long)))))))
     ∙ ap (λ (m : ℕ). take m (marks_in code bundles)) (omega (arith, long))

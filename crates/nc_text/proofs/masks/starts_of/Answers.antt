@@ -29,8 +29,10 @@ loop-n-preserved c =
   where
     pow_more : (m : ℕ) → 2 ^ (m + 1) ≡ 2 * 2 ^ m
     pow_more m = ap (λ (j : ℕ). 2 ^ j) {x = m + 1} {y = suc m} (omega arith) ∙ pow-succ' 2 m
+
     bit_is : c.plain_bit.result < 2
     bit_is = omega (arith, c.plain_bit.ensures, small_bit (get_or c.args.marks.now (31 - c.loop-n.n) Unmarked))
+
     at : (k : ℕ) → k < c.loop-n.n + 1 → bit_at (2 * c.loop-n.starts + c.plain_bit.result) k
         ≡ plain_bit (get_or c.args.marks.now (32 - (c.loop-n.n + 1) + k) Unmarked)
     at zero lt = doubled_low c.loop-n.starts c.plain_bit.result bit_is

@@ -20,14 +20,14 @@ loop-n-preserved c =
     ∙ ap (λ (z : List Mark). z ++ c.bundle_marks-more.result) c.loop-n.invariant
     ∙ append_assoc c.args.marks.now.items (take (32 * n) (marks_in code c.args.bundles.now)) c.bundle_marks-more.result
     ∙ ap (λ (z : List Mark). c.args.marks.now.items ++ z)
-      (laid_more code c.args.bundles.now n c.bundle_marks-more.result c.bundle_marks-more.ensures.long
-      (omega (arith, c.loop-n-test.true))
-      (λ k lt. c.bundle_marks-more.ensures.each k lt
-      ∙ ap (λ (w : Bundle). bit_mark w k (slice_index code (32 * n + k + 1))) c.bundle_at.ensures))
+    (laid_more code c.args.bundles.now n c.bundle_marks-more.result c.bundle_marks-more.ensures.long
+    (omega (arith, c.loop-n-test.true))
+    (λ k lt. c.bundle_marks-more.ensures.each k lt
+    ∙ ap (λ (w : Bundle). bit_mark w k (slice_index code (32 * n + k + 1))) c.bundle_at.ensures))
 
 pub returns : goal.returns
 returns c =
     c.loop-n.invariant
     ∙ ap (λ (z : List Mark). c.args.marks.now.items ++ z)
-      (take_all (32 * c.loop-n.n) (marks_in c.args.code.now c.args.bundles.now)
-      (omega (arith, length-marks_in c.args.code.now c.args.bundles.now, c.loop-n-test.false, c.requires)))
+    (take_all (32 * c.loop-n.n) (marks_in c.args.code.now c.args.bundles.now)
+    (omega (arith, length-marks_in c.args.code.now c.args.bundles.now, c.loop-n-test.false, c.requires)))
