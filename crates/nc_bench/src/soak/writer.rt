@@ -1,7 +1,7 @@
 //! A writer that judges each answer of a region by a plain model of it.
 
-use crate::drawn::{Patch, draw_code, draw_patch};
-use crate::model::Model;
+use super::drawn::{Patch, draw_code, draw_patch};
+use super::model::Model;
 use crate::numbers::Numbers;
 use nc_decode::START;
 use nc_region::{ChunkState, CreateFault, DeleteFault, ModifyFault};
@@ -52,7 +52,7 @@ pub struct Writer {
 }
 
 impl Writer {
-    /// A writer for a new region of so many bundles.
+    /// A writer for a new region of `bundles` bundles.
     pub fn new(alloc: Global, bundles: u32) -> Result<Writer, AllocError> {
         Ok(Writer {
             bundles,

@@ -1,22 +1,18 @@
 //! Chunks of real code: created, walked and deleted.
 
 use crate::numbers::Numbers;
+use nc_decode::{BUNDLE, START};
 use nc_gens::Gens;
 use nc_region::Region;
 use nc_vet::{Vetted, vet};
-use std::alloc::Global;
+use std::alloc::{AllocError, Global};
 use std::io::Read;
-use std::time::{Duration, Instant};
+use std::rt::Files;
+use std::time::{Clock, Duration, Instant};
 use std::{fs, io};
-
-/// The first address of a region.
-const BASE: u32 = 0x1_0000;
 
 /// The bytes of a chunk.
 const CHUNK: usize = 0x10_0000;
-
-/// The bytes of a bundle.
-const BUNDLE: u32 = 32;
 
 /// The choices of one walk.
 const CHOICES: u32 = 4096;
@@ -32,7 +28,7 @@ struct Times {
 }
 
 /// Code of a chunk's length: the image as often as it fits, then nops. Transfers within an image stay within its copy.
-fn repeated(alloc: Global, image: &[u8]) -> io::Result<Vec<u8>> {
+fn repeated(alloc: Global, image: &[u8]) -> Result<Vec<u8>, AllocError> {
     let mut code = Vec::with_capacity(alloc, CHUNK)?;
     for _ in 0..CHUNK / image.len().max(1) {
         code.extend_from_slice(image)?;
@@ -41,7 +37,7 @@ fn repeated(alloc: Global, image: &[u8]) -> io::Result<Vec<u8>> {
     Ok(code)
 }
 
-/// The region's bundles for so many chunks and the guard.
+/// The bundles of a region for the chunks and the guard.
 fn bundles_for(count: u32) -> u32 {
     count
         .saturating_mul(CHUNK as u32 / BUNDLE)
@@ -49,12 +45,12 @@ fn bundles_for(count: u32) -> u32 {
 }
 
 /// The chunks, vetted for their places.
-fn chunks(alloc: Global, image: &[u8], count: u32) -> io::Result<Vec<Vetted>> {
-    let limit = BASE.saturating_add(bundles_for(count).saturating_mul(BUNDLE));
+fn chunks(alloc: Global, image: &[u8], count: u32) -> Result<Vec<Vetted>, AllocError> {
+    let limit = START.saturating_add(bundles_for(count).saturating_mul(BUNDLE));
     let mut all = Vec::new(alloc);
     for i in 0..count {
         let code = repeated(alloc, image)?;
-        let base = BASE.saturating_add(i.saturating_mul(CHUNK as u32));
+        let base = START.saturating_add(i.saturating_mul(CHUNK as u32));
         if let Ok(vetted) = vet(base, limit, code) {
             all.push(vetted)?;
         }
@@ -62,19 +58,24 @@ fn chunks(alloc: Global, image: &[u8], count: u32) -> io::Result<Vec<Vetted>> {
     Ok(all)
 }
 
-/// Walks from bundle starts that are drawn, by choices that are drawn, until so many places were gone over.
-fn walk_about(alloc: Global, region: &Region<'_>, bundles: u32, steps: u64) -> io::Result<u64> {
+/// Walks from bundle starts that are drawn, by choices that are drawn, until `steps` places were gone over.
+fn walk_about(
+    alloc: Global,
+    region: &Region<'_>,
+    bundles: u32,
+    steps: u64,
+) -> Result<u64, AllocError> {
     let mut numbers = Numbers::new(1);
     let mut choices = Vec::new(alloc);
     for _ in 0..CHOICES {
-        choices.push(BASE.saturating_add(numbers.below(bundles).saturating_mul(BUNDLE)))?;
+        choices.push(START.saturating_add(numbers.below(bundles).saturating_mul(BUNDLE)))?;
     }
     let mut places = 0u64;
     for _ in 0..steps {
         if places >= steps {
             break;
         }
-        let start = BASE.saturating_add(numbers.below(bundles).saturating_mul(BUNDLE));
+        let start = START.saturating_add(numbers.below(bundles).saturating_mul(BUNDLE));
         if let Ok(trace) = region.walk(start, &choices) {
             places = places.saturating_add(trace.places.len() as u64);
         }
@@ -87,7 +88,7 @@ fn delete_all(region: &mut Region<'_>, count: u32) -> u32 {
     let mut done = 0u32;
     for i in 0..count {
         if region
-            .delete(BASE.saturating_add(i.saturating_mul(CHUNK as u32)))
+            .delete(START.saturating_add(i.saturating_mul(CHUNK as u32)))
             .is_ok()
         {
             done = done.saturating_add(1);
@@ -97,7 +98,12 @@ fn delete_all(region: &mut Region<'_>, count: u32) -> u32 {
 }
 
 /// One region's life, where there is memory for it.
-fn live(rt: &HostRuntime, image: &[u8], count: u32, steps: u64) -> io::Result<Option<Times>> {
+fn live<R: Clock + AllocGlobal>(
+    rt: &R,
+    image: &[u8],
+    count: u32,
+    steps: u64,
+) -> io::Result<Option<Times>> {
     let start = Instant::now(rt)?;
     let all = chunks(rt.alloc(), image, count)?;
     let vet = start.elapsed(rt)?;
@@ -130,8 +136,13 @@ fn live(rt: &HostRuntime, image: &[u8], count: u32, steps: u64) -> io::Result<Op
     Ok(if deleted == count { Some(times) } else { None })
 }
 
-/// Creates, walks and deletes so many chunks of one mebibyte that are made of a file's image, and prints what each part took.
-pub fn measure_image(rt: &HostRuntime, path: &str, count: u32, steps: u32) -> io::Result<()> {
+/// Creates, walks and deletes chunks of one mebibyte that are made of a file's code, and prints what each part took.
+pub fn measure_image<R: Files + Clock + Print + AllocGlobal>(
+    rt: &R,
+    path: &str,
+    count: u32,
+    steps: u32,
+) -> io::Result<()> {
     let mut image = Vec::new(rt.alloc());
     let mut file = fs::open(rt, path)?;
     file.read_to_end(&mut image)?;

@@ -70,12 +70,12 @@ fn jump(bundle: u32, target: u32) -> [u8; 5] {
     with_number(0xE9, target.wrapping_sub(bundle.wrapping_add(AFTER_JUMP)))
 }
 
-/// A bundle start of a region of so many bundles.
+/// A bundle start of a region of `bundles` bundles.
 fn draw_start(numbers: &mut Numbers, bundles: u32) -> u32 {
     START.saturating_add(numbers.below(bundles).saturating_mul(32))
 }
 
-/// The code of a chunk of so many bundles at this base, in a region of so many bundles.
+/// The code of a chunk of `length` bundles at this base, in a region of `bundles` bundles.
 pub fn draw_code(
     alloc: Global,
     numbers: &mut Numbers,
@@ -105,7 +105,7 @@ fn draw_singles(numbers: &mut Numbers) -> [u8; 10] {
     bytes
 }
 
-/// A patch of the bundle at this address, in a region of so many bundles: most are lawful.
+/// A patch of the bundle at this address, in a region of `bundles` bundles: most are lawful.
 pub fn draw_patch(numbers: &mut Numbers, bundle: u32, bundles: u32) -> Patch {
     let at = |place: u32| bundle.saturating_add(place);
     match numbers.below(7) {

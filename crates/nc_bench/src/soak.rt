@@ -6,8 +6,11 @@
 
 ghost use Rattle.std.specs.Prelude.{◌≡◌};
 
+mod drawn;
+mod model;
+mod writer;
+
 use crate::numbers::Numbers;
-use crate::writer::{Done, Writer};
 use nc_decode::{BUNDLE, START, decode};
 use nc_gens::{Gens, Pass};
 use nc_region::Trace;
@@ -18,17 +21,18 @@ use std::sync::atomic::{AtomicBool, Ordering};
 use std::sync::{Mutex, Wait};
 use std::thread::{Threads, join, yield_now};
 use std::time::{Clock, Duration, Instant};
+use writer::{Done, Writer};
 
-/// How many bundles the region has.
-pub const BUNDLES: u32 = 64;
+/// The bundles of the region.
+const BUNDLES: u32 = 64;
 
 /// What a walker did: its walks, the places on them, its check-ins, and the places where no instruction stood.
 #[derive(Clone, Copy, Debug, Drop)]
-pub struct Walked {
-    pub walks: u64,
-    pub places: u64,
-    pub check_ins: u64,
-    pub astray: u64,
+struct Walked {
+    walks: u64,
+    places: u64,
+    check_ins: u64,
+    astray: u64,
 }
 
 impl Walked {
@@ -63,7 +67,7 @@ fn stands_well(region: &Viewed<'_>, at: u32) -> bool {
     decode(bytes.get(..len).unwrap_or(&[])).is_ok()
 }
 
-/// How many places of a trace no instruction stands at.
+/// The number of places of a trace at which no instruction stands.
 fn astray(region: &Viewed<'_>, trace: &Trace) -> u64 {
     let mut astray = 0u64;
     for at in trace.places.iter() {
@@ -90,6 +94,21 @@ fn walk_once<R: Wait>(
     }
 }
 
+/// The choices of a walk, which leads to one target again and again.
+fn draw_choices(numbers: &mut Numbers) -> [u32; 8] {
+    let target = START.saturating_add(numbers.below(BUNDLES.saturating_mul(BUNDLE)));
+    [
+        numbers.below(2),
+        0,
+        target,
+        numbers.below(2),
+        0,
+        target,
+        0,
+        target,
+    ]
+}
+
 /// Walks and checks in until it is told to stop, and then leaves.
 fn walk_on<R: Wait>(
     rt: &R,
@@ -114,17 +133,7 @@ fn walk_on<R: Wait>(
             break;
         }
         let start = START.saturating_add(BUNDLE.saturating_mul(numbers.below(BUNDLES)));
-        let target = START.saturating_add(numbers.below(BUNDLES.saturating_mul(BUNDLE)));
-        let choices = [
-            numbers.below(2),
-            0,
-            target,
-            numbers.below(2),
-            0,
-            target,
-            0,
-            target,
-        ];
+        let choices = draw_choices(&mut numbers);
         walk_once(rt, region, start, &choices, &mut walked);
         gens.check_in(&mut pass);
         walked.check_ins = walked.check_ins.saturating_add(1);
@@ -135,7 +144,7 @@ fn walk_on<R: Wait>(
     walked
 }
 
-/// Writes for so long, and compares the whole region now and then.
+/// Writes for this time, and compares the whole region now and then.
 fn write_for<R: Wait + Clock>(
     rt: &R,
     alloc: Global,
@@ -157,7 +166,7 @@ fn write_for<R: Wait + Clock>(
     Ok(writer)
 }
 
-/// Writes for so long, and then tells the walkers to stop.
+/// Writes for this time, and then tells the walkers to stop.
 fn write_on<R: Wait + Clock>(
     rt: &R,
     alloc: Global,
@@ -193,7 +202,7 @@ fn walk_both<R: Threads + Wait + Sync>(
     first.and(second)
 }
 
-/// A writer beside two walkers, for so long: what the writer knows and what the walkers did.
+/// A writer beside two walkers, for this time: what the writer knows and what the walkers did.
 fn write_beside<R: Threads + Wait + Clock + Sync>(
     rt: &R,
     alloc: Global,
@@ -216,8 +225,8 @@ fn write_beside<R: Threads + Wait + Clock + Sync>(
     )
 }
 
-/// Lets them work for so many seconds, and says what they did.
-pub fn soak<R: Threads + Wait + Clock + Sync>(
+/// Lets them work for some seconds, and says what they did.
+fn soak<R: Threads + Wait + Clock + Sync>(
     rt: &R,
     alloc: Global,
     seconds: u32,
@@ -236,4 +245,18 @@ pub fn soak<R: Threads + Wait + Clock + Sync>(
     let mut writer = wrote?;
     writer.finish(&mut region.lock(rt));
     Ok((writer.done(), walked))
+}
+
+/// Lets threads work for some seconds, prints what they did, and fails if anything was wrong.
+pub fn soak_for<R: Threads + Wait + Clock + Sync + Print + AllocGlobal>(
+    rt: &R,
+    seconds: u32,
+) -> Result<()> {
+    let (wrote, walked) = soak(rt, rt.alloc(), seconds)?;
+    println!(rt; "{wrote:?}")?;
+    println!(rt; "{walked:?}")?;
+    if wrote.wrong > 0 || wrote.found.wrong > 0 || wrote.found.missing > 0 || walked.astray > 0 {
+        return Err(Error::from(ErrorKind::InvalidData));
+    }
+    Ok(())
 }

@@ -16,7 +16,7 @@ pub struct Model {
 }
 
 impl Model {
-    /// A region of so many bundles without a chunk.
+    /// A region of `bundles` bundles without a chunk.
     pub fn new(alloc: Global, bundles: u32) -> Result<Model, AllocError> {
         let mut bytes = Vec::new(alloc);
         bytes.resize((bundles as usize).saturating_mul(32), STOP)?;
@@ -38,7 +38,7 @@ impl Model {
         true
     }
 
-    /// The chunk of this number in the order in which they were created, if there are so many.
+    /// The chunk of this number, in the order in which the model holds them.
     pub fn chunk(&self, number: usize) -> Option<Chunk> {
         self.chunks.get(number).copied()
     }

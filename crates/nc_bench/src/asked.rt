@@ -1,0 +1,50 @@
+//! What the program can be asked for.
+
+use crate::code::Source;
+use crate::load::Load;
+use crate::workers::Jobs;
+
+/// What a command line asks for. Each number but the address of code is at least 1.
+#[derive(Clone, Copy, Drop)]
+pub enum Ask<'a> {
+    /// To time the vetting of a file's code.
+    Vet {
+        source: Source<'a>,
+        rounds: u32,
+    },
+    /// To time the vetting of jobs by one number of workers, or by several in turn.
+    Workers {
+        jobs: Jobs,
+        rounds: u32,
+        workers: Option<u32>,
+    },
+    /// To time what becomes of chunks in a new region.
+    Chunks {
+        load: Load,
+        rounds: u32,
+    },
+    /// To time check-ins.
+    CheckIn {
+        times: u32,
+        rounds: u32,
+    },
+    /// To time the making of a region.
+    New {
+        bundles: u32,
+        rounds: u32,
+    },
+    /// To time a walk around a chunk.
+    Walk {
+        load: Load,
+        steps: u32,
+        rounds: u32,
+    },
+    /// To time what becomes of chunks of a file's code.
+    Image {
+        path: &'a str,
+        count: u32,
+        steps: u32,
+    },
+    /// To let threads work on a region, for these seconds, beside a plain model of it.
+    Soak(u32),
+}

@@ -1,0 +1,74 @@
+//! How long a check-in takes, and beside it a bare load and store of atomic words in the same order of memory.
+
+ghost use Rattle.std.specs.Prelude.{◌≡◌};
+
+use nc_gens::{Gens, Pass};
+use nc_region::{Region, Shared};
+use std::io;
+use std::sync::atomic::{AtomicU64, Ordering};
+use std::time::{Clock, Duration, Instant};
+
+/// Checks in `times` times.
+#[inline(never)]
+fn check_in_times(shared: &Shared<'_>, pass: &mut Pass, times: u32)
+    requires { pass.old.table ≡ shared.now }
+    ensures { pass.new.table ≡ pass.old.table }
+{
+    for _ in 0..times {
+        shared.check_in(pass);
+    }
+}
+
+/// Loads one word and stores it into the other, `times` times. It is a function of its own, since a compiler that sees that
+/// nobody shares the words makes plain ones of them.
+#[inline(never)]
+fn bare_times(generation: &AtomicU64, word: &AtomicU64, times: u32) {
+    for _ in 0..times {
+        let seen = generation.load(Ordering::SeqCst);
+        word.store(seen, Ordering::SeqCst);
+    }
+}
+
+/// What the bare steps took, on words side by side on the heap.
+fn bare_once<R: Clock + AllocGlobal>(rt: &R, times: u32) -> io::Result<Duration> {
+    let mut words = Vec::new(rt.alloc());
+    words.push(AtomicU64::new(0))?;
+    words.push(AtomicU64::new(0))?;
+    let [generation, word] = words.as_slice() else {
+        return Ok(Duration::MAX);
+    };
+    let start = Instant::now(rt)?;
+    bare_times(generation, word, times);
+    start.elapsed(rt)
+}
+
+/// What the check-ins took, where there is memory for a region.
+fn check_in_once<R: Clock + AllocGlobal>(rt: &R, times: u32) -> io::Result<Duration> {
+    let Ok((gens, keeper, mut passes)) = Gens::new(rt.alloc(), 1) else {
+        return Ok(Duration::MAX);
+    };
+    let mut pass = passes.remove(0);
+    let Ok(region) = Region::new(rt.alloc(), 2, &gens, keeper) else {
+        return Ok(Duration::MAX);
+    };
+    let shared = Shared::new(region);
+    let start = Instant::now(rt)?;
+    check_in_times(&shared, &mut pass, times);
+    start.elapsed(rt)
+}
+
+/// Times check-ins and bare steps by turns, and prints the best times.
+pub fn measure_check_in<R: Clock + Print + AllocGlobal>(
+    rt: &R,
+    times: u32,
+    rounds: u32,
+) -> io::Result<()> {
+    let mut best = (Duration::MAX, Duration::MAX);
+    for _ in 0..rounds {
+        best.0 = best.0.min(check_in_once(rt, times)?);
+        best.1 = best.1.min(bare_once(rt, times)?);
+    }
+    let check_in = best.0.as_nanos();
+    let bare = best.1.as_nanos();
+    println!(rt; "{times} check-ins: {check_in} ns; {times} bare loads and stores: {bare} ns")
+}

@@ -1,0 +1,58 @@
+//! Chunks for a region that they fill.
+
+use crate::ordinary::ordinary_code;
+use nc_decode::{BUNDLE, START};
+use nc_region::Region;
+use nc_vet::{Vetted, vet};
+use std::alloc::{AllocError, Global};
+
+/// The number of chunks, the bundles of each, and the number of seats.
+#[derive(Clone, Copy, Drop)]
+pub struct Load {
+    pub count: u32,
+    pub bundles: u32,
+    pub seats: u32,
+}
+
+impl Load {
+    /// The base of a chunk, by its number.
+    pub fn base(self, i: u32) -> u32 {
+        START.saturating_add(self.bundles.saturating_mul(BUNDLE).saturating_mul(i))
+    }
+
+    /// The bundles of the region, its guard included.
+    pub fn region(self) -> u32 {
+        self.count
+            .saturating_mul(self.bundles)
+            .saturating_add(1)
+            .max(2)
+    }
+
+    /// The limit of the region.
+    fn limit(self) -> u32 {
+        START.saturating_add(self.region().saturating_mul(BUNDLE))
+    }
+
+    /// All chunks, vetted for their places.
+    pub fn chunks(self, alloc: Global) -> Result<Vec<Vetted>, AllocError> {
+        let mut all = Vec::new(alloc);
+        for i in 0..self.count {
+            let code = ordinary_code(alloc, self.bundles)?;
+            if let Ok(vetted) = vet(self.base(i), self.limit(), code) {
+                all.push(vetted)?;
+            }
+        }
+        Ok(all)
+    }
+}
+
+/// Creates the chunks, and counts those that were created.
+pub fn create_all(region: &mut Region<'_>, all: Vec<Vetted>) -> u32 {
+    let mut done = 0u32;
+    for vetted in all {
+        if region.create(vetted).is_ok() {
+            done = done.saturating_add(1);
+        }
+    }
+    done
+}
