@@ -18,7 +18,7 @@ pub enum Ask<'a> {
         rounds: u32,
         workers: Option<u32>,
     },
-    /// To time what becomes of chunks in a new region.
+    /// To time creating, patching, deleting and reclaiming chunks in a new region.
     Chunks {
         load: Load,
         rounds: u32,
@@ -28,7 +28,7 @@ pub enum Ask<'a> {
         times: u32,
         rounds: u32,
     },
-    /// To time the making of a region.
+    /// To time making a region.
     New {
         bundles: u32,
         rounds: u32,
@@ -39,12 +39,12 @@ pub enum Ask<'a> {
         steps: u32,
         rounds: u32,
     },
-    /// To time what becomes of chunks of a file's code.
+    /// To time vetting, creating, walking and deleting chunks of a file's code.
     Image {
         path: &'a str,
         count: u32,
         steps: u32,
     },
-    /// To let threads work on a region, for these seconds, beside a plain model of it.
+    /// To test a region beside threads, for these seconds, against a plain model of it.
     Soak(u32),
 }

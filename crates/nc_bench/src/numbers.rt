@@ -1,13 +1,13 @@
-//! Numbers that look random.
+//! Pseudo-random numbers.
 
-/// A row of such numbers.
+/// A sequence of such numbers.
 #[derive(Drop)]
 pub struct Numbers {
     last: u64,
 }
 
 impl Numbers {
-    /// The row that begins after this number.
+    /// The sequence that begins after this number.
     pub fn new(seed: u64) -> Numbers {
         Numbers { last: seed }
     }

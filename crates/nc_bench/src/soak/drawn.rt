@@ -1,4 +1,4 @@
-//! Chunks and patches drawn by numbers that look random.
+//! Chunks and patches drawn by pseudo-random numbers.
 
 use crate::numbers::Numbers;
 use nc_decode::START;
