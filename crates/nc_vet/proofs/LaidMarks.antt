@@ -1,13 +1,16 @@
 -- The marks of a chunk, laid out bundle by bundle.
-use Rattle.std.proofs.Common.{◌≡◌, ℕ, ◌+◌, ◌-◌, ◌*◌, ◌/◌, ◌%◌, ◌<◌, ◌≤◌, ◌++◌, List, length, take, get_or, arith, inl, inr, ap, sym, ◌∙◌}
+use Rattle.std.proofs.Common.{zero, suc, Bool, false, ◌≡◌, ℕ, ◌+◌, ◌-◌, ◌*◌, ◌/◌, ◌%◌, ◌<◌, ◌≤◌, ◌++◌, List, length, take, get_or, ◌≢◌, ◌⊎◌, ◌^◌, ◌==◌, if◌then◌else◌, slice_set, arith, inl, inr, refl, ap, subst, sym, ◌∙◌}
 use Rattle.std.specs.Prelude.{slice_index}
-use Rattle.std.proofs.lemmas.Bool.{cases_lt}
-use Rattle.std.proofs.lemmas.List.{ext_get_or, length-append, length-take-le, get_or-take, get_or-append_right}
+use Rattle.std.specs.Int.{bit_at}
+use Rattle.std.proofs.lemmas.Bool.{cases_eq, cases_lt, ne_eqb}
+use Rattle.std.proofs.lemmas.Grind.{get_or-set_at}
+use Rattle.std.proofs.lemmas.Nat.Bits.{bit_at-zero, bit_at-suc, bit_at_lowest, bit_at_above, bit_at_cat_low}
+use Rattle.std.proofs.lemmas.List.{get_or-set_other, ext_get_or, length-append, length-take-le, get_or-take, get_or-append_right}
 use Rattle.std.proofs.Math.ListN.{get_or-append}
 use Rattle.nc_decode.specs.declared.instruction.Mark.{Mark}
-use Rattle.nc_decode.specs.declared.instruction.Mark.TheVariants.{Unmarked}
+use Rattle.nc_decode.specs.declared.instruction.Mark.TheVariants.{Unmarked, Plain, After}
 use Rattle.nc_vet.specs.declared.bundle.Bundle.{Bundle}
-use Rattle.nc_vet.specs.Bits.{no_bits, bit_mark, marks_in}
+use Rattle.nc_vet.specs.Bits.{is_start, is_second, no_bits, bit_mark, marks_in}
 use Rattle.nc_vet.proofs.BitReading.{length-marks_in, marks_in-at}
 
 -- the first elements, and as many as another list has that is equal to the next ones
@@ -38,3 +41,77 @@ laid_more code bundles n more long lt each =
     ∙ (ap (λ (m : ℕ). bit_mark (get_or bundles n no_bits) m (slice_index code (32 * n + k + 1))) {x = (32 * n + k) % 32} {y = k} (omega (arith, k-lt, long))
     ∙ sym (each k (omega (arith, k-lt, long)))))))
     ∙ ap (λ (m : ℕ). take m (marks_in code bundles)) (omega (arith, long))
+
+-- ---- marks set where bits are
+
+-- the bit of a place is still there, and its mark as it was; or the bit was there, and the mark is set
+abbrev pub Visited : ℕ → List Mark → (ℕ → Mark) → ℕ → List Mark → ℕ → Type 0
+Visited bits old F left marks k =
+    ((bit_at left k ≡ bit_at bits k) × (get_or marks k Unmarked ≡ get_or old k Unmarked))
+    ⊎ ((bit_at bits k ≡ 1) × (get_or marks k Unmarked ≡ F k))
+
+-- a bit that is set is one of the first 32
+pub low_bit : (n i : ℕ) → n < 2 ^ 32 → bit_at n i ≡ 1 → i < 32
+low_bit n i small set = elim (cases_lt i 32) [
+  | inl lt ↦ lt
+  | inr le ↦ absurd (omega (arith, bit_at_above n 32 i small le, set))
+]
+
+-- at first each bit is still there
+pub visited_first : (bits : ℕ) (old : List Mark) (F : ℕ → Mark) (k : ℕ) → Visited bits old F bits old k
+visited_first bits old F k = inl (refl, refl)
+
+-- one more is visited
+pub visited_more : (bits : ℕ) (old : List Mark) (F : ℕ → Mark) (left rest i : ℕ) (marks : List Mark) → length marks ≡ 32 → i < 32
+    → bit_at left i ≡ 1 → ((k : ℕ) → k < 64 → k ≢ i → bit_at rest k ≡ bit_at left k)
+    → ((k : ℕ) → k < 32 → Visited bits old F left marks k) → (k : ℕ) → k < 32 → Visited bits old F rest (slice_set marks i (F i)) k
+visited_more bits old F left rest i marks long in_bundle set others each k lt = elim (cases_eq k i) [
+  | inl e ↦ inr (
+    subst (λ (j : ℕ). bit_at bits j ≡ 1) (sym e) (was_set (each i in_bundle)),
+    get_or-set_at marks i k (F i) Unmarked e (omega (arith, long, in_bundle)) ∙ ap F (sym e),
+  )
+  | inr ne ↦ elim (each k lt) [
+    | inl still ↦ inl (others k (omega (arith, lt)) ne ∙ still.0, get_or-set_other marks i k (F i) Unmarked ne ∙ still.1)
+    | inr done ↦ inr (done.0, get_or-set_other marks i k (F i) Unmarked ne ∙ done.1)
+  ]
+]
+  where
+    was_set : Visited bits old F left marks i → bit_at bits i ≡ 1
+    was_set (inl still) = sym still.0 ∙ set
+    was_set (inr done) = done.0
+
+-- in the end all are
+pub visited_all : (bits : ℕ) (old : List Mark) (F : ℕ → Mark) (left : ℕ) (marks : List Mark) (k : ℕ) → left ≡ 0
+    → Visited bits old F left marks k → get_or marks k Unmarked ≡ (if bit_at bits k == 1 then F k else get_or old k Unmarked)
+visited_all bits old F left marks k none (inl still) =
+    let clear : bit_at bits k ≡ 0 = sym still.0 ∙ ap (λ (n : ℕ). bit_at n k) none ∙ bit_at-zero k in
+    rw clear still.1
+visited_all bits old F left marks k none (inr done) = rw done.0 done.1
+
+-- the word of starts: the ends, one place later, and the first place
+pub start_word : (w : Bundle) (k : ℕ) → k < 32 → (bit_at (2 * (w.ends % 2147483648) + 1) k == 1) ≡ is_start w k
+start_word w zero lt = ap (λ (b : ℕ). b == 1) {y = 1} (bit_at_lowest (2 * (w.ends % 2147483648) + 1) ∙ omega arith)
+start_word w (suc j) lt =
+    let low : 2 ^ 31 ≡ 2147483648 = refl in
+    let half : bit_at (2 * (w.ends % 2147483648) + 1) (suc j) ≡ bit_at (w.ends % 2147483648) j =
+    bit_at-suc (2 * (w.ends % 2147483648) + 1) j ∙ ap (λ (n : ℕ). bit_at n j) {y = w.ends % 2147483648} (omega arith) in
+    let cut : bit_at (w.ends / 2147483648 * 2 ^ 31 + w.ends % 2147483648) j ≡ bit_at (w.ends % 2147483648) j =
+    bit_at_cat_low (w.ends / 2147483648) 31 (w.ends % 2147483648) j (omega (arith, lt)) in
+    let whole : w.ends / 2147483648 * 2 ^ 31 + w.ends % 2147483648 ≡ w.ends = omega (arith, low) in
+    let later : (suc j == 0) ≡ false = ne_eqb (suc j) 0 (λ e. omega (arith, e)) in
+    rw later (ap (λ (b : ℕ). b == 1)
+    (half ∙ (sym cut ∙ (ap (λ (n : ℕ). bit_at n j) whole ∙ ap (λ (i : ℕ). bit_at w.ends i) {x = j} {y = suc j - 1} (omega arith)))))
+
+-- the word of second halves
+pub second_word : (w : Bundle) (k : ℕ) → (bit_at (w.pairs / 2) k == 1) ≡ is_second w k
+second_word w k = ap (λ (b : ℕ). b == 1) (sym (bit_at-suc w.pairs k) ∙ ap (λ (i : ℕ). bit_at w.pairs i) {x = suc k} {y = k + 1} (omega arith))
+
+-- the marks of a bundle are those of its starts, with the second halves marked over them
+pub laid_mark : (w : Bundle) (k next : ℕ) (d m n : Mark) → k < 32 → d ≡ Unmarked
+    → m ≡ (if bit_at (2 * (w.ends % 2147483648) + 1) k == 1 then Plain else d)
+    → n ≡ (if bit_at (w.pairs / 2) k == 1 then After (next % 8) else m) → n ≡ bit_mark w k next
+laid_mark w k next d m n lt none first over =
+    over
+    ∙ (ap (λ (b : Bool). if b then After (next % 8) else m) (second_word w k)
+    ∙ ap (λ (x : Mark). if is_second w k then After (next % 8) else x)
+    (first ∙ (ap (λ (b : Bool). if b then Plain else d) (start_word w k lt) ∙ ap (λ (x : Mark). if is_start w k then Plain else x) none)))
