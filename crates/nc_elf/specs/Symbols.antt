@@ -9,6 +9,7 @@ use Rattle.nc_elf.specs.declared.sections.SymbolSections.{SymbolSections}
 use Rattle.nc_elf.specs.declared.entries.SymbolEntry.{SymbolEntry}
 use Rattle.nc_elf.specs.declared.symbols.Symbol.{Symbol}
 use Rattle.nc_elf.specs.Header.{u16_at, u32_at}
+use Rattle.nc_elf.specs.Sections.{AreSymbolSections, HasSymbols}
 
 -- the i-th entry of a table of symbols, counted from 0
 abbrev pub symbol_entry : List ℕ → SectionHeader → ℕ → SymbolEntry
@@ -62,9 +63,7 @@ abbrev pub symbol_of : List ℕ → SectionHeader → SymbolEntry → Symbol
 symbol_of file names e =
     record { address = e.address; name_at = names.offset + e.name; name_len = name_len (name_field file names e) }
 
--- the symbols of the entries that may name code, in the table's order: the type is none or a function (STT_NOTYPE,
--- STT_FUNC), the section is a defined one, and the name has 1 to 255 bytes from 21 to 7E, ended by a 0, and doesn't
--- begin with `.L` or `$`
+-- the symbols of the entries that are listed, in the table's order
 abbrev pub symbols_of : List ℕ → SymbolSections → List Symbol
 symbols_of file t = map (symbol_of file t.names) (filter (is_listed file t.names) (symbol_entries file t.symbols))
 
@@ -77,6 +76,15 @@ pub record AreSorted (listed symbols : List Symbol) : Type 0 where
   pub same : IsPermutation listed symbols
   pub ascending : AreAscending symbols
   pub stable : IsStableByKey (λ (s : Symbol). s.address) nat_cmp listed symbols
+
+-- The symbols of code that a file names, sorted by address, those of one address in the order of the table of symbols. They are
+-- the entries whose type is none or a function (STT_NOTYPE, STT_FUNC), whose section is a defined one, and whose name has 1 to 255
+-- bytes from 21 to 7E, ended by a 0, and doesn't begin with `.L` or `$`. The table is the first one (SHT_SYMTAB), with entries of
+-- 16 bytes, and links to a table of strings (SHT_STRTAB). Both are in the file, a 32-bit little-endian one with its section headers
+-- in it, each of 40 bytes. A file without them names no symbols.
+pub record AreCodeSymbols (file : List ℕ) (symbols : List Symbol) : Type 0 where
+  pub sorted : (t : SymbolSections) → AreSymbolSections file t → AreSorted (symbols_of file t) symbols
+  pub none : ¬ HasSymbols file → symbols ≡ []
 
 -- the symbol has a name of 1 to 255 bytes, which are in the file
 pub record IsNamed (file : List ℕ) (s : Symbol) : Type 0 where

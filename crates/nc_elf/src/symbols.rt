@@ -1,9 +1,8 @@
 //! The symbols of code: names for addresses.
 
-ghost use Rattle.std.specs.Prelude.{◌≡◌, ◌+◌, ◌≤◌, ◌<◌, IfOk, IfSome, IfNone, All, [], length};
-ghost use Rattle.nc_elf.specs.declared.sections.SymbolSections.{SymbolSections};
-ghost use Rattle.nc_elf.specs.Sections.{AreSymbolSections, HasSymbols};
-ghost use Rattle.nc_elf.specs.Symbols.{symbols_of, AreAscending, AreSorted, IsNamed, IsNearest, name_of};
+ghost use Rattle.std.specs.Prelude.{◌≡◌, ◌+◌, ◌≤◌, ◌<◌, IfOk, IfSome, IfNone, All, length};
+ghost use Rattle.nc_elf.specs.Sections.{AreSymbolSections};
+ghost use Rattle.nc_elf.specs.Symbols.{symbols_of, AreAscending, AreCodeSymbols, IsNamed, IsNearest, name_of};
 
 use crate::entries::{entry_count, listed_symbol, symbol_entry};
 use crate::sections::{SymbolSections, symbol_sections};
@@ -53,11 +52,9 @@ fn list_symbols(
 /// The symbols of code that the file's table of symbols names, by ascending address. A file without such a table, or with a malformed
 /// one, has none.
 pub fn code_symbols(alloc: Global, file: &[u8]) -> Result<Vec<Symbol>, AllocError>
-    // The symbols of all entries that are listed, sorted; those of one address in the table's order.
-    ensures symbols { (t : SymbolSections) → AreSymbolSections file.now t
-        → IfOk result (λ symbols. AreSorted (symbols_of file.now t) symbols.items) }
-    // Without a well-formed table there are none.
-    ensures none { ¬ HasSymbols file.now → IfOk result (λ symbols. symbols.items ≡ []) }
+    // The symbols of all entries that are listed, sorted, those of one address in the table's order; without a well-formed table
+    // none.
+    ensures symbols { IfOk result (λ symbols. AreCodeSymbols file.now symbols.items) }
     // Each name is short and lies in the file.
     ensures named { IfOk result (λ symbols. All (IsNamed file.now) symbols.items) }
     // They ascend, as `nearest` wants them.
