@@ -6,6 +6,8 @@ NOPS = b"\x90" * 32
 RET = b"\xc3" + b"\x90" * 31
 
 LOAD, NOTE = 1, 4
+SYMBOLS, STRINGS = 2, 3
+UNTYPED, OBJECT, FUNCTION = 0, 1, 2
 R, W, X = 4, 2, 1
 
 
@@ -28,6 +30,22 @@ def elf(*segments, cut=None, **changed):
         headers += struct.pack("<8I", *{**fields, "offset": offset}.values())
         contents += content
     return (struct.pack("<16sHHIIIIIHHHHHH", *header.values()) + headers + contents)[:cut]
+
+
+def with_symbols(file, *symbols):
+    """A file without sections, and these symbols in a table of its own: for each its address, name, type and section."""
+    entries, names = bytes(16), b"\0"
+    for address, name, kind, section in symbols:
+        entries += struct.pack("<IIIBBH", len(names), address, 0, kind, 0, section)
+        names += name + b"\0"
+    at = len(file)
+    headers = bytes(40)
+    headers += struct.pack("<10I", 0, SYMBOLS, 0, 0, at, len(entries), 2, 1, 4, 16)
+    headers += struct.pack("<10I", 0, STRINGS, 0, 0, at + len(entries), len(names), 0, 0, 1, 0)
+    file = bytearray(file + entries + names)
+    struct.pack_into("<I", file, 32, len(file))
+    struct.pack_into("<2H", file, 46, 40, 3)
+    return bytes(file + headers)
 
 
 CODE = segment(0x10000, NOPS, R | X)
@@ -61,6 +79,46 @@ MACHINE = "not for the Intel 80386: compile with nc-cc, or with -m32"
 FORMAT = "not a 32-bit little-endian ELF file of version 1"
 TABLE = "bad table of program headers"
 SEGMENT = "the segment of program header %d %s"
+
+# Three segments of code with returns, and symbols: one below the first segment, two at one address, of which the later one in the table
+# names it, one of data, one without a section, one at the first byte of the second segment, and one between that and the third.
+UNNAMED = elf(segment(0x10000, NOPS[3:] + RET[:1] + NOPS[1:] + RET[:1] + NOPS[:2], R | X), segment(0x10060, RET, R | X), segment(0x100A0, RET, R | X))
+NAMED = with_symbols(UNNAMED, (0x10020, b"late", FUNCTION, 1), (0xFFFF, b"below", FUNCTION, 1), (0x10004, b"early", UNTYPED, 1),
+                     (0x10004, b"again", FUNCTION, 1), (0x10010, b"table", OBJECT, 1), (0x10018, b"extern", FUNCTION, 0),
+                     (0x10060, b"next", FUNCTION, 1), (0x10080, b"between", FUNCTION, 1))
+RETURN = "a return (ret): compile with nc-cc, or pop the address into a register, mask it, and jump through it: see docs/GUIDE.md"
+# the faults of that file: for each segment its address, and for each fault its address, the name of that, the start of its bundle, what is
+# shown of it up to the fault and how many nops follow there
+FAULTS = [
+    (0x10000, [(0x1001D, "again+0x19", 0x10000, " 90 |" * 29 + " >", 2), (0x1003D, "late+0x1d", 0x10020, " 90 |" * 29 + " >", 2)]),
+    (0x10060, [(0x10060, "next", 0x10060, " >", 31)]),
+    (0x100A0, [(0x100A0, None, 0x100A0, " >", 31)]),
+]
+
+
+def named_text(with_names, with_all):
+    """What is said of that file's faults, of all or of each segment's first."""
+    text = ""
+    for segment_at, faults in FAULTS:
+        for at, name, start, shown, more in faults if with_all else faults[:1]:
+            first = at == faults[0][0]
+            text += ("file (%08x): refused NotPermitted %08x\n" % (segment_at, at)) if first else "  also NotPermitted %08x\n" % at
+            text += "  %08x <%s>\n" % (at, name) if with_names and name else ""
+            text += "  %08x:%s c3%s\n  %s\n" % (start, shown, " 90" * more, RETURN)
+        if with_all:
+            text += "  %d fault%s: %d NotPermitted\n" % (len(faults), "" if len(faults) == 1 else "s", len(faults))
+    return text
+
+
+def named_objects(with_names):
+    """The same as objects."""
+    text = ""
+    for segment_at, ((at, name, *_), *_) in FAULTS:
+        symbol = '"symbol":"%s",' % name if with_names and name else ""
+        text += ('{"file":"file","address":"%08x","verdict":"refused","fault":"NotPermitted","at":"%08x",%s"meaning":"%s"}\n'
+                 % (segment_at, at, symbol, RETURN))
+    return text
+
 
 # files that are refused as a whole, and what is wrong with them
 MALFORMED = [
@@ -112,6 +170,14 @@ def try_elf_files(trials):
         trials.compare("ELF, quiet, " + name, trials.run(["--quiet", "file"]), (refused.splitlines(True)[0], "", 1))
         trials.compare("ELF, object, " + name, trials.run(["--format", "json", "file"]),
                        ('{"file":"file","verdict":"refused","fault":"BadElf","meaning":"%s"}\n' % reason, "", 1))
+    brief = "".join(AT_FIRST_BYTE % (segment_at, faults[0][0]) for segment_at, faults in FAULTS)
+    for name, content, with_names in [("symbols", NAMED, True), ("no symbols", UNNAMED, False)]:
+        trials.lay("file", content)
+        trials.compare("ELF, " + name, trials.run(["file"]), (named_text(with_names, False), "", 1))
+        trials.compare("ELF, all faults, " + name, trials.run(["--all", "file"]), (named_text(with_names, True), "", 1))
+        trials.compare("ELF, calls, " + name, trials.run(["--calls", "file"]), (named_text(with_names, False), "", 1))
+        trials.compare("ELF, object, " + name, trials.run(["--format", "json", "file"]), (named_objects(with_names), "", 1))
+        trials.compare("ELF, quiet, " + name, trials.run(["--quiet", "file"]), (brief, "", 1))
     trials.lay("file", elf(CODE, segment(0x10040, NOPS * 2, R | X), segment(0x200A0, RET, R | X)))
     trials.compare("ELF, objects of three segments", trials.run(["--format", "json", "file"]), (
         '{"file":"file","address":"00010000","verdict":"ok","bytes":32,"instructions":32}\n'

@@ -152,8 +152,7 @@ fn take<R: Threads + Wait + Sync + AllocGlobal + Input + Files + Print + Eprint>
         let base = ask.base;
         return add(rt, ask, state, Part { base, source });
     }
-    let has_address = !matches!(ask.said, Said::Object);
-    match parts_of(rt.alloc(), &source, has_address) {
+    match parts_of(rt.alloc(), &source, detail(ask.said)) {
         Ok(parts) => parts
             .into_iter()
             .try_for_each(|part| add(rt, ask, state, part)),

@@ -1,6 +1,6 @@
 //! The opening and reading of files.
 
-ghost use Rattle.std.specs.Prelude.{◌≡◌, IfOk};
+ghost use Rattle.std.specs.Prelude.{◌≡◌, [], IfOk};
 
 use nc_report::{Source, SourceFault, read_source};
 use std::fs;
@@ -60,7 +60,8 @@ fn not_read(fault: SourceFault) -> Unread {
 
 /// Reads a file, or standard input where its name is `-`.
 pub fn read_file<R: Files + Input + AllocGlobal>(rt: &R, file: &str) -> Result<Source, Unread>
-    ensures { IfOk result (λ source. source.name.items ≡ file.now) }
+    ensures name { IfOk result (λ source. source.name.items ≡ file.now) }
+    ensures labels { IfOk result (λ source. source.labels ≡ []) }
 {
     let Ok(name) = Vec::from_slice(rt.alloc(), file.as_bytes()) else {
         return Err(Unread::OutOfMemory);

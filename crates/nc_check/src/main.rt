@@ -1,8 +1,9 @@
 //! The program `nc_check`: files of code, and the verdict on each.
 //!
 //! `ask_check` of `nc_command` reads the command line. `checking` goes through the files: `files` opens and reads them one
-//! after the other, `parts` has the segments of code of an ELF file, and once a `batch` is full `report` of `nc_report` judges it
-//! and writes what was found. `outcome` says which status the program ends with, `progress` shows how far it is.
+//! after the other, `parts` has the segments of code of an ELF file and `labelling` the names in them, and once a `batch` is full
+//! `report` of `nc_report` judges it and writes what was found. `outcome` says which status the program ends with, `progress`
+//! shows how far it is.
 #![tactic(auto)]
 
 ghost use Rattle.std.specs.Prelude.{◌≡◌, ◌⊎◌};
@@ -11,6 +12,7 @@ ghost use Rattle.nc_check.specs.Status.{status_of};
 mod batch;
 mod checking;
 mod files;
+mod labelling;
 mod outcome;
 mod parts;
 mod progress;

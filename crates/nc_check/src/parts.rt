@@ -1,11 +1,13 @@
 //! The segments of code of an ELF file, each as a source of its own.
 
-ghost use Rattle.std.specs.Prelude.{◌≡◌, ◌+◌, ◌≤◌, IfOk, length, map};
+ghost use Rattle.std.specs.Prelude.{◌≡◌, ◌+◌, ◌≤◌, All, IfOk, length, map};
 ghost use Rattle.nc_elf.specs.Segments.{bytes_of, segments_of};
-ghost use Rattle.nc_check.specs.Parts.{code_in, bases_in, codes_in};
+ghost use Rattle.nc_elf.specs.Symbols.{AreAscending, IsNamed};
+ghost use Rattle.nc_check.specs.Parts.{code_in, bases_in, codes_in, named, labels_of, AreLabelled};
 
-use nc_elf::{ElfFault, Segment, code_segments};
-use nc_report::Source;
+use crate::labelling::{labels_of, names_by};
+use nc_elf::{ElfFault, Segment, Symbol, code_segments};
+use nc_report::{Detail, Source};
 use std::alloc::{AllocError, Global};
 
 /// Code to be judged, and the address of its first byte.
@@ -15,15 +17,15 @@ pub struct Part {
     pub source: Source,
 }
 
-/// The name of a segment: the file's, and the segment's address if names have one.
+/// The name of a segment: the file's, and the segment's address, but in JSON, where that is a member of its own.
 fn segment_name(
     alloc: Global,
     file: &[u8],
     address: u32,
-    has_address: bool,
+    detail: Detail,
 ) -> Result<Vec<u8>, AllocError> {
     let mut name = Vec::from_slice(alloc, file)?;
-    if has_address {
+    if detail != Detail::Object {
         let place = format!(in alloc; " ({address:08x})")?;
         name.extend_from_slice(place.as_bytes())?;
     }
@@ -34,33 +36,43 @@ fn segment_name(
 fn part_of(
     alloc: Global,
     file: &Source,
+    symbols: &[Symbol],
     segment: Segment,
-    has_address: bool,
+    detail: Detail,
 ) -> Result<Part, AllocError>
-    requires { segment.offset + segment.len ≤ length file.now.code.items }
+    requires in_file { segment.offset + segment.len ≤ length file.now.code.items }
+    requires named { All (IsNamed file.now.code.items) symbols.now }
+    requires ascending { AreAscending symbols.now }
     ensures base { IfOk result (λ part. part.base ≡ segment.address) }
     ensures code { IfOk result (λ part. code_in part ≡ bytes_of file.now.code.items segment) }
+    ensures labels { IfOk result (λ part. map named part.source.labels ≡ labels_of file.now.code.items symbols.now segment) }
 {
-    let name = segment_name(alloc, file.name.as_slice(), segment.address, has_address)?;
+    let name = segment_name(alloc, file.name.as_slice(), segment.address, detail)?;
     let code = Vec::from_slice(alloc, segment.bytes(file.code.as_slice()))?;
+    let labels = labels_of(alloc, file.code.as_slice(), symbols, segment)?;
     Ok(Part {
         base: segment.address,
-        source: Source { name, code },
+        source: Source { name, code, labels },
     })
 }
 
-/// The parts of an ELF file: its segments of code, in the order of its program headers. Their names are the file's, with their
-/// addresses if that is asked for.
-pub fn parts_of(alloc: Global, file: &Source, has_address: bool) -> Result<Vec<Part>, ElfFault>
+/// The parts of an ELF file, of which so much is to be written: its segments of code, in the order of its program headers. Their
+/// names are the file's, with their addresses unless these are written by themselves.
+pub fn parts_of(alloc: Global, file: &Source, detail: Detail) -> Result<Vec<Part>, ElfFault>
     // What is judged are the bytes that the program headers name, at the addresses that they name.
     ensures bases { IfOk result (λ parts. bases_in parts.items ≡ map (λ s. s.address) (segments_of file.now.code.items)) }
     ensures codes { IfOk result (λ parts. codes_in parts.items
         ≡ map (bytes_of file.now.code.items) (segments_of file.now.code.items)) }
+    // Faults are named by the file's symbols of code, or not at all where only verdicts are written.
+    ensures labels { IfOk result (λ parts. AreLabelled detail file.now.code.items parts.items) }
 {
     let segments = code_segments(alloc, file.code.as_slice())?;
+    let Ok(symbols) = names_by(alloc, file.code.as_slice(), detail) else {
+        return Err(ElfFault::OutOfMemory);
+    };
     let mut parts = Vec::new(alloc);
     for segment in segments {
-        let Ok(part) = part_of(alloc, file, segment, has_address) else {
+        let Ok(part) = part_of(alloc, file, symbols.as_slice(), segment, detail) else {
             return Err(ElfFault::OutOfMemory);
         };
         match parts.push(part) {

@@ -31,17 +31,19 @@ pub also_joined : (old words : List ℕ) → ((old ++ codes "  also ") ++ words)
 also_joined old words = simp append_assoc
 
 -- the lines, one after the other
-parts : (old also bundle goes words : List ℕ)
-    → (((old ++ also) ++ bundle) ++ goes) ++ words ≡ old ++ (also ++ (bundle ++ (goes ++ (words ++ []))))
-parts old also bundle goes words = simp (append_assoc, append-nil)
+parts : (old also label bundle goes words : List ℕ)
+    → ((((old ++ also) ++ label) ++ bundle) ++ goes) ++ words ≡ old ++ (also ++ (label ++ (bundle ++ (goes ++ (words ++ [])))))
+parts old also label bundle goes words = simp (append_assoc, append-nil)
 
 -- the lines on a fault were added
-pub also_added : (old a b c d also bundle words : List ℕ) (goes : List (List ℕ)) → a ≡ old ++ detail_line also → b ≡ a ++ detail_line bundle
-    → c ≡ b ++ flat_map detail_line goes → d ≡ c ++ detail_line words
-    → d ≡ old ++ flat_map detail_line (also ∷ bundle ∷ (goes ++ words ∷ []))
-also_added old a b c d also bundle words goes e f g h =
+pub also_added : (old a n b c d also bundle words : List ℕ) (label goes : List (List ℕ)) → a ≡ old ++ detail_line also
+    → n ≡ a ++ flat_map detail_line label → b ≡ n ++ detail_line bundle → c ≡ b ++ flat_map detail_line goes → d ≡ c ++ detail_line words
+    → d ≡ old ++ flat_map detail_line (also ∷ (label ++ bundle ∷ (goes ++ words ∷ [])))
+also_added old a n b c d also bundle words label goes e l f g h =
     h ∙ ap (λ (z : List ℕ). z ++ detail_line words)
-    (g ∙ ap (λ (z : List ℕ). z ++ flat_map detail_line goes) (f ∙ ap (λ (z : List ℕ). z ++ detail_line bundle) e))
-    ∙ parts old (detail_line also) (detail_line bundle) (flat_map detail_line goes) (detail_line words)
-    ∙ ap (λ (z : List ℕ). old ++ (detail_line also ++ (detail_line bundle ++ z)))
+    (g ∙ ap (λ (z : List ℕ). z ++ flat_map detail_line goes)
+    (f ∙ ap (λ (z : List ℕ). z ++ detail_line bundle) (l ∙ ap (λ (z : List ℕ). z ++ flat_map detail_line label) e)))
+    ∙ parts old (detail_line also) (flat_map detail_line label) (detail_line bundle) (flat_map detail_line goes) (detail_line words)
+    ∙ ap (λ (z : List ℕ). old ++ (detail_line also ++ (flat_map detail_line label ++ (detail_line bundle ++ z))))
     (sym (flat_map-append detail_line goes (words ∷ [])))
+    ∙ ap (λ (z : List ℕ). old ++ (detail_line also ++ z)) (sym (flat_map-append detail_line label (bundle ∷ (goes ++ words ∷ []))))

@@ -8,6 +8,7 @@ use Rattle.std.proofs.KnownBytes.{Appends-trans, Appends-nil}
 use Rattle.std.proofs.lemmas.List.{take_at}
 use Rattle.std.proofs.Math.Seq.{take-append-add}
 use Rattle.nc_vet.proofs.Offered.{flat_map-append}
+use Rattle.nc_report.specs.declared.labels.Label.{Label}
 use Rattle.nc_report.specs.declared.spot.Spot.{Spot}
 use Rattle.nc_report.specs.Listing.{spaced}
 use Rattle.nc_report.specs.Further.{parted, bar, lines_at, lines_to}
@@ -31,9 +32,10 @@ flat_map_to f n ks more e =
     ap (λ (z : List ℕ). flat_map f z) e ∙ flat_map-append f more (n ∷ []) ∙ ap (λ z. flat_map f more ++ z) (append-nil (f n))
 
 -- the lines on one place more
-pub lines_more : (base limit : ℕ) (code : List ℕ) (spots : List Spot) (own k : ℕ)
-    → lines_to base limit code spots own (k + 1) ≡ lines_to base limit code spots own k ++ lines_at base limit code spots own k
-lines_more base limit code spots own k = flat_map_to (lines_at base limit code spots own) k _ _ (range_to k)
+pub lines_more : (base limit : ℕ) (code : List ℕ) (labels : List Label) (spots : List Spot) (own k : ℕ)
+    → lines_to base limit code labels spots own (k + 1)
+    ≡ lines_to base limit code labels spots own k ++ lines_at base limit code labels spots own k
+lines_more base limit code labels spots own k = flat_map_to (lines_at base limit code labels spots own) k _ _ (range_to k)
 
 -- one byte more, with a bar or none
 pub parted_more : (code : List ℕ) (spots : List Spot) (start n k byte : ℕ) (old out new : List ℕ) → out ≡ old ++ parted code spots start n
@@ -49,9 +51,9 @@ parted_more code spots start n k byte old out new e is f b =
     ∙ ap (λ (z : List ℕ). old ++ z) (sym (flat_map_to g (start + n) _ _ (range_more start n)))
 
 -- before the first place nothing is written
-pub none_written : (before : Option (List ℕ)) (old : List ℕ) (base limit : ℕ) (code : List ℕ) (spots : List Spot) (own : ℕ)
-    → WritesLines before before old old (AreLinesTo base limit code spots own 0)
-none_written before old base limit code spots own = record {
+pub none_written : (before : Option (List ℕ)) (old : List ℕ) (base limit : ℕ) (code : List ℕ) (labels : List Label) (spots : List Spot)
+    (own : ℕ) → WritesLines before before old old (AreLinesTo base limit code labels spots own 0)
+none_written before old base limit code labels spots own = record {
   lines = [];
   says = refl;
   part = [];
@@ -107,26 +109,26 @@ cut_in before mid after old out added n P Q more w a f p = record {
 }
 
 -- the lines on the first places are some of those on the others
-pub some_lines : (limit base : ℕ) (code : List ℕ) (spots : List Spot) (own : ℕ) (lines : List (List ℕ)) → HasSpots code spots
-    → AreSomeLines base limit code spots own lines → ReportsSome limit base code own lines
-some_lines limit base code spots own lines h (count, le, e) =
+pub some_lines : (limit base : ℕ) (code : List ℕ) (labels : List Label) (spots : List Spot) (own : ℕ) (lines : List (List ℕ))
+    → HasSpots code spots → AreSomeLines base limit code labels spots own lines → ReportsSome limit base code labels own lines
+some_lines limit base code labels spots own lines h (count, le, e) =
     inr (inl (
       count,
       record {
         steps = h.steps;
         reading = h.reading;
         within = le;
-        is = e ∙ ap (λ (z : List Spot). lines_to base limit code z own count) h.is;
+        is = e ∙ ap (λ (z : List Spot). lines_to base limit code labels z own count) h.is;
       },
     ))
 
 -- with the last ones they are all
-pub all_lines : (limit base : ℕ) (code : List ℕ) (spots : List Spot) (own : ℕ) (lines : List (List ℕ)) → HasSpots code spots
-    → AreLinesTo base limit code spots own (length code) lines
-    → ReportsOthers limit base code own (lines ++ last_lines base limit code spots)
-all_lines limit base code spots own lines h e = record {
+pub all_lines : (limit base : ℕ) (code : List ℕ) (labels : List Label) (spots : List Spot) (own : ℕ) (lines : List (List ℕ))
+    → HasSpots code spots → AreLinesTo base limit code labels spots own (length code) lines
+    → ReportsOthers limit base code labels own (lines ++ last_lines base limit code spots)
+all_lines limit base code labels spots own lines h e = record {
   steps = h.steps;
   reading = h.reading;
   is = ap (λ (z : List (List ℕ)). z ++ last_lines base limit code spots) e
-      ∙ ap (λ (z : List Spot). lines_to base limit code z own (length code) ++ last_lines base limit code z) h.is;
+      ∙ ap (λ (z : List Spot). lines_to base limit code labels z own (length code) ++ last_lines base limit code z) h.is;
 }

@@ -1,3 +1,4 @@
+mod NearestLabels
 mod ReadFronts
 mod BundleLines
 mod Placed

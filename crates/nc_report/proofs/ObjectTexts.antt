@@ -3,8 +3,10 @@ use Rattle.std.proofs.Common.{◌≡◌, ℕ, ◌-◌, List, [], ◌∷◌, ◌+
 use Rattle.std.specs.Prelude.{codes}
 use Rattle.nc_vet.specs.declared.fault.VetFault.{VetFault}
 use Rattle.nc_lines.specs.Replies.{reply_line, address_digits}
+use Rattle.nc_report.specs.declared.labels.Label.{Label}
+use Rattle.nc_report.specs.Labels.{label_at}
 use Rattle.nc_report.specs.Advice.{words_about}
-use Rattle.nc_report.specs.Objects.{string_member, place_members}
+use Rattle.nc_report.specs.Objects.{string_member, symbol_member, place_members}
 
 -- three lists after another one
 joined3 : (o a b c : List ℕ) → ((o ++ a) ++ b) ++ c ≡ o ++ (a ++ (b ++ c))
@@ -41,12 +43,16 @@ five_members o a b c d e n1 n2 n3 n4 n5 n6 e1 e2 e3 e4 e5 e6 =
     four_members o (a ++ b) c d e n2 n3 n4 n5 n6 (e2 ∙ ap (λ (z : List ℕ). z ++ b) e1 ∙ append_assoc o a b) e3 e4 e5 e6
     ∙ ap (λ (z : List ℕ). o ++ reply_line z) (append_assoc a b (c ++ (d ++ (e ++ codes "}"))))
 
--- the members on a fault's address and on what it means
-pub placed_members : (base at : ℕ) (code o n1 n2 words : List ℕ) (fault : VetFault) (place : Option ℕ) → place ≡ Some at
-    → n1 ≡ o ++ string_member (codes "at") (address_digits at) → n2 ≡ n1 ++ string_member (codes "meaning") words
-    → words ≡ words_about code fault (at - base) → n2 ≡ o ++ place_members base code fault place
-placed_members base at code o n1 n2 words fault place is e1 e2 same =
-    subst (λ (p : Option ℕ). n2 ≡ o ++ place_members base code fault p) (sym is)
-    (e2 ∙ ap (λ (z : List ℕ). z ++ string_member (codes "meaning") words) e1
-    ∙ append_assoc o (string_member (codes "at") (address_digits at)) (string_member (codes "meaning") words)
-    ∙ ap (λ (z : List ℕ). o ++ (string_member (codes "at") (address_digits at) ++ string_member (codes "meaning") z)) same)
+-- the members on a fault's address, on the name of that and on what the fault means
+pub placed_members : (base at : ℕ) (code : List ℕ) (labels : List Label) (o n1 n2 n3 words : List ℕ) (fault : VetFault) (place : Option ℕ)
+    → place ≡ Some at → n1 ≡ o ++ string_member (codes "at") (address_digits at) → n2 ≡ n1 ++ symbol_member (label_at labels at) at
+    → n3 ≡ n2 ++ string_member (codes "meaning") words → words ≡ words_about code fault (at - base)
+    → n3 ≡ o ++ place_members base code labels fault place
+placed_members base at code labels o n1 n2 n3 words fault place is e1 e2 e3 same =
+    let here = string_member (codes "at") (address_digits at) in
+    let symbol = symbol_member (label_at labels at) at in
+    let meaning = string_member (codes "meaning") words in
+    subst (λ (p : Option ℕ). n3 ≡ o ++ place_members base code labels fault p) (sym is)
+    (e3 ∙ ap (λ (z : List ℕ). z ++ meaning) (e2 ∙ ap (λ (z : List ℕ). z ++ symbol) e1)
+    ∙ joined3 o here symbol meaning
+    ∙ ap (λ (z : List ℕ). o ++ (here ++ (symbol ++ string_member (codes "meaning") z))) same)

@@ -1,7 +1,8 @@
 -- What is written after two spaces has no end inside.
 use Rattle.std.proofs.Common.{◌≡◌, ◌≢◌, ℕ, zero, suc, ◌+◌, ◌*◌, ◌-◌, ◌/◌, ◌%◌, Bool, true, false, eqb, List, [], ◌∷◌, ◌++◌, cond, if◌then◌else◌, drop, refl, sym, subst, inl, inr, Option, Some, None, arith}
-use Rattle.std.specs.Prelude.{codes, MatchOption, slice_index, slice_range, get_or, length, nat_le, nat_lt, ◌==◌, ◌&&◌, ⊤}
+use Rattle.std.specs.Prelude.{codes, MatchOption, slice_index, slice_range, get_or, length, nat_le, nat_lt, ◌==◌, ◌&&◌, ◌||◌, ⊤}
 use Rattle.std.specs.Fmt.{digit_glyph, digits_onto, decimal}
+use Rattle.std.specs.Fmt.{digits as digits_in}
 use Rattle.std.specs.Int.{w32, to_be_bytes}
 use Rattle.std.specs.List.{flat_map, range_with_len}
 use Rattle.hex.specs.Hex.{encode_with, encode_lower, lower_digits}
@@ -26,6 +27,8 @@ use Rattle.nc_report.specs.declared.words.TheConstants.{BARE, BAD_TARGET, NO_MEM
 use Rattle.nc_report.specs.declared.detail.Detail.{Detail}
 use Rattle.nc_report.specs.declared.detail.Detail.TheVariants.{Brief, Usual, Calls, Object}
 use Rattle.nc_report.specs.declared.detail.Detail.TheVariants as detail
+use Rattle.nc_report.specs.declared.labels.Label.{Label}
+use Rattle.nc_report.specs.Labels.{label_at, shown_byte, shown_name, offset_words, label_line, line_by, label_lines}
 use Rattle.nc_report.specs.Listing.{spaced, barred, ShowsPlace, ShowsBundle}
 use Rattle.nc_report.specs.Advice.{kind_in, words_on, key_of, meaning_of, is_elf, is_archive, is_text, words_about}
 use Rattle.nc_report.specs.Targets.{why_outside, SaysWhy, NamesTarget}
@@ -209,24 +212,86 @@ all_both : (xs ys : List (List ℕ)) → AreOneLine xs → AreOneLine ys → Are
 all_both [] ys h k = k
 all_both (x ∷ xs) ys h k = (h.0, all_both xs ys h.1 k)
 
+-- a digit is not 0A
+no_ten : (test : Bool) (d : ℕ) → (if test then 48 + d else (if false then 55 + d else 87 + d)) ≢ 10
+no_ten true d e = absurd (omega (arith, e))
+no_ten false d e = absurd (omega (arith, e))
+
+-- digits before others
+onto_one : (k base n : ℕ) (bytes : List ℕ) → IsOneLine bytes → IsOneLine (digits_onto k base false n bytes)
+onto_one zero base n bytes h = h
+onto_one (suc k) base n bytes h =
+    let more : IsOneLine (digit_glyph false (n % base) ∷ bytes) = (no_ten (nat_lt (n % base) 10) (n % base), h) in
+    either (n / base == 0) (digit_glyph false (n % base) ∷ bytes) (digits_onto k base false (n / base) (digit_glyph false (n % base) ∷ bytes)) more
+    (onto_one k base (n / base) (digit_glyph false (n % base) ∷ bytes) more)
+
+-- a number in some base
+number_one : (base n : ℕ) → IsOneLine (digits_in base false n)
+unfolding Rattle.std.specs.Fmt.digits
+number_one base n = onto_one 64 base n [] tt
+
+-- a decimal number
+decimal_one : (n : ℕ) → IsOneLine (decimal n)
+decimal_one n = number_one 10 n
+
+-- a byte that is shown is not 0A
+shown_other : (b : ℕ) → shown_byte b ≢ 10
+shown_other b e = by_test (nat_lt b 0x20 || b == 0x7F) refl e
+  where
+    by_test : (test : Bool) → (nat_lt b 0x20 || b == 0x7F) ≡ test → (if test then 0x3F else b) ≢ 10
+    by_test true is f = cc
+    by_test false is f = let g : (nat_lt 10 0x20 || 10 == 0x7F) ≡ false = subst (λ (x : ℕ). (nat_lt x 0x20 || x == 0x7F) ≡ false) f is in cc
+
+-- a name that is shown
+shown_one : (name : List ℕ) → IsOneLine (shown_name name)
+shown_one [] = tt
+shown_one (b ∷ name) = (shown_other b, shown_one name)
+
+-- an offset
+offset_one : (offset : ℕ) → IsOneLine (offset_words offset)
+offset_one offset =
+    let words = codes "+0x" ++ digits_in 16 false offset in
+    either (offset == 0) [] words tt
+    (both (codes "+0x") (digits_in 16 false offset) (tested (codes "+0x") refl) (number_one 16 offset))
+
+-- the line that names an address by a label
+label_one : (label : Label) (at : ℕ) → IsOneLine (label_line label at)
+label_one label at =
+    let name = shown_name label.name.items in
+    let offset = offset_words (at - label.address) in
+    both (address_digits at) (codes " <" ++ (name ++ (offset ++ codes ">"))) (digits (to_be_bytes w32 at))
+    (both (codes " <") (name ++ (offset ++ codes ">")) (tested (codes " <") refl)
+    (both name (offset ++ codes ">") (shown_one label.name.items)
+    (both offset (codes ">") (offset_one (at - label.address)) (tested (codes ">") refl))))
+
+-- one or none
+by_one : (label : Option Label) (at : ℕ) → AreOneLine (line_by label at)
+by_one None at = tt
+by_one (Some label) at = (label_one label at, tt)
+
+labels_one : (labels : List Label) (at : ℕ) → AreOneLine (label_lines labels at)
+labels_one labels at = by_one (label_at labels at) at
+
 -- the lines on a fault, by its address
-at_one : (limit base : ℕ) (code : List ℕ) (fault : VetFault) (lines : List (List ℕ)) (at : Option ℕ)
+at_one : (limit base : ℕ) (code : List ℕ) (labels : List Label) (fault : VetFault) (lines : List (List ℕ)) (at : Option ℕ)
     → MatchOption at (lines ≡ words_about code fault 0 ∷ [])
     (λ at. (line : List ℕ) × ShowsPlace base code at line × ((goes : List (List ℕ)) × AddsTarget limit base code fault goes
-    × (lines ≡ line ∷ (goes ++ words_about code fault (at - base) ∷ []))))
+    × (lines ≡ label_lines labels at ++ line ∷ (goes ++ words_about code fault (at - base) ∷ []))))
     → AreOneLine lines
-at_one limit base code fault lines None h = subst AreOneLine (sym h) (words_one code fault 0, tt)
-at_one limit base code fault lines (Some at) (line, shows, (goes, adds, is)) =
+at_one limit base code labels fault lines None h = subst AreOneLine (sym h) (words_one code fault 0, tt)
+at_one limit base code labels fault lines (Some at) (line, shows, (goes, adds, is)) =
+    let words = words_about code fault (at - base) in
     subst AreOneLine (sym is) (
+    all_both (label_lines labels at) (line ∷ (goes ++ words ∷ [])) (labels_one labels at) (
       bundle_one _ _ _ line shows,
-      all_both goes (words_about code fault (at - base) ∷ [])
-          (goes_one limit base code fault goes adds) (words_one code fault (at - base), tt),
+      all_both goes (words ∷ []) (goes_one limit base code fault goes adds) (words_one code fault (at - base), tt),
+    )
     )
 
 -- the lines on a fault
-explained_one : (limit base : ℕ) (code : List ℕ) (fault : VetFault) (lines : List (List ℕ)) → Explains limit base code fault lines
-    → AreOneLine lines
-explained_one limit base code fault lines h = at_one limit base code fault lines (place_of fault) h
+explained_one : (limit base : ℕ) (code : List ℕ) (labels : List Label) (fault : VetFault) (lines : List (List ℕ))
+    → Explains limit base code labels fault lines → AreOneLine lines
+explained_one limit base code labels fault lines h = at_one limit base code labels fault lines (place_of fault) h
 
 -- what is made of numbers, one after the other
 made_one : (f : ℕ → List ℕ) → ((k : ℕ) → IsOneLine (f k)) → (ks : List ℕ) → IsOneLine (flat_map f ks)
@@ -242,24 +307,6 @@ all_made f h (k ∷ ks) = all_both (f k) (flat_map f ks) (h k) (all_made f h ks)
 all_either : (test : Bool) (xs ys : List (List ℕ)) → AreOneLine xs → AreOneLine ys → AreOneLine (if test then xs else ys)
 all_either true xs ys h k = h
 all_either false xs ys h k = k
-
--- a digit is not 0A
-no_ten : (test : Bool) (d : ℕ) → (if test then 48 + d else (if false then 55 + d else 87 + d)) ≢ 10
-no_ten true d e = absurd (omega (arith, e))
-no_ten false d e = absurd (omega (arith, e))
-
--- digits before others
-onto_one : (k n : ℕ) (bytes : List ℕ) → IsOneLine bytes → IsOneLine (digits_onto k 10 false n bytes)
-onto_one zero n bytes h = h
-onto_one (suc k) n bytes h =
-    let more : IsOneLine (digit_glyph false (n % 10) ∷ bytes) = (no_ten (nat_lt (n % 10) 10) (n % 10), h) in
-    either (n / 10 == 0) (digit_glyph false (n % 10) ∷ bytes) (digits_onto k 10 false (n / 10) (digit_glyph false (n % 10) ∷ bytes)) more
-    (onto_one k (n / 10) (digit_glyph false (n % 10) ∷ bytes) more)
-
--- a decimal number
-decimal_one : (n : ℕ) → IsOneLine (decimal n)
-unfolding Rattle.std.specs.Fmt.digits
-decimal_one n = onto_one 64 n [] tt
 
 -- the bundle of a further fault
 listing_one : (base : ℕ) (code : List ℕ) (spots : List Spot) (k : ℕ) → IsOneLine (listing base code spots k)
@@ -316,24 +363,26 @@ further_goes_one base limit code spots k (BadTarget at) = aim_one base limit spo
 further_goes_one base limit code spots k OutOfMemory = tt
 
 -- the lines on what is found at a place
-found_one : (base limit : ℕ) (code : List ℕ) (spots : List Spot) (k : ℕ) (found : Option VetFault)
-    → AreOneLine (lines_on base limit code spots k found)
-found_one base limit code spots k None = tt
-found_one base limit code spots k (Some fault) = (
-  both (codes "also ") (fault_words fault) (tested (codes "also ") refl) (name_one fault),
-  (
-    listing_one base code spots k,
-    all_both (goes_lines base limit code spots k fault) (words_about code fault k ∷ []) (further_goes_one base limit code spots k fault)
-        (words_one code fault k, tt),
-  ),
-)
+found_one : (base limit : ℕ) (code : List ℕ) (labels : List Label) (spots : List Spot) (k : ℕ) (found : Option VetFault)
+    → AreOneLine (lines_on base limit code labels spots k found)
+found_one base limit code labels spots k None = tt
+found_one base limit code labels spots k (Some fault) =
+    let goes = goes_lines base limit code spots k fault in
+    let words = words_about code fault k in (
+      both (codes "also ") (fault_words fault) (tested (codes "also ") refl) (name_one fault),
+      all_both (label_lines labels (base + k)) (listing base code spots k ∷ (goes ++ words ∷ [])) (labels_one labels (base + k)) (
+        listing_one base code spots k,
+        all_both goes (words ∷ []) (further_goes_one base limit code spots k fault) (words_one code fault k, tt),
+      ),
+    )
 
 -- the lines on the first places
-lines_one : (base limit : ℕ) (code : List ℕ) (spots : List Spot) (own count : ℕ) → AreOneLine (lines_to base limit code spots own count)
-lines_one base limit code spots own count =
-    all_made (lines_at base limit code spots own)
-    (λ k. all_either (k == own) [] (lines_on base limit code spots k (fault_at base limit code spots k)) tt
-    (found_one base limit code spots k (fault_at base limit code spots k)))
+lines_one : (base limit : ℕ) (code : List ℕ) (labels : List Label) (spots : List Spot) (own count : ℕ)
+    → AreOneLine (lines_to base limit code labels spots own count)
+lines_one base limit code labels spots own count =
+    all_made (lines_at base limit code labels spots own)
+    (λ k. all_either (k == own) [] (lines_on base limit code labels spots k (fault_at base limit code spots k)) tt
+    (found_one base limit code labels spots k (fault_at base limit code spots k)))
     (range_with_len 0 count)
 
 -- names of kinds
@@ -389,17 +438,19 @@ last_one base limit code spots = (
 )
 
 -- all lines but those on the fault, and some first ones of them
-others_one : (limit base : ℕ) (code : List ℕ) (own : ℕ) (lines : List (List ℕ)) → ReportsOthers limit base code own lines → AreOneLine lines
-others_one limit base code own lines h =
+others_one : (limit base : ℕ) (code : List ℕ) (labels : List Label) (own : ℕ) (lines : List (List ℕ))
+    → ReportsOthers limit base code labels own lines → AreOneLine lines
+others_one limit base code labels own lines h =
     subst AreOneLine (sym h.is)
-    (all_both (lines_to base limit code (spots_of h.steps) own (length code)) (last_lines base limit code (spots_of h.steps))
-    (lines_one base limit code (spots_of h.steps) own (length code)) (last_one base limit code (spots_of h.steps)))
+    (all_both (lines_to base limit code labels (spots_of h.steps) own (length code)) (last_lines base limit code (spots_of h.steps))
+    (lines_one base limit code labels (spots_of h.steps) own (length code)) (last_one base limit code (spots_of h.steps)))
 
-some_one : (limit base : ℕ) (code : List ℕ) (own : ℕ) (lines : List (List ℕ)) → ReportsSome limit base code own lines → AreOneLine lines
-some_one limit base code own lines (inl e) = subst AreOneLine (sym e) tt
-some_one limit base code own lines (inr (inl (count, h))) =
-    subst AreOneLine (sym h.is) (lines_one base limit code (spots_of h.steps) own count)
-some_one limit base code own lines (inr (inr h)) = others_one limit base code own lines h
+some_one : (limit base : ℕ) (code : List ℕ) (labels : List Label) (own : ℕ) (lines : List (List ℕ))
+    → ReportsSome limit base code labels own lines → AreOneLine lines
+some_one limit base code labels own lines (inl e) = subst AreOneLine (sym e) tt
+some_one limit base code labels own lines (inr (inl (count, h))) =
+    subst AreOneLine (sym h.is) (lines_one base limit code labels (spots_of h.steps) own count)
+some_one limit base code labels own lines (inr (inr h)) = others_one limit base code labels own lines h
 
 -- the other lines, where the fault has an address
 more_one : (Others : ℕ → List (List ℕ) → Type 0) (base : ℕ) (lines : List (List ℕ))
@@ -409,19 +460,20 @@ more_one Others base lines f None h = subst AreOneLine (sym h) tt
 more_one Others base lines f (Some at) h = f (at - base) lines h
 
 -- the lines on a refused source
-details_one : (Others : ℕ → List (List ℕ) → Type 0) (limit base : ℕ) (d : Detail) (code : List ℕ) (fault : VetFault) (lines : List (List ℕ))
-    → ((own : ℕ) (ls : List (List ℕ)) → Others own ls → AreOneLine ls) → AreDetailsBy Others limit base d code fault lines → AreOneLine lines
-details_one Others limit base Brief code fault lines f h = subst AreOneLine (sym h) tt
-details_one Others limit base Object code fault lines f h = subst AreOneLine (sym h) tt
-details_one Others limit base Calls code fault lines f h = explained_one limit base code fault lines h
-details_one Others limit base Usual code fault lines f h = explained_one limit base code fault lines h
-details_one Others limit base detail.All code fault lines f (usual, others, is, first, more) =
+details_one : (Others : ℕ → List (List ℕ) → Type 0) (limit base : ℕ) (d : Detail) (code : List ℕ) (labels : List Label) (fault : VetFault)
+    (lines : List (List ℕ)) → ((own : ℕ) (ls : List (List ℕ)) → Others own ls → AreOneLine ls)
+    → AreDetailsBy Others limit base d code labels fault lines → AreOneLine lines
+details_one Others limit base Brief code labels fault lines f h = subst AreOneLine (sym h) tt
+details_one Others limit base Object code labels fault lines f h = subst AreOneLine (sym h) tt
+details_one Others limit base Calls code labels fault lines f h = explained_one limit base code labels fault lines h
+details_one Others limit base Usual code labels fault lines f h = explained_one limit base code labels fault lines h
+details_one Others limit base detail.All code labels fault lines f (usual, others, is, first, more) =
     subst AreOneLine (sym is)
-    (all_both usual others (explained_one limit base code fault usual first) (more_one Others base others f (place_of fault) more))
+    (all_both usual others (explained_one limit base code labels fault usual first) (more_one Others base others f (place_of fault) more))
 
 -- the law
 pub keeps_lines : KeepsLines
-keeps_lines limit base d code fault lines (inl h) =
-    details_one (ReportsOthers limit base code) limit base d code fault lines (others_one limit base code) h
-keeps_lines limit base d code fault lines (inr h) =
-    details_one (ReportsSome limit base code) limit base d code fault lines (some_one limit base code) h
+keeps_lines limit base d code labels fault lines (inl h) =
+    details_one (ReportsOthers limit base code labels) limit base d code labels fault lines (others_one limit base code labels) h
+keeps_lines limit base d code labels fault lines (inr h) =
+    details_one (ReportsSome limit base code labels) limit base d code labels fault lines (some_one limit base code labels) h

@@ -13,6 +13,8 @@ use Rattle.nc_vet.specs.declared.fault.VetFault.{VetFault}
 use Rattle.nc_vet.specs.declared.fault.VetFault.TheVariants.{BadBase, BadLength, OutOfRange, NotPermitted, Crosses, Bare, BadTarget}
 use Rattle.nc_vet.specs.declared.fault.VetFault.TheVariants.{OutOfMemory}
 use Rattle.nc_vet.proofs.Offered.{code_of-append, place-push, place-append, flat_map-append}
+use Rattle.nc_report.specs.declared.labels.Label.{Label}
+use Rattle.nc_report.specs.Labels.{label_lines}
 use Rattle.nc_report.specs.Listing.{ShowsPlace}
 use Rattle.nc_report.specs.Report.{place_of, AddsTarget, Explains, detail_line}
 use Rattle.nc_report.specs.Advice.{words_about}
@@ -145,37 +147,46 @@ pub line_added : (old new words : List ℕ) → new ≡ old ++ detail_line words
 line_added old new words e = e ∙ ap (λ (z : List ℕ). old ++ z) (sym (append-nil (detail_line words)))
 
 -- what an address, or none, asks of the lines on a fault
-abbrev ExplainsAt : ℕ → ℕ → List ℕ → VetFault → List (List ℕ) → Option ℕ → Type 0
-ExplainsAt limit base code fault lines at =
+abbrev ExplainsAt : ℕ → ℕ → List ℕ → List Label → VetFault → List (List ℕ) → Option ℕ → Type 0
+ExplainsAt limit base code labels fault lines at =
     MatchOption at (lines ≡ words_about code fault 0 ∷ [])
     (λ at. (line : List ℕ) × ShowsPlace base code at line × ((goes : List (List ℕ)) × AddsTarget limit base code fault goes
-    × (lines ≡ line ∷ (goes ++ words_about code fault (at - base) ∷ []))))
+    × (lines ≡ label_lines labels at ++ line ∷ (goes ++ words_about code fault (at - base) ∷ []))))
 
 -- what a fault without an address means was added
-pub explained_bare : (limit base : ℕ) (code old new : List ℕ) (fault : VetFault) → place_of fault ≡ None
-    → new ≡ old ++ detail_line (words_about code fault 0) → AddsLines old new (Explains limit base code fault)
-explained_bare limit base code old new fault none e = record {
+pub explained_bare : (limit base : ℕ) (code : List ℕ) (labels : List Label) (old new : List ℕ) (fault : VetFault) → place_of fault ≡ None
+    → new ≡ old ++ detail_line (words_about code fault 0) → AddsLines old new (Explains limit base code labels fault)
+explained_bare limit base code labels old new fault none e = record {
   lines = words_about code fault 0 ∷ [];
-  says = subst (ExplainsAt limit base code fault (words_about code fault 0 ∷ [])) (sym none) refl;
+  says = subst (ExplainsAt limit base code labels fault (words_about code fault 0 ∷ [])) (sym none) refl;
   added = line_added old new (words_about code fault 0) e;
 }
 
--- the bundle of a fault, where it goes, and what it means were added
-pub explained_at : (limit base at : ℕ) (code old mid said new : List ℕ) (fault : VetFault) → place_of fault ≡ Some at
-    → AddsBundle old mid (base + ((at - base) - (at - base) % 32))
+-- the lines, one after the other
+joined : (old label bundle goes words : List ℕ)
+    → (((old ++ label) ++ bundle) ++ goes) ++ words ≡ old ++ (label ++ (bundle ++ (goes ++ (words ++ []))))
+joined old label bundle goes words = simp (append_assoc, append-nil)
+
+-- the name of a fault's address, its bundle, where it goes, and what it means were added
+pub explained_at : (limit base at : ℕ) (code : List ℕ) (labels : List Label) (old named mid said new : List ℕ) (fault : VetFault)
+    → place_of fault ≡ Some at → named ≡ old ++ flat_map detail_line (label_lines labels at)
+    → AddsBundle named mid (base + ((at - base) - (at - base) % 32))
     (slice_range code ((at - base) - (at - base) % 32) (((at - base) - (at - base) % 32) + 32)) ((at - base) % 32)
     → AddsLines mid said (AddsTarget limit base code fault)
-    → new ≡ said ++ detail_line (words_about code fault (at - base)) → AddsLines old new (Explains limit base code fault)
-explained_at limit base at code old mid said new fault is b goes e =
+    → new ≡ said ++ detail_line (words_about code fault (at - base)) → AddsLines old new (Explains limit base code labels fault)
+explained_at limit base at code labels old named mid said new fault is first b goes e =
     let words = words_about code fault (at - base) in
+    let label = label_lines labels at in
     record {
-      lines = b.line ∷ (goes.lines ++ words ∷ []);
-      says = subst (ExplainsAt limit base code fault (b.line ∷ (goes.lines ++ words ∷ []))) (sym is)
+      lines = label ++ b.line ∷ (goes.lines ++ words ∷ []);
+      says = subst (ExplainsAt limit base code labels fault (label ++ b.line ∷ (goes.lines ++ words ∷ []))) (sym is)
           (b.line, b.shows, (goes.lines, goes.says, refl));
-      added = line_added said new words e
-          ∙ ap (λ (z : List ℕ). z ++ (detail_line words ++ []))
-          (goes.added ∙ ap (λ (z : List ℕ). z ++ flat_map detail_line goes.lines) b.added)
-          ∙ append_assoc (old ++ detail_line b.line) (flat_map detail_line goes.lines) (detail_line words ++ [])
-          ∙ append_assoc old (detail_line b.line) (flat_map detail_line goes.lines ++ (detail_line words ++ []))
-          ∙ ap (λ (z : List ℕ). old ++ (detail_line b.line ++ z)) (sym (flat_map-append detail_line goes.lines (words ∷ [])));
+      added = e
+          ∙ ap (λ (z : List ℕ). z ++ detail_line words)
+          (goes.added
+          ∙ ap (λ (z : List ℕ). z ++ flat_map detail_line goes.lines) (b.added ∙ ap (λ (z : List ℕ). z ++ detail_line b.line) first))
+          ∙ joined old (flat_map detail_line label) (detail_line b.line) (flat_map detail_line goes.lines) (detail_line words)
+          ∙ ap (λ (z : List ℕ). old ++ (flat_map detail_line label ++ (detail_line b.line ++ z)))
+          (sym (flat_map-append detail_line goes.lines (words ∷ [])))
+          ∙ ap (λ (z : List ℕ). old ++ z) (sym (flat_map-append detail_line label (b.line ∷ (goes.lines ++ words ∷ []))));
     }

@@ -11,6 +11,7 @@ use Rattle.nc_vet.specs.Faults.{HasFault}
 use Rattle.nc_vet.specs.declared.fault.VetFault.{VetFault}
 use Rattle.nc_vet.specs.declared.fault.VetFault.TheVariants.{OutOfMemory}
 use Rattle.nc_vet.proofs.Offered.{flat_map-append}
+use Rattle.nc_report.specs.declared.labels.Label.{Label}
 use Rattle.nc_report.specs.declared.detail.Detail.{Detail}
 use Rattle.nc_report.specs.declared.detail.Detail.TheVariants.{Brief, Usual, Calls, Object}
 use Rattle.nc_report.specs.declared.detail.Detail.TheVariants as detail
@@ -47,15 +48,15 @@ some_more Others base d fault at lines is e h =
     subst (λ (x : Detail). AreMoreBy Others x base fault lines) (sym is) (subst (OthersAt Others base lines) (sym e) h)
 
 -- all lines are some first ones
-all_first : (limit base : ℕ) (d : Detail) (code : List ℕ) (fault : VetFault) (lines : List (List ℕ)) → AreMore d limit base code fault lines
-    → AreSomeMore d limit base code fault lines
-all_first limit base Brief code fault lines h = h
-all_first limit base Usual code fault lines h = h
-all_first limit base Calls code fault lines h = h
-all_first limit base Object code fault lines h = h
-all_first limit base detail.All code fault lines h = at_place (place_of fault) h
+all_first : (limit base : ℕ) (d : Detail) (code : List ℕ) (labels : List Label) (fault : VetFault) (lines : List (List ℕ)) → AreMore d limit base code labels fault lines
+    → AreSomeMore d limit base code labels fault lines
+all_first limit base Brief code labels fault lines h = h
+all_first limit base Usual code labels fault lines h = h
+all_first limit base Calls code labels fault lines h = h
+all_first limit base Object code labels fault lines h = h
+all_first limit base detail.All code labels fault lines h = at_place (place_of fault) h
   where
-    at_place : (at : Option ℕ) → OthersAt (ReportsOthers limit base code) base lines at → OthersAt (ReportsSome limit base code) base lines at
+    at_place : (at : Option ℕ) → OthersAt (ReportsOthers limit base code labels) base lines at → OthersAt (ReportsSome limit base code labels) base lines at
     at_place None h = h
     at_place (Some at) h = inr (inr h)
 
@@ -81,15 +82,15 @@ pub cuts_so : (before after : Option (List ℕ)) (old : List ℕ) (P Q : List (L
 cuts_so before after old P Q w f = record { lines = w.lines; says = f w.lines w.says; count = w.count; written = w.written }
 
 -- the lines on a fault and the other ones are the details
-details : (Others : ℕ → List (List ℕ) → Type 0) (d : Detail) (limit base : ℕ) (code : List ℕ) (fault : VetFault) (first more : List (List ℕ))
-    → AreFirst d limit base code fault first → AreMoreBy Others d base fault more → AreDetailsBy Others limit base d code fault (first ++ more)
-details Others Brief limit base code fault first more f m = ap (λ (z : List (List ℕ)). z ++ more) f ∙ m
-details Others Object limit base code fault first more f m = ap (λ (z : List (List ℕ)). z ++ more) f ∙ m
-details Others Calls limit base code fault first more f m =
-    subst (AreFirst Calls limit base code fault) (sym (ap (λ (z : List (List ℕ)). first ++ z) m ∙ append-nil first)) f
-details Others Usual limit base code fault first more f m =
-    subst (AreFirst Usual limit base code fault) (sym (ap (λ (z : List (List ℕ)). first ++ z) m ∙ append-nil first)) f
-details Others detail.All limit base code fault first more f m = (first, more, refl, f, m)
+details : (Others : ℕ → List (List ℕ) → Type 0) (d : Detail) (limit base : ℕ) (code : List ℕ) (labels : List Label) (fault : VetFault) (first more : List (List ℕ))
+    → AreFirst d limit base code labels fault first → AreMoreBy Others d base fault more → AreDetailsBy Others limit base d code labels fault (first ++ more)
+details Others Brief limit base code labels fault first more f m = ap (λ (z : List (List ℕ)). z ++ more) f ∙ m
+details Others Object limit base code labels fault first more f m = ap (λ (z : List (List ℕ)). z ++ more) f ∙ m
+details Others Calls limit base code labels fault first more f m =
+    subst (AreFirst Calls limit base code labels fault) (sym (ap (λ (z : List (List ℕ)). first ++ z) m ∙ append-nil first)) f
+details Others Usual limit base code labels fault first more f m =
+    subst (AreFirst Usual limit base code labels fault) (sym (ap (λ (z : List (List ℕ)). first ++ z) m ∙ append-nil first)) f
+details Others detail.All limit base code labels fault first more f m = (first, more, refl, f, m)
 
 -- the verdict, and lines after others
 verdict_more : (name : List ℕ) (fault : VetFault) (first more : List (List ℕ))
@@ -101,26 +102,28 @@ verdict_more name fault first more =
     ∙ ap (λ (z : List ℕ). verdict ++ z) (sym (flat_map-append detail_line first more))
 
 -- the text goes on by these lines
-text_more : (Others : ℕ → List (List ℕ) → Type 0) (d : Detail) (base : ℕ) (name code : List ℕ) (fault : VetFault) (first more : List (List ℕ))
+text_more : (Others : ℕ → List (List ℕ) → Type 0) (d : Detail) (base : ℕ) (name code : List ℕ) (labels : List Label) (fault : VetFault)
+    (first more : List (List ℕ))
     → AreMoreBy Others d base fault more
-    → refused_text d base name code fault first ++ flat_map detail_line more ≡ refused_text d base name code fault (first ++ more)
-text_more Others Brief base name code fault first more m = verdict_more name fault first more
-text_more Others Usual base name code fault first more m = verdict_more name fault first more
-text_more Others Calls base name code fault first more m = verdict_more name fault first more
-text_more Others detail.All base name code fault first more m = verdict_more name fault first more
-text_more Others Object base name code fault first more m =
-    let text = refused_text Object base name code fault first in
+    → refused_text d base name code labels fault first ++ flat_map detail_line more ≡ refused_text d base name code labels fault (first ++ more)
+text_more Others Brief base name code labels fault first more m = verdict_more name fault first more
+text_more Others Usual base name code labels fault first more m = verdict_more name fault first more
+text_more Others Calls base name code labels fault first more m = verdict_more name fault first more
+text_more Others detail.All base name code labels fault first more m = verdict_more name fault first more
+text_more Others Object base name code labels fault first more m =
+    let text = refused_text Object base name code labels fault first in
     ap (λ (z : List (List ℕ)). text ++ flat_map detail_line z) m ∙ append-nil text
 
 -- the verdict was added by itself, where no lines are asked for
-pub verdict_added : (old new : List ℕ) (d : Detail) (name : List ℕ) (limit base : ℕ) (code : List ℕ) (fault : VetFault) → d ≡ Brief
+pub verdict_added : (old new : List ℕ) (d : Detail) (name : List ℕ) (limit base : ℕ) (code : List ℕ) (labels : List Label) (fault : VetFault)
+    → d ≡ Brief
     → fault ≢ OutOfMemory → new ≡ ((old ++ name) ++ codes ": ") ++ reply_line (refused_reply (fault_words fault))
-    → AddsRefused old new d name limit base code fault
-verdict_added old new d name limit base code fault is some e = record {
+    → AddsRefused old new d name limit base code labels fault
+verdict_added old new d name limit base code labels fault is some e = record {
   real = some;
   lines = [];
-  first = subst (λ (x : Detail). AreFirst x limit base code fault []) (sym is) refl;
-  added = subst (λ (x : Detail). new ≡ old ++ refused_text x base name code fault []) (sym is)
+  first = subst (λ (x : Detail). AreFirst x limit base code labels fault []) (sym is) refl;
+  added = subst (λ (x : Detail). new ≡ old ++ refused_text x base name code labels fault []) (sym is)
       (e ∙ joined old name (reply_line (refused_reply (fault_words fault))));
 }
   where
@@ -128,68 +131,72 @@ verdict_added old new d name limit base code fault is some e = record {
     joined xs ys zs = simp (append_assoc, append-nil)
 
 -- the verdict was added as an object
-pub object_added : (old new : List ℕ) (d : Detail) (name : List ℕ) (limit base : ℕ) (code : List ℕ) (fault : VetFault) → d ≡ Object
-    → fault ≢ OutOfMemory → new ≡ old ++ refused_text Object base name code fault [] → AddsRefused old new d name limit base code fault
-object_added old new d name limit base code fault is some e = record {
+pub object_added : (old new : List ℕ) (d : Detail) (name : List ℕ) (limit base : ℕ) (code : List ℕ) (labels : List Label) (fault : VetFault)
+    → d ≡ Object
+    → fault ≢ OutOfMemory → new ≡ old ++ refused_text Object base name code labels fault [] → AddsRefused old new d name limit base code labels fault
+object_added old new d name limit base code labels fault is some e = record {
   real = some;
   lines = [];
-  first = subst (λ (x : Detail). AreFirst x limit base code fault []) (sym is) refl;
-  added = subst (λ (x : Detail). new ≡ old ++ refused_text x base name code fault []) (sym is) e;
+  first = subst (λ (x : Detail). AreFirst x limit base code labels fault []) (sym is) refl;
+  added = subst (λ (x : Detail). new ≡ old ++ refused_text x base name code labels fault []) (sym is) e;
 }
 
 -- the text of a refused source
-refused_by : (Others : ℕ → List (List ℕ) → Type 0) (limit base : ℕ) (d : Detail) (name code old out : List ℕ) (fault : VetFault)
-    (more : List (List ℕ)) → HasFault base limit code fault → AddsRefused old out d name limit base code fault → old ≡ []
+refused_by : (Others : ℕ → List (List ℕ) → Type 0) (limit base : ℕ) (d : Detail) (name code : List ℕ) (labels : List Label) (old out : List ℕ)
+    (fault : VetFault)
+    (more : List (List ℕ)) → HasFault base limit code fault → AddsRefused old out d name limit base code labels fault → old ≡ []
     → AreMoreBy Others d base fault more
-    → IsRefusedBy limit base d (AreDetailsBy Others limit base d code) name code (out ++ flat_map detail_line more)
-refused_by Others limit base d name code old out fault more h a none m = record {
+    → IsRefusedBy limit base d (AreDetailsBy Others limit base d code labels) name code labels (out ++ flat_map detail_line more)
+refused_by Others limit base d name code labels old out fault more h a none m = record {
   fault = fault;
   has = h;
   real = a.real;
   lines = a.lines ++ more;
-  details = details Others d limit base code fault a.lines more a.first m;
+  details = details Others d limit base code labels fault a.lines more a.first m;
   written = ap (λ (z : List ℕ). z ++ flat_map detail_line more)
-      (a.added ∙ ap (λ (z : List ℕ). z ++ refused_text d base name code fault a.lines) none)
-      ∙ text_more Others d base name code fault a.lines more m;
+      (a.added ∙ ap (λ (z : List ℕ). z ++ refused_text d base name code labels fault a.lines) none)
+      ∙ text_more Others d base name code labels fault a.lines more m;
 }
 
 -- all of it was written
-pub refused_told : (before mid after : Option (List ℕ)) (limit base : ℕ) (d : Detail) (name code old out kept : List ℕ) (fault : VetFault)
-    → HasFault base limit code fault → AddsRefused old out d name limit base code fault → old ≡ []
-    → WritesLines before mid out kept (AreMore d limit base code fault) → Appends mid after kept
-    → (text : List ℕ) × IsRefused limit base d name code text × Appends before after text
-refused_told before mid after limit base d name code old out kept fault h a none w p = (
+pub refused_told : (before mid after : Option (List ℕ)) (limit base : ℕ) (d : Detail) (name code : List ℕ) (labels : List Label)
+    (old out kept : List ℕ) (fault : VetFault)
+    → HasFault base limit code fault → AddsRefused old out d name limit base code labels fault → old ≡ []
+    → WritesLines before mid out kept (AreMore d limit base code labels fault) → Appends mid after kept
+    → (text : List ℕ) × IsRefused limit base d name code labels text × Appends before after text
+refused_told before mid after limit base d name code labels old out kept fault h a none w p = (
   out ++ flat_map detail_line w.lines,
-  refused_by (ReportsOthers limit base code) limit base d name code old out fault w.lines h a none w.says,
+  refused_by (ReportsOthers limit base code labels) limit base d name code labels old out fault w.lines h a none w.says,
   subst (Appends before after) w.kept (Appends-trans before mid after w.part kept w.written p),
 )
 
 -- a beginning of it was written before the last lines were made
-pub refused_cut : (before after : Option (List ℕ)) (limit base : ℕ) (d : Detail) (name code old out : List ℕ) (fault : VetFault)
-    → HasFault base limit code fault → AddsRefused old out d name limit base code fault → old ≡ []
-    → CutsLines before after out (AreSomeMore d limit base code fault) → IsCutOff limit base d name code before after
-refused_cut before after limit base d name code old out fault h a none w =
+pub refused_cut : (before after : Option (List ℕ)) (limit base : ℕ) (d : Detail) (name code : List ℕ) (labels : List Label) (old out : List ℕ)
+    (fault : VetFault)
+    → HasFault base limit code fault → AddsRefused old out d name limit base code labels fault → old ≡ []
+    → CutsLines before after out (AreSomeMore d limit base code labels fault) → IsCutOff limit base d name code labels before after
+refused_cut before after limit base d name code labels old out fault h a none w =
     let text = out ++ flat_map detail_line w.lines in
     record {
       part = take w.count text;
       begins = inr (
         text,
         w.count,
-        inr (refused_by (ReportsSome limit base code) limit base d name code old out fault w.lines h a none w.says),
+        inr (refused_by (ReportsSome limit base code labels) limit base d name code labels old out fault w.lines h a none w.says),
         refl,
       );
       written = w.written;
     }
 
 -- or afterwards
-pub refused_cut_last : (before mid after : Option (List ℕ)) (limit base : ℕ) (d : Detail) (name code old out kept : List ℕ) (n : ℕ)
-    (fault : VetFault) → HasFault base limit code fault → AddsRefused old out d name limit base code fault → old ≡ []
-    → WritesLines before mid out kept (AreMore d limit base code fault) → Appends mid after (take n kept)
-    → IsCutOff limit base d name code before after
-refused_cut_last before mid after limit base d name code old out kept n fault h a none w p =
-    refused_cut before after limit base d name code old out fault h a none (record {
+pub refused_cut_last : (before mid after : Option (List ℕ)) (limit base : ℕ) (d : Detail) (name code : List ℕ) (labels : List Label)
+    (old out kept : List ℕ) (n : ℕ) (fault : VetFault) → HasFault base limit code fault → AddsRefused old out d name limit base code labels fault → old ≡ []
+    → WritesLines before mid out kept (AreMore d limit base code labels fault) → Appends mid after (take n kept)
+    → IsCutOff limit base d name code labels before after
+refused_cut_last before mid after limit base d name code labels old out kept n fault h a none w p =
+    refused_cut before after limit base d name code labels old out fault h a none (record {
       lines = w.lines;
-      says = all_first limit base d code fault w.lines w.says;
+      says = all_first limit base d code labels fault w.lines w.says;
       count = length w.part + n;
       written = subst (Appends before after)
           (sym (ap (take (length w.part + n)) (sym w.kept) ∙ take-append-add w.part kept n))

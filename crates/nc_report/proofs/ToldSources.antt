@@ -18,9 +18,11 @@ use Rattle.nc_report.specs.declared.detail.Detail.TheVariants.{Brief, Calls, Obj
 use Rattle.nc_lines.specs.Replies.{reply_line}
 use Rattle.nc_report.specs.Outside.{ListsOutside}
 use Rattle.nc_report.specs.Objects.{accepted_object}
+use Rattle.nc_report.specs.declared.labels.Label.{Label}
 use Rattle.nc_report.specs.declared.source.Source.{Source}
+use Rattle.nc_report.specs.declared.source.Title.{Title}
 use Rattle.nc_report.specs.Report.{Tells, Told, said_of, accepted_words, accepted_text, detail_line, AreCalls, IsAccepted, IsRefused, HasReported, HasBegunReport, IsBeginning, IsBeginningOfNext}
-use Rattle.nc_report.specs.machinery.Found.{IsFinding, code_in, AddsLines, HasInstructions, AddsAccepted, SourceValue, values_in, TellsValue, TellsOne, IsCutOff, HasToldSome, HasToldAll, HasToldFirst, job_of}
+use Rattle.nc_report.specs.machinery.Found.{IsFinding, code_in, AddsLines, HasInstructions, AddsAccepted, SourceValue, values_in, TellsValue, TellsOne, IsCutOff, HasToldSome, HasToldAll, HasToldFirst, value_in, title_of, job_of}
 use Rattle.nc_report.proofs.FurtherLines.{zip_more}
 
 -- a verdict
@@ -32,10 +34,10 @@ abbrev texts : List Told → List ℕ
 texts each = flat_map (λ told. told.text) each
 
 -- at first nothing is told
-pub told_none : (limit base : ℕ) (d : Detail) (names : List (Vec ℕ)) (verdicts : List AVerdict) (before : Option (List ℕ))
-    → All (IsFinding base limit) verdicts → length names ≡ length verdicts
-    → HasToldSome limit base d (values_in names verdicts) names verdicts before before 0
-told_none limit base d names verdicts before f e = record {
+pub told_none : (limit base : ℕ) (d : Detail) (titles : List Title) (verdicts : List AVerdict) (before : Option (List ℕ))
+    → All (IsFinding base limit) verdicts → length titles ≡ length verdicts
+    → HasToldSome limit base d (values_in titles verdicts) titles verdicts before before 0
+told_none limit base d titles verdicts before f e = record {
   done = [];
   split = refl;
   findings = f;
@@ -52,17 +54,17 @@ texts_more each told =
     flat_map-append (λ (t : Told). t.text) each (told ∷ []) ∙ ap (λ (z : List ℕ). texts each ++ z) (append-nil told.text)
 
 -- the next source is told
-pub told_more : (limit base : ℕ) (d : Detail) (values : List SourceValue) (name : Vec ℕ) (names : List (Vec ℕ)) (verdict : AVerdict)
+pub told_more : (limit base : ℕ) (d : Detail) (values : List SourceValue) (title : Title) (titles : List Title) (verdict : AVerdict)
     (verdicts : List AVerdict) (before mid after : Option (List ℕ)) (count more : ℕ)
-    → HasToldSome limit base d values (name ∷ names) (verdict ∷ verdicts) before mid count
-    → TellsOne limit base d name.items (code_in verdict) mid after more
-    → HasToldSome limit base d values names verdicts before after (count + more)
-told_more limit base d values name names verdict verdicts before mid after count more h t =
-    let value : SourceValue = record { name = name.items; code = code_in verdict } in
+    → HasToldSome limit base d values (title ∷ titles) (verdict ∷ verdicts) before mid count
+    → TellsOne limit base d title.name.items (code_in verdict) title.labels mid after more
+    → HasToldSome limit base d values titles verdicts before after (count + more)
+told_more limit base d values title titles verdict verdicts before mid after count more h t =
+    let value = value_in title verdict in
     let told = t.told in
     record {
       done = h.done ++ value ∷ [];
-      split = h.split ∙ sym (append_assoc h.done (value ∷ []) (values_in names verdicts));
+      split = h.split ∙ sym (append_assoc h.done (value ∷ []) (values_in titles verdicts));
       findings = λ k x lt. h.findings (suc k) x (omega (arith, lt));
       paired = omega (arith, h.paired);
       each = h.each ++ told ∷ [];
@@ -74,37 +76,37 @@ told_more limit base d values name names verdict verdicts before mid after count
           (Appends-trans before mid after (texts h.each) told.text h.written t.written);
     }
 
--- the next name and verdict
-pub told_next : (limit base : ℕ) (d : Detail) (values : List SourceValue) (left names : List (Vec ℕ)) (rest verdicts : List AVerdict)
-    (name : Vec ℕ) (verdict : AVerdict) (before after : Option (List ℕ)) (count : ℕ)
-    → HasToldSome limit base d values left rest before after count → left ≡ name ∷ names → rest ≡ verdict ∷ verdicts
-    → HasToldSome limit base d values (name ∷ names) (verdict ∷ verdicts) before after count
-told_next limit base d values left names rest verdicts name verdict before after count h e f =
-    subst (λ (vs : List AVerdict). HasToldSome limit base d values (name ∷ names) vs before after count) f
-    (subst (λ (ns : List (Vec ℕ)). HasToldSome limit base d values ns rest before after count) e h)
+-- the next title and verdict
+pub told_next : (limit base : ℕ) (d : Detail) (values : List SourceValue) (left titles : List Title) (rest verdicts : List AVerdict)
+    (title : Title) (verdict : AVerdict) (before after : Option (List ℕ)) (count : ℕ)
+    → HasToldSome limit base d values left rest before after count → left ≡ title ∷ titles → rest ≡ verdict ∷ verdicts
+    → HasToldSome limit base d values (title ∷ titles) (verdict ∷ verdicts) before after count
+told_next limit base d values left titles rest verdicts title verdict before after count h e f =
+    subst (λ (vs : List AVerdict). HasToldSome limit base d values (title ∷ titles) vs before after count) f
+    (subst (λ (ts : List Title). HasToldSome limit base d values ts rest before after count) e h)
 
 -- one, or nothing
 abbrev bit : Bool → ℕ
 bit b = cond b 1 0
 
 -- one source counts as one at most
-pub one_or_none : (limit base : ℕ) (d : Detail) (name code : List ℕ) (before after : Option (List ℕ)) (count : ℕ)
-    → TellsOne limit base d name code before after count → count ≤ 1
-one_or_none limit base d name code before after count t = omega (arith, t.counted, small t.told.refused)
+pub one_or_none : (limit base : ℕ) (d : Detail) (name code : List ℕ) (labels : List Label) (before after : Option (List ℕ)) (count : ℕ)
+    → TellsOne limit base d name code labels before after count → count ≤ 1
+one_or_none limit base d name code labels before after count t = omega (arith, t.counted, small t.told.refused)
   where
     small : (b : Bool) → bit b ≤ 1
     small true = omega arith
     small false = omega arith
 
 -- of the next source only a beginning was written
-pub told_cut : (limit base : ℕ) (d : Detail) (values : List SourceValue) (name : Vec ℕ) (names : List (Vec ℕ)) (verdict : AVerdict)
+pub told_cut : (limit base : ℕ) (d : Detail) (values : List SourceValue) (title : Title) (titles : List Title) (verdict : AVerdict)
     (verdicts : List AVerdict) (before mid after : Option (List ℕ)) (count : ℕ)
-    → HasToldSome limit base d values (name ∷ names) (verdict ∷ verdicts) before mid count
-    → IsCutOff limit base d name.items (code_in verdict) mid after → HasToldFirst limit base d values before after
-told_cut limit base d values name names verdict verdicts before mid after count h p = record {
+    → HasToldSome limit base d values (title ∷ titles) (verdict ∷ verdicts) before mid count
+    → IsCutOff limit base d title.name.items (code_in verdict) title.labels mid after → HasToldFirst limit base d values before after
+told_cut limit base d values title titles verdict verdicts before mid after count h p = record {
   first = h.done;
-  value = record { name = name.items; code = code_in verdict };
-  others = values_in names verdicts;
+  value = value_in title verdict;
+  others = values_in titles verdicts;
   split = h.split;
   each = h.each;
   tells = h.tells;
@@ -114,10 +116,10 @@ told_cut limit base d values name names verdict verdicts before mid after count 
 }
 
 -- where no verdict is left, all sources are told
-pub told_all : (limit base : ℕ) (d : Detail) (values : List SourceValue) (names : List (Vec ℕ)) (before after : Option (List ℕ)) (count : ℕ)
-    → HasToldSome limit base d values names [] before after count → HasToldAll limit base d values before after count
-told_all limit base d values names before after count h =
-    let same : values ≡ h.done = h.split ∙ ap (λ (z : List SourceValue). h.done ++ z) (none names) ∙ append-nil h.done in
+pub told_all : (limit base : ℕ) (d : Detail) (values : List SourceValue) (titles : List Title) (before after : Option (List ℕ)) (count : ℕ)
+    → HasToldSome limit base d values titles [] before after count → HasToldAll limit base d values before after count
+told_all limit base d values titles before after count h =
+    let same : values ≡ h.done = h.split ∙ ap (λ (z : List SourceValue). h.done ++ z) (none titles) ∙ append-nil h.done in
     record {
       each = h.each;
       tells = subst (λ (z : List SourceValue). AllZip (TellsValue limit base d) z h.each) (sym same) h.tells;
@@ -125,15 +127,15 @@ told_all limit base d values names before after count h =
       written = h.written;
     }
   where
-    none : (ns : List (Vec ℕ)) → values_in ns [] ≡ []
+    none : (ts : List Title) → values_in ts [] ≡ []
     none [] = refl
-    none (n ∷ ns) = refl
+    none (t ∷ ts) = refl
 
 -- ---- the sources themselves
 
 -- a source without where its bytes lie in memory
 abbrev value_of : Source → SourceValue
-value_of source = record { name = source.name.items; code = source.code.items }
+value_of source = record { name = source.name.items; code = source.code.items; labels = source.labels }
 
 -- a verdict on a job is true of the code in it, which is the job's
 finding : (job : Job) (verdict : AVerdict) → IsVerdictOn job verdict → IsFinding job.base job.limit verdict × (code_in verdict ≡ job.code.items)
@@ -152,8 +154,8 @@ all_cons {A} P x xs p h = go
 -- what is known of verdicts on the jobs of sources
 pub record AreFindings (limit base : ℕ) (sources : List Source) (verdicts : List AVerdict) : Type 0 where
   pub findings : All (IsFinding base limit) verdicts
-  pub paired : length (map (λ (s : Source). s.name) sources) ≡ length verdicts
-  pub values : values_in (map (λ (s : Source). s.name) sources) verdicts ≡ map value_of sources
+  pub paired : length (map title_of sources) ≡ length verdicts
+  pub values : values_in (map title_of sources) verdicts ≡ map value_of sources
 
 pub are_findings : (limit base : ℕ) (sources : List Source) (verdicts : List AVerdict)
     → AllZip IsVerdictOn (map (job_of base limit) sources) verdicts → AreFindings limit base sources verdicts
@@ -166,21 +168,21 @@ are_findings limit base (s ∷ sources) (v ∷ verdicts) h =
     record {
       findings = all_cons (IsFinding base limit) v verdicts one.0 more.findings;
       paired = omega (arith, more.paired);
-      values = ap (λ (z : List ℕ). record { name = s.name.items; code = z } ∷ values_in (map (λ (x : Source). x.name) sources) verdicts) one.1
+      values = ap (λ (z : List ℕ). record { name = s.name.items; code = z; labels = s.labels } ∷ values_in (map title_of sources) verdicts) one.1
           ∙ ap (λ (z : List SourceValue). value_of s ∷ z) more.values;
     }
 
--- names and verdicts on the jobs of sources are the sources' names and code
-pub are_values : (limit base : ℕ) (sources : List Source) (names : List (Vec ℕ)) (verdicts : List AVerdict)
-    → names ≡ map (λ (s : Source). s.name) sources → AllZip IsVerdictOn (map (job_of base limit) sources) verdicts
-    → values_in names verdicts ≡ map value_of sources
-are_values limit base sources names verdicts e h =
-    ap (λ (z : List (Vec ℕ)). values_in z verdicts) e ∙ (are_findings limit base sources verdicts h).values
+-- titles and verdicts on the jobs of sources are the sources' titles and code
+pub are_values : (limit base : ℕ) (sources : List Source) (titles : List Title) (verdicts : List AVerdict)
+    → titles ≡ map title_of sources → AllZip IsVerdictOn (map (job_of base limit) sources) verdicts
+    → values_in titles verdicts ≡ map value_of sources
+are_values limit base sources titles verdicts e h =
+    ap (λ (z : List Title). values_in z verdicts) e ∙ (are_findings limit base sources verdicts h).values
 
 -- what holds of values holds of sources
 tells_sources : (limit base : ℕ) (d : Detail) (sources : List Source) (each : List Told)
     → AllZip (TellsValue limit base d) (map value_of sources) each
-    → AllZip (λ (s : Source) (t : Told). Tells limit base d s.name.items s.code.items t) sources each
+    → AllZip (λ (s : Source) (t : Told). Tells limit base d s.name.items s.code.items s.labels t) sources each
 tells_sources limit base d [] [] h = h
 tells_sources limit base d [] (t ∷ each) h = absurd h
 tells_sources limit base d (s ∷ sources) [] h = absurd h
@@ -273,7 +275,7 @@ first_begun limit base d sources values before after h e =
       tells = tells_sources limit base d p.earlier h.each
           (subst (λ (z : List SourceValue). AllZip (TellsValue limit base d) z h.each) (sym p.firsts) h.tells);
       part = h.part;
-      next = subst (λ (v : SourceValue). IsBeginning limit base d v.name v.code h.part) (sym p.is) h.next;
+      next = subst (λ (v : SourceValue). IsBeginning limit base d v.name v.code v.labels h.part) (sym p.is) h.next;
       written = h.written;
     }
 
@@ -337,10 +339,10 @@ adds_object chunk d name old new count has v is e =
     }
 
 -- an accepted source is told, and not counted
-pub tells_accepted : (base limit : ℕ) (chunk : MarkedChunk) (d : Detail) (name : List ℕ) (before after : Option (List ℕ))
+pub tells_accepted : (base limit : ℕ) (chunk : MarkedChunk) (d : Detail) (name : List ℕ) (labels : List Label) (before after : Option (List ℕ))
     → IsFinding base limit (Ok chunk) → ((text : List ℕ) × IsAccepted chunk.limit chunk.base d name chunk.code text × Appends before after text)
-    → TellsOne limit base d name chunk.code before after 0
-tells_accepted base limit chunk d name before after f (text, is, appended) = record {
+    → TellsOne limit base d name chunk.code labels before after 0
+tells_accepted base limit chunk d name labels before after f (text, is, appended) = record {
   told = record { refused = false; text = text };
   tells = inl (
     refl,
@@ -352,18 +354,18 @@ tells_accepted base limit chunk d name before after f (text, is, appended) = rec
 }
 
 -- its limit and base are those of the report
-pub cut_accepted : (base limit : ℕ) (chunk : MarkedChunk) (d : Detail) (name : List ℕ) (before after : Option (List ℕ))
-    → IsFinding base limit (Ok chunk) → IsCutOff chunk.limit chunk.base d name chunk.code before after
-    → IsCutOff limit base d name chunk.code before after
-cut_accepted base limit chunk d name before after f h =
-    subst (λ (b : ℕ). IsCutOff limit b d name chunk.code before after) f.0
-    (subst (λ (l : ℕ). IsCutOff l chunk.base d name chunk.code before after) f.1 h)
+pub cut_accepted : (base limit : ℕ) (chunk : MarkedChunk) (d : Detail) (name : List ℕ) (labels : List Label) (before after : Option (List ℕ))
+    → IsFinding base limit (Ok chunk) → IsCutOff chunk.limit chunk.base d name chunk.code labels before after
+    → IsCutOff limit base d name chunk.code labels before after
+cut_accepted base limit chunk d name labels before after f h =
+    subst (λ (b : ℕ). IsCutOff limit b d name chunk.code labels before after) f.0
+    (subst (λ (l : ℕ). IsCutOff l chunk.base d name chunk.code labels before after) f.1 h)
 
 -- a refused source is told, and counted
-pub tells_refused : (base limit : ℕ) (code : List ℕ) (d : Detail) (name : List ℕ) (before after : Option (List ℕ))
-    → ((text : List ℕ) × IsRefused limit base d name code text × Appends before after text)
-    → TellsOne limit base d name code before after 1
-tells_refused base limit code d name before after (text, is, appended) = record {
+pub tells_refused : (base limit : ℕ) (code : List ℕ) (d : Detail) (name : List ℕ) (labels : List Label) (before after : Option (List ℕ))
+    → ((text : List ℕ) × IsRefused limit base d name code labels text × Appends before after text)
+    → TellsOne limit base d name code labels before after 1
+tells_refused base limit code d name labels before after (text, is, appended) = record {
   told = record { refused = true; text = text };
   tells = inr (refl, is);
   counted = refl;

@@ -8,9 +8,11 @@ use Rattle.nc_decode.specs.Transfers.{is_direct, target}
 use Rattle.nc_vet.specs.declared.fault.VetFault.{VetFault}
 use Rattle.nc_vet.specs.declared.fault.VetFault.TheVariants as vet
 use Rattle.nc_lines.specs.Replies.{address_digits, fault_words}
+use Rattle.nc_report.specs.declared.labels.Label.{Label}
 use Rattle.nc_report.specs.declared.spot.Spot.{Spot}
 use Rattle.nc_report.specs.declared.spot.Spot.TheVariants.{Inside, Skipped, Entry, Second, NotPermitted, Crosses, Bare}
 use Rattle.nc_report.specs.declared.words.TheConstants.{INSIDE, SECOND_HALF}
+use Rattle.nc_report.specs.Labels.{label_lines}
 use Rattle.nc_report.specs.Listing.{spaced}
 use Rattle.nc_report.specs.Advice.{words_about}
 use Rattle.nc_report.specs.Targets.{why_outside}
@@ -97,18 +99,19 @@ abbrev pub goes_lines : ℕ → ℕ → List ℕ → List Spot → ℕ → VetFa
 goes_lines base limit code spots k (vet.BadTarget at) = aim_lines base limit spots (base + k) (first_instruction (drop k code))
 goes_lines base limit code spots k _ = []
 
--- the lines on a fault at this place, if there is one
-abbrev pub lines_on : ℕ → ℕ → List ℕ → List Spot → ℕ → Option VetFault → List (List ℕ)
-lines_on base limit code spots k None = []
-lines_on base limit code spots k (Some fault) =
-    (codes "also " ++ fault_words fault) ∷ listing base code spots k
-    ∷ (goes_lines base limit code spots k fault ++ words_about code fault k ∷ [])
+-- the lines on a fault at this place, if there is one: its name and its address, with the name of the address, if it has a label; its
+-- bundle; where a direct transfer goes; and what the fault means
+abbrev pub lines_on : ℕ → ℕ → List ℕ → List Label → List Spot → ℕ → Option VetFault → List (List ℕ)
+lines_on base limit code labels spots k None = []
+lines_on base limit code labels spots k (Some fault) =
+    (codes "also " ++ fault_words fault) ∷ (label_lines labels (base + k) ++ listing base code spots k
+    ∷ (goes_lines base limit code spots k fault ++ words_about code fault k ∷ []))
 
 -- the lines on a place of the code, but for that of the chunk's own fault
-abbrev pub lines_at : ℕ → ℕ → List ℕ → List Spot → ℕ → ℕ → List (List ℕ)
-lines_at base limit code spots own k =
-    if k == own then [] else lines_on base limit code spots k (fault_at base limit code spots k)
+abbrev pub lines_at : ℕ → ℕ → List ℕ → List Label → List Spot → ℕ → ℕ → List (List ℕ)
+lines_at base limit code labels spots own k =
+    if k == own then [] else lines_on base limit code labels spots k (fault_at base limit code spots k)
 
 -- the lines on the first so many places
-abbrev pub lines_to : ℕ → ℕ → List ℕ → List Spot → ℕ → ℕ → List (List ℕ)
-lines_to base limit code spots own count = flat_map (lines_at base limit code spots own) (range_with_len 0 count)
+abbrev pub lines_to : ℕ → ℕ → List ℕ → List Label → List Spot → ℕ → ℕ → List (List ℕ)
+lines_to base limit code labels spots own count = flat_map (lines_at base limit code labels spots own) (range_with_len 0 count)

@@ -1,4 +1,5 @@
 pub mod machinery
+pub mod Labels
 pub mod Listing
 pub mod Advice
 pub mod Targets

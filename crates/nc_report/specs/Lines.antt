@@ -2,6 +2,7 @@
 use Rattle.std.specs.Prelude.{◌≢◌, ◌⊎◌, ℕ, List, [], ◌∷◌, ⊤}
 use Rattle.nc_vet.specs.declared.fault.VetFault.{VetFault}
 use Rattle.nc_report.specs.declared.detail.Detail.{Detail}
+use Rattle.nc_report.specs.declared.labels.Label.{Label}
 use Rattle.nc_report.specs.Report.{AreDetails, AreFirstDetails}
 
 -- no byte of it is 0A
@@ -14,7 +15,8 @@ abbrev pub AreOneLine : List (List ℕ) → Type 0
 AreOneLine [] = ⊤
 AreOneLine (line ∷ lines) = IsOneLine line × AreOneLine lines
 
--- no line of details, all or some first ones, has a byte 0A in it
+-- no line of details, all or some first ones, has a byte 0A in it, whatever bytes the names of labels have
 abbrev pub KeepsLines : Type 0
-KeepsLines = (limit base : ℕ) (detail : Detail) (code : List ℕ) (fault : VetFault) (lines : List (List ℕ))
-    → AreDetails limit base detail code fault lines ⊎ AreFirstDetails limit base detail code fault lines → AreOneLine lines
+KeepsLines = (limit base : ℕ) (detail : Detail) (code : List ℕ) (labels : List Label) (fault : VetFault) (lines : List (List ℕ))
+    → AreDetails limit base detail code labels fault lines ⊎ AreFirstDetails limit base detail code labels fault lines
+    → AreOneLine lines

@@ -7,6 +7,8 @@ use Rattle.nc_vet.specs.declared.fault.VetFault.{VetFault}
 use Rattle.nc_vet.specs.declared.fault.VetFault.TheVariants.{BadBase, BadLength, OutOfRange, NotPermitted, Crosses, Bare, BadTarget}
 use Rattle.nc_vet.specs.declared.fault.VetFault.TheVariants.{OutOfMemory}
 use Rattle.nc_lines.specs.Replies.{address_digits}
+use Rattle.nc_report.specs.declared.labels.Label.{Label}
+use Rattle.nc_report.specs.Labels.{label_at, offset_words}
 use Rattle.nc_report.specs.Advice.{words_about}
 
 -- a byte in a string: after a backslash if it is a quotation mark or a backslash; by its number from 0 to 1F and from 7F on
@@ -41,11 +43,17 @@ fault_name (Bare at) = codes "Bare"
 fault_name (BadTarget at) = codes "BadTarget"
 fault_name OutOfMemory = codes "OutOfMemory"
 
--- the members on a fault's address, if it has one, and on what the fault means
-abbrev pub place_members : ℕ → List ℕ → VetFault → Option ℕ → List ℕ
-place_members base code fault None = string_member (codes "meaning") (words_about code fault 0)
-place_members base code fault (Some at) =
-    string_member (codes "at") (address_digits at) ++ string_member (codes "meaning") (words_about code fault (at - base))
+-- the member that names an address by a label, if it has one: the label's name and the offset
+abbrev pub symbol_member : Option Label → ℕ → List ℕ
+symbol_member None at = []
+symbol_member (Some label) at = string_member (codes "symbol") (label.name.items ++ offset_words (at - label.address))
+
+-- the members on a fault's address, if it has one, on the name of that, if it has a label, and on what the fault means
+abbrev pub place_members : ℕ → List ℕ → List Label → VetFault → Option ℕ → List ℕ
+place_members base code labels fault None = string_member (codes "meaning") (words_about code fault 0)
+place_members base code labels fault (Some at) =
+    string_member (codes "at") (address_digits at) ++ (symbol_member (label_at labels at) at
+    ++ string_member (codes "meaning") (words_about code fault (at - base)))
 
 -- a source that is accepted
 abbrev pub accepted_object : ℕ → List ℕ → ℕ → ℕ → List ℕ
@@ -54,10 +62,10 @@ accepted_object base name bytes instructions =
     ++ (number_member (codes "bytes") bytes ++ (number_member (codes "instructions") instructions ++ codes "}"))))
 
 -- one that is refused, for a fault that has this address or none
-abbrev pub refused_object : ℕ → List ℕ → List ℕ → VetFault → Option ℕ → List ℕ
-refused_object base name code fault at =
+abbrev pub refused_object : ℕ → List ℕ → List ℕ → List Label → VetFault → Option ℕ → List ℕ
+refused_object base name code labels fault at =
     file_member name ++ (string_member (codes "address") (address_digits base) ++ (string_member (codes "verdict") (codes "refused")
-    ++ (string_member (codes "fault") (fault_name fault) ++ (place_members base code fault at ++ codes "}"))))
+    ++ (string_member (codes "fault") (fault_name fault) ++ (place_members base code labels fault at ++ codes "}"))))
 
 -- the object of JSON for a file that is refused before any of it is judged: its name, the fault and what that means
 abbrev pub file_object : List ℕ → List ℕ → List ℕ → List ℕ

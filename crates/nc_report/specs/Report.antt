@@ -13,7 +13,9 @@ use Rattle.nc_lines.specs.Vetting.{IsValidAt}
 use Rattle.nc_report.specs.declared.detail.Detail.{Detail}
 use Rattle.nc_report.specs.declared.detail.Detail.TheVariants.{Brief, Usual, Calls, Object}
 use Rattle.nc_report.specs.declared.detail.Detail.TheVariants as detail
+use Rattle.nc_report.specs.declared.labels.Label.{Label}
 use Rattle.nc_report.specs.declared.source.Source.{Source}
+use Rattle.nc_report.specs.Labels.{label_lines}
 use Rattle.nc_report.specs.Listing.{ShowsPlace}
 use Rattle.nc_report.specs.declared.steps.Step.{Step}
 use Rattle.nc_report.specs.Advice.{words_about}
@@ -71,68 +73,74 @@ abbrev pub AddsTarget : ℕ → ℕ → List ℕ → VetFault → List (List ℕ
 AddsTarget limit base code (BadTarget at) lines = (line : List ℕ) × NamesTarget limit base code at line × (lines ≡ line ∷ [])
 AddsTarget limit base code _ lines = lines ≡ []
 
--- the lines on a fault: its bundle, if it has an address, where a refused direct transfer goes, and what the fault means
-abbrev pub Explains : ℕ → ℕ → List ℕ → VetFault → List (List ℕ) → Type 0
-Explains limit base code fault lines =
+-- the lines on a fault: if it has an address, the name of that, if it has a label, and its bundle; where a refused direct transfer
+-- goes; and what the fault means
+abbrev pub Explains : ℕ → ℕ → List ℕ → List Label → VetFault → List (List ℕ) → Type 0
+Explains limit base code labels fault lines =
     MatchOption (place_of fault) (lines ≡ words_about code fault 0 ∷ [])
     (λ at. (line : List ℕ) × ShowsPlace base code at line × ((goes : List (List ℕ)) × AddsTarget limit base code fault goes
-    × (lines ≡ line ∷ (goes ++ words_about code fault (at - base) ∷ []))))
+    × (lines ≡ label_lines labels at ++ line ∷ (goes ++ words_about code fault (at - base) ∷ []))))
 
 -- The lines on the faults at the first so many places of a refused chunk, but for that at one of them, by the reading of it.
-pub record ReportsFirst (limit base : ℕ) (code : List ℕ) (own count : ℕ) (lines : List (List ℕ)) : Type 0 where
+pub record ReportsFirst (limit base : ℕ) (code : List ℕ) (labels : List Label) (own count : ℕ) (lines : List (List ℕ)) : Type 0 where
   pub steps : List Step
   pub reading : IsReading code steps
   pub within : count ≤ length code
-  pub is : lines ≡ lines_to base limit code (spots_of steps) own count
+  pub is : lines ≡ lines_to base limit code labels (spots_of steps) own count
 
 -- The lines on all faults of a refused chunk, but for that at one place, and then the last lines.
-pub record ReportsOthers (limit base : ℕ) (code : List ℕ) (own : ℕ) (lines : List (List ℕ)) : Type 0 where
+pub record ReportsOthers (limit base : ℕ) (code : List ℕ) (labels : List Label) (own : ℕ) (lines : List (List ℕ)) : Type 0 where
   pub steps : List Step
   pub reading : IsReading code steps
-  pub is : lines ≡ lines_to base limit code (spots_of steps) own (length code) ++ last_lines base limit code (spots_of steps)
+  pub is :
+      lines ≡ lines_to base limit code labels (spots_of steps) own (length code) ++ last_lines base limit code (spots_of steps)
 
 -- of these lines none, those on the first so many places, or all
-abbrev pub ReportsSome : ℕ → ℕ → List ℕ → ℕ → List (List ℕ) → Type 0
-ReportsSome limit base code own lines =
-    (lines ≡ []) ⊎ ((count : ℕ) × ReportsFirst limit base code own count lines) ⊎ ReportsOthers limit base code own lines
+abbrev pub ReportsSome : ℕ → ℕ → List ℕ → List Label → ℕ → List (List ℕ) → Type 0
+ReportsSome limit base code labels own lines =
+    (lines ≡ []) ⊎ ((count : ℕ) × ReportsFirst limit base code labels own count lines) ⊎ ReportsOthers limit base code labels own lines
 
 -- The lines on a refused source: none, those on its fault, or also the others, of which this holds with the place of the fault,
 -- if it has one.
-abbrev pub AreDetailsBy : (ℕ → List (List ℕ) → Type 0) → ℕ → ℕ → Detail → List ℕ → VetFault → List (List ℕ) → Type 0
-AreDetailsBy Others limit base Brief code fault lines = lines ≡ []
-AreDetailsBy Others limit base Object code fault lines = lines ≡ []
-AreDetailsBy Others limit base Usual code fault lines = Explains limit base code fault lines
-AreDetailsBy Others limit base Calls code fault lines = Explains limit base code fault lines
-AreDetailsBy Others limit base detail.All code fault lines =
-    (usual others : List (List ℕ)) × (lines ≡ usual ++ others) × Explains limit base code fault usual
+abbrev pub AreDetailsBy : (ℕ → List (List ℕ) → Type 0) → ℕ → ℕ → Detail → List ℕ → List Label → VetFault → List (List ℕ) → Type 0
+AreDetailsBy Others limit base Brief code labels fault lines = lines ≡ []
+AreDetailsBy Others limit base Object code labels fault lines = lines ≡ []
+AreDetailsBy Others limit base Usual code labels fault lines = Explains limit base code labels fault lines
+AreDetailsBy Others limit base Calls code labels fault lines = Explains limit base code labels fault lines
+AreDetailsBy Others limit base detail.All code labels fault lines =
+    (usual others : List (List ℕ)) × (lines ≡ usual ++ others) × Explains limit base code labels fault usual
     × MatchOption (place_of fault) (others ≡ []) (λ at. Others (at - base) others)
 
 -- all lines on a refused source
-abbrev pub AreDetails : ℕ → ℕ → Detail → List ℕ → VetFault → List (List ℕ) → Type 0
-AreDetails limit base detail code fault lines = AreDetailsBy (ReportsOthers limit base code) limit base detail code fault lines
+abbrev pub AreDetails : ℕ → ℕ → Detail → List ℕ → List Label → VetFault → List (List ℕ) → Type 0
+AreDetails limit base detail code labels fault lines =
+    AreDetailsBy (ReportsOthers limit base code labels) limit base detail code labels fault lines
 
 -- some first ones of them
-abbrev pub AreFirstDetails : ℕ → ℕ → Detail → List ℕ → VetFault → List (List ℕ) → Type 0
-AreFirstDetails limit base detail code fault lines = AreDetailsBy (ReportsSome limit base code) limit base detail code fault lines
+abbrev pub AreFirstDetails : ℕ → ℕ → Detail → List ℕ → List Label → VetFault → List (List ℕ) → Type 0
+AreFirstDetails limit base detail code labels fault lines =
+    AreDetailsBy (ReportsSome limit base code labels) limit base detail code labels fault lines
 
 -- what is written of a source that has this fault, with these lines of details
-abbrev pub refused_text : Detail → ℕ → List ℕ → List ℕ → VetFault → List (List ℕ) → List ℕ
-refused_text Object base name code fault lines = reply_line (refused_object base name code fault (place_of fault))
-refused_text _ base name code fault lines =
+abbrev pub refused_text : Detail → ℕ → List ℕ → List ℕ → List Label → VetFault → List (List ℕ) → List ℕ
+refused_text Object base name code labels fault lines = reply_line (refused_object base name code labels fault (place_of fault))
+refused_text _ base name code labels fault lines =
     said_of name (reply_line (refused_reply (fault_words fault))) ++ flat_map detail_line lines
 
 -- the code has a fault, and this is written of it, with details of which this holds
-pub record IsRefusedBy (limit base : ℕ) (detail : Detail) (Details : VetFault → List (List ℕ) → Type 0) (name code text : List ℕ) : Type 0 where
+pub record IsRefusedBy (limit base : ℕ) (detail : Detail) (Details : VetFault → List (List ℕ) → Type 0) (name code : List ℕ)
+    (labels : List Label) (text : List ℕ) : Type 0 where
   pub fault : VetFault
   pub has : HasFault base limit code fault
   pub real : fault ≢ OutOfMemory
   pub lines : List (List ℕ)
   pub details : Details fault lines
-  pub written : text ≡ refused_text detail base name code fault lines
+  pub written : text ≡ refused_text detail base name code labels fault lines
 
 -- and this is all of it
-abbrev pub IsRefused : ℕ → ℕ → Detail → List ℕ → List ℕ → List ℕ → Type 0
-IsRefused limit base detail name code text = IsRefusedBy limit base detail (AreDetails limit base detail code) name code text
+abbrev pub IsRefused : ℕ → ℕ → Detail → List ℕ → List ℕ → List Label → List ℕ → Type 0
+IsRefused limit base detail name code labels text =
+    IsRefusedBy limit base detail (AreDetails limit base detail code labels) name code labels text
 
 -- what is written of a source, and whether it is refused
 pub record Told : Type 0 where
@@ -140,34 +148,34 @@ pub record Told : Type 0 where
   pub text : List ℕ
 
 -- a source is accepted or refused, and this is written of it
-abbrev pub Tells : ℕ → ℕ → Detail → List ℕ → List ℕ → Told → Type 0
-Tells limit base detail name code told =
+abbrev pub Tells : ℕ → ℕ → Detail → List ℕ → List ℕ → List Label → Told → Type 0
+Tells limit base detail name code labels told =
     ((told.refused ≡ false) × IsAccepted limit base detail name code told.text)
-    ⊎ ((told.refused ≡ true) × IsRefused limit base detail name code told.text)
+    ⊎ ((told.refused ≡ true) × IsRefused limit base detail name code labels told.text)
 
 -- exactly what is to be written of these sources was written, in their order, and this is how many are refused
 pub record HasReported (limit base : ℕ) (detail : Detail) (before after : Option (List ℕ)) (sources : List Source) (count : ℕ) : Type 0 where
   pub each : List Told
-  pub tells : AllZip (λ source told. Tells limit base detail source.name.items source.code.items told) sources each
+  pub tells : AllZip (λ source told. Tells limit base detail source.name.items source.code.items source.labels told) sources each
   pub refused : count ≡ count_by (λ told. told.refused) each
   pub written : Appends before after (flat_map (λ told. told.text) each)
 
 -- what may be written of a source before the last byte of it is
-abbrev pub BeginsToTell : ℕ → ℕ → Detail → List ℕ → List ℕ → List ℕ → Type 0
-BeginsToTell limit base detail name code text =
+abbrev pub BeginsToTell : ℕ → ℕ → Detail → List ℕ → List ℕ → List Label → List ℕ → Type 0
+BeginsToTell limit base detail name code labels text =
     IsAccepted limit base detail name code text
-    ⊎ IsRefusedBy limit base detail (AreFirstDetails limit base detail code) name code text
+    ⊎ IsRefusedBy limit base detail (AreFirstDetails limit base detail code labels) name code labels text
 
 -- a beginning of what is to be written of a source, or nothing
-abbrev pub IsBeginning : ℕ → ℕ → Detail → List ℕ → List ℕ → List ℕ → Type 0
-IsBeginning limit base detail name code part =
-    (part ≡ []) ⊎ ((text : List ℕ) × (count : ℕ) × BeginsToTell limit base detail name code text × (part ≡ take count text))
+abbrev pub IsBeginning : ℕ → ℕ → Detail → List ℕ → List ℕ → List Label → List ℕ → Type 0
+IsBeginning limit base detail name code labels part =
+    (part ≡ []) ⊎ ((text : List ℕ) × (count : ℕ) × BeginsToTell limit base detail name code labels text × (part ≡ take count text))
 
 -- of the next source, if there is one, a beginning may have been written
 abbrev pub IsBeginningOfNext : ℕ → ℕ → Detail → List Source → List ℕ → Type 0
 IsBeginningOfNext limit base detail [] part = part ≡ []
 IsBeginningOfNext limit base detail (source ∷ others) part =
-    IsBeginning limit base detail source.name.items source.code.items part
+    IsBeginning limit base detail source.name.items source.code.items source.labels part
 
 -- all that is to be written of some first sources was written, and of the next one, if there is one, nothing or a
 -- beginning
@@ -176,7 +184,7 @@ pub record HasBegunReport (limit base : ℕ) (detail : Detail) (before after : O
   pub others : List Source
   pub split : sources ≡ first ++ others
   pub each : List Told
-  pub tells : AllZip (λ source told. Tells limit base detail source.name.items source.code.items told) first each
+  pub tells : AllZip (λ source told. Tells limit base detail source.name.items source.code.items source.labels told) first each
   pub part : List ℕ
   pub next : IsBeginningOfNext limit base detail others part
   pub written : Appends before after (flat_map (λ told. told.text) each ++ part)

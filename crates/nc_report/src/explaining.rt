@@ -1,11 +1,13 @@
-//! The lines on a fault: its bundle, where a refused transfer goes, and what the fault means.
+//! The lines on a fault: the name of its address, its bundle, where a refused transfer goes, and what the fault means.
 
 ghost use Rattle.std.specs.Prelude.{◌≡◌, ◌++◌, OnOk};
 ghost use Rattle.nc_report.specs.Report.{place_of, detail_line, AddsTarget, Explains};
 ghost use Rattle.nc_report.specs.machinery.Found.{IsPlaced, IsRealTarget, AddsLines};
 
 use crate::advice::words_about;
+use crate::labels::Labels;
 use crate::listing::push_bundle;
+use crate::naming::push_label;
 use crate::targets::push_target;
 use nc_decode::BUNDLE;
 use nc_vet::VetFault;
@@ -51,17 +53,20 @@ fn push_more(
     }
 }
 
-/// Adds the bundle of a fault, if it has an address, where a refused direct transfer goes, and what the fault means.
+/// Adds the name of a fault's address and its bundle, if it has an address, where a refused direct transfer goes, and what the
+/// fault means.
 pub(crate) fn push_explained(
+    alloc: Global,
     out: &mut Vec<u8>,
     limit: u32,
     base: u32,
     code: &[u8],
+    labels: &Labels,
     fault: VetFault,
 ) -> Result<(), AllocError>
     requires placed { IsPlaced base code.now fault }
     requires real { IsRealTarget limit base code.now fault }
-    ensures { OnOk result (AddsLines out.old.items out.new.items (Explains limit base code.now fault)) }
+    ensures { OnOk result (AddsLines out.old.items out.new.items (Explains limit base code.now labels.now fault)) }
 {
     let Some(at) = place_of(fault) else {
         return push_words(out, words_about(code, fault, 0));
@@ -70,6 +75,7 @@ pub(crate) fn push_explained(
     let place = (at - base) as usize;
     let before = place % size;
     let start = place - before;
+    push_label(alloc, out, labels, at)?;
     push_bundle(out, base + start as u32, &code[start..start + size], before)?;
     push_more(out, limit, base, code, fault)?;
     push_words(out, words_about(code, fault, place))

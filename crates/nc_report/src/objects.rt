@@ -6,11 +6,14 @@ ghost use Rattle.nc_vet.specs.declared.fault.VetFault.TheVariants as vet;
 ghost use Rattle.nc_lines.specs.Replies.{reply_line, address_digits};
 ghost use Rattle.nc_report.specs.Report.{place_of};
 ghost use Rattle.nc_report.specs.Objects.{escaped, string_of, file_member, string_member, number_member, fault_name};
-ghost use Rattle.nc_report.specs.Objects.{place_members, accepted_object, refused_object, file_object};
+ghost use Rattle.nc_report.specs.Labels.{label_at};
+ghost use Rattle.nc_report.specs.Objects.{symbol_member, place_members, accepted_object, refused_object, file_object};
 ghost use Rattle.nc_report.specs.machinery.Found.{IsPlaced};
 
 use crate::advice::words_about;
 use crate::explaining::place_of;
+use crate::labels::Labels;
+use crate::naming::symbol_words;
 use crate::numbers::{push_byte, push_number};
 use nc_lines::push_address;
 use nc_vet::VetFault;
@@ -117,21 +120,34 @@ fn fault_name(fault: VetFault) -> Result<&'static [u8], AllocError>
     }
 }
 
-/// Adds the members on a fault's address, if it has one, and on what the fault means.
+/// Adds the member that names an address, if it has a label.
+fn push_symbol(alloc: Global, out: &mut Vec<u8>, labels: &Labels, at: u32) -> Result<(), AllocError>
+    ensures { OnOk result (out.new.items ≡ out.old.items ++ symbol_member (label_at labels.now at) at) }
+{
+    let Some(label) = labels.of(at) else {
+        return Ok(());
+    };
+    let words = symbol_words(alloc, label, at)?;
+    push_member(out, b"symbol", &words)
+}
+
+/// Adds the members on a fault's address, if it has one, on the name of that, and on what the fault means.
 fn push_places(
     alloc: Global,
     out: &mut Vec<u8>,
     base: u32,
     code: &[u8],
+    labels: &Labels,
     fault: VetFault,
 ) -> Result<(), AllocError>
     requires { IsPlaced base code.now fault }
-    ensures { OnOk result (out.new.items ≡ out.old.items ++ place_members base code.now fault (place_of fault)) }
+    ensures { OnOk result (out.new.items ≡ out.old.items ++ place_members base code.now labels.now fault (place_of fault)) }
 {
     let Some(at) = place_of(fault) else {
         return push_member(out, b"meaning", words_about(code, fault, 0));
     };
     push_place(alloc, out, b"at", at)?;
+    push_symbol(alloc, out, labels, at)?;
     push_member(
         out,
         b"meaning",
@@ -165,17 +181,18 @@ pub(crate) fn push_refused_object(
     name: &[u8],
     base: u32,
     code: &[u8],
+    labels: &Labels,
     fault: VetFault,
 ) -> Result<(), AllocError>
     requires { IsPlaced base code.now fault }
     ensures { OnOk result ((fault ≢ vet.OutOfMemory) × (out.new.items ≡ out.old.items
-        ++ reply_line (refused_object base name.now code.now fault (place_of fault)))) }
+        ++ reply_line (refused_object base name.now code.now labels.now fault (place_of fault)))) }
 {
     push_file(out, name)?;
     push_place(alloc, out, b"address", base)?;
     push_member(out, b"verdict", b"refused")?;
     push_member(out, b"fault", fault_name(fault)?)?;
-    push_places(alloc, out, base, code, fault)?;
+    push_places(alloc, out, base, code, labels, fault)?;
     push_end(out)
 }
 

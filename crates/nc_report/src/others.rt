@@ -14,6 +14,8 @@ use crate::aim::push_aim;
 use crate::explaining::push_words;
 use crate::fault::ReportFault;
 use crate::further::{fault_at, is_begun};
+use crate::labels::Labels;
+use crate::naming::push_label;
 use crate::numbers::{push_byte, push_bytes};
 use crate::spot::{Spot, spot_at};
 use crate::steps::read_spots;
@@ -113,10 +115,12 @@ fn push_goes(
 
 /// Adds the lines on a fault at this place.
 fn push_also(
+    alloc: Global,
     out: &mut Vec<u8>,
     base: u32,
     limit: u32,
     code: &[u8],
+    labels: &Labels,
     spots: &[Spot],
     k: usize,
     fault: VetFault,
@@ -126,11 +130,12 @@ fn push_also(
     requires each { length spots.now ≡ length code.now }
     requires within { k < length code.now }
     ensures { OnOk result (out.new.items ≡ out.old.items
-        ++ flat_map detail_line (lines_on base limit code.now spots.now k (Some fault))) }
+        ++ flat_map detail_line (lines_on base limit code.now labels.now spots.now k (Some fault))) }
 {
     out.extend_from_slice(b"  also ")?;
     push_name(out, fault)?;
     out.push(b'\n')?;
+    push_label(alloc, out, labels, base + k as u32)?;
     push_listing(out, base, code, spots, k)?;
     push_goes(out, base, limit, code, spots, k, fault)?;
     push_words(out, words_about(code, fault, k))
@@ -138,10 +143,12 @@ fn push_also(
 
 /// Adds the lines on a place of the code, if there is a fault that isn't the chunk's own.
 fn push_place(
+    alloc: Global,
     out: &mut Vec<u8>,
     base: u32,
     limit: u32,
     code: &[u8],
+    labels: &Labels,
     spots: &[Spot],
     own: usize,
     k: usize,
@@ -150,13 +157,13 @@ fn push_place(
     requires whole { length code.now % 32 ≡ 0 }
     requires each { length spots.now ≡ length code.now }
     requires within { k < length code.now }
-    ensures { OnOk result (out.new.items ≡ out.old.items ++ flat_map detail_line (lines_at base limit code.now spots.now own k)) }
+    ensures { OnOk result (out.new.items ≡ out.old.items ++ flat_map detail_line (lines_at base limit code.now labels.now spots.now own k)) }
 {
     if k == own {
         return Ok(());
     }
     match fault_at(base, limit, code, spots, k) {
-        Some(fault) => push_also(out, base, limit, code, spots, k, fault),
+        Some(fault) => push_also(alloc, out, base, limit, code, labels, spots, k, fault),
         None => Ok(()),
     }
 }
@@ -182,10 +189,12 @@ fn write_much<W: Write>(out: &mut Vec<u8>, writer: &mut W) -> Result<(), ReportF
 
 /// Writes the lines on all places of the code. What isn't written is kept.
 fn write_places<W: Write>(
+    alloc: Global,
     out: &mut Vec<u8>,
     base: u32,
     limit: u32,
     code: &[u8],
+    labels: &Labels,
     spots: &[Spot],
     own: usize,
     writer: &mut W,
@@ -194,13 +203,13 @@ fn write_places<W: Write>(
     requires whole { length code.now % 32 ≡ 0 }
     requires each { length spots.now ≡ length code.now }
     ensures ok { OnOk result (WritesLines (W.contents writer.old) (W.contents writer.new) out.old.items out.new.items
-        (AreLinesTo base limit code.now spots.now own (length code.now))) }
+        (AreLinesTo base limit code.now labels.now spots.now own (length code.now))) }
     ensures cut { OnErr result (CutsLines (W.contents writer.old) (W.contents writer.new) out.old.items
-        (AreSomeLines base limit code.now spots.now own)) }
+        (AreSomeLines base limit code.now labels.now spots.now own)) }
     ensures faults { IfErr result IsOfWriting }
 {
     for k in 0..code.len() {
-        match push_place(out, base, limit, code, spots, own, k) {
+        match push_place(alloc, out, base, limit, code, labels, spots, own, k) {
             Ok(()) => {}
             Err(_) => return Err(ReportFault::OutOfMemory),
         }
@@ -220,20 +229,21 @@ pub(crate) fn write_others<W: Write>(
     base: u32,
     limit: u32,
     code: &[u8],
+    labels: &Labels,
     own: usize,
     writer: &mut W,
 ) -> Result<(), ReportFault>
     requires { HasGoodSpan base limit (length code.now) }
     ensures ok { OnOk result (WritesLines (W.contents writer.old) (W.contents writer.new) out.old.items out.new.items
-        (ReportsOthers limit base code.now own)) }
+        (ReportsOthers limit base code.now labels.now own)) }
     ensures cut { OnErr result (CutsLines (W.contents writer.old) (W.contents writer.new) out.old.items
-        (ReportsSome limit base code.now own)) }
+        (ReportsSome limit base code.now labels.now own)) }
     ensures faults { IfErr result IsOfWriting }
 {
     let Ok(spots) = read_spots(alloc, code) else {
         return Err(ReportFault::OutOfMemory);
     };
-    match write_places(out, base, limit, code, &spots, own, writer) {
+    match write_places(alloc, out, base, limit, code, labels, &spots, own, writer) {
         Ok(()) => {}
         Err(fault) => return Err(fault),
     }

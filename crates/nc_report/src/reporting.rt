@@ -4,11 +4,11 @@ ghost use Rattle.std.specs.Prelude.{◌≡◌, ◌↔◌, All, map, length, IfOk
 ghost use Rattle.nc_decode.specs.Bundles.{IsRegionSize, limit_after};
 ghost use Rattle.nc_work.specs.Verdicts.{AreWorkers};
 ghost use Rattle.nc_report.specs.Report.{HasReported, HasBegunReport};
-ghost use Rattle.nc_report.specs.machinery.Found.{IsFinding, values_in, job_of, IsOfWriting, HasToldAll, HasToldFirst};
+ghost use Rattle.nc_report.specs.machinery.Found.{IsFinding, values_in, title_of, job_of, IsOfWriting, HasToldAll, HasToldFirst};
 
 use crate::detail::Detail;
 use crate::fault::ReportFault;
-use crate::source::Source;
+use crate::source::{Source, Title};
 use crate::telling::tell;
 use nc_decode::{BUNDLE, START, is_region_size};
 use nc_work::{Job, Open, Verdict, vet_all};
@@ -17,31 +17,31 @@ use std::io::Write;
 use std::sync::Wait;
 use std::thread::Threads;
 
-/// The names of sources, and a job for each. The code isn't copied.
+/// The titles of sources, and a job for each. The code isn't copied.
 #[derive(Drop)]
 struct Parted {
-    names: Vec<Vec<u8>>,
+    titles: Vec<Title>,
     jobs: Vec<Job>,
 }
 
-/// Parts sources into names and jobs.
+/// Parts sources into titles and jobs.
 fn part(alloc: Global, sources: Vec<Source>, base: u32, limit: u32) -> Result<Parted, AllocError>
-    ensures names { IfOk result (λ p. p.names.items ≡ map (λ s. s.name) sources.items) }
+    ensures titles { IfOk result (λ p. p.titles.items ≡ map title_of sources.items) }
     ensures jobs { IfOk result (λ p. p.jobs.items ≡ map (job_of base limit) sources.items) }
 {
-    let mut names = Vec::with_capacity(alloc, sources.len())?;
+    let mut titles = Vec::with_capacity(alloc, sources.len())?;
     let mut jobs = Vec::with_capacity(alloc, sources.len())?;
-    for Source { name, code } in sources {
-        names.push(name)?;
+    for Source { name, code, labels } in sources {
+        titles.push(Title { name, labels })?;
         jobs.push(Job { base, limit, code })?;
     }
-    Ok(Parted { names, jobs })
+    Ok(Parted { titles, jobs })
 }
 
 /// Writes what is said of each source, and gives how many are refused.
 fn tell_all<W: Write>(
     alloc: Global,
-    names: Vec<Vec<u8>>,
+    titles: Vec<Title>,
     verdicts: Vec<Verdict>,
     base: u32,
     limit: u32,
@@ -49,21 +49,21 @@ fn tell_all<W: Write>(
     writer: &mut W,
 ) -> Result<usize, ReportFault>
     requires findings { All (IsFinding base limit) verdicts.items }
-    requires paired { length names.items ≡ length verdicts.items }
-    ensures ok { IfOk result (HasToldAll limit base detail (values_in names.items verdicts.items)
+    requires paired { length titles.items ≡ length verdicts.items }
+    ensures ok { IfOk result (HasToldAll limit base detail (values_in titles.items verdicts.items)
         (W.contents writer.old) (W.contents writer.new)) }
-    ensures cut { OnErr result (HasToldFirst limit base detail (values_in names.items verdicts.items)
+    ensures cut { OnErr result (HasToldFirst limit base detail (values_in titles.items verdicts.items)
         (W.contents writer.old) (W.contents writer.new)) }
     ensures faults { IfErr result IsOfWriting }
 {
-    let mut left = names.into_iter();
+    let mut left = titles.into_iter();
     let mut refused = 0;
     for verdict in verdicts {
-        // each verdict has a name
-        let Some(name) = left.next() else {
+        // each verdict has a title
+        let Some(title) = left.next() else {
             return Ok(refused);
         };
-        match tell(alloc, name, verdict, base, limit, detail, writer) {
+        match tell(alloc, title, verdict, base, limit, detail, writer) {
             Ok(more) => refused += more,
             Err(fault) => return Err(fault),
         }
@@ -76,7 +76,8 @@ fn tell_all<W: Write>(
 ///
 /// Of an accepted source one line is written: its name, `ok`, the numbers of its bytes and of its instructions. Of a
 /// refused one the first line is its name and what `vet_lines` replies to a chunk with its fault; lines after it begin
-/// with two spaces, and `detail` says which they are. Names are written as they are.
+/// with two spaces, and `detail` says which they are. The names of sources are written as they are; those of labels without
+/// control bytes.
 ///
 /// All sources are vetted before a byte is written. What is promised of bytes holds of a writer that tells its own;
 /// nothing is promised of when a device fails.
@@ -112,13 +113,13 @@ pub fn report<W: Write, T: Threads + Wait + Sync>(
         return Err(ReportFault::BadWorkers);
     }
     let limit = START + BUNDLE * bundles;
-    let Ok(Parted { names, jobs }) = part(alloc, sources, base, limit) else {
+    let Ok(Parted { titles, jobs }) = part(alloc, sources, base, limit) else {
         return Err(ReportFault::OutOfMemory);
     };
     let Ok(verdicts) = vet_all(rt, jobs, workers, &Open) else {
         return Err(ReportFault::OutOfMemory);
     };
-    let refused = match tell_all(alloc, names, verdicts, base, limit, detail, writer) {
+    let refused = match tell_all(alloc, titles, verdicts, base, limit, detail, writer) {
         Ok(refused) => refused,
         Err(fault) => return Err(fault),
     };

@@ -1,9 +1,10 @@
 //! The reading of a source.
 
-ghost use Rattle.std.specs.Prelude.{◌≡◌, ◌≤◌, ◌<◌, ℕ, List, length, vec_len, Err, IfOk, OnOk, IfSome, IsErrOf};
+ghost use Rattle.std.specs.Prelude.{◌≡◌, ◌≤◌, ◌<◌, ℕ, List, [], length, vec_len, Err, IfOk, OnOk, IfSome, IsErrOf};
 ghost use Rattle.std.specs.Io.KnownBytes.{Consumes, IsAtEnd};
 
 use crate::fault::SourceFault;
+use crate::labels::Labels;
 use std::alloc::Global;
 use std::io::Read;
 
@@ -15,6 +16,15 @@ pub const MOST_BYTES: usize = 67_108_864;
 pub struct Source {
     pub name: Vec<u8>,
     pub code: Vec<u8>,
+    /// Names for addresses of the code, where these are known.
+    pub labels: Labels,
+}
+
+/// What is said of a source besides its code.
+#[derive(Drop)]
+pub(crate) struct Title {
+    pub name: Vec<u8>,
+    pub labels: Labels,
 }
 
 /// Reads a source to its end. Room for `expected` bytes is made before; it is only a guess.
@@ -27,9 +37,10 @@ pub fn read_source<R: Read>(
     reader: &mut R,
     expected: usize,
 ) -> Result<Source, SourceFault>
-    // All bytes that the reader had, and the name as it was.
+    // All bytes that the reader had, the name as it was, and no labels.
     ensures name { IfOk result (λ source. source.name ≡ name) }
     ensures code { IfOk result (λ source. IfSome (R.remaining reader.old) (λ input. source.code.items ≡ input)) }
+    ensures labels { IfOk result (λ source. source.labels ≡ []) }
     ensures read { OnOk result (IsAtEnd (R.remaining reader.new)) }
     ensures fits { IfOk result (λ source. vec_len source.code ≤ MOST_BYTES) }
 
@@ -54,7 +65,8 @@ pub fn read_source<R: Read>(
             Err(_) => return Err(SourceFault::ReadFailed),
         };
         if count == 0 {
-            return Ok(Source { name, code });
+            let labels = Labels::none(alloc);
+            return Ok(Source { name, code, labels });
         }
         if MOST_BYTES - code.len() < count {
             return Err(SourceFault::TooLong);

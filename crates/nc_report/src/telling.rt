@@ -12,10 +12,12 @@ use crate::counting::count_instructions;
 use crate::detail::Detail;
 use crate::explaining::{place_of, push_explained};
 use crate::fault::ReportFault;
+use crate::labels::Labels;
 use crate::numbers::push_number;
 use crate::objects::{push_accepted_object, push_refused_object};
 use crate::others::write_others;
 use crate::outside::push_outside;
+use crate::source::Title;
 use nc_lines::{push_fault, write_out};
 use nc_vet::{VetFault, Vetted};
 use nc_work::Verdict;
@@ -80,18 +82,20 @@ fn push_accepted(
 /// Writes what is said of a source that is accepted.
 fn tell_accepted<W: Write>(
     alloc: Global,
-    name: &[u8],
+    title: &Title,
     chunk: &Vetted,
     detail: Detail,
     writer: &mut W,
 ) -> Result<(), ReportFault>
     ensures ok { OnOk result ((text : List ℕ)
-        × IsAccepted chunk.now.limit chunk.now.base detail name.now chunk.now.code text
+        × IsAccepted chunk.now.limit chunk.now.base detail title.now.name.items chunk.now.code text
         × Appends (W.contents writer.old) (W.contents writer.new) text) }
     ensures cut { OnErr result
-        (IsCutOff chunk.now.limit chunk.now.base detail name.now chunk.now.code (W.contents writer.old) (W.contents writer.new)) }
+        (IsCutOff chunk.now.limit chunk.now.base detail title.now.name.items chunk.now.code title.now.labels
+        (W.contents writer.old) (W.contents writer.new)) }
     ensures faults { IfErr result IsOfWriting }
 {
+    let name = title.name.as_slice();
     let mut out = Vec::new(alloc);
     match push_accepted(alloc, &mut out, name, chunk, detail) {
         Ok(()) => {}
@@ -111,15 +115,16 @@ fn push_refused(
     limit: u32,
     base: u32,
     code: &[u8],
+    labels: &Labels,
     fault: VetFault,
     detail: Detail,
 ) -> Result<(), AllocError>
     requires placed { IsPlaced base code.now fault }
     requires real { IsRealTarget limit base code.now fault }
-    ensures { OnOk result (AddsRefused out.old.items out.new.items detail name.now limit base code.now fault) }
+    ensures { OnOk result (AddsRefused out.old.items out.new.items detail name.now limit base code.now labels.now fault) }
 {
     if detail == Detail::Object {
-        return push_refused_object(alloc, out, name, base, code, fault);
+        return push_refused_object(alloc, out, name, base, code, labels, fault);
     }
     out.extend_from_slice(name)?;
     out.extend_from_slice(b": ")?;
@@ -127,7 +132,7 @@ fn push_refused(
     if detail == Detail::Brief {
         return Ok(());
     }
-    push_explained(out, limit, base, code, fault)
+    push_explained(alloc, out, limit, base, code, labels, fault)
 }
 
 /// Writes what is said of the other faults of a refused source, where it is asked for. What isn't written is kept.
@@ -137,15 +142,16 @@ fn write_more<W: Write>(
     base: u32,
     limit: u32,
     code: &[u8],
+    labels: &Labels,
     fault: VetFault,
     detail: Detail,
     writer: &mut W,
 ) -> Result<(), ReportFault>
     requires { HasFault base limit code.now fault }
     ensures ok { OnOk result (WritesLines (W.contents writer.old) (W.contents writer.new) out.old.items out.new.items
-        (AreMore detail limit base code.now fault)) }
+        (AreMore detail limit base code.now labels.now fault)) }
     ensures cut { OnErr result (CutsLines (W.contents writer.old) (W.contents writer.new) out.old.items
-        (AreSomeMore detail limit base code.now fault)) }
+        (AreSomeMore detail limit base code.now labels.now fault)) }
     ensures faults { IfErr result IsOfWriting }
 {
     match detail {
@@ -158,13 +164,14 @@ fn write_more<W: Write>(
     let Some(at) = place_of(fault) else {
         return Ok(());
     };
-    write_others(alloc, out, base, limit, code, (at - base) as usize, writer)
+    let own = (at - base) as usize;
+    write_others(alloc, out, base, limit, code, labels, own, writer)
 }
 
 /// Writes what is said of a source that is refused.
 fn tell_refused<W: Write>(
     alloc: Global,
-    name: &[u8],
+    title: &Title,
     base: u32,
     limit: u32,
     code: &[u8],
@@ -173,17 +180,24 @@ fn tell_refused<W: Write>(
     writer: &mut W,
 ) -> Result<(), ReportFault>
     requires { HasFault base limit code.now fault }
-    ensures ok { OnOk result ((text : List ℕ) × IsRefused limit base detail name.now code.now text
+    ensures ok { OnOk result ((text : List ℕ) × IsRefused limit base detail title.now.name.items code.now title.now.labels text
         × Appends (W.contents writer.old) (W.contents writer.new) text) }
-    ensures cut { OnErr result (IsCutOff limit base detail name.now code.now (W.contents writer.old) (W.contents writer.new)) }
+    ensures cut { OnErr result (IsCutOff limit base detail title.now.name.items code.now title.now.labels
+        (W.contents writer.old) (W.contents writer.new)) }
     ensures faults { IfErr result IsOfWriting }
 {
+    let name = title.name.as_slice();
+    let labels = &title.labels;
     let mut out = Vec::new(alloc);
-    match push_refused(alloc, &mut out, name, limit, base, code, fault, detail) {
+    match push_refused(
+        alloc, &mut out, name, limit, base, code, labels, fault, detail,
+    ) {
         Ok(()) => {}
         Err(_) => return Err(ReportFault::OutOfMemory),
     }
-    match write_more(alloc, &mut out, base, limit, code, fault, detail, writer) {
+    match write_more(
+        alloc, &mut out, base, limit, code, labels, fault, detail, writer,
+    ) {
         Ok(()) => {}
         Err(fault) => return Err(fault),
     }
@@ -196,7 +210,7 @@ fn tell_refused<W: Write>(
 /// Writes what is said of a source with this verdict, and gives how many are refused: one or none.
 pub(crate) fn tell<W: Write>(
     alloc: Global,
-    name: Vec<u8>,
+    title: Title,
     verdict: Verdict,
     base: u32,
     limit: u32,
@@ -204,18 +218,19 @@ pub(crate) fn tell<W: Write>(
     writer: &mut W,
 ) -> Result<usize, ReportFault>
     requires { IsFinding base limit verdict }
-    ensures ok { IfOk result (TellsOne limit base detail name.items (code_in verdict) (W.contents writer.old) (W.contents writer.new)) }
-    ensures cut { OnErr result
-        (IsCutOff limit base detail name.items (code_in verdict) (W.contents writer.old) (W.contents writer.new)) }
+    ensures ok { IfOk result (TellsOne limit base detail title.name.items (code_in verdict) title.labels
+        (W.contents writer.old) (W.contents writer.new)) }
+    ensures cut { OnErr result (IsCutOff limit base detail title.name.items (code_in verdict) title.labels
+        (W.contents writer.old) (W.contents writer.new)) }
     ensures faults { IfErr result IsOfWriting }
 {
     match verdict {
-        Ok(chunk) => match tell_accepted(alloc, &name, &chunk, detail, writer) {
+        Ok(chunk) => match tell_accepted(alloc, &title, &chunk, detail, writer) {
             Ok(()) => Ok(0),
             Err(fault) => Err(fault),
         },
         Err((code, fault)) => {
-            match tell_refused(alloc, &name, base, limit, &code, fault, detail, writer) {
+            match tell_refused(alloc, &title, base, limit, &code, fault, detail, writer) {
                 Ok(()) => Ok(1),
                 Err(fault) => Err(fault),
             }

@@ -2,6 +2,7 @@
 
 mod devices;
 mod filled;
+mod labels;
 mod lengths;
 mod meanings;
 mod objects;

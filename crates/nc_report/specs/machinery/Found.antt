@@ -1,4 +1,4 @@
--- Machinery of the proofs, cited by no public contract: verdicts with the names of their sources, and what was written.
+-- Machinery of the proofs, cited by no public contract: verdicts with the titles of their sources, and what was written.
 use Rattle.std.specs.Prelude.{◌≡◌, ◌≢◌, ℕ, ◌+◌, ◌-◌, ◌%◌, ◌<◌, ◌≤◌, ◌⊎◌, List, [], ◌∷◌, ◌++◌, length, take, Result, Ok, Err, ⊤}
 use Rattle.std.specs.Prelude.{Option, MatchOption, All, if◌then◌else◌}
 use Rattle.std.specs.List.{AllZip, flat_map, count_by}
@@ -16,6 +16,8 @@ use Rattle.nc_report.specs.declared.detail.Detail.TheVariants as detail
 use Rattle.nc_report.specs.declared.fault.ReportFault.{ReportFault}
 use Rattle.nc_report.specs.declared.fault.ReportFault.TheVariants.{WriteFailed}
 use Rattle.nc_report.specs.declared.fault.ReportFault.TheVariants as report
+use Rattle.nc_report.specs.declared.labels.Label.{Label}
+use Rattle.nc_report.specs.declared.source.Title.{Title}
 use Rattle.nc_report.specs.declared.source.Source.{Source}
 use Rattle.nc_report.specs.declared.spot.Spot.{Spot}
 use Rattle.nc_report.specs.Listing.{barred, ShowsBundle}
@@ -36,16 +38,21 @@ code_in (Err e) = e.0.items
 pub record SourceValue : Type 0 where
   pub name : List ℕ
   pub code : List ℕ
+  pub labels : List Label
 
--- names with the code of the verdicts, as long as there are both
-abbrev pub values_in : List (Vec ℕ) → List (Result MarkedChunk (Vec ℕ × VetFault)) → List SourceValue
+-- the source of a title with the code of a verdict
+abbrev pub value_in : Title → Result MarkedChunk (Vec ℕ × VetFault) → SourceValue
+value_in title verdict = record { name = title.name.items; code = code_in verdict; labels = title.labels }
+
+-- those of titles with verdicts, as long as there are both
+abbrev pub values_in : List Title → List (Result MarkedChunk (Vec ℕ × VetFault)) → List SourceValue
 values_in [] verdicts = []
-values_in (name ∷ names) [] = []
-values_in (name ∷ names) (verdict ∷ verdicts) = record { name = name.items; code = code_in verdict } ∷ values_in names verdicts
+values_in (title ∷ titles) [] = []
+values_in (title ∷ titles) (verdict ∷ verdicts) = value_in title verdict ∷ values_in titles verdicts
 
 -- what is told of a source
 abbrev pub TellsValue : ℕ → ℕ → Detail → SourceValue → Told → Type 0
-TellsValue limit base detail value told = Tells limit base detail value.name value.code told
+TellsValue limit base detail value told = Tells limit base detail value.name value.code value.labels told
 
 -- Instructions inside their bundles end where the address is, and the code, which is whole bundles, goes on there.
 pub record StandsAt (base : ℕ) (code : List ℕ) (at : ℕ) : Type 0 where
@@ -106,9 +113,10 @@ pub record AddsAccepted (old new : List ℕ) (detail : Detail) (name : List ℕ)
   pub added : new ≡ old ++ (accepted_text detail chunk.base name (length chunk.code) count ++ flat_map detail_line lines)
 
 -- what is to be written of a source was written, and so many are refused, one or none
-pub record TellsOne (limit base : ℕ) (detail : Detail) (name code : List ℕ) (before after : Option (List ℕ)) (count : ℕ) : Type 0 where
+pub record TellsOne (limit base : ℕ) (detail : Detail) (name code : List ℕ) (labels : List Label) (before after : Option (List ℕ))
+    (count : ℕ) : Type 0 where
   pub told : Told
-  pub tells : Tells limit base detail name code told
+  pub tells : Tells limit base detail name code labels told
   pub counted : count ≡ (if told.refused then 1 else 0)
   pub written : Appends before after told.text
 
@@ -118,10 +126,10 @@ IsRealTarget limit base code (BadTarget at) = HasFault base limit code (BadTarge
 IsRealTarget limit base code _ = ⊤
 
 -- the lines on a fault, where they are asked for
-abbrev pub AreFirst : Detail → ℕ → ℕ → List ℕ → VetFault → List (List ℕ) → Type 0
-AreFirst Brief limit base code fault lines = lines ≡ []
-AreFirst Object limit base code fault lines = lines ≡ []
-AreFirst _ limit base code fault lines = Explains limit base code fault lines
+abbrev pub AreFirst : Detail → ℕ → ℕ → List ℕ → List Label → VetFault → List (List ℕ) → Type 0
+AreFirst Brief limit base code labels fault lines = lines ≡ []
+AreFirst Object limit base code labels fault lines = lines ≡ []
+AreFirst _ limit base code labels fault lines = Explains limit base code labels fault lines
 
 -- the other lines, of which this holds with the place of the fault, where they are asked for
 abbrev pub AreMoreBy : (ℕ → List (List ℕ) → Type 0) → Detail → ℕ → VetFault → List (List ℕ) → Type 0
@@ -129,27 +137,29 @@ AreMoreBy Others detail.All base fault lines = MatchOption (place_of fault) (lin
 AreMoreBy Others _ base fault lines = lines ≡ []
 
 -- all of them
-abbrev pub AreMore : Detail → ℕ → ℕ → List ℕ → VetFault → List (List ℕ) → Type 0
-AreMore detail limit base code fault lines = AreMoreBy (ReportsOthers limit base code) detail base fault lines
+abbrev pub AreMore : Detail → ℕ → ℕ → List ℕ → List Label → VetFault → List (List ℕ) → Type 0
+AreMore detail limit base code labels fault lines = AreMoreBy (ReportsOthers limit base code labels) detail base fault lines
 
 -- some first ones
-abbrev pub AreSomeMore : Detail → ℕ → ℕ → List ℕ → VetFault → List (List ℕ) → Type 0
-AreSomeMore detail limit base code fault lines = AreMoreBy (ReportsSome limit base code) detail base fault lines
+abbrev pub AreSomeMore : Detail → ℕ → ℕ → List ℕ → List Label → VetFault → List (List ℕ) → Type 0
+AreSomeMore detail limit base code labels fault lines = AreMoreBy (ReportsSome limit base code labels) detail base fault lines
 
 -- the lines on the first so many places, by what is found there
-abbrev pub AreLinesTo : ℕ → ℕ → List ℕ → List Spot → ℕ → ℕ → List (List ℕ) → Type 0
-AreLinesTo base limit code spots own count lines = lines ≡ lines_to base limit code spots own count
+abbrev pub AreLinesTo : ℕ → ℕ → List ℕ → List Label → List Spot → ℕ → ℕ → List (List ℕ) → Type 0
+AreLinesTo base limit code labels spots own count lines = lines ≡ lines_to base limit code labels spots own count
 
 -- the lines on some first places
-abbrev pub AreSomeLines : ℕ → ℕ → List ℕ → List Spot → ℕ → List (List ℕ) → Type 0
-AreSomeLines base limit code spots own lines = (count : ℕ) × (count ≤ length code) × AreLinesTo base limit code spots own count lines
+abbrev pub AreSomeLines : ℕ → ℕ → List ℕ → List Label → List Spot → ℕ → List (List ℕ) → Type 0
+AreSomeLines base limit code labels spots own lines =
+    (count : ℕ) × (count ≤ length code) × AreLinesTo base limit code labels spots own count lines
 
 -- what is said of a refused chunk was added, but for its other faults
-pub record AddsRefused (old new : List ℕ) (detail : Detail) (name : List ℕ) (limit base : ℕ) (code : List ℕ) (fault : VetFault) : Type 0 where
+pub record AddsRefused (old new : List ℕ) (detail : Detail) (name : List ℕ) (limit base : ℕ) (code : List ℕ) (labels : List Label)
+    (fault : VetFault) : Type 0 where
   pub real : fault ≢ OutOfMemory
   pub lines : List (List ℕ)
-  pub first : AreFirst detail limit base code fault lines
-  pub added : new ≡ old ++ refused_text detail base name code fault lines
+  pub first : AreFirst detail limit base code labels fault lines
+  pub added : new ≡ old ++ refused_text detail base name code labels fault lines
 
 -- of a text that goes on by lines a front was written, and the rest is kept
 pub record WritesLines (before after : Option (List ℕ)) (old new : List ℕ) (Says : List (List ℕ) → Type 0) : Type 0 where
@@ -171,18 +181,18 @@ abbrev pub IsOfWriting : ReportFault → Type 0
 IsOfWriting fault = (fault ≡ report.OutOfMemory) ⊎ (fault ≡ WriteFailed)
 
 -- a beginning of what is to be written of a source was written
-pub record IsCutOff (limit base : ℕ) (detail : Detail) (name code : List ℕ) (before after : Option (List ℕ)) : Type 0 where
+pub record IsCutOff (limit base : ℕ) (detail : Detail) (name code : List ℕ) (labels : List Label) (before after : Option (List ℕ)) : Type 0 where
   pub part : List ℕ
-  pub begins : IsBeginning limit base detail name code part
+  pub begins : IsBeginning limit base detail name code labels part
   pub written : Appends before after part
 
--- how far the telling has come: some sources are told, and the names and verdicts that are left are of the others
-pub record HasToldSome (limit base : ℕ) (detail : Detail) (values : List SourceValue) (names : List (Vec ℕ))
+-- how far the telling has come: some sources are told, and the titles and verdicts that are left are of the others
+pub record HasToldSome (limit base : ℕ) (detail : Detail) (values : List SourceValue) (titles : List Title)
     (verdicts : List (Result MarkedChunk (Vec ℕ × VetFault))) (before after : Option (List ℕ)) (count : ℕ) : Type 0 where
   pub done : List SourceValue
-  pub split : values ≡ done ++ values_in names verdicts
+  pub split : values ≡ done ++ values_in titles verdicts
   pub findings : All (IsFinding base limit) verdicts
-  pub paired : length names ≡ length verdicts
+  pub paired : length titles ≡ length verdicts
   pub each : List Told
   pub tells : AllZip (TellsValue limit base detail) done each
   pub refused : count ≡ count_by (λ told. told.refused) each
@@ -204,8 +214,12 @@ pub record HasToldFirst (limit base : ℕ) (detail : Detail) (values : List Sour
   pub each : List Told
   pub tells : AllZip (TellsValue limit base detail) first each
   pub part : List ℕ
-  pub next : IsBeginning limit base detail value.name value.code part
+  pub next : IsBeginning limit base detail value.name value.code value.labels part
   pub written : Appends before after (flat_map (λ told. told.text) each ++ part)
+
+-- a source and the title that it has
+abbrev pub title_of : Source → Title
+title_of source = record { name = source.name; labels = source.labels }
 
 -- a source and the job that it becomes
 abbrev pub job_of : ℕ → ℕ → Source → Job

@@ -1,6 +1,6 @@
 //! Sources and texts in which nops are left out.
 
-use nc_report::Source;
+use nc_report::{Labels, Source};
 use std::alloc::Global;
 use std::test::Fail;
 
@@ -11,7 +11,11 @@ pub fn source(alloc: Global, name: &[u8], bytes: &[u8], length: usize) -> Result
     let mut code = Vec::new(alloc);
     code.extend_from_slice(bytes)?;
     code.resize(length, 0x90)?;
-    Ok(Source { name: kept, code })
+    Ok(Source {
+        name: kept,
+        code,
+        labels: Labels::none(alloc),
+    })
 }
 
 /// Adds the same bytes so many times.

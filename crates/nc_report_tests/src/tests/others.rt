@@ -1,7 +1,7 @@
 //! What is said of all faults of a refused chunk, worked out by hand from the bytes.
 
 use crate::tests::filled::text;
-use nc_report::{Detail, Source, report};
+use nc_report::{Detail, Labels, Source, report};
 use std::alloc::Global;
 use std::sync::Wait;
 use std::test::Fail;
@@ -137,7 +137,11 @@ fn source(alloc: Global, pieces: &[(usize, &'static [u8])], length: usize) -> Re
         code.extend_from_slice(bytes)?;
     }
     code.resize(length, 0x90)?;
-    Ok(Source { name, code })
+    Ok(Source {
+        name,
+        code,
+        labels: Labels::none(alloc),
+    })
 }
 
 /// Whether this is written of a chunk.

@@ -1,12 +1,11 @@
 -- What is made of the sources so far goes on by what is made of the others.
 use Rattle.std.proofs.Common.{◌≡◌, ◌++◌, map}
 use Rattle.std.specs.Vec.Iter.{into_iter_items}
-use Rattle.nc_report.specs.machinery.Found.{job_of}
+use Rattle.nc_report.specs.machinery.Found.{title_of, job_of}
 use Rattle.nc_report.proofs.reporting.part.Given as goal
 
 abbrev pub invariant-loop-name : goal.invariant-loop-name
 invariant-loop-name l =
-    (map (λ s. s.name) (into_iter_items l.initial.name-iterator)
-    ≡ l.names.items ++ map (λ s. s.name) (into_iter_items l.name-iterator))
+    (map title_of (into_iter_items l.initial.name-iterator) ≡ l.titles.items ++ map title_of (into_iter_items l.name-iterator))
     × (map (job_of l.base l.limit) (into_iter_items l.initial.name-iterator)
     ≡ l.jobs.items ++ map (job_of l.base l.limit) (into_iter_items l.name-iterator))

@@ -22,7 +22,7 @@ pub tell_all-requires-clause-paired : goal.tell_all-requires-clause-paired
 tell_all-requires-clause-paired g c =
     let h = subst (λ (js : List Job). AllZip IsVerdictOn js c.in-Ok-vet_all.verdicts.items) c.in-Ok.ensures.jobs
     c.in-Ok-vet_all.ensures.verdicts in
-    ap length c.in-Ok.ensures.names
+    ap length c.in-Ok.ensures.titles
     ∙ (are_findings (limit_after c.args.bundles) c.args.base c.args.sources.items c.in-Ok-vet_all.verdicts.items h).paired
 
 pub returns-in-Err-clause-write_failed : goal.returns-in-Err-clause-write_failed
@@ -30,24 +30,24 @@ returns-in-Err-clause-write_failed g c = λ _.
     let h = subst (λ (js : List Job). AllZip IsVerdictOn js c.in-Ok-vet_all.verdicts.items) c.in-Ok.ensures.jobs
     c.in-Ok-vet_all.ensures.verdicts in
     first_begun (limit_after c.args.bundles) c.args.base c.args.detail c.args.sources.items _ _ _ c.in-Err.ensures.cut
-    (are_values (limit_after c.args.bundles) c.args.base c.args.sources.items c.in-Ok.field-0.names.items c.in-Ok-vet_all.verdicts.items
-    c.in-Ok.ensures.names h)
+    (are_values (limit_after c.args.bundles) c.args.base c.args.sources.items c.in-Ok.field-0.titles.items c.in-Ok-vet_all.verdicts.items
+    c.in-Ok.ensures.titles h)
 
 pub returns-in-Err-clause-out_of_memory : goal.returns-in-Err-clause-out_of_memory
 returns-in-Err-clause-out_of_memory g c = λ _.
     let h = subst (λ (js : List Job). AllZip IsVerdictOn js c.in-Ok-vet_all.verdicts.items) c.in-Ok.ensures.jobs
     c.in-Ok-vet_all.ensures.verdicts in
     first_begun (limit_after c.args.bundles) c.args.base c.args.detail c.args.sources.items _ _ _ c.in-Err.ensures.cut
-    (are_values (limit_after c.args.bundles) c.args.base c.args.sources.items c.in-Ok.field-0.names.items c.in-Ok-vet_all.verdicts.items
-    c.in-Ok.ensures.names h)
+    (are_values (limit_after c.args.bundles) c.args.base c.args.sources.items c.in-Ok.field-0.titles.items c.in-Ok-vet_all.verdicts.items
+    c.in-Ok.ensures.titles h)
 
 pub returns-in-Ok-flush-clause-ok : goal.returns-in-Ok-flush-clause-ok
 returns-in-Ok-flush-clause-ok g c =
     let h = subst (λ (js : List Job). AllZip IsVerdictOn js c.in-Ok-vet_all.verdicts.items) c.in-Ok.ensures.jobs
     c.in-Ok-vet_all.ensures.verdicts in
     reported (limit_after c.args.bundles) c.args.base c.args.detail c.args.sources.items _ _ _ _ _ c.in-Ok-tell_all.ensures.ok
-    (are_values (limit_after c.args.bundles) c.args.base c.args.sources.items c.in-Ok.field-0.names.items c.in-Ok-vet_all.verdicts.items
-    c.in-Ok.ensures.names h)
+    (are_values (limit_after c.args.bundles) c.args.base c.args.sources.items c.in-Ok.field-0.titles.items c.in-Ok-vet_all.verdicts.items
+    c.in-Ok.ensures.titles h)
     c.flush.ensures.bytes
 
 pub returns-in-Err-flush-clause-write_failed : goal.returns-in-Err-flush-clause-write_failed
@@ -55,6 +55,6 @@ returns-in-Err-flush-clause-write_failed g c = λ _.
     let h = subst (λ (js : List Job). AllZip IsVerdictOn js c.in-Ok-vet_all.verdicts.items) c.in-Ok.ensures.jobs
     c.in-Ok-vet_all.ensures.verdicts in
     all_begun (limit_after c.args.bundles) c.args.base c.args.detail c.args.sources.items _ _ _ _ _ c.in-Ok-tell_all.ensures.ok
-    (are_values (limit_after c.args.bundles) c.args.base c.args.sources.items c.in-Ok.field-0.names.items c.in-Ok-vet_all.verdicts.items
-    c.in-Ok.ensures.names h)
+    (are_values (limit_after c.args.bundles) c.args.base c.args.sources.items c.in-Ok.field-0.titles.items c.in-Ok-vet_all.verdicts.items
+    c.in-Ok.ensures.titles h)
     c.flush.ensures.bytes

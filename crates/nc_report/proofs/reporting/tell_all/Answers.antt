@@ -1,7 +1,7 @@
-use Rattle.std.proofs.Common.{ℕ, List, length, arith, sym, subst, ap, ◌∙◌}
+use Rattle.std.proofs.Common.{List, length, arith, sym, subst, ap, ◌∙◌}
 use Rattle.std.specs.Prelude.{All}
-use Rattle.std.specs.Global.{Vec}
 use Rattle.std.specs.Vec.Iter.{into_iter_items}
+use Rattle.nc_report.specs.declared.source.Title.{Title}
 use Rattle.nc_report.specs.machinery.Found.{IsFinding, SourceValue, values_in, HasToldFirst}
 use Rattle.nc_report.proofs.ToldSources.{AVerdict, told_none, told_next, one_or_none, told_more, told_cut}
 use Rattle.nc_report.proofs.reporting.tell_all.Goals as goal
@@ -18,20 +18,20 @@ loop-verdict-init g c =
 pub loop-verdict-preserved : goal.loop-verdict-preserved
 loop-verdict-preserved g c =
     let (told, fewer) = c.loop-verdict.invariant in
-    let names = c.in-Some-next.ensures.items in
-    let next = told_next _ _ _ _ _ _ _ _ c.in-Some-next.name c.in-Some.verdict _ _ _ told names c.in-Some.ensures.steps.0 in
-    let more = one_or_none _ _ _ _ _ _ _ c.in-Ok.more c.in-Ok.ensures.ok in (
-      told_more _ _ _ _ c.in-Some-next.name _ c.in-Some.verdict _ _ _ _ _ c.in-Ok.more next c.in-Ok.ensures.ok,
-      omega (arith, fewer, more, ap length names),
+    let titles = c.in-Some-next.ensures.items in
+    let next = told_next _ _ _ _ _ _ _ _ c.in-Some-next.title c.in-Some.verdict _ _ _ told titles c.in-Some.ensures.steps.0 in
+    let more = one_or_none _ _ _ _ _ _ _ _ c.in-Ok.more c.in-Ok.ensures.ok in (
+      told_more _ _ _ _ c.in-Some-next.title _ c.in-Some.verdict _ _ _ _ _ c.in-Ok.more next c.in-Ok.ensures.ok,
+      omega (arith, fewer, more, ap length titles),
     )
 
 pub returns-in-Err-clause-cut : goal.returns-in-Err-clause-cut
 returns-in-Err-clause-cut g c =
     let (told, fewer) = c.loop-verdict.invariant in
-    let next = told_next _ _ _ _ _ _ _ _ c.in-Some-next.name c.in-Some.verdict _ _ _ told c.in-Some-next.ensures.items
+    let next = told_next _ _ _ _ _ _ _ _ c.in-Some-next.title c.in-Some.verdict _ _ _ told c.in-Some-next.ensures.items
     c.in-Some.ensures.steps.0 in
-    let first = told_cut _ _ _ _ c.in-Some-next.name _ c.in-Some.verdict _ _ _ _ _ next c.in-Err.ensures.cut in
+    let first = told_cut _ _ _ _ c.in-Some-next.title _ c.in-Some.verdict _ _ _ _ _ next c.in-Err.ensures.cut in
     subst (λ (vs : List SourceValue). HasToldFirst c.args.limit c.args.base c.args.detail vs
     (g.W.Write.contents c.args.writer.now) (g.W.Write.contents c.tell.new.writer))
-    (ap (λ (ns : List (Vec ℕ)). values_in ns (into_iter_items c.into_iter-verdict-iterator.result)) c.into_iter-left.ensures.rest
-    ∙ ap (values_in c.args.names.items) c.into_iter-verdict-iterator.ensures.into_iter_gives.0) first
+    (ap (λ (ts : List Title). values_in ts (into_iter_items c.into_iter-verdict-iterator.result)) c.into_iter-left.ensures.rest
+    ∙ ap (values_in c.args.titles.items) c.into_iter-verdict-iterator.ensures.into_iter_gives.0) first

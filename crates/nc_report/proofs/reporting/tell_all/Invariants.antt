@@ -1,4 +1,4 @@
--- The sources so far are told, and the names and verdicts that are left are of the others.
+-- The sources so far are told, and the titles and verdicts that are left are of the others.
 use Rattle.std.proofs.Common.{◌+◌, ◌≤◌, length}
 use Rattle.std.specs.Vec.Iter.{into_iter_items}
 use Rattle.nc_report.specs.machinery.Found.{HasToldSome, values_in}

@@ -1,0 +1,69 @@
+//! Labels: names for addresses of code.
+
+ghost use Rattle.std.specs.Prelude.{◌≡◌, ◌≤◌, [], None, Some, IfSome, IfNone};
+ghost use Rattle.nc_report.specs.Labels.{AreAscending, label_at};
+
+use std::alloc::Global;
+use std::marker::Model;
+
+/// A name for an address.
+#[derive(Drop)]
+pub struct Label {
+    /// The address.
+    pub address: u32,
+    /// The name, of any bytes.
+    pub name: Vec<u8>,
+}
+
+/// Labels by ascending address. An address between two of them belongs to the first.
+#[derive(Drop)]
+pub struct Labels {
+    list: Vec<Label>,
+}
+
+impl Model for Labels {
+    ghost use Rattle.std.specs.Prelude.{List};
+    ghost use Rattle.nc_report.specs.declared.labels.Label.{Label};
+    ghost use Rattle.nc_report.specs.Labels.{AreAscending};
+
+    ghost Value = { List Label };
+
+    ghost view = { λ l. l.list.items };
+
+    ghost invariant = { λ l. AreAscending l.list.items };
+}
+
+impl Labels {
+    /// No labels.
+    pub fn none(alloc: Global) -> Labels
+        ensures { result ≡ [] }
+    {
+        Labels {
+            list: Vec::new(alloc),
+        }
+    }
+
+    /// These labels, if their addresses ascend. Several may have one address: the last one is that address's.
+    pub fn new(list: Vec<Label>) -> Option<Labels>
+        ensures some { IfSome result (λ labels. labels ≡ list.items) }
+        ensures none { IfNone result (¬ AreAscending list.items) }
+    {
+        if !list.is_sorted_by(|label, next| label.address <= next.address) {
+            return None;
+        }
+        Some(Labels { list })
+    }
+
+    /// The label of an address, by binary search.
+    pub(crate) fn of(&self, at: u32) -> Option<&Label>
+        ensures some { IfSome result (λ label. label_at self.now at ≡ Some label.now) }
+        ensures none { IfNone result (label_at self.now at ≡ None) }
+        ensures below { IfSome result (λ label. label.now.address ≤ at) }
+    {
+        let count = self.list.partition_point(|label| label.address <= at);
+        if count == 0 {
+            return None;
+        }
+        Some(&self.list[count - 1])
+    }
+}
