@@ -5,8 +5,8 @@
 pub enum Detail {
     /// Nothing of an accepted source, and of a refused one only the verdict.
     Brief,
-    /// The verdict of each source; of a refused one also the bundle of its fault, where a refused direct transfer goes, and
-    /// what the fault means.
+    /// The verdict of each source; of a refused one also the name of its fault's address, if it has a label, the bundle of the
+    /// fault, where a refused direct transfer goes, and what the fault means.
     Usual,
     /// As `Usual`, and of a refused source also each other fault that one reading of all of it finds, and how many there are.
     All,
