@@ -1,8 +1,8 @@
 """Rewrites assembly text for 32-bit x86, as gcc or clang writes it, to code in bundles of 32 bytes for GNU as."""
 
-from .hints import hints
+from .hints import header_hints, hints
 from .notes import noted, without_note
 from .rewriting import rewritten
 from .statements import Refusal
 
-__all__ = ["Refusal", "hints", "noted", "rewritten", "without_note"]
+__all__ = ["Refusal", "header_hints", "hints", "noted", "rewritten", "without_note"]

@@ -1,4 +1,4 @@
-"""What to do about the names that a link lacks: hints for those that a first program often does."""
+"""What to do about the names that a link lacks, and the headers that a source does: hints for those that a first program often does."""
 
 import re
 from typing import NamedTuple
@@ -61,3 +61,12 @@ def hints(said, files, library):
         name = next(filter(None, found.groups()))
         names.setdefault(hint_of(name, files), {})[name] = True
     return [f"{', '.join(about)}: {words.replace('{library}', library)}" for words, about in names.items() if words]
+
+
+HEADER = re.compile(r"fatal error: '?([^':\n]+)'?(?:: No such file or directory| file not found)")
+
+
+def header_hints(said):
+    """A line for each header that the compiler didn't find."""
+    return [f"{name}: the compiler's own headers serve (stddef.h, stdint.h and the like); string.h and others come with a C library that "
+            "nc-cc has compiled: name their folder by -I" for name in dict.fromkeys(HEADER.findall(said))]
