@@ -143,37 +143,37 @@ extern "C" {
    NC_FAULT_NAMES and use nc_fault_name, below. */
 #define NC_FAULTS(X) \
     X(NC_OK, "no fault") \
-    X(NC_BAD_BASE, "the base is no multiple of 32, or lies below the region") \
-    X(NC_BAD_LENGTH, "the length is 0, or no multiple of 32") \
-    X(NC_OUT_OF_RANGE, "the limit is that of no region, or the chunk reaches into the guard, the last bundle below it") \
-    X(NC_NOT_PERMITTED, "at the address no permitted instruction begins inside the bundle") \
-    X(NC_CROSSES, "at the address an instruction begins that would cross the end of the bundle") \
+    X(NC_BAD_BASE, "the base is not a multiple of 32, or is below the region") \
+    X(NC_BAD_LENGTH, "the length is 0, or not a multiple of 32") \
+    X(NC_OUT_OF_RANGE, "no region has this limit, or the chunk reaches into the guard, the last bundle below it") \
+    X(NC_NOT_PERMITTED, "no permitted instruction is at the address, within its bundle") \
+    X(NC_CROSSES, "the instruction at the address crosses the end of its bundle") \
     X(NC_BARE, "the indirect jump or call at the address doesn't directly follow the mask of its register") \
     X(NC_BAD_TARGET, "the jump, branch or call at the address goes neither to a bundle start below the limit nor to the start of an " \
                      "instruction of the chunk that isn't the second one of a pair") \
-    X(NC_OUT_OF_MEMORY, "there is no memory") \
-    X(NC_NO_ROOM, "the buffer is too short, and as it was") \
+    X(NC_OUT_OF_MEMORY, "out of memory") \
+    X(NC_NO_ROOM, "the buffer is too short; it is unchanged") \
     X(NC_CUT_SHORT, "the bytes are the beginning of an instruction, and not all of it") \
     X(NC_PATCH_BAD_SPAN, "there are no new bytes, or they don't lie in one bundle") \
     X(NC_PATCH_NOT_LIVE, "the new bytes don't begin in a live chunk") \
     X(NC_PATCH_NOT_PERMITTED, "the new bytes aren't whole permitted instructions, one after the other") \
-    X(NC_PATCH_BOUNDARIES, "the new instructions don't take the place of whole ones, each as long as the new one") \
+    X(NC_PATCH_BOUNDARIES, "the new instructions don't replace whole instructions of the same lengths") \
     X(NC_PATCH_PAIR_TOUCHED, "a mask would get other bytes, or an indirect jump or call would come, go or change its register") \
     X(NC_PATCH_BAD_TARGET, "a new jump, branch or call would go neither to a bundle start below the limit nor to the start of an " \
                            "instruction of the chunk that isn't the second one of a pair") \
-    X(NC_NO_HANDLE, "the handle has nothing") \
-    X(NC_HANDLE_TAKEN, "the handle that is to be filled has something; so nothing leaks") \
+    X(NC_NO_HANDLE, "the handle is empty") \
+    X(NC_HANDLE_TAKEN, "the handle to be filled is not empty") \
     X(NC_BAD_SEATS, "the number of seats isn't 1 to 256") \
     X(NC_BAD_SIZE, "the number of bundles isn't 2 to 2097152") \
-    X(NC_NO_SEAT, "each seat has been given") \
+    X(NC_NO_SEAT, "every seat has been given") \
     X(NC_UNDER_WAY, "a deletion is under way") \
     X(NC_NOT_BEGUN, "no deletion is under way") \
     X(NC_WRONG_LIMIT, "the chunk was vetted for another limit than the region's") \
-    X(NC_OCCUPIED, "the span meets a chunk of the region, live or retired") \
+    X(NC_OCCUPIED, "the span overlaps a chunk of the region, live or retired") \
     X(NC_NO_CHUNK, "no live chunk has this base, or the list has no chunk at this index") \
-    X(NC_FULL, "there is no stamp left, after 2^62 deletions") \
-    X(NC_NO_PLACE, "the address is none of the region's") \
-    X(NC_NO_START, "the address is no bundle start of the region, so no walk begins there")
+    X(NC_FULL, "no stamp is left, after 2^62 deletions") \
+    X(NC_NO_PLACE, "the address is outside the region") \
+    X(NC_NO_START, "the address is not a bundle start of the region, where a walk can begin")
 
 /* Where control goes after an instruction. */
 #define NC_FLOW_NEXT 1u           /* to the next instruction */
@@ -520,7 +520,7 @@ void nc_seat_leave(NcSeat *seat);
 
 /*
  * Names and sentences of faults, for a source that defines NC_FAULT_NAMES before it includes this header: "NC_BAD_BASE", and "the base is
- * no multiple of 32, or lies below the region". For a number that is no fault both are "?". They are no part of the library.
+ * not a multiple of 32, or is below the region". For a number that is no fault both are "?". They are no part of the library.
  */
 #ifdef NC_FAULT_NAMES
 #ifdef __GNUC__

@@ -89,7 +89,7 @@ class Fault {
     constexpr std::uint32_t at() const noexcept { return at_; }           /* the address of a fault from 4 to 7, else 0 */
     constexpr std::size_t enough() const noexcept { return enough_; }     /* for NC_NO_ROOM a buffer length that is enough, else 0 */
     constexpr const char *name() const noexcept;                          /* "NC_BAD_BASE"; "?" for a number that is no fault */
-    constexpr const char *sentence() const noexcept;                      /* "the base is no multiple of 32, or lies below the region" */
+    constexpr const char *sentence() const noexcept;                      /* "the base is not a multiple of 32, or is below the region" */
 
   private:
     std::uint32_t number_ = NC_OK;

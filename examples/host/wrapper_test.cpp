@@ -134,7 +134,7 @@ void refusals() {
     code[10] = 0xC3;
     auto refused = region.create(NC_START, code, acts);
     CHECK(is(refused.fault(), NC_NOT_PERMITTED, "NC_NOT_PERMITTED") && refused.fault().at() == NC_START + 10);
-    CHECK(std::strcmp(refused.fault().sentence(), "at the address no permitted instruction begins inside the bundle") == 0);
+    CHECK(std::strcmp(refused.fault().sentence(), "no permitted instruction is at the address, within its bundle") == 0);
     CHECK(is(nc::Vetted::make(NC_START, LIMIT, code).fault(), NC_NOT_PERMITTED, "NC_NOT_PERMITTED"));
     CHECK(is(region.delete_chunk(NC_START, acts, [](nc::Deletion &) { CHECK(false); }).fault(), NC_NO_CHUNK, "NC_NO_CHUNK"));
     CHECK(is(region.resume_delete([](nc::Deletion &) { CHECK(false); }).fault(), NC_NOT_BEGUN, "NC_NOT_BEGUN"));

@@ -39,7 +39,7 @@ macro_rules! faults {
                 }
             }
 
-            /// What it says, such as `the base is no multiple of 32, or lies below the region`, or `?`.
+            /// What it says, such as `the base is not a multiple of 32, or is below the region`, or `?`.
             pub fn sentence(self) -> &'static str {
                 match self {
                     $(Fault::$variant { .. } => $sentence,)*
@@ -62,46 +62,46 @@ macro_rules! faults {
 
 faults! {
     at, enough;
-    BadBase = 1, "NC_BAD_BASE", "the base is no multiple of 32, or lies below the region";
-    BadLength = 2, "NC_BAD_LENGTH", "the length is 0, or no multiple of 32";
+    BadBase = 1, "NC_BAD_BASE", "the base is not a multiple of 32, or is below the region";
+    BadLength = 2, "NC_BAD_LENGTH", "the length is 0, or not a multiple of 32";
     OutOfRange = 3, "NC_OUT_OF_RANGE",
-        "the limit is that of no region, or the chunk reaches into the guard, the last bundle below it";
+        "no region has this limit, or the chunk reaches into the guard, the last bundle below it";
     NotPermitted { at: u32 } = 4, "NC_NOT_PERMITTED",
-        "at the address no permitted instruction begins inside the bundle";
+        "no permitted instruction is at the address, within its bundle";
     Crosses { at: u32 } = 5, "NC_CROSSES",
-        "at the address an instruction begins that would cross the end of the bundle";
+        "the instruction at the address crosses the end of its bundle";
     Bare { at: u32 } = 6, "NC_BARE",
         "the indirect jump or call at the address doesn't directly follow the mask of its register";
     BadTarget { at: u32 } = 7, "NC_BAD_TARGET",
         "the jump, branch or call at the address goes neither to a bundle start below the limit nor to the start of \
          an instruction of the chunk that isn't the second one of a pair";
-    OutOfMemory = 8, "NC_OUT_OF_MEMORY", "there is no memory";
-    NoRoom { enough: usize } = 9, "NC_NO_ROOM", "the buffer is too short, and as it was";
+    OutOfMemory = 8, "NC_OUT_OF_MEMORY", "out of memory";
+    NoRoom { enough: usize } = 9, "NC_NO_ROOM", "the buffer is too short; it is unchanged";
     CutShort = 10, "NC_CUT_SHORT", "the bytes are the beginning of an instruction, and not all of it";
     PatchBadSpan = 16, "NC_PATCH_BAD_SPAN", "there are no new bytes, or they don't lie in one bundle";
     PatchNotLive = 17, "NC_PATCH_NOT_LIVE", "the new bytes don't begin in a live chunk";
     PatchNotPermitted = 18, "NC_PATCH_NOT_PERMITTED",
         "the new bytes aren't whole permitted instructions, one after the other";
     PatchBoundaries = 19, "NC_PATCH_BOUNDARIES",
-        "the new instructions don't take the place of whole ones, each as long as the new one";
+        "the new instructions don't replace whole instructions of the same lengths";
     PatchPairTouched = 20, "NC_PATCH_PAIR_TOUCHED",
         "a mask would get other bytes, or an indirect jump or call would come, go or change its register";
     PatchBadTarget = 21, "NC_PATCH_BAD_TARGET",
         "a new jump, branch or call would go neither to a bundle start below the limit nor to the start of an \
          instruction of the chunk that isn't the second one of a pair";
-    NoHandle = 32, "NC_NO_HANDLE", "the handle has nothing";
-    HandleTaken = 33, "NC_HANDLE_TAKEN", "the handle that is to be filled has something; so nothing leaks";
+    NoHandle = 32, "NC_NO_HANDLE", "the handle is empty";
+    HandleTaken = 33, "NC_HANDLE_TAKEN", "the handle to be filled is not empty";
     BadSeats = 34, "NC_BAD_SEATS", "the number of seats isn't 1 to 256";
     BadSize = 35, "NC_BAD_SIZE", "the number of bundles isn't 2 to 2097152";
-    NoSeat = 36, "NC_NO_SEAT", "each seat has been given";
+    NoSeat = 36, "NC_NO_SEAT", "every seat has been given";
     UnderWay = 37, "NC_UNDER_WAY", "a deletion is under way";
     NotBegun = 38, "NC_NOT_BEGUN", "no deletion is under way";
     WrongLimit = 39, "NC_WRONG_LIMIT", "the chunk was vetted for another limit than the region's";
-    Occupied = 40, "NC_OCCUPIED", "the span meets a chunk of the region, live or retired";
+    Occupied = 40, "NC_OCCUPIED", "the span overlaps a chunk of the region, live or retired";
     NoChunk = 41, "NC_NO_CHUNK", "no live chunk has this base, or the list has no chunk at this index";
-    Full = 42, "NC_FULL", "there is no stamp left, after 2^62 deletions";
-    NoPlace = 43, "NC_NO_PLACE", "the address is none of the region's";
-    NoStart = 44, "NC_NO_START", "the address is no bundle start of the region, so no walk begins there";
+    Full = 42, "NC_FULL", "no stamp is left, after 2^62 deletions";
+    NoPlace = 43, "NC_NO_PLACE", "the address is outside the region";
+    NoStart = 44, "NC_NO_START", "the address is not a bundle start of the region, where a walk can begin";
 }
 
 impl Fault {

@@ -78,7 +78,7 @@ fn refusals() -> Result<(), Fault> {
     let refused = region.create(START, &code, &mut buffer).unwrap_err();
     assert_eq!(refused, Fault::NotPermitted { at: START + 10 });
     assert_eq!((refused.number(), refused.name(), refused.at()), (4, "NC_NOT_PERMITTED", Some(START + 10)));
-    assert_eq!(refused.to_string(), "at the address no permitted instruction begins inside the bundle (0001000a)");
+    assert_eq!(refused.to_string(), "no permitted instruction is at the address, within its bundle (0001000a)");
     assert_eq!(region.begin_delete(START, &mut buffer).unwrap_err(), Fault::NoChunk);
     assert_eq!(region.resume_delete().unwrap_err(), Fault::NotBegun);
     assert_eq!(region.creation_runs(START, &mut buffer).unwrap_err(), Fault::NoChunk);
