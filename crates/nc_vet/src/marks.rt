@@ -72,7 +72,7 @@ fn mark_at(code: &[u8], bundles: &[Bundle], k: usize) -> Mark
     bit_mark(bundle_at(bundles, k / 32), k % 32, byte_at(code, k + 1))
 }
 
-/// Marks the places `Plain` whose bits are set.
+/// Marks each place `Plain` whose bit is set.
 #[inline(always)]
 fn mark_starts(marks: &mut [Mark; 32], starts: u64)
     requires { starts < 2 ^ 32 }
@@ -87,7 +87,7 @@ fn mark_starts(marks: &mut [Mark; 32], starts: u64)
     }
 }
 
-/// Marks the places `After` whose bits are set; the byte behind each names its register. The code begins at this place.
+/// Marks each place `After` whose bit is set. The next byte of the code, in which the bundle begins at `start`, names the register.
 #[inline(always)]
 fn mark_seconds(marks: &mut [Mark; 32], seconds: u64, code: &[u8], start: usize)
     requires bits { seconds < 2 ^ 32 }
@@ -112,6 +112,7 @@ fn bundle_marks(code: &[u8], bundle: Bundle, start: usize) -> [Mark; 32]
     ensures each { (k : ℕ) → k < 32 → slice_index_or result k Mark.Unmarked ≡ bit_mark bundle k (slice_index code.now (start + k + 1)) }
 {
     let mut marks = [Mark::Unmarked; 32];
+    // An instruction begins at the first place, and behind each end but that of the whole bundle.
     mark_starts(&mut marks, 2 * u64::from(bundle.ends % 0x8000_0000) + 1);
     mark_seconds(&mut marks, u64::from(bundle.pairs / 2), code, start);
     marks
