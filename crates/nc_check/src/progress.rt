@@ -17,7 +17,7 @@ pub struct Progress {
 }
 
 impl Progress {
-    /// Nothing is shown yet of so many files. It is wanted where standard error is a terminal; where standard output is
+    /// Of `all` files nothing is shown yet. It is wanted where standard error is a terminal; where standard output is
     /// one too, the line can't stay while something else is written.
     pub fn new(all: usize, is_wanted: bool, is_shared: bool) -> Progress {
         Progress {

@@ -9,7 +9,7 @@ use Rattle.nc_vet.specs.declared.fault.VetFault.TheVariants.{OutOfMemory}
 use Rattle.nc_report.specs.declared.spot.Spot.{Spot}
 use Rattle.nc_report.specs.declared.totals.Counts.{Counts}
 use Rattle.nc_report.specs.Further.{fault_at}
-use Rattle.nc_report.specs.Totals.{is_crosses, is_refused, is_bare, is_mistargeted, counts_to}
+use Rattle.nc_report.specs.Totals.{is_crosses, is_not_permitted, is_bare, is_mistargeted, counts_to}
 use Rattle.nc_report.specs.machinery.Seen.{counted}
 
 -- a range goes on by its next number
@@ -46,7 +46,7 @@ stays : (a e : ℕ) → e ≡ a + 0 → a ≡ e
 stays a e p = omega (arith, p)
 
 -- one place more, by what is found there
-counted_by : (x : Option VetFault) (a b c d e f g h : ℕ) → e ≡ a + cond (is_crosses x) 1 0 → f ≡ b + cond (is_refused x) 1 0
+counted_by : (x : Option VetFault) (a b c d e f g h : ℕ) → e ≡ a + cond (is_crosses x) 1 0 → f ≡ b + cond (is_not_permitted x) 1 0
     → g ≡ c + cond (is_bare x) 1 0 → h ≡ d + cond (is_mistargeted x) 1 0 → counted (four a b c d) x ≡ four e f g h
 unfolding four
 counted_by None a b c d e f g h p q r s = same_four a b c d e f g h (stays a e p) (stays b f q) (stays c g r) (stays d h s)
@@ -66,7 +66,7 @@ unfolding four
 counts_more base limit code spots k =
     counted_by (fault_at base limit code spots k) _ _ _ _ _ _ _ _
     (count_more (λ (n : ℕ). is_crosses (fault_at base limit code spots n)) k)
-    (count_more (λ (n : ℕ). is_refused (fault_at base limit code spots n)) k)
+    (count_more (λ (n : ℕ). is_not_permitted (fault_at base limit code spots n)) k)
     (count_more (λ (n : ℕ). is_bare (fault_at base limit code spots n)) k)
     (count_more (λ (n : ℕ). is_mistargeted (fault_at base limit code spots n)) k)
 
@@ -76,7 +76,7 @@ pub counts_small : (base limit : ℕ) (code : List ℕ) (spots : List Spot) (k :
 counts_small base limit code spots k counts e = (
   subst (λ (n : ℕ). n ≤ k) (sym (ap (λ (c : Counts). c.crosses) e)) (count_small (λ (n : ℕ). is_crosses (fault_at base limit code spots n)) k),
   subst (λ (n : ℕ). n ≤ k) (sym (ap (λ (c : Counts). c.not_permitted) e))
-      (count_small (λ (n : ℕ). is_refused (fault_at base limit code spots n)) k),
+      (count_small (λ (n : ℕ). is_not_permitted (fault_at base limit code spots n)) k),
   subst (λ (n : ℕ). n ≤ k) (sym (ap (λ (c : Counts). c.bare) e)) (count_small (λ (n : ℕ). is_bare (fault_at base limit code spots n)) k),
   subst (λ (n : ℕ). n ≤ k) (sym (ap (λ (c : Counts). c.bad_target) e))
       (count_small (λ (n : ℕ). is_mistargeted (fault_at base limit code spots n)) k),

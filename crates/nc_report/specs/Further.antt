@@ -60,7 +60,7 @@ is_begun _ = true
 abbrev pub bar : List Spot → ℕ → List ℕ
 bar spots k = if is_begun (get_or spots k Inside) then codes " |" else []
 
--- so many bytes from a place on, with a bar before each instruction but the first
+-- `count` bytes from a place on, with a bar before each instruction but the first
 abbrev pub parted : List ℕ → List Spot → ℕ → ℕ → List ℕ
 parted code spots start count = flat_map (λ k. spaced (slice_index code k ∷ []) ++ bar spots (k + 1)) (range_with_len start count)
 
@@ -112,6 +112,6 @@ abbrev pub lines_at : ℕ → ℕ → List ℕ → List Label → List Spot → 
 lines_at base limit code labels spots own k =
     if k == own then [] else lines_on base limit code labels spots k (fault_at base limit code spots k)
 
--- the lines on the first so many places
+-- the lines on the first `count` places
 abbrev pub lines_to : ℕ → ℕ → List ℕ → List Label → List Spot → ℕ → ℕ → List (List ℕ)
 lines_to base limit code labels spots own count = flat_map (lines_at base limit code labels spots own) (range_with_len 0 count)

@@ -101,16 +101,16 @@ head_of bytes =
     else (if first == 0x8F && nat_le 8 (second % 32) then to_opcode 4 (xop_form (second % 32))
     else to_opcode 1 (get_or ONE_BYTE first Unknown)))))
 
--- a length, where there are so many bytes
+-- a length, if it is at most `room`
 abbrev pub at_most : ℕ → ℕ → Option ℕ
 at_most room whole = if nat_le whole room then Some whole else None
 
--- the length of so many bytes and a tail
+-- the length of `head` bytes and a tail, if there is one, and if it is at most `room`
 abbrev pub with_tail : ℕ → ℕ → Option ℕ → Option ℕ
 with_tail room head None = None
 with_tail room head (Some tail) = at_most room (head + tail)
 
--- the length of an instruction after these prefixes, all of it in so many bytes
+-- the length of an instruction, with these prefixes before it, if it is at most `room`
 abbrev pub length_after : ℕ → List ℕ → List ℕ → Option ℕ
 length_after room before rest =
     let h = head_of rest in

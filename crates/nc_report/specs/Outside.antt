@@ -9,7 +9,7 @@ use Rattle.nc_decode.specs.Transfers.{is_direct, target}
 use Rattle.nc_vet.specs.Chunk.{Piece, place}
 use Rattle.nc_lines.specs.Replies.{address_digits}
 
--- the address isn't among so many from the base on
+-- the address isn't one of the `len` addresses from the base on
 abbrev pub is_outside : ℕ → ℕ → ℕ → Bool
 is_outside base len to = nat_lt to base || nat_le (base + len) to
 

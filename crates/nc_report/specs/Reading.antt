@@ -31,7 +31,7 @@ extent_by None known = known
 abbrev pub extent : List ℕ → Option ℕ
 extent rest = extent_by (first_instruction rest) (known_length rest)
 
--- A step at the front of these bytes, of which the first so many are in its bundle: it ends where the instruction does,
+-- A step at the front of these bytes, of which the first `room` are in its bundle: it ends where the instruction does,
 -- or, where that isn't known, with the bundle.
 pub record IsStep (room : ℕ) (masked : Option ℕ) (rest : List ℕ) (s : Step) : Type 0 where
   pub finds : Finds (take room rest) masked s.found

@@ -50,7 +50,7 @@ abbrev pub AreCalls : Detail → ℕ → List Piece → List (List ℕ) → Type
 AreCalls Calls base pieces lines = ListsOutside base pieces lines
 AreCalls _ base pieces lines = lines ≡ []
 
--- the code is a valid chunk of so many instructions, and this is written of it
+-- the code is a valid chunk, and this is written of it, with the number of its instructions
 pub record IsAccepted (limit base : ℕ) (detail : Detail) (name code text : List ℕ) : Type 0 where
   pub valid : IsValidAt base limit code
   pub pieces : List Piece
@@ -81,7 +81,7 @@ Explains limit base code labels fault lines =
     (λ at. (line : List ℕ) × ShowsPlace base code at line × ((goes : List (List ℕ)) × AddsTarget limit base code fault goes
     × (lines ≡ label_lines labels at ++ line ∷ (goes ++ words_about code fault (at - base) ∷ []))))
 
--- The lines on the faults at the first so many places of a refused chunk, but for that at one of them, by the reading of it.
+-- The lines on the faults at the first `count` places of a refused chunk, but for that at `own`, by the reading of it.
 pub record ReportsFirst (limit base : ℕ) (code : List ℕ) (labels : List Label) (own count : ℕ) (lines : List (List ℕ)) : Type 0 where
   pub steps : List Step
   pub reading : IsReading code steps
@@ -95,7 +95,7 @@ pub record ReportsOthers (limit base : ℕ) (code : List ℕ) (labels : List Lab
   pub is :
       lines ≡ lines_to base limit code labels (spots_of steps) own (length code) ++ last_lines base limit code (spots_of steps)
 
--- of these lines none, those on the first so many places, or all
+-- of these lines none, those on the first places up to one, or all
 abbrev pub ReportsSome : ℕ → ℕ → List ℕ → List Label → ℕ → List (List ℕ) → Type 0
 ReportsSome limit base code labels own lines =
     (lines ≡ []) ⊎ ((count : ℕ) × ReportsFirst limit base code labels own count lines) ⊎ ReportsOthers limit base code labels own lines

@@ -12,14 +12,14 @@ use Rattle.nc_report.specs.declared.totals.Counts.{Counts}
 use Rattle.nc_report.specs.declared.words.TheConstants.{NOT_IN_BUNDLES}
 use Rattle.nc_report.specs.Further.{is_begun, fault_at}
 
--- the fault at a place is of this kind
+-- tests of a fault's kind, one for each kind that is counted
 abbrev pub is_crosses : Option VetFault → Bool
 is_crosses (Some (Crosses at)) = true
 is_crosses _ = false
 
-abbrev pub is_refused : Option VetFault → Bool
-is_refused (Some (NotPermitted at)) = true
-is_refused _ = false
+abbrev pub is_not_permitted : Option VetFault → Bool
+is_not_permitted (Some (NotPermitted at)) = true
+is_not_permitted _ = false
 
 abbrev pub is_bare : Option VetFault → Bool
 is_bare (Some (Bare at)) = true
@@ -29,15 +29,15 @@ abbrev pub is_mistargeted : Option VetFault → Bool
 is_mistargeted (Some (BadTarget at)) = true
 is_mistargeted _ = false
 
--- so many of the first places have a fault that passes a test
+-- the number of the first `count` places that have a fault passing a test
 abbrev pub count_of : (Option VetFault → Bool) → ℕ → ℕ → List ℕ → List Spot → ℕ → ℕ
 count_of test base limit code spots count = count_by (λ k. test (fault_at base limit code spots k)) (range_with_len 0 count)
 
--- how many faults of each kind the first so many places have
+-- the numbers of faults of each kind at the first `count` places
 abbrev pub counts_to : ℕ → ℕ → List ℕ → List Spot → ℕ → Counts
 counts_to base limit code spots count = record {
   crosses = count_of is_crosses base limit code spots count;
-  not_permitted = count_of is_refused base limit code spots count;
+  not_permitted = count_of is_not_permitted base limit code spots count;
   bare = count_of is_bare base limit code spots count;
   bad_target = count_of is_mistargeted base limit code spots count;
 }
@@ -60,7 +60,7 @@ totals_line counts =
     ++ kinds_from false ((counts.crosses, codes "Crosses") ∷ (counts.not_permitted, codes "NotPermitted")
     ∷ (counts.bare, codes "Bare") ∷ (counts.bad_target, codes "BadTarget") ∷ []))
 
--- so many of the first bundles begin inside an instruction
+-- the number of the first `count` bundles that begin inside an instruction
 abbrev pub starts_inside : List Spot → ℕ → ℕ
 starts_inside spots count = count_by (λ n. not (is_begun (get_or spots (32 * n) Inside))) (range_with_len 0 count)
 

@@ -9,8 +9,8 @@ pub fn law_of_details()
     ensures { KeepsLines }
 {}
 
-/// The reading of a refused chunk is determined by the chunk's code, and so are the lines on its faults. It does nothing
-/// when it is called.
+/// The code of a refused chunk is read in one way only: the code, the base, the limit and the labels determine the lines on
+/// its faults. It does nothing when it is called.
 pub fn law_of_readings()
     ensures { IsReadOneWay }
 {}

@@ -367,7 +367,7 @@ fn head_of(rest: &[u8]) -> Head
     }
 }
 
-/// A length, where there are so many bytes.
+/// A length, if it is at most `room`.
 fn at_most(room: usize, whole: usize) -> Option<usize>
     ensures value { result ≡ at_most room whole }
     ensures kept { IfSome result (λ n. n ≡ whole) }

@@ -1,8 +1,9 @@
-//! What is written of files of raw code: their verdicts, and for whoever builds code what a refusal means.
+//! What is written of raw code and of segments of linked files: their verdicts, and for whoever builds code what a refusal means.
 //!
 //! [`read_source`] reads a file's bytes, and [`report`] vets such sources by workers and writes what was found, in their
-//! order. Both stand over any reader and writer, so that their contracts can name the bytes. The first line of what is
-//! written of a source is its verdict; lines after it begin with two spaces.
+//! order. Both stand over any reader and writer, so that their contracts can name the bytes. In text the first line of what is
+//! written of a source is its verdict, and lines after it begin with two spaces; `objects` writes JSON instead, and `outside`
+//! lists the addresses outside of accepted code that its direct transfers go to.
 //!
 //! `telling` writes what is said of one source, `explaining` what is said of a fault, `listing` shows a bundle, `targets` says
 //! where a refused direct transfer goes, `advice` knows what a refused instruction is, and `counting` counts the instructions of

@@ -26,7 +26,7 @@ use nc_vet::VetFault;
 use std::alloc::{AllocError, Global};
 use std::io::Write;
 
-/// So many bytes of text are written at a time, or somewhat more.
+/// Text is written once it has at least this many bytes.
 const PIECE: usize = 65536;
 
 /// Adds a byte after a space, and perhaps a bar after it.
@@ -41,7 +41,7 @@ fn push_barred(out: &mut Vec<u8>, byte: u8, barred: bool) -> Result<(), AllocErr
     Ok(())
 }
 
-/// Adds so many bytes from a place on, with a bar before each instruction but the first.
+/// Adds `count` bytes from a place on, with a bar before each instruction but the first.
 fn push_parted(
     out: &mut Vec<u8>,
     code: &[u8],

@@ -71,13 +71,14 @@ fn tell_all<W: Write>(
     Ok(refused)
 }
 
-/// Vets sources, each as a chunk at this base in a region of so many bundles, by so many workers, and writes in their
+/// Vets sources, each as a chunk at this base in a region of `bundles` bundles, by `workers` workers, and writes in their
 /// order what was found. It gives the number of refused ones.
 ///
-/// Of an accepted source one line is written: its name, `ok`, the numbers of its bytes and of its instructions. Of a
-/// refused one the first line is its name and what `vet_lines` replies to a chunk with its fault; lines after it begin
-/// with two spaces, and `detail` says which they are. The names of sources are written as they are; those of labels without
-/// control bytes.
+/// As text, an accepted source has a line with its name, `ok`, and the numbers of its bytes and of its instructions; with
+/// `Brief` it has none. A refused one has first a line with its name and what `vet_lines` replies to a chunk with its
+/// fault. Lines after these begin with two spaces, and `detail` says which they are. The names of sources are written as
+/// they are; those of labels without control bytes. With `Object` each source has instead one object of JSON in a line of
+/// its own, in which names are escaped.
 ///
 /// All sources are vetted before a byte is written. What is promised of bytes holds of a writer that tells its own;
 /// nothing is promised of when a device fails.

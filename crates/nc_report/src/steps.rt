@@ -27,7 +27,7 @@ pub(crate) enum Found {
 pub(crate) struct Step {
     /// What stands where it begins.
     pub found: Found,
-    /// The reading goes on after so many bytes.
+    /// The number of bytes after which the reading goes on.
     pub len: usize,
     /// These are the bytes of one instruction. Else its length isn't known, and they are the rest of the bundle.
     pub whole: bool,

@@ -16,6 +16,6 @@ one (After reg) = 1
 abbrev pub begins_at : Bundle → ℕ → Bool
 begins_at w k = is_second w k || is_start w k
 
--- so many instructions begin in the bundle
+-- the number of instructions that begin in the bundle
 unfoldable pub begun_in : Bundle → ℕ
 begun_in w = count_by (begins_at w) (range_with_len 0 32)

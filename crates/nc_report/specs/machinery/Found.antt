@@ -81,7 +81,7 @@ pub record AreInstructions (bytes : List ℕ) : Type 0 where
   pub spelled : AreSpelled pieces
   pub parts : bytes ≡ code_of pieces
 
--- instructions at the front of some bytes were listed, which have so many bytes
+-- instructions at the front of some bytes, of `read` bytes together, were listed
 pub record ListsFront (old new bytes : List ℕ) (read : ℕ) : Type 0 where
   pub pieces : List Piece
   pub rest : List ℕ
@@ -96,7 +96,7 @@ pub record AddsBundle (old new : List ℕ) (address : ℕ) (bundle : List ℕ) (
   pub shows : ShowsBundle address bundle before line
   pub added : new ≡ old ++ detail_line line
 
--- the code has so many instructions
+-- the code has `count` instructions
 pub record HasInstructions (code : List ℕ) (count : ℕ) : Type 0 where
   pub pieces : List Piece
   pub spelled : AreSpelled pieces
@@ -112,7 +112,7 @@ pub record AddsAccepted (old new : List ℕ) (detail : Detail) (name : List ℕ)
   pub calls : AreCalls detail chunk.base has.pieces lines
   pub added : new ≡ old ++ (accepted_text detail chunk.base name (length chunk.code) count ++ flat_map detail_line lines)
 
--- what is to be written of a source was written, and so many are refused, one or none
+-- what is to be written of a source was written, and `count` is 1 if it is refused, otherwise 0
 pub record TellsOne (limit base : ℕ) (detail : Detail) (name code : List ℕ) (labels : List Label) (before after : Option (List ℕ))
     (count : ℕ) : Type 0 where
   pub told : Told
@@ -144,7 +144,7 @@ AreMore detail limit base code labels fault lines = AreMoreBy (ReportsOthers lim
 abbrev pub AreSomeMore : Detail → ℕ → ℕ → List ℕ → List Label → VetFault → List (List ℕ) → Type 0
 AreSomeMore detail limit base code labels fault lines = AreMoreBy (ReportsSome limit base code labels) detail base fault lines
 
--- the lines on the first so many places, by what is found there
+-- the lines on the first `count` places, by what is found there
 abbrev pub AreLinesTo : ℕ → ℕ → List ℕ → List Label → List Spot → ℕ → ℕ → List (List ℕ) → Type 0
 AreLinesTo base limit code labels spots own count lines = lines ≡ lines_to base limit code labels spots own count
 

@@ -24,7 +24,7 @@ abbrev pub IsSent : ℕ → List ℕ → List ℕ → Type 0
 IsSent base code sent =
     (pieces : List Piece) → AreSpelled pieces → code ≡ code_of pieces → sent ≡ all_sent base (length code) base pieces
 
--- so many numbers at the front are the same, and the next one, if there is one, is another
+-- the first `count` numbers are the same, and the next one, if there is one, is another
 pub record IsRun (numbers : List ℕ) (count : ℕ) : Type 0 where
   pub some : 0 < count
   pub within : count ≤ length numbers
