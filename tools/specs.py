@@ -5,6 +5,8 @@ import re
 import sys
 
 STANDS_FOR = {("nc_decode", "specs/machinery/Reading.antt", "reading"): ("nc_decode", "specs/Front.antt", "IsExact")}
+# A definition that is only a premise, with the file whose public functions are each proved to meet it.
+MET_BY = {("nc_calls", "specs/Histories.antt", "IsCall"): ("nc_calls", "src/calls.rt")}
 
 IMPORT = re.compile(r"^\s*(?:ghost |pub )*use Rattle\.(nc_\w+)\.specs\.([\w.]+?)(?:\.\{([^}]*)\}| as (\w+));?", re.M)
 START = re.compile(r"^(?:(?:abbrev|unfoldable) )?(?:pub )?(?:(record|data) )?([A-Za-z_][\w']*)(?: |$)")
@@ -135,7 +137,14 @@ class Definitions(Files):
             if key not in self.found:
                 self.found[key] = by
                 file = self.file(crate, path)
-                todo += [(other, name) for other in file.names(file.parts[name], {name})]
+                cited = self.clauses(*MET_BY[key]) if key in MET_BY else file.names(file.parts[name], {name})
+                todo += [(other, name) for other in cited]
+
+    def clauses(self, crate, path):
+        """The definitions that the clauses of a file's public functions name."""
+        text = pathlib.Path("crates", crate, path).read_text(encoding="utf-8")
+        found = re.findall(r"^pub fn .*?^{", text, re.M | re.S)
+        return self.file(crate, path).names(counted("".join(found).split("\n")))
 
     def law(self, name):
         """The definitions that the clauses of a public function name, or None if there is no such function."""

@@ -18,3 +18,4 @@ pub mod Reclaimed
 pub mod Instances
 pub mod StillRegion
 pub mod AllTurns
+pub mod LoggedCalls

@@ -1,6 +1,6 @@
 -- Histories of a region: its calls one after the other, with whatever threads do between any two acts of them; and
 -- where threads may be.
-use Rattle.std.specs.Prelude.{◌≡◌, ℕ, ◌≤◌, ⊤, List, [], ◌∷◌, ◌++◌, All, IfSome}
+use Rattle.std.specs.Prelude.{◌≡◌, ℕ, ◌≤◌, ⊤, List, [], ◌∷◌, ◌++◌, All, IfSome, IsSomeAnd}
 use Rattle.nc_decode.specs.Bundles.{IsLawfulLimit}
 use Rattle.nc_vet.specs.Chunk.{MarkedChunk, Piece, IsValid}
 use Rattle.nc_text.specs.Places.{limit_of}
@@ -10,12 +10,13 @@ use Rattle.nc_gens.specs.Rule.{last_generation}
 use Rattle.nc_gens.specs.Seen.{least_number}
 use Rattle.nc_schedule.specs.World.{World, Seat, first_world, IsViewOf}
 use Rattle.nc_schedule.specs.Events.{Event, world_after}
+use Rattle.nc_region.specs.declared.acts.Entry.{Entry}
 use Rattle.nc_region.specs.declared.fault.CreateFault.{CreateFault}
 use Rattle.nc_region.specs.Region.{Region, IsCreated, IsRefused}
 use Rattle.nc_region.specs.Deletion.{IsDeleted, IsReclaimed}
 use Rattle.nc_region.specs.Patch.{IsPatch, IsModified, AreBytesOf}
 use Rattle.nc_calls.specs.Weaving.{writers, IsKeepers, ThreadsMay}
-use Rattle.nc_calls.specs.Calls.{create_events, modify_events, delete_events, reclaim_events}
+use Rattle.nc_calls.specs.Calls.{Details, events_of_log, create_events, modify_events, delete_events, reclaim_events}
 
 -- What a call of a region does, by the words of its contract: the region that it leaves, and its own events. `Creates`,
 -- `Patches`, `Deletes` and `Reclaims` are the accepted calls, with the events of their logs. `UsesKeeper` uses the
@@ -34,6 +35,13 @@ pub data IsCall (seats : ℕ) (old new : Region) (own : List Event) : Type 0 whe
       → IsCall seats old new own
   Refuses : (v : MarkedChunk) (fault : CreateFault) → IsRefused old new v fault → own ≡ [] → IsCall seats old new own
   Keeps : new ≡ old → own ≡ [] → IsCall seats old new own
+
+-- While a region logs its acts: what it logged between the old and the new region, read as events with what acts leave
+-- open, is one call of a history.
+abbrev pub LogsCall : ℕ → Details → Region → Region → Type 0
+LogsCall seats details old new =
+    IfSome new.logged (λ log. IsSomeAnd old.logged (λ earlier.
+    (own : List Entry) × (log ≡ earlier ++ own) × IsCall seats old new (events_of_log details own)))
 
 -- a call in a history: all events since the call before it, up to its own end, the threads' among them, and the region
 -- that it leaves

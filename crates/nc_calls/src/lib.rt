@@ -11,18 +11,23 @@
 //! region is made and after, and refused calls have clauses too. So what is proved of every schedule holds of every history
 //! of a region.
 //!
+//! [`create`], [`modify`], [`delete`], [`reclaim`] and [`meet`] make these calls of a region, and their contracts say that what
+//! is logged is a call of a history. So nobody has to compare `IsCall`, by which the laws speak of calls, with the contracts of
+//! `nc_region`. A host calls the region itself: these do the same and promise nothing else.
+//!
 //! ```text
 //! law_of_histories();   // does nothing; what it promises is its contract
 //! law_of_calls();
 //! ```
 //!
-//! Nothing of this runs: the crate has definitions and proofs. `specs/Weaving` parts the writer's events from those of the
-//! threads, `specs/Calls` says which events the acts and settlings of each call are, `specs/Views` what every view keeps
-//! between two calls, and `specs/Histories` what a history is.
+//! `specs/Weaving` parts the writer's events from those of the threads, `specs/Calls` says which events the acts and settlings
+//! of each call are, `specs/Views` what every view keeps between two calls, and `specs/Histories` what a history is.
 #![tactic(auto)]
 
+mod calls;
 mod history;
 mod law;
 
+pub use calls::{create, delete, meet, modify, reclaim};
 pub use history::law_of_histories;
 pub use law::law_of_calls;

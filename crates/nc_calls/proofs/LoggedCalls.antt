@@ -1,0 +1,111 @@
+-- What a call of a region logs is a call of a history.
+use Rattle.std.proofs.Common.{◌≡◌, ℕ, List, [], ◌∷◌, ◌++◌, refl, sym, ap, subst}
+use Rattle.std.specs.Prelude.{Option, Some, None, Result, Ok, Err, OnOk, OnErr, IfOk, IfErr, IfSome, IsSomeAnd, Contains, length}
+use Rattle.std.proofs.lemmas.List.{append-nil}
+use Rattle.std.proofs.lemmas.List.Elements.{All-nil, All-cons}
+use Rattle.nc_text.specs.Places.{limit_of}
+use Rattle.nc_gens.specs.Seen.{PassState, HasMet}
+use Rattle.nc_vet.specs.Chunk.{MarkedChunk, Piece, IsValid}
+use Rattle.nc_schedule.specs.Events.{Looks}
+use Rattle.nc_region.specs.declared.acts.Entry.{Entry}
+use Rattle.nc_region.specs.declared.chunk.Chunk.{Chunk}
+use Rattle.nc_region.specs.declared.fault.CreateFault.{CreateFault}
+use Rattle.nc_region.specs.Region.{Region, IsCreated, IsRefused, Meets}
+use Rattle.nc_region.specs.Log.{Logs, log_of_create, log_of_delete}
+use Rattle.nc_region.specs.Deletion.{IsDeleted, IsReclaimed}
+use Rattle.nc_region.specs.Patch.{IsPatch, IsModified, AreBytesOf, log_of_modify}
+use Rattle.nc_region.specs.Quiet.{retired_spans}
+use Rattle.nc_region.proofs.Offered.{listed_there}
+use Rattle.nc_calls.specs.Weaving.{IsKeepers}
+use Rattle.nc_calls.specs.Calls.{Details, no_details, events_of_log}
+use Rattle.nc_calls.specs.Histories.{IsCall, Creates, Patches, Deletes, Reclaims, UsesKeeper, Refuses, Keeps, LogsCall}
+use Rattle.nc_calls.proofs.AllTurns.{refused_same}
+
+-- the entries that came to a log have the property
+with_own : (after before : Option (List Entry)) (own : List Entry) (P : List Entry → Type 0) → Logs before after own → P own
+    → IfSome after (λ log. IsSomeAnd before (λ earlier. (entries : List Entry) × (log ≡ earlier ++ entries) × P entries))
+with_own None before own P logs holds = tt
+with_own (Some log) None own P logs holds = logs
+with_own (Some log) (Some earlier) own P logs holds = (own, logs, holds)
+
+-- a call whose events are those of its log
+logs_call : (seats : ℕ) (details : Details) (old new : Region) (own : List Entry) → Logs old.logged new.logged own
+    → IsCall seats old new (events_of_log details own) → LogsCall seats details old new
+logs_call seats details old new own logs call =
+    with_own new.logged old.logged own (λ (entries : List Entry). IsCall seats old new (events_of_log details entries)) logs call
+
+-- nothing came to a log that is as before
+nothing_logged : (log : Option (List Entry)) → Logs log log []
+nothing_logged None = tt
+nothing_logged (Some log) = sym (append-nil log)
+
+-- a region with the same log has logged nothing
+logs_nothing : (old new : Region) → new.logged ≡ old.logged → Logs old.logged new.logged []
+logs_nothing old new same = subst (λ (log : Option (List Entry)). Logs old.logged log []) (sym same) (nothing_logged old.logged)
+
+-- an equal region is left by a call that does nothing
+keeps_logged : (seats : ℕ) (old new : Region) → new ≡ old → LogsCall seats no_details old new
+keeps_logged seats old new same =
+    logs_call seats no_details old new [] (logs_nothing old new (ap (λ (r : Region). r.logged) same)) (Keeps same refl)
+
+-- an accepted creation
+pub creates : {T E : Type 0} (answer : Result T E) (seats : ℕ) (old new : Region) (v : MarkedChunk) → IsValid v
+    → OnOk answer (IsCreated old new v) → OnOk answer (Logs old.logged new.logged (log_of_create v.base v.code))
+    → OnOk answer ((v.limit ≡ limit_of old.marked.bytes) × ¬ Meets v.base (length v.code) old.chunks)
+    → OnOk answer (LogsCall seats (record no_details { marks = v.marks }) old new)
+creates (Ok x) seats old new v valid is log free =
+    logs_call seats (record no_details { marks = v.marks }) old new (log_of_create v.base v.code) log (Creates v valid free.0 is refl)
+creates (Err e) seats old new v valid is log free = tt
+
+-- a refused creation
+pub refuses : {T : Type 0} (answer : Result T (MarkedChunk × CreateFault)) (seats : ℕ) (old new : Region) (v : MarkedChunk)
+    → IfErr answer (λ e. (e.0 ≡ v) × IsRefused old new v e.1) → OnErr answer (LogsCall seats no_details old new)
+refuses (Ok x) seats old new v is = tt
+refuses (Err e) seats old new v is =
+    logs_call seats no_details old new []
+    (logs_nothing old new (ap (λ (r : Region). r.logged) (refused_same old new v e.1 is.1))) (Refuses v e.1 is.1 refl)
+
+-- a patch, accepted or refused
+pub patches : {T E : Type 0} (answer : Result T E) (seats : ℕ) (old new : Region) (at : ℕ) (bytes : List ℕ)
+    → OnOk answer (IsPatch old at bytes) → OnOk answer (IsModified old new at bytes)
+    → OnOk answer ((news : List Piece) → AreBytesOf bytes news
+    → Logs old.logged new.logged (log_of_modify old.marked.bytes at news))
+    → IfErr answer (λ e. new ≡ old) → LogsCall seats no_details old new
+patches (Ok x) seats old new at bytes lawful is log same =
+    let run = lawful.1.2.0 in
+    logs_call seats no_details old new (log_of_modify old.marked.bytes at run.news) (log run.news run.bytes)
+    (Patches at bytes run.news lawful run.bytes is refl)
+patches (Err e) seats old new at bytes lawful is log same = keeps_logged seats old new same
+
+-- an accepted deletion
+pub deletes : {E : Type 0} (answer : Result ℕ E) (seats : ℕ) (old new : Region) (base : ℕ) → IfOk answer (IsDeleted old new base)
+    → OnOk answer ((c : Chunk) × Contains old.chunks c × (c.base ≡ base)
+    × LogsCall seats (record no_details { base = base; len = c.length }) old new)
+deletes (Ok stamp) seats old new base is =
+    let there = listed_there old.chunks is.index is.chunk is.listed in (
+      is.chunk,
+      (is.index, there.0, there.1),
+      is.base_is,
+      logs_call seats (record no_details { base = base; len = is.chunk.length }) old new
+          (log_of_delete old.marked.marks base is.chunk.length) is.log (Deletes base stamp is refl),
+    )
+deletes (Err e) seats old new base is = tt
+
+-- a refused deletion
+pub deletes_nothing : {T E : Type 0} (answer : Result T E) (seats : ℕ) (old new : Region) → OnErr answer (new ≡ old)
+    → OnErr answer (LogsCall seats no_details old new)
+deletes_nothing (Ok x) seats old new same = tt
+deletes_nothing (Err e) seats old new same = keeps_logged seats old new same
+
+-- a reclaiming
+pub reclaims : (seats : ℕ) (old new : Region) (count : ℕ) → IsReclaimed old new count
+    → LogsCall seats (record no_details { seats = seats; spans = retired_spans old.chunks }) old new
+reclaims seats old new count is =
+    logs_call seats (record no_details { seats = seats; spans = retired_spans old.chunks }) old new _ is.log (Reclaims count is refl)
+
+-- a meeting
+pub meets : (seats : ℕ) (old new : Region) (pass after : PassState) → HasMet pass old.keeper after new.keeper
+    → new ≡ record old { keeper = new.keeper } → IsCall seats old new (Looks pass.seat ∷ [])
+meets seats old new pass after met others =
+    UsesKeeper (ap (λ (r : Region). r.marked) others) (ap (λ (r : Region). r.chunks) others)
+    (All-cons IsKeepers (Looks pass.seat) [] tt (All-nil IsKeepers)) met.in_range

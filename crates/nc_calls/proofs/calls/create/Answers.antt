@@ -1,0 +1,10 @@
+use Rattle.nc_calls.proofs.LoggedCalls.{creates, refuses}
+use Rattle.nc_calls.proofs.calls.create.Goals as goal
+
+pub returns-clause-call : goal.returns-clause-call
+returns-clause-call g c = λ seats.
+    creates c.create.result seats _ _ c.args.vetted c.code-facts.ensures.valid c.create.ensures.created c.create.ensures.log
+    c.create.ensures.free
+
+pub returns-clause-refused : goal.returns-clause-refused
+returns-clause-refused g c = λ seats. refuses c.create.result seats _ _ c.args.vetted c.create.ensures.unchanged

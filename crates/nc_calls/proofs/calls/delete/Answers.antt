@@ -1,0 +1,8 @@
+use Rattle.nc_calls.proofs.LoggedCalls.{deletes, deletes_nothing}
+use Rattle.nc_calls.proofs.calls.delete.Goals as goal
+
+pub returns-clause-call : goal.returns-clause-call
+returns-clause-call g c = λ seats. deletes c.delete.result seats _ _ c.args.base c.delete.ensures.deleted
+
+pub returns-clause-refused : goal.returns-clause-refused
+returns-clause-refused g c = λ seats. deletes_nothing c.delete.result seats _ _ c.delete.ensures.unchanged

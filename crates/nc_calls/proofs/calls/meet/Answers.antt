@@ -1,0 +1,5 @@
+use Rattle.nc_calls.proofs.LoggedCalls.{meets}
+use Rattle.nc_calls.proofs.calls.meet.Goals as goal
+
+pub returns-clause-call : goal.returns-clause-call
+returns-clause-call g c = λ seats. meets seats _ _ _ _ c.meet.ensures.met c.meet.ensures.others

@@ -1,0 +1,65 @@
+//! The calls of a region, each with a clause that says it is a call of a history.
+//!
+//! [`law_of_histories`](crate::law_of_histories) speaks of lists of calls, and `IsCall` says what a call is. Nobody has to
+//! believe that `IsCall` describes what a region does: each function here makes one call of a region, and is proved to be one.
+
+ghost use Rattle.std.specs.Prelude.{◌≡◌, ℕ, List, [], ◌∷◌, Contains, OnOk, OnErr};
+ghost use Rattle.nc_schedule.specs.Events.{Event};
+ghost use Rattle.nc_region.specs.declared.chunk.Chunk.{Chunk};
+ghost use Rattle.nc_region.specs.Quiet.{retired_spans};
+ghost use Rattle.nc_calls.specs.Calls.{no_details};
+ghost use Rattle.nc_calls.specs.Histories.{IsCall, LogsCall};
+
+use nc_gens::Pass;
+use nc_region::{Acts, CreateFault, DeleteFault, ModifyFault, RegionOf};
+use nc_vet::Vetted;
+
+/// [`RegionOf::create`]. Its log is a call of a history, in which the span gets the chunk's marks.
+pub fn create<A: Acts + Drop>(
+    region: &mut RegionOf<A>,
+    vetted: Vetted,
+) -> Result<(), (Vetted, CreateFault)>
+    ensures call { (seats : ℕ) → OnOk result (LogsCall seats (record no_details { marks = vetted.marks }) region.old region.new) }
+    ensures refused { (seats : ℕ) → OnErr result (LogsCall seats no_details region.old region.new) }
+{
+    // Called for what it ensures.
+    let _facts = vetted.code();
+    region.create(vetted)
+}
+
+/// [`RegionOf::modify`]. Its log is a call of a history.
+pub fn modify<A: Acts + Drop>(
+    region: &mut RegionOf<A>,
+    at: u32,
+    new: &[u8],
+) -> Result<(), ModifyFault>
+    ensures call { (seats : ℕ) → LogsCall seats no_details region.old region.new }
+{
+    region.modify(at, new)
+}
+
+/// [`RegionOf::delete`]. Its log is a call of a history, in which the span of the deleted chunk is retired.
+pub fn delete<A: Acts + Drop>(region: &mut RegionOf<A>, base: u32) -> Result<u64, DeleteFault>
+    ensures call { (seats : ℕ) → OnOk result ((c : Chunk) × Contains region.old.chunks c × (c.base ≡ base)
+        × LogsCall seats (record no_details { base = base; len = c.length }) region.old region.new) }
+    ensures refused { (seats : ℕ) → OnErr result (LogsCall seats no_details region.old region.new) }
+{
+    region.delete(base)
+}
+
+/// [`RegionOf::reclaim`]. Its log is a call of a history: it looks at each seat, and frees spans of retired chunks.
+pub fn reclaim<A: Acts + Drop>(region: &mut RegionOf<A>) -> u32
+    ensures call { (seats : ℕ)
+        → LogsCall seats (record no_details { seats = seats; spans = retired_spans region.old.chunks }) region.old region.new }
+{
+    region.reclaim()
+}
+
+/// [`RegionOf::meet`]. It is a call of a history, in which the keeper looks at the pass's seat; it logs nothing.
+pub fn meet<A: Acts + Drop>(region: &mut RegionOf<A>, pass: &mut Pass)
+    requires { pass.old.table ≡ region.old.keeper.table }
+    ensures call { (seats : ℕ) → IsCall seats region.old region.new (Event.Looks pass.old.seat ∷ []) }
+    ensures logged { region.new.logged ≡ region.old.logged }
+{
+    region.meet(pass)
+}
