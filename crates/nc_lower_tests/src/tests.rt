@@ -1,3 +1,5 @@
 mod generations;
 mod instructions;
+mod segments;
+mod symbols;
 mod workers;

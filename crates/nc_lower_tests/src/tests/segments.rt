@@ -1,6 +1,6 @@
-ghost use Rattle.std.specs.Prelude.{◌≤◌, ◌+◌, length, All};
+//! The executable segments of an ELF file.
 
-mod symbols;
+ghost use Rattle.std.specs.Prelude.{◌≤◌, ◌+◌, length, All};
 
 use SegmentFault::{BeyondFile, BeyondMemory, OutOfOrder, UnfilledCode, Wraps, WritableCode};
 use nc_elf::{ElfFault, Segment, SegmentFault, code_segments, is_elf};
