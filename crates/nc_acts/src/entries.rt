@@ -21,7 +21,7 @@ pub(crate) fn put(at: u32, byte: u8) -> NcAct
     }
 }
 
-/// From this address on so many places are marked.
+/// A span of this many places is marked, from this address on.
 pub(crate) fn mark_span(at: u32, len: u32) -> NcAct
     ensures { result ≡ act_of (Act.MarkSpan at len) }
 {

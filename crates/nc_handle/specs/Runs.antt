@@ -10,7 +10,7 @@ use Rattle.nc_handle.specs.declared.fault.RunsFault.TheVariants.{NoChunk, NoRoom
 use Rattle.nc_handle.specs.Held.{HeldState, IsLiveAt}
 use Rattle.nc_handle.specs.Shown.{bytes_of}
 
--- two for each bundle of so many bytes, and two more
+-- two for each bundle of a span of this length, and two more
 abbrev pub runs_of : ℕ → ℕ
 runs_of len = 2 * (len / 32) + 2
 

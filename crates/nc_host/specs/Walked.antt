@@ -13,7 +13,7 @@ end_number Trampoline = 2
 end_number Beyond = 3
 end_number More = 4
 
--- a walk to this end, over so many places
+-- a walk to this end, over this number of places
 abbrev pub walk_of : ℕ → End → NcWalk
 walk_of count end = record { count = count; fault = 0; end = end_number end }
 

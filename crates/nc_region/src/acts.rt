@@ -23,9 +23,9 @@ use nc_text::TextFault;
 pub enum Act {
     /// At this address this byte was put.
     Put(u32, u8),
-    /// From this address on so many places were marked.
+    /// A span of this many places was marked, from this address on.
     MarkSpan(u32, u32),
-    /// From this address on so many places were unmarked.
+    /// A span of this many places was unmarked, from this address on.
     UnmarkSpan(u32, u32),
     /// The generation grew by one.
     Bump,

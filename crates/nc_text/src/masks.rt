@@ -126,7 +126,7 @@ impl Masks {
         *self = masks;
     }
 
-    /// Leaves only the bundle's start marked among so many places from one on.
+    /// Unmarks `len` places from `from` on, except the bundle's start.
     pub(crate) fn unmark(&mut self, from: u32, len: u32)
         requires inside { from + len ≤ 32 }
         ensures within { (k : ℕ) → k < len → mark_in self.new (from + k) ≡ unused_mark (from + k) }

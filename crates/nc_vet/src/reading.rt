@@ -87,7 +87,7 @@ fn next(rest: &[u8], room: usize, masked: Option<u8>, at: u32) -> Result<Instr, 
     }
 }
 
-/// Marks for so many places, all unmarked.
+/// Marks for `n` places, all unmarked.
 fn unmarked(alloc: Global, n: usize) -> Result<Vec<Mark>, AllocError>
     ensures { IfOk result (λ marks. marks.items ≡ replicate n Mark.Unmarked) }
 {

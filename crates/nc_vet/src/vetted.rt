@@ -86,7 +86,7 @@ impl Vetted {
         Ok(marks)
     }
 
-    /// The mark of the place that lies so many bytes after the base.
+    /// The mark of the place `i` bytes after the base.
     pub fn mark(&self, i: usize) -> Mark
         requires { i < length self.now.code }
         ensures value { slice_get self.now.marks i ≡ Some result }

@@ -101,7 +101,7 @@ impl<A: Acts + Drop> Acts for Viewing<A> {
     }
 }
 
-/// A new region of so many bundles, viewed. For what may be read one settling is left out, or none for 0; all acts are done as
+/// A new region with `bundles` bundles, viewed. For what may be read one settling is left out, or none for 0; all acts are done as
 /// they are.
 pub fn viewed<'g>(
     alloc: Global,

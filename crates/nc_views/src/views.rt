@@ -90,7 +90,7 @@ pub(crate) struct Views {
 }
 
 impl Views {
-    /// Those of a new text of so many bundles: only stops are seen. The settling of this number is left out: the bytes seen
+    /// The views of a new text with `bundles` bundles: only stops are seen. The settling of this number is left out: the bytes seen
     /// before it stay. None is for 0.
     pub(crate) fn new(alloc: Global, bundles: u32, left_out: u32) -> Result<Views, AllocError> {
         let mut seen = Vec::new(alloc);

@@ -31,7 +31,7 @@ run_at Starts at bits = PutRun at bits
 run_at Marked at bits = StopRun at bits
 run_at Unmarked at bits = StopRun at bits
 
--- of so many places from this address on the number has the bits of those that pass the test, and no others
+-- the number has a bit for each of n places from this address on, set where the place passes the test, and no other bits
 abbrev pub AreBits : (ℕ → Bool) → ℕ → ℕ → ℕ → Type 0
 AreBits chosen at zero bits = bits ≡ 0
 AreBits chosen at (suc n) bits = ((bits % 2 == 1) ≡ chosen at) × AreBits chosen (at + 1) n (bits / 2)
