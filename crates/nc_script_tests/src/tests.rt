@@ -1,3 +1,4 @@
+mod calls;
 mod fakes;
 mod faults;
 mod filled;

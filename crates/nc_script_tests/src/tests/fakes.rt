@@ -3,7 +3,7 @@ ghost use Rattle.std.specs.Prelude.{◌≡◌, ◌++◌, ◌∷◌, [], ℕ, Lis
 ghost use Rattle.nc_lines.specs.Lines.{kept_of};
 
 use nc_script::Responder;
-use std::alloc::AllocError;
+use std::alloc::{AllocError, Global};
 use std::io::{Error, ErrorKind, Read, Result, Write};
 
 /// A call that never comes.
@@ -31,6 +31,28 @@ pub struct Pieces<'a> {
     pub fails_at: usize,
 }
 
+impl<'a> Pieces<'a> {
+    /// Gives at most so many bytes in a read, and never fails.
+    pub fn new(rest: &'a [u8], size: usize) -> Pieces<'a> {
+        Pieces {
+            rest,
+            size,
+            reads: 0,
+            fails_at: NEVER,
+        }
+    }
+
+    /// Gives one byte in a read, and fails at the given one.
+    pub fn failing(rest: &'a [u8], fails_at: usize) -> Pieces<'a> {
+        Pieces {
+            rest,
+            size: 1,
+            reads: 0,
+            fails_at,
+        }
+    }
+}
+
 impl Read for Pieces<'_> {
     fn read(&mut self, buf: &mut [u8]) -> Result<usize> {
         if self.reads == self.fails_at {
@@ -46,8 +68,8 @@ impl Read for Pieces<'_> {
 
 /// Takes at most so many bytes in a write, and fails or takes none at the given one; a flush is counted and may fail.
 #[derive(Drop)]
-pub struct Slow<'a> {
-    pub out: &'a mut Vec<u8>,
+pub struct Slow {
+    pub out: Vec<u8>,
     pub size: usize,
     pub writes: usize,
     pub fails_at: usize,
@@ -56,7 +78,35 @@ pub struct Slow<'a> {
     pub flushed: usize,
 }
 
-impl Write for Slow<'_> {
+impl Slow {
+    /// Takes at most so many bytes in a write, and never fails but in a flush, if that does.
+    pub fn new(alloc: Global, size: usize, flushes: bool) -> Slow {
+        Slow {
+            out: Vec::new(alloc),
+            size,
+            writes: 0,
+            fails_at: NEVER,
+            with_error: true,
+            flushes,
+            flushed: 0,
+        }
+    }
+
+    /// Takes one byte in a write, and fails or takes none at the given one.
+    pub fn failing(alloc: Global, fails_at: usize, with_error: bool, flushes: bool) -> Slow {
+        Slow {
+            out: Vec::new(alloc),
+            size: 1,
+            writes: 0,
+            fails_at,
+            with_error,
+            flushes,
+            flushed: 0,
+        }
+    }
+}
+
+impl Write for Slow {
     fn write(&mut self, buf: &[u8]) -> Result<usize> {
         if self.writes == self.fails_at {
             if self.with_error {

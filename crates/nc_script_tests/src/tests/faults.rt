@@ -1,8 +1,9 @@
 //! One script of all requests, cut at each byte, and with each read and each write failing in turn.
 
-use crate::tests::fakes::{NEVER, Pieces, Slow};
+use crate::tests::calls::replay;
+use crate::tests::fakes::{Pieces, Slow};
 use crate::tests::rows::{Row, input_and_owed};
-use nc_script::{ReplayFault, run};
+use nc_script::ReplayFault;
 use std::alloc::Global;
 use std::test::Fail;
 
@@ -60,13 +61,8 @@ fn whole(rt: HostRuntime) -> Result<(), Fail> {
     let (input, owed) = all(rt.alloc())?;
     for size in [1usize, 7, 4096] {
         let mut written = Vec::new(rt.alloc());
-        let mut reader = Pieces {
-            rest: &input,
-            size,
-            reads: 0,
-            fails_at: NEVER,
-        };
-        let result = run(rt.alloc(), &mut reader, &mut written, 4, 1);
+        let mut reader = Pieces::new(&input, size);
+        let result = replay(rt.alloc(), &mut reader, &mut written, 4, 1);
         assert_eq!(rt; result, Ok(()));
         assert_eq!(rt; written.as_slice(), owed.as_slice());
     }
@@ -81,7 +77,7 @@ fn cuts(rt: HostRuntime) -> Result<(), Fail> {
         let cut = input.get(..k).unwrap_or(b"");
         let mut written = Vec::new(rt.alloc());
         let mut reader = cut;
-        let result = run(rt.alloc(), &mut reader, &mut written, 4, 1);
+        let result = replay(rt.alloc(), &mut reader, &mut written, 4, 1);
         assert_eq!(rt; result, Ok(()));
         let lines = ends(cut);
         let first = length_of(&owed, lines);
@@ -99,13 +95,8 @@ fn failed_reads(rt: HostRuntime) -> Result<(), Fail> {
     let (input, owed) = all(rt.alloc())?;
     for fails_at in 0..=input.len() {
         let mut written = Vec::new(rt.alloc());
-        let mut reader = Pieces {
-            rest: &input,
-            size: 1,
-            reads: 0,
-            fails_at,
-        };
-        let result = run(rt.alloc(), &mut reader, &mut written, 4, 1);
+        let mut reader = Pieces::failing(&input, fails_at);
+        let result = replay(rt.alloc(), &mut reader, &mut written, 4, 1);
         assert_eq!(rt; result, Err(ReplayFault::ReadFailed));
         let lines = ends(input.get(..fails_at).unwrap_or(b""));
         assert_eq!(rt;
@@ -121,20 +112,11 @@ fn failed_reads(rt: HostRuntime) -> Result<(), Fail> {
 fn failed_writes(rt: HostRuntime) -> Result<(), Fail> {
     let (input, owed) = all(rt.alloc())?;
     for fails_at in 0..owed.len() {
-        let mut written = Vec::new(rt.alloc());
         let mut reader = input.as_slice();
-        let mut writer = Slow {
-            out: &mut written,
-            size: 1,
-            writes: 0,
-            fails_at,
-            with_error: fails_at % 2 == 0,
-            flushes: true,
-            flushed: 0,
-        };
-        let result = run(rt.alloc(), &mut reader, &mut writer, 4, 1);
+        let mut writer = Slow::failing(rt.alloc(), fails_at, fails_at % 2 == 0, true);
+        let result = replay(rt.alloc(), &mut reader, &mut writer, 4, 1);
         assert_eq!(rt; result, Err(ReplayFault::WriteFailed));
-        assert_eq!(rt; Some(written.as_slice()), owed.get(..fails_at));
+        assert_eq!(rt; Some(writer.out.as_slice()), owed.get(..fails_at));
     }
     Ok(())
 }

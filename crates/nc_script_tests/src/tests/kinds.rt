@@ -1,7 +1,7 @@
 //! Devices that fail once, with an error of any kind: which kind it is makes no difference.
 
-use nc_script::{ReplayFault, run, vet_lines};
-use nc_work::Open;
+use crate::tests::calls::{replay, vet};
+use nc_script::ReplayFault;
 use std::alloc::Global;
 use std::io::{Error, ErrorKind, Read, Result, Write};
 use std::sync::Wait;
@@ -93,7 +93,7 @@ fn run_into(
         room,
         kind,
     };
-    let answer = run(alloc, &mut reader, &mut writer, 4, 1);
+    let answer = replay(alloc, &mut reader, &mut writer, 4, 1);
     (answer, written)
 }
 
@@ -112,7 +112,7 @@ fn vet_into<T: Threads + Wait + Sync>(
         room,
         kind,
     };
-    let answer = vet_lines(rt, alloc, &mut reader, &mut writer, 4, 2, &Open);
+    let answer = vet(rt, alloc, &mut reader, &mut writer, 4, 2);
     (answer, written)
 }
 
@@ -125,7 +125,7 @@ fn cut_in_a_line(rt: HostRuntime) -> std::result::Result<(), Fail> {
             rest: b"dump\nrecl",
             kind,
         };
-        let answer = run(rt.alloc(), &mut reader, &mut written, 4, 1);
+        let answer = replay(rt.alloc(), &mut reader, &mut written, 4, 1);
         assert_eq!(rt; answer, Err(ReplayFault::ReadFailed), "{kind:?}");
         assert_eq!(rt; written.as_slice(), b"dump\n".as_slice(), "{kind:?}");
         let mut written = Vec::new(rt.alloc());
@@ -133,29 +133,52 @@ fn cut_in_a_line(rt: HostRuntime) -> std::result::Result<(), Fail> {
             rest: b"dump\nrecl",
             kind,
         };
-        let answer = vet_lines(&rt, rt.alloc(), &mut reader, &mut written, 4, 2, &Open);
+        let answer = vet(&rt, rt.alloc(), &mut reader, &mut written, 4, 2);
         assert_eq!(rt; answer, Err(ReplayFault::ReadFailed), "{kind:?}");
         assert!(rt; written.is_empty(), "{kind:?}");
     }
     Ok(())
 }
 
+/// Fails after each number of bytes of the replies and of the verdicts.
+fn fill<T: Threads + Wait + Sync>(
+    rt: &T,
+    alloc: Global,
+    kind: Option<ErrorKind>,
+) -> std::result::Result<(), Fail> {
+    for room in 0..SCRIPT.1.len() {
+        let (answer, written) = run_into(alloc, SCRIPT.0, room, kind);
+        begins(answer, &written, SCRIPT.1.get(..room), kind)?;
+    }
+    for room in 0..LINES.1.len() {
+        let (answer, written) = vet_into(rt, alloc, LINES.0, room, kind);
+        begins(answer, &written, LINES.1.get(..room), kind)?;
+    }
+    Ok(())
+}
+
+/// A write failed, and exactly these bytes were taken.
+fn begins(
+    answer: std::result::Result<(), ReplayFault>,
+    written: &[u8],
+    owed: Option<&[u8]>,
+    kind: Option<ErrorKind>,
+) -> std::result::Result<(), Fail> {
+    if answer == Err(ReplayFault::WriteFailed) && Some(written) == owed {
+        return Ok(());
+    }
+    Err(Fail::new(format_args!(
+        "{answer:?} {written:?} is not a failed write of {owed:?}: {kind:?}"
+    )))
+}
+
 /// A writer that fails after each number of bytes has taken these bytes and no other.
 #[test]
 fn full_after_each_byte(rt: HostRuntime) -> std::result::Result<(), Fail> {
-    for kind in KINDS.map(Some).into_iter().chain([None]) {
-        for room in 0..SCRIPT.1.len() {
-            let (answer, written) = run_into(rt.alloc(), SCRIPT.0, room, kind);
-            assert_eq!(rt; answer, Err(ReplayFault::WriteFailed), "{room} {kind:?}");
-            assert_eq!(rt; Some(written.as_slice()), SCRIPT.1.get(..room), "{kind:?}");
-        }
-        for room in 0..LINES.1.len() {
-            let (answer, written) = vet_into(&rt, rt.alloc(), LINES.0, room, kind);
-            assert_eq!(rt; answer, Err(ReplayFault::WriteFailed), "{room} {kind:?}");
-            assert_eq!(rt; Some(written.as_slice()), LINES.1.get(..room), "{kind:?}");
-        }
+    for kind in KINDS {
+        fill(&rt, rt.alloc(), Some(kind))?;
     }
-    Ok(())
+    fill(&rt, rt.alloc(), None)
 }
 
 /// A flush that fails after all was taken is a failed write, and a writer of single bytes with more room gets all.

@@ -1,7 +1,7 @@
 //! Larger scripts, so that lack of memory which isn't real would be seen: chunks of several bundles, lists of many
 //! chunks, walks of many choices, and lines up to the limit, whose replies are compared whole.
 
-use nc_script::run;
+use crate::tests::calls::replay;
 use std::alloc::{AllocError, Global};
 use std::test::Fail;
 
@@ -24,38 +24,10 @@ fn push_place(out: &mut Vec<u8>, at: u32) -> Result<(), AllocError> {
 fn replies(alloc: Global, script: &[u8], bundles: u32) -> Result<Vec<u8>, Fail> {
     let mut written = Vec::new(alloc);
     let mut reader = script;
-    match run(alloc, &mut reader, &mut written, bundles, 1) {
+    match replay(alloc, &mut reader, &mut written, bundles, 1) {
         Ok(()) => Ok(written),
         Err(fault) => Err(Fail::new(format_args!("{fault}"))),
     }
-}
-
-/// A list of forty chunks of two bundles each, shown whole.
-#[test]
-fn many_chunks(rt: HostRuntime) -> Result<(), Fail> {
-    let mut script = Vec::new(rt.alloc());
-    let mut owed = Vec::new(rt.alloc());
-    let mut shown = Vec::new(rt.alloc());
-    for i in 0..40u32 {
-        let base = 0x10000 + 64 * i;
-        script.extend_from_slice(b"create ")?;
-        push_place(&mut script, base)?;
-        script.push(b' ')?;
-        push_nops(&mut script, 64)?;
-        script.push(b'\n')?;
-        owed.extend_from_slice(b"ok\n")?;
-        shown.push(b' ')?;
-        push_place(&mut shown, base)?;
-        shown.extend_from_slice(b" live ")?;
-        push_nops(&mut shown, 64)?;
-    }
-    script.extend_from_slice(b"dump\n")?;
-    owed.extend_from_slice(b"dump")?;
-    owed.extend_from_slice(&shown)?;
-    owed.push(b'\n')?;
-    let written = replies(rt.alloc(), &script, 2048)?;
-    assert_eq!(rt; written.as_slice(), owed.as_slice());
-    Ok(())
 }
 
 /// Adds a line: a word and a place.
@@ -90,30 +62,79 @@ fn push_count(
     Ok(())
 }
 
+/// Creates forty chunks of two bundles each, and shows them.
+fn push_many(script: &mut Vec<u8>, owed: &mut Vec<u8>) -> Result<(), AllocError> {
+    for i in 0..40u32 {
+        push_create(script, 0x10000 + 64 * i)?;
+        owed.extend_from_slice(b"ok\n")?;
+    }
+    script.extend_from_slice(b"dump\n")?;
+    push_shown(owed)
+}
+
+/// Adds the line that shows forty live chunks of two bundles each.
+fn push_shown(owed: &mut Vec<u8>) -> Result<(), AllocError> {
+    owed.extend_from_slice(b"dump")?;
+    for i in 0..40u32 {
+        owed.push(b' ')?;
+        push_place(owed, 0x10000 + 64 * i)?;
+        owed.extend_from_slice(b" live ")?;
+        push_nops(owed, 64)?;
+    }
+    owed.push(b'\n')?;
+    Ok(())
+}
+
+/// A list of forty chunks of two bundles each, shown whole.
+#[test]
+fn many_chunks(rt: HostRuntime) -> Result<(), Fail> {
+    let mut script = Vec::new(rt.alloc());
+    let mut owed = Vec::new(rt.alloc());
+    push_many(&mut script, &mut owed)?;
+    let written = replies(rt.alloc(), &script, 2048)?;
+    assert_eq!(rt; written.as_slice(), owed.as_slice());
+    Ok(())
+}
+
+/// Creates sixty chunks, deletes each, and reclaims them all at once after one check-in.
+fn push_together(
+    alloc: Global,
+    script: &mut Vec<u8>,
+    owed: &mut Vec<u8>,
+) -> Result<(), AllocError> {
+    for i in 0..60u32 {
+        push_create(script, 0x10000 + 64 * i)?;
+        owed.extend_from_slice(b"ok\n")?;
+    }
+    for i in 0..60u32 {
+        push_placed(script, b"delete ", 0x10000 + 64 * i)?;
+        push_count(alloc, owed, b"stamp ", i + 1)?;
+    }
+    script.extend_from_slice(b"reclaim\ncheckin 0\nreclaim\ndump\n")?;
+    owed.extend_from_slice(b"freed 0\nok\nfreed 60\ndump\n")
+}
+
+/// Creates sixty chunks at the same places, each deleted and reclaimed before the next one.
+fn push_in_turn(alloc: Global, script: &mut Vec<u8>, owed: &mut Vec<u8>) -> Result<(), AllocError> {
+    for i in 0..60u32 {
+        push_create(script, 0x10000 + 64 * i)?;
+        push_placed(script, b"delete ", 0x10000 + 64 * i)?;
+        script.extend_from_slice(b"reclaim\ncheckin 0\nreclaim\n")?;
+        owed.extend_from_slice(b"ok\n")?;
+        push_count(alloc, owed, b"stamp ", i + 61)?;
+        owed.extend_from_slice(b"freed 0\nok\nfreed 1\n")?;
+    }
+    Ok(())
+}
+
 /// Sixty chunks, each deleted and, after one check-in, all reclaimed at once; then each at its place again, deleted and
 /// reclaimed one after the other.
 #[test]
 fn many_reused(rt: HostRuntime) -> Result<(), Fail> {
     let mut script = Vec::new(rt.alloc());
     let mut owed = Vec::new(rt.alloc());
-    for i in 0..60u32 {
-        push_create(&mut script, 0x10000 + 64 * i)?;
-        owed.extend_from_slice(b"ok\n")?;
-    }
-    for i in 0..60u32 {
-        push_placed(&mut script, b"delete ", 0x10000 + 64 * i)?;
-        push_count(rt.alloc(), &mut owed, b"stamp ", i + 1)?;
-    }
-    script.extend_from_slice(b"reclaim\ncheckin 0\nreclaim\ndump\n")?;
-    owed.extend_from_slice(b"freed 0\nok\nfreed 60\ndump\n")?;
-    for i in 0..60u32 {
-        push_create(&mut script, 0x10000 + 64 * i)?;
-        push_placed(&mut script, b"delete ", 0x10000 + 64 * i)?;
-        script.extend_from_slice(b"reclaim\ncheckin 0\nreclaim\n")?;
-        owed.extend_from_slice(b"ok\n")?;
-        push_count(rt.alloc(), &mut owed, b"stamp ", i + 61)?;
-        owed.extend_from_slice(b"freed 0\nok\nfreed 1\n")?;
-    }
+    push_together(rt.alloc(), &mut script, &mut owed)?;
+    push_in_turn(rt.alloc(), &mut script, &mut owed)?;
     let written = replies(rt.alloc(), &script, 2048)?;
     assert_eq!(rt; written.as_slice(), owed.as_slice());
     Ok(())
@@ -124,11 +145,7 @@ fn many_reused(rt: HostRuntime) -> Result<(), Fail> {
 fn partial_overlap(rt: HostRuntime) -> Result<(), Fail> {
     let mut script = Vec::new(rt.alloc());
     for base in [0x10020u32, 0x10000, 0x10040, 0x10060] {
-        script.extend_from_slice(b"create ")?;
-        push_place(&mut script, base)?;
-        script.push(b' ')?;
-        push_nops(&mut script, 64)?;
-        script.push(b'\n')?;
+        push_create(&mut script, base)?;
     }
     let written = replies(rt.alloc(), &script, 2048)?;
     assert_eq!(rt;
@@ -138,22 +155,38 @@ fn partial_overlap(rt: HostRuntime) -> Result<(), Fail> {
     Ok(())
 }
 
-/// A walk of two thousand choices round a loop, its places compared whole.
-#[test]
-fn long_walk(rt: HostRuntime) -> Result<(), Fail> {
-    let mut script = Vec::new(rt.alloc());
+/// Adds a walk of two thousand choices round a loop, and its places.
+fn push_walk(script: &mut Vec<u8>, owed: &mut Vec<u8>) -> Result<(), AllocError> {
     script.extend_from_slice(b"create 00010000 ebfe")?;
-    push_nops(&mut script, 30)?;
+    push_nops(script, 30)?;
     script.extend_from_slice(b"\nwalk 00010000")?;
-    let mut owed = Vec::new(rt.alloc());
     owed.extend_from_slice(b"ok\nwalk 00010000")?;
     for _ in 0..2000 {
         script.extend_from_slice(b" 00000000")?;
         owed.extend_from_slice(b" 00010000")?;
     }
-    owed.extend_from_slice(b" more\n")?;
+    owed.extend_from_slice(b" more\n")
+}
+
+/// A walk of two thousand choices round a loop, its places compared whole.
+#[test]
+fn long_walk(rt: HostRuntime) -> Result<(), Fail> {
+    let mut script = Vec::new(rt.alloc());
+    let mut owed = Vec::new(rt.alloc());
+    push_walk(&mut script, &mut owed)?;
     let written = replies(rt.alloc(), &script, 4)?;
     assert_eq!(rt; written.as_slice(), owed.as_slice());
+    Ok(())
+}
+
+/// Adds a chunk of so many bundles, and how it is shown.
+fn push_large(script: &mut Vec<u8>, owed: &mut Vec<u8>, bundles: usize) -> Result<(), AllocError> {
+    script.extend_from_slice(b"create 00010000 ")?;
+    push_nops(script, bundles.saturating_mul(32))?;
+    script.extend_from_slice(b"\ndump")?;
+    owed.extend_from_slice(b"ok\ndump 00010000 live ")?;
+    push_nops(owed, bundles.saturating_mul(32))?;
+    owed.push(b'\n')?;
     Ok(())
 }
 
@@ -163,12 +196,7 @@ fn long_lines(rt: HostRuntime) -> Result<(), Fail> {
     for bundles in [1024usize, 4096, 16_383] {
         let mut script = Vec::new(rt.alloc());
         let mut owed = Vec::new(rt.alloc());
-        script.extend_from_slice(b"create 00010000 ")?;
-        push_nops(&mut script, bundles * 32)?;
-        script.extend_from_slice(b"\ndump")?;
-        owed.extend_from_slice(b"ok\ndump 00010000 live ")?;
-        push_nops(&mut owed, bundles * 32)?;
-        owed.push(b'\n')?;
+        push_large(&mut script, &mut owed, bundles)?;
         let written = replies(rt.alloc(), &script, 20_000)?;
         assert!(rt; written == owed, "a chunk of {bundles} bundles");
     }

@@ -1,6 +1,6 @@
 //! Patches, as scripts.
 
-use crate::tests::rows::{Row, written_and_owed};
+use crate::tests::rows::{Row, replies_as_owed};
 use std::test::Fail;
 
 /// An operand is replaced; instructions of other lengths aren't.
@@ -113,8 +113,7 @@ fn patches(rt: HostRuntime) -> Result<(), Fail> {
         &MASKS,
         &ORDER,
     ] {
-        let (written, owed) = written_and_owed(rt.alloc(), rows, 1)?;
-        assert_eq!(rt; written.as_slice(), owed.as_slice());
+        replies_as_owed(rt.alloc(), rows, 1)?;
     }
     Ok(())
 }

@@ -1,6 +1,7 @@
 //! Deletion, check-in and reclaiming, as scripts.
 
-use crate::tests::rows::{Row, input_and_owed, written, written_and_owed};
+use crate::tests::rows::{Row, push_rows, replies_as_owed, written};
+use std::alloc::{AllocError, Global};
 use std::test::Fail;
 
 /// A second creation at the same place changes nothing.
@@ -116,8 +117,7 @@ fn one_seat(rt: HostRuntime) -> Result<(), Fail> {
         &SEATS,
         &RETIRED_WALK,
     ] {
-        let (written, owed) = written_and_owed(rt.alloc(), rows, 1)?;
-        assert_eq!(rt; written.as_slice(), owed.as_slice());
+        replies_as_owed(rt.alloc(), rows, 1)?;
     }
     Ok(())
 }
@@ -125,17 +125,14 @@ fn one_seat(rt: HostRuntime) -> Result<(), Fail> {
 #[test]
 fn two_seats(rt: HostRuntime) -> Result<(), Fail> {
     for rows in [TWO_SEATS.as_slice(), &LEAST_SEAT] {
-        let (written, owed) = written_and_owed(rt.alloc(), rows, 2)?;
-        assert_eq!(rt; written.as_slice(), owed.as_slice());
+        replies_as_owed(rt.alloc(), rows, 2)?;
     }
     Ok(())
 }
 
 #[test]
 fn most_seats(rt: HostRuntime) -> Result<(), Fail> {
-    let (written, owed) = written_and_owed(rt.alloc(), &MOST_SEATS, 256)?;
-    assert_eq!(rt; written.as_slice(), owed.as_slice());
-    Ok(())
+    replies_as_owed(rt.alloc(), &MOST_SEATS, 256)
 }
 
 /// A chunk created and deleted.
@@ -151,19 +148,31 @@ const LAST_LEAVES: [Row; 3] = [
     (b"reclaim", b"freed 1"),
 ];
 
-/// A chunk is deleted, and all of 256 seats but the last one check in.
-#[test]
-fn last_of_the_most_seats(rt: HostRuntime) -> Result<(), Fail> {
-    let alloc = rt.alloc();
-    let (mut script, mut owed) = input_and_owed(alloc, &DELETED)?;
+/// Adds check-ins of all of 256 seats but the last one.
+fn push_check_ins(
+    alloc: Global,
+    script: &mut Vec<u8>,
+    owed: &mut Vec<u8>,
+) -> Result<(), AllocError> {
     for seat in 0..255 {
         let line = format!(in alloc; "checkin {seat}\n")?;
         script.extend_from_slice(line.as_bytes())?;
         owed.extend_from_slice(b"ok\n")?;
     }
-    let (rest, rest_owed) = input_and_owed(alloc, &LAST_LEAVES)?;
-    script.extend_from_slice(&rest)?;
-    owed.extend_from_slice(&rest_owed)?;
-    assert_eq!(rt; written(alloc, &script, 256)?.as_slice(), owed.as_slice());
+    Ok(())
+}
+
+/// A chunk is deleted, and all of 256 seats but the last one check in.
+#[test]
+fn last_of_the_most_seats(rt: HostRuntime) -> Result<(), Fail> {
+    let mut script = Vec::new(rt.alloc());
+    let mut owed = Vec::new(rt.alloc());
+    push_rows(&mut script, &mut owed, &DELETED)?;
+    push_check_ins(rt.alloc(), &mut script, &mut owed)?;
+    push_rows(&mut script, &mut owed, &LAST_LEAVES)?;
+    assert_eq!(rt;
+        written(rt.alloc(), &script, 256)?.as_slice(),
+        owed.as_slice()
+    );
     Ok(())
 }

@@ -1,21 +1,27 @@
 //! Lines and their replies, in tables.
 
+use crate::tests::calls::replay;
 use crate::tests::filled::push_filled;
-use nc_script::run;
-use std::alloc::Global;
+use std::alloc::{AllocError, Global};
 use std::test::Fail;
 
 /// A line and its reply or verdict; in both a `*` stands for nops, of which there are as many as fill the word up to 32 bytes.
 pub type Row = (&'static [u8], &'static [u8]);
 
+/// Adds these lines, and the replies that they have to have.
+pub fn push_rows(input: &mut Vec<u8>, owed: &mut Vec<u8>, rows: &[Row]) -> Result<(), AllocError> {
+    for (line, reply) in rows {
+        push_filled(input, line)?;
+        push_filled(owed, reply)?;
+    }
+    Ok(())
+}
+
 /// These lines as one input, and the replies that they have to have.
 pub fn input_and_owed(alloc: Global, rows: &[Row]) -> Result<(Vec<u8>, Vec<u8>), Fail> {
     let mut input = Vec::new(alloc);
     let mut owed = Vec::new(alloc);
-    for (line, reply) in rows {
-        push_filled(&mut input, line)?;
-        push_filled(&mut owed, reply)?;
-    }
+    push_rows(&mut input, &mut owed, rows)?;
     Ok((input, owed))
 }
 
@@ -23,18 +29,18 @@ pub fn input_and_owed(alloc: Global, rows: &[Row]) -> Result<(Vec<u8>, Vec<u8>),
 pub fn written(alloc: Global, script: &[u8], seats: u32) -> Result<Vec<u8>, Fail> {
     let mut written = Vec::new(alloc);
     let mut reader = script;
-    match run(alloc, &mut reader, &mut written, 4, seats) {
+    match replay(alloc, &mut reader, &mut written, 4, seats) {
         Ok(()) => Ok(written),
         Err(fault) => Err(Fail::new(format_args!("{fault}"))),
     }
 }
 
-/// What these lines write as one script on four bundles for so many seats, and what they have to.
-pub fn written_and_owed(
-    alloc: Global,
-    rows: &[Row],
-    seats: u32,
-) -> Result<(Vec<u8>, Vec<u8>), Fail> {
+/// These lines as one script on four bundles for so many seats write their replies; otherwise both are in the failure.
+pub fn replies_as_owed(alloc: Global, rows: &[Row], seats: u32) -> Result<(), Fail> {
     let (input, owed) = input_and_owed(alloc, rows)?;
-    Ok((written(alloc, &input, seats)?, owed))
+    let written = written(alloc, &input, seats)?;
+    if written == owed {
+        return Ok(());
+    }
+    Err(Fail::new(format_args!("{written:?} is not {owed:?}")))
 }

@@ -1,8 +1,9 @@
 //! Scripts and their answers, through `run` from bytes to bytes.
 
-use crate::tests::fakes::{NEVER, Pieces, Slow};
-use crate::tests::rows::{Row, written_and_owed};
-use nc_script::{ReplayFault, run};
+use crate::tests::calls::replay;
+use crate::tests::fakes::{Pieces, Slow};
+use crate::tests::rows::{Row, replies_as_owed};
+use nc_script::ReplayFault;
 use std::test::Fail;
 
 /// One bundle after the other: chunks that jump to each other, and each kind of refusal.
@@ -161,8 +162,7 @@ fn scripts(rt: HostRuntime) -> Result<(), Fail> {
         &BRANCH,
         &FAULTS,
     ] {
-        let (written, owed) = written_and_owed(rt.alloc(), rows, 1)?;
-        assert_eq!(rt; written.as_slice(), owed.as_slice());
+        replies_as_owed(rt.alloc(), rows, 1)?;
     }
     Ok(())
 }
@@ -170,12 +170,8 @@ fn scripts(rt: HostRuntime) -> Result<(), Fail> {
 #[test]
 fn bad_lines(rt: HostRuntime) -> Result<(), Fail> {
     for line in BAD_LINES {
-        let (written, owed) = written_and_owed(
-            rt.alloc(),
-            &[(line, b"bad line"), (b"dump", b"dump")],
-            1,
-        )?;
-        assert_eq!(rt; written.as_slice(), owed.as_slice());
+        let rows: [Row; 2] = [(line, b"bad line"), (b"dump", b"dump")];
+        replies_as_owed(rt.alloc(), &rows, 1)?;
     }
     Ok(())
 }
@@ -193,7 +189,7 @@ fn last_lines(rt: HostRuntime) -> Result<(), Fail> {
     ] {
         let mut written = Vec::new(rt.alloc());
         let mut reader = input;
-        let result = run(rt.alloc(), &mut reader, &mut written, 4, 1);
+        let result = replay(rt.alloc(), &mut reader, &mut written, 4, 1);
         assert_eq!(rt; result, Ok(()));
         assert_eq!(rt; written.as_slice(), owed);
     }
@@ -214,7 +210,7 @@ fn long_create(rt: HostRuntime) -> Result<(), Fail> {
         input.extend_from_slice(b"\ndump")?;
         let mut written = Vec::new(rt.alloc());
         let mut reader = input.as_slice();
-        let result = run(rt.alloc(), &mut reader, &mut written, 4, 1);
+        let result = replay(rt.alloc(), &mut reader, &mut written, 4, 1);
         assert_eq!(rt; result, Ok(()));
         assert_eq!(rt; written.as_slice(), owed);
     }
@@ -240,13 +236,8 @@ fn failed_reads(rt: HostRuntime) -> Result<(), Fail> {
         (24, 33),
     ] {
         let mut written = Vec::new(rt.alloc());
-        let mut reader = Pieces {
-            rest: THREE.0,
-            size: 1,
-            reads: 0,
-            fails_at,
-        };
-        let result = run(rt.alloc(), &mut reader, &mut written, 4, 1);
+        let mut reader = Pieces::failing(THREE.0, fails_at);
+        let result = replay(rt.alloc(), &mut reader, &mut written, 4, 1);
         assert_eq!(rt; result, Err(ReplayFault::ReadFailed));
         assert_eq!(rt; Some(written.as_slice()), THREE.1.get(..owed));
     }
@@ -257,20 +248,11 @@ fn failed_reads(rt: HostRuntime) -> Result<(), Fail> {
 #[test]
 fn failed_writes(rt: HostRuntime) -> Result<(), Fail> {
     for fails_at in 0..33usize {
-        let mut written = Vec::new(rt.alloc());
         let mut reader = THREE.0;
-        let mut writer = Slow {
-            out: &mut written,
-            size: 1,
-            writes: 0,
-            fails_at,
-            with_error: fails_at % 2 == 0,
-            flushes: true,
-            flushed: 0,
-        };
-        let result = run(rt.alloc(), &mut reader, &mut writer, 4, 1);
+        let mut writer = Slow::failing(rt.alloc(), fails_at, fails_at % 2 == 0, true);
+        let result = replay(rt.alloc(), &mut reader, &mut writer, 4, 1);
         assert_eq!(rt; result, Err(ReplayFault::WriteFailed));
-        assert_eq!(rt; Some(written.as_slice()), THREE.1.get(..fails_at));
+        assert_eq!(rt; Some(writer.out.as_slice()), THREE.1.get(..fails_at));
     }
     Ok(())
 }
@@ -289,13 +271,8 @@ fn sizes(rt: HostRuntime) -> Result<(), Fail> {
         (2_097_152, 256, Ok(())),
     ] {
         let mut written = Vec::new(rt.alloc());
-        let mut reader = Pieces {
-            rest: b"dump",
-            size: 4,
-            reads: 0,
-            fails_at: NEVER,
-        };
-        let result = run(rt.alloc(), &mut reader, &mut written, bundles, seats);
+        let mut reader = Pieces::new(b"dump", 4);
+        let result = replay(rt.alloc(), &mut reader, &mut written, bundles, seats);
         assert_eq!(rt; result, owed);
         assert_eq!(rt; reader.reads == 0, owed.is_err());
         assert_eq!(rt; written.is_empty(), owed.is_err());

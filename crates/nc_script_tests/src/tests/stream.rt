@@ -1,7 +1,8 @@
 //! Lines in pieces of any length, devices that fail, and the limit of a line, over a responder that repeats its lines.
 
-use crate::tests::fakes::{Echo, NEVER, Pieces, Slow};
-use nc_script::{ReplayFault, answer_all};
+use crate::tests::calls::echo;
+use crate::tests::fakes::{Pieces, Slow};
+use nc_script::ReplayFault;
 use std::test::Fail;
 
 /// An input and its answers: empty lines, bytes that are not valid UTF-8, with and without an end.
@@ -17,26 +18,12 @@ const INPUTS: [(&[u8], &[u8]); 5] = [
 fn any_pieces(rt: HostRuntime) -> Result<(), Fail> {
     for (input, answers) in INPUTS {
         for size in 1..6usize {
-            let mut out = Vec::new(rt.alloc());
-            let mut reader = Pieces {
-                rest: input,
-                size,
-                reads: 0,
-                fails_at: NEVER,
-            };
-            let mut writer = Slow {
-                out: &mut out,
-                size,
-                writes: 0,
-                fails_at: NEVER,
-                with_error: true,
-                flushes: true,
-                flushed: 0,
-            };
-            let result = answer_all(rt.alloc(), &mut Echo, &mut reader, &mut writer);
+            let mut reader = Pieces::new(input, size);
+            let mut writer = Slow::new(rt.alloc(), size, true);
+            let result = echo(rt.alloc(), &mut reader, &mut writer);
             assert_eq!(rt; result, Ok(()));
             assert_eq!(rt; writer.flushed, 1);
-            assert_eq!(rt; out.as_slice(), answers);
+            assert_eq!(rt; writer.out.as_slice(), answers);
         }
     }
     Ok(())
@@ -53,13 +40,8 @@ fn read_fails(rt: HostRuntime) -> Result<(), Fail> {
         (8, b"one\n\n"),
     ] {
         let mut out = Vec::new(rt.alloc());
-        let mut reader = Pieces {
-            rest: b"one\n\ntwo",
-            size: 1,
-            reads: 0,
-            fails_at,
-        };
-        let result = answer_all(rt.alloc(), &mut Echo, &mut reader, &mut out);
+        let mut reader = Pieces::failing(b"one\n\ntwo", fails_at);
+        let result = echo(rt.alloc(), &mut reader, &mut out);
         assert_eq!(rt; result, Err(ReplayFault::ReadFailed));
         assert_eq!(rt; out.as_slice(), written);
     }
@@ -71,25 +53,14 @@ fn read_fails(rt: HostRuntime) -> Result<(), Fail> {
 fn write_fails(rt: HostRuntime) -> Result<(), Fail> {
     for fails_at in 0..9usize {
         for with_error in [false, true] {
-            let mut out = Vec::new(rt.alloc());
-            let mut reader = Pieces {
-                rest: b"one\n\ntwo",
-                size: 3,
-                reads: 0,
-                fails_at: NEVER,
-            };
-            let mut writer = Slow {
-                out: &mut out,
-                size: 1,
-                writes: 0,
-                fails_at,
-                with_error,
-                flushes: true,
-                flushed: 0,
-            };
-            let result = answer_all(rt.alloc(), &mut Echo, &mut reader, &mut writer);
+            let mut reader = Pieces::new(b"one\n\ntwo", 3);
+            let mut writer = Slow::failing(rt.alloc(), fails_at, with_error, true);
+            let result = echo(rt.alloc(), &mut reader, &mut writer);
             assert_eq!(rt; result, Err(ReplayFault::WriteFailed));
-            assert_eq!(rt; Some(out.as_slice()), b"one\n\ntwo\n".get(..fails_at));
+            assert_eq!(rt;
+                Some(writer.out.as_slice()),
+                b"one\n\ntwo\n".get(..fails_at)
+            );
         }
     }
     Ok(())
@@ -97,20 +68,11 @@ fn write_fails(rt: HostRuntime) -> Result<(), Fail> {
 
 #[test]
 fn flush_fails(rt: HostRuntime) -> Result<(), Fail> {
-    let mut out = Vec::new(rt.alloc());
     let mut reader = b"one\n".as_slice();
-    let mut writer = Slow {
-        out: &mut out,
-        size: 9,
-        writes: 0,
-        fails_at: NEVER,
-        with_error: true,
-        flushes: false,
-        flushed: 0,
-    };
-    let result = answer_all(rt.alloc(), &mut Echo, &mut reader, &mut writer);
+    let mut writer = Slow::new(rt.alloc(), 9, false);
+    let result = echo(rt.alloc(), &mut reader, &mut writer);
     assert_eq!(rt; result, Err(ReplayFault::WriteFailed));
-    assert_eq!(rt; out.as_slice(), b"one\n".as_slice());
+    assert_eq!(rt; writer.out.as_slice(), b"one\n".as_slice());
     Ok(())
 }
 
@@ -128,7 +90,7 @@ fn line_limit(rt: HostRuntime) -> Result<(), Fail> {
         wanted.extend_from_slice(b"\nb\n")?;
         let mut out = Vec::new(rt.alloc());
         let mut reader = input.as_slice();
-        let result = answer_all(rt.alloc(), &mut Echo, &mut reader, &mut out);
+        let result = echo(rt.alloc(), &mut reader, &mut out);
         assert_eq!(rt; result, Ok(()));
         assert_eq!(rt; out.as_slice(), wanted.as_slice());
     }

@@ -1,9 +1,9 @@
 //! Lines of chunks and their verdicts, through `vet_lines` from bytes to bytes.
 
-use crate::tests::fakes::{NEVER, Pieces, Slow};
+use crate::tests::calls::vet;
+use crate::tests::fakes::{Pieces, Slow};
 use crate::tests::rows::{Row, input_and_owed};
-use nc_script::{ReplayFault, vet_lines};
-use nc_work::Open;
+use nc_script::ReplayFault;
 use std::alloc::Global;
 use std::sync::Wait;
 use std::test::Fail;
@@ -56,7 +56,7 @@ fn vets<T: Threads + Wait + Sync>(rt: &T, alloc: Global, rows: &[Row]) -> Result
     for workers in 1..17u32 {
         let mut written = Vec::new(alloc);
         let mut reader = input.as_slice();
-        let result = vet_lines(rt, alloc, &mut reader, &mut written, 4, workers, &Open);
+        let result = vet(rt, alloc, &mut reader, &mut written, 4, workers);
         if result != Ok(()) || written != owed {
             return Err(Fail::new(format_args!("{workers} workers")));
         }
@@ -87,15 +87,7 @@ fn long_and_last_lines(rt: HostRuntime) -> Result<(), Fail> {
         input.extend_from_slice(b"\n00010001 -")?;
         let mut written = Vec::new(rt.alloc());
         let mut reader = input.as_slice();
-        let result = vet_lines(
-            &rt,
-            rt.alloc(),
-            &mut reader,
-            &mut written,
-            2_097_152,
-            4,
-            &Open,
-        );
+        let result = vet(&rt, rt.alloc(), &mut reader, &mut written, 2_097_152, 4);
         assert_eq!(rt; result, Ok(()));
         assert_eq!(rt; written.as_slice(), owed);
     }
@@ -108,13 +100,8 @@ fn failed_reads(rt: HostRuntime) -> Result<(), Fail> {
     let (input, _) = input_and_owed(rt.alloc(), &TWO)?;
     for fails_at in 0..input.len() {
         let mut written = Vec::new(rt.alloc());
-        let mut reader = Pieces {
-            rest: input.as_slice(),
-            size: 1,
-            reads: 0,
-            fails_at,
-        };
-        let result = vet_lines(&rt, rt.alloc(), &mut reader, &mut written, 4, 2, &Open);
+        let mut reader = Pieces::failing(input.as_slice(), fails_at);
+        let result = vet(&rt, rt.alloc(), &mut reader, &mut written, 4, 2);
         assert_eq!(rt; result, Err(ReplayFault::ReadFailed));
         assert!(rt; written.is_empty());
     }
@@ -126,20 +113,11 @@ fn failed_reads(rt: HostRuntime) -> Result<(), Fail> {
 fn failed_writes(rt: HostRuntime) -> Result<(), Fail> {
     let (input, owed) = input_and_owed(rt.alloc(), &THREE)?;
     for fails_at in 0..owed.len() + 1 {
-        let mut written = Vec::new(rt.alloc());
         let mut reader = input.as_slice();
-        let mut writer = Slow {
-            out: &mut written,
-            size: 1,
-            writes: 0,
-            fails_at,
-            with_error: fails_at % 2 == 0,
-            flushes: false,
-            flushed: 0,
-        };
-        let result = vet_lines(&rt, rt.alloc(), &mut reader, &mut writer, 4, 2, &Open);
+        let mut writer = Slow::failing(rt.alloc(), fails_at, fails_at % 2 == 0, false);
+        let result = vet(&rt, rt.alloc(), &mut reader, &mut writer, 4, 2);
         assert_eq!(rt; result, Err(ReplayFault::WriteFailed));
-        assert_eq!(rt; Some(written.as_slice()), owed.get(..fails_at));
+        assert_eq!(rt; Some(writer.out.as_slice()), owed.get(..fails_at));
     }
     Ok(())
 }
@@ -149,26 +127,12 @@ fn failed_writes(rt: HostRuntime) -> Result<(), Fail> {
 fn any_pieces(rt: HostRuntime) -> Result<(), Fail> {
     let (input, owed) = input_and_owed(rt.alloc(), &FAULTS)?;
     for size in 1..6usize {
-        let mut written = Vec::new(rt.alloc());
-        let mut reader = Pieces {
-            rest: input.as_slice(),
-            size,
-            reads: 0,
-            fails_at: NEVER,
-        };
-        let mut writer = Slow {
-            out: &mut written,
-            size,
-            writes: 0,
-            fails_at: NEVER,
-            with_error: true,
-            flushes: true,
-            flushed: 0,
-        };
-        let result = vet_lines(&rt, rt.alloc(), &mut reader, &mut writer, 4, 3, &Open);
+        let mut reader = Pieces::new(input.as_slice(), size);
+        let mut writer = Slow::new(rt.alloc(), size, true);
+        let result = vet(&rt, rt.alloc(), &mut reader, &mut writer, 4, 3);
         assert_eq!(rt; result, Ok(()));
         assert_eq!(rt; writer.flushed, 1);
-        assert_eq!(rt; written.as_slice(), owed.as_slice());
+        assert_eq!(rt; writer.out.as_slice(), owed.as_slice());
     }
     Ok(())
 }
@@ -186,21 +150,8 @@ fn sizes(rt: HostRuntime) -> Result<(), Fail> {
         (2_097_152, 16, Ok(())),
     ] {
         let mut written = Vec::new(rt.alloc());
-        let mut reader = Pieces {
-            rest: b"dump",
-            size: 4,
-            reads: 0,
-            fails_at: NEVER,
-        };
-        let result = vet_lines(
-            &rt,
-            rt.alloc(),
-            &mut reader,
-            &mut written,
-            bundles,
-            workers,
-            &Open,
-        );
+        let mut reader = Pieces::new(b"dump", 4);
+        let result = vet(&rt, rt.alloc(), &mut reader, &mut written, bundles, workers);
         assert_eq!(rt; result, owed);
         assert_eq!(rt; reader.reads == 0, owed.is_err());
         assert_eq!(rt; written.is_empty(), owed.is_err());
