@@ -26,6 +26,8 @@ pub(crate) struct Masks {
 impl Masks {
     ghost use Rattle.std.specs.Prelude.{◌≡◌, ◌≢◌, ℕ, ◌+◌, ◌<◌, ◌≤◌, ◌⊎◌, All, length, slice_index_or};
     ghost use Rattle.nc_decode.specs.declared.instruction.Mark.TheVariants.{Unmarked};
+    ghost use Rattle.std.specs.Int.{bit_at};
+    ghost use Rattle.nc_text.specs.Marks.{mark_bit};
     ghost use Rattle.nc_text.specs.machinery.Masks.{mark_in, start_only, unused_masks};
     ghost use Rattle.nc_text.specs.MarkedText.{NamesRegister, unused_mark};
 
@@ -55,6 +57,13 @@ impl Masks {
         } else {
             Mark::Unmarked
         }
+    }
+
+    /// The marked places, a bit for each.
+    pub(crate) fn marked(&self) -> u32
+        ensures { (k : ℕ) → k < 32 → bit_at result k ≡ mark_bit (mark_in self.now k) }
+    {
+        self.starts | self.seconds
     }
 
     /// Sets the mark of one place.

@@ -24,6 +24,8 @@ pub(crate) struct Page {
 impl Page {
     ghost use Rattle.std.specs.Prelude.{◌≡◌, ◌≢◌, ℕ, ◌+◌, ◌%◌, ◌<◌, ◌≤◌, ◌⊎◌, All, length, slice_index_or, IfOk};
     ghost use Rattle.nc_decode.specs.declared.instruction.Mark.TheVariants.{Unmarked};
+    ghost use Rattle.std.specs.Int.{bit_at};
+    ghost use Rattle.nc_text.specs.Marks.{mark_bit};
     ghost use Rattle.nc_text.specs.machinery.Pages.{byte_on, mark_on};
     ghost use Rattle.nc_text.specs.MarkedText.{unused_mark, NamesRegister};
 
@@ -52,6 +54,15 @@ impl Page {
         ensures { result ≡ mark_on self.now at }
     {
         self.masks[at / 32].mark((at % 32) as u32)
+    }
+
+    /// The marked places of the bundle that starts at a place, a bit for each.
+    pub(crate) fn marked(&self, at: usize) -> u32
+        requires inside { at < 4096 }
+        requires start { at % 32 ≡ 0 }
+        ensures { (k : ℕ) → k < 32 → bit_at result k ≡ mark_bit (mark_on self.now (at + k)) }
+    {
+        self.masks[at / 32].marked()
     }
 
     /// Puts one byte.

@@ -3,7 +3,9 @@
 ghost use Rattle.std.specs.Prelude.{◌≡◌, ◌≢◌, ℕ, ◌+◌, ◌/◌, ◌%◌, ◌<◌, ◌≤◌, ◌⊎◌, ◌↔◌, IsTrue, All, length, map, true, None, IfOk};
 ghost use Rattle.std.specs.Prelude.{slice_index_or, replicate, ◌^◌};
 ghost use Rattle.nc_decode.specs.declared.instruction.Mark.TheVariants.{Unmarked};
+ghost use Rattle.std.specs.Int.{bit_at};
 ghost use Rattle.std.specs.Option.{is_some};
+ghost use Rattle.nc_text.specs.Marks.{mark_bit};
 ghost use Rattle.nc_text.specs.machinery.Pages.{byte_on, mark_on, byte_of, mark_of, page_of};
 ghost use Rattle.nc_text.specs.MarkedText.{unused_mark, NamesRegister};
 
@@ -16,6 +18,9 @@ const BUNDLE: usize = 32;
 
 /// What the byte of a page that isn't made reads as: the instruction hlt.
 const STOP: u8 = 0xF4;
+
+/// The marked places of a bundle on a page that isn't made: its start alone.
+const UNUSED: u32 = 1;
 
 /// A table of so many pages, none of which is made.
 pub(crate) fn empty(alloc: Global, n: usize) -> Result<Vec<Option<Box<Page>>>, AllocError>
@@ -47,6 +52,18 @@ pub(crate) fn mark(pages: &[Option<Box<Page>>], at: usize) -> Mark
     match &pages[at / PAGE] {
         None => unused_mark(at),
         Some(page) => page.mark(at % PAGE),
+    }
+}
+
+/// The marked places of the bundle that starts at a place, a bit for each.
+pub(crate) fn marked(pages: &[Option<Box<Page>>], at: usize) -> u32
+    requires inside { at / 4096 < length pages.now }
+    requires start { at % 32 ≡ 0 }
+    ensures { (k : ℕ) → k < 32 → bit_at result k ≡ mark_bit (mark_of pages.now (at + k)) }
+{
+    match &pages[at / PAGE] {
+        None => UNUSED,
+        Some(page) => page.marked(at % PAGE),
     }
 }
 

@@ -1,8 +1,9 @@
 //! A text: the bytes of a region and their marks.
 
 ghost use Rattle.std.specs.Prelude.{◌≡◌, ◌+◌, ◌%◌, ◌-◌, ◌*◌, ◌≤◌, ◌<◌, ℕ, List, length, IfOk, IfErr, IsTrue, All, ◌↔◌, ◌⊎◌};
-ghost use Rattle.nc_decode.specs.Bundles.{IsLawfulLimit};
-ghost use Rattle.nc_text.specs.Marks.{IsClosed, mark_at};
+ghost use Rattle.std.specs.Int.{bit_at};
+ghost use Rattle.nc_decode.specs.Bundles.{IsBundleStart, IsLawfulLimit};
+ghost use Rattle.nc_text.specs.Marks.{IsClosed, mark_at, mark_bit};
 ghost use Rattle.nc_text.specs.Places.{InRegion, SpanInRegion, byte_at, limit_of};
 ghost use Rattle.nc_text.specs.MarkedText.{MarkedText, IsText, with_byte, with_marks, without_marks, unused_text, NamesRegister};
 ghost use Rattle.nc_text.specs.MarkedText.{KeepsMarks, AreStops};
@@ -145,6 +146,15 @@ impl Text {
         ensures { result ≡ mark_at self.now.marked.marks at }
     {
         table::mark(&self.pages, (at - START) as usize)
+    }
+
+    /// Which of the 32 places of a bundle are marked: a bit for each of them, the lowest for the bundle start.
+    pub fn marked_places(&self, at: u32) -> u32
+        requires inside { InRegion self.now.marked.bytes at }
+        requires start { IsBundleStart at }
+        ensures { (k : ℕ) → k < 32 → bit_at result k ≡ mark_bit (mark_at self.now.marked.marks (at + k)) }
+    {
+        table::marked(&self.pages, (at - START) as usize)
     }
 
     /// Puts one byte at an address of the region. No mark changes, and no other byte.
