@@ -25,6 +25,8 @@ pub mod QuietSpans
 pub mod Freed
 pub mod Due
 pub mod Deleting
+pub mod BitPlaces
+pub mod Stopping
 pub mod Deleted
 pub mod Inserting
 pub mod ReadyPlaces

@@ -2,8 +2,10 @@
 
 ghost use Rattle.std.specs.Prelude.{◌≡◌, ◌+◌, ◌^◌, ◌<◌, ◌≤◌, ◌↔◌, ℕ, List, [], ◌∷◌, Option, length, All, IsOk, IfOk, IfErr};
 ghost use Rattle.std.specs.Prelude.{IsTrue, OnOk, OnErr, Bool};
+ghost use Rattle.std.specs.Int.{bit_at};
 ghost use Rattle.nc_decode.specs.declared.instruction.Mark.{Mark};
-ghost use Rattle.nc_text.specs.Marks.{IsClosed, mark_at};
+ghost use Rattle.nc_decode.specs.Bundles.{IsBundleStart};
+ghost use Rattle.nc_text.specs.Marks.{IsClosed, mark_at, mark_bit};
 ghost use Rattle.nc_text.specs.Places.{InRegion, SpanInRegion, byte_at, limit_of};
 ghost use Rattle.nc_text.specs.MarkedText.{MarkedText, IsText, with_byte, with_marks, without_marks, NamesRegister, KeepsMarks, AreStops};
 ghost use Rattle.nc_text.specs.Ready.{IsReady, AreReady, GetsReady};
@@ -143,6 +145,23 @@ pub trait Acts {
         requires { InRegion (marked self.now).bytes at }
         ensures { result ≡ mark_at (marked self.now).marks at };
 
+    /// Which of the 32 places of a bundle are marked: a bit for each of them, the lowest for the bundle start.
+    ///
+    /// As it stands here, it asks for each mark. Whoever has them at hand as bits may answer faster.
+    fn marked_places(&self, at: u32) -> u32
+        requires inside { InRegion (marked self.now).bytes at }
+        requires start { IsBundleStart at }
+        ensures { (k : ℕ) → k < 32 → bit_at result k ≡ mark_bit (mark_at (marked self.now).marks (at + k)) }
+    {
+        // Called for what it ensures.
+        let _facts = self.limit();
+        let mut places = 0;
+        for n in 0..32 {
+            places = 2 * places + mark_bit(self.mark(at + (31 - n)));
+        }
+        places
+    }
+
     /// Adds one to the generation, and answers the new one.
     fn bump(&mut self) -> Result<u64, GensFull>
         ensures room { IsOk result ↔ ((keeper self.old).numbers.generation < 2 ^ 62) }
@@ -179,4 +198,14 @@ pub trait Acts {
     fn generation(&self) -> u64
         ensures generation { result ≡ (keeper self.now).numbers.generation }
         ensures in_range { result ≤ 2 ^ 62 };
+}
+
+/// 1 for a mark that stands for some state, otherwise 0.
+fn mark_bit(mark: Mark) -> u32
+    ensures { result ≡ mark_bit mark }
+{
+    match mark {
+        Mark::Unmarked => 0,
+        Mark::Plain | Mark::After(_) => 1,
+    }
 }

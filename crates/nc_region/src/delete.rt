@@ -1,19 +1,19 @@
 //! A chunk of a text that threads are running turned into stops.
 
-ghost use Rattle.std.specs.Prelude.{◌≡◌, ◌+◌, ◌-◌, ◌<◌, ◌≤◌, ◌^◌, ℕ, List, [], ◌∷◌, ◌++◌, length, replicate, true};
-ghost use Rattle.nc_decode.specs.declared.instruction.Mark.{Mark};
+ghost use Rattle.std.specs.Prelude.{◌≡◌, ◌≢◌, ◌+◌, ◌-◌, ◌<◌, ◌≤◌, ◌^◌, ℕ, List, [], ◌∷◌, ◌++◌, length, replicate, true};
+ghost use Rattle.std.specs.Int.{bit_at};
+ghost use Rattle.nc_text.specs.Marks.{IsClosed};
 ghost use Rattle.nc_text.specs.Places.{limit_of, byte_at};
 ghost use Rattle.nc_text.specs.Ready.{AreReady};
 ghost use Rattle.nc_text.specs.MarkedText.{MarkedText, IsText, with_span};
 ghost use Rattle.nc_gens.specs.Rule.{generation_raised};
 ghost use Rattle.nc_region.specs.declared.acts.Entry.{Entry};
-ghost use Rattle.nc_region.specs.Acts.{Tells, puts_where, is_mark, is_marked_at, is_unmarked_at, acts_of_delete};
+ghost use Rattle.nc_region.specs.Acts.{Tells, puts_where, is_marked_at, is_unmarked_at, acts_of_delete};
 ghost use Rattle.nc_region.specs.Log.{Logs, unsettled, log_of_delete};
 ghost use Rattle.nc_region.specs.Chunks.{HasGoodSpan};
-ghost use Rattle.nc_region.specs.machinery.Between.{HasPut};
+ghost use Rattle.nc_region.specs.machinery.Between.{HasPut, is_set};
 
 use crate::acts::Acts;
-use nc_decode::Mark;
 
 /// The byte of the instruction hlt.
 pub(crate) const STOP: u8 = 0xF4;
@@ -41,16 +41,6 @@ pub(crate) fn put_stops<A: Acts>(acts: &mut A, base: u32, len: u32) -> u64
     }
 }
 
-/// The mark stands for some state.
-fn is_mark(mark: Mark) -> bool
-    ensures { result ≡ is_mark mark }
-{
-    match mark {
-        Mark::Unmarked => false,
-        Mark::Plain | Mark::After(_) => true,
-    }
-}
-
 /// Puts stops at the marked places, rising, and settles.
 fn stop_marked<A: Acts>(acts: &mut A, base: u32, len: u32)
     requires whole { IsText (A.marked acts.old) }
@@ -67,11 +57,10 @@ fn stop_marked<A: Acts>(acts: &mut A, base: u32, len: u32)
     ensures log { Logs (A.logged acts.old) (A.logged acts.new)
         (unsettled (puts_where (is_marked_at (A.marked acts.old).marks) base (replicate len 0xF4)) ++ Entry.Settled ∷ []) }
 {
-    for i in 0..len {
-        let at = base + i;
-        if is_mark(acts.mark(at)) {
-            acts.put(at, STOP);
-        }
+    for bundle in 0..len / 32 {
+        let at = base + 32 * bundle;
+        let marked = acts.marked_places(at);
+        stop_places(acts, at, marked);
     }
     acts.settle();
 }
@@ -94,10 +83,49 @@ fn stop_others<A: Acts>(acts: &mut A, base: u32, len: u32)
     ensures log { Logs (A.logged acts.old) (A.logged acts.new)
         (unsettled (puts_where (is_unmarked_at (A.marked acts.old).marks) base (replicate len 0xF4))) }
 {
-    for i in 0..len {
-        let at = base + i;
-        if !is_mark(acts.mark(at)) {
-            acts.put(at, STOP);
-        }
+    for bundle in 0..len / 32 {
+        let at = base + 32 * bundle;
+        let marked = acts.marked_places(at);
+        stop_places(acts, at, !marked);
     }
+}
+
+/// Puts stops at the places of a bundle whose bits are set, rising. A test of each place instead would be a branch that real code
+/// makes hard to predict.
+fn stop_places<A: Acts>(acts: &mut A, at: u32, places: u32)
+    requires whole { IsText (A.marked acts.old) }
+    requires low { 0x10000 ≤ at }
+    requires high { at + 32 ≤ limit_of (A.marked acts.old).bytes }
+    requires ready { AreReady (A.made acts.old) at 32 }
+    requires closed { (count : ℕ) (now : List ℕ) → count ≤ 32
+        → HasPut (is_set places at) at (replicate 32 0xF4) count (A.marked acts.old).bytes now → IsClosed now (A.marked acts.old).marks }
+    ensures bytes { HasPut (is_set places at) at (replicate 32 0xF4) 32 (A.marked acts.old).bytes (A.marked acts.new).bytes }
+    ensures marks { (A.marked acts.new).marks ≡ (A.marked acts.old).marks }
+    ensures whole { IsText (A.marked acts.new) }
+    ensures made { A.made acts.new ≡ A.made acts.old }
+    ensures keeper { A.keeper acts.new ≡ A.keeper acts.old }
+    ensures told { Tells (A.told acts.old) (A.told acts.new) (puts_where (is_set places at) at (replicate 32 0xF4)) }
+    ensures log { Logs (A.logged acts.old) (A.logged acts.new) (unsettled (puts_where (is_set places at) at (replicate 32 0xF4))) }
+{
+    let mut left = places;
+    while left != 0 {
+        let (k, others) = lowest(left);
+        acts.put(at + k, STOP);
+        left = others;
+    }
+}
+
+/// The place of the lowest bit that is set, and the bits above it.
+#[inline(always)]
+fn lowest(bits: u32) -> (u32, u32)
+    requires { 0 < bits }
+    ensures place { result.0 < 32 }
+    ensures set { bit_at bits result.0 ≡ 1 }
+    ensures below { (i : ℕ) → i < result.0 → bit_at bits i ≡ 0 }
+    ensures cleared { bit_at result.1 result.0 ≡ 0 }
+    ensures others { (i : ℕ) → i < 32 → i ≢ result.0 → bit_at result.1 i ≡ bit_at bits i }
+    ensures fewer { result.1 < bits }
+{
+    let place = bits.trailing_zeros();
+    (place, bits & !(1 << place))
 }

@@ -227,6 +227,10 @@ impl<A: Acts + Drop> Acts for Recorder<A> {
         self.acts.mark(at)
     }
 
+    fn marked_places(&self, at: u32) -> u32 {
+        self.acts.marked_places(at)
+    }
+
     fn bump(&mut self) -> Result<u64, GensFull>
         ensures room { IsOk result ↔ ((A.keeper self.old.acts).numbers.generation < 2 ^ 62) }
         ensures stamp { IfOk result (λ n. n ≡ (A.keeper self.old.acts).numbers.generation + 1) }

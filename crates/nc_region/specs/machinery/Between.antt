@@ -1,5 +1,6 @@
 -- Texts between two acts.
-use Rattle.std.specs.Prelude.{◌≡◌, ◌≢◌, ℕ, ◌+◌, ◌-◌, ◌%◌, ◌<◌, ◌≤◌, Bool, true, false, List, length, slice_index}
+use Rattle.std.specs.Prelude.{◌≡◌, ◌≢◌, ℕ, ◌+◌, ◌-◌, ◌%◌, ◌==◌, ◌<◌, ◌≤◌, Bool, true, false, List, length, slice_index}
+use Rattle.std.specs.Int.{bit_at}
 use Rattle.nc_decode.specs.Bundles.{IsBundleStart}
 use Rattle.nc_text.specs.Places.{byte_at}
 use Rattle.nc_text.specs.Marks.{mark_at}
@@ -17,6 +18,10 @@ pub record HasPut (chosen : ℕ → Bool) (base : ℕ) (bytes : List ℕ) (count
   pub passed : (at : ℕ) → base ≤ at → chosen at ≡ false → byte_at new at ≡ byte_at old at
   pub below : (at : ℕ) → 0x10000 ≤ at → at < base → byte_at new at ≡ byte_at old at
   pub above : (at : ℕ) → base + count ≤ at → byte_at new at ≡ byte_at old at
+
+-- the bit of the place is set, where the lowest bit is that of `base`
+abbrev pub is_set : ℕ → ℕ → ℕ → Bool
+is_set places base at = bit_at places (at - base) == 1
 
 -- The text is the final one, except that stops stand at the bundle starts from the one address to below the other.
 pub record IsFinalBut (final now : List ℕ) (from to : ℕ) : Type 0 where

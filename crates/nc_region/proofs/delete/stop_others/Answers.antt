@@ -1,79 +1,102 @@
-use Rattle.std.proofs.Common.{Bool, ◌≡◌, ℕ, ◌+◌, ◌-◌, ◌<◌, not, List, [], length, get_or, set, replicate, arith, sym, ap, subst, ◌∙◌}
-use Rattle.std.proofs.Common.{true, false}
-use Rattle.std.proofs.lemmas.List.{get_or-replicate, length-replicate}
+use Rattle.std.proofs.Common.{Bool, ◌≡◌, ℕ, ◌+◌, ◌*◌, ◌<◌, ◌≤◌, List, replicate, take, arith, sym, subst, ◌∙◌}
+use Rattle.std.proofs.Common.{w32}
+use Rattle.std.specs.Int.{bit_at, bit_not}
+use Rattle.std.proofs.lemmas.List.{length-replicate, take_all}
 use Rattle.nc_decode.specs.declared.instruction.Mark.{Mark}
-use Rattle.nc_text.specs.Marks.{IsClosed}
+use Rattle.nc_text.specs.Marks.{IsClosed, mark_at, mark_bit}
 use Rattle.nc_text.specs.Ready.{IsReady}
-use Rattle.nc_region.specs.Acts.{is_unmarked_at}
-use Rattle.nc_region.specs.machinery.Between.{HasPut}
-use Rattle.nc_region.proofs.Puts.{put_more, put_passed}
-use Rattle.nc_region.proofs.Told.{told_put, told_passed}
-use Rattle.nc_region.proofs.Logged.{log_put, log_passed}
+use Rattle.nc_region.specs.Acts.{Tells, puts_where, is_unmarked_at}
+use Rattle.nc_region.specs.Log.{Logs, unsettled}
+use Rattle.nc_region.specs.machinery.Between.{HasPut, is_set}
 use Rattle.nc_region.proofs.Deleting.{others_closed}
+use Rattle.nc_region.proofs.Stopping.{set_unmarked, bundle_put, bundle_told, bundle_log}
 use Rattle.nc_region.proofs.delete.stop_others.Goals as goal
-use Rattle.nc_region.proofs.delete.stop_others.Goals.{then-not-is_mark, else-not-is_mark}
 
-pub put-requires-clause-ready : goal.put-requires-clause-ready
-put-requires-clause-ready g c =
-    subst (λ (made : List Bool). IsReady made (c.args.base + c.loop-i.i)) (sym c.loop-i.invariant.made)
-    (c.requires.ready c.loop-i.i (omega arith))
+pub marked_places-marked-requires-clause-inside : goal.marked_places-marked-requires-clause-inside
+marked_places-marked-requires-clause-inside g c =
+    let long = c.loop-bundle.invariant.bytes.as_long in
+    (omega (arith, c.requires.placed.low), omega (arith, long, c.requires.placed.high))
 
-pub put-requires-clause-closed : goal.put-requires-clause-closed
-put-requires-clause-closed g c =
+pub marked_places-marked-requires-clause-start : goal.marked_places-marked-requires-clause-start
+marked_places-marked-requires-clause-start g c = omega (arith, c.requires.placed.start)
+
+pub stop_places-requires-clause-high : goal.stop_places-requires-clause-high
+stop_places-requires-clause-high g c = omega (arith, c.loop-bundle.invariant.bytes.as_long, c.requires.placed.high)
+
+pub stop_places-requires-clause-ready : goal.stop_places-requires-clause-ready
+stop_places-requires-clause-ready g c = λ k lt.
+    let i = 32 * c.loop-bundle.bundle in
+    subst (λ (made : List Bool). IsReady made (c.args.base + i + k)) (sym c.loop-bundle.invariant.made)
+    (subst (λ (at : ℕ). IsReady (g.A.Acts.made c.args.acts.now) at) {x = c.args.base + (i + k)} {y = c.args.base + i + k} (omega arith)
+    (c.requires.ready (i + k) (omega (arith, lt))))
+
+pub stop_places-requires-clause-closed : goal.stop_places-requires-clause-closed
+stop_places-requires-clause-closed g c = λ count now few puts.
     let base = c.args.base in
-    let i = c.loop-i.i in
+    let i = 32 * c.loop-bundle.bundle in
     let old = g.A.Acts.marked c.args.acts.now in
-    let now = g.A.Acts.marked c.loop-i.acts in
-    let byte = get_or-replicate {A = ℕ} c.args.len i 244 0 (omega arith) in
-    let is : is_unmarked_at old.marks (base + i) ≡ true =
-    rw (← c.loop-i.invariant.marks, ← c.mark.ensures, ← c.is_mark.ensures) (ap not c.if-not-is_mark.true) in
-    let next = put_more (is_unmarked_at old.marks) base
-    (replicate c.args.len 244) i old.bytes now.bytes c.loop-i.invariant.bytes c.requires.placed.low
-    (omega (arith, c.requires.placed.high)) is in
-    subst (λ (marks : List Mark). IsClosed (set now.bytes (base + i - 65536) 244) marks) (sym c.loop-i.invariant.marks)
-    (subst (λ (b : ℕ). IsClosed (set now.bytes (base + i - 65536) b) old.marks) byte
-    (others_closed old (set now.bytes (base + i - 65536) (get_or (replicate c.args.len 244) i 0)) base c.args.len (i + 1) c.requires.placed
-    (omega arith) c.requires.whole.closed c.requires.stopped next))
+    let mid = g.A.Acts.marked c.loop-bundle.acts in
+    let fits : i + 32 ≤ c.args.len = omega arith in
+    let agree : (k : ℕ) → k < 32 → is_set (bit_not w32 c.marked_places-marked.result) (base + i) (base + i + k) ≡ is_unmarked_at old.marks (base + i + k) =
+    λ k lt. set_unmarked old.marks c.marked_places-marked.result (base + i) k
+    (omega (arith, c.marked_places-marked.type_inv)) lt (subst (λ (marks : List Mark). bit_at c.marked_places-marked.result k ≡ mark_bit (mark_at marks (base + i + k)))
+    c.loop-bundle.invariant.marks (c.marked_places-marked.ensures k lt)) in
+    subst (λ (marks : List Mark). IsClosed now marks) (sym c.loop-bundle.invariant.marks)
+    (others_closed old now base c.args.len (i + count) c.requires.placed (omega (arith, fits, few)) c.requires.whole.closed c.requires.stopped
+    (bundle_put (is_unmarked_at old.marks) (bit_not w32 c.marked_places-marked.result) base i c.args.len count old.bytes mid.bytes now c.requires.placed.low fits few agree
+    c.loop-bundle.invariant.bytes puts))
 
-pub loop-i-preserved : goal.loop-i-preserved
-loop-i-preserved g c =
+pub loop-bundle-preserved : goal.loop-bundle-preserved
+loop-bundle-preserved g c =
     let base = c.args.base in
-    let i = c.loop-i.i in
+    let i = 32 * c.loop-bundle.bundle in
+    let len = c.args.len in
+    let so = c.loop-bundle.invariant in
     let old = g.A.Acts.marked c.args.acts.now in
-    let now = g.A.Acts.marked c.loop-i.acts in
-    let byte = get_or-replicate {A = ℕ} c.args.len i 244 0 (omega arith) in
-    let short : i < length (replicate {A = ℕ} c.args.len 244) = omega (arith, length-replicate {A = ℕ} c.args.len 244) in
-    elim c.if-not-is_mark.branch [
-      | then-not-is_mark w ↦
-          let is : is_unmarked_at old.marks (base + i) ≡ true =
-          rw (← c.loop-i.invariant.marks, ← c.mark.ensures, ← c.is_mark.ensures) (ap not w.if-not-is_mark.true) in
-          let e = w.put.ensures.marked in
-          rw w.acts-is (record {
-            bytes = rw e (subst (λ (b : ℕ). HasPut (is_unmarked_at old.marks) base (replicate c.args.len 244) (i + 1) old.bytes
-                (set now.bytes (base + i - 65536) b)) byte
-                (put_more (is_unmarked_at old.marks) base
-                (replicate c.args.len 244) i old.bytes now.bytes c.loop-i.invariant.bytes c.requires.placed.low
-                (omega (arith, c.requires.placed.high)) is));
-            marks = rw e c.loop-i.invariant.marks;
-            whole = w.put.ensures.whole;
-            made = w.put.ensures.made ∙ c.loop-i.invariant.made;
-            keeper = w.put.ensures.keeper ∙ c.loop-i.invariant.keeper;
-            told = told_put (is_unmarked_at old.marks) base (replicate c.args.len 244) i _ _ _ short is c.loop-i.invariant.told
-                (rw byte w.put.ensures.told);
-            log = log_put [] (is_unmarked_at old.marks) base (replicate c.args.len 244) i _ _ _ short is c.loop-i.invariant.log
-                (rw byte w.put.ensures.logged);
-          })
-      | else-not-is_mark w ↦
-          let is : is_unmarked_at old.marks (base + i) ≡ false =
-          rw (← c.loop-i.invariant.marks, ← c.mark.ensures, ← c.is_mark.ensures) (ap not w.if-not-is_mark.false) in
-          rw w.acts-is (record {
-            bytes = put_passed (is_unmarked_at old.marks) base
-                (replicate c.args.len 244) i old.bytes now.bytes c.loop-i.invariant.bytes is;
-            marks = c.loop-i.invariant.marks;
-            whole = c.loop-i.invariant.whole;
-            made = c.loop-i.invariant.made;
-            keeper = c.loop-i.invariant.keeper;
-            told = told_passed (is_unmarked_at old.marks) base (replicate c.args.len 244) i _ _ short is c.loop-i.invariant.told;
-            log = log_passed (is_unmarked_at old.marks) base (replicate c.args.len 244) i _ _ short is c.loop-i.invariant.log;
-          })
-    ]
+    let mid = g.A.Acts.marked c.loop-bundle.acts in
+    let now = g.A.Acts.marked c.stop_places.new.acts in
+    let chosen = is_unmarked_at old.marks in
+    let fits : i + 32 ≤ len = omega arith in
+    let more : i + 32 ≡ 32 * (c.loop-bundle.bundle + 1) = omega arith in
+    let agree : (k : ℕ) → k < 32 → is_set (bit_not w32 c.marked_places-marked.result) (base + i) (base + i + k) ≡ is_unmarked_at old.marks (base + i + k) =
+    λ k lt. set_unmarked old.marks c.marked_places-marked.result (base + i) k
+    (omega (arith, c.marked_places-marked.type_inv)) lt (subst (λ (marks : List Mark). bit_at c.marked_places-marked.result k ≡ mark_bit (mark_at marks (base + i + k)))
+    c.loop-bundle.invariant.marks (c.marked_places-marked.ensures k lt)) in
+    record {
+      bytes = subst (λ (n : ℕ). HasPut chosen base (replicate len 244) n old.bytes now.bytes) more
+          (bundle_put chosen (bit_not w32 c.marked_places-marked.result) base i len 32 old.bytes mid.bytes now.bytes c.requires.placed.low fits (omega arith) agree
+          so.bytes c.stop_places.ensures.bytes);
+      marks = c.stop_places.ensures.marks ∙ so.marks;
+      whole = c.stop_places.ensures.whole;
+      made = c.stop_places.ensures.made ∙ so.made;
+      keeper = c.stop_places.ensures.keeper ∙ so.keeper;
+      told = subst (λ (n : ℕ). Tells (g.A.Acts.told c.args.acts.now) (g.A.Acts.told c.stop_places.new.acts)
+          (puts_where chosen base (take n (replicate len 244)))) more
+          (bundle_told chosen (bit_not w32 c.marked_places-marked.result) base i len _ _ _ fits agree so.told c.stop_places.ensures.told);
+      log = subst (λ (n : ℕ). Logs (g.A.Acts.logged c.args.acts.now) (g.A.Acts.logged c.stop_places.new.acts)
+          (unsettled (puts_where chosen base (take n (replicate len 244))))) more
+          (bundle_log chosen (bit_not w32 c.marked_places-marked.result) base i len _ _ _ fits agree so.log c.stop_places.ensures.log);
+    }
+
+pub returns-clause-bytes : goal.returns-clause-bytes
+returns-clause-bytes g c =
+    let old = g.A.Acts.marked c.args.acts.now in
+    let end : 32 * c.loop-bundle.bundle ≡ c.args.len = omega (arith, c.requires.placed.whole) in
+    subst (λ (n : ℕ). HasPut (is_unmarked_at old.marks) c.args.base (replicate c.args.len 244) n old.bytes
+    (g.A.Acts.marked c.loop-bundle.acts).bytes) end c.loop-bundle.invariant.bytes
+
+pub returns-clause-told : goal.returns-clause-told
+returns-clause-told g c =
+    let stops = replicate c.args.len 244 in
+    let chosen = is_unmarked_at (g.A.Acts.marked c.args.acts.now).marks in
+    subst (λ (bytes : List ℕ). Tells (g.A.Acts.told c.args.acts.now) (g.A.Acts.told c.loop-bundle.acts)
+    (puts_where chosen c.args.base bytes)) (take_all (32 * c.loop-bundle.bundle) stops
+    (omega (arith, c.requires.placed.whole, length-replicate {A = ℕ} c.args.len 244))) c.loop-bundle.invariant.told
+
+pub returns-clause-log : goal.returns-clause-log
+returns-clause-log g c =
+    let stops = replicate c.args.len 244 in
+    let chosen = is_unmarked_at (g.A.Acts.marked c.args.acts.now).marks in
+    subst (λ (bytes : List ℕ). Logs (g.A.Acts.logged c.args.acts.now) (g.A.Acts.logged c.loop-bundle.acts)
+    (unsettled (puts_where chosen c.args.base bytes))) (take_all (32 * c.loop-bundle.bundle) stops
+    (omega (arith, c.requires.placed.whole, length-replicate {A = ℕ} c.args.len 244))) c.loop-bundle.invariant.log
