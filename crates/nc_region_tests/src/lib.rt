@@ -21,6 +21,8 @@ mod fixtures;
 #[cfg(test)]
 mod lawful;
 #[cfg(test)]
+mod marked_places;
+#[cfg(test)]
 mod one_byte_off;
 #[cfg(test)]
 mod patches;
