@@ -1,21 +1,24 @@
 //! The program `nc_check`: files of code, and the verdict on each.
 //!
-//! `ask_check` of `nc_command` reads the command line. `checking` goes through the files: `files` opens and reads them one
-//! after the other, `parts` has the segments of code of an ELF file and `labelling` the names in them, and once a `batch` is full
-//! `report` of `nc_report` judges it and writes what was found. `outcome` says which status the program ends with, `progress`
-//! shows how far it is.
+//! `ask_check` of `nc_command` reads the command line. `checking` goes through the files, a round after the other, and prints
+//! what was found; `working` has workers judge the files of a round and keep what is to be printed in a `page`. `judging` judges
+//! one file: `files` opens and reads it, `parts` has the segments of code of an ELF file and `labelling` the names in them, and
+//! `report` of `nc_report` writes what was found. `outcome` says which status the program ends with, `progress` shows how far
+//! it is.
 #![tactic(auto)]
 
 ghost use Rattle.std.specs.Prelude.{◌≡◌, ◌⊎◌};
 ghost use Rattle.nc_check.specs.Status.{status_of};
 
-mod batch;
 mod checking;
 mod files;
+mod judging;
 mod labelling;
 mod outcome;
+mod page;
 mod parts;
 mod progress;
+mod working;
 
 use checking::check_files;
 use clap::error::ErrorKind as ClapKind;
@@ -46,7 +49,12 @@ fn run<R: Threads + Wait + Sync + Env + AllocGlobal + Input + Files + Print + Ep
     rt: &R,
     is_terminal: bool,
     is_shared: bool,
-) -> Result<u8, Halt> {
+) -> Result<u8, Halt>
+where
+    R::File: Send + Sync,
+    R::Dir: Send + Sync,
+    R::Reader: Send + Sync,
+{
     let words = command_words(rt)?;
     let mut arguments = Vec::new(rt.alloc());
     for word in words.iter().skip(1) {

@@ -6,7 +6,7 @@ const BLANK: &str = "                                                ";
 /// So many times at most the line is written, where it may stay.
 const TIMES: usize = 256;
 
-/// A line that is written anew after each batch.
+/// A line that is written anew after each round of files.
 #[derive(Drop)]
 pub struct Progress {
     all: usize,

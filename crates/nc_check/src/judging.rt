@@ -1,0 +1,144 @@
+//! The judging of one file, with what is written of it.
+
+use crate::files::{Unread, read_file};
+use crate::parts::{Part, parts_of};
+use nc_command::{CheckAsk, Said};
+use nc_elf::{ElfFault, is_elf};
+use nc_lines::write_out;
+use nc_report::{Detail, ReportFault, push_file_object, report};
+use std::alloc::Global;
+use std::io;
+use std::io::{Input, Write};
+use std::rt::Files;
+use std::sync::Wait;
+use std::thread::Threads;
+
+/// Why a file isn't judged, or not all of what was found is written.
+#[derive(Clone, Copy, Debug, Drop, PartialEq, Eq)]
+pub enum Unjudged {
+    /// It can't be read.
+    Unread(Unread),
+    /// There is no memory.
+    OutOfMemory,
+    /// The writer failed.
+    WriteFailed,
+}
+
+/// How much is written of a file.
+fn detail(said: Said) -> Detail {
+    match said {
+        Said::Quiet => Detail::Brief,
+        Said::Usual => Detail::Usual,
+        Said::All => Detail::All,
+        Said::Calls => Detail::Calls,
+        Said::Object => Detail::Object,
+    }
+}
+
+/// Judges code and writes what was found. Tells whether it was refused.
+fn judge_part<R: Threads + Wait + Sync + AllocGlobal, W: Write>(
+    rt: &R,
+    ask: &CheckAsk<'_>,
+    part: Part,
+    writer: &mut W,
+) -> Result<bool, Unjudged> {
+    let Part { base, source } = part;
+    let mut sources = Vec::new(rt.alloc());
+    match sources.push(source) {
+        Ok(()) => {}
+        Err(_) => return Err(Unjudged::OutOfMemory),
+    }
+    let detail = detail(ask.said);
+    match report(
+        rt,
+        rt.alloc(),
+        sources,
+        base,
+        ask.bundles,
+        1,
+        detail,
+        writer,
+    ) {
+        Ok(refused) => Ok(refused > 0),
+        Err(ReportFault::WriteFailed) => Err(Unjudged::WriteFailed),
+        // the numbers are in range, since the command line was read
+        Err(_) => Err(Unjudged::OutOfMemory),
+    }
+}
+
+/// Judges the parts of an ELF file, in their order.
+fn judge_parts<R: Threads + Wait + Sync + AllocGlobal, W: Write>(
+    rt: &R,
+    ask: &CheckAsk<'_>,
+    parts: Vec<Part>,
+    writer: &mut W,
+) -> Result<bool, Unjudged> {
+    let mut is_refused = false;
+    for part in parts {
+        match judge_part(rt, ask, part, writer) {
+            Ok(more) => is_refused |= more,
+            Err(unjudged) => return Err(unjudged),
+        }
+    }
+    Ok(is_refused)
+}
+
+/// What is written of an ELF file that is refused as a whole.
+fn refusal(alloc: Global, said: Said, file: &str, fault: ElfFault) -> io::Result<Vec<u8>> {
+    let mut text = Vec::new(alloc);
+    match said {
+        Said::Object => {
+            let meaning = fault.to_string(alloc)?;
+            push_file_object(&mut text, file.as_bytes(), b"BadElf", meaning.as_bytes())?;
+        }
+        Said::Quiet => {
+            let line = format!(in alloc; "{file}: refused BadElf\n")?;
+            text.extend_from_slice(line.as_bytes())?;
+        }
+        _ => {
+            let lines = format!(in alloc; "{file}: refused BadElf\n  {fault}\n")?;
+            text.extend_from_slice(lines.as_bytes())?;
+        }
+    }
+    Ok(text)
+}
+
+/// Writes the refusal of an ELF file.
+fn refuse<W: Write>(
+    alloc: Global,
+    ask: &CheckAsk<'_>,
+    file: &str,
+    fault: ElfFault,
+    writer: &mut W,
+) -> Result<bool, Unjudged> {
+    let Ok(text) = refusal(alloc, ask.said, file, fault) else {
+        return Err(Unjudged::OutOfMemory);
+    };
+    match write_out(writer, &text) {
+        Ok(()) => Ok(true),
+        Err(_) => Err(Unjudged::WriteFailed),
+    }
+}
+
+/// Reads a file, judges its code, and writes what was found. Tells whether any of it was refused.
+pub fn judge_file<R: Threads + Wait + Sync + AllocGlobal + Input + Files, W: Write>(
+    rt: &R,
+    ask: &CheckAsk<'_>,
+    file: &str,
+    writer: &mut W,
+) -> Result<bool, Unjudged> {
+    let source = match read_file(rt, file) {
+        Ok(source) => source,
+        Err(Unread::OutOfMemory) => return Err(Unjudged::OutOfMemory),
+        Err(unread) => return Err(Unjudged::Unread(unread)),
+    };
+    if ask.raw || !is_elf(source.code.as_slice()) {
+        let base = ask.base;
+        return judge_part(rt, ask, Part { base, source }, writer);
+    }
+    match parts_of(rt.alloc(), &source, detail(ask.said)) {
+        Ok(parts) => judge_parts(rt, ask, parts, writer),
+        Err(ElfFault::OutOfMemory) => Err(Unjudged::OutOfMemory),
+        Err(fault) => refuse(rt.alloc(), ask, file, fault, writer),
+    }
+}

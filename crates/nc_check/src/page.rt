@@ -1,0 +1,59 @@
+//! Text that is kept until it is its turn to be printed.
+
+ghost use Rattle.std.specs.Prelude.{◌≡◌, ◌≤◌, [], Some, vec_len};
+ghost use Rattle.std.specs.Io.{WritesAtMost};
+ghost use Rattle.std.specs.Io.KnownBytes.{Keeps, WriteAppends};
+
+use std::alloc::Global;
+use std::io::{Error, ErrorKind, Result, Write};
+
+/// A writer with room for a number of bytes. A write that doesn't fit fails, and leaves what was written before.
+#[derive(Drop)]
+pub struct Page {
+    text: Vec<u8>,
+    room: usize,
+    ghost fits: { vec_len text ≤ room },
+}
+
+impl Page {
+    /// A page without a byte.
+    pub fn new(alloc: Global, room: usize) -> Page
+        ensures { (result.text.items ≡ []) × (result.room ≡ room) }
+    {
+        Page {
+            text: Vec::new(alloc),
+            room,
+        }
+    }
+
+    /// What was written.
+    pub fn into_text(self) -> Vec<u8>
+        ensures text { result ≡ self.text }
+        ensures fits { vec_len result ≤ self.room }
+    {
+        self.text
+    }
+}
+
+impl Write for Page {
+    ghost contents = { λ p. Some p.text.items };
+
+    fn write(&mut self, buf: &[u8]) -> Result<usize>
+        ensures bound { WritesAtMost result buf.now }
+        ensures bytes { WriteAppends (Some self.old.text.items) (Some self.new.text.items) result buf.now }
+        ensures room { self.new.room ≡ self.old.room }
+    {
+        if self.room - self.text.len() < buf.len() {
+            return Err(Error::from(ErrorKind::StorageFull));
+        }
+        self.text.extend_from_slice(buf)?;
+        Ok(buf.len())
+    }
+
+    fn flush(&mut self) -> Result<()>
+        ensures bytes { Keeps (Some self.old.text.items) (Some self.new.text.items) }
+        ensures unchanged { self.new ≡ self.old }
+    {
+        Ok(())
+    }
+}
