@@ -18,7 +18,7 @@ use std::thread::Threads;
 /// A block that is larger than most files.
 const LARGE: usize = 31 << 20;
 
-/// So many files are judged by several workers before what was found is printed.
+/// The number of files that several workers judge before what was found is printed.
 const ROUND: usize = 256;
 
 /// How far the program is: what it has found, and what it shows of that.

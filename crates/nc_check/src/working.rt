@@ -14,7 +14,7 @@ use std::thread::{Threads, for_each_mut};
 /// Files with more bytes are judged by one worker at a time, so that the memory of all workers is bounded.
 const LARGE: u64 = 8 << 20;
 
-/// So many bytes of text at most a worker keeps.
+/// The most bytes of text that a worker keeps.
 const ROOM: usize = 4 << 20;
 
 /// What is to be printed of a file.
@@ -38,7 +38,7 @@ struct Worker {
     room: usize,
 }
 
-/// So many workers, which have found nothing yet.
+/// Workers that have found nothing yet.
 fn make_workers(alloc: Global, count: usize) -> Result<Vec<Worker>, AllocError> {
     let mut workers = Vec::with_capacity(alloc, count)?;
     for _ in 0..count {
