@@ -89,6 +89,10 @@ impl Acts for Owned {
         self.text.mark(at)
     }
 
+    fn marked_places(&self, at: u32) -> u32 {
+        self.text.marked_places(at)
+    }
+
     fn bump(&mut self) -> Result<u64, GensFull> {
         self.gens.bump(&mut self.keeper)
     }
