@@ -9,7 +9,7 @@ use std::io::{Read, Write};
 use std::sync::Wait;
 use std::thread::Threads;
 
-/// Runs a script on so many bundles and seats.
+/// Runs a script on a region with this number of bundles and seats.
 pub fn replay<R: Read, W: Write>(
     alloc: Global,
     reader: &mut R,
@@ -20,7 +20,7 @@ pub fn replay<R: Read, W: Write>(
     run(alloc, reader, writer, bundles, seats)
 }
 
-/// Vets lines of chunks for so many bundles by so many workers.
+/// Vets lines of chunks for a region of `bundles` bundles, by this number of workers.
 pub fn vet<T: Threads + Wait + Sync, R: Read, W: Write>(
     rt: &T,
     alloc: Global,
