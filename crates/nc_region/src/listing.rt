@@ -2,7 +2,7 @@
 
 ghost use Rattle.std.specs.Prelude.{◌≡◌, ◌+◌, ◌-◌, ◌<◌, ◌≤◌, ◌^◌, ℕ, false, length, take, drop, slice_index_or, slice_get, slice_set};
 ghost use Rattle.std.specs.Prelude.{Some, IsTrue, IfSome, IfNone};
-ghost use Rattle.std.specs.Vec.{vec_len, vec_capacity};
+ghost use Rattle.std.specs.VecDeque.{deque_len, deque_capacity};
 ghost use Rattle.std.specs.List.{insert};
 ghost use Rattle.nc_region.specs.Each.{Each};
 ghost use Rattle.nc_region.specs.declared.chunk.Chunk.{Chunk};
@@ -12,25 +12,26 @@ ghost use Rattle.nc_region.specs.Region.{IsRising, IsLive, IsInChunk, IsAboveAll
 ghost use Rattle.nc_region.specs.Patch.{IsHeldBy, IsHeld};
 
 use crate::chunk::{Chunk, ChunkState};
+use std::collections::VecDeque;
 
 /// The index of the first chunk whose base isn't below this one, by binary search.
-fn first_from(chunks: &[Chunk], base: u32) -> usize
-    requires { IsRising 0x10000 chunks.now }
-    ensures bound { result ≤ length chunks.now }
-    ensures below { (i : ℕ) (d : Chunk) → i < result → (slice_index_or chunks.now i d).base < base }
-    ensures above { (i : ℕ) (d : Chunk) → result ≤ i → i < length chunks.now → base ≤ (slice_index_or chunks.now i d).base }
+fn first_from(chunks: &VecDeque<Chunk>, base: u32) -> usize
+    requires { IsRising 0x10000 chunks.now.items }
+    ensures bound { result ≤ length chunks.now.items }
+    ensures below { (i : ℕ) (d : Chunk) → i < result → (slice_index_or chunks.now.items i d).base < base }
+    ensures above { (i : ℕ) (d : Chunk) → result ≤ i → i < length chunks.now.items → base ≤ (slice_index_or chunks.now.items i d).base }
 {
     chunks.partition_point(|c| c.base < base)
 }
 
 /// The first k chunks end at or below the base of a span.
-fn ends_below(chunks: &[Chunk], k: usize, base: u32) -> bool
-    requires inside { k ≤ length chunks.now }
-    requires rising { IsRising 0x10000 chunks.now }
-    requires ends { Each (λ (d : Chunk). (0 < d.length) × (d.base + d.length < 2 ^ 32)) chunks.now }
-    requires below { (i : ℕ) (d : Chunk) → i < k → (slice_index_or chunks.now i d).base < base }
-    ensures clear { IsTrue result → IsAboveAll base (take k chunks.now) }
-    ensures meets { (len : ℕ) → 0 < len → result ≡ false → Meets base len chunks.now }
+fn ends_below(chunks: &VecDeque<Chunk>, k: usize, base: u32) -> bool
+    requires inside { k ≤ length chunks.now.items }
+    requires rising { IsRising 0x10000 chunks.now.items }
+    requires ends { Each (λ (d : Chunk). (0 < d.length) × (d.base + d.length < 2 ^ 32)) chunks.now.items }
+    requires below { (i : ℕ) (d : Chunk) → i < k → (slice_index_or chunks.now.items i d).base < base }
+    ensures clear { IsTrue result → IsAboveAll base (take k chunks.now.items) }
+    ensures meets { (len : ℕ) → 0 < len → result ≡ false → Meets base len chunks.now.items }
 {
     if k == 0 {
         return true;
@@ -40,14 +41,14 @@ fn ends_below(chunks: &[Chunk], k: usize, base: u32) -> bool
 }
 
 /// All but the first k chunks begin at or after the end of a span.
-fn begins_above(chunks: &[Chunk], k: usize, base: u32, len: u32) -> bool
-    requires inside { k ≤ length chunks.now }
-    requires rising { IsRising 0x10000 chunks.now }
-    requires ends { Each (λ (d : Chunk). (0 < d.length) × (d.base + d.length < 2 ^ 32)) chunks.now }
-    requires above { (i : ℕ) (d : Chunk) → k ≤ i → i < length chunks.now → base ≤ (slice_index_or chunks.now i d).base }
+fn begins_above(chunks: &VecDeque<Chunk>, k: usize, base: u32, len: u32) -> bool
+    requires inside { k ≤ length chunks.now.items }
+    requires rising { IsRising 0x10000 chunks.now.items }
+    requires ends { Each (λ (d : Chunk). (0 < d.length) × (d.base + d.length < 2 ^ 32)) chunks.now.items }
+    requires above { (i : ℕ) (d : Chunk) → k ≤ i → i < length chunks.now.items → base ≤ (slice_index_or chunks.now.items i d).base }
     requires fits { base + len < 2 ^ 32 }
-    ensures clear { IsTrue result → IsBelowAll (base + len) (drop k chunks.now) }
-    ensures meets { result ≡ false → Meets base len chunks.now }
+    ensures clear { IsTrue result → IsBelowAll (base + len) (drop k chunks.now.items) }
+    ensures meets { result ≡ false → Meets base len chunks.now.items }
 {
     if k == chunks.len() {
         return true;
@@ -56,13 +57,13 @@ fn begins_above(chunks: &[Chunk], k: usize, base: u32, len: u32) -> bool
 }
 
 /// Where a chunk of this span goes in the list, if it meets none.
-pub(crate) fn room_for(chunks: &[Chunk], base: u32, len: u32) -> Option<usize>
+pub(crate) fn room_for(chunks: &VecDeque<Chunk>, base: u32, len: u32) -> Option<usize>
     requires some { 0 < len }
     requires fits { base + len < 2 ^ 32 }
-    requires rising { IsRising 0x10000 chunks.now }
-    requires ends { Each (λ (d : Chunk). (0 < d.length) × (d.base + d.length < 2 ^ 32)) chunks.now }
-    ensures some { IfSome result (FitsAt base len chunks.now) }
-    ensures none { IfNone result (Meets base len chunks.now) }
+    requires rising { IsRising 0x10000 chunks.now.items }
+    requires ends { Each (λ (d : Chunk). (0 < d.length) × (d.base + d.length < 2 ^ 32)) chunks.now.items }
+    ensures some { IfSome result (FitsAt base len chunks.now.items) }
+    ensures none { IfNone result (Meets base len chunks.now.items) }
 {
     let k = first_from(chunks, base);
     if !ends_below(chunks, k, base) {
@@ -75,20 +76,20 @@ pub(crate) fn room_for(chunks: &[Chunk], base: u32, len: u32) -> Option<usize>
 }
 
 /// The number of chunks whose base is at most this address, by binary search.
-fn count_to(chunks: &[Chunk], at: u32) -> usize
-    requires { IsRising 0x10000 chunks.now }
-    ensures bound { result ≤ length chunks.now }
-    ensures below { (i : ℕ) (d : Chunk) → i < result → (slice_index_or chunks.now i d).base ≤ at }
-    ensures above { (i : ℕ) (d : Chunk) → result ≤ i → i < length chunks.now → at < (slice_index_or chunks.now i d).base }
+fn count_to(chunks: &VecDeque<Chunk>, at: u32) -> usize
+    requires { IsRising 0x10000 chunks.now.items }
+    ensures bound { result ≤ length chunks.now.items }
+    ensures below { (i : ℕ) (d : Chunk) → i < result → (slice_index_or chunks.now.items i d).base ≤ at }
+    ensures above { (i : ℕ) (d : Chunk) → result ≤ i → i < length chunks.now.items → at < (slice_index_or chunks.now.items i d).base }
 {
     chunks.partition_point(|c| c.base <= at)
 }
 
 /// The live chunk in which the place lies, by binary search.
-pub(crate) fn holder(chunks: &[Chunk], at: u32) -> Option<Chunk>
-    requires rising { IsRising 0x10000 chunks.now }
-    ensures some { IfSome result (IsHeldBy chunks.now at) }
-    ensures none { IfNone result (¬ IsHeld chunks.now at) }
+pub(crate) fn holder(chunks: &VecDeque<Chunk>, at: u32) -> Option<Chunk>
+    requires rising { IsRising 0x10000 chunks.now.items }
+    ensures some { IfSome result (IsHeldBy chunks.now.items at) }
+    ensures none { IfNone result (¬ IsHeld chunks.now.items at) }
 {
     let k = count_to(chunks, at);
     if k == 0 {
@@ -110,11 +111,11 @@ fn is_held_by(chunk: Chunk, at: u32) -> bool
 }
 
 /// The index of the live chunk with this base, by binary search.
-pub(crate) fn live_at(chunks: &[Chunk], base: u32) -> Option<usize>
-    requires rising { IsRising 0x10000 chunks.now }
-    requires some { Each (λ (d : Chunk). 0 < d.length) chunks.now }
-    ensures some { IfSome result (λ k. (c : Chunk) × (slice_get chunks.now k ≡ Some c) × (c.state ≡ ChunkState.Live) × (c.base ≡ base)) }
-    ensures none { IfNone result (¬ HasLive chunks.now base) }
+pub(crate) fn live_at(chunks: &VecDeque<Chunk>, base: u32) -> Option<usize>
+    requires rising { IsRising 0x10000 chunks.now.items }
+    requires some { Each (λ (d : Chunk). 0 < d.length) chunks.now.items }
+    ensures some { IfSome result (λ k. (c : Chunk) × (slice_get chunks.now.items k ≡ Some c) × (c.state ≡ ChunkState.Live) × (c.base ≡ base)) }
+    ensures none { IfNone result (¬ HasLive chunks.now.items base) }
 {
     let k = count_to(chunks, base);
     if k == 0 {
@@ -135,7 +136,7 @@ fn is_live_from(chunk: Chunk, base: u32) -> bool
 }
 
 /// Puts a chunk in place of another.
-pub(crate) fn set_chunk(chunks: &mut Vec<Chunk>, k: usize, chunk: Chunk)
+pub(crate) fn set_chunk(chunks: &mut VecDeque<Chunk>, k: usize, chunk: Chunk)
     requires { k < length chunks.old.items }
     ensures { chunks.new.items ≡ slice_set chunks.old.items k chunk }
 {
@@ -143,9 +144,9 @@ pub(crate) fn set_chunk(chunks: &mut Vec<Chunk>, k: usize, chunk: Chunk)
 }
 
 /// Inserts a chunk, for which there is room.
-pub(crate) fn insert_chunk(chunks: &mut Vec<Chunk>, k: usize, chunk: Chunk)
-    requires inside { k ≤ vec_len chunks.old }
-    requires room { vec_len chunks.old < vec_capacity chunks.old }
+pub(crate) fn insert_chunk(chunks: &mut VecDeque<Chunk>, k: usize, chunk: Chunk)
+    requires inside { k ≤ deque_len chunks.old }
+    requires room { deque_len chunks.old < deque_capacity chunks.old }
     ensures { chunks.new.items ≡ insert chunks.old.items k chunk }
 {
     // There is room, so it isn't refused.

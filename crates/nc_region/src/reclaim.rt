@@ -10,6 +10,7 @@ ghost use Rattle.nc_region.specs.Deletion.{is_due, freed, kept, unmarked, unmark
 
 use crate::acts::Acts;
 use crate::chunk::{Chunk, ChunkState};
+use std::collections::VecDeque;
 
 /// A retired chunk with a stamp of at most this number.
 fn is_due(chunk: Chunk, least: u64) -> bool
@@ -22,14 +23,14 @@ fn is_due(chunk: Chunk, least: u64) -> bool
 }
 
 /// Unmarks the span of each retired chunk with a stamp of at most this number, rising.
-pub(crate) fn unmark_due<A: Acts>(acts: &mut A, chunks: &[Chunk], least: u64)
-    requires region { IsRegion (A.marked acts.old) chunks.now }
-    ensures region { IsRegion (A.marked acts.new) (kept least chunks.now) }
-    ensures marked { A.marked acts.new ≡ unmarked (A.marked acts.old) (freed least chunks.now) }
+pub(crate) fn unmark_due<A: Acts>(acts: &mut A, chunks: &VecDeque<Chunk>, least: u64)
+    requires region { IsRegion (A.marked acts.old) chunks.now.items }
+    ensures region { IsRegion (A.marked acts.new) (kept least chunks.now.items) }
+    ensures marked { A.marked acts.new ≡ unmarked (A.marked acts.old) (freed least chunks.now.items) }
     ensures made { A.made acts.new ≡ A.made acts.old }
     ensures keeper { A.keeper acts.new ≡ A.keeper acts.old }
-    ensures told { Tells (A.told acts.old) (A.told acts.new) (unmarkings (freed least chunks.now)) }
-    ensures log { Logs (A.logged acts.old) (A.logged acts.new) (unsettled (unmarkings (freed least chunks.now))) }
+    ensures told { Tells (A.told acts.old) (A.told acts.new) (unmarkings (freed least chunks.now.items)) }
+    ensures log { Logs (A.logged acts.old) (A.logged acts.new) (unsettled (unmarkings (freed least chunks.now.items))) }
 {
     for i in 0..chunks.len() {
         let chunk = chunks[i];
@@ -40,7 +41,7 @@ pub(crate) fn unmark_due<A: Acts>(acts: &mut A, chunks: &[Chunk], least: u64)
 }
 
 /// Takes these chunks out of the list, in one pass over it, and answers how many there were.
-pub(crate) fn remove_due(chunks: &mut Vec<Chunk>, least: u64) -> u32
+pub(crate) fn remove_due(chunks: &mut VecDeque<Chunk>, least: u64) -> u32
     requires { length chunks.old.items < 2 ^ 32 }
     ensures chunks { chunks.new.items ≡ kept least chunks.old.items }
     ensures count { result ≡ length (freed least chunks.old.items) }

@@ -37,6 +37,7 @@ use nc_gens::{Gens, Keeper, LAST_GENERATION, Pass};
 use nc_text::{Text, TextFault};
 use nc_vet::Vetted;
 use std::alloc::{AllocError, Global};
+use std::collections::VecDeque;
 use std::marker::Model;
 
 /// A region over a text that tells nothing of its acts.
@@ -50,7 +51,7 @@ pub type Region<'g> = RegionOf<Plain<'g>>;
 #[derive(Drop)]
 pub struct RegionOf<A: Acts + Drop> {
     acts: A,
-    chunks: Vec<Chunk>,
+    chunks: VecDeque<Chunk>,
 }
 
 impl<A: Acts + Drop> Model for RegionOf<A> {
@@ -126,7 +127,7 @@ impl<A: Acts + Drop> RegionOf<A> {
     {
         RegionOf {
             acts,
-            chunks: Vec::new(alloc),
+            chunks: VecDeque::new(alloc),
         }
     }
 

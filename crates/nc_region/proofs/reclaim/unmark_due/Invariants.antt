@@ -8,11 +8,11 @@ use Rattle.nc_region.proofs.reclaim.unmark_due.Given as goal
 abbrev pub invariant-loop-i : goal.invariant-loop-i
 invariant-loop-i g l =
     record {
-      region : IsRegion (g.A.Acts.marked l.acts) (kept l.least (take l.i l.chunks) ++ drop l.i l.chunks);
-      marked : g.A.Acts.marked l.acts ≡ unmarked (g.A.Acts.marked l.initial.acts) (freed l.least (take l.i l.chunks));
+      region : IsRegion (g.A.Acts.marked l.acts) (kept l.least (take l.i l.chunks.items) ++ drop l.i l.chunks.items);
+      marked : g.A.Acts.marked l.acts ≡ unmarked (g.A.Acts.marked l.initial.acts) (freed l.least (take l.i l.chunks.items));
       made : g.A.Acts.made l.acts ≡ g.A.Acts.made l.initial.acts;
       keeper : g.A.Acts.keeper l.acts ≡ g.A.Acts.keeper l.initial.acts;
-      told : Tells (g.A.Acts.told l.initial.acts) (g.A.Acts.told l.acts) (unmarkings (freed l.least (take l.i l.chunks)));
+      told : Tells (g.A.Acts.told l.initial.acts) (g.A.Acts.told l.acts) (unmarkings (freed l.least (take l.i l.chunks.items)));
       log : Logs (g.A.Acts.logged l.initial.acts) (g.A.Acts.logged l.acts)
-          (unsettled (unmarkings (freed l.least (take l.i l.chunks))));
+          (unsettled (unmarkings (freed l.least (take l.i l.chunks.items))));
     }

@@ -42,16 +42,15 @@ returns-clause-confined g c = confined_if_closed _ _ c.put_chunk.ensures.whole.c
 
 pub room_for-requires-clause-ends : goal.room_for-requires-clause-ends
 room_for-requires-clause-ends g c =
-    rw c.deref.ensures.value
-    (each_map (λ (d : Chunk). HasGoodSpan d.base (limit_of (g.A.Acts.marked c.self.inside.acts).bytes) d.length)
+    each_map (λ (d : Chunk). HasGoodSpan d.base (limit_of (g.A.Acts.marked c.self.inside.acts).bytes) d.length)
     (λ (d : Chunk). (0 < d.length) × (d.base + d.length < 2 ^ 32))
-    (λ d placed. (placed.some, omega (arith, placed.high, placed.lawful.2))) c.self.inside.chunks.items c.self.invariant.0.placed)
+    (λ d placed. (placed.some, omega (arith, placed.high, placed.lawful.2))) c.self.inside.chunks.items c.self.invariant.0.placed
 
 pub returns-then-is_err-clause-refused : goal.returns-then-is_err-clause-refused
 returns-then-is_err-clause-refused g c =
     let v = c.args.vetted in
     let fit : FitsAt v.base (length v.code) c.self.inside.chunks.items c.in-Some.k =
-    rw (← c.base-base.ensures.value, ← c.code.ensures.value, ← c.deref.ensures.value) c.in-Some.ensures.some in
+    rw (← c.base-base.ensures.value, ← c.code.ensures.value) c.in-Some.ensures.some in
     let same : v.limit ≡ limit_of (g.A.Acts.marked c.self.inside.acts).bytes = sym c.limit.ensures.value
     ∙ (c.if-limit.false ∙ c.limit-2.ensures.limit) in
     rw (← c.self.view_is) (same, fits_meets c.self.inside.chunks.items v.base (length v.code) c.in-Some.k fit.1 fit.2)
@@ -60,7 +59,7 @@ pub returns-then-is_err-2-clause-refused : goal.returns-then-is_err-2-clause-ref
 returns-then-is_err-2-clause-refused g c =
     let v = c.args.vetted in
     let fit : FitsAt v.base (length v.code) c.self.inside.chunks.items c.in-Some.k =
-    rw (← c.base-base.ensures.value, ← c.code.ensures.value, ← c.deref.ensures.value) c.in-Some.ensures.some in
+    rw (← c.base-base.ensures.value, ← c.code.ensures.value) c.in-Some.ensures.some in
     let same : v.limit ≡ limit_of (g.A.Acts.marked c.self.inside.acts).bytes = sym c.limit.ensures.value
     ∙ (c.if-limit.false ∙ c.limit-2.ensures.limit) in
     rw (← c.self.view_is) (same, fits_meets c.self.inside.chunks.items v.base (length v.code) c.in-Some.k fit.1 fit.2)
@@ -76,7 +75,7 @@ pub returns-in_default-marks-clause-refused : goal.returns-in_default-marks-clau
 returns-in_default-marks-clause-refused g c =
     let v = c.args.vetted in
     let fit : FitsAt v.base (length v.code) c.self.inside.chunks.items c.in-Some.k =
-    rw (← c.base-base.ensures.value, ← c.code.ensures.value, ← c.deref.ensures.value) c.in-Some.ensures.some in
+    rw (← c.base-base.ensures.value, ← c.code.ensures.value) c.in-Some.ensures.some in
     let same : v.limit ≡ limit_of (g.A.Acts.marked c.self.inside.acts).bytes = sym c.limit.ensures.value
     ∙ (c.if-limit.false ∙ c.limit-2.ensures.limit) in
     rw (← c.self.view_is) (same, fits_meets c.self.inside.chunks.items v.base (length v.code) c.in-Some.k fit.1 fit.2)
@@ -90,7 +89,7 @@ put_chunk-requires-clause-chunk g c =
       c.ready.ensures.marked,
       c.base-base.ensures.value,
       c.code-2.ensures.value,
-      (c.deref-2.ensures.value
+      (c.deref.ensures.value
           ∙ c.in-Ok.ensures.value),
       ← same,
     )
@@ -98,7 +97,7 @@ put_chunk-requires-clause-chunk g c =
 
 pub put_chunk-requires-clause-registers : goal.put_chunk-requires-clause-registers
 put_chunk-requires-clause-registers g c =
-    subst (λ (marks : List Mark). All NamesRegister marks) (sym (c.deref-2.ensures.value ∙ c.in-Ok.ensures.value))
+    subst (λ (marks : List Mark). All NamesRegister marks) (sym (c.deref.ensures.value ∙ c.in-Ok.ensures.value))
     (chunk_names_registers c.args.vetted c.code.ensures.valid)
 
 pub put_chunk-requires-clause-unused : goal.put_chunk-requires-clause-unused
@@ -106,7 +105,7 @@ put_chunk-requires-clause-unused g c =
     let marked = g.A.Acts.marked c.self.inside.acts in
     let v = c.args.vetted in
     let fit : FitsAt v.base (length v.code) c.self.inside.chunks.items c.in-Some.k =
-    rw (← c.base-base.ensures.value, ← c.code.ensures.value, ← c.deref.ensures.value) c.in-Some.ensures.some in
+    rw (← c.base-base.ensures.value, ← c.code.ensures.value) c.in-Some.ensures.some in
     let same : v.limit ≡ limit_of marked.bytes = sym c.limit.ensures.value ∙ (c.if-limit.false ∙ c.limit-2.ensures.limit) in
     let placed : HasGoodSpan v.base (limit_of marked.bytes) (length v.code) =
     subst (λ (l : ℕ). HasGoodSpan v.base l (length v.code)) same (valid_chunk_is_closed v c.code.ensures.valid).placed in
@@ -118,7 +117,7 @@ invariant_of-self-2 g c =
     let marked = g.A.Acts.marked c.self.inside.acts in
     let v = c.args.vetted in
     let fit : FitsAt v.base (length v.code) c.self.inside.chunks.items c.in-Some.k =
-    rw (← c.base-base.ensures.value, ← c.code.ensures.value, ← c.deref.ensures.value) c.in-Some.ensures.some in
+    rw (← c.base-base.ensures.value, ← c.code.ensures.value) c.in-Some.ensures.some in
     let same : v.limit ≡ limit_of marked.bytes = sym c.limit.ensures.value ∙ (c.if-limit.false ∙ c.limit-2.ensures.limit) in
     let chunk : IsClosedChunk v.base (limit_of marked.bytes) v.code v.marks =
     subst (λ (l : ℕ). IsClosedChunk v.base l v.code v.marks) same (valid_chunk_is_closed v c.code.ensures.valid) in
@@ -127,7 +126,7 @@ invariant_of-self-2 g c =
       c.ready.ensures.marked,
       c.base-base.ensures.value,
       c.code-2.ensures.value,
-      (c.deref-2.ensures.value
+      (c.deref.ensures.value
           ∙ c.in-Ok.ensures.value),
     ) refl in
     let list : c.insert_chunk.new.chunks.items ≡ insert c.self.inside.chunks.items c.in-Some.k (live_chunk v) =
@@ -160,7 +159,7 @@ pub returns-clause-free : goal.returns-clause-free
 returns-clause-free g c =
     let v = c.args.vetted in
     let fit : FitsAt v.base (length v.code) c.self.inside.chunks.items c.in-Some.k =
-    rw (← c.base-base.ensures.value, ← c.code.ensures.value, ← c.deref.ensures.value) c.in-Some.ensures.some in
+    rw (← c.base-base.ensures.value, ← c.code.ensures.value) c.in-Some.ensures.some in
     let same : v.limit ≡ limit_of (g.A.Acts.marked c.self.inside.acts).bytes = sym c.limit.ensures.value
     ∙ (c.if-limit.false ∙ c.limit-2.ensures.limit) in
     rw (← c.self.view_is) (same, fits_meets c.self.inside.chunks.items v.base (length v.code) c.in-Some.k fit.1 fit.2)

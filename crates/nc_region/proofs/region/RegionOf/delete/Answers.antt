@@ -23,7 +23,7 @@ returns-then-generation-ge-LAST_GENERATION-clause-confined g c =
 pub returns-then-generation-ge-LAST_GENERATION-clause-refused : goal.returns-then-generation-ge-LAST_GENERATION-clause-refused
 returns-then-generation-ge-LAST_GENERATION-clause-refused g c =
     let f : (x : Chunk) × (slice_get c.self.inside.chunks.items c.in-Some.k ≡ Some x) × (x.state ≡ Live) × (x.base ≡ c.args.base) =
-    rw (← c.deref.ensures.value) c.in-Some.ensures.some in
+    c.in-Some.ensures.some in
     let there = listed_there c.self.inside.chunks.items c.in-Some.k f.0 f.1 in
     rw (← c.self.view_is) (
       (f.0, (c.in-Some.k, there.0, there.1), subst IsLive (sym f.2) tt, f.3),
@@ -33,14 +33,14 @@ returns-then-generation-ge-LAST_GENERATION-clause-refused g c =
 pub index-requires : goal.index-requires
 index-requires g c =
     let f : (x : Chunk) × (slice_get c.self.inside.chunks.items c.in-Some.k ≡ Some x) × (x.state ≡ Live) × (x.base ≡ c.args.base) =
-    rw (← c.deref.ensures.value) c.in-Some.ensures.some in
+    c.in-Some.ensures.some in
     let there = listed_there c.self.inside.chunks.items c.in-Some.k f.0 f.1 in
-    omega (arith, there.0, c.deref.ensures.len, ap (λ (z : List Chunk). length z) c.deref.ensures.value)
+    omega (arith, there.0, c.self.inside.chunks.ok.0)
 
 pub put_stops-stamp-requires-clause-placed : goal.put_stops-stamp-requires-clause-placed
 put_stops-stamp-requires-clause-placed g c =
     let f : (x : Chunk) × (slice_get c.self.inside.chunks.items c.in-Some.k ≡ Some x) × (x.state ≡ Live) × (x.base ≡ c.args.base) =
-    rw (← c.deref.ensures.value) c.in-Some.ensures.some in
+    c.in-Some.ensures.some in
     let there = listed_there c.self.inside.chunks.items c.in-Some.k f.0 f.1 in
     let is_chunk : c.index.result.now ≡ f.0 = c.index.ensures
     ∙ get_or_from_slice_get c.self.inside.chunks.items c.in-Some.k f.0 c.index.result.now f.1 in
@@ -54,7 +54,7 @@ put_stops-stamp-requires-clause-placed g c =
 pub put_stops-stamp-requires-clause-ready : goal.put_stops-stamp-requires-clause-ready
 put_stops-stamp-requires-clause-ready g c =
     let f : (x : Chunk) × (slice_get c.self.inside.chunks.items c.in-Some.k ≡ Some x) × (x.state ≡ Live) × (x.base ≡ c.args.base) =
-    rw (← c.deref.ensures.value) c.in-Some.ensures.some in
+    c.in-Some.ensures.some in
     let there = listed_there c.self.inside.chunks.items c.in-Some.k f.0 f.1 in
     let is_chunk : c.index.result.now ≡ f.0 = c.index.ensures
     ∙ get_or_from_slice_get c.self.inside.chunks.items c.in-Some.k f.0 c.index.result.now f.1 in
@@ -64,14 +64,14 @@ put_stops-stamp-requires-clause-ready g c =
 pub set_chunk-requires : goal.set_chunk-requires
 set_chunk-requires g c =
     let f : (x : Chunk) × (slice_get c.self.inside.chunks.items c.in-Some.k ≡ Some x) × (x.state ≡ Live) × (x.base ≡ c.args.base) =
-    rw (← c.deref.ensures.value) c.in-Some.ensures.some in
+    c.in-Some.ensures.some in
     let there = listed_there c.self.inside.chunks.items c.in-Some.k f.0 f.1 in
     there.0
 
 pub invariant_of-self : goal.invariant_of-self
 invariant_of-self g c =
     let f : (x : Chunk) × (slice_get c.self.inside.chunks.items c.in-Some.k ≡ Some x) × (x.state ≡ Live) × (x.base ≡ c.args.base) =
-    rw (← c.deref.ensures.value) c.in-Some.ensures.some in
+    c.in-Some.ensures.some in
     let there = listed_there c.self.inside.chunks.items c.in-Some.k f.0 f.1 in
     let is_chunk : c.index.result.now ≡ f.0 = c.index.ensures
     ∙ get_or_from_slice_get c.self.inside.chunks.items c.in-Some.k f.0 c.index.result.now f.1 in
@@ -105,7 +105,7 @@ invariant_of-self g c =
 pub returns-clause-deleted : goal.returns-clause-deleted
 returns-clause-deleted g c =
     let f : (x : Chunk) × (slice_get c.self.inside.chunks.items c.in-Some.k ≡ Some x) × (x.state ≡ Live) × (x.base ≡ c.args.base) =
-    rw (← c.deref.ensures.value) c.in-Some.ensures.some in
+    c.in-Some.ensures.some in
     let there = listed_there c.self.inside.chunks.items c.in-Some.k f.0 f.1 in
     let is_chunk : c.index.result.now ≡ f.0 = c.index.ensures
     ∙ get_or_from_slice_get c.self.inside.chunks.items c.in-Some.k f.0 c.index.result.now f.1 in

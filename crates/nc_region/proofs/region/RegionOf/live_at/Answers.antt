@@ -12,14 +12,14 @@ use Rattle.nc_region.proofs.region.RegionOf.live_at.Goals as goal
 pub index-requires : goal.index-requires
 index-requires g c =
     let f : (x : Chunk) × (slice_get c.self.inside.chunks.items c.in-Some.k ≡ Some x) × (x.state ≡ Live) × (x.base ≡ c.args.base) =
-    rw (← c.deref.ensures.value) c.in-Some.ensures.some in
+    c.in-Some.ensures.some in
     let there = listed_there c.self.inside.chunks.items c.in-Some.k f.0 f.1 in
-    omega (arith, there.0, c.deref.ensures.len, ap (λ (z : List Chunk). length z) c.deref.ensures.value)
+    omega (arith, there.0, c.self.inside.chunks.ok.0)
 
 pub returns-clause-placed : goal.returns-clause-placed
 returns-clause-placed g c =
     let f : (x : Chunk) × (slice_get c.self.inside.chunks.items c.in-Some.k ≡ Some x) × (x.state ≡ Live) × (x.base ≡ c.args.base) =
-    rw (← c.deref.ensures.value) c.in-Some.ensures.some in
+    c.in-Some.ensures.some in
     let there = listed_there c.self.inside.chunks.items c.in-Some.k f.0 f.1 in
     let is_chunk : c.index.result.now ≡ f.0 = c.index.ensures
     ∙ get_or_from_slice_get c.self.inside.chunks.items c.in-Some.k f.0 c.index.result.now f.1 in

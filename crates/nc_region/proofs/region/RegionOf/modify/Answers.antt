@@ -54,7 +54,7 @@ pub put_patch-requires-clause-ready : goal.put_patch-requires-clause-ready
 put_patch-requires-clause-ready g c =
     let marked = g.A.Acts.marked c.self.inside.acts in
     let fits : c.fits.result ≡ true = c.if-not-fits.false in
-    let held : IsHeldBy c.self.inside.chunks.items c.args.at c.in-Some.chunk = rw (← c.deref.ensures.value) c.in-Some.ensures.some in
+    let held : IsHeldBy c.self.inside.chunks.items c.args.at c.in-Some.chunk = c.in-Some.ensures.some in
     let run : IsRun (g.A.Acts.marked c.self.inside.acts) c.in-Some.chunk c.args.at c.args.new.now = c.fits.ensures.run fits in
     let l = lies marked c.in-Some.chunk c.self.invariant.0.whole run.holds in
     let spans : c.is_patch_span.result ≡ true = c.if-not-is_patch_span.false in
@@ -67,7 +67,7 @@ pub returns-then-not-fits-clause-refused : goal.returns-then-not-fits-clause-ref
 returns-then-not-fits-clause-refused g c =
     let spans : c.is_patch_span.result ≡ true = c.if-not-is_patch_span.false in
     let news : c.are_instructions.result ≡ true = c.if-not-are_instructions.false in
-    let held : IsHeldBy c.self.inside.chunks.items c.args.at c.in-Some.chunk = rw (← c.deref.ensures.value) c.in-Some.ensures.some in
+    let held : IsHeldBy c.self.inside.chunks.items c.args.at c.in-Some.chunk = c.in-Some.ensures.some in
     let refused : MayRefusePatch (record {
       marked = g.A.Acts.marked c.self.inside.acts;
       made = g.A.Acts.made c.self.inside.acts;
@@ -91,7 +91,7 @@ pub returns-then-not-leaves_pairs-clause-refused : goal.returns-then-not-leaves_
 returns-then-not-leaves_pairs-clause-refused g c =
     let spans : c.is_patch_span.result ≡ true = c.if-not-is_patch_span.false in
     let fits : c.fits.result ≡ true = c.if-not-fits.false in
-    let held : IsHeldBy c.self.inside.chunks.items c.args.at c.in-Some.chunk = rw (← c.deref.ensures.value) c.in-Some.ensures.some in
+    let held : IsHeldBy c.self.inside.chunks.items c.args.at c.in-Some.chunk = c.in-Some.ensures.some in
     let span = c.is_patch_span.ensures.0 spans in
     let run : IsRun (g.A.Acts.marked c.self.inside.acts) c.in-Some.chunk c.args.at c.args.new.now = c.fits.ensures.run fits in
     let refused : MayRefusePatch (record {
@@ -121,7 +121,7 @@ pub returns-then-not-keeps_targets-clause-refused : goal.returns-then-not-keeps_
 returns-then-not-keeps_targets-clause-refused g c =
     let spans : c.is_patch_span.result ≡ true = c.if-not-is_patch_span.false in
     let fits : c.fits.result ≡ true = c.if-not-fits.false in
-    let held : IsHeldBy c.self.inside.chunks.items c.args.at c.in-Some.chunk = rw (← c.deref.ensures.value) c.in-Some.ensures.some in
+    let held : IsHeldBy c.self.inside.chunks.items c.args.at c.in-Some.chunk = c.in-Some.ensures.some in
     let span = c.is_patch_span.ensures.0 spans in
     let run : IsRun (g.A.Acts.marked c.self.inside.acts) c.in-Some.chunk c.args.at c.args.new.now = c.fits.ensures.run fits in
     let apart : c.leaves_pairs.result ≡ true = c.if-not-leaves_pairs.false in
@@ -160,7 +160,7 @@ pub invariant_of-self : goal.invariant_of-self
 invariant_of-self g c =
     let marked = g.A.Acts.marked c.self.inside.acts in
     let fits : c.fits.result ≡ true = c.if-not-fits.false in
-    let held : IsHeldBy c.self.inside.chunks.items c.args.at c.in-Some.chunk = rw (← c.deref.ensures.value) c.in-Some.ensures.some in
+    let held : IsHeldBy c.self.inside.chunks.items c.args.at c.in-Some.chunk = c.in-Some.ensures.some in
     let run : IsRun (g.A.Acts.marked c.self.inside.acts) c.in-Some.chunk c.args.at c.args.new.now = c.fits.ensures.run fits in
     let l = lies marked c.in-Some.chunk c.self.invariant.0.whole run.holds in
     let spans : c.is_patch_span.result ≡ true = c.if-not-is_patch_span.false in
@@ -191,7 +191,7 @@ returns-clause-lawful g c =
     let well : c.keeps_targets.result ≡ true = c.if-not-keeps_targets.false in
     let run : IsRun (g.A.Acts.marked c.self.inside.acts) c.in-Some.chunk c.args.at c.args.new.now = c.fits.ensures.run fits in
     let a = run_along marked c.in-Some.chunk c.args.at c.args.new.now run in
-    let held : IsHeldBy c.self.inside.chunks.items c.args.at c.in-Some.chunk = rw (← c.deref.ensures.value) c.in-Some.ensures.some in
+    let held : IsHeldBy c.self.inside.chunks.items c.args.at c.in-Some.chunk = c.in-Some.ensures.some in
     let lawful : IsPatch (record {
       marked = g.A.Acts.marked c.self.inside.acts;
       made = g.A.Acts.made c.self.inside.acts;

@@ -1,13 +1,10 @@
-use Rattle.std.proofs.Common.{List, ap, subst, sym, ◌∙◌, arith}
+use Rattle.std.proofs.Common.{ap, subst, sym, ◌∙◌, arith}
 use Rattle.nc_text.specs.Places.{limit_of}
 use Rattle.nc_text.specs.MarkedText.{MarkedText}
 use Rattle.nc_text.proofs.Offered.{confined_if_closed}
 use Rattle.nc_gens.specs.Seen.{KeeperState, HasLooked, least_number}
-use Rattle.nc_region.specs.declared.chunk.Chunk.{Chunk}
-use Rattle.nc_region.specs.Acts.{Tells}
-use Rattle.nc_region.specs.Log.{Logs, unsettled}
 use Rattle.nc_region.specs.Region.{Region, IsRegion}
-use Rattle.nc_region.specs.Deletion.{freed, kept, unmarked, unmarkings}
+use Rattle.nc_region.specs.Deletion.{freed, unmarked}
 use Rattle.nc_region.proofs.ReadyPlaces.{ready_kept}
 use Rattle.nc_region.proofs.Due.{few, reclaimed_is}
 use Rattle.nc_region.proofs.region.RegionOf.reclaim.Goals as goal
@@ -16,8 +13,7 @@ pub invariant_of-self : goal.invariant_of-self
 invariant_of-self g c =
     let made = c.unmark_due.ensures.made ∙ c.look-least.ensures.made in
     rw (c.remove_due.ensures.chunks) (
-      subst (λ (z : List Chunk). IsRegion (g.A.Acts.marked c.unmark_due.new.acts) (kept c.look-least.result z)) c.deref.ensures.value
-          c.unmark_due.ensures.region,
+      c.unmark_due.ensures.region,
       rw made (ready_kept (g.A.Acts.made c.self.inside.acts) c.look-least.result c.self.inside.chunks.items c.self.invariant.1),
     )
 
@@ -53,16 +49,13 @@ returns-clause-reclaimed g c =
     (c.look-least.ensures.least ∙ ap (λ (k : KeeperState). least_number k.numbers) (sym c.unmark_due.ensures.keeper))
     c.remove_due.ensures.chunks
     c.remove_due.ensures.count
-    (c.unmark_due.ensures.marked ∙ (ap (λ (m : MarkedText). unmarked m
-    (freed c.look-least.result c.deref.result.now)) c.look-least.ensures.marked
-    ∙ ap (λ (z : List Chunk). unmarked (g.A.Acts.marked c.self.inside.acts) (freed c.look-least.result z)) c.deref.ensures.value))
+    (c.unmark_due.ensures.marked ∙ ap (λ (m : MarkedText). unmarked m
+    (freed c.look-least.result c.self.inside.chunks.items)) c.look-least.ensures.marked)
     (c.unmark_due.ensures.made ∙ c.look-least.ensures.made)
     c.look-least.ensures.told
-    (subst (λ (z : List Chunk). Tells (g.A.Acts.told c.look-least.new.self) (g.A.Acts.told c.unmark_due.new.acts)
-    (unmarkings (freed c.look-least.result z))) c.deref.ensures.value c.unmark_due.ensures.told)
+    c.unmark_due.ensures.told
     c.look-least.ensures.logged
-    (subst (λ (z : List Chunk). Logs (g.A.Acts.logged c.look-least.new.self) (g.A.Acts.logged c.unmark_due.new.acts)
-    (unsettled (unmarkings (freed c.look-least.result z)))) c.deref.ensures.value c.unmark_due.ensures.log))
+    c.unmark_due.ensures.log)
 
 pub returns-clause-confined : goal.returns-clause-confined
 returns-clause-confined g c = confined_if_closed _ _ c.unmark_due.ensures.region.whole.closed
