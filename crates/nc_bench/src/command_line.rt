@@ -4,7 +4,7 @@ ghost use Rattle.std.specs.Prelude.{◌≤◌};
 
 use crate::asked::Ask;
 use crate::code::{Kind, Source};
-use crate::load::Load;
+use crate::load::{Load, Order};
 use crate::measurements::{MEASUREMENTS, Measurement, Presence, Word};
 use crate::workers::Jobs;
 use clap::error::ErrorKind;
@@ -112,11 +112,21 @@ fn source<'a>(alloc: Global, found: &ArgMatches<'a>) -> Result<Source<'a>, Error
     })
 }
 
+/// The order of creations that is asked for.
+fn order(found: &ArgMatches<'_>) -> Order {
+    match text(found, "ORDER") {
+        "descending" => Order::Descending,
+        "scattered" => Order::Scattered,
+        _ => Order::Ascending,
+    }
+}
+
 /// The chunks that are asked for; 1 stands for each number that no word gives.
 fn load(found: &ArgMatches<'_>) -> Load {
     Load {
         count: number(found, "COUNT"),
         bundles: number(found, "BUNDLES"),
+        order: order(found),
         seats: number(found, "SEATS"),
     }
 }

@@ -6,11 +6,35 @@ use nc_region::Region;
 use nc_vet::{Vetted, vet};
 use std::alloc::{AllocError, Global};
 
-/// The number of chunks, the bundles of each, and the number of seats.
+/// In which order of their bases chunks are created.
+#[derive(Clone, Copy, Drop)]
+pub enum Order {
+    Ascending,
+    Descending,
+    Scattered,
+}
+
+impl Order {
+    /// The number of the chunk that is created as the `i`th of `count`, all counted from 0.
+    fn pick(self, i: u32, count: u32) -> u32 {
+        match self {
+            Order::Ascending => i,
+            Order::Descending => count.saturating_sub(i).saturating_sub(1),
+            // Each number comes once, since the factor is a prime that doesn't divide `count`.
+            Order::Scattered => {
+                let picked = u64::from(i).wrapping_mul(2_654_435_761) % u64::from(count.max(1));
+                picked as u32
+            }
+        }
+    }
+}
+
+/// The number of chunks, the bundles of each, the order of their creation, and the number of seats.
 #[derive(Clone, Copy, Drop)]
 pub struct Load {
     pub count: u32,
     pub bundles: u32,
+    pub order: Order,
     pub seats: u32,
 }
 
@@ -33,12 +57,13 @@ impl Load {
         START.saturating_add(self.region().saturating_mul(BUNDLE))
     }
 
-    /// All chunks, vetted for their places.
+    /// All chunks, vetted for their places, in the order in which they are created.
     pub fn chunks(self, alloc: Global) -> Result<Vec<Vetted>, AllocError> {
         let mut all = Vec::new(alloc);
         for i in 0..self.count {
             let code = ordinary_code(alloc, self.bundles)?;
-            if let Ok(vetted) = vet(self.base(i), self.limit(), code) {
+            let base = self.base(self.order.pick(i, self.count));
+            if let Ok(vetted) = vet(base, self.limit(), code) {
                 all.push(vetted)?;
             }
         }

@@ -39,6 +39,9 @@ const TEXT: ValueParser<'static> = ValueParser::String;
 /// The parser of a kind of code.
 const KIND: ValueParser<'static> = ValueParser::Names(&["accepted", "stuck", "astray"]);
 
+/// The parser of an order of creations.
+const ORDER: ValueParser<'static> = ValueParser::Names(&["ascending", "descending", "scattered"]);
+
 /// A word.
 macro_rules! word {
     ($presence:expr, $name:literal, $parser:ident, $help:literal) => {
@@ -103,6 +106,7 @@ pub static MEASUREMENTS: [Measurement; 9] = [
             required!("COUNT", NUMBER, "Number of chunks"),
             required!("BUNDLES", NUMBER, "Bundles of a chunk"),
             ROUNDS,
+            word!(Presence::Default("ascending"), "ORDER", ORDER, "Order of the bases in which the chunks are created"),
         ],
     },
     Measurement {
