@@ -13,19 +13,19 @@ ghost use Rattle.nc_decode.specs.Automaton.{next_state};
 use crate::table::{one_byte, two_byte};
 
 /// The number of states.
-pub const STATES: usize = 76;
+pub const STATES: usize = AFTER_PAIR as usize + 1;
 /// No permitted instruction begins so.
 pub const DEAD: u8 = 0;
 /// After an instruction, and at the start of a bundle. All states from here on come after an instruction.
 pub const END: u8 = 65;
 /// After the mask of register 0; the masks of 1, 2, 3, 5, 6 and 7 follow.
-pub const AFTER_MASK: u8 = 66;
+pub const AFTER_MASK: u8 = END + 1;
 /// After a direct transfer with a displacement of one byte.
-pub const AFTER_SHORT: u8 = 73;
+pub const AFTER_SHORT: u8 = AFTER_MASK + 7;
 /// After a direct transfer with a displacement of four bytes.
-pub const AFTER_NEAR: u8 = 74;
+pub const AFTER_NEAR: u8 = AFTER_SHORT + 1;
 /// After an indirect transfer with its mask.
-pub const AFTER_PAIR: u8 = 75;
+pub const AFTER_PAIR: u8 = AFTER_NEAR + 1;
 
 /// The states after an opcode with this entry: with no prefix, and after 66, F3, F2 and F0.
 #[rattlefmt::skip]
@@ -135,14 +135,15 @@ pub(crate) static NEXT: [[u8; 256]; STATES] = [
     /* 30 */ modrm!(long [X X X X X X X X] [X X X X X X X X]),
     /* 31, after 83: */ modrm!(byte [X X X X X X X X] [X X X X [32 33 34 35 50 36 37 38] X X X]),
     // 32 to 38: before the number of a mask, by register. 39 to 45: before ModRM of FF after that mask.
-    mask_number!(66), mask_number!(67), mask_number!(68), mask_number!(69), mask_number!(70), mask_number!(71), mask_number!(72),
+    mask_number!(AFTER_MASK), mask_number!((AFTER_MASK + 1)), mask_number!((AFTER_MASK + 2)), mask_number!((AFTER_MASK + 3)),
+    mask_number!((AFTER_MASK + 4)), mask_number!((AFTER_MASK + 5)), mask_number!((AFTER_MASK + 6)),
     transfer!(AFTER_PAIR 0 0 0 0 0 0 0), transfer!(0 AFTER_PAIR 0 0 0 0 0 0), transfer!(0 0 AFTER_PAIR 0 0 0 0 0),
     transfer!(0 0 0 AFTER_PAIR 0 0 0 0), transfer!(0 0 0 0 0 AFTER_PAIR 0 0), transfer!(0 0 0 0 0 0 AFTER_PAIR 0),
     transfer!(0 0 0 0 0 0 0 AFTER_PAIR),
-    // 46 to 49: before SIB with mod 0, and then 0, 1, 2 or 4 bytes. 50 to 58: before so many bytes, from 1 on.
+    // 46 to 49: before SIB with mod 0, and then 0, 1, 2 or 4 bytes. 50 to 58: before 1 to 9 bytes.
     sib!(END 53), sib!(50 54), sib!(51 55), sib!(53 57),
     [END; 256], [50; 256], [51; 256], [52; 256], [53; 256], [54; 256], [55; 256], [56; 256], [57; 256],
-    // 59: before a displacement of one byte. 60 to 63: before so many bytes of one of four.
+    // 59: before a displacement of one byte. 60 to 63: before the last 1 to 4 bytes of one of four.
     [AFTER_SHORT; 256], [AFTER_NEAR; 256], [60; 256], [61; 256], [62; 256],
     // 64: before ModRM of group 9.
     modrm!(none [O X O O O O O O] [O O O O O O O O]),

@@ -41,7 +41,7 @@ pub fn law_of_fronts()
 pub fn law_of_automaton()
     // Bytes that lead from the state after one instruction to that after the next are an instruction.
     ensures reads { ReadsByStates }
-    // The states are the numbers from 0 to 75.
+    // The states are the numbers below `STATES`.
     ensures states { HasStates }
     // An indirect transfer has more than one byte.
     ensures pairs { NoneIsPaired }
