@@ -1,5 +1,7 @@
+mod chunks;
 mod generations;
 mod instructions;
 mod segments;
 mod symbols;
+mod texts;
 mod workers;

@@ -4,8 +4,8 @@ pub use Rattle.nc_text.proofs.Closing.{executes, safe_if_executes, leads_of, exe
 pub use Rattle.nc_text.proofs.Closing.{step_borrowed, closed_by_parts, closed_with_stops}
 pub use Rattle.nc_text.proofs.Confined.{IsKnown, safe_if_known, start_is_marked, confined_if_closed}
 pub use Rattle.nc_text.proofs.Fetch.{length_at, stop_at}
-pub use Rattle.nc_text.proofs.Fresh.{marked_within, new_is_text}
+pub use Rattle.nc_text.proofs.Fresh.{marked_within, new_is_text, unused_closed}
 pub use Rattle.nc_text.proofs.SpanElements.{length-with_span, is_with_span, get_or-with_span_in, get_or-with_span_below, get_or-with_span_above}
-pub use Rattle.nc_text.proofs.Closing.{step_of}
+pub use Rattle.nc_text.proofs.Closing.{step_of, closed_after_put}
 pub use Rattle.nc_text.proofs.Fetch.{KeepsBytes, same_instruction}
 pub use Rattle.nc_text.proofs.Headline.{stands_if_safe}

@@ -46,6 +46,3 @@ pub use marks::Marks;
 pub use nc_decode::Mark;
 pub use vetted::Vetted;
 pub use vetting::{judge, vet};
-
-#[cfg(test)]
-mod tests;

@@ -1,5 +1,7 @@
-use crate::{Text, TextFault, law_of_closed};
+//! Texts: their sizes, what each call leaves, and their pages.
+
 use nc_decode::Mark;
+use nc_text::{Text, TextFault, law_of_closed};
 use std::alloc::Global;
 
 /// Numbers of bundles, and the limit of the text or why there is none.

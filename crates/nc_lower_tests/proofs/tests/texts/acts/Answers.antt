@@ -10,10 +10,9 @@ use Rattle.nc_text.specs.Places.{byte_at}
 use Rattle.nc_text.specs.Marks.{IsClosed, Admits}
 use Rattle.nc_text.specs.MarkedText.{MarkedText, unused_mark, unused_marks, with_byte, with_span, with_marks, without_marks, unused_text}
 use Rattle.nc_text.specs.Ready.{IsReady, AreReady}
-use Rattle.nc_text.proofs.Fresh.{unused_closed, marked_within}
-use Rattle.nc_text.proofs.Closing.{closed_after_put}
-use Rattle.nc_text.proofs.SpanElements.{length-with_span, get_or-with_span_in, get_or-with_span_below, get_or-with_span_above}
-use Rattle.nc_text.proofs.tests.acts.Goals as goal
+use Rattle.nc_text.proofs.Offered.{unused_closed, marked_within, closed_after_put}
+use Rattle.nc_text.proofs.Offered.{length-with_span, get_or-with_span_in, get_or-with_span_below, get_or-with_span_above}
+use Rattle.nc_lower_tests.proofs.tests.texts.acts.Goals as goal
 
 -- a mark that the span has, or that stood there outside it
 spanned : (xs ys : List Mark) (s k : ℕ) (m : Mark) → s + length ys ≤ length xs → get_or xs k Unmarked ≡ m

@@ -1,13 +1,7 @@
 //! Chunks with the answers that the rules give for them.
 
-ghost use Rattle.std.specs.Prelude.{◌≡◌, ◌<◌, ◌%◌, length};
-
-use crate::VetFault::{BadBase, BadLength, BadTarget, Bare, Crosses, NotPermitted, OutOfRange};
-use crate::lanes::read_bundles;
-use crate::reading::read_exactly;
-use crate::targets::bad_target;
-use crate::transfers::judged_bundles;
-use crate::{Mark, Marks, VetFault, vet};
+use nc_vet::VetFault::{BadBase, BadLength, BadTarget, Bare, Crosses, NotPermitted, OutOfRange};
+use nc_vet::{Mark, VetFault, vet};
 use std::alloc::{AllocError, Global};
 use std::process::Abort;
 use std::test::Fail;
@@ -23,7 +17,7 @@ type Parts = &'static [(usize, &'static [u8])];
 /// Marks of some places.
 type SomeMarks = &'static [(usize, Mark)];
 
-/// Chunks of so many bundles that are valid.
+/// Valid chunks: their numbers of bundles, what stands in them, and some of their marks.
 #[rattlefmt::skip]
 static VALID: [(usize, Parts, SomeMarks); 21] = [
     // Pairs.
@@ -59,7 +53,7 @@ static VALID: [(usize, Parts, SomeMarks); 21] = [
     (3, &[(0, &[0xEB, 0x5E]), (94, &[0xEB, 0xA0])], &[(94, Mark::Plain), (95, Mark::Unmarked)]),
 ];
 
-/// Chunks of so many bundles that are refused.
+/// Refused chunks: their numbers of bundles, what stands in them, and their faults.
 #[rattlefmt::skip]
 static FAULTY: [(usize, Parts, VetFault); 33] = [
     // A pair over the end of a bundle.
@@ -153,6 +147,11 @@ fn valid_chunks(rt: HostRuntime) -> Result<(), Fail> {
         let Ok(vetted) = vet(BASE, LIMIT, code) else {
             panic!(rt; "{parts:?} is refused");
         };
+        // No contract says that vetting by bundles finds valid chunks: it does.
+        assert!(rt;
+            vetted.bundles().is_some(),
+            "{parts:?} is vetted instruction by instruction"
+        );
         for (i, mark) in *marks {
             assert!(rt; *i < vetted.code().len());
             assert_eq!(rt; vetted.mark(*i), *mark, "at {i} of {parts:?}");
@@ -190,63 +189,25 @@ fn spans(rt: HostRuntime) -> Result<(), Fail> {
     Ok(())
 }
 
-/// Code that vetting by bundles accepts, with no instruction read by itself.
-fn is_quick(alloc: Global, code: &[u8]) -> bool
-    requires { (length code.now % 32 ≡ 0) × (length code.now < 0x10000) }
-{
-    let Some(front) = read_bundles(alloc, code) else {
-        return false;
-    };
-    32 * front.bundles.len() == code.len()
-        && judged_bundles(BASE, LIMIT, code, &front.bundles) >= front.bundles.len()
-}
-
-/// The verdict of vetting instruction by instruction.
-fn judge_exactly(alloc: Global, code: &[u8]) -> Result<(), VetFault>
-    requires { (length code.now % 32 ≡ 0) × (length code.now < 0x10000) }
-{
-    let marks = Marks::Each(read_exactly(alloc, BASE, code)?);
-    match bad_target(BASE, LIMIT, code, &marks) {
-        Some(at) => Err(BadTarget { at }),
-        None => Ok(()),
-    }
-}
-
-/// Both ways of vetting say the same of a chunk, and `vet` says it too.
-fn agree(rt: &impl Abort, alloc: Global, code: Vec<u8>) -> bool {
-    assert!(rt; code.len() % 32 == 0 && code.len() < 0x1_0000);
-    let quick = is_quick(alloc, &code);
-    let exact = judge_exactly(alloc, &code);
-    let verdict = vet(BASE, LIMIT, code).map(|_| ()).map_err(|e| e.1);
-    verdict == exact && quick == exact.is_ok()
-}
-
-/// No contract says that vetting by bundles finds valid chunks: it does.
+/// Chunks of one bundle that differ from a pair and nops in at most one byte: those that are valid are vetted by bundles, as no
+/// contract says.
 #[test]
-fn both_ways(rt: HostRuntime) -> Result<(), Fail> {
-    for (bundles, parts, _) in &VALID {
-        let code = filled(&rt, rt.alloc(), bundles.wrapping_mul(32), parts)?;
-        assert!(rt; agree(&rt, rt.alloc(), code), "{parts:?}");
-    }
-    for (bundles, parts, _) in &FAULTY {
-        let code = filled(&rt, rt.alloc(), bundles.wrapping_mul(32), parts)?;
-        assert!(rt; agree(&rt, rt.alloc(), code), "{parts:?}");
-    }
-    Ok(())
-}
-
-/// The same of a pair and nops, with each byte set to each value.
-#[test]
-fn both_ways_by_bytes(rt: HostRuntime) -> Result<(), Fail> {
+fn quick_by_bytes(rt: HostRuntime) -> Result<(), Fail> {
+    let mut valid = 0u32;
     for place in 0..32usize {
         for value in 0..=255u8 {
             let mut code = filled(&rt, rt.alloc(), 32, &[(0, &[0x83, 0xE3, 0xE0, 0xFF, 0xE3])])?;
             if let Some(byte) = code.get_mut(place) {
                 *byte = value;
             }
-            assert!(rt; agree(&rt, rt.alloc(), code), "{value:x} at {place}");
+            if let Ok(vetted) = vet(BASE, LIMIT, code) {
+                assert!(rt; vetted.bundles().is_some(), "{value:x} at {place}");
+                valid = valid.wrapping_add(1);
+            }
         }
     }
+    // At each place one of the values stood there before.
+    assert!(rt; valid > 32);
     Ok(())
 }
 
@@ -259,7 +220,7 @@ fn write(code: &mut [u8], start: usize, bytes: &[u8]) {
     }
 }
 
-/// The fault of a chunk of so many bundles, in which these bytes stand.
+/// The fault of a chunk of nops in which these bytes stand.
 fn fault_with(
     alloc: Global,
     bundles: usize,
