@@ -64,6 +64,10 @@ impl Acts for Owned {
         self.text.put(at, byte);
     }
 
+    fn put_run(&mut self, at: u32, bytes: &[u8]) {
+        self.text.put_run(at, bytes);
+    }
+
     fn settle(&mut self) {
         // Called for what it ensures.
         let _facts = self.text.limit();

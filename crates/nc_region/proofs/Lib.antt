@@ -3,6 +3,7 @@ pub mod SpanPlaces
 pub mod Told
 pub mod Logged
 pub mod Puts
+pub mod PutRun
 pub mod Alone
 pub mod Joining
 pub mod Creating

@@ -1,20 +1,22 @@
 //! The text and the generations behind a region, by its acts.
 
-ghost use Rattle.std.specs.Prelude.{◌≡◌, ◌+◌, ◌^◌, ◌<◌, ◌≤◌, ◌↔◌, ℕ, List, [], ◌∷◌, Option, length, All, IsOk, IfOk, IfErr};
+ghost use Rattle.std.specs.Prelude.{◌≡◌, ◌+◌, ◌%◌, ◌^◌, ◌<◌, ◌≤◌, ◌↔◌, ℕ, List, [], ◌∷◌, Option, length, take, All, IsOk, IfOk, IfErr};
 ghost use Rattle.std.specs.Prelude.{IsTrue, OnOk, OnErr, Bool};
 ghost use Rattle.std.specs.Int.{bit_at};
 ghost use Rattle.nc_decode.specs.declared.instruction.Mark.{Mark};
 ghost use Rattle.nc_decode.specs.Bundles.{IsBundleStart};
 ghost use Rattle.nc_text.specs.Marks.{IsClosed, mark_at, mark_bit};
 ghost use Rattle.nc_text.specs.Places.{InRegion, SpanInRegion, byte_at, limit_of};
-ghost use Rattle.nc_text.specs.MarkedText.{MarkedText, IsText, with_byte, with_marks, without_marks, NamesRegister, KeepsMarks, AreStops};
+ghost use Rattle.nc_text.specs.MarkedText.{MarkedText, IsText, with_byte, with_bytes, with_marks, without_marks, NamesRegister};
+ghost use Rattle.nc_text.specs.MarkedText.{KeepsMarks, AreStops};
 ghost use Rattle.nc_text.specs.Ready.{IsReady, AreReady, GetsReady};
 ghost use Rattle.nc_gens.specs.Rule.{generation_raised};
 ghost use Rattle.nc_gens.specs.Seen.{KeeperState, HasLooked, HasMet, least_number};
 ghost use Rattle.nc_region.specs.declared.acts.Act.{Act};
 ghost use Rattle.nc_region.specs.declared.acts.Entry.{Entry};
-ghost use Rattle.nc_region.specs.Acts.{Tells};
-ghost use Rattle.nc_region.specs.Log.{Logs};
+ghost use Rattle.nc_region.specs.Acts.{Tells, puts_where};
+ghost use Rattle.nc_region.specs.Log.{Logs, unsettled};
+ghost use Rattle.nc_region.specs.Patch.{any_place};
 
 use nc_decode::Mark;
 use nc_gens::{GensFull, Pass};
@@ -93,6 +95,31 @@ pub trait Acts {
         ensures keeper { keeper self.new ≡ keeper self.old }
         ensures told { Tells (told self.old) (told self.new) (Act.Put at byte ∷ []) }
         ensures logged { Logs (logged self.old) (logged self.new) (Entry.Did (Act.Put at byte) ∷ []) };
+
+    /// Puts bytes from an address on, ascending, in one bundle: each of them is a put of its own, told and logged as one. The
+    /// text is closed after each of them. An empty run names no place, wherever `at` is, and changes nothing.
+    ///
+    /// As it stands here, it calls `put` for each byte. Whoever finds the place of a bundle once for all of them may be faster,
+    /// and stores the bytes singly and in that order all the same.
+    fn put_run(&mut self, at: u32, bytes: &[u8])
+        requires inside { SpanInRegion (marked self.old).bytes at (length bytes.now) }
+        requires one_bundle { at % 32 + length bytes.now ≤ 32 }
+        requires ready { AreReady (made self.old) at (length bytes.now) }
+        requires closed { (count : ℕ) → count ≤ length bytes.now
+            → IsClosed (with_bytes (marked self.old) at (take count bytes.now)).bytes (marked self.old).marks }
+        ensures marked { marked self.new ≡ with_bytes (marked self.old) at bytes.now }
+        ensures made { made self.new ≡ made self.old }
+        ensures whole { IsText (marked self.new) }
+        ensures keeper { keeper self.new ≡ keeper self.old }
+        ensures told { Tells (told self.old) (told self.new) (puts_where any_place at bytes.now) }
+        ensures logged { Logs (logged self.old) (logged self.new) (unsettled (puts_where any_place at bytes.now)) }
+    {
+        // Called for what it ensures.
+        let _facts = self.limit();
+        for i in 0..bytes.len() {
+            self.put(at + i as u32, bytes[i]);
+        }
+    }
 
     /// Makes every processor fetch anew: once it has returned, no byte is executed that was overwritten before the call.
     /// It changes no byte, no mark and no number, and is no act that is told.

@@ -34,7 +34,7 @@ pub(crate) fn put_chunk<A: Acts>(acts: &mut A, base: u32, code: &[u8], marks: &[
     put_starts(acts, base, code);
 }
 
-/// Puts the bytes that aren't bundle starts, rising, and settles.
+/// Puts the bytes that aren't bundle starts, rising, and settles. Those of one bundle are one run.
 fn put_inside<A: Acts>(acts: &mut A, base: u32, code: &[u8])
     requires whole { IsText (A.marked acts.old) }
     requires placed { HasGoodSpan base (limit_of (A.marked acts.old).bytes) (length code.now) }
@@ -49,11 +49,9 @@ fn put_inside<A: Acts>(acts: &mut A, base: u32, code: &[u8])
     ensures log { Logs (A.logged acts.old) (A.logged acts.new)
         (unsettled (puts_where is_inside base code.now) ++ Entry.Settled ∷ []) }
 {
-    for i in 0..code.len() {
-        let at = base + i as u32;
-        if at % 32 != 0 {
-            acts.put(at, code[i]);
-        }
+    for bundle in 0..code.len() / 32 {
+        let second = 32 * bundle + 1;
+        acts.put_run(base + second as u32, &code[second..second + 31]);
     }
     acts.settle();
 }

@@ -22,7 +22,7 @@ pub(crate) struct Page {
 }
 
 impl Page {
-    ghost use Rattle.std.specs.Prelude.{◌≡◌, ◌≢◌, ℕ, ◌+◌, ◌%◌, ◌<◌, ◌≤◌, ◌⊎◌, All, length, slice_index_or, IfOk};
+    ghost use Rattle.std.specs.Prelude.{◌≡◌, ◌≢◌, ℕ, ◌+◌, ◌%◌, ◌<◌, ◌≤◌, ◌⊎◌, All, length, slice_index, slice_index_or, IfOk};
     ghost use Rattle.nc_decode.specs.declared.instruction.Mark.TheVariants.{Unmarked};
     ghost use Rattle.std.specs.Int.{bit_at};
     ghost use Rattle.nc_text.specs.Marks.{mark_bit};
@@ -73,6 +73,18 @@ impl Page {
         ensures marks { (k : ℕ) → mark_on self.new k ≡ mark_on self.old k }
     {
         self.bytes[at] = byte;
+    }
+
+    /// Puts bytes from a place on, one after the other.
+    pub(crate) fn put_run(&mut self, at: usize, bytes: &[u8])
+        requires { at + length bytes.now ≤ 4096 }
+        ensures within { (k : ℕ) → k < length bytes.now → byte_on self.new (at + k) ≡ slice_index bytes.now k }
+        ensures others { (k : ℕ) → (k < at) ⊎ (at + length bytes.now ≤ k) → byte_on self.new k ≡ byte_on self.old k }
+        ensures marks { (k : ℕ) → mark_on self.new k ≡ mark_on self.old k }
+    {
+        for k in 0..bytes.len() {
+            self.bytes[at + k] = bytes[k];
+        }
     }
 
     /// Sets the marks of a span that lies in one bundle.

@@ -1,7 +1,7 @@
 //! A table of pages: bytes and marks by their numbers from the region's first place on.
 
 ghost use Rattle.std.specs.Prelude.{◌≡◌, ◌≢◌, ℕ, ◌+◌, ◌/◌, ◌%◌, ◌<◌, ◌≤◌, ◌⊎◌, ◌↔◌, IsTrue, All, length, map, true, None, IfOk};
-ghost use Rattle.std.specs.Prelude.{slice_index_or, replicate, ◌^◌};
+ghost use Rattle.std.specs.Prelude.{slice_index, slice_index_or, replicate, ◌^◌};
 ghost use Rattle.nc_decode.specs.declared.instruction.Mark.TheVariants.{Unmarked};
 ghost use Rattle.std.specs.Int.{bit_at};
 ghost use Rattle.std.specs.Option.{is_some};
@@ -88,6 +88,20 @@ pub(crate) fn put(pages: &mut [Option<Box<Page>>], at: usize, byte: u8)
 {
     if let Some(page) = &mut pages[at / PAGE] {
         page.put(at % PAGE, byte);
+    }
+}
+
+/// Puts bytes from a place on, in one bundle of a page that is made.
+pub(crate) fn put_run(pages: &mut [Option<Box<Page>>], at: usize, bytes: &[u8])
+    requires ready { is_some (page_of pages.old at) ≡ true }
+    requires one_bundle { at % 32 + length bytes.now ≤ 32 }
+    ensures within { (k : ℕ) → k < length bytes.now → byte_of pages.new (at + k) ≡ slice_index bytes.now k }
+    ensures others { (k : ℕ) → (k < at) ⊎ (at + length bytes.now ≤ k) → byte_of pages.new k ≡ byte_of pages.old k }
+    ensures marks { (k : ℕ) → mark_of pages.new k ≡ mark_of pages.old k }
+    ensures made { map is_some pages.new ≡ map is_some pages.old }
+{
+    if let Some(page) = &mut pages[at / PAGE] {
+        page.put_run(at % PAGE, bytes);
     }
 }
 

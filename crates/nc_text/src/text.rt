@@ -1,11 +1,11 @@
 //! A text: the bytes of a region and their marks.
 
-ghost use Rattle.std.specs.Prelude.{◌≡◌, ◌+◌, ◌%◌, ◌-◌, ◌*◌, ◌≤◌, ◌<◌, ℕ, List, length, IfOk, IfErr, IsTrue, All, ◌↔◌, ◌⊎◌};
+ghost use Rattle.std.specs.Prelude.{◌≡◌, ◌+◌, ◌%◌, ◌-◌, ◌*◌, ◌≤◌, ◌<◌, ℕ, List, length, take, IfOk, IfErr, IsTrue, All, ◌↔◌, ◌⊎◌};
 ghost use Rattle.std.specs.Int.{bit_at};
 ghost use Rattle.nc_decode.specs.Bundles.{IsBundleStart, IsLawfulLimit};
 ghost use Rattle.nc_text.specs.Marks.{IsClosed, mark_at, mark_bit};
 ghost use Rattle.nc_text.specs.Places.{InRegion, SpanInRegion, byte_at, limit_of};
-ghost use Rattle.nc_text.specs.MarkedText.{MarkedText, IsText, with_byte, with_marks, without_marks, unused_text, NamesRegister};
+ghost use Rattle.nc_text.specs.MarkedText.{MarkedText, IsText, with_byte, with_bytes, with_marks, without_marks, unused_text, NamesRegister};
 ghost use Rattle.nc_text.specs.MarkedText.{KeepsMarks, AreStops};
 ghost use Rattle.nc_text.specs.Ready.{TextState, IsReady, AreReady, GetsReady, unmade_pages};
 
@@ -170,6 +170,29 @@ impl Text {
         ensures whole { IsText self.new.marked }
     {
         table::put(&mut self.pages, (at - START) as usize, byte);
+    }
+
+    /// Puts bytes from an address of the region on, ascending, in one bundle. No mark changes, and no other byte. An empty run
+    /// names no place, wherever `at` is, and changes nothing.
+    ///
+    /// It does what a `put` of each byte does, and finds the page once. The conditions are that the run lies in the region and
+    /// in one bundle, that its places are ready, and that the text is closed under the same marks after each of its bytes.
+    pub fn put_run(&mut self, at: u32, bytes: &[u8])
+        requires inside { SpanInRegion self.old.marked.bytes at (length bytes.now) }
+        requires one_bundle { at % 32 + length bytes.now ≤ 32 }
+        requires ready { AreReady self.old.made at (length bytes.now) }
+        requires closed { (count : ℕ) → count ≤ length bytes.now
+            → IsClosed (with_bytes self.old.marked at (take count bytes.now)).bytes self.old.marked.marks }
+        ensures marked { self.new.marked ≡ with_bytes self.old.marked at bytes.now }
+        ensures made { self.new.made ≡ self.old.made }
+        ensures whole { IsText self.new.marked }
+    {
+        // Names a field, so that the early return is checked against the fields and not the whole.
+        let _open = &self.pages;
+        if bytes.is_empty() {
+            return;
+        }
+        table::put_run(&mut self.pages, (at - START) as usize, bytes);
     }
 
     /// Sets the marks of the span that begins at `at` and is as long as `marks`. No byte changes, and no mark outside. An

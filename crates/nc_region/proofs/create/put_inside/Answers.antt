@@ -1,75 +1,76 @@
-use Rattle.std.proofs.Common.{Bool, ◌+◌, ◌-◌, ◌∙◌, List, [], get_or, set, arith, sym, subst}
+use Rattle.std.proofs.Common.{Bool, ◌≡◌, ℕ, ◌+◌, ◌*◌, ◌-◌, ◌≤◌, ◌∙◌, List, length, take, arith, sym, subst}
+use Rattle.std.proofs.lemmas.List.{take_all}
 use Rattle.nc_decode.specs.declared.instruction.Mark.{Mark}
 use Rattle.nc_text.specs.Marks.{IsClosed}
-use Rattle.nc_text.specs.Ready.{IsReady}
-use Rattle.nc_region.specs.Acts.{is_inside}
-use Rattle.nc_region.proofs.Puts.{put_more, put_passed}
-use Rattle.nc_region.proofs.Told.{told_put, told_passed}
-use Rattle.nc_region.proofs.Logged.{log_put, log_passed}
-use Rattle.nc_region.proofs.Creating.{inside_closed}
-use Rattle.nc_region.proofs.SpanPlaces.{is_inside_true, is_inside_false}
-use Rattle.std.proofs.Common.{ℕ}
-use Rattle.std.proofs.lemmas.List.{take_all}
-use Rattle.nc_region.specs.Acts.{puts_where}
+use Rattle.nc_text.specs.Ready.{AreReady}
+use Rattle.nc_text.specs.MarkedText.{with_span}
+use Rattle.nc_region.specs.Acts.{Tells, puts_where, is_inside}
 use Rattle.nc_region.specs.Log.{Logs, unsettled}
-use Rattle.nc_region.proofs.Logged.{ends_settled}
+use Rattle.nc_region.specs.machinery.Between.{HasPut}
+use Rattle.nc_region.proofs.Creating.{inside_closed}
+use Rattle.nc_region.proofs.ReadyPlaces.{ready_part}
+use Rattle.nc_region.proofs.PutRun.{behind_first, behind_first_long, behind_first_at, bundle_inside, told_bundle, log_bundle}
 use Rattle.nc_region.proofs.create.put_inside.Goals as goal
-use Rattle.nc_region.proofs.create.put_inside.Goals.{then-at-ne0, else-at-ne0}
 
-pub put-requires-clause-ready : goal.put-requires-clause-ready
-put-requires-clause-ready g c =
-    subst (λ (made : List Bool). IsReady made (c.args.base + c.loop-i.i)) (sym c.loop-i.invariant.made)
-    (c.requires.ready c.loop-i.i (omega arith))
+pub put_run-requires-clause-ready : goal.put_run-requires-clause-ready
+put_run-requires-clause-ready g c =
+    let i = 32 * c.loop-bundle.bundle in
+    let long = behind_first_long c.args.code.now i (omega arith) in
+    subst (λ (made : List Bool). AreReady made (c.args.base + (i + 1)) (length (behind_first c.args.code.now i)))
+    (sym c.loop-bundle.invariant.made)
+    (ready_part (g.A.Acts.made c.args.acts.now) c.args.base (length c.args.code.now) (c.args.base + (i + 1))
+    (length (behind_first c.args.code.now i)) c.requires.ready (omega arith) (omega (arith, long)))
 
-pub put-requires-clause-closed : goal.put-requires-clause-closed
-put-requires-clause-closed g c =
+pub put_run-requires-clause-closed : goal.put_run-requires-clause-closed
+put_run-requires-clause-closed g c = λ count few.
     let base = c.args.base in
-    let i = c.loop-i.i in
+    let code = c.args.code.now in
+    let i = 32 * c.loop-bundle.bundle in
     let old = g.A.Acts.marked c.args.acts.now in
-    let now = g.A.Acts.marked c.loop-i.acts in
-    let next = put_more is_inside base c.args.code.now i old.bytes now.bytes c.loop-i.invariant.bytes c.requires.placed.low
-    (omega (arith, c.requires.placed.high)) (is_inside_true (base + i) c.if-at-ne0.true) in
-    subst (λ (marks : List Mark). IsClosed (set now.bytes (base + i - 65536) (get_or c.args.code.now i 0)) marks)
-    (sym c.loop-i.invariant.marks)
-    (inside_closed old (set now.bytes (base + i - 65536) (get_or c.args.code.now i 0)) base c.args.code.now (i + 1) c.requires.placed
-    (omega arith) c.requires.whole.closed c.requires.unused next)
+    let mid = g.A.Acts.marked c.loop-bundle.acts in
+    let run = behind_first code i in
+    let long = behind_first_long code i (omega arith) in
+    let now = with_span mid.bytes (base + (i + 1) - 65536) (take count run) in
+    subst (λ (marks : List Mark). IsClosed now marks) (sym c.loop-bundle.invariant.marks)
+    (inside_closed old now base code (i + 1 + count) c.requires.placed (omega (arith, few, long)) c.requires.whole.closed
+    c.requires.unused
+    (bundle_inside base i code run count old.bytes mid.bytes c.requires.placed.low c.requires.placed.start (omega arith) long
+    (omega (arith, few, long)) (behind_first_at code i (omega arith)) (omega (arith, c.requires.placed.low, c.requires.placed.high))
+    c.loop-bundle.invariant.bytes))
 
-pub loop-i-preserved : goal.loop-i-preserved
-loop-i-preserved g c =
+pub loop-bundle-preserved : goal.loop-bundle-preserved
+loop-bundle-preserved g c =
     let base = c.args.base in
-    let i = c.loop-i.i in
+    let code = c.args.code.now in
+    let i = 32 * c.loop-bundle.bundle in
+    let so = c.loop-bundle.invariant in
     let old = g.A.Acts.marked c.args.acts.now in
-    let now = g.A.Acts.marked c.loop-i.acts in
-    elim c.if-at-ne0.branch [
-      | then-at-ne0 w ↦
-          let is = is_inside_true (base + i) w.if-at-ne0.true in
-          let e = w.put.ensures.marked in
-          rw w.acts-is (record {
-            bytes = rw e (put_more is_inside base c.args.code.now i old.bytes now.bytes c.loop-i.invariant.bytes c.requires.placed.low
-                (omega (arith, c.requires.placed.high)) is);
-            marks = rw e c.loop-i.invariant.marks;
-            whole = w.put.ensures.whole;
-            made = w.put.ensures.made ∙ c.loop-i.invariant.made;
-            keeper = w.put.ensures.keeper ∙ c.loop-i.invariant.keeper;
-            told = told_put is_inside base c.args.code.now i _ _ _ (omega arith) is c.loop-i.invariant.told w.put.ensures.told;
-            log = log_put [] is_inside base c.args.code.now i _ _ _ (omega arith) is c.loop-i.invariant.log w.put.ensures.logged;
-          })
-      | else-at-ne0 w ↦
-          let not = is_inside_false (base + i) w.if-at-ne0.false in
-          rw w.acts-is (record {
-            bytes = put_passed is_inside base c.args.code.now i old.bytes now.bytes c.loop-i.invariant.bytes not;
-            marks = c.loop-i.invariant.marks;
-            whole = c.loop-i.invariant.whole;
-            made = c.loop-i.invariant.made;
-            keeper = c.loop-i.invariant.keeper;
-            told = told_passed is_inside base c.args.code.now i _ _ (omega arith) not c.loop-i.invariant.told;
-            log = log_passed is_inside base c.args.code.now i _ _ (omega arith) not c.loop-i.invariant.log;
-          })
-    ]
-
--- names no step behind the loop, so that a settling left out there leaves the goal open
-pub returns-clause-log : goal.returns-clause-log
-returns-clause-log g c =
-    let log = subst (λ (code : List ℕ). Logs (g.A.Acts.logged c.args.acts.now) (g.A.Acts.logged c.loop-i.acts)
-    (unsettled (puts_where is_inside c.args.base code))) (take_all c.loop-i.i c.args.code.now (omega arith)) c.loop-i.invariant.log in
-    search (ends_settled _ _ _ log)
+    let mid = g.A.Acts.marked c.loop-bundle.acts in
+    let run = behind_first code i in
+    let fits : i + 32 ≤ length code = omega arith in
+    let long = behind_first_long code i fits in
+    let same = behind_first_at code i fits in
+    let e = c.put_run.ensures.marked in
+    let more : i + 32 ≡ 32 * (c.loop-bundle.bundle + 1) = omega arith in
+    let whole_run : take 31 run ≡ run = take_all 31 run (omega (arith, long)) in
+    let put = bundle_inside base i code run 31 old.bytes mid.bytes c.requires.placed.low c.requires.placed.start (omega arith) long
+    (omega arith) same (omega (arith, c.requires.placed.low, c.requires.placed.high)) so.bytes in
+    let all : HasPut is_inside base code (32 * (c.loop-bundle.bundle + 1)) old.bytes
+    (with_span mid.bytes (base + (i + 1) - 65536) run) =
+    subst (λ (n : ℕ). HasPut is_inside base code n old.bytes (with_span mid.bytes (base + (i + 1) - 65536) run))
+    {x = i + 1 + 31} {y = 32 * (c.loop-bundle.bundle + 1)} (omega arith)
+    (subst (λ (bytes : List ℕ). HasPut is_inside base code (i + 1 + 31) old.bytes
+    (with_span mid.bytes (base + (i + 1) - 65536) bytes)) whole_run put) in
+    record {
+      bytes = rw e all;
+      marks = rw e so.marks;
+      whole = c.put_run.ensures.whole;
+      made = c.put_run.ensures.made ∙ so.made;
+      keeper = c.put_run.ensures.keeper ∙ so.keeper;
+      told = subst (λ (n : ℕ). Tells (g.A.Acts.told c.args.acts.now) (g.A.Acts.told c.put_run.new.self)
+          (puts_where is_inside base (take n code))) more
+          (told_bundle base i code run _ _ _ c.requires.placed.start (omega arith) long fits same so.told c.put_run.ensures.told);
+      log = subst (λ (n : ℕ). Logs (g.A.Acts.logged c.args.acts.now) (g.A.Acts.logged c.put_run.new.self)
+          (unsettled (puts_where is_inside base (take n code)))) more
+          (log_bundle base i code run _ _ _ c.requires.placed.start (omega arith) long fits same so.log c.put_run.ensures.logged);
+    }

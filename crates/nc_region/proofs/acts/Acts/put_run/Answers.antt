@@ -1,0 +1,40 @@
+use Rattle.std.proofs.Common.{◌≡◌, ◌+◌, ◌-◌, [], length, get_or, take, refl, arith, ap, subst, sym, ◌∙◌}
+use Rattle.nc_text.specs.Marks.{IsClosed}
+use Rattle.nc_text.specs.MarkedText.{MarkedText, with_byte, with_bytes}
+use Rattle.nc_region.specs.Patch.{any_place}
+use Rattle.nc_region.proofs.PutRun.{with_more}
+use Rattle.nc_region.proofs.Told.{told_put}
+use Rattle.nc_region.proofs.Logged.{log_put}
+use Rattle.nc_region.proofs.acts.Acts.put_run.Goals as goal
+
+pub put-requires-clause-closed : goal.put-requires-clause-closed
+put-requires-clause-closed g c =
+    let at = c.args.at in
+    let i = c.loop-i.i in
+    let bytes = c.args.bytes.now in
+    let old = g.Self.Acts.marked c.args.self.now in
+    let first = c.requires.inside 0 (omega arith) in
+    let last = c.requires.inside (length bytes - 1) (omega arith) in
+    let next : with_byte (g.Self.Acts.marked c.loop-i.self) (at + i) (get_or bytes i 0) ≡ with_bytes old at (take (i + 1) bytes) =
+    ap (λ (m : MarkedText). with_byte m (at + i) (get_or bytes i 0)) c.loop-i.invariant.marked
+    ∙ with_more old at bytes i (omega (arith, first.0)) (omega arith) (omega (arith, first.0, last.1)) in
+    subst (λ (m : MarkedText). IsClosed m.bytes m.marks) (sym next) (c.requires.closed (i + 1) (omega arith))
+
+pub loop-i-preserved : goal.loop-i-preserved
+loop-i-preserved g c =
+    let at = c.args.at in
+    let i = c.loop-i.i in
+    let bytes = c.args.bytes.now in
+    let so = c.loop-i.invariant in
+    let old = g.Self.Acts.marked c.args.self.now in
+    let first = c.requires.inside 0 (omega arith) in
+    let last = c.requires.inside (length bytes - 1) (omega arith) in
+    record {
+      marked = c.put.ensures.marked ∙ (ap (λ (m : MarkedText). with_byte m (at + i) (get_or bytes i 0)) so.marked
+          ∙ with_more old at bytes i (omega (arith, first.0)) (omega arith) (omega (arith, first.0, last.1)));
+      whole = c.put.ensures.whole;
+      made = c.put.ensures.made ∙ so.made;
+      keeper = c.put.ensures.keeper ∙ so.keeper;
+      told = told_put any_place at bytes i _ _ _ (omega arith) refl so.told c.put.ensures.told;
+      logged = log_put [] any_place at bytes i _ _ _ (omega arith) refl so.logged c.put.ensures.logged;
+    }
