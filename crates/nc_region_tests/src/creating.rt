@@ -1,7 +1,7 @@
 //! Regions made, and chunks created in them.
 
 use crate::calls;
-use crate::fixtures::{LIMIT, refused, region};
+use crate::fixtures::{LIMIT, Telling, chunk, refused, region, stands};
 use nc_gens::Gens;
 use nc_region::{Chunk, ChunkState, CreateFault, Region, RegionFault};
 use std::alloc::Global;
@@ -92,5 +92,33 @@ fn created_twice(rt: HostRuntime) -> Result<(), Fail> {
         state: ChunkState::Live,
     };
     assert_eq!(rt; (region.chunk(1), region.chunk(3)), (Some(middle), None));
+    Ok(())
+}
+
+/// Six moves of different numbers into eax, of five bytes each.
+static MOVES: [u8; 30] = [
+    0xB8, 0x01, 0x02, 0x03, 0x04, 0xB8, 0x05, 0x06, 0x07, 0x08, 0xB8, 0x09, 0x0A, 0x0B, 0x0C, 0xB8,
+    0x0D, 0x0E, 0x0F, 0x10, 0xB8, 0x11, 0x12, 0x13, 0x14, 0xB8, 0x15, 0x16, 0x17, 0x18,
+];
+
+/// The base of a chunk of two bundles, of which the second is the first of a page.
+const ACROSS: u32 = 0x10FE0;
+
+#[test]
+fn bytes_across_pages(rt: HostRuntime) -> Result<(), Fail> {
+    let alloc = rt.alloc();
+    let (gens, keeper, _passes) = Gens::new(alloc, 1)?;
+    let mut plain = region(alloc, 256, &gens, keeper)?;
+    let (other_gens, other_keeper, _passes) = Gens::new(alloc, 1)?;
+    let mut telling = Telling::new(alloc, &other_gens, other_keeper, 256, 100)?;
+    assert!(rt; calls::creates(&mut plain, chunk(alloc, ACROSS, 0x12000, 2, &MOVES)?));
+    assert!(rt; telling.creates(chunk(alloc, ACROSS, 0x12000, 2, &MOVES)?));
+    let mut code = Vec::new(alloc);
+    code.extend_from_slice(&[0xF4])?;
+    code.extend_from_slice(&MOVES)?;
+    code.resize(65, 0x90)?;
+    code.push(0xF4)?;
+    assert!(rt; stands(&plain, ACROSS.wrapping_sub(1), &code));
+    assert!(rt; telling.stands(ACROSS.wrapping_sub(1), &code));
     Ok(())
 }

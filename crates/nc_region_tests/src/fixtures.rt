@@ -142,7 +142,7 @@ pub(crate) fn is_trace(trace: &Trace, places: &[u32], end: End) -> bool {
 }
 
 /// These bytes stand in the region, from this address on.
-fn stands<A: Acts + Drop>(region: &RegionOf<A>, base: u32, bytes: &[u8]) -> bool {
+pub(crate) fn stands<A: Acts + Drop>(region: &RegionOf<A>, base: u32, bytes: &[u8]) -> bool {
     let mut at = base;
     for byte in bytes {
         if at < START || at >= region.limit() || region.byte(at) != *byte {
