@@ -46,3 +46,6 @@ pub use marks::Marks;
 pub use nc_decode::Mark;
 pub use vetted::Vetted;
 pub use vetting::{judge, vet};
+
+#[cfg(test)]
+mod tests;

@@ -189,28 +189,6 @@ fn spans(rt: HostRuntime) -> Result<(), Fail> {
     Ok(())
 }
 
-/// Chunks of one bundle that differ from a pair and nops in at most one byte: those that are valid are vetted by bundles, as no
-/// contract says.
-#[test]
-fn quick_by_bytes(rt: HostRuntime) -> Result<(), Fail> {
-    let mut valid = 0u32;
-    for place in 0..32usize {
-        for value in 0..=255u8 {
-            let mut code = filled(&rt, rt.alloc(), 32, &[(0, &[0x83, 0xE3, 0xE0, 0xFF, 0xE3])])?;
-            if let Some(byte) = code.get_mut(place) {
-                *byte = value;
-            }
-            if let Ok(vetted) = vet(BASE, LIMIT, code) {
-                assert!(rt; vetted.bundles().is_some(), "{value:x} at {place}");
-                valid = valid.wrapping_add(1);
-            }
-        }
-    }
-    // At each place one of the values stood there before.
-    assert!(rt; valid > 32);
-    Ok(())
-}
-
 /// Writes bytes into code.
 fn write(code: &mut [u8], start: usize, bytes: &[u8]) {
     for (i, byte) in bytes.iter().enumerate() {
