@@ -26,7 +26,6 @@ pub mod QuietSpans
 pub mod Freed
 pub mod Due
 pub mod Deleting
-pub mod BitPlaces
 pub mod Stopping
 pub mod Deleted
 pub mod Inserting

@@ -14,6 +14,7 @@ ghost use Rattle.nc_region.specs.Chunks.{HasGoodSpan};
 ghost use Rattle.nc_region.specs.machinery.Between.{HasPut, is_set};
 
 use crate::acts::Acts;
+use nc_text::lowest_place;
 
 /// The byte of the instruction hlt.
 pub(crate) const STOP: u8 = 0xF4;
@@ -109,23 +110,8 @@ fn stop_places<A: Acts>(acts: &mut A, at: u32, places: u32)
 {
     let mut left = places;
     while left != 0 {
-        let (k, others) = lowest(left);
+        let (k, others) = lowest_place(left);
         acts.put(at + k, STOP);
         left = others;
     }
-}
-
-/// The place of the lowest bit that is set, and the bits above it.
-#[inline(always)]
-fn lowest(bits: u32) -> (u32, u32)
-    requires { 0 < bits }
-    ensures place { result.0 < 32 }
-    ensures set { bit_at bits result.0 ≡ 1 }
-    ensures below { (i : ℕ) → i < result.0 → bit_at bits i ≡ 0 }
-    ensures cleared { bit_at result.1 result.0 ≡ 0 }
-    ensures others { (i : ℕ) → i < 32 → i ≢ result.0 → bit_at result.1 i ≡ bit_at bits i }
-    ensures fewer { result.1 < bits }
-{
-    let place = bits.trailing_zeros();
-    (place, bits & !(1 << place))
 }

@@ -9,3 +9,4 @@ pub use Rattle.nc_text.proofs.SpanElements.{length-with_span, is_with_span, get_
 pub use Rattle.nc_text.proofs.Closing.{step_of, closed_after_put}
 pub use Rattle.nc_text.proofs.Fetch.{KeepsBytes, same_instruction}
 pub use Rattle.nc_text.proofs.Headline.{stands_if_safe}
+pub use Rattle.nc_text.proofs.BitPlaces.{doubled_low, doubled_high}

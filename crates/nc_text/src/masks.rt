@@ -1,11 +1,12 @@
 //! The marks of one bundle, as masks.
 
-ghost use Rattle.std.specs.Prelude.{◌≡◌, ◌≢◌, ℕ, ◌<◌, if◌then◌else◌, length, slice_index_or};
+ghost use Rattle.std.specs.Prelude.{◌≡◌, ◌≢◌, ℕ, ◌+◌, ◌*◌, ◌^◌, ◌<◌, if◌then◌else◌, length, slice_index_or};
 ghost use Rattle.std.specs.Int.{bit_at};
 ghost use Rattle.nc_decode.specs.declared.instruction.Mark.{Mark};
 ghost use Rattle.nc_text.specs.MarkedText.{unused_mark};
-ghost use Rattle.nc_text.specs.machinery.Masks.{plain_bit};
+ghost use Rattle.nc_text.specs.machinery.Masks.{plain_bit, second_bit};
 
+use crate::places::lowest_place;
 use nc_decode::Mark;
 
 /// The marks of the 32 places of a bundle, a bit for each place in each mask.
@@ -28,7 +29,7 @@ impl Masks {
     ghost use Rattle.nc_decode.specs.declared.instruction.Mark.TheVariants.{Unmarked};
     ghost use Rattle.std.specs.Int.{bit_at};
     ghost use Rattle.nc_text.specs.Marks.{mark_bit};
-    ghost use Rattle.nc_text.specs.machinery.Masks.{mark_in, start_only, unused_masks};
+    ghost use Rattle.nc_text.specs.machinery.Masks.{mark_in, unused_masks};
     ghost use Rattle.nc_text.specs.MarkedText.{NamesRegister, unused_mark};
 
     /// The marks of a bundle that no chunk uses.
@@ -90,31 +91,21 @@ impl Masks {
         requires registers { All NamesRegister marks.now }
         ensures { (k : ℕ) → k < 32 → mark_in result k ≡ slice_index_or marks.now k Unmarked }
     {
+        let (starts, seconds) = starts_and_seconds(marks);
         let mut masks = Masks {
-            starts: starts_of(marks),
+            starts,
             seconds: 0,
             low: 0,
             middle: 0,
             high: 0,
         };
-        for i in 0..32 {
-            masks.add_second(i, marks[i as usize]);
+        let mut left = seconds;
+        while left != 0 {
+            let (at, others) = lowest_place(left);
+            masks.set(at, marks[at as usize]);
+            left = others;
         }
         masks
-    }
-
-    /// Sets the mark of a place that has it unless it is `After`.
-    fn add_second(&mut self, at: u32, mark: Mark)
-        requires inside { at < 32 }
-        requires register { NamesRegister mark }
-        requires start { mark_in self.old at ≡ start_only mark }
-        ensures same { mark_in self.new at ≡ mark }
-        ensures other { (k : ℕ) → k < 32 → k ≢ at → mark_in self.new k ≡ mark_in self.old k }
-    {
-        match mark {
-            Mark::Unmarked | Mark::Plain => {}
-            Mark::After(_) => self.set(at, mark),
-        }
     }
 
     /// Sets the marks of the places from one on.
@@ -164,26 +155,28 @@ fn unused_mark(at: u32) -> Mark
     }
 }
 
-/// The places of a bundle that are `Plain`. Twice the mask so far and one more bit is cheaper than a bit at a place, and has no
-/// branch, which real code would make hard to predict.
-fn starts_of(marks: &[Mark]) -> u32
+/// The places of a bundle that are `Plain`, and those that are `After`, from one pass over its marks. Twice the bits so far and the
+/// next mark's is cheaper than a bit at a place, and has no branch, which real code would make hard to predict.
+fn starts_and_seconds(marks: &[Mark]) -> (u32, u32)
     requires { length marks.now ≡ 32 }
-    ensures { (k : ℕ) → k < 32 → bit_at result k ≡ plain_bit (slice_index_or marks.now k Mark.Unmarked) }
+    ensures starts { (k : ℕ) → k < 32 → bit_at result.0 k ≡ plain_bit (slice_index_or marks.now k Mark.Unmarked) }
+    ensures seconds { (k : ℕ) → k < 32 → bit_at result.1 k ≡ second_bit (slice_index_or marks.now k Mark.Unmarked) }
 {
-    let mut starts = 0;
+    let mut both = 0u64;
     for n in 0..32 {
-        starts = 2 * starts + plain_bit(marks[31 - n]);
+        both = 2 * both + both_bits(marks[31 - n]);
     }
-    starts
+    ((both % 0x1_0000_0000) as u32, (both / 0x1_0000_0000) as u32)
 }
 
-/// 1 for `Plain`, otherwise 0.
-fn plain_bit(mark: Mark) -> u32
-    ensures { result ≡ plain_bit mark }
+/// A bit for `Plain`, and one 32 places above it for `After`.
+fn both_bits(mark: Mark) -> u64
+    ensures { result ≡ plain_bit mark + 2 ^ 32 * second_bit mark }
 {
     match mark {
+        Mark::Unmarked => 0,
         Mark::Plain => 1,
-        Mark::Unmarked | Mark::After(_) => 0,
+        Mark::After(_) => 0x1_0000_0000,
     }
 }
 

@@ -1,7 +1,7 @@
 //! Texts: their sizes, what each call leaves, and their pages.
 
 use nc_decode::Mark;
-use nc_text::{Text, TextFault, law_of_closed};
+use nc_text::{Text, TextFault, law_of_closed, lowest_place};
 use std::alloc::Global;
 
 /// Numbers of bundles, and the limit of the text or why there is none.
@@ -84,4 +84,22 @@ fn pages(rt: HostRuntime) -> Result<(), TextFault> {
     assert_eq!(rt; text.mark(0x0001_2000), Mark::Plain);
     assert_eq!(rt; text.mark(0x0001_2001), Mark::Unmarked);
     Ok(())
+}
+
+/// Places as bits, the lowest of them, and the others.
+static PLACES: [(u32, u32, u32); 5] = [
+    (0x0000_0001, 0, 0),
+    (0x8000_0000, 31, 0),
+    (0x0000_000C, 2, 0x0000_0008),
+    (0x8000_0100, 8, 0x8000_0000),
+    (0xFFFF_FFFF, 0, 0xFFFF_FFFE),
+];
+
+#[test]
+fn lowest_places(rt: HostRuntime) {
+    for (places, lowest, others) in &PLACES {
+        if *places != 0 {
+            assert_eq!(rt; lowest_place(*places), (*lowest, *others), "of {places:x}");
+        }
+    }
 }

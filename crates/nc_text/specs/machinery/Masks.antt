@@ -23,7 +23,7 @@ abbrev pub plain_bit : Mark → ℕ
 plain_bit Plain = 1
 plain_bit _ = 0
 
--- the mark, unless it is that of a second half
-abbrev pub start_only : Mark → Mark
-start_only Plain = Plain
-start_only _ = Unmarked
+-- 1 for the second half of a pair
+abbrev pub second_bit : Mark → ℕ
+second_bit (After register) = 1
+second_bit _ = 0

@@ -9,31 +9,31 @@ pub put-requires-clause-inside : goal.put-requires-clause-inside
 put-requires-clause-inside g c =
     let long = c.loop-left.invariant.stopping.bytes.as_long in (
       omega (arith, c.requires.low),
-      omega (arith, long, c.requires.high, c.lowest-k.ensures.place),
+      omega (arith, long, c.requires.high, c.lowest_place-k.ensures.place),
     )
 
 pub put-requires-clause-ready : goal.put-requires-clause-ready
 put-requires-clause-ready g c =
-    subst (λ (made : List Bool). IsReady made (c.args.at + c.lowest-k.result.0)) (sym c.loop-left.invariant.made)
-    (c.requires.ready c.lowest-k.result.0 c.lowest-k.ensures.place)
+    subst (λ (made : List Bool). IsReady made (c.args.at + c.lowest_place-k.result.0)) (sym c.loop-left.invariant.made)
+    (c.requires.ready c.lowest_place-k.result.0 c.lowest_place-k.ensures.place)
 
 pub put-requires-clause-closed : goal.put-requires-clause-closed
 put-requires-clause-closed g c =
-    let k = c.lowest-k.result.0 in
+    let k = c.lowest_place-k.result.0 in
     let now = g.A.Acts.marked c.loop-left.acts in
     subst (λ (marks : List Mark). IsClosed (set now.bytes (c.args.at + k - 65536) 244) marks) (sym c.loop-left.invariant.marks)
-    (c.requires.closed (k + 1) (set now.bytes (c.args.at + k - 65536) 244) (omega (arith, c.lowest-k.ensures.place))
-    (next_bytes _ _ _ _ _ _ _ _ _ c.loop-left.invariant.stopping k c.lowest-k.ensures.place c.lowest-k.ensures.set
-    c.lowest-k.ensures.below c.requires.low c.requires.high))
+    (c.requires.closed (k + 1) (set now.bytes (c.args.at + k - 65536) 244) (omega (arith, c.lowest_place-k.ensures.place))
+    (next_bytes _ _ _ _ _ _ _ _ _ c.loop-left.invariant.stopping k c.lowest_place-k.ensures.place c.lowest_place-k.ensures.set
+    c.lowest_place-k.ensures.below c.requires.low c.requires.high))
 
 pub loop-left-preserved : goal.loop-left-preserved
 loop-left-preserved g c =
-    let k = c.lowest-k.result.0 in
+    let k = c.lowest_place-k.result.0 in
     let e = c.put.ensures.marked in
     record {
-      stopping = rw e (stopping_next _ _ _ _ _ _ _ _ _ c.loop-left.invariant.stopping k c.lowest-k.ensures.place
-          c.lowest-k.ensures.set c.lowest-k.ensures.below c.requires.low c.requires.high _ c.lowest-k.ensures.cleared
-          c.lowest-k.ensures.others _ _ c.put.ensures.told c.put.ensures.logged);
+      stopping = rw e (stopping_next _ _ _ _ _ _ _ _ _ c.loop-left.invariant.stopping k c.lowest_place-k.ensures.place
+          c.lowest_place-k.ensures.set c.lowest_place-k.ensures.below c.requires.low c.requires.high _ c.lowest_place-k.ensures.cleared
+          c.lowest_place-k.ensures.others _ _ c.put.ensures.told c.put.ensures.logged);
       marks = rw e c.loop-left.invariant.marks;
       whole = c.put.ensures.whole;
       made = c.put.ensures.made ∙ c.loop-left.invariant.made;

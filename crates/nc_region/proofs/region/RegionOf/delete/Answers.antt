@@ -1,6 +1,6 @@
 use Rattle.std.specs.List.{slice_get}
 use Rattle.std.proofs.lemmas.Option.{get_or_from_slice_get}
-use Rattle.std.proofs.Common.{◌≡◌, ℕ, ◌-◌, List, length, set, replicate, Some, sym, subst, ap, ◌∙◌, arith}
+use Rattle.std.proofs.Common.{◌≡◌, ℕ, ◌-◌, set, replicate, Some, sym, subst, ap, ◌∙◌, arith}
 use Rattle.nc_text.specs.Places.{limit_of}
 use Rattle.nc_text.proofs.Offered.{confined_if_closed}
 use Rattle.nc_text.specs.MarkedText.{with_span}

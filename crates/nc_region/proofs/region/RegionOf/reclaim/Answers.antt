@@ -3,7 +3,7 @@ use Rattle.nc_text.specs.Places.{limit_of}
 use Rattle.nc_text.specs.MarkedText.{MarkedText}
 use Rattle.nc_text.proofs.Offered.{confined_if_closed}
 use Rattle.nc_gens.specs.Seen.{KeeperState, HasLooked, least_number}
-use Rattle.nc_region.specs.Region.{Region, IsRegion}
+use Rattle.nc_region.specs.Region.{Region}
 use Rattle.nc_region.specs.Deletion.{freed, unmarked}
 use Rattle.nc_region.proofs.ReadyPlaces.{ready_kept}
 use Rattle.nc_region.proofs.Due.{few, reclaimed_is}

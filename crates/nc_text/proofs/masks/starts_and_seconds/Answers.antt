@@ -1,0 +1,73 @@
+use Rattle.std.proofs.Common.{◌≡◌, ℕ, ◌+◌, ◌-◌, ◌*◌, ◌/◌, ◌%◌, ◌<◌, ◌^◌, zero, suc, get_or, arith, refl, ap, subst, ◌∙◌}
+use Rattle.std.specs.Int.{bit_at}
+use Rattle.std.proofs.Math.Nat.{pow-succ'}
+use Rattle.nc_decode.specs.declared.instruction.Mark.{Mark}
+use Rattle.nc_decode.specs.declared.instruction.Mark.TheVariants.{Unmarked, Plain, After}
+use Rattle.nc_text.specs.machinery.Masks.{plain_bit, second_bit}
+use Rattle.nc_text.proofs.BitPlaces.{doubled_low, doubled_high}
+use Rattle.nc_text.proofs.masks.starts_and_seconds.Goals as goal
+
+-- each is one bit
+small_plain : (mark : Mark) → plain_bit mark < 2
+small_plain Unmarked = omega arith
+small_plain Plain = omega arith
+small_plain (After register) = omega arith
+
+small_second : (mark : Mark) → second_bit mark < 2
+small_second Unmarked = omega arith
+small_second Plain = omega arith
+small_second (After register) = omega arith
+
+pow_more : (m : ℕ) → 2 ^ (m + 1) ≡ 2 * 2 ^ m
+pow_more m = ap (λ (j : ℕ). 2 ^ j) {x = m + 1} {y = suc m} (omega arith) ∙ pow-succ' 2 m
+
+-- one more bit below those of some marks
+more_bits : (bit_of : Mark → ℕ) (marks : ℕ → Mark) (n word bit : ℕ) → n < 32 → bit < 2 → bit ≡ bit_of (marks (31 - n))
+    → ((k : ℕ) → k < n → bit_at word k ≡ bit_of (marks (32 - n + k)))
+    → (k : ℕ) → k < n + 1 → bit_at (2 * word + bit) k ≡ bit_of (marks (32 - (n + 1) + k))
+more_bits bit_of marks n word bit few small is bits zero lt =
+    doubled_low word bit small ∙ (is ∙ ap (λ (j : ℕ). bit_of (marks j)) {x = 31 - n} {y = 32 - (n + 1) + zero} (omega (arith, few)))
+more_bits bit_of marks n word bit few small is bits (suc k) lt =
+    doubled_high word bit k small ∙ (bits k (omega (arith, lt))
+    ∙ ap (λ (j : ℕ). bit_of (marks j)) {x = 32 - n + k} {y = 32 - (n + 1) + suc k} (omega (arith, few)))
+
+pub loop-n-preserved : goal.loop-n-preserved
+loop-n-preserved c =
+    let mark = get_or c.args.marks.now (31 - c.loop-n.n) Unmarked in
+    let so = c.loop-n.invariant in
+    record {
+      low = 2 * so.low + plain_bit mark;
+      high = 2 * so.high + second_bit mark;
+      both = omega (arith, so.both, c.both_bits.ensures);
+      low_small = omega (arith, so.low_small, small_plain mark, pow_more c.loop-n.n);
+      high_small = omega (arith, so.high_small, small_second mark, pow_more c.loop-n.n);
+      starts = more_bits plain_bit (λ j. get_or c.args.marks.now j Unmarked) c.loop-n.n so.low (plain_bit mark) (omega arith)
+          (small_plain mark) refl so.starts;
+      seconds = more_bits second_bit (λ j. get_or c.args.marks.now j Unmarked) c.loop-n.n so.high (second_bit mark) (omega arith)
+          (small_second mark) refl so.seconds;
+    }
+
+-- the halves of what both words are in
+halves : (both low high n : ℕ) → both ≡ low + 2 ^ 32 * high → low < 2 ^ n → n ≡ 32
+    → (both % 2 ^ 32 ≡ low) × (both / 2 ^ 32 ≡ high)
+halves both low high n is small all =
+    let less : low < 2 ^ 32 = subst (λ (m : ℕ). low < 2 ^ m) all small in
+    (omega (arith, is, less), omega (arith, is, less))
+
+pub returns-clause-starts : goal.returns-clause-starts
+returns-clause-starts c = λ k lt.
+    let so = c.loop-n.invariant in
+    let all : c.loop-n.n ≡ 32 = omega arith in
+    let half = halves c.loop-n.both so.low so.high c.loop-n.n so.both so.low_small all in
+    ap (λ (word : ℕ). bit_at word k) half.0
+    ∙ (so.starts k (omega (arith, lt))
+    ∙ ap (λ (j : ℕ). plain_bit (get_or c.args.marks.now j Unmarked)) {x = 32 - c.loop-n.n + k} {y = k} (omega arith))
+
+pub returns-clause-seconds : goal.returns-clause-seconds
+returns-clause-seconds c = λ k lt.
+    let so = c.loop-n.invariant in
+    let all : c.loop-n.n ≡ 32 = omega arith in
+    let half = halves c.loop-n.both so.low so.high c.loop-n.n so.both so.low_small all in
+    ap (λ (word : ℕ). bit_at word k) half.1
+    ∙ (so.seconds k (omega (arith, lt))
+    ∙ ap (λ (j : ℕ). second_bit (get_or c.args.marks.now j Unmarked)) {x = 32 - c.loop-n.n + k} {y = k} (omega arith))
