@@ -379,7 +379,8 @@ uint32_t nc_host_version(void);
 
 /*
  * Makes a region of `bundles` bundles, all stops, with no chunk and `seats` seats (IsFirst), in an empty handle.
- * Promised: NC_HANDLE_TAKEN for a handle that isn't empty; else NC_BAD_SEATS and NC_BAD_SIZE exactly where they apply, in this order.
+ * Promised: NC_HANDLE_TAKEN for a handle that isn't empty; else NC_BAD_SEATS and NC_BAD_SIZE exactly where they apply, in this order;
+ * else NC_OUT_OF_MEMORY only if memory ran out.
  * Cost: memory for a table of the text's pages, and 8 bytes and more for each seat.
  */
 uint32_t nc_region_new(uint32_t bundles, uint32_t seats, NcRegion *region);
@@ -427,8 +428,8 @@ NcChange nc_region_load(NcRegion *region, NcVetted *vetted, NcAct *acts, size_t 
 
 /*
  * Patches a chunk (IsPatch, IsModified), and writes the acts as nc_host_patch does.
- * Promised: a refusal is NC_NO_HANDLE; else the first of NC_UNDER_WAY, NC_NO_ROOM (only for at most 32 bytes) and the faults of a patch
- * that holds. A buffer of 3 * `len` acts is enough.
+ * Promised: a refusal is NC_NO_HANDLE; else the first of NC_UNDER_WAY, NC_NO_ROOM (for at most 32 bytes; more are a fault of the patch) and the
+ * faults of a patch that holds. A buffer of 3 * `len` acts is enough.
  * The bytes must be whole instructions, even where only an immediate or a displacement in one changes. Acts are written for the
  * instructions that differ, so `count` may be 0. The host must make the acts after the call, before the next change.
  * Cost: that of the patch and of the bundles in which its targets lie, whatever the chunk; no memory is allocated.
@@ -507,9 +508,9 @@ NcStamp nc_region_generation(NcRegion *region);
 
 /*
  * Checks in: reports that the seat's thread is outside the region, by one load and one store, both memory_order_seq_cst (HasCheckedIn). It
- * takes no lock, allocates no memory, and never waits.
- * Not promised: that the thread is outside. The host must call it only while the thread is outside; it calls it before the thread goes in
- * again, and once the thread is out.
+ * takes no lock, allocates no memory, and never waits. It returns NC_OK, or NC_NO_HANDLE for an empty handle.
+ * Not promised: that the thread is outside. The host must call it only while the thread is outside: after it has come out, and before it
+ * goes in again.
  */
 uint32_t nc_seat_check_in(NcSeat *seat);
 
