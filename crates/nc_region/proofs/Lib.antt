@@ -15,7 +15,6 @@ pub mod Exchanged
 pub mod Turns
 pub mod Sparing
 pub mod Runs
-pub mod Parts
 pub mod Patched
 pub mod Instructions
 pub mod Offsets

@@ -75,38 +75,12 @@ pub(crate) fn room_for(chunks: &VecDeque<Chunk>, base: u32, len: u32) -> Option<
     Some(k)
 }
 
-/// The number of chunks whose base is at most this address, by binary search in one of the queue's two parts.
+/// The number of chunks whose base is at most this address, by binary search.
 fn count_to(chunks: &VecDeque<Chunk>, at: u32) -> usize
     requires { IsRising 0x10000 chunks.now.items }
     ensures bound { result ≤ length chunks.now.items }
     ensures below { (i : ℕ) (d : Chunk) → i < result → (slice_index_or chunks.now.items i d).base ≤ at }
     ensures above { (i : ℕ) (d : Chunk) → result ≤ i → i < length chunks.now.items → at < (slice_index_or chunks.now.items i d).base }
-{
-    let (front, back) = chunks.as_slices();
-    if begins_by(back, at) {
-        return front.len() + count_in(back, at);
-    }
-    count_in(front, at)
-}
-
-/// There is a first chunk, and its base is at most this address.
-fn begins_by(chunks: &[Chunk], at: u32) -> bool
-    ensures some { IsTrue result → 0 < length chunks.now }
-    ensures first { IsTrue result → (d : Chunk) → (slice_index_or chunks.now 0 d).base ≤ at }
-    ensures later { result ≡ false → (d : Chunk) → 0 < length chunks.now → at < (slice_index_or chunks.now 0 d).base }
-{
-    if chunks.is_empty() {
-        return false;
-    }
-    chunks[0].base <= at
-}
-
-/// The number of these chunks whose base is at most this address, by binary search.
-fn count_in(chunks: &[Chunk], at: u32) -> usize
-    requires { IsRising 0x10000 chunks.now }
-    ensures bound { result ≤ length chunks.now }
-    ensures below { (i : ℕ) (d : Chunk) → i < result → (slice_index_or chunks.now i d).base ≤ at }
-    ensures above { (i : ℕ) (d : Chunk) → result ≤ i → i < length chunks.now → at < (slice_index_or chunks.now i d).base }
 {
     chunks.partition_point(|c| c.base <= at)
 }
