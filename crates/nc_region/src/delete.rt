@@ -1,7 +1,6 @@
 //! A chunk of a text that threads are running turned into stops.
 
-ghost use Rattle.std.specs.Prelude.{◌≡◌, ◌≢◌, ◌+◌, ◌-◌, ◌<◌, ◌≤◌, ◌^◌, ℕ, List, [], ◌∷◌, ◌++◌, length, replicate, true};
-ghost use Rattle.std.specs.Int.{bit_at};
+ghost use Rattle.std.specs.Prelude.{◌≡◌, ◌+◌, ◌-◌, ◌<◌, ◌≤◌, ◌^◌, ℕ, List, [], ◌∷◌, ◌++◌, length, replicate, true};
 ghost use Rattle.nc_text.specs.Marks.{IsClosed};
 ghost use Rattle.nc_text.specs.Places.{limit_of, byte_at};
 ghost use Rattle.nc_text.specs.Ready.{AreReady};

@@ -155,8 +155,8 @@ fn unused_mark(at: u32) -> Mark
     }
 }
 
-/// The places of a bundle that are `Plain`, and those that are `After`, from one pass over its marks. Twice the bits so far and the
-/// next mark's is cheaper than a bit at a place, and has no branch, which real code would make hard to predict.
+/// The places of a bundle that are `Plain`, and those that are `After`, from one pass over its marks. Doubling the bits so far and
+/// adding the next mark's is cheaper than setting a bit at its place, and has no branch that real code would make hard to predict.
 fn starts_and_seconds(marks: &[Mark]) -> (u32, u32)
     requires { length marks.now ≡ 32 }
     ensures starts { (k : ℕ) → k < 32 → bit_at result.0 k ≡ plain_bit (slice_index_or marks.now k Mark.Unmarked) }
