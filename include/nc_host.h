@@ -195,7 +195,7 @@ extern "C" {
 #define NC_PLAIN 1u                /* an instruction starts there */
 #define NC_MASKED(reg) (16u + (reg)) /* an indirect jump or call on this register, directly after its mask */
 
-/* The acts, and the settlings among them. */
+/* What an NcAct can be: an act, a settling, or, below, a run of puts. */
 #define NC_PUT 1u    /* put the byte `value` at the address `at` */
 #define NC_MARK 2u   /* the `value` addresses from `at` on get the chunk's marks; a host that keeps no marks does nothing */
 #define NC_BUMP 3u   /* draw a stamp: the span may be reused only once every thread has been outside since. `at` and `value` are 0 */
@@ -231,7 +231,7 @@ typedef struct NcAct {
 typedef struct NcActs {
     uint32_t fault;
     uint32_t at;     /* as in NcVerdict */
-    uint32_t count;  /* the number of acts written, including settlings; for NC_NO_ROOM a buffer length that is enough; else 0 */
+    uint32_t count;  /* the number of elements written, acts and settlings; for NC_NO_ROOM a buffer length that is enough; else 0 */
 } NcActs;
 
 /*
@@ -253,7 +253,7 @@ typedef struct NcVetted {
 typedef struct NcChange {
     uint32_t fault;
     uint32_t at;   /* as in NcVerdict */
-    size_t count;  /* the number of acts written, including settlings; for NC_NO_ROOM a buffer length that is enough; else 0 */
+    size_t count;  /* the number of elements written, acts and settlings; for NC_NO_ROOM a buffer length that is enough; else 0 */
 } NcChange;
 
 typedef struct NcStamp {

@@ -6,6 +6,7 @@ ghost use Rattle.nc_command.specs.Checking.{EndsInDigits, SpellsBase, IsCheckInR
 
 use crate::asked::{CheckAsk, Said};
 use crate::command_line::{bundles_option, fault, number, with, workers_option};
+use clap::error::ErrorKind;
 use clap::{Arg, ArgAction, ArgMatches, Command, Error};
 use nc_decode::MAX_BUNDLES;
 use std::alloc::{AllocError, Global};
@@ -128,6 +129,16 @@ fn base_of(text: &str) -> Option<u32>
     u32::from_str_radix(digits, 16).ok()
 }
 
+/// The fault of a value.
+fn refusal(alloc: Global, message: &str) -> Error {
+    fault(program(alloc), ErrorKind::InvalidValue, message)
+}
+
+/// What the words of a command line match.
+fn matches<'a>(alloc: Global, words: &'a [&'a str]) -> Result<ArgMatches<'a>, Error> {
+    program(alloc)?.try_get_matches_from(words)
+}
+
 /// How much is asked to be said of a file in text, and the option that asks for it.
 fn said_in_text(found: &ArgMatches<'_>) -> (Said, &'static str) {
     if found.get_flag("quiet") {
@@ -152,7 +163,7 @@ fn said(alloc: Global, found: &ArgMatches<'_>) -> Result<Said, Error> {
         return Ok(Said::Object);
     }
     let message = format!(in alloc; "the argument '--format json' cannot be used with '{option}'")?;
-    Err(fault(program(alloc), message.as_str()))
+    Err(refusal(alloc, message.as_str()))
 }
 
 /// The address that is asked for.
@@ -164,7 +175,7 @@ fn base_asked(alloc: Global, found: &ArgMatches<'_>) -> Result<u32, Error> {
     let message = format!(in alloc;
         "invalid value '{text}' for '--base <ADDRESS>': not 1 to 8 hexadecimal digits"
     )?;
-    Err(fault(program(alloc), message.as_str()))
+    Err(refusal(alloc, message.as_str()))
 }
 
 /// The files that are named, at least one.
@@ -177,7 +188,7 @@ fn files_asked<'a>(alloc: Global, found: &ArgMatches<'a>) -> Result<Vec<&'a str>
     }
     if files.is_empty() {
         // this doesn't come: the parser has asked for a file
-        return Err(fault(program(alloc), "a file is missing"));
+        return Err(refusal(alloc, "a file is missing"));
     }
     Ok(files)
 }
@@ -187,7 +198,7 @@ pub fn ask_check<'a>(alloc: Global, words: &'a [&'a str]) -> Result<CheckAsk<'a>
     // The numbers are in the ranges of the options, and there is a file.
     ensures { IfOk result IsCheckInRange }
 {
-    let found = program(alloc)?.try_get_matches_from(words)?;
+    let found = matches(alloc, words)?;
     let base = base_asked(alloc, &found)?;
     let files = files_asked(alloc, &found)?;
     Ok(CheckAsk {
@@ -202,5 +213,5 @@ pub fn ask_check<'a>(alloc: Global, words: &'a [&'a str]) -> Result<CheckAsk<'a>
 
 /// The fault of a command line of `nc_check` with a word that is not valid UTF-8.
 pub fn check_not_utf8(alloc: Global) -> Error {
-    fault(program(alloc), "a word is not valid UTF-8 text")
+    refusal(alloc, "a word is not valid UTF-8 text")
 }

@@ -119,13 +119,17 @@ pub(crate) fn number(found: &ArgMatches<'_>, name: &str, least: u32, most: u32) 
         .clamp(least, most)
 }
 
+/// What the words of a command line match.
+fn matches<'a>(alloc: Global, words: &'a [&'a str]) -> Result<ArgMatches<'a>, Error> {
+    program(alloc)?.try_get_matches_from(words)
+}
+
 /// Reads the words of a command line, without the program's own name.
 pub fn ask<'a>(alloc: Global, words: &'a [&'a str]) -> Result<Ask, Error>
     // The numbers are in the ranges of the options.
     ensures { IfOk result IsInRange }
 {
-    let mut program = program(alloc)?;
-    let matches = program.try_get_matches_from_mut(words)?;
+    let matches = matches(alloc, words)?;
     if let Some(found) = matches.subcommand_matches("replay") {
         return Ok(Ask::Replay {
             bundles: number(found, "bundles", 2, MAX_BUNDLES),
@@ -139,18 +143,30 @@ pub fn ask<'a>(alloc: Global, words: &'a [&'a str]) -> Result<Ask, Error>
         });
     }
     // this doesn't come: the parser has asked for a subcommand
-    Err(program.error(ErrorKind::MissingSubcommand, "a subcommand is missing")?)
+    Err(fault(
+        program(alloc),
+        ErrorKind::MissingSubcommand,
+        "a subcommand is missing",
+    ))
 }
 
 /// The fault of a command line with a word that is not valid UTF-8.
 pub fn not_utf8(alloc: Global) -> Error {
-    fault(program(alloc), "a word is not valid UTF-8 text")
+    fault(
+        program(alloc),
+        ErrorKind::InvalidValue,
+        "a word is not valid UTF-8 text",
+    )
 }
 
-/// The fault of a value of a program's command line.
-pub(crate) fn fault(program: Result<Command<'_>, AllocError>, message: &str) -> Error {
+/// A fault of a program's command line.
+pub(crate) fn fault(
+    program: Result<Command<'_>, AllocError>,
+    kind: ErrorKind,
+    message: &str,
+) -> Error {
     match program {
-        Ok(mut program) => match program.error(ErrorKind::InvalidValue, message) {
+        Ok(mut program) => match program.error(kind, message) {
             Ok(error) => error,
             Err(error) => Error::from(error),
         },

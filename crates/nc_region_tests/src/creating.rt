@@ -1,11 +1,9 @@
 //! Regions made, and chunks created in them.
 
-use crate::calls;
-use crate::fixtures::{LIMIT, Telling, chunk, refused, region, stands};
+use crate::fixtures::{LIMIT, refused, region};
 use nc_gens::Gens;
-use nc_region::{Chunk, ChunkState, CreateFault, Region, RegionFault};
+use nc_region::{CreateFault, Region, RegionFault};
 use std::alloc::Global;
-use std::process::Abort;
 use std::test::Fail;
 
 /// What a region of so many bundles is refused for, if the keeper comes back.
@@ -43,82 +41,23 @@ fn sizes(rt: HostRuntime) -> Result<(), Fail> {
     Ok(())
 }
 
-/// Where a chunk is tried, of how many bundles, for which limit, its refusal, and how many chunks there are then.
-type Row = (u32, usize, u32, Option<CreateFault>, usize);
-
-/// The tries.
-static TRIES: [Row; 9] = [
-    (0x10020, 2, 0x10100, None, 1),
-    // the same place; chunks that end in it, begin in it, lie round it and in it
-    (0x10020, 2, 0x10100, Some(CreateFault::Occupied), 1),
-    (0x10000, 2, 0x10100, Some(CreateFault::Occupied), 1),
-    (0x10040, 2, 0x10100, Some(CreateFault::Occupied), 1),
-    (0x10000, 4, 0x10100, Some(CreateFault::Occupied), 1),
-    (0x10040, 1, 0x10100, Some(CreateFault::Occupied), 1),
-    // another limit comes first
-    (0x10000, 4, 0x10120, Some(CreateFault::WrongLimit), 1),
-    // directly before it and directly after it
-    (0x10000, 1, 0x10100, None, 2),
-    (0x10060, 2, 0x10100, None, 3),
-];
-
-/// Each try of these rows has its answer, and leaves so many chunks.
-fn try_all(
-    rt: &impl Abort,
-    alloc: Global,
-    region: &mut Region<'_>,
-    rows: &[Row],
-) -> Result<(), Fail> {
-    for (base, bundles, limit, fault, count) in rows {
-        let seen = refused(region, alloc, *base, *limit, *bundles)?;
-        assert_eq!(rt;
-            (seen, calls::chunk_count(region)),
-            (*fault, *count),
-            "{bundles} at {base:x}"
-        );
-    }
-    Ok(())
+/// Creates a chunk, and then others: vetted for another limit, where a chunk stands and where none does, and in its place.
+fn refusals(region: &mut Region<'_>, alloc: Global) -> Result<[Option<CreateFault>; 4], Fail> {
+    let none = refused(region, alloc, 0x10000, LIMIT, 1)?;
+    let here = refused(region, alloc, 0x10000, 0x10100, 1)?;
+    let beside = refused(region, alloc, 0x10020, 0x10100, 1)?;
+    let again = refused(region, alloc, 0x10000, LIMIT, 1)?;
+    Ok([none, here, beside, again])
 }
 
 #[test]
-fn created_twice(rt: HostRuntime) -> Result<(), Fail> {
-    let alloc = rt.alloc();
-    let (gens, keeper, _passes) = Gens::new(alloc, 1)?;
-    let mut region = region(alloc, 8, &gens, keeper)?;
-    try_all(&rt, alloc, &mut region, &TRIES)?;
-    let middle = Chunk {
-        base: 0x10020,
-        length: 64,
-        state: ChunkState::Live,
-    };
-    assert_eq!(rt; (region.chunk(1), region.chunk(3)), (Some(middle), None));
-    Ok(())
-}
-
-/// Six moves of different numbers into eax, of five bytes each.
-static MOVES: [u8; 30] = [
-    0xB8, 0x01, 0x02, 0x03, 0x04, 0xB8, 0x05, 0x06, 0x07, 0x08, 0xB8, 0x09, 0x0A, 0x0B, 0x0C, 0xB8,
-    0x0D, 0x0E, 0x0F, 0x10, 0xB8, 0x11, 0x12, 0x13, 0x14, 0xB8, 0x15, 0x16, 0x17, 0x18,
-];
-
-/// The base of a chunk of two bundles, of which the second is the first of a page.
-const ACROSS: u32 = 0x10FE0;
-
-#[test]
-fn bytes_across_pages(rt: HostRuntime) -> Result<(), Fail> {
-    let alloc = rt.alloc();
-    let (gens, keeper, _passes) = Gens::new(alloc, 1)?;
-    let mut plain = region(alloc, 256, &gens, keeper)?;
-    let (other_gens, other_keeper, _passes) = Gens::new(alloc, 1)?;
-    let mut telling = Telling::new(alloc, &other_gens, other_keeper, 256, 100)?;
-    assert!(rt; calls::creates(&mut plain, chunk(alloc, ACROSS, 0x12000, 2, &MOVES)?));
-    assert!(rt; telling.creates(chunk(alloc, ACROSS, 0x12000, 2, &MOVES)?));
-    let mut code = Vec::new(alloc);
-    code.extend_from_slice(&[0xF4])?;
-    code.extend_from_slice(&MOVES)?;
-    code.resize(65, 0x90)?;
-    code.push(0xF4)?;
-    assert!(rt; stands(&plain, ACROSS.wrapping_sub(1), &code));
-    assert!(rt; telling.stands(ACROSS.wrapping_sub(1), &code));
+fn another_limit(rt: HostRuntime) -> Result<(), Fail> {
+    let (gens, keeper, _passes) = Gens::new(rt.alloc(), 1)?;
+    let mut region = region(rt.alloc(), 4, &gens, keeper)?;
+    let wrong = Some(CreateFault::WrongLimit);
+    assert_eq!(rt;
+        refusals(&mut region, rt.alloc())?,
+        [None, wrong, wrong, Some(CreateFault::Occupied)]
+    );
     Ok(())
 }

@@ -100,11 +100,6 @@ impl Telling<'_> {
         calls::reclaim(&mut self.region)
     }
 
-    /// `RegionOf::chunk_count`.
-    pub(crate) fn chunk_count(&self) -> usize {
-        calls::chunk_count(&self.region)
-    }
-
     /// The acts told, first to last, while they are told.
     pub(crate) fn told(&self) -> Option<&[Act]> {
         self.region.acts().told()

@@ -13,8 +13,6 @@ mod check_in;
 #[cfg(test)]
 mod creating;
 #[cfg(test)]
-mod deleting;
-#[cfg(test)]
 mod drawing;
 #[cfg(test)]
 mod fixtures;
@@ -33,8 +31,4 @@ mod random_patches;
 #[cfg(test)]
 mod random_texts;
 #[cfg(test)]
-mod settlings;
-#[cfg(test)]
 mod shared;
-#[cfg(test)]
-mod walks;

@@ -6,7 +6,7 @@ use crate::fixtures::{LIMIT, region};
 use nc_decode::{BUNDLE, START, decode};
 use nc_gens::Gens;
 use nc_region::Region;
-use nc_vet::vet;
+use nc_vet::{Vetted, vet};
 use std::alloc::{AllocError, Global};
 use std::test::Fail;
 
@@ -67,20 +67,26 @@ fn walks_on_instructions(alloc: Global, region: &Region<'_>) -> Result<bool, All
     Ok(true)
 }
 
-/// Whether the chunk is accepted; if it is, it is created and walked.
-fn is_accepted(alloc: Global, code: Vec<u8>) -> Result<bool, Fail> {
-    let Ok(vetted) = vet(START, LIMIT, code) else {
-        return Ok(false);
-    };
+/// Creates the chunk in a region of its own, and walks it.
+fn create_and_walk(alloc: Global, vetted: Vetted) -> Result<(), Fail> {
     let (gens, keeper, _passes) = Gens::new(alloc, 1)?;
     let mut region = region(alloc, 4, &gens, keeper)?;
-    if !calls::creates(&mut region, vetted) {
-        return Err(Fail::new("not created"));
+    let created = calls::creates(&mut region, vetted);
+    if created && walks_on_instructions(alloc, &region)? {
+        return Ok(());
     }
-    if !walks_on_instructions(alloc, &region)? {
-        return Err(Fail::new("a walk leaves the instructions"));
+    Err(Fail::new("not created, or a walk leaves the instructions"))
+}
+
+/// Whether the chunk is accepted; if it is, it is created and walked.
+fn is_accepted(alloc: Global, code: Vec<u8>) -> Result<bool, Fail> {
+    match vet(START, LIMIT, code) {
+        Ok(vetted) => {
+            create_and_walk(alloc, vetted)?;
+            Ok(true)
+        }
+        Err(_) => Ok(false),
     }
-    Ok(true)
 }
 
 /// How many values of the byte at a place make a chunk that is accepted.

@@ -1,9 +1,8 @@
 //! Patches: each answer with the acts that it owes.
 
-use crate::calls;
-use crate::fixtures::{LIMIT, Telling, chunk, is_trace, region};
+use crate::fixtures::{LIMIT, Telling, chunk};
 use nc_gens::Gens;
-use nc_region::{Act, DeleteFault, End, ModifyFault, Region, Trace};
+use nc_region::{Act, DeleteFault, ModifyFault};
 use nc_vet::Vetted;
 use std::alloc::Global;
 use std::process::Abort;
@@ -190,92 +189,6 @@ fn try_patches(rt: &impl Abort, alloc: Global, rows: &[Row]) -> Result<(), Fail>
 #[test]
 fn patches(rt: HostRuntime) -> Result<(), Fail> {
     try_patches(&rt, rt.alloc(), &PATCHES)
-}
-
-/// A chunk's front, a patch at 00010000, and a walk from there by choices 0.
-type PatchedWalk = (
-    &'static [u8],
-    &'static [u8],
-    &'static [u32],
-    &'static [u32],
-    End,
-);
-
-/// The walks.
-static PATCHED_WALKS: [PatchedWalk; 6] = [
-    // a masked call
-    (
-        &[0x83, 0xE0, 0xE0, 0xFF, 0xE0],
-        &[0x83, 0xE0, 0xE0, 0xFF, 0xD0],
-        &[0, 0x10040],
-        &[0x10000, 0x10003, 0x10040],
-        End::Stop,
-    ),
-    (
-        &[0xEB, 0x1E],
-        &[0xEB, 0x3E],
-        &[0, 0],
-        &[0x10000, 0x10040],
-        End::Stop,
-    ),
-    (&[0x90], &[0xF4], &[0], &[0x10000], End::Stop),
-    (&[0x0F, 0xA2], &[0x0F, 0x0B], &[0], &[0x10000], End::Stop),
-    (
-        &[0x0F, 0x0B],
-        &[0x0F, 0xA2],
-        &[0],
-        &[0x10000, 0x10002],
-        End::More,
-    ),
-    (
-        &[0xEB, 0x1E],
-        &[0x74, 0x1E],
-        &[0],
-        &[0x10000, 0x10002],
-        End::More,
-    ),
-];
-
-/// Creates a chunk of one bundle at 00010000, patches it there, and walks from there.
-fn walk_patched(
-    region: &mut Region<'_>,
-    vetted: Vetted,
-    new: &[u8],
-    choices: &[u32],
-) -> Option<Trace> {
-    if !calls::creates(region, vetted) || calls::modify(region, 0x10000, new).is_err() {
-        return None;
-    }
-    calls::walk(region, 0x10000, choices).ok()
-}
-
-/// The trace of the walk in a new region.
-fn patched_trace(
-    alloc: Global,
-    front: &[u8],
-    new: &[u8],
-    choices: &[u32],
-) -> Result<Option<Trace>, Fail> {
-    let (gens, keeper, _passes) = Gens::new(alloc, 1)?;
-    let mut region = region(alloc, 4, &gens, keeper)?;
-    let vetted = chunk(alloc, 0x10000, LIMIT, 1, front)?;
-    Ok(walk_patched(&mut region, vetted, new, choices))
-}
-
-/// Each walk of these rows goes over its places and ends as it should.
-fn try_walks(rt: &impl Abort, alloc: Global, rows: &[PatchedWalk]) -> Result<(), Fail> {
-    for (front, new, choices, places, end) in rows {
-        let Some(trace) = patched_trace(alloc, front, new, choices)? else {
-            return Err(Fail::new("no walk"));
-        };
-        assert!(rt; is_trace(&trace, places, *end), "{new:?} {trace:?}");
-    }
-    Ok(())
-}
-
-#[test]
-fn patched_walks(rt: HostRuntime) -> Result<(), Fail> {
-    try_walks(&rt, rt.alloc(), &PATCHED_WALKS)
 }
 
 /// Creates two chunks, deletes the second, at 00010020, and lets the first jump there: the stamp and the answer.

@@ -8,5 +8,4 @@ mod patching;
 mod reuse;
 mod rows;
 mod script;
-mod stream;
 mod vetting;

@@ -2,7 +2,7 @@
 
 use crate::tests::calls::replay;
 use crate::tests::fakes::{Pieces, Slow};
-use crate::tests::rows::{Row, input_and_owed};
+use crate::tests::rows::{Row, ended, input_and_owed, is_owed, written};
 use nc_script::ReplayFault;
 use std::alloc::Global;
 use std::test::Fail;
@@ -56,67 +56,89 @@ fn length_of(bytes: &[u8], lines: usize) -> usize {
     bytes.len()
 }
 
+/// The whole script, read and written in pieces of this size: all replies, and one flush.
+fn try_pieces(alloc: Global, input: &[u8], owed: &[u8], size: usize) -> Result<(), Fail> {
+    let mut reader = Pieces::new(input, size);
+    let mut writer = Slow::new(alloc, size, true);
+    let answer = replay(alloc, &mut reader, &mut writer, 4, 1);
+    ended(answer, Ok(()), &writer.out, Some(owed))?;
+    if writer.flushed == 1 {
+        return Ok(());
+    }
+    Err(Fail::new("not flushed once"))
+}
+
 #[test]
 fn whole(rt: HostRuntime) -> Result<(), Fail> {
     let (input, owed) = all(rt.alloc())?;
-    for size in [1usize, 7, 4096] {
-        let mut written = Vec::new(rt.alloc());
-        let mut reader = Pieces::new(&input, size);
-        let result = replay(rt.alloc(), &mut reader, &mut written, 4, 1);
-        assert_eq!(rt; result, Ok(()));
-        assert_eq!(rt; written.as_slice(), owed.as_slice());
+    for size in [1usize, 2, 7, 4096] {
+        try_pieces(rt.alloc(), &input, &owed, size)?;
     }
     Ok(())
 }
 
 /// The first bytes of the script give the replies of its whole lines, and one more if bytes are left over.
+fn try_cut(alloc: Global, input: &[u8], owed: &[u8], k: usize) -> Result<(), Fail> {
+    let cut = input.get(..k).unwrap_or(b"");
+    let written = written(alloc, cut, 1)?;
+    let lines = ends(cut);
+    let first = length_of(owed, lines);
+    is_owed(
+        written.get(..first).unwrap_or(b""),
+        owed.get(..first).unwrap_or(b""),
+    )?;
+    let more = usize::from(!(cut.is_empty() || cut.ends_with(b"\n")));
+    let rest = written.get(first..).unwrap_or(b"");
+    if ends(rest) == more && (rest.is_empty() || rest.ends_with(b"\n")) {
+        return Ok(());
+    }
+    Err(Fail::new(format_args!("after {k} bytes: {rest:?}")))
+}
+
 #[test]
 fn cuts(rt: HostRuntime) -> Result<(), Fail> {
     let (input, owed) = all(rt.alloc())?;
     for k in 0..=input.len() {
-        let cut = input.get(..k).unwrap_or(b"");
-        let mut written = Vec::new(rt.alloc());
-        let mut reader = cut;
-        let result = replay(rt.alloc(), &mut reader, &mut written, 4, 1);
-        assert_eq!(rt; result, Ok(()));
-        let lines = ends(cut);
-        let first = length_of(&owed, lines);
-        assert_eq!(rt; written.get(..first), owed.get(..first), "after {k} bytes");
-        let more = usize::from(!(cut.is_empty() || cut.ends_with(b"\n")));
-        assert_eq!(rt; ends(&written), lines.wrapping_add(more), "after {k} bytes");
-        assert!(rt; written.is_empty() || written.ends_with(b"\n"));
+        try_cut(rt.alloc(), &input, &owed, k)?;
     }
     Ok(())
 }
 
-/// Each read fails: the replies to the lines that have ended stand written.
+/// A read fails: the replies to the lines that have ended stand written.
+fn try_read(alloc: Global, input: &[u8], owed: &[u8], fails_at: usize) -> Result<(), Fail> {
+    let mut written = Vec::new(alloc);
+    let mut reader = Pieces::failing(input, fails_at);
+    let answer = replay(alloc, &mut reader, &mut written, 4, 1);
+    let lines = ends(input.get(..fails_at).unwrap_or(b""));
+    let due = owed.get(..length_of(owed, lines));
+    ended(answer, Err(ReplayFault::ReadFailed), &written, due)
+}
+
+/// Each read fails.
 #[test]
 fn failed_reads(rt: HostRuntime) -> Result<(), Fail> {
     let (input, owed) = all(rt.alloc())?;
     for fails_at in 0..=input.len() {
-        let mut written = Vec::new(rt.alloc());
-        let mut reader = Pieces::failing(&input, fails_at);
-        let result = replay(rt.alloc(), &mut reader, &mut written, 4, 1);
-        assert_eq!(rt; result, Err(ReplayFault::ReadFailed));
-        let lines = ends(input.get(..fails_at).unwrap_or(b""));
-        assert_eq!(rt;
-            Some(written.as_slice()),
-            owed.get(..length_of(&owed, lines))
-        );
+        try_read(rt.alloc(), &input, &owed, fails_at)?;
     }
     Ok(())
 }
 
-/// Each write fails or takes nothing: what went before stands written.
+/// A write fails or takes nothing: what went before stands written.
+fn try_write(alloc: Global, input: &[u8], owed: &[u8], fails_at: usize) -> Result<(), Fail> {
+    let mut reader = input;
+    let mut writer = Slow::failing(alloc, fails_at, fails_at % 2 == 0, true);
+    let answer = replay(alloc, &mut reader, &mut writer, 4, 1);
+    let due = owed.get(..fails_at);
+    ended(answer, Err(ReplayFault::WriteFailed), &writer.out, due)
+}
+
+/// Each write fails or takes nothing.
 #[test]
 fn failed_writes(rt: HostRuntime) -> Result<(), Fail> {
     let (input, owed) = all(rt.alloc())?;
     for fails_at in 0..owed.len() {
-        let mut reader = input.as_slice();
-        let mut writer = Slow::failing(rt.alloc(), fails_at, fails_at % 2 == 0, true);
-        let result = replay(rt.alloc(), &mut reader, &mut writer, 4, 1);
-        assert_eq!(rt; result, Err(ReplayFault::WriteFailed));
-        assert_eq!(rt; Some(writer.out.as_slice()), owed.get(..fails_at));
+        try_write(rt.alloc(), &input, &owed, fails_at)?;
     }
     Ok(())
 }

@@ -1,6 +1,7 @@
 //! Devices that fail once, with an error of any kind: which kind it is makes no difference.
 
 use crate::tests::calls::{replay, vet};
+use crate::tests::rows::ended;
 use nc_script::ReplayFault;
 use std::alloc::Global;
 use std::io::{Error, ErrorKind, Read, Result, Write};
@@ -116,26 +117,36 @@ fn vet_into<T: Threads + Wait + Sync>(
     (answer, written)
 }
 
-/// A line whose end was read is answered, also where the next line is cut short; of lines of chunks none is.
+/// A line whose end was read is answered, also where the next line is cut short.
+fn try_script(alloc: Global, kind: ErrorKind) -> std::result::Result<(), Fail> {
+    let mut written = Vec::new(alloc);
+    let rest: &[u8] = b"dump\nrecl";
+    let answer = replay(alloc, &mut ThenFails { rest, kind }, &mut written, 4, 1);
+    ended(
+        answer,
+        Err(ReplayFault::ReadFailed),
+        &written,
+        Some(b"dump\n"),
+    )
+}
+
+/// Of lines of chunks none is answered.
+fn try_lines<T: Threads + Wait + Sync>(
+    rt: &T,
+    alloc: Global,
+    kind: ErrorKind,
+) -> std::result::Result<(), Fail> {
+    let mut written = Vec::new(alloc);
+    let rest: &[u8] = b"dump\nrecl";
+    let answer = vet(rt, alloc, &mut ThenFails { rest, kind }, &mut written, 4, 2);
+    ended(answer, Err(ReplayFault::ReadFailed), &written, Some(b""))
+}
+
 #[test]
 fn cut_in_a_line(rt: HostRuntime) -> std::result::Result<(), Fail> {
     for kind in KINDS {
-        let mut written = Vec::new(rt.alloc());
-        let mut reader = ThenFails {
-            rest: b"dump\nrecl",
-            kind,
-        };
-        let answer = replay(rt.alloc(), &mut reader, &mut written, 4, 1);
-        assert_eq!(rt; answer, Err(ReplayFault::ReadFailed), "{kind:?}");
-        assert_eq!(rt; written.as_slice(), b"dump\n".as_slice(), "{kind:?}");
-        let mut written = Vec::new(rt.alloc());
-        let mut reader = ThenFails {
-            rest: b"dump\nrecl",
-            kind,
-        };
-        let answer = vet(&rt, rt.alloc(), &mut reader, &mut written, 4, 2);
-        assert_eq!(rt; answer, Err(ReplayFault::ReadFailed), "{kind:?}");
-        assert!(rt; written.is_empty(), "{kind:?}");
+        try_script(rt.alloc(), kind)?;
+        try_lines(&rt, rt.alloc(), kind)?;
     }
     Ok(())
 }
@@ -148,28 +159,23 @@ fn fill<T: Threads + Wait + Sync>(
 ) -> std::result::Result<(), Fail> {
     for room in 0..SCRIPT.1.len() {
         let (answer, written) = run_into(alloc, SCRIPT.0, room, kind);
-        begins(answer, &written, SCRIPT.1.get(..room), kind)?;
+        ended(
+            answer,
+            Err(ReplayFault::WriteFailed),
+            &written,
+            SCRIPT.1.get(..room),
+        )?;
     }
     for room in 0..LINES.1.len() {
         let (answer, written) = vet_into(rt, alloc, LINES.0, room, kind);
-        begins(answer, &written, LINES.1.get(..room), kind)?;
+        ended(
+            answer,
+            Err(ReplayFault::WriteFailed),
+            &written,
+            LINES.1.get(..room),
+        )?;
     }
     Ok(())
-}
-
-/// A write failed, and exactly these bytes were taken.
-fn begins(
-    answer: std::result::Result<(), ReplayFault>,
-    written: &[u8],
-    owed: Option<&[u8]>,
-    kind: Option<ErrorKind>,
-) -> std::result::Result<(), Fail> {
-    if answer == Err(ReplayFault::WriteFailed) && Some(written) == owed {
-        return Ok(());
-    }
-    Err(Fail::new(format_args!(
-        "{answer:?} {written:?} is not a failed write of {owed:?}: {kind:?}"
-    )))
 }
 
 /// A writer that fails after each number of bytes has taken these bytes and no other.
@@ -182,18 +188,28 @@ fn full_after_each_byte(rt: HostRuntime) -> std::result::Result<(), Fail> {
 }
 
 /// A flush that fails after all was taken is a failed write, and a writer of single bytes with more room gets all.
+fn try_end<T: Threads + Wait + Sync>(
+    rt: &T,
+    alloc: Global,
+    kind: ErrorKind,
+) -> std::result::Result<(), Fail> {
+    let (answer, written) = run_into(alloc, SCRIPT.0, SCRIPT.1.len(), Some(kind));
+    ended(
+        answer,
+        Err(ReplayFault::WriteFailed),
+        &written,
+        Some(SCRIPT.1),
+    )?;
+    let (answer, written) = run_into(alloc, SCRIPT.0, usize::MAX, Some(kind));
+    ended(answer, Ok(()), &written, Some(SCRIPT.1))?;
+    let (answer, written) = vet_into(rt, alloc, LINES.0, usize::MAX, Some(kind));
+    ended(answer, Ok(()), &written, Some(LINES.1))
+}
+
 #[test]
 fn full_at_the_end(rt: HostRuntime) -> std::result::Result<(), Fail> {
     for kind in KINDS {
-        let (answer, written) = run_into(rt.alloc(), SCRIPT.0, SCRIPT.1.len(), Some(kind));
-        assert_eq!(rt; answer, Err(ReplayFault::WriteFailed), "{kind:?}");
-        assert_eq!(rt; written.as_slice(), SCRIPT.1, "{kind:?}");
-        let (answer, written) = run_into(rt.alloc(), SCRIPT.0, usize::MAX, Some(kind));
-        assert_eq!(rt; answer, Ok(()), "{kind:?}");
-        assert_eq!(rt; written.as_slice(), SCRIPT.1, "{kind:?}");
-        let (answer, written) = vet_into(&rt, rt.alloc(), LINES.0, usize::MAX, Some(kind));
-        assert_eq!(rt; answer, Ok(()), "{kind:?}");
-        assert_eq!(rt; written.as_slice(), LINES.1, "{kind:?}");
+        try_end(&rt, rt.alloc(), kind)?;
     }
     Ok(())
 }

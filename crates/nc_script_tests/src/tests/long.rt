@@ -72,14 +72,19 @@ fn push_many(script: &mut Vec<u8>, owed: &mut Vec<u8>) -> Result<(), AllocError>
     push_shown(owed)
 }
 
+/// Adds how a live chunk of two bundles of nops is shown.
+fn push_live(owed: &mut Vec<u8>, at: u32) -> Result<(), AllocError> {
+    owed.push(b' ')?;
+    push_place(owed, at)?;
+    owed.extend_from_slice(b" live ")?;
+    push_nops(owed, 64)
+}
+
 /// Adds the line that shows forty live chunks of two bundles each.
 fn push_shown(owed: &mut Vec<u8>) -> Result<(), AllocError> {
     owed.extend_from_slice(b"dump")?;
     for i in 0..40u32 {
-        owed.push(b' ')?;
-        push_place(owed, 0x10000 + 64 * i)?;
-        owed.extend_from_slice(b" live ")?;
-        push_nops(owed, 64)?;
+        push_live(owed, 0x10000 + 64 * i)?;
     }
     owed.push(b'\n')?;
     Ok(())
@@ -91,6 +96,50 @@ fn many_chunks(rt: HostRuntime) -> Result<(), Fail> {
     let mut script = Vec::new(rt.alloc());
     let mut owed = Vec::new(rt.alloc());
     push_many(&mut script, &mut owed)?;
+    let written = replies(rt.alloc(), &script, 2048)?;
+    assert_eq!(rt; written.as_slice(), owed.as_slice());
+    Ok(())
+}
+
+/// Fills 100 places of two bundles from both ends in turn, and deletes the chunks at every third place, each twice.
+fn push_both_ends(
+    alloc: Global,
+    script: &mut Vec<u8>,
+    owed: &mut Vec<u8>,
+) -> Result<(), AllocError> {
+    for i in 0..50u32 {
+        push_create(script, 0x10000 + 128 * i)?;
+        push_create(script, 0x118C0 - 128 * i)?;
+        owed.extend_from_slice(b"ok\nok\n")?;
+    }
+    for i in 0..34u32 {
+        push_placed(script, b"delete ", 0x10000 + 192 * i)?;
+        push_placed(script, b"delete ", 0x10000 + 192 * i)?;
+        push_count(alloc, owed, b"stamp ", i + 1)?;
+        owed.extend_from_slice(b"refused NoChunk\n")?;
+    }
+    Ok(())
+}
+
+/// Reclaims every third place, and shows the chunks at the others.
+fn push_others(script: &mut Vec<u8>, owed: &mut Vec<u8>) -> Result<(), AllocError> {
+    script.extend_from_slice(b"reclaim\ncheckin 0\nreclaim\ndump\n")?;
+    owed.extend_from_slice(b"freed 0\nok\nfreed 34\ndump")?;
+    for i in 0..33u32 {
+        push_live(owed, 0x10040 + 192 * i)?;
+        push_live(owed, 0x10080 + 192 * i)?;
+    }
+    owed.push(b'\n')?;
+    Ok(())
+}
+
+/// A hundred chunks, created in two orders at once, of which a third is freed.
+#[test]
+fn from_both_ends(rt: HostRuntime) -> Result<(), Fail> {
+    let mut script = Vec::new(rt.alloc());
+    let mut owed = Vec::new(rt.alloc());
+    push_both_ends(rt.alloc(), &mut script, &mut owed)?;
+    push_others(&mut script, &mut owed)?;
     let written = replies(rt.alloc(), &script, 2048)?;
     assert_eq!(rt; written.as_slice(), owed.as_slice());
     Ok(())
@@ -200,5 +249,60 @@ fn long_lines(rt: HostRuntime) -> Result<(), Fail> {
         let written = replies(rt.alloc(), &script, 20_000)?;
         assert!(rt; written == owed, "a chunk of {bundles} bundles");
     }
+    Ok(())
+}
+
+/// Six moves of different numbers into eax, as digits.
+const MOVES: &[u8] = b"b801020304b805060708b8090a0b0cb80d0e0f10b811121314b815161718";
+
+/// Adds the code of two bundles that jump to each other's start.
+fn push_loop(out: &mut Vec<u8>) -> Result<(), AllocError> {
+    out.extend_from_slice(b"eb1e")?;
+    push_nops(out, 30)?;
+    out.extend_from_slice(b"ebde")?;
+    push_nops(out, 30)
+}
+
+/// Adds the code of two bundles, of which the first begins with the moves.
+fn push_moves(out: &mut Vec<u8>) -> Result<(), AllocError> {
+    out.extend_from_slice(MOVES)?;
+    push_nops(out, 34)
+}
+
+/// Creates two chunks, of each of which the second bundle begins a page, walks through the first and shows both.
+fn push_over_pages(script: &mut Vec<u8>, owed: &mut Vec<u8>) -> Result<(), AllocError> {
+    script.extend_from_slice(b"create 00010fe0 ")?;
+    push_loop(script)?;
+    script.extend_from_slice(b"\ncreate 00011fe0 ")?;
+    push_moves(script)?;
+    script.extend_from_slice(b"\nwalk 00010fe0 00000000 00000000\ndump\n")?;
+    owed.extend_from_slice(b"ok\nok\nwalk 00010fe0 00011000 00010fe0 more\ndump 00010fe0 live ")?;
+    push_loop(owed)?;
+    owed.extend_from_slice(b" 00011fe0 live ")?;
+    push_moves(owed)?;
+    owed.push(b'\n')?;
+    Ok(())
+}
+
+/// Chunks over the ends of pages, and a walk from one page to the next.
+#[test]
+fn over_pages(rt: HostRuntime) -> Result<(), Fail> {
+    let mut script = Vec::new(rt.alloc());
+    let mut owed = Vec::new(rt.alloc());
+    push_over_pages(&mut script, &mut owed)?;
+    let written = replies(rt.alloc(), &script, 524_288)?;
+    assert_eq!(rt; written.as_slice(), owed.as_slice());
+    Ok(())
+}
+
+/// A walk begins at the last bundle of the largest region, and none behind it.
+#[test]
+fn largest_region(rt: HostRuntime) -> Result<(), Fail> {
+    let script = b"walk 0400ffe0\nwalk 04010000\n";
+    let written = replies(rt.alloc(), script, 2_097_152)?;
+    assert_eq!(rt;
+        written.as_slice(),
+        b"walk 0400ffe0 stop\nrefused NotBundle\n".as_slice()
+    );
     Ok(())
 }

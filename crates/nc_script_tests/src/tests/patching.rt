@@ -32,7 +32,7 @@ const PAIR: [Row; 12] = [
 ];
 
 /// Each of the other refusals, before and after a patch of a jump.
-const JUMP: [Row; 8] = [
+const JUMP: [Row; 10] = [
     (b"create 00010000 ebfe*", b"ok"),
     (b"modify 00010000 eb7e", b"refused BadTarget"),
     (b"modify 00010000 eb1e", b"ok"),
@@ -44,6 +44,8 @@ const JUMP: [Row; 8] = [
         b"walk 00010000 00010020 stop",
     ),
     (b"dump", b"dump 00010000 live eb1e*"),
+    (b"modify 00010000 741e", b"ok"),
+    (b"walk 00010000 00000000", b"walk 00010000 00010002 more"),
 ];
 
 /// Of three instructions the middle one; two in the place of which one comes; a stop.
@@ -58,13 +60,15 @@ const NOPS: [Row; 7] = [
 ];
 
 /// An instruction that goes nowhere other than F4, created and patched in.
-const OTHER_STOP: [Row; 6] = [
+const OTHER_STOP: [Row; 8] = [
     (b"create 00010000 0f0b*", b"ok"),
     (b"walk 00010000 00000000", b"walk 00010000 stop"),
     (b"create 00010020 0fa2*", b"ok"),
     (b"modify 00010020 0f0b", b"ok"),
     (b"walk 00010020 00000000", b"walk 00010020 stop"),
     (b"dump", b"dump 00010000 live 0f0b* 00010020 live 0f0b*"),
+    (b"modify 00010000 0fa2", b"ok"),
+    (b"walk 00010000 00000000", b"walk 00010000 00010002 more"),
 ];
 
 /// A jump to a span that is retired.

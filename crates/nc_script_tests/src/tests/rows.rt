@@ -2,6 +2,7 @@
 
 use crate::tests::calls::replay;
 use crate::tests::filled::push_filled;
+use nc_script::ReplayFault;
 use std::alloc::{AllocError, Global};
 use std::test::Fail;
 
@@ -38,9 +39,26 @@ pub fn written(alloc: Global, script: &[u8], seats: u32) -> Result<Vec<u8>, Fail
 /// These lines as one script on four bundles for so many seats write their replies; otherwise both are in the failure.
 pub fn replies_as_owed(alloc: Global, rows: &[Row], seats: u32) -> Result<(), Fail> {
     let (input, owed) = input_and_owed(alloc, rows)?;
-    let written = written(alloc, &input, seats)?;
+    is_owed(&written(alloc, &input, seats)?, &owed)
+}
+
+/// What was written is what is owed; otherwise both are in the failure.
+pub fn is_owed(written: &[u8], owed: &[u8]) -> Result<(), Fail> {
     if written == owed {
         return Ok(());
     }
     Err(Fail::new(format_args!("{written:?} is not {owed:?}")))
+}
+
+/// A call ended so, and has written what is owed; otherwise all of it is in the failure.
+pub fn ended(
+    answer: Result<(), ReplayFault>,
+    due: Result<(), ReplayFault>,
+    written: &[u8],
+    owed: Option<&[u8]>,
+) -> Result<(), Fail> {
+    if answer == due && Some(written) == owed {
+        return Ok(());
+    }
+    Err(Fail::new(format_args!("{answer:?} is not {due:?}, or {written:?} is not {owed:?}")))
 }

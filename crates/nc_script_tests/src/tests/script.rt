@@ -1,9 +1,10 @@
 //! Scripts and their answers, through `run` from bytes to bytes.
 
 use crate::tests::calls::replay;
-use crate::tests::fakes::{Pieces, Slow};
-use crate::tests::rows::{Row, replies_as_owed};
+use crate::tests::fakes::Pieces;
+use crate::tests::rows::{Row, is_owed, replies_as_owed, written};
 use nc_script::ReplayFault;
+use std::alloc::{AllocError, Global};
 use std::test::Fail;
 
 /// One bundle after the other: chunks that jump to each other, and each kind of refusal.
@@ -48,7 +49,7 @@ const TAKEN: [Row; 7] = [
 ];
 
 /// A masked jump, to where the choice says.
-const MASKED_JUMP: [Row; 9] = [
+const MASKED_JUMP: [Row; 10] = [
     (b"create 00010000 83e3e0ffe3*", b"ok"),
     (
         b"walk 00010000 00000000 0001004f",
@@ -62,6 +63,10 @@ const MASKED_JUMP: [Row; 9] = [
         b"walk 00010000 00000000 000100a0",
         b"walk 00010000 00010003 beyond",
     ),
+    (
+        b"walk 00010000 00000000 00010080",
+        b"walk 00010000 00010003 beyond",
+    ),
     (b"walk 00010000 00000000", b"walk 00010000 00010003 more"),
     (b"walk 00010000", b"walk 00010000 more"),
     (b"walk 00010040 00000000", b"walk 00010040 stop"),
@@ -70,9 +75,10 @@ const MASKED_JUMP: [Row; 9] = [
 ];
 
 /// A branch, which the choice 0 doesn't take.
-const BRANCH: [Row; 3] = [
+const BRANCH: [Row; 4] = [
     (b"create 00010000 741e*", b"ok"),
     (b"walk 00010000 00000001", b"walk 00010000 00010020 stop"),
+    (b"walk 00010000 ffffffff", b"walk 00010000 00010020 stop"),
     (b"walk 00010000 00000000", b"walk 00010000 00010002 more"),
 ];
 
@@ -94,7 +100,7 @@ const FAULTS: [Row; 10] = [
 ];
 
 /// Lines of no known form: other words, other spaces, digits too few or too many, bytes that are not valid UTF-8.
-const BAD_LINES: [&[u8]; 56] = [
+static BAD_LINES: [&[u8]; 56] = [
     b"",
     b" ",
     b"DUMP",
@@ -167,13 +173,18 @@ fn scripts(rt: HostRuntime) -> Result<(), Fail> {
     Ok(())
 }
 
-#[test]
-fn bad_lines(rt: HostRuntime) -> Result<(), Fail> {
-    for line in BAD_LINES {
-        let rows: [Row; 2] = [(line, b"bad line"), (b"dump", b"dump")];
-        replies_as_owed(rt.alloc(), &rows, 1)?;
+/// Each of these lines is bad, and the next one is answered.
+fn are_bad(alloc: Global, lines: &[&'static [u8]]) -> Result<(), Fail> {
+    for line in lines {
+        let rows: [Row; 2] = [(*line, b"bad line"), (b"dump", b"dump")];
+        replies_as_owed(alloc, &rows, 1)?;
     }
     Ok(())
+}
+
+#[test]
+fn bad_lines(rt: HostRuntime) -> Result<(), Fail> {
+    are_bad(rt.alloc(), &BAD_LINES)
 }
 
 /// Inputs with and without an end of the last line, and none at all.
@@ -187,13 +198,18 @@ fn last_lines(rt: HostRuntime) -> Result<(), Fail> {
         (b"dump\n\n", b"dump\nbad line\n"),
         (b"dump\n ", b"dump\nbad line\n"),
     ] {
-        let mut written = Vec::new(rt.alloc());
-        let mut reader = input;
-        let result = replay(rt.alloc(), &mut reader, &mut written, 4, 1);
-        assert_eq!(rt; result, Ok(()));
-        assert_eq!(rt; written.as_slice(), owed);
+        is_owed(&written(rt.alloc(), input, 1)?, owed)?;
     }
     Ok(())
+}
+
+/// A line that creates, with this many digits, and another one.
+fn long_line(alloc: Global, digits: usize) -> Result<Vec<u8>, AllocError> {
+    let mut input = Vec::new(alloc);
+    input.extend_from_slice(b"create 00010000 ")?;
+    input.resize(digits.wrapping_add(16), b'9')?;
+    input.extend_from_slice(b"\ndump")?;
+    Ok(input)
 }
 
 /// A line of 1,048,576 bytes is still read: its chunk of 524,280 bytes isn't whole bundles. A longer one isn't.
@@ -204,55 +220,8 @@ fn long_create(rt: HostRuntime) -> Result<(), Fail> {
         (1_048_562, b"bad line\ndump\n"),
         (2_097_152, b"bad line\ndump\n"),
     ] {
-        let mut input = Vec::new(rt.alloc());
-        input.extend_from_slice(b"create 00010000 ")?;
-        input.resize(digits.wrapping_add(16), b'9')?;
-        input.extend_from_slice(b"\ndump")?;
-        let mut written = Vec::new(rt.alloc());
-        let mut reader = input.as_slice();
-        let result = replay(rt.alloc(), &mut reader, &mut written, 4, 1);
-        assert_eq!(rt; result, Ok(()));
-        assert_eq!(rt; written.as_slice(), owed);
-    }
-    Ok(())
-}
-
-/// Three lines, of which the second asks for nothing, and their answers.
-const THREE: (&[u8], &[u8]) = (
-    b"walk 00010000\nrecl\ndump\n",
-    b"walk 00010000 stop\nbad line\ndump\n",
-);
-
-/// A read fails: the answers to the lines that have ended stand written.
-#[test]
-fn failed_reads(rt: HostRuntime) -> Result<(), Fail> {
-    for (fails_at, owed) in [
-        (0usize, 0usize),
-        (13, 0),
-        (14, 19),
-        (18, 19),
-        (19, 28),
-        (23, 28),
-        (24, 33),
-    ] {
-        let mut written = Vec::new(rt.alloc());
-        let mut reader = Pieces::failing(THREE.0, fails_at);
-        let result = replay(rt.alloc(), &mut reader, &mut written, 4, 1);
-        assert_eq!(rt; result, Err(ReplayFault::ReadFailed));
-        assert_eq!(rt; Some(written.as_slice()), THREE.1.get(..owed));
-    }
-    Ok(())
-}
-
-/// Each write fails or takes nothing: what went before stands written.
-#[test]
-fn failed_writes(rt: HostRuntime) -> Result<(), Fail> {
-    for fails_at in 0..33usize {
-        let mut reader = THREE.0;
-        let mut writer = Slow::failing(rt.alloc(), fails_at, fails_at % 2 == 0, true);
-        let result = replay(rt.alloc(), &mut reader, &mut writer, 4, 1);
-        assert_eq!(rt; result, Err(ReplayFault::WriteFailed));
-        assert_eq!(rt; Some(writer.out.as_slice()), THREE.1.get(..fails_at));
+        let input = long_line(rt.alloc(), digits)?;
+        is_owed(&written(rt.alloc(), &input, 1)?, owed)?;
     }
     Ok(())
 }

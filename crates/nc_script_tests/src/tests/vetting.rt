@@ -2,9 +2,9 @@
 
 use crate::tests::calls::vet;
 use crate::tests::fakes::{Pieces, Slow};
-use crate::tests::rows::{Row, input_and_owed};
+use crate::tests::rows::{Row, ended, input_and_owed};
 use nc_script::ReplayFault;
-use std::alloc::Global;
+use std::alloc::{AllocError, Global};
 use std::sync::Wait;
 use std::test::Fail;
 use std::thread::Threads;
@@ -72,54 +72,107 @@ fn verdicts(rt: HostRuntime) -> Result<(), Fail> {
     vets(&rt, rt.alloc(), &[])
 }
 
+/// A line of this length, nearly all of it digits, and one without an end.
+fn long_and_last(alloc: Global, length: usize) -> Result<Vec<u8>, AllocError> {
+    let mut input = Vec::new(alloc);
+    input.extend_from_slice(b"00010000 ")?;
+    input.resize(length, b'9')?;
+    input.extend_from_slice(b"\n00010001 -")?;
+    Ok(input)
+}
+
+/// The verdicts on such lines.
+fn try_long<T: Threads + Wait + Sync>(
+    rt: &T,
+    alloc: Global,
+    length: usize,
+    owed: &[u8],
+) -> Result<(), Fail> {
+    let input = long_and_last(alloc, length)?;
+    let mut written = Vec::new(alloc);
+    let mut reader = input.as_slice();
+    let answer = vet(rt, alloc, &mut reader, &mut written, 2_097_152, 4);
+    ended(answer, Ok(()), &written, Some(owed))
+}
+
 /// A last line without its end is a line, and reading goes on after a line that is too long.
 #[test]
 fn long_and_last_lines(rt: HostRuntime) -> Result<(), Fail> {
-    for (digits, owed) in [
-        (1_048_567usize, b"bad line\nrefused BadBase\n".as_slice()),
-        (1_048_566, b"refused BadLength\nrefused BadBase\n"),
-        (1_048_568, b"bad line\nrefused BadBase\n"),
-        (3_000_000, b"bad line\nrefused BadBase\n"),
+    for (length, owed) in [
+        (1_048_576usize, b"bad line\nrefused BadBase\n".as_slice()),
+        (1_048_575, b"refused BadLength\nrefused BadBase\n"),
+        (1_048_577, b"bad line\nrefused BadBase\n"),
+        (3_000_009, b"bad line\nrefused BadBase\n"),
     ] {
-        let mut input = Vec::new(rt.alloc());
-        input.extend_from_slice(b"00010000 ")?;
-        input.resize(digits.wrapping_add(9), b'9')?;
-        input.extend_from_slice(b"\n00010001 -")?;
-        let mut written = Vec::new(rt.alloc());
-        let mut reader = input.as_slice();
-        let result = vet(&rt, rt.alloc(), &mut reader, &mut written, 2_097_152, 4);
-        assert_eq!(rt; result, Ok(()));
-        assert_eq!(rt; written.as_slice(), owed);
+        try_long(&rt, rt.alloc(), length, owed)?;
     }
     Ok(())
 }
 
-/// A read fails at each place: nothing is written.
+/// A read fails: nothing is written.
+fn try_read<T: Threads + Wait + Sync>(
+    rt: &T,
+    alloc: Global,
+    input: &[u8],
+    fails_at: usize,
+) -> Result<(), Fail> {
+    let mut written = Vec::new(alloc);
+    let mut reader = Pieces::failing(input, fails_at);
+    let answer = vet(rt, alloc, &mut reader, &mut written, 4, 2);
+    ended(answer, Err(ReplayFault::ReadFailed), &written, Some(b""))
+}
+
+/// A read fails at each place.
 #[test]
 fn failed_reads(rt: HostRuntime) -> Result<(), Fail> {
     let (input, _) = input_and_owed(rt.alloc(), &TWO)?;
     for fails_at in 0..input.len() {
-        let mut written = Vec::new(rt.alloc());
-        let mut reader = Pieces::failing(input.as_slice(), fails_at);
-        let result = vet(&rt, rt.alloc(), &mut reader, &mut written, 4, 2);
-        assert_eq!(rt; result, Err(ReplayFault::ReadFailed));
-        assert!(rt; written.is_empty());
+        try_read(&rt, rt.alloc(), &input, fails_at)?;
     }
     Ok(())
 }
 
-/// A write fails or takes nothing at each place, or the flush fails: a beginning of the verdicts is written.
+/// A write fails or takes nothing, or the flush fails: a prefix of the verdicts is written.
+fn try_write<T: Threads + Wait + Sync>(
+    rt: &T,
+    alloc: Global,
+    input: &[u8],
+    owed: &[u8],
+    fails_at: usize,
+) -> Result<(), Fail> {
+    let mut reader = input;
+    let mut writer = Slow::failing(alloc, fails_at, fails_at % 2 == 0, false);
+    let answer = vet(rt, alloc, &mut reader, &mut writer, 4, 2);
+    let due = owed.get(..fails_at);
+    ended(answer, Err(ReplayFault::WriteFailed), &writer.out, due)
+}
+
+/// A write fails or takes nothing at each place, or the flush fails.
 #[test]
 fn failed_writes(rt: HostRuntime) -> Result<(), Fail> {
     let (input, owed) = input_and_owed(rt.alloc(), &THREE)?;
     for fails_at in 0..owed.len() + 1 {
-        let mut reader = input.as_slice();
-        let mut writer = Slow::failing(rt.alloc(), fails_at, fails_at % 2 == 0, false);
-        let result = vet(&rt, rt.alloc(), &mut reader, &mut writer, 4, 2);
-        assert_eq!(rt; result, Err(ReplayFault::WriteFailed));
-        assert_eq!(rt; Some(writer.out.as_slice()), owed.get(..fails_at));
+        try_write(&rt, rt.alloc(), &input, &owed, fails_at)?;
     }
     Ok(())
+}
+
+/// Read and written in pieces of this size: all verdicts, and one flush.
+fn try_pieces<T: Threads + Wait + Sync>(
+    rt: &T,
+    alloc: Global,
+    input: &[u8],
+    owed: &[u8],
+    size: usize,
+) -> Result<(), Fail> {
+    let mut reader = Pieces::new(input, size);
+    let mut writer = Slow::new(alloc, size, true);
+    let answer = vet(rt, alloc, &mut reader, &mut writer, 4, 3);
+    ended(answer, Ok(()), &writer.out, Some(owed))?;
+    if writer.flushed == 1 {
+        return Ok(());
+    }
+    Err(Fail::new("not flushed once"))
 }
 
 /// Whatever the sizes of reads and writes: everything is read before the first write, and the writer is flushed once.
@@ -127,12 +180,7 @@ fn failed_writes(rt: HostRuntime) -> Result<(), Fail> {
 fn any_pieces(rt: HostRuntime) -> Result<(), Fail> {
     let (input, owed) = input_and_owed(rt.alloc(), &FAULTS)?;
     for size in 1..6usize {
-        let mut reader = Pieces::new(input.as_slice(), size);
-        let mut writer = Slow::new(rt.alloc(), size, true);
-        let result = vet(&rt, rt.alloc(), &mut reader, &mut writer, 4, 3);
-        assert_eq!(rt; result, Ok(()));
-        assert_eq!(rt; writer.flushed, 1);
-        assert_eq!(rt; writer.out.as_slice(), owed.as_slice());
+        try_pieces(&rt, rt.alloc(), &input, &owed, size)?;
     }
     Ok(())
 }
