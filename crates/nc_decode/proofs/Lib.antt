@@ -28,3 +28,4 @@ pub mod StageMeanings
 pub mod StageSteps
 pub mod Runs
 pub mod Growth
+pub mod BundleWords

@@ -8,4 +8,5 @@ pub use Rattle.nc_decode.proofs.Readings.{spells_some}
 pub use Rattle.nc_decode.proofs.Runs.{reads_by_states, none_is_paired}
 pub use Rattle.nc_decode.proofs.Stages.{next_small}
 pub use Rattle.nc_decode.proofs.Growth.{IsPartOf, first_is_part, spelled_by_more}
+pub use Rattle.nc_decode.proofs.BundleWords.{start_word, second_word, length-marks_in, marks_in-at}
 pub use Rattle.nc_decode.proofs.BoolTests.{true_or_false, both, cond_is_true, cond_is_false}

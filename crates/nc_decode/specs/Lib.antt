@@ -7,3 +7,4 @@ pub mod Bundles
 pub mod Transfers
 pub mod Front
 pub mod Automaton
+pub mod Bits

@@ -23,6 +23,7 @@
 #![tactic(auto)]
 
 mod automaton;
+mod bundle;
 mod bundles;
 mod decoding;
 mod entries;
@@ -36,6 +37,7 @@ mod table;
 mod transfer;
 
 pub use automaton::{AFTER_MASK, AFTER_NEAR, AFTER_PAIR, AFTER_SHORT, DEAD, END, STATES, advance};
+pub use bundle::{Bundle, bundle_at};
 pub use bundles::{
     BUNDLE, MAX_BUNDLES, MIN_BUNDLES, START, bundle_rest, is_bundle_start, is_lawful_limit,
     is_region_size,

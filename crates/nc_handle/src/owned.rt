@@ -3,7 +3,7 @@
 ghost use Rattle.std.specs.Prelude.{◌≡◌, None};
 ghost use Rattle.std.specs.Arc.{arc_value};
 
-use nc_decode::Mark;
+use nc_decode::{Bundle, Mark};
 use nc_gens::{Gens, GensFull, Keeper, Pass};
 use nc_region::Acts;
 use nc_text::{Text, TextFault};
@@ -75,6 +75,11 @@ impl Acts for Owned {
 
     fn mark_span(&mut self, at: u32, marks: &[Mark]) {
         self.text.mark_span(at, marks);
+    }
+
+    fn mark_bundles(&mut self, at: u32, code: &[u8], bundles: &[Bundle]) -> bool {
+        self.text.mark_bundles(at, code, bundles);
+        true
     }
 
     fn unmark_span(&mut self, at: u32, len: u32) {

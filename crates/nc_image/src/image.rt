@@ -4,7 +4,7 @@ ghost use Rattle.std.specs.Prelude.{◌≡◌, ◌+◌, ◌*◌, ◌↔◌, None
 ghost use Rattle.nc_decode.specs.Bundles.{IsLawfulLimit};
 ghost use Rattle.nc_text.specs.MarkedText.{unused_text};
 
-use nc_decode::{BUNDLE, Mark, START};
+use nc_decode::{BUNDLE, Bundle, Mark, START};
 use nc_gens::{Gens, GensFull, Keeper, Pass};
 use nc_region::{Acts, Plain, RegionFault};
 use nc_text::{Text, TextFault};
@@ -93,6 +93,10 @@ impl<'g> Acts for Image<'g> {
 
     fn mark_span(&mut self, at: u32, marks: &[Mark]) {
         self.plain.mark_span(at, marks);
+    }
+
+    fn mark_bundles(&mut self, at: u32, code: &[u8], bundles: &[Bundle]) -> bool {
+        self.plain.mark_bundles(at, code, bundles)
     }
 
     fn unmark_span(&mut self, at: u32, len: u32) {

@@ -1,9 +1,10 @@
 //! The text and the generations behind a region, by its acts.
 
 ghost use Rattle.std.specs.Prelude.{◌≡◌, ◌+◌, ◌%◌, ◌^◌, ◌<◌, ◌≤◌, ◌↔◌, ℕ, List, [], ◌∷◌, Option, length, take, All, IsOk, IfOk, IfErr};
-ghost use Rattle.std.specs.Prelude.{IsTrue, OnOk, OnErr, Bool};
+ghost use Rattle.std.specs.Prelude.{IsTrue, OnOk, OnErr, Bool, false};
 ghost use Rattle.std.specs.Int.{bit_at};
 ghost use Rattle.nc_decode.specs.declared.instruction.Mark.{Mark};
+ghost use Rattle.nc_decode.specs.Bits.{marks_in};
 ghost use Rattle.nc_decode.specs.Bundles.{IsBundleStart};
 ghost use Rattle.nc_text.specs.Marks.{IsClosed, mark_at, mark_bit};
 ghost use Rattle.nc_text.specs.Places.{InRegion, SpanInRegion, byte_at, limit_of};
@@ -18,7 +19,7 @@ ghost use Rattle.nc_region.specs.Acts.{Tells, puts_where};
 ghost use Rattle.nc_region.specs.Log.{Logs, unsettled};
 ghost use Rattle.nc_region.specs.Patch.{any_place};
 
-use nc_decode::Mark;
+use nc_decode::{Bundle, Mark};
 use nc_gens::{GensFull, Pass};
 use nc_text::TextFault;
 
@@ -144,6 +145,34 @@ pub trait Acts {
         ensures keeper { keeper self.new ≡ keeper self.old }
         ensures told { Tells (told self.old) (told self.new) (Act.MarkSpan at (length marks.now) ∷ []) }
         ensures logged { Logs (logged self.old) (logged self.new) (Entry.Did (Act.MarkSpan at (length marks.now)) ∷ []) };
+
+    /// Sets the marks of a chunk's span by the bits of its bundles and answers true, or does nothing and answers false: then
+    /// `mark_span` sets them by a list. It is told and logged as `mark_span` is.
+    ///
+    /// As it stands here, it does nothing. Whoever keeps marks as bits is faster with it.
+    fn mark_bundles(&mut self, at: u32, code: &[u8], bundles: &[Bundle]) -> bool
+        requires inside { SpanInRegion (marked self.old).bytes at (length code.now) }
+        requires start { IsBundleStart at }
+        requires whole { length code.now % 32 ≡ 0 }
+        requires ready { AreReady (made self.old) at (length code.now) }
+        requires keeps { KeepsMarks (marked self.old).marks
+            (with_marks (marked self.old) at (marks_in code.now bundles.now)).marks }
+        requires closed { IsClosed (marked self.old).bytes
+            (with_marks (marked self.old) at (marks_in code.now bundles.now)).marks }
+        ensures marked { IsTrue result → marked self.new ≡ with_marks (marked self.old) at (marks_in code.now bundles.now) }
+        ensures told { IsTrue result → Tells (told self.old) (told self.new) (Act.MarkSpan at (length code.now) ∷ []) }
+        ensures logged { IsTrue result
+            → Logs (logged self.old) (logged self.new) (Entry.Did (Act.MarkSpan at (length code.now)) ∷ []) }
+        ensures unchanged { result ≡ false → (marked self.new ≡ marked self.old) × (told self.new ≡ told self.old)
+            × (logged self.new ≡ logged self.old) }
+        ensures made { made self.new ≡ made self.old }
+        ensures whole { IsText (marked self.new) }
+        ensures keeper { keeper self.new ≡ keeper self.old }
+    {
+        // Called for what it ensures.
+        let _facts = self.limit();
+        false
+    }
 
     /// Takes the marks of a span back, except for its bundle starts.
     fn unmark_span(&mut self, at: u32, len: u32)

@@ -1,11 +1,12 @@
 //! A chunk put into a text that threads are running.
 
-ghost use Rattle.std.specs.Prelude.{◌≡◌, ◌+◌, ◌-◌, ◌<◌, ◌≤◌, ◌^◌, ℕ, List, [], ◌∷◌, ◌++◌, length, All};
+ghost use Rattle.std.specs.Prelude.{◌≡◌, ◌+◌, ◌-◌, ◌<◌, ◌≤◌, ◌^◌, ℕ, List, [], ◌∷◌, ◌++◌, length, vec_capacity, All, IsTrue, false};
 ghost use Rattle.nc_decode.specs.declared.instruction.Mark.{Mark};
 ghost use Rattle.nc_text.specs.Marks.{IsClosed};
 ghost use Rattle.nc_text.specs.Places.{limit_of};
 ghost use Rattle.nc_text.specs.Ready.{AreReady};
-ghost use Rattle.nc_text.specs.MarkedText.{MarkedText, IsText, with_span, NamesRegister};
+ghost use Rattle.nc_text.specs.MarkedText.{MarkedText, IsText, with_span, with_marks, KeepsMarks, NamesRegister};
+ghost use Rattle.nc_region.specs.declared.acts.Act.{Act};
 ghost use Rattle.nc_region.specs.declared.acts.Entry.{Entry};
 ghost use Rattle.nc_region.specs.Acts.{Tells, puts_where, is_inside, is_start, acts_of_create};
 ghost use Rattle.nc_region.specs.Log.{Logs, unsettled, log_of_create};
@@ -14,15 +15,24 @@ ghost use Rattle.nc_region.specs.machinery.Between.{IsUnused, HasPut, IsFinalBut
 
 use crate::acts::Acts;
 use nc_decode::Mark;
+use nc_vet::Vetted;
 
 /// Creates a chunk that is closed by itself in an unused span.
-pub(crate) fn put_chunk<A: Acts>(acts: &mut A, base: u32, code: &[u8], marks: &[Mark])
+pub(crate) fn put_chunk<A: Acts>(
+    acts: &mut A,
+    base: u32,
+    code: &[u8],
+    vetted: &Vetted,
+    room: Vec<Mark>,
+)
     requires whole { IsText (A.marked acts.old) }
-    requires chunk { IsClosedChunk base (limit_of (A.marked acts.old).bytes) code.now marks.now }
-    requires registers { All NamesRegister marks.now }
+    requires code { code.now ≡ vetted.now.code }
+    requires room { (room.items ≡ []) × (length code.now ≤ vec_capacity room) }
+    requires chunk { IsClosedChunk base (limit_of (A.marked acts.old).bytes) code.now vetted.now.marks }
+    requires registers { All NamesRegister vetted.now.marks }
     requires unused { IsUnused (A.marked acts.old) base (length code.now) }
     requires ready { AreReady (A.made acts.old) base (length code.now) }
-    ensures marked { A.marked acts.new ≡ with_chunk (A.marked acts.old) base code.now marks.now }
+    ensures marked { A.marked acts.new ≡ with_chunk (A.marked acts.old) base code.now vetted.now.marks }
     ensures whole { IsText (A.marked acts.new) }
     ensures made { A.made acts.new ≡ A.made acts.old }
     ensures keeper { A.keeper acts.new ≡ A.keeper acts.old }
@@ -30,8 +40,69 @@ pub(crate) fn put_chunk<A: Acts>(acts: &mut A, base: u32, code: &[u8], marks: &[
     ensures log { Logs (A.logged acts.old) (A.logged acts.new) (log_of_create base code.now) }
 {
     put_inside(acts, base, code);
-    acts.mark_span(base, marks);
+    mark_chunk(acts, base, vetted, room);
     put_starts(acts, base, code);
+}
+
+/// Sets the marks of a chunk's span: by bits, where both sides keep them, and else by a list, for which there is room.
+fn mark_chunk<A: Acts>(acts: &mut A, base: u32, vetted: &Vetted, room: Vec<Mark>)
+    requires room { (room.items ≡ []) × (length vetted.now.code ≤ vec_capacity room) }
+    requires whole { IsText (A.marked acts.old) }
+    requires placed { HasGoodSpan base (limit_of (A.marked acts.old).bytes) (length vetted.now.code) }
+    requires as_long { length vetted.now.marks ≡ length vetted.now.code }
+    requires ready { AreReady (A.made acts.old) base (length vetted.now.code) }
+    requires registers { All NamesRegister vetted.now.marks }
+    requires keeps { KeepsMarks (A.marked acts.old).marks (with_marks (A.marked acts.old) base vetted.now.marks).marks }
+    requires closed { IsClosed (A.marked acts.old).bytes (with_marks (A.marked acts.old) base vetted.now.marks).marks }
+    ensures marked { A.marked acts.new ≡ with_marks (A.marked acts.old) base vetted.now.marks }
+    ensures made { A.made acts.new ≡ A.made acts.old }
+    ensures whole { IsText (A.marked acts.new) }
+    ensures keeper { A.keeper acts.new ≡ A.keeper acts.old }
+    ensures told { Tells (A.told acts.old) (A.told acts.new) (Act.MarkSpan base (length vetted.now.code) ∷ []) }
+    ensures logged { Logs (A.logged acts.old) (A.logged acts.new) (Entry.Did (Act.MarkSpan base (length vetted.now.code)) ∷ []) }
+{
+    if marked_by_bits(acts, base, vetted) {
+        return;
+    }
+    let marks = listed(vetted, room);
+    acts.mark_span(base, &marks);
+}
+
+/// Sets the marks of a chunk's span by bits, where both sides keep them, and answers whether they do.
+fn marked_by_bits<A: Acts>(acts: &mut A, base: u32, vetted: &Vetted) -> bool
+    requires placed { HasGoodSpan base (limit_of (A.marked acts.old).bytes) (length vetted.now.code) }
+    requires whole { IsText (A.marked acts.old) }
+    requires ready { AreReady (A.made acts.old) base (length vetted.now.code) }
+    requires keeps { KeepsMarks (A.marked acts.old).marks (with_marks (A.marked acts.old) base vetted.now.marks).marks }
+    requires closed { IsClosed (A.marked acts.old).bytes (with_marks (A.marked acts.old) base vetted.now.marks).marks }
+    ensures marked { IsTrue result → A.marked acts.new ≡ with_marks (A.marked acts.old) base vetted.now.marks }
+    ensures told { IsTrue result
+        → Tells (A.told acts.old) (A.told acts.new) (Act.MarkSpan base (length vetted.now.code) ∷ []) }
+    ensures logged { IsTrue result
+        → Logs (A.logged acts.old) (A.logged acts.new) (Entry.Did (Act.MarkSpan base (length vetted.now.code)) ∷ []) }
+    ensures unchanged { result ≡ false → (A.marked acts.new ≡ A.marked acts.old) × (A.told acts.new ≡ A.told acts.old)
+        × (A.logged acts.new ≡ A.logged acts.old) }
+    ensures made { A.made acts.new ≡ A.made acts.old }
+    ensures whole { IsText (A.marked acts.new) }
+    ensures keeper { A.keeper acts.new ≡ A.keeper acts.old }
+{
+    match vetted.bundles() {
+        Some(bundles) => acts.mark_bundles(base, vetted.code(), bundles),
+        None => false,
+    }
+}
+
+/// The marks of a chunk, in a list that has room for them.
+fn listed(vetted: &Vetted, room: Vec<Mark>) -> Vec<Mark>
+    requires room { (room.items ≡ []) × (length vetted.now.code ≤ vec_capacity room) }
+    requires as_long { length vetted.now.marks ≡ length vetted.now.code }
+    ensures { result.items ≡ vetted.now.marks }
+{
+    let mut marks = room;
+    for i in 0..vetted.code().len() {
+        marks.push_reserved(vetted.mark(i));
+    }
+    marks
 }
 
 /// Puts the bytes that aren't bundle starts, rising, and settles. Those of one bundle are one run.

@@ -230,13 +230,13 @@ impl<A: Acts + Drop> RegionOf<A> {
         if self.chunks.reserve(1).is_err() {
             return Err((vetted, CreateFault::OutOfMemory));
         }
-        let Ok(marks) = vetted.marks(*self.chunks.allocator()) else {
+        let Ok(room) = Vec::with_capacity(*self.chunks.allocator(), length as usize) else {
             return Err((vetted, CreateFault::OutOfMemory));
         };
         if self.acts.ready(base, length).is_err() {
             return Err((vetted, CreateFault::OutOfMemory));
         }
-        put_chunk(&mut self.acts, base, vetted.code(), &marks);
+        put_chunk(&mut self.acts, base, vetted.code(), &vetted, room);
         let chunk = Chunk {
             base,
             length,

@@ -13,8 +13,8 @@ use lib.Lanes.{mask_l}
 use Rattle.nc_decode.specs.declared.instruction.Mark.{Mark}
 use Rattle.nc_decode.specs.declared.instruction.Mark.TheVariants.{Unmarked, Plain, After}
 use Rattle.nc_lines.proofs.Offered.{eqb_no}
-use Rattle.nc_vet.specs.declared.bundle.Bundle.{Bundle}
-use Rattle.nc_vet.specs.Bits.{is_start, is_second, no_bits, bit_mark, mark_at, marks_in}
+use Rattle.nc_decode.specs.declared.bundle.Bundle.{Bundle}
+use Rattle.nc_decode.specs.Bits.{is_start, is_second, no_bits, bit_mark, mark_at, marks_in}
 use Rattle.nc_report.specs.machinery.Counts.{one, begins_at, begun_in}
 
 -- ---- one bundle

@@ -1,13 +1,13 @@
 //! The marks of one bundle, as masks.
 
-ghost use Rattle.std.specs.Prelude.{◌≡◌, ◌≢◌, ℕ, ◌+◌, ◌*◌, ◌^◌, ◌<◌, if◌then◌else◌, length, slice_index_or};
+ghost use Rattle.std.specs.Prelude.{◌≡◌, ◌≢◌, ℕ, ◌+◌, ◌*◌, ◌^◌, ◌<◌, if◌then◌else◌, length, slice_index, slice_index_or};
 ghost use Rattle.std.specs.Int.{bit_at};
 ghost use Rattle.nc_decode.specs.declared.instruction.Mark.{Mark};
 ghost use Rattle.nc_text.specs.MarkedText.{unused_mark};
 ghost use Rattle.nc_text.specs.machinery.Masks.{plain_bit, second_bit};
 
 use crate::places::lowest_place;
-use nc_decode::Mark;
+use nc_decode::{Bundle, Mark};
 
 /// The marks of the 32 places of a bundle, a bit for each place in each mask.
 #[derive(Clone, Copy)]
@@ -25,7 +25,8 @@ pub(crate) struct Masks {
 }
 
 impl Masks {
-    ghost use Rattle.std.specs.Prelude.{◌≡◌, ◌≢◌, ℕ, ◌+◌, ◌<◌, ◌≤◌, ◌⊎◌, All, length, slice_index_or};
+    ghost use Rattle.std.specs.Prelude.{◌≡◌, ◌≢◌, ℕ, ◌+◌, ◌^◌, ◌<◌, ◌≤◌, ◌⊎◌, All, length, slice_index, slice_index_or};
+    ghost use Rattle.nc_decode.specs.Bits.{bit_mark};
     ghost use Rattle.nc_decode.specs.declared.instruction.Mark.TheVariants.{Unmarked};
     ghost use Rattle.std.specs.Int.{bit_at};
     ghost use Rattle.nc_text.specs.Marks.{mark_bit};
@@ -108,6 +109,30 @@ impl Masks {
         masks
     }
 
+    /// The marks of a bundle by the bits of its instructions. The bundle begins at the place `start` of its chunk's code, and the
+    /// byte after the first of a second half names its register.
+    pub(crate) fn of_bits(bundle: Bundle, code: &[u8], start: usize) -> Self
+        requires { start + 32 < 2 ^ 63 }
+        ensures { (k : ℕ) → k < 32 → mark_in result k ≡ bit_mark bundle k (slice_index code.now (start + k + 1)) }
+    {
+        let mut masks = Masks {
+            // An instruction begins at the first place, and behind each end but that of the whole bundle.
+            starts: 2 * (bundle.ends % 0x8000_0000) + 1,
+            seconds: 0,
+            low: 0,
+            middle: 0,
+            high: 0,
+        };
+        let mut left = bundle.pairs / 2;
+        while left != 0 {
+            let (at, others) = lowest_place(left);
+            let next = byte_or_zero(code, start + at as usize + 1);
+            masks.set(at, Mark::After(next % 8));
+            left = others;
+        }
+        masks
+    }
+
     /// Sets the marks of the places from one on.
     pub(crate) fn set_from(&mut self, from: u32, marks: &[Mark])
         requires inside { from + length marks.now ≤ 32 }
@@ -178,6 +203,13 @@ fn both_bits(mark: Mark) -> u64
         Mark::Plain => 1,
         Mark::After(_) => 0x1_0000_0000,
     }
+}
+
+/// A byte of the code, or 0 after the last.
+fn byte_or_zero(code: &[u8], k: usize) -> u8
+    ensures { result ≡ slice_index code.now k }
+{
+    if k < code.len() { code[k] } else { 0 }
 }
 
 /// One bit of a mask.

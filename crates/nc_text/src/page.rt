@@ -27,6 +27,7 @@ impl Page {
     ghost use Rattle.std.specs.Int.{bit_at};
     ghost use Rattle.nc_text.specs.Marks.{mark_bit};
     ghost use Rattle.nc_text.specs.machinery.Pages.{byte_on, mark_on};
+    ghost use Rattle.nc_text.specs.machinery.Masks.{mark_in};
     ghost use Rattle.nc_text.specs.MarkedText.{unused_mark, NamesRegister};
 
     /// A page of stops, of which only bundle starts are marked.
@@ -97,6 +98,17 @@ impl Page {
         ensures bytes { (k : ℕ) → byte_on self.new k ≡ byte_on self.old k }
     {
         self.masks[at / 32].set_from((at % 32) as u32, marks);
+    }
+
+    /// Sets the marks of the bundle that starts at a place.
+    pub(crate) fn set_bundle(&mut self, at: usize, masks: Masks)
+        requires inside { at < 4096 }
+        requires start { at % 32 ≡ 0 }
+        ensures within { (k : ℕ) → k < 32 → mark_on self.new (at + k) ≡ mark_in masks k }
+        ensures others { (k : ℕ) → (k < at) ⊎ (at + 32 ≤ k) → mark_on self.new k ≡ mark_on self.old k }
+        ensures bytes { (k : ℕ) → byte_on self.new k ≡ byte_on self.old k }
+    {
+        self.masks[at / 32] = masks;
     }
 
     /// Leaves only bundle starts marked in a span that lies in one bundle.

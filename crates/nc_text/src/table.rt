@@ -4,13 +4,15 @@ ghost use Rattle.std.specs.Prelude.{◌≡◌, ◌≢◌, ℕ, ◌+◌, ◌/◌,
 ghost use Rattle.std.specs.Prelude.{slice_index, slice_index_or, replicate, ◌^◌};
 ghost use Rattle.nc_decode.specs.declared.instruction.Mark.TheVariants.{Unmarked};
 ghost use Rattle.std.specs.Int.{bit_at};
+ghost use Rattle.nc_decode.specs.Bits.{bit_mark, mark_at};
 ghost use Rattle.std.specs.Option.{is_some};
 ghost use Rattle.nc_text.specs.Marks.{mark_bit};
 ghost use Rattle.nc_text.specs.machinery.Pages.{byte_on, mark_on, byte_of, mark_of, page_of};
 ghost use Rattle.nc_text.specs.MarkedText.{unused_mark, NamesRegister};
 
+use crate::masks::Masks;
 use crate::page::{PAGE, Page};
-use nc_decode::Mark;
+use nc_decode::{Bundle, Mark, bundle_at};
 use std::alloc::{AllocError, Global};
 
 /// The places of one bundle.
@@ -137,6 +139,50 @@ pub(crate) fn set_span(pages: &mut [Option<Box<Page>>], start: usize, marks: &[M
         let part = (BUNDLE - at % BUNDLE).min(marks.len() - done);
         set_part(pages, at, &marks[done..done + part]);
         done += part;
+    }
+}
+
+/// Sets the marks of a bundle on a page that is made, by the bits of its instructions. It begins at the place `start` of its
+/// chunk's code.
+fn set_bundle(pages: &mut [Option<Box<Page>>], at: usize, bundle: Bundle, code: &[u8], start: usize)
+    requires ready { is_some (page_of pages.old at) ≡ true }
+    requires whole { at % 32 ≡ 0 }
+    requires fits { start + 32 < 2 ^ 63 }
+    ensures within { (k : ℕ) → k < 32 → mark_of pages.new (at + k) ≡ bit_mark bundle k (slice_index code.now (start + k + 1)) }
+    ensures others { (k : ℕ) → (k < at) ⊎ (at + 32 ≤ k) → mark_of pages.new k ≡ mark_of pages.old k }
+    ensures bytes { (k : ℕ) → byte_of pages.new k ≡ byte_of pages.old k }
+    ensures made { map is_some pages.new ≡ map is_some pages.old }
+{
+    if let Some(page) = &mut pages[at / PAGE] {
+        page.set_bundle(at % PAGE, Masks::of_bits(bundle, code, start));
+    }
+}
+
+/// Sets the marks of a chunk's code, by the bits of its bundles, on pages that are made.
+pub(crate) fn set_bundles(
+    pages: &mut [Option<Box<Page>>],
+    base: usize,
+    code: &[u8],
+    bundles: &[Bundle],
+)
+    requires ready { (k : ℕ) → k < length code.now → is_some (page_of pages.old (base + k)) ≡ true }
+    requires start { base % 32 ≡ 0 }
+    requires whole { length code.now % 32 ≡ 0 }
+    requires fits { base + length code.now < 2 ^ 62 }
+    ensures within { (k : ℕ) → k < length code.now → mark_of pages.new (base + k) ≡ mark_at code.now bundles.now k }
+    ensures below { (k : ℕ) → k < base → mark_of pages.new k ≡ mark_of pages.old k }
+    ensures above { (k : ℕ) → base + length code.now ≤ k → mark_of pages.new k ≡ mark_of pages.old k }
+    ensures bytes { (k : ℕ) → byte_of pages.new k ≡ byte_of pages.old k }
+    ensures made { map is_some pages.new ≡ map is_some pages.old }
+{
+    for n in 0..code.len() / BUNDLE {
+        set_bundle(
+            pages,
+            base + BUNDLE * n,
+            bundle_at(bundles, n),
+            code,
+            BUNDLE * n,
+        );
     }
 }
 

@@ -3,6 +3,7 @@
 ghost use Rattle.std.specs.Prelude.{◌≡◌, ◌+◌, ◌%◌, ◌-◌, ◌*◌, ◌≤◌, ◌<◌, ℕ, List, length, take, IfOk, IfErr, IsTrue, All, ◌↔◌, ◌⊎◌};
 ghost use Rattle.std.specs.Int.{bit_at};
 ghost use Rattle.nc_decode.specs.Bundles.{IsBundleStart, IsLawfulLimit};
+ghost use Rattle.nc_decode.specs.Bits.{marks_in};
 ghost use Rattle.nc_text.specs.Marks.{IsClosed, mark_at, mark_bit};
 ghost use Rattle.nc_text.specs.Places.{InRegion, SpanInRegion, byte_at, limit_of};
 ghost use Rattle.nc_text.specs.MarkedText.{MarkedText, IsText, with_byte, with_bytes, with_marks, without_marks, unused_text, NamesRegister};
@@ -11,7 +12,7 @@ ghost use Rattle.nc_text.specs.Ready.{TextState, IsReady, AreReady, GetsReady, u
 
 use crate::page::{PAGE, Page};
 use crate::table;
-use nc_decode::{MAX_BUNDLES, Mark, START};
+use nc_decode::{Bundle, MAX_BUNDLES, Mark, START};
 use std::alloc::Global;
 use std::marker::Model;
 use thiserror::Error;
@@ -217,6 +218,28 @@ impl Text {
             return;
         }
         table::set_span(&mut self.pages, (at - START) as usize, marks);
+    }
+
+    /// Sets the marks of the span that begins at `at` and is as long as `code`, by the bits of its bundles, as vetting finds
+    /// them. It does what `mark_span` does with the list of these marks, under the same conditions, but needs no list. Of bundles
+    /// that are left out no instruction but the first is known.
+    pub fn mark_bundles(&mut self, at: u32, code: &[u8], bundles: &[Bundle])
+        requires inside { SpanInRegion self.old.marked.bytes at (length code.now) }
+        requires start { IsBundleStart at }
+        requires whole { length code.now % 32 ≡ 0 }
+        requires ready { AreReady self.old.made at (length code.now) }
+        requires keeps { KeepsMarks self.old.marked.marks (with_marks self.old.marked at (marks_in code.now bundles.now)).marks }
+        requires closed { IsClosed self.old.marked.bytes (with_marks self.old.marked at (marks_in code.now bundles.now)).marks }
+        ensures marked { self.new.marked ≡ with_marks self.old.marked at (marks_in code.now bundles.now) }
+        ensures made { self.new.made ≡ self.old.made }
+        ensures whole { IsText self.new.marked }
+    {
+        // Names a field, so that the early return is checked against the fields and not the whole.
+        let _open = &self.pages;
+        if code.is_empty() {
+            return;
+        }
+        table::set_bundles(&mut self.pages, (at - START) as usize, code, bundles);
     }
 
     /// Makes every place of the span of `len` bytes from `at` on `Unmarked` that isn't a bundle start. No byte changes, and no

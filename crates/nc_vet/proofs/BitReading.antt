@@ -15,13 +15,13 @@ use Rattle.nc_decode.specs.declared.instruction.Mark.{Mark}
 use Rattle.nc_decode.specs.declared.instruction.Mark.TheVariants.{Unmarked}
 use Rattle.nc_decode.specs.Transfers.{target}
 use Rattle.nc_decode.specs.Spelling.{mask}
-use Rattle.nc_decode.proofs.Offered.{true_or_false}
+use Rattle.nc_decode.proofs.Offered.{true_or_false, length-marks_in, marks_in-at}
 use Rattle.nc_decode.proofs.Offered.{exact, masks_exactly}
 use Rattle.nc_decode.proofs.Offered.{spells_some}
-use Rattle.nc_vet.specs.declared.bundle.Bundle.{Bundle}
+use Rattle.nc_decode.specs.declared.bundle.Bundle.{Bundle}
 use Rattle.nc_vet.specs.Chunk.{Piece, code_of, place, AreSpelled, FollowsMask, marks_of, IsTarget}
 use Rattle.nc_vet.specs.machinery.Steps.{HasReadTo, HasReadAll, HasJudged}
-use Rattle.nc_vet.specs.Bits.{is_start, is_second, no_bits, mark_at, marks_in}
+use Rattle.nc_decode.specs.Bits.{is_start, is_second, no_bits, mark_at, marks_in}
 use Rattle.nc_vet.specs.machinery.Running.{state_after, before, Tells, AreTold, EndsFront}
 use Rattle.nc_vet.specs.machinery.Scans.{AreStates, second, mark_by, IsDisplaced, IsScanned}
 use Rattle.nc_vet.specs.machinery.Judged.{short_to, near_to, IsGood, AreJudged}
@@ -169,15 +169,6 @@ mark_told : (code : List ℕ) (bundles : List Bundle) (k : ℕ) → Tells code (
 mark_told code bundles k w = rw (second_told code bundles k w, start_told code bundles k w) refl
 
 -- ---- the reading
-
--- there is a mark for each place
-pub length-marks_in : (code : List ℕ) (bundles : List Bundle) → length (marks_in code bundles) ≡ length code
-length-marks_in code bundles = length-map (range_with_len 0 (length code)) (mark_at code bundles) ∙ length-range_with_len 0 (length code)
-
--- the mark of a place
-pub marks_in-at : (code : List ℕ) (bundles : List Bundle) (k : ℕ) (d : Mark) → k < length code
-    → get_or (marks_in code bundles) k d ≡ mark_at code bundles k
-marks_in-at code bundles k d lt = get_or-map-range_with_len (mark_at code bundles) 0 (length code) k k d lt (omega arith)
 
 -- the marks by the bits are those of the scanned instructions
 scanned_marks : (code : List ℕ) (bundles : List Bundle) → AreTold code bundles → length code ≡ 32 * length bundles

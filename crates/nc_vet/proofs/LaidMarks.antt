@@ -9,9 +9,10 @@ use Rattle.std.proofs.lemmas.List.{get_or-set_other, ext_get_or, length-append, 
 use Rattle.std.proofs.Math.ListN.{get_or-append}
 use Rattle.nc_decode.specs.declared.instruction.Mark.{Mark}
 use Rattle.nc_decode.specs.declared.instruction.Mark.TheVariants.{Unmarked, Plain, After}
-use Rattle.nc_vet.specs.declared.bundle.Bundle.{Bundle}
-use Rattle.nc_vet.specs.Bits.{is_start, is_second, no_bits, bit_mark, marks_in}
-use Rattle.nc_vet.proofs.BitReading.{length-marks_in, marks_in-at}
+use Rattle.nc_decode.specs.declared.bundle.Bundle.{Bundle}
+use Rattle.nc_decode.specs.Bits.{is_start, is_second, no_bits, bit_mark, marks_in}
+use Rattle.nc_decode.proofs.Offered.{start_word, second_word}
+use Rattle.nc_decode.proofs.Offered.{length-marks_in, marks_in-at}
 
 -- the first elements, and as many as another list has that is equal to the next ones
 take_with : {X : Type 0} (d : X) (n : ℕ) (xs ys : List X) → n + length ys ≤ length xs
@@ -87,24 +88,6 @@ visited_all bits old F left marks k none (inl still) =
     let clear : bit_at bits k ≡ 0 = sym still.0 ∙ ap (λ (n : ℕ). bit_at n k) none ∙ bit_at-zero k in
     rw clear still.1
 visited_all bits old F left marks k none (inr done) = rw done.0 done.1
-
--- the word of starts: the ends, one place later, and the first place
-pub start_word : (w : Bundle) (k : ℕ) → k < 32 → (bit_at (2 * (w.ends % 2147483648) + 1) k == 1) ≡ is_start w k
-start_word w zero lt = ap (λ (b : ℕ). b == 1) {y = 1} (bit_at_lowest (2 * (w.ends % 2147483648) + 1) ∙ omega arith)
-start_word w (suc j) lt =
-    let low : 2 ^ 31 ≡ 2147483648 = refl in
-    let half : bit_at (2 * (w.ends % 2147483648) + 1) (suc j) ≡ bit_at (w.ends % 2147483648) j =
-    bit_at-suc (2 * (w.ends % 2147483648) + 1) j ∙ ap (λ (n : ℕ). bit_at n j) {y = w.ends % 2147483648} (omega arith) in
-    let cut : bit_at (w.ends / 2147483648 * 2 ^ 31 + w.ends % 2147483648) j ≡ bit_at (w.ends % 2147483648) j =
-    bit_at_cat_low (w.ends / 2147483648) 31 (w.ends % 2147483648) j (omega (arith, lt)) in
-    let whole : w.ends / 2147483648 * 2 ^ 31 + w.ends % 2147483648 ≡ w.ends = omega (arith, low) in
-    let later : (suc j == 0) ≡ false = ne_eqb (suc j) 0 (λ e. omega (arith, e)) in
-    rw later (ap (λ (b : ℕ). b == 1)
-    (half ∙ (sym cut ∙ (ap (λ (n : ℕ). bit_at n j) whole ∙ ap (λ (i : ℕ). bit_at w.ends i) {x = j} {y = suc j - 1} (omega arith)))))
-
--- the word of second halves
-pub second_word : (w : Bundle) (k : ℕ) → (bit_at (w.pairs / 2) k == 1) ≡ is_second w k
-second_word w k = ap (λ (b : ℕ). b == 1) (sym (bit_at-suc w.pairs k) ∙ ap (λ (i : ℕ). bit_at w.pairs i) {x = suc k} {y = k + 1} (omega arith))
 
 -- the marks of a bundle are those of its starts, with the second halves marked over them
 pub laid_mark : (w : Bundle) (k next : ℕ) (d m n : Mark) → k < 32 → d ≡ Unmarked

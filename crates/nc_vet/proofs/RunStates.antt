@@ -13,8 +13,8 @@ use Rattle.std.proofs.lemmas.List.{length-set, get_or_append_left, get_or-append
 use Rattle.nc_decode.specs.declared.automaton.TheConstants.{STATES, END, AFTER_SHORT, AFTER_NEAR, AFTER_PAIR}
 use Rattle.nc_decode.specs.Automaton.{next_state}
 use Rattle.nc_decode.proofs.Offered.{true_or_false}
-use Rattle.nc_vet.specs.declared.bundle.Bundle.{Bundle}
-use Rattle.nc_vet.specs.Bits.{no_bits}
+use Rattle.nc_decode.specs.declared.bundle.Bundle.{Bundle}
+use Rattle.nc_decode.specs.Bits.{no_bits}
 use Rattle.nc_vet.specs.machinery.Running.{run, state_after, before, TellsStates, entered, HasRun, Tells, AreTold, EndsFront}
 
 -- one more byte of a run

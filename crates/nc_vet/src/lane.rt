@@ -5,8 +5,7 @@ ghost use Rattle.std.specs.Int.{bit_at};
 ghost use Rattle.nc_decode.specs.Automaton.{next_state};
 ghost use Rattle.nc_vet.specs.machinery.Running.{TellsStates};
 
-use crate::bundle::Bundle;
-use nc_decode::{AFTER_NEAR, AFTER_PAIR, AFTER_SHORT, END, STATES, advance};
+use nc_decode::{AFTER_NEAR, AFTER_PAIR, AFTER_SHORT, Bundle, END, STATES, advance};
 use std::simd::prelude::*;
 
 /// The states after the first bytes of a bundle, and the last of them.

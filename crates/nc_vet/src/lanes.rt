@@ -2,11 +2,11 @@
 
 ghost use Rattle.std.specs.Prelude.{◌≡◌, ◌≢◌, ◌<◌, ◌≤◌, ◌+◌, ◌-◌, ◌*◌, ◌%◌, ◌^◌, ℕ, length, get_or, slice_index, IfSome};
 ghost use Rattle.std.specs.Int.{bit_at};
-ghost use Rattle.nc_vet.specs.Bits.{no_bits};
+ghost use Rattle.nc_decode.specs.Bits.{no_bits};
 ghost use Rattle.nc_vet.specs.machinery.Running.{Tells, EndsFront};
 
-use crate::bundle::Bundle;
 use crate::lane::{Lane, told};
+use nc_decode::Bundle;
 use std::alloc::Global;
 
 /// The bundles that are read in lock step: no instruction crosses the end of one, so each can be read for itself.

@@ -27,7 +27,6 @@
 //! ```
 #![tactic(auto)]
 
-mod bundle;
 mod fault;
 mod lane;
 mod lanes;
@@ -39,11 +38,10 @@ mod transfers;
 mod vetted;
 mod vetting;
 
-pub use bundle::Bundle;
 pub use fault::VetFault;
 pub use law::{law_of_profiles, law_of_verdicts};
 pub use marks::Marks;
-pub use nc_decode::Mark;
+pub use nc_decode::{Bundle, Mark};
 pub use vetted::Vetted;
 pub use vetting::{judge, vet};
 

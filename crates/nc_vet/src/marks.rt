@@ -3,12 +3,11 @@
 ghost use Rattle.std.specs.Prelude.{◌≡◌, ◌<◌, ◌+◌, ◌*◌, ◌%◌, ◌^◌, ◌++◌, ℕ, length, slice_index, slice_index_or, slice_get, get_or, Some, OnOk, ◌==◌, if◌then◌else◌};
 ghost use Rattle.std.specs.Int.{bit_at};
 ghost use Rattle.nc_decode.specs.declared.instruction.Mark.{Mark};
-ghost use Rattle.nc_vet.specs.Bits.{no_bits, bit_mark, mark_at, marks_in};
+ghost use Rattle.nc_decode.specs.Bits.{no_bits, bit_mark, mark_at, marks_in};
 ghost use Rattle.nc_vet.specs.Listed.{listed};
 
-use crate::bundle::Bundle;
 use crate::transfers::lowest;
-use nc_decode::Mark;
+use nc_decode::{Bundle, Mark, bundle_at};
 use std::alloc::AllocError;
 
 /// The marks of a chunk. They mean nothing without its code.
@@ -19,14 +18,6 @@ pub enum Marks {
     /// One for each byte: where there was no memory for bits.
     Each(Vec<Mark>),
 }
-
-/// No instructions.
-const NO_BITS: Bundle = Bundle {
-    ends: 0,
-    pairs: 0,
-    shorts: 0,
-    nears: 0,
-};
 
 /// The mark at a byte of a bundle; the next byte names the register of an indirect transfer.
 #[inline(always)]
@@ -40,18 +31,6 @@ fn bit_mark(bundle: Bundle, k: usize, next: u8) -> Mark
         Mark::Plain
     } else {
         Mark::Unmarked
-    }
-}
-
-/// The bits of a bundle, or none where there is no bundle.
-#[inline(always)]
-pub(crate) fn bundle_at(bundles: &[Bundle], n: usize) -> Bundle
-    ensures { result ≡ get_or bundles.now n no_bits }
-{
-    if n < bundles.len() {
-        bundles[n]
-    } else {
-        NO_BITS
     }
 }
 

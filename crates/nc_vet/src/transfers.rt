@@ -2,13 +2,11 @@
 
 ghost use Rattle.std.specs.Prelude.{◌≡◌, ◌≢◌, ◌<◌, ◌≤◌, ◌+◌, ◌*◌, ◌%◌, ◌^◌, ℕ, length, get_or, true, false, IsTrue};
 ghost use Rattle.std.specs.Int.{bit_at};
-ghost use Rattle.nc_vet.specs.Bits.{no_bits, is_start, is_second};
+ghost use Rattle.nc_decode.specs.Bits.{no_bits, is_start, is_second};
 ghost use Rattle.nc_vet.specs.machinery.Judged.{short_to, near_to, IsGood, AreGoodShorts, AreGoodNears, AreJudged};
 
-use crate::bundle::Bundle;
-use crate::marks::bundle_at;
 use byteorder::{ByteOrder, LittleEndian};
-use nc_decode::{BUNDLE, is_bundle_start};
+use nc_decode::{BUNDLE, Bundle, bundle_at, is_bundle_start};
 
 /// An instruction begins at this byte of a bundle, and is no second half of a pair.
 #[inline(always)]

@@ -1,11 +1,10 @@
 //! A chunk that is known to be valid.
 
 ghost use Rattle.std.specs.Prelude.{◌≡◌, ◌<◌, length, slice_get, Some, IfOk, IfSome};
-ghost use Rattle.nc_vet.specs.Bits.{marks_in};
+ghost use Rattle.nc_decode.specs.Bits.{marks_in};
 
-use crate::bundle::Bundle;
 use crate::marks::{Marks, push_marks};
-use nc_decode::Mark;
+use nc_decode::{Bundle, Mark};
 use std::alloc::{AllocError, Global};
 use std::marker::Model;
 

@@ -3,8 +3,8 @@ use Rattle.std.specs.Prelude.{ℕ, Bool, ◌||◌}
 use Rattle.std.specs.List.{count_by, range_with_len}
 use Rattle.nc_decode.specs.declared.instruction.Mark.{Mark}
 use Rattle.nc_decode.specs.declared.instruction.Mark.TheVariants.{Unmarked, Plain, After}
-use Rattle.nc_vet.specs.declared.bundle.Bundle.{Bundle}
-use Rattle.nc_vet.specs.Bits.{is_start, is_second}
+use Rattle.nc_decode.specs.declared.bundle.Bundle.{Bundle}
+use Rattle.nc_decode.specs.Bits.{is_start, is_second}
 
 -- one for a mark, and none for a place without one
 abbrev pub one : Mark → ℕ

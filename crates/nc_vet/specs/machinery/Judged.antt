@@ -2,8 +2,8 @@
 use Rattle.std.specs.Prelude.{◌≡◌, ℕ, ◌+◌, ◌-◌, ◌*◌, ◌%◌, ◌^◌, ◌<◌, ◌≤◌, List, length, drop, get_or, slice_index}
 use Rattle.std.specs.Int.{bit_at, w8, w32, cast_signed, cast_unsigned, from_le_bytes}
 use Rattle.nc_decode.specs.declared.instruction.Mark.TheVariants.{Plain}
-use Rattle.nc_vet.specs.declared.bundle.Bundle.{Bundle}
-use Rattle.nc_vet.specs.Bits.{no_bits, mark_at}
+use Rattle.nc_decode.specs.declared.bundle.Bundle.{Bundle}
+use Rattle.nc_decode.specs.Bits.{no_bits, mark_at}
 
 -- where a transfer goes whose displacement is the byte at a place
 abbrev pub short_to : ℕ → List ℕ → ℕ → ℕ

@@ -4,10 +4,10 @@ use Rattle.std.specs.Prelude.{◌==◌, nat_le, if◌then◌else◌, ⊤}
 use Rattle.std.specs.Int.{bit_at}
 use Rattle.nc_decode.specs.declared.automaton.TheConstants.{STATES, END, AFTER_SHORT, AFTER_NEAR, AFTER_PAIR}
 use Rattle.nc_decode.specs.Automaton.{next_state}
-use Rattle.nc_vet.specs.declared.bundle.Bundle.{Bundle}
+use Rattle.nc_decode.specs.declared.bundle.Bundle.{Bundle}
 use Rattle.nc_vet.specs.declared.marks.Marks.{Marks}
 use Rattle.nc_vet.specs.declared.marks.Marks.TheVariants.{Bits, Each}
-use Rattle.nc_vet.specs.Bits.{no_bits}
+use Rattle.nc_decode.specs.Bits.{no_bits}
 
 -- the state after some bytes
 abbrev pub run : ℕ → List ℕ → ℕ

@@ -1,8 +1,8 @@
 use Rattle.std.proofs.Common.{rules, arith, sym, ap, ◌∙◌, List, length, ◌≡◌, ◌≤◌, ◌+◌, ◌*◌, ◌++◌, take, get_or}
 use Rattle.std.specs.Int.{bit_at}
 use Rattle.std.proofs.lemmas.List.{get_or-take, length-take, take_all}
-use Rattle.nc_vet.specs.declared.bundle.Bundle.{Bundle}
-use Rattle.nc_vet.specs.Bits.{no_bits}
+use Rattle.nc_decode.specs.declared.bundle.Bundle.{Bundle}
+use Rattle.nc_decode.specs.Bits.{no_bits}
 use Rattle.nc_vet.proofs.RunStates.{told_more, moved, stopped}
 use Rattle.nc_vet.proofs.lanes.read_bundles.Goals as goal
 

@@ -1,6 +1,6 @@
 use Rattle.std.proofs.Common.{◌-◌, ◌<◌, ◌≤◌, ◌≡◌, ℕ, length, get_or}
 use Rattle.std.specs.Int.{bit_at}
-use Rattle.nc_vet.specs.Bits.{no_bits}
+use Rattle.nc_decode.specs.Bits.{no_bits}
 use Rattle.nc_vet.proofs.lanes.whole_front.Given as goal
 
 abbrev pub invariant-loop-n : goal.invariant-loop-n

@@ -2,10 +2,10 @@ use Rattle.std.proofs.Common.{◌≡◌, ◌+◌, ◌*◌, ◌++◌, List, take,
 use Rattle.std.proofs.lemmas.List.{append-nil, append_assoc, take_all}
 use Rattle.nc_decode.specs.declared.instruction.Mark.{Mark}
 use Rattle.std.specs.Prelude.{slice_index}
-use Rattle.nc_vet.specs.declared.bundle.Bundle.{Bundle}
-use Rattle.nc_vet.specs.Bits.{bit_mark, marks_in}
+use Rattle.nc_decode.specs.declared.bundle.Bundle.{Bundle}
+use Rattle.nc_decode.specs.Bits.{bit_mark, marks_in}
 use Rattle.nc_vet.proofs.LaidMarks.{laid_more}
-use Rattle.nc_vet.proofs.BitReading.{length-marks_in}
+use Rattle.nc_decode.proofs.Offered.{length-marks_in}
 use Rattle.nc_vet.proofs.marks.push_marks.Goals as goal
 
 pub loop-n-init : goal.loop-n-init

@@ -1,5 +1,5 @@
 use Rattle.std.proofs.Common.{◌≡◌, ◌*◌, ◌++◌, take}
-use Rattle.nc_vet.specs.Bits.{marks_in}
+use Rattle.nc_decode.specs.Bits.{marks_in}
 use Rattle.nc_vet.proofs.marks.push_marks.Given as goal
 
 abbrev pub invariant-loop-n : goal.invariant-loop-n

@@ -1,6 +1,6 @@
 use Rattle.std.proofs.Common.{◌*◌, ◌∙◌, ap, arith, rules}
 use Rattle.std.specs.Int.{bit_at}
-use Rattle.nc_vet.specs.declared.bundle.Bundle.{Bundle}
+use Rattle.nc_decode.specs.declared.bundle.Bundle.{Bundle}
 use Rattle.nc_vet.specs.machinery.Judged.{AreGoodShorts, AreGoodNears}
 use Rattle.nc_vet.proofs.BitPlaces.{judged_two}
 use Rattle.nc_vet.proofs.transfers.judged_bundles.Goals as goal

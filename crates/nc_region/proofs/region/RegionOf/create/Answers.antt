@@ -1,10 +1,10 @@
-use Rattle.std.proofs.Common.{◌≡◌, ℕ, ◌+◌, ◌<◌, ◌^◌, List, length, arith, sym, subst, ◌∙◌, refl, All}
+use Rattle.std.proofs.Common.{◌≡◌, ℕ, ◌+◌, ◌<◌, ◌^◌, List, length, arith, rules, sym, ap, subst, ◌∙◌, refl, All}
 use Rattle.std.proofs.Common.{Result, Ok, Err, IfOk, true, false}
 use Rattle.std.specs.Result.{is_err}
 use Rattle.std.specs.List.{insert}
 use Rattle.nc_decode.specs.declared.instruction.Mark.{Mark}
 use Rattle.nc_text.specs.Places.{limit_of}
-use Rattle.nc_text.specs.MarkedText.{IsText, NamesRegister}
+use Rattle.nc_text.specs.MarkedText.{MarkedText, IsText, NamesRegister}
 use Rattle.nc_text.specs.Ready.{AreReady}
 use Rattle.nc_text.proofs.Offered.{confined_if_closed}
 use Rattle.nc_region.specs.declared.chunk.Chunk.{Chunk}
@@ -31,8 +31,8 @@ returns-in_default-clause-confined g c = rw (← c.self.view_is) (confined_if_cl
 pub returns-then-is_err-clause-confined : goal.returns-then-is_err-clause-confined
 returns-then-is_err-clause-confined g c = confined_if_closed _ _ c.self.invariant.0.whole.closed
 
-pub returns-in_default-marks-clause-confined : goal.returns-in_default-marks-clause-confined
-returns-in_default-marks-clause-confined g c = confined_if_closed _ _ c.self.invariant.0.whole.closed
+pub returns-in_default-with_capacity-clause-confined : goal.returns-in_default-with_capacity-clause-confined
+returns-in_default-with_capacity-clause-confined g c = confined_if_closed _ _ c.self.invariant.0.whole.closed
 
 pub returns-then-is_err-2-clause-confined : goal.returns-then-is_err-2-clause-confined
 returns-then-is_err-2-clause-confined g c = confined_if_closed _ _ c.ready.ensures.whole.closed
@@ -71,8 +71,8 @@ invariant_of-self-then-is_err-2 g c =
       chunks_stay_ready _ _ _ _ c.ready.ensures.only c.self.inside.chunks.items c.self.invariant.1,
     )
 
-pub returns-in_default-marks-clause-refused : goal.returns-in_default-marks-clause-refused
-returns-in_default-marks-clause-refused g c =
+pub returns-in_default-with_capacity-clause-refused : goal.returns-in_default-with_capacity-clause-refused
+returns-in_default-with_capacity-clause-refused g c =
     let v = c.args.vetted in
     let fit : FitsAt v.base (length v.code) c.self.inside.chunks.items c.in-Some.k =
     rw (← c.base-base.ensures.value, ← c.code.ensures.value) c.in-Some.ensures.some in
@@ -89,16 +89,12 @@ put_chunk-requires-clause-chunk g c =
       c.ready.ensures.marked,
       c.base-base.ensures.value,
       c.code-2.ensures.value,
-      (c.deref.ensures.value
-          ∙ c.in-Ok.ensures.value),
       ← same,
     )
     (valid_chunk_is_closed v c.code.ensures.valid)
 
 pub put_chunk-requires-clause-registers : goal.put_chunk-requires-clause-registers
-put_chunk-requires-clause-registers g c =
-    subst (λ (marks : List Mark). All NamesRegister marks) (sym (c.deref.ensures.value ∙ c.in-Ok.ensures.value))
-    (chunk_names_registers c.args.vetted c.code.ensures.valid)
+put_chunk-requires-clause-registers g c = chunk_names_registers c.args.vetted c.code.ensures.valid
 
 pub put_chunk-requires-clause-unused : goal.put_chunk-requires-clause-unused
 put_chunk-requires-clause-unused g c =
@@ -126,8 +122,6 @@ invariant_of-self-2 g c =
       c.ready.ensures.marked,
       c.base-base.ensures.value,
       c.code-2.ensures.value,
-      (c.deref.ensures.value
-          ∙ c.in-Ok.ensures.value),
     ) refl in
     let list : c.insert_chunk.new.chunks.items ≡ insert c.self.inside.chunks.items c.in-Some.k (live_chunk v) =
     c.insert_chunk.ensures ∙ rw (c.reserve.ensures.items, c.base-base.ensures.value, c.code.ensures.value) refl in
@@ -163,3 +157,21 @@ returns-clause-free g c =
     let same : v.limit ≡ limit_of (g.A.Acts.marked c.self.inside.acts).bytes = sym c.limit.ensures.value
     ∙ (c.if-limit.false ∙ c.limit-2.ensures.limit) in
     rw (← c.self.view_is) (same, fits_meets c.self.inside.chunks.items v.base (length v.code) c.in-Some.k fit.1 fit.2)
+
+pub returns-clause-created : goal.returns-clause-created
+returns-clause-created g c =
+    let marked = g.A.Acts.marked c.self.inside.acts in
+    let v = c.args.vetted in
+    let fit : FitsAt v.base (length v.code) c.self.inside.chunks.items c.in-Some.k =
+    rw (← c.base-base.ensures.value, ← c.code.ensures.value) c.in-Some.ensures.some in
+    let put : g.A.Acts.marked c.put_chunk.new.acts ≡ with_chunk marked v.base v.code v.marks = c.put_chunk.ensures.marked
+    ∙ rw (c.ready.ensures.marked, c.base-base.ensures.value, c.code-2.ensures.value) refl in
+    let list : c.insert_chunk.new.chunks.items ≡ insert c.self.inside.chunks.items c.in-Some.k (live_chunk v) =
+    c.insert_chunk.ensures ∙ rw (c.reserve.ensures.items, c.base-base.ensures.value, c.code.ensures.value) refl in
+    rw (← c.self.view_is) (record {
+      bytes = ap (λ (m : MarkedText). m.bytes) put;
+      marks = ap (λ (m : MarkedText). m.marks) put;
+      chunks = (c.in-Some.k, fit, list);
+      ready = rw (c.put_chunk.ensures.made, ← c.base-base.ensures.value, ← c.code.ensures.value) c.ready.ensures.only;
+      others = search (rules, c.put_chunk.ensures.keeper, c.ready.ensures.keeper);
+    })

@@ -1,11 +1,11 @@
 use Rattle.std.proofs.Common.{◌≡◌, ◌<◌, ◌∙◌, List, length, get_or, Some, arith, ap, refl, sym, subst}
 use Rattle.std.specs.Prelude.{slice_get}
 use Rattle.std.proofs.lemmas.Option.{slice_get_read}
-use Rattle.nc_vet.specs.declared.bundle.Bundle.{Bundle}
+use Rattle.nc_decode.specs.declared.bundle.Bundle.{Bundle}
 use Rattle.nc_vet.specs.declared.marks.Marks.{Marks}
-use Rattle.nc_vet.specs.Bits.{mark_at, marks_in}
+use Rattle.nc_decode.specs.Bits.{mark_at, marks_in}
 use Rattle.nc_vet.specs.Listed.{listed}
-use Rattle.nc_vet.proofs.BitReading.{marks_in-at, length-marks_in}
+use Rattle.nc_decode.proofs.Offered.{marks_in-at, length-marks_in}
 use Rattle.nc_vet.proofs.marks.Marks.at.Goals as goal
 
 pub index-requires : goal.index-requires

@@ -4,7 +4,7 @@ use Rattle.std.specs.Int.{bit_at}
 use Rattle.std.specs.List.{range_with_len}
 use Rattle.nc_decode.specs.declared.instruction.Mark.{Mark}
 use Rattle.nc_decode.specs.declared.instruction.Mark.TheVariants.{Unmarked, Plain, After}
-use Rattle.nc_vet.specs.declared.bundle.Bundle.{Bundle}
+use Rattle.nc_decode.specs.declared.bundle.Bundle.{Bundle}
 
 -- an instruction begins at this byte of the bundle: at its first, or where another has ended before
 abbrev pub is_start : Bundle → ℕ → Bool
