@@ -56,7 +56,7 @@ fn write_instruction(acts: &mut [NcAct], from: usize, at: u32, bytes: &[u8]) -> 
     write(acts, settled, put(at, first))
 }
 
-/// The same, unless the bytes stand there already.
+/// Writes the acts that replace one instruction, or none if its bytes stand there already.
 fn write_where_new(
     acts: &mut [NcAct],
     count: usize,

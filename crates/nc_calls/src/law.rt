@@ -27,8 +27,8 @@ ghost use Rattle.nc_calls.specs.Calls.{HasLedTo, create_events, modify_events, d
 /// numbers afterwards are those of the world: no contract tells what stands in the words of seats, and a load finds what
 /// stands there. That the generation is at most 2^62 is ensured of every keeper (`Keeper::generation`).
 ///
-/// So whatever calls are made one after the other, their events are those of `law_of_schedules`. It does nothing when it is
-/// called.
+/// The events of any calls, made one after the other, are therefore those of `law_of_schedules`. The function does nothing when it
+/// is called.
 pub fn law_of_calls()
     // A new region, after what its keeper and the threads did before it was made. That may be nothing.
     ensures begins { (limit seats : ℕ) (events : List Event) (r : Region) → IsLawfulLimit limit → r.marked ≡ unused_text limit

@@ -3,7 +3,7 @@
 /// As many spaces as wipe a line that is shown.
 const BLANK: &str = "                                                ";
 
-/// So many times at most the line is written, where it may stay.
+/// The most times that the line is written, where it may stay.
 const TIMES: usize = 256;
 
 /// A line that is written anew after each round of files.

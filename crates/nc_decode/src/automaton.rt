@@ -58,7 +58,7 @@ macro_rules! opcodes {
     (($prefix:tt) $($entry:ident,)*) => { [$(kind!($entry)[$prefix]),*] };
 }
 
-/// The same with no prefix, except that FF leads to this state.
+/// The states after each opcode of a map with no prefix, except that FF leads to this state.
 macro_rules! after_mask {
     (($transfer:tt) $($entry:ident,)*) => { [$(after_mask!($entry $transfer)),*] };
     (G5 $transfer:tt) => { $transfer };

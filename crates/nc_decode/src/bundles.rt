@@ -32,7 +32,7 @@ pub fn bundle_rest(at: u32) -> u32
     BUNDLE - at % BUNDLE
 }
 
-/// A region may have so many bundles.
+/// A region may have this many bundles.
 pub fn is_region_size(bundles: u32) -> bool
     ensures { IsTrue result ↔ IsRegionSize bundles }
 {

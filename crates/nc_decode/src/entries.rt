@@ -41,7 +41,7 @@ pub(crate) const STR: Entry = Entry {
     forms: [1, 0, 1, 0, 0],
     ..NO
 };
-/// The same on 16 or 32 bits.
+/// A string instruction that F3 may repeat, on 16 or 32 bits.
 pub(crate) const STRV: Entry = Entry {
     forms: [1, 1, 1, 0, 0],
     ..NO
@@ -51,7 +51,7 @@ pub(crate) const SCN: Entry = Entry {
     forms: [1, 0, 1, 1, 0],
     ..NO
 };
-/// The same on 16 or 32 bits.
+/// A string instruction that compares, which F3 and F2 may repeat, on 16 or 32 bits.
 pub(crate) const SCNV: Entry = Entry {
     forms: [1, 1, 1, 1, 0],
     ..NO

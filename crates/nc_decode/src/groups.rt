@@ -14,13 +14,13 @@ pub(crate) const G1: Entry = Entry {
     forms: [ANY, 0, 0, 0, 0x007F],
     ..M
 };
-/// The same on 16 or 32 bits, with an immediate of that size.
+/// Arithmetic on 16 or 32 bits with an immediate of that size; all but CMP (reg 7) also locked.
 pub(crate) const G1Z: Entry = Entry {
     number: Number::Sized,
     forms: [ANY, ANY, 0, 0, 0x007F],
     ..M
 };
-/// The same on 16 or 32 bits, with an immediate byte.
+/// Arithmetic on 16 or 32 bits with an immediate byte; all but CMP (reg 7) also locked.
 pub(crate) const G1V: Entry = Entry {
     number: Number::Byte,
     forms: [ANY, ANY, 0, 0, 0x007F],
@@ -31,7 +31,7 @@ pub(crate) const G2: Entry = Entry {
     forms: [0xBFBF, 0, 0, 0, 0],
     ..M
 };
-/// The same on 16 or 32 bits.
+/// Rotations and shifts of 16 or 32 bits by 1 or CL; reg 6 has no instruction.
 pub(crate) const G2V: Entry = Entry {
     forms: [0xBFBF, 0xBFBF, 0, 0, 0],
     ..M
@@ -42,7 +42,7 @@ pub(crate) const G2I: Entry = Entry {
     forms: [0xBFBF, 0, 0, 0, 0],
     ..M
 };
-/// The same on 16 or 32 bits.
+/// Rotations and shifts of 16 or 32 bits by an immediate byte.
 pub(crate) const G2IV: Entry = Entry {
     number: Number::Byte,
     forms: [0xBFBF, 0xBFBF, 0, 0, 0],
@@ -54,7 +54,7 @@ pub(crate) const G3: Entry = Entry {
     forms: [0xFDFD, 0, 0, 0, 0x000C],
     ..M
 };
-/// The same on 16 or 32 bits.
+/// On 16 or 32 bits: TEST with an immediate (reg 0), NOT and NEG (2, 3, also locked), MUL to IDIV (4 to 7).
 pub(crate) const G3V: Entry = Entry {
     number: Number::TestSized,
     forms: [0xFDFD, 0xFDFD, 0, 0, 0x000C],

@@ -31,7 +31,7 @@ pub fn law_of_fronts()
     // No permitted instruction is barred: none is a return, a far transfer, a software interrupt, SYSCALL or SYSENTER, and
     // none has a segment override.
     ensures allowed { NeverBarred }
-    // So what is at the front of some bytes isn't barred.
+    // What is at the front of some bytes isn't barred.
     ensures allowed_at_front { NeverBarredAtFront }
     // A direct transfer begins with one of the bytes that `may_transfer` names.
     ensures transfers { BeginsAsTransfer }

@@ -7,7 +7,8 @@
 //!   and encodings are those of the Intel 64 and IA-32 Architectures Software Developer's Manual (SDM), volume 2.
 //! - [`Instr`] is what one instruction says about control: its length, where control goes after it ([`Flow`]), and the
 //!   register that it masks. Nothing is said of the data that it reads and writes.
-//! - A *bundle* is 32 bytes; no instruction crosses the end of one. `bundles` has the numbers of bundles and regions.
+//! - A *bundle* is 32 bytes; no instruction crosses the end of one. `bundles` has the numbers of bundles and regions, and a
+//!   [`Bundle`] tells by bits where the instructions of one end.
 //!
 //! Which call to use: [`decode`] reads one instruction and names what is wrong. [`advance`] reads one byte at a time and answers
 //! only yes or no, which is much faster over a whole text. [`may_transfer`] tells by its first byte that an instruction is no

@@ -5,7 +5,7 @@
 //! executable segments: for each the address, and where its bytes are in the file ([`Segment::bytes`]).
 //!
 //! The list is all of the code: what a loader makes executable by the headers of loaded segments are these bytes at these addresses.
-//! So a file is refused ([`ElfFault`]) where that would not hold: if an executable segment has bytes in memory that the file hasn't
+//! A file is refused ([`ElfFault`]) where that would not hold: if an executable segment has bytes in memory that the file hasn't
 //! got, if it can be written to, or if segments overlap. Headers of other types aren't read: a loader that makes data executable by
 //! the header of the stack (PT_GNU_STACK) goes beyond the list.
 //!

@@ -30,7 +30,7 @@ pub const SWITCHED: [u8; 2] = [0xEB, 0x3E];
 /// A masked jump on ecx: it goes to any bundle start below the limit.
 pub const MASKED: [[u8; 5]; 1] = [[0x83, 0xE1, 0xE0, 0xFF, 0xE1]];
 
-/// The same jump without its mask.
+/// A jump on ecx without its mask.
 pub const BARE: [[u8; 5]; 1] = [[0xFF, 0xE1, 0x90, 0x90, 0x90]];
 
 /// A bundle for each of these fronts, each filled up with `nop`.

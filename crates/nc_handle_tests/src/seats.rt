@@ -34,7 +34,7 @@ fn seat(alloc: Global, held: &mut Held) -> Result<Box<Guest, Global>, Fail> {
     }
 }
 
-/// Why no region of so many bundles with so many seats is made, if none is.
+/// Why no region of this size with this many seats is made, if none is.
 fn refusal(alloc: Global, bundles: u32, seats: u32) -> Option<NewFault> {
     Held::new(alloc, bundles, seats).err()
 }

@@ -3,8 +3,8 @@ use Rattle.std.specs.Prelude.{◌≡◌, ◌+◌, ◌≤◌}
 use Rattle.nc_gens.specs.Rule.{generation_taken, since_stored}
 use Rattle.nc_gens.specs.Seen.{PassState}
 
--- the same seat after one load of the generation and one store of it: what was stored is what was loaded, and no less
--- than before
+-- A seat's pass after one load of the generation and one store of it: what was stored is what was loaded, and no less
+-- than before. It is still of the same seat.
 pub record HasCheckedIn (old new : PassState) : Type 0 where
   pub same : (new.table ≡ old.table) × (new.seat ≡ old.seat)
   pub steps : new.numbers ≡ since_stored (generation_taken new.numbers.since old.numbers)

@@ -110,7 +110,7 @@ pub extern "C" fn nc_host_patch(
     acts: &mut [NcAct],
 ) -> NcActs
     ensures outcome { IsPatchOutcome base limit code.now at new.now (length acts.old) result.fault result.at }
-    // So the patch is lawful in every region in which the chunk is live.
+    // An accepted patch is lawful in every region in which the chunk is live.
     ensures anywhere { result.fault ≡ 0 → (r : Region) → HasLive r base limit code.now → IsPatch r at new.now }
     // And a patch of the chunk that is lawful in one of them is refused only for lack of memory, or of room.
     ensures exact { (r : Region) → HasLive r base limit code.now → base ≤ at → at < base + length code.now → IsPatch r at new.now

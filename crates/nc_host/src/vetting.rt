@@ -27,7 +27,7 @@ pub(crate) fn told(fault: VetFault) -> NcVerdict
     NcVerdict { fault, at }
 }
 
-/// The marks of a valid chunk, if there is room for so many elements; else the outcome.
+/// The marks of a valid chunk, if there is room for one element for each; else the outcome.
 pub(crate) fn admit(
     alloc: Global,
     base: u32,

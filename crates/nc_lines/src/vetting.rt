@@ -20,7 +20,7 @@ use std::io::{Read, Write};
 use std::sync::Wait;
 use std::thread::Threads;
 
-/// Vets the chunks that lines name, by so many workers, for a region of this many bundles.
+/// Vets the chunks that lines name, by several workers, for a region of this many bundles.
 ///
 /// Each line is an address and bytes, as after `create` in a script. All lines are read before a chunk is vetted, and
 /// all chunks are vetted before a byte is written. Then comes, for each line in its order, `ok`, `refused` with the

@@ -14,7 +14,7 @@ pub(crate) const LIMIT: u32 = 0x10080;
 /// An instruction of one byte that does nothing.
 const NOP: u8 = 0x90;
 
-/// Nops, with these bytes before them and after them, so many bytes in all.
+/// Nops, with these bytes before them and after them, of this length in all.
 pub(crate) fn code(
     alloc: Global,
     front: &[u8],
@@ -33,7 +33,7 @@ fn unprepared() -> Error {
     Error::from(ErrorKind::Other)
 }
 
-/// A table of generations for so many seats.
+/// A table of generations with this many seats.
 pub(crate) fn table(alloc: Global, seats: u32) -> Result<(Gens, Keeper, Vec<Pass>)>
     ensures { IfOk result (λ r. (length r.2.items ≡ seats) × (r.1.table ≡ r.0) × All (λ p. p.table ≡ r.0) r.2.items) }
 {

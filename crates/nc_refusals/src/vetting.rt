@@ -40,7 +40,7 @@ fn job(alloc: Global, front: &[u8]) -> std::result::Result<Job, AllocError> {
     })
 }
 
-/// Two jobs vetted by so many workers: a return, which isn't permitted, and nops.
+/// Two jobs vetted by this many workers: a return, which isn't permitted, and nops.
 pub(crate) fn vet_jobs<R: Threads + Wait + Sync + Print + AllocGlobal>(
     rt: &R,
     workers: u32,

@@ -47,7 +47,7 @@ fn is_after(mark: Mark) -> bool
     matches!(mark, Mark::After(_))
 }
 
-/// So many bytes, at least one, lie in one bundle.
+/// `len` bytes from this address on, at least one, lie in one bundle.
 pub(crate) fn is_patch_span(at: u32, len: usize) -> bool
     ensures { IsTrue result ↔ IsPatchSpan at len }
 {

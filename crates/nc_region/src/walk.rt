@@ -122,7 +122,7 @@ pub(crate) fn instruction<A: Acts>(acts: &A, at: u32) -> Instr
     instr
 }
 
-/// So many bytes from a place on, in its bundle, and zeros after them.
+/// `len` bytes from an address on, in its bundle, and zeros after them.
 fn read<A: Acts>(acts: &A, at: u32, len: u32) -> [u8; 32]
     requires whole { IsText (A.marked acts.now) }
     requires inside { InRegion (A.marked acts.now).bytes at }

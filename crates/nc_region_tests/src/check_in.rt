@@ -11,7 +11,7 @@ use std::sync::Wait;
 use std::test::Fail;
 use std::thread::{Threads, for_each_mut, join_mut};
 
-/// Checks in so many times, beside the lock.
+/// Checks in several times, beside the lock.
 fn check_in_often(shared: &Shared<'_>, pass: &mut Pass, times: usize)
     requires { pass.old.table ≡ shared.now }
     ensures { pass.new.table ≡ pass.old.table }

@@ -6,7 +6,7 @@ use nc_region::{CreateFault, Region, RegionFault};
 use std::alloc::Global;
 use std::test::Fail;
 
-/// What a region of so many bundles is refused for, if the keeper comes back.
+/// What a region of this size is refused for, if the keeper comes back.
 fn refusal(alloc: Global, bundles: u32) -> Result<Option<RegionFault>, Fail> {
     let (gens, keeper, _passes) = Gens::new(alloc, 1)?;
     let refused = Region::new(alloc, bundles, &gens, keeper);
@@ -19,7 +19,7 @@ fn refusal(alloc: Global, bundles: u32) -> Result<Option<RegionFault>, Fail> {
     Ok(Some(fault))
 }
 
-/// The limit of a region of so many bundles.
+/// The limit of a region of this size.
 fn limit(alloc: Global, bundles: u32) -> Result<u32, Fail> {
     let (gens, keeper, _passes) = Gens::new(alloc, 1)?;
     Ok(region(alloc, bundles, &gens, keeper)?.limit())

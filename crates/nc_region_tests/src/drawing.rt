@@ -178,7 +178,7 @@ fn settle(code: Vec<u8>, base: u32, limit: u32) -> Result<Vetted, Fail> {
     Err(Fail::new("no valid chunk"))
 }
 
-/// A chunk of so many bundles.
+/// A chunk of this many bundles.
 pub(crate) fn draw_chunk(
     alloc: Global,
     numbers: &mut Numbers,

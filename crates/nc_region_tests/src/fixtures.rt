@@ -33,7 +33,7 @@ pub(crate) fn chunk(
     }
 }
 
-/// A region of so many bundles.
+/// A region of this size.
 pub(crate) fn region<'g>(
     alloc: Global,
     bundles: u32,
@@ -58,7 +58,7 @@ pub(crate) struct Telling<'g> {
 }
 
 impl<'g> Telling<'g> {
-    /// A region of so many bundles that tells so many acts.
+    /// A region of this size that tells at most `room` acts.
     pub(crate) fn new(
         alloc: Global,
         gens: &'g Gens,

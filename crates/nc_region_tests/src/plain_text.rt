@@ -44,7 +44,7 @@ fn is_ready_at<A: Acts>(acts: &A, at: u32) -> bool
 }
 
 impl PlainText {
-    /// A text of so many places without a chunk, of which no page is made.
+    /// A text of this many places without a chunk, of which no page is made.
     pub(crate) fn new(alloc: Global, places: usize) -> Result<PlainText, Fail> {
         let mut marks = Vec::new(alloc);
         for i in 0..places {

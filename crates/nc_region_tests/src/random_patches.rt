@@ -28,7 +28,7 @@ fn number(answer: Result<(), ModifyFault>) -> usize {
     }
 }
 
-/// Creates a chunk that is drawn, of so many bundles.
+/// Creates a chunk that is drawn, of this many bundles.
 fn create_drawn(
     alloc: Global,
     numbers: &mut Numbers,

@@ -83,7 +83,7 @@ why_here base spots place =
     if is_begun (get_or spots place Inside) then SECOND_HALF.now ++ address_digits ((base + place) - 3)
     else (INSIDE.now ++ address_digits (base + begun_before spots place))
 
--- why it may not go to this address
+-- why a direct transfer may not go to this address, inside the code or outside
 abbrev pub why_not : ℕ → ℕ → List Spot → ℕ → List ℕ
 why_not base limit spots to =
     if nat_le base to && nat_lt to (base + length spots) then why_here base spots (to - base) else why_outside limit to

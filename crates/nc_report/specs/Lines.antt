@@ -5,12 +5,12 @@ use Rattle.nc_report.specs.declared.detail.Detail.{Detail}
 use Rattle.nc_report.specs.declared.labels.Label.{Label}
 use Rattle.nc_report.specs.Report.{AreDetails, AreFirstDetails}
 
--- no byte of it is 0A
+-- no byte of the line is 0A
 abbrev pub IsOneLine : List ℕ → Type 0
 IsOneLine [] = ⊤
 IsOneLine (b ∷ bytes) = (b ≢ 10) × IsOneLine bytes
 
--- so it is of each
+-- no byte of any of these lines is 0A
 abbrev pub AreOneLine : List (List ℕ) → Type 0
 AreOneLine [] = ⊤
 AreOneLine (line ∷ lines) = IsOneLine line × AreOneLine lines

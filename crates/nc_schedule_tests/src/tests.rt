@@ -161,7 +161,7 @@ fn broken_pairs(rt: HostRuntime) {
     }
 }
 
-/// A watched region of so many bundles that tells so many acts.
+/// A watched region of this size that tells at most this many acts.
 fn watched<'g>(
     alloc: Global,
     gens: &'g Gens,
@@ -198,7 +198,7 @@ const WANTED: Findings = Findings {
     running: 0,
 };
 
-/// The same with three acts more, those by which the masked jump becomes a masked call.
+/// What is found with three acts more, those by which the masked jump becomes a masked call.
 const WANTED_WITH_CALL: Findings = Findings {
     acts: 138,
     faults: 0,

@@ -24,7 +24,7 @@ const STOP: u8 = 0xF4;
 /// The marked places of a bundle on a page that isn't made: its start alone.
 const UNUSED: u32 = 1;
 
-/// A table of so many pages, none of which is made.
+/// A table of n pages, none of which is made.
 pub(crate) fn empty(alloc: Global, n: usize) -> Result<Vec<Option<Box<Page>>>, AllocError>
     ensures { IfOk result (λ v. v.items ≡ replicate n None) }
 {

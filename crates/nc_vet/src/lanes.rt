@@ -12,7 +12,7 @@ use std::alloc::Global;
 /// The bundles that are read in lock step: no instruction crosses the end of one, so each can be read for itself.
 const LANES: usize = 8;
 
-/// The same where fewer are left.
+/// The bundles that are read in lock step where fewer than eight are left.
 const FEW_LANES: usize = 4;
 
 /// The last byte of a bundle.

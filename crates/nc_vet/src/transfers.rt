@@ -110,7 +110,7 @@ fn shorts_good(
     true
 }
 
-/// The same of those whose displacement is four bytes.
+/// The direct transfers may go where they go that end at these places and whose displacement is four bytes.
 #[inline(always)]
 fn nears_good(
     base: u32,
@@ -141,8 +141,8 @@ fn nears_good(
     true
 }
 
-/// So many bundles at the front have no direct transfer that may not go where it goes. They are judged two by two, and the
-/// count ends where one may not.
+/// The number of bundles at the front whose direct transfers may all go where they go. Bundles are judged two by two, and the
+/// count ends where a transfer may not.
 #[inline(never)]
 pub(crate) fn judged_bundles(base: u32, limit: u32, code: &[u8], bundles: &[Bundle]) -> usize
     requires each { length code.now ≡ 32 * length bundles.now }

@@ -41,7 +41,7 @@ fn make_answers(alloc: Global, jobs: usize) -> Result<Vec<Option<Answer>>, Alloc
 }
 
 impl Room {
-    /// Room for so many jobs and workers.
+    /// Room for this many jobs and workers.
     pub fn new(alloc: Global, jobs: usize, workers: usize) -> Result<Room, AllocError>
         ensures lists { IfOk result (λ r. All (λ list. list.items ≡ []) r.lists.items) }
         ensures answers { IfOk result (λ r. (vec_len r.answers ≡ jobs) × All (λ a. a ≡ None) r.answers.items) }

@@ -116,7 +116,7 @@ fn conclude<G: Gate>(
     verdicts
 }
 
-/// Vets all jobs by so many workers, of which the caller is one.
+/// Vets all jobs by several workers, of which the caller is one.
 ///
 /// Each verdict is what `vet` answers for that job, in the jobs' order, however many workers there are. A worker takes
 /// the next job when it is done with one, so a long job doesn't hold others up; with at least as many workers as jobs

@@ -36,7 +36,7 @@ abbrev pub AreBits : (ℕ → Bool) → ℕ → ℕ → ℕ → Type 0
 AreBits chosen at zero bits = bits ≡ 0
 AreBits chosen at (suc n) bits = ((bits % 2 == 1) ≡ chosen at) × AreBits chosen (at + 1) n (bits / 2)
 
--- the same, kept together
+-- `AreBits` as a record, which a check leaves folded
 pub record HasBits (chosen : ℕ → Bool) (at n bits : ℕ) : Type 0 where
   pub are : AreBits chosen at n bits
 

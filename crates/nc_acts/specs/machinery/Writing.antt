@@ -7,8 +7,8 @@ use Rattle.nc_region.specs.Log.{unsettled}
 use Rattle.nc_acts.specs.declared.act.NcAct.{NcAct}
 use Rattle.nc_acts.specs.Written.{HasWritten}
 
--- Of these bytes the first so many have been looked at, and the puts of those at places that pass the test stand in the buffer
--- after the entries that stood there at first, which were so many.
+-- Of these bytes the first n have been looked at, and the puts of those at places that pass the test stand in the buffer after
+-- the entries that stood there at first.
 pub record HasPutUpTo (chosen : ℕ → Bool) (at : ℕ) (bytes : List ℕ) (initial : List NcAct) (from n : ℕ) (acts : List NcAct) (count : ℕ)
     : Type 0 where
   pub len : length acts ≡ length initial

@@ -109,7 +109,7 @@ impl Model {
         first
     }
 
-    /// So many retired chunks are gone, those with the least stamps.
+    /// `count` retired chunks are gone, those with the least stamps.
     pub fn reclaim(&mut self, count: u32) {
         for _ in 0..count {
             if let Some(i) = self.first_retired()

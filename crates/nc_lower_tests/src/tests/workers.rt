@@ -15,7 +15,7 @@ const BASE: u32 = 0x10000;
 
 const LIMIT: u32 = 0x10080;
 
-/// Holds the one job until the other one is done, for so many turns at most.
+/// Holds the one job until the other one is done, for a limited number of turns.
 #[derive(Drop)]
 struct Until {
     held: usize,

@@ -41,7 +41,7 @@ pub record IsNoTarget (limit base : ℕ) (code : List ℕ) (to : ℕ) : Type 0 w
   pub sound : AreSound pieces
   pub bad : ¬ IsTarget base limit pieces to
 
--- why none may was added
+-- words were added that say why no direct transfer of this code may go there
 pub record AddsWhy (old new : List ℕ) (limit base : ℕ) (code : List ℕ) (to : ℕ) : Type 0 where
   pub pieces : List Piece
   pub parts : code ≡ code_of pieces

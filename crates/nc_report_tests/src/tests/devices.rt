@@ -13,7 +13,7 @@ impl Read for Endless {
     }
 }
 
-/// Gives at most so many bytes in a read, and fails where so many have been given.
+/// Gives a limited number of bytes in a read, and fails once a number of them has been given.
 #[derive(Drop)]
 pub struct Failing<'a> {
     pub rest: &'a [u8],
@@ -33,7 +33,7 @@ impl Read for Failing<'_> {
     }
 }
 
-/// Takes a byte in a write, so many of them; then it fails, or takes none. A flush may fail.
+/// Takes a byte in a write, up to its room; then it fails, or takes none. A flush may fail.
 #[derive(Drop)]
 pub struct Full<'a> {
     pub out: &'a mut Vec<u8>,

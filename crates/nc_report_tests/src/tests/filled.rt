@@ -4,7 +4,7 @@ use nc_report::{Labels, Source};
 use std::alloc::Global;
 use std::test::Fail;
 
-/// A source of this name: these bytes, and then nops up to so many.
+/// A source of this name: these bytes, and then nops up to this length.
 pub fn source(alloc: Global, name: &[u8], bytes: &[u8], length: usize) -> Result<Source, Fail> {
     let mut kept = Vec::new(alloc);
     kept.extend_from_slice(name)?;
@@ -18,7 +18,7 @@ pub fn source(alloc: Global, name: &[u8], bytes: &[u8], length: usize) -> Result
     })
 }
 
-/// Adds the same bytes so many times.
+/// Adds these bytes several times.
 fn repeat(long: &mut Vec<u8>, bytes: &[u8], times: usize) -> Result<(), Fail> {
     for _ in 0..times {
         long.extend_from_slice(bytes)?;

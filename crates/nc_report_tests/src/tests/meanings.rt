@@ -103,7 +103,7 @@ fn told<T: Threads + Wait + Sync>(
     Ok(written)
 }
 
-/// The first line is the verdict, and the line that follows after so many others begins with the words.
+/// The first line is the verdict, and after this many further lines one begins with the words.
 fn says(written: &[u8], verdict: &[u8], between: usize, words: &[u8]) -> bool {
     let mut lines = written.split(|byte: &u8| *byte == b'\n');
     let first = lines.next().unwrap_or(b"");

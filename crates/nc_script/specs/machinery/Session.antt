@@ -59,7 +59,7 @@ SeatFits generation freed (Some p) bound (Staying n) = (p.numbers.word ≡ n) ×
 SeatFits generation freed None bound (Left n) = (n ≤ bound) × (n ≤ generation) × (freed ≤ bound)
 SeatFits generation freed _ bound _ = ⊥
 
--- so it is of each seat
+-- the passes and the keeper's bounds fit the script's seats, of which there is at least one
 pub record SeatsFit (generation freed : ℕ) (passes : List (Option PassState)) (bounds : List ℕ) (seats : List Seat) : Type 0 where
   pub some : 0 < length seats
   pub passes_long : length passes ≡ length seats
@@ -91,7 +91,7 @@ FollowsLine old line reply new = (seats : List Seat) (freed : ℕ) → Fits old 
     → (next : List Seat) × (number : ℕ) × AnswersOnly (script_of old.region seats freed) line reply (script_of new.region next number)
     × Fits new next number
 
--- the same of a region, with whatever seats
+-- whatever state the region and any seats stood for, this answers the request, and leads to a state for which they stand now
 abbrev pub FollowsIn : Request → Region → List ℕ → Region → Type 0
 FollowsIn request old reply new = (seats : SeatsState)
     → Follows request (record { region = old; seats = seats }) reply (record { region = new; seats = seats })

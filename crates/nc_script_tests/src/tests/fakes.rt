@@ -6,7 +6,7 @@ use std::io::{Error, ErrorKind, Read, Result, Write};
 /// A call that never comes.
 pub const NEVER: usize = usize::MAX;
 
-/// Gives at most so many bytes in a read, and fails at the given read.
+/// Gives at most `size` bytes in a read, and fails at the given read.
 #[derive(Drop)]
 pub struct Pieces<'a> {
     pub rest: &'a [u8],
@@ -16,7 +16,7 @@ pub struct Pieces<'a> {
 }
 
 impl<'a> Pieces<'a> {
-    /// Gives at most so many bytes in a read, and never fails.
+    /// Gives at most `size` bytes in a read, and never fails.
     pub fn new(rest: &'a [u8], size: usize) -> Pieces<'a> {
         Pieces {
             rest,
@@ -50,7 +50,7 @@ impl Read for Pieces<'_> {
     }
 }
 
-/// Takes at most so many bytes in a write, and fails or takes none at the given one; a flush is counted and may fail.
+/// Takes at most `size` bytes in a write, and fails or takes none at the given one; a flush is counted and may fail.
 #[derive(Drop)]
 pub struct Slow {
     pub out: Vec<u8>,
@@ -63,7 +63,7 @@ pub struct Slow {
 }
 
 impl Slow {
-    /// Takes at most so many bytes in a write, and never fails but in a flush, if that does.
+    /// Takes at most `size` bytes in a write, and never fails but in a flush, if that does.
     pub fn new(alloc: Global, size: usize, flushes: bool) -> Slow {
         Slow {
             out: Vec::new(alloc),

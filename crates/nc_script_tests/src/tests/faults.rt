@@ -42,7 +42,7 @@ fn ends(bytes: &[u8]) -> usize {
     bytes.iter().filter(|byte| **byte == b'\n').count()
 }
 
-/// How long the first so many lines are.
+/// How long the first `lines` lines are.
 fn length_of(bytes: &[u8], lines: usize) -> usize {
     let mut left = lines;
     for (i, byte) in bytes.iter().enumerate() {

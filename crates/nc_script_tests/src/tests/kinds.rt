@@ -40,7 +40,7 @@ impl Read for ThenFails<'_> {
     }
 }
 
-/// Takes one byte in a write, so many in all, and then fails: by an error, or by taking none if there is no kind.
+/// Takes one byte in a write, as many in all as it has room for, and then fails: by an error, or by taking none if there is no kind.
 #[derive(Drop)]
 struct Bytewise<'a> {
     out: &'a mut Vec<u8>,
@@ -98,7 +98,7 @@ fn run_into(
     (answer, written)
 }
 
-/// The same of lines of chunks.
+/// The fault of vetting lines of chunks over a writer that may fail, and what was written.
 fn vet_into<T: Threads + Wait + Sync>(
     rt: &T,
     alloc: Global,

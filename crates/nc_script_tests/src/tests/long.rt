@@ -5,7 +5,7 @@ use crate::tests::calls::replay;
 use std::alloc::{AllocError, Global};
 use std::test::Fail;
 
-/// Adds `nop` so many times, as digits.
+/// Adds `nop` `count` times, as digits.
 fn push_nops(out: &mut Vec<u8>, count: usize) -> Result<(), AllocError> {
     for _ in 0..count {
         out.extend_from_slice(b"90")?;
@@ -20,7 +20,7 @@ fn push_place(out: &mut Vec<u8>, at: u32) -> Result<(), AllocError> {
     out.extend_from_slice(&digits)
 }
 
-/// What a script writes on a region of so many bundles.
+/// What a script writes on a region of this size.
 fn replies(alloc: Global, script: &[u8], bundles: u32) -> Result<Vec<u8>, Fail> {
     let mut written = Vec::new(alloc);
     let mut reader = script;
@@ -228,7 +228,7 @@ fn long_walk(rt: HostRuntime) -> Result<(), Fail> {
     Ok(())
 }
 
-/// Adds a chunk of so many bundles, and how it is shown.
+/// Adds a chunk of this many bundles, and how it is shown.
 fn push_large(script: &mut Vec<u8>, owed: &mut Vec<u8>, bundles: usize) -> Result<(), AllocError> {
     script.extend_from_slice(b"create 00010000 ")?;
     push_nops(script, bundles.saturating_mul(32))?;

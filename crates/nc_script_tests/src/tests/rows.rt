@@ -26,7 +26,7 @@ pub fn input_and_owed(alloc: Global, rows: &[Row]) -> Result<(Vec<u8>, Vec<u8>),
     Ok((input, owed))
 }
 
-/// What a script writes on four bundles for so many seats.
+/// What a script writes on four bundles with this many seats.
 pub fn written(alloc: Global, script: &[u8], seats: u32) -> Result<Vec<u8>, Fail> {
     let mut written = Vec::new(alloc);
     let mut reader = script;
@@ -36,7 +36,7 @@ pub fn written(alloc: Global, script: &[u8], seats: u32) -> Result<Vec<u8>, Fail
     }
 }
 
-/// These lines as one script on four bundles for so many seats write their replies; otherwise both are in the failure.
+/// These lines as one script on four bundles with this many seats write their replies; otherwise both are in the failure.
 pub fn replies_as_owed(alloc: Global, rows: &[Row], seats: u32) -> Result<(), Fail> {
     let (input, owed) = input_and_owed(alloc, rows)?;
     is_owed(&written(alloc, &input, seats)?, &owed)

@@ -23,7 +23,7 @@ abbrev pub AreGoodShorts : ℕ → ℕ → List ℕ → List Bundle → ℕ → 
 AreGoodShorts base limit code bundles start ends = (k : ℕ) → k < 64 → bit_at ends k ≡ 1
     → IsGood base limit code bundles (short_to base code (start + k))
 
--- the same of a displacement of four bytes
+-- the transfers may go where they go whose displacement is four bytes, and of which these are the last bytes, counted from a place
 abbrev pub AreGoodNears : ℕ → ℕ → List ℕ → List Bundle → ℕ → ℕ → Type 0
 AreGoodNears base limit code bundles start ends = (k : ℕ) → k < 64 → bit_at ends k ≡ 1
     → IsGood base limit code bundles (near_to base code (start + k))
@@ -35,6 +35,6 @@ pub record IsJudged (base limit : ℕ) (code : List ℕ) (bundles : List Bundle)
   pub nears : (k : ℕ) → k < 32 → bit_at (get_or bundles n no_bits).nears k ≡ 1
       → IsGood base limit code bundles (near_to base code (32 * n + k))
 
--- so it is of the first bundles
+-- all direct transfers of the first bundles may go where they go
 abbrev pub AreJudged : ℕ → ℕ → List ℕ → List Bundle → ℕ → Type 0
 AreJudged base limit code bundles count = (n : ℕ) → n < count → IsJudged base limit code bundles n

@@ -49,7 +49,7 @@ pub record Tells (code : List ℕ) (at : ℕ) (w : Bundle) : Type 0 where
   pub nears : (k : ℕ) → k < 32 → (bit_at w.nears k == 1) ≡ (state_after code (at + k) == AFTER_NEAR)
   pub small : w.pairs < 2 ^ 32
 
--- so it is of each of these bundles, and an instruction ends with each
+-- the bits tell the states after the bytes of each of these bundles, and an instruction ends with each
 abbrev pub AreTold : List ℕ → List Bundle → Type 0
 AreTold code bundles = (n : ℕ) → n < length bundles → Tells code (32 * n) (get_or bundles n no_bits)
     × (END ≤ state_after code (32 * n + 31))
@@ -63,7 +63,7 @@ pub record EndsFront (code : List ℕ) (bundles : List Bundle) (at : ℕ) : Type
   pub high : at ≤ length code
   pub ended : 32 * length bundles < at → (END ≤ state_after code (at - 1)) × (slice_index code (at - 1) ≢ 0xE0)
 
--- so it is of all bundles of the code, where its marks are bits
+-- where the marks are bits, they tell the states after the bytes of all bundles of the code
 abbrev pub AreBitsTold : List ℕ → Marks → Type 0
 AreBitsTold code (Bits bundles) = AreTold code bundles.items × (length code ≡ 32 * length bundles.items)
 AreBitsTold code (Each marks) = ⊤

@@ -45,6 +45,6 @@ pub record IsScanned (code : List ℕ) (to : ℕ) (S : ℕ → ℕ) : Type 0 whe
   pub direct : (b a : List Piece) (p : Piece) → pieces ≡ b ++ p ∷ a → IsTrue (is_direct p.instr.flow)
       → IsDisplaced S code (place b + length p.bytes) p.instr
 
--- so it is wherever the states say so
+-- wherever states are those of the automaton, the code is scanned by them
 abbrev pub Scans : Type 0
 Scans = (code : List ℕ) (to : ℕ) (S : ℕ → ℕ) → AreStates code to S → IsScanned code to S

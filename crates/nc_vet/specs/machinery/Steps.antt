@@ -18,7 +18,7 @@ pub record MayFollow (window : List ℕ) (masked : Option ℕ) (i : Instr) : Typ
   pub inside : i.len ≤ length window
   pub paired : is_indirect i.flow ≡ true → masked ≡ Some i.reg
 
--- why none may
+-- why no instruction may stand there: the fault that is due
 abbrev pub NoneMayFollow : List ℕ → Option ℕ → ℕ → VetFault → Type 0
 NoneMayFollow window masked address (Bare at) = (at ≡ address) × ((i : Instr) × IsAtFront window i × (is_indirect i.flow ≡ true)
     × (masked ≢ Some i.reg))
@@ -50,7 +50,7 @@ pub record HasReadAll (code : List ℕ) (marks : List Mark) : Type 0 where
   pub sound : AreSound pieces
   pub marks_are : marks ≡ marks_of pieces
 
--- why the reading ended
+-- the fault with which a reading may end: that of the code where it is stuck, or lack of memory
 abbrev pub EndsReading : ℕ → List ℕ → VetFault → Type 0
 EndsReading base code OutOfMemory = ⊤
 EndsReading base code fault = IsStuck base code fault
