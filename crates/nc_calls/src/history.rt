@@ -16,7 +16,7 @@ ghost use Rattle.nc_calls.specs.Histories.{Turn, IsHistory, AllStand, happened, 
 ///
 /// - after every event each thread inside stands, in every view, on a permitted instruction that isn't barred, wholly inside
 ///   its bundle, on an indirect jump or call only with that register just masked, or on a bundle start of the zone;
-/// - whenever a retired span is freed, no thread stands at a place of it that isn't a bundle start;
+/// - when a retired span is freed, no thread is in it except possibly at a bundle start;
 /// - the world at the end stands for the region at the end: its bytes and marks are the region's, and its retired spans
 ///   those of the retired chunks; and the region's text is confined, so whoever enters it later is as safe;
 /// - a creation that was refused has changed nothing but pages made. (A refused patch or deletion leaves an equal region.)
