@@ -17,7 +17,7 @@ use crate::acts::Acts;
 use nc_decode::Mark;
 use nc_vet::Vetted;
 
-/// Creates a chunk that is closed by itself in an unused span.
+/// Creates a chunk that is closed by itself in an unused span. `room` is for a list of its marks, if `acts` takes no bits.
 pub(crate) fn put_chunk<A: Acts>(
     acts: &mut A,
     base: u32,

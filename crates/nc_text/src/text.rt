@@ -221,8 +221,8 @@ impl Text {
     }
 
     /// Sets the marks of the span that begins at `at` and is as long as `code`, by the bits of its bundles, as vetting finds
-    /// them. It does what `mark_span` does with the list of these marks, under the same conditions, but needs no list. Of bundles
-    /// that are left out no instruction but the first is known.
+    /// them. It does what `mark_span` does with the list of these marks, under the same conditions, but needs no list. The span
+    /// is whole bundles from a bundle start on; a bundle for which there are no bits has only its start marked.
     pub fn mark_bundles(&mut self, at: u32, code: &[u8], bundles: &[Bundle])
         requires inside { SpanInRegion self.old.marked.bytes at (length code.now) }
         requires start { IsBundleStart at }
