@@ -4,14 +4,11 @@ use Rattle.std.proofs.Common.{replicate, get_or, append_assoc, append-nil, refl,
 use Rattle.std.proofs.Common.{eqb-true, eq-eqb, nat_le, nat_lt, lt-ltb, ltb-true, w8, Fits}
 use Rattle.std.specs.Prelude.{slice_index, ℤ}
 use Rattle.std.specs.Int.{bit_at, w32, cast_signed, cast_unsigned, from_le_bytes}
-use Rattle.std.specs.List.{range_with_len}
 use Rattle.std.proofs.lemmas.Bool.{cases_lt, eqb-false}
 use Rattle.std.proofs.lemmas.Nat.Bits.{bit_at_above}
-use Rattle.std.proofs.lemmas.List.{get_or_default, get_or-append-add, length-map, length-append, take_all, ext_get_or, nil_from_length}
-use Rattle.std.proofs.lemmas.List.FromFn.{get_or-map-range_with_len, length-range_with_len}
+use Rattle.std.proofs.lemmas.List.{get_or_default, get_or-append-add, length-append, take_all, ext_get_or, nil_from_length}
 use Rattle.nc_decode.specs.declared.automaton.TheConstants.{END, AFTER_SHORT, AFTER_NEAR, AFTER_PAIR}
 use Rattle.nc_decode.specs.declared.instruction.Instr.{Instr}
-use Rattle.nc_decode.specs.declared.instruction.Mark.{Mark}
 use Rattle.nc_decode.specs.declared.instruction.Mark.TheVariants.{Unmarked}
 use Rattle.nc_decode.specs.Transfers.{target}
 use Rattle.nc_decode.specs.Spelling.{mask}

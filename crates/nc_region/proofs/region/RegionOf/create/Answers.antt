@@ -1,10 +1,9 @@
-use Rattle.std.proofs.Common.{◌≡◌, ℕ, ◌+◌, ◌<◌, ◌^◌, List, length, arith, rules, sym, ap, subst, ◌∙◌, refl, All}
+use Rattle.std.proofs.Common.{◌≡◌, ℕ, ◌+◌, ◌<◌, ◌^◌, length, arith, rules, sym, ap, subst, ◌∙◌, refl}
 use Rattle.std.proofs.Common.{Result, Ok, Err, IfOk, true, false}
 use Rattle.std.specs.Result.{is_err}
 use Rattle.std.specs.List.{insert}
-use Rattle.nc_decode.specs.declared.instruction.Mark.{Mark}
 use Rattle.nc_text.specs.Places.{limit_of}
-use Rattle.nc_text.specs.MarkedText.{MarkedText, IsText, NamesRegister}
+use Rattle.nc_text.specs.MarkedText.{MarkedText, IsText}
 use Rattle.nc_text.specs.Ready.{AreReady}
 use Rattle.nc_text.proofs.Offered.{confined_if_closed}
 use Rattle.nc_region.specs.declared.chunk.Chunk.{Chunk}

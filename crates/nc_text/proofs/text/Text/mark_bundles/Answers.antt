@@ -1,7 +1,7 @@
-use Rattle.std.proofs.Common.{◌≡◌, ℕ, ◌-◌, ◌<◌, ◌≤◌, length, get_or, arith, subst, sym, ap, ◌∙◌}
+use Rattle.std.proofs.Common.{◌≡◌, ℕ, ◌-◌, ◌<◌, length, get_or, arith, subst, sym, ap, ◌∙◌}
 use Rattle.std.proofs.lemmas.Bool.Decides.{nat_tests}
 use Rattle.nc_decode.specs.declared.instruction.Mark.TheVariants.{Unmarked}
-use Rattle.nc_decode.specs.Bits.{mark_at, marks_in}
+use Rattle.nc_decode.specs.Bits.{marks_in}
 use Rattle.nc_decode.proofs.Offered.{length-marks_in, marks_in-at}
 use Rattle.nc_text.specs.machinery.Pages.{mark_of}
 use Rattle.nc_text.specs.Ready.{TextState}
