@@ -44,6 +44,11 @@ pub(crate) fn reclaim<A: Acts + Drop>(region: &mut RegionOf<A>) -> u32 {
     region.reclaim()
 }
 
+/// `RegionOf::chunk_count`.
+pub(crate) fn chunk_count<A: Acts + Drop>(region: &RegionOf<A>) -> usize {
+    region.chunk_count()
+}
+
 /// `RegionOf::walk`.
 pub(crate) fn walk<A: Acts + Drop>(
     region: &RegionOf<A>,

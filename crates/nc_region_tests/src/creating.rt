@@ -44,8 +44,8 @@ fn sizes(rt: HostRuntime) -> Result<(), Fail> {
 /// Creates a chunk, and then others: vetted for another limit, where a chunk stands and where none does, and in its place.
 fn refusals(region: &mut Region<'_>, alloc: Global) -> Result<[Option<CreateFault>; 4], Fail> {
     let none = refused(region, alloc, 0x10000, LIMIT, 1)?;
-    let here = refused(region, alloc, 0x10000, 0x10100, 1)?;
-    let beside = refused(region, alloc, 0x10020, 0x10100, 1)?;
+    let here = refused(region, alloc, 0x10000, 0x100A0, 1)?;
+    let beside = refused(region, alloc, 0x10020, 0x100A0, 1)?;
     let again = refused(region, alloc, 0x10000, LIMIT, 1)?;
     Ok([none, here, beside, again])
 }

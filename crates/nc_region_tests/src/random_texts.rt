@@ -85,7 +85,7 @@ fn step(
     ensures { pass.new.table ≡ gens.now }
 {
     let kind = numbers.below(8);
-    let number = numbers.below(16);
+    let number = numbers.below(calls::chunk_count(region));
     let base = region.chunk(number).map_or(0, |chunk| chunk.base);
     match kind {
         0 => {
@@ -126,7 +126,7 @@ fn random_texts(rt: HostRuntime) -> Result<(), Fail> {
     let (gens, keeper, mut passes) = Gens::new(alloc, 1)?;
     let mut pass = passes.remove(0);
     let mut region = twinned(alloc, &gens, keeper)?;
-    let mut numbers = Numbers::new(4097);
+    let mut numbers = Numbers::new(4096);
     let mut done = Done {
         created: 0,
         patched: 0,

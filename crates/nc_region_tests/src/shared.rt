@@ -1,12 +1,15 @@
 //! A region that threads share: what its calls do under the lock.
-ghost use Rattle.std.specs.Prelude.{◌≡◌};
+ghost use Rattle.std.specs.Prelude.{◌≡◌, IfOk};
+ghost use Rattle.nc_region.specs.Region.{IsNew};
 
 use crate::calls;
 use crate::fixtures::{LIMIT, chunk, is_trace, region};
 use nc_gens::{Gens, Keeper, Pass};
 use nc_region::{
-    Acts, CreateFault, DeleteFault, End, ModifyFault, Region, Shared, SharedOf, Trace,
+    Acts, CreateFault, DeleteFault, End, ModifyFault, Plain, Recorder, Region, RegionOf, Shared,
+    SharedOf, Trace,
 };
+use nc_text::Text;
 use nc_vet::Vetted;
 use std::alloc::Global;
 use std::sync::Wait;
@@ -69,6 +72,81 @@ fn two_threads(rt: HostRuntime) -> Result<(), Fail> {
     Ok(())
 }
 
+/// A region over these acts, for threads to share.
+///
+/// It is generic, since a proof over a region whose acts are a recorder takes several times as long.
+fn share<'g, A: Acts + Drop>(alloc: Global, acts: A, gens: &'g Gens) -> SharedOf<'g, A>
+    requires new { IsNew (A.marked acts) }
+    requires table { (A.keeper acts).table ≡ gens.now }
+    ensures { result ≡ gens.now }
+{
+    SharedOf::over(RegionOf::over(alloc, acts), gens)
+}
+
+/// A region of this size over a recorder, for threads to share.
+fn recorded<'g>(
+    alloc: Global,
+    bundles: u32,
+    gens: &'g Gens,
+    keeper: Keeper,
+) -> Result<SharedOf<'g, Recorder<Plain<'g>>>, Fail>
+    requires { keeper.table ≡ gens.now }
+    ensures { IfOk result (λ s. s ≡ gens.now) }
+{
+    let text = match Text::new(alloc, bundles) {
+        Ok(text) => text,
+        Err(fault) => return Err(Fail::new(format_args!("{fault:?}"))),
+    };
+    let recorder = Recorder::new(alloc, Plain::new(text, gens, keeper), 100)?;
+    Ok(share(alloc, recorder, gens))
+}
+
+/// The first jump turned to 00010040, the second chunk deleted, and two reclaimings, with a check-in between them: how many
+/// each of them freed.
+fn patch_and_free<R: Wait, A: Acts + Drop>(
+    rt: &R,
+    shared: &SharedOf<'_, A>,
+    pass: Pass,
+) -> Result<(u32, u32), Fail>
+    requires { pass.table ≡ shared.now }
+{
+    let mut pass = pass;
+    let patched = calls::modify_shared(rt, shared, 0x10000, &[0xEB, 0x3E]);
+    let stamp = calls::delete_shared(rt, shared, 0x10020);
+    if patched.is_err() || stamp != Ok(1) {
+        return Err(Fail::new("not patched, or another stamp"));
+    }
+    let early = shared.reclaim(rt);
+    shared.check_in(&mut pass);
+    let late = shared.reclaim(rt);
+    shared.leave(pass);
+    Ok((early, late))
+}
+
+#[test]
+fn two_threads_over_a_recorder(rt: HostRuntime) -> Result<(), Fail> {
+    let alloc = rt.alloc();
+    let (gens, keeper, mut passes) = Gens::new(alloc, 1)?;
+    let pass = passes.remove(0);
+    let shared = recorded(alloc, 4, &gens, keeper)?;
+    let one = chunk(alloc, 0x10000, LIMIT, 1, &[0xEB, 0x1E])?;
+    let other = chunk(alloc, 0x10020, LIMIT, 1, &[0xEB, 0xDE])?;
+    let (first, second) = run_two(&rt, &shared, one, other);
+    assert_eq!(rt; (first.is_some(), second.is_some()), (true, true));
+    let Ok(trace) = calls::walk_shared(&rt, &shared, 0x10000, &[0, 0, 0]) else {
+        return Err(Fail::new("no walk after both"));
+    };
+    assert!(rt; is_trace(&trace, &[0x10000, 0x10020, 0x10000, 0x10020], End::More));
+    assert_eq!(rt; shared.chunk_count(&rt), 2);
+    assert_eq!(rt; patch_and_free(&rt, &shared, pass)?, (0, 1));
+    assert_eq!(rt; shared.chunk_count(&rt), 1);
+    let Ok(trace) = calls::walk_shared(&rt, &shared, 0x10000, &[0, 0, 0]) else {
+        return Err(Fail::new("no walk after the patch"));
+    };
+    assert!(rt; is_trace(&trace, &[0x10000, 0x10040], End::Stop));
+    Ok(())
+}
+
 /// Creates a chunk of two bundles with a jump to 00010020, and then one there: whether the first is created, and the refusal
 /// of the second.
 fn create_both<R: Wait>(
@@ -124,6 +202,24 @@ fn shared_calls(rt: HostRuntime) -> Result<(), Fail> {
     shared.check_in(&mut pass);
     assert_eq!(rt; reclaim_and_count(&rt, &shared), (1, 0));
     shared.leave(pass);
+    Ok(())
+}
+
+#[test]
+fn shared_patch(rt: HostRuntime) -> Result<(), Fail> {
+    let alloc = rt.alloc();
+    let (gens, keeper, _passes) = Gens::new(alloc, 1)?;
+    let shared = Shared::new(region(alloc, 4, &gens, keeper)?);
+    let vetted = chunk(alloc, 0x10000, LIMIT, 1, &[0xEB, 0x1E])?;
+    assert!(rt; calls::creates_shared(&rt, &shared, vetted));
+    assert_eq!(rt;
+        calls::modify_shared(&rt, &shared, 0x10000, &[0xEB, 0x3E]),
+        Ok(())
+    );
+    let Ok(trace) = calls::walk_shared(&rt, &shared, 0x10000, &[0, 0]) else {
+        return Err(Fail::new("no walk"));
+    };
+    assert!(rt; is_trace(&trace, &[0x10000, 0x10040], End::Stop));
     Ok(())
 }
 

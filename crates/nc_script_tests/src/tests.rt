@@ -8,4 +8,5 @@ mod patching;
 mod reuse;
 mod rows;
 mod script;
+mod stream;
 mod vetting;

@@ -13,7 +13,7 @@ impl Read for Endless {
     }
 }
 
-/// Gives a limited number of bytes in a read, and fails once a number of them has been given.
+/// Gives at most `size` bytes in a read, and may fail once all have been given.
 #[derive(Drop)]
 pub struct Failing<'a> {
     pub rest: &'a [u8],

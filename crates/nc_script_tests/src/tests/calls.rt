@@ -1,7 +1,8 @@
 //! The calls that are tested, each in a function without a clause, so that no proof above goes through all that the call's
 //! contract says.
 
-use nc_script::{ReplayFault, run, vet_lines};
+use crate::tests::fakes::Echo;
+use nc_script::{ReplayFault, answer_all, run, vet_lines};
 use nc_work::Open;
 use std::alloc::Global;
 use std::io::{Read, Write};
@@ -29,4 +30,13 @@ pub fn vet<T: Threads + Wait + Sync, R: Read, W: Write>(
     workers: u32,
 ) -> Result<(), ReplayFault> {
     vet_lines(rt, alloc, reader, writer, bundles, workers, &Open)
+}
+
+/// Repeats lines.
+pub fn echo<R: Read, W: Write>(
+    alloc: Global,
+    reader: &mut R,
+    writer: &mut W,
+) -> Result<(), ReplayFault> {
+    answer_all(alloc, &mut Echo, reader, writer)
 }

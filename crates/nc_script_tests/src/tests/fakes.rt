@@ -1,10 +1,26 @@
-//! Readers and writers that stop or fail.
+//! A responder that repeats its lines, and readers and writers that stop or fail.
+ghost use Rattle.std.specs.Prelude.{◌≡◌, ◌++◌, ◌∷◌, [], ℕ, List, None};
+ghost use Rattle.nc_lines.specs.Lines.{kept_of};
 
-use std::alloc::Global;
+use nc_script::Responder;
+use std::alloc::{AllocError, Global};
 use std::io::{Error, ErrorKind, Read, Result, Write};
 
 /// A call that never comes.
 pub const NEVER: usize = usize::MAX;
+
+#[derive(Drop)]
+pub struct Echo;
+
+impl Responder for Echo {
+    ghost answers = { λ old line reply new. (reply ≡ kept_of line ++ 10 ∷ []) };
+
+    fn answer(&mut self, kept: &[u8], out: &mut Vec<u8>) -> std::result::Result<(), AllocError> {
+        out.extend_from_slice(kept)?;
+        out.push(b'\n')?;
+        Ok(())
+    }
+}
 
 /// Gives at most `size` bytes in a read, and fails at the given read.
 #[derive(Drop)]

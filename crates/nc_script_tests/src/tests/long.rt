@@ -38,14 +38,19 @@ fn push_placed(out: &mut Vec<u8>, word: &[u8], at: u32) -> Result<(), AllocError
     Ok(())
 }
 
-/// Adds a line that creates two bundles of nops.
-fn push_create(out: &mut Vec<u8>, at: u32) -> Result<(), AllocError> {
+/// Adds a line that creates a chunk of this many bundles of nops.
+fn push_nop_chunk(out: &mut Vec<u8>, at: u32, bundles: usize) -> Result<(), AllocError> {
     out.extend_from_slice(b"create ")?;
     push_place(out, at)?;
     out.push(b' ')?;
-    push_nops(out, 64)?;
+    push_nops(out, bundles.saturating_mul(32))?;
     out.push(b'\n')?;
     Ok(())
+}
+
+/// Adds a line that creates two bundles of nops.
+fn push_create(out: &mut Vec<u8>, at: u32) -> Result<(), AllocError> {
+    push_nop_chunk(out, at, 2)
 }
 
 /// Adds a decimal number and an end.
@@ -189,18 +194,34 @@ fn many_reused(rt: HostRuntime) -> Result<(), Fail> {
     Ok(())
 }
 
-/// A chunk that meets another one in its second bundle only, and one in its first bundle only.
+/// A chunk of two bundles; chunks that overlap it in their second bundle only, in their first only, around it and inside; and
+/// chunks directly before it and directly after it.
+static OVERLAPS: [(u32, usize); 7] = [
+    (0x10020, 2),
+    (0x10000, 2),
+    (0x10040, 2),
+    (0x10000, 4),
+    (0x10040, 1),
+    (0x10000, 1),
+    (0x10060, 2),
+];
+
+/// Creates the chunks of these rows.
+fn push_overlaps(script: &mut Vec<u8>, rows: &[(u32, usize)]) -> Result<(), AllocError> {
+    for (base, bundles) in rows {
+        push_nop_chunk(script, *base, *bundles)?;
+    }
+    Ok(())
+}
+
 #[test]
 fn partial_overlap(rt: HostRuntime) -> Result<(), Fail> {
     let mut script = Vec::new(rt.alloc());
-    for base in [0x10020u32, 0x10000, 0x10040, 0x10060] {
-        push_create(&mut script, base)?;
-    }
+    push_overlaps(&mut script, &OVERLAPS)?;
     let written = replies(rt.alloc(), &script, 2048)?;
-    assert_eq!(rt;
-        written.as_slice(),
-        b"ok\nrefused Occupied\nrefused Occupied\nok\n".as_slice()
-    );
+    let owed =
+        b"ok\nrefused Occupied\nrefused Occupied\nrefused Occupied\nrefused Occupied\nok\nok\n";
+    assert_eq!(rt; written.as_slice(), owed.as_slice());
     Ok(())
 }
 

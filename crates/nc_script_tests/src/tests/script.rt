@@ -49,7 +49,7 @@ const TAKEN: [Row; 7] = [
 ];
 
 /// A masked jump, to where the choice says.
-const MASKED_JUMP: [Row; 10] = [
+const MASKED_JUMP: [Row; 11] = [
     (b"create 00010000 83e3e0ffe3*", b"ok"),
     (
         b"walk 00010000 00000000 0001004f",
@@ -72,6 +72,7 @@ const MASKED_JUMP: [Row; 10] = [
     (b"walk 00010040 00000000", b"walk 00010040 stop"),
     (b"walk 00010003", b"refused NotBundle"),
     (b"walk 00010080", b"refused NotBundle"),
+    (b"walk 0000ffe0", b"refused NotBundle"),
 ];
 
 /// A branch, which the choice 0 doesn't take.
