@@ -129,7 +129,7 @@ fn base_of(text: &str) -> Option<u32>
     u32::from_str_radix(digits, 16).ok()
 }
 
-/// The fault of a value.
+/// A fault of what the words give, which the parser doesn't find.
 fn refusal(alloc: Global, message: &str) -> Error {
     fault(program(alloc), ErrorKind::InvalidValue, message)
 }
