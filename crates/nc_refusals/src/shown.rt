@@ -17,15 +17,20 @@ pub(crate) fn after<R: Print>(rt: &R) -> Result<()> {
     println!(rt; "answer")
 }
 
-/// Marks as a text, one character for each: `.` for no mark, `p` for a plain one, and the masked register's number.
-fn marks_text(alloc: Global, marks: &[Mark]) -> std::result::Result<String, AllocError> {
+/// A mark as a character: `.` for no mark, `p` for a plain one, or the masked register's number.
+fn mark_char(mark: Mark) -> char {
+    match mark {
+        Mark::Unmarked => '.',
+        Mark::Plain => 'p',
+        Mark::After(register) => char::from(b'0'.saturating_add(register)),
+    }
+}
+
+/// The marks of a vetted chunk as a text, one character for each byte.
+fn marks_text(alloc: Global, vetted: &Vetted) -> std::result::Result<String, AllocError> {
     let mut text = String::new(alloc);
-    for mark in marks {
-        match mark {
-            Mark::Unmarked => text.push('.')?,
-            Mark::Plain => text.push('p')?,
-            Mark::After(register) => text.push(char::from(b'0'.saturating_add(*register)))?,
-        }
+    for i in 0..vetted.code().len() {
+        text.push(mark_char(vetted.mark(i)))?;
     }
     Ok(text)
 }
@@ -40,7 +45,7 @@ pub(crate) fn print_bytes<R: Print + AllocGlobal>(rt: &R, word: &str, bytes: &[u
 pub(crate) fn print_vetted<R: Print + AllocGlobal>(rt: &R, vetted: &Vetted) -> Result<()> {
     println!(rt; "at {:08x} below {:08x}", vetted.base(), vetted.limit())?;
     print_bytes(rt, "code", vetted.code())?;
-    let marks = marks_text(rt.alloc(), &vetted.marks(rt.alloc())?)?;
+    let marks = marks_text(rt.alloc(), vetted)?;
     println!(rt; "marks {marks}")
 }
 

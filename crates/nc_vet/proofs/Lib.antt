@@ -8,7 +8,6 @@ pub mod Stuck
 pub mod OneFault
 pub mod OneVerdict
 pub mod Scanning
-pub mod LaidMarks
 pub mod LaneBits
 pub mod RunStates
 pub mod BitPlaces

@@ -36,7 +36,7 @@ fn is_good(base: u32, limit: u32, code: &[u8], bundles: &[Bundle], to: u32) -> b
 
 /// The place of the lowest bit, and the other bits.
 #[inline(always)]
-pub(crate) fn lowest(bits: u64) -> (u32, u64)
+fn lowest(bits: u64) -> (u32, u64)
     requires { 0 < bits }
     ensures place { result.0 < 64 }
     ensures set { bit_at bits result.0 ≡ 1 }

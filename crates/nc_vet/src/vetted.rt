@@ -1,11 +1,10 @@
 //! A chunk that is known to be valid.
 
-ghost use Rattle.std.specs.Prelude.{◌≡◌, ◌<◌, length, slice_get, Some, IfOk, IfSome};
+ghost use Rattle.std.specs.Prelude.{◌≡◌, ◌<◌, length, slice_get, Some, IfSome};
 ghost use Rattle.nc_decode.specs.Bits.{marks_in};
 
-use crate::marks::{Marks, push_marks};
+use crate::marks::Marks;
 use nc_decode::{Bundle, Mark};
-use std::alloc::{AllocError, Global};
 use std::marker::Model;
 
 /// A valid chunk, with its base, the limit that it was vetted for, and its marks.
@@ -70,22 +69,8 @@ impl Vetted {
         &self.code
     }
 
-    /// The marks of the chunk's places, one for each byte: `After(r)` for an indirect transfer on register r, `Plain`
-    /// for the start of any other instruction, `Unmarked` elsewhere.
-    pub fn marks(&self, alloc: Global) -> Result<Vec<Mark>, AllocError>
-        ensures value { IfOk result (λ marks. marks.items ≡ self.now.marks) }
-        ensures each { IfOk result (λ marks. length marks.items ≡ length self.now.code) }
-    {
-        let code = self.code();
-        let mut marks = Vec::with_capacity(alloc, code.len())?;
-        match &self.marks {
-            Marks::Bits(bundles) => push_marks(&mut marks, code, bundles)?,
-            Marks::Each(each) => marks.extend_from_slice(each)?,
-        }
-        Ok(marks)
-    }
-
-    /// The mark of the place `i` bytes after the base.
+    /// The mark of the place `i` bytes after the base: `After(r)` for an indirect transfer on register r, `Plain` for the
+    /// start of any other instruction, `Unmarked` elsewhere.
     pub fn mark(&self, i: usize) -> Mark
         requires { i < length self.now.code }
         ensures value { slice_get self.now.marks i ≡ Some result }

@@ -252,15 +252,13 @@ fn large_chunks(rt: HostRuntime) -> Result<(), Fail> {
         };
         assert_eq!(rt; vetted.code().len(), len);
         assert_eq!(rt; vetted.bundles().map(<[_]>::len), Some(bundles));
-        let marks = vetted.marks(rt.alloc())?;
-        assert_eq!(rt; marks.len(), len);
-        for (i, mark) in marks.iter().enumerate() {
+        for i in 0..vetted.code().len() {
             let wanted = match i % 32 {
                 1 | 2 | 4 | 6 => Mark::Unmarked,
                 3 => Mark::After(1),
                 _ => Mark::Plain,
             };
-            assert_eq!(rt; *mark, wanted, "at {i} of {bundles} bundles");
+            assert_eq!(rt; vetted.mark(i), wanted, "at {i} of {bundles} bundles");
         }
     }
     Ok(())
