@@ -1,9 +1,11 @@
 //! A recorder of acts, for tests and for whoever wants to see the order of single bytes.
 
-ghost use Rattle.std.specs.Prelude.{◌≡◌, ◌↔◌, ◌+◌, ◌*◌, ◌<◌, ◌≤◌, [], ◌∷◌, Some, None, IfOk, IsOk, OnOk, OnErr, ◌^◌, length, All};
-ghost use Rattle.std.specs.Prelude.{if◌then◌else◌, false};
+ghost use Rattle.std.specs.Prelude.{◌≡◌, ◌↔◌, ◌+◌, ◌*◌, ◌%◌, ◌<◌, ◌≤◌, [], ◌∷◌, Some, None, IfOk, IsOk, OnOk, OnErr, ◌^◌, length, All};
+ghost use Rattle.std.specs.Prelude.{IsTrue, if◌then◌else◌, false};
 ghost use Rattle.std.specs.Option.{option_map};
 ghost use Rattle.std.specs.Vec.{vec_len, vec_capacity};
+ghost use Rattle.nc_decode.specs.Bits.{marks_in};
+ghost use Rattle.nc_decode.specs.Bundles.{IsBundleStart};
 ghost use Rattle.nc_text.specs.MarkedText.{IsText, with_byte, with_marks, without_marks, NamesRegister, KeepsMarks, AreStops};
 ghost use Rattle.nc_text.specs.Marks.{IsClosed};
 ghost use Rattle.nc_text.specs.Ready.{IsReady, AreReady};
@@ -16,7 +18,7 @@ ghost use Rattle.nc_region.specs.Acts.{Tells};
 ghost use Rattle.nc_region.specs.Log.{Logs};
 
 use crate::acts::{Act, Acts, Entry};
-use nc_decode::Mark;
+use nc_decode::{Bundle, Mark};
 use nc_gens::{GensFull, Pass};
 use nc_text::TextFault;
 use std::alloc::{AllocError, Global};
@@ -193,6 +195,39 @@ impl<A: Acts + Drop> Acts for Recorder<A> {
     {
         self.acts.mark_span(at, marks);
         self.record(Act::MarkSpan(at, marks.len() as u32));
+    }
+
+    fn mark_bundles(&mut self, at: u32, code: &[u8], bundles: &[Bundle]) -> bool
+        requires inside { SpanInRegion (A.marked self.old.acts).bytes at (length code.now) }
+        requires start { IsBundleStart at }
+        requires whole { length code.now % 32 ≡ 0 }
+        requires ready { AreReady (A.made self.old.acts) at (length code.now) }
+        requires keeps { KeepsMarks (A.marked self.old.acts).marks
+            (with_marks (A.marked self.old.acts) at (marks_in code.now bundles.now)).marks }
+        requires closed { IsClosed (A.marked self.old.acts).bytes
+            (with_marks (A.marked self.old.acts) at (marks_in code.now bundles.now)).marks }
+        ensures marked { IsTrue result
+            → A.marked self.new.acts ≡ with_marks (A.marked self.old.acts) at (marks_in code.now bundles.now) }
+        ensures told { IsTrue result → Tells (if self.old.full then None else Some self.old.log.items)
+            (if self.new.full then None else Some self.new.log.items) (Act.MarkSpan at (length code.now) ∷ []) }
+        ensures goes_on { IsTrue result → (self.new.full ≡ false) ↔ ((self.old.full ≡ false)
+            × (vec_len self.old.log < vec_capacity self.old.log)) }
+        ensures logged { IsTrue result → Logs (if self.old.entries_full then None else Some self.old.entries.items)
+            (if self.new.entries_full then None else Some self.new.entries.items) (Entry.Did (Act.MarkSpan at (length code.now)) ∷ []) }
+        ensures logs_on { IsTrue result → (self.new.entries_full ≡ false) ↔ ((self.old.entries_full ≡ false)
+            × (vec_len self.old.entries < vec_capacity self.old.entries)) }
+        ensures unchanged { result ≡ false → (A.marked self.new.acts ≡ A.marked self.old.acts)
+            × (self.new.full ≡ self.old.full) × (self.new.log.items ≡ self.old.log.items)
+            × (self.new.entries_full ≡ self.old.entries_full) × (self.new.entries.items ≡ self.old.entries.items) }
+        ensures made { A.made self.new.acts ≡ A.made self.old.acts }
+        ensures whole { IsText (A.marked self.new.acts) }
+        ensures keeper { A.keeper self.new.acts ≡ A.keeper self.old.acts }
+    {
+        let done = self.acts.mark_bundles(at, code, bundles);
+        if done {
+            self.record(Act::MarkSpan(at, code.len() as u32));
+        }
+        done
     }
 
     fn unmark_span(&mut self, at: u32, len: u32)

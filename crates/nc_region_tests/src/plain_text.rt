@@ -2,7 +2,7 @@
 ghost use Rattle.std.specs.Prelude.{◌≡◌};
 ghost use Rattle.nc_text.specs.Places.{InRegion};
 
-use nc_decode::{Mark, START};
+use nc_decode::{Bundle, Instr, Mark, START, decode};
 use nc_gens::{GensFull, Pass};
 use nc_region::Acts;
 use nc_text::TextFault;
@@ -83,12 +83,39 @@ impl PlainText {
         }
     }
 
-    fn mark_span(&mut self, at: u32, marks: &[Mark]) {
-        let start = index(at);
+    fn mark_span(&mut self, start: usize, marks: &[Mark]) {
         for (k, mark) in marks.iter().enumerate() {
             if let Some(place) = self.marks.get_mut(start.saturating_add(k)) {
                 *place = *mark;
             }
+        }
+    }
+
+    /// Marks an instruction at its first byte, and takes the marks of its other bytes away.
+    fn mark_instruction(&mut self, start: usize, instr: Instr) {
+        let mark = if instr.flow.is_indirect() {
+            Mark::After(instr.reg)
+        } else {
+            Mark::Plain
+        };
+        self.mark_span(start, &[mark]);
+        for number in 1..usize::from(instr.len) {
+            self.mark_span(start.saturating_add(number), &[Mark::Unmarked]);
+        }
+    }
+
+    /// Marks the code of a valid chunk, one instruction after another as the decoder finds them.
+    fn mark_code(&mut self, at: u32, code: &[u8]) {
+        let mut number = 0usize;
+        for _ in 0..code.len() {
+            let Some(rest) = code.get(number..) else {
+                return;
+            };
+            let Ok(instr) = decode(rest) else {
+                return;
+            };
+            self.mark_instruction(index(at).saturating_add(number), instr);
+            number = number.saturating_add(usize::from(instr.len));
         }
     }
 
@@ -179,8 +206,17 @@ impl<A: Acts + Drop> Acts for Twin<A> {
 
     fn mark_span(&mut self, at: u32, marks: &[Mark]) {
         self.acts.mark_span(at, marks);
-        self.plain.mark_span(at, marks);
+        self.plain.mark_span(index(at), marks);
         self.plain.compare(&self.acts);
+    }
+
+    fn mark_bundles(&mut self, at: u32, code: &[u8], bundles: &[Bundle]) -> bool {
+        let done = self.acts.mark_bundles(at, code, bundles);
+        if done {
+            self.plain.mark_code(at, code);
+        }
+        self.plain.compare(&self.acts);
+        done
     }
 
     fn unmark_span(&mut self, at: u32, len: u32) {
