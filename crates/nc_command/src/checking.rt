@@ -5,7 +5,7 @@ ghost use Rattle.std.specs.Str.Parse.{IsNumeral};
 ghost use Rattle.nc_command.specs.Checking.{EndsInDigits, SpellsBase, IsCheckInRange};
 
 use crate::asked::{CheckAsk, Said};
-use crate::command_line::{bundles_option, fault, number, with, workers_option};
+use crate::command_line::{bundles_option, fault, named, number, with, workers_option};
 use clap::error::ErrorKind;
 use clap::{Arg, ArgAction, ArgMatches, Command, Error};
 use nc_decode::MAX_BUNDLES;
@@ -13,10 +13,7 @@ use std::alloc::{AllocError, Global};
 
 /// An option that takes no value.
 fn flag<'a>(alloc: Global, name: &'a str, help: &'a str) -> Arg<'a> {
-    Arg::new(alloc, name)
-        .long(name)
-        .help(help)
-        .action(ArgAction::SetTrue)
+    named(alloc, name, help).action(ArgAction::SetTrue)
 }
 
 /// The option for the address of the first byte.

@@ -19,12 +19,15 @@ pub(crate) fn option<'a>(
     most: u32,
     default: &'a str,
 ) -> Arg<'a> {
-    Arg::new(alloc, name)
-        .long(name)
+    named(alloc, name, help)
         .value_name("N")
-        .help(help)
         .value_parser(clap::value_parser!(u32).range(i64::from(least)..=i64::from(most)))
         .default_value(default)
+}
+
+/// An option by its name.
+pub(crate) fn named<'a>(alloc: Global, name: &'a str, help: &'a str) -> Arg<'a> {
+    Arg::new(alloc, name).long(name).help(help)
 }
 
 /// The option for the size of the region.
