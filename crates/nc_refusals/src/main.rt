@@ -6,6 +6,7 @@
 //! compares what is shown. Without a word each call is made, with ample memory.
 #![tactic(auto)]
 
+mod calls;
 mod chunks;
 mod making;
 mod region;

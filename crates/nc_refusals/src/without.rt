@@ -1,6 +1,7 @@
 //! Calls that take no memory: they answer the same where every allocation is refused.
 ghost use Rattle.std.specs.Prelude.{◌≡◌};
 
+use crate::calls;
 use crate::chunks::{chunk, region_with, table};
 use crate::shown::{after, before, print_region};
 use nc_gens::{Gens, Pass};
@@ -21,10 +22,10 @@ struct Reuse {
 fn delete_and_reclaim(region: &mut Region<'_>, gens: &Gens, pass: &mut Pass) -> Reuse
     requires { pass.old.table ≡ gens.now }
 {
-    let stamp = region.delete(0x10000);
-    let early = region.reclaim();
+    let stamp = calls::delete(region, 0x10000);
+    let early = calls::reclaim(region);
     gens.check_in(pass);
-    let late = region.reclaim();
+    let late = calls::reclaim(region);
     Reuse { stamp, early, late }
 }
 
@@ -72,8 +73,8 @@ pub(crate) fn two_seats<R: Wait + Print + AllocGlobal>(rt: &R) -> Result<()> {
 /// Patches a constant, and the same place with instructions of other lengths.
 fn patch_constant(region: &mut Region<'_>) -> [result::Result<(), ModifyFault>; 2] {
     [
-        region.modify(0x10000, &[0xB8, 0x02, 0x00, 0x00, 0x00]),
-        region.modify(0x10000, &[0xEB, 0xFE, 0x90, 0x90, 0x90]),
+        calls::modify(region, 0x10000, &[0xB8, 0x02, 0x00, 0x00, 0x00]),
+        calls::modify(region, 0x10000, &[0xEB, 0xFE, 0x90, 0x90, 0x90]),
     ]
 }
 
@@ -95,7 +96,7 @@ pub(crate) fn patch_pair<R: Print + AllocGlobal>(rt: &R) -> Result<()> {
     let pair = [0x83, 0xE0, 0xE0, 0xFF, 0xE0];
     let mut region = region_with(rt.alloc(), &gens, keeper, &pair)?;
     before(rt)?;
-    let answer = region.modify(0x10000, &[0x83, 0xE1, 0xE0, 0xFF, 0xE1]);
+    let answer = calls::modify(&mut region, 0x10000, &[0x83, 0xE1, 0xE0, 0xFF, 0xE1]);
     after(rt)?;
     println!(rt; "{answer:?}")?;
     print_region(rt, &region)
@@ -104,11 +105,11 @@ pub(crate) fn patch_pair<R: Print + AllocGlobal>(rt: &R) -> Result<()> {
 /// Patches of a jump, most of which are refused.
 fn patch_jump(region: &mut Region<'_>) -> [result::Result<(), ModifyFault>; 5] {
     [
-        region.modify(0x10000, &[0xEB, 0x7E]),
-        region.modify(0x10000, &[0xEB, 0x1E]),
-        region.modify(0x1001F, &[0x90, 0x90]),
-        region.modify(0x10020, &[0x90]),
-        region.modify(0x10002, &[0xC3]),
+        calls::modify(region, 0x10000, &[0xEB, 0x7E]),
+        calls::modify(region, 0x10000, &[0xEB, 0x1E]),
+        calls::modify(region, 0x1001F, &[0x90, 0x90]),
+        calls::modify(region, 0x10020, &[0x90]),
+        calls::modify(region, 0x10002, &[0xC3]),
     ]
 }
 
@@ -118,7 +119,7 @@ pub(crate) fn refuse_patches<R: Print + AllocGlobal>(rt: &R) -> Result<()> {
     let mut region = region_with(rt.alloc(), &gens, keeper, &[0xEB, 0xFE])?;
     before(rt)?;
     let answers = patch_jump(&mut region);
-    let missing = region.delete(0x10020);
+    let missing = calls::delete(&mut region, 0x10020);
     after(rt)?;
     println!(rt; "{answers:?} {missing:?}")?;
     print_region(rt, &region)
