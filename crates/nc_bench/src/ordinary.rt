@@ -3,7 +3,7 @@
 use std::alloc::{AllocError, Global};
 
 /// A bundle of ordinary code with a direct branch and a masked jump in it.
-const BUNDLE: [u8; 32] = [
+static BUNDLE: [u8; 32] = [
     0x8B, 0x45, 0x08, 0x89, 0x44, 0x24, 0x04, 0x83, 0xC0, 0x01, 0x85, 0xC0, 0x74, 0x05, 0xB8, 0x01,
     0x00, 0x00, 0x00, 0x0F, 0xB6, 0xC0, 0x8D, 0x04, 0x80, 0x55, 0x5D, 0x83, 0xE1, 0xE0, 0xFF, 0xE1,
 ];
@@ -14,11 +14,16 @@ pub const PATCH_AT: u32 = 14;
 /// The new instruction.
 pub const PATCH: [u8; 5] = [0xB8, 0x02, 0x00, 0x00, 0x00];
 
-/// The bundle this many times.
-pub fn ordinary_code(alloc: Global, bundles: u32) -> Result<Vec<u8>, AllocError> {
-    let mut code = Vec::with_capacity(alloc, (bundles as usize).saturating_mul(BUNDLE.len()))?;
-    for _ in 0..bundles {
-        code.extend_from_slice(&BUNDLE)?;
+/// The code, `count` times in a row.
+fn repeated(alloc: Global, code: &[u8], count: u32) -> Result<Vec<u8>, AllocError> {
+    let mut repeated = Vec::with_capacity(alloc, (count as usize).saturating_mul(code.len()))?;
+    for _ in 0..count {
+        repeated.extend_from_slice(code)?;
     }
-    Ok(code)
+    Ok(repeated)
+}
+
+/// Ordinary code of this many bundles.
+pub fn ordinary_code(alloc: Global, bundles: u32) -> Result<Vec<u8>, AllocError> {
+    repeated(alloc, &BUNDLE, bundles)
 }

@@ -1,5 +1,6 @@
 //! A chunk created, and a walk through it.
 
+use crate::calls;
 use crate::chunks::{chunk, region, region_with, table};
 use crate::shown::{after, before, print_region, print_trace, print_vetted};
 use nc_decode::START;
@@ -16,14 +17,14 @@ pub(crate) fn create_chunk<R: Print + AllocGlobal>(rt: &R) -> Result<()> {
     let mut region = region(rt.alloc(), &gens, keeper)?;
     let vetted = chunk(rt.alloc(), &JUMP)?;
     before(rt)?;
-    let answer = region.create(vetted);
+    let answer = calls::create(&mut region, vetted);
     after(rt)?;
     match answer {
         Ok(()) => println!(rt; "ok")?,
         Err((vetted, fault)) => create_again(rt, &mut region, vetted, fault)?,
     }
     print_region(rt, &region)?;
-    print_walk(rt, region.walk(START, &[0, 0]))
+    print_walk(rt, calls::walk(&region, START, &[0, 0]))
 }
 
 /// Shows what a refused creation left, and creates the chunk.
@@ -36,7 +37,7 @@ fn create_again<R: Print + AllocGlobal>(
     println!(rt; "{fault}")?;
     print_vetted(rt, &vetted)?;
     print_region(rt, region)?;
-    match region.create(vetted) {
+    match calls::create(region, vetted) {
         Ok(()) => println!(rt; "again ok"),
         Err((_, fault)) => println!(rt; "again {fault}"),
     }
@@ -47,13 +48,13 @@ pub(crate) fn walk_chunk<R: Print + AllocGlobal>(rt: &R) -> Result<()> {
     let (gens, keeper, _passes) = table(rt.alloc(), 1)?;
     let region = region_with(rt.alloc(), &gens, keeper, &JUMP)?;
     before(rt)?;
-    let answer = region.walk(START, &[0, 0]);
+    let answer = calls::walk(&region, START, &[0, 0]);
     after(rt)?;
     let refused = answer.is_err();
     print_walk(rt, answer)?;
     print_region(rt, &region)?;
     if refused {
-        print_walk(rt, region.walk(START, &[0, 0]))?;
+        print_walk(rt, calls::walk(&region, START, &[0, 0]))?;
     }
     Ok(())
 }

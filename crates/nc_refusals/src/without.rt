@@ -38,7 +38,7 @@ pub(crate) fn retire<R: Print + AllocGlobal>(rt: &R) -> Result<()> {
     let reuse = delete_and_reclaim(&mut region, &gens, &mut pass);
     after(rt)?;
     println!(rt; "{reuse:?}")?;
-    match region.create(chunk(rt.alloc(), &[0xEB, 0x1E])?) {
+    match calls::create(&mut region, chunk(rt.alloc(), &[0xEB, 0x1E])?) {
         Ok(()) => println!(rt; "ok")?,
         Err((_, fault)) => println!(rt; "{fault}")?,
     }
