@@ -25,7 +25,7 @@ pub(crate) fn option<'a>(
         .default_value(default)
 }
 
-/// An option by its name.
+/// The beginning of an option. The calls stand apart, since a longer chain of them over lent arguments takes a minute to prove.
 pub(crate) fn named<'a>(alloc: Global, name: &'a str, help: &'a str) -> Arg<'a> {
     Arg::new(alloc, name).long(name).help(help)
 }
