@@ -210,7 +210,13 @@ impl<A: Acts + Drop> Acts for Twin<A> {
         self.plain.compare(&self.acts);
     }
 
+    /// Takes no bits at every other bundle, so that both ways of marking are compared.
     fn mark_bundles(&mut self, at: u32, code: &[u8], bundles: &[Bundle]) -> bool {
+        if index(at) / 32 % 2 == 1 {
+            // Called for what it ensures.
+            let _facts = self.acts.limit();
+            return false;
+        }
         let done = self.acts.mark_bundles(at, code, bundles);
         if done {
             self.plain.mark_code(at, code);
