@@ -8,6 +8,7 @@ use Rattle.nc_region.specs.Acts.{Tells, puts_where, is_inside}
 use Rattle.nc_region.specs.Log.{Logs, unsettled}
 use Rattle.nc_region.specs.machinery.Between.{HasPut}
 use Rattle.nc_region.proofs.Creating.{inside_closed}
+use Rattle.nc_region.proofs.Logged.{ends_settled}
 use Rattle.nc_region.proofs.ReadyPlaces.{ready_part}
 use Rattle.nc_region.proofs.PutRun.{behind_first, behind_first_long, behind_first_at, bundle_inside, told_bundle, log_bundle}
 use Rattle.nc_region.proofs.create.put_inside.Goals as goal
@@ -74,3 +75,11 @@ loop-bundle-preserved g c =
           (unsettled (puts_where is_inside base (take n code)))) more
           (log_bundle base i code run _ _ _ c.requires.placed.start (omega arith) long fits same so.log c.put_run.ensures.logged);
     }
+
+-- names no step behind the loop, so that a settling left out there leaves the goal open
+pub returns-clause-log : goal.returns-clause-log
+returns-clause-log g c =
+    let log = subst (λ (bytes : List ℕ). Logs (g.A.Acts.logged c.args.acts.now) (g.A.Acts.logged c.loop-bundle.acts)
+    (unsettled (puts_where is_inside c.args.base bytes))) (take_all (32 * c.loop-bundle.bundle) c.args.code.now
+    (omega (arith, c.requires.placed.whole))) c.loop-bundle.invariant.log in
+    search (ends_settled _ _ _ log)

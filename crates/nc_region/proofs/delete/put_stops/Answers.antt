@@ -1,4 +1,5 @@
-use Rattle.std.proofs.Common.{List, [], ◌∷◌, replicate, arith, subst}
+use Rattle.std.proofs.Common.{◌-◌, ◌∙◌, List, [], ◌∷◌, replicate, arith, subst}
+use Rattle.std.proofs.lemmas.List.{get_or-replicate}
 use Rattle.nc_decode.specs.declared.instruction.Mark.{Mark}
 use Rattle.nc_region.specs.declared.acts.Act.TheVariants.{Bump}
 use Rattle.nc_region.specs.declared.acts.Entry.TheVariants.{Did}
@@ -31,3 +32,8 @@ pub returns-clause-log : goal.returns-clause-log
 returns-clause-log g c =
     let second = rw c.stop_marked.ensures.marks at c.stop_others.ensures.log in
     logs_after _ _ _ _ _ c.stop_marked.ensures.log (logs_more _ _ _ _ (Did Bump ∷ []) second c.in-Ok.ensures.logged)
+
+pub stop_others-requires-clause-stopped : goal.stop_others-requires-clause-stopped
+stop_others-requires-clause-stopped g c = λ at low high marked.
+    c.stop_marked.ensures.bytes.put at low high (rw c.stop_marked.ensures.marks at marked)
+    ∙ get_or-replicate c.args.len (at - c.args.base) 244 0 (omega (arith, low, high))

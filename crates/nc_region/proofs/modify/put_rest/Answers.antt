@@ -1,4 +1,4 @@
-use Rattle.std.proofs.Common.{Bool, ℕ, ◌+◌, ◌-◌, List, [], ◌∷◌, length, get_or, set, arith, sym, subst, ◌∙◌, refl}
+use Rattle.std.proofs.Common.{Bool, ℕ, ◌+◌, ◌-◌, List, [], ◌∷◌, length, get_or, set, arith, rules, sym, subst, ◌∙◌, refl}
 use Rattle.std.proofs.lemmas.List.{take_all}
 use Rattle.nc_decode.specs.declared.instruction.Mark.{Mark}
 use Rattle.nc_text.specs.Marks.{IsClosed}
@@ -13,6 +13,18 @@ use Rattle.nc_region.proofs.Told.{told_put}
 use Rattle.nc_region.proofs.Logged.{log_put, ends_settled}
 use Rattle.nc_region.proofs.Replacing.{patching_from_put}
 use Rattle.nc_region.proofs.modify.put_rest.Goals as goal
+
+pub loop-i-init : goal.loop-i-init
+loop-i-init g c =
+    record {
+      bytes = search rules;
+      marks = search rules;
+      whole = search rules;
+      made = search rules;
+      keeper = search rules;
+      told = search rules;
+      log = search rules;
+    }
 
 pub put-requires-clause-ready : goal.put-requires-clause-ready
 put-requires-clause-ready g c =

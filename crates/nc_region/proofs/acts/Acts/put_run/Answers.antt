@@ -2,9 +2,11 @@ use Rattle.std.proofs.Common.{◌≡◌, ◌+◌, ◌-◌, [], length, get_or, t
 use Rattle.nc_text.specs.Marks.{IsClosed}
 use Rattle.nc_text.specs.MarkedText.{MarkedText, with_byte, with_bytes}
 use Rattle.nc_region.specs.Patch.{any_place}
-use Rattle.nc_region.proofs.PutRun.{with_more}
-use Rattle.nc_region.proofs.Told.{told_put}
-use Rattle.nc_region.proofs.Logged.{log_put}
+use Rattle.std.proofs.lemmas.List.{length-take}
+use Rattle.nc_text.proofs.Offered.{length-with_span}
+use Rattle.nc_region.proofs.PutRun.{with_none, with_more}
+use Rattle.nc_region.proofs.Told.{tells_none, told_put}
+use Rattle.nc_region.proofs.Logged.{logs_none, log_put}
 use Rattle.nc_region.proofs.acts.Acts.put_run.Goals as goal
 
 pub put-requires-clause-closed : goal.put-requires-clause-closed
@@ -38,3 +40,30 @@ loop-i-preserved g c =
       told = told_put any_place at bytes i _ _ _ (omega arith) refl so.told c.put.ensures.told;
       logged = log_put [] any_place at bytes i _ _ _ (omega arith) refl so.logged c.put.ensures.logged;
     }
+
+pub loop-i-init : goal.loop-i-init
+loop-i-init g c =
+    record {
+      marked = sym (with_none (g.Self.Acts.marked c.args.self.now) c.args.at);
+      whole = c.limit-facts.ensures.whole;
+      made = refl;
+      keeper = refl;
+      told = tells_none (g.Self.Acts.told c.args.self.now);
+      logged = logs_none (g.Self.Acts.logged c.args.self.now);
+    }
+
+pub put-requires-clause-inside : goal.put-requires-clause-inside
+put-requires-clause-inside g c =
+    let old = g.Self.Acts.marked c.args.self.now in
+    let here = c.requires.inside c.loop-i.i (omega arith) in
+    let last = c.requires.inside (length c.args.bytes.now - 1) (omega arith) in
+    let first = c.requires.inside 0 (omega arith) in
+    rw c.loop-i.invariant.marked (
+      omega (arith, here.0),
+      omega (
+        arith,
+        here.1,
+        length-with_span old.bytes (c.args.at - 65536) (take c.loop-i.i c.args.bytes.now)
+        (omega (arith, first.0, last.1, length-take c.loop-i.i c.args.bytes.now)),
+      ),
+    )

@@ -1,6 +1,6 @@
 use Rattle.std.specs.List.{slice_get}
 use Rattle.std.proofs.lemmas.Option.{get_or_from_slice_get}
-use Rattle.std.proofs.Common.{◌≡◌, Some, sym, subst, ◌∙◌, arith}
+use Rattle.std.proofs.Common.{◌≡◌, Some, sym, ap, subst, ◌∙◌, arith}
 use Rattle.nc_text.specs.Places.{limit_of}
 use Rattle.nc_region.specs.declared.chunk.Chunk.{Chunk}
 use Rattle.nc_region.specs.declared.chunk.ChunkState.TheVariants.{Live}
@@ -28,3 +28,16 @@ returns-clause-placed g c =
     c.self.invariant.0.placed in
     rw (← c.self.view_is) (subst (λ (d : Chunk). HasGoodSpan d.base (limit_of (g.A.Acts.marked c.self.inside.acts).bytes) d.length) (sym is_chunk)
     (subst (λ (d : Chunk). HasGoodSpan d.base (limit_of (g.A.Acts.marked c.self.inside.acts).bytes) d.length) there.1 p))
+
+pub returns-clause-found : goal.returns-clause-found
+returns-clause-found g c =
+    let f : (x : Chunk) × (slice_get c.self.inside.chunks.items c.in-Some.k ≡ Some x) × (x.state ≡ Live) × (x.base ≡ c.args.base) =
+    c.in-Some.ensures.some in
+    let there = listed_there c.self.inside.chunks.items c.in-Some.k f.0 f.1 in
+    let is_chunk : c.index.result.now ≡ f.0 = c.index.ensures
+    ∙ get_or_from_slice_get c.self.inside.chunks.items c.in-Some.k f.0 c.index.result.now f.1 in
+    rw (← c.self.view_is) (
+      (c.in-Some.k, there.0, sym c.index.ensures),
+      ap (λ (x : Chunk). x.state) is_chunk ∙ f.2,
+      ap (λ (x : Chunk). x.base) is_chunk ∙ f.3,
+    )

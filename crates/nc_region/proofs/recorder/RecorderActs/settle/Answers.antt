@@ -1,0 +1,8 @@
+use Rattle.std.proofs.Common.{rules}
+use Rattle.nc_region.proofs.recorder.RecorderActs.settle.Goals as goal
+
+pub returns-clause-logged : goal.returns-clause-logged
+returns-clause-logged g c = search rules
+
+pub returns-clause-logs_on : goal.returns-clause-logs_on
+returns-clause-logs_on g c = search rules
