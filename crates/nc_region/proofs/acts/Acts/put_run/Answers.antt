@@ -64,6 +64,6 @@ put-requires-clause-inside g c =
         arith,
         here.1,
         length-with_span old.bytes (c.args.at - 65536) (take c.loop-i.i c.args.bytes.now)
-        (omega (arith, first.0, last.1, length-take c.loop-i.i c.args.bytes.now)),
+            (omega (arith, first.0, last.1, length-take c.loop-i.i c.args.bytes.now)),
       ),
     )
