@@ -1,6 +1,6 @@
 //! A region that owns all that it stands on.
 
-ghost use Rattle.std.specs.Prelude.{◌≡◌, ◌+◌, ◌*◌, ◌↔◌, None, IfOk, IfErr, IsErrOf};
+ghost use Rattle.std.specs.Prelude.{◌≡◌, ◌+◌, ◌*◌, ◌↔◌, None, IfOk, IfErr, IfSome, IsErrOf};
 ghost use Rattle.std.specs.Arc.{arc_value};
 ghost use Rattle.nc_decode.specs.Bundles.{IsLawfulLimit};
 ghost use Rattle.nc_gens.specs.Seen.{AreSeats};
@@ -40,6 +40,43 @@ impl Model for Held {
         × All (λ p. p.table ≡ arc_value h.gens) h.passes.items × CanEnd h.begun h.region };
 }
 
+/// A new region with lawful numbers, if there is memory.
+fn first(alloc: Global, bundles: u32, seats: u32) -> Option<Held>
+    requires seats { AreSeats seats }
+    requires lawful { IsLawfulLimit (0x10000 + 32 * bundles) }
+    ensures { IfSome result (IsFirst bundles seats) }
+{
+    let Ok((gens, keeper, passes)) = Gens::new(alloc, seats) else {
+        return None;
+    };
+    let Ok(text) = Text::new(alloc, bundles) else {
+        return None;
+    };
+    let Some((gens, share)) = in_two_shares(alloc, gens) else {
+        return None;
+    };
+    let region = RegionOf::over(alloc, Owned::new(text, share, keeper));
+    Some(Held {
+        region,
+        gens,
+        passes,
+        begun: None,
+    })
+}
+
+/// A table, shared by two.
+fn in_two_shares(alloc: Global, gens: Gens) -> Option<(Arc<Gens, Global>, Arc<Gens, Global>)>
+    ensures { IfSome result (λ shares. (arc_value shares.0 ≡ gens) × (arc_value shares.1 ≡ gens)) }
+{
+    let Ok(one) = Arc::new(alloc, gens) else {
+        return None;
+    };
+    match Arc::try_clone(&one) {
+        Ok(two) => Some((one, two)),
+        Err(_) => None,
+    }
+}
+
 impl Held {
     /// A region of this many bundles without a chunk, with this many seats, of which none has been given. Its last bundle is
     /// the guard, in which no chunk stands. Both numbers are tested before anything is allocated.
@@ -56,24 +93,9 @@ impl Held {
         if !is_region_size(bundles) {
             return Err(NewFault::BadSize);
         }
-        let Ok((gens, keeper, passes)) = Gens::new(alloc, seats) else {
-            return Err(NewFault::OutOfMemory);
-        };
-        let Ok(text) = Text::new(alloc, bundles) else {
-            return Err(NewFault::OutOfMemory);
-        };
-        let Ok(gens) = Arc::new(alloc, gens) else {
-            return Err(NewFault::OutOfMemory);
-        };
-        let Ok(share) = Arc::try_clone(&gens) else {
-            return Err(NewFault::OutOfMemory);
-        };
-        let region = RegionOf::over(alloc, Owned::new(text, share, keeper));
-        Ok(Held {
-            region,
-            gens,
-            passes,
-            begun: None,
-        })
+        match first(alloc, bundles, seats) {
+            Some(held) => Ok(held),
+            None => Err(NewFault::OutOfMemory),
+        }
     }
 }

@@ -1,6 +1,7 @@
 //! The seats of a region that owns its table: given once each, and checked in for where nobody was given them.
 
 ghost use Rattle.std.specs.Prelude.{◌≡◌, ◌≤◌, ◌<◌, ◌↔◌, [], All, IfOk, IfErr, IfSome, IsErrOf, IsNone, IsSome, OnErr, length, slice_index};
+ghost use Rattle.std.specs.Arc.{arc_value};
 ghost use Rattle.nc_gens.specs.Seen.{Raised};
 ghost use Rattle.nc_handle.specs.Held.{HasGiven, HasReclaimed, MayRefuseSeat};
 ghost use Rattle.nc_handle.specs.declared.fault.SeatFault.{SeatFault};
@@ -9,8 +10,24 @@ use crate::attending::attend;
 use crate::fault::SeatFault;
 use crate::guest::Guest;
 use crate::held::Held;
+use nc_gens::{Gens, Pass};
 use std::alloc::Global;
 use std::sync::Arc;
+
+/// The seat of a pass in a box, with a share of its table. The pass comes back where there is no memory.
+fn boxed(alloc: Global, gens: &Arc<Gens, Global>, pass: Pass) -> Result<Box<Guest, Global>, Pass>
+    requires { pass.table ≡ arc_value gens.now }
+    ensures boxed { IfOk result (λ guest. guest.value ≡ pass) }
+    ensures back { IfErr result (λ p. p ≡ pass) }
+{
+    let Ok(share) = Arc::try_clone(gens) else {
+        return Err(pass);
+    };
+    match Box::new(alloc, Guest::new(share, pass)) {
+        Ok(guest) => Ok(guest),
+        Err(failed) => Err(failed.value.into_pass()),
+    }
+}
 
 impl Held {
     /// A seat that nobody has been given yet, in a box. A refusal leaves every pass where it was.
@@ -22,19 +39,13 @@ impl Held {
         ensures refused { IfErr result (MayRefuseSeat self.old) }
         ensures none_left { IsErrOf result SeatFault.NoneLeft ↔ (self.old.passes ≡ []) }
     {
-        if self.passes.is_empty() {
-            return Err(SeatFault::NoneLeft);
-        }
-        let Ok(gens) = Arc::try_clone(&self.gens) else {
-            return Err(SeatFault::OutOfMemory);
-        };
         let Some(pass) = self.passes.pop() else {
             return Err(SeatFault::NoneLeft);
         };
-        match Box::new(alloc, Guest::new(gens, pass)) {
+        match boxed(alloc, &self.gens, pass) {
             Ok(guest) => Ok(guest),
-            Err(failed) => {
-                self.passes.push_reserved(failed.value.into_pass());
+            Err(pass) => {
+                self.passes.push_reserved(pass);
                 Err(SeatFault::OutOfMemory)
             }
         }

@@ -3,9 +3,9 @@ use Rattle.nc_gens.specs.Seen.{PassState}
 use Rattle.nc_handle.specs.Held.{HeldState}
 use Rattle.nc_handle.proofs.held.Held.seat.Goals as goal
 
-pub returns-in-Ok-new-clause-given : goal.returns-in-Ok-new-clause-given
-returns-in-Ok-new-clause-given c =
-    let same : c.in-Ok-new.guest.value ≡ c.in-Some.pass = c.in-Ok-new.ensures.ok ∙ c.new.ensures in
+pub returns-in-Ok-clause-given : goal.returns-in-Ok-clause-given
+returns-in-Ok-clause-given c =
+    let same : c.in-Ok.guest.value ≡ c.in-Some.pass = c.in-Ok.ensures.boxed in
     record {
       passes = ap (λ (h : HeldState). h.passes) (sym c.self.view_is) ∙ c.in-Some.ensures.items ∙ ap (λ (p : PassState). c.pop.new.self.items ++ p ∷ []) (sym same);
       others = ap (λ (h : HeldState). record h { passes = c.pop.new.self.items }) c.self.view_is;
@@ -13,7 +13,7 @@ returns-in-Ok-new-clause-given c =
 
 pub returns-in-Err-clause-unchanged : goal.returns-in-Err-clause-unchanged
 returns-in-Err-clause-unchanged c =
-    let same : c.into_pass.result ≡ c.in-Some.pass = c.into_pass.ensures ∙ c.in-Err.ensures.value_returned ∙ c.new.ensures in
+    let same : c.in-Err.pass ≡ c.in-Some.pass = c.in-Err.ensures.back in
     let items : c.push_reserved.new.self.items ≡ c.self.inside.passes.items =
     c.push_reserved.ensures.items ∙ ap (λ (p : PassState). c.pop.new.self.items ++ p ∷ []) same ∙ sym c.in-Some.ensures.items in
     let held : List PassState → HeldState = λ ps. record { region = c.self.inside.region; passes = ps; begun = c.self.inside.begun } in
