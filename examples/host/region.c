@@ -128,7 +128,9 @@ static void begin(void) {
 
 /* A deletion in two steps: the host's memory has its stops before the stamp is drawn. */
 static void delete_chunk(void) {
-    NcChange change = nc_region_begin_delete(&region, NC_START, acts, ROOM);
+    NcChange change;
+    show("begin by a short buffer", nc_region_begin_delete(&region, NC_START, acts, ROOM - 1));
+    change = nc_region_begin_delete(&region, NC_START, acts, ROOM);
     printf("begin: fault %u count %u, memory %s\n", (unsigned)change.fault, (unsigned)change.count, follows());
     printf("under way: %u %u\n", (unsigned)nc_region_patch(&region, NC_START, memory, 1, acts, 0).fault,
            (unsigned)nc_region_reclaim(&region).fault);
@@ -161,6 +163,75 @@ static void lend_nothing(const uint8_t *chunk, const uint8_t *mov) {
     nc_vetted_free(&vetted);
 }
 
+/* Which sizes a region may have, and how many seats. */
+static void try_sizes(void) {
+    static const uint32_t sizes[][2] = {{2, 1}, {2, 256}, {2, 0}, {2, 257}, {1, 0}, {1, 1}, {2097153, 256}, {0xFFFFFFFF, 1}};
+    static NcRegion own;
+    size_t i;
+    printf("sizes:");
+    for (i = 0; i < sizeof sizes / sizeof sizes[0]; i++) {
+        printf(" %u", (unsigned)nc_region_new(sizes[i][0], sizes[i][1], &own));
+        nc_region_free(&own);
+    }
+    printf("\n");
+}
+
+/* What a call answers, and the acts that it wrote. */
+static void show_acts(const char *name, NcChange told) {
+    size_t i;
+    printf("%s: fault %u count %u\n", name, (unsigned)told.fault, (unsigned)told.count);
+    for (i = 0; told.fault == NC_OK && i < told.count; i++) {
+        printf("  %u %08x %08x\n", (unsigned)acts[i].kind, (unsigned)acts[i].at, (unsigned)acts[i].value);
+    }
+}
+
+/* A chunk that is created and deleted without a buffer, and the runs of both. */
+static void try_runs(const uint8_t *chunk) {
+    static NcRegion own;
+    uint32_t base = NC_START + NC_BUNDLE;
+    printf("own region: %u\n", (unsigned)nc_region_new(BUNDLES, 1, &own));
+    show_acts("runs of no chunk", nc_region_creation_runs(&own, base, acts, ROOM));
+    show_acts("create without a buffer", nc_region_create(&own, base, chunk, LEN, NULL, 0));
+    show_acts("runs by a short buffer", nc_region_creation_runs(&own, base, acts, 5));
+    show_acts("runs", nc_region_creation_runs(&own, base, acts, 6));
+    show_acts("runs of no deletion", nc_region_deletion_runs(&own, acts, ROOM));
+    show_acts("begin without a buffer", nc_region_begin_delete(&own, base, NULL, 0));
+    show_acts("runs by a short buffer", nc_region_deletion_runs(&own, acts, 5));
+    show_acts("runs", nc_region_deletion_runs(&own, acts, 6));
+    nc_region_free(&own);
+}
+
+/* A region with a chunk that was deleted: the fault of each call. */
+static void begin_deleted(NcRegion *own, const uint8_t *chunk) {
+    printf(" %u", (unsigned)nc_region_new(BUNDLES, 2, own));
+    printf(" %u", (unsigned)nc_region_create(own, NC_START, chunk, LEN, NULL, 0).fault);
+    printf(" %u", (unsigned)nc_region_begin_delete(own, NC_START, NULL, 0).fault);
+    printf(" %u", (unsigned)nc_region_end_delete(own).fault);
+}
+
+/* Seats that nobody was given hold nothing back. One that was given does, until its thread checks in or leaves. */
+static void try_seats(const uint8_t *chunk) {
+    static NcRegion own;
+    static NcSeat one, two, three;
+    printf("nobody inside:");
+    begin_deleted(&own, chunk);
+    printf(", freed %u\n", (unsigned)nc_region_reclaim(&own).count);
+    nc_region_free(&own);
+    printf("two inside:");
+    begin_deleted(&own, chunk);
+    printf(" %u", (unsigned)nc_region_seat(&own, &one));
+    printf(" %u", (unsigned)nc_region_seat(&own, &two));
+    printf(" %u", (unsigned)nc_region_seat(&own, &three));
+    printf(", freed %u", (unsigned)nc_region_reclaim(&own).count);
+    printf(", %u", (unsigned)nc_seat_check_in(&one));
+    printf(", freed %u", (unsigned)nc_region_reclaim(&own).count);
+    nc_seat_leave(&two);
+    printf(", freed %u\n", (unsigned)nc_region_reclaim(&own).count);
+    nc_seat_leave(&one);
+    nc_seat_leave(&three);
+    nc_region_free(&own);
+}
+
 int main(void) {
     static const uint8_t mov[] = {0xB8, 0x07, 0x00, 0x00, 0x00}, ret[] = {0xC3};
     uint8_t chunk[LEN];
@@ -179,6 +250,7 @@ int main(void) {
     show("create by a short buffer", nc_region_create(&region, NC_START + 64, chunk, LEN, acts, ROOM - 1));
     show("create a return", nc_region_create(&region, NC_START + 64, ret, 1, acts, ROOM));
     show("patch", nc_region_patch(&region, NC_START, mov, sizeof mov, acts, ROOM));
+    show("patch by a short buffer", nc_region_patch(&region, NC_START, mov, sizeof mov, acts, 3 * sizeof mov - 1));
     show("patch by a return", nc_region_patch(&region, NC_START + 8, ret, sizeof ret, acts, ROOM));
     show("patch elsewhere", nc_region_patch(&region, NC_START + 96, mov, sizeof mov, acts, ROOM));
     show_place(NC_START + 1);
@@ -202,6 +274,10 @@ int main(void) {
     load(NC_START + 128, chunk);
     nc_vetted_free(&vetted);
     lend_nothing(chunk, mov);
+    try_sizes();
+    try_seats(chunk);
+    memset(chunk + 5, 0x90, LEN - 5);
+    try_runs(chunk);
     printf("generation: %u\n", (unsigned)nc_region_generation(&region).stamp);
     printf("last seats: %u", (unsigned)nc_region_seat(&region, &other));
     nc_seat_leave(&other);
