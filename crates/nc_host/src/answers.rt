@@ -2,7 +2,7 @@
 
 /// What stands at the front of some bytes.
 #[repr(C)]
-#[derive(Clone, Copy, Debug, PartialEq, Eq)]
+#[derive(Clone, Copy)]
 pub struct NcInstruction {
     /// 0 where a permitted instruction stands there, else why none does; then all other fields are 0.
     pub fault: u32,
@@ -20,7 +20,7 @@ pub struct NcInstruction {
 
 /// A verdict on a chunk.
 #[repr(C)]
-#[derive(Clone, Copy, Debug, PartialEq, Eq)]
+#[derive(Clone, Copy)]
 pub struct NcVerdict {
     /// 0, or the number of the fault.
     pub fault: u32,
@@ -30,7 +30,7 @@ pub struct NcVerdict {
 
 /// A verdict, and how many acts there are.
 #[repr(C)]
-#[derive(Clone, Copy, Debug, PartialEq, Eq)]
+#[derive(Clone, Copy)]
 pub struct NcActs {
     /// 0, or the number of the fault.
     pub fault: u32,

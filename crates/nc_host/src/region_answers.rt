@@ -6,7 +6,7 @@ ghost use Rattle.nc_host.specs.Walked.{no_walk};
 
 /// A verdict on a change, and how many acts it has.
 #[repr(C)]
-#[derive(Clone, Copy, Debug, PartialEq, Eq)]
+#[derive(Clone, Copy)]
 pub struct NcChange {
     /// 0, or the number of the fault.
     pub fault: u32,
@@ -18,7 +18,7 @@ pub struct NcChange {
 
 /// The stamp of a deletion.
 #[repr(C)]
-#[derive(Clone, Copy, Debug, PartialEq, Eq)]
+#[derive(Clone, Copy)]
 pub struct NcStamp {
     /// The stamp, or 0.
     pub stamp: u64,
@@ -28,7 +28,7 @@ pub struct NcStamp {
 
 /// How many there are.
 #[repr(C)]
-#[derive(Clone, Copy, Debug, PartialEq, Eq)]
+#[derive(Clone, Copy)]
 pub struct NcCount {
     /// 0, or the number of the fault.
     pub fault: u32,
@@ -38,7 +38,7 @@ pub struct NcCount {
 
 /// A chunk of a region's list.
 #[repr(C)]
-#[derive(Clone, Copy, Debug, PartialEq, Eq)]
+#[derive(Clone, Copy)]
 pub struct NcChunk {
     /// Of a retired chunk the stamp, else 0.
     pub stamp: u64,
@@ -54,7 +54,7 @@ pub struct NcChunk {
 
 /// What stands at an address.
 #[repr(C)]
-#[derive(Clone, Copy, Debug, PartialEq, Eq)]
+#[derive(Clone, Copy)]
 pub struct NcPlace {
     /// 0, or the number of the fault; then all other fields are 0.
     pub fault: u32,
@@ -66,7 +66,7 @@ pub struct NcPlace {
 
 /// A walk through a region's text.
 #[repr(C)]
-#[derive(Clone, Copy, Debug, PartialEq, Eq)]
+#[derive(Clone, Copy)]
 pub struct NcWalk {
     /// How many places were written; for the fault that there is no room, how many there are; else 0.
     pub count: usize,
