@@ -1,4 +1,5 @@
 use Rattle.std.proofs.Common.{rules, arith, ◌≡◌, true, false, length, ap, ◌∙◌, sym, length-set}
+use Rattle.std.proofs.lemmas.Grind.{common_steps}
 use Rattle.nc_gens.proofs.StepsKeep.{sees_generation, takes_word}
 use Rattle.nc_gens.proofs.HandingOver.{passes_out, passes_in}
 use Rattle.nc_gens.proofs.table.Gens.meet.Goals as goal
@@ -66,3 +67,6 @@ split_seat-requires c =
           ∙ (ap (λ m. m.0.is_pass) after ∙ (ap (λ m. m.0.is_pass) joint ∙ (ap (λ m. m.0.is_pass) lent ∙ c.pass.invariant.is_pass))))
           (λ _. omega arith),
     )
+
+pub invariant_of-keeper : goal.invariant_of-keeper
+invariant_of-keeper c = grind (arith, common_steps)
