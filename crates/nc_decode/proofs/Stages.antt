@@ -1,6 +1,6 @@
 -- What each state of the automaton waits for, and that its table says the next one.
 use Rattle.std.proofs.Common.{◌≡◌, ℕ, zero, suc, ◌+◌, ◌-◌, ◌%◌, ◌<◌, Bool, true, false, List, [], ◌∷◌, Option, Some, None, get_or, refl}
-use Rattle.std.proofs.Common.{ap, arith, inl, inr, ◌==◌, ◌&&◌, ◌||◌, eqb-true, ltb-true, nat_le, nat_lt}
+use Rattle.std.proofs.Common.{ap, arith, subst, length, inl, inr, ◌==◌, ◌&&◌, ◌||◌, eqb-true, ltb-true, nat_le, nat_lt}
 use Rattle.std.specs.Prelude.{if◌then◌else◌}
 use Rattle.nc_decode.specs.declared.automaton.TheConstants.{NEXT, STATES}
 use Rattle.nc_decode.specs.declared.entry.Entry.{Entry}
@@ -199,9 +199,30 @@ stage_same (near m) (near n) e = ap (λ (x : ℕ). near x) (eqb-true m n e)
 stage_same (ended k) (ended l) e = ap (λ (x : Ended). ended x) (end_same k l e)
 stage_same _ _ e = absurd cc
 
--- a row of the table agrees with a stage
+-- a test of each element with its place, where the first stands at place k
+abbrev each_numbered : (ℕ → ℕ → Bool) → ℕ → List ℕ → Bool
+each_numbered t k [] = true
+each_numbered t k (x ∷ xs) = elim (t k x) [ true ↦ each_numbered t (suc k) xs | false ↦ false ]
+
+-- the first of a test of each, and the others
+numbered_first : (t : ℕ → ℕ → Bool) (k x : ℕ) (xs : List ℕ) → each_numbered t k (x ∷ xs) ≡ true
+    → (t k x ≡ true) × (each_numbered t (suc k) xs ≡ true)
+numbered_first t k x xs e = elim (true_or_false (t k x)) [
+  | inl is ↦ (is, chosen_true (t k x) (each_numbered t (suc k) xs) false true is e)
+  | inr not ↦ absurd (let f : false ≡ true = chosen_false (t k x) (each_numbered t (suc k) xs) false true not e in cc)
+]
+
+-- the test at one of them
+numbered-at : (t : ℕ → ℕ → Bool) (k : ℕ) (xs : List ℕ) (b n : ℕ) → each_numbered t k xs ≡ true → b < length xs → n ≡ k + b
+    → t n (get_or xs b 0) ≡ true
+numbered-at t k [] b n e lt is = absurd (omega arith)
+numbered-at t k (x ∷ xs) zero n e lt is =
+    let same : k ≡ n = omega arith in subst (λ (j : ℕ). t j x ≡ true) same (numbered_first t k x xs e).0
+numbered-at t k (x ∷ xs) (suc b) n e lt is = numbered-at t (suc k) xs b n (numbered_first t k x xs e).1 (omega arith) (omega arith)
+
+-- a row of the table agrees with a stage, in a number for each byte
 abbrev agrees : List ℕ → Stage → Bool
-agrees row x = each_below (λ b. same_stage (stage_of (get_or row b 0)) (after x b)) 256
+agrees row x = (length row == 256) && each_numbered (λ b s. same_stage (stage_of s) (after x b)) 0 row
 
 -- the table agrees
 tabled : each_below (λ s. agrees (get_or NEXT s []) (stage_of s)) STATES ≡ true
@@ -212,8 +233,12 @@ tabled = refl
 pub next_stage : (s b : ℕ) → s < STATES → b < 256 → stage_of (next_state s b) ≡ after (stage_of s) b
 unfolding next_state
 next_stage s b s-lt b-lt =
-    stage_same _ _ (each_below-at (λ x. same_stage (stage_of (get_or (get_or NEXT s []) x 0)) (after (stage_of s) x)) 256 b
-    (each_below-at (λ t. agrees (get_or NEXT t []) (stage_of t)) STATES s tabled s-lt) b-lt)
+    let row : List ℕ = get_or NEXT s [] in
+    let test : ℕ → ℕ → Bool = λ x y. same_stage (stage_of y) (after (stage_of s) x) in
+    let h = both (length row == 256) (each_numbered test 0 row)
+    (each_below-at (λ t. agrees (get_or NEXT t []) (stage_of t)) STATES s tabled s-lt) in
+    let long : length row ≡ 256 = eqb-true (length row) 256 h.0 in
+    stage_same _ _ (numbered-at test 0 row b b h.1 (omega arith) (omega arith))
 
 -- each number of the table is a state
 small : each (λ row. each (λ s. nat_lt s STATES) row) NEXT ≡ true
