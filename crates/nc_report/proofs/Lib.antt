@@ -11,6 +11,7 @@ mod Counted
 mod SentOutside
 mod ObjectTexts
 mod CountedRuns
+mod Appended
 mod BitCounts
 mod OneLines
 mod ReadSteps

@@ -1,7 +1,7 @@
 -- What is written of a refused source: its verdict, the lines on its fault, and those on its other faults.
 use Rattle.std.proofs.Common.{◌≡◌, ℕ, ◌+◌, ◌-◌, List, [], ◌++◌, length, take, refl, sym, subst, ◌∙◌, ap, inr}
 use Rattle.std.proofs.Common.{append_assoc, append-nil, Option, Some, None}
-use Rattle.std.specs.Prelude.{◌≢◌, MatchOption, codes}
+use Rattle.std.specs.Prelude.{◌≢◌, MatchOption}
 use Rattle.std.specs.List.{flat_map}
 use Rattle.std.specs.Io.KnownBytes.{Appends}
 use Rattle.std.proofs.KnownBytes.{Appends-trans, Appends-nil}
@@ -15,8 +15,8 @@ use Rattle.nc_report.specs.declared.labels.Label.{Label}
 use Rattle.nc_report.specs.declared.detail.Detail.{Detail}
 use Rattle.nc_report.specs.declared.detail.Detail.TheVariants.{Brief, Usual, Calls, Object}
 use Rattle.nc_report.specs.declared.detail.Detail.TheVariants as detail
-use Rattle.nc_report.specs.Report.{said_of, refused_text, detail_line, place_of, ReportsOthers, ReportsSome, AreDetailsBy, IsRefusedBy, IsRefused}
-use Rattle.nc_report.specs.machinery.Found.{AddsRefused, AreFirst, AreMoreBy, AreMore, AreSomeMore, WritesLines, CutsLines, IsCutOff}
+use Rattle.nc_report.specs.Report.{said_of, refused_text, detail_line, place_of, Explains, ReportsOthers, ReportsSome, AreDetailsBy, IsRefusedBy, IsRefused}
+use Rattle.nc_report.specs.machinery.Found.{AddsLines, AddsRefused, AreFirst, AreMoreBy, AreMore, AreSomeMore, WritesLines, CutsLines, IsCutOff}
 
 -- other lines, where there is an address or none
 abbrev OthersAt : (ℕ → List (List ℕ) → Type 0) → ℕ → List (List ℕ) → Option ℕ → Type 0
@@ -117,18 +117,48 @@ text_more Others Object base name code labels fault first more m =
 -- the verdict was added by itself, where no lines are asked for
 pub verdict_added : (old new : List ℕ) (d : Detail) (name : List ℕ) (limit base : ℕ) (code : List ℕ) (labels : List Label) (fault : VetFault)
     → d ≡ Brief
-    → fault ≢ OutOfMemory → new ≡ ((old ++ name) ++ codes ": ") ++ reply_line (refused_reply (fault_words fault))
+    → fault ≢ OutOfMemory → new ≡ old ++ said_of name (reply_line (refused_reply (fault_words fault)))
     → AddsRefused old new d name limit base code labels fault
 verdict_added old new d name limit base code labels fault is some e = record {
   real = some;
   lines = [];
   first = subst (λ (x : Detail). AreFirst x limit base code labels fault []) (sym is) refl;
   added = subst (λ (x : Detail). new ≡ old ++ refused_text x base name code labels fault []) (sym is)
-      (e ∙ joined old name (reply_line (refused_reply (fault_words fault))));
+      (e ∙ ap (λ (z : List ℕ). old ++ z) (sym (append-nil (said_of name (reply_line (refused_reply (fault_words fault)))))));
+}
+
+-- the verdict was added, and then the lines on the fault, where they are asked for
+pub explained_added : (old mid new : List ℕ) (d : Detail) (name : List ℕ) (limit base : ℕ) (code : List ℕ) (labels : List Label) (fault : VetFault)
+    → d ≢ Object → d ≢ Brief
+    → fault ≢ OutOfMemory → mid ≡ old ++ said_of name (reply_line (refused_reply (fault_words fault)))
+    → AddsLines mid new (Explains limit base code labels fault) → AddsRefused old new d name limit base code labels fault
+explained_added old mid new d name limit base code labels fault object brief some e a = record {
+  real = some;
+  lines = a.lines;
+  first = first d object brief;
+  added = joined ∙ text d object brief;
 }
   where
-    joined : (xs ys zs : List ℕ) → ((xs ++ ys) ++ codes ": ") ++ zs ≡ xs ++ (said_of ys zs ++ [])
-    joined xs ys zs = simp (append_assoc, append-nil)
+    verdict : List ℕ
+    verdict = said_of name (reply_line (refused_reply (fault_words fault)))
+
+    joined : new ≡ old ++ (verdict ++ flat_map detail_line a.lines)
+    joined = a.added ∙ ap (λ (z : List ℕ). z ++ flat_map detail_line a.lines) e ∙ append_assoc old verdict (flat_map detail_line a.lines)
+
+    first : (x : Detail) → x ≢ Object → x ≢ Brief → AreFirst x limit base code labels fault a.lines
+    first Brief o b = absurd (b refl)
+    first Object o b = absurd (o refl)
+    first Usual o b = a.says
+    first Calls o b = a.says
+    first detail.All o b = a.says
+
+    text : (x : Detail) → x ≢ Object → x ≢ Brief
+        → old ++ (verdict ++ flat_map detail_line a.lines) ≡ old ++ refused_text x base name code labels fault a.lines
+    text Brief o b = absurd (b refl)
+    text Object o b = absurd (o refl)
+    text Usual o b = refl
+    text Calls o b = refl
+    text detail.All o b = refl
 
 -- the verdict was added as an object
 pub object_added : (old new : List ℕ) (d : Detail) (name : List ℕ) (limit base : ℕ) (code : List ℕ) (labels : List Label) (fault : VetFault)

@@ -1,6 +1,6 @@
 //! Which refused bytes are of which kind, and what a fault means.
 
-ghost use Rattle.std.specs.Prelude.{◌≡◌, ◌≤◌, length, slice_index, take};
+ghost use Rattle.std.specs.Prelude.{◌≡◌, ◌≤◌, length, slice_index, take, nat_le, nat_lt, ◌==◌, ◌&&◌, ◌||◌};
 ghost use Rattle.std.specs.List.{list_all};
 ghost use Rattle.nc_report.specs.Advice.{kind_in, key_of, is_cut_prefix, meaning_of, is_elf, is_archive, is_of_text, is_text, words_about};
 
@@ -233,11 +233,25 @@ fn is_archive(code: &[u8]) -> bool
     code.starts_with(b"!<arch>\n")
 }
 
+/// A printable character.
+fn is_printable(byte: u8) -> bool
+    ensures { result ≡ (nat_le 0x20 byte && nat_lt byte 0x7F) }
+{
+    byte >= 0x20 && byte < 0x7F
+}
+
+/// A tab, or the end of a line.
+fn is_blank(byte: u8) -> bool
+    ensures { result ≡ (byte == 0x09 || byte == 0x0A || byte == 0x0D) }
+{
+    byte == b'\t' || byte == b'\n' || byte == b'\r'
+}
+
 /// A byte of ASCII text: a printable character, a tab, or the end of a line.
 fn is_of_text(byte: u8) -> bool
     ensures { result ≡ is_of_text byte }
 {
-    (byte >= 0x20 && byte < 0x7F) || byte == b'\t' || byte == b'\n' || byte == b'\r'
+    is_printable(byte) || is_blank(byte)
 }
 
 /// Each of these bytes is one of text.

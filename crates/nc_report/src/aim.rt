@@ -7,6 +7,7 @@ ghost use Rattle.nc_report.specs.Further.{begun_before, why_here, why_not, aim_l
 ghost use Rattle.nc_report.specs.Report.{detail_line};
 
 use crate::further::is_begun;
+use crate::numbers::push_text;
 use crate::spot::{Spot, spot_at};
 use crate::targets::why_outside;
 use crate::words::{INSIDE, SECOND_HALF};
@@ -36,10 +37,10 @@ fn push_here(out: &mut Vec<u8>, base: u32, spots: &[Spot], place: usize) -> Resu
     ensures { OnOk result (out.new.items ≡ out.old.items ++ why_here base spots.now place) }
 {
     if is_begun(spot_at(spots, place)) {
-        out.extend_from_slice(SECOND_HALF)?;
+        push_text(out, SECOND_HALF)?;
         push_address(out, (base + place as u32).saturating_sub(MASK))
     } else {
-        out.extend_from_slice(INSIDE)?;
+        push_text(out, INSIDE)?;
         push_address(out, base + begun_before(spots, place) as u32)
     }
 }
@@ -58,7 +59,7 @@ fn push_why(
     if base <= to && to < base + spots.len() as u32 {
         push_here(out, base, spots, (to - base) as usize)
     } else {
-        out.extend_from_slice(why_outside(limit, to))
+        push_text(out, why_outside(limit, to))
     }
 }
 
@@ -80,10 +81,9 @@ pub(crate) fn push_aim(
         return Ok(());
     };
     let to = instr.target(at);
-    out.extend_from_slice(b"  -> ")?;
+    push_text(out, b"  -> ")?;
     push_address(out, to)?;
-    out.extend_from_slice(b": ")?;
+    push_text(out, b": ")?;
     push_why(out, base, limit, spots, to)?;
-    out.push(b'\n')?;
-    Ok(())
+    push_text(out, b"\n")
 }

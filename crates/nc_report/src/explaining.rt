@@ -8,6 +8,7 @@ use crate::advice::words_about;
 use crate::labels::Labels;
 use crate::listing::push_bundle;
 use crate::naming::push_label;
+use crate::numbers::push_text;
 use crate::targets::push_target;
 use nc_decode::BUNDLE;
 use nc_vet::VetFault;
@@ -30,10 +31,9 @@ pub(crate) fn place_of(fault: VetFault) -> Option<u32>
 pub(crate) fn push_words(out: &mut Vec<u8>, words: &[u8]) -> Result<(), AllocError>
     ensures { OnOk result (out.new.items ≡ out.old.items ++ detail_line words.now) }
 {
-    out.extend_from_slice(b"  ")?;
-    out.extend_from_slice(words)?;
-    out.push(b'\n')?;
-    Ok(())
+    push_text(out, b"  ")?;
+    push_text(out, words)?;
+    push_text(out, b"\n")
 }
 
 /// Adds where a refused direct transfer goes, and why it may not. For any other fault it adds nothing.

@@ -4,7 +4,7 @@ ghost use Rattle.std.specs.Prelude.{◌≡◌, ◌≤◌, List, length, take, If
 ghost use Rattle.nc_vet.specs.Chunk.{Piece, code_of, AreSpelled};
 ghost use Rattle.nc_report.specs.machinery.Found.{AreInstructions, ListsFront, AddsBundle};
 
-use crate::numbers::push_bytes;
+use crate::numbers::{push_bytes, push_text};
 use nc_decode::{BUNDLE, decode};
 use nc_lines::push_address;
 use std::alloc::{AllocError, Global};
@@ -22,7 +22,7 @@ fn push_read(out: &mut Vec<u8>, bytes: &[u8]) -> Result<usize, AllocError>
         };
         let next = at + usize::from(instr.len);
         push_bytes(out, &bytes[at..next])?;
-        out.extend_from_slice(b" |")?;
+        push_text(out, b" |")?;
         at = next;
     }
     Ok(at)
@@ -40,12 +40,11 @@ pub(crate) fn push_bundle(
     requires read { AreInstructions (take before bundle.now) }
     ensures { OnOk result (AddsBundle out.old.items out.new.items address bundle.now before) }
 {
-    out.extend_from_slice(b"  ")?;
+    push_text(out, b"  ")?;
     push_address(out, address)?;
-    out.push(b':')?;
+    push_text(out, b":")?;
     let read = push_read(out, &bundle[..before])?;
-    out.extend_from_slice(b" >")?;
+    push_text(out, b" >")?;
     push_bytes(out, &bundle[read..])?;
-    out.push(b'\n')?;
-    Ok(())
+    push_text(out, b"\n")
 }

@@ -6,6 +6,7 @@ ghost use Rattle.nc_report.specs.Labels.{shown_byte, shown_name, offset_words, l
 ghost use Rattle.nc_report.specs.Report.{detail_line};
 
 use crate::labels::{Label, Labels};
+use crate::numbers::push_text;
 use nc_lines::push_address;
 use std::alloc::{AllocError, Global};
 
@@ -57,12 +58,12 @@ fn push_line(alloc: Global, out: &mut Vec<u8>, label: &Label, at: u32) -> Result
     requires { label.now.address ≤ at }
     ensures { OnOk result (out.new.items ≡ out.old.items ++ detail_line (label_line label.now at)) }
 {
-    out.extend_from_slice(b"  ")?;
+    push_text(out, b"  ")?;
     push_address(out, at)?;
-    out.extend_from_slice(b" <")?;
+    push_text(out, b" <")?;
     push_shown(out, &label.name)?;
     push_offset(alloc, out, at - label.address)?;
-    out.extend_from_slice(b">\n")
+    push_text(out, b">\n")
 }
 
 /// Adds the line that names an address, if it has a label.

@@ -1,4 +1,4 @@
-//! How numbers and bytes are written.
+//! How texts, numbers and bytes are written.
 
 ghost use Rattle.std.specs.Prelude.{◌≡◌, ◌++◌, ◌∷◌, [], OnOk};
 ghost use Rattle.std.specs.Fmt.{decimal};
@@ -6,6 +6,13 @@ ghost use Rattle.hex.specs.Hex.{encode_lower};
 ghost use Rattle.nc_report.specs.Listing.{spaced};
 
 use std::alloc::{AllocError, Global};
+
+/// Adds a text.
+pub(crate) fn push_text(out: &mut Vec<u8>, text: &[u8]) -> Result<(), AllocError>
+    ensures { OnOk result (out.new.items ≡ out.old.items ++ text.now) }
+{
+    out.extend_from_slice(text)
+}
 
 /// Adds a decimal number.
 pub(crate) fn push_number(alloc: Global, out: &mut Vec<u8>, number: usize) -> Result<(), AllocError>
@@ -29,7 +36,7 @@ pub(crate) fn push_bytes(out: &mut Vec<u8>, bytes: &[u8]) -> Result<(), AllocErr
     ensures { OnOk result (out.new.items ≡ out.old.items ++ spaced bytes.now) }
 {
     for byte in bytes {
-        out.push(b' ')?;
+        push_text(out, b" ")?;
         push_byte(out, *byte)?;
     }
     Ok(())

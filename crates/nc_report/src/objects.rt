@@ -14,7 +14,7 @@ use crate::advice::words_about;
 use crate::explaining::place_of;
 use crate::labels::Labels;
 use crate::naming::symbol_words;
-use crate::numbers::{push_byte, push_number};
+use crate::numbers::{push_byte, push_number, push_text};
 use nc_lines::push_address;
 use nc_vet::VetFault;
 use std::alloc::{AllocError, Global};
@@ -24,13 +24,12 @@ fn push_escaped(out: &mut Vec<u8>, byte: u8) -> Result<(), AllocError>
     ensures { OnOk result (out.new.items ≡ out.old.items ++ escaped byte) }
 {
     if byte == b'"' || byte == b'\\' {
-        out.extend_from_slice(&[b'\\', byte])
+        push_text(out, &[b'\\', byte])
     } else if byte < 0x20 || byte >= 0x7f {
-        out.extend_from_slice(b"\\u00")?;
+        push_text(out, b"\\u00")?;
         push_byte(out, byte)
     } else {
-        out.push(byte)?;
-        Ok(())
+        push_text(out, &[byte])
     }
 }
 
@@ -48,17 +47,16 @@ fn push_inner(out: &mut Vec<u8>, bytes: &[u8]) -> Result<(), AllocError>
 fn push_string(out: &mut Vec<u8>, bytes: &[u8]) -> Result<(), AllocError>
     ensures { OnOk result (out.new.items ≡ out.old.items ++ string_of bytes.now) }
 {
-    out.push(b'"')?;
+    push_text(out, b"\"")?;
     push_inner(out, bytes)?;
-    out.push(b'"')?;
-    Ok(())
+    push_text(out, b"\"")
 }
 
 /// Adds the first member, a file's name.
 fn push_file(out: &mut Vec<u8>, name: &[u8]) -> Result<(), AllocError>
     ensures { OnOk result (out.new.items ≡ out.old.items ++ file_member name.now) }
 {
-    out.extend_from_slice(b"{\"file\":")?;
+    push_text(out, b"{\"file\":")?;
     push_string(out, name)
 }
 
@@ -66,10 +64,9 @@ fn push_file(out: &mut Vec<u8>, name: &[u8]) -> Result<(), AllocError>
 fn push_name_of(out: &mut Vec<u8>, name: &[u8]) -> Result<(), AllocError>
     ensures { OnOk result (out.new.items ≡ out.old.items ++ (codes "," ++ (string_of name.now ++ codes ":"))) }
 {
-    out.push(b',')?;
+    push_text(out, b",")?;
     push_string(out, name)?;
-    out.push(b':')?;
-    Ok(())
+    push_text(out, b":")
 }
 
 /// Adds a member whose value is a string.
@@ -101,7 +98,7 @@ fn push_place(alloc: Global, out: &mut Vec<u8>, name: &[u8], at: u32) -> Result<
 fn push_end(out: &mut Vec<u8>) -> Result<(), AllocError>
     ensures { OnOk result (out.new.items ≡ out.old.items ++ codes "}\n") }
 {
-    out.extend_from_slice(b"}\n")
+    push_text(out, b"}\n")
 }
 
 /// A fault's name. Lack of memory is no verdict.

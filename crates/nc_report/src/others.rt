@@ -16,7 +16,7 @@ use crate::fault::ReportFault;
 use crate::further::{fault_at, is_begun};
 use crate::labels::Labels;
 use crate::naming::push_label;
-use crate::numbers::{push_byte, push_bytes};
+use crate::numbers::{push_byte, push_bytes, push_text};
 use crate::spot::{Spot, spot_at};
 use crate::steps::read_spots;
 use crate::totals::push_last;
@@ -33,10 +33,10 @@ const PIECE: usize = 65536;
 fn push_barred(out: &mut Vec<u8>, byte: u8, barred: bool) -> Result<(), AllocError>
     ensures { OnOk result (out.new.items ≡ out.old.items ++ (spaced (byte ∷ []) ++ (if barred then codes " |" else []))) }
 {
-    out.push(b' ')?;
+    push_text(out, b" ")?;
     push_byte(out, byte)?;
     if barred {
-        out.extend_from_slice(b" |")?;
+        return push_text(out, b" |");
     }
     Ok(())
 }
@@ -75,14 +75,13 @@ fn push_listing(
     let size = BUNDLE as usize;
     let before = k % size;
     let start = k - before;
-    out.extend_from_slice(b"  ")?;
+    push_text(out, b"  ")?;
     push_address(out, base + start as u32)?;
-    out.push(b':')?;
+    push_text(out, b":")?;
     push_parted(out, code, spots, start, before)?;
-    out.extend_from_slice(b" >")?;
+    push_text(out, b" >")?;
     push_bytes(out, &code[k..start + size])?;
-    out.push(b'\n')?;
-    Ok(())
+    push_text(out, b"\n")
 }
 
 /// Adds where a direct transfer goes that goes where it may not. Of other faults it adds nothing.
@@ -132,9 +131,9 @@ fn push_also(
     ensures { OnOk result (out.new.items ≡ out.old.items
         ++ flat_map detail_line (lines_on base limit code.now labels.now spots.now k (Some fault))) }
 {
-    out.extend_from_slice(b"  also ")?;
+    push_text(out, b"  also ")?;
     push_name(out, fault)?;
-    out.push(b'\n')?;
+    push_text(out, b"\n")?;
     push_label(alloc, out, labels, base + k as u32)?;
     push_listing(out, base, code, spots, k)?;
     push_goes(out, base, limit, code, spots, k, fault)?;

@@ -8,7 +8,7 @@ ghost use Rattle.nc_report.specs.Report.{detail_line};
 ghost use Rattle.nc_report.specs.machinery.Found.{AddsLines};
 ghost use Rattle.nc_report.specs.machinery.Runs.{IsSent, IsRun, AddsCounts};
 
-use crate::numbers::push_number;
+use crate::numbers::{push_number, push_text};
 use nc_decode::{Instr, decode};
 use nc_lines::push_address;
 use std::alloc::{AllocError, Global};
@@ -78,13 +78,12 @@ fn transfers(times: usize) -> &'static [u8]
 fn push_row(alloc: Global, out: &mut Vec<u8>, to: u32, times: usize) -> Result<(), AllocError>
     ensures { OnOk result (out.new.items ≡ out.old.items ++ detail_line (row_words (record { to = to; times = times }))) }
 {
-    out.extend_from_slice(b"  -> ")?;
+    push_text(out, b"  -> ")?;
     push_address(out, to)?;
-    out.extend_from_slice(b": ")?;
+    push_text(out, b": ")?;
     push_number(alloc, out, times)?;
-    out.extend_from_slice(transfers(times))?;
-    out.push(b'\n')?;
-    Ok(())
+    push_text(out, transfers(times))?;
+    push_text(out, b"\n")
 }
 
 /// Adds a line for each of these numbers, which ascend, with how often it occurs.

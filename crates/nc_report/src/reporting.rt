@@ -71,6 +71,37 @@ fn tell_all<W: Write>(
     Ok(refused)
 }
 
+/// Vets sources in a region of this limit, and writes in their order what was found. It gives the number of refused ones.
+fn vet_and_tell<W: Write, T: Threads + Wait + Sync>(
+    rt: &T,
+    alloc: Global,
+    sources: Vec<Source>,
+    base: u32,
+    limit: u32,
+    workers: u32,
+    detail: Detail,
+    writer: &mut W,
+) -> Result<usize, ReportFault>
+    ensures ok { IfOk result (HasReported limit base detail (W.contents writer.old) (W.contents writer.new) sources.items) }
+    ensures cut { OnErr result (HasBegunReport limit base detail (W.contents writer.old) (W.contents writer.new) sources.items) }
+    ensures faults { IfErr result IsOfWriting }
+{
+    let Ok(Parted { titles, jobs }) = part(alloc, sources, base, limit) else {
+        return Err(ReportFault::OutOfMemory);
+    };
+    let Ok(verdicts) = vet_all(rt, jobs, workers, &Open) else {
+        return Err(ReportFault::OutOfMemory);
+    };
+    let refused = match tell_all(alloc, titles, verdicts, base, limit, detail, writer) {
+        Ok(refused) => refused,
+        Err(fault) => return Err(fault),
+    };
+    match writer.flush() {
+        Ok(()) => Ok(refused),
+        Err(_) => Err(ReportFault::WriteFailed),
+    }
+}
+
 /// Vets sources, each as a chunk at this base in a region of `bundles` bundles, by `workers` workers, and writes in their
 /// order what was found. It gives the number of refused ones.
 ///
@@ -114,18 +145,5 @@ pub fn report<W: Write, T: Threads + Wait + Sync>(
         return Err(ReportFault::BadWorkers);
     }
     let limit = START + BUNDLE * bundles;
-    let Ok(Parted { titles, jobs }) = part(alloc, sources, base, limit) else {
-        return Err(ReportFault::OutOfMemory);
-    };
-    let Ok(verdicts) = vet_all(rt, jobs, workers, &Open) else {
-        return Err(ReportFault::OutOfMemory);
-    };
-    let refused = match tell_all(alloc, titles, verdicts, base, limit, detail, writer) {
-        Ok(refused) => refused,
-        Err(fault) => return Err(fault),
-    };
-    match writer.flush() {
-        Ok(()) => Ok(refused),
-        Err(_) => Err(ReportFault::WriteFailed),
-    }
+    vet_and_tell(rt, alloc, sources, base, limit, workers, detail, writer)
 }

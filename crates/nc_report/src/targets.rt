@@ -6,6 +6,7 @@ ghost use Rattle.nc_vet.specs.declared.fault.VetFault.TheVariants as vet;
 ghost use Rattle.nc_report.specs.Targets.{why_outside, NamesTarget};
 ghost use Rattle.nc_report.specs.machinery.Aims.{IsReadTo, StepsFrom, CoversPlace, IsNoTarget, AddsWhy, AddsAim};
 
+use crate::numbers::push_text;
 use crate::words::{BEYOND_REGION, IN_ZONE, INSIDE, OUTSIDE_CODE, SECOND_HALF};
 use nc_decode::{BUNDLE, START, decode};
 use nc_lines::push_address;
@@ -73,11 +74,11 @@ fn push_why(
     let place = (to - base) as usize;
     let start = covering(code, place);
     if start < place {
-        out.extend_from_slice(INSIDE)?;
+        push_text(out, INSIDE)?;
         return push_address(out, base + start as u32);
     }
     // What begins there is the second half of a pair.
-    out.extend_from_slice(SECOND_HALF)?;
+    push_text(out, SECOND_HALF)?;
     push_address(out, to - MASK)
 }
 
@@ -96,10 +97,9 @@ pub(crate) fn push_target(
         Ok(instr) => instr.target(at),
         Err(_) => unreachable!(),
     };
-    out.extend_from_slice(b"  -> ")?;
+    push_text(out, b"  -> ")?;
     push_address(out, to)?;
-    out.extend_from_slice(b": ")?;
+    push_text(out, b": ")?;
     push_why(out, limit, base, code, to)?;
-    out.push(b'\n')?;
-    Ok(())
+    push_text(out, b"\n")
 }

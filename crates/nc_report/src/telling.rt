@@ -1,9 +1,10 @@
 //! What is written of one source.
 
-ghost use Rattle.std.specs.Prelude.{◌≡◌, ◌++◌, ℕ, List, IfOk, IfErr, OnOk, OnErr};
+ghost use Rattle.std.specs.Prelude.{◌≡◌, ◌≢◌, ◌++◌, ℕ, List, IfOk, IfErr, OnOk, OnErr};
 ghost use Rattle.std.specs.Io.KnownBytes.{Appends};
 ghost use Rattle.nc_vet.specs.Faults.{HasFault};
-ghost use Rattle.nc_lines.specs.Replies.{reply_line};
+ghost use Rattle.nc_vet.specs.declared.fault.VetFault.TheVariants.{OutOfMemory};
+ghost use Rattle.nc_lines.specs.Replies.{reply_line, refused_reply, fault_words};
 ghost use Rattle.nc_report.specs.Report.{said_of, accepted_words, IsAccepted, IsRefused};
 ghost use Rattle.nc_report.specs.machinery.Found.{IsFinding, code_in, IsPlaced, IsRealTarget, AddsAccepted, AddsRefused, TellsOne};
 ghost use Rattle.nc_report.specs.machinery.Found.{IsOfWriting, IsCutOff, WritesLines, CutsLines, AreMore, AreSomeMore};
@@ -13,7 +14,7 @@ use crate::detail::Detail;
 use crate::explaining::{place_of, push_explained};
 use crate::fault::ReportFault;
 use crate::labels::Labels;
-use crate::numbers::push_number;
+use crate::numbers::{push_number, push_text};
 use crate::objects::{push_accepted_object, push_refused_object};
 use crate::others::write_others;
 use crate::outside::push_outside;
@@ -34,12 +35,12 @@ fn push_ok(
 ) -> Result<(), AllocError>
     ensures { OnOk result (out.new.items ≡ out.old.items ++ said_of name.now (reply_line (accepted_words bytes instructions))) }
 {
-    out.extend_from_slice(name)?;
-    out.extend_from_slice(b": ok, ")?;
+    push_text(out, name)?;
+    push_text(out, b": ok, ")?;
     push_number(alloc, out, bytes)?;
-    out.extend_from_slice(b" bytes, ")?;
+    push_text(out, b" bytes, ")?;
     push_number(alloc, out, instructions)?;
-    out.extend_from_slice(b" instructions\n")
+    push_text(out, b" instructions\n")
 }
 
 /// Adds the verdict on a source that is accepted, and the addresses outside of it that its direct transfers go to.
@@ -107,6 +108,16 @@ fn tell_accepted<W: Write>(
     }
 }
 
+/// Adds the verdict on a source that is refused. Lack of memory is no verdict.
+fn push_refusal(out: &mut Vec<u8>, name: &[u8], fault: VetFault) -> Result<(), AllocError>
+    ensures { OnOk result ((fault ≢ OutOfMemory)
+        × (out.new.items ≡ out.old.items ++ said_of name.now (reply_line (refused_reply (fault_words fault))))) }
+{
+    push_text(out, name)?;
+    push_text(out, b": ")?;
+    push_fault(out, fault)
+}
+
 /// Adds the verdict on a source that is refused, and what is said of its fault. Lack of memory is no verdict.
 fn push_refused(
     alloc: Global,
@@ -123,16 +134,14 @@ fn push_refused(
     requires real { IsRealTarget limit base code.now fault }
     ensures { OnOk result (AddsRefused out.old.items out.new.items detail name.now limit base code.now labels.now fault) }
 {
-    if detail == Detail::Object {
-        return push_refused_object(alloc, out, name, base, code, labels, fault);
+    match detail {
+        Detail::Object => push_refused_object(alloc, out, name, base, code, labels, fault),
+        Detail::Brief => push_refusal(out, name, fault),
+        _ => {
+            push_refusal(out, name, fault)?;
+            push_explained(alloc, out, limit, base, code, labels, fault)
+        }
     }
-    out.extend_from_slice(name)?;
-    out.extend_from_slice(b": ")?;
-    push_fault(out, fault)?;
-    if detail == Detail::Brief {
-        return Ok(());
-    }
-    push_explained(alloc, out, limit, base, code, labels, fault)
 }
 
 /// Writes what is said of the other faults of a refused source, where it is asked for. What isn't written is kept.

@@ -8,7 +8,7 @@ ghost use Rattle.nc_report.specs.Totals.{counts_to, total, totals_line, starts_i
 ghost use Rattle.nc_report.specs.machinery.Seen.{counted, kind_words};
 
 use crate::further::{fault_at, is_begun};
-use crate::numbers::push_number;
+use crate::numbers::{push_number, push_text};
 use crate::spot::{Spot, spot_at};
 use crate::words::NOT_IN_BUNDLES;
 use nc_decode::BUNDLE;
@@ -96,11 +96,11 @@ fn push_kind(
         return Ok(begun);
     }
     if begun {
-        out.extend_from_slice(b", ")?;
+        push_text(out, b", ")?;
     }
     push_number(alloc, out, n)?;
-    out.push(b' ')?;
-    out.extend_from_slice(name)?;
+    push_text(out, b" ")?;
+    push_text(out, name)?;
     Ok(true)
 }
 
@@ -122,14 +122,13 @@ fn push_totals(alloc: Global, out: &mut Vec<u8>, counts: Counts) -> Result<(), A
     ensures { OnOk result (out.new.items ≡ out.old.items ++ detail_line (totals_line counts)) }
 {
     let n = counts.crosses + counts.not_permitted + counts.bare + counts.bad_target;
-    out.extend_from_slice(b"  ")?;
+    push_text(out, b"  ")?;
     push_total(alloc, out, n)?;
     let begun = push_kind(alloc, out, false, counts.crosses, b"Crosses")?;
     let begun = push_kind(alloc, out, begun, counts.not_permitted, b"NotPermitted")?;
     let begun = push_kind(alloc, out, begun, counts.bare, b"Bare")?;
     let _begun = push_kind(alloc, out, begun, counts.bad_target, b"BadTarget")?;
-    out.push(b'\n')?;
-    Ok(())
+    push_text(out, b"\n")
 }
 
 /// Adds that the code isn't in bundles, if more than half of them begin inside an instruction.
@@ -145,13 +144,12 @@ fn push_adrift(
     if 2 * inside <= bundles {
         return Ok(());
     }
-    out.extend_from_slice(b"  the code isn't in bundles: ")?;
+    push_text(out, b"  the code isn't in bundles: ")?;
     push_number(alloc, out, inside)?;
-    out.extend_from_slice(b" of ")?;
+    push_text(out, b" of ")?;
     push_number(alloc, out, bundles)?;
-    out.extend_from_slice(NOT_IN_BUNDLES)?;
-    out.push(b'\n')?;
-    Ok(())
+    push_text(out, NOT_IN_BUNDLES)?;
+    push_text(out, b"\n")
 }
 
 /// Adds what is said at the end.

@@ -1,5 +1,6 @@
 use Rattle.std.proofs.Common.{◌++◌, ◌∷◌, [], ℕ, List, drop, ap, ◌∙◌}
 use Rattle.std.proofs.lemmas.List.{take_rest}
+use Rattle.std.proofs.lemmas.Result.{on_ok_weaker}
 use Rattle.std.specs.Prelude.{codes}
 use Rattle.nc_lines.specs.Replies.{address_digits}
 use Rattle.nc_report.specs.Listing.{spaced}
@@ -10,10 +11,12 @@ pub returns : goal.returns
 returns c =
     let bundle = c.args.bundle.now in
     let read = c.in_ok-read.read in
-    bundle_added c.args.out.now.items c.push.new.self.items c.push_read.new.out.items c.push-2.new.self.items bundle c.args.address
+    on_ok_weaker c.push_text-4.result
+    (λ e. bundle_added c.args.out.now.items c.push_text-2.new.out.items c.push_read.new.out.items c.push_text-4.new.out.items bundle c.args.address
     c.args.before read c.in_ok-read.ensures.lists (c.in_ok-read.ensures.whole c.requires.read) c.requires.within
-    (c.in_ok-push.ensures.items ∙ ap (λ (z : List ℕ). z ++ codes ":")
-    (c.in_ok-push_address.ensures ∙ ap (λ (z : List ℕ). z ++ address_digits c.args.address) c.in_ok-extend_from_slice.ensures.items))
-    (c.in_ok-push-2.ensures.items ∙ ap (λ (z : List ℕ). z ++ 10 ∷ [])
-    (c.in_ok-push_bytes.ensures ∙ ap (λ (z : List ℕ). c.extend_from_slice-2.new.self.items ++ spaced z) (take_rest bundle read)
-    ∙ ap (λ (z : List ℕ). z ++ spaced (drop read bundle)) c.in_ok-extend_from_slice-2.ensures.items))
+    (c.in_ok-push_text-2.ensures ∙ ap (λ (z : List ℕ). z ++ codes ":")
+    (c.in_ok-push_address.ensures ∙ ap (λ (z : List ℕ). z ++ address_digits c.args.address) c.in_ok-push_text.ensures))
+    (e ∙ ap (λ (z : List ℕ). z ++ 10 ∷ [])
+    (c.in_ok-push_bytes.ensures ∙ ap (λ (z : List ℕ). c.push_text-3.new.out.items ++ spaced z) (take_rest bundle read)
+    ∙ ap (λ (z : List ℕ). z ++ spaced (drop read bundle)) c.in_ok-push_text-3.ensures)))
+    c.push_text-4.ensures

@@ -22,7 +22,7 @@ loop-at-preserved c =
     let to : at + c.from.result ≡ at + i.len = ap (λ (n : ℕ). at + n) len in
     let shown : take ((at + c.from.result) - at) (drop at bytes) ≡ take i.len (drop at bytes) =
     ap (λ (n : ℕ). take n (drop at bytes)) (omega (arith, len)) in
-    let added = c.in_ok-extend_from_slice.ensures.items
+    let added = c.in_ok-push_text.ensures
     ∙ ap (λ (z : List ℕ). z ++ codes " |")
     (c.in_ok-push_bytes.ensures ∙ ap (λ (z : List ℕ). c.loop-at.out.items ++ spaced z) shown) in (
       omega (arith, len, (c.in-Ok.ensures.sized), length-drop at bytes),

@@ -14,14 +14,14 @@ returns c =
     let old = c.args.out.now.items in
     let words = fault_words c.args.fault in
     on_ok_weaker c.push_words.result
-    (λ e. also_added old c.push.new.self.items c.push_label.new.out.items c.push_listing.new.out.items c.push_goes.new.out.items c.push_words.new.out.items
+    (λ e. also_added old c.push_text-2.new.out.items c.push_label.new.out.items c.push_listing.new.out.items c.push_goes.new.out.items c.push_words.new.out.items
     (codes "also " ++ words) (listing c.args.base c.args.code.now c.args.spots.now c.args.k)
     (words_about c.args.code.now c.args.fault c.args.k)
     (label_lines c.args.labels.now (c.args.base + c.args.k))
     (goes_lines c.args.base c.args.limit c.args.code.now c.args.spots.now c.args.k c.args.fault)
-    (c.in_ok-push.ensures.items
+    (c.in_ok-push_text-2.ensures
     ∙ ap (λ (z : List ℕ). z ++ 10 ∷ [])
-    (c.in_ok-push_name.ensures.1 ∙ ap (λ (z : List ℕ). z ++ words) c.in_ok-extend_from_slice.ensures.items)
+    (c.in_ok-push_name.ensures.1 ∙ ap (λ (z : List ℕ). z ++ words) c.in_ok-push_text.ensures)
     ∙ also_joined old words)
     c.in_ok-push_label.ensures c.in_ok-push_listing.ensures c.in_ok-push_goes.ensures
     (e ∙ ap (λ (z : List ℕ). c.push_goes.new.out.items ++ detail_line z) c.words_about.ensures))

@@ -1,5 +1,6 @@
 use Rattle.std.proofs.Common.{◌-◌, ◌++◌, List, ℕ, ap, ◌∙◌, subst, sym, refl}
 use Rattle.std.proofs.lemmas.List.{take_rest}
+use Rattle.std.proofs.lemmas.Result.{on_ok_weaker}
 use Rattle.std.specs.Prelude.{codes}
 use Rattle.nc_decode.specs.Spelling.{IsAtFront}
 use Rattle.nc_decode.specs.Transfers.{target}
@@ -27,14 +28,16 @@ pub returns : goal.returns
 returns c =
     let i = c.in-Ok.instr in
     let old = c.args.out.now.items in
-    target_named old c.extend_from_slice-2.new.self.items c.push_why.new.out.items c.push.new.self.items c.args.limit c.args.base
+    on_ok_weaker c.push_text-3.result
+    (λ e. target_named old c.push_text-2.new.out.items c.push_why.new.out.items c.push_text-3.new.out.items c.args.limit c.args.base
     c.args.code.now c.args.at i c.requires
     (subst (λ (z : List ℕ). IsAtFront z i) (take_rest c.args.code.now (c.args.at - c.args.base)) ((c.in-Ok.ensures.found i).0 refl))
-    (c.in_ok-extend_from_slice-2.ensures.items
+    (c.in_ok-push_text-2.ensures
     ∙ ap (λ (z : List ℕ). z ++ codes ": ")
     (c.in_ok-push_address.ensures
-    ∙ ap (λ (k : ℕ). c.extend_from_slice.new.self.items ++ address_digits k) c.target-to.ensures
-    ∙ ap (λ (z : List ℕ). z ++ address_digits (target i c.args.at)) c.in_ok-extend_from_slice.ensures.items))
-    (subst (AddsWhy c.extend_from_slice-2.new.self.items c.push_why.new.out.items c.args.limit c.args.base c.args.code.now)
+    ∙ ap (λ (k : ℕ). c.push_text.new.out.items ++ address_digits k) c.target-to.ensures
+    ∙ ap (λ (z : List ℕ). z ++ address_digits (target i c.args.at)) c.in_ok-push_text.ensures))
+    (subst (AddsWhy c.push_text-2.new.out.items c.push_why.new.out.items c.args.limit c.args.base c.args.code.now)
     c.target-to.ensures c.in_ok-push_why.ensures)
-    c.in_ok-push.ensures.items
+    e)
+    c.push_text-3.ensures

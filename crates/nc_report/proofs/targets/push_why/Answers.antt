@@ -12,7 +12,7 @@ returns-then-start-place c =
     on_ok_weaker c.push_address.result
     (λ e. why_inside c.args.out.now.items c.push_address.new.out.items c.args.limit c.args.base c.args.code.now c.args.to
     c.covering-start.result (omega arith) (omega arith) c.covering-start.ensures (omega arith)
-    (e ∙ ap (λ (z : List ℕ). z ++ address_digits (c.args.base + c.covering-start.result)) c.in_ok-extend_from_slice.ensures.items))
+    (e ∙ ap (λ (z : List ℕ). z ++ address_digits (c.args.base + c.covering-start.result)) c.in_ok-push_text.ensures))
     c.push_address.ensures
 
 pub overflow_sub-to-2 : goal.overflow_sub-to-2
@@ -25,5 +25,5 @@ returns c =
     on_ok_weaker c.push_address-2.result
     (λ e. why_second c.args.out.now.items c.push_address-2.new.out.items c.args.limit c.args.base c.args.code.now c.args.to
     c.covering-start.result (omega arith) (omega arith) c.requires c.covering-start.ensures (λ h. omega (arith, h))
-    (e ∙ ap (λ (z : List ℕ). z ++ address_digits (c.args.to - 3)) c.in_ok-extend_from_slice-2.ensures.items))
+    (e ∙ ap (λ (z : List ℕ). z ++ address_digits (c.args.to - 3)) c.in_ok-push_text-2.ensures))
     c.push_address-2.ensures

@@ -1,4 +1,4 @@
-use Rattle.std.proofs.Common.{ap, ◌∙◌, arith}
+use Rattle.std.proofs.Common.{ap, ◌∙◌, arith, rules}
 use Rattle.nc_report.specs.declared.totals.Counts.{Counts}
 use Rattle.nc_report.specs.machinery.Seen.{counted}
 use Rattle.nc_report.proofs.CountedFaults.{counts_more, counts_small}
@@ -16,6 +16,9 @@ counted-counts-requires-clause-bare c = omega (arith, (counts_small c.args.base 
 
 pub counted-counts-requires-clause-bad_target : goal.counted-counts-requires-clause-bad_target
 counted-counts-requires-clause-bad_target c = omega (arith, (counts_small c.args.base c.args.limit c.args.code.now c.args.spots.now c.loop-k.k c.loop-k.counts c.loop-k.invariant).3, c.requires.span)
+
+pub loop-k-init : goal.loop-k-init
+loop-k-init c = search rules
 
 pub loop-k-preserved : goal.loop-k-preserved
 loop-k-preserved c =

@@ -1,6 +1,7 @@
 use Rattle.std.proofs.Common.{ℕ, List, ◌++◌, ◌∷◌, [], false, ap, ◌∙◌, if◌then◌else◌}
 use Rattle.std.specs.Prelude.{codes, ◌==◌}
 use Rattle.std.specs.Fmt.{decimal}
+use Rattle.std.proofs.lemmas.Result.{on_ok_weaker}
 use Rattle.nc_report.specs.Totals.{total}
 use Rattle.nc_report.specs.machinery.Seen.{kind_words}
 use Rattle.nc_report.proofs.TotalWords.{totals_added}
@@ -14,9 +15,10 @@ returns c =
     let b1 = c.in_ok-begun.begun in
     let b2 = c.in_ok-begun-2.begun in
     let b3 = c.in_ok-begun-3.begun in
-    totals_added c.args.out.now.items c.push.new.self.items counts b1 b2 b3
+    on_ok_weaker c.push_text-2.result
+    (λ e. totals_added c.args.out.now.items c.push_text-2.new.out.items counts b1 b2 b3
     c.in_ok-begun.ensures.begun c.in_ok-begun-2.ensures.begun c.in_ok-begun-3.ensures.begun
-    (c.in_ok-push.ensures.items
+    (e
     ∙ ap (λ (z : List ℕ). z ++ 10 ∷ [])
     (c.in_ok-_begun.ensures.added
     ∙ ap (λ (z : List ℕ). z ++ kind_words b3 counts.bad_target (codes "BadTarget"))
@@ -27,4 +29,5 @@ returns c =
     (c.in_ok-begun.ensures.added
     ∙ ap (λ (z : List ℕ). z ++ kind_words false counts.crosses (codes "Crosses"))
     (c.in_ok-push_total.ensures
-    ∙ ap (λ (z : List ℕ). (z ++ decimal n) ++ words) c.in_ok-extend_from_slice.ensures.items))))))
+    ∙ ap (λ (z : List ℕ). (z ++ decimal n) ++ words) c.in_ok-push_text.ensures)))))))
+    c.push_text-2.ensures
