@@ -4,7 +4,7 @@ use nc_region::{CreateFault, DeleteFault, ModifyFault};
 use thiserror::Error;
 
 /// Why no region is made. The first that holds is given, in this order.
-#[derive(Clone, Copy, Debug, Error)]
+#[derive(Clone, Copy, Debug, PartialEq, Eq, Error)]
 pub enum NewFault {
     /// The number of seats isn't 1 to 256.
     #[error("bad seats")]
@@ -18,7 +18,7 @@ pub enum NewFault {
 }
 
 /// Why no seat is given.
-#[derive(Clone, Copy, Debug, Error)]
+#[derive(Clone, Copy, Debug, PartialEq, Eq, Error)]
 pub enum SeatFault {
     /// Each seat has been given.
     #[error("no seat is left")]
@@ -29,7 +29,7 @@ pub enum SeatFault {
 }
 
 /// Why a chunk isn't created. The first that holds is given, in this order.
-#[derive(Clone, Copy, Debug, Error)]
+#[derive(Clone, Copy, Debug, PartialEq, Eq, Error)]
 pub enum LoadFault {
     /// A deletion is under way.
     #[error("a deletion is under way")]
@@ -43,7 +43,7 @@ pub enum LoadFault {
 }
 
 /// Why a patch isn't made. The first that holds is given, in this order.
-#[derive(Clone, Copy, Debug, Error)]
+#[derive(Clone, Copy, Debug, PartialEq, Eq, Error)]
 pub enum PatchFault {
     /// A deletion is under way.
     #[error("a deletion is under way")]
@@ -57,7 +57,7 @@ pub enum PatchFault {
 }
 
 /// Why no deletion begins. The first that holds is given, in this order.
-#[derive(Clone, Copy, Debug, Error)]
+#[derive(Clone, Copy, Debug, PartialEq, Eq, Error)]
 pub enum RetireFault {
     /// A deletion is under way.
     #[error("a deletion is under way")]
@@ -71,7 +71,7 @@ pub enum RetireFault {
 }
 
 /// Why the runs of a creation or of a deletion aren't told.
-#[derive(Clone, Copy, Debug, Error)]
+#[derive(Clone, Copy, Debug, PartialEq, Eq, Error)]
 pub enum RunsFault {
     /// No live chunk has the base, or no deletion is under way.
     #[error("no chunk")]
