@@ -19,13 +19,18 @@ fn check_in_times(shared: &Shared<'_>, pass: &mut Pass, times: u32)
     }
 }
 
-/// Loads one word and stores it into the other, `times` times. It is a function of its own, since a compiler that sees that
+/// Loads one word and stores it into the other.
+#[inline(always)]
+fn bare_step(generation: &AtomicU64, word: &AtomicU64) {
+    word.store(generation.load(Ordering::SeqCst), Ordering::SeqCst);
+}
+
+/// Does this step `times` times. It is a function of its own, since a compiler that sees that
 /// nobody shares the words makes plain ones of them.
 #[inline(never)]
 fn bare_times(generation: &AtomicU64, word: &AtomicU64, times: u32) {
     for _ in 0..times {
-        let seen = generation.load(Ordering::SeqCst);
-        word.store(seen, Ordering::SeqCst);
+        bare_step(generation, word);
     }
 }
 

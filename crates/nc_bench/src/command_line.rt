@@ -37,13 +37,11 @@ fn subcommand<'a>(alloc: Global, measurement: &Measurement) -> Result<Command<'a
 
 /// The command line before it has subcommands.
 fn bare_program<'a>(alloc: Global) -> Result<Command<'a>, AllocError> {
-    Ok(
-        Command::new(alloc, "nc_bench")
-            .bin_name("nc_bench")?
-            .about("Time vetting and the calls of a region")
-            .no_binary_name(true)
-            .subcommand_required(true),
-    )
+    Command::new(alloc, "nc_bench")
+        .about("Time vetting and the calls of a region")
+        .no_binary_name(true)
+        .subcommand_required(true)
+        .bin_name("nc_bench")
 }
 
 /// The whole command line, without the program's own name.

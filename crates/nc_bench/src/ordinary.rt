@@ -16,7 +16,7 @@ pub const PATCH: [u8; 5] = [0xB8, 0x02, 0x00, 0x00, 0x00];
 
 /// The code, `count` times in a row.
 fn repeated(alloc: Global, code: &[u8], count: u32) -> Result<Vec<u8>, AllocError> {
-    let mut repeated = Vec::with_capacity(alloc, (count as usize).saturating_mul(code.len()))?;
+    let mut repeated = Vec::new(alloc);
     for _ in 0..count {
         repeated.extend_from_slice(code)?;
     }
