@@ -1,4 +1,3 @@
-use Rattle.std.proofs.Common.{rules}
 use Rattle.nc_handle.proofs.region_calls.is_short_for_patch.Goals as goal
 
 pub returns-then-len-le32 : goal.returns-then-len-le32
