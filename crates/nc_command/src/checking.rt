@@ -5,7 +5,9 @@ ghost use Rattle.std.specs.Str.Parse.{IsNumeral};
 ghost use Rattle.nc_command.specs.Checking.{EndsInDigits, SpellsBase, IsCheckInRange};
 
 use crate::asked::{CheckAsk, Said};
-use crate::command_line::{bundles_option, fault, named, number, with, workers_option};
+use crate::command_line::{
+    bundles_option, fault, matches, named, number, with, with_made, workers_option,
+};
 use clap::error::ErrorKind;
 use clap::{Arg, ArgAction, ArgMatches, Command, Error};
 use nc_decode::MAX_BUNDLES;
@@ -69,37 +71,49 @@ fn format_option<'a>(alloc: Global) -> Arg<'a> {
 
 /// The command line before it has options.
 fn bare_program<'a>(alloc: Global) -> Result<Command<'a>, AllocError> {
-    Ok(
-        Command::new(alloc, "nc_check")
-            .bin_name("nc_check")?
-            .version("0.1.0")
-            .about("Judge files of 32-bit x86 code for a region of untrusted code")
-            .no_binary_name(true),
-    )
+    Command::new(alloc, "nc_check")
+        .version("0.1.0")
+        .about("Judge files of 32-bit x86 code for a region of untrusted code")
+        .no_binary_name(true)
+        .bin_name("nc_check")
 }
 
-/// The whole command line, without the program's own name.
-fn program<'a>(alloc: Global) -> Result<Command<'a>, AllocError> {
-    let all = all_option(alloc)?;
-    let calls = calls_option(alloc)?;
-    let quiet = flag(
-        alloc,
-        "quiet",
-        "Write only one line for each file that is refused",
-    );
+/// The command line with the options for what is judged, and by how many threads.
+fn with_judging<'a>(
+    alloc: Global,
+    program: Result<Command<'a>, AllocError>,
+) -> Result<Command<'a>, AllocError> {
     let raw = flag(
         alloc,
         "raw",
         "Judge each file as raw code, also one that begins as an ELF file",
     );
-    let program = with(bare_program(alloc), base_option(alloc));
+    let program = with(program, base_option(alloc));
     let program = with(program, raw);
     let program = with(program, bundles_option(alloc, "2097152"));
-    let program = with(program, workers_option(alloc));
+    with(program, workers_option(alloc))
+}
+
+/// The command line with the options for what is said of each file.
+fn with_saying<'a>(
+    alloc: Global,
+    program: Result<Command<'a>, AllocError>,
+) -> Result<Command<'a>, AllocError> {
+    let quiet = flag(
+        alloc,
+        "quiet",
+        "Write only one line for each file that is refused",
+    );
     let program = with(program, quiet);
-    let program = with(program, all);
-    let program = with(program, calls);
-    let program = with(program, format_option(alloc));
+    let program = with_made(program, all_option(alloc));
+    let program = with_made(program, calls_option(alloc));
+    with(program, format_option(alloc))
+}
+
+/// The whole command line, without the program's own name.
+fn program<'a>(alloc: Global) -> Result<Command<'a>, AllocError> {
+    let program = with_judging(alloc, bare_program(alloc));
+    let program = with_saying(alloc, program);
     with(program, files(alloc))
 }
 
@@ -131,9 +145,12 @@ fn refusal(alloc: Global, message: &str) -> Error {
     fault(program(alloc), ErrorKind::InvalidValue, message)
 }
 
-/// What the words of a command line match.
-fn matches<'a>(alloc: Global, words: &'a [&'a str]) -> Result<ArgMatches<'a>, Error> {
-    program(alloc)?.try_get_matches_from(words)
+/// The fault that a message tells, if there was memory for the message.
+fn refusal_by(alloc: Global, message: Result<String, AllocError>) -> Error {
+    match message {
+        Ok(message) => refusal(alloc, message.as_str()),
+        Err(error) => Error::from(error),
+    }
 }
 
 /// How much is asked to be said of a file in text, and the option that asks for it.
@@ -159,8 +176,8 @@ fn said(alloc: Global, found: &ArgMatches<'_>) -> Result<Said, Error> {
     if option.is_empty() {
         return Ok(Said::Object);
     }
-    let message = format!(in alloc; "the argument '--format json' cannot be used with '{option}'")?;
-    Err(refusal(alloc, message.as_str()))
+    let message = format!(in alloc; "the argument '--format json' cannot be used with '{option}'");
+    Err(refusal_by(alloc, message))
 }
 
 /// The address that is asked for.
@@ -171,23 +188,37 @@ fn base_asked(alloc: Global, found: &ArgMatches<'_>) -> Result<u32, Error> {
     }
     let message = format!(in alloc;
         "invalid value '{text}' for '--base <ADDRESS>': not 1 to 8 hexadecimal digits"
-    )?;
-    Err(refusal(alloc, message.as_str()))
+    );
+    Err(refusal_by(alloc, message))
 }
 
 /// The files that are named, at least one.
 fn files_asked<'a>(alloc: Global, found: &ArgMatches<'a>) -> Result<Vec<&'a str>, Error>
     ensures { IfOk result (λ files. 1 ≤ length files.items) }
 {
-    let mut files = Vec::new(alloc);
-    for file in found.get_strs("files").unwrap_or(&[]) {
-        files.push(*file)?;
-    }
+    let files = found.get_strs("files").unwrap_or(&[]);
     if files.is_empty() {
         // this doesn't come: the parser has asked for a file
         return Err(refusal(alloc, "a file is missing"));
     }
-    Ok(files)
+    Ok(files.to_vec(alloc)?)
+}
+
+/// What the matches of a command line of `nc_check` ask for.
+fn asked<'a>(alloc: Global, found: &ArgMatches<'a>) -> Result<CheckAsk<'a>, Error>
+    ensures { IfOk result IsCheckInRange }
+{
+    let base = base_asked(alloc, found)?;
+    let said = said(alloc, found)?;
+    let files = files_asked(alloc, found)?;
+    Ok(CheckAsk {
+        base,
+        raw: found.get_flag("raw"),
+        bundles: number(found, "bundles", 2, MAX_BUNDLES),
+        workers: number(found, "workers", 1, 16),
+        said,
+        files,
+    })
 }
 
 /// Reads the words of a command line of `nc_check`, without the program's own name.
@@ -195,17 +226,10 @@ pub fn ask_check<'a>(alloc: Global, words: &'a [&'a str]) -> Result<CheckAsk<'a>
     // The numbers are in the ranges of the options, and there is a file.
     ensures { IfOk result IsCheckInRange }
 {
-    let found = matches(alloc, words)?;
-    let base = base_asked(alloc, &found)?;
-    let files = files_asked(alloc, &found)?;
-    Ok(CheckAsk {
-        base,
-        raw: found.get_flag("raw"),
-        bundles: number(&found, "bundles", 2, MAX_BUNDLES),
-        workers: number(&found, "workers", 1, 16),
-        said: said(alloc, &found)?,
-        files,
-    })
+    let found = matches(program(alloc), words)?;
+    let asked = asked(alloc, &found);
+    drop(found);
+    asked
 }
 
 /// The fault of a command line of `nc_check` with a word that is not valid UTF-8.

@@ -1,6 +1,6 @@
 //! What the words of a command line ask for.
 
-ghost use Rattle.std.specs.Prelude.{◌≤◌, IfOk};
+ghost use Rattle.std.specs.Prelude.{◌≤◌, IfOk, IfSome};
 ghost use Rattle.nc_command.specs.Range.{IsInRange};
 
 use crate::asked::Ask;
@@ -25,7 +25,7 @@ pub(crate) fn option<'a>(
         .default_value(default)
 }
 
-/// The beginning of an option. The calls stand apart, since a longer chain of them over lent arguments takes a minute to prove.
+/// The beginning of an option.
 pub(crate) fn named<'a>(alloc: Global, name: &'a str, help: &'a str) -> Arg<'a> {
     Arg::new(alloc, name).long(name).help(help)
 }
@@ -55,12 +55,46 @@ pub(crate) fn workers_option<'a>(alloc: Global) -> Arg<'a> {
 }
 
 /// A command line with one option more. A function that adds options without a branch of its own for each one is proved in
-/// a fraction of the time.
+/// a fraction of the time, and so is one that drops what it is given by a call.
 pub(crate) fn with<'a>(
     program: Result<Command<'a>, AllocError>,
     option: Arg<'a>,
 ) -> Result<Command<'a>, AllocError> {
-    program?.arg(option)
+    match program {
+        Ok(program) => program.arg(option),
+        Err(error) => {
+            drop(option);
+            Err(error)
+        }
+    }
+}
+
+/// A command line with one option more, if there was memory for that option.
+pub(crate) fn with_made<'a>(
+    program: Result<Command<'a>, AllocError>,
+    option: Result<Arg<'a>, AllocError>,
+) -> Result<Command<'a>, AllocError> {
+    match option {
+        Ok(option) => with(program, option),
+        Err(error) => {
+            drop(program);
+            Err(error)
+        }
+    }
+}
+
+/// A command line with one subcommand more.
+fn with_command<'a>(
+    program: Command<'a>,
+    command: Result<Command<'a>, AllocError>,
+) -> Result<Command<'a>, AllocError> {
+    match command {
+        Ok(command) => program.subcommand(command),
+        Err(error) => {
+            drop(program);
+            Err(error)
+        }
+    }
 }
 
 /// The subcommand that runs a script.
@@ -92,21 +126,18 @@ fn vet_command<'a>(alloc: Global) -> Result<Command<'a>, AllocError> {
 
 /// The command line before it has subcommands.
 fn bare_program<'a>(alloc: Global) -> Result<Command<'a>, AllocError> {
-    Ok(
-        Command::new(alloc, "nc_replay")
-            .bin_name("nc_replay")?
-            .version("0.1.0")
-            .about("Validator and code region for untrusted 32-bit x86 code")
-            .no_binary_name(true)
-            .subcommand_required(true),
-    )
+    Command::new(alloc, "nc_replay")
+        .version("0.1.0")
+        .about("Validator and code region for untrusted 32-bit x86 code")
+        .no_binary_name(true)
+        .subcommand_required(true)
+        .bin_name("nc_replay")
 }
 
 /// The whole command line, without the program's own name.
 fn program<'a>(alloc: Global) -> Result<Command<'a>, AllocError> {
-    let replay = replay_command(alloc)?;
-    let program = bare_program(alloc)?.subcommand(replay)?;
-    program.subcommand(vet_command(alloc)?)
+    let program = with_command(bare_program(alloc)?, replay_command(alloc));
+    with_command(program?, vet_command(alloc))
 }
 
 /// The number of an option. The option's parser has refused every number outside the range; what is left to do here is
@@ -123,8 +154,31 @@ pub(crate) fn number(found: &ArgMatches<'_>, name: &str, least: u32, most: u32) 
 }
 
 /// What the words of a command line match.
-fn matches<'a>(alloc: Global, words: &'a [&'a str]) -> Result<ArgMatches<'a>, Error> {
-    program(alloc)?.try_get_matches_from(words)
+pub(crate) fn matches<'a>(
+    program: Result<Command<'a>, AllocError>,
+    words: &'a [&'a str],
+) -> Result<ArgMatches<'a>, Error> {
+    match program {
+        Ok(program) => program.try_get_matches_from(words),
+        Err(error) => Err(Error::from(error)),
+    }
+}
+
+/// What a subcommand asks for.
+fn asked(found: &ArgMatches<'_>) -> Option<Ask>
+    ensures { IfSome result IsInRange }
+{
+    if let Some(found) = found.subcommand_matches("replay") {
+        return Some(Ask::Replay {
+            bundles: number(found, "bundles", 2, MAX_BUNDLES),
+            seats: number(found, "seats", 1, MOST_SEATS as u32),
+        });
+    }
+    let found = found.subcommand_matches("vet")?;
+    Some(Ask::Vet {
+        bundles: number(found, "bundles", 2, MAX_BUNDLES),
+        workers: number(found, "workers", 1, 16),
+    })
 }
 
 /// Reads the words of a command line, without the program's own name.
@@ -132,25 +186,18 @@ pub fn ask<'a>(alloc: Global, words: &'a [&'a str]) -> Result<Ask, Error>
     // The numbers are in the ranges of the options.
     ensures { IfOk result IsInRange }
 {
-    let matches = matches(alloc, words)?;
-    if let Some(found) = matches.subcommand_matches("replay") {
-        return Ok(Ask::Replay {
-            bundles: number(found, "bundles", 2, MAX_BUNDLES),
-            seats: number(found, "seats", 1, MOST_SEATS as u32),
-        });
+    let found = matches(program(alloc), words)?;
+    let asked = asked(&found);
+    drop(found);
+    match asked {
+        Some(ask) => Ok(ask),
+        // this doesn't come: the parser has asked for a subcommand
+        None => Err(fault(
+            program(alloc),
+            ErrorKind::MissingSubcommand,
+            "a subcommand is missing",
+        )),
     }
-    if let Some(found) = matches.subcommand_matches("vet") {
-        return Ok(Ask::Vet {
-            bundles: number(found, "bundles", 2, MAX_BUNDLES),
-            workers: number(found, "workers", 1, 16),
-        });
-    }
-    // this doesn't come: the parser has asked for a subcommand
-    Err(fault(
-        program(alloc),
-        ErrorKind::MissingSubcommand,
-        "a subcommand is missing",
-    ))
 }
 
 /// The fault of a command line with a word that is not valid UTF-8.
@@ -162,6 +209,16 @@ pub fn not_utf8(alloc: Global) -> Error {
     )
 }
 
+/// A fault of a command line that could be built.
+fn fault_of(mut program: Command<'_>, kind: ErrorKind, message: &str) -> Error {
+    let error = program.error(kind, message);
+    drop(program);
+    match error {
+        Ok(error) => error,
+        Err(error) => Error::from(error),
+    }
+}
+
 /// A fault of a program's command line.
 pub(crate) fn fault(
     program: Result<Command<'_>, AllocError>,
@@ -169,10 +226,7 @@ pub(crate) fn fault(
     message: &str,
 ) -> Error {
     match program {
-        Ok(mut program) => match program.error(kind, message) {
-            Ok(error) => error,
-            Err(error) => Error::from(error),
-        },
+        Ok(program) => fault_of(program, kind, message),
         Err(error) => Error::from(error),
     }
 }
