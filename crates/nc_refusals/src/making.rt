@@ -1,4 +1,5 @@
 //! Texts, tables of generations and regions made.
+ghost use Rattle.std.specs.Prelude.{◌≡◌};
 
 use crate::chunks::table;
 use crate::shown::{after, before, print_bytes, print_region};
@@ -81,18 +82,33 @@ fn print_table<R: Print>(rt: &R, keeper: &Keeper, passes: &[Pass]) -> Result<()>
 /// A region of 4 bundles; after a refusal another one, with the keeper that came back.
 pub(crate) fn make_region<R: Print + AllocGlobal>(rt: &R) -> Result<()> {
     let (gens, keeper, _passes) = table(rt.alloc(), 1)?;
+    make_region_over(rt, &gens, keeper)
+}
+
+/// A region of 4 bundles over a table; after a refusal another one.
+fn make_region_over<R: Print + AllocGlobal>(rt: &R, gens: &Gens, keeper: Keeper) -> Result<()>
+    requires { keeper.table ≡ gens.now }
+{
     before(rt)?;
-    let answer = Region::new(rt.alloc(), 4, &gens, keeper);
+    let answer = Region::new(rt.alloc(), 4, gens, keeper);
     after(rt)?;
-    let (keeper, fault) = match answer {
+    match answer {
         Ok(region) => {
             println!(rt; "ok")?;
-            return print_region(rt, &region);
+            print_region(rt, &region)
         }
-        Err(refused) => refused,
-    };
-    println!(rt; "{fault}, generation {}", keeper.generation())?;
-    match Region::new(rt.alloc(), 4, &gens, keeper) {
+        Err((keeper, fault)) => {
+            println!(rt; "{fault}, generation {}", keeper.generation())?;
+            make_region_again(rt, gens, keeper)
+        }
+    }
+}
+
+/// A region of 4 bundles, with the keeper that a refusal gave back.
+fn make_region_again<R: Print + AllocGlobal>(rt: &R, gens: &Gens, keeper: Keeper) -> Result<()>
+    requires { keeper.table ≡ gens.now }
+{
+    match Region::new(rt.alloc(), 4, gens, keeper) {
         Ok(region) => print_region(rt, &region),
         Err((_, fault)) => println!(rt; "{fault}"),
     }

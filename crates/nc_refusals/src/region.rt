@@ -15,16 +15,26 @@ const JUMP: [u8; 2] = [0xEB, 0x1E];
 pub(crate) fn create_chunk<R: Print + AllocGlobal>(rt: &R) -> Result<()> {
     let (gens, keeper, _passes) = table(rt.alloc(), 1)?;
     let mut region = region(rt.alloc(), &gens, keeper)?;
+    create_and_show(rt, &mut region)
+}
+
+/// Creates a chunk in a region, and shows the region and a walk.
+fn create_and_show<R: Print + AllocGlobal>(rt: &R, region: &mut Region<'_>) -> Result<()> {
+    create_in(rt, region)?;
+    print_region(rt, region)?;
+    print_walk(rt, calls::walk(region, START, &[0, 0]))
+}
+
+/// Creates a chunk in a region; after a refusal the same chunk is created again.
+fn create_in<R: Print + AllocGlobal>(rt: &R, region: &mut Region<'_>) -> Result<()> {
     let vetted = chunk(rt.alloc(), &JUMP)?;
     before(rt)?;
-    let answer = calls::create(&mut region, vetted);
+    let answer = calls::create(region, vetted);
     after(rt)?;
     match answer {
-        Ok(()) => println!(rt; "ok")?,
-        Err((vetted, fault)) => create_again(rt, &mut region, vetted, fault)?,
+        Ok(()) => println!(rt; "ok"),
+        Err((vetted, fault)) => create_again(rt, region, vetted, fault),
     }
-    print_region(rt, &region)?;
-    print_walk(rt, calls::walk(&region, START, &[0, 0]))
 }
 
 /// Shows what a refused creation left, and creates the chunk.
@@ -47,14 +57,19 @@ fn create_again<R: Print + AllocGlobal>(
 pub(crate) fn walk_chunk<R: Print + AllocGlobal>(rt: &R) -> Result<()> {
     let (gens, keeper, _passes) = table(rt.alloc(), 1)?;
     let region = region_with(rt.alloc(), &gens, keeper, &JUMP)?;
+    walk_in(rt, &region)
+}
+
+/// Walks through the chunk of a region; after a refusal the same walk again.
+fn walk_in<R: Print + AllocGlobal>(rt: &R, region: &Region<'_>) -> Result<()> {
     before(rt)?;
-    let answer = calls::walk(&region, START, &[0, 0]);
+    let answer = calls::walk(region, START, &[0, 0]);
     after(rt)?;
     let refused = answer.is_err();
     print_walk(rt, answer)?;
-    print_region(rt, &region)?;
+    print_region(rt, region)?;
     if refused {
-        print_walk(rt, calls::walk(&region, START, &[0, 0]))?;
+        print_walk(rt, calls::walk(region, START, &[0, 0]))?;
     }
     Ok(())
 }

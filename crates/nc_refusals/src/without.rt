@@ -29,20 +29,37 @@ fn delete_and_reclaim(region: &mut Region<'_>, gens: &Gens, pass: &mut Pass) -> 
     Reuse { stamp, early, late }
 }
 
+/// Prints how a chunk's place was reused, and takes the place again.
+fn take_again<R: Print + AllocGlobal>(rt: &R, region: &mut Region<'_>, reuse: Reuse) -> Result<()> {
+    println!(rt; "{reuse:?}")?;
+    match calls::create(region, chunk(rt.alloc(), &[0xEB, 0x1E])?) {
+        Ok(()) => println!(rt; "ok"),
+        Err((_, fault)) => println!(rt; "{fault}"),
+    }
+}
+
 /// A chunk is deleted; it is free only after the one seat has checked in, and then its place is taken again.
 pub(crate) fn retire<R: Print + AllocGlobal>(rt: &R) -> Result<()> {
     let (gens, keeper, mut passes) = table(rt.alloc(), 1)?;
     let mut pass = passes.remove(0);
     let mut region = region_with(rt.alloc(), &gens, keeper, &[0xEB, 0x1E])?;
+    retire_in(rt, &mut region, &gens, &mut pass)
+}
+
+/// The chunk of a region is deleted, and its place is taken again.
+fn retire_in<R: Print + AllocGlobal>(
+    rt: &R,
+    region: &mut Region<'_>,
+    gens: &Gens,
+    pass: &mut Pass,
+) -> Result<()>
+    requires { pass.old.table ≡ gens.now }
+{
     before(rt)?;
-    let reuse = delete_and_reclaim(&mut region, &gens, &mut pass);
+    let reuse = delete_and_reclaim(region, gens, pass);
     after(rt)?;
-    println!(rt; "{reuse:?}")?;
-    match calls::create(&mut region, chunk(rt.alloc(), &[0xEB, 0x1E])?) {
-        Ok(()) => println!(rt; "ok")?,
-        Err((_, fault)) => println!(rt; "{fault}")?,
-    }
-    print_region(rt, &region)
+    take_again(rt, region, reuse)?;
+    print_region(rt, region)
 }
 
 /// Deletes the chunk at 00010000 through the lock and reclaims, after one seat has checked in and after the other one has left.
@@ -83,11 +100,16 @@ pub(crate) fn patch<R: Print + AllocGlobal>(rt: &R) -> Result<()> {
     let (gens, keeper, _passes) = table(rt.alloc(), 1)?;
     let constant = [0xB8, 0x01, 0x00, 0x00, 0x00];
     let mut region = region_with(rt.alloc(), &gens, keeper, &constant)?;
+    patch_constant_in(rt, &mut region)
+}
+
+/// Patches a constant in a region, and shows the answers.
+fn patch_constant_in<R: Print + AllocGlobal>(rt: &R, region: &mut Region<'_>) -> Result<()> {
     before(rt)?;
-    let answers = patch_constant(&mut region);
+    let answers = patch_constant(region);
     after(rt)?;
     println!(rt; "{answers:?}")?;
-    print_region(rt, &region)
+    print_region(rt, region)
 }
 
 /// A patch of a masked jump by one of another register.
@@ -95,11 +117,16 @@ pub(crate) fn patch_pair<R: Print + AllocGlobal>(rt: &R) -> Result<()> {
     let (gens, keeper, _passes) = table(rt.alloc(), 1)?;
     let pair = [0x83, 0xE0, 0xE0, 0xFF, 0xE0];
     let mut region = region_with(rt.alloc(), &gens, keeper, &pair)?;
+    patch_pair_in(rt, &mut region)
+}
+
+/// Patches a masked jump in a region, and shows the answer.
+fn patch_pair_in<R: Print + AllocGlobal>(rt: &R, region: &mut Region<'_>) -> Result<()> {
     before(rt)?;
-    let answer = calls::modify(&mut region, 0x10000, &[0x83, 0xE1, 0xE0, 0xFF, 0xE1]);
+    let answer = calls::modify(region, 0x10000, &[0x83, 0xE1, 0xE0, 0xFF, 0xE1]);
     after(rt)?;
     println!(rt; "{answer:?}")?;
-    print_region(rt, &region)
+    print_region(rt, region)
 }
 
 /// Patches of a jump, most of which are refused.
@@ -117,10 +144,15 @@ fn patch_jump(region: &mut Region<'_>) -> [result::Result<(), ModifyFault>; 5] {
 pub(crate) fn refuse_patches<R: Print + AllocGlobal>(rt: &R) -> Result<()> {
     let (gens, keeper, _passes) = table(rt.alloc(), 1)?;
     let mut region = region_with(rt.alloc(), &gens, keeper, &[0xEB, 0xFE])?;
+    refuse_patches_in(rt, &mut region)
+}
+
+/// Patches a jump in a region, deletes where no chunk is, and shows the answers.
+fn refuse_patches_in<R: Print + AllocGlobal>(rt: &R, region: &mut Region<'_>) -> Result<()> {
     before(rt)?;
-    let answers = patch_jump(&mut region);
-    let missing = calls::delete(&mut region, 0x10020);
+    let answers = patch_jump(region);
+    let missing = calls::delete(region, 0x10020);
     after(rt)?;
     println!(rt; "{answers:?} {missing:?}")?;
-    print_region(rt, &region)
+    print_region(rt, region)
 }
