@@ -1,6 +1,7 @@
-/* Lets a program below which it is loaded (LD_PRELOAD) read and write a byte at a time on its standard input and output,
+/* Lets a program below which it is loaded (LD_PRELOAD) read and write only a few bytes at a time on its standard input and output,
    and has one of these reads or writes fail. tools/fail-devices builds it and says by the environment what is wanted:
 
+   FAILING_SIZE   how many bytes one call moves at most
    FAILING_FILE   the file of which a call fails: 0, 1, or another number for none
    FAILING_CALL   the number of the call that fails, counted from 1. It moves nothing, and those after it go on
    FAILING_ERROR  its error, as in errno; 0 has a write answer that it took nothing
@@ -11,6 +12,7 @@
 #include <unistd.h>
 
 static long failing = -1;
+static size_t size = 1;
 static long calls_to_it;
 static long error;
 static long report;
@@ -27,6 +29,7 @@ __attribute__((constructor)) static void begin(void)
     calls_to_it = number("FAILING_CALL");
     error = number("FAILING_ERROR");
     report = number("FAILING_REPORT");
+    size = (size_t)number("FAILING_SIZE");
     failing = number("FAILING_FILE");
 }
 
@@ -40,11 +43,16 @@ static int fails(int file)
     return 1;
 }
 
+static size_t at_most(size_t count)
+{
+    return count < size ? count : size;
+}
+
 ssize_t read(int file, void *bytes, size_t count)
 {
     if (file != STDIN_FILENO)
         return syscall(SYS_read, file, bytes, count);
-    return fails(file) ? -1 : syscall(SYS_read, file, bytes, count ? 1 : 0);
+    return fails(file) ? -1 : syscall(SYS_read, file, bytes, at_most(count));
 }
 
 ssize_t write(int file, const void *bytes, size_t count)
@@ -53,5 +61,5 @@ ssize_t write(int file, const void *bytes, size_t count)
         return syscall(SYS_write, file, bytes, count);
     if (fails(file))
         return error ? -1 : 0;
-    return syscall(SYS_write, file, bytes, count ? 1 : 0);
+    return syscall(SYS_write, file, bytes, at_most(count));
 }

@@ -1,4 +1,4 @@
-//! Tests of `nc_decode`, `nc_text`, `nc_vet`, `nc_gens`, `nc_work` and `nc_elf`, by their public calls.
+//! Tests of `nc_decode`, `nc_text`, `nc_vet`, `nc_gens`, `nc_work`, `nc_elf`, `nc_lines` and `nc_report`, by their public calls.
 //!
 //! They stand in a crate of their own, since a crate with tests is proved twice and its planted bugs wait for both.
 #![tactic(auto)]

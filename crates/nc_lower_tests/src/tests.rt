@@ -1,6 +1,12 @@
 mod chunks;
+mod devices;
 mod generations;
 mod instructions;
+mod labels;
+mod lengths;
+mod lines;
+mod pipes;
+mod reports;
 mod segments;
 mod symbols;
 mod texts;

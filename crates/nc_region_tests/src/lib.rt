@@ -1,5 +1,5 @@
 //! The tests of `nc_region`: what no clause says, and what the clauses' words come to on examples. What the calls answer is tested by
-//! scripts too, in `nc_script_tests`.
+//! scripts too, which `tools/try-scripts` runs.
 //!
 //! They stand in a crate of their own above it. A crate with tests is proved once more for them, and its must-fail edits
 //! wait for that proof; here the tests are proved beside those edits. They use only what `nc_region` exports.

@@ -44,6 +44,3 @@ pub use marks::Marks;
 pub use nc_decode::{Bundle, Mark};
 pub use vetted::Vetted;
 pub use vetting::{judge, vet};
-
-#[cfg(test)]
-mod tests;

@@ -160,6 +160,37 @@ fn valid_chunks(rt: HostRuntime) -> Result<(), Fail> {
     Ok(())
 }
 
+/// A pair and nops, with one byte set.
+fn one_byte_set(alloc: Global, place: usize, value: u8) -> Result<Vec<u8>, AllocError> {
+    let mut code = Vec::new(alloc);
+    code.extend_from_slice(&[0x83, 0xE3, 0xE0, 0xFF, 0xE3])?;
+    code.resize(32, 0x90)?;
+    if let Some(byte) = code.get_mut(place) {
+        *byte = value;
+    }
+    Ok(code)
+}
+
+/// Where a chunk is accepted its bundles were vetted as wholes, with no instruction read by itself.
+fn is_quick_if_valid(code: Vec<u8>) -> bool {
+    match vet(BASE, LIMIT, code) {
+        Ok(vetted) => vetted.bundles().is_some(),
+        Err(_) => true,
+    }
+}
+
+/// No contract says that vetting by bundles finds valid chunks: it does, and judges all their transfers.
+#[test]
+fn both_ways_by_bytes(rt: HostRuntime) -> Result<(), Fail> {
+    for place in 0..32usize {
+        for value in 0..=255u8 {
+            let code = one_byte_set(rt.alloc(), place, value)?;
+            assert!(rt; is_quick_if_valid(code), "{value:x} at {place}");
+        }
+    }
+    Ok(())
+}
+
 #[test]
 fn faulty_chunks(rt: HostRuntime) -> Result<(), Fail> {
     for (bundles, parts, fault) in &FAULTY {

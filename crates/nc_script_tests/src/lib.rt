@@ -1,7 +1,0 @@
-//! Tests of scripts and of lines of chunks, by the public calls of `nc_script`.
-//!
-//! They stand in a crate of their own, since a crate with tests is proved twice and its planted bugs wait for both.
-#![tactic(auto)]
-
-#[cfg(test)]
-mod tests;
