@@ -26,13 +26,27 @@ fn argument<'a>(alloc: Global, word: &Word) -> Arg<'a> {
     }
 }
 
+/// A command line with one argument more, which is dropped by a call where there is no command line.
+fn with<'a>(
+    command: Result<Command<'a>, AllocError>,
+    argument: Arg<'a>,
+) -> Result<Command<'a>, AllocError> {
+    match command {
+        Ok(command) => command.arg(argument),
+        Err(error) => {
+            drop(argument);
+            Err(error)
+        }
+    }
+}
+
 /// The subcommand that a measurement is.
 fn subcommand<'a>(alloc: Global, measurement: &Measurement) -> Result<Command<'a>, AllocError> {
-    let mut command = Command::new(alloc, measurement.name).about(measurement.about);
+    let mut command = Ok(Command::new(alloc, measurement.name).about(measurement.about));
     for word in measurement.words {
-        command = command.arg(argument(alloc, word))?;
+        command = with(command, argument(alloc, word));
     }
-    Ok(command)
+    command
 }
 
 /// The command line before it has subcommands.
@@ -44,18 +58,65 @@ fn bare_program<'a>(alloc: Global) -> Result<Command<'a>, AllocError> {
         .bin_name("nc_bench")
 }
 
+/// A command line with one subcommand more.
+fn with_subcommand<'a>(
+    program: Command<'a>,
+    subcommand: Result<Command<'a>, AllocError>,
+) -> Result<Command<'a>, AllocError> {
+    match subcommand {
+        Ok(subcommand) => program.subcommand(subcommand),
+        Err(error) => {
+            drop(program);
+            Err(error)
+        }
+    }
+}
+
+/// A command line with a measurement more.
+fn with_measurement<'a>(
+    alloc: Global,
+    program: Result<Command<'a>, AllocError>,
+    measurement: &Measurement,
+) -> Result<Command<'a>, AllocError> {
+    match program {
+        Ok(program) => with_subcommand(program, subcommand(alloc, measurement)),
+        Err(error) => Err(error),
+    }
+}
+
 /// The whole command line, without the program's own name.
 fn program<'a>(alloc: Global) -> Result<Command<'a>, AllocError> {
-    let mut program = bare_program(alloc)?;
+    let mut program = bare_program(alloc);
     for measurement in &MEASUREMENTS {
-        program = program.subcommand(subcommand(alloc, measurement)?)?;
+        program = with_measurement(alloc, program, measurement);
     }
-    Ok(program)
+    program
+}
+
+/// What the words of a command line match.
+fn matches<'a>(
+    program: Result<Command<'a>, AllocError>,
+    words: &'a [&'a str],
+) -> Result<ArgMatches<'a>, Error> {
+    match program {
+        Ok(program) => program.try_get_matches_from(words),
+        Err(error) => Err(Error::from(error)),
+    }
+}
+
+/// A fault of a command line that could be built.
+fn fault_of(mut program: Command<'_>, kind: ErrorKind, message: &str) -> Result<Error, AllocError> {
+    let error = program.error(kind, message);
+    drop(program);
+    error
 }
 
 /// A fault of the command line that the parser doesn't find.
 fn fault(alloc: Global, kind: ErrorKind, message: &str) -> Result<Error, AllocError> {
-    program(alloc)?.error(kind, message)
+    match program(alloc) {
+        Ok(program) => fault_of(program, kind, message),
+        Err(error) => Err(error),
+    }
 }
 
 /// The fault of a command line without a measurement, which doesn't come here: the parser has asked for one.
@@ -175,6 +236,14 @@ fn asked<'a>(alloc: Global, name: &str, found: &ArgMatches<'a>) -> Result<Ask<'a
     })
 }
 
+/// What the subcommand of a command line asks for.
+fn asked_by_subcommand<'a>(alloc: Global, found: &ArgMatches<'a>) -> Result<Ask<'a>, Error> {
+    match found.subcommand() {
+        Some((name, found)) => asked(alloc, name, found),
+        None => Err(missing(alloc)?),
+    }
+}
+
 /// Reads the words of a command line, without the program's own name. If there are none, the error is the help.
 pub fn ask<'a>(alloc: Global, words: &'a [&'a str]) -> Result<Ask<'a>, Error> {
     let words = if words.is_empty() {
@@ -182,9 +251,8 @@ pub fn ask<'a>(alloc: Global, words: &'a [&'a str]) -> Result<Ask<'a>, Error> {
     } else {
         words
     };
-    let found = program(alloc)?.try_get_matches_from(words)?;
-    match found.subcommand() {
-        Some((name, found)) => asked(alloc, name, found),
-        None => Err(missing(alloc)?),
-    }
+    let found = matches(program(alloc), words)?;
+    let asked = asked_by_subcommand(alloc, &found);
+    drop(found);
+    asked
 }

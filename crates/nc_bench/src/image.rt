@@ -97,6 +97,46 @@ fn delete_all(region: &mut Region<'_>, count: u32) -> u32 {
     done
 }
 
+/// Creates the chunks, and says whether all were created.
+fn create_all(region: &mut Region<'_>, all: Vec<Vetted>) -> bool {
+    for vetted in all {
+        if region.create(vetted).is_err() {
+            return false;
+        }
+    }
+    true
+}
+
+/// What creating, walking and deleting the chunks took in a region, where all were created and deleted.
+fn life<R: Clock + AllocGlobal>(
+    rt: &R,
+    region: &mut Region<'_>,
+    all: Vec<Vetted>,
+    vet: Duration,
+    count: u32,
+    steps: u64,
+) -> io::Result<Option<Times>> {
+    let start = Instant::now(rt)?;
+    if !create_all(region, all) {
+        return Ok(None);
+    }
+    let create = start.elapsed(rt)?;
+    let start = Instant::now(rt)?;
+    let places = walk_about(rt.alloc(), region, bundles_for(count), steps)?;
+    let walk = start.elapsed(rt)?;
+    let start = Instant::now(rt)?;
+    let deleted = delete_all(region, count);
+    let delete = start.elapsed(rt)?;
+    let times = Times {
+        vet,
+        create,
+        walk,
+        delete,
+        places,
+    };
+    Ok(if deleted == count { Some(times) } else { None })
+}
+
 /// One region's life, where there is memory for it.
 fn live<R: Clock + AllocGlobal>(
     rt: &R,
@@ -110,30 +150,10 @@ fn live<R: Clock + AllocGlobal>(
     let Ok((gens, keeper, _passes)) = Gens::new(rt.alloc(), 1) else {
         return Ok(None);
     };
-    let Ok(mut region) = Region::new(rt.alloc(), bundles_for(count), &gens, keeper) else {
-        return Ok(None);
-    };
-    let start = Instant::now(rt)?;
-    for vetted in all {
-        if region.create(vetted).is_err() {
-            return Ok(None);
-        }
+    match Region::new(rt.alloc(), bundles_for(count), &gens, keeper) {
+        Ok(mut region) => life(rt, &mut region, all, vet, count, steps),
+        Err(_refused) => Ok(None),
     }
-    let create = start.elapsed(rt)?;
-    let start = Instant::now(rt)?;
-    let places = walk_about(rt.alloc(), &region, bundles_for(count), steps)?;
-    let walk = start.elapsed(rt)?;
-    let start = Instant::now(rt)?;
-    let deleted = delete_all(&mut region, count);
-    let delete = start.elapsed(rt)?;
-    let times = Times {
-        vet,
-        create,
-        walk,
-        delete,
-        places,
-    };
-    Ok(if deleted == count { Some(times) } else { None })
 }
 
 /// Creates, walks and deletes chunks of one mebibyte that are made of a file's code, and prints what each part took.
