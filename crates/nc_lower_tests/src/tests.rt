@@ -7,6 +7,7 @@ mod lengths;
 mod lines;
 mod pipes;
 mod reports;
+mod rows;
 mod segments;
 mod symbols;
 mod texts;

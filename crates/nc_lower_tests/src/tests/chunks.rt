@@ -1,9 +1,9 @@
 //! Chunks with the answers that the rules give for them.
 
+use crate::tests::rows::right;
 use nc_vet::VetFault::{BadBase, BadLength, BadTarget, Bare, Crosses, NotPermitted, OutOfRange};
-use nc_vet::{Mark, VetFault, vet};
-use std::alloc::{AllocError, Global};
-use std::process::Abort;
+use nc_vet::{Mark, VetFault, Vetted, vet};
+use std::alloc::Global;
 use std::test::Fail;
 
 /// Where the chunks of the first two tables stand, in a region of four bundles.
@@ -17,9 +17,11 @@ type Parts = &'static [(usize, &'static [u8])];
 /// Marks of some places.
 type SomeMarks = &'static [(usize, Mark)];
 
-/// Valid chunks: their numbers of bundles, what stands in them, and some of their marks.
+/// A valid chunk: its number of bundles, what stands in it, and some of its marks.
+type Valid = (usize, Parts, SomeMarks);
+
 #[rattlefmt::skip]
-static VALID: [(usize, Parts, SomeMarks); 21] = [
+static VALID: [Valid; 21] = [
     // Pairs.
     (1, &[(27, &[0x83, 0xE0, 0xE0, 0xFF, 0xE0])],
         &[(26, Mark::Plain), (27, Mark::Plain), (28, Mark::Unmarked), (30, Mark::After(0)), (31, Mark::Unmarked)]),
@@ -53,9 +55,11 @@ static VALID: [(usize, Parts, SomeMarks); 21] = [
     (3, &[(0, &[0xEB, 0x5E]), (94, &[0xEB, 0xA0])], &[(94, Mark::Plain), (95, Mark::Unmarked)]),
 ];
 
-/// Refused chunks: their numbers of bundles, what stands in them, and their faults.
+/// A refused chunk: its number of bundles, what stands in it, and its fault.
+type Faulty = (usize, Parts, VetFault);
+
 #[rattlefmt::skip]
-static FAULTY: [(usize, Parts, VetFault); 33] = [
+static FAULTY: [Faulty; 33] = [
     // A pair over the end of a bundle.
     (2, &[(29, &[0x83, 0xE0, 0xE0, 0xFF, 0xE0])], Bare { at: 0x10020 }),
     (1, &[(28, &[0x83, 0xE0, 0xE0, 0xFF])], Crosses { at: 0x1001F }),
@@ -98,8 +102,10 @@ static FAULTY: [(usize, Parts, VetFault); 33] = [
     (1, &[(5, &[0xE9, 0xD6, 0xFF, 0xFE, 0xFF])], BadTarget { at: 0x10005 }),
 ];
 
-/// Base, limit and length of chunks of nops, and the fault that these show by themselves.
-static SPANS: [(u32, u32, usize, Option<VetFault>); 23] = [
+/// Base, limit and length of a chunk of nops, and the fault that these show by themselves.
+type Span = (u32, u32, usize, Option<VetFault>);
+
+static SPANS: [Span; 23] = [
     (0x10000, LIMIT, 32, None),
     (0x10040, LIMIT, 32, None),
     (0x10060, LIMIT, 32, Some(OutOfRange)),
@@ -125,37 +131,97 @@ static SPANS: [(u32, u32, usize, Option<VetFault>); 23] = [
     (0x10000, 0x401_0020, 32, Some(OutOfRange)),
 ];
 
+/// Writes bytes into code: whether all of them have room there.
+fn write(code: &mut [u8], start: usize, bytes: &[u8]) -> bool {
+    let mut at = start;
+    for byte in bytes {
+        let Some(place) = code.get_mut(at) else {
+            return false;
+        };
+        *place = *byte;
+        at = at.wrapping_add(1);
+    }
+    true
+}
+
 /// Nops, in which the parts stand.
-fn filled(rt: &impl Abort, alloc: Global, len: usize, parts: Parts) -> Result<Vec<u8>, AllocError> {
+fn filled(alloc: Global, len: usize, parts: &[(usize, &[u8])]) -> Result<Vec<u8>, Fail> {
     let mut code = Vec::new(alloc);
     code.resize(len, 0x90)?;
     for (start, bytes) in parts {
-        for (i, byte) in bytes.iter().enumerate() {
-            let Some(place) = code.get_mut(start.wrapping_add(i)) else {
-                panic!(rt; "{parts:?} is longer than {len} bytes");
-            };
-            *place = *byte;
+        if !write(&mut code, *start, bytes) {
+            return Err(Fail::new("a part has no room"));
         }
     }
     Ok(code)
 }
 
+/// What `vet` answers, without what it promises.
+fn vetted(base: u32, limit: u32, code: Vec<u8>) -> Result<Vetted, VetFault> {
+    match vet(base, limit, code) {
+        Ok(vetted) => Ok(vetted),
+        Err((_, fault)) => Err(fault),
+    }
+}
+
+/// The places have these marks.
+fn has_marks(vetted: &Vetted, marks: &[(usize, Mark)]) -> bool {
+    for (i, mark) in marks {
+        if *i >= vetted.code().len() || vetted.mark(*i) != *mark {
+            return false;
+        }
+    }
+    true
+}
+
+/// The chunk is valid, and has these marks.
+fn is_valid(
+    alloc: Global,
+    bundles: usize,
+    parts: &[(usize, &[u8])],
+    marks: &[(usize, Mark)],
+) -> Result<bool, Fail> {
+    let code = filled(alloc, bundles.wrapping_mul(32), parts)?;
+    match vetted(BASE, LIMIT, code) {
+        // No contract says that vetting by bundles finds valid chunks: it does.
+        Ok(vetted) => Ok(vetted.bundles().is_some() && has_marks(&vetted, marks)),
+        Err(_) => Ok(false),
+    }
+}
+
+/// Each of these chunks is valid.
+fn try_valid(alloc: Global, rows: &[Valid]) -> Result<(), Fail> {
+    let mut row = 0u32;
+    for (bundles, parts, marks) in rows {
+        row = row.wrapping_add(1);
+        right(is_valid(alloc, *bundles, parts, marks)?, row)?;
+    }
+    Ok(())
+}
+
 #[test]
 fn valid_chunks(rt: HostRuntime) -> Result<(), Fail> {
-    for (bundles, parts, marks) in &VALID {
-        let code = filled(&rt, rt.alloc(), bundles.wrapping_mul(32), parts)?;
-        let Ok(vetted) = vet(BASE, LIMIT, code) else {
-            panic!(rt; "{parts:?} is refused");
-        };
-        // No contract says that vetting by bundles finds valid chunks: it does.
-        assert!(rt;
-            vetted.bundles().is_some(),
-            "{parts:?} is vetted instruction by instruction"
-        );
-        for (i, mark) in *marks {
-            assert!(rt; *i < vetted.code().len());
-            assert_eq!(rt; vetted.mark(*i), *mark, "at {i} of {parts:?}");
-        }
+    try_valid(rt.alloc(), &VALID)
+}
+
+/// The chunk is refused, for a region of this limit, by its fault.
+fn is_refused(
+    alloc: Global,
+    limit: u32,
+    bundles: usize,
+    parts: &[(usize, &[u8])],
+    fault: VetFault,
+) -> Result<bool, Fail> {
+    let code = filled(alloc, bundles.wrapping_mul(32), parts)?;
+    Ok(vetted(BASE, limit, code).err() == Some(fault))
+}
+
+/// Each of these chunks is refused.
+fn try_faulty(alloc: Global, rows: &[Faulty]) -> Result<(), Fail> {
+    let mut row = 0u32;
+    for (bundles, parts, fault) in rows {
+        row = row.wrapping_add(1);
+        right(is_refused(alloc, LIMIT, *bundles, parts, *fault)?, row)?;
     }
     Ok(())
 }
@@ -193,104 +259,128 @@ fn both_ways_by_bytes(rt: HostRuntime) -> Result<(), Fail> {
 
 #[test]
 fn faulty_chunks(rt: HostRuntime) -> Result<(), Fail> {
-    for (bundles, parts, fault) in &FAULTY {
-        let code = filled(&rt, rt.alloc(), bundles.wrapping_mul(32), parts)?;
-        assert_eq!(rt;
-            vet(BASE, LIMIT, code).err().map(|e| e.1),
-            Some(*fault),
-            "of {parts:?}"
-        );
+    try_faulty(rt.alloc(), &FAULTY)
+}
+
+/// Nops of this span have this fault, or else all of them are vetted.
+fn is_judged(
+    alloc: Global,
+    base: u32,
+    limit: u32,
+    len: usize,
+    fault: Option<VetFault>,
+) -> Result<bool, Fail> {
+    match vetted(base, limit, filled(alloc, len, &[])?) {
+        Ok(vetted) => {
+            let is_whole = vetted.base() == base && vetted.limit() == limit;
+            Ok(fault.is_none() && is_whole && vetted.code().len() == len)
+        }
+        Err(found) => Ok(fault == Some(found)),
+    }
+}
+
+/// Each of these spans is judged by its bounds.
+fn try_spans(alloc: Global, rows: &[Span]) -> Result<(), Fail> {
+    let mut row = 0u32;
+    for (base, limit, len, fault) in rows {
+        row = row.wrapping_add(1);
+        right(is_judged(alloc, *base, *limit, *len, *fault)?, row)?;
     }
     Ok(())
 }
 
 #[test]
 fn spans(rt: HostRuntime) -> Result<(), Fail> {
-    for (base, limit, len, fault) in &SPANS {
-        let code = filled(&rt, rt.alloc(), *len, &[])?;
-        match vet(*base, *limit, code) {
-            Ok(vetted) => {
-                assert_eq!(rt; None, *fault, "at {base:x}");
-                assert_eq!(rt; (vetted.base(), vetted.limit()), (*base, *limit));
-                assert_eq!(rt; vetted.code().len(), *len);
-            }
-            Err((_code, found)) => assert_eq!(rt; Some(found), *fault, "at {base:x}"),
-        }
+    try_spans(rt.alloc(), &SPANS)
+}
+
+/// The limit of a region of 524,288 bundles.
+const FAR: u32 = 0x101_0000;
+
+/// In a chunk of this many bundles the bundle of this number is read and judged: bytes at its end are refused.
+fn is_read(alloc: Global, bundles: usize, number: u32) -> Result<bool, Fail> {
+    let start = (number as usize).wrapping_mul(32).wrapping_add(30);
+    let at = BASE.wrapping_add(number.wrapping_mul(32)).wrapping_add(30);
+    let last = start.wrapping_add(1);
+    let end = at.wrapping_add(1);
+    Ok(
+        is_refused(
+            alloc,
+            FAR,
+            bundles,
+            &[(last, &[0xC3])],
+            NotPermitted { at: end },
+        )? && is_refused(alloc, FAR, bundles, &[(last, &[0xE8])], Crosses { at: end })?
+            && is_refused(alloc, FAR, bundles, &[(start, &[0xFF, 0xE0])], Bare { at })?
+            && is_refused(
+                alloc,
+                FAR,
+                bundles,
+                &[(start, &[0xEB, 0xFF])],
+                BadTarget { at },
+            )?,
+    )
+}
+
+/// Each bundle of a chunk of this many is read and judged.
+fn try_bundles(alloc: Global, bundles: u32) -> Result<(), Fail> {
+    for number in 0..bundles {
+        right(is_read(alloc, bundles as usize, number)?, number)?;
     }
     Ok(())
-}
-
-/// Writes bytes into code.
-fn write(code: &mut [u8], start: usize, bytes: &[u8]) {
-    for (i, byte) in bytes.iter().enumerate() {
-        if let Some(place) = code.get_mut(start.wrapping_add(i)) {
-            *place = *byte;
-        }
-    }
-}
-
-/// The fault of a chunk of nops in which these bytes stand.
-fn fault_with(
-    alloc: Global,
-    bundles: usize,
-    start: usize,
-    bytes: &[u8],
-) -> Result<Option<VetFault>, AllocError> {
-    let mut code = Vec::new(alloc);
-    code.resize(bundles.wrapping_mul(32), 0x90)?;
-    write(&mut code, start, bytes);
-    Ok(vet(BASE, 0x101_0000, code).err().map(|e| e.1))
 }
 
 /// Each bundle of a chunk is read and judged, however many there are.
 #[test]
 fn each_bundle(rt: HostRuntime) -> Result<(), Fail> {
-    for bundles in 1..=20usize {
-        for n in 0..bundles {
-            let last = n.wrapping_mul(32).wrapping_add(31);
-            let at = BASE.wrapping_add(last as u32);
-            let stuck = fault_with(rt.alloc(), bundles, last, &[0xC3])?;
-            assert_eq!(rt; stuck, Some(NotPermitted { at }), "{n} of {bundles}");
-            let crosses = fault_with(rt.alloc(), bundles, last, &[0xE8])?;
-            assert_eq!(rt; crosses, Some(Crosses { at }), "{n} of {bundles}");
-            let start = last.wrapping_sub(1);
-            let at = at.wrapping_sub(1);
-            let bare = fault_with(rt.alloc(), bundles, start, &[0xFF, 0xE0])?;
-            assert_eq!(rt; bare, Some(Bare { at }), "{n} of {bundles}");
-            let astray = fault_with(rt.alloc(), bundles, start, &[0xEB, 0xFF])?;
-            assert_eq!(rt; astray, Some(BadTarget { at }), "{n} of {bundles}");
-        }
+    for bundles in 1..21u32 {
+        try_bundles(rt.alloc(), bundles)?;
     }
     Ok(())
 }
 
-/// Large chunks are accepted whole, with a mark for each byte.
+/// A chunk of this many bundles, each with a pair and a jump over it at its beginning.
+fn large(alloc: Global, bundles: usize) -> Result<Vec<u8>, Fail> {
+    let mut code = Vec::new(alloc);
+    code.resize(bundles.wrapping_mul(32), 0x90)?;
+    for n in 0..bundles {
+        let _has_room = write(
+            &mut code,
+            n.wrapping_mul(32),
+            &[0x83, 0xE1, 0xE0, 0xFF, 0xD1, 0xEB, 0xF9],
+        );
+    }
+    Ok(code)
+}
+
+/// The mark of a byte of such a chunk.
+fn large_mark(i: usize) -> Mark {
+    match i % 32 {
+        1 | 2 | 4 | 6 => Mark::Unmarked,
+        3 => Mark::After(1),
+        _ => Mark::Plain,
+    }
+}
+
+/// Such a chunk is accepted whole, with a mark for each byte.
+fn is_accepted(alloc: Global, bundles: usize) -> Result<bool, Fail> {
+    let Ok(vetted) = vetted(BASE, FAR, large(alloc, bundles)?) else {
+        return Ok(false);
+    };
+    for i in 0..vetted.code().len() {
+        if vetted.mark(i) != large_mark(i) {
+            return Ok(false);
+        }
+    }
+    let judged = vetted.bundles().unwrap_or(&[]).len();
+    Ok(judged == bundles && vetted.code().len() == bundles.wrapping_mul(32))
+}
+
+/// Large chunks are accepted whole.
 #[test]
 fn large_chunks(rt: HostRuntime) -> Result<(), Fail> {
-    for bundles in [129usize, 130, 1000, 4095, 32768] {
-        let len = bundles.wrapping_mul(32);
-        let mut code = Vec::new(rt.alloc());
-        code.resize(len, 0x90)?;
-        for n in 0..bundles {
-            write(
-                &mut code,
-                n.wrapping_mul(32),
-                &[0x83, 0xE1, 0xE0, 0xFF, 0xD1, 0xEB, 0xF9],
-            );
-        }
-        let Ok(vetted) = vet(BASE, 0x101_0000, code) else {
-            panic!(rt; "{bundles} bundles are refused");
-        };
-        assert_eq!(rt; vetted.code().len(), len);
-        assert_eq!(rt; vetted.bundles().map(<[_]>::len), Some(bundles));
-        for i in 0..vetted.code().len() {
-            let wanted = match i % 32 {
-                1 | 2 | 4 | 6 => Mark::Unmarked,
-                3 => Mark::After(1),
-                _ => Mark::Plain,
-            };
-            assert_eq!(rt; vetted.mark(i), wanted, "at {i} of {bundles} bundles");
-        }
+    for bundles in [129u32, 130, 1000, 4095, 32768] {
+        right(is_accepted(rt.alloc(), bundles as usize)?, bundles)?;
     }
     Ok(())
 }

@@ -1,19 +1,23 @@
 ghost use Rattle.std.specs.Prelude.{◌≡◌, All};
 ghost use Rattle.std.specs.Thread.{IsSync};
 
+use crate::tests::rows::right;
 use nc_gens::{Gens, GensFault, GensFull, Keeper, Pass};
+use std::alloc::Global;
 use std::test::Fail;
 use std::thread::{Threads, for_each_mut, join_mut};
 
+/// There is no table of so many seats.
+fn is_refused(alloc: Global, seats: u32) -> bool {
+    matches!(Gens::new(alloc, seats), Err(GensFault::BadSeats))
+}
+
 #[test]
-fn bad_seats_are_refused(rt: HostRuntime) {
+fn bad_seats_are_refused(rt: HostRuntime) -> Result<(), Fail> {
     for seats in [0, 257, u32::MAX] {
-        let opened = Gens::new(rt.alloc(), seats);
-        assert!(rt;
-            matches!(&opened, Err(GensFault::BadSeats)),
-            "{seats} seats"
-        );
+        right(is_refused(rt.alloc(), seats), seats)?;
     }
+    Ok(())
 }
 
 /// `Gens::look`, of which the tests need only that the keeper stays with its table.
@@ -53,15 +57,21 @@ fn check_in_after_looks(gens: &Gens, keeper: &mut Keeper, passes: &mut [Pass]) -
     greatest
 }
 
+/// Of so many seats each is waited for: the stamp, what the looks answer before all have checked in, and what one answers then.
+fn stamp_and_looks(alloc: Global, seats: u32) -> Result<(u64, u64, u64), Fail> {
+    let (gens, mut keeper, mut passes) = Gens::new(alloc, seats)?;
+    let stamp = bump(&gens, &mut keeper)?;
+    let early = check_in_after_looks(&gens, &mut keeper, passes.as_mut_slice());
+    if passes.len() != seats as usize {
+        return Err(Fail::new("another number of passes"));
+    }
+    Ok((stamp, early, look(&gens, &mut keeper)))
+}
+
 #[test]
 fn a_look_waits_for_each_seat(rt: HostRuntime) -> Result<(), Fail> {
     for seats in [1, 2, 64, 256] {
-        let (gens, mut keeper, mut passes) = Gens::new(rt.alloc(), seats)?;
-        assert_eq!(rt; passes.len(), seats as usize);
-        assert_eq!(rt; bump(&gens, &mut keeper)?, 1);
-        let early = check_in_after_looks(&gens, &mut keeper, passes.as_mut_slice());
-        assert_eq!(rt; early, 0, "{seats} seats");
-        assert_eq!(rt; look(&gens, &mut keeper), 1, "{seats} seats");
+        right(stamp_and_looks(rt.alloc(), seats)? == (1, 0, 1), seats)?;
     }
     Ok(())
 }
@@ -73,16 +83,16 @@ fn a_seat_that_leaves_is_not_waited_for(rt: HostRuntime) -> Result<(), Fail> {
     let mut first = passes.remove(0);
     bump(&gens, &mut keeper)?;
     check_in(&gens, &mut first);
-    assert_eq!(rt; look(&gens, &mut keeper), 0);
+    let before = look(&gens, &mut keeper);
     gens.leave(second);
-    assert_eq!(rt; look(&gens, &mut keeper), 1);
+    let after = look(&gens, &mut keeper);
 
     // Once all have left, the answer is the generation.
     bump(&gens, &mut keeper)?;
-    assert_eq!(rt; look(&gens, &mut keeper), 1);
+    let still = look(&gens, &mut keeper);
     gens.leave(first);
-    assert_eq!(rt; look(&gens, &mut keeper), 2);
-    Ok(())
+    let last = look(&gens, &mut keeper);
+    right([before, after, still, last] == [0, 1, 1, 2], 1)
 }
 
 #[test]
@@ -90,8 +100,7 @@ fn a_pass_that_is_dropped_holds_back(rt: HostRuntime) -> Result<(), Fail> {
     let (gens, mut keeper, passes) = Gens::new(rt.alloc(), 1)?;
     drop(passes);
     bump(&gens, &mut keeper)?;
-    assert_eq!(rt; look(&gens, &mut keeper), 0);
-    Ok(())
+    right(look(&gens, &mut keeper) == 0, 1)
 }
 
 /// It is allowed to start threads and not to wait, so nothing that it calls waits. It answers the
@@ -114,9 +123,8 @@ fn all_calls<T: Threads>(_rt: &T, gens: &Gens, keeper: &mut Keeper, mut pass: Pa
 fn no_wait(rt: HostRuntime) -> Result<(), Fail> {
     let (gens, mut keeper, mut passes) = Gens::new(rt.alloc(), 1)?;
     let pass = passes.remove(0);
-    assert_eq!(rt; all_calls(&rt, &gens, &mut keeper, pass), [1, 0, 1, 2]);
-    assert_eq!(rt; keeper.generation(), 2);
-    Ok(())
+    let answers = all_calls(&rt, &gens, &mut keeper, pass);
+    right(answers == [1, 0, 1, 2] && keeper.generation() == 2, 1)
 }
 
 fn check_in_often(gens: &Gens, pass: &mut Pass, times: usize)
@@ -175,8 +183,6 @@ fn check_in_beside<T: Threads + Sync>(
 fn check_in_beside_the_keeper(rt: HostRuntime) -> Result<(), Fail> {
     let (gens, mut keeper, mut passes) = Gens::new(rt.alloc(), 4)?;
     let rose = check_in_beside(&rt, &gens, &mut keeper, passes.as_mut_slice());
-    assert!(rt; rose);
     all_check_in(&rt, &gens, passes.as_mut_slice(), 1);
-    assert_eq!(rt; gens.look(&mut keeper), 100);
-    Ok(())
+    right(rose && gens.look(&mut keeper) == 100, 1)
 }

@@ -2,10 +2,10 @@
 
 ghost use Rattle.std.specs.Prelude.{◌≤◌, ◌+◌, length, All};
 
+use crate::tests::rows::right;
 use SegmentFault::{BeyondFile, BeyondMemory, OutOfOrder, UnfilledCode, Wraps, WritableCode};
 use nc_elf::{ElfFault, Segment, SegmentFault, code_segments, is_elf};
 use std::alloc::{AllocError, Global};
-use std::process::Abort;
 use std::test::Fail;
 
 /// The ELF header and the program headers of a file of 256 bytes, from the System V ABI: a table of program headers, code at
@@ -147,86 +147,100 @@ fn found(alloc: Global, headers: &[u8], at: u8, bytes: &[u8]) -> Result<Vec<Segm
 }
 
 /// Each of these changes is refused by its fault.
-fn try_refused(rt: &impl Abort, alloc: Global, headers: &[u8], rows: &[Change<ElfFault>]) {
+fn try_refused(alloc: Global, headers: &[u8], rows: &[Change<ElfFault>]) -> Result<(), Fail> {
+    let mut row = 0u32;
     for (at, bytes, fault) in rows {
-        let refused = found(alloc, headers, *at, bytes) == Err(*fault);
-        assert!(rt; refused, "{bytes:?} at {at}");
+        row = row.wrapping_add(1);
+        right(found(alloc, headers, *at, bytes) == Err(*fault), row)?;
     }
+    Ok(())
 }
 
 #[test]
-fn refused(rt: HostRuntime) {
-    try_refused(&rt, rt.alloc(), &HEADERS, &REFUSED);
+fn refused(rt: HostRuntime) -> Result<(), Fail> {
+    try_refused(rt.alloc(), &HEADERS, &REFUSED)
 }
 
-/// With each of these changes the file has these segments.
+/// With other bytes in place of its own the file has these segments.
+fn has_segments(alloc: Global, headers: &[u8], at: u8, bytes: &[u8], segments: &[Segment]) -> bool {
+    match found(alloc, headers, at, bytes) {
+        Ok(found) => found.as_slice() == segments,
+        Err(_) => false,
+    }
+}
+
+/// With each of these changes the file has its segments.
 fn try_accepted(
-    rt: &impl Abort,
     alloc: Global,
     headers: &[u8],
     rows: &[Change<&'static [Segment]>],
-) {
+) -> Result<(), Fail> {
+    let mut row = 0u32;
     for (at, bytes, segments) in rows {
-        let found = found(alloc, headers, *at, bytes);
-        let same = matches!(&found, Ok(found) if found.as_slice() == *segments);
-        assert!(rt; same, "{bytes:?} at {at}");
+        row = row.wrapping_add(1);
+        right(has_segments(alloc, headers, *at, bytes, segments), row)?;
     }
+    Ok(())
 }
 
 #[test]
-fn accepted(rt: HostRuntime) {
-    try_accepted(&rt, rt.alloc(), &HEADERS, &ACCEPTED);
+fn accepted(rt: HostRuntime) -> Result<(), Fail> {
+    try_accepted(rt.alloc(), &HEADERS, &ACCEPTED)
+}
+
+/// The file is refused by this fault.
+fn is_refused(alloc: Global, file: &[u8], fault: ElfFault) -> bool {
+    code_segments(alloc, file) == Err(fault) && is_elf(file) == (fault != ElfFault::NotElf)
 }
 
 /// A file that is cut to each of these lengths, the longest first, is refused by its fault.
-fn try_cut(rt: &impl Abort, alloc: Global, file: &mut Vec<u8>, rows: &[(usize, ElfFault)]) {
+fn try_cut(alloc: Global, file: &mut Vec<u8>, rows: &[(usize, ElfFault)]) -> Result<(), Fail> {
+    let mut row = 0u32;
     for (len, fault) in rows {
+        row = row.wrapping_add(1);
         file.truncate(*len);
-        let refused = code_segments(alloc, file) == Err(*fault);
-        assert!(rt; refused, "{len} bytes");
-        assert_eq!(rt; is_elf(file), *fault != ElfFault::NotElf, "{len} bytes");
+        right(is_refused(alloc, file, *fault), row)?;
     }
+    Ok(())
 }
 
 #[test]
 fn cut(rt: HostRuntime) -> Result<(), Fail> {
     let mut file = changed(rt.alloc(), &HEADERS, 0, &[])?;
-    try_cut(&rt, rt.alloc(), &mut file, &CUT);
-    Ok(())
+    try_cut(rt.alloc(), &mut file, &CUT)
 }
 
 /// The content of each segment begins at its offset, and is as long as it says.
-fn try_bytes(rt: &impl Abort, file: &[u8], segments: &[Segment])
+fn have_bytes(file: &[u8], segments: &[Segment]) -> bool
     requires { All (λ s. s.offset + s.len ≤ length file.now) segments.now }
 {
     for segment in segments {
         let bytes = segment.bytes(file);
-        assert_eq!(rt; bytes.len(), segment.len as usize);
         let begins = matches!(bytes, [first, ..] if u32::from(*first) == segment.offset);
-        assert!(rt; begins);
+        if !begins || bytes.len() != segment.len as usize {
+            return false;
+        }
     }
+    true
 }
 
 /// The list of segments by itself shows that their bytes are in the file.
-fn try_listed(rt: &impl Abort, alloc: Global, file: &[u8]) {
-    let listed = code_segments(alloc, file);
-    assert!(rt; listed.is_ok());
-    if let Ok(segments) = listed {
-        try_bytes(rt, file, segments.as_slice());
+fn has_listed(alloc: Global, file: &[u8]) -> bool {
+    match code_segments(alloc, file) {
+        Ok(segments) => have_bytes(file, segments.as_slice()),
+        Err(_) => false,
     }
 }
 
 #[test]
 fn bytes_of_a_segment(rt: HostRuntime) -> Result<(), Fail> {
     let file = changed(rt.alloc(), &HEADERS, 0, &[])?;
-    try_listed(&rt, rt.alloc(), &file);
-    Ok(())
+    right(has_listed(rt.alloc(), &file), 1)
 }
 
 #[test]
 fn message(rt: HostRuntime) -> Result<(), Fail> {
     let text = format!(in rt.alloc(); "{}", bad!(3, Wraps))?;
     let wanted = "the segment of program header 3 wraps around the end of the addresses";
-    assert_eq!(rt; text.as_str(), wanted);
-    Ok(())
+    right(text.as_str() == wanted, 1)
 }

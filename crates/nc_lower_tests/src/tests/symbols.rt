@@ -3,9 +3,9 @@
 ghost use Rattle.std.specs.Prelude.{◌≤◌, ◌+◌, length, All};
 ghost use Rattle.nc_elf.specs.Symbols.{AreAscending, IsNamed};
 
+use crate::tests::rows::right;
 use nc_elf::{Symbol, code_symbols, nearest};
 use std::alloc::{AllocError, Global};
-use std::process::Abort;
 use std::test::Fail;
 
 /// A file of 405 bytes, from the System V ABI: the ELF header, three section headers, a table of 13 symbols, and their names.
@@ -151,30 +151,29 @@ fn has_symbols(alloc: Global, file: &[u8], wanted: &[Symbol]) -> Result<bool, Al
     Ok(found.as_slice() == wanted)
 }
 
-/// With each of these changes the file has these symbols.
-fn try_rows(rt: &impl Abort, alloc: Global, file: &[u8], rows: &[Row]) -> Result<(), AllocError> {
+/// With each of these changes the file has its symbols.
+fn try_rows(alloc: Global, file: &[u8], rows: &[Row]) -> Result<(), Fail> {
+    let mut row = 0u32;
     for (at, bytes, wanted) in rows {
+        row = row.wrapping_add(1);
         let changed = changed(alloc, file, *at, bytes)?;
-        let same = has_symbols(alloc, &changed, wanted)?;
-        assert!(rt; same, "{bytes:?} at {at}");
+        right(has_symbols(alloc, &changed, wanted)?, row)?;
     }
     Ok(())
 }
 
 #[test]
 fn symbols(rt: HostRuntime) -> Result<(), Fail> {
-    try_rows(&rt, rt.alloc(), &FILE, &ROWS)?;
-    Ok(())
+    try_rows(rt.alloc(), &FILE, &ROWS)
 }
 
 /// A file that ends before the end of its names has no symbols, wherever it ends.
 #[test]
 fn cut(rt: HostRuntime) -> Result<(), Fail> {
     let mut file = changed(rt.alloc(), &FILE, 0, &[])?;
-    for _ in 0..405 {
+    for row in 0..405u32 {
         let _last = file.pop();
-        let none = has_symbols(rt.alloc(), &file, &[])?;
-        assert!(&rt; none, "{} bytes", file.len());
+        right(has_symbols(rt.alloc(), &file, &[])?, row)?;
     }
     Ok(())
 }
@@ -191,19 +190,16 @@ fn long_name(rt: HostRuntime) -> Result<(), Fail> {
         named.push(b'a')?;
     }
     named.push(0)?;
-    let same = has_symbols(rt.alloc(), &named, &[LONG])?;
-    assert!(&rt; same);
-    Ok(())
+    right(has_symbols(rt.alloc(), &named, &[LONG])?, 1)
 }
 
-/// The name of the last symbol is this text.
-fn try_last_name(rt: &impl Abort, file: &[u8], symbols: &[Symbol])
+/// The last symbol has this name.
+fn has_last_name(file: &[u8], symbols: &[Symbol]) -> bool
     requires { All (IsNamed file.now) symbols.now }
 {
-    let last = symbols.last();
-    assert!(rt; last.is_some());
-    if let Some(symbol) = last {
-        assert_eq!(rt; symbol.name(file), b"putc".as_slice());
+    match symbols.last() {
+        Some(symbol) => symbol.name(file) == b"putc".as_slice(),
+        None => false,
     }
 }
 
@@ -220,21 +216,24 @@ static NEAR: [Near; 7] = [
     (0xFFFF_FFFF, Some(PUTC)),
 ];
 
-/// Each of these addresses has this symbol.
-fn try_nearest(rt: &impl Abort, symbols: &[Symbol], rows: &[Near])
+/// Each of these addresses has its symbol.
+fn try_nearest(symbols: &[Symbol], rows: &[Near]) -> Result<(), Fail>
     requires { AreAscending symbols.now }
 {
+    let mut row = 0u32;
     for (address, wanted) in rows {
-        let same = nearest(symbols, *address) == *wanted;
-        assert!(rt; same, "{address:08x}");
+        row = row.wrapping_add(1);
+        right(nearest(symbols, *address) == *wanted, row)?;
     }
+    Ok(())
 }
 
 #[test]
 fn names_and_nearest(rt: HostRuntime) -> Result<(), Fail> {
     let symbols = code_symbols(rt.alloc(), &FILE)?;
-    assert_eq!(&rt; symbols.len(), 3);
-    try_last_name(&rt, &FILE, symbols.as_slice());
-    try_nearest(&rt, symbols.as_slice(), &NEAR);
-    Ok(())
+    right(
+        symbols.len() == 3 && has_last_name(&FILE, symbols.as_slice()),
+        1,
+    )?;
+    try_nearest(symbols.as_slice(), &NEAR)
 }

@@ -1,5 +1,6 @@
 //! Jobs with the verdicts that vetting one by one gives.
 
+use crate::tests::rows::right;
 use nc_vet::VetFault;
 use nc_work::{Gate, Job, Open, Verdict, WorkFault, vet_all};
 use std::alloc::{AllocError, Global};
@@ -14,6 +15,9 @@ const TURNS: u64 = 10_000_000;
 const BASE: u32 = 0x10000;
 
 const LIMIT: u32 = 0x10080;
+
+/// The verdict on a chunk that isn't permitted.
+const NOT_PERMITTED: Option<VetFault> = Some(VetFault::NotPermitted { at: BASE });
 
 /// Holds the one job until the other one is done, for a limited number of turns.
 #[derive(Drop)]
@@ -106,34 +110,83 @@ fn faults<G: Gate, R: Threads + Wait + Sync + AllocGlobal>(
     Ok(verdicts.iter().map(fault).collect(rt.alloc())?)
 }
 
+/// Each job of two held until the other is done: whether neither was held too long, and both have their verdicts.
+fn are_at_once<R: Threads + Wait + Sync + AllocGlobal>(rt: &R, held: usize) -> Result<bool, Fail> {
+    let gate = Until {
+        held,
+        other: 1usize.saturating_sub(held),
+        done: AtomicBool::new(false),
+        late: AtomicBool::new(false),
+    };
+    let faults = faults(rt, bad_and_good(rt.alloc())?, 2, &gate)?;
+    let wanted = [NOT_PERMITTED, None];
+    Ok(!gate.late.load(Ordering::SeqCst) && faults.as_slice() == wanted.as_slice())
+}
+
 #[test]
 fn two_at_once(rt: HostRuntime) -> Result<(), Fail> {
-    for (held, other) in [(0, 1), (1, 0)] {
-        let gate = Until {
-            held,
-            other,
-            done: AtomicBool::new(false),
-            late: AtomicBool::new(false),
-        };
-        let faults = faults(&rt, bad_and_good(rt.alloc())?, 2, &gate)?;
-        assert!(rt;
-            !gate.late.load(Ordering::SeqCst),
-            "job {held} was held too long"
-        );
-        let wanted = [Some(VetFault::NotPermitted { at: BASE }), None];
-        assert_eq!(rt; faults.as_slice(), wanted.as_slice());
+    right(are_at_once(&rt, 0)?, 1)?;
+    right(are_at_once(&rt, 1)?, 2)
+}
+
+/// For this number of workers two jobs come back.
+fn come_back<R: Threads + Wait + Sync + AllocGlobal>(rt: &R, workers: u32) -> Result<bool, Fail> {
+    match vet_all(rt, bad_and_good(rt.alloc())?, workers, &Open) {
+        Ok(_) => Ok(false),
+        Err((jobs, fault)) => Ok(fault == WorkFault::BadWorkers && jobs.len() == 2),
     }
-    Ok(())
 }
 
 #[test]
 fn bad_workers(rt: HostRuntime) -> Result<(), Fail> {
-    for workers in [0, 17, u32::MAX] {
-        let Err((jobs, fault)) = vet_all(&rt, bad_and_good(rt.alloc())?, workers, &Open) else {
-            return Err(Fail::new("the jobs were vetted"));
-        };
-        assert_eq!(rt; fault, WorkFault::BadWorkers, "{workers} workers");
-        assert_eq!(rt; jobs.len(), 2);
+    right(come_back(&rt, 0)?, 0)?;
+    right(come_back(&rt, 17)?, 17)?;
+    right(come_back(&rt, u32::MAX)?, u32::MAX)
+}
+
+/// The jobs of which every third one, from the second one on, isn't permitted.
+fn many_jobs(alloc: Global, count: usize) -> Result<Vec<Job>, AllocError> {
+    let mut jobs = Vec::new(alloc);
+    for i in 0..count {
+        let first = if i % 3 == 1 { 0xC3 } else { 0x90 };
+        jobs.push(job(alloc, BASE, 32, first)?)?;
+    }
+    Ok(jobs)
+}
+
+/// The faults of such jobs.
+fn are_every_third(faults: &[Option<VetFault>]) -> bool {
+    let mut i = 0usize;
+    for fault in faults {
+        let wanted = if i % 3 == 1 { NOT_PERMITTED } else { None };
+        if *fault != wanted {
+            return false;
+        }
+        i = i.wrapping_add(1);
+    }
+    true
+}
+
+/// So many jobs have their verdicts by so many workers, and the gate is called once before each and once after it.
+fn are_vetted<R: Threads + Wait + Sync + AllocGlobal>(
+    rt: &R,
+    workers: u32,
+    count: usize,
+) -> Result<bool, Fail> {
+    let gate = Count {
+        before: AtomicU64::new(0),
+        after: AtomicU64::new(0),
+    };
+    let faults = faults(rt, many_jobs(rt.alloc(), count)?, workers, &gate)?;
+    let is_called = gate.before.load(Ordering::SeqCst) == count as u64
+        && gate.after.load(Ordering::SeqCst) == count as u64;
+    Ok(is_called && faults.len() == count && are_every_third(&faults))
+}
+
+/// Some numbers of jobs by this number of workers.
+fn try_counts<R: Threads + Wait + Sync + AllocGlobal>(rt: &R, workers: u32) -> Result<(), Fail> {
+    for count in [0usize, 1, 3, 40] {
+        right(are_vetted(rt, workers, count)?, workers)?;
     }
     Ok(())
 }
@@ -141,31 +194,7 @@ fn bad_workers(rt: HostRuntime) -> Result<(), Fail> {
 #[test]
 fn any_number_of_workers(rt: HostRuntime) -> Result<(), Fail> {
     for workers in 1..17u32 {
-        for count in [0usize, 1, 3, 40] {
-            let mut jobs = Vec::new(rt.alloc());
-            for i in 0..count {
-                let first = if i % 3 == 1 { 0xC3 } else { 0x90 };
-                jobs.push(job(rt.alloc(), BASE, 32, first)?)?;
-            }
-            let gate = Count {
-                before: AtomicU64::new(0),
-                after: AtomicU64::new(0),
-            };
-            let Ok(verdicts) = vet_all(&rt, jobs, workers, &gate) else {
-                return Err(Fail::new("the jobs were refused"));
-            };
-            assert_eq!(rt; verdicts.len(), count);
-            for (i, verdict) in verdicts.iter().enumerate() {
-                let wanted = if i % 3 == 1 {
-                    Some(VetFault::NotPermitted { at: BASE })
-                } else {
-                    None
-                };
-                assert_eq!(rt; fault(verdict), wanted, "job {i} of {count} by {workers}");
-            }
-            assert_eq!(rt; gate.before.load(Ordering::SeqCst), count as u64);
-            assert_eq!(rt; gate.after.load(Ordering::SeqCst), count as u64);
-        }
+        try_counts(&rt, workers)?;
     }
     Ok(())
 }
@@ -179,12 +208,14 @@ fn three_jobs(alloc: Global) -> Result<Vec<Job>, AllocError> {
     Ok(jobs)
 }
 
+/// Their faults.
+static THREE: [Option<VetFault>; 3] = [None, Some(VetFault::BadLength), Some(VetFault::BadBase)];
+
 #[test]
 fn each_by_its_own_answer(rt: HostRuntime) -> Result<(), Fail> {
     for workers in 1..17u32 {
         let faults = faults(&rt, three_jobs(rt.alloc())?, workers, &Open)?;
-        let wanted = [None, Some(VetFault::BadLength), Some(VetFault::BadBase)];
-        assert_eq!(rt; faults.as_slice(), wanted.as_slice(), "{workers} workers");
+        right(faults.as_slice() == THREE.as_slice(), workers)?;
     }
     Ok(())
 }
