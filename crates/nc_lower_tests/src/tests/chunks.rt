@@ -3,7 +3,7 @@
 use crate::tests::rows::right;
 use nc_vet::VetFault::{BadBase, BadLength, BadTarget, Bare, Crosses, NotPermitted, OutOfRange};
 use nc_vet::{Mark, VetFault, Vetted, vet};
-use std::alloc::Global;
+use std::alloc::{AllocError, Global};
 use std::test::Fail;
 
 /// Where the chunks of the first two tables stand, in a region of four bundles.
