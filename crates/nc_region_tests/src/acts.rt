@@ -1,9 +1,12 @@
 //! Which acts a region tells, in which order, and where it settles among them.
+ghost use Rattle.std.specs.Prelude.{◌≡◌};
 
-use crate::fixtures::{Telling, chunk};
-use nc_gens::Gens;
-use nc_region::{Act, DeleteFault, Entry, ModifyFault};
-use nc_vet::Vetted;
+use crate::calls::Calls;
+use crate::fixtures::chunk;
+use crate::steps::{Step, take_steps};
+use crate::trial::{Telling, Trial, try_in_region};
+use nc_gens::{Gens, Pass};
+use nc_region::{Act, Acts, DeleteFault, Entry, ModifyFault, RegionOf};
 use std::alloc::Global;
 use std::test::Fail;
 
@@ -14,12 +17,15 @@ const BASE: u32 = 0x10020;
 #[rattlefmt::skip]
 static FRONT: [u8; 8] = [0xF4, 0xEB, 0xFE, 0xB8, 1, 0, 0, 0];
 
+/// The limit of the region, which has 8 bundles.
+const LIMIT: u32 = 0x10100;
+
 /// The places of the chunk that aren't marked: all but the first of each instruction.
 static UNMARKED: [u32; 5] = [0x10022, 0x10024, 0x10025, 0x10026, 0x10027];
 
 /// The patch: a nop for the stop, another target, another number, and a nop for a nop.
 #[rattlefmt::skip]
-static PATCH: [u8; 9] = [0x90, 0xEB, 0x1D, 0xB8, 2, 0, 0, 0, 0x90];
+const PATCH: &[u8] = &[0x90, 0xEB, 0x1D, 0xB8, 2, 0, 0, 0, 0x90];
 
 /// What the patch owes: a put; a stop, a settling, a further byte, a settling, the first byte; and the same with four
 /// further bytes.
@@ -41,20 +47,11 @@ static PATCH_OWES: [Entry; 14] = [
     Entry::Did(Act::Put(0x10023, 0xB8)),
 ];
 
-/// What a creation of this code owes: the puts that aren't bundle starts, a settling, the marks, the bundle starts.
-fn owe_create(entries: &mut Vec<Entry>, code: &[u8]) -> Result<(), Fail> {
+/// The puts of this code's bytes at bundle starts, or of its other bytes.
+fn owe_puts(entries: &mut Vec<Entry>, code: &[u8], at_starts: bool) -> Result<(), Fail> {
     let mut at = BASE;
     for byte in code {
-        if at % 32 != 0 {
-            entries.push(Entry::Did(Act::Put(at, *byte)))?;
-        }
-        at = at.wrapping_add(1);
-    }
-    entries.push(Entry::Settled)?;
-    entries.push(Entry::Did(Act::MarkSpan(BASE, at.wrapping_sub(BASE))))?;
-    at = BASE;
-    for byte in code {
-        if at % 32 == 0 {
+        if (at % 32 == 0) == at_starts {
             entries.push(Entry::Did(Act::Put(at, *byte)))?;
         }
         at = at.wrapping_add(1);
@@ -62,108 +59,154 @@ fn owe_create(entries: &mut Vec<Entry>, code: &[u8]) -> Result<(), Fail> {
     Ok(())
 }
 
-/// What its deletion and its freeing owe: stops at the marked places, a settling, stops at the others, the stamp; a look in
-/// vain, and one that frees.
-fn owe_delete(entries: &mut Vec<Entry>, len: u32) -> Result<(), Fail> {
-    for i in 0..len {
-        let at = BASE.wrapping_add(i);
+/// What a creation of this code owes: the puts that aren't bundle starts, a settling, the marks, the bundle starts.
+fn owe_create(entries: &mut Vec<Entry>, code: &[u8], len: u32) -> Result<(), Fail> {
+    owe_puts(entries, code, false)?;
+    entries.push(Entry::Settled)?;
+    entries.push(Entry::Did(Act::MarkSpan(BASE, len)))?;
+    owe_puts(entries, code, true)
+}
+
+/// The stops of a deletion at the marked places.
+fn owe_stops(entries: &mut Vec<Entry>, len: u32) -> Result<(), Fail> {
+    for at in BASE..BASE.saturating_add(len) {
         if !UNMARKED.contains(&at) {
             entries.push(Entry::Did(Act::Put(at, 0xF4)))?;
         }
     }
-    entries.push(Entry::Settled)?;
-    for at in &UNMARKED {
-        entries.push(Entry::Did(Act::Put(*at, 0xF4)))?;
-    }
-    for act in [Act::Bump, Act::Look, Act::Look, Act::UnmarkSpan(BASE, len)] {
-        entries.push(Entry::Did(act))?;
-    }
     Ok(())
 }
 
-/// Creates the chunk, patches it, has a patch and a deletion refused, deletes it, and reclaims in vain.
-fn retire(region: &mut Telling<'_>, vetted: Vetted) -> bool {
-    let created = region.creates(vetted);
-    let patched = region.modify(BASE, &PATCH) == Ok(());
-    let patch = region.modify(BASE, &[0xC3]) == Err(ModifyFault::NotPermitted);
-    let deletion = region.delete(0x10000) == Err(DeleteFault::NoChunk);
-    let deleted = region.delete(BASE) == Ok(1);
-    created && patched && patch && deletion && deleted && region.reclaim() == 0
+/// What a deletion owes then, and a look in vain, and one that frees.
+#[rattlefmt::skip]
+static THEN_OWES: [Entry; 9] = [
+    Entry::Settled,
+    Entry::Did(Act::Put(0x10022, 0xF4)),
+    Entry::Did(Act::Put(0x10024, 0xF4)),
+    Entry::Did(Act::Put(0x10025, 0xF4)),
+    Entry::Did(Act::Put(0x10026, 0xF4)),
+    Entry::Did(Act::Put(0x10027, 0xF4)),
+    Entry::Did(Act::Bump),
+    Entry::Did(Act::Look),
+    Entry::Did(Act::Look),
+];
+
+/// What the whole life of a chunk owes.
+fn owed(alloc: Global, code: &[u8], len: u32) -> Result<Vec<Entry>, Fail> {
+    let mut owed = Vec::new(alloc);
+    owe_create(&mut owed, code, len)?;
+    owed.extend_from_slice(&PATCH_OWES)?;
+    // stops at the marked places, a settling, stops at the others, the stamp
+    owe_stops(&mut owed, len)?;
+    owed.extend_from_slice(&THEN_OWES)?;
+    owed.push(Entry::Did(Act::UnmarkSpan(BASE, len)))?;
+    Ok(owed)
 }
 
-/// The entries of a region's log.
-fn logged(alloc: Global, region: &Telling<'_>) -> Result<Vec<Entry>, Fail> {
-    let mut entries = Vec::new(alloc);
-    entries.extend_from_slice(region.entries().unwrap_or(&[]))?;
-    Ok(entries)
-}
+/// After the creation: the patch, a patch and a deletion that are refused, the deletion, and a look in vain.
+static UNTIL_RETIRED: [Step<'static>; 5] = [
+    Step::Modify(BASE, PATCH, Ok(())),
+    Step::Modify(BASE, &[0xC3], Err(ModifyFault::NotPermitted)),
+    Step::Delete(0x10000, Err(DeleteFault::NoChunk)),
+    Step::Delete(BASE, Ok(1)),
+    Step::Reclaim(0),
+];
+
+/// Once the seat has checked in.
+static THEN: [Step<'static>; 1] = [Step::Reclaim(1)];
 
 /// The acts told are those of the log, in its order.
-fn has_told(alloc: Global, region: &Telling<'_>) -> Result<bool, Fail> {
-    let mut acts = Vec::new(alloc);
-    for entry in region.entries().unwrap_or(&[]) {
+fn tells_as_logged<A: Telling>(alloc: Global, acts: &A) -> Result<bool, Fail> {
+    let mut logged = Vec::new(alloc);
+    for entry in acts.logged().unwrap_or(&[]) {
         if let Entry::Did(act) = entry {
-            acts.push(*act)?;
+            logged.push(*act)?;
         }
     }
-    Ok(region.told() == Some(acts.as_slice()))
+    Ok(acts.told() == Some(logged.as_slice()))
 }
 
-/// The chunk's life, until its span is free: its log.
-fn life(alloc: Global, vetted: Vetted) -> Result<Vec<Entry>, Fail> {
-    let (gens, keeper, mut passes) = Gens::new(alloc, 1)?;
-    let mut pass = passes.remove(0);
-    let mut region = Telling::new(alloc, &gens, keeper, 8, 300)?;
-    let retired = retire(&mut region, vetted);
-    gens.check_in(&mut pass);
-    if !retired || region.reclaim() != 1 || !has_told(alloc, &region)? {
-        return Err(Fail::new("another life"));
+/// A chunk's life, until its span is free.
+#[derive(Drop)]
+struct Life {
+    alloc: Global,
+    bundles: usize,
+    len: u32,
+}
+
+impl Trial for Life {
+    fn run<A: Acts + Telling + Drop>(
+        self,
+        region: &mut RegionOf<A>,
+        gens: &Gens,
+        pass: Pass,
+    ) -> Result<(), Fail> {
+        let mut pass = pass;
+        let vetted = chunk(self.alloc, BASE, LIMIT, self.bundles, &FRONT)?;
+        let owed = owed(self.alloc, vetted.code(), self.len)?;
+        let created = region.created(vetted).is_ok();
+        take_steps(self.alloc, region, LIMIT, &UNTIL_RETIRED)?;
+        gens.check_in(&mut pass);
+        take_steps(self.alloc, region, LIMIT, &THEN)?;
+        let acts = region.acts();
+        if created && acts.logged() == Some(owed.as_slice()) && tells_as_logged(self.alloc, acts)? {
+            return Ok(());
+        }
+        Err(Fail::new(format_args!("{:?} and not {owed:?}", acts.logged())))
     }
-    logged(alloc, &region)
 }
 
 #[test]
 fn order_of_acts(rt: HostRuntime) -> Result<(), Fail> {
     let alloc = rt.alloc();
     for (bundles, len) in [(1usize, 32u32), (2, 64), (3, 96)] {
-        let vetted = chunk(alloc, BASE, 0x10100, bundles, &FRONT)?;
-        let mut owed = Vec::new(alloc);
-        owe_create(&mut owed, vetted.code())?;
-        owed.extend_from_slice(&PATCH_OWES)?;
-        owe_delete(&mut owed, len)?;
-        let entries = life(alloc, vetted)?;
-        assert_eq!(rt; entries.as_slice(), owed.as_slice());
+        let life = Life {
+            alloc,
+            bundles,
+            len,
+        };
+        try_in_region(alloc, 8, 300, life)?;
     }
     Ok(())
 }
 
-/// Creates a chunk: whether it was created, whether the region still tells, and whether it still logs.
-fn create_one(region: &mut Telling<'_>, vetted: Vetted) -> [bool; 3] {
-    let created = region.creates(vetted);
-    [created, region.told().is_some(), region.entries().is_some()]
+/// The bases of chunks of one bundle, each with whether the region still tells after it, and whether it still logs. There is room for 34
+/// acts and for 68 entries; each creation takes 33 acts and 34 entries.
+static UNTIL_FULL: [(u32, bool, bool); 3] = [
+    (0x10000, true, true),
+    (0x10020, false, true),
+    (0x10040, false, false),
+];
+
+/// Chunks created in turn, until the region neither tells nor logs.
+#[derive(Drop)]
+struct Filling {
+    alloc: Global,
 }
 
-/// Creates three chunks of one bundle.
-fn create_three(region: &mut Telling<'_>, alloc: Global) -> Result<[[bool; 3]; 3], Fail> {
-    let first = create_one(region, chunk(alloc, 0x10000, 0x10100, 1, &[])?);
-    let second = create_one(region, chunk(alloc, 0x10020, 0x10100, 1, &[])?);
-    let third = create_one(region, chunk(alloc, 0x10040, 0x10100, 1, &[])?);
-    Ok([first, second, third])
+impl Trial for Filling {
+    fn run<A: Acts + Telling + Drop>(
+        self,
+        region: &mut RegionOf<A>,
+        _gens: &Gens,
+        _pass: Pass,
+    ) -> Result<(), Fail> {
+        for (base, tells, logs) in &UNTIL_FULL {
+            let created = region
+                .created(chunk(self.alloc, *base, LIMIT, 1, &[])?)
+                .is_ok();
+            let acts = region.acts();
+            let is_so = acts.told().is_some() == *tells && acts.logged().is_some() == *logs;
+            if !created || !is_so {
+                return Err(Fail::new(format_args!("at {base:x} not {tells} and {logs}")));
+            }
+        }
+        Ok(())
+    }
 }
 
 #[test]
 fn full_recorder(rt: HostRuntime) -> Result<(), Fail> {
-    let (gens, keeper, _passes) = Gens::new(rt.alloc(), 1)?;
-    // room for 34 acts and for 68 entries; each creation takes 33 acts and 34 entries
-    let mut region = Telling::new(rt.alloc(), &gens, keeper, 8, 34)?;
-    let kept = create_three(&mut region, rt.alloc())?;
-    assert_eq!(rt;
-        kept,
-        [
-            [true, true, true],
-            [true, false, true],
-            [true, false, false]
-        ]
-    );
-    Ok(())
+    let alloc = rt.alloc();
+    try_in_region(alloc, 8, 34, Filling { alloc })
 }

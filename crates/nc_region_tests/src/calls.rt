@@ -1,7 +1,7 @@
 //! The calls of a region, without what they promise.
 //!
 //! What a call ensures is known at each later line of a function that makes it, and each proof there has to look at it. The
-//! tests compare answers and need none of that, so they make the calls through these functions, which say nothing.
+//! tests compare answers and need none of that, so they make the calls through these methods, which say nothing.
 
 use nc_region::{
     Acts, CreateFault, DeleteFault, ModifyFault, RegionOf, SharedOf, Trace, WalkFault,
@@ -9,98 +9,84 @@ use nc_region::{
 use nc_vet::Vetted;
 use std::sync::Wait;
 
-/// `RegionOf::create`.
-pub(crate) fn create<A: Acts + Drop>(
-    region: &mut RegionOf<A>,
-    vetted: Vetted,
-) -> Result<(), (Vetted, CreateFault)> {
-    region.create(vetted)
+/// The answers of a region's calls, whether it is called directly or under its lock.
+pub(crate) trait Calls {
+    /// The answer of `create`.
+    fn created(&mut self, vetted: Vetted) -> Result<(), (Vetted, CreateFault)>;
+
+    /// The answer of `modify`.
+    fn modified(&mut self, at: u32, new: &[u8]) -> Result<(), ModifyFault>;
+
+    /// The answer of `delete`.
+    fn deleted(&mut self, base: u32) -> Result<u64, DeleteFault>;
+
+    /// The answer of `reclaim`.
+    fn reclaimed(&mut self) -> u32;
+
+    /// The answer of `walk`.
+    fn walked(&self, start: u32, choices: &[u32]) -> Result<Trace, WalkFault>;
+
+    /// The answer of `chunk_count`.
+    fn counted(&self) -> usize;
 }
 
-/// `RegionOf::create`: whether the chunk was created.
-pub(crate) fn creates<A: Acts + Drop>(region: &mut RegionOf<A>, vetted: Vetted) -> bool {
-    create(region, vetted).is_ok()
+impl<A: Acts + Drop> Calls for RegionOf<A> {
+    fn created(&mut self, vetted: Vetted) -> Result<(), (Vetted, CreateFault)> {
+        self.create(vetted)
+    }
+
+    fn modified(&mut self, at: u32, new: &[u8]) -> Result<(), ModifyFault> {
+        self.modify(at, new)
+    }
+
+    fn deleted(&mut self, base: u32) -> Result<u64, DeleteFault> {
+        self.delete(base)
+    }
+
+    fn reclaimed(&mut self) -> u32 {
+        self.reclaim()
+    }
+
+    fn walked(&self, start: u32, choices: &[u32]) -> Result<Trace, WalkFault> {
+        self.walk(start, choices)
+    }
+
+    fn counted(&self) -> usize {
+        self.chunk_count()
+    }
 }
 
-/// `RegionOf::modify`.
-pub(crate) fn modify<A: Acts + Drop>(
-    region: &mut RegionOf<A>,
-    at: u32,
-    new: &[u8],
-) -> Result<(), ModifyFault> {
-    region.modify(at, new)
+/// A region that is called under its lock.
+#[derive(Drop)]
+pub(crate) struct Locked<'s, 'g, R: Wait, A: Acts + Drop> {
+    /// The runtime of the calls.
+    pub(crate) rt: &'s R,
+    /// The region behind its lock.
+    pub(crate) shared: &'s SharedOf<'g, A>,
 }
 
-/// `RegionOf::delete`.
-pub(crate) fn delete<A: Acts + Drop>(
-    region: &mut RegionOf<A>,
-    base: u32,
-) -> Result<u64, DeleteFault> {
-    region.delete(base)
-}
+impl<R: Wait, A: Acts + Drop> Calls for Locked<'_, '_, R, A> {
+    fn created(&mut self, vetted: Vetted) -> Result<(), (Vetted, CreateFault)> {
+        self.shared.create(self.rt, vetted)
+    }
 
-/// `RegionOf::reclaim`.
-pub(crate) fn reclaim<A: Acts + Drop>(region: &mut RegionOf<A>) -> u32 {
-    region.reclaim()
-}
+    fn modified(&mut self, at: u32, new: &[u8]) -> Result<(), ModifyFault> {
+        self.shared.modify(self.rt, at, new)
+    }
 
-/// `RegionOf::chunk_count`.
-pub(crate) fn chunk_count<A: Acts + Drop>(region: &RegionOf<A>) -> usize {
-    region.chunk_count()
-}
+    fn deleted(&mut self, base: u32) -> Result<u64, DeleteFault> {
+        self.shared.delete(self.rt, base)
+    }
 
-/// `RegionOf::walk`.
-pub(crate) fn walk<A: Acts + Drop>(
-    region: &RegionOf<A>,
-    start: u32,
-    choices: &[u32],
-) -> Result<Trace, WalkFault> {
-    region.walk(start, choices)
-}
+    fn reclaimed(&mut self) -> u32 {
+        self.shared.reclaim(self.rt)
+    }
 
-/// `SharedOf::create`.
-pub(crate) fn create_shared<R: Wait, A: Acts + Drop>(
-    rt: &R,
-    shared: &SharedOf<'_, A>,
-    vetted: Vetted,
-) -> Result<(), (Vetted, CreateFault)> {
-    shared.create(rt, vetted)
-}
+    fn walked(&self, start: u32, choices: &[u32]) -> Result<Trace, WalkFault> {
+        self.shared.walk(self.rt, start, choices)
+    }
 
-/// `SharedOf::create`: whether the chunk was created.
-pub(crate) fn creates_shared<R: Wait, A: Acts + Drop>(
-    rt: &R,
-    shared: &SharedOf<'_, A>,
-    vetted: Vetted,
-) -> bool {
-    create_shared(rt, shared, vetted).is_ok()
-}
-
-/// `SharedOf::modify`.
-pub(crate) fn modify_shared<R: Wait, A: Acts + Drop>(
-    rt: &R,
-    shared: &SharedOf<'_, A>,
-    at: u32,
-    new: &[u8],
-) -> Result<(), ModifyFault> {
-    shared.modify(rt, at, new)
-}
-
-/// `SharedOf::delete`.
-pub(crate) fn delete_shared<R: Wait, A: Acts + Drop>(
-    rt: &R,
-    shared: &SharedOf<'_, A>,
-    base: u32,
-) -> Result<u64, DeleteFault> {
-    shared.delete(rt, base)
-}
-
-/// `SharedOf::walk`.
-pub(crate) fn walk_shared<R: Wait, A: Acts + Drop>(
-    rt: &R,
-    shared: &SharedOf<'_, A>,
-    start: u32,
-    choices: &[u32],
-) -> Result<Trace, WalkFault> {
-    shared.walk(rt, start, choices)
+    fn counted(&self) -> usize {
+        self.shared.chunk_count(self.rt)
+    }
 }

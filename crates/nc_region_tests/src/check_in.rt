@@ -2,17 +2,19 @@
 ghost use Rattle.std.specs.Prelude.{◌≡◌, All};
 ghost use Rattle.std.specs.Thread.{IsSync};
 
-use crate::calls;
-use crate::fixtures::{chunk, region};
+use crate::calls::{Calls, Locked};
+use crate::fixtures::{chunk, shared};
+use crate::steps::{Step, take_steps};
+use crate::trial::{SharedTrial, try_shared};
 use nc_gens::{Gens, Keeper, Pass};
-use nc_region::{DeleteFault, Shared};
+use nc_region::{Acts, SharedOf};
 use std::alloc::Global;
 use std::sync::Wait;
 use std::test::Fail;
 use std::thread::{Threads, for_each_mut, join_mut};
 
 /// Checks in several times, beside the lock.
-fn check_in_often(shared: &Shared<'_>, pass: &mut Pass, times: usize)
+fn check_in_often<A: Acts + Drop>(shared: &SharedOf<'_, A>, pass: &mut Pass, times: usize)
     requires { pass.old.table ≡ shared.now }
     ensures { pass.new.table ≡ pass.old.table }
 {
@@ -22,7 +24,12 @@ fn check_in_often(shared: &Shared<'_>, pass: &mut Pass, times: usize)
 }
 
 /// Each pass in a thread of its own.
-fn all_check_in<R: Threads + Sync>(rt: &R, shared: &Shared<'_>, passes: &mut [Pass], times: usize)
+fn all_check_in<R: Threads + Sync, A: Acts + Drop + Send>(
+    rt: &R,
+    shared: &SharedOf<'_, A>,
+    passes: &mut [Pass],
+    times: usize,
+)
     requires { All (λ p. p.table ≡ shared.now) passes.old }
     ensures { All (λ p. p.table ≡ shared.now) passes.new }
 {
@@ -35,31 +42,30 @@ fn all_check_in<R: Threads + Sync>(rt: &R, shared: &Shared<'_>, passes: &mut [Pa
 }
 
 /// Creates 32 nops, deletes them and reclaims; the stamp has to be one more than the index. Answers how many were freed.
-fn write_one<R: Wait>(rt: &R, alloc: Global, shared: &Shared<'_>, i: u32) -> Result<u32, Fail> {
+fn write_one<C: Calls>(alloc: Global, region: &mut C, i: u32) -> Result<u32, Fail> {
     let base = 0x10000u32.wrapping_add(i.wrapping_mul(32));
-    if !calls::creates_shared(rt, shared, chunk(alloc, base, 0x11000, 1, &[])?) {
-        return Err(Fail::new("not created"));
+    let created = region.created(chunk(alloc, base, 0x11000, 1, &[])?).is_ok();
+    let stamp = region.deleted(base);
+    if created && stamp == Ok(u64::from(i).wrapping_add(1)) {
+        return Ok(region.reclaimed());
     }
-    if calls::delete_shared(rt, shared, base) != Ok(u64::from(i).wrapping_add(1)) {
-        return Err(Fail::new("another stamp"));
-    }
-    Ok(shared.reclaim(rt))
+    Err(Fail::new("not created, or another stamp"))
 }
 
 /// A hundred times.
-fn write_all<R: Wait>(rt: &R, alloc: Global, shared: &Shared<'_>) -> Result<u32, Fail> {
+fn write_all<C: Calls>(alloc: Global, region: &mut C) -> Result<u32, Fail> {
     let mut freed = 0u32;
     for i in 0..100 {
-        freed = freed.wrapping_add(write_one(rt, alloc, shared, i)?);
+        freed = freed.wrapping_add(write_one(alloc, region, i)?);
     }
     Ok(freed)
 }
 
 /// Four passes check in a thousand times each while a writer works.
-fn check_in_beside<R: Threads + Wait + Sync>(
+fn check_in_beside<R: Threads + Wait + Sync, A: Acts + Drop + Send>(
     rt: &R,
     alloc: Global,
-    shared: &Shared<'_>,
+    shared: &SharedOf<'_, A>,
     passes: &mut [Pass],
 ) -> Result<u32, Fail>
     requires { All (λ p. p.table ≡ shared.now) passes.old }
@@ -71,13 +77,17 @@ fn check_in_beside<R: Threads + Wait + Sync>(
             requires { IsSync R.row × All (λ p. p.table ≡ shared.now) passes.now }
             ensures { All (λ p. p.table ≡ shared.entry.now) passes.exit.now }
         { all_check_in(rt, shared, passes, 1000) },
-        &mut || write_all(rt, alloc, shared),
+        &mut || write_all(alloc, &mut Locked { rt, shared }),
     );
     wrote
 }
 
 /// All passes but the last check in once more, and the last one leaves.
-fn last_leaves<R: Threads + Sync>(rt: &R, shared: &Shared<'_>, passes: Vec<Pass>)
+fn last_leaves<R: Threads + Sync, A: Acts + Drop + Send>(
+    rt: &R,
+    shared: &SharedOf<'_, A>,
+    passes: Vec<Pass>,
+)
     requires { All (λ p. p.table ≡ shared.now) passes.items }
 {
     let mut passes = passes;
@@ -87,42 +97,58 @@ fn last_leaves<R: Threads + Sync>(rt: &R, shared: &Shared<'_>, passes: Vec<Pass>
     }
 }
 
-/// Creates a last chunk and deletes it: the stamp, and whether a chunk is there then.
-fn retire_last<R: Wait>(
+/// A last chunk is created and deleted.
+static LAST: [Step<'static>; 2] = [
+    Step::Create(0x10C80, 1, &[], Ok(())),
+    Step::Delete(0x10C80, Ok(101)),
+];
+
+/// A last chunk is created and deleted, and a chunk is there then.
+fn retire_last<R: Wait, A: Acts + Drop>(
     rt: &R,
     alloc: Global,
-    shared: &Shared<'_>,
-) -> Result<(Result<u64, DeleteFault>, bool), Fail> {
-    let vetted = chunk(alloc, 0x10C80, 0x11000, 1, &[])?;
-    if !calls::creates_shared(rt, shared, vetted) {
-        return Err(Fail::new("not created"));
+    shared: &SharedOf<'_, A>,
+) -> Result<(), Fail> {
+    take_steps(alloc, &mut Locked { rt, shared }, 0x11000, &LAST)?;
+    if shared.chunk_count(rt) >= 1 {
+        return Ok(());
     }
-    let stamp = calls::delete_shared(rt, shared, 0x10C80);
-    Ok((stamp, shared.chunk_count(rt) >= 1))
+    Err(Fail::new("no chunk is there"))
+}
+
+/// Passes that check in beside a writer, and once more when a last chunk is retired: all chunks are freed.
+fn check_in_and_leave<R: Threads + Wait + Sync, A: Acts + Drop + Send>(
+    rt: &R,
+    alloc: Global,
+    shared: &SharedOf<'_, A>,
+    passes: Vec<Pass>,
+) -> Result<(), Fail>
+    requires { All (λ p. p.table ≡ shared.now) passes.items }
+{
+    let mut passes = passes;
+    let freed = check_in_beside(rt, alloc, shared, passes.as_mut_slice())?;
+    retire_last(rt, alloc, shared)?;
+    last_leaves(rt, shared, passes);
+    let rest = shared.reclaim(rt);
+    if freed.wrapping_add(rest) == 101 && shared.chunk_count(rt) == 0 {
+        return Ok(());
+    }
+    Err(Fail::new(format_args!("{freed} and {rest} are freed")))
 }
 
 #[test]
 fn check_in_beside_writer(rt: HostRuntime) -> Result<(), Fail> {
     let alloc = rt.alloc();
-    let (gens, keeper, mut passes) = Gens::new(alloc, 4)?;
-    let shared = Shared::new(region(alloc, 128, &gens, keeper)?);
-    let freed = check_in_beside(&rt, alloc, &shared, passes.as_mut_slice())?;
-    let last = retire_last(&rt, alloc, &shared)?;
-    assert_eq!(rt; last, (Ok(101), true));
-    last_leaves(&rt, &shared, passes);
-    let rest = shared.reclaim(&rt);
-    assert_eq!(rt;
-        (freed.wrapping_add(rest), shared.chunk_count(&rt)),
-        (101, 0)
-    );
-    Ok(())
+    let (gens, keeper, passes) = Gens::new(alloc, 4)?;
+    let shared = shared(alloc, 128, &gens, keeper)?;
+    check_in_and_leave(&rt, alloc, &shared, passes)
 }
 
 /// It is allowed to start threads and not to wait, so nothing that it calls waits.
-fn no_wait<T: Threads>(
+fn no_wait<T: Threads, A: Acts + Drop>(
     _rt: &T,
     gens: &Gens,
-    shared: &Shared<'_>,
+    shared: &SharedOf<'_, A>,
     keeper: &mut Keeper,
     mut pass: Pass,
     own: Pass,
@@ -139,22 +165,34 @@ fn no_wait<T: Threads>(
     stamp.wrapping_add(gens.look(keeper))
 }
 
+/// Calls that never wait, of a second table and of a region.
+#[derive(Drop)]
+struct NoWait<'r, T: Threads> {
+    rt: &'r T,
+    alloc: Global,
+}
+
+impl<T: Threads> SharedTrial for NoWait<'_, T> {
+    fn run<A: Acts + Drop + Send>(
+        self,
+        shared: &SharedOf<'_, A>,
+        passes: Vec<Pass>,
+    ) -> Result<(), Fail> {
+        let (gens, mut keeper, mut seats) = Gens::new(self.alloc, 1)?;
+        let own = seats.remove(0);
+        let mut passes = passes;
+        let Some(pass) = passes.pop() else {
+            return Err(Fail::new("no pass"));
+        };
+        if no_wait(self.rt, &gens, shared, &mut keeper, pass, own) == 2 {
+            return Ok(());
+        }
+        Err(Fail::new("another stamp or generation"))
+    }
+}
+
 #[test]
 fn calls_that_never_wait(rt: HostRuntime) -> Result<(), Fail> {
     let alloc = rt.alloc();
-    let (gens, keeper, mut passes) = Gens::new(alloc, 1)?;
-    let (others, mut writer, mut seats) = Gens::new(alloc, 1)?;
-    let shared = Shared::new(region(alloc, 4, &gens, keeper)?);
-    assert_eq!(rt;
-        no_wait(
-            &rt,
-            &others,
-            &shared,
-            &mut writer,
-            passes.remove(0),
-            seats.remove(0)
-        ),
-        2
-    );
-    Ok(())
+    try_shared(alloc, 4, 1, NoWait { rt: &rt, alloc })
 }

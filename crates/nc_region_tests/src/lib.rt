@@ -3,8 +3,13 @@
 //!
 //! They stand in a crate of their own above it. A crate with tests is proved once more for them, and its must-fail edits
 //! wait for that proof; here the tests are proved beside those edits. They use only what `nc_region` exports.
+//!
+//! What happens between two acts of a region is tested too: after each of them all marks are walked once, and every mixture of
+//! bytes that a thread may read there is decoded.
 #![tactic(auto)]
 
+#[cfg(test)]
+mod act_by_act;
 #[cfg(test)]
 mod acts;
 #[cfg(test)]
@@ -22,6 +27,8 @@ mod lawful;
 #[cfg(test)]
 mod marked_places;
 #[cfg(test)]
+mod mixtures;
+#[cfg(test)]
 mod one_byte_off;
 #[cfg(test)]
 mod patches;
@@ -33,3 +40,11 @@ mod random_patches;
 mod random_texts;
 #[cfg(test)]
 mod shared;
+#[cfg(test)]
+mod steps;
+#[cfg(test)]
+mod trial;
+#[cfg(test)]
+mod walking;
+#[cfg(test)]
+mod watcher;

@@ -1,11 +1,13 @@
 //! Chunks that lie in one byte: a masked jump and nops, with each byte set to each value. What is accepted is created in a
 //! region of its own and walked, and wherever a walk stands in the region, an instruction stands.
+ghost use Rattle.std.specs.Prelude.{◌≡◌};
 
-use crate::calls;
-use crate::fixtures::{LIMIT, region};
+use crate::calls::Calls;
+use crate::fixtures::LIMIT;
+use crate::trial::{Telling, Trial, try_in_region};
 use nc_decode::{BUNDLE, START, decode};
-use nc_gens::Gens;
-use nc_region::Region;
+use nc_gens::{Gens, Pass};
+use nc_region::{Acts, RegionOf};
 use nc_vet::{Vetted, vet};
 use std::alloc::{AllocError, Global};
 use std::test::Fail;
@@ -28,7 +30,11 @@ fn code(alloc: Global, place: usize, value: u8) -> Result<Vec<u8>, AllocError> {
 }
 
 /// The bytes from an address of the region to its bundle's end.
-fn rest_of_bundle(alloc: Global, region: &Region<'_>, at: u32) -> Result<Vec<u8>, AllocError> {
+fn rest_of_bundle<A: Acts + Drop>(
+    alloc: Global,
+    region: &RegionOf<A>,
+    at: u32,
+) -> Result<Vec<u8>, AllocError> {
     let mut bytes = Vec::new(alloc);
     let end = (at - at % BUNDLE).saturating_add(BUNDLE);
     for place in at..end {
@@ -40,9 +46,9 @@ fn rest_of_bundle(alloc: Global, region: &Region<'_>, at: u32) -> Result<Vec<u8>
 }
 
 /// An instruction stands at each of these places that lies in the region.
-fn stands_on_instructions(
+fn stands_on_instructions<A: Acts + Drop>(
     alloc: Global,
-    region: &Region<'_>,
+    region: &RegionOf<A>,
     places: &[u32],
 ) -> Result<bool, AllocError> {
     for at in places {
@@ -55,9 +61,12 @@ fn stands_on_instructions(
 }
 
 /// Each walk from the chunk's start stands only on instructions while it is in the region.
-fn walks_on_instructions(alloc: Global, region: &Region<'_>) -> Result<bool, AllocError> {
+fn walks_on_instructions<A: Acts + Drop>(
+    alloc: Global,
+    region: &RegionOf<A>,
+) -> Result<bool, AllocError> {
     for choices in &CHOICES {
-        let Ok(trace) = calls::walk(region, START, choices) else {
+        let Ok(trace) = region.walked(START, choices) else {
             return Ok(false);
         };
         if !stands_on_instructions(alloc, region, &trace.places)? {
@@ -67,22 +76,33 @@ fn walks_on_instructions(alloc: Global, region: &Region<'_>) -> Result<bool, All
     Ok(true)
 }
 
-/// Creates the chunk in a region of its own, and walks it.
-fn create_and_walk(alloc: Global, vetted: Vetted) -> Result<(), Fail> {
-    let (gens, keeper, _passes) = Gens::new(alloc, 1)?;
-    let mut region = region(alloc, 4, &gens, keeper)?;
-    let created = calls::creates(&mut region, vetted);
-    if created && walks_on_instructions(alloc, &region)? {
-        return Ok(());
+/// A chunk that is created and walked.
+#[derive(Drop)]
+struct Walks {
+    alloc: Global,
+    vetted: Vetted,
+}
+
+impl Trial for Walks {
+    fn run<A: Acts + Telling + Drop>(
+        self,
+        region: &mut RegionOf<A>,
+        _gens: &Gens,
+        _pass: Pass,
+    ) -> Result<(), Fail> {
+        let created = region.created(self.vetted).is_ok();
+        if created && walks_on_instructions(self.alloc, region)? {
+            return Ok(());
+        }
+        Err(Fail::new("not created, or a walk leaves the instructions"))
     }
-    Err(Fail::new("not created, or a walk leaves the instructions"))
 }
 
 /// Whether the chunk is accepted; if it is, it is created and walked.
 fn is_accepted(alloc: Global, code: Vec<u8>) -> Result<bool, Fail> {
     match vet(START, LIMIT, code) {
         Ok(vetted) => {
-            create_and_walk(alloc, vetted)?;
+            try_in_region(alloc, 4, 0, Walks { alloc, vetted })?;
             Ok(true)
         }
         Err(_) => Ok(false),

@@ -1,11 +1,13 @@
 //! Patches: each answer with the acts that it owes.
+ghost use Rattle.std.specs.Prelude.{◌≡◌};
 
-use crate::fixtures::{LIMIT, Telling, chunk};
-use nc_gens::Gens;
-use nc_region::{Act, DeleteFault, ModifyFault};
-use nc_vet::Vetted;
+use crate::calls::Calls;
+use crate::fixtures::{LIMIT, chunk, stands};
+use crate::steps::{Step, take_steps};
+use crate::trial::{Telling, Trial, try_in_region};
+use nc_gens::{Gens, Pass};
+use nc_region::{Act, Acts, ModifyFault, RegionOf};
 use std::alloc::Global;
-use std::process::Abort;
 use std::test::Fail;
 
 const DONE: Result<(), ModifyFault> = Ok(());
@@ -102,17 +104,11 @@ static PATCHES: [Row; 49] = [
         &[(0x10005, 0xF4), (0x10006, 0xF9), (0x10005, 0xEB)]),
 ];
 
-/// A bundle that begins with these bytes and is filled with nops.
-fn filled(alloc: Global, front: &[u8]) -> Result<Vec<u8>, Fail> {
+/// The bundle at 00010000, which begins with these bytes and is filled with nops, with new bytes from their address on.
+fn patched(alloc: Global, front: &[u8], at: u32, new: &[u8]) -> Result<Vec<u8>, Fail> {
     let mut bytes = Vec::new(alloc);
     bytes.extend_from_slice(front)?;
     bytes.resize(32, 0x90)?;
-    Ok(bytes)
-}
-
-/// The bundle at 00010000 after its patch, as it was with the new bytes from their address on.
-fn patched(alloc: Global, front: &[u8], at: u32, new: &[u8]) -> Result<Vec<u8>, Fail> {
-    let mut bytes = filled(alloc, front)?;
     for (i, byte) in new.iter().enumerate() {
         if let Some(place) = bytes.get_mut((at % 32) as usize + i) {
             *place = *byte;
@@ -121,103 +117,98 @@ fn patched(alloc: Global, front: &[u8], at: u32, new: &[u8]) -> Result<Vec<u8>, 
     Ok(bytes)
 }
 
-/// These puts as acts.
-fn as_acts(alloc: Global, puts: &[(u32, u8)]) -> Result<Vec<Act>, Fail> {
-    let mut acts = Vec::new(alloc);
-    for (at, byte) in puts {
-        acts.push(Act::Put(*at, *byte))?;
-    }
-    Ok(acts)
-}
-
-/// Creates a chunk of one bundle at 00010000 and patches it: the answer.
-fn patch(
-    region: &mut Telling<'_>,
+/// After the first acts the region has told exactly these puts.
+fn has_told<A: Telling>(
     alloc: Global,
-    front: &[u8],
-    at: u32,
-    new: &[u8],
-) -> Result<Result<(), ModifyFault>, Fail> {
-    let vetted = chunk(alloc, 0x10000, LIMIT, 1, front)?;
-    if !region.creates(vetted) {
-        return Err(Fail::new("not created"));
-    }
-    Ok(region.modify(at, new))
-}
-
-/// After the 33 acts of a creation the region has told exactly these puts.
-fn has_told(region: &Telling<'_>, alloc: Global, puts: &[(u32, u8)]) -> Result<bool, Fail> {
-    let owed = as_acts(alloc, puts)?;
-    let told = region.told().unwrap_or(&[]);
-    Ok(told.get(33..) == Some(owed.as_slice()))
-}
-
-/// The answer to a patch, and whether it made exactly these puts and left the bytes that are due.
-fn outcome(
-    alloc: Global,
-    front: &[u8],
-    at: u32,
-    new: &[u8],
+    acts: &A,
+    first: usize,
     puts: &[(u32, u8)],
-) -> Result<(Result<(), ModifyFault>, bool, bool), Fail> {
-    let (gens, keeper, _passes) = Gens::new(alloc, 1)?;
-    let mut region = Telling::new(alloc, &gens, keeper, 4, 100)?;
-    let answer = patch(&mut region, alloc, front, at, new)?;
-    let bytes = if answer.is_ok() {
-        patched(alloc, front, at, new)?
-    } else {
-        filled(alloc, front)?
-    };
-    let told = has_told(&region, alloc, puts)?;
-    Ok((answer, told, region.stands(0x10000, &bytes)))
+) -> Result<bool, Fail> {
+    let mut owed = Vec::new(alloc);
+    for (at, byte) in puts {
+        owed.push(Act::Put(*at, *byte))?;
+    }
+    Ok(acts.told().unwrap_or(&[]).get(first..) == Some(owed.as_slice()))
 }
 
-/// Each patch of these rows has its answer, makes its puts, and leaves the bytes that are due. The table is named only at the
-/// call, so that no proof writes it out.
-fn try_patches(rt: &impl Abort, alloc: Global, rows: &[Row]) -> Result<(), Fail> {
-    for (front, at, new, answer, puts) in rows {
-        let seen = outcome(alloc, front, *at, new, puts)?;
-        assert_eq!(rt;
-            seen,
-            (*answer, true, true),
-            "{new:?} at {at:x} in {front:?}"
-        );
+/// A patch of a new chunk of one bundle.
+#[derive(Drop)]
+struct Patch<'r> {
+    alloc: Global,
+    row: &'r Row,
+}
+
+impl Trial for Patch<'_> {
+    fn run<A: Acts + Telling + Drop>(
+        self,
+        region: &mut RegionOf<A>,
+        _gens: &Gens,
+        _pass: Pass,
+    ) -> Result<(), Fail> {
+        let (front, at, new, due, puts) = *self.row;
+        let created = region
+            .created(chunk(self.alloc, 0x10000, LIMIT, 1, front)?)
+            .is_ok();
+        let answer = region.modified(at, new);
+        let written = if answer.is_ok() { new } else { &[] };
+        let bytes = patched(self.alloc, front, at, written)?;
+        // a creation has 33 acts
+        let told = has_told(self.alloc, region.acts(), 33, puts)?;
+        if created && answer == due && told && stands(region, 0x10000, &bytes) {
+            return Ok(());
+        }
+        Err(Fail::new(format_args!("{answer:?} to {new:?} at {at:x} in {front:?}")))
+    }
+}
+
+/// Each patch of these rows has its answer, makes its puts, and leaves the bytes that are due.
+fn try_patches(alloc: Global, rows: &[Row]) -> Result<(), Fail> {
+    for row in rows {
+        try_in_region(alloc, 4, 100, Patch { alloc, row })?;
     }
     Ok(())
 }
 
 #[test]
 fn patches(rt: HostRuntime) -> Result<(), Fail> {
-    try_patches(&rt, rt.alloc(), &PATCHES)
+    try_patches(rt.alloc(), &PATCHES)
 }
 
-/// Creates two chunks, deletes the second, at 00010020, and lets the first jump there: the stamp and the answer.
-fn jump_to_retired(
-    region: &mut Telling<'_>,
-    one: Vetted,
-    other: Vetted,
-) -> (Result<u64, DeleteFault>, Result<(), ModifyFault>) {
-    let _one = region.creates(one);
-    let _other = region.creates(other);
-    let stamp = region.delete(0x10020);
-    (stamp, region.modify(0x10000, &[0xEB, 0x1E]))
+/// Two chunks are created, the second one, at 00010020, is deleted, and the first one is made to jump there.
+static TO_RETIRED: [Step<'static>; 4] = [
+    Step::Create(0x10000, 1, &[0xEB, 0xFE], Ok(())),
+    Step::Create(0x10020, 1, &[], Ok(())),
+    Step::Delete(0x10020, Ok(1)),
+    Step::Modify(0x10000, &[0xEB, 0x1E], DONE),
+];
+
+/// The puts of that patch.
+static JUMP_PUTS: [(u32, u8); 3] = [(0x10000, 0xF4), (0x10001, 0x1E), (0x10000, 0xEB)];
+
+/// A patch beside a retired chunk.
+#[derive(Drop)]
+struct Beside {
+    alloc: Global,
+}
+
+impl Trial for Beside {
+    fn run<A: Acts + Telling + Drop>(
+        self,
+        region: &mut RegionOf<A>,
+        _gens: &Gens,
+        _pass: Pass,
+    ) -> Result<(), Fail> {
+        take_steps(self.alloc, region, LIMIT, &TO_RETIRED)?;
+        // two creations and a deletion, of 33 acts each
+        if has_told(self.alloc, region.acts(), 99, &JUMP_PUTS)? {
+            return Ok(());
+        }
+        Err(Fail::new(format_args!("{:?}", region.acts().told())))
+    }
 }
 
 #[test]
 fn patch_beside_a_retired_chunk(rt: HostRuntime) -> Result<(), Fail> {
     let alloc = rt.alloc();
-    let (gens, keeper, _passes) = Gens::new(alloc, 1)?;
-    let mut region = Telling::new(alloc, &gens, keeper, 8, 200)?;
-    let one = chunk(alloc, 0x10000, 0x10100, 1, &[0xEB, 0xFE])?;
-    let other = chunk(alloc, 0x10020, 0x10100, 1, &[])?;
-    let answers = jump_to_retired(&mut region, one, other);
-    assert_eq!(rt; answers, (Ok(1), Ok(())));
-    let puts = [
-        Act::Put(0x10000, 0xF4),
-        Act::Put(0x10001, 0x1E),
-        Act::Put(0x10000, 0xEB),
-    ];
-    let told = region.told().unwrap_or(&[]);
-    assert_eq!(rt; told.get(99..), Some(puts.as_slice()));
-    Ok(())
+    try_in_region(alloc, 4, 200, Beside { alloc })
 }

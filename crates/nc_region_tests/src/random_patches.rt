@@ -1,11 +1,15 @@
 //! Some thousands of patches drawn at random, lawful and unlawful ones, each judged by the region and by a plain reading of
 //! the rules (`lawful`): the answer, the acts and the bytes have to be the same.
+ghost use Rattle.std.specs.Prelude.{◌≡◌};
 
-use crate::drawing::{Numbers, draw_chunk, draw_patch};
-use crate::fixtures::{Telling, chunk};
-use crate::lawful::{Standing, judge};
-use nc_gens::Gens;
-use nc_region::ModifyFault;
+use crate::calls::Calls;
+use crate::drawing::{Drawn, Numbers, draw_chunk, draw_patch};
+use crate::fixtures::stands;
+use crate::lawful::{Judged, Standing, judge};
+use crate::steps::{Step, take_steps};
+use crate::trial::{Telling, Trial, try_in_region};
+use nc_gens::{Gens, Pass};
+use nc_region::{Act, Acts, ModifyFault, RegionOf};
 use std::alloc::Global;
 use std::test::Fail;
 
@@ -29,35 +33,38 @@ fn number(answer: Result<(), ModifyFault>) -> usize {
 }
 
 /// Creates a chunk that is drawn, of this many bundles.
-fn create_drawn(
+fn create_drawn<C: Calls>(
     alloc: Global,
     numbers: &mut Numbers,
-    region: &mut Telling<'_>,
+    region: &mut C,
     base: u32,
     bundles: usize,
 ) -> Result<Standing, Fail> {
     let vetted = draw_chunk(alloc, numbers, base, LIMIT, bundles)?;
     let mut code = Vec::new(alloc);
     code.extend_from_slice(vetted.code())?;
-    if !region.creates(vetted) {
+    if region.created(vetted).is_err() {
         return Err(Fail::new("not created"));
     }
     Ok(Standing { base, code })
 }
 
+/// A chunk that is created and retired.
+static RETIRED: [Step<'static>; 2] = [
+    Step::Create(0x10080, 1, &[], Ok(())),
+    Step::Delete(0x10080, Ok(1)),
+];
+
 /// Creates two live chunks side by side from 00010020 on, of two bundles and of one, and a retired one after them.
-fn lay_out(
+fn lay_out<C: Calls>(
     alloc: Global,
     numbers: &mut Numbers,
-    region: &mut Telling<'_>,
+    region: &mut C,
 ) -> Result<Vec<Standing>, Fail> {
     let mut live = Vec::new(alloc);
     live.push(create_drawn(alloc, numbers, region, 0x10020, 2)?)?;
     live.push(create_drawn(alloc, numbers, region, 0x10060, 1)?)?;
-    let retired = region.creates(chunk(alloc, 0x10080, LIMIT, 1, &[])?);
-    if !retired || region.delete(0x10080) != Ok(1) {
-        return Err(Fail::new("not retired"));
-    }
+    take_steps(alloc, region, LIMIT, &RETIRED)?;
     Ok(live)
 }
 
@@ -74,68 +81,92 @@ fn write(live: &mut [Standing], at: u32, new: &[u8]) {
 }
 
 /// The whole text is as it should be: the live chunks, and stops before and after them.
-fn text_stands(region: &Telling<'_>, live: &[Standing]) -> bool {
+fn text_stands<A: Acts + Drop>(region: &RegionOf<A>, live: &[Standing]) -> bool {
     for chunk in live {
-        if !region.stands(chunk.base, &chunk.code) {
+        if !stands(region, chunk.base, &chunk.code) {
             return false;
         }
     }
-    region.stands(0x10000, STOPS.get(..32).unwrap_or(&[])) && region.stands(0x10080, &STOPS)
+    stands(region, 0x10000, STOPS.get(..32).unwrap_or(&[])) && stands(region, 0x10080, &STOPS)
+}
+
+/// A failure that shows the patch, both answers and both lists of acts.
+fn differs(drawn: &Drawn, answer: Result<(), ModifyFault>, told: &[Act], judged: &Judged) -> Fail {
+    Fail::new(format_args!(
+        "{:?} at {:x}: {answer:?} and not {:?}, told {told:?} and not {:?}",
+        drawn.new.as_slice(),
+        drawn.at,
+        judged.answer,
+        judged.acts.as_slice()
+    ))
 }
 
 /// Draws a patch, has it judged both ways, and compares. Answers the number of its answer.
-fn patch_once(
+fn patch_once<A: Acts + Telling + Drop>(
     alloc: Global,
     numbers: &mut Numbers,
-    region: &mut Telling<'_>,
+    region: &mut RegionOf<A>,
     live: &mut [Standing],
 ) -> Result<usize, Fail> {
     let drawn = draw_patch(alloc, numbers, live)?;
     let judged = judge(alloc, live, LIMIT, drawn.at, &drawn.new)?;
-    let before = region.told().map_or(0, |acts| acts.len());
-    let answer = region.modify(drawn.at, &drawn.new);
+    let before = region.acts().told().unwrap_or(&[]).len();
+    let answer = region.modified(drawn.at, &drawn.new);
     if answer.is_ok() {
         write(live, drawn.at, &drawn.new);
     }
-    let told = region.told().unwrap_or(&[]);
-    let is_same = answer == judged.answer && told.get(before..) == Some(judged.acts.as_slice());
-    if !is_same || !text_stands(region, live) {
-        return Err(Fail::new(format_args!(
-            "{:?} at {:x}: {answer:?} and not {:?}, told {:?} and not {:?}",
-            drawn.new.as_slice(),
-            drawn.at,
-            judged.answer,
-            told.get(before..),
-            judged.acts.as_slice()
-        )));
+    let told = region
+        .acts()
+        .told()
+        .unwrap_or(&[])
+        .get(before..)
+        .unwrap_or(&[]);
+    if answer == judged.answer && told == judged.acts.as_slice() && text_stands(region, live) {
+        return Ok(number(answer));
     }
-    Ok(number(answer))
+    Err(differs(&drawn, answer, told, &judged))
 }
 
-/// Lays out a region, patches it forty times, and counts the answers.
-fn patch_region(alloc: Global, numbers: &mut Numbers, counts: &mut [u32; 7]) -> Result<(), Fail> {
-    let (gens, keeper, _passes) = Gens::new(alloc, 1)?;
-    let mut region = Telling::new(alloc, &gens, keeper, 8, 2000)?;
-    let mut live = lay_out(alloc, numbers, &mut region)?;
-    for _ in 0..40 {
-        let answer = patch_once(alloc, numbers, &mut region, &mut live)?;
-        if let Some(count) = counts.get_mut(answer) {
-            *count = count.saturating_add(1);
+/// Chunks that are drawn and patched forty times, with the answers counted.
+#[derive(Drop)]
+struct Patches<'n> {
+    alloc: Global,
+    numbers: &'n mut Numbers,
+    counts: &'n mut [u32; 7],
+}
+
+impl Trial for Patches<'_> {
+    fn run<A: Acts + Telling + Drop>(
+        self,
+        region: &mut RegionOf<A>,
+        _gens: &Gens,
+        _pass: Pass,
+    ) -> Result<(), Fail> {
+        let mut live = lay_out(self.alloc, self.numbers, region)?;
+        for _ in 0..40 {
+            let answer = patch_once(self.alloc, self.numbers, region, &mut live)?;
+            if let Some(count) = self.counts.get_mut(answer) {
+                *count = count.saturating_add(1);
+            }
         }
+        Ok(())
     }
-    Ok(())
 }
 
 #[test]
 fn random_patches(rt: HostRuntime) -> Result<(), Fail> {
+    let alloc = rt.alloc();
     let mut counts = [0u32; 7];
     let mut numbers = Numbers::new(2009);
     for _ in 0..150 {
-        patch_region(rt.alloc(), &mut numbers, &mut counts)?;
+        let patches = Patches {
+            alloc,
+            numbers: &mut numbers,
+            counts: &mut counts,
+        };
+        try_in_region(alloc, 8, 2000, patches)?;
     }
     // each answer came often
-    for count in counts {
-        assert!(rt; count >= 100, "{counts:?}");
-    }
+    assert!(rt; counts.iter().all(|count| *count >= 100), "{counts:?}");
     Ok(())
 }

@@ -2,11 +2,11 @@
 //! places are compared with a plain text (`plain_text`), to which the same calls were made.
 ghost use Rattle.std.specs.Prelude.{◌≡◌};
 
-use crate::calls;
+use crate::calls::Calls;
 use crate::drawing::{Numbers, draw_chunk};
 use crate::plain_text::{PlainText, Twin};
 use nc_gens::{Gens, Keeper, Pass};
-use nc_region::{Plain, RegionOf};
+use nc_region::{Acts, Plain, RegionOf};
 use nc_text::Text;
 use std::alloc::Global;
 use std::test::Fail;
@@ -36,7 +36,7 @@ fn twinned<'g>(alloc: Global, gens: &'g Gens, keeper: Keeper) -> Result<Twinned<
 }
 
 /// How often each call did something.
-#[derive(Clone, Copy, Debug, Drop)]
+#[derive(Clone, Copy, Drop)]
 struct Done {
     created: u32,
     patched: u32,
@@ -45,10 +45,10 @@ struct Done {
 }
 
 /// A chunk of one to three bundles.
-fn create(
+fn create<C: Calls>(
     alloc: Global,
     numbers: &mut Numbers,
-    region: &mut Twinned<'_>,
+    region: &mut C,
     done: &mut Done,
 ) -> Result<(), Fail> {
     let from = FROM.get(numbers.below(2)).copied().unwrap_or(0);
@@ -56,27 +56,35 @@ fn create(
     let base = 0x10000u32.saturating_add(bundle.saturating_mul(32));
     let bundles = numbers.below(3).saturating_add(1);
     let vetted = draw_chunk(alloc, numbers, base, LIMIT, bundles)?;
-    if calls::creates(region, vetted) {
+    if region.created(vetted).is_ok() {
         done.created = done.created.saturating_add(1);
     }
     Ok(())
 }
 
 /// Patches of one byte at eight places of a chunk, where they are lawful.
-fn patch(numbers: &mut Numbers, region: &mut Twinned<'_>, base: u32, done: &mut Done) {
+fn patch<C: Calls>(numbers: &mut Numbers, region: &mut C, base: u32, done: &mut Done) {
     for _ in 0..8 {
         let place = u32::try_from(numbers.below(32)).unwrap_or(0);
-        if calls::modify(region, base.saturating_add(place), &[0x40]).is_ok() {
+        if region.modified(base.saturating_add(place), &[0x40]).is_ok() {
             done.patched = done.patched.saturating_add(1);
         }
     }
 }
 
+/// The base of a chunk that is drawn.
+fn draw_base<A: Acts + Drop>(numbers: &mut Numbers, region: &RegionOf<A>) -> u32 {
+    match region.chunk(numbers.below(region.counted())) {
+        Some(chunk) => chunk.base,
+        None => 0,
+    }
+}
+
 /// One step of a region's life.
-fn step(
+fn step<A: Acts + Drop>(
     alloc: Global,
     numbers: &mut Numbers,
-    region: &mut Twinned<'_>,
+    region: &mut RegionOf<A>,
     gens: &Gens,
     pass: &mut Pass,
     done: &mut Done,
@@ -85,15 +93,14 @@ fn step(
     ensures { pass.new.table ≡ gens.now }
 {
     let kind = numbers.below(8);
-    let number = numbers.below(calls::chunk_count(region));
-    let base = region.chunk(number).map_or(0, |chunk| chunk.base);
+    let base = draw_base(numbers, region);
     match kind {
         0 => {
             gens.check_in(pass);
-            done.freed = done.freed.saturating_add(calls::reclaim(region));
+            done.freed = done.freed.saturating_add(region.reclaimed());
         }
         1 | 2 => {
-            if calls::delete(region, base).is_ok() {
+            if region.deleted(base).is_ok() {
                 done.deleted = done.deleted.saturating_add(1);
             }
         }
@@ -104,10 +111,10 @@ fn step(
 }
 
 /// A hundred steps.
-fn live(
+fn live<A: Acts + Drop>(
     alloc: Global,
     numbers: &mut Numbers,
-    region: &mut Twinned<'_>,
+    region: &mut RegionOf<A>,
     gens: &Gens,
     pass: &mut Pass,
     done: &mut Done,
@@ -120,9 +127,9 @@ fn live(
     Ok(())
 }
 
-#[test]
-fn random_texts(rt: HostRuntime) -> Result<(), Fail> {
-    let alloc = rt.alloc();
+/// What was done in a hundred steps, how often the texts were compared and how many differences there were, and how many pages
+/// were made.
+fn lived(alloc: Global) -> Result<(Done, (u32, u32), usize), Fail> {
     let (gens, keeper, mut passes) = Gens::new(alloc, 1)?;
     let mut pass = passes.remove(0);
     let mut region = twinned(alloc, &gens, keeper)?;
@@ -142,14 +149,15 @@ fn random_texts(rt: HostRuntime) -> Result<(), Fail> {
         &mut done,
     )?;
     let plain = region.acts().plain();
-    let (compared, differences) = plain.found();
-    assert_eq!(rt; differences, 0, "{done:?}");
-    assert_eq!(rt; plain.pages(), 2);
+    Ok((done, plain.found(), plain.pages()))
+}
+
+#[test]
+fn random_texts(rt: HostRuntime) -> Result<(), Fail> {
+    let (done, (compared, differences), pages) = lived(rt.alloc())?;
+    assert_eq!(rt; (differences, pages), (0, 2));
     // each call did something, often enough
-    assert!(rt;
-        done.created >= 10 && done.patched >= 2 && done.deleted >= 5 && done.freed >= 3,
-        "{done:?}"
-    );
+    assert!(rt; done.created >= 10 && done.patched >= 2 && done.deleted >= 5 && done.freed >= 3);
     assert!(rt; compared >= 1000, "{compared}");
     Ok(())
 }

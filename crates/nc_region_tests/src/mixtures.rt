@@ -1,16 +1,16 @@
 //! A region's life as threads may read it that fetch each byte by itself: with every settling each mixture of bytes is right, and
 //! with one of them left out some mixture isn't.
 
+use crate::fixtures::LIMIT;
+use crate::steps::{Step, Steps, take_both};
 use nc_gens::Gens;
-use nc_region::{Acts, ModifyFault, RegionOf};
-use nc_vet::{Vetted, vet};
 use nc_views::{Found, viewed};
 use std::alloc::Global;
 use std::test::Fail;
 
 /// The code that is created first, at 00010000.
 #[rattlefmt::skip]
-static FIRST: [u8; 64] = [
+const FIRST: &[u8] = &[
     0x90,                               // 00010000
     0xEB, 0x05,                         // 00010001: a jump to 00010008
     0xB8, 0xC3, 0x90, 0x90, 0x90,       // 00010003: an operand of which the first byte is that of a return
@@ -33,12 +33,12 @@ static FIRST: [u8; 64] = [
 ];
 
 /// The front of the code that is created beside it, at 00010040: a jump to 00010000. Nops are behind it.
-static BESIDE: [u8; 2] = [0xEB, 0xBE];
+const BESIDE: &[u8] = &[0xEB, 0xBE];
 
 /// In the first bundle: an instruction that keeps its bytes, a jump to 00010001 for `inc edi`, a call of 00001000 for the jump,
 /// and a single byte.
 #[rattlefmt::skip]
-static ONE_BUNDLE: [u8; 10] = [
+const ONE_BUNDLE: &[u8] = &[
     0xB0, 0x07,
     0xEB, 0xE7,
     0xE8, 0xE1, 0x0F, 0xFF, 0xFF,
@@ -47,7 +47,7 @@ static ONE_BUNDLE: [u8; 10] = [
 
 /// In the second bundle: a mask that keeps its bytes, a masked call for the masked jump, and `xor ecx, ecx` for a jump.
 #[rattlefmt::skip]
-static NEXT_BUNDLE: [u8; 7] = [
+const NEXT_BUNDLE: &[u8] = &[
     0x83, 0xE0, 0xE0,
     0xFF, 0xD0,
     0x31, 0xC9,
@@ -55,7 +55,7 @@ static NEXT_BUNDLE: [u8; 7] = [
 
 /// The front of the code that is created at 00010000 when its span is used again. Nops are behind it, so instructions begin
 /// where operands stood.
-static AGAIN: [u8; 3] = [0x90, 0xB0, 0x07];
+const AGAIN: &[u8] = &[0x90, 0xB0, 0x07];
 
 /// What is read first that isn't right, if one settling is left out: its address and its bytes. Each settling has a row, in their
 /// order. A byte that was put since the settling before may be read, and so may those that it took the place of.
@@ -95,40 +95,21 @@ static WRONG: [Option<(u32, &[u8])>; 14] = [
     Some((0x10004, &[0xC3])),
 ];
 
-/// A vetted chunk that begins with these bytes and is filled with nops, for a region of four bundles.
-fn chunk(alloc: Global, base: u32, front: &[u8], len: usize) -> Result<Vetted, Fail> {
-    let mut code = Vec::new(alloc);
-    code.extend_from_slice(front)?;
-    code.resize(len, 0x90)?;
-    match vet(base, 0x10080, code) {
-        Ok(vetted) => Ok(vetted),
-        Err((_, fault)) => Err(Fail::new(format_args!("{fault:?}"))),
-    }
-}
-
-/// Creates a chunk, or says which fault there is.
-fn create<A: Acts + Drop>(region: &mut RegionOf<A>, vetted: Vetted) -> Result<(), Fail> {
-    match region.create(vetted) {
-        Ok(()) => Ok(()),
-        Err((_, fault)) => Err(Fail::new(format_args!("{fault:?}"))),
-    }
-}
-
-/// The fault of a patch as that of a test. It is a function of its own, so that no proof goes through the faults at a patch.
-fn unpatched(fault: ModifyFault) -> Fail {
-    Fail::new(format_args!("{fault:?}"))
-}
-
-/// Replaces instructions, or says which fault there is.
-fn modify<A: Acts + Drop>(region: &mut RegionOf<A>, at: u32, new: &[u8]) -> Result<(), Fail> {
-    match region.modify(at, new) {
-        Ok(()) => Ok(()),
-        Err(fault) => Err(unpatched(fault)),
-    }
-}
-
 /// Two chunks are created, the first is patched in both of its bundles, a masked call becomes a masked jump again, the chunk is
-/// deleted and reclaimed, and its span used again. For what may be read one settling is left out, or none for 0.
+/// deleted and reclaimed, and its span used again.
+static LIFE: Steps<'static> = Steps {
+    before: &[
+        Step::Create(0x10000, 2, FIRST, Ok(())),
+        Step::Create(0x10040, 1, BESIDE, Ok(())),
+        Step::Modify(0x10016, ONE_BUNDLE, Ok(())),
+        Step::Modify(0x10020, NEXT_BUNDLE, Ok(())),
+        Step::Modify(0x10023, &[0xFF, 0xE0], Ok(())),
+        Step::Delete(0x10000, Ok(1)),
+    ],
+    after: &[Step::Reclaim(1), Step::Create(0x10000, 2, AGAIN, Ok(()))],
+};
+
+/// What was found in this life. For what may be read one settling is left out, or none for 0.
 fn live(alloc: Global, left_out: u32) -> Result<Found, Fail> {
     let (gens, keeper, mut passes) = Gens::new(alloc, 1)?;
     let mut pass = passes.remove(0);
@@ -136,18 +117,7 @@ fn live(alloc: Global, left_out: u32) -> Result<Found, Fail> {
         Ok(region) => region,
         Err(fault) => return Err(Fail::new(format_args!("{fault:?}"))),
     };
-    create(&mut region, chunk(alloc, 0x10000, &FIRST, 64)?)?;
-    create(&mut region, chunk(alloc, 0x10040, &BESIDE, 32)?)?;
-    modify(&mut region, 0x10016, &ONE_BUNDLE)?;
-    modify(&mut region, 0x10020, &NEXT_BUNDLE)?;
-    modify(&mut region, 0x10023, &[0xFF, 0xE0])?;
-    let stamp = region.delete(0x10000);
-    gens.check_in(&mut pass);
-    let freed = region.reclaim();
-    if stamp != Ok(1) || freed != 1 {
-        return Err(Fail::new("not freed"));
-    }
-    create(&mut region, chunk(alloc, 0x10000, &AGAIN, 64)?)?;
+    take_both(alloc, &mut region, LIMIT, &gens, &mut pass, &LIFE)?;
     Ok(region.acts().found())
 }
 
@@ -163,18 +133,31 @@ fn every_mixture(rt: HostRuntime) -> Result<(), Fail> {
     Ok(())
 }
 
-#[test]
-fn each_settling_left_out(rt: HostRuntime) -> Result<(), Fail> {
+/// What is read first that isn't right, if this settling is left out.
+fn try_left_out(alloc: Global, left_out: u32, wrong: Option<(u32, &[u8])>) -> Result<(), Fail> {
+    let found = live(alloc, left_out)?;
+    let first = match &found.first {
+        Some(reading) => Some((reading.at, reading.bytes())),
+        None => None,
+    };
+    let is_whole = found.looks == 247 && found.settlings == 14 && found.missing == 0;
+    if first == wrong && is_whole {
+        return Ok(());
+    }
+    Err(Fail::new(format_args!("{first:?} without settling {left_out}")))
+}
+
+/// Without each of the settlings in turn, its row is read first.
+fn try_all_left_out(alloc: Global, rows: &[Option<(u32, &[u8])>]) -> Result<(), Fail> {
     let mut left_out = 0u32;
-    for wrong in &WRONG {
+    for wrong in rows {
         left_out = left_out.saturating_add(1);
-        let found = live(rt.alloc(), left_out)?;
-        let first = match &found.first {
-            Some(reading) => Some((reading.at, reading.bytes())),
-            None => None,
-        };
-        assert_eq!(rt; first, *wrong, "settling {left_out}");
-        assert_eq!(rt; (found.looks, found.settlings, found.missing), (247, 14, 0));
+        try_left_out(alloc, left_out, *wrong)?;
     }
     Ok(())
+}
+
+#[test]
+fn each_settling_left_out(rt: HostRuntime) -> Result<(), Fail> {
+    try_all_left_out(rt.alloc(), &WRONG)
 }

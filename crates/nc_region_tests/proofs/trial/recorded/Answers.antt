@@ -1,10 +1,10 @@
-use Rattle.std.proofs.Common.{◌≡◌, ℕ, ◌+◌, ◌-◌, ◌*◌, ◌∙◌, ap, subst, arith}
+use Rattle.std.proofs.Common.{◌≡◌, ℕ, ◌+◌, ◌-◌, ◌*◌, ◌∙◌, length, ap, subst, arith}
 use Rattle.std.proofs.lemmas.List.{length-replicate}
 use Rattle.nc_decode.specs.Bundles.{IsLawfulLimit}
 use Rattle.nc_text.specs.Places.{limit_of}
 use Rattle.nc_text.specs.MarkedText.{MarkedText}
 use Rattle.nc_region.specs.Region.{PlainState}
-use Rattle.nc_schedule_tests.proofs.tests.watched.Goals as goal
+use Rattle.nc_region_tests.proofs.trial.recorded.Goals as goal
 
 pub over-requires : goal.over-requires
 over-requires c =
@@ -13,5 +13,5 @@ over-requires c =
     ∙ omega (arith, length-replicate {A = ℕ} (65536 + 32 * c.args.bundles - 65536) 244) in (
       65536 + 32 * c.args.bundles,
       subst IsLawfulLimit long c.in-Ok.ensures.whole.lawful,
-      rw c.new-4.ensures (ap (λ (p : PlainState). p.marked) (c.in_ok-recorder.ensures.acts ∙ c.new-2.ensures) ∙ c.in-Ok.ensures.marked),
+      ap (λ (p : PlainState). p.marked) (c.in_ok-recorder.ensures.acts ∙ c.new-2.ensures) ∙ c.in-Ok.ensures.marked,
     )

@@ -1,27 +1,18 @@
 //! A region's life, act by act.
 ghost use Rattle.std.specs.Prelude.{◌≡◌};
 
+use crate::fixtures::LIMIT;
+use crate::steps::{Step, Steps, take_both};
+use crate::trial::Telling;
 use crate::walking::Copied;
 use crate::watcher::{Findings, Watcher};
 use nc_calls::law_of_calls;
 use nc_decode::Mark;
-use nc_gens::{Gens, Keeper};
+use nc_gens::{Gens, Keeper, Pass};
 use nc_region::{Acts, Plain, Recorder, RegionOf, law_of_schedules};
 use nc_text::Text;
-use nc_vet::{Vetted, vet};
 use std::alloc::Global;
 use std::test::Fail;
-
-/// A vetted chunk of one bundle that begins with these bytes and is filled with nops, for a region of four bundles.
-fn chunk(alloc: Global, base: u32, front: &[u8]) -> Result<Vetted, Fail> {
-    let mut code = Vec::new(alloc);
-    code.extend_from_slice(front)?;
-    code.resize(32, 0x90)?;
-    match vet(base, 0x10080, code) {
-        Ok(vetted) => Ok(vetted),
-        Err((_, fault)) => Err(Fail::new(format_args!("{fault:?}"))),
-    }
-}
 
 /// Stops of which only bundle starts are marked, but for one place (none for 128).
 fn broken(place: usize, byte: u8, mark: Mark) -> Copied {
@@ -29,9 +20,10 @@ fn broken(place: usize, byte: u8, mark: Mark) -> Copied {
         bytes: [0xF4; 128],
         marks: [Mark::Unmarked; 128],
     };
-    for start in [0usize, 32, 64, 96] {
-        text.marks[start] = Mark::Plain;
-    }
+    text.marks[0] = Mark::Plain;
+    text.marks[32] = Mark::Plain;
+    text.marks[64] = Mark::Plain;
+    text.marks[96] = Mark::Plain;
     if place < 128 {
         text.bytes[place] = byte;
         text.marks[place] = mark;
@@ -58,16 +50,30 @@ static BROKEN: [(usize, u8, Mark, u32); 10] = [
     (31, 0xB8, Mark::Plain, 1),
 ];
 
-#[test]
-fn broken_texts(rt: HostRuntime) {
-    for (place, byte, mark, faults) in &BROKEN {
-        let text = broken(*place, *byte, *mark);
-        assert_eq!(rt; text.faults(), *faults, "{place} {byte} {mark:?}");
+/// How many places of such a text are wrong.
+fn faults_of(place: usize, byte: u8, mark: Mark) -> u32 {
+    broken(place, byte, mark).faults()
+}
+
+/// Each of these texts has its wrong places.
+fn try_broken(rows: &[(usize, u8, Mark, u32)]) -> Result<(), Fail> {
+    for (place, byte, mark, faults) in rows {
+        if faults_of(*place, *byte, *mark) != *faults {
+            return Err(Fail::new(format_args!("{place} {byte} {mark:?}")));
+        }
     }
+    Ok(())
+}
+
+#[test]
+fn broken_texts(_rt: HostRuntime) -> Result<(), Fail> {
+    try_broken(&BROKEN)
 }
 
 /// What begins at 00010021: its bytes, its marks, and how many places are wrong.
-static PAIRS: [(&[u8], &[Mark], u32); 6] = [
+type Pair = (&'static [u8], &'static [Mark], u32);
+
+static PAIRS: [Pair; 6] = [
     (
         &[0x83, 0xE0, 0xE0, 0xFF, 0xE0],
         &[
@@ -153,12 +159,24 @@ fn pair(bytes: &[u8], marks: &[Mark]) -> Copied {
     text
 }
 
-#[test]
-fn broken_pairs(rt: HostRuntime) {
-    for (bytes, marks, faults) in &PAIRS {
-        let text = pair(bytes, marks);
-        assert_eq!(rt; text.faults(), *faults, "{bytes:?} {marks:?}");
+/// How many places of such a text are wrong.
+fn faults_of_pair(bytes: &[u8], marks: &[Mark]) -> u32 {
+    pair(bytes, marks).faults()
+}
+
+/// Each of these pairs has its wrong places.
+fn try_pairs(rows: &[Pair]) -> Result<(), Fail> {
+    for (bytes, marks, faults) in rows {
+        if faults_of_pair(bytes, marks) != *faults {
+            return Err(Fail::new(format_args!("{bytes:?} {marks:?}")));
+        }
     }
+    Ok(())
+}
+
+#[test]
+fn broken_pairs(_rt: HostRuntime) -> Result<(), Fail> {
+    try_pairs(&PAIRS)
 }
 
 /// A watched region of this size that tells at most this many acts.
@@ -177,14 +195,6 @@ fn watched<'g>(
     };
     let recorder = Recorder::new(alloc, Plain::new(text, gens, keeper), room)?;
     Ok(RegionOf::over(alloc, Watcher::new(recorder)))
-}
-
-/// Creates a chunk, or says which fault there is.
-fn create<A: Acts + Drop>(region: &mut RegionOf<A>, vetted: Vetted) -> Result<(), Fail> {
-    match region.create(vetted) {
-        Ok(()) => Ok(()),
-        Err((_, fault)) => Err(Fail::new(format_args!("{fault:?}"))),
-    }
 }
 
 /// What was found after 135 acts: no fault; the second half of the pair marked after each from its marking, the 32nd, to
@@ -208,44 +218,84 @@ const WANTED_WITH_CALL: Findings = Findings {
     running: 0,
 };
 
-/// A chunk that begins with a pair is created, one beside it that jumps there, the first is patched after its pair, deleted
-/// and reclaimed, and created again. If it `becomes_call`, the pair's jump is made a call before the deletion.
-fn live(alloc: Global, becomes_call: bool) -> Result<(Findings, Option<usize>), Fail> {
-    let (gens, keeper, mut passes) = Gens::new(alloc, 1)?;
-    let mut pass = passes.remove(0);
-    let mut region = watched(alloc, &gens, keeper, 4, 200)?;
-    create(
-        &mut region,
-        chunk(alloc, 0x10000, &[0x83, 0xE0, 0xE0, 0xFF, 0xE0])?,
-    )?;
-    create(&mut region, chunk(alloc, 0x10020, &[0xEB, 0xDE])?)?;
-    let one = region.modify(0x10005, &[0x40]);
-    let other = if becomes_call {
-        region.modify(0x10003, &[0xFF, 0xD0])
-    } else {
-        Ok(())
-    };
-    let stamp = region.delete(0x10000);
-    gens.check_in(&mut pass);
-    let freed = region.reclaim();
-    if one.is_err() || other.is_err() || stamp != Ok(1) || freed != 1 {
-        return Err(Fail::new("refused"));
+/// The end of both lives, once the seat has checked in.
+const AGAIN: &[Step<'static>] = &[
+    Step::Reclaim(1),
+    Step::Create(0x10000, 1, &[0x83, 0xE0, 0xE0, 0xFF, 0xE0], Ok(())),
+];
+
+/// A chunk that begins with a pair is created, one beside it that jumps there, the first is patched after its pair, deleted and
+/// reclaimed, and created again.
+static LIFE: Steps<'static> = Steps {
+    before: &[
+        Step::Create(0x10000, 1, &[0x83, 0xE0, 0xE0, 0xFF, 0xE0], Ok(())),
+        Step::Create(0x10020, 1, &[0xEB, 0xDE], Ok(())),
+        Step::Modify(0x10005, &[0x40], Ok(())),
+        Step::Delete(0x10000, Ok(1)),
+    ],
+    after: AGAIN,
+};
+
+/// The same life, in which the pair's jump is made a call before the deletion.
+static LIFE_WITH_CALL: Steps<'static> = Steps {
+    before: &[
+        Step::Create(0x10000, 1, &[0x83, 0xE0, 0xE0, 0xFF, 0xE0], Ok(())),
+        Step::Create(0x10020, 1, &[0xEB, 0xDE], Ok(())),
+        Step::Modify(0x10005, &[0x40], Ok(())),
+        Step::Modify(0x10003, &[0xFF, 0xD0], Ok(())),
+        Step::Delete(0x10000, Ok(1)),
+    ],
+    after: AGAIN,
+};
+
+/// Acts that are watched and told.
+trait Findable {
+    /// What was found, and how many acts are told.
+    fn found(&self) -> (Findings, usize);
+}
+
+impl<A: Acts + Telling + Drop> Findable for Watcher<A> {
+    fn found(&self) -> (Findings, usize) {
+        (self.findings(), self.acts().told().unwrap_or(&[]).len())
     }
-    create(
-        &mut region,
-        chunk(alloc, 0x10000, &[0x83, 0xE0, 0xE0, 0xFF, 0xE0])?,
-    )?;
-    let watcher = region.acts();
-    Ok((
-        watcher.findings(),
-        watcher.acts().told().map(|acts| acts.len()),
-    ))
+}
+
+/// What is found in a life in this region.
+fn live_in<A: Acts + Findable + Drop>(
+    alloc: Global,
+    region: &mut RegionOf<A>,
+    gens: &Gens,
+    pass: Pass,
+    life: &Steps<'_>,
+) -> Result<(Findings, usize), Fail>
+    requires { pass.table ≡ gens.now }
+{
+    let mut pass = pass;
+    take_both(alloc, region, LIMIT, gens, &mut pass, life)?;
+    Ok(region.acts().found())
+}
+
+/// What is found in a life, and how many acts the recorder told.
+fn live(alloc: Global, life: &Steps<'_>) -> Result<(Findings, usize), Fail> {
+    let (gens, keeper, mut passes) = Gens::new(alloc, 1)?;
+    let pass = passes.remove(0);
+    let mut region = watched(alloc, &gens, keeper, 4, 200)?;
+    live_in(alloc, &mut region, &gens, pass, life)
+}
+
+/// This is found in a life, and the recorder told as many acts.
+fn try_life(alloc: Global, life: &Steps<'_>, wanted: Findings) -> Result<(), Fail> {
+    let (found, told) = live(alloc, life)?;
+    if found == wanted && told == found.acts as usize {
+        return Ok(());
+    }
+    Err(Fail::new(format_args!("{found:?}, and {told} acts told")))
 }
 
 #[test]
 fn closed_after_each_act(rt: HostRuntime) -> Result<(), Fail> {
-    assert_eq!(rt; live(rt.alloc(), false)?, (WANTED, Some(135)));
-    assert_eq!(rt; live(rt.alloc(), true)?, (WANTED_WITH_CALL, Some(138)));
+    try_life(rt.alloc(), &LIFE, WANTED)?;
+    try_life(rt.alloc(), &LIFE_WITH_CALL, WANTED_WITH_CALL)?;
     law_of_schedules();
     law_of_calls();
     Ok(())
