@@ -1,7 +1,7 @@
 //! Labels that no file gives: below the code, of all addresses, with names of any bytes, and in no order.
 
 use crate::tests::devices::Slow;
-use crate::tests::reports::{copied, report_one, source};
+use crate::tests::reports::{copied, only, told};
 use nc_report::{Detail, Label, Labels};
 use std::alloc::{AllocError, Global};
 use std::sync::Wait;
@@ -11,7 +11,11 @@ use std::thread::Threads;
 /// An address and its name.
 type Named = (u32, &'static [u8]);
 
-/// Labels of a return at 00010000 before nops, how much is written, and what.
+/// A return before nops.
+const RETURN: &[u8] =
+    b"\xc3\x90\x90\x90\x90\x90\x90\x90\x90\x90\x90\x90\x90\x90\x90\x90\x90\x90\x90\x90\x90\x90\x90\x90\x90\x90\x90\x90\x90\x90\x90\x90";
+
+/// Labels of this code at 00010000, how much is written, and what.
 type Row = (&'static [Named], Detail, &'static [u8]);
 
 #[rattlefmt::skip]
@@ -62,13 +66,12 @@ fn list(alloc: Global, rows: &[Named]) -> Result<Vec<Label>, AllocError> {
 /// Tries each row.
 fn try_rows<T: Threads + Wait + Sync>(rt: &T, alloc: Global, rows: &[Row]) -> Result<(), Fail> {
     for (named, detail, owed) in rows {
-        let mut source = source(alloc, b"a", b"\xc3", 32)?;
         let Some(labels) = Labels::new(list(alloc, named)?) else {
             return Err(Fail::new("not ascending"));
         };
-        source.labels = labels;
+        let sources = only(alloc, b"a", RETURN, labels)?;
         let mut writer = Slow::new(alloc, 100, true);
-        let result = report_one(rt, alloc, source, *detail, &mut writer);
+        let result = told(rt, alloc, sources, *detail, &mut writer);
         if result != Ok(1) || writer.out.as_slice() != *owed {
             return Err(Fail::new(format_args!("{:?}", writer.out)));
         }

@@ -35,11 +35,11 @@ fn repeat<R: Read, W: Write>(
 }
 
 /// Vets lines of chunks for a region of `bundles` bundles, by this number of workers.
-fn vet<T: Threads + Wait + Sync>(
+fn vet<T: Threads + Wait + Sync, R: Read, W: Write>(
     rt: &T,
     alloc: Global,
-    reader: &mut Pieces,
-    writer: &mut Slow,
+    reader: &mut R,
+    writer: &mut W,
     bundles: u32,
     workers: u32,
 ) -> Result<(), ReplayFault> {
@@ -56,7 +56,7 @@ fn ended(
     if answer == due && written == owed {
         return Ok(());
     }
-    Err(Fail::new(format_args!("{answer:?} is not {due:?}, or {written:?} is not {owed:?}")))
+    Err(Fail::new(format_args!("{answer:?}: {written:?}")))
 }
 
 /// Inputs and their answers: empty lines, bytes that are not valid UTF-8, with and without an end.
@@ -169,20 +169,20 @@ fn faults(rt: HostRuntime) -> Result<(), Fail> {
 fn flush_fails(rt: HostRuntime) -> Result<(), Fail> {
     let mut writer = Slow::new(rt.alloc(), 9, false);
     let answer = repeat(rt.alloc(), &mut Pieces::new(b"one\n", 9), &mut writer);
-    ended(
-        answer,
-        Err(ReplayFault::WriteFailed),
-        &writer.out,
-        b"one\n",
-    )
+    ended(answer, Err(ReplayFault::WriteFailed), &writer.out, b"one\n")
+}
+
+/// A line of `length` bytes, and what comes after it.
+fn long_line(alloc: Global, length: usize, rest: &[u8]) -> Result<Vec<u8>, AllocError> {
+    let mut line = vec![in alloc; b'a'; length]?;
+    line.extend_from_slice(rest)?;
+    Ok(line)
 }
 
 /// A line of `length` bytes and a short one, of which `kept` bytes and the short one come back.
 fn try_length(alloc: Global, length: usize, kept: usize) -> Result<(), Fail> {
-    let mut input = vec![in alloc; b'a'; length]?;
-    input.extend_from_slice(b"\nb")?;
-    let mut owed = vec![in alloc; b'a'; kept]?;
-    owed.extend_from_slice(b"\nb\n")?;
+    let input = long_line(alloc, length, b"\nb")?;
+    let owed = long_line(alloc, kept, b"\nb\n")?;
     let mut out = Vec::new(alloc);
     let answer = repeat(alloc, &mut Pieces::new(&input, usize::MAX), &mut out);
     ended(answer, Ok(()), &out, &owed)
@@ -220,31 +220,41 @@ fn flushed_verdicts(rt: HostRuntime) -> Result<(), Fail> {
     Ok(())
 }
 
+/// Numbers of bundles and of workers, and how vetting ends.
+static SIZES: [(u32, u32, Result<(), ReplayFault>); 7] = [
+    (0, 1, Err(ReplayFault::BadSize)),
+    (1, 0, Err(ReplayFault::BadSize)),
+    (2_097_153, 17, Err(ReplayFault::BadSize)),
+    (2, 0, Err(ReplayFault::BadWorkers)),
+    (2_097_152, 17, Err(ReplayFault::BadWorkers)),
+    (2, 1, Ok(())),
+    (2_097_152, 16, Ok(())),
+];
+
+/// Vets a bad line for these numbers: where they are out of range nothing is read.
+fn try_size<T: Threads + Wait + Sync>(
+    rt: &T,
+    alloc: Global,
+    bundles: u32,
+    workers: u32,
+    due: Result<(), ReplayFault>,
+) -> Result<(), Fail> {
+    let mut reader = Pieces::new(b"dump", 4);
+    let mut writer = Slow::new(alloc, 9, true);
+    let answer = vet(rt, alloc, &mut reader, &mut writer, bundles, workers);
+    let owed: &[u8] = if due.is_ok() { b"bad line\n" } else { b"" };
+    ended(answer, due, &writer.out, owed)?;
+    if (reader.reads == 0) == due.is_err() {
+        return Ok(());
+    }
+    Err(Fail::new("read"))
+}
+
 /// The number of bundles is tested before that of workers, and both before anything is read.
 #[test]
 fn sizes(rt: HostRuntime) -> Result<(), Fail> {
-    for (bundles, workers, due) in [
-        (0, 1, Err(ReplayFault::BadSize)),
-        (1, 0, Err(ReplayFault::BadSize)),
-        (2_097_153, 17, Err(ReplayFault::BadSize)),
-        (2, 0, Err(ReplayFault::BadWorkers)),
-        (2_097_152, 17, Err(ReplayFault::BadWorkers)),
-        (2, 1, Ok(())),
-        (2_097_152, 16, Ok(())),
-    ] {
-        let mut reader = Pieces::new(b"dump", 4);
-        let mut writer = Slow::new(rt.alloc(), 9, true);
-        let answer = vet(
-            &rt,
-            rt.alloc(),
-            &mut reader,
-            &mut writer,
-            bundles,
-            workers,
-        );
-        let owed: &[u8] = if due.is_ok() { b"bad line\n" } else { b"" };
-        ended(answer, due, &writer.out, owed)?;
-        assert_eq!(rt; reader.reads == 0, due.is_err());
+    for (bundles, workers, due) in &SIZES {
+        try_size(&rt, rt.alloc(), *bundles, *workers, *due)?;
     }
     Ok(())
 }

@@ -4,6 +4,7 @@
 use crate::tests::devices::{Pieces, Slow};
 use nc_report::{Detail, Labels, ReportFault, Source, push_file_object, read_source, report};
 use std::alloc::{AllocError, Global};
+use std::io::Write;
 use std::sync::Wait;
 use std::test::Fail;
 use std::thread::Threads;
@@ -15,38 +16,35 @@ pub fn copied(alloc: Global, bytes: &[u8]) -> Result<Vec<u8>, AllocError> {
     Ok(copy)
 }
 
-/// These bytes, and then nops up to this length.
-fn with_nops(alloc: Global, bytes: &[u8], length: usize) -> Result<Vec<u8>, AllocError> {
-    let mut code = copied(alloc, bytes)?;
-    code.resize(length, 0x90)?;
-    Ok(code)
+/// A list of one source.
+fn listed(alloc: Global, source: Source) -> Result<Vec<Source>, AllocError> {
+    let mut sources = Vec::new(alloc);
+    sources.push(source)?;
+    Ok(sources)
 }
 
-/// A source of this name and code.
-fn source_of(alloc: Global, name: Vec<u8>, code: Vec<u8>) -> Source {
-    let labels = Labels::none(alloc);
-    Source { name, code, labels }
+/// The only source, with this name, code and labels.
+pub fn only(
+    alloc: Global,
+    name: &[u8],
+    code: &[u8],
+    labels: Labels,
+) -> Result<Vec<Source>, AllocError> {
+    let name = copied(alloc, name)?;
+    let code = copied(alloc, code)?;
+    listed(alloc, Source { name, code, labels })
 }
 
-/// A source of this name: these bytes, and then nops up to this length.
-pub fn source(alloc: Global, name: &[u8], bytes: &[u8], length: usize) -> Result<Source, Fail> {
-    let code = with_nops(alloc, bytes, length)?;
-    Ok(source_of(alloc, copied(alloc, name)?, code))
-}
-
-/// What is written of one source in a region of five bundles, by one worker; it may be lack of memory.
-pub fn report_one<T: Threads + Wait + Sync>(
+/// What is written of sources in a region of five bundles, by one worker. It has no clause, so that no proof above goes through
+/// what the contract says.
+pub fn told<T: Threads + Wait + Sync, W: Write>(
     rt: &T,
     alloc: Global,
-    source: Source,
+    sources: Vec<Source>,
     detail: Detail,
-    writer: &mut Slow,
+    writer: &mut W,
 ) -> Result<usize, ReportFault> {
-    let mut sources = Vec::new(alloc);
-    match sources.push(source) {
-        Ok(()) => report(rt, alloc, sources, 0x10000, 5, 1, detail, writer),
-        Err(_) => Err(ReportFault::OutOfMemory),
-    }
+    report(rt, alloc, sources, 0x10000, 5, 1, detail, writer)
 }
 
 /// Names that no file has, and the objects of code that they name: each byte that JSON wants to have escaped, and no byte.
@@ -70,10 +68,10 @@ fn try_names<T: Threads + Wait + Sync>(
 ) -> Result<(), Fail> {
     for (name, owed) in rows {
         let mut writer = Slow::new(alloc, 7, true);
-        let nops = source(alloc, name, b"", 64)?;
-        let result = report_one(rt, alloc, nops, Detail::Object, &mut writer);
+        let sources = only(alloc, name, &[0x90; 64], Labels::none(alloc))?;
+        let result = told(rt, alloc, sources, Detail::Object, &mut writer);
         if result != Ok(0) || writer.out.as_slice() != *owed || writer.flushed != 1 {
-            return Err(Fail::new(format_args!("{name:?}: {result:?}, {:?}", writer.out)));
+            return Err(Fail::new(format_args!("{:?}", writer.out)));
         }
     }
     Ok(())
@@ -89,66 +87,99 @@ fn names(rt: HostRuntime) -> Result<(), Fail> {
 fn flush_fails(rt: HostRuntime) -> Result<(), Fail> {
     for detail in [Detail::Usual, Detail::All, Detail::Object] {
         let mut writer = Slow::new(rt.alloc(), 1, false);
-        let nops = source(rt.alloc(), b"a", b"", 32)?;
-        let result = report_one(&rt, rt.alloc(), nops, detail, &mut writer);
-        assert_eq!(rt; result, Err(ReportFault::WriteFailed));
-        assert!(rt; writer.out.ends_with(b"\n") && writer.flushed == 1);
+        let sources = only(rt.alloc(), b"a", &[0x90; 32], Labels::none(rt.alloc()))?;
+        let result = told(&rt, rt.alloc(), sources, detail, &mut writer);
+        let is_whole = writer.out.ends_with(b"\n") && writer.flushed == 1;
+        if result != Err(ReportFault::WriteFailed) || !is_whole {
+            return Err(Fail::new(format_args!("{result:?}")));
+        }
     }
     Ok(())
+}
+
+/// Numbers of bundles and of workers, and how a report on no source ends.
+static SIZES: [(u32, u32, Result<usize, ReportFault>); 6] = [
+    (1, 1, Err(ReportFault::BadSize)),
+    (2_097_153, 0, Err(ReportFault::BadSize)),
+    (2, 0, Err(ReportFault::BadWorkers)),
+    (2, 17, Err(ReportFault::BadWorkers)),
+    (2, 1, Ok(0)),
+    (2_097_152, 16, Ok(0)),
+];
+
+/// A report on no source, for these numbers.
+fn no_report<T: Threads + Wait + Sync, W: Write>(
+    rt: &T,
+    alloc: Global,
+    bundles: u32,
+    workers: u32,
+    writer: &mut W,
+) -> Result<usize, ReportFault> {
+    report(
+        rt,
+        alloc,
+        Vec::new(alloc),
+        0x10000,
+        bundles,
+        workers,
+        Detail::Usual,
+        writer,
+    )
 }
 
 /// The number of bundles is tested before that of workers, and nothing is written.
 #[test]
 fn sizes(rt: HostRuntime) -> Result<(), Fail> {
-    for (bundles, workers, due) in [
-        (1, 1, Err(ReportFault::BadSize)),
-        (2_097_153, 0, Err(ReportFault::BadSize)),
-        (2, 0, Err(ReportFault::BadWorkers)),
-        (2, 17, Err(ReportFault::BadWorkers)),
-        (2, 1, Ok(0)),
-        (2_097_152, 16, Ok(0)),
-    ] {
+    for (bundles, workers, due) in &SIZES {
         let mut writer = Slow::new(rt.alloc(), 9, true);
-        let result = report(
-            &rt,
-            rt.alloc(),
-            Vec::new(rt.alloc()),
-            0x10000,
-            bundles,
-            workers,
-            Detail::Usual,
-            &mut writer,
-        );
-        assert_eq!(rt; result, due);
-        assert!(rt; writer.out.is_empty());
+        let result = no_report(&rt, rt.alloc(), *bundles, *workers, &mut writer);
+        if result != *due || !writer.out.is_empty() {
+            return Err(Fail::new(format_args!("{bundles} {workers}")));
+        }
     }
     Ok(())
+}
+
+/// The bytes of a source, and its name.
+const BYTES: &[u8] = b"\x90\x0a\xc3\x00 bytes";
+
+const NAME: &[u8] = b"a b";
+
+/// Whether all of a source is read in pieces of this size, where so many bytes are expected.
+fn is_read(alloc: Global, name: Vec<u8>, size: usize, expected: usize) -> bool {
+    match read_source(alloc, name, &mut Pieces::new(BYTES, size), expected) {
+        Ok(source) => source.name.as_slice() == NAME && source.code.as_slice() == BYTES,
+        Err(_) => false,
+    }
 }
 
 /// Whatever the sizes of reads and the room that is guessed, all bytes are read.
 #[test]
 fn whole(rt: HostRuntime) -> Result<(), Fail> {
-    let bytes = b"\x90\x0a\xc3\x00 bytes";
     for (size, expected) in [(1usize, 0usize), (3, 7), (100, 100_000), (7, usize::MAX)] {
-        let name = copied(rt.alloc(), b"a b")?;
-        let result = read_source(rt.alloc(), name, &mut Pieces::new(bytes, size), expected);
-        let Ok(source) = result else {
+        let name = copied(rt.alloc(), NAME)?;
+        if !is_read(rt.alloc(), name, size, expected) {
             return Err(Fail::new(format_args!("{size} {expected}")));
-        };
-        assert_eq!(rt; source.name.as_slice(), b"a b".as_slice());
-        assert_eq!(rt; source.code.as_slice(), bytes.as_slice());
+        }
     }
     Ok(())
+}
+
+/// The object of a file that is refused as a whole, after a byte.
+fn file_object(alloc: Global) -> Result<Vec<u8>, AllocError> {
+    let mut out = copied(alloc, b".")?;
+    push_file_object(&mut out, b"x\t", b"BadElf", b"no \"code\"")?;
+    Ok(out)
 }
 
 /// A file that is refused as a whole.
 #[test]
 fn whole_file(rt: HostRuntime) -> Result<(), Fail> {
-    let mut out = Vec::new(rt.alloc());
-    out.push(b'.')?;
-    push_file_object(&mut out, b"x\t", b"BadElf", b"no \"code\"")?;
+    let out = file_object(rt.alloc())?;
     let owed: &[u8] =
         b".{\"file\":\"x\\u0009\",\"verdict\":\"refused\",\"fault\":\"BadElf\",\"meaning\":\"no \\\"code\\\"\"}\n";
-    assert_eq!(rt; out.as_slice(), owed);
-    Ok(())
+    if out.as_slice() == owed {
+        return Ok(());
+    }
+    Err(Fail::new(format_args!("{out:?}")))
 }
