@@ -6,7 +6,7 @@ use Rattle.nc_text.specs.Machine.{IsConfined, IsSafe}
 use Rattle.nc_text.specs.Headline.{Stands}
 use Rattle.nc_text.specs.MarkedText.{MarkedText, unused_text}
 use Rattle.nc_text.proofs.Offered.{confined_if_closed, stands_if_safe}
-use Rattle.nc_schedule.specs.Quiet.{Span}
+use Rattle.nc_schedule.specs.Quiet.{RetiredSpan}
 use Rattle.nc_schedule.specs.World.{World, Seat, first_world, IsViewOf, AllStandSafe, NoneIsWithin}
 use Rattle.nc_schedule.specs.Events.{Event, Frees, world_after, AreAllowed}
 use Rattle.nc_schedule.proofs.Offered.{safe_after, none_is_within_freed, if_map}
@@ -121,7 +121,7 @@ stand_always limit seats first events later r turns h is =
     (safe_after limit seats events later h.lawful (subst (AreAllowed (first_world limit seats)) is s.led.allowed))
 
 -- where none stands when a span is freed
-pub none_in_freed : (limit seats : ℕ) (first events later : List Event) (r : Region) (turns : List Turn) (span : Span)
+pub none_in_freed : (limit seats : ℕ) (first events later : List Event) (r : Region) (turns : List Turn) (span : RetiredSpan)
     → IsHistory limit seats first r turns → happened first turns ≡ events ++ Frees span ∷ later
     → NoneIsWithin (world_after (first_world limit seats) events) span
 none_in_freed limit seats first events later r turns span h is =

@@ -15,7 +15,7 @@ use Rattle.nc_text.specs.Marks.{Admits, IsMarked, IsClosed}
 use Rattle.nc_text.specs.MarkedText.{MarkedText, IsText, with_span}
 use Rattle.nc_text.proofs.Offered.{executes, length-with_span}
 use Rattle.nc_vet.specs.Chunk.{MarkedChunk, IsValid}
-use Rattle.nc_schedule.specs.Quiet.{Span, IsShut}
+use Rattle.nc_schedule.specs.Quiet.{RetiredSpan, IsShut}
 use Rattle.nc_schedule.specs.World.{World}
 use Rattle.nc_schedule.specs.Events.{Event, Marks, Settles}
 use Rattle.nc_schedule.proofs.Offered.{Keeps, only_as_it_stands}
@@ -130,7 +130,7 @@ record IsNearly (final view : List ℕ) : Type 0 where
   each : (at : ℕ) → 65536 ≤ at → (byte_at view at ≡ byte_at final at) ⊎ ((byte_at view at ≡ 244) × IsBundleStart at)
 
 -- it is good then
-nearly_good : (final view : List ℕ) (marks : List Mark) (spans : List Span) → Good final marks spans → IsNearly final view
+nearly_good : (final view : List ℕ) (marks : List Mark) (spans : List RetiredSpan) → Good final marks spans → IsNearly final view
     → Good view marks spans
 nearly_good final view marks spans good n =
     good_by_places final view marks spans good n.as_long (λ now m.
@@ -359,7 +359,7 @@ create_leads w chunks v k keeps views region are valid limit fit =
     let j = chunk_fits w.marked chunks v k region valid limit fit in
     let after = created_region w.marked chunks v k region valid limit fit in
     let final = region_good (with_chunk w.marked v.base v.code v.marks) (insert chunks k (live_chunk v)) w.retired after
-    (λ span has. subst (λ (z : List Span). Contains z span) (sym (retired_insert chunks k (live_chunk v) tt)) (are span has)) in
+    (λ span has. subst (λ (z : List RetiredSpan). Contains z span) (sym (retired_insert chunks k (live_chunk v) tt)) (are span has)) in
     let stopped = region_stopped (with_chunk w.marked v.base v.code v.marks) (insert chunks k (live_chunk v)) after in
     let r = creation_leads w chunks k v.base v.code v.marks
     (record { keeps = keeps; views = views; fit = fit; joins = j; final = final }) in

@@ -6,7 +6,7 @@ use Rattle.nc_decode.specs.declared.instruction.Mark.TheVariants.{Unmarked}
 use Rattle.nc_text.specs.Machine.{State, state}
 use Rattle.nc_text.specs.Marks.{IsMarked, Admits, mark_at}
 use Rattle.nc_text.specs.MarkedText.{MarkedText}
-use Rattle.nc_schedule.specs.Quiet.{Span}
+use Rattle.nc_schedule.specs.Quiet.{RetiredSpan}
 use Rattle.nc_schedule.specs.Views.{IsView}
 use Rattle.nc_schedule.specs.World.{World, IsViewOf, is_same_span}
 use Rattle.nc_schedule.specs.Events.{Event, Steps, Enters, Exits, Takes, Sees, Stores, Leaves, Puts, Settles, Marks, Bumps, Retires, Frees}
@@ -33,7 +33,7 @@ thinned_none : (w : World) → IsThinned w w
 thinned_none w = record { bytes = refl; earlier = refl; fewer = λ now m. m }
 
 -- a span is freed
-thinned_frees : (w : World) (span : Span) → Keeps w → AreAllowed w (Frees span ∷ []) → IsThinned w (after w (Frees span))
+thinned_frees : (w : World) (span : RetiredSpan) → Keeps w → AreAllowed w (Frees span ∷ []) → IsThinned w (after w (Frees span))
 thinned_frees w span keeps allowed =
     record {
       bytes = refl;
@@ -57,7 +57,7 @@ thinned_beside w v u marked earlier t =
     }) t
 
 -- spans are freed, with threads in between
-pub thinned : (events : List Event) (w : World) (spans : List Span) (least : ℕ) → Keeps w → AreAllowed w events
+pub thinned : (events : List Event) (w : World) (spans : List RetiredSpan) (least : ℕ) → Keeps w → AreAllowed w events
     → FreesMay spans least (writers events) → IsThinned w (world_after w events)
 thinned [] w spans least keeps a may = thinned_none w
 thinned (Steps k next ∷ events) w spans least keeps a may =

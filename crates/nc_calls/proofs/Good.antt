@@ -12,7 +12,7 @@ use Rattle.nc_text.specs.Marks.{IsMarked, IsClosed}
 use Rattle.nc_text.specs.MarkedText.{MarkedText}
 use Rattle.nc_text.proofs.Offered.{executes, leads_of, step_of, no_step_from_stop, closed_by_parts, KeepsBytes, same_instruction, stop_at}
 use Rattle.nc_text.proofs.Offered.{length_at}
-use Rattle.nc_schedule.specs.Quiet.{Span, IsShut}
+use Rattle.nc_schedule.specs.Quiet.{RetiredSpan, IsShut}
 use Rattle.nc_region.proofs.Offered.{some_same}
 use Rattle.nc_calls.specs.Views.{AreParted}
 
@@ -21,7 +21,7 @@ abbrev pub text_of : List ℕ → List Mark → MarkedText
 text_of bytes marks = record { bytes = bytes; marks = marks }
 
 -- what holds of each view while a region is changed
-pub record Good (text : List ℕ) (marks : List Mark) (spans : List Span) : Type 0 where
+pub record Good (text : List ℕ) (marks : List Mark) (spans : List RetiredSpan) : Type 0 where
   pub closed : IsClosed text marks
   pub shut : All (IsShut text marks) spans
   pub parted : AreParted text marks
@@ -31,7 +31,7 @@ abbrev pub KeepsInstruction : List ℕ → List ℕ → ℕ → Type 0
 KeepsInstruction old text at = (i : Instr) → instruction_at old at ≡ Some i → IsInOneBundle at i.len → KeepsBytes old text at i.len
 
 -- at the state's place stands the instruction of some good text
-pub record Borrowed (text : List ℕ) (marks : List Mark) (spans : List Span) (now : State) : Type 0 where
+pub record Borrowed (text : List ℕ) (marks : List Mark) (spans : List RetiredSpan) (now : State) : Type 0 where
   pub old : List ℕ
   pub good : Good old marks spans
   pub as_long : length text ≡ length old
@@ -71,7 +71,7 @@ stop_ends text at k i inside stop is some less =
     omega (arith, one, some, less)
 
 -- each span stays shut
-shut_by_places : (old text : List ℕ) (marks : List Mark) (spans : List Span) → Good old marks spans → length text ≡ length old
+shut_by_places : (old text : List ℕ) (marks : List Mark) (spans : List RetiredSpan) → Good old marks spans → length text ≡ length old
     → ((now : State) → IsMarked marks now → (byte_at text now.place ≡ 244) ⊎ Borrowed text marks spans now)
     → All (IsShut text marks) spans
 shut_by_places old text marks spans good long each = λ n d lt.
@@ -90,7 +90,7 @@ shut_by_places old text marks spans good long each = λ n d lt.
     }
 
 -- no instruction reaches another marked place
-parted_by_places : (old text : List ℕ) (marks : List Mark) (spans : List Span) → Good old marks spans → length text ≡ length old
+parted_by_places : (old text : List ℕ) (marks : List Mark) (spans : List RetiredSpan) → Good old marks spans → length text ≡ length old
     → ((now : State) → IsMarked marks now → (byte_at text now.place ≡ 244) ⊎ Borrowed text marks spans now) → AreParted text marks
 parted_by_places old text marks spans good long each = λ now i k m is some less.
     elim (each now m) [
@@ -104,7 +104,7 @@ parted_by_places old text marks spans good long each = λ now i k m is some less
     ]
 
 -- so the text is good
-pub good_by_places : (old text : List ℕ) (marks : List Mark) (spans : List Span) → Good old marks spans → length text ≡ length old
+pub good_by_places : (old text : List ℕ) (marks : List Mark) (spans : List RetiredSpan) → Good old marks spans → length text ≡ length old
     → ((now : State) → IsMarked marks now → (byte_at text now.place ≡ 244) ⊎ Borrowed text marks spans now) → Good text marks spans
 good_by_places old text marks spans good long each =
     record {

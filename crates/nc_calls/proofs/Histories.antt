@@ -9,7 +9,7 @@ use Rattle.nc_gens.specs.declared.view.KeeperNumbers.{KeeperNumbers}
 use Rattle.nc_gens.specs.Rule.{generation_raised, last_generation}
 use Rattle.nc_gens.specs.Seen.{KeeperState}
 use Rattle.nc_vet.specs.Chunk.{MarkedChunk, IsValid}
-use Rattle.nc_schedule.specs.Quiet.{Span}
+use Rattle.nc_schedule.specs.Quiet.{RetiredSpan}
 use Rattle.nc_schedule.specs.World.{World, Seat, first_world}
 use Rattle.nc_schedule.specs.Events.{Event, Settles, Marks, Retires, after, world_after, AreAllowed}
 use Rattle.nc_schedule.proofs.Offered.{Keeps, keeps_reached, allowed_append, after_append}
@@ -173,7 +173,7 @@ created limit seats before events old new v h region valid lim is own threads =
                 (v.base - 65536) v.marks;
           }) is.bytes is.marks);
       keeper = h.stands.keeper ∙ ap (λ (x : KeeperState). x.numbers) (sym keeper);
-      spans = λ span. subst (λ (z : List Span). Contains w.retired span ↔ Contains z span) (sym spans) (h.stands.spans span);
+      spans = λ span. subst (λ (z : List RetiredSpan). Contains w.retired span ↔ Contains z span) (sym spans) (h.stands.spans span);
     })
     (subst (λ (x : KeeperState). x.numbers.generation ≤ last_generation) (sym keeper) h.in_range)
 

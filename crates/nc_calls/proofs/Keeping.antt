@@ -4,7 +4,7 @@ use Rattle.std.specs.Prelude.{All, Contains, ◌↔◌}
 use Rattle.nc_decode.specs.Bundles.{IsLawfulLimit}
 use Rattle.nc_text.specs.MarkedText.{unused_text}
 use Rattle.nc_gens.specs.Rule.{first_keeper_numbers, last_generation}
-use Rattle.nc_schedule.specs.Quiet.{Span}
+use Rattle.nc_schedule.specs.Quiet.{RetiredSpan}
 use Rattle.nc_schedule.specs.World.{World, first_world}
 use Rattle.nc_schedule.specs.Events.{Event, world_after}
 use Rattle.nc_schedule.proofs.Offered.{after_append}
@@ -56,7 +56,7 @@ pub begins : (limit seats : ℕ) (events : List Event) (r : Region) → IsLawful
     → (world_after (first_world limit seats) events).keeper ≡ r.keeper.numbers
     → r.keeper.numbers.generation ≤ last_generation → HasLedTo limit seats events r
 begins limit seats events r lawful marked chunks own threads found range =
-    let none : List Span = [] in
+    let none : List RetiredSpan = [] in
     let unused : Region = record r { keeper = record r.keeper { numbers = first_keeper_numbers seats } } in
     keeper limit seats [] events (record r { keeper = record r.keeper { numbers = first_keeper_numbers seats } }) r
     (record {

@@ -9,7 +9,7 @@ use Rattle.nc_decode.specs.declared.instruction.Mark.{Mark}
 use Rattle.nc_text.specs.Places.{InRegion, byte_at, instruction_at}
 use Rattle.nc_text.specs.Machine.{State}
 use Rattle.nc_text.specs.Marks.{IsMarked, Admits, mark_at}
-use Rattle.nc_schedule.specs.Quiet.{Span}
+use Rattle.nc_schedule.specs.Quiet.{RetiredSpan}
 use Rattle.nc_calls.proofs.Good.{Good, KeepsInstruction, Borrowed, good_by_places}
 
 -- a byte elsewhere than where one is put
@@ -34,7 +34,7 @@ pub not_unmarked : (marks : List Mark) (now : State) → IsMarked marks now → 
 not_unmarked marks now m e = subst (λ (x : Mark). Admits x now.masked) e m.1
 
 -- in a good text no other marked place's instruction has a marked place
-other_clear : (text : List ℕ) (marks : List Mark) (spans : List Span) (there now : State) → Good text marks spans → IsMarked marks there
+other_clear : (text : List ℕ) (marks : List Mark) (spans : List RetiredSpan) (there now : State) → Good text marks spans → IsMarked marks there
     → IsMarked marks now → now.place ≢ there.place → (i : Instr) (k : ℕ) → instruction_at text now.place ≡ Some i → k < i.len
     → now.place + k ≢ there.place
 other_clear text marks spans there now good marked m other i k is lt same =
@@ -44,7 +44,7 @@ other_clear text marks spans there now good marked m other i k is lt same =
 
 -- What is put at a marked place is a stop, or begins the instruction that stands there in a good text, of which the rest stands
 -- there already.
-pub good_put_marked : (text : List ℕ) (marks : List Mark) (spans : List Span) (there : State) (byte : ℕ) → Good text marks spans
+pub good_put_marked : (text : List ℕ) (marks : List Mark) (spans : List RetiredSpan) (there : State) (byte : ℕ) → Good text marks spans
     → InRegion text there.place → IsMarked marks there
     → (byte ≡ 244) ⊎ Borrowed (set text (there.place - 65536) byte) marks spans there
     → Good (set text (there.place - 65536) byte) marks spans
@@ -73,7 +73,7 @@ good_put_marked text marks spans there byte good inside marked fits =
     ])
 
 -- a byte is put that no marked place's instruction has
-pub good_put_unread : (text : List ℕ) (marks : List Mark) (spans : List Span) (at byte : ℕ) → Good text marks spans → 65536 ≤ at
+pub good_put_unread : (text : List ℕ) (marks : List Mark) (spans : List RetiredSpan) (at byte : ℕ) → Good text marks spans → 65536 ≤ at
     → ((now : State) (i : Instr) (k : ℕ) → IsMarked marks now → instruction_at text now.place ≡ Some i → k < i.len → now.place + k ≢ at)
     → Good (set text (at - 65536) byte) marks spans
 good_put_unread text marks spans at byte good low clear =

@@ -13,7 +13,7 @@ use Rattle.nc_text.specs.Places.{instruction_at}
 use Rattle.nc_text.specs.Machine.{State}
 use Rattle.nc_text.specs.Marks.{IsMarked, mark_at}
 use Rattle.nc_text.specs.MarkedText.{MarkedText, IsText}
-use Rattle.nc_schedule.specs.Quiet.{Span, IsQuiet, IsShut}
+use Rattle.nc_schedule.specs.Quiet.{RetiredSpan, IsQuiet, IsShut}
 use Rattle.nc_schedule.proofs.Offered.{shut_if_quiet}
 use Rattle.nc_region.specs.declared.chunk.Chunk.{Chunk}
 use Rattle.nc_region.specs.declared.chunk.ChunkState.{ChunkState}
@@ -112,7 +112,7 @@ parted_region marked chunks region = λ now i k m is some less.
     ]
 
 -- the text of a region is good
-pub region_good : (marked : MarkedText) (chunks : List Chunk) (spans : List Span) → IsRegion marked chunks → AreSpansOf spans chunks
+pub region_good : (marked : MarkedText) (chunks : List Chunk) (spans : List RetiredSpan) → IsRegion marked chunks → AreSpansOf spans chunks
     → Good marked.bytes marked.marks spans
 region_good marked chunks spans region are =
     record {

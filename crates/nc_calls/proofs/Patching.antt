@@ -16,7 +16,7 @@ use Rattle.nc_text.specs.MarkedText.{MarkedText, with_span}
 use Rattle.nc_text.proofs.Offered.{executes}
 use Rattle.nc_vet.specs.Chunk.{Piece, code_of, mark_of}
 use Rattle.nc_vet.proofs.Offered.{same_pieces}
-use Rattle.nc_schedule.specs.Quiet.{Span}
+use Rattle.nc_schedule.specs.Quiet.{RetiredSpan}
 use Rattle.nc_schedule.specs.World.{World}
 use Rattle.nc_schedule.specs.Events.{Event, Puts, Settles}
 use Rattle.nc_schedule.proofs.Offered.{as_it_stands, only_as_it_stands}
@@ -39,7 +39,7 @@ use Rattle.nc_calls.proofs.Putting.{with_text, settled, Views, Leads, Reaches, l
 use Rattle.nc_calls.proofs.RetiredSpans.{AreSpansOf}
 
 -- what every view keeps from one instruction to the next
-pub record SoundBy (marks : List Mark) (spans : List Span) (chunks : List Chunk) (view : List ℕ) : Type 0 where
+pub record SoundBy (marks : List Mark) (spans : List RetiredSpan) (chunks : List Chunk) (view : List ℕ) : Type 0 where
   pub good : Good view marks spans
   pub stopped : AreStopped view marks chunks
 

@@ -10,7 +10,7 @@ use Rattle.nc_text.specs.Places.{limit_of}
 use Rattle.nc_text.specs.MarkedText.{MarkedText}
 use Rattle.nc_gens.specs.Rule.{last_generation}
 use Rattle.nc_gens.specs.Seen.{least_number}
-use Rattle.nc_schedule.specs.Quiet.{Span}
+use Rattle.nc_schedule.specs.Quiet.{RetiredSpan}
 use Rattle.nc_schedule.specs.World.{World, Seat, is_same_span}
 use Rattle.nc_schedule.specs.Events.{Event, Steps, Enters, Exits, Takes, Sees, Stores, Leaves, Puts, Settles, Marks, Bumps, Retires, Frees}
 use Rattle.nc_schedule.specs.Events.{Looks}
@@ -36,7 +36,7 @@ use Rattle.nc_calls.proofs.Woven.{Woven, seated, writer_more, thread_more}
 -- ---- in a world
 
 -- each frees a span that is there then, with a stamp of at most this number
-abbrev pub FreesMay : List Span → ℕ → List Event → Type 0
+abbrev pub FreesMay : List RetiredSpan → ℕ → List Event → Type 0
 FreesMay spans least [] = ⊤
 FreesMay spans least (Frees span ∷ events) =
     Contains spans span × (span.stamp ≤ least) × FreesMay (filter (λ other. not (is_same_span span other)) spans) least events
@@ -116,7 +116,7 @@ filter_to p xs x has is = filter_at p xs x has.0 has.1 has.2 is
 -- ---- spans by their bases
 
 -- the same span has the same base
-same_base : (a b : Span) → is_same_span a b ≡ true → a.base ≡ b.base
+same_base : (a b : RetiredSpan) → is_same_span a b ≡ true → a.base ≡ b.base
 same_base a b e =
     elim (eqb_tells a.base b.base) [
       | inl same ↦ same.1
@@ -125,7 +125,7 @@ same_base a b e =
     ]
 
 -- spans of another base are others
-other_span : (a b : Span) → a.base ≢ b.base → is_same_span a b ≡ false
+other_span : (a b : RetiredSpan) → a.base ≢ b.base → is_same_span a b ≡ false
 other_span a b ne = go (is_same_span a b) refl
   where
     go : (t : Bool) → is_same_span a b ≡ t → is_same_span a b ≡ false
@@ -133,7 +133,7 @@ other_span a b ne = go (is_same_span a b) refl
     go false e = e
 
 -- a span is the same as itself
-same_itself : (a : Span) → is_same_span a a ≡ true
+same_itself : (a : RetiredSpan) → is_same_span a a ≡ true
 same_itself a =
     ap (λ (x : Bool). (x && (a.length == a.length)) && (a.stamp == a.stamp)) (eq-eqb a.base a.base refl)
     ∙ (ap (λ (x : Bool). x && (a.stamp == a.stamp)) (eq-eqb a.length a.length refl) ∙ eq-eqb a.stamp a.stamp refl)
@@ -141,7 +141,7 @@ same_itself a =
 -- ---- the chunks that are due
 
 -- a chunk that isn't empty lies beside others
-abbrev IsClear : ℕ → Span → Type 0
+abbrev IsClear : ℕ → RetiredSpan → Type 0
 IsClear base span = base ≢ span.base
 
 -- the other chunks of a rising list have other bases
@@ -165,8 +165,8 @@ others_clear from (b ∷ before) after c limit rising placed = (
 )
 
 -- a span freed leaves those of the other chunks
-same_spans_freed : (spans : List Span) (before after : List Chunk) (c : Chunk) (stamp : ℕ) → c.state ≡ Retired stamp
-    → Each (λ (span : Span). IsClear c.base span) (retired_spans (before ++ after))
+same_spans_freed : (spans : List RetiredSpan) (before after : List Chunk) (c : Chunk) (stamp : ℕ) → c.state ≡ Retired stamp
+    → Each (λ (span : RetiredSpan). IsClear c.base span) (retired_spans (before ++ after))
     → AreSameSpans spans (before ++ c ∷ after)
     → AreSameSpans (filter (λ other. not (is_same_span (record { base = c.base; length = c.length; stamp = stamp }) other)) spans)
     (before ++ after)
@@ -174,41 +174,41 @@ same_spans_freed spans before after c stamp is clear same = λ span.
     let old_is : retired_spans (before ++ c ∷ after) ≡ retired_spans before ++
     (record { base = c.base; length = c.length; stamp = stamp } ∷ retired_spans after) =
     retired_append before (c ∷ after)
-    ∙ ap (λ (z : List Span). retired_spans before ++ z) (retired_head c c.state stamp (retired_spans after) is) in
+    ∙ ap (λ (z : List RetiredSpan). retired_spans before ++ z) (retired_head c c.state stamp (retired_spans after) is) in
     let new_is : retired_spans (before ++ after) ≡ retired_spans before ++ retired_spans after = retired_append before after in (
       λ has.
           let h = filter_from
-          (λ (other : Span). not (is_same_span (record { base = c.base; length = c.length; stamp = stamp }) other)) spans span has in
-          subst (λ (z : List Span). Contains z span) (sym new_is)
+          (λ (other : RetiredSpan). not (is_same_span (record { base = c.base; length = c.length; stamp = stamp }) other)) spans span has in
+          subst (λ (z : List RetiredSpan). Contains z span) (sym new_is)
           (elim (out_of_middle (retired_spans before) (retired_spans after)
           (record { base = c.base; length = c.length; stamp = stamp }) span
-          (subst (λ (z : List Span). Contains z span) old_is ((same span).0 h.0))) [
+          (subst (λ (z : List RetiredSpan). Contains z span) old_is ((same span).0 h.0))) [
             | inl it ↦ absurd
                 (false≢true (sym (ap not (same_itself (record { base = c.base; length = c.length; stamp = stamp })))
-                ∙ subst (λ (z : Span). not (is_same_span (record { base = c.base; length = c.length; stamp = stamp }) z) ≡ true)
+                ∙ subst (λ (z : RetiredSpan). not (is_same_span (record { base = c.base; length = c.length; stamp = stamp }) z) ≡ true)
                 (sym it) h.1))
             | inr other ↦ other
           ]),
       λ has.
-          filter_to (λ (other : Span). not (is_same_span (record { base = c.base; length = c.length; stamp = stamp }) other)) spans span
+          filter_to (λ (other : RetiredSpan). not (is_same_span (record { base = c.base; length = c.length; stamp = stamp }) other)) spans span
           ((same span).1
-          (subst (λ (z : List Span). Contains z span) (sym old_is)
+          (subst (λ (z : List RetiredSpan). Contains z span) (sym old_is)
           (into_middle (retired_spans before) (retired_spans after) (record { base = c.base; length = c.length; stamp = stamp }) span
-          (subst (λ (z : List Span). Contains z span) new_is has))))
+          (subst (λ (z : List RetiredSpan). Contains z span) new_is has))))
           (ap not (other_span (record { base = c.base; length = c.length; stamp = stamp }) span
-          (each_contains (λ (s : Span). IsClear c.base s) (retired_spans (before ++ after)) span clear has))),
+          (each_contains (λ (s : RetiredSpan). IsClear c.base s) (retired_spans (before ++ after)) span clear has))),
     )
 
 -- the events that unmark these chunks
-abbrev pub frees : List Span → List Chunk → List Event
+abbrev pub frees : List RetiredSpan → List Chunk → List Event
 frees spans chunks = events_of (record { marks = []; base = 0; len = 0; seats = 0; spans = spans }) (unmarkings chunks)
 
 -- the span that a chunk's base finds
-abbrev pub Finds : List Span → Chunk → Type 0
+abbrev pub Finds : List RetiredSpan → Chunk → Type 0
 Finds all c = (stamp : ℕ) → c.state ≡ Retired stamp → span_from all c.base ≡ record { base = c.base; length = c.length; stamp = stamp }
 
 -- one more chunk before others doesn't hide what is found
-found_behind : (x c : Chunk) (s : ChunkState) (spans : List Span) (to : Span) → x.base ≢ c.base → span_from spans c.base ≡ to
+found_behind : (x c : Chunk) (s : ChunkState) (spans : List RetiredSpan) (to : RetiredSpan) → x.base ≢ c.base → span_from spans c.base ≡ to
     → span_from (with_retired x s spans) c.base ≡ to
 found_behind x c Live spans to ne e = e
 found_behind x c (Retired stamp) spans to ne e =
@@ -216,7 +216,7 @@ found_behind x c (Retired stamp) spans to ne e =
     (ne_eqb x.base c.base ne) ∙ e
 
 -- the first one is found
-found_first : (c : Chunk) (s : ChunkState) (spans : List Span) (stamp : ℕ) → s ≡ Retired stamp
+found_first : (c : Chunk) (s : ChunkState) (spans : List RetiredSpan) (stamp : ℕ) → s ≡ Retired stamp
     → span_from (with_retired c s spans) c.base ≡ record { base = c.base; length = c.length; stamp = stamp }
 found_first c s spans stamp is =
     ap (λ (z : ChunkState). span_from (with_retired c z spans) c.base) is
@@ -253,31 +253,31 @@ pub record FreesDone (v : World) (least : ℕ) (events : List Event) (left : Lis
   pub keeper_is : (world_after v events).keeper ≡ v.keeper
 
 -- one more chunk that is due
-free_one : (least : ℕ) (all : List Span) (done rest : List Chunk) (c : Chunk) (v : World) → IsRegion v.marked (done ++ c ∷ rest)
+free_one : (least : ℕ) (all : List RetiredSpan) (done rest : List Chunk) (c : Chunk) (v : World) → IsRegion v.marked (done ++ c ∷ rest)
     → Finds all c → AreSameSpans v.retired (done ++ c ∷ rest)
     → ((w : World) → IsRegion w.marked (done ++ rest) → AreSameSpans w.retired (done ++ rest)
     → FreesDone w least (frees all (freed least rest)) (done ++ kept least rest) (unmarked w.marked (freed least rest)))
     → (stamp : ℕ) → c.state ≡ Retired stamp → stamp ≤ least
     → FreesDone v least (frees all (c ∷ freed least rest)) (done ++ kept least rest) (unmarked v.marked (c ∷ freed least rest))
 free_one least all done rest c v region finds same go stamp is le =
-    let sp : Span = record { base = c.base; length = c.length; stamp = stamp } in
-    let clear = retired_each (λ (s : Span). IsClear c.base s) (done ++ rest)
+    let sp : RetiredSpan = record { base = c.base; length = c.length; stamp = stamp } in
+    let clear = retired_each (λ (s : RetiredSpan). IsClear c.base s) (done ++ rest)
     (others_clear 65536 done rest c (limit_of v.marked.bytes) region.rising region.placed) in
     let next = same_spans_freed v.retired done rest c stamp is clear same in
     let r = go (after v (Frees (record { base = c.base; length = c.length; stamp = stamp })))
     (region_freed v.marked done rest c region (retired_dead c.state stamp is)) next in
     let has : Contains v.retired (record { base = c.base; length = c.length; stamp = stamp }) =
     (same (record { base = c.base; length = c.length; stamp = stamp })).1
-    (subst (λ (z : List Span). Contains z (record { base = c.base; length = c.length; stamp = stamp }))
+    (subst (λ (z : List RetiredSpan). Contains z (record { base = c.base; length = c.length; stamp = stamp }))
     (sym (retired_append done (c ∷ rest)
-    ∙ ap (λ (z : List Span). retired_spans done ++ z) (retired_head c c.state stamp (retired_spans rest) is)))
+    ∙ ap (λ (z : List RetiredSpan). retired_spans done ++ z) (retired_head c c.state stamp (retired_spans rest) is)))
     (the_middle (retired_spans done) (retired_spans rest) (record { base = c.base; length = c.length; stamp = stamp }))) in
-    subst (λ (z : Span). FreesDone v least (Frees z ∷ frees all (freed least rest)) (done ++ kept least rest)
+    subst (λ (z : RetiredSpan). FreesDone v least (Frees z ∷ frees all (freed least rest)) (done ++ kept least rest)
     (unmarked v.marked (c ∷ freed least rest))) (sym (finds stamp is))
     (record { may = (has, le, r.may); spans = r.spans; marked_is = r.marked_is; keeper_is = r.keeper_is })
 
 -- one more chunk, due or not
-free_next : (least : ℕ) (all : List Span) (done rest : List Chunk) (c : Chunk) (v : World) → IsRegion v.marked (done ++ c ∷ rest)
+free_next : (least : ℕ) (all : List RetiredSpan) (done rest : List Chunk) (c : Chunk) (v : World) → IsRegion v.marked (done ++ c ∷ rest)
     → Finds all c → AreSameSpans v.retired (done ++ c ∷ rest)
     → ((before : List Chunk) (w : World) → IsRegion w.marked (before ++ rest) → AreSameSpans w.retired (before ++ rest)
     → FreesDone w least (frees all (freed least rest)) (before ++ kept least rest) (unmarked w.marked (freed least rest)))
@@ -294,7 +294,7 @@ free_next least all done rest c v region finds same go false due =
     (go (done ++ c ∷ []) v (subst (IsRegion v.marked) (sym (seam rest)) region) (subst (AreSameSpans v.retired) (sym (seam rest)) same))
 
 -- all of them
-pub frees_done : (least : ℕ) (all : List Span) (rest done : List Chunk) (v : World) → IsRegion v.marked (done ++ rest)
+pub frees_done : (least : ℕ) (all : List RetiredSpan) (rest done : List Chunk) (v : World) → IsRegion v.marked (done ++ rest)
     → Each (Finds all) rest → AreSameSpans v.retired (done ++ rest)
     → FreesDone v least (frees all (freed least rest)) (done ++ kept least rest) (unmarked v.marked (freed least rest))
 frees_done least all [] done v region finds same = record { may = tt; spans = same; marked_is = refl; keeper_is = refl }
@@ -303,7 +303,7 @@ frees_done least all (c ∷ rest) done v region finds same =
     (is_due least c.state) refl
 
 -- the keeper stays while spans are freed
-pub keeper_stays : (events : List Event) (w : World) (spans : List Span) (least : ℕ) → FreesMay spans least (writers events)
+pub keeper_stays : (events : List Event) (w : World) (spans : List RetiredSpan) (least : ℕ) → FreesMay spans least (writers events)
     → (world_after w events).keeper ≡ w.keeper
 keeper_stays [] w spans least may = refl
 keeper_stays (Steps k next ∷ events) w spans least may = keeper_stays events (after w (Steps k next)) spans least may
@@ -322,7 +322,7 @@ keeper_stays (Looks k ∷ events) w spans least may = absurd may
 keeper_stays (Frees span ∷ events) w spans least may = keeper_stays events (after w (Frees span)) _ least may.2
 
 -- how many seats a look goes over doesn't matter to what is unmarked
-pub frees_same : (seats : ℕ) (spans : List Span) (chunks : List Chunk)
+pub frees_same : (seats : ℕ) (spans : List RetiredSpan) (chunks : List Chunk)
     → events_of (record { marks = []; base = 0; len = 0; seats = seats; spans = spans }) (unmarkings chunks) ≡ frees spans chunks
 frees_same seats spans [] = refl
 frees_same seats spans (c ∷ rest) = ap (λ (z : List Event). Frees (span_from spans c.base) ∷ z) (frees_same seats spans rest)

@@ -6,7 +6,7 @@ use Rattle.std.specs.List.{insert}
 use Rattle.std.proofs.lemmas.List.{take-append-drop, set-get_or, set_split}
 use Rattle.std.proofs.lemmas.List.Elements.{Contains-get_or, Contains-push, Contains-push_cases, Contains-append_left}
 use Rattle.std.proofs.lemmas.List.Elements.{Contains-append_right, Contains-append_cases}
-use Rattle.nc_schedule.specs.Quiet.{Span}
+use Rattle.nc_schedule.specs.Quiet.{RetiredSpan}
 use Rattle.nc_region.specs.declared.chunk.Chunk.{Chunk}
 use Rattle.nc_region.specs.declared.chunk.ChunkState.{ChunkState}
 use Rattle.nc_region.specs.declared.chunk.ChunkState.TheVariants.{Live, Retired}
@@ -16,7 +16,7 @@ use Rattle.nc_region.specs.Region.{IsLive}
 use Rattle.nc_region.proofs.Offered.{each_get}
 
 -- one chunk's span before others
-with_append : (c : Chunk) (s : ChunkState) (xs ys : List Span) → with_retired c s (xs ++ ys) ≡ with_retired c s xs ++ ys
+with_append : (c : Chunk) (s : ChunkState) (xs ys : List RetiredSpan) → with_retired c s (xs ++ ys) ≡ with_retired c s xs ++ ys
 with_append c Live xs ys = refl
 with_append c (Retired stamp) xs ys = refl
 
@@ -24,10 +24,10 @@ with_append c (Retired stamp) xs ys = refl
 pub retired_append : (xs ys : List Chunk) → retired_spans (xs ++ ys) ≡ retired_spans xs ++ retired_spans ys
 retired_append [] ys = refl
 retired_append (c ∷ xs) ys =
-    ap (λ (z : List Span). with_retired c c.state z) (retired_append xs ys) ∙ with_append c c.state (retired_spans xs) (retired_spans ys)
+    ap (λ (z : List RetiredSpan). with_retired c c.state z) (retired_append xs ys) ∙ with_append c c.state (retired_spans xs) (retired_spans ys)
 
 -- a live chunk adds none
-pub live_none : (c : Chunk) (s : ChunkState) (rest : List Span) → IsLive s → with_retired c s rest ≡ rest
+pub live_none : (c : Chunk) (s : ChunkState) (rest : List RetiredSpan) → IsLive s → with_retired c s rest ≡ rest
 live_none c Live rest live = refl
 live_none c (Retired stamp) rest live = absurd live
 
@@ -36,18 +36,18 @@ pub retired_insert : (chunks : List Chunk) (k : ℕ) (c : Chunk) → IsLive c.st
     → retired_spans (insert chunks k c) ≡ retired_spans chunks
 retired_insert chunks k c live =
     retired_append (take k chunks) (c ∷ drop k chunks)
-    ∙ (ap (λ (z : List Span). retired_spans (take k chunks) ++ z) (live_none c c.state (retired_spans (drop k chunks)) live)
+    ∙ (ap (λ (z : List RetiredSpan). retired_spans (take k chunks) ++ z) (live_none c c.state (retired_spans (drop k chunks)) live)
     ∙ (sym (retired_append (take k chunks) (drop k chunks)) ∙ ap retired_spans (take-append-drop k chunks)))
 
 -- the span of a retired chunk before others
-with_each : (P : Span → Type 0) (c : Chunk) (s : ChunkState) (spans : List Span) → c.state ≡ s
+with_each : (P : RetiredSpan → Type 0) (c : Chunk) (s : ChunkState) (spans : List RetiredSpan) → c.state ≡ s
     → ((stamp : ℕ) → c.state ≡ Retired stamp → P (record { base = c.base; length = c.length; stamp = stamp })) → Each P spans
     → Each P (with_retired c s spans)
 with_each P c Live spans is p h = h
 with_each P c (Retired stamp) spans is p h = (p stamp is, h)
 
 -- what holds of each retired chunk's span holds of each retired span
-pub retired_each : (P : Span → Type 0) (chunks : List Chunk)
+pub retired_each : (P : RetiredSpan → Type 0) (chunks : List Chunk)
     → Each (λ (c : Chunk). (stamp : ℕ) → c.state ≡ Retired stamp → P (record { base = c.base; length = c.length; stamp = stamp })) chunks
     → Each P (retired_spans chunks)
 retired_each P [] h = tt
@@ -62,17 +62,17 @@ pub all_contained : {X : Type 0} (P : X → Type 0) (xs : List X) → ((x : X) �
 all_contained P xs f = λ k d lt. f (get_or xs k d) (Contains-get_or xs k d lt)
 
 -- the spans of a world are those of the chunks
-abbrev pub AreSpansOf : List Span → List Chunk → Type 0
-AreSpansOf spans chunks = (span : Span) → Contains spans span → Contains (retired_spans chunks) span
+abbrev pub AreSpansOf : List RetiredSpan → List Chunk → Type 0
+AreSpansOf spans chunks = (span : RetiredSpan) → Contains spans span → Contains (retired_spans chunks) span
 
 -- what holds of each retired span holds of all of the world's
-pub all_spans : (P : Span → Type 0) (spans : List Span) (chunks : List Chunk) → AreSpansOf spans chunks → Each P (retired_spans chunks)
+pub all_spans : (P : RetiredSpan → Type 0) (spans : List RetiredSpan) (chunks : List Chunk) → AreSpansOf spans chunks → Each P (retired_spans chunks)
     → All P spans
 all_spans P spans chunks are h = all_contained P spans (λ span has. each_contains P (retired_spans chunks) span h (are span has))
 
 -- the spans of the world and of the chunks are the same, in any order
-abbrev pub AreSameSpans : List Span → List Chunk → Type 0
-AreSameSpans spans chunks = (span : Span) → Contains spans span ↔ Contains (retired_spans chunks) span
+abbrev pub AreSameSpans : List RetiredSpan → List Chunk → Type 0
+AreSameSpans spans chunks = (span : RetiredSpan) → Contains spans span ↔ Contains (retired_spans chunks) span
 
 -- a list with one member is that member
 one_is : {X : Type 0} (y x : X) → Contains (y ∷ []) x → y ≡ x
@@ -105,29 +105,29 @@ parted_at {X} xs k x lt is =
     sym (set-get_or xs k x) ∙ (set_split xs k (get_or xs k x) lt ∙ ap (λ (y : X). take k xs ++ y ∷ drop (suc k) xs) is)
 
 -- the span of a retired chunk is before the others
-pub retired_head : (c : Chunk) (s : ChunkState) (stamp : ℕ) (rest : List Span) → s ≡ Retired stamp
+pub retired_head : (c : Chunk) (s : ChunkState) (stamp : ℕ) (rest : List RetiredSpan) → s ≡ Retired stamp
     → with_retired c s rest ≡ record { base = c.base; length = c.length; stamp = stamp } ∷ rest
 retired_head c s stamp rest is = ap (λ (z : ChunkState). with_retired c z rest) is
 
 -- a live chunk is retired: one more span
-pub same_spans_retired : (spans : List Span) (chunks : List Chunk) (k : ℕ) (c : Chunk) (stamp : ℕ) → k < length chunks
+pub same_spans_retired : (spans : List RetiredSpan) (chunks : List Chunk) (k : ℕ) (c : Chunk) (stamp : ℕ) → k < length chunks
     → get_or chunks k c ≡ c
     → IsLive c.state → AreSameSpans spans chunks
     → AreSameSpans (record { base = c.base; length = c.length; stamp = stamp } ∷ spans) (set chunks k (record c { state = Retired stamp }))
 same_spans_retired spans chunks k c stamp lt here live same = λ span.
-    let new : Span = record { base = c.base; length = c.length; stamp = stamp } in
+    let new : RetiredSpan = record { base = c.base; length = c.length; stamp = stamp } in
     let front = retired_spans (take k chunks) in
     let back = retired_spans (drop (suc k) chunks) in
     let old_is : retired_spans chunks ≡ retired_spans (take k chunks) ++ retired_spans (drop (suc k) chunks) =
     ap retired_spans (parted_at chunks k c lt here)
     ∙ (retired_append (take k chunks) (c ∷ drop (suc k) chunks)
-    ∙ ap (λ (z : List Span). retired_spans (take k chunks) ++ z) (live_none c c.state (retired_spans (drop (suc k) chunks)) live)) in
+    ∙ ap (λ (z : List RetiredSpan). retired_spans (take k chunks) ++ z) (live_none c c.state (retired_spans (drop (suc k) chunks)) live)) in
     let new_is : retired_spans (set chunks k (record c { state = Retired stamp })) ≡ retired_spans (take k chunks) ++
     (record { base = c.base; length = c.length; stamp = stamp } ∷ retired_spans (drop (suc k) chunks)) =
     ap retired_spans (set_split chunks k (record c { state = Retired stamp }) lt)
     ∙ retired_append (take k chunks) (record c { state = Retired stamp } ∷ drop (suc k) chunks) in (
       λ has.
-          subst (λ (z : List Span). Contains z span) (sym new_is)
+          subst (λ (z : List RetiredSpan). Contains z span) (sym new_is)
           (elim (out_of_middle [] spans (record { base = c.base; length = c.length; stamp = stamp }) span has) [
             | inl is ↦ subst
                 (Contains (retired_spans (take k chunks) ++
@@ -136,18 +136,18 @@ same_spans_retired spans chunks k c stamp lt here live same = λ span.
                 (suc k) chunks)) (record { base = c.base; length = c.length; stamp = stamp }))
             | inr old ↦ into_middle (retired_spans (take k chunks)) (retired_spans (drop (suc k) chunks))
                 (record { base = c.base; length = c.length; stamp = stamp }) span
-                (subst (λ (z : List Span). Contains z span) old_is ((same span).0 old))
+                (subst (λ (z : List RetiredSpan). Contains z span) old_is ((same span).0 old))
           ]),
       λ has.
           elim (out_of_middle (retired_spans (take k chunks)) (retired_spans (drop (suc k) chunks))
-          (record { base = c.base; length = c.length; stamp = stamp }) span (subst (λ (z : List Span). Contains z span) new_is has)) [
+          (record { base = c.base; length = c.length; stamp = stamp }) span (subst (λ (z : List RetiredSpan). Contains z span) new_is has)) [
             | inl is ↦ subst (Contains (record { base = c.base; length = c.length; stamp = stamp } ∷ spans)) is
                 (the_middle [] spans (record { base = c.base; length = c.length; stamp = stamp }))
             | inr old ↦ into_middle [] spans (record { base = c.base; length = c.length; stamp = stamp }) span
-                ((same span).1 (subst (λ (z : List Span). Contains z span) (sym old_is) old))
+                ((same span).1 (subst (λ (z : List RetiredSpan). Contains z span) (sym old_is) old))
           ],
     )
 
 -- a span lies beside a place and those behind it, so many as the length says
-abbrev pub IsBeside : ℕ → ℕ → Span → Type 0
+abbrev pub IsBeside : ℕ → ℕ → RetiredSpan → Type 0
 IsBeside base len span = (65536 ≤ span.base) × ((span.base + span.length ≤ base) ⊎ (base + len ≤ span.base))

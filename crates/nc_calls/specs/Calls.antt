@@ -5,7 +5,7 @@ use Rattle.nc_decode.specs.declared.instruction.Mark.{Mark}
 use Rattle.nc_decode.specs.Bundles.{IsLawfulLimit}
 use Rattle.nc_gens.specs.Rule.{last_generation}
 use Rattle.nc_vet.specs.Chunk.{MarkedChunk, Piece}
-use Rattle.nc_schedule.specs.Quiet.{Span}
+use Rattle.nc_schedule.specs.Quiet.{RetiredSpan}
 use Rattle.nc_schedule.specs.World.{World, first_world}
 use Rattle.nc_schedule.specs.Events.{Event, Puts, Settles, Marks, Retires, Frees, Looks, world_after, AreAllowed}
 use Rattle.nc_region.specs.declared.acts.Act.{Act}
@@ -25,7 +25,7 @@ use Rattle.nc_calls.specs.Views.{ViewsKeep}
 pub record StandsFor (w : World) (r : Region) : Type 0 where
   pub marked : w.marked ≡ r.marked
   pub keeper : w.keeper ≡ r.keeper.numbers
-  pub spans : (span : Span) → Contains w.retired span ↔ Contains (retired_spans r.chunks) span
+  pub spans : (span : RetiredSpan) → Contains w.retired span ↔ Contains (retired_spans r.chunks) span
 
 -- The events lead to the region: each was allowed where it happened, and the world they leave stands for the region. In
 -- every view of that world no instruction at a marked place reaches another marked place, and marked places outside
@@ -44,10 +44,10 @@ pub record Details : Type 0 where
   pub base : ℕ
   pub len : ℕ
   pub seats : ℕ
-  pub spans : List Span
+  pub spans : List RetiredSpan
 
 -- the first span of a list that has this base, or one without a place
-abbrev pub span_from : List Span → ℕ → Span
+abbrev pub span_from : List RetiredSpan → ℕ → RetiredSpan
 span_from [] at = record { base = at; length = 0; stamp = 0 }
 span_from (span ∷ rest) at = if span.base == at then span else span_from rest at
 

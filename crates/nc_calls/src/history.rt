@@ -3,7 +3,7 @@
 ghost use Rattle.std.specs.Prelude.{◌≡◌, ℕ, ◌∷◌, ◌++◌, List};
 ghost use Rattle.nc_vet.specs.Chunk.{MarkedChunk};
 ghost use Rattle.nc_text.specs.Machine.{IsConfined};
-ghost use Rattle.nc_schedule.specs.Quiet.{Span};
+ghost use Rattle.nc_schedule.specs.Quiet.{RetiredSpan};
 ghost use Rattle.nc_schedule.specs.World.{first_world, NoneIsWithin};
 ghost use Rattle.nc_schedule.specs.Events.{Event, world_after};
 ghost use Rattle.nc_region.specs.declared.fault.CreateFault.{CreateFault};
@@ -32,7 +32,7 @@ pub fn law_of_histories()
     ensures stand { (limit seats : ℕ) (first events later : List Event) (r : Region) (turns : List Turn)
         → IsHistory limit seats first r turns → happened first turns ≡ events ++ later
         → AllStand (world_after (first_world limit seats) events) }
-    ensures freed { (limit seats : ℕ) (first events later : List Event) (r : Region) (turns : List Turn) (span : Span)
+    ensures freed { (limit seats : ℕ) (first events later : List Event) (r : Region) (turns : List Turn) (span : RetiredSpan)
         → IsHistory limit seats first r turns → happened first turns ≡ events ++ Event.Frees span ∷ later
         → NoneIsWithin (world_after (first_world limit seats) events) span }
     ensures text { (limit seats : ℕ) (first : List Event) (r : Region) (turns : List Turn) → IsHistory limit seats first r turns

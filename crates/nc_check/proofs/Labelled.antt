@@ -7,7 +7,7 @@ use Rattle.nc_elf.specs.declared.segment.Segment.{Segment}
 use Rattle.nc_elf.specs.declared.symbols.Symbol.{Symbol}
 use Rattle.nc_elf.specs.Symbols.{AreAscending}
 use Rattle.nc_report.specs.declared.labels.Label.{Label}
-use Rattle.nc_report.specs.Labels.{AreAscending as LabelsAscend}
+use Rattle.nc_report.specs.Labels.{LabelsAscend}
 use Rattle.nc_check.specs.Parts.{named, name_in, is_in}
 
 -- where so many after the first ones pass, and no others, a filter takes these

@@ -7,14 +7,14 @@ use Rattle.nc_check.specs.declared.outcome.Halt.{Halt}
 use Rattle.nc_check.specs.declared.outcome.Halt.TheVariants.{Words, OutOfMemory, WriteFailed, OutputClosed}
 
 -- where the words of the command line ask for help or the version, and where they are at fault
-abbrev pub status_of_words : ErrorKind → ℕ
-status_of_words DisplayHelp = 0
-status_of_words DisplayVersion = 0
-status_of_words _ = 2
+abbrev pub words_status : ErrorKind → ℕ
+words_status DisplayHelp = 0
+words_status DisplayVersion = 0
+words_status _ = 2
 
 -- 0 after help, otherwise 2
-abbrev pub status_of : Halt → ℕ
-status_of (Words error) = status_of_words (kind_of error)
-status_of OutOfMemory = 2
-status_of WriteFailed = 2
-status_of OutputClosed = 2
+abbrev pub halt_status : Halt → ℕ
+halt_status (Words error) = words_status (kind_of error)
+halt_status OutOfMemory = 2
+halt_status WriteFailed = 2
+halt_status OutputClosed = 2

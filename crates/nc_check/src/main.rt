@@ -8,7 +8,7 @@
 #![tactic(auto)]
 
 ghost use Rattle.std.specs.Prelude.{◌≡◌, ◌⊎◌};
-ghost use Rattle.nc_check.specs.Status.{status_of};
+ghost use Rattle.nc_check.specs.Status.{halt_status};
 
 mod checking;
 mod files;
@@ -73,7 +73,7 @@ where
 
 /// Prints why the program stops, and gives the status to end with: 2 also where help can't be printed.
 fn stop<R: Print + Eprint>(rt: &R, halt: &Halt) -> u8
-    ensures { (result ≡ status_of halt.now) ⊎ ((status_of halt.now ≡ 0) × (result ≡ 2)) }
+    ensures { (result ≡ halt_status halt.now) ⊎ ((halt_status halt.now ≡ 0) × (result ≡ 2)) }
 {
     if let Halt::Words(error) = halt {
         if error.kind() != ClapKind::OutOfMemory {
@@ -91,7 +91,7 @@ fn stop<R: Print + Eprint>(rt: &R, halt: &Halt) -> u8
 /// Prints a fault as one line on standard error, if anything is said of it. Where that can't be done nothing else is left
 /// to do.
 fn stop_by<R: Eprint>(rt: &R, halt: &Halt) -> u8
-    ensures { result ≡ status_of halt.now }
+    ensures { result ≡ halt_status halt.now }
 {
     if let Some(text) = halt.text() {
         let _ = eprintln!(rt; "nc_check: {text}");

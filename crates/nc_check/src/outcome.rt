@@ -1,7 +1,7 @@
 //! How the program ends.
 
 ghost use Rattle.std.specs.Prelude.{◌≡◌, ◌<◌, ◌↔◌, true, false};
-ghost use Rattle.nc_check.specs.Status.{status_of};
+ghost use Rattle.nc_check.specs.Status.{halt_status};
 
 use clap::error::ErrorKind;
 use std::io::ErrorKind as IoKind;
@@ -22,7 +22,7 @@ pub enum Halt {
 impl Halt {
     /// The status that the program ends with: 0 after help, otherwise 2.
     pub fn status(&self) -> u8
-        ensures { result ≡ status_of self.now }
+        ensures { result ≡ halt_status self.now }
     {
         match self {
             Halt::Words(error) => match error.kind() {

@@ -6,6 +6,6 @@ use Rattle.nc_command.specs.declared.asked.Ask.{Ask}
 use Rattle.nc_command.specs.declared.asked.Ask.TheVariants.{Replay, Vet}
 
 -- the numbers that a command line of `nc_replay` asks for are those of a region, of seats, of workers
-abbrev pub IsInRange : Ask → Type 0
-IsInRange (Replay bundles seats) = IsRegionSize bundles × AreSeats seats
-IsInRange (Vet bundles workers) = IsRegionSize bundles × AreWorkers workers
+abbrev pub AsksInRange : Ask → Type 0
+AsksInRange (Replay bundles seats) = IsRegionSize bundles × AreSeats seats
+AsksInRange (Vet bundles workers) = IsRegionSize bundles × AreWorkers workers

@@ -1,7 +1,7 @@
 //! What the words of a command line ask for.
 
 ghost use Rattle.std.specs.Prelude.{◌≤◌, IfOk, IfSome};
-ghost use Rattle.nc_command.specs.Range.{IsInRange};
+ghost use Rattle.nc_command.specs.Range.{AsksInRange};
 
 use crate::asked::Ask;
 use clap::error::ErrorKind;
@@ -166,7 +166,7 @@ pub(crate) fn matches<'a>(
 
 /// What a subcommand asks for.
 fn asked(found: &ArgMatches<'_>) -> Option<Ask>
-    ensures { IfSome result IsInRange }
+    ensures { IfSome result AsksInRange }
 {
     if let Some(found) = found.subcommand_matches("replay") {
         return Some(Ask::Replay {
@@ -184,7 +184,7 @@ fn asked(found: &ArgMatches<'_>) -> Option<Ask>
 /// Reads the words of a command line, without the program's own name.
 pub fn ask<'a>(alloc: Global, words: &'a [&'a str]) -> Result<Ask, Error>
     // The numbers are in the ranges of the options.
-    ensures { IfOk result IsInRange }
+    ensures { IfOk result AsksInRange }
 {
     let found = matches(program(alloc), words)?;
     let asked = asked(&found);

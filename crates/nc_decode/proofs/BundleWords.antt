@@ -8,10 +8,10 @@ use Rattle.std.proofs.lemmas.List.FromFn.{get_or-map-range_with_len, length-rang
 use Rattle.std.proofs.lemmas.Nat.Bits.{bit_at-suc, bit_at_lowest, bit_at_cat_low}
 use Rattle.nc_decode.specs.declared.bundle.Bundle.{Bundle}
 use Rattle.nc_decode.specs.declared.instruction.Mark.{Mark}
-use Rattle.nc_decode.specs.Bits.{is_start, is_second, mark_at, marks_in}
+use Rattle.nc_decode.specs.Bits.{starts_instruction, is_second, mark_by_bits, marks_in}
 
 -- the word of starts: the ends, one place later, and the first place
-pub start_word : (w : Bundle) (k : ℕ) → k < 32 → (bit_at (2 * (w.ends % 2147483648) + 1) k == 1) ≡ is_start w k
+pub start_word : (w : Bundle) (k : ℕ) → k < 32 → (bit_at (2 * (w.ends % 2147483648) + 1) k == 1) ≡ starts_instruction w k
 start_word w zero lt = ap (λ (b : ℕ). b == 1) {y = 1} (bit_at_lowest (2 * (w.ends % 2147483648) + 1) ∙ omega arith)
 start_word w (suc j) lt =
     let low : 2 ^ 31 ≡ 2147483648 = refl in
@@ -30,9 +30,9 @@ second_word w k = ap (λ (b : ℕ). b == 1) (sym (bit_at-suc w.pairs k) ∙ ap (
 
 -- there is a mark for each place
 pub length-marks_in : (code : List ℕ) (bundles : List Bundle) → length (marks_in code bundles) ≡ length code
-length-marks_in code bundles = length-map (range_with_len 0 (length code)) (mark_at code bundles) ∙ length-range_with_len 0 (length code)
+length-marks_in code bundles = length-map (range_with_len 0 (length code)) (mark_by_bits code bundles) ∙ length-range_with_len 0 (length code)
 
 -- the mark of a place
 pub marks_in-at : (code : List ℕ) (bundles : List Bundle) (k : ℕ) (d : Mark) → k < length code
-    → get_or (marks_in code bundles) k d ≡ mark_at code bundles k
-marks_in-at code bundles k d lt = get_or-map-range_with_len (mark_at code bundles) 0 (length code) k k d lt (omega arith)
+    → get_or (marks_in code bundles) k d ≡ mark_by_bits code bundles k
+marks_in-at code bundles k d lt = get_or-map-range_with_len (mark_by_bits code bundles) 0 (length code) k k d lt (omega arith)

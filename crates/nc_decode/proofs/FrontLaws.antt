@@ -7,7 +7,7 @@ use Rattle.std.proofs.lemmas.List.{length-append, take_at, take-append-drop}
 use Rattle.nc_decode.specs.declared.instruction.DecodeFault.{DecodeFault}
 use Rattle.nc_decode.specs.declared.instruction.Instr.{Instr}
 use Rattle.nc_decode.specs.declared.instruction.Flow.TheVariants.{Stop}
-use Rattle.nc_decode.specs.machinery.Entries.{entry_of}
+use Rattle.nc_decode.specs.machinery.Entries.{opcode_entry}
 use Rattle.nc_decode.specs.machinery.Shapes.{shape_of, prefixed_shape, prefix_of, opcode_shape, entry_shape, forms_of, coded_len}
 use Rattle.nc_decode.specs.machinery.Reading.{reading, whole_of}
 use Rattle.nc_decode.specs.Spelling.{spelled, masks_of, Spells, IsAtFront}
@@ -90,7 +90,7 @@ stop_fits (suc k) = omega arith
 
 -- F4 is read as Stop
 stop_read : reading (0xF4 ∷ []) ≡ Ok (plain 1 Stop)
-unfolding reading whole_of shape_of prefixed_shape prefix_of opcode_shape entry_shape entry_of forms_of coded_len
+unfolding reading whole_of shape_of prefixed_shape prefix_of opcode_shape entry_shape opcode_entry forms_of coded_len
 stop_read = refl
 
 -- the function finds F4, whatever follows

@@ -5,7 +5,7 @@ use Rattle.std.specs.Prelude.{IfSome, IsTrue}
 use Rattle.std.proofs.lemmas.List.{take_all}
 use Rattle.nc_decode.specs.declared.automaton.TheConstants.{STATES, END, AFTER_SHORT, AFTER_NEAR, AFTER_PAIR}
 use Rattle.nc_decode.specs.declared.instruction.Instr.{Instr}
-use Rattle.nc_decode.specs.Automaton.{next_state, masked_at, Leads, Ends, ReadsByStates, NoneIsPaired}
+use Rattle.nc_decode.specs.Automaton.{next_state, masked_at, LeadsToEnd, Ends, ReadsByStates, NoneIsPaired}
 use Rattle.nc_decode.specs.machinery.Reading.{reading}
 use Rattle.nc_decode.specs.Spelling.{Spells, masks_of}
 use Rattle.nc_decode.specs.Transfers.{is_direct}
@@ -205,7 +205,7 @@ begun_from m b low high lt =
     begun_meant (masked_at m) b lt (subst (λ (o : Option ℕ). IfSome o (λ r. r < 8)) s.0 s.1)
 
 -- from a stage to an end
-led : (o : Option ℕ) (s e : ℕ) (pre bs : List ℕ) → s < END → All (λ b. b < 256) bs → Meant o (stage_of s) pre → Leads s bs e
+led : (o : Option ℕ) (s e : ℕ) (pre bs : List ℕ) → s < END → All (λ b. b < 256) bs → Meant o (stage_of s) pre → LeadsToEnd s bs e
     → Meant o (stage_of e) (pre ++ bs) × (END ≤ e) × (e < STATES)
 led o s e pre [] lt fits m l = absurd l
 led o s e pre (b ∷ []) lt fits m l =
@@ -223,7 +223,7 @@ led o s e pre (b ∷ c ∷ bs) lt fits m l =
     (subst (λ (z : List ℕ). Meant o (stage_of e) z) (more pre (c ∷ bs) b) rest.0, rest.1, rest.2)
 
 -- from an end to the next
-led_from_end : (m e : ℕ) (bs : List ℕ) → END ≤ m → m < STATES → All (λ b. b < 256) bs → Leads m bs e → Meant (masked_at m) (stage_of e) bs
+led_from_end : (m e : ℕ) (bs : List ℕ) → END ≤ m → m < STATES → All (λ b. b < 256) bs → LeadsToEnd m bs e → Meant (masked_at m) (stage_of e) bs
     × (END ≤ e) × (e < STATES)
 led_from_end m e [] low high fits l = absurd l
 led_from_end m e (b ∷ []) low high fits l = (

@@ -13,7 +13,7 @@ use Rattle.nc_decode.specs.declared.entry.Shape.{Shape}
 use Rattle.nc_decode.specs.declared.instruction.DecodeFault.{DecodeFault}
 use Rattle.nc_decode.specs.declared.instruction.DecodeFault.TheVariants.{NotPermitted}
 use Rattle.nc_decode.specs.declared.instruction.Instr.{Instr}
-use Rattle.nc_decode.specs.machinery.Entries.{entry_of}
+use Rattle.nc_decode.specs.machinery.Entries.{opcode_entry}
 use Rattle.nc_decode.specs.machinery.Reading.{reading, whole_of}
 use Rattle.nc_decode.specs.Rows.{reg_of}
 use Rattle.nc_decode.specs.machinery.Shapes.{prefix_of, forms_of, coded_len, permits, flow_of, reg_if, sized_operand, operand_shape}
@@ -51,16 +51,16 @@ tame p e =
 
 -- so each is
 abbrev all_tame : Bool → Bool
-all_tame two = each_below (λ o. each_prefix (λ p. tame p (entry_of two o))) 256
+all_tame two = each_below (λ o. each_prefix (λ p. tame p (opcode_entry two o))) 256
 
 -- computed: each opcode of one byte is tame with each prefix
 tame_one : all_tame false ≡ true
-unfolding entry_of forms_of permits flow_of
+unfolding opcode_entry forms_of permits flow_of
 tame_one = refl
 
 -- computed: each opcode after 0F is tame with each prefix
 tame_two : all_tame true ≡ true
-unfolding entry_of forms_of permits flow_of
+unfolding opcode_entry forms_of permits flow_of
 tame_two = refl
 
 -- a test of each prefix, at one
@@ -85,11 +85,11 @@ prefix_at t p e =
     go Lock a b c d f = f
 
 -- so for one opcode
-pub tame_at : (two : Bool) (o : ℕ) (p : Prefix) → o < 256 → tame p (entry_of two o) ≡ true
-tame_at false o p lt = prefix_at (λ q. tame q (entry_of false o)) p
-    (each_below-at (λ x. each_prefix (λ q. tame q (entry_of false x))) 256 o tame_one lt)
-tame_at true o p lt = prefix_at (λ q. tame q (entry_of true o)) p
-    (each_below-at (λ x. each_prefix (λ q. tame q (entry_of true x))) 256 o tame_two lt)
+pub tame_at : (two : Bool) (o : ℕ) (p : Prefix) → o < 256 → tame p (opcode_entry two o) ≡ true
+tame_at false o p lt = prefix_at (λ q. tame q (opcode_entry false o)) p
+    (each_below-at (λ x. each_prefix (λ q. tame q (opcode_entry false x))) 256 o tame_one lt)
+tame_at true o p lt = prefix_at (λ q. tame q (opcode_entry true o)) p
+    (each_below-at (λ x. each_prefix (λ q. tame q (opcode_entry true x))) 256 o tame_two lt)
 
 -- what that comes to
 pub record IsTame (p : Prefix) (e : Entry) : Type 0 where
@@ -145,8 +145,8 @@ is_tame p e h =
     }
 
 -- the entry of each opcode is tame
-entry_tame : (two : Bool) (b : ℕ) (p : Prefix) → b < 256 → IsTame p (entry_of two b)
-entry_tame two b p lt = is_tame p (entry_of two b) (tame_at two b p lt)
+entry_tame : (two : Bool) (b : ℕ) (p : Prefix) → b < 256 → IsTame p (opcode_entry two b)
+entry_tame two b p lt = is_tame p (opcode_entry two b) (tame_at two b p lt)
 
 -- ---- an opcode has been read
 
@@ -250,20 +250,20 @@ opcode_meant o p pre b lt shapes =
             ∙ ap (λ (n : ℕ). escaped_shape p n rest) (sym (length_push pre b)))
         | inr never ↦ rw (escape, never) tt
       ]
-      | inr other ↦ rw other (after_opcode_meant o p (entry_of false b) (pre ++ b ∷ []) (entry_tame false b p lt) (λ rest.
+      | inr other ↦ rw other (after_opcode_meant o p (opcode_entry false b) (pre ++ b ∷ []) (entry_tame false b p lt) (λ rest.
           ap shape_of (more pre rest b) ∙ shapes rest
           ∙ cond_is_false (b == 0x0F) (if escapes p then escaped_shape p (length pre + 1) rest else refused)
-          (entry_shape p (length pre + 1) (entry_of false b) rest) other
-          ∙ ap (λ (n : ℕ). entry_shape p n (entry_of false b) rest) (sym (length_push pre b))))
+          (entry_shape p (length pre + 1) (opcode_entry false b) rest) other
+          ∙ ap (λ (n : ℕ). entry_shape p n (opcode_entry false b) rest) (sym (length_push pre b))))
     ]
 
 -- the opcode after 0F
 escaped_meant : (o : Option ℕ) (p : Prefix) (pre : List ℕ) (b : ℕ) → b < 256
     → ((rest : List ℕ) → shape_of (pre ++ rest) ≡ escaped_shape p (length pre) rest)
-    → Meant o (after_opcode p (entry_of true b)) (pre ++ b ∷ [])
+    → Meant o (after_opcode p (opcode_entry true b)) (pre ++ b ∷ [])
 unfolding escaped_shape
-escaped_meant o p pre b lt shapes = after_opcode_meant o p (entry_of true b) (pre ++ b ∷ []) (entry_tame true b p lt) (λ rest.
-    ap shape_of (more pre rest b) ∙ shapes (b ∷ rest) ∙ ap (λ (n : ℕ). entry_shape p n (entry_of true b) rest) (sym (length_push pre b)))
+escaped_meant o p pre b lt shapes = after_opcode_meant o p (opcode_entry true b) (pre ++ b ∷ []) (entry_tame true b p lt) (λ rest.
+    ap shape_of (more pre rest b) ∙ shapes (b ∷ rest) ∙ ap (λ (n : ℕ). entry_shape p n (opcode_entry true b) rest) (sym (length_push pre b)))
 
 -- ---- an instruction begins
 
@@ -274,12 +274,12 @@ plain_shapes b rest e = ap (λ (p : Prefix). prefixed_shape p (b ∷ rest) rest)
 
 -- a mask's ModRM, and that of FF
 mask_operand : (o : Option ℕ) → Meant o (opcode Unprefixed 0x83) (0x83 ∷ []) → WaitsForOperand 0xFFFF 1 1 (0x83 ∷ [])
-unfolding entry_of forms_of coded_len
+unfolding opcode_entry forms_of coded_len
 mask_operand o m = m
 
 -- after FF, ModRM of a form that is no indirect transfer is waited for
 transfer_operand : (o : Option ℕ) → Meant o (opcode Unprefixed 0xFF) (0xFF ∷ []) → WaitsForOperand 0x4343 0 0 (0xFF ∷ [])
-unfolding entry_of forms_of coded_len
+unfolding opcode_entry forms_of coded_len
 transfer_operand o m = m
 
 -- the first byte where it is no prefix
@@ -347,7 +347,7 @@ pairs r (Err e) = false
 
 -- computed: FF and ModRM on each register are read as an indirect transfer on it
 paired_reads : each_below (λ r. pairs r (reading (0xFF ∷ (0xD0 + r) ∷ [])) && pairs r (reading (0xFF ∷ (0xE0 + r) ∷ []))) 8 ≡ true
-unfolding reading whole_of shape_of prefixed_shape prefix_of opcode_shape entry_shape operand_shape sized_operand entry_of forms_of
+unfolding reading whole_of shape_of prefixed_shape prefix_of opcode_shape entry_shape operand_shape sized_operand opcode_entry forms_of
     coded_len permits flow_of reg_if
 paired_reads = refl
 

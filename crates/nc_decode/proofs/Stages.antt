@@ -9,7 +9,7 @@ use Rattle.nc_decode.specs.declared.entry.Number.TheVariants.{Short, Near}
 use Rattle.nc_decode.specs.declared.entry.Prefix.{Prefix}
 use Rattle.nc_decode.specs.declared.entry.Prefix.TheVariants.{Absent as Unprefixed, Word, Repeat, RepeatNot, Lock}
 use Rattle.nc_decode.specs.Automaton.{next_state}
-use Rattle.nc_decode.specs.machinery.Entries.{entry_of}
+use Rattle.nc_decode.specs.machinery.Entries.{opcode_entry}
 use Rattle.nc_decode.specs.Rows.{mod_of, reg_of}
 use Rattle.nc_decode.specs.machinery.Shapes.{prefix_of, prefix_index, forms_of, coded_len, permits, has_sib, escapes}
 use Rattle.nc_decode.specs.Spelling.{operand_len}
@@ -65,7 +65,7 @@ after_opcode p e =
 
 -- an opcode comes next
 abbrev pub opcode : Prefix → ℕ → Stage
-opcode p b = if b == 0x0F then (if escapes p then escaped p else dead) else after_opcode p (entry_of false b)
+opcode p b = if b == 0x0F then (if escapes p then escaped p else dead) else after_opcode p (opcode_entry false b)
 
 -- no prefix stands before it
 abbrev pub unprefixed : Prefix → ℕ → Stage
@@ -100,7 +100,7 @@ goes_by r b = (b == 0xD0 + r) || (b == 0xE0 + r)
 abbrev pub after : Stage → ℕ → Stage
 after dead b = dead
 after (prefixed p) b = opcode p b
-after (escaped p) b = after_opcode p (entry_of true b)
+after (escaped p) b = after_opcode p (opcode_entry true b)
 after (operand forms initial other) b = modrm forms initial other b
 after masking b = if masks_there b then mask_number (b - 0xE0) else modrm 0xFFFF 1 1 b
 after (mask_number r) b = if b == 0xE0 then ended (masked r) else ended plain
@@ -226,7 +226,7 @@ agrees row x = (length row == 256) && each_numbered (λ b s. same_stage (stage_o
 
 -- the table agrees
 tabled : each_below (λ s. agrees (get_or NEXT s []) (stage_of s)) STATES ≡ true
-unfolding entry_of forms_of prefix_of coded_len permits
+unfolding opcode_entry forms_of prefix_of coded_len permits
 tabled = refl
 
 -- so at a state and a byte

@@ -23,10 +23,10 @@ masked_at s =
     else (if s == AFTER_MASK + 6 then Some 7 else None))))))
 
 -- bytes lead from a state to one after an instruction, by no other such state
-abbrev pub Leads : ℕ → List ℕ → ℕ → Type 0
-Leads s [] e = ⊥
-Leads s (b ∷ []) e = (e ≡ next_state s b) × (END ≤ e)
-Leads s (b ∷ c ∷ bs) e = (next_state s b < END) × Leads (next_state s b) (c ∷ bs) e
+abbrev pub LeadsToEnd : ℕ → List ℕ → ℕ → Type 0
+LeadsToEnd s [] e = ⊥
+LeadsToEnd s (b ∷ []) e = (e ≡ next_state s b) × (END ≤ e)
+LeadsToEnd s (b ∷ c ∷ bs) e = (next_state s b < END) × LeadsToEnd (next_state s b) (c ∷ bs) e
 
 -- The bytes are one whole instruction. The state after it tells whether it is an indirect transfer, where the displacement
 -- of a direct one stands, and which register is masked; and an indirect transfer's register was masked directly before.
@@ -42,7 +42,7 @@ pub record Ends (m e : ℕ) (bytes : List ℕ) (i : Instr) : Type 0 where
 -- whether it is an indirect transfer, where the displacement of a direct one is, and which register it masks. An
 -- indirect transfer directly follows its mask.
 abbrev pub ReadsByStates : Type 0
-ReadsByStates = (m e : ℕ) (bytes : List ℕ) → END ≤ m → m < STATES → All (λ b. b < 256) bytes → Leads m bytes e → (i : Instr)
+ReadsByStates = (m e : ℕ) (bytes : List ℕ) → END ≤ m → m < STATES → All (λ b. b < 256) bytes → LeadsToEnd m bytes e → (i : Instr)
     × Ends m e bytes i
 
 -- the next state is always below `STATES`

@@ -7,8 +7,8 @@ use Rattle.nc_decode.specs.declared.instruction.Mark.TheVariants.{Unmarked, Plai
 use Rattle.nc_decode.specs.declared.bundle.Bundle.{Bundle}
 
 -- an instruction begins at this byte of the bundle: at its first, or where another has ended before
-abbrev pub is_start : Bundle → ℕ → Bool
-is_start w k = (k == 0) || (bit_at w.ends (k - 1) == 1)
+abbrev pub starts_instruction : Bundle → ℕ → Bool
+starts_instruction w k = (k == 0) || (bit_at w.ends (k - 1) == 1)
 
 -- an indirect transfer begins there, which has two bytes
 abbrev pub is_second : Bundle → ℕ → Bool
@@ -16,16 +16,16 @@ is_second w k = bit_at w.pairs (k + 1) == 1
 
 -- the mark at a byte of a bundle; the byte after it names the register of an indirect transfer
 abbrev pub bit_mark : Bundle → ℕ → ℕ → Mark
-bit_mark w k next = if is_second w k then After (next % 8) else (if is_start w k then Plain else Unmarked)
+bit_mark w k next = if is_second w k then After (next % 8) else (if starts_instruction w k then Plain else Unmarked)
 
 -- a bundle without instructions
 abbrev pub no_bits : Bundle
 no_bits = record { ends = 0; pairs = 0; shorts = 0; nears = 0 }
 
 -- the mark of a place of a chunk, by the bits of its bundles
-abbrev pub mark_at : List ℕ → List Bundle → ℕ → Mark
-mark_at code bundles k = bit_mark (get_or bundles (k / 32) no_bits) (k % 32) (slice_index code (k + 1))
+abbrev pub mark_by_bits : List ℕ → List Bundle → ℕ → Mark
+mark_by_bits code bundles k = bit_mark (get_or bundles (k / 32) no_bits) (k % 32) (slice_index code (k + 1))
 
 -- the marks of all places of a chunk, by the bits of its bundles
 abbrev pub marks_in : List ℕ → List Bundle → List Mark
-marks_in code bundles = map (mark_at code bundles) (range_with_len 0 (length code))
+marks_in code bundles = map (mark_by_bits code bundles) (range_with_len 0 (length code))

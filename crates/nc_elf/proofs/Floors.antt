@@ -1,6 +1,6 @@
 -- One more program header: where the loaded segments end, and that they have no fault.
 use Rattle.std.proofs.Common.{ℕ, ◌+◌, ◌≤◌, List, IsTrue, arith, below_more}
-use Rattle.nc_elf.specs.Segments.{program_header, is_load, EndBy, AreGood, IsGood}
+use Rattle.nc_elf.specs.Segments.{program_header, is_load, EndBy, AreGood, IsGoodSegment}
 use Rattle.nc_elf.specs.machinery.Pass.{IsFloor}
 
 -- what holds of the first segments, and of the next one if it is loaded
@@ -19,7 +19,7 @@ fewer_end : (file : List ℕ) (i at : ℕ) → EndBy file (i + 1) at → EndBy f
 fewer_end file i at e = record { each = λ j h l. e.each j (omega arith) l }
 
 -- after a loaded segment that is after the others, the floor is its end
-pub floor_at_end : (file : List ℕ) (i floor : ℕ) → IsFloor file i floor → IsTrue (is_load (program_header file i)) → IsGood file i
+pub floor_at_end : (file : List ℕ) (i floor : ℕ) → IsFloor file i floor → IsTrue (is_load (program_header file i)) → IsGoodSegment file i
     → IsFloor file (i + 1) ((program_header file i).address + (program_header file i).memory_len)
 floor_at_end file i floor f l g =
     record {
@@ -43,7 +43,7 @@ floor_stays file i floor f l =
     }
 
 -- one more segment that has no fault, if it is loaded
-pub more_good : (file : List ℕ) (i : ℕ) → AreGood file i → (IsTrue (is_load (program_header file i)) → IsGood file i)
+pub more_good : (file : List ℕ) (i : ℕ) → AreGood file i → (IsTrue (is_load (program_header file i)) → IsGoodSegment file i)
     → AreGood file (i + 1)
 more_good file i a g =
-    record { each = below_more (λ j. IsTrue (is_load (program_header file j)) → IsGood file j) i a.each g }
+    record { each = below_more (λ j. IsTrue (is_load (program_header file j)) → IsGoodSegment file j) i a.each g }

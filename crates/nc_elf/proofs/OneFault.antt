@@ -7,11 +7,11 @@ use Rattle.nc_elf.specs.declared.fault.ElfFault.TheVariants.{OtherType, BadTable
 use Rattle.nc_elf.specs.declared.fault.SegmentFault.{SegmentFault}
 use Rattle.nc_elf.specs.declared.fault.SegmentFault.TheVariants.{BeyondFile, BeyondMemory, Wraps, OutOfOrder, WritableCode, UnfilledCode}
 use Rattle.nc_elf.specs.Header.{HasTable}
-use Rattle.nc_elf.specs.Segments.{IsGood, IsWellFormed}
-use Rattle.nc_elf.specs.Faults.{HasSegmentFault, IsFirstBad, HasHeaderFault, HasFault}
+use Rattle.nc_elf.specs.Segments.{IsGoodSegment, IsWellFormed}
+use Rattle.nc_elf.specs.Faults.{HasSegmentFault, IsFirstBad, HasHeaderFault, HasElfFault}
 
 -- a segment with a fault isn't good
-not_good : (file : List ℕ) (i : ℕ) (f : SegmentFault) → HasSegmentFault file i f → IsGood file i → ⊥
+not_good : (file : List ℕ) (i : ℕ) (f : SegmentFault) → HasSegmentFault file i f → IsGoodSegment file i → ⊥
 not_good file i BeyondFile h g = h g.in_file
 not_good file i BeyondMemory h g = h.1 g.in_memory
 not_good file i Wraps h g = h.2 g.below_top
@@ -97,14 +97,14 @@ no_table file NoCode h t = h
 no_table file OutOfMemory h t = h
 
 -- a well-formed file has no fault
-pub none_well_formed : (file : List ℕ) (f : ElfFault) → IsWellFormed file → HasFault file f → f ≢ OutOfMemory → ⊥
+pub none_well_formed : (file : List ℕ) (f : ElfFault) → IsWellFormed file → HasElfFault file f → f ≢ OutOfMemory → ⊥
 none_well_formed file (BadSegment i f) w h n = not_good file i f h.why (w.good.each i h.listed h.loaded)
 none_well_formed file NoCode w h n = h.2 w.code
 none_well_formed file OutOfMemory w h n = n refl
 none_well_formed file f w h n = no_table file f h w.table
 
 -- a file has one fault
-one_fault : (file : List ℕ) (f g : ElfFault) → HasFault file f → HasFault file g → f ≢ OutOfMemory → g ≢ OutOfMemory → f ≡ g
+one_fault : (file : List ℕ) (f g : ElfFault) → HasElfFault file f → HasElfFault file g → f ≢ OutOfMemory → g ≢ OutOfMemory → f ≡ g
 one_fault file OutOfMemory g h k n m = absurd (n refl)
 one_fault file f OutOfMemory h k n m = absurd (m refl)
 one_fault file (BadSegment i f) (BadSegment j g) h k n m = same_bad file i j f g h k
@@ -118,6 +118,6 @@ one_fault file f NoCode h k n m = absurd (no_table file f h k.0)
 one_fault file f g h k n m = same_header file f g h k
 
 -- the fault that was found is the one that is due
-pub found_is_due : (file : List ℕ) (f g : ElfFault) → HasFault file f → HasFault file g → g ≢ OutOfMemory → f ≡ g
+pub found_is_due : (file : List ℕ) (f g : ElfFault) → HasElfFault file f → HasElfFault file g → g ≢ OutOfMemory → f ≡ g
 found_is_due file OutOfMemory g h k m = absurd (none_well_formed file g h k m)
 found_is_due file f g h k m = one_fault file f g h k (λ e. cc e) m

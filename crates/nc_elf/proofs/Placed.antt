@@ -4,7 +4,7 @@ use Rattle.std.proofs.lemmas.Bool.{and_parts, cases_Bool}
 use Rattle.std.proofs.lemmas.List.Elements.{All-push}
 use Rattle.std.proofs.lemmas.List.Quantifiers.{all_pairs_push}
 use Rattle.nc_elf.specs.declared.segment.Segment.{Segment}
-use Rattle.nc_elf.specs.Segments.{program_header, is_load, is_code, segment_of, AreGood, IsGood, IsPlaced, EndsBefore}
+use Rattle.nc_elf.specs.Segments.{program_header, is_load, is_code, segment_of, AreGood, IsGoodSegment, IsPlaced, EndsBefore}
 use Rattle.nc_elf.specs.machinery.Pass.{first_segments}
 use Rattle.nc_elf.proofs.Lists.{more_code, more_other}
 
@@ -26,7 +26,7 @@ each_listed P file (suc n) h =
     ])
 
 -- the segment of a header of code that has no fault
-placed : (file : List ℕ) (i : ℕ) → IsGood file i → is_code (program_header file i) ≡ true → IsPlaced file (segment_of (program_header file i))
+placed : (file : List ℕ) (i : ℕ) → IsGoodSegment file i → is_code (program_header file i) ≡ true → IsPlaced file (segment_of (program_header file i))
 placed file i g e =
     record {
       some = search rules;

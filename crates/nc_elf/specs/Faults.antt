@@ -5,7 +5,7 @@ use Rattle.nc_elf.specs.declared.fault.ElfFault.TheVariants.{NotElf, ShortHeader
 use Rattle.nc_elf.specs.declared.fault.ElfFault.TheVariants.{OtherType, BadTable, BadSegment, NoCode, OutOfMemory}
 use Rattle.nc_elf.specs.declared.fault.SegmentFault.{SegmentFault}
 use Rattle.nc_elf.specs.declared.fault.SegmentFault.TheVariants.{BeyondFile, BeyondMemory, Wraps, OutOfOrder, WritableCode, UnfilledCode}
-use Rattle.nc_elf.specs.Header.{e_type, e_phnum, IsElf, IsWhole, IsElf32, IsX86, IsLinked, HasTable}
+use Rattle.nc_elf.specs.Header.{e_type, e_phnum, IsElf, HasWholeHeader, IsElf32, IsX86, IsLinked, HasTable}
 use Rattle.nc_elf.specs.Segments.{program_header, is_load, HasCode, IsInFile, IsInMemory, IsBelowTop, EndBy, IsNotWritableCode}
 use Rattle.nc_elf.specs.Segments.{IsFilled, AreGood, IsWellFormed}
 
@@ -36,20 +36,20 @@ pub record IsFirstBad (file : List ℕ) (i : ℕ) (fault : SegmentFault) : Type 
 -- the first fault of the header
 abbrev pub HasHeaderFault : List ℕ → ElfFault → Type 0
 HasHeaderFault file NotElf = ¬ IsElf file
-HasHeaderFault file ShortHeader = IsElf file × ¬ IsWhole file
-HasHeaderFault file Elf64 = IsElf file × IsWhole file × (slice_index file 4 ≡ 2)
-HasHeaderFault file OtherFormat = IsElf file × IsWhole file × (slice_index file 4 ≢ 2) × ¬ IsElf32 file
-HasHeaderFault file OtherMachine = IsElf file × IsWhole file × IsElf32 file × ¬ IsX86 file
-HasHeaderFault file Unlinked = IsElf file × IsWhole file × IsElf32 file × IsX86 file × (e_type file ≡ 1)
-HasHeaderFault file OtherType = IsElf file × IsWhole file × IsElf32 file × IsX86 file × (e_type file ≢ 1) × ¬ IsLinked file
+HasHeaderFault file ShortHeader = IsElf file × ¬ HasWholeHeader file
+HasHeaderFault file Elf64 = IsElf file × HasWholeHeader file × (slice_index file 4 ≡ 2)
+HasHeaderFault file OtherFormat = IsElf file × HasWholeHeader file × (slice_index file 4 ≢ 2) × ¬ IsElf32 file
+HasHeaderFault file OtherMachine = IsElf file × HasWholeHeader file × IsElf32 file × ¬ IsX86 file
+HasHeaderFault file Unlinked = IsElf file × HasWholeHeader file × IsElf32 file × IsX86 file × (e_type file ≡ 1)
+HasHeaderFault file OtherType = IsElf file × HasWholeHeader file × IsElf32 file × IsX86 file × (e_type file ≢ 1) × ¬ IsLinked file
 HasHeaderFault file BadTable =
-    IsElf file × IsWhole file × IsElf32 file × IsX86 file × (e_type file ≢ 1) × IsLinked file × ¬ HasTable file
+    IsElf file × HasWholeHeader file × IsElf32 file × IsX86 file × (e_type file ≢ 1) × IsLinked file × ¬ HasTable file
 HasHeaderFault file _ = ⊥
 
 -- The first fault of a file: of the header, of the first loaded segment that isn't good, or that there is no code. Lack
 -- of memory says nothing of a file except that it is well-formed.
-abbrev pub HasFault : List ℕ → ElfFault → Type 0
-HasFault file (BadSegment i fault) = IsFirstBad file i fault
-HasFault file NoCode = HasTable file × AreGood file (e_phnum file) × ¬ HasCode file
-HasFault file OutOfMemory = IsWellFormed file
-HasFault file fault = HasHeaderFault file fault
+abbrev pub HasElfFault : List ℕ → ElfFault → Type 0
+HasElfFault file (BadSegment i fault) = IsFirstBad file i fault
+HasElfFault file NoCode = HasTable file × AreGood file (e_phnum file) × ¬ HasCode file
+HasElfFault file OutOfMemory = IsWellFormed file
+HasElfFault file fault = HasHeaderFault file fault

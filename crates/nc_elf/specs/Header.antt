@@ -40,13 +40,13 @@ abbrev pub IsElf : List ℕ → Type 0
 IsElf file = IsTrue (starts_with nat_eq file (0x7F ∷ 0x45 ∷ 0x4C ∷ 0x46 ∷ []))
 
 -- the file has a whole ELF header, of 52 bytes
-pub record IsWhole (file : List ℕ) : Type 0 where
+pub record HasWholeHeader (file : List ℕ) : Type 0 where
   pub elf : IsElf file
   pub long : 52 ≤ length file
 
 -- the file is of class 1 (32 bits), encoding 1 (little-endian) and version 1, which two fields say
 pub record IsElf32 (file : List ℕ) : Type 0 where
-  pub whole : IsWhole file
+  pub whole : HasWholeHeader file
   pub size : slice_index file 4 ≡ 1
   pub order : slice_index file 5 ≡ 1
   pub ident : slice_index file 6 ≡ 1

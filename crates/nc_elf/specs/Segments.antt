@@ -72,7 +72,7 @@ abbrev pub IsFilled : ProgramHeader → Type 0
 IsFilled h = IsTrue (is_executable h) → h.memory_len ≤ h.file_len
 
 -- the loaded segment of the i-th program header has no fault
-pub record IsGood (file : List ℕ) (i : ℕ) : Type 0 where
+pub record IsGoodSegment (file : List ℕ) (i : ℕ) : Type 0 where
   pub in_file : IsInFile file (program_header file i)
   pub in_memory : IsInMemory (program_header file i)
   pub below_top : IsBelowTop (program_header file i)
@@ -82,7 +82,7 @@ pub record IsGood (file : List ℕ) (i : ℕ) : Type 0 where
 
 -- each loaded segment of the first n program headers has no fault
 pub record AreGood (file : List ℕ) (n : ℕ) : Type 0 where
-  pub each : (i : ℕ) → i < n → IsTrue (is_load (program_header file i)) → IsGood file i
+  pub each : (i : ℕ) → i < n → IsTrue (is_load (program_header file i)) → IsGoodSegment file i
 
 -- some program header names code
 abbrev pub HasCode : List ℕ → Type 0

@@ -2,8 +2,8 @@
 
 ghost use Rattle.std.specs.Prelude.{◌<◌, ◌↔◌, IsTrue, IfErr, OnOk, IfNone, IfSome};
 ghost use Rattle.nc_elf.specs.Header.{e_phnum, HasTable};
-ghost use Rattle.nc_elf.specs.Segments.{AreGood, IsGood, HasCode, IsWellFormed};
-ghost use Rattle.nc_elf.specs.Faults.{HasFault, HasSegmentFault};
+ghost use Rattle.nc_elf.specs.Segments.{AreGood, IsGoodSegment, HasCode, IsWellFormed};
+ghost use Rattle.nc_elf.specs.Faults.{HasElfFault, HasSegmentFault};
 ghost use Rattle.nc_elf.specs.machinery.Pass.{IsFloor};
 
 use crate::fault::{ElfFault, SegmentFault};
@@ -18,7 +18,7 @@ fn segment_fault(file: &[u8], number: usize, floor: u64) -> Option<SegmentFault>
     requires table { HasTable file.now }
     requires listed { number < e_phnum file.now }
     requires floor { IsFloor file.now number floor }
-    ensures none { IfNone result (IsGood file.now number) }
+    ensures none { IfNone result (IsGoodSegment file.now number) }
     ensures some { IfSome result (HasSegmentFault file.now number) }
 {
     let header = program_header(file, number);
@@ -47,7 +47,7 @@ fn segment_fault(file: &[u8], number: usize, floor: u64) -> Option<SegmentFault>
 fn check_segments(file: &[u8]) -> Result<(), ElfFault>
     requires { HasTable file.now }
     ensures fine { OnOk result (AreGood file.now (e_phnum file.now)) }
-    ensures fault { IfErr result (HasFault file.now) }
+    ensures fault { IfErr result (HasElfFault file.now) }
 {
     let mut floor = 0;
     for number in 0..header_count(file) {
@@ -78,7 +78,7 @@ fn has_code(file: &[u8]) -> bool
 /// The first of the faults of a file.
 pub(crate) fn check(file: &[u8]) -> Result<(), ElfFault>
     ensures fine { OnOk result (IsWellFormed file.now) }
-    ensures fault { IfErr result (HasFault file.now) }
+    ensures fault { IfErr result (HasElfFault file.now) }
 {
     check_header(file)?;
     check_segments(file)?;

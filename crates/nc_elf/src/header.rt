@@ -1,8 +1,8 @@
 //! The ELF header.
 
 ghost use Rattle.std.specs.Prelude.{◌≡◌, ◌↔◌, IsTrue, OnOk, IfErr};
-ghost use Rattle.nc_elf.specs.Header.{IsElf, IsWhole, IsElf32, IsX86, IsLinked, HasTable};
-ghost use Rattle.nc_elf.specs.Faults.{HasFault};
+ghost use Rattle.nc_elf.specs.Header.{IsElf, HasWholeHeader, IsElf32, IsX86, IsLinked, HasTable};
+ghost use Rattle.nc_elf.specs.Faults.{HasElfFault};
 
 use crate::fault::ElfFault;
 use crate::numbers::{u16_at, u32_at};
@@ -62,7 +62,7 @@ pub fn is_elf(file: &[u8]) -> bool
 
 /// Whether a file with a whole header is a 32-bit little-endian one of version 1.
 pub(crate) fn is_elf32(file: &[u8]) -> bool
-    requires { IsWhole file.now }
+    requires { HasWholeHeader file.now }
     ensures { IsTrue result ↔ IsElf32 file.now }
 {
     file[EI_CLASS] == ELFCLASS32
@@ -85,7 +85,7 @@ fn has_table(file: &[u8]) -> bool
 /// The first of the faults of the header.
 pub(crate) fn check_header(file: &[u8]) -> Result<(), ElfFault>
     ensures fine { OnOk result (HasTable file.now) }
-    ensures fault { IfErr result (HasFault file.now) }
+    ensures fault { IfErr result (HasElfFault file.now) }
 {
     if !is_elf(file) {
         return Err(ElfFault::NotElf);

@@ -4,7 +4,7 @@ ghost use Rattle.std.specs.Prelude.{◌≡◌, ◌≢◌, ◌↔◌, IfOk, IfErr
 ghost use Rattle.nc_elf.specs.declared.fault.ElfFault.{ElfFault};
 ghost use Rattle.nc_elf.specs.Header.{HasTable};
 ghost use Rattle.nc_elf.specs.Segments.{segments_of, IsWellFormed, IsPlaced, EndsBefore};
-ghost use Rattle.nc_elf.specs.Faults.{HasFault};
+ghost use Rattle.nc_elf.specs.Faults.{HasElfFault};
 
 use crate::checks::check;
 use crate::fault::ElfFault;
@@ -38,10 +38,10 @@ pub fn code_segments(alloc: Global, file: &[u8]) -> Result<Vec<Segment>, ElfFaul
     // Each ends where the later ones begin, or before.
     ensures apart { IfOk result (λ segments. AllPairs EndsBefore segments.items) }
     // A refusal names the file's fault.
-    ensures fault { IfErr result (HasFault file.now) }
+    ensures fault { IfErr result (HasElfFault file.now) }
     // A fault is given exactly when it is due, except for lack of memory.
     ensures exact { (fault : ElfFault) → fault ≢ ElfFault.OutOfMemory
-        → ((result ≡ Err fault) ↔ HasFault file.now fault) }
+        → ((result ≡ Err fault) ↔ HasElfFault file.now fault) }
 {
     if let Err(fault) = check(file) {
         return Err(fault);

@@ -19,9 +19,9 @@ abbrev pub IsLoaded : Region → Region → ℕ → List ℕ → Type 0
 IsLoaded old new base code = (v : MarkedChunk) × IsAdmitted base (limit_of old.marked.bytes) code v × IsCreated old new v
 
 -- The code has this fault; or it is a valid chunk, and the region may refuse to create it for this reason.
-abbrev pub MayRefuseLoad : Region → ℕ → List ℕ → LoadFault → Type 0
-MayRefuseLoad r base code (NotAdmitted fault) = HasFault base (limit_of r.marked.bytes) code fault
-MayRefuseLoad r base code (NotCreated fault) =
+abbrev pub MayRefuseCode : Region → ℕ → List ℕ → LoadFault → Type 0
+MayRefuseCode r base code (NotAdmitted fault) = HasFault base (limit_of r.marked.bytes) code fault
+MayRefuseCode r base code (NotCreated fault) =
     (v : MarkedChunk) × IsAdmitted base (limit_of r.marked.bytes) code v × MayRefuse r v fault
 
 -- What a refusal leaves: where the code isn't admitted, the region as it was; where a valid chunk isn't created, what the

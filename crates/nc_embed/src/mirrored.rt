@@ -1,7 +1,7 @@
 //! A region over acts of the host's own: behind a lock of the host's own, and shared by `SharedOf`.
 
 ghost use Rattle.std.specs.Prelude.{◌≡◌, IfOk, OnOk, IfErr};
-ghost use Rattle.nc_embed.specs.Load.{IsLoaded, IsLeft, MayRefuseLoad};
+ghost use Rattle.nc_embed.specs.Load.{IsLoaded, IsLeft, MayRefuseCode};
 
 use crate::admitting::admit;
 use crate::code::{BASE, BUNDLES, SWITCH, SWITCHED, bundles};
@@ -26,7 +26,7 @@ pub fn load<A: Acts + Drop>(
     // The region is as it was; only where memory was refused, pages of the span may have been made.
     ensures unchanged { IfErr result (IsLeft region.old region.new base code.items) }
     // Each refusal comes where it is due.
-    ensures refused { IfErr result (MayRefuseLoad region.old base code.items) }
+    ensures refused { IfErr result (MayRefuseCode region.old base code.items) }
 {
     let vetted = match admit(base, region.limit(), code) {
         Ok(vetted) => vetted,

@@ -7,9 +7,9 @@ use lib.ListN.{get_elem?, length-replicate}
 use Rattle.atomic_table.specs.Table.{opening}
 use Rattle.atomic_table.specs.Seated.{TableId}
 use Rattle.nc_gens.specs.declared.view.View.{View}
-use Rattle.nc_gens.specs.Rule.{Fits, Ruled}
+use Rattle.nc_gens.specs.Rule.{FitsView, Ruled}
 use Rattle.nc_gens.specs.machinery.Views.{first_view}
-use Rattle.nc_gens.specs.Seen.{PassState, first_pass, first_passes}
+use Rattle.nc_gens.specs.Seen.{PassState, first_pass, new_passes}
 
 -- every element of n copies of z is z, also past the end
 all_same : (n k z : ℕ) → get_or (replicate n z) k z ≡ z
@@ -36,7 +36,7 @@ starts seats words e = subst (λ (ws : List ℕ). Ruled (opening ws [] (first_vi
       in_range = let z : get_or ws 0 0 ≡ 0 = zeros (seats + 1) 0 in omega arith;
       has_keeper = (first_view seats, refl, refl);
       has_seat = λ k l. (first_view seats, refl, inr (refl, zero-le));
-      each_view = alone (Fits ws (λ _. 0)) (first_view seats) record {
+      each_view = alone (FitsView ws (λ _. 0)) (first_view seats) record {
         pass = λ h. let no : false ≡ true = h in cc;
         keeper = λ _. record {
           owns = refl;
@@ -50,16 +50,16 @@ starts seats words e = subst (λ (ws : List ℕ). Ruled (opening ws [] (first_vi
     })
 
 -- there is one first pass for each seat
-pub length-first_passes : (table : TableId) (n : ℕ) → length (first_passes table n) ≡ n
-length-first_passes table zero = refl
-length-first_passes table (suc n) = length-snoc (first_passes table n) ∙ ap suc (length-first_passes table n)
+pub length-new_passes : (table : TableId) (n : ℕ) → length (new_passes table n) ≡ n
+length-new_passes table zero = refl
+length-new_passes table (suc n) = length-snoc (new_passes table n) ∙ ap suc (length-new_passes table n)
   where
     length-snoc : (ps : List PassState) → length (ps ++ first_pass table n ∷ []) ≡ suc (length ps)
     length-snoc [] = refl
     length-snoc (p ∷ ps) = ap suc (length-snoc ps)
 
 -- the first passes are all of the table
-pub tables-first_passes : (table : TableId) (n : ℕ) → All (λ p. p.table ≡ table) (first_passes table n)
-tables-first_passes table zero = search rules
-tables-first_passes table (suc n) = All-append (λ p. p.table ≡ table) (first_passes table n) (first_pass table n ∷ [])
-    (tables-first_passes table n) (search rules)
+pub tables-new_passes : (table : TableId) (n : ℕ) → All (λ p. p.table ≡ table) (new_passes table n)
+tables-new_passes table zero = search rules
+tables-new_passes table (suc n) = All-append (λ p. p.table ≡ table) (new_passes table n) (first_pass table n ∷ [])
+    (tables-new_passes table n) (search rules)

@@ -8,7 +8,7 @@ use Rattle.atomic_table.proofs.Lists.{set_else}
 use Rattle.nc_gens.specs.declared.view.PassNumbers.{PassNumbers}
 use Rattle.nc_gens.specs.declared.view.KeeperNumbers.{KeeperNumbers}
 use Rattle.nc_gens.specs.declared.view.View.{View}
-use Rattle.nc_gens.specs.Rule.{FitsPass, FitsKeeper, Fits, HasKeeper, HasSeat, StandsAt, Ruled}
+use Rattle.nc_gens.specs.Rule.{FitsPass, FitsKeeper, FitsView, HasKeeper, HasSeat, StandsAt, Ruled}
 use Rattle.nc_gens.specs.machinery.Views.{given_one_more, new_pass_view}
 use Rattle.nc_gens.specs.machinery.Views.{without_pass, without_keeper, with_pass_of, spent_view}
 use Rattle.nc_gens.proofs.Views.{views_stay, set_there, still_there, split_views_stay, split_still_there, added_there}
@@ -61,8 +61,8 @@ moved_keeper words owner owner' at at' given given' k owns not_given f =
     }
 
 -- a view that doesn't own the word i still fits when another gets it
-others_fit : (words : List ℕ) (owner : ℕ → ℕ) (i at j : ℕ) (v : View) → 0 < i → owner i ≢ j → Fits words owner j v
-    → Fits words (owned_by owner i at) j v
+others_fit : (words : List ℕ) (owner : ℕ → ℕ) (i at j : ℕ) (v : View) → 0 < i → owner i ≢ j → FitsView words owner j v
+    → FitsView words (owned_by owner i at) j v
 others_fit words owner i at j v high other f =
     let stays : (k : ℕ) → owner k ≡ j → owned_by owner i at k ≡ j = λ k e. by_else owner i at k (λ same. other (ap owner (sym same) ∙ e))
     ∙ e in record {
@@ -102,7 +102,7 @@ passes_out id v is all_given s r at =
       has_seat = λ k l. seats_there _ r.owner v.seat new k (added_there (HasSeat v.seat) (set s.views id a) b (inl (is, refl)))
           (λ ne. split_still_there (HasSeat k) s.views id v a b at (⊎_elim (λ t. absurd (ne (sym t.1))) (λ t. inr t))
           (r.owner (k + 1)) (r.has_seat k l));
-      each_view = split_views_stay (Fits s.words owner) s.views id a b
+      each_view = split_views_stay (FitsView s.words owner) s.views id a b
           record {
             pass = λ h. let no : false ≡ true = h in cc;
             keeper = λ h. let q = f.keeper h in
@@ -134,7 +134,7 @@ gives_pass id v bare is room s r at =
           (λ ne. split_still_there (HasSeat k) s.views id v a b at
           (⊎_elim (λ t. let no : false ≡ true = sym bare ∙ t.0 in cc) (λ t. inr (t.0, (let l' = t.1 in omega arith))))
           (r.owner (k + 1)) (r.has_seat k l));
-      each_view = split_views_stay (Fits s.words owner) s.views id a b
+      each_view = split_views_stay (FitsView s.words owner) s.views id a b
           record {
             pass = λ h. let no : false ≡ true = sym bare ∙ h in cc;
             keeper = λ _. moved_keeper s.words r.owner owner id id v.given (v.given + 1) v.keeper
@@ -180,9 +180,9 @@ passes_in id v other w bare is alone s r at apart there =
           (⊎_elim (λ t. absurd (ne (sym t.1))) (λ t. let no : false ≡ true = sym alone ∙ t.0 in cc)) (r.owner (k + 1))
           (still_there (HasSeat k) s.views id v both at (⊎_elim (λ t. let no : false ≡ true = sym bare ∙ t.0 in cc) (λ t. inr t))
           (r.owner (k + 1)) (r.has_seat k l)));
-      each_view = views_stay (Fits s.words owner) vs other spent_view
+      each_view = views_stay (FitsView s.words owner) vs other spent_view
           record { pass = λ h. let no : false ≡ true = h in cc; keeper = λ h. let no : false ≡ true = h in cc }
-          (λ j x ne here. views_stay (λ (k : ℕ) (y : View). k ≢ other → Fits s.words owner k y) s.views id both
+          (λ j x ne here. views_stay (λ (k : ℕ) (y : View). k ≢ other → FitsView s.words owner k y) s.views id both
           (λ _. record {
             pass = λ _. moved_pass s.words r.owner owner other id w.seat w.pass (by_here r.owner i id i refl) p;
             keeper = λ h. (others_fit s.words r.owner i id id v (omega arith) (λ z. apart (sym p.owns ∙ z)) f).keeper h;

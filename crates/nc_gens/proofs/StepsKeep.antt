@@ -10,7 +10,7 @@ use Rattle.atomic_table.specs.Table.{State, step, keeps, stepped, Allows}
 use Rattle.nc_gens.specs.declared.view.PassNumbers.{PassNumbers}
 use Rattle.nc_gens.specs.declared.view.View.{View}
 use Rattle.nc_gens.specs.Rule.{left_word, last_generation, generation_taken, generation_seen, since_stored, left_stored}
-use Rattle.nc_gens.specs.Rule.{generation_raised, word_taken, FitsPass, Fits, HasKeeper, HasSeat, Ruled}
+use Rattle.nc_gens.specs.Rule.{generation_raised, word_taken, FitsPass, FitsView, HasKeeper, HasSeat, Ruled}
 use Rattle.nc_gens.specs.machinery.Steps.{Known, TakesGeneration}
 use Rattle.nc_gens.specs.machinery.Steps.{SeesGeneration, StoresSince, StoresLeft, AddsOne, TakesWord}
 use Rattle.nc_gens.proofs.Views.{views_stay, still_there}
@@ -22,14 +22,14 @@ Words = State (Unit {0}) View
 -- a load changes the view alone
 loaded : (s : Words) (r : Ruled s) (i id : ℕ) (me : Known) (w : View) → get_elem? s.views id ≡ some me.0 → (HasKeeper me.0 → HasKeeper w)
     → ((k : ℕ) → HasSeat k me.0 → HasSeat k w)
-    → Fits s.words r.owner id w → Ruled (stepped s i (get_or s.words i 0) id me.1 w keeps)
+    → FitsView s.words r.owner id w → Ruled (stepped s i (get_or s.words i 0) id me.1 w keeps)
 loaded s r i id me w at keeper seat fits =
     subst (λ (ws : List ℕ). Ruled record { words = ws; homes = s.homes; views = set s.views id w }) (sym (set-get_or s.words i 0)) record {
       owner = r.owner;
       in_range = r.in_range;
       has_keeper = still_there HasKeeper s.views id me.0 w at keeper (r.owner 0) r.has_keeper;
       has_seat = λ k l. still_there (HasSeat k) s.views id me.0 w at (seat k) (r.owner (k + 1)) (r.has_seat k l);
-      each_view = views_stay (Fits s.words r.owner) s.views id w fits (λ j v _ e. r.each_view j v e);
+      each_view = views_stay (FitsView s.words r.owner) s.views id w fits (λ j v _ e. r.each_view j v e);
     }
 
 -- the numbers of a pass still fit where its word stays and the generation doesn't fall
@@ -116,7 +116,7 @@ stores s r id i x me at is apart here above below unheld =
       in_range = let h = r.in_range in omega arith;
       has_keeper = still_there HasKeeper s.views id me.0 w at (λ h. h) (r.owner 0) r.has_keeper;
       has_seat = λ k l. still_there (HasSeat k) s.views id me.0 w at (λ h. h) (r.owner (k + 1)) (r.has_seat k (omega arith));
-      each_view = views_stay (Fits ws r.owner) s.views id w
+      each_view = views_stay (FitsView ws r.owner) s.views id w
           record {
             pass = λ _. record {
               inside = let h = p.inside in omega arith;
@@ -203,7 +203,7 @@ adds_one slots id me is room s r _ at _ =
         in_range = omega arith;
         has_keeper = still_there HasKeeper s.views id me.0 w at (λ h. h) (r.owner 0) r.has_keeper;
         has_seat = λ k l. still_there (HasSeat k) s.views id me.0 w at (λ h. h) (r.owner (k + 1)) (r.has_seat k (omega arith));
-        each_view = views_stay (Fits ws r.owner) s.views id w
+        each_view = views_stay (FitsView ws r.owner) s.views id w
             record {
               pass = λ h. pass id me.0.seat me.0.pass (f.pass h);
               keeper = λ _. record {

@@ -73,7 +73,7 @@ module _ (words : List ℕ) (owner : ℕ → ℕ) (at : ℕ) where
     pub held_for_left : (i : ℕ) → i < length k.bounds → slice_index k.bounds i ≡ left_word → slice_index words (i + 1) ≡ left_word
     pub not_given : (i : ℕ) → given ≤ i → i < length k.bounds → (owner (i + 1) ≡ at) × (slice_index words (i + 1) ≡ 0)
 
-  pub record Fits (v : View) : Type 0 where
+  pub record FitsView (v : View) : Type 0 where
     pub pass : v.is_pass ≡ true → FitsPass v.seat v.pass
     pub keeper : v.is_keeper ≡ true → FitsKeeper v.given v.keeper
 
@@ -95,4 +95,4 @@ pub record Ruled (s : State (Unit {0}) View) : Type 0 where
   pub in_range : slice_index s.words 0 ≤ last_generation
   pub has_keeper : StandsAt s.views (owner 0) HasKeeper
   pub has_seat : (i : ℕ) → i + 1 < length s.words → StandsAt s.views (owner (i + 1)) (HasSeat i)
-  pub each_view : (j : ℕ) (v : View) → get_elem? s.views j ≡ some v → Fits s.words owner j v
+  pub each_view : (j : ℕ) (v : View) → get_elem? s.views j ≡ some v → FitsView s.words owner j v

@@ -25,9 +25,9 @@ abbrev pub first_pass : TableId → ℕ → PassState
 first_pass table seat = record { table = table; seat = seat; numbers = first_pass_numbers }
 
 -- a pass for each seat below a number, in order, with all numbers 0
-abbrev pub first_passes : TableId → ℕ → List PassState
-first_passes table zero = []
-first_passes table (suc n) = first_passes table n ++ first_pass table n ∷ []
+abbrev pub new_passes : TableId → ℕ → List PassState
+new_passes table zero = []
+new_passes table (suc n) = new_passes table n ++ first_pass table n ∷ []
 
 -- the keeper of this number of seats as it is made, with all numbers 0
 abbrev pub first_keeper : TableId → ℕ → KeeperState

@@ -1,7 +1,7 @@
 //! A table is made, with its keeper and its passes.
 ghost use Rattle.std.specs.Prelude.{◌≡◌, ◌+◌, ◌<◌, ◌≤◌, ◌↔◌, ◌⊎◌, [], All, IfOk, OnOk, IsErrOf, length, replicate};
 ghost use Rattle.nc_gens.specs.machinery.Views.{giving_view};
-ghost use Rattle.nc_gens.specs.Seen.{AreSeats, first_passes, first_keeper};
+ghost use Rattle.nc_gens.specs.Seen.{AreSeats, new_passes, first_keeper};
 
 use crate::fault::GensFault;
 use crate::steps::GivePass;
@@ -24,7 +24,7 @@ impl Gens {
     pub fn new(alloc: Global, seats: u32) -> Result<(Gens, Keeper, Vec<Pass>), GensFault>
         ensures bad_seats { IsErrOf result GensFault.BadSeats ↔ ¬ AreSeats seats }
         ensures keeper { IfOk result (λ r. r.1 ≡ first_keeper r.0 seats) }
-        ensures passes { IfOk result (λ r. r.2.items ≡ first_passes r.0 seats) }
+        ensures passes { IfOk result (λ r. r.2.items ≡ new_passes r.0 seats) }
 
         // Passes and keeper come from the call that made the table.
         ensures count { IfOk result (λ r. length r.2.items ≡ seats) }
@@ -40,7 +40,7 @@ impl Gens {
 fn open(alloc: Global, seats: usize) -> Result<(Gens, Keeper, Vec<Pass>), AllocError>
     requires { AreSeats seats }
     ensures keeper { IfOk result (λ r. (r.1 ≡ first_keeper r.0 seats) × (r.1.table ≡ r.0)) }
-    ensures passes { IfOk result (λ r. r.2.items ≡ first_passes r.0 seats) }
+    ensures passes { IfOk result (λ r. r.2.items ≡ new_passes r.0 seats) }
     ensures count { IfOk result (λ r. length r.2.items ≡ seats) }
     ensures tables { IfOk result (λ r. All (λ p. p.table ≡ r.0) r.2.items) }
 {
@@ -74,7 +74,7 @@ fn give_passes(
     requires table { keeper.old.table_id ≡ words.now.shared.table_id }
     requires words { keeper.old.table_id.words ≡ seats + 1 }
     requires view { keeper.old.me ≡ (giving_view seats 0, []) }
-    ensures passes { IfOk result (λ v. v.items ≡ first_passes keeper.old.table_id seats) }
+    ensures passes { IfOk result (λ v. v.items ≡ new_passes keeper.old.table_id seats) }
     ensures count { IfOk result (λ v. length v.items ≡ seats) }
     ensures tables { IfOk result (λ v. All (λ p. p.table ≡ keeper.old.table_id) v.items) }
     ensures table { OnOk result (keeper.new.table_id ≡ keeper.old.table_id) }

@@ -8,7 +8,7 @@ use Rattle.nc_region.specs.declared.chunk.Chunk.{Chunk}
 use Rattle.nc_region.specs.Region.{Region, IsRegion}
 use Rattle.nc_region.specs.Patch.{IsPatch}
 use Rattle.nc_region.proofs.Offered.{each_get}
-use Rattle.nc_handle.specs.machinery.Window.{HasRead}
+use Rattle.nc_handle.specs.machinery.Window.{HoldsText}
 use Rattle.nc_acts.specs.Standing.{AreBytesAt}
 
 pub record LiesIn (text : List ℕ) (at len : ℕ) : Type 0 where
@@ -34,7 +34,7 @@ patch_lies r at new region patch =
     }
 
 -- the bytes that were read are those of the text
-pub window_stands : (text : List ℕ) (at len : ℕ) (bytes : List ℕ) → LiesIn text at len → HasRead text at bytes 32 → AreBytesAt text at (take len bytes)
+pub window_stands : (text : List ℕ) (at len : ℕ) (bytes : List ℕ) → LiesIn text at len → HoldsText text at bytes 32 → AreBytesAt text at (take len bytes)
 window_stands text at len bytes lies h = λ k lt.
     let long : length (take len bytes) ≡ len = length-take-le len bytes (omega (arith, lies.short, h.long)) in
     let here : k < len = omega (arith, lt, long) in

@@ -4,11 +4,11 @@ use Rattle.std.proofs.lemmas.Bool.Decides.{eqb_tells}
 use Rattle.std.proofs.lemmas.Grind.{get_or-set_at}
 use Rattle.std.proofs.lemmas.List.{length-set, get_or-set_other}
 use Rattle.nc_text.specs.Places.{byte_at}
-use Rattle.nc_handle.specs.machinery.Window.{HasRead}
+use Rattle.nc_handle.specs.machinery.Window.{HoldsText}
 
 -- the next byte, at its place
-pub read_next : (text : List ℕ) (at : ℕ) (bytes : List ℕ) (i b : ℕ) → HasRead text at bytes i → i < 32 → b ≡ byte_at text (at + i)
-    → HasRead text at (set bytes i b) (i + 1)
+pub read_next : (text : List ℕ) (at : ℕ) (bytes : List ℕ) (i b : ℕ) → HoldsText text at bytes i → i < 32 → b ≡ byte_at text (at + i)
+    → HoldsText text at (set bytes i b) (i + 1)
 read_next text at bytes i b h lt is = record {
   long = length-set bytes i b ∙ h.long;
   read = λ k less low high.

@@ -5,16 +5,16 @@ use Rattle.std.proofs.Math.Seq.{drop-append_seam, take-append_seam}
 use Rattle.nc_text.specs.Places.{byte_at, limit_of}
 use Rattle.nc_vet.specs.Faults.{HasGoodSpan}
 use Rattle.nc_text.specs.MarkedText.{with_span}
-use Rattle.nc_handle.specs.Shown.{bytes_of}
+use Rattle.nc_handle.specs.Shown.{bytes_of_span}
 
 -- a span of the text has as many bytes as it has places
-pub span_long : (text : List ℕ) (base len : ℕ) → HasGoodSpan base (limit_of text) len → length (bytes_of text base len) ≡ len
+pub span_long : (text : List ℕ) (base len : ℕ) → HasGoodSpan base (limit_of text) len → length (bytes_of_span text base len) ≡ len
 span_long text base len g =
     length-take-le len (drop (base - 0x10000) text) (omega (arith, g.low, g.high, length-drop (base - 0x10000) text))
 
 -- the byte at a place of the span
 pub span_byte : (text : List ℕ) (base len n : ℕ) → HasGoodSpan base (limit_of text) len → n < len
-    → byte_at text (base + n) ≡ get_or (bytes_of text base len) n 0
+    → byte_at text (base + n) ≡ get_or (bytes_of_span text base len) n 0
 span_byte text base len n g lt =
     let here : base + n - 0x10000 ≡ base - 0x10000 + n = omega (arith, g.low) in
     sym (get_or-take len (drop (base - 0x10000) text) n 0 lt
@@ -22,7 +22,7 @@ span_byte text base len n g lt =
 
 -- what was put into a span stands in it
 pub span_put : (text : List ℕ) (base : ℕ) (code : List ℕ) → HasGoodSpan base (limit_of text) (length code)
-    → bytes_of (with_span text (base - 0x10000) code) base (length code) ≡ code
+    → bytes_of_span (with_span text (base - 0x10000) code) base (length code) ≡ code
 span_put text base code g =
     let start = base - 0x10000 in
     let rest : List ℕ = code ++ drop (start + length code) text in

@@ -1,7 +1,7 @@
 -- What contracts see of a region that owns all that it needs, and when its calls are refused.
 use Rattle.std.specs.Prelude.{◌≡◌, ℕ, ◌+◌, ◌*◌, ◌^◌, ◌<◌, ◌≤◌, List, [], ◌∷◌, ◌++◌, Option, Some, None, Contains, IfSome, IsSome, All, length, map, slice_index}
 use Rattle.nc_decode.specs.Bundles.{IsLawfulLimit}
-use Rattle.nc_gens.specs.Seen.{AreSeats, PassState, Raised, first_keeper, first_passes}
+use Rattle.nc_gens.specs.Seen.{AreSeats, PassState, Raised, first_keeper, new_passes}
 use Rattle.nc_text.specs.MarkedText.{unused_text}
 use Rattle.nc_text.specs.Ready.{unmade_pages}
 use Rattle.nc_vet.specs.Chunk.{MarkedChunk}
@@ -47,7 +47,7 @@ pub record IsFirst (bundles seats : ℕ) (h : HeldState) : Type 0 where
   pub keeper : h.region.keeper ≡ first_keeper h.region.keeper.table seats
   pub told : h.region.told ≡ None
   pub logged : h.region.logged ≡ None
-  pub passes : h.passes ≡ first_passes h.region.keeper.table seats
+  pub passes : h.passes ≡ new_passes h.region.keeper.table seats
   pub begun : h.begun ≡ None
 
 -- when each refusal of `new` comes: the seats aren't 1 to 256; they are, and the size isn't lawful; both are lawful,

@@ -8,7 +8,7 @@ use Rattle.nc_region.specs.Log.{log_of_create, log_of_delete}
 use Rattle.nc_handle.specs.declared.fault.RunsFault.{RunsFault}
 use Rattle.nc_handle.specs.declared.fault.RunsFault.TheVariants.{NoChunk, NoRoom}
 use Rattle.nc_handle.specs.Held.{HeldState, IsLiveAt}
-use Rattle.nc_handle.specs.Shown.{bytes_of}
+use Rattle.nc_handle.specs.Shown.{bytes_of_span}
 
 -- two for each bundle of a span of this length, and two more
 abbrev pub runs_of : ℕ → ℕ
@@ -18,14 +18,14 @@ runs_of len = 2 * (len / 32) + 2
 -- log of that: two for each bundle and two more
 abbrev pub AreCreationRuns : HeldState → Chunk → List NcAct → List NcAct → ℕ → Type 0
 AreCreationRuns h c old new count =
-    let code = bytes_of h.region.marked.bytes c.base c.length in
+    let code = bytes_of_span h.region.marked.bytes c.base c.length in
     (count ≡ runs_of c.length) × HasRuns old new count c.base code (runs_of_create c.base code) (log_of_create c.base code)
 
 -- the front of the buffer has the runs of this chunk's deletion, by the region's marks, and they stand for the log of
 -- that: two for each bundle and two more
 abbrev pub AreDeletionRuns : HeldState → Chunk → List NcAct → List NcAct → ℕ → Type 0
 AreDeletionRuns h c old new count =
-    (count ≡ runs_of c.length) × HasRuns old new count c.base (bytes_of h.region.marked.bytes c.base c.length)
+    (count ≡ runs_of c.length) × HasRuns old new count c.base (bytes_of_span h.region.marked.bytes c.base c.length)
     (runs_of_delete h.region.marked.marks c.base c.length) (log_of_delete h.region.marked.marks c.base c.length)
 
 -- when the runs of a creation aren't told: no live chunk has this base, or the buffer is too short for them

@@ -11,5 +11,5 @@ pub record IsTold (old new : List NcAct) (count : ℕ) (log : List Entry) : Type
   pub not_lent : length old ≡ 0 → count ≡ 0
 
 -- the bytes of a span of the text
-abbrev pub bytes_of : List ℕ → ℕ → ℕ → List ℕ
-bytes_of text base len = take len (drop (base - 0x10000) text)
+abbrev pub bytes_of_span : List ℕ → ℕ → ℕ → List ℕ
+bytes_of_span text base len = take len (drop (base - 0x10000) text)

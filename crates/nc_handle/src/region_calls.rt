@@ -8,7 +8,7 @@ ghost use Rattle.nc_region.specs.Patch.{AreBytesOf, IsModified, IsPatch, log_of_
 ghost use Rattle.nc_region.specs.Region.{IsCreated};
 ghost use Rattle.nc_handle.specs.Held.{IsShort, IsShortForPatch, HasBegun, HasEnded, IsNotLoaded, MayRefuseBegin, MayRefuseLoad, MayRefuseModify};
 ghost use Rattle.nc_acts.specs.Standing.{AreBytesAt};
-ghost use Rattle.nc_handle.specs.Shown.{IsTold, bytes_of};
+ghost use Rattle.nc_handle.specs.Shown.{IsTold, bytes_of_span};
 
 use crate::fault::{LoadFault, PatchFault, RetireFault};
 use crate::held::Held;
@@ -51,7 +51,7 @@ fn tell_patch(acts: &mut [NcAct], at: u32, before: &[u8], new: &[u8]) -> usize
 fn tell_creation(acts: &mut [NcAct], span: &Span) -> usize
     requires room { ¬ IsShort (length acts.old) (span.now.length + 2) }
     ensures { IsTold acts.old acts.new result
-        (log_of_create span.now.base (bytes_of span.now.region.now.marked.bytes span.now.base span.now.length)) }
+        (log_of_create span.now.base (bytes_of_span span.now.region.now.marked.bytes span.now.base span.now.length)) }
 {
     if acts.is_empty() {
         return 0;

@@ -6,7 +6,7 @@ ghost use Rattle.nc_region.specs.Log.{log_of_create, log_of_delete};
 ghost use Rattle.nc_region.specs.declared.chunk.Chunk.{Chunk};
 ghost use Rattle.nc_handle.specs.Held.{IsLiveAt};
 ghost use Rattle.nc_handle.specs.Runs.{runs_of, AreCreationRuns, AreDeletionRuns, MayRefuseCreationRuns, MayRefuseDeletionRuns};
-ghost use Rattle.nc_handle.specs.Shown.{bytes_of};
+ghost use Rattle.nc_handle.specs.Shown.{bytes_of_span};
 
 use crate::fault::RunsFault;
 use crate::held::Held;
@@ -24,9 +24,9 @@ fn runs_of(length: u32) -> usize
 fn tell_creation_runs(acts: &mut [NcAct], span: &Span)
     requires { runs_of span.now.length ≤ length acts.old }
     ensures { HasRuns acts.old acts.new (runs_of span.now.length) span.now.base
-        (bytes_of span.now.region.now.marked.bytes span.now.base span.now.length)
-        (runs_of_create span.now.base (bytes_of span.now.region.now.marked.bytes span.now.base span.now.length))
-        (log_of_create span.now.base (bytes_of span.now.region.now.marked.bytes span.now.base span.now.length)) }
+        (bytes_of_span span.now.region.now.marked.bytes span.now.base span.now.length)
+        (runs_of_create span.now.base (bytes_of_span span.now.region.now.marked.bytes span.now.base span.now.length))
+        (log_of_create span.now.base (bytes_of_span span.now.region.now.marked.bytes span.now.base span.now.length)) }
 {
     write_creation_runs(acts, span.base, span);
 }
@@ -35,7 +35,7 @@ fn tell_creation_runs(acts: &mut [NcAct], span: &Span)
 fn tell_deletion_runs(acts: &mut [NcAct], span: &Span)
     requires { runs_of span.now.length ≤ length acts.old }
     ensures { HasRuns acts.old acts.new (runs_of span.now.length) span.now.base
-        (bytes_of span.now.region.now.marked.bytes span.now.base span.now.length)
+        (bytes_of_span span.now.region.now.marked.bytes span.now.base span.now.length)
         (runs_of_delete span.now.region.now.marked.marks span.now.base span.now.length)
         (log_of_delete span.now.region.now.marked.marks span.now.base span.now.length) }
 {

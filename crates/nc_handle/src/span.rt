@@ -20,9 +20,9 @@ pub(crate) struct Span<'a> {
 impl<'a> ReadChunk for Span<'a> {
     ghost use Rattle.std.specs.Prelude.{◌+◌};
     ghost use Rattle.nc_text.specs.Marks.{mark_at};
-    ghost use Rattle.nc_handle.specs.Shown.{bytes_of};
+    ghost use Rattle.nc_handle.specs.Shown.{bytes_of_span};
 
-    ghost code = { λ s. bytes_of s.region.now.marked.bytes s.base s.length };
+    ghost code = { λ s. bytes_of_span s.region.now.marked.bytes s.base s.length };
 
     ghost marks = { λ s k. mark_at s.region.now.marked.marks (s.base + k) };
 

@@ -2,7 +2,7 @@
 
 ghost use Rattle.std.specs.Prelude.{◌≡◌, ◌+◌, ◌<◌, ℕ, length, slice_index};
 ghost use Rattle.nc_region.specs.Region.{IsRegion};
-ghost use Rattle.nc_handle.specs.machinery.Window.{HasRead};
+ghost use Rattle.nc_handle.specs.machinery.Window.{HoldsText};
 
 use crate::owned::Owned;
 use nc_decode::START;
@@ -10,7 +10,7 @@ use nc_region::RegionOf;
 
 /// The bytes of as many places from an address on as a bundle has; 0 for each that isn't one of the region.
 pub(crate) fn read_window(region: &RegionOf<Owned>, at: u32) -> [u8; 32]
-    ensures read { HasRead region.now.marked.bytes at result 32 }
+    ensures read { HoldsText region.now.marked.bytes at result 32 }
     ensures region { IsRegion region.now.marked region.now.chunks }
 {
     let mut bytes = [0; 32];

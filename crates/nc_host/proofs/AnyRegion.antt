@@ -19,7 +19,7 @@ use Rattle.nc_region.specs.Patch.{IsRun, LeavesPairs, KeepsTargets, GoWell, IsPa
 use Rattle.nc_region.proofs.Offered.{each_get, held_same}
 use Rattle.nc_host.specs.Outcomes.{IsAccepted}
 use Rattle.nc_acts.specs.Standing.{AreBytesAt}
-use Rattle.nc_host.specs.Patches.{HasLive, IsAnsweredFor}
+use Rattle.nc_host.specs.Patches.{HasLiveCode, IsAnsweredFor}
 use Rattle.nc_host.proofs.OnlyChunk.{member_of_one}
 
 -- the code of the chunk that a text holds
@@ -83,7 +83,7 @@ only_limit base limit code marks v =
 
 -- so it is in every region in which the chunk is live
 pub lawful_anywhere : (base limit : ℕ) (code : List ℕ) (at : ℕ) (new : List ℕ) → IsAnsweredFor base limit code at new None → (r : Region)
-    → HasLive r base limit code → IsPatch r at new
+    → HasLiveCode r base limit code → IsPatch r at new
 lawful_anywhere base limit code at new a r live =
     let chunk : Chunk = record { base = base; length = length code; state = Live } in
     let only : MarkedText = with_chunk (unused_text limit) base code a.marks in
@@ -126,7 +126,7 @@ only_holds base limit code marks v =
     }
 
 -- a live chunk is a valid one
-pub live_accepted : (r : Region) (base limit : ℕ) (code : List ℕ) → HasLive r base limit code
+pub live_accepted : (r : Region) (base limit : ℕ) (code : List ℕ) → HasLiveCode r base limit code
     → (m : List Mark) × IsAccepted base limit code m
 live_accepted r base limit code live =
     let chunk : Chunk = record { base = base; length = length code; state = Live } in
@@ -141,7 +141,7 @@ live_accepted r base limit code live =
 
 -- a patch of the chunk that is lawful in a region where it is live is lawful where only it stands
 lawful_only : (base limit : ℕ) (code : List ℕ) (marks : List Mark) (at : ℕ) (new : List ℕ) (r : Region) → IsAccepted base limit code marks
-    → HasLive r base limit code → base ≤ at → at < base + length code → IsPatch r at new
+    → HasLiveCode r base limit code → base ≤ at → at < base + length code → IsPatch r at new
     → IsPatch (record r {
       marked = with_chunk (unused_text limit) base code marks;
       chunks = record { base = base; length = length code; state = Live } ∷ [];
@@ -171,7 +171,7 @@ not_refused r at new BadTarget h m = m.2 h
 
 -- so a fault is answered only where the patch isn't lawful in any region in which the chunk is live
 pub refused_everywhere : (base limit : ℕ) (code : List ℕ) (at : ℕ) (new : List ℕ) (f : ModifyFault) → IsAnsweredFor base limit code at new (Some f)
-    → (r : Region) → HasLive r base limit code → base ≤ at → at < base + length code → IsPatch r at new → ⊥
+    → (r : Region) → HasLiveCode r base limit code → base ≤ at → at < base + length code → IsPatch r at new → ⊥
 refused_everywhere base limit code at new f a r live low high h =
     let chunk : Chunk = record { base = base; length = length code; state = Live } in
     let only : MarkedText = with_chunk (unused_text limit) base code a.marks in

@@ -20,7 +20,7 @@ use Rattle.nc_region.specs.Region.{Region, IsInserted, IsCreated, live_chunk}
 use Rattle.nc_region.specs.Patch.{IsPatch}
 use Rattle.nc_region.proofs.Offered.{same_code}
 use Rattle.nc_host.specs.Outcomes.{IsAccepted, IsOutcome}
-use Rattle.nc_host.specs.Patches.{HasOnly, IsAnswered, IsPatchOutcome, LiesWithin}
+use Rattle.nc_host.specs.Patches.{HasOnly, IsPatchAnswer, IsPatchOutcome, LiesWithin}
 
 -- a chunk put into no list is all of it
 inserted_none : (new : List Chunk) (c : Chunk) → IsInserted [] new c → new ≡ c ∷ []
@@ -45,32 +45,32 @@ limit_again base limit code marks v = omega (arith, v.range.0.0, v.range.0.1)
 
 -- an answer depends on the text and the chunks only
 pub same_answer : (r s : Region) (at : ℕ) (new : List ℕ) (answer : Option ModifyFault) → r.marked ≡ s.marked → r.chunks ≡ s.chunks
-    → IsAnswered r at new answer → IsAnswered s at new answer
+    → IsPatchAnswer r at new answer → IsPatchAnswer s at new answer
 same_answer r s at new None m c h =
-    subst (λ (z : List Chunk). IsAnswered (record r { marked = s.marked; chunks = z }) at new None) c
-    (subst (λ (z : MarkedText). IsAnswered (record r { marked = z }) at new None) m h)
+    subst (λ (z : List Chunk). IsPatchAnswer (record r { marked = s.marked; chunks = z }) at new None) c
+    (subst (λ (z : MarkedText). IsPatchAnswer (record r { marked = z }) at new None) m h)
 same_answer r s at new (Some BadSpan) m c h =
-    subst (λ (z : List Chunk). IsAnswered (record r { marked = s.marked; chunks = z }) at new (Some BadSpan)) c
-    (subst (λ (z : MarkedText). IsAnswered (record r { marked = z }) at new (Some BadSpan)) m h)
+    subst (λ (z : List Chunk). IsPatchAnswer (record r { marked = s.marked; chunks = z }) at new (Some BadSpan)) c
+    (subst (λ (z : MarkedText). IsPatchAnswer (record r { marked = z }) at new (Some BadSpan)) m h)
 same_answer r s at new (Some NotLive) m c h =
-    subst (λ (z : List Chunk). IsAnswered (record r { marked = s.marked; chunks = z }) at new (Some NotLive)) c
-    (subst (λ (z : MarkedText). IsAnswered (record r { marked = z }) at new (Some NotLive)) m h)
+    subst (λ (z : List Chunk). IsPatchAnswer (record r { marked = s.marked; chunks = z }) at new (Some NotLive)) c
+    (subst (λ (z : MarkedText). IsPatchAnswer (record r { marked = z }) at new (Some NotLive)) m h)
 same_answer r s at new (Some NotPermitted) m c h =
-    subst (λ (z : List Chunk). IsAnswered (record r { marked = s.marked; chunks = z }) at new (Some NotPermitted)) c
-    (subst (λ (z : MarkedText). IsAnswered (record r { marked = z }) at new (Some NotPermitted)) m h)
+    subst (λ (z : List Chunk). IsPatchAnswer (record r { marked = s.marked; chunks = z }) at new (Some NotPermitted)) c
+    (subst (λ (z : MarkedText). IsPatchAnswer (record r { marked = z }) at new (Some NotPermitted)) m h)
 same_answer r s at new (Some Boundaries) m c h =
-    subst (λ (z : List Chunk). IsAnswered (record r { marked = s.marked; chunks = z }) at new (Some Boundaries)) c
-    (subst (λ (z : MarkedText). IsAnswered (record r { marked = z }) at new (Some Boundaries)) m h)
+    subst (λ (z : List Chunk). IsPatchAnswer (record r { marked = s.marked; chunks = z }) at new (Some Boundaries)) c
+    (subst (λ (z : MarkedText). IsPatchAnswer (record r { marked = z }) at new (Some Boundaries)) m h)
 same_answer r s at new (Some PairTouched) m c h =
-    subst (λ (z : List Chunk). IsAnswered (record r { marked = s.marked; chunks = z }) at new (Some PairTouched)) c
-    (subst (λ (z : MarkedText). IsAnswered (record r { marked = z }) at new (Some PairTouched)) m h)
+    subst (λ (z : List Chunk). IsPatchAnswer (record r { marked = s.marked; chunks = z }) at new (Some PairTouched)) c
+    (subst (λ (z : MarkedText). IsPatchAnswer (record r { marked = z }) at new (Some PairTouched)) m h)
 same_answer r s at new (Some BadTarget) m c h =
-    subst (λ (z : List Chunk). IsAnswered (record r { marked = s.marked; chunks = z }) at new (Some BadTarget)) c
-    (subst (λ (z : MarkedText). IsAnswered (record r { marked = z }) at new (Some BadTarget)) m h)
+    subst (λ (z : List Chunk). IsPatchAnswer (record r { marked = s.marked; chunks = z }) at new (Some BadTarget)) c
+    (subst (λ (z : MarkedText). IsPatchAnswer (record r { marked = z }) at new (Some BadTarget)) m h)
 
 -- in regions with the same only chunk the answer is the same
 pub only_answer : (r s : Region) (base limit : ℕ) (code : List ℕ) (marks : List Mark) (at : ℕ) (new : List ℕ) (answer : Option ModifyFault)
-    → HasOnly r base limit code marks → HasOnly s base limit code marks → IsAnswered r at new answer → IsAnswered s at new answer
+    → HasOnly r base limit code marks → HasOnly s base limit code marks → IsPatchAnswer r at new answer → IsPatchAnswer s at new answer
 only_answer r s base limit code marks at new answer a b h =
     same_answer r s at new answer (a.text ∙ sym b.text) (a.chunks ∙ sym b.chunks) h
 

@@ -90,8 +90,8 @@ abbrev pub IsVetted : (base limit : ℕ) → List ℕ → MarkedChunk → Type 0
 IsVetted base limit code v = (v.base ≡ base) × (v.limit ≡ limit) × (v.code ≡ code) × IsValid v
 
 -- the handle has a valid chunk of this code at this base for this limit
-abbrev pub HasVetted : (base limit : ℕ) → List ℕ → Option Kept → Type 0
-HasVetted base limit code held = (k : Kept) × (held ≡ Some k) × ((v : MarkedChunk) × (k.chunk ≡ Some v) × IsVetted base limit code v)
+abbrev pub HoldsVetted : (base limit : ℕ) → List ℕ → Option Kept → Type 0
+HoldsVetted base limit code held = (k : Kept) × (held ≡ Some k) × ((v : MarkedChunk) × (k.chunk ≡ Some v) × IsVetted base limit code v)
 
 -- the chunk is a valid one of this code at this base for the region's limit
 abbrev pub IsChunkFor : HeldState → ℕ → List ℕ → MarkedChunk → Type 0

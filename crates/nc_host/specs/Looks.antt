@@ -29,8 +29,8 @@ abbrev pub no_chunk : ℕ → NcChunk
 no_chunk fault = record { stamp = 0; fault = fault; base = 0; length = 0; retired = 0 }
 
 -- the byte and the mark at an address of a region, as numbers
-abbrev pub place_of : Region → ℕ → NcPlace
-place_of r at = record { fault = 0; byte = byte_at r.marked.bytes at; mark = mark_number (mark_at r.marked.marks at) }
+abbrev pub shown_place : Region → ℕ → NcPlace
+shown_place r at = record { fault = 0; byte = byte_at r.marked.bytes at; mark = mark_number (mark_at r.marked.marks at) }
 
 -- no place, for a fault of this number: all other fields are 0
 abbrev pub no_place : ℕ → NcPlace

@@ -19,15 +19,15 @@ pub record HasOnly (r : Region) (base limit : ℕ) (code : List ℕ) (marks : Li
 
 -- no fault answers a lawful patch of the region (`IsPatch`), and a fault one that may be refused for it
 -- (`MayRefusePatch`)
-abbrev pub IsAnswered : Region → ℕ → List ℕ → Option ModifyFault → Type 0
-IsAnswered r at new None = IsPatch r at new
-IsAnswered r at new (Some fault) = MayRefusePatch r at new fault
+abbrev pub IsPatchAnswer : Region → ℕ → List ℕ → Option ModifyFault → Type 0
+IsPatchAnswer r at new None = IsPatch r at new
+IsPatchAnswer r at new (Some fault) = MayRefusePatch r at new fault
 
--- the code is a valid chunk, and so the patch is answered in each region that has only this chunk (`IsAnswered`)
+-- the code is a valid chunk, and so the patch is answered in each region that has only this chunk (`IsPatchAnswer`)
 pub record IsAnsweredFor (base limit : ℕ) (code : List ℕ) (at : ℕ) (new : List ℕ) (answer : Option ModifyFault) : Type 0 where
   pub marks : List Mark
   pub valid : IsAccepted base limit code marks
-  pub each : (r : Region) → HasOnly r base limit code marks → IsAnswered r at new answer
+  pub each : (r : Region) → HasOnly r base limit code marks → IsPatchAnswer r at new answer
 
 -- The outcome of a call that judges a patch and then writes its log, at most three entries for each new byte: fault 0
 -- for a lawful patch with room enough; 9 for a lawful one without; 16 to 21 for a refused one; else the chunk's fault,
@@ -42,7 +42,7 @@ IsPatchOutcome base limit code at new room fault place =
 
 -- the region keeps what every region keeps (`IsRegion`) and ends at the limit, and this chunk is live in it with these
 -- bytes
-pub record HasLive (r : Region) (base limit : ℕ) (code : List ℕ) : Type 0 where
+pub record HasLiveCode (r : Region) (base limit : ℕ) (code : List ℕ) : Type 0 where
   pub region : IsRegion r.marked r.chunks
   pub limit_is : limit_of r.marked.bytes ≡ limit
   pub listed : Contains r.chunks (record { base = base; length = length code; state = Live })

@@ -6,7 +6,7 @@ ghost use Rattle.nc_text.specs.Places.{InRegion, byte_at};
 ghost use Rattle.nc_region.specs.declared.chunk.Chunk.{Chunk};
 ghost use Rattle.nc_handle.specs.Held.{HeldState};
 ghost use Rattle.nc_host.specs.Shown.{mark_number};
-ghost use Rattle.nc_host.specs.Looks.{chunk_of, no_chunk, place_of, no_place};
+ghost use Rattle.nc_host.specs.Looks.{chunk_of, no_chunk, shown_place, no_place};
 
 use crate::numbers::{NO_CHUNK, NO_PLACE, NOTHING};
 use crate::region_answers::{NcChunk, NcPlace, NcStamp, no_chunk, no_place};
@@ -65,7 +65,7 @@ fn mark_number(mark: Mark) -> u32
 
 /// What stands at a place, if it is one of the region.
 fn look_at(held: &Held, at: u32) -> NcPlace
-    ensures { ((result ≡ place_of held.now.region at) × InRegion held.now.region.marked.bytes at)
+    ensures { ((result ≡ shown_place held.now.region at) × InRegion held.now.region.marked.bytes at)
         ⊎ ((result ≡ no_place 43) × ¬ InRegion held.now.region.marked.bytes at) }
 {
     match (held.byte(at), held.mark(at)) {
@@ -83,7 +83,7 @@ fn look_at(held: &Held, at: u32) -> NcPlace
 pub extern "C" fn nc_region_place(alloc: Global, region: &mut NcRegion, at: u32) -> NcPlace
     ensures same { region.new.value ≡ region.old.value }
     ensures place { result.fault ≡ 0 → (h : HeldState) × (region.old.value ≡ Some h)
-        × (result ≡ place_of h.region at) × InRegion h.region.marked.bytes at }
+        × (result ≡ shown_place h.region at) × InRegion h.region.marked.bytes at }
     ensures refused { 0 < result.fault → ((result ≡ no_place 32) × (region.old.value ≡ None))
         ⊎ ((result ≡ no_place 43) × ((h : HeldState) × (region.old.value ≡ Some h) × ¬ InRegion h.region.marked.bytes at)) }
 {

@@ -10,7 +10,7 @@ ghost use Rattle.nc_acts.specs.Shown.{entry_of, over};
 ghost use Rattle.nc_acts.specs.Standing.{AreBytesAt};
 ghost use Rattle.nc_host.specs.Shown.{patch_number};
 ghost use Rattle.nc_host.specs.Outcomes.{IsAccepted};
-ghost use Rattle.nc_host.specs.Patches.{IsAnsweredFor, IsPatchOutcome, HasLive, LiesWithin};
+ghost use Rattle.nc_host.specs.Patches.{IsAnsweredFor, IsPatchOutcome, HasLiveCode, LiesWithin};
 
 use crate::acting::refused;
 use crate::answers::{NO_MEMORY, NO_ROOM, NcActs};
@@ -111,9 +111,9 @@ pub extern "C" fn nc_host_patch(
 ) -> NcActs
     ensures outcome { IsPatchOutcome base limit code.now at new.now (length acts.old) result.fault result.at }
     // An accepted patch is lawful in every region in which the chunk is live.
-    ensures anywhere { result.fault ≡ 0 → (r : Region) → HasLive r base limit code.now → IsPatch r at new.now }
+    ensures anywhere { result.fault ≡ 0 → (r : Region) → HasLiveCode r base limit code.now → IsPatch r at new.now }
     // And a patch of the chunk that is lawful in one of them is refused only for lack of memory, or of room.
-    ensures exact { (r : Region) → HasLive r base limit code.now → base ≤ at → at < base + length code.now → IsPatch r at new.now
+    ensures exact { (r : Region) → HasLiveCode r base limit code.now → base ≤ at → at < base + length code.now → IsPatch r at new.now
         → (result.fault ≡ 0) ⊎ ((result.fault ≡ 8) ⊎ (result.fault ≡ 9)) }
     // Exactly the acts of a patch and their settlings, in their order, for any text in which the chunk's bytes stand there.
     ensures written { result.fault ≡ 0 → (text : List ℕ) (news : List Piece) → AreBytesAt text base code.now → AreBytesOf new.now news

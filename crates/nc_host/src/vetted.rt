@@ -7,7 +7,7 @@ ghost use Rattle.nc_handle.specs.Held.{HeldState, MayRefuseLoad};
 ghost use Rattle.nc_handle.specs.Shown.{IsTold};
 ghost use Rattle.nc_handle.specs.declared.fault.LoadFault.{LoadFault};
 ghost use Rattle.nc_handle.specs.declared.kept.Kept.{Kept};
-ghost use Rattle.nc_host.specs.Handles.{HasLoaded, HasVetted, IsDone, IsSameButPages, IsVetted, load_number, load_wanted};
+ghost use Rattle.nc_host.specs.Handles.{HasLoaded, HoldsVetted, IsDone, IsSameButPages, IsVetted, load_number, load_wanted};
 ghost use Rattle.nc_host.specs.Outcomes.{IsChunkFault};
 
 use crate::answers::NcVerdict;
@@ -46,7 +46,7 @@ pub extern "C" fn nc_vetted_new(
     code: &[u8],
     vetted: &mut NcVetted,
 ) -> NcVerdict
-    ensures vetted { result.fault ≡ 0 → (vetted.old.value ≡ None) × HasVetted base limit code.now vetted.new.value }
+    ensures vetted { result.fault ≡ 0 → (vetted.old.value ≡ None) × HoldsVetted base limit code.now vetted.new.value }
     ensures unchanged { 0 < result.fault → vetted.new.value ≡ vetted.old.value }
     // A handle that has something is refused; else the fault is one that the chunk has.
     ensures refused { 0 < result.fault → ((result ≡ record { fault = 33; at = 0 }) × ((k : Kept) × (vetted.old.value ≡ Some k)))

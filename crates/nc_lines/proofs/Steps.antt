@@ -6,7 +6,7 @@ use Rattle.std.specs.Io.KnownBytes.{Appends, Keeps}
 use Rattle.std.proofs.KnownBytes.{Appends-trans, Appends-kept, Appends-nil}
 use Rattle.nc_lines.specs.Lines.{lines_of, ended_lines, kept_of}
 use Rattle.nc_lines.specs.Answering.{AnswersLines, IsAnswered, IsBegun, IsCutShort}
-use Rattle.nc_lines.specs.machinery.Progress.{IsOpen, ended, Stands, AnswersKept, Feeds, Finishes}
+use Rattle.nc_lines.specs.machinery.Progress.{IsOpen, ended, KeepsUp, AnswersKept, Feeds, Finishes}
 use Rattle.nc_lines.specs.declared.fault.ReplayFault.{ReplayFault}
 use Rattle.nc_lines.specs.declared.fault.ReplayFault.TheVariants.{ReadFailed, WriteFailed, OutOfMemory, BadSize, BadSeats, BadWorkers}
 use Rattle.nc_lines.proofs.Cuts.{more_to_come, lines_of-some, lines_of-cut, lines_of-open, lines_of-next, last_line, ended_lines-cut}
@@ -16,8 +16,8 @@ use Rattle.nc_lines.proofs.Answered.{runs_more}
 module _ {S : Type 0} (answers : S → List ℕ → List ℕ → S → Type 0) (start : S) (before : Option (List ℕ)) where
   -- bytes of which none ends a line
   pub stands_part : (bytes : List ℕ) (now : S) (after : Option (List ℕ)) (kept more new : List ℕ)
-      (s : Stands answers start before bytes now after kept) → IsOpen more → new ≡ kept_of (s.part ++ more)
-      → Stands answers start before (bytes ++ more) now after new
+      (s : KeepsUp answers start before bytes now after kept) → IsOpen more → new ≡ kept_of (s.part ++ more)
+      → KeepsUp answers start before (bytes ++ more) now after new
   stands_part bytes now after kept more new s no_end e = record {
     lines = s.lines;
     part = s.part ++ more;
@@ -40,9 +40,9 @@ module _ {S : Type 0} (answers : S → List ℕ → List ℕ → S → Type 0) (
 
   -- the end of a line, which is answered
   pub stands_line : (bytes : List ℕ) (now : S) (after : Option (List ℕ)) (kept reply : List ℕ) (new : S) (later : Option (List ℕ))
-      (left : List ℕ) (s : Stands answers start before bytes now after kept)
+      (left : List ℕ) (s : KeepsUp answers start before bytes now after kept)
       → left ≡ [] → answers now s.part reply new → Appends after later reply
-      → Stands answers start before (bytes ++ 10 ∷ []) new later left
+      → KeepsUp answers start before (bytes ++ 10 ∷ []) new later left
   stands_line bytes now after kept reply new later left s none answered_so written = record {
     lines = s.lines ++ s.part ∷ [];
     part = [];
@@ -55,7 +55,7 @@ module _ {S : Type 0} (answers : S → List ℕ → List ℕ → S → Type 0) (
 
   -- the answer to the line was written in part
   begun_more : (bytes : List ℕ) (now : S) (after : Option (List ℕ)) (kept reply : List ℕ) (n : ℕ) (new : S) (later : Option (List ℕ))
-      (s : Stands answers start before bytes now after kept) (all others : List (List ℕ))
+      (s : KeepsUp answers start before bytes now after kept) (all others : List (List ℕ))
       → answers now s.part reply new → Appends after later (take n reply) → all ≡ s.lines ++ (s.part ∷ others)
       → IsBegun answers start before later all
   begun_more bytes now after kept reply n new later s all others answered_so written e = record {
@@ -74,7 +74,7 @@ module _ {S : Type 0} (answers : S → List ℕ → List ℕ → S → Type 0) (
 
   -- where writing the answer to a line fails, a beginning of the answers went out
   pub begun_line : (bytes : List ℕ) (now : S) (after : Option (List ℕ)) (kept reply : List ℕ) (n : ℕ) (new : S) (later : Option (List ℕ))
-      (s : Stands answers start before bytes now after kept) (more : List ℕ)
+      (s : KeepsUp answers start before bytes now after kept) (more : List ℕ)
       → answers now s.part reply new → Appends after later (take n reply)
       → IsBegun answers start before later (lines_of (bytes ++ 10 ∷ more))
   begun_line bytes now after kept reply n new later s more answered_so written =
@@ -83,7 +83,7 @@ module _ {S : Type 0} (answers : S → List ℕ → List ℕ → S → Type 0) (
 
   -- whatever comes, the lines that have ended are the first ones, and at least one more line comes
   pub short_here : (bytes : List ℕ) (now : S) (after : Option (List ℕ)) (kept more : List ℕ)
-      (s : Stands answers start before bytes now after kept) → 0 < length (s.part ++ more)
+      (s : KeepsUp answers start before bytes now after kept) → 0 < length (s.part ++ more)
       → IsCutShort answers start before after (lines_of (bytes ++ more))
   short_here bytes now after kept more s some =
       let next = lines_of-some (s.part ++ more) some in
@@ -100,14 +100,14 @@ module _ {S : Type 0} (answers : S → List ℕ → List ℕ → S → Type 0) (
 
   -- the lines that have ended are answered
   pub stands_ended : (bytes : List ℕ) (now : S) (after : Option (List ℕ)) (kept : List ℕ)
-      → Stands answers start before bytes now after kept → IsAnswered answers start now before after (ended_lines bytes)
+      → KeepsUp answers start before bytes now after kept → IsAnswered answers start now before after (ended_lines bytes)
   stands_ended bytes now after kept s =
       subst (λ (ls : List (List ℕ)). IsAnswered answers start now before after ls)
       (sym (ap ended_lines s.split ∙ ended_lines-cut s.lines s.part s.closed s.open_part)) s.answered
 
   -- at the end there is at most one line more
   lines_at_end : (bytes : List ℕ) (now : S) (after : Option (List ℕ)) (kept : List ℕ)
-      (s : Stands answers start before bytes now after kept) → lines_of bytes ≡ s.lines ++ last_line s.part
+      (s : KeepsUp answers start before bytes now after kept) → lines_of bytes ≡ s.lines ++ last_line s.part
   lines_at_end bytes now after kept s =
       ap lines_of s.split ∙ lines_of-cut s.lines s.part s.closed ∙ ap (λ (ls : List (List ℕ)). s.lines ++ ls)
       (lines_of-open s.part s.open_part)
@@ -123,7 +123,7 @@ module _ {S : Type 0} (answers : S → List ℕ → List ℕ → S → Type 0) (
 
   -- nothing is left after the last end
   pub finish_none : (bytes : List ℕ) (now : S) (after : Option (List ℕ)) (kept : List ℕ)
-      (s : Stands answers start before bytes now after kept) → s.part ≡ [] → IsAnswered answers start now before after (lines_of bytes)
+      (s : KeepsUp answers start before bytes now after kept) → s.part ≡ [] → IsAnswered answers start now before after (lines_of bytes)
   finish_none bytes now after kept s e =
       subst (λ (ls : List (List ℕ)). IsAnswered answers start now before after ls)
       (sym (lines_at_end bytes now after kept s ∙ ap (λ (ls : List (List ℕ)). s.lines ++ ls) (last_line_none s.part e)
@@ -131,7 +131,7 @@ module _ {S : Type 0} (answers : S → List ℕ → List ℕ → S → Type 0) (
 
   -- at the end the last line is answered too
   pub finish_line : (bytes : List ℕ) (now : S) (after : Option (List ℕ)) (kept reply : List ℕ) (new : S) (later : Option (List ℕ))
-      (s : Stands answers start before bytes now after kept) → 0 < length s.part
+      (s : KeepsUp answers start before bytes now after kept) → 0 < length s.part
       → answers now s.part reply new → Appends after later reply → IsAnswered answers start new before later (lines_of bytes)
   finish_line bytes now after kept reply new later s some answered_so written =
       subst (λ (ls : List (List ℕ)). IsAnswered answers start new before later ls)
@@ -140,7 +140,7 @@ module _ {S : Type 0} (answers : S → List ℕ → List ℕ → S → Type 0) (
 
   -- at the end, where writing fails, a beginning of the answers went out
   pub finish_begun : (bytes : List ℕ) (now : S) (after : Option (List ℕ)) (kept reply : List ℕ) (n : ℕ) (new : S) (later : Option (List ℕ))
-      (s : Stands answers start before bytes now after kept) → 0 < length s.part
+      (s : KeepsUp answers start before bytes now after kept) → 0 < length s.part
       → answers now s.part reply new → Appends after later (take n reply) → IsBegun answers start before later (lines_of bytes)
   finish_begun bytes now after kept reply n new later s some answered_so written =
       begun_more bytes now after kept reply n new later s (lines_of bytes) [] answered_so written
@@ -163,7 +163,7 @@ module _ {S : Type 0} (answers : S → List ℕ → List ℕ → S → Type 0) (
 module _ {S : Type 0} (T : Type 0) (answers : S → List ℕ → List ℕ → S → Type 0) (start : S) (before : Option (List ℕ)) where
   -- a call that answers the line that ends here
   pub feeds_line : (bytes : List ℕ) (now : S) (after : Option (List ℕ)) (kept : List ℕ) (new : S) (later : Option (List ℕ)) (left : List ℕ)
-      (s : Stands answers start before bytes now after kept) (r : Result T ReplayFault)
+      (s : KeepsUp answers start before bytes now after kept) (r : Result T ReplayFault)
       → AnswersKept answers now new after later left s.part r → Feeds answers start before (bytes ++ 10 ∷ []) new later left r
   feeds_line bytes now after kept new later left s (Ok x) h =
       stands_line answers start before bytes now after kept h.1 new later left s h.0 h.2 h.3
@@ -237,7 +237,7 @@ module _ {S : Type 0} (T : Type 0) (answers : S → List ℕ → List ℕ → S 
 
   -- a call that answers the last line
   pub finishes_line : (bytes : List ℕ) (now : S) (after : Option (List ℕ)) (kept : List ℕ) (new : S) (later : Option (List ℕ))
-      (left : List ℕ) (s : Stands answers start before bytes now after kept) → 0 < length s.part → (r : Result T ReplayFault)
+      (left : List ℕ) (s : KeepsUp answers start before bytes now after kept) → 0 < length s.part → (r : Result T ReplayFault)
       → AnswersKept answers now new after later left s.part r → Finishes answers start before bytes new later r
   finishes_line bytes now after kept new later left s some (Ok x) h =
       finish_line answers start before bytes now after kept h.1 new later s some h.2 h.3
@@ -272,7 +272,7 @@ answered_kept answers start new before after later lines a k =
 
 -- at the start nothing is answered
 pub stands_start : {S : Type 0} (answers : S → List ℕ → List ℕ → S → Type 0) (start : S) (before : Option (List ℕ)) (kept : List ℕ)
-    → kept ≡ [] → Stands answers start before [] start before kept
+    → kept ≡ [] → KeepsUp answers start before [] start before kept
 stands_start answers start before kept none = record {
   lines = [];
   part = [];

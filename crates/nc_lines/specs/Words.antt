@@ -28,5 +28,5 @@ abbrev pub chunk_in : List ℕ → Option (ℕ × List ℕ)
 chunk_in line = if is_long line then None else placed_in (words_in line)
 
 -- an address and bytes, without where the bytes lie in memory
-abbrev pub plain : (ℕ × Vec ℕ) → ℕ × List ℕ
-plain placed = (placed.0, placed.1.items)
+abbrev pub address_and_bytes : (ℕ × Vec ℕ) → ℕ × List ℕ
+address_and_bytes placed = (placed.0, placed.1.items)

@@ -2,7 +2,7 @@
 
 ghost use Rattle.std.specs.Prelude.{◌≡◌, ◌++◌, ◌<◌, ◌≤◌, ℕ, List, Option, OnOk, IfOk, length, take, slice_index};
 ghost use Rattle.nc_lines.specs.Lines.{kept_of};
-ghost use Rattle.nc_lines.specs.machinery.Progress.{AnswersKept, IsOpen, Stands, FeedsPart, Feeds};
+ghost use Rattle.nc_lines.specs.machinery.Progress.{AnswersKept, IsOpen, KeepsUp, FeedsPart, Feeds};
 
 use crate::fault::ReplayFault;
 use crate::output::write_out;
@@ -71,7 +71,7 @@ fn feed_part<S: Responder, W: Write>(
     requires { 0 < length rest.now }
     ensures count { IfOk result (λ count. (0 < count) × (count ≤ length rest.now)) }
     ensures feeds { (start : S) (before : Option (List ℕ)) (bytes : List ℕ)
-        → Stands S.answers start before bytes responder.old (W.contents writer.old) line.old.items
+        → KeepsUp S.answers start before bytes responder.old (W.contents writer.old) line.old.items
         → FeedsPart S.answers start before bytes rest.now responder.new (W.contents writer.new) line.new.items result }
 {
     let end = first_end(rest);
@@ -97,7 +97,7 @@ pub(crate) fn feed<S: Responder, W: Write>(
     piece: &[u8],
 ) -> Result<(), ReplayFault>
     ensures { (start : S) (before : Option (List ℕ)) (bytes : List ℕ)
-        → Stands S.answers start before bytes responder.old (W.contents writer.old) line.old.items
+        → KeepsUp S.answers start before bytes responder.old (W.contents writer.old) line.old.items
         → Feeds S.answers start before (bytes ++ piece.now) responder.new (W.contents writer.new) line.new.items result }
 {
     let mut rest = piece;

@@ -4,7 +4,7 @@ ghost use Rattle.std.specs.Prelude.{◌≡◌, ◌≢◌, ◌++◌, ℕ, List, O
 ghost use Rattle.std.specs.Io.KnownBytes.{Consumes, IsAtEnd};
 ghost use Rattle.nc_lines.specs.Lines.{lines_of, ended_lines};
 ghost use Rattle.nc_lines.specs.Answering.{IsAnswered, IsBegun, IsCutShort};
-ghost use Rattle.nc_lines.specs.machinery.Progress.{Stands, Finishes};
+ghost use Rattle.nc_lines.specs.machinery.Progress.{KeepsUp, Finishes};
 
 use crate::fault::ReplayFault;
 use crate::lines::{answer_line, feed};
@@ -20,7 +20,7 @@ fn answer_rest<S: Responder, W: Write>(
     line: &mut Vec<u8>,
 ) -> Result<(), ReplayFault>
     ensures { (start : S) (before : Option (List ℕ)) (bytes : List ℕ)
-        → Stands S.answers start before bytes responder.old (W.contents writer.old) line.old.items
+        → KeepsUp S.answers start before bytes responder.old (W.contents writer.old) line.old.items
         → Finishes S.answers start before bytes responder.new (W.contents writer.new) result }
 {
     if line.is_empty() {
@@ -37,7 +37,7 @@ fn finish<S: Responder, W: Write>(
     line: &mut Vec<u8>,
 ) -> Result<(), ReplayFault>
     ensures { (start : S) (before : Option (List ℕ)) (bytes : List ℕ)
-        → Stands S.answers start before bytes responder.old (W.contents writer.old) line.old.items
+        → KeepsUp S.answers start before bytes responder.old (W.contents writer.old) line.old.items
         → Finishes S.answers start before bytes responder.new (W.contents writer.new) result }
 {
     match answer_rest(alloc, responder, writer, line) {

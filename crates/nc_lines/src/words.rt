@@ -3,7 +3,7 @@
 ghost use Rattle.std.specs.Prelude.{◌≡◌, IfOk, map};
 ghost use Rattle.std.specs.Option.{option_map};
 ghost use Rattle.nc_lines.specs.Lines.{words_in};
-ghost use Rattle.nc_lines.specs.Words.{address_in, bytes_in, chunk_in, placed_in, plain};
+ghost use Rattle.nc_lines.specs.Words.{address_in, bytes_in, chunk_in, placed_in, address_and_bytes};
 
 use crate::lines::LINE_LIMIT;
 use hex::FromHexError;
@@ -46,7 +46,7 @@ fn bytes_of(alloc: Global, word: &[u8]) -> Result<Option<Vec<u8>>, AllocError>
 
 /// An address, and the bytes that are to stand there.
 pub fn placed_of(alloc: Global, words: &[&[u8]]) -> Result<Option<(u32, Vec<u8>)>, AllocError>
-    ensures { IfOk result (λ found. option_map plain found ≡ placed_in (map (λ word. word.now) words.now)) }
+    ensures { IfOk result (λ found. option_map address_and_bytes found ≡ placed_in (map (λ word. word.now) words.now)) }
 {
     match words {
         [at, bytes] => {
@@ -67,7 +67,7 @@ pub(crate) fn placed_in_line(
     alloc: Global,
     line: &[u8],
 ) -> Result<Option<(u32, Vec<u8>)>, AllocError>
-    ensures { IfOk result (λ found. option_map plain found ≡ chunk_in line.now) }
+    ensures { IfOk result (λ found. option_map address_and_bytes found ≡ chunk_in line.now) }
 {
     if line.len() > LINE_LIMIT {
         return Ok(None);

@@ -5,7 +5,7 @@ use Rattle.nc_text.specs.MarkedText.{MarkedText, without_marks}
 use Rattle.nc_region.specs.declared.chunk.Chunk.{Chunk}
 use Rattle.nc_region.specs.Chunks.{HasGoodSpan}
 use Rattle.nc_region.specs.Each.{Each}
-use Rattle.nc_region.specs.Quiet.{Span, IsQuiet}
+use Rattle.nc_region.specs.Quiet.{RetiredSpan, IsQuiet}
 use Rattle.nc_region.specs.Region.{IsLive, IsInChunk, IsRising, HoldsValid, IsRegion}
 use Rattle.nc_region.proofs.AgreesOutside.{AgreesOutside, LiesBeside, still_holds}
 use Rattle.nc_region.proofs.EachMember.{each_map, each_both, each_middle, each_out, each_in}
@@ -36,7 +36,7 @@ lie_beside from (b ∷ before) after c rising = (
 )
 
 -- the span of a chunk
-abbrev pub span_of : Chunk → Span
+abbrev pub span_of : Chunk → RetiredSpan
 span_of c = record { base = c.base; length = c.length; stamp = 0 }
 
 -- a retired chunk's span is quiet

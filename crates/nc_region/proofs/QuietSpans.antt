@@ -12,7 +12,7 @@ use Rattle.nc_region.specs.declared.chunk.ChunkState.{ChunkState}
 use Rattle.nc_region.specs.declared.chunk.ChunkState.TheVariants.{Live, Retired}
 use Rattle.nc_region.specs.Chunks.{HasGoodSpan, IsClosedChunk}
 use Rattle.nc_region.specs.Each.{Each}
-use Rattle.nc_region.specs.Quiet.{Span, IsQuiet, with_retired, retired_spans, AreQuiet}
+use Rattle.nc_region.specs.Quiet.{RetiredSpan, IsQuiet, with_retired, retired_spans, AreQuiet}
 use Rattle.nc_region.specs.Region.{IsLive, IsInChunk, IsRising, HoldsValid, IsRegion}
 use Rattle.nc_region.proofs.EachMember.{each_map, each_both}
 use Rattle.nc_region.proofs.Alone.{alone, alone_fits_bytes, alone_within, alone_before, alone_behind, alone_bytes_long, alone_marks_long}
@@ -165,14 +165,14 @@ quiet_chunks marked chunks region =
     (retired_free 65536 chunks region.rising)
 
 -- one more chunk, whose span is quiet if it is retired
-with_one : (Q : Span → Type 0) (c : Chunk) (s : ChunkState) (spans : List Span) → c.state ≡ s
+with_one : (Q : RetiredSpan → Type 0) (c : Chunk) (s : ChunkState) (spans : List RetiredSpan) → c.state ≡ s
     → ((IsLive c.state → ⊥) → (stamp : ℕ) → Q (record { base = c.base; length = c.length; stamp = stamp })) → Each Q spans
     → Each Q (with_retired c s spans)
 with_one Q c Live spans is q h = h
 with_one Q c (Retired stamp) spans is q h = (q (λ live. subst IsLive is live) stamp, h)
 
 -- each retired span
-retired_each : (Q : Span → Type 0) (chunks : List Chunk) → Each (λ (c : Chunk). (IsLive c.state → ⊥) → (stamp : ℕ)
+retired_each : (Q : RetiredSpan → Type 0) (chunks : List Chunk) → Each (λ (c : Chunk). (IsLive c.state → ⊥) → (stamp : ℕ)
     → Q (record { base = c.base; length = c.length; stamp = stamp })) chunks → Each Q (retired_spans chunks)
 retired_each Q [] h = tt
 retired_each Q (c ∷ rest) h = with_one Q c c.state (retired_spans rest) refl h.0 (retired_each Q rest h.1)

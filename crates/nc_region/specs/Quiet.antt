@@ -1,19 +1,19 @@
 -- The spans of retired chunks, and that each of them is quiet.
 use Rattle.std.specs.Prelude.{List, [], ◌∷◌}
 use Rattle.nc_text.specs.MarkedText.{MarkedText}
-pub use Rattle.nc_schedule.specs.Quiet.{Span, IsInSpan, IsWithin, IsQuiet}
+pub use Rattle.nc_schedule.specs.Quiet.{RetiredSpan, IsInSpan, IsWithin, IsQuiet}
 use Rattle.nc_region.specs.declared.chunk.Chunk.{Chunk}
 use Rattle.nc_region.specs.declared.chunk.ChunkState.{ChunkState}
 use Rattle.nc_region.specs.declared.chunk.ChunkState.TheVariants.{Live, Retired}
 use Rattle.nc_region.specs.Each.{Each}
 
 -- the span of a chunk, before other spans, if the chunk is retired
-abbrev pub with_retired : Chunk → ChunkState → List Span → List Span
+abbrev pub with_retired : Chunk → ChunkState → List RetiredSpan → List RetiredSpan
 with_retired c Live spans = spans
 with_retired c (Retired stamp) spans = record { base = c.base; length = c.length; stamp = stamp } ∷ spans
 
 -- the spans of the retired chunks, in their order
-abbrev pub retired_spans : List Chunk → List Span
+abbrev pub retired_spans : List Chunk → List RetiredSpan
 retired_spans [] = []
 retired_spans (c ∷ rest) = with_retired c c.state (retired_spans rest)
 

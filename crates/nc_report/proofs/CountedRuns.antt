@@ -7,10 +7,10 @@ use Rattle.std.proofs.lemmas.List.{take-append-drop, length-drop, get_or-drop, m
 use Rattle.std.proofs.lemmas.List.Sorted.{IsNonDecreasingBy-drop}
 use Rattle.nc_vet.proofs.Offered.{flat_map-append}
 use Rattle.nc_vet.specs.Chunk.{Piece, code_of, AreSpelled}
-use Rattle.nc_report.specs.Outside.{Row, AscendFrom, all_sent, row_words, ListsOutside}
+use Rattle.nc_report.specs.Outside.{OutsideRow, AscendFrom, all_sent, row_words, ListsOutside}
 use Rattle.nc_report.specs.Report.{detail_line}
 use Rattle.nc_report.specs.machinery.Found.{AddsLines}
-use Rattle.nc_report.specs.machinery.Runs.{IsRun, IsSent, HasCounted, AddsCounts, numbers_of}
+use Rattle.nc_report.specs.machinery.Runs.{BeginsWithRun, IsSent, HasCounted, AddsCounts, numbers_of}
 
 -- before the first run nothing is written
 pub none_counted : (numbers out : List ℕ) → IsNonDecreasing numbers → HasCounted numbers out out numbers
@@ -25,7 +25,7 @@ none_counted numbers out s = record {
 }
 
 -- a number after a run is higher than those of the run
-above_run : (rest : List ℕ) (count k : ℕ) → IsNonDecreasing rest → IsRun rest count → k < length (drop count rest)
+above_run : (rest : List ℕ) (count k : ℕ) → IsNonDecreasing rest → BeginsWithRun rest count → k < length (drop count rest)
     → get_or rest 0 0 + 1 ≤ get_or (drop count rest) k 0
 above_run rest count k s r lt =
     let long = length-drop count rest in
@@ -35,11 +35,11 @@ above_run rest count k s r lt =
     subst (λ (n : ℕ). get_or rest 0 0 + 1 ≤ n) (sym (get_or-drop count rest k 0)) (omega (arith, first, later, other))
 
 -- one more run is written
-pub count_more : (numbers old out new rest : List ℕ) (count : ℕ) → HasCounted numbers old out rest → IsRun rest count
+pub count_more : (numbers old out new rest : List ℕ) (count : ℕ) → HasCounted numbers old out rest → BeginsWithRun rest count
     → new ≡ out ++ detail_line (row_words (record { to = get_or rest 0 0; times = count })) → HasCounted numbers old new (drop count rest)
 count_more numbers old out new rest count h r e =
     let first = get_or rest 0 0 in
-    let row : Row = record { to = first; times = count } in
+    let row : OutsideRow = record { to = first; times = count } in
     record {
       rows = h.rows ++ row ∷ [];
       least = first + 1;
@@ -47,7 +47,7 @@ count_more numbers old out new rest count h r e =
           ∙ ap (λ (z : List ℕ). numbers_of h.rows ++ z) (sym (take-append-drop count rest) ∙ ap (λ (z : List ℕ). z ++ drop count rest) r.same)
           ∙ sym (append_assoc (numbers_of h.rows) (replicate count first) (drop count rest))
           ∙ ap (λ (z : List ℕ). z ++ drop count rest)
-          (sym (flat_map-append (λ (x : Row). replicate x.times x.to) h.rows (row ∷ [])
+          (sym (flat_map-append (λ (x : OutsideRow). replicate x.times x.to) h.rows (row ∷ [])
           ∙ ap (λ (z : List ℕ). numbers_of h.rows ++ z) (append-nil (replicate count first))));
       ascend = λ more a. subst (AscendFrom 0) (sym (append_assoc h.rows (row ∷ []) more))
           (h.ascend (row ∷ more) (r.some, h.above 0 (omega (arith, r.some, r.within)), a));

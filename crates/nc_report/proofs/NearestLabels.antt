@@ -7,7 +7,7 @@ use Rattle.std.proofs.lemmas.List.{length-take-le, get_or-take}
 use Rattle.std.proofs.lemmas.List.Sorted.{IsNonDecreasingBy-from_all_adjacent}
 use Rattle.std.proofs.lemmas.Option.{slice_get-get_or}
 use Rattle.nc_report.specs.declared.labels.Label.{Label}
-use Rattle.nc_report.specs.Labels.{AreAscending, last_of, label_at}
+use Rattle.nc_report.specs.Labels.{LabelsAscend, last_of, label_at}
 
 -- where exactly the first ones pass, a filter takes these
 first_kept : {X : Type 0} (p : X → Bool) (xs : List X) (n : ℕ) → n ≤ length xs → ((k : ℕ) (d : X) → k < n → p (get_or xs k d) ≡ true)
@@ -57,7 +57,7 @@ is_below labels at count label parted some is =
 
 -- whether each address and the next are in order tells whether all ascend
 pub ascending_by : (labels : List Label) (test : Bool) → IsAllAdjacentAnswer (λ (x y : Label) (b : Bool). b ≡ leb x.address y.address) labels test
-    → MatchBool test (AreAscending labels) (AreAscending labels → ⊥)
+    → MatchBool test (LabelsAscend labels) (LabelsAscend labels → ⊥)
 ascending_by labels true h =
     IsNonDecreasingBy-from_all_adjacent (λ (l : Label). l.address) labels (λ k d lt. leb-true _ _ (sym (h k d lt)))
 ascending_by [] false (k, lt, falls) = λ rises. absurd (omega (arith, lt))

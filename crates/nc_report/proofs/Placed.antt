@@ -18,7 +18,7 @@ use Rattle.nc_report.specs.Labels.{label_lines}
 use Rattle.nc_report.specs.Listing.{ShowsPlace}
 use Rattle.nc_report.specs.Report.{place_of, AddsTarget, Explains, detail_line}
 use Rattle.nc_report.specs.Advice.{words_about}
-use Rattle.nc_report.specs.machinery.Found.{StandsAt, IsPlaced, IsRealTarget, AreInstructions, AddsBundle, AddsLines}
+use Rattle.nc_report.specs.machinery.Found.{GoesOnAt, HasFaultPlace, IsRealTarget, AreWholeInstructions, AddsBundle, AddsLines}
 
 -- each instruction lies in one bundle
 abbrev pub AreInside : List Piece → Type 0
@@ -55,8 +55,8 @@ spelled_later pieces earlier later s e = λ b a q h. s (earlier ++ b) a q
     (e ∙ ap (λ (z : List Piece). earlier ++ z) h ∙ sym (append_assoc earlier b (q ∷ a)))
 
 -- the bytes before the place, in its bundle, are instructions
-pub placed_read : (base at : ℕ) (code : List ℕ) → StandsAt base code at
-    → AreInstructions (take ((at - base) % 32)
+pub placed_read : (base at : ℕ) (code : List ℕ) → GoesOnAt base code at
+    → AreWholeInstructions (take ((at - base) % 32)
     (take (((at - base) - (at - base) % 32 + 32) - ((at - base) - (at - base) % 32)) (drop ((at - base) - (at - base) % 32) code)))
 placed_read base at code s =
     let to : at - base ≡ place s.front = omega (arith, s.here) in
@@ -80,11 +80,11 @@ placed_read base at code s =
 
 -- what is asked of the address of a fault, or of none
 abbrev StandsIf : ℕ → List ℕ → Option ℕ → Type 0
-StandsIf base code at = MatchOption at ⊤ (λ at. StandsAt base code at)
+StandsIf base code at = MatchOption at ⊤ (λ at. GoesOnAt base code at)
 
 -- the address of a placed fault is a place
-pub placed_at : (base at : ℕ) (code : List ℕ) (fault : VetFault) → place_of fault ≡ Some at → IsPlaced base code fault
-    → StandsAt base code at
+pub placed_at : (base at : ℕ) (code : List ℕ) (fault : VetFault) → place_of fault ≡ Some at → HasFaultPlace base code fault
+    → GoesOnAt base code at
 placed_at base at code fault is p = subst (StandsIf base code) is p
 
 -- some bytes are at least one
@@ -94,7 +94,7 @@ some_long (x ∷ xs) n = omega arith
 
 -- a fault of reading stands after a sound front
 stuck_placed : (base limit at : ℕ) (code : List ℕ) (fault : VetFault) → HasGoodSpan base limit (length code)
-    → (s : IsStuck base code fault) → at ≡ base + place s.front → StandsAt base code at
+    → (s : IsStuck base code fault) → at ≡ base + place s.front → GoesOnAt base code at
 stuck_placed base limit at code fault g s here = record {
   front = s.front;
   rest = s.rest;
@@ -107,7 +107,7 @@ stuck_placed base limit at code fault g s here = record {
 }
 
 -- so each fault that has an address stands at a place
-pub placed_fault : (base limit : ℕ) (code : List ℕ) (fault : VetFault) → HasFault base limit code fault → IsPlaced base code fault
+pub placed_fault : (base limit : ℕ) (code : List ℕ) (fault : VetFault) → HasFault base limit code fault → HasFaultPlace base code fault
 placed_fault base limit code BadBase h = tt
 placed_fault base limit code BadLength h = tt
 placed_fault base limit code OutOfRange h = tt

@@ -9,7 +9,7 @@ use Rattle.nc_decode.proofs.Offered.{spells_some, exact}
 use Rattle.nc_vet.specs.Chunk.{Piece, code_of, AreSpelled}
 use Rattle.nc_vet.proofs.Offered.{split_none, split_push, flat_map-append, code_of-append, place-push, spelled_after}
 use Rattle.nc_report.specs.Listing.{spaced, barred}
-use Rattle.nc_report.specs.machinery.Found.{AreInstructions, ListsFront}
+use Rattle.nc_report.specs.machinery.Found.{AreWholeInstructions, ListsFront}
 
 -- no instruction is spelled
 pub none_spelled : AreSpelled []
@@ -73,7 +73,7 @@ list_more old out new bytes at i l f e =
 
 -- what is left of instructions after the first is instructions
 rest_of : (bytes : List ℕ) (i : Instr) (ps : List Piece) → AreSpelled ps → bytes ≡ code_of ps → IsAtFront bytes i
-    → AreInstructions (drop i.len bytes)
+    → AreWholeInstructions (drop i.len bytes)
 rest_of bytes i [] s e f =
     let some = spells_some f.front i f.spells in
     absurd (omega (arith, some.0, some.1, ap (λ (z : List ℕ). length z) (sym f.parts ∙ e), length-append f.front f.rest))
@@ -88,14 +88,14 @@ rest_of bytes i (p ∷ ps) s e f =
     }
 
 -- so it is at a place where an instruction stands
-pub rest_read : (bytes : List ℕ) (at : ℕ) (i : Instr) → AreInstructions (drop at bytes) → IsAtFront (drop at bytes) i
-    → AreInstructions (drop (at + i.len) bytes)
+pub rest_read : (bytes : List ℕ) (at : ℕ) (i : Instr) → AreWholeInstructions (drop at bytes) → IsAtFront (drop at bytes) i
+    → AreWholeInstructions (drop (at + i.len) bytes)
 rest_read bytes at i r f =
-    subst AreInstructions (drop-drop i.len at bytes) (rest_of (drop at bytes) i r.pieces r.spelled r.parts f)
+    subst AreWholeInstructions (drop-drop i.len at bytes) (rest_of (drop at bytes) i r.pieces r.spelled r.parts f)
 
 -- where no instruction stands, nothing is left of instructions
 pub none_left : (bytes : List ℕ) (at : ℕ) → at ≤ length bytes → ((i : Instr) → IsAtFront (drop at bytes) i → ⊥)
-    → AreInstructions (drop at bytes) → at ≡ length bytes
+    → AreWholeInstructions (drop at bytes) → at ≡ length bytes
 none_left bytes at le none r = go r.pieces r.spelled r.parts
   where
     go : (ps : List Piece) → AreSpelled ps → drop at bytes ≡ code_of ps → at ≡ length bytes

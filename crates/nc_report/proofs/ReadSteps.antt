@@ -6,10 +6,10 @@ use Rattle.nc_vet.proofs.Offered.{flat_map-append}
 use Rattle.nc_report.specs.declared.spot.Spot.{Spot}
 use Rattle.nc_report.specs.declared.steps.Step.{Step}
 use Rattle.nc_report.specs.Reading.{ReadsFrom, IsReading, IsStep, masked_by, step_spots, spots_of, later_spot}
-use Rattle.nc_report.specs.machinery.Seen.{HasSpots, HasReadTo}
+use Rattle.nc_report.specs.machinery.Seen.{HasSpots, HasSeenTo}
 
 -- before the first step
-pub none_read_yet : (code : List ℕ) (spots : List Spot) → spots ≡ [] → HasReadTo code 0 None spots
+pub none_read_yet : (code : List ℕ) (spots : List Spot) → spots ≡ [] → HasSeenTo code 0 None spots
 none_read_yet code spots e = record {
   steps = [];
   goes_on = λ more h. h;
@@ -22,9 +22,9 @@ length-step_spots : (s : Step) → 1 ≤ s.len → length (step_spots s) ≡ s.l
 length-step_spots s some = omega (arith, length-replicate (s.len - 1) (later_spot s.whole), some)
 
 -- one step more
-pub one_step : (code : List ℕ) (at next room : ℕ) (masked after : Option ℕ) (spots new : List Spot) (s : Step) → HasReadTo code at masked spots
+pub one_step : (code : List ℕ) (at next room : ℕ) (masked after : Option ℕ) (spots new : List Spot) (s : Step) → HasSeenTo code at masked spots
     → drop at code ≢ [] → IsStep room masked (drop at code) s → room ≡ 32 - at % 32 → 1 ≤ s.len → new ≡ spots ++ step_spots s → after ≡ masked_by at s
-    → next ≡ at + s.len → HasReadTo code next after new
+    → next ≡ at + s.len → HasSeenTo code next after new
 one_step code at next room masked after spots new s h left step is_room some e m to = record {
   steps = h.steps ++ s ∷ [];
   goes_on = λ more r.
@@ -57,7 +57,7 @@ none_after code at e = none (drop at code) (omega (arith, length-drop at code, e
     none (x ∷ xs) z = absurd (omega (arith, z))
 
 -- all of the code is read
-pub all_read : (code : List ℕ) (at : ℕ) (masked : Option ℕ) (spots : List Spot) → HasReadTo code at masked spots → at ≡ length code
+pub all_read : (code : List ℕ) (at : ℕ) (masked : Option ℕ) (spots : List Spot) → HasSeenTo code at masked spots → at ≡ length code
     → HasSpots code spots
 all_read code at masked spots h e = record {
   steps = h.steps;

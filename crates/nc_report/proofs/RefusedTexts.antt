@@ -15,7 +15,7 @@ use Rattle.nc_report.specs.declared.labels.Label.{Label}
 use Rattle.nc_report.specs.declared.detail.Detail.{Detail}
 use Rattle.nc_report.specs.declared.detail.Detail.TheVariants.{Brief, Usual, Calls, Object}
 use Rattle.nc_report.specs.declared.detail.Detail.TheVariants as detail
-use Rattle.nc_report.specs.Report.{said_of, refused_text, detail_line, place_of, Explains, ReportsOthers, ReportsSome, AreDetailsBy, IsRefusedBy, IsRefused}
+use Rattle.nc_report.specs.Report.{said_of, refused_text, detail_line, place_of, Explains, ReportsOthers, ReportsSome, AreDetailsBy, IsRefusedBy, TellsRefused}
 use Rattle.nc_report.specs.machinery.Found.{AddsLines, AddsRefused, AreFirst, AreMoreBy, AreMore, AreSomeMore, WritesLines, CutsLines, IsCutOff}
 
 -- other lines, where there is an address or none
@@ -193,7 +193,7 @@ pub refused_told : (before mid after : Option (List ℕ)) (limit base : ℕ) (d 
     (old out kept : List ℕ) (fault : VetFault)
     → HasFault base limit code fault → AddsRefused old out d name limit base code labels fault → old ≡ []
     → WritesLines before mid out kept (AreMore d limit base code labels fault) → Appends mid after kept
-    → (text : List ℕ) × IsRefused limit base d name code labels text × Appends before after text
+    → (text : List ℕ) × TellsRefused limit base d name code labels text × Appends before after text
 refused_told before mid after limit base d name code labels old out kept fault h a none w p = (
   out ++ flat_map detail_line w.lines,
   refused_by (ReportsOthers limit base code labels) limit base d name code labels old out fault w.lines h a none w.says,

@@ -8,7 +8,7 @@ use Rattle.nc_decode.proofs.Offered.{spells_some}
 use Rattle.nc_vet.specs.Chunk.{Piece, code_of, place, AreSpelled}
 use Rattle.nc_vet.proofs.Offered.{code_of-append, place-push}
 use Rattle.nc_report.specs.Outside.{sent_outside, all_sent}
-use Rattle.nc_report.specs.machinery.Runs.{HasRead, HasReadCode, IsSent}
+use Rattle.nc_report.specs.machinery.Runs.{KnowsSent, HasReadCode, IsSent}
 use Rattle.nc_report.proofs.ReadFronts.{one_at_front}
 
 -- what instructions send, and those after them
@@ -38,8 +38,8 @@ pub read_more : (base at : ℕ) (code sent new : List ℕ) (i : Instr) → HasRe
     → new ≡ sent ++ sent_outside base (length code) i (base + at) → HasReadCode base code (at + i.len) new
 read_more base at code sent new i has f e = λ pieces s parts. let r = has pieces s parts in go pieces s parts r r.after r.parts
   where
-    go : (pieces : List Piece) → AreSpelled pieces → code ≡ code_of pieces → (r : HasRead base (length code) pieces at sent)
-        (after : List Piece) → pieces ≡ r.before ++ after → HasRead base (length code) pieces (at + i.len) new
+    go : (pieces : List Piece) → AreSpelled pieces → code ≡ code_of pieces → (r : KnowsSent base (length code) pieces at sent)
+        (after : List Piece) → pieces ≡ r.before ++ after → KnowsSent base (length code) pieces (at + i.len) new
     go pieces s parts r [] is =
         let some = spells_some f.front i f.spells in
         let none = left_is code at r.before [] (parts ∙ ap code_of is) r.here in
@@ -68,7 +68,7 @@ pub all_known : (base at : ℕ) (code sent : List ℕ) → HasReadCode base code
     → IsSent base code sent
 all_known base at code sent has none = λ pieces s parts. let r = has pieces s parts in go pieces s parts r r.after r.parts
   where
-    go : (pieces : List Piece) → AreSpelled pieces → code ≡ code_of pieces → (r : HasRead base (length code) pieces at sent)
+    go : (pieces : List Piece) → AreSpelled pieces → code ≡ code_of pieces → (r : KnowsSent base (length code) pieces at sent)
         (after : List Piece) → pieces ≡ r.before ++ after → sent ≡ all_sent base (length code) base pieces
     go pieces s parts r [] is = r.known ∙ ap (λ (z : List Piece). all_sent base (length code) base z) (sym (is ∙ append-nil r.before))
     go pieces s parts r (p ∷ ps) is =

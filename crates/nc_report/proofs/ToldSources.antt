@@ -21,8 +21,8 @@ use Rattle.nc_report.specs.Objects.{accepted_object}
 use Rattle.nc_report.specs.declared.labels.Label.{Label}
 use Rattle.nc_report.specs.declared.source.Source.{Source}
 use Rattle.nc_report.specs.declared.source.Title.{Title}
-use Rattle.nc_report.specs.Report.{Tells, Told, said_of, accepted_words, accepted_text, detail_line, AreCalls, IsAccepted, IsRefused, HasReported, HasBegunReport, IsBeginning, IsBeginningOfNext}
-use Rattle.nc_report.specs.machinery.Found.{IsFinding, code_in, AddsLines, HasInstructions, AddsAccepted, SourceValue, values_in, TellsValue, TellsOne, IsCutOff, HasToldSome, HasToldAll, HasToldFirst, value_in, title_of, job_of}
+use Rattle.nc_report.specs.Report.{TellsSource, Told, said_of, accepted_words, accepted_text, detail_line, AreCalls, TellsAccepted, TellsRefused, HasReported, HasBegunReport, IsBeginning, IsBeginningOfNext}
+use Rattle.nc_report.specs.machinery.Found.{IsFinding, code_of_verdict, AddsLines, HasInstructions, AddsAccepted, SourceValue, values_in, TellsValue, TellsOne, IsCutOff, HasToldSome, HasToldAll, HasToldFirst, value_in, title_of, job_of}
 use Rattle.nc_report.proofs.FurtherLines.{zip_more}
 
 -- a verdict
@@ -57,7 +57,7 @@ texts_more each told =
 pub told_more : (limit base : ℕ) (d : Detail) (values : List SourceValue) (title : Title) (titles : List Title) (verdict : AVerdict)
     (verdicts : List AVerdict) (before mid after : Option (List ℕ)) (count more : ℕ)
     → HasToldSome limit base d values (title ∷ titles) (verdict ∷ verdicts) before mid count
-    → TellsOne limit base d title.name.items (code_in verdict) title.labels mid after more
+    → TellsOne limit base d title.name.items (code_of_verdict verdict) title.labels mid after more
     → HasToldSome limit base d values titles verdicts before after (count + more)
 told_more limit base d values title titles verdict verdicts before mid after count more h t =
     let value = value_in title verdict in
@@ -102,7 +102,7 @@ one_or_none limit base d name code labels before after count t = omega (arith, t
 pub told_cut : (limit base : ℕ) (d : Detail) (values : List SourceValue) (title : Title) (titles : List Title) (verdict : AVerdict)
     (verdicts : List AVerdict) (before mid after : Option (List ℕ)) (count : ℕ)
     → HasToldSome limit base d values (title ∷ titles) (verdict ∷ verdicts) before mid count
-    → IsCutOff limit base d title.name.items (code_in verdict) title.labels mid after → HasToldFirst limit base d values before after
+    → IsCutOff limit base d title.name.items (code_of_verdict verdict) title.labels mid after → HasToldFirst limit base d values before after
 told_cut limit base d values title titles verdict verdicts before mid after count h p = record {
   first = h.done;
   value = value_in title verdict;
@@ -138,7 +138,7 @@ abbrev value_of : Source → SourceValue
 value_of source = record { name = source.name.items; code = source.code.items; labels = source.labels }
 
 -- a verdict on a job is true of the code in it, which is the job's
-finding : (job : Job) (verdict : AVerdict) → IsVerdictOn job verdict → IsFinding job.base job.limit verdict × (code_in verdict ≡ job.code.items)
+finding : (job : Job) (verdict : AVerdict) → IsVerdictOn job verdict → IsFinding job.base job.limit verdict × (code_of_verdict verdict ≡ job.code.items)
 finding job (Ok v) h = ((h.0, h.1, h.3), h.2)
 finding job (Err e) h =
     (subst (λ (v : Vec ℕ). HasFault job.base job.limit v.items e.1) (sym h.0) h.1, ap (λ (v : Vec ℕ). v.items) h.0)
@@ -182,7 +182,7 @@ are_values limit base sources titles verdicts e h =
 -- what holds of values holds of sources
 tells_sources : (limit base : ℕ) (d : Detail) (sources : List Source) (each : List Told)
     → AllZip (TellsValue limit base d) (map value_of sources) each
-    → AllZip (λ (s : Source) (t : Told). Tells limit base d s.name.items s.code.items s.labels t) sources each
+    → AllZip (λ (s : Source) (t : Told). TellsSource limit base d s.name.items s.code.items s.labels t) sources each
 tells_sources limit base d [] [] h = h
 tells_sources limit base d [] (t ∷ each) h = absurd h
 tells_sources limit base d (s ∷ sources) [] h = absurd h
@@ -283,7 +283,7 @@ first_begun limit base d sources values before after h e =
 
 -- an accepted source is told
 pub accepted : (chunk : MarkedChunk) (d : Detail) (name old out : List ℕ) → AddsAccepted old out d name chunk → old ≡ []
-    → IsAccepted chunk.limit chunk.base d name chunk.code out
+    → TellsAccepted chunk.limit chunk.base d name chunk.code out
 accepted chunk d name old out a none = record {
   valid = (chunk.marks, a.valid);
   pieces = a.has.pieces;
@@ -340,14 +340,14 @@ adds_object chunk d name old new count has v is e =
 
 -- an accepted source is told, and not counted
 pub tells_accepted : (base limit : ℕ) (chunk : MarkedChunk) (d : Detail) (name : List ℕ) (labels : List Label) (before after : Option (List ℕ))
-    → IsFinding base limit (Ok chunk) → ((text : List ℕ) × IsAccepted chunk.limit chunk.base d name chunk.code text × Appends before after text)
+    → IsFinding base limit (Ok chunk) → ((text : List ℕ) × TellsAccepted chunk.limit chunk.base d name chunk.code text × Appends before after text)
     → TellsOne limit base d name chunk.code labels before after 0
 tells_accepted base limit chunk d name labels before after f (text, is, appended) = record {
   told = record { refused = false; text = text };
   tells = inl (
     refl,
-    subst (λ (b : ℕ). IsAccepted limit b d name chunk.code text) f.0
-        (subst (λ (l : ℕ). IsAccepted l chunk.base d name chunk.code text) f.1 is),
+    subst (λ (b : ℕ). TellsAccepted limit b d name chunk.code text) f.0
+        (subst (λ (l : ℕ). TellsAccepted l chunk.base d name chunk.code text) f.1 is),
   );
   counted = refl;
   written = appended;
@@ -363,7 +363,7 @@ cut_accepted base limit chunk d name labels before after f h =
 
 -- a refused source is told, and counted
 pub tells_refused : (base limit : ℕ) (code : List ℕ) (d : Detail) (name : List ℕ) (labels : List Label) (before after : Option (List ℕ))
-    → ((text : List ℕ) × IsRefused limit base d name code labels text × Appends before after text)
+    → ((text : List ℕ) × TellsRefused limit base d name code labels text × Appends before after text)
     → TellsOne limit base d name code labels before after 1
 tells_refused base limit code d name labels before after (text, is, appended) = record {
   told = record { refused = true; text = text };

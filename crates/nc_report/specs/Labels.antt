@@ -7,8 +7,8 @@ use Rattle.nc_lines.specs.Replies.{address_digits}
 use Rattle.nc_report.specs.declared.labels.Label.{Label}
 
 -- the addresses of the labels ascend
-abbrev pub AreAscending : List Label → Type 0
-AreAscending labels = IsNonDecreasingBy (λ (l : Label). l.address) labels
+abbrev pub LabelsAscend : List Label → Type 0
+LabelsAscend labels = IsNonDecreasingBy (λ (l : Label). l.address) labels
 
 -- the last one of a list
 abbrev pub last_of : List Label → Option Label

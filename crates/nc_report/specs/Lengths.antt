@@ -25,17 +25,17 @@ abbrev pub sized : List ℕ → ℕ
 sized before = if has 0x66 before then 2 else 4
 
 -- the bytes of a number after these prefixes, and after this ModRM if there is one
-abbrev pub number_len : Number → List ℕ → ℕ → ℕ
-number_len Absent before modrm = 0
-number_len Byte before modrm = 1
-number_len Word before modrm = 2
-number_len Frame before modrm = 3
-number_len Sized before modrm = sized before
-number_len Far before modrm = sized before + 2
-number_len Offset before modrm = if has 0x67 before then 2 else 4
-number_len TestByte before modrm = if nat_lt (reg_of modrm) 2 then 1 else 0
-number_len TestSized before modrm = if nat_lt (reg_of modrm) 2 then sized before else 0
-number_len Field before modrm = if has 0x66 before || has 0xF2 before then 2 else 0
+abbrev pub number_size : Number → List ℕ → ℕ → ℕ
+number_size Absent before modrm = 0
+number_size Byte before modrm = 1
+number_size Word before modrm = 2
+number_size Frame before modrm = 3
+number_size Sized before modrm = sized before
+number_size Far before modrm = sized before + 2
+number_size Offset before modrm = if has 0x67 before then 2 else 4
+number_size TestByte before modrm = if nat_lt (reg_of modrm) 2 then 1 else 0
+number_size TestSized before modrm = if nat_lt (reg_of modrm) 2 then sized before else 0
+number_size Field before modrm = if has 0x66 before || has 0xF2 before then 2 else 0
 
 -- the bytes of ModRM and its tail where addresses have 16 bits
 abbrev pub short_operand_len : ℕ → ℕ
@@ -51,18 +51,18 @@ operand_size before modrm sib = if has 0x67 before then short_operand_len modrm 
 -- the bytes after an opcode of this form, if it is known, of which the first two are these
 abbrev pub tail_len : Form → List ℕ → ℕ → ℕ → Option ℕ
 tail_len Unknown before modrm sib = None
-tail_len (Alone number) before modrm sib = Some (number_len number before modrm)
-tail_len (Operand number) before modrm sib = Some (operand_size before modrm sib + number_len number before modrm)
+tail_len (Alone number) before modrm sib = Some (number_size number before modrm)
+tail_len (Operand number) before modrm sib = Some (operand_size before modrm sib + number_size number before modrm)
 tail_len Registers before modrm sib = Some 1
 
 -- the opcodes of map 1 that have an immediate byte after VEX and EVEX
-abbrev pub with_byte : List ℕ
-with_byte = 0x70 ∷ 0x71 ∷ 0x72 ∷ 0x73 ∷ 0xC2 ∷ 0xC4 ∷ 0xC5 ∷ 0xC6 ∷ []
+abbrev pub vector_with_byte : List ℕ
+vector_with_byte = 0x70 ∷ 0x71 ∷ 0x72 ∷ 0x73 ∷ 0xC2 ∷ 0xC4 ∷ 0xC5 ∷ 0xC6 ∷ []
 
 -- the form of an opcode after VEX, by its map: 1 stands for 0F, 2 for 0F 38, 3 for 0F 3A
 abbrev pub vector_form : ℕ → ℕ → Form
 vector_form map opcode =
-    if map == 1 then (if opcode == 0x77 then Alone Absent else (if among with_byte opcode then Operand Byte else Operand Absent))
+    if map == 1 then (if opcode == 0x77 then Alone Absent else (if among vector_with_byte opcode then Operand Byte else Operand Absent))
     else (if map == 2 then Operand Absent
     else (if map == 3 then Operand Byte else Unknown))
 

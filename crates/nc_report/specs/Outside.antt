@@ -23,28 +23,28 @@ all_sent base len at [] = []
 all_sent base len at (p ∷ pieces) = sent_outside base len p.instr at ++ all_sent base len (at + length p.bytes) pieces
 
 -- an address outside, and how many transfers go to it
-pub record Row : Type 0 where
+pub record OutsideRow : Type 0 where
   pub to : ℕ
   pub times : ℕ
 
 -- each row has a transfer, and the addresses ascend from one on
-abbrev pub AscendFrom : ℕ → List Row → Type 0
+abbrev pub AscendFrom : ℕ → List OutsideRow → Type 0
 AscendFrom least [] = ⊤
 AscendFrom least (row ∷ rows) = (0 < row.times) × (least ≤ row.to) × AscendFrom (row.to + 1) rows
 
 -- The rows count these addresses: each stands in one row, with the number of its occurrences.
-pub record Counts (sent : List ℕ) (rows : List Row) : Type 0 where
+pub record Counts (sent : List ℕ) (rows : List OutsideRow) : Type 0 where
   pub ascend : AscendFrom 0 rows
   pub same : IsPermutation sent (flat_map (λ row. replicate row.times row.to) rows)
 
 -- how a row is written
-abbrev pub row_words : Row → List ℕ
+abbrev pub row_words : OutsideRow → List ℕ
 row_words row =
     codes "-> " ++ (address_digits row.to ++ (codes ": " ++ (decimal row.times
     ++ (if row.times == 1 then codes " transfer" else codes " transfers"))))
 
 -- the lines on the addresses outside of a chunk that its direct transfers go to
 pub record ListsOutside (base : ℕ) (pieces : List Piece) (lines : List (List ℕ)) : Type 0 where
-  pub rows : List Row
+  pub rows : List OutsideRow
   pub counts : Counts (all_sent base (place pieces) base pieces) rows
   pub written : lines ≡ map row_words rows

@@ -51,7 +51,7 @@ AreCalls Calls base pieces lines = ListsOutside base pieces lines
 AreCalls _ base pieces lines = lines ≡ []
 
 -- the code is a valid chunk, and this is written of it, with the number of its instructions
-pub record IsAccepted (limit base : ℕ) (detail : Detail) (name code text : List ℕ) : Type 0 where
+pub record TellsAccepted (limit base : ℕ) (detail : Detail) (name code text : List ℕ) : Type 0 where
   pub valid : IsValidAt base limit code
   pub pieces : List Piece
   pub spelled : AreSpelled pieces
@@ -138,8 +138,8 @@ pub record IsRefusedBy (limit base : ℕ) (detail : Detail) (Details : VetFault 
   pub written : text ≡ refused_text detail base name code labels fault lines
 
 -- and this is all of it
-abbrev pub IsRefused : ℕ → ℕ → Detail → List ℕ → List ℕ → List Label → List ℕ → Type 0
-IsRefused limit base detail name code labels text =
+abbrev pub TellsRefused : ℕ → ℕ → Detail → List ℕ → List ℕ → List Label → List ℕ → Type 0
+TellsRefused limit base detail name code labels text =
     IsRefusedBy limit base detail (AreDetails limit base detail code labels) name code labels text
 
 -- what is written of a source, and whether it is refused
@@ -148,22 +148,22 @@ pub record Told : Type 0 where
   pub text : List ℕ
 
 -- a source is accepted or refused, and this is written of it
-abbrev pub Tells : ℕ → ℕ → Detail → List ℕ → List ℕ → List Label → Told → Type 0
-Tells limit base detail name code labels told =
-    ((told.refused ≡ false) × IsAccepted limit base detail name code told.text)
-    ⊎ ((told.refused ≡ true) × IsRefused limit base detail name code labels told.text)
+abbrev pub TellsSource : ℕ → ℕ → Detail → List ℕ → List ℕ → List Label → Told → Type 0
+TellsSource limit base detail name code labels told =
+    ((told.refused ≡ false) × TellsAccepted limit base detail name code told.text)
+    ⊎ ((told.refused ≡ true) × TellsRefused limit base detail name code labels told.text)
 
 -- exactly what is to be written of these sources was written, in their order, and this is how many are refused
 pub record HasReported (limit base : ℕ) (detail : Detail) (before after : Option (List ℕ)) (sources : List Source) (count : ℕ) : Type 0 where
   pub each : List Told
-  pub tells : AllZip (λ source told. Tells limit base detail source.name.items source.code.items source.labels told) sources each
+  pub tells : AllZip (λ source told. TellsSource limit base detail source.name.items source.code.items source.labels told) sources each
   pub refused : count ≡ count_by (λ told. told.refused) each
   pub written : Appends before after (flat_map (λ told. told.text) each)
 
 -- what may be written of a source before the last byte of it is
 abbrev pub BeginsToTell : ℕ → ℕ → Detail → List ℕ → List ℕ → List Label → List ℕ → Type 0
 BeginsToTell limit base detail name code labels text =
-    IsAccepted limit base detail name code text
+    TellsAccepted limit base detail name code text
     ⊎ IsRefusedBy limit base detail (AreFirstDetails limit base detail code labels) name code labels text
 
 -- a beginning of what is to be written of a source, or nothing
@@ -184,7 +184,7 @@ pub record HasBegunReport (limit base : ℕ) (detail : Detail) (before after : O
   pub others : List Source
   pub split : sources ≡ first ++ others
   pub each : List Told
-  pub tells : AllZip (λ source told. Tells limit base detail source.name.items source.code.items source.labels told) first each
+  pub tells : AllZip (λ source told. TellsSource limit base detail source.name.items source.code.items source.labels told) first each
   pub part : List ℕ
   pub next : IsBeginningOfNext limit base detail others part
   pub written : Appends before after (flat_map (λ told. told.text) each ++ part)

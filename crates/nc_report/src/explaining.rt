@@ -2,7 +2,7 @@
 
 ghost use Rattle.std.specs.Prelude.{◌≡◌, ◌++◌, OnOk};
 ghost use Rattle.nc_report.specs.Report.{place_of, detail_line, AddsTarget, Explains};
-ghost use Rattle.nc_report.specs.machinery.Found.{IsPlaced, IsRealTarget, AddsLines};
+ghost use Rattle.nc_report.specs.machinery.Found.{HasFaultPlace, IsRealTarget, AddsLines};
 
 use crate::advice::words_about;
 use crate::labels::Labels;
@@ -64,7 +64,7 @@ pub(crate) fn push_explained(
     labels: &Labels,
     fault: VetFault,
 ) -> Result<(), AllocError>
-    requires placed { IsPlaced base code.now fault }
+    requires placed { HasFaultPlace base code.now fault }
     requires real { IsRealTarget limit base code.now fault }
     ensures { OnOk result (AddsLines out.old.items out.new.items (Explains limit base code.now labels.now fault)) }
 {

@@ -1,7 +1,7 @@
 //! Labels: names for addresses of code.
 
 ghost use Rattle.std.specs.Prelude.{◌≡◌, ◌≤◌, [], None, Some, IfSome, IfNone};
-ghost use Rattle.nc_report.specs.Labels.{AreAscending, label_at};
+ghost use Rattle.nc_report.specs.Labels.{LabelsAscend, label_at};
 
 use std::alloc::Global;
 use std::marker::Model;
@@ -24,13 +24,13 @@ pub struct Labels {
 impl Model for Labels {
     ghost use Rattle.std.specs.Prelude.{List};
     ghost use Rattle.nc_report.specs.declared.labels.Label.{Label};
-    ghost use Rattle.nc_report.specs.Labels.{AreAscending};
+    ghost use Rattle.nc_report.specs.Labels.{LabelsAscend};
 
     ghost Value = { List Label };
 
     ghost view = { λ l. l.list.items };
 
-    ghost invariant = { λ l. AreAscending l.list.items };
+    ghost invariant = { λ l. LabelsAscend l.list.items };
 }
 
 impl Labels {
@@ -46,7 +46,7 @@ impl Labels {
     /// These labels, if their addresses ascend. Several may have one address: the last one is that address's.
     pub fn new(list: Vec<Label>) -> Option<Labels>
         ensures some { IfSome result (λ labels. labels ≡ list.items) }
-        ensures none { IfNone result (¬ AreAscending list.items) }
+        ensures none { IfNone result (¬ LabelsAscend list.items) }
     {
         if !list.is_sorted_by(|label, next| label.address <= next.address) {
             return None;

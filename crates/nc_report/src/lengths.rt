@@ -8,7 +8,7 @@ ghost use Rattle.std.specs.List.{prefix_len};
 ghost use Rattle.nc_decode.specs.Barred.{leading, among};
 ghost use Rattle.nc_decode.specs.Spelling.{operand_len};
 ghost use Rattle.nc_report.specs.declared.lengths.Form.TheVariants.{Unknown};
-ghost use Rattle.nc_report.specs.Lengths.{longest, has, sized, number_len, short_operand_len, operand_size, tail_len, vector_form, evex_form, xop_form, escaped, head_of, at_most, known_length};
+ghost use Rattle.nc_report.specs.Lengths.{longest, has, sized, number_size, short_operand_len, operand_size, tail_len, vector_form, evex_form, xop_form, escaped, head_of, at_most, known_length};
 
 /// The bytes of the longest instruction.
 const LONGEST: usize = 15;
@@ -188,7 +188,7 @@ fn sized(before: &[u8]) -> usize
 
 /// The bytes of a number after these prefixes, and after this ModRM if there is one.
 fn number_len(number: Number, before: &[u8], modrm: u8) -> usize
-    ensures value { result ≡ number_len number before.now modrm }
+    ensures value { result ≡ number_size number before.now modrm }
     ensures small { result ≤ 6 }
 {
     match number {

@@ -2,7 +2,7 @@
 
 ghost use Rattle.std.specs.Prelude.{◌≡◌, ◌≤◌, List, length, take, IfOk, OnOk};
 ghost use Rattle.nc_vet.specs.Chunk.{Piece, code_of, AreSpelled};
-ghost use Rattle.nc_report.specs.machinery.Found.{AreInstructions, ListsFront, AddsBundle};
+ghost use Rattle.nc_report.specs.machinery.Found.{AreWholeInstructions, ListsFront, AddsBundle};
 
 use crate::numbers::{push_bytes, push_text};
 use nc_decode::{BUNDLE, decode};
@@ -13,7 +13,7 @@ use std::alloc::{AllocError, Global};
 fn push_read(out: &mut Vec<u8>, bytes: &[u8]) -> Result<usize, AllocError>
     ensures lists { IfOk result (λ read. ListsFront out.old.items out.new.items bytes.now read) }
     ensures within { IfOk result (λ read. read ≤ length bytes.now) }
-    ensures whole { AreInstructions bytes.now → IfOk result (λ read. read ≡ length bytes.now) }
+    ensures whole { AreWholeInstructions bytes.now → IfOk result (λ read. read ≡ length bytes.now) }
 {
     let mut at = 0;
     while at < bytes.len() {
@@ -37,7 +37,7 @@ pub(crate) fn push_bundle(
     before: usize,
 ) -> Result<(), AllocError>
     requires within { before ≤ length bundle.now }
-    requires read { AreInstructions (take before bundle.now) }
+    requires read { AreWholeInstructions (take before bundle.now) }
     ensures { OnOk result (AddsBundle out.old.items out.new.items address bundle.now before) }
 {
     push_text(out, b"  ")?;

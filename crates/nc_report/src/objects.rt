@@ -8,7 +8,7 @@ ghost use Rattle.nc_report.specs.Report.{place_of};
 ghost use Rattle.nc_report.specs.Objects.{escaped, string_of, file_member, string_member, number_member, fault_name};
 ghost use Rattle.nc_report.specs.Labels.{label_at};
 ghost use Rattle.nc_report.specs.Objects.{symbol_member, place_members, accepted_object, refused_object, file_object};
-ghost use Rattle.nc_report.specs.machinery.Found.{IsPlaced};
+ghost use Rattle.nc_report.specs.machinery.Found.{HasFaultPlace};
 
 use crate::advice::words_about;
 use crate::explaining::place_of;
@@ -137,7 +137,7 @@ fn push_places(
     labels: &Labels,
     fault: VetFault,
 ) -> Result<(), AllocError>
-    requires { IsPlaced base code.now fault }
+    requires { HasFaultPlace base code.now fault }
     ensures { OnOk result (out.new.items ≡ out.old.items ++ place_members base code.now labels.now fault (place_of fault)) }
 {
     let Some(at) = place_of(fault) else {
@@ -181,7 +181,7 @@ pub(crate) fn push_refused_object(
     labels: &Labels,
     fault: VetFault,
 ) -> Result<(), AllocError>
-    requires { IsPlaced base code.now fault }
+    requires { HasFaultPlace base code.now fault }
     ensures { OnOk result ((fault ≢ vet.OutOfMemory) × (out.new.items ≡ out.old.items
         ++ reply_line (refused_object base name.now code.now labels.now fault (place_of fault)))) }
 {

@@ -6,7 +6,7 @@ ghost use Rattle.nc_vet.specs.Chunk.{Piece, code_of, AreSpelled};
 ghost use Rattle.nc_report.specs.Outside.{sent_outside, row_words, ListsOutside};
 ghost use Rattle.nc_report.specs.Report.{detail_line};
 ghost use Rattle.nc_report.specs.machinery.Found.{AddsLines};
-ghost use Rattle.nc_report.specs.machinery.Runs.{IsSent, IsRun, AddsCounts};
+ghost use Rattle.nc_report.specs.machinery.Runs.{IsSent, BeginsWithRun, AddsCounts};
 
 use crate::numbers::{push_number, push_text};
 use nc_decode::{Instr, decode};
@@ -54,7 +54,7 @@ fn all_sent(alloc: Global, base: u32, code: &[u8]) -> Result<Vec<u32>, AllocErro
 /// How many numbers at the front are the same.
 fn run_of(numbers: &[u32]) -> usize
     requires { 0 < length numbers.now }
-    ensures { IsRun numbers.now result }
+    ensures { BeginsWithRun numbers.now result }
 {
     let mut count = 1;
     while count < numbers.len() && numbers[count] == numbers[0] {

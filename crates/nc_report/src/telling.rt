@@ -5,8 +5,8 @@ ghost use Rattle.std.specs.Io.KnownBytes.{Appends};
 ghost use Rattle.nc_vet.specs.Faults.{HasFault};
 ghost use Rattle.nc_vet.specs.declared.fault.VetFault.TheVariants.{OutOfMemory};
 ghost use Rattle.nc_lines.specs.Replies.{reply_line, refused_reply, fault_words};
-ghost use Rattle.nc_report.specs.Report.{said_of, accepted_words, IsAccepted, IsRefused};
-ghost use Rattle.nc_report.specs.machinery.Found.{IsFinding, code_in, IsPlaced, IsRealTarget, AddsAccepted, AddsRefused, TellsOne};
+ghost use Rattle.nc_report.specs.Report.{said_of, accepted_words, TellsAccepted, TellsRefused};
+ghost use Rattle.nc_report.specs.machinery.Found.{IsFinding, code_of_verdict, HasFaultPlace, IsRealTarget, AddsAccepted, AddsRefused, TellsOne};
 ghost use Rattle.nc_report.specs.machinery.Found.{IsOfWriting, IsCutOff, WritesLines, CutsLines, AreMore, AreSomeMore};
 
 use crate::counting::count_instructions;
@@ -89,7 +89,7 @@ fn tell_accepted<W: Write>(
     writer: &mut W,
 ) -> Result<(), ReportFault>
     ensures ok { OnOk result ((text : List ℕ)
-        × IsAccepted chunk.now.limit chunk.now.base detail title.now.name.items chunk.now.code text
+        × TellsAccepted chunk.now.limit chunk.now.base detail title.now.name.items chunk.now.code text
         × Appends (W.contents writer.old) (W.contents writer.new) text) }
     ensures cut { OnErr result
         (IsCutOff chunk.now.limit chunk.now.base detail title.now.name.items chunk.now.code title.now.labels
@@ -130,7 +130,7 @@ fn push_refused(
     fault: VetFault,
     detail: Detail,
 ) -> Result<(), AllocError>
-    requires placed { IsPlaced base code.now fault }
+    requires placed { HasFaultPlace base code.now fault }
     requires real { IsRealTarget limit base code.now fault }
     ensures { OnOk result (AddsRefused out.old.items out.new.items detail name.now limit base code.now labels.now fault) }
 {
@@ -189,7 +189,7 @@ fn tell_refused<W: Write>(
     writer: &mut W,
 ) -> Result<(), ReportFault>
     requires { HasFault base limit code.now fault }
-    ensures ok { OnOk result ((text : List ℕ) × IsRefused limit base detail title.now.name.items code.now title.now.labels text
+    ensures ok { OnOk result ((text : List ℕ) × TellsRefused limit base detail title.now.name.items code.now title.now.labels text
         × Appends (W.contents writer.old) (W.contents writer.new) text) }
     ensures cut { OnErr result (IsCutOff limit base detail title.now.name.items code.now title.now.labels
         (W.contents writer.old) (W.contents writer.new)) }
@@ -227,9 +227,9 @@ pub(crate) fn tell<W: Write>(
     writer: &mut W,
 ) -> Result<usize, ReportFault>
     requires { IsFinding base limit verdict }
-    ensures ok { IfOk result (TellsOne limit base detail title.name.items (code_in verdict) title.labels
+    ensures ok { IfOk result (TellsOne limit base detail title.name.items (code_of_verdict verdict) title.labels
         (W.contents writer.old) (W.contents writer.new)) }
-    ensures cut { OnErr result (IsCutOff limit base detail title.name.items (code_in verdict) title.labels
+    ensures cut { OnErr result (IsCutOff limit base detail title.name.items (code_of_verdict verdict) title.labels
         (W.contents writer.old) (W.contents writer.new)) }
     ensures faults { IfErr result IsOfWriting }
 {

@@ -8,18 +8,18 @@ use Rattle.nc_decode.specs.declared.instruction.Mark.{Mark}
 use Rattle.nc_text.specs.Machine.{State}
 use Rattle.nc_text.specs.Marks.{IsClosed}
 use Rattle.nc_text.proofs.Offered.{IsKnown}
-use Rattle.nc_schedule.specs.Quiet.{Span, IsWithin, IsShut}
+use Rattle.nc_schedule.specs.Quiet.{RetiredSpan, IsWithin, IsShut}
 use Rattle.nc_schedule.specs.World.{World, Seat, first_seat, seat_at, IsViewOf, IsWhole, AreApart, is_same_span}
 use Rattle.nc_schedule.specs.Events.{with_seat}
 
 -- whoever stands within a retired span came before its stamp
-abbrev pub CameBefore : ℕ → List Span → State → Type 0
-CameBefore since retired now = All (λ (span : Span). IsWithin span now.place → since < span.stamp) retired
+abbrev pub CameBefore : ℕ → List RetiredSpan → State → Type 0
+CameBefore since retired now = All (λ (span : RetiredSpan). IsWithin span now.place → since < span.stamp) retired
 
 -- What is kept of a seat, over the world's marks, spans and generation and the keeper's bound for it: its thread stands
 -- where a mark is or in the zone, and not within a span that was retired before it came; until it leaves its word is at
 -- most its `since`, and a seat that has left is outside; until the keeper finds that, its bound is at most `since`.
-pub record SeatKeeps (marks : List Mark) (retired : List Span) (generation bound : ℕ) (seat : Seat) : Type 0 where
+pub record SeatKeeps (marks : List Mark) (retired : List RetiredSpan) (generation bound : ℕ) (seat : Seat) : Type 0 where
   pub stands : IfSome seat.inside (IsKnown marks)
   pub early : IfSome seat.inside (CameBefore seat.pass.since retired)
   pub since : seat.pass.since ≤ generation
@@ -29,12 +29,12 @@ pub record SeatKeeps (marks : List Mark) (retired : List Span) (generation bound
   pub bound_is : seat.found_left ≡ false → bound ≤ seat.pass.since
 
 -- any two of the spans that aren't the same have no place in common
-abbrev pub OthersApart : List Span → Type 0
+abbrev pub OthersApart : List RetiredSpan → Type 0
 OthersApart retired =
-    All (λ (one : Span). All (λ (other : Span). is_same_span one other ≡ false → AreApart one other) retired) retired
+    All (λ (one : RetiredSpan). All (λ (other : RetiredSpan). is_same_span one other ≡ false → AreApart one other) retired) retired
 
 -- of each seat
-abbrev pub SeatsKeep : World → List Mark → List Span → ℕ → Type 0
+abbrev pub SeatsKeep : World → List Mark → List RetiredSpan → ℕ → Type 0
 SeatsKeep w marks retired generation =
     (k : ℕ) → k < length w.seats → SeatKeeps marks retired generation (slice_index w.keeper.bounds k) (seat_at w k)
 

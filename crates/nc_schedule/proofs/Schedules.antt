@@ -8,7 +8,7 @@ use Rattle.nc_text.specs.Machine.{IsSafe}
 use Rattle.nc_text.proofs.Offered.{IsKnown, safe_if_known, new_is_text}
 use Rattle.nc_text.specs.Marks.{IsClosed}
 use Rattle.nc_text.specs.MarkedText.{unused_text}
-use Rattle.nc_schedule.specs.Quiet.{Span, IsShut}
+use Rattle.nc_schedule.specs.Quiet.{RetiredSpan, IsShut}
 use Rattle.nc_schedule.specs.World.{World, Seat, first_seat, first_world, seat_at, IsViewOf, IsWhole, AreApart, is_same_span}
 use Rattle.nc_schedule.specs.World.{IsUsable, AllStandSafe, NoneIsWithin}
 use Rattle.nc_schedule.specs.Events.{Event, Steps, Enters, Exits, Takes, Sees, Stores, Leaves, Puts, Settles, Marks, Bumps, Retires, Frees}
@@ -52,7 +52,7 @@ keeps_first limit seats lawful =
           (sym (only_as_it_stands (unused_text limit).bytes view v)) whole.closed;
       shut = λ view v. All-nil (IsShut view (unused_text limit).marks);
       whole = All-nil (IsWhole (unused_text limit).bytes);
-      apart = All-nil (λ (one : Span). All (λ (other : Span). is_same_span one other ≡ false → AreApart one other) []);
+      apart = All-nil (λ (one : RetiredSpan). All (λ (other : RetiredSpan). is_same_span one other ≡ false → AreApart one other) []);
       bounds = length-replicate {A = ℕ} seats 0 ∙ sym (length-replicate seats first_seat);
       seats = λ k lt.
           let inside : k < seats = omega (arith, lt, length-replicate seats first_seat) in
@@ -110,7 +110,7 @@ safe_after limit seats events later lawful allowed =
     (keeps_reached limit seats events lawful (allowed_front (first_world limit seats) events later allowed))
 
 -- and nobody stands within a span when it is freed
-pub none_is_within_freed : (limit seats : ℕ) (events later : List Event) (span : Span) → IsLawfulLimit limit
+pub none_is_within_freed : (limit seats : ℕ) (events later : List Event) (span : RetiredSpan) → IsLawfulLimit limit
     → AreAllowed (first_world limit seats) (events ++ Frees span ∷ later)
     → NoneIsWithin (world_after (first_world limit seats) events) span
 none_is_within_freed limit seats events later span lawful allowed =
@@ -119,7 +119,7 @@ none_is_within_freed limit seats events later span lawful allowed =
     (allowed_back (first_world limit seats) events (Frees span ∷ later) allowed).0
 
 -- and a span that is freed may be used again
-pub usable_after_freed : (limit seats : ℕ) (events later : List Event) (span : Span) → IsLawfulLimit limit
+pub usable_after_freed : (limit seats : ℕ) (events later : List Event) (span : RetiredSpan) → IsLawfulLimit limit
     → AreAllowed (first_world limit seats) (events ++ Frees span ∷ later)
     → IsUsable (world_after (first_world limit seats) (events ++ Frees span ∷ [])) span
 usable_after_freed limit seats events later span lawful allowed =

@@ -6,7 +6,7 @@ use Rattle.nc_text.specs.Machine.{State, state}
 use Rattle.nc_text.specs.Marks.{IsMarked}
 use Rattle.nc_text.proofs.Offered.{IsKnown, start_is_marked}
 use Rattle.nc_gens.specs.Rule.{generation_taken, generation_seen, since_stored, left_stored}
-use Rattle.nc_schedule.specs.Quiet.{Span, IsWithin, IsShut}
+use Rattle.nc_schedule.specs.Quiet.{RetiredSpan, IsWithin, IsShut}
 use Rattle.nc_schedule.specs.World.{World, seat_at}
 use Rattle.nc_schedule.specs.Events.{Steps, Enters, Exits, Takes, Sees, Stores, Leaves, IsAllowed, after}
 use Rattle.nc_schedule.proofs.Invariant.{Keeps, CameBefore, if_none, some_at, none_is_some, with_seat_keeps}
@@ -28,7 +28,7 @@ keeps_steps w k next keeps allowed =
     record {
       stands = (keeps.closed view seen).steps now next m step;
       early = All-weaker (IsShut view w.marked.marks)
-          (λ (span : Span). IsWithin span next.place → (seat_at w k).pass.since < span.stamp)
+          (λ (span : RetiredSpan). IsWithin span next.place → (seat_at w k).pass.since < span.stamp)
           (λ span shut within. absurd
           (none_steps_in view w.marked.marks span shut now next m step within)) w.retired (keeps.shut view seen);
       since = s.since;
@@ -48,7 +48,7 @@ keeps_enters w k at keeps allowed =
       stands = inl (start_is_marked w.marked.bytes w.marked.marks
           (keeps.closed w.marked.bytes (as_it_stands w.marked.bytes w.earlier)) (state at None) allowed.2 allowed.3);
       early = All-weaker (IsShut w.marked.bytes w.marked.marks)
-          (λ (span : Span). IsWithin span at → (seat_at w k).pass.since < span.stamp)
+          (λ (span : RetiredSpan). IsWithin span at → (seat_at w k).pass.since < span.stamp)
           (λ span shut within. absurd (within.1 allowed.3)) w.retired
           (keeps.shut w.marked.bytes (as_it_stands w.marked.bytes w.earlier));
       since = s.since;

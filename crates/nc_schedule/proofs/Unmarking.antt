@@ -8,17 +8,17 @@ use Rattle.nc_text.specs.Machine.{State, Step}
 use Rattle.nc_text.specs.Marks.{IsMarked, IsClosed, mark_at, Admits}
 use Rattle.nc_text.specs.MarkedText.{MarkedText, without_marks, unused_mark, unused_marks}
 use Rattle.nc_text.proofs.Offered.{no_step_from_stop, length-with_span}
-use Rattle.nc_schedule.specs.Quiet.{Span, IsWithin, IsQuiet, IsShut}
+use Rattle.nc_schedule.specs.Quiet.{RetiredSpan, IsWithin, IsQuiet, IsShut}
 use Rattle.nc_schedule.specs.World.{IsWhole}
 use Rattle.nc_schedule.proofs.SpanPlaces.{place_of, Before, Within, Behind, span_before, span_within, span_behind, unused_is_start}
 use Rattle.nc_schedule.proofs.SpanPlaces.{unused_at_start}
 
 -- a quiet span is shut
-pub shut_if_quiet : (text : List ℕ) (marks : List Mark) (span : Span) → IsQuiet text marks span → IsShut text marks span
+pub shut_if_quiet : (text : List ℕ) (marks : List Mark) (span : RetiredSpan) → IsQuiet text marks span → IsShut text marks span
 shut_if_quiet text marks span quiet = record { stops = λ now m inside. quiet.stops now.place inside; unreached = quiet.unreached }
 
 -- no step leads into a shut span but to a bundle start
-pub none_steps_in : (text : List ℕ) (marks : List Mark) (span : Span) → IsShut text marks span → (now next : State) → IsMarked marks now
+pub none_steps_in : (text : List ℕ) (marks : List Mark) (span : RetiredSpan) → IsShut text marks span → (now next : State) → IsMarked marks now
     → Step text now next → IsWithin span next.place → ⊥
 none_steps_in text marks span shut now next m step within =
     elim (place_of span.base span.length now.place) [
@@ -28,27 +28,27 @@ none_steps_in text marks span shut now next m step within =
     ]
 
 -- what holds where a span is freed
-pub record MayFree (marked : MarkedText) (span : Span) : Type 0 where
+pub record MayFree (marked : MarkedText) (span : RetiredSpan) : Type 0 where
   pub as_long : length marked.marks ≡ length marked.bytes
   pub closed : IsClosed marked.bytes marked.marks
   pub whole : IsWhole marked.bytes span
   pub shut : IsShut marked.bytes marked.marks span
 
 -- the marks afterwards
-abbrev pub freed_marks : MarkedText → Span → List Mark
+abbrev pub freed_marks : MarkedText → RetiredSpan → List Mark
 freed_marks marked span = (without_marks marked span.base span.length).marks
 
 -- how long the marks of a span are
-unused_long : (span : Span) → length (unused_marks span.base span.length) ≡ span.length
+unused_long : (span : RetiredSpan) → length (unused_marks span.base span.length) ≡ span.length
 unused_long span = length-map-range_with_len unused_mark span.base span.length
 
 -- they fit into the marks
-fits : (marked : MarkedText) (span : Span) → MayFree marked span
+fits : (marked : MarkedText) (span : RetiredSpan) → MayFree marked span
     → span.base + length (unused_marks span.base span.length) ≤ 65536 + length marked.marks
 fits marked span f = omega (arith, unused_long span, f.whole.high, f.as_long)
 
 -- in the span only bundle starts are marked
-pub freed_within : (marked : MarkedText) (span : Span) (at : ℕ) → MayFree marked span → span.base ≤ at → at < span.base + span.length
+pub freed_within : (marked : MarkedText) (span : RetiredSpan) (at : ℕ) → MayFree marked span → span.base ≤ at → at < span.base + span.length
     → mark_at (freed_marks marked span) at ≡ unused_mark at
 freed_within marked span at f a b =
     span_within marked.marks span.base (unused_marks span.base span.length) at Unmarked f.whole.low (fits marked span f) a
@@ -56,20 +56,20 @@ freed_within marked span at f a b =
     ∙ get_or-map-range_with_len unused_mark span.base span.length (at - span.base) at Unmarked (omega arith) (omega arith)
 
 -- before it the marks stay
-pub freed_before : (marked : MarkedText) (span : Span) (at : ℕ) → MayFree marked span → 65536 ≤ at → at < span.base
+pub freed_before : (marked : MarkedText) (span : RetiredSpan) (at : ℕ) → MayFree marked span → 65536 ≤ at → at < span.base
     → mark_at (freed_marks marked span) at ≡ mark_at marked.marks at
 freed_before marked span at f low l =
     span_before marked.marks span.base (unused_marks span.base span.length) at Unmarked f.whole.low (fits marked span f) low l
 
 -- after it too
-pub freed_behind : (marked : MarkedText) (span : Span) (at : ℕ) → MayFree marked span → span.base + span.length ≤ at
+pub freed_behind : (marked : MarkedText) (span : RetiredSpan) (at : ℕ) → MayFree marked span → span.base + span.length ≤ at
     → mark_at (freed_marks marked span) at ≡ mark_at marked.marks at
 freed_behind marked span at f p =
     span_behind marked.marks span.base (unused_marks span.base span.length) at Unmarked f.whole.low (fits marked span f)
     (omega (arith, unused_long span))
 
 -- there are as many marks
-pub freed_long : (marked : MarkedText) (span : Span) → MayFree marked span → length (freed_marks marked span) ≡ length marked.marks
+pub freed_long : (marked : MarkedText) (span : RetiredSpan) → MayFree marked span → length (freed_marks marked span) ≡ length marked.marks
 freed_long marked span f =
     length-with_span marked.marks (span.base - 65536) (unused_marks span.base span.length) (omega (arith, fits marked span f, f.whole.low))
 
@@ -78,7 +78,7 @@ plain_is_marked : (marks : List Mark) (now : State) → 65536 ≤ now.place → 
 plain_is_marked marks now low plain = (low, subst (λ (mark : Mark). Admits mark now.masked) (sym plain) tt)
 
 -- what is marked afterwards was marked before
-pub freed_was : (marked : MarkedText) (span : Span) → MayFree marked span → (now : State) → IsMarked (freed_marks marked span) now
+pub freed_was : (marked : MarkedText) (span : RetiredSpan) → MayFree marked span → (now : State) → IsMarked (freed_marks marked span) now
     → IsMarked marked.marks now
 freed_was marked span f now m =
     elim (place_of span.base span.length now.place) [
@@ -92,7 +92,7 @@ freed_was marked span f now m =
     ]
 
 -- what was marked and isn't within the span stays marked
-pub freed_stays : (marked : MarkedText) (span : Span) → MayFree marked span → (now : State) → IsMarked marked.marks now
+pub freed_stays : (marked : MarkedText) (span : RetiredSpan) → MayFree marked span → (now : State) → IsMarked marked.marks now
     → (IsWithin span now.place → ⊥) → IsMarked (freed_marks marked span) now
 freed_stays marked span f now m out =
     elim (place_of span.base span.length now.place) [
@@ -108,7 +108,7 @@ freed_stays marked span f now m out =
     ]
 
 -- the text is closed under these marks
-pub freed_closed : (marked : MarkedText) (span : Span) → MayFree marked span → IsClosed marked.bytes (freed_marks marked span)
+pub freed_closed : (marked : MarkedText) (span : RetiredSpan) → MayFree marked span → IsClosed marked.bytes (freed_marks marked span)
 freed_closed marked span f =
     record {
       starts = λ at inside start.
@@ -128,7 +128,7 @@ freed_closed marked span f =
     }
 
 -- another shut span stays shut
-pub freed_shut : (marked : MarkedText) (span other : Span) → MayFree marked span → IsShut marked.bytes marked.marks other
+pub freed_shut : (marked : MarkedText) (span other : RetiredSpan) → MayFree marked span → IsShut marked.bytes marked.marks other
     → IsShut marked.bytes (freed_marks marked span) other
 freed_shut marked span other f shut =
     record {

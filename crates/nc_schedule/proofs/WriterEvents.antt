@@ -12,7 +12,7 @@ use Rattle.nc_text.specs.Machine.{State}
 use Rattle.nc_text.specs.Marks.{Admits, mark_at}
 use Rattle.nc_text.specs.MarkedText.{MarkedText, with_marks, with_span, StaysOrPlain}
 use Rattle.nc_text.proofs.Offered.{IsKnown, length-with_span}
-use Rattle.nc_schedule.specs.Quiet.{Span, IsWithin, IsShut}
+use Rattle.nc_schedule.specs.Quiet.{RetiredSpan, IsWithin, IsShut}
 use Rattle.nc_schedule.specs.World.{World, Seat, first_seat, seat_at, IsViewOf, IsWhole, AreApart, IsUsable, is_same_span, NoneIsWithin}
 use Rattle.nc_schedule.specs.Events.{Puts, Settles, Marks, Bumps, Retires, Frees, Looks, IsAllowed, after, new_span}
 use Rattle.nc_schedule.proofs.Invariant.{Keeps, SeatKeeps, OthersApart, CameBefore, if_map, some_at, none_is_some}
@@ -72,7 +72,7 @@ span_long {X} xs start [] fits =
 span_long xs start (y ∷ ys) fits = length-with_span xs start (y ∷ ys) (fits (omega arith))
 
 -- what a seat keeps while marks and spans change
-seat_moves : (old marks : List Mark) (before retired : List Span) (from to bound : ℕ) (seat : Seat) → from ≤ to
+seat_moves : (old marks : List Mark) (before retired : List RetiredSpan) (from to bound : ℕ) (seat : Seat) → from ≤ to
     → IfSome seat.inside (IsKnown marks) → IfSome seat.inside (CameBefore seat.pass.since retired)
     → SeatKeeps old before from bound seat → SeatKeeps marks retired to bound seat
 seat_moves old marks before retired from to bound seat le stands early s =
@@ -145,35 +145,35 @@ not_true true is = absurd (false≢true is)
 not_true false is = refl
 
 -- places in common are so both ways
-apart_sym : (one other : Span) → AreApart one other → AreApart other one
+apart_sym : (one other : RetiredSpan) → AreApart one other → AreApart other one
 apart_sym one other apart = elim apart [ inl below ↦ inr below | inr above ↦ inl above ]
 
 -- a span is the same as itself
-same_as_itself : (span : Span) → is_same_span span span ≡ true
+same_as_itself : (span : RetiredSpan) → is_same_span span span ≡ true
 same_as_itself span = grind (arith, nat_tests)
 
 -- a span apart from the others joins them
-one_more_apart : (span : Span) (retired : List Span) → All (AreApart span) retired → OthersApart retired → OthersApart (span ∷ retired)
+one_more_apart : (span : RetiredSpan) (retired : List RetiredSpan) → All (AreApart span) retired → OthersApart retired → OthersApart (span ∷ retired)
 one_more_apart span retired new apart =
-    All-cons (λ (one : Span). All (λ (other : Span). is_same_span one other ≡ false → AreApart one other) (span ∷ retired)) span retired
-    (All-cons (λ (other : Span). is_same_span span other ≡ false → AreApart span other) span retired
+    All-cons (λ (one : RetiredSpan). All (λ (other : RetiredSpan). is_same_span one other ≡ false → AreApart one other) (span ∷ retired)) span retired
+    (All-cons (λ (other : RetiredSpan). is_same_span span other ≡ false → AreApart span other) span retired
     (λ not_same. absurd (false≢true (sym not_same ∙ same_as_itself span)))
-    (All-weaker (AreApart span) (λ (other : Span). is_same_span span other ≡ false → AreApart span other)
+    (All-weaker (AreApart span) (λ (other : RetiredSpan). is_same_span span other ≡ false → AreApart span other)
     (λ other is not_same. is) retired new))
-    (all_two (λ (one : Span). All (λ (other : Span). is_same_span one other ≡ false → AreApart one other) retired)
-    (AreApart span) (λ (one : Span). All (λ (other : Span). is_same_span one other ≡ false → AreApart one other) (span ∷ retired))
+    (all_two (λ (one : RetiredSpan). All (λ (other : RetiredSpan). is_same_span one other ≡ false → AreApart one other) retired)
+    (AreApart span) (λ (one : RetiredSpan). All (λ (other : RetiredSpan). is_same_span one other ≡ false → AreApart one other) (span ∷ retired))
     retired
-    (λ one each is. All-cons (λ (other : Span). is_same_span one other ≡ false → AreApart one other) span retired
+    (λ one each is. All-cons (λ (other : RetiredSpan). is_same_span one other ≡ false → AreApart one other) span retired
     (λ not_same. apart_sym span one is) each) apart new)
 
 -- those that stay are apart from one another
-fewer_apart : (keep : Span → Bool) (retired : List Span) → OthersApart retired → OthersApart (filter keep retired)
+fewer_apart : (keep : RetiredSpan → Bool) (retired : List RetiredSpan) → OthersApart retired → OthersApart (filter keep retired)
 fewer_apart keep retired apart =
-    All-filter keep (λ (one : Span). All (λ (other : Span). is_same_span one other ≡ false → AreApart one other) (filter keep retired))
+    All-filter keep (λ (one : RetiredSpan). All (λ (other : RetiredSpan). is_same_span one other ≡ false → AreApart one other) (filter keep retired))
     retired
-    (All-weaker (λ (one : Span). All (λ (other : Span). is_same_span one other ≡ false → AreApart one other) retired)
-    (λ (one : Span). All (λ (other : Span). is_same_span one other ≡ false → AreApart one other) (filter keep retired))
-    (λ one each. All-filter keep (λ (other : Span). is_same_span one other ≡ false → AreApart one other) retired each) retired apart)
+    (All-weaker (λ (one : RetiredSpan). All (λ (other : RetiredSpan). is_same_span one other ≡ false → AreApart one other) retired)
+    (λ (one : RetiredSpan). All (λ (other : RetiredSpan). is_same_span one other ≡ false → AreApart one other) (filter keep retired))
+    (λ one each. All-filter keep (λ (other : RetiredSpan). is_same_span one other ≡ false → AreApart one other) retired each) retired apart)
 
 -- a span is retired
 pub keeps_retires : (w : World) (base len : ℕ) → Keeps w → IsAllowed w (Retires base len) → Keeps (after w (Retires base len))
@@ -191,7 +191,7 @@ keeps_retires w base len keeps allowed =
           (w.keeper.generation + 1) (slice_index w.keeper.bounds k) (seat_at w k) (omega arith) s.stands
           (if_map (seat_at w k).inside (CameBefore (seat_at w k).pass.since w.retired)
           (CameBefore (seat_at w k).pass.since (new_span w base len ∷ w.retired))
-          (λ now came. All-cons (λ (span : Span). IsWithin span now.place → (seat_at w k).pass.since < span.stamp)
+          (λ now came. All-cons (λ (span : RetiredSpan). IsWithin span now.place → (seat_at w k).pass.since < span.stamp)
           (new_span w base len) w.retired (λ within. omega (arith, s.since)) came) s.early)
           s;
     }
@@ -202,21 +202,21 @@ for_some None P f = tt
 for_some (Some x) P f = f x refl
 
 -- a seat by which a span's stamp has passed has no thread within the span
-seat_is_out : (marks : List Mark) (retired : List Span) (generation bound : ℕ) (span : Span) (seat : Seat) → Contains retired span
+seat_is_out : (marks : List Mark) (retired : List RetiredSpan) (generation bound : ℕ) (span : RetiredSpan) (seat : Seat) → Contains retired span
     → SeatKeeps marks retired generation bound seat → (found : Bool) → seat.found_left ≡ found
     → (span.stamp ≤ bound) ⊎ (seat.found_left ≡ true) → (now : State) → seat.inside ≡ Some now → IsWithin span now.place → ⊥
 seat_is_out marks retired generation bound span seat has s true is passed now inside within =
     none_is_some now (sym (s.out (s.found is)) ∙ inside)
 seat_is_out marks retired generation bound span seat has s false is passed now inside within =
     let came = some_at seat.inside (CameBefore seat.pass.since retired) now inside s.early in
-    let before = All-contains (λ (other : Span). IsWithin other now.place → seat.pass.since < other.stamp) retired span came has within in
+    let before = All-contains (λ (other : RetiredSpan). IsWithin other now.place → seat.pass.since < other.stamp) retired span came has within in
     elim passed [
       | inl reaches ↦ omega (arith, before, reaches, s.bound_is is)
       | inr left ↦ none_is_some now (sym (s.out (s.found left)) ∙ inside)
     ]
 
 -- so for every seat
-seats_are_out : (w : World) (span : Span) → Keeps w → IsAllowed w (Frees span) → (k : ℕ) → k < length w.seats
+seats_are_out : (w : World) (span : RetiredSpan) → Keeps w → IsAllowed w (Frees span) → (k : ℕ) → k < length w.seats
     → IfSome (seat_at w k).inside (λ now. IsWithin span now.place → ⊥)
 seats_are_out w span keeps allowed k lt =
     for_some (seat_at w k).inside (λ now. IsWithin span now.place → ⊥)
@@ -224,7 +224,7 @@ seats_are_out w span keeps allowed k lt =
     (keeps.seats k lt) (seat_at w k).found_left refl (allowed.1 k lt))
 
 -- what a thread out of the span stands on is marked afterwards
-known_after : (w : World) (span : Span) → MayFree w.marked span → (inside : Option State) → IfSome inside (IsKnown w.marked.marks)
+known_after : (w : World) (span : RetiredSpan) → MayFree w.marked span → (inside : Option State) → IfSome inside (IsKnown w.marked.marks)
     → IfSome inside (λ now. IsWithin span now.place → ⊥) → IfSome inside (IsKnown (freed_marks w.marked span))
 known_after w span f None known out = tt
 known_after w span f (Some now) known out = elim known [ inl m ↦ inl (freed_stays w.marked span f now m out) | inr zone ↦ inr zone ]
@@ -234,7 +234,7 @@ abbrev pub seen_text : World → List ℕ → MarkedText
 seen_text w view = record { bytes = view; marks = w.marked.marks }
 
 -- what a span in the list keeps, in each view
-may_free : (w : World) (view : List ℕ) (span : Span) → Keeps w → IsViewOf w view → Contains w.retired span
+may_free : (w : World) (view : List ℕ) (span : RetiredSpan) → Keeps w → IsViewOf w view → Contains w.retired span
     → MayFree (seen_text w view) span
 may_free w view span keeps v has =
     let whole = All-contains (IsWhole w.marked.bytes) w.retired span keeps.whole has in
@@ -246,14 +246,14 @@ may_free w view span keeps v has =
     }
 
 -- and in the text as it stands
-pub may_free_now : (w : World) (span : Span) → Keeps w → Contains w.retired span → MayFree w.marked span
+pub may_free_now : (w : World) (span : RetiredSpan) → Keeps w → Contains w.retired span → MayFree w.marked span
 may_free_now w span keeps has = may_free w w.marked.bytes span keeps (as_it_stands w.marked.bytes w.earlier) has
 
 -- a span is freed
-pub keeps_frees : (w : World) (span : Span) → Keeps w → IsAllowed w (Frees span) → Keeps (after w (Frees span))
+pub keeps_frees : (w : World) (span : RetiredSpan) → Keeps w → IsAllowed w (Frees span) → Keeps (after w (Frees span))
 keeps_frees w span keeps allowed =
     let f = may_free_now w span keeps allowed.0 in
-    let others : Span → Bool = λ other. not (is_same_span span other) in
+    let others : RetiredSpan → Bool = λ other. not (is_same_span span other) in
     record {
       as_long = freed_long w.marked span f ∙ keeps.as_long;
       closed = λ view v. freed_closed (seen_text w view) span (may_free w view span keeps v allowed.0);
@@ -266,7 +266,7 @@ keeps_frees w span keeps allowed =
       bounds = keeps.bounds;
       seats = λ k lt.
           let s = keeps.seats k lt in
-          let kept : List Span = filter (λ other. not (is_same_span span other)) w.retired in
+          let kept : List RetiredSpan = filter (λ other. not (is_same_span span other)) w.retired in
           seat_moves w.marked.marks (freed_marks w.marked span) w.retired
           (filter (λ other. not (is_same_span span other)) w.retired) w.keeper.generation w.keeper.generation
           (slice_index w.keeper.bounds k) (seat_at w k) (omega arith)
@@ -274,7 +274,7 @@ keeps_frees w span keeps allowed =
           (if_map (seat_at w k).inside (CameBefore (seat_at w k).pass.since w.retired)
           (CameBefore (seat_at w k).pass.since (filter (λ other. not (is_same_span span other)) w.retired))
           (λ now came. All-filter (λ other. not (is_same_span span other))
-          (λ (other : Span). IsWithin other now.place → (seat_at w k).pass.since < other.stamp) w.retired came) s.early)
+          (λ (other : RetiredSpan). IsWithin other now.place → (seat_at w k).pass.since < other.stamp) w.retired came) s.early)
           s;
     }
 
@@ -334,26 +334,26 @@ keeps_looks w k keeps =
         }
 
 -- no span that stays retired has a place of the one that is freed
-others_apart : (w : World) (span : Span) → Keeps w → Contains w.retired span → All (AreApart span) (after w (Frees span)).retired
+others_apart : (w : World) (span : RetiredSpan) → Keeps w → Contains w.retired span → All (AreApart span) (after w (Frees span)).retired
 others_apart w span keeps has =
-    let apart_if_other = All-contains (λ (one : Span). All (λ (other : Span). is_same_span one other ≡ false → AreApart one other) w.retired)
+    let apart_if_other = All-contains (λ (one : RetiredSpan). All (λ (other : RetiredSpan). is_same_span one other ≡ false → AreApart one other) w.retired)
     w.retired span keeps.apart has in
-    all_two (λ (other : Span). not (is_same_span span other) ≡ true) (λ (other : Span). is_same_span span other ≡ false → AreApart span other)
+    all_two (λ (other : RetiredSpan). not (is_same_span span other) ≡ true) (λ (other : RetiredSpan). is_same_span span other ≡ false → AreApart span other)
     (AreApart span) (filter (λ other. not (is_same_span span other)) w.retired)
     (λ other kept apart. apart (not_true (is_same_span span other) kept))
     (filter_passes (λ other. not (is_same_span span other)) w.retired)
-    (All-filter (λ other. not (is_same_span span other)) (λ (other : Span). is_same_span span other ≡ false → AreApart span other)
+    (All-filter (λ other. not (is_same_span span other)) (λ (other : RetiredSpan). is_same_span span other ≡ false → AreApart span other)
     w.retired apart_if_other)
 
 -- a span that is freed may be used again
-pub freed_is_usable : (w : World) (span : Span) → Keeps w → IsAllowed w (Frees span) → IsUsable (after w (Frees span)) span
+pub freed_is_usable : (w : World) (span : RetiredSpan) → Keeps w → IsAllowed w (Frees span) → IsUsable (after w (Frees span)) span
 freed_is_usable w span keeps allowed = (
   All-contains (IsWhole w.marked.bytes) w.retired span keeps.whole allowed.0,
   others_apart w span keeps allowed.0,
 )
 
 -- nobody stands within a span that may be freed
-pub none_is_within : (w : World) (span : Span) → Keeps w → IsAllowed w (Frees span) → NoneIsWithin w span
+pub none_is_within : (w : World) (span : RetiredSpan) → Keeps w → IsAllowed w (Frees span) → NoneIsWithin w span
 none_is_within w span keeps allowed =
     All_from w.seats (λ (seat : Seat). IfSome seat.inside (λ now. IsWithin span now.place → ⊥)) (seats_are_out w span keeps allowed)
   where

@@ -6,7 +6,7 @@ use Rattle.nc_text.specs.Places.{InRegion, SpanInRegion, byte_at}
 use Rattle.nc_text.specs.Machine.{State, state, Step}
 use Rattle.nc_text.specs.MarkedText.{with_byte, with_marks, without_marks, KeepsMarks}
 use Rattle.nc_gens.specs.Rule.{generation_taken, generation_seen, since_stored, left_stored, generation_raised, word_taken}
-use Rattle.nc_schedule.specs.Quiet.{Span, IsShut}
+use Rattle.nc_schedule.specs.Quiet.{RetiredSpan, IsShut}
 use Rattle.nc_schedule.specs.World.{Seat, World, seat_at, IsViewOf, IsSteady, IsWhole, AreApart, is_same_span, HasPassed}
 
 -- What a thread does, by the number of its seat: it `Steps`, `Enters` at a bundle start, `Exits`; its pass `Takes` the
@@ -26,11 +26,11 @@ pub data Event : Type 0 where
   Marks : (at : ℕ) → (marks : List Mark) → Event
   Bumps : Event
   Retires : (base : ℕ) → (len : ℕ) → Event
-  Frees : (span : Span) → Event
+  Frees : (span : RetiredSpan) → Event
   Looks : (seat : ℕ) → Event
 
 -- the span that is retired now, with the next generation as its stamp
-abbrev pub new_span : World → ℕ → ℕ → Span
+abbrev pub new_span : World → ℕ → ℕ → RetiredSpan
 new_span w base len = record { base = base; length = len; stamp = w.keeper.generation + 1 }
 
 -- the world with one seat changed

@@ -6,27 +6,27 @@ use Rattle.nc_text.specs.Machine.{State, Step}
 use Rattle.nc_text.specs.Marks.{IsMarked}
 
 -- a retired span, with the generation that is its stamp
-pub record Span : Type 0 where
+pub record RetiredSpan : Type 0 where
   pub base : ℕ
   pub length : ℕ
   pub stamp : ℕ
 
 -- the place lies in the span
-abbrev pub IsInSpan : Span → ℕ → Type 0
+abbrev pub IsInSpan : RetiredSpan → ℕ → Type 0
 IsInSpan span at = (span.base ≤ at) × (at < span.base + span.length)
 
 -- the place lies in the span and is no bundle start
-abbrev pub IsWithin : Span → ℕ → Type 0
+abbrev pub IsWithin : RetiredSpan → ℕ → Type 0
 IsWithin span at = IsInSpan span at × (at % 32 ≢ 0)
 
 -- A span is quiet if all its bytes are stops, and no state that a mark outside it stands for has a step to a place of it
 -- that is no bundle start.
-pub record IsQuiet (text : List ℕ) (marks : List Mark) (span : Span) : Type 0 where
+pub record IsQuiet (text : List ℕ) (marks : List Mark) (span : RetiredSpan) : Type 0 where
   pub stops : (at : ℕ) → IsInSpan span at → byte_at text at ≡ 0xF4
   pub unreached : (now next : State) → IsMarked marks now → ¬ IsInSpan span now.place → Step text now next → ¬ IsWithin span next.place
 
 -- A span is shut in a text if each marked place of it holds F4, and no state that a mark outside it stands for has a
 -- step into it, except to a bundle start. Unmarked places may hold any byte. A quiet span is shut.
-pub record IsShut (text : List ℕ) (marks : List Mark) (span : Span) : Type 0 where
+pub record IsShut (text : List ℕ) (marks : List Mark) (span : RetiredSpan) : Type 0 where
   pub stops : (now : State) → IsMarked marks now → IsInSpan span now.place → byte_at text now.place ≡ 0xF4
   pub unreached : (now next : State) → IsMarked marks now → ¬ IsInSpan span now.place → Step text now next → ¬ IsWithin span next.place

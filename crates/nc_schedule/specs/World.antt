@@ -10,7 +10,7 @@ use Rattle.nc_text.specs.MarkedText.{MarkedText, unused_text}
 use Rattle.nc_gens.specs.declared.view.PassNumbers.{PassNumbers}
 use Rattle.nc_gens.specs.declared.view.KeeperNumbers.{KeeperNumbers}
 use Rattle.nc_gens.specs.Rule.{first_pass_numbers, first_keeper_numbers}
-use Rattle.nc_schedule.specs.Quiet.{Span, IsWithin, IsShut}
+use Rattle.nc_schedule.specs.Quiet.{RetiredSpan, IsWithin, IsShut}
 use Rattle.nc_schedule.specs.Views.{IsView}
 
 -- What a world holds of one seat: where its thread is, if it is inside the region; the numbers of its pass; whether it
@@ -27,7 +27,7 @@ pub record Seat : Type 0 where
 pub record World : Type 0 where
   pub marked : MarkedText
   pub earlier : List (List ℕ)
-  pub retired : List Span
+  pub retired : List RetiredSpan
   pub keeper : KeeperNumbers
   pub seats : List Seat
 
@@ -60,22 +60,22 @@ abbrev pub IsSteady : World → Type 0
 IsSteady w = (view : List ℕ) → IsViewOf w view → IsClosed view w.marked.marks × All (IsShut view w.marked.marks) w.retired
 
 -- the span is whole bundles of the region
-pub record IsWhole (text : List ℕ) (span : Span) : Type 0 where
+pub record IsWhole (text : List ℕ) (span : RetiredSpan) : Type 0 where
   pub start : IsBundleStart span.base
   pub bundles : span.length % 32 ≡ 0
   pub low : 0x10000 ≤ span.base
   pub high : span.base + span.length ≤ limit_of text
 
 -- the two spans have no place in common
-abbrev pub AreApart : Span → Span → Type 0
+abbrev pub AreApart : RetiredSpan → RetiredSpan → Type 0
 AreApart one other = (one.base + one.length ≤ other.base) ⊎ (other.base + other.length ≤ one.base)
 
 -- the span may be used again: it is whole bundles of the region, apart from the retired spans
-abbrev pub IsUsable : World → Span → Type 0
+abbrev pub IsUsable : World → RetiredSpan → Type 0
 IsUsable w span = IsWhole w.marked.bytes span × All (AreApart span) w.retired
 
 -- two spans are the same, as a test
-abbrev pub is_same_span : Span → Span → Bool
+abbrev pub is_same_span : RetiredSpan → RetiredSpan → Bool
 is_same_span one other = (one.base == other.base) && (one.length == other.length) && (one.stamp == other.stamp)
 
 -- no seat holds the stamp back: the keeper's bound of each is at least the stamp, or the keeper has found that the seat
@@ -88,5 +88,5 @@ abbrev pub AllStandSafe : World → Type 0
 AllStandSafe w = All (λ (seat : Seat). IfSome seat.inside (λ now. (view : List ℕ) → IsViewOf w view → IsSafe view now)) w.seats
 
 -- no thread is at a place of the span that is no bundle start
-abbrev pub NoneIsWithin : World → Span → Type 0
+abbrev pub NoneIsWithin : World → RetiredSpan → Type 0
 NoneIsWithin w span = All (λ (seat : Seat). IfSome seat.inside (λ now. ¬ IsWithin span now.place)) w.seats

@@ -3,7 +3,7 @@
 ghost use Rattle.std.specs.Prelude.{◌≡◌, ◌≢◌, ◌⊎◌, ℕ, length, List, [], ◌∷◌, ◌++◌};
 ghost use Rattle.nc_decode.specs.Bundles.{IsLawfulLimit};
 ghost use Rattle.nc_text.specs.Places.{InRegion, byte_at};
-ghost use Rattle.nc_schedule.specs.Quiet.{Span};
+ghost use Rattle.nc_schedule.specs.Quiet.{RetiredSpan};
 ghost use Rattle.nc_schedule.specs.World.{World, first_world, IsViewOf, IsUsable, AllStandSafe, NoneIsWithin};
 ghost use Rattle.nc_schedule.specs.Events.{Event, after, world_after, AreAllowed, AllMove, ChangesBytes};
 
@@ -29,10 +29,10 @@ ghost use Rattle.nc_schedule.specs.Events.{Event, after, world_after, AreAllowed
 pub fn law_of_schedules()
     ensures safe { (limit seats : ℕ) (events later : List Event) → IsLawfulLimit limit
         → AreAllowed (first_world limit seats) (events ++ later) → AllStandSafe (world_after (first_world limit seats) events) }
-    ensures freed { (limit seats : ℕ) (events later : List Event) (span : Span) → IsLawfulLimit limit
+    ensures freed { (limit seats : ℕ) (events later : List Event) (span : RetiredSpan) → IsLawfulLimit limit
         → AreAllowed (first_world limit seats) (events ++ Event.Frees span ∷ later)
         → NoneIsWithin (world_after (first_world limit seats) events) span }
-    ensures usable { (limit seats : ℕ) (events later : List Event) (span : Span) → IsLawfulLimit limit
+    ensures usable { (limit seats : ℕ) (events later : List Event) (span : RetiredSpan) → IsLawfulLimit limit
         → AreAllowed (first_world limit seats) (events ++ Event.Frees span ∷ later)
         → IsUsable (world_after (first_world limit seats) (events ++ Event.Frees span ∷ [])) span }
     ensures moves { (limit seats : ℕ) (events later : List Event) (event : Event) → IsLawfulLimit limit

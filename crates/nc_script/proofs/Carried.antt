@@ -3,13 +3,13 @@ use Rattle.std.proofs.Common.{◌≡◌, ◌++◌, ℕ, List, [], ◌∷◌, Opt
 use Rattle.std.specs.Prelude.{IfSome}
 use Rattle.nc_lines.specs.Answering.{AnswersLines, IsAnswered, IsBegun, IsCutShort}
 use Rattle.nc_script.specs.Answers.{AnswersOnly}
-use Rattle.nc_script.specs.Script.{Script, Seat}
-use Rattle.nc_script.specs.machinery.Session.{SessionState, script_of, Fits, FollowsLine}
+use Rattle.nc_script.specs.Script.{Script, ScriptSeat}
+use Rattle.nc_script.specs.machinery.Session.{SessionState, script_of, FitsSession, FollowsLine}
 
 -- line by line
-carried : (old : SessionState) (lines : List (List ℕ)) (reply : List ℕ) (new : SessionState) (seats : List Seat) (freed : ℕ)
-    → Fits old seats freed → AnswersLines FollowsLine old lines reply new
-    → (next : List Seat) × (number : ℕ) × AnswersLines AnswersOnly (script_of old.region seats freed) lines reply
+carried : (old : SessionState) (lines : List (List ℕ)) (reply : List ℕ) (new : SessionState) (seats : List ScriptSeat) (freed : ℕ)
+    → FitsSession old seats freed → AnswersLines FollowsLine old lines reply new
+    → (next : List ScriptSeat) × (number : ℕ) × AnswersLines AnswersOnly (script_of old.region seats freed) lines reply
     (script_of new.region next number)
 carried old [] reply new seats freed fits h = (seats, freed, (h.0, ap (λ (s : SessionState). script_of s.region seats freed) h.1))
 carried old (line ∷ lines) reply new seats freed fits h =
@@ -18,7 +18,7 @@ carried old (line ∷ lines) reply new seats freed fits h =
     let on = carried mid lines rest new between number still more in
     (on.0, on.1, (script_of mid.region between number, answer, rest, answers, e, on.2))
 
-module _ (old : SessionState) (seats : List Seat) (freed : ℕ) (start : Script) (fits : Fits old seats freed)
+module _ (old : SessionState) (seats : List ScriptSeat) (freed : ℕ) (start : Script) (fits : FitsSession old seats freed)
     (begins : script_of old.region seats freed ≡ start) where
   -- exactly the answers were written
   pub answered_script : (new : SessionState) (before after : Option (List ℕ)) (lines : List (List ℕ))

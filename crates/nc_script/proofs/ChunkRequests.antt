@@ -20,11 +20,11 @@ use Rattle.nc_region.specs.declared.fault.DeleteFault.{DeleteFault}
 use Rattle.nc_region.specs.declared.fault.DeleteFault.TheVariants.{NoChunk, GensFull}
 use Rattle.nc_script.specs.Requests.{Modify, Delete}
 use Rattle.nc_script.specs.Script as script
-use Rattle.nc_script.specs.Script.{Script, Seat}
+use Rattle.nc_script.specs.Script.{Script, ScriptSeat}
 use Rattle.nc_script.specs.Reuse.{retired_at, IsRefusedDeletion}
 use Rattle.nc_lines.specs.Replies.{reply_line, refused_reply}
 use Rattle.nc_script.specs.Replies.{patch_words, deletion_words, stamp_reply}
-use Rattle.nc_script.specs.machinery.Session.{chunk_in, script_of, IsStamped, FollowsIn}
+use Rattle.nc_script.specs.machinery.Session.{script_chunk, script_of, IsStamped, FollowsIn}
 use Rattle.nc_script.proofs.Fitting.{AreStamped, follows_kept, follows_same, seats_up}
 use Rattle.nc_script.proofs.Listed.{each_listed, listed_at}
 use Rattle.nc_script.proofs.Patches.{lawful_of, refused_of}
@@ -53,8 +53,8 @@ modified_follows old new at bytes is m p =
           (ap limit_of m.patched ∙ ap (λ (n : ℕ). 0x10000 + n) (length-with_span text (at - 0x10000) bytes fits))
           (ap (λ (r : Region). r.keeper.numbers.generation) m.others) refl refl
           ∙ ap (λ (cs : List script.ScriptChunk). record (script_of old seats freed) { chunks = cs })
-          (ap (λ (bs : List ℕ). map (chunk_in bs) new.chunks) m.patched
-          ∙ (ap (λ (cs : List Chunk). map (chunk_in (with_span text (at - 0x10000) bytes)) cs) chunks_are
+          (ap (λ (bs : List ℕ). map (script_chunk bs) new.chunks) m.patched
+          ∙ (ap (λ (cs : List Chunk). map (script_chunk (with_span text (at - 0x10000) bytes)) cs) chunks_are
           ∙ patched_chunks text bytes at old.chunks c p.0.0 p.0.1 is.rising is.placed placed held.0 held.1 held.2.0 held.2.1));
     }))
 
@@ -87,14 +87,14 @@ deleted_follows old new base stamp is d state seats freed fits =
     let bounds : new.keeper.numbers.bounds ≡ old.keeper.numbers.bounds = ap (λ (k : KeeperState). k.numbers.bounds) d.keeper in
     let limit : limit_of new.marked.bytes ≡ limit_of text =
     ap limit_of d.bytes ∙ ap (λ (n : ℕ). 0x10000 + n) (length-with_span text (base - 0x10000) stops span_fits) in
-    let chunks : map (chunk_in new.marked.bytes) new.chunks ≡ map (retired_at base (generation + 1)) (map (chunk_in text) old.chunks) =
-    ap (λ (bs : List ℕ). map (chunk_in bs) new.chunks) d.bytes
-    ∙ (ap (λ (cs : List Chunk). map (chunk_in (with_span text (base - 0x10000) stops)) cs) d.chunks
-    ∙ (ap (λ (b : ℕ). map (chunk_in (with_span text (b - 0x10000) stops)) (set old.chunks d.index
+    let chunks : map (script_chunk new.marked.bytes) new.chunks ≡ map (retired_at base (generation + 1)) (map (script_chunk text) old.chunks) =
+    ap (λ (bs : List ℕ). map (script_chunk bs) new.chunks) d.bytes
+    ∙ (ap (λ (cs : List Chunk). map (script_chunk (with_span text (base - 0x10000) stops)) cs) d.chunks
+    ∙ (ap (λ (b : ℕ). map (script_chunk (with_span text (b - 0x10000) stops)) (set old.chunks d.index
     (record d.chunk { state = Retired stamp }))) (sym d.base_is)
     ∙ (retired_chunks text stamp 0x10000 d.index old.chunks d.chunk is.rising is.placed d.listed
-    ∙ (ap (λ (b : ℕ). map (retired_at b stamp) (map (chunk_in text) old.chunks)) d.base_is
-    ∙ ap (λ (n : ℕ). map (retired_at base n) (map (chunk_in text) old.chunks)) d.stamp_is)))) in (
+    ∙ (ap (λ (b : ℕ). map (retired_at b stamp) (map (script_chunk text) old.chunks)) d.base_is
+    ∙ ap (λ (n : ℕ). map (retired_at base n) (map (script_chunk text) old.chunks)) d.stamp_is)))) in (
       seats,
       freed,
       inl (record {
@@ -126,7 +126,7 @@ undeleted_follows old new base fault due same =
     (follows_same (Delete base) old (reply_line (refused_reply (deletion_words fault)))
     (λ seats freed. inr (record { fault = fault; due = refused seats freed fault due; reply_is = refl; same = refl })))
   where
-    refused : (seats : List Seat) (freed : ℕ) (f : DeleteFault) → MayRefuseDelete old base f
+    refused : (seats : List ScriptSeat) (freed : ℕ) (f : DeleteFault) → MayRefuseDelete old base f
         → IsRefusedDeletion (script_of old seats freed) base f
     refused seats freed NoChunk h = λ live. h (live_has old.marked.bytes base old.chunks live)
     refused seats freed GensFull h = (has_live old.marked.bytes base old.chunks h.0, h.1)

@@ -15,13 +15,13 @@ use Rattle.nc_region.specs.declared.chunk.Chunk.{Chunk}
 use Rattle.nc_region.specs.declared.chunk.ChunkState.{ChunkState}
 use Rattle.nc_region.specs.declared.chunk.ChunkState.TheVariants.{Live, Retired}
 use Rattle.nc_script.specs.Script as script
-use Rattle.nc_script.specs.Script.{IsOccupied, IsInserted}
-use Rattle.nc_script.specs.machinery.Session.{bytes_at, state_in, chunk_in}
+use Rattle.nc_script.specs.Script.{IsOccupied, IsPutBetween}
+use Rattle.nc_script.specs.machinery.Session.{bytes_at, state_in, script_chunk}
 use Rattle.nc_script.proofs.RegionText.{length-bytes_at, length-state_in, get_or-bytes_at}
 
 -- what holds of each chunk holds at each index of the script's list
 pub All-from_each : (bytes : List ℕ) (P : script.ScriptChunk → Type 0) (chunks : List Chunk)
-    → Each (λ (c : Chunk). P (chunk_in bytes c)) chunks → All P (map (chunk_in bytes) chunks)
+    → Each (λ (c : Chunk). P (script_chunk bytes c)) chunks → All P (map (script_chunk bytes) chunks)
 All-from_each bytes P [] h k d l = absurd (omega arith)
 All-from_each bytes P (c ∷ rest) h zero d l = h.0
 All-from_each bytes P (c ∷ rest) h (suc k) d l = All-from_each bytes P rest h.1 k d (omega arith)
@@ -77,21 +77,21 @@ state_in-apart bytes code base from len (Retired stamp) low high from_low from_h
 pub chunks_apart : (bytes code : List ℕ) (base : ℕ) (chunks : List Chunk) → 0x10000 ≤ base → base + length code ≤ limit_of bytes
     → Each (λ (c : Chunk). HasGoodSpan c.base (limit_of bytes) c.length) chunks
     → Each (λ (c : Chunk). (c.base + c.length ≤ base) ⊎ (base + length code ≤ c.base)) chunks
-    → map (chunk_in (with_span bytes (base - 0x10000) code)) chunks ≡ map (chunk_in bytes) chunks
+    → map (script_chunk (with_span bytes (base - 0x10000) code)) chunks ≡ map (script_chunk bytes) chunks
 chunks_apart bytes code base [] low high placed apart = refl
 chunks_apart bytes code base (c ∷ rest) low high placed apart =
-    ap (λ (s : script.State). record { base = c.base; state = s } ∷ map (chunk_in (with_span bytes (base - 0x10000) code)) rest)
+    ap (λ (s : script.ScriptChunkState). record { base = c.base; state = s } ∷ map (script_chunk (with_span bytes (base - 0x10000) code)) rest)
     (state_in-apart bytes code base c.base c.length c.state low high placed.0.low (omega (arith, placed.0.high)) apart.0)
-    ∙ ap (λ (cs : List script.ScriptChunk). chunk_in bytes c ∷ cs) (chunks_apart bytes code base rest low high placed.1 apart.1)
+    ∙ ap (λ (cs : List script.ScriptChunk). script_chunk bytes c ∷ cs) (chunks_apart bytes code base rest low high placed.1 apart.1)
 
 -- a chunk of the script meets the span where one of the region does
 pub occupied_meets : (bytes : List ℕ) (base len : ℕ) (chunks : List Chunk)
     → Each (λ (c : Chunk). HasGoodSpan c.base (limit_of bytes) c.length) chunks
-    → Meets base len chunks → IsOccupied base len (map (chunk_in bytes) chunks)
+    → Meets base len chunks → IsOccupied base len (map (script_chunk bytes) chunks)
 occupied_meets bytes base len [] placed m = absurd m
 occupied_meets bytes base len (c ∷ rest) placed (inl m) =
     let long = length-state_in bytes c.base c.length c.state placed.0.low (omega (arith, placed.0.high)) in
-    (0, chunk_in bytes c, omega arith, refl, (omega (arith, m.0, long), m.1))
+    (0, script_chunk bytes c, omega arith, refl, (omega (arith, m.0, long), m.1))
 occupied_meets bytes base len (c ∷ rest) placed (inr m) =
     let (k, d, l, is, h) = occupied_meets bytes base len rest placed.1 m in
     (suc k, d, omega (arith, l), is, h)
@@ -99,12 +99,12 @@ occupied_meets bytes base len (c ∷ rest) placed (inr m) =
 -- and the other way round
 pub meets_occupied : (bytes : List ℕ) (base len : ℕ) (chunks : List Chunk)
     → Each (λ (c : Chunk). HasGoodSpan c.base (limit_of bytes) c.length) chunks
-    → IsOccupied base len (map (chunk_in bytes) chunks) → Meets base len chunks
+    → IsOccupied base len (map (script_chunk bytes) chunks) → Meets base len chunks
 meets_occupied bytes base len [] placed (k, d, l, is, h) = absurd (omega (arith, l))
 meets_occupied bytes base len (c ∷ rest) placed (zero, d, l, is, h) =
     let long = length-state_in bytes c.base c.length c.state placed.0.low (omega (arith, placed.0.high)) in
-    let same : d ≡ chunk_in bytes c = sym is in
-    let m = subst (λ (x : script.ScriptChunk). script.Meets base len x) same h in
+    let same : d ≡ script_chunk bytes c = sym is in
+    let m = subst (λ (x : script.ScriptChunk). script.MeetsSpan base len x) same h in
     inl (omega (arith, m.0, long), m.1)
 meets_occupied bytes base len (c ∷ rest) placed (suc k, d, l, is, h) =
     inr (meets_occupied bytes base len rest placed.1 (k, d, omega (arith, l), is, h))
@@ -113,8 +113,8 @@ meets_occupied bytes base len (c ∷ rest) placed (suc k, d, l, is, h) =
 pub inserted : (bytes code : List ℕ) (base k : ℕ) (chunks : List Chunk) → 0x10000 ≤ base → base + length code ≤ limit_of bytes
     → 0 < length code
     → Each (λ (c : Chunk). HasGoodSpan c.base (limit_of bytes) c.length) chunks → FitsAt base (length code) chunks k
-    → IsInserted (record { base = base; state = script.Live code }) (map (chunk_in bytes) chunks)
-    (map (chunk_in (with_span bytes (base - 0x10000) code)) (insert chunks k (record { base = base; length = length code; state = Live })))
+    → IsPutBetween (record { base = base; state = script.Live code }) (map (script_chunk bytes) chunks)
+    (map (script_chunk (with_span bytes (base - 0x10000) code)) (insert chunks k (record { base = base; length = length code; state = Live })))
 inserted bytes code base k chunks low high some placed (short, above, below) =
     let new = with_span bytes (base - 0x10000) code in
     let first = take k chunks in
@@ -129,16 +129,16 @@ inserted bytes code base k chunks low high some placed (short, above, below) =
     let rest_same = chunks_apart bytes code base rest low high rest_placed
     (each_map (λ (d : Chunk). base + length code ≤ d.base) (λ (d : Chunk). (d.base + d.length ≤ base) ⊎ (base + length code ≤ d.base))
     (λ d h. inr h) rest below) in
-    let chunk_same : chunk_in new chunk ≡ shown =
+    let chunk_same : script_chunk new chunk ≡ shown =
     ap (λ (bs : List ℕ). record { base = base; state = script.Live bs }) (bytes_at-itself bytes code base low high) in
     record {
-      before = map (chunk_in bytes) first;
-      after = map (chunk_in bytes) rest;
-      old_is = ap (map (chunk_in bytes)) (sym (take-append-drop k chunks)) ∙ map-append (chunk_in bytes) first rest;
-      new_is = map-append (chunk_in new) first (chunk ∷ rest)
-          ∙ ap (λ (cs : List script.ScriptChunk). cs ++ map (chunk_in new) (chunk ∷ rest)) first_same
-          ∙ ap (λ (c : script.ScriptChunk). map (chunk_in bytes) first ++ c ∷ map (chunk_in new) rest) chunk_same
-          ∙ ap (λ (cs : List script.ScriptChunk). map (chunk_in bytes) first ++ shown ∷ cs) rest_same;
+      before = map (script_chunk bytes) first;
+      after = map (script_chunk bytes) rest;
+      old_is = ap (map (script_chunk bytes)) (sym (take-append-drop k chunks)) ∙ map-append (script_chunk bytes) first rest;
+      new_is = map-append (script_chunk new) first (chunk ∷ rest)
+          ∙ ap (λ (cs : List script.ScriptChunk). cs ++ map (script_chunk new) (chunk ∷ rest)) first_same
+          ∙ ap (λ (c : script.ScriptChunk). map (script_chunk bytes) first ++ c ∷ map (script_chunk new) rest) chunk_same
+          ∙ ap (λ (cs : List script.ScriptChunk). map (script_chunk bytes) first ++ shown ∷ cs) rest_same;
       lower = All-from_each bytes (λ c. c.base < base) first
           (each_both (λ (d : Chunk). d.base + d.length ≤ base) (λ (d : Chunk). HasGoodSpan d.base (limit_of bytes) d.length)
           (λ (d : Chunk). d.base < base) (λ d h p. omega (arith, h, p.some)) first above first_placed);

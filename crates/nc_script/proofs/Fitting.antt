@@ -5,7 +5,7 @@ use Rattle.nc_region.specs.Each.{Each}
 use Rattle.nc_region.specs.Region.{Region}
 use Rattle.nc_region.specs.declared.chunk.Chunk.{Chunk}
 use Rattle.nc_script.specs.Requests.{Request}
-use Rattle.nc_script.specs.Script.{Seat, Staying, Left}
+use Rattle.nc_script.specs.Script.{ScriptSeat, Staying, Left}
 use Rattle.nc_script.specs.Answers.{Serves}
 use Rattle.nc_script.specs.machinery.Session.{script_of, SeatFits, SeatsFit, IsStamped, FollowsIn}
 
@@ -16,7 +16,7 @@ AreStamped generation chunks = Each (λ (c : Chunk). IsStamped generation c.stat
 -- a request that leaves the keeper as it is, and retires nothing
 pub follows_kept : (request : Request) (old new : Region) (reply : List ℕ) → new.keeper ≡ old.keeper
     → ((generation : ℕ) → AreStamped generation old.chunks → AreStamped generation new.chunks)
-    → ((seats : List Seat) (freed : ℕ) → Serves request (script_of old seats freed) reply (script_of new seats freed))
+    → ((seats : List ScriptSeat) (freed : ℕ) → Serves request (script_of old seats freed) reply (script_of new seats freed))
     → FollowsIn request old reply new
 follows_kept request old new reply same stamped serves state seats freed fits = (
   seats,
@@ -33,12 +33,12 @@ follows_kept request old new reply same stamped serves state seats freed fits = 
 
 -- a request that leaves the region as it is
 pub follows_same : (request : Request) (region : Region) (reply : List ℕ)
-    → ((seats : List Seat) (freed : ℕ) → Serves request (script_of region seats freed) reply (script_of region seats freed))
+    → ((seats : List ScriptSeat) (freed : ℕ) → Serves request (script_of region seats freed) reply (script_of region seats freed))
     → FollowsIn request region reply region
 follows_same request region reply serves = follows_kept request region region reply refl (λ generation h. h) serves
 
 -- seats fit a higher generation too
-pub seats_up : (low high freed : ℕ) (passes : List (Option PassState)) (before after : List ℕ) (seats : List Seat) → low ≤ high
+pub seats_up : (low high freed : ℕ) (passes : List (Option PassState)) (before after : List ℕ) (seats : List ScriptSeat) → low ≤ high
     → after ≡ before → SeatsFit low freed passes before seats → SeatsFit high freed passes after seats
 seats_up low high freed passes before after seats le same fits =
     subst (λ (bs : List ℕ). SeatsFit high freed passes bs seats) (sym same)
@@ -49,7 +49,7 @@ seats_up low high freed passes before after seats le same fits =
       each = λ i l. up (get_or passes i None) (get_or before i 0) (get_or seats i (Left 0)) (fits.each i l);
     }
   where
-    up : (p : Option PassState) (b : ℕ) (s : Seat) → SeatFits low freed p b s → SeatFits high freed p b s
+    up : (p : Option PassState) (b : ℕ) (s : ScriptSeat) → SeatFits low freed p b s → SeatFits high freed p b s
     up (Some p) b (Staying n) h = (h.0, h.1, omega (arith, h.2, le), h.3)
     up (Some p) b (Left n) h = absurd h
     up None b (Staying n) h = absurd h

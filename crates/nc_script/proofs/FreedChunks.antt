@@ -10,8 +10,8 @@ use Rattle.nc_region.specs.declared.chunk.Chunk.{Chunk}
 use Rattle.nc_region.specs.declared.chunk.ChunkState.{ChunkState}
 use Rattle.nc_region.specs.declared.chunk.ChunkState.TheVariants.{Live, Retired}
 use Rattle.nc_script.specs.Script as script
-use Rattle.nc_script.specs.Reuse.{is_due, freed_by, kept_by}
-use Rattle.nc_script.specs.machinery.Session.{state_in, chunk_in, IsStamped}
+use Rattle.nc_script.specs.Reuse.{is_freed_by, freed_by, kept_by}
+use Rattle.nc_script.specs.machinery.Session.{state_in, script_chunk, IsStamped}
 use Rattle.nc_script.proofs.Fitting.{AreStamped}
 
 -- a stamp that isn't above the generation is due by a number where it is due by the lower of the two
@@ -24,7 +24,7 @@ same_test stamp least generation le =
 
 -- so it is of a chunk of the script and of the region's
 same_due : (bytes : List ℕ) (base len least generation : ℕ) (s : ChunkState) → IsStamped generation s
-    → is_due (min least generation) (state_in bytes base len s) ≡ region.is_due least s
+    → is_freed_by (min least generation) (state_in bytes base len s) ≡ region.is_due least s
 same_due bytes base len least generation Live h = refl
 same_due bytes base len least generation (Retired stamp) h = same_test stamp least generation h
 
@@ -42,14 +42,14 @@ kept_both f p q (c ∷ rest) h =
 
 -- each chunk is due in both or in neither
 due_both : (bytes : List ℕ) (least generation : ℕ) (chunks : List Chunk) → AreStamped generation chunks
-    → Each (λ (c : Chunk). is_due (min least generation) (chunk_in bytes c).state ≡ region.is_due least c.state) chunks
+    → Each (λ (c : Chunk). is_freed_by (min least generation) (script_chunk bytes c).state ≡ region.is_due least c.state) chunks
 due_both bytes least generation [] h = tt
 due_both bytes least generation (c ∷ rest) h =
     (same_due bytes c.base c.length least generation c.state h.0, due_both bytes least generation rest h.1)
 
 -- and kept in both or in neither
 stay_both : (bytes : List ℕ) (least generation : ℕ) (chunks : List Chunk) → AreStamped generation chunks
-    → Each (λ (c : Chunk). not (is_due (min least generation) (chunk_in bytes c).state) ≡ not (region.is_due least c.state)) chunks
+    → Each (λ (c : Chunk). not (is_freed_by (min least generation) (script_chunk bytes c).state) ≡ not (region.is_due least c.state)) chunks
 stay_both bytes least generation [] h = tt
 stay_both bytes least generation (c ∷ rest) h = (
   ap (λ (t : Bool). not t) (same_due bytes c.base c.length least generation c.state h.0),
@@ -58,19 +58,19 @@ stay_both bytes least generation (c ∷ rest) h = (
 
 -- the script's chunks that stay are the region's
 pub kept_chunks : (bytes : List ℕ) (least generation : ℕ) (chunks : List Chunk) → AreStamped generation chunks
-    → kept_by (min least generation) (map (chunk_in bytes) chunks) ≡ map (chunk_in bytes) (region.kept least chunks)
+    → kept_by (min least generation) (map (script_chunk bytes) chunks) ≡ map (script_chunk bytes) (region.kept least chunks)
 kept_chunks bytes least generation chunks h =
-    kept_both (chunk_in bytes) (λ (c : Chunk). not (region.is_due least c.state)) (λ c. not (is_due (min least generation) c.state)) chunks
+    kept_both (script_chunk bytes) (λ (c : Chunk). not (region.is_due least c.state)) (λ c. not (is_freed_by (min least generation) c.state)) chunks
     (stay_both bytes least generation chunks h)
 
 -- as many are freed
 pub freed_count : (bytes : List ℕ) (least generation : ℕ) (chunks : List Chunk) → AreStamped generation chunks
-    → length (freed_by (min least generation) (map (chunk_in bytes) chunks)) ≡ length (region.freed least chunks)
+    → length (freed_by (min least generation) (map (script_chunk bytes) chunks)) ≡ length (region.freed least chunks)
 freed_count bytes least generation chunks h =
     ap (λ (cs : List script.ScriptChunk). length cs)
-    (kept_both (chunk_in bytes) (λ (c : Chunk). region.is_due least c.state) (λ c. is_due (min least generation) c.state) chunks
+    (kept_both (script_chunk bytes) (λ (c : Chunk). region.is_due least c.state) (λ c. is_freed_by (min least generation) c.state) chunks
     (due_both bytes least generation chunks h))
-    ∙ length-map (region.freed least chunks) (chunk_in bytes)
+    ∙ length-map (region.freed least chunks) (script_chunk bytes)
 
 -- what stays is stamped as before
 pub kept_stamped : (generation : ℕ) (p : Chunk → Bool) (chunks : List Chunk) → AreStamped generation chunks

@@ -18,15 +18,15 @@ use Rattle.nc_region.specs.declared.fault.DeleteFault.{DeleteFault}
 use Rattle.nc_region.specs.declared.fault.DeleteFault.TheVariants.{NoChunk, GensFull}
 use Rattle.nc_script.specs.Requests.{Request, Create, Modify, Delete, CheckIn, Leave, Reclaim, Walk, Dump, request_in}
 use Rattle.nc_lines.specs.Lines.{bad_line}
-use Rattle.nc_script.specs.Script.{Script, ScriptChunk, Seat, Staying, Left, IsInserted}
-use Rattle.nc_script.specs.Patching.{IsHeld, Replaces, IsLawfulPatch, IsRefusedPatch}
-use Rattle.nc_script.specs.Reuse.{HasLive, IsRefusedDeletion, AllStay, Stays, Allows, number_of, IsFreeingNumber, freed_by, kept_by}
+use Rattle.nc_script.specs.Script.{Script, ScriptChunk, ScriptSeat, Staying, Left, IsPutBetween}
+use Rattle.nc_script.specs.Patching.{LiesInLive, Replaces, IsLawfulPatch, IsRefusedPatch}
+use Rattle.nc_script.specs.Reuse.{ListsLive, IsRefusedDeletion, AllStay, Stays, LetsFree, number_of, IsFreeingNumber, freed_by, kept_by}
 use Rattle.nc_lines.specs.Vetting.{IsValidAt}
 use Rattle.nc_script.specs.Answers.{AnswersOnly, IsOnly, IsSettled, Serves}
 use Rattle.nc_script.specs.machinery.Session.{script_of}
 use Rattle.nc_lines.specs.Replies.{reply_line, refused_reply, fault_words}
 use Rattle.nc_script.specs.Replies.{walk_reply, patch_words, deletion_words, freed_reply}
-use Rattle.nc_script.proofs.RegionText.{text_of-script_of}
+use Rattle.nc_script.proofs.RegionText.{script_text-script_of}
 
 -- what holds of all chunks holds of those after the first
 tail_of : (P : ScriptChunk → Type 0) (c : ScriptChunk) (cs : List ScriptChunk) → All P (c ∷ cs) → All P cs
@@ -52,7 +52,7 @@ same_cut base (b ∷ bs) ps (c ∷ cs) ds e lb la lc ld =
     (cc, rest.1)
 
 -- a chunk is inserted in one way
-same_inserted : (chunk : ScriptChunk) (old new next : List ScriptChunk) → IsInserted chunk old new → IsInserted chunk old next → next ≡ new
+same_inserted : (chunk : ScriptChunk) (old new next : List ScriptChunk) → IsPutBetween chunk old new → IsPutBetween chunk old next → next ≡ new
 same_inserted chunk old new next i j =
     let same = same_cut chunk.base i.before i.after j.before j.after (sym i.old_is ∙ j.old_is) i.lower i.higher j.lower j.higher in
     j.new_is ∙ (ap (λ (xs : List ScriptChunk). xs ++ chunk ∷ j.after) same.0
@@ -93,12 +93,12 @@ pub dump_only : (old : Script) (reply : List ℕ) (new : Script) → Serves Dump
 dump_only old reply new a other next b = (b.0 ∙ sym a.0, b.1 ∙ sym a.1)
 
 -- a walk has one answer, since there is one trace
-pub walk_only : (region : Region) (seats : List Seat) (freed : ℕ) (start : ℕ) (choices places : List ℕ) (end : End)
+pub walk_only : (region : Region) (seats : List ScriptSeat) (freed : ℕ) (start : ℕ) (choices places : List ℕ) (end : End)
     → IsRegion region.marked region.chunks
     → IsWalkStart region.marked.bytes start → IsTrace region.marked.bytes start choices places end
     → IsOnly (Walk start choices) (script_of region seats freed) (reply_line (walk_reply places end)) (script_of region seats freed)
 walk_only region seats freed start choices places end is at trace other next (inl w) =
-    let shown = subst (λ (text : List ℕ). IsTrace text start choices w.places w.end) (text_of-script_of region seats freed is) w.trace in
+    let shown = subst (λ (text : List ℕ). IsTrace text start choices w.places w.end) (script_text-script_of region seats freed is) w.trace in
     let same =
     one_trace region.marked.bytes region.marked.marks start choices places w.places end w.end is.whole.closed at trace shown in (
       w.reply_is ∙ (ap (λ (ps : List ℕ). reply_line (walk_reply ps w.end)) same.0
@@ -106,21 +106,21 @@ walk_only region seats freed start choices places end is at trace other next (in
       w.same,
     )
 walk_only region seats freed start choices places end is at trace other next (inr n) =
-    absurd (n.begins_not (subst (λ (text : List ℕ). IsWalkStart text start) (sym (text_of-script_of region seats freed is)) at))
+    absurd (n.begins_not (subst (λ (text : List ℕ). IsWalkStart text start) (sym (script_text-script_of region seats freed is)) at))
 
 -- a walk from elsewhere is only refused
-pub no_start_only : (region : Region) (seats : List Seat) (freed : ℕ) (start : ℕ) (choices : List ℕ) → IsRegion region.marked region.chunks
+pub no_start_only : (region : Region) (seats : List ScriptSeat) (freed : ℕ) (start : ℕ) (choices : List ℕ) → IsRegion region.marked region.chunks
     → ¬ IsWalkStart region.marked.bytes start
     → IsOnly (Walk start choices) (script_of region seats freed) (reply_line (refused_reply (codes "NotBundle")))
     (script_of region seats freed)
 no_start_only region seats freed start choices is not other next (inl w) =
-    absurd (not (subst (λ (text : List ℕ). IsWalkStart text start) (text_of-script_of region seats freed is) w.begins))
+    absurd (not (subst (λ (text : List ℕ). IsWalkStart text start) (script_text-script_of region seats freed is) w.begins))
 no_start_only region seats freed start choices is not other next (inr n) = (n.reply_is, n.same)
 
 -- the six refusals of a patch exclude each other, and an accepted one
 module _ (old : Script) (at : ℕ) (bytes : List ℕ) where
   -- what is replaced is in a live chunk, and made of instructions
-  replaced_held : Replaces old at bytes → IsHeld old.chunks at
+  replaced_held : Replaces old at bytes → LiesInLive old.chunks at
   replaced_held r = (r.base, r.bytes, r.holds)
 
   -- and the new bytes are instructions
@@ -188,7 +188,7 @@ modify_only at bytes old reply new (inr a) other next (inr b) = (
 )
 
 -- a chunk that can be deleted isn't refused
-deleted_due : (old : Script) (base : ℕ) → HasLive old.chunks base → old.generation < 2 ^ 62 → (fault : DeleteFault)
+deleted_due : (old : Script) (base : ℕ) → ListsLive old.chunks base → old.generation < 2 ^ 62 → (fault : DeleteFault)
     → IsRefusedDeletion old base fault → ⊥
 deleted_due old base live room NoChunk h = h live
 deleted_due old base live room GensFull h = omega (arith, room, h.1)
@@ -237,9 +237,9 @@ leave_only seat old reply new (inr a) other next (inr b) = (b.reply_is ∙ sym a
 number_below : (old : Script) (a b : ℕ) → AllStay old → IsFreeingNumber old a → IsFreeingNumber old b → a ≤ b
 number_below old a b stay x y =
     let (k, seat, inside, is, least) = y.least in
-    at_most seat (subst Stays is (stay k seat inside)) (subst (Allows a) is (x.allowed k seat inside)) least
+    at_most seat (subst Stays is (stay k seat inside)) (subst (LetsFree a) is (x.allowed k seat inside)) least
   where
-    at_most : (s : Seat) → Stays s → Allows a s → number_of s ≤ b → a ≤ b
+    at_most : (s : ScriptSeat) → Stays s → LetsFree a s → number_of s ≤ b → a ≤ b
     at_most (Staying n) stays allowed least = omega (arith, allowed, least)
     at_most (Left n) stays allowed least = absurd stays
 

@@ -7,15 +7,15 @@ use Rattle.nc_lines.specs.Lines.{bad_line}
 use Rattle.nc_script.specs.Requests.{Request, Create, Modify, Delete, CheckIn, Leave, Reclaim, Walk, Dump, request_in}
 use Rattle.nc_script.specs.Answers.{Serves, ServesLine}
 use Rattle.nc_script.specs.Laws.{HasOneReply, BeginsAll, FreesByLeast, IsNoLeave, LeavesOpen, one_left}
-use Rattle.nc_script.specs.Reuse.{AllStay, Stays, Allows, number_of, IsFreeingNumber}
-use Rattle.nc_script.specs.Script.{Script, Seat, Staying, Left}
+use Rattle.nc_script.specs.Reuse.{AllStay, Stays, LetsFree, number_of, IsFreeingNumber}
+use Rattle.nc_script.specs.Script.{Script, ScriptSeat, Staying, Left}
 
 -- what holds of all holds of those after the first
 tail_of : {X : Type 0} (P : X → Type 0) (x : X) (xs : List X) → All P (x ∷ xs) → All P xs
 tail_of P x xs h k d l = h (suc k) d (omega (arith, l))
 
 -- all seats stay where one of them is set to one that stays
-stay_set : (seats : List Seat) (k : ℕ) (s : Seat) → Stays s → All Stays seats → All Stays (set seats k s)
+stay_set : (seats : List ScriptSeat) (k : ℕ) (s : ScriptSeat) → Stays s → All Stays seats → All Stays (set seats k s)
 stay_set [] k s stays all j d l = absurd (omega (arith, l))
 stay_set (x ∷ xs) zero s stays all zero d l = stays
 stay_set (x ∷ xs) zero s stays all (suc j) d l = all (suc j) d (omega (arith, l))
@@ -97,7 +97,7 @@ begins_all old before after lines stay none begun = record {
 }
 
 -- a seat that stays and is there has at least the number freed by
-allows_stays : (a : ℕ) (s : Seat) → Stays s → Allows a s → a ≤ number_of s
+allows_stays : (a : ℕ) (s : ScriptSeat) → Stays s → LetsFree a s → a ≤ number_of s
 allows_stays a (Staying n) stays allowed = allowed
 allows_stays a (Left n) stays allowed = absurd stays
 
@@ -107,11 +107,11 @@ frees_by_least old a stay number =
     let above : All (λ seat. a ≤ number_of seat) old.seats = λ k d l. allows_stays a (get_or old.seats k d) (stay k d l)
     (number.allowed k d l) in
     let (k, seat, inside, is, least) = number.least in
-    let most : a ≤ number_of seat = subst (λ (s : Seat). a ≤ number_of s) is (above k seat inside) in
+    let most : a ≤ number_of seat = subst (λ (s : ScriptSeat). a ≤ number_of s) is (above k seat inside) in
     (above, (k, seat, inside, is, omega (arith, least, most)))
 
 -- the first seat allows 1, and the second has left
-allows_both : (a : ℕ) → a ≤ 1 → All (Allows a) one_left.seats
+allows_both : (a : ℕ) → a ≤ 1 → All (LetsFree a) one_left.seats
 allows_both a le zero d l = le
 allows_both a le (suc zero) d l = tt
 allows_both a le (suc (suc k)) d l = absurd (omega (arith, l))

@@ -7,7 +7,7 @@ use Rattle.std.proofs.lemmas.Option.{slice_get-get_or}
 use Rattle.std.specs.Prelude.{MatchOption}
 use Rattle.std.proofs.lemmas.Bool.{cases_lt}
 use Rattle.atomic_table.specs.Seated.{TableId}
-use Rattle.nc_gens.specs.Seen.{PassState, first_pass, first_passes}
+use Rattle.nc_gens.specs.Seen.{PassState, first_pass, new_passes}
 use Rattle.nc_script.specs.machinery.Session.{AreSeated}
 use Rattle.nc_script.specs.machinery.Seats.{HasMetAt, HasMetOne, HaveMetBelow, HaveMet, HasNoPass, IsTaken}
 
@@ -47,17 +47,17 @@ pub seated_clear : (table : TableId) (passes : List (Option PassState)) (k : ℕ
 seated_clear table passes k seated i p h = ⊎_elim (λ e. absurd cc) (λ g. seated i p g) (get_set passes k i None (Some p) h)
 
 -- there are as many passes as seats
-pub length-first_passes : (table : TableId) (n : ℕ) → length (first_passes table n) ≡ n
-length-first_passes table zero = refl
-length-first_passes table (suc n) =
-    omega (arith, length-append (first_passes table n) (first_pass table n ∷ []), length-first_passes table n)
+pub length-new_passes : (table : TableId) (n : ℕ) → length (new_passes table n) ≡ n
+length-new_passes table zero = refl
+length-new_passes table (suc n) =
+    omega (arith, length-append (new_passes table n) (first_pass table n ∷ []), length-new_passes table n)
 
 -- the first passes stand at their seats' places
-pub seated_first : (table : TableId) (n : ℕ) → AreSeated table (map Some (first_passes table n))
+pub seated_first : (table : TableId) (n : ℕ) → AreSeated table (map Some (new_passes table n))
 seated_first table zero i p h = absurd cc
 seated_first table (suc n) i p h =
-    let first = first_passes table n in
-    let long : length (map Some first) ≡ n = length-map first (λ (q : PassState). Some q) ∙ length-first_passes table n in
+    let first = new_passes table n in
+    let long : length (map Some first) ≡ n = length-map first (λ (q : PassState). Some q) ∙ length-new_passes table n in
     ⊎_elim
     (λ e. let same : first_pass table n ≡ p = cc in
     (ap (λ (x : PassState). x.table) (sym same), ap (λ (x : PassState). x.seat) (sym same) ∙ (sym long ∙ sym e.0)))

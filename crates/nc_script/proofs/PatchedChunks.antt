@@ -16,9 +16,9 @@ use Rattle.nc_region.specs.declared.chunk.Chunk.{Chunk}
 use Rattle.nc_region.specs.declared.chunk.ChunkState.{ChunkState}
 use Rattle.nc_region.specs.declared.chunk.ChunkState.TheVariants.{Live, Retired}
 use Rattle.nc_script.specs.Script as script
-use Rattle.nc_script.specs.Script.{bytes_of, covers}
-use Rattle.nc_script.specs.Patching.{with_bytes, patched_at}
-use Rattle.nc_script.specs.machinery.Session.{bytes_at, state_in, chunk_in}
+use Rattle.nc_script.specs.Script.{standing_bytes, covers}
+use Rattle.nc_script.specs.Patching.{patched_state, patched_at}
+use Rattle.nc_script.specs.machinery.Session.{bytes_at, state_in, script_chunk}
 use Rattle.nc_script.proofs.RegionText.{length-bytes_at, length-state_in, get_or-bytes_at}
 use Rattle.nc_script.proofs.Creating.{state_in-apart}
 use Rattle.nc_script.proofs.Listed.{rising_listed, rising_each}
@@ -104,7 +104,7 @@ either false q x y h = refl
 -- the state of a live chunk with bytes put into it
 around_state : (bytes code : List ℕ) (at base len : ℕ) (s : ChunkState) → IsLive s → 0x10000 ≤ base → base ≤ at
     → at + length code ≤ base + len → base + len ≤ limit_of bytes
-    → state_in (with_span bytes (at - 0x10000) code) base len s ≡ with_bytes (at - base) code (state_in bytes base len s)
+    → state_in (with_span bytes (at - 0x10000) code) base len s ≡ patched_state (at - base) code (state_in bytes base len s)
 around_state bytes code at base len Live live low from to high =
     ap (λ (bs : List ℕ). script.Live bs) (bytes_at-around bytes code at base len low from to high)
 around_state bytes code at base len (Retired stamp) live low from to high = absurd live
@@ -112,37 +112,37 @@ around_state bytes code at base len (Retired stamp) live low from to high = absu
 -- one chunk of the list after the patch
 patched_one : (bytes code : List ℕ) (at : ℕ) (d : Chunk) → 0 < length code → 0x10000 ≤ at → at + length code ≤ limit_of bytes
     → HasGoodSpan d.base (limit_of bytes) d.length → IsApartOrAround at (length code) d
-    → chunk_in (with_span bytes (at - 0x10000) code) d ≡ patched_at at code (chunk_in bytes d)
+    → script_chunk (with_span bytes (at - 0x10000) code) d ≡ patched_at at code (script_chunk bytes d)
 patched_one bytes code at d some low high placed (inl apart) =
     let long = length-state_in bytes d.base d.length d.state placed.low (omega (arith, placed.high)) in
-    ap (λ (s : script.State). record { base = d.base; state = s })
+    ap (λ (s : script.ScriptChunkState). record { base = d.base; state = s })
     (state_in-apart bytes code at d.base d.length d.state low high placed.low (omega (arith, placed.high)) apart)
-    ∙ sym (either (leb d.base at) (ltb at (d.base + length (bytes_of (state_in bytes d.base d.length d.state)))) _ _
+    ∙ sym (either (leb d.base at) (ltb at (d.base + length (standing_bytes (state_in bytes d.base d.length d.state)))) _ _
     (⊎_elim (λ (below : d.base + d.length ≤ at). inr (le-ltb _ _ (omega (arith, below, long))))
     (λ (above : at + length code ≤ d.base). inl (lt-leb _ _ (omega (arith, above, some)))) apart))
 patched_one bytes code at d some low high placed (inr around) =
     let long = length-state_in bytes d.base d.length d.state placed.low (omega (arith, placed.high)) in
-    ap (λ (s : script.State). record { base = d.base; state = s })
+    ap (λ (s : script.ScriptChunkState). record { base = d.base; state = s })
     (around_state bytes code at d.base d.length d.state around.0 placed.low around.1 around.2 (omega (arith, placed.high)))
-    ∙ sym (both (leb d.base at) (ltb at (d.base + length (bytes_of (state_in bytes d.base d.length d.state)))) _ _
+    ∙ sym (both (leb d.base at) (ltb at (d.base + length (standing_bytes (state_in bytes d.base d.length d.state)))) _ _
     (le-leb _ _ around.1) (lt-ltb _ _ (omega (arith, around.2, some, long))))
 
 -- all of them
 patched_each : (bytes code : List ℕ) (at : ℕ) (chunks : List Chunk) → 0 < length code → 0x10000 ≤ at → at + length code ≤ limit_of bytes
     → Each (λ (d : Chunk). HasGoodSpan d.base (limit_of bytes) d.length) chunks → Each (IsApartOrAround at (length code)) chunks
-    → map (chunk_in (with_span bytes (at - 0x10000) code)) chunks ≡ map (patched_at at code) (map (chunk_in bytes) chunks)
+    → map (script_chunk (with_span bytes (at - 0x10000) code)) chunks ≡ map (patched_at at code) (map (script_chunk bytes) chunks)
 patched_each bytes code at [] some low high placed apart = refl
 patched_each bytes code at (d ∷ rest) some low high placed apart =
-    ap (λ (c : script.ScriptChunk). c ∷ map (chunk_in (with_span bytes (at - 0x10000) code)) rest)
+    ap (λ (c : script.ScriptChunk). c ∷ map (script_chunk (with_span bytes (at - 0x10000) code)) rest)
     (patched_one bytes code at d some low high placed.0 apart.0)
-    ∙ ap (λ (cs : List script.ScriptChunk). patched_at at code (chunk_in bytes d) ∷ cs)
+    ∙ ap (λ (cs : List script.ScriptChunk). patched_at at code (script_chunk bytes d) ∷ cs)
     (patched_each bytes code at rest some low high placed.1 apart.1)
 
 -- the chunks of the script after a patch of one of them
 pub patched_chunks : (bytes code : List ℕ) (at : ℕ) (chunks : List Chunk) (c : Chunk) → 0 < length code → at % 32 + length code ≤ 32
     → IsRising 0x10000 chunks → Each (λ (d : Chunk). HasGoodSpan d.base (limit_of bytes) d.length) chunks
     → HasGoodSpan c.base (limit_of bytes) c.length → Contains chunks c → IsLive c.state → c.base ≤ at → at < c.base + c.length
-    → map (chunk_in (with_span bytes (at - 0x10000) code)) chunks ≡ map (patched_at at code) (map (chunk_in bytes) chunks)
+    → map (script_chunk (with_span bytes (at - 0x10000) code)) chunks ≡ map (patched_at at code) (map (script_chunk bytes) chunks)
 patched_chunks bytes code at chunks c some bundle rising placed here listed live from to =
     let base_is : c.base % 32 ≡ 0 = here.start in
     let end : at + length code ≤ c.base + c.length = omega (arith, bundle, base_is, here.whole, from, to) in

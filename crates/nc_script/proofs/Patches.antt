@@ -15,9 +15,9 @@ use Rattle.nc_region.specs.declared.chunk.ChunkState.TheVariants.{Live, Retired}
 use Rattle.nc_region.specs.declared.fault.ModifyFault.{ModifyFault}
 use Rattle.nc_region.specs.declared.fault.ModifyFault.TheVariants.{BadSpan, NotLive, NotPermitted, Boundaries, PairTouched, BadTarget}
 use Rattle.nc_script.specs.Script as script
-use Rattle.nc_script.specs.Script.{Seat}
+use Rattle.nc_script.specs.Script.{ScriptSeat}
 use Rattle.nc_script.specs.Patching.{HoldsPlace, Replaces, IsLawfulPatch, IsRefusedPatch}
-use Rattle.nc_script.specs.machinery.Session.{bytes_at, state_in, chunk_in, script_of}
+use Rattle.nc_script.specs.machinery.Session.{bytes_at, state_in, script_chunk, script_of}
 use Rattle.nc_script.proofs.RegionText.{length-bytes_at, get_or-bytes_at}
 use Rattle.nc_script.proofs.Listed.{listed_map, listed_unmap, each_listed}
 
@@ -49,7 +49,7 @@ valid_as v h base limit code b l c = record {
   marks_are = h.marks_are;
 }
 
-module _ (r : Region) (is : IsRegion r.marked r.chunks) (seats : List Seat) (freed : ℕ) where
+module _ (r : Region) (is : IsRegion r.marked r.chunks) (seats : List ScriptSeat) (freed : ℕ) where
   -- the region's bytes
   abbrev bytes : List ℕ
   bytes = r.marked.bytes
@@ -78,8 +78,8 @@ module _ (r : Region) (is : IsRegion r.marked r.chunks) (seats : List Seat) (fre
   holds_of at c held =
       let placed = each_listed _ r.chunks c is.placed held.0 in
       record {
-        listed = subst (λ (s : script.State). Contains (map (chunk_in bytes) r.chunks) (record { base = c.base; state = s }))
-            (shown_live bytes c.base c.length c.state held.1) (listed_map (chunk_in bytes) r.chunks c held.0);
+        listed = subst (λ (s : script.ScriptChunkState). Contains (map (script_chunk bytes) r.chunks) (record { base = c.base; state = s }))
+            (shown_live bytes c.base c.length c.state held.1) (listed_map (script_chunk bytes) r.chunks c held.0);
         from = held.2.0;
         to = omega (arith, held.2.1, length-bytes_at bytes c.base c.length placed.low (omega (arith, placed.high)));
       }
@@ -88,7 +88,7 @@ module _ (r : Region) (is : IsRegion r.marked r.chunks) (seats : List Seat) (fre
   held_of : (at base : ℕ) (code : List ℕ) → HoldsPlace state.chunks at base code
       → (c : Chunk) × IsHeldBy r.chunks at c × (c.base ≡ base) × (bytes_at bytes c.base c.length ≡ code)
   held_of at base code h =
-      let found = listed_unmap (chunk_in bytes) r.chunks _ h.listed in
+      let found = listed_unmap (script_chunk bytes) r.chunks _ h.listed in
       let c = found.0 in
       let placed = each_listed _ r.chunks c is.placed found.1 in
       let base_is : c.base ≡ base = ap (λ (x : script.ScriptChunk). x.base) found.2 in

@@ -13,11 +13,11 @@ use Rattle.nc_region.specs.Deletion as region
 use Rattle.nc_region.specs.Deletion.{IsReclaimed}
 use Rattle.nc_region.specs.declared.chunk.Chunk.{Chunk}
 use Rattle.nc_script.specs.Requests.{Reclaim}
-use Rattle.nc_script.specs.Script.{Seat, Staying, Left}
-use Rattle.nc_script.specs.Reuse.{Allows, number_of, kept_by}
+use Rattle.nc_script.specs.Script.{ScriptSeat, Staying, Left}
+use Rattle.nc_script.specs.Reuse.{LetsFree, number_of, kept_by}
 use Rattle.nc_lines.specs.Replies.{reply_line}
 use Rattle.nc_script.specs.Replies.{freed_reply}
-use Rattle.nc_script.specs.machinery.Session.{SeatsState, chunk_in, SeatFits, Follows}
+use Rattle.nc_script.specs.machinery.Session.{SeatsState, script_chunk, SeatFits, Follows}
 use Rattle.nc_script.specs.machinery.Seats.{HasMetAt, HaveMet, IsOnlyKeeper}
 use Rattle.nc_script.proofs.Fitting.{AreStamped}
 use Rattle.nc_script.proofs.FreedChunks.{kept_chunks, freed_count, kept_stamped}
@@ -38,7 +38,7 @@ any_at : {X : Type 0} (P : X → Type 0) (xs : List X) (k : ℕ) (e : X) → k <
 any_at P xs k e l h = (k, get_or xs k e, l, same_default xs k (get_or xs k e) e l, h)
 
 -- a seat's bound is at least its number and the number freed by before; its number isn't above the generation
-fits_low : (generation freed : ℕ) (p : Option PassState) (b : ℕ) (s : Seat) → SeatFits generation freed p b s
+fits_low : (generation freed : ℕ) (p : Option PassState) (b : ℕ) (s : ScriptSeat) → SeatFits generation freed p b s
     → (freed ≤ b) × (number_of s ≤ b) × (number_of s ≤ generation)
 fits_low generation freed (Some p) b (Staying n) h = (omega (arith, h.1, h.3), omega (arith, h.1), h.2)
 fits_low generation freed (Some p) b (Left n) h = absurd h
@@ -46,8 +46,8 @@ fits_low generation freed None b (Staying n) h = absurd h
 fits_low generation freed None b (Left n) h = (h.2, h.0, h.1)
 
 -- a seat that is there allows what its bound allows, since it met the keeper afterwards
-met_allows : (generation freed a : ℕ) (p q : Option PassState) (b found after : ℕ) (s : Seat) → generation ≤ 2 ^ 62
-    → SeatFits generation freed p b s → HasMetAt p found q after → (found ≢ left_word → a ≤ found) → Allows a s
+met_allows : (generation freed a : ℕ) (p q : Option PassState) (b found after : ℕ) (s : ScriptSeat) → generation ≤ 2 ^ 62
+    → SeatFits generation freed p b s → HasMetAt p found q after → (found ≢ left_word → a ≤ found) → LetsFree a s
 met_allows generation freed a (Some p) (Some q) b found after (Staying n) small h m low =
     let up : found ≤ n = omega (arith, m.0, h.0) in
     let least = low (λ e. omega (arith, e, up, h.2, small)) in omega (arith, least, up)
@@ -56,8 +56,8 @@ met_allows generation freed a None q b found after (Staying n) small h m low = a
 met_allows generation freed a p q b found after (Left n) small h m low = tt
 
 -- it fits the number freed by
-met_fits : (generation freed a now : ℕ) (p q : Option PassState) (b found after : ℕ) (s : Seat) → now ≡ generation
-    → SeatFits generation freed p b s → b ≤ found → HasMetAt p found q after → Allows a s → a ≤ found → SeatFits now a q after s
+met_fits : (generation freed a now : ℕ) (p q : Option PassState) (b found after : ℕ) (s : ScriptSeat) → now ≡ generation
+    → SeatFits generation freed p b s → b ≤ found → HasMetAt p found q after → LetsFree a s → a ≤ found → SeatFits now a q after s
 met_fits generation freed a now (Some p) (Some q) b found after (Staying n) same h up m allowed low =
     (m.2 ∙ h.0, m.1 ∙ h.0, omega (arith, h.2, same), allowed)
 met_fits generation freed a now (Some p) None b found after (Staying n) same h up m allowed low = absurd m
@@ -114,9 +114,9 @@ reclaimed_follows old mid new before after count r met only seats freed fits =
     let bytes_are : new.marked.bytes ≡ text = ap (λ (x : Region). x.marked.bytes) only.others ∙ r.bytes in
     let chunks_are : new.chunks ≡ region.kept least old.chunks = ap (λ (x : Region). x.chunks) only.others ∙ r.chunks in
     let stamped = subst (λ (n : ℕ). AreStamped n old.chunks) (sym seen_is) fits.stamps in
-    let shown : map (chunk_in new.marked.bytes) new.chunks ≡ kept_by a (map (chunk_in text) old.chunks) =
-    ap (λ (bs : List ℕ). map (chunk_in bs) new.chunks) bytes_are
-    ∙ (ap (λ (cs : List Chunk). map (chunk_in text) cs) chunks_are ∙ sym (kept_chunks text least seen old.chunks stamped)) in (
+    let shown : map (script_chunk new.marked.bytes) new.chunks ≡ kept_by a (map (script_chunk text) old.chunks) =
+    ap (λ (bs : List ℕ). map (script_chunk bs) new.chunks) bytes_are
+    ∙ (ap (λ (cs : List Chunk). map (script_chunk text) cs) chunks_are ∙ sym (kept_chunks text least seen old.chunks stamped)) in (
       seats,
       a,
       record {
@@ -125,7 +125,7 @@ reclaimed_follows old mid new before after count r met only seats freed fits =
           rises = omega (arith, none_below, fits.current, seen_is);
           least = some_number;
           current = omega (arith, seen_is);
-          allowed = all_from (Allows a) seats (Left 0) allowed;
+          allowed = all_from (LetsFree a) seats (Left 0) allowed;
         };
         reply_is = ap (λ (n : ℕ). reply_line (freed_reply n)) (r.count_is ∙ sym (freed_count text least seen old.chunks stamped));
         new_is = λ j. record { limit = limit_of (bytes_are j); chunks = shown j; generation = now_is j; seats = seats; freed = a };

@@ -7,7 +7,7 @@ use Rattle.nc_text.specs.MarkedText.{with_span}
 use Rattle.nc_text.proofs.Offered.{length-with_span}
 use Rattle.nc_vet.specs.Chunk as vet
 use Rattle.nc_vet.specs.Chunk.{IsValid}
-use Rattle.nc_script.specs.Script.{Script, Seat, IsInserted, Live}
+use Rattle.nc_script.specs.Script.{Script, ScriptSeat, IsPutBetween, Live}
 use Rattle.nc_script.proofs.Creating.{occupied_meets, meets_occupied, inserted}
 use Rattle.nc_region.specs.Trace.{IsTrace, IsWalkStart}
 use Rattle.nc_region.specs.declared.trace.End.{End}
@@ -18,10 +18,10 @@ use Rattle.nc_text.specs.Places.{limit_of}
 use Rattle.nc_script.specs.Requests.{Create, Walk}
 use Rattle.nc_lines.specs.Vetting.{IsValidAt}
 use Rattle.nc_script.specs.Answers.{Serves}
-use Rattle.nc_script.specs.machinery.Session.{script_of, chunk_in}
+use Rattle.nc_script.specs.machinery.Session.{script_of, script_chunk}
 use Rattle.nc_lines.specs.Replies.{reply_line, refused_reply, fault_words}
 use Rattle.nc_script.specs.Replies.{walk_reply}
-use Rattle.nc_script.proofs.RegionText.{text_of-script_of}
+use Rattle.nc_script.proofs.RegionText.{script_text-script_of}
 
 -- states that differ in their chunks
 pub same_but_chunks : (a b : Script) → b.limit ≡ a.limit → b.generation ≡ a.generation → b.seats ≡ a.seats → b.freed ≡ a.freed
@@ -40,21 +40,21 @@ valid_here v limit e valid =
     (v.marks, subst (λ (l : ℕ). IsValid (record { base = v.base; limit = l; code = v.code; marks = v.marks })) e valid)
 
 -- a trace through the region serves a walk
-pub walk_serves : (region : Region) (seats : List Seat) (freed : ℕ) (start : ℕ) (choices places : List ℕ) (end : End)
+pub walk_serves : (region : Region) (seats : List ScriptSeat) (freed : ℕ) (start : ℕ) (choices places : List ℕ) (end : End)
     → IsRegion region.marked region.chunks
     → IsWalkStart region.marked.bytes start → IsTrace region.marked.bytes start choices places end
     → Serves (Walk start choices) (script_of region seats freed) (reply_line (walk_reply places end)) (script_of region seats freed)
 walk_serves region seats freed start choices places end is at trace = inl (record {
-  begins = subst (λ (text : List ℕ). IsWalkStart text start) (sym (text_of-script_of region seats freed is)) at;
+  begins = subst (λ (text : List ℕ). IsWalkStart text start) (sym (script_text-script_of region seats freed is)) at;
   places = places;
   end = end;
-  trace = subst (λ (text : List ℕ). IsTrace text start choices places end) (sym (text_of-script_of region seats freed is)) trace;
+  trace = subst (λ (text : List ℕ). IsTrace text start choices places end) (sym (script_text-script_of region seats freed is)) trace;
   reply_is = refl;
   same = refl;
 })
 
 -- a fault of the chunk serves its creation
-pub fault_serves : (region : Region) (seats : List Seat) (freed : ℕ) (base : ℕ) (bytes : List ℕ) (fault : VetFault)
+pub fault_serves : (region : Region) (seats : List ScriptSeat) (freed : ℕ) (base : ℕ) (bytes : List ℕ) (fault : VetFault)
     → HasFault base (limit_of region.marked.bytes) bytes fault → fault ≢ OutOfMemory
     → Serves (Create base bytes) (script_of region seats freed) (reply_line (refused_reply (fault_words fault)))
     (script_of region seats freed)
@@ -62,19 +62,19 @@ fault_serves region seats freed base bytes fault has known =
     inr (inl (record { fault = fault; has = has; known = known; reply_is = refl; same = refl }))
 
 -- a walk from elsewhere is refused
-pub no_start_serves : (region : Region) (seats : List Seat) (freed : ℕ) (start : ℕ) (choices : List ℕ)
+pub no_start_serves : (region : Region) (seats : List ScriptSeat) (freed : ℕ) (start : ℕ) (choices : List ℕ)
     → IsRegion region.marked region.chunks
     → ¬ IsWalkStart region.marked.bytes start
     → Serves (Walk start choices) (script_of region seats freed) (reply_line (refused_reply (codes "NotBundle")))
     (script_of region seats freed)
 no_start_serves region seats freed start choices is not = inr (record {
-  begins_not = subst (λ (text : List ℕ). ¬ IsWalkStart text start) (sym (text_of-script_of region seats freed is)) not;
+  begins_not = subst (λ (text : List ℕ). ¬ IsWalkStart text start) (sym (script_text-script_of region seats freed is)) not;
   reply_is = refl;
   same = refl;
 })
 
 -- a chunk created in the region is one put into the script's list
-pub created_serves : (old new : Region) (seats : List Seat) (freed : ℕ) (v : vet.MarkedChunk) → IsRegion old.marked old.chunks
+pub created_serves : (old new : Region) (seats : List ScriptSeat) (freed : ℕ) (v : vet.MarkedChunk) → IsRegion old.marked old.chunks
     → v.limit ≡ limit_of old.marked.bytes
     → IsValid v
     → IsCreated old new v → ¬ Meets v.base (length v.code) old.chunks
@@ -94,14 +94,14 @@ created_serves old new seats freed v is limit_is valid created apart =
           (ap limit_of bytes_are
           ∙ ap (λ (n : ℕ). 0x10000 + n) (length-with_span text (v.base - 0x10000) v.code (omega (arith, low, high))))
           (ap (λ (r : Region). r.keeper.numbers.generation) created.others) refl refl;
-      inserted = subst (IsInserted (record { base = v.base; state = Live v.code }) (map (chunk_in text) old.chunks))
-          (ap (λ (cs : List Chunk). map (chunk_in span) cs) (sym listed) ∙ ap (λ (bs : List ℕ). map (chunk_in bs) new.chunks)
+      inserted = subst (IsPutBetween (record { base = v.base; state = Live v.code }) (map (script_chunk text) old.chunks))
+          (ap (λ (cs : List Chunk). map (script_chunk span) cs) (sym listed) ∙ ap (λ (bs : List ℕ). map (script_chunk bs) new.chunks)
           (sym bytes_are))
           (inserted text v.code v.base k old.chunks low high valid.length_is.0 is.placed fits);
     })
 
 -- a chunk that meets another in the region meets one in the script
-pub crowded_serves : (old : Region) (seats : List Seat) (freed : ℕ) (v : vet.MarkedChunk) → IsRegion old.marked old.chunks → v.limit
+pub crowded_serves : (old : Region) (seats : List ScriptSeat) (freed : ℕ) (v : vet.MarkedChunk) → IsRegion old.marked old.chunks → v.limit
     ≡ limit_of old.marked.bytes
     → IsValid v
     → Meets v.base (length v.code) old.chunks

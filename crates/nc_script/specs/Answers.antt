@@ -10,21 +10,21 @@ use Rattle.nc_lines.specs.Lines.{bad_line}
 use Rattle.nc_region.specs.declared.fault.ModifyFault.{ModifyFault}
 use Rattle.nc_region.specs.declared.fault.DeleteFault.{DeleteFault}
 use Rattle.nc_script.specs.Requests.{Request, Create, Modify, Delete, CheckIn, Leave, Reclaim, Walk, Dump, request_in}
-use Rattle.nc_script.specs.Script.{Script, Live, Staying, Left, text_of, IsOccupied, IsInserted}
+use Rattle.nc_script.specs.Script.{Script, Live, Staying, Left, script_text, IsOccupied, IsPutBetween}
 use Rattle.nc_script.specs.Patching.{IsLawfulPatch, IsRefusedPatch, patched_at}
-use Rattle.nc_script.specs.Reuse.{HasLive, retired_at, IsRefusedDeletion, IsThere, IsFreeingNumber, freed_by, kept_by, AllStay}
+use Rattle.nc_script.specs.Reuse.{ListsLive, retired_at, IsRefusedDeletion, IsThere, IsFreeingNumber, freed_by, kept_by, AllStay}
 use Rattle.nc_lines.specs.Replies.{reply_line, refused_reply, fault_words}
 use Rattle.nc_lines.specs.Vetting.{IsValidAt}
 use Rattle.nc_script.specs.Replies.{walk_reply, dump_reply, patch_words, deletion_words}
 use Rattle.nc_script.specs.Replies.{stamp_reply, freed_reply}
 
 -- a valid chunk that meets no other is put into the list
-pub record IsCreated (base : ℕ) (bytes : List ℕ) (old : Script) (reply : List ℕ) (new : Script) : Type 0 where
+pub record IsAdded (base : ℕ) (bytes : List ℕ) (old : Script) (reply : List ℕ) (new : Script) : Type 0 where
   pub valid : IsValidAt base old.limit bytes
   pub free : ¬ IsOccupied base (length bytes) old.chunks
   pub reply_is : reply ≡ reply_line (codes "ok")
   pub others : new ≡ record old { chunks = new.chunks }
-  pub inserted : IsInserted (record { base = base; state = Live bytes }) old.chunks new.chunks
+  pub inserted : IsPutBetween (record { base = base; state = Live bytes }) old.chunks new.chunks
 
 -- a chunk that isn't valid is refused with its fault
 pub record IsFaulted (base : ℕ) (bytes : List ℕ) (old : Script) (reply : List ℕ) (new : Script) : Type 0 where
@@ -43,16 +43,16 @@ pub record IsCrowdedOut (base : ℕ) (bytes : List ℕ) (old : Script) (reply : 
 
 -- a walk from a bundle start of the region shows its trace
 pub record IsWalked (start : ℕ) (choices : List ℕ) (old : Script) (reply : List ℕ) (new : Script) : Type 0 where
-  pub begins : IsWalkStart (text_of old) start
+  pub begins : IsWalkStart (script_text old) start
   pub places : List ℕ
   pub end : End
-  pub trace : IsTrace (text_of old) start choices places end
+  pub trace : IsTrace (script_text old) start choices places end
   pub reply_is : reply ≡ reply_line (walk_reply places end)
   pub same : new ≡ old
 
 -- a walk from any other place is refused
 pub record IsNoStart (start : ℕ) (old : Script) (reply : List ℕ) (new : Script) : Type 0 where
-  pub begins_not : ¬ IsWalkStart (text_of old) start
+  pub begins_not : ¬ IsWalkStart (script_text old) start
   pub reply_is : reply ≡ reply_line (refused_reply (codes "NotBundle"))
   pub same : new ≡ old
 
@@ -70,8 +70,8 @@ pub record IsNotPatched (at : ℕ) (bytes : List ℕ) (old : Script) (reply : Li
   pub same : new ≡ old
 
 -- a live chunk is deleted: it is retired, and its stamp is the next generation
-pub record IsDeleted (base : ℕ) (old : Script) (reply : List ℕ) (new : Script) : Type 0 where
-  pub live : HasLive old.chunks base
+pub record IsRetired (base : ℕ) (old : Script) (reply : List ℕ) (new : Script) : Type 0 where
+  pub live : ListsLive old.chunks base
   pub room : old.generation < 2 ^ 62
   pub reply_is : reply ≡ reply_line (stamp_reply (old.generation + 1))
   pub new_is : new ≡ record old { chunks = map (retired_at base (old.generation + 1)) old.chunks; generation = old.generation + 1 }
@@ -103,7 +103,7 @@ pub record IsNoSeat (seat : ℕ) (old : Script) (reply : List ℕ) (new : Script
   pub same : new ≡ old
 
 -- exactly the retired chunks with a stamp of at most the number are freed
-pub record IsReclaimed (old : Script) (reply : List ℕ) (new : Script) : Type 0 where
+pub record IsFreed (old : Script) (reply : List ℕ) (new : Script) : Type 0 where
   pub a : ℕ
   pub number : IsFreeingNumber old a
   pub reply_is : reply ≡ reply_line (freed_reply (length (freed_by a old.chunks)))
@@ -112,12 +112,12 @@ pub record IsReclaimed (old : Script) (reply : List ℕ) (new : Script) : Type 0
 -- From old, this is an answer to the request, and new is the state after it.
 abbrev pub Serves : Request → Script → List ℕ → Script → Type 0
 Serves (Create base bytes) old reply new =
-    IsCreated base bytes old reply new ⊎ (IsFaulted base bytes old reply new ⊎ IsCrowdedOut base bytes old reply new)
+    IsAdded base bytes old reply new ⊎ (IsFaulted base bytes old reply new ⊎ IsCrowdedOut base bytes old reply new)
 Serves (Modify at bytes) old reply new = IsPatched at bytes old reply new ⊎ IsNotPatched at bytes old reply new
-Serves (Delete base) old reply new = IsDeleted base old reply new ⊎ IsNotDeleted base old reply new
+Serves (Delete base) old reply new = IsRetired base old reply new ⊎ IsNotDeleted base old reply new
 Serves (CheckIn seat) old reply new = IsCheckedIn seat old reply new ⊎ IsNoSeat seat old reply new
 Serves (Leave seat) old reply new = HasLeft seat old reply new ⊎ IsNoSeat seat old reply new
-Serves Reclaim old reply new = IsReclaimed old reply new
+Serves Reclaim old reply new = IsFreed old reply new
 Serves (Walk start choices) old reply new = IsWalked start choices old reply new ⊎ IsNoStart start old reply new
 Serves Dump old reply new = (reply ≡ reply_line (dump_reply old.chunks)) × (new ≡ old)
 

@@ -14,7 +14,7 @@ abbrev pub IsNoLeave : List ℕ → Type 0
 IsNoLeave line = (seat : ℕ) → request_in line ≢ Some (Leave seat)
 
 -- what was written is a beginning of whatever answers all of these lines
-pub record IsBeginning (old : Script) (before after : Option (List ℕ)) (lines : List (List ℕ)) : Type 0 where
+pub record BeginsAnswers (old : Script) (before after : Option (List ℕ)) (lines : List (List ℕ)) : Type 0 where
   pub reply : List ℕ
   pub written : Appends before after reply
   pub begins : (all : List ℕ) (last : Script) → AnswersLines ServesLine old lines all last → (rest : List ℕ) × (all ≡ reply ++ rest)
@@ -29,7 +29,7 @@ HasOneReply = (old : Script) (lines : List (List ℕ)) (reply other : List ℕ) 
 abbrev pub BeginsAll : Type 0
 BeginsAll = (old : Script) (before after : Option (List ℕ)) (lines : List (List ℕ)) → AllStay old → All IsNoLeave lines
     → IsBegun AnswersOnly old before after lines
-    → IsBeginning old before after lines
+    → BeginsAnswers old before after lines
 
 -- while no seat has left, the number by which a reclaim frees is the least number of all seats
 abbrev pub FreesByLeast : Type 0

@@ -6,7 +6,7 @@ use Rattle.nc_text.specs.MarkedText.{with_span}
 use Rattle.nc_region.specs.Patch.{IsPatchSpan, AreBytesOf, AreInstructions, lengths, SparesPairs, GoWell}
 use Rattle.nc_region.specs.declared.fault.ModifyFault.{ModifyFault}
 use Rattle.nc_region.specs.declared.fault.ModifyFault.TheVariants.{BadSpan, NotLive, NotPermitted, Boundaries, PairTouched, BadTarget}
-use Rattle.nc_script.specs.Script.{Script, ScriptChunk, State, Live, Retired, covers}
+use Rattle.nc_script.specs.Script.{Script, ScriptChunk, ScriptChunkState, Live, Retired, covers}
 
 -- a live chunk of the list, of this base and with these bytes, has the place
 pub record HoldsPlace (chunks : List ScriptChunk) (at base : ℕ) (bytes : List ℕ) : Type 0 where
@@ -15,8 +15,8 @@ pub record HoldsPlace (chunks : List ScriptChunk) (at base : ℕ) (bytes : List 
   pub to : at < base + length bytes
 
 -- the place lies in some live chunk
-abbrev pub IsHeld : List ScriptChunk → ℕ → Type 0
-IsHeld chunks at = (base : ℕ) × (bytes : List ℕ) × HoldsPlace chunks at base bytes
+abbrev pub LiesInLive : List ScriptChunk → ℕ → Type 0
+LiesInLive chunks at = (base : ℕ) × (bytes : List ℕ) × HoldsPlace chunks at base bytes
 
 -- The new bytes are instructions, and from the address on stand as many of these, of which the first is at the base; each
 -- is as long as the new one in its place.
@@ -40,41 +40,41 @@ pub record Replaces (script : Script) (at : ℕ) (new : List ℕ) : Type 0 where
   pub run : IsRunOf valid.pieces base at new
 
 -- pairs are left alone
-abbrev pub LeavesPairs : (script : Script) (at : ℕ) (new : List ℕ) → Replaces script at new → Type 0
-LeavesPairs script at new r = SparesPairs (r.run.old ++ r.run.after) r.run.news
+abbrev pub KeepsPairs : (script : Script) (at : ℕ) (new : List ℕ) → Replaces script at new → Type 0
+KeepsPairs script at new r = SparesPairs (r.run.old ++ r.run.after) r.run.news
 
 -- the direct transfers that come go where those of a valid chunk may
-abbrev pub KeepsTargets : (script : Script) (at : ℕ) (new : List ℕ) → Replaces script at new → Type 0
-KeepsTargets script at new r = GoWell (IsTarget r.base script.limit r.valid.pieces) at r.run.news
+abbrev pub GoesToTargets : (script : Script) (at : ℕ) (new : List ℕ) → Replaces script at new → Type 0
+GoesToTargets script at new r = GoWell (IsTarget r.base script.limit r.valid.pieces) at r.run.news
 
 -- the new bytes replace instructions, and leave pairs alone
 abbrev pub ReplacesBesidePairs : Script → ℕ → List ℕ → Type 0
-ReplacesBesidePairs script at new = (r : Replaces script at new) × LeavesPairs script at new r
+ReplacesBesidePairs script at new = (r : Replaces script at new) × KeepsPairs script at new r
 
 -- A lawful patch of a script's chunk: the new bytes lie in one bundle and take the place of whole instructions of a
 -- live chunk, each as long. Pairs are left alone, and direct transfers go where those of a valid chunk may.
 abbrev pub IsLawfulPatch : Script → ℕ → List ℕ → Type 0
 IsLawfulPatch script at new =
-    IsPatchSpan at (length new) × ((r : Replaces script at new) × LeavesPairs script at new r × KeepsTargets script at new r)
+    IsPatchSpan at (length new) × ((r : Replaces script at new) × KeepsPairs script at new r × GoesToTargets script at new r)
 
 -- The first of these that doesn't hold is the refusal: the bytes lie in one bundle; that is part of a live chunk; they
 -- are whole instructions; they take the place of instructions of the chunk; they leave pairs alone; their targets are good.
 abbrev pub IsRefusedPatch : Script → ℕ → List ℕ → ModifyFault → Type 0
 IsRefusedPatch script at new BadSpan = ¬ IsPatchSpan at (length new)
-IsRefusedPatch script at new NotLive = IsPatchSpan at (length new) × ¬ IsHeld script.chunks at
-IsRefusedPatch script at new NotPermitted = IsPatchSpan at (length new) × IsHeld script.chunks at × ¬ AreInstructions new
+IsRefusedPatch script at new NotLive = IsPatchSpan at (length new) × ¬ LiesInLive script.chunks at
+IsRefusedPatch script at new NotPermitted = IsPatchSpan at (length new) × LiesInLive script.chunks at × ¬ AreInstructions new
 IsRefusedPatch script at new Boundaries =
-    IsPatchSpan at (length new) × IsHeld script.chunks at × AreInstructions new × ¬ Replaces script at new
+    IsPatchSpan at (length new) × LiesInLive script.chunks at × AreInstructions new × ¬ Replaces script at new
 IsRefusedPatch script at new PairTouched =
     IsPatchSpan at (length new) × Replaces script at new × ¬ ReplacesBesidePairs script at new
 IsRefusedPatch script at new BadTarget =
     IsPatchSpan at (length new) × ReplacesBesidePairs script at new × ¬ IsLawfulPatch script at new
 
 -- a live chunk with these bytes from this place of it on
-abbrev pub with_bytes : ℕ → List ℕ → State → State
-with_bytes start new (Live bytes) = Live (with_span bytes start new)
-with_bytes start new (Retired length stamp) = Retired length stamp
+abbrev pub patched_state : ℕ → List ℕ → ScriptChunkState → ScriptChunkState
+patched_state start new (Live bytes) = Live (with_span bytes start new)
+patched_state start new (Retired length stamp) = Retired length stamp
 
 -- the chunk that has the address, with these bytes from there on; any other one as it is
 abbrev pub patched_at : ℕ → List ℕ → ScriptChunk → ScriptChunk
-patched_at at new c = if covers c at then record c { state = with_bytes (at - c.base) new c.state } else c
+patched_at at new c = if covers c at then record c { state = patched_state (at - c.base) new c.state } else c

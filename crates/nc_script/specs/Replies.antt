@@ -11,10 +11,10 @@ use Rattle.nc_region.specs.declared.fault.ModifyFault.TheVariants as patch
 use Rattle.nc_region.specs.declared.fault.ModifyFault.TheVariants.{BadSpan, NotLive, Boundaries, PairTouched}
 use Rattle.nc_region.specs.declared.fault.DeleteFault.{DeleteFault}
 use Rattle.nc_region.specs.declared.fault.DeleteFault.TheVariants.{NoChunk, GensFull}
-use Rattle.nc_script.specs.Script.{State, Live, Retired, ScriptChunk}
+use Rattle.nc_script.specs.Script.{ScriptChunkState, Live, Retired, ScriptChunk}
 
 -- whether a chunk is live, with its bytes, or retired, with its length and stamp
-abbrev pub state_words : State → List ℕ
+abbrev pub state_words : ScriptChunkState → List ℕ
 state_words (Live bytes) = codes " live " ++ encode_lower bytes
 state_words (Retired length stamp) = codes " retired " ++ (decimal length ++ (32 ∷ decimal stamp))
 

@@ -3,35 +3,35 @@ use Rattle.std.specs.Prelude.{◌≡◌, ℕ, ◌≤◌, ◌^◌, Bool, false, n
 use Rattle.std.specs.Prelude.{if◌then◌else◌}
 use Rattle.nc_region.specs.declared.fault.DeleteFault.{DeleteFault}
 use Rattle.nc_region.specs.declared.fault.DeleteFault.TheVariants.{NoChunk, GensFull}
-use Rattle.nc_script.specs.Script.{Script, ScriptChunk, State, Live, Retired, Seat, Staying, Left, bytes_of}
+use Rattle.nc_script.specs.Script.{Script, ScriptChunk, ScriptChunkState, Live, Retired, ScriptSeat, Staying, Left, standing_bytes}
 
 -- threads may enter a chunk in this state
-abbrev pub IsLive : State → Type 0
-IsLive (Live bytes) = ⊤
-IsLive (Retired length stamp) = ⊥
+abbrev pub IsLiveState : ScriptChunkState → Type 0
+IsLiveState (Live bytes) = ⊤
+IsLiveState (Retired length stamp) = ⊥
 
 -- some live chunk has this base
-abbrev pub HasLive : List ScriptChunk → ℕ → Type 0
-HasLive chunks base = Any (λ c. (c.base ≡ base) × IsLive c.state) chunks
+abbrev pub ListsLive : List ScriptChunk → ℕ → Type 0
+ListsLive chunks base = Any (λ c. (c.base ≡ base) × IsLiveState c.state) chunks
 
 -- the chunk of this base, retired with this stamp; any other one as it is
 abbrev pub retired_at : ℕ → ℕ → ScriptChunk → ScriptChunk
-retired_at base stamp c = if c.base == base then record c { state = Retired (length (bytes_of c.state)) stamp } else c
+retired_at base stamp c = if c.base == base then record c { state = Retired (length (standing_bytes c.state)) stamp } else c
 
 -- when each refusal of a deletion comes: no live chunk has this base, or the generation is the last one
 abbrev pub IsRefusedDeletion : Script → ℕ → DeleteFault → Type 0
-IsRefusedDeletion script base NoChunk = ¬ HasLive script.chunks base
-IsRefusedDeletion script base GensFull = HasLive script.chunks base × (script.generation ≡ 2 ^ 62)
+IsRefusedDeletion script base NoChunk = ¬ ListsLive script.chunks base
+IsRefusedDeletion script base GensFull = ListsLive script.chunks base × (script.generation ≡ 2 ^ 62)
 
 -- the number of a seat
-abbrev pub number_of : Seat → ℕ
+abbrev pub number_of : ScriptSeat → ℕ
 number_of (Staying number) = number
 number_of (Left number) = number
 
 -- a seat that is there has at least this number; one that has left holds nothing back
-abbrev pub Allows : ℕ → Seat → Type 0
-Allows a (Staying number) = a ≤ number
-Allows a (Left number) = ⊤
+abbrev pub LetsFree : ℕ → ScriptSeat → Type 0
+LetsFree a (Staying number) = a ≤ number
+LetsFree a (Left number) = ⊤
 
 -- The number by which a reclaim frees: at least that of the reclaim before, and the least number of all seats; at most the
 -- generation, and the number of each seat that hasn't left.
@@ -39,27 +39,27 @@ pub record IsFreeingNumber (script : Script) (a : ℕ) : Type 0 where
   pub rises : script.freed ≤ a
   pub least : Any (λ seat. number_of seat ≤ a) script.seats
   pub current : a ≤ script.generation
-  pub allowed : All (Allows a) script.seats
+  pub allowed : All (LetsFree a) script.seats
 
 -- retired, with a stamp of at most this number
-abbrev pub is_due : ℕ → State → Bool
-is_due a (Live bytes) = false
-is_due a (Retired length stamp) = nat_le stamp a
+abbrev pub is_freed_by : ℕ → ScriptChunkState → Bool
+is_freed_by a (Live bytes) = false
+is_freed_by a (Retired length stamp) = nat_le stamp a
 
 -- the chunks that such a number frees
 abbrev pub freed_by : ℕ → List ScriptChunk → List ScriptChunk
-freed_by a chunks = filter (λ c. is_due a c.state) chunks
+freed_by a chunks = filter (λ c. is_freed_by a c.state) chunks
 
 -- the chunks that stay
 abbrev pub kept_by : ℕ → List ScriptChunk → List ScriptChunk
-kept_by a chunks = filter (λ c. not (is_due a c.state)) chunks
+kept_by a chunks = filter (λ c. not (is_freed_by a c.state)) chunks
 
 -- there is such a seat, and it hasn't left
-abbrev pub IsThere : List Seat → ℕ → Type 0
+abbrev pub IsThere : List ScriptSeat → ℕ → Type 0
 IsThere seats seat = (number : ℕ) × (slice_get seats seat ≡ Some (Staying number))
 
 -- it hasn't left
-abbrev pub Stays : Seat → Type 0
+abbrev pub Stays : ScriptSeat → Type 0
 Stays (Staying number) = ⊤
 Stays (Left number) = ⊥
 

@@ -4,20 +4,20 @@ use Rattle.std.specs.Prelude.{replicate, slice_index, All, Any}
 use Rattle.std.specs.List.{range_with_len}
 
 -- a live chunk has its bytes; a retired one was deleted and waits for the seats to check in
-pub data State : Type 0 where
-  Live : (bytes : List ℕ) → State
-  Retired : (length stamp : ℕ) → State
+pub data ScriptChunkState : Type 0 where
+  Live : (bytes : List ℕ) → ScriptChunkState
+  Retired : (length stamp : ℕ) → ScriptChunkState
 
 -- a chunk of a script: where it stands, and its state
 pub record ScriptChunk : Type 0 where
   pub base : ℕ
-  pub state : State
+  pub state : ScriptChunkState
 
 -- A seat that is there, or that has left, with its number: the generation that stood at its last check-in, 0 if it has
 -- none.
-pub data Seat : Type 0 where
-  Staying : (number : ℕ) → Seat
-  Left : (number : ℕ) → Seat
+pub data ScriptSeat : Type 0 where
+  Staying : (number : ℕ) → ScriptSeat
+  Left : (number : ℕ) → ScriptSeat
 
 -- What answers depend on. The chunks stand by rising base; `freed` is the number by which the last reclaim freed chunks,
 -- at first 0.
@@ -25,37 +25,37 @@ pub record Script : Type 0 where
   pub limit : ℕ
   pub chunks : List ScriptChunk
   pub generation : ℕ
-  pub seats : List Seat
+  pub seats : List ScriptSeat
   pub freed : ℕ
 
 -- the bytes that stand in a chunk's span
-abbrev pub bytes_of : State → List ℕ
-bytes_of (Live bytes) = bytes
-bytes_of (Retired length stamp) = replicate length 0xF4
+abbrev pub standing_bytes : ScriptChunkState → List ℕ
+standing_bytes (Live bytes) = bytes
+standing_bytes (Retired length stamp) = replicate length 0xF4
 
 -- the address lies in the chunk's span
 abbrev pub covers : ScriptChunk → ℕ → Bool
-covers c at = nat_le c.base at && nat_lt at (c.base + length (bytes_of c.state))
+covers c at = nat_le c.base at && nat_lt at (c.base + length (standing_bytes c.state))
 
 -- the byte at an address: that of the chunk which covers it, and a stop where none does
 abbrev pub byte_in : List ScriptChunk → ℕ → ℕ
 byte_in [] at = 0xF4
-byte_in (c ∷ chunks) at = if covers c at then slice_index (bytes_of c.state) (at - c.base) else byte_in chunks at
+byte_in (c ∷ chunks) at = if covers c at then slice_index (standing_bytes c.state) (at - c.base) else byte_in chunks at
 
 -- the bytes of the region, from 00010000 to the limit
-abbrev pub text_of : Script → List ℕ
-text_of script = map (byte_in script.chunks) (range_with_len 0x10000 (script.limit - 0x10000))
+abbrev pub script_text : Script → List ℕ
+script_text script = map (byte_in script.chunks) (range_with_len 0x10000 (script.limit - 0x10000))
 
 -- the chunk, live or retired, meets the span
-abbrev pub Meets : ℕ → ℕ → ScriptChunk → Type 0
-Meets base len c = (base < c.base + length (bytes_of c.state)) × (c.base < base + len)
+abbrev pub MeetsSpan : ℕ → ℕ → ScriptChunk → Type 0
+MeetsSpan base len c = (base < c.base + length (standing_bytes c.state)) × (c.base < base + len)
 
 -- some chunk, live or retired, meets the span
 abbrev pub IsOccupied : ℕ → ℕ → List ScriptChunk → Type 0
-IsOccupied base len chunks = Any (Meets base len) chunks
+IsOccupied base len chunks = Any (MeetsSpan base len) chunks
 
 -- the chunk is put into the list, between those of lower and those of higher bases
-pub record IsInserted (chunk : ScriptChunk) (old new : List ScriptChunk) : Type 0 where
+pub record IsPutBetween (chunk : ScriptChunk) (old new : List ScriptChunk) : Type 0 where
   pub before : List ScriptChunk
   pub after : List ScriptChunk
   pub old_is : old ≡ before ++ after

@@ -4,7 +4,7 @@ ghost use Rattle.std.specs.Prelude.{◌≡◌, ◌++◌, ◌∷◌, [], ◌+◌,
 ghost use Rattle.std.specs.Fmt.{decimal};
 ghost use Rattle.hex.specs.Hex.{encode_lower};
 ghost use Rattle.nc_text.specs.Places.{limit_of};
-ghost use Rattle.nc_script.specs.machinery.Session.{bytes_at, chunk_in};
+ghost use Rattle.nc_script.specs.machinery.Session.{bytes_at, script_chunk};
 ghost use Rattle.nc_lines.specs.Replies.{reply_line, refused_reply};
 ghost use Rattle.nc_script.specs.Replies.{places_words, end_word, walk_reply};
 ghost use Rattle.nc_script.specs.Replies.{chunk_words, patch_words, deletion_words, stamp_reply, freed_reply};
@@ -131,7 +131,7 @@ pub(crate) fn push_chunk(
     requires low { 0x10000 ≤ chunk.base }
     requires high { chunk.base + chunk.length ≤ limit_of region.now.marked.bytes }
     requires fits { chunk.base + chunk.length < 2 ^ 32 }
-    ensures { OnOk result (out.new.items ≡ out.old.items ++ chunk_words (chunk_in region.now.marked.bytes chunk)) }
+    ensures { OnOk result (out.new.items ≡ out.old.items ++ chunk_words (script_chunk region.now.marked.bytes chunk)) }
 {
     out.push(b' ')?;
     push_address(out, chunk.base)?;

@@ -1,7 +1,7 @@
 //! The seats of a script's threads.
 
 ghost use Rattle.std.specs.Prelude.{◌≡◌, ◌<◌, map, IfOk, IfSome, length, MatchOption, Some};
-ghost use Rattle.nc_gens.specs.Seen.{first_passes};
+ghost use Rattle.nc_gens.specs.Seen.{new_passes};
 ghost use Rattle.nc_script.specs.machinery.Session.{AreSeated};
 ghost use Rattle.nc_script.specs.machinery.Seats.{HasChecked, ChecksIn, Leaves, HasNoPass, IsTaken, HasMetOne, HaveMet, IsOnlyKeeper};
 
@@ -110,7 +110,7 @@ fn hold_passes(alloc: Global, passes: Vec<Pass>) -> Result<Vec<Option<Pass>>, Al
 impl<'g> Seats<'g> {
     /// A seat for each pass, in their order.
     pub fn new(alloc: Global, gens: &'g Gens, passes: Vec<Pass>) -> Result<Seats<'g>, AllocError>
-        requires { passes.items ≡ first_passes gens.now (length passes.items) }
+        requires { passes.items ≡ new_passes gens.now (length passes.items) }
         ensures { IfOk result (λ s. s ≡ record { table = gens.now; passes = map Some passes.items }) }
     {
         let passes = hold_passes(alloc, passes)?;

@@ -1,11 +1,11 @@
 //! Answers to a script's lines by the calls of a region.
 
 ghost use Rattle.std.specs.Prelude.{◌≡◌, ◌++◌, List, ℕ, OnOk, IfOk, ◌<◌, replicate, length};
-ghost use Rattle.nc_gens.specs.Seen.{AreSeats, first_keeper, first_passes};
+ghost use Rattle.nc_gens.specs.Seen.{AreSeats, first_keeper, new_passes};
 ghost use Rattle.nc_script.specs.Requests.{Create, Modify, Delete, CheckIn, Leave, Reclaim, Walk, Dump};
 ghost use Rattle.nc_script.specs.Answers.{new_script};
 ghost use Rattle.nc_script.specs.Script.{Staying};
-ghost use Rattle.nc_script.specs.machinery.Session.{script_of, Fits, Follows, FollowsIn, FollowsLine, WalksOnly};
+ghost use Rattle.nc_script.specs.machinery.Session.{script_of, FitsSession, Follows, FollowsIn, FollowsLine, WalksOnly};
 
 use crate::answer::{
     push_chunk, push_delete_fault, push_freed, push_patch_fault, push_stamp, push_trace,
@@ -50,10 +50,10 @@ impl<'g> Session<'g> {
     ) -> Result<Session<'g>, AllocError>
         requires seats { AreSeats (length passes.items) }
         requires keeper { keeper ≡ first_keeper gens.now (length passes.items) }
-        requires passes { passes.items ≡ first_passes gens.now (length passes.items) }
+        requires passes { passes.items ≡ new_passes gens.now (length passes.items) }
         ensures script { IfOk result (λ s. script_of s.region (replicate (length passes.items) (Staying 0)) 0
             ≡ new_script bundles (length passes.items)) }
-        ensures fits { IfOk result (λ s. Fits s (replicate (length passes.items) (Staying 0)) 0) }
+        ensures fits { IfOk result (λ s. FitsSession s (replicate (length passes.items) (Staying 0)) 0) }
     {
         let seats = Seats::new(alloc, gens, passes)?;
         match Region::new(alloc, bundles, gens, keeper) {

@@ -8,7 +8,7 @@ use Rattle.std.proofs.lemmas.Nat.Bits.{bit_at-pow_other}
 use Rattle.nc_decode.specs.declared.instruction.Mark.TheVariants.{Unmarked, Plain, After}
 use Rattle.nc_text.specs.Marks.{mark_bit}
 use Rattle.nc_text.specs.MarkedText.{unused_mark}
-use Rattle.nc_text.specs.machinery.Pages.{Slot, mark_if_made, mark_of}
+use Rattle.nc_text.specs.machinery.Pages.{Slot, mark_if_made, mark_in_pages}
 
 -- a place is marked if it is plain or a second half
 pub either_bit : (start second register : ℕ) → start < 2 → second < 2
@@ -37,7 +37,7 @@ unused_from at k start = let e : (at + k) % 32 ≡ k % 32 = omega (arith, start)
 
 -- they are on one page
 pub mark_from : (pages : List Slot) (at k : ℕ) → at % 32 ≡ 0 → k < 32
-    → mark_of pages (at + k) ≡ mark_if_made (get_or pages (at / 4096) None) (at % 4096 + k)
+    → mark_in_pages pages (at + k) ≡ mark_if_made (get_or pages (at / 4096) None) (at % 4096 + k)
 mark_from pages at k start lt =
     let page : (at + k) / 4096 ≡ at / 4096 = omega (arith, start, lt) in
     let place : (at + k) % 4096 ≡ at % 4096 + k = omega (arith, start, lt) in

@@ -15,7 +15,7 @@ use Rattle.std.proofs.lemmas.List.FromFn.{length-map-range_with_len, get_or-map-
 use Rattle.nc_text.specs.declared.masks.Masks.{Masks}
 use Rattle.nc_text.specs.declared.page.Page.{Page}
 use Rattle.nc_text.specs.machinery.Masks.{mark_in, unused_masks}
-use Rattle.nc_text.specs.machinery.Pages.{Slot, byte_on, mark_on, byte_if_made, mark_if_made, byte_of, mark_of}
+use Rattle.nc_text.specs.machinery.Pages.{Slot, byte_on, mark_on, byte_if_made, mark_if_made, byte_of, mark_in_pages}
 use Rattle.nc_text.specs.MarkedText.{unused_mark}
 
 -- a bundle whose start alone is marked
@@ -142,7 +142,7 @@ bare_if_none None k unmade = unused_mark_on k
 bare_if_none (Some page) k contrary = let idle : true ≡ false = contrary in cc
 
 -- so it is at each place of it
-pub bare_if_unmade : (pages : List Slot) (k : ℕ) → is_some (get_or pages (k / 4096) None) ≡ false → mark_of pages k ≡ unused_mark k
+pub bare_if_unmade : (pages : List Slot) (k : ℕ) → is_some (get_or pages (k / 4096) None) ≡ false → mark_in_pages pages k ≡ unused_mark k
 bare_if_unmade pages k unmade = bare_if_none (get_or pages (k / 4096) None) k unmade
 
 -- a page that is made is in the table
@@ -159,7 +159,7 @@ pub record IsMaking (old new : List Slot) (first i : ℕ) : Type 0 where
   pub kept : (j : ℕ) → is_some (get_or old j None) ≡ true → is_some (get_or new j None) ≡ true
   pub needed : (j : ℕ) → is_some (get_or new j None) ≡ true → (is_some (get_or old j None) ≡ true) ⊎ ((first ≤ j) × (j < i))
   pub bytes : (k : ℕ) → byte_of new k ≡ byte_of old k
-  pub marks : (k : ℕ) → mark_of new k ≡ mark_of old k
+  pub marks : (k : ℕ) → mark_in_pages new k ≡ mark_in_pages old k
 
 -- one more that was made already
 pub making_made : (old new : List Slot) (first i : ℕ) → IsMaking old new first i → is_some (get_or new i None) ≡ true

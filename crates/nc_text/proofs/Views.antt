@@ -10,7 +10,7 @@ use Rattle.std.proofs.lemmas.List.FromFn.{length-map-range_with_len, get_or-map-
 use Rattle.nc_decode.specs.Bundles.{IsLawfulLimit}
 use Rattle.nc_decode.specs.declared.instruction.Mark.{Mark}
 use Rattle.nc_decode.specs.declared.instruction.Mark.TheVariants.{Unmarked}
-use Rattle.nc_text.specs.machinery.Pages.{Slot, byte_if_made, mark_if_made, byte_of, mark_of, text_of}
+use Rattle.nc_text.specs.machinery.Pages.{Slot, byte_if_made, mark_if_made, byte_of, mark_in_pages, text_of}
 use Rattle.nc_text.specs.Places.{InRegion}
 use Rattle.nc_text.specs.Marks.{IsClosed}
 use Rattle.nc_text.specs.MarkedText.{MarkedText, IsText, with_byte, with_bytes, with_marks, with_span, unused_mark, unused_text}
@@ -30,15 +30,15 @@ bytes_long pages size = length-map-range_with_len (byte_of pages) 0 size
 
 -- so with the marks
 pub marks_long : (pages : List Slot) (size : ℕ) → length (text_of pages size).marked.marks ≡ size
-marks_long pages size = length-map-range_with_len (mark_of pages) 0 size
+marks_long pages size = length-map-range_with_len (mark_in_pages pages) 0 size
 
 -- what is seen at a place
 pub byte_seen : (pages : List Slot) (size k : ℕ) → k < size → get_or (text_of pages size).marked.bytes k 0 ≡ byte_of pages k
 byte_seen pages size k inside = get_or-map-range_with_len (byte_of pages) 0 size k k 0 inside (omega arith)
 
 -- the mark there
-pub mark_seen : (pages : List Slot) (size k : ℕ) → k < size → get_or (text_of pages size).marked.marks k Unmarked ≡ mark_of pages k
-mark_seen pages size k inside = get_or-map-range_with_len (mark_of pages) 0 size k k Unmarked inside (omega arith)
+pub mark_seen : (pages : List Slot) (size k : ℕ) → k < size → get_or (text_of pages size).marked.marks k Unmarked ≡ mark_in_pages pages k
+mark_seen pages size k inside = get_or-map-range_with_len (mark_in_pages pages) 0 size k k Unmarked inside (omega arith)
 
 -- what is seen of a text, by its parts
 abbrev pub state : MarkedText → List Bool → TextState
@@ -57,19 +57,19 @@ state_is bs cs ms ns ds es b m d =
 
 -- one byte put
 pub put_seen : (old new : List Slot) (size at byte : ℕ) → at < size → byte_of new at ≡ byte
-    → ((k : ℕ) → k ≢ at → byte_of new k ≡ byte_of old k) → ((k : ℕ) → mark_of new k ≡ mark_of old k)
+    → ((k : ℕ) → k ≢ at → byte_of new k ≡ byte_of old k) → ((k : ℕ) → mark_in_pages new k ≡ mark_in_pages old k)
     → map is_some new ≡ map is_some old
     → text_of new size
     ≡ state (both (set (text_of old size).marked.bytes at byte) (text_of old size).marked.marks) (text_of old size).made
 put_seen old new size at byte inside here other marks made =
     state_is _ _ _ _ _ _ (same_but_one 0 (byte_of old) (byte_of new) size at byte inside here other)
-    (same_all Unmarked (mark_of old) (mark_of new) size (λ k lt. marks k)) made
+    (same_all Unmarked (mark_in_pages old) (mark_in_pages new) size (λ k lt. marks k)) made
 
 -- the bytes of a run put
 pub run_seen : (old new : List Slot) (size start : ℕ) (bytes : List ℕ) → start + length bytes ≤ size
     → ((k : ℕ) → start ≤ k → k < start + length bytes → byte_of new k ≡ get_or bytes (k - start) 0)
     → ((k : ℕ) → (k < start) ⊎ (start + length bytes ≤ k) → byte_of new k ≡ byte_of old k)
-    → ((k : ℕ) → mark_of new k ≡ mark_of old k) → map is_some new ≡ map is_some old
+    → ((k : ℕ) → mark_in_pages new k ≡ mark_in_pages old k) → map is_some new ≡ map is_some old
     → text_of new size
     ≡ state (both (with_span (text_of old size).marked.bytes start bytes) (text_of old size).marked.marks) (text_of old size).made
 run_seen old new size start bytes fits within others marks made =
@@ -83,13 +83,13 @@ run_seen old new size start bytes fits within others marks made =
       | inl lt ↦ byte_seen new size k lt ∙ (others k (inr past) ∙ sym (byte_seen old size k lt))
       | inr out ↦ get_or_past (text_of new size).marked.bytes k 0 (omega arith)
           ∙ sym (get_or_past (text_of old size).marked.bytes k 0 (omega arith))
-    ])) (same_all Unmarked (mark_of old) (mark_of new) size (λ k lt. marks k)) made
+    ])) (same_all Unmarked (mark_in_pages old) (mark_in_pages new) size (λ k lt. marks k)) made
 
 -- the marks of a span set
 pub span_seen : (old new : List Slot) (size start : ℕ) (marks : List Mark) → start + length marks ≤ size
-    → ((k : ℕ) → start ≤ k → k < start + length marks → mark_of new k ≡ get_or marks (k - start) Unmarked)
-    → ((k : ℕ) → k < start → mark_of new k ≡ mark_of old k)
-    → ((k : ℕ) → start + length marks ≤ k → mark_of new k ≡ mark_of old k)
+    → ((k : ℕ) → start ≤ k → k < start + length marks → mark_in_pages new k ≡ get_or marks (k - start) Unmarked)
+    → ((k : ℕ) → k < start → mark_in_pages new k ≡ mark_in_pages old k)
+    → ((k : ℕ) → start + length marks ≤ k → mark_in_pages new k ≡ mark_in_pages old k)
     → ((k : ℕ) → byte_of new k ≡ byte_of old k) → map is_some new ≡ map is_some old
     → text_of new size
     ≡ state (both (text_of old size).marked.bytes (with_span (text_of old size).marked.marks start marks)) (text_of old size).made
@@ -154,7 +154,7 @@ keeps_invariant table size new is = (subst (λ (t : TextState). IsText t.marked)
 pub put_done : (old lent new : List Slot) (size n at byte : ℕ) (now : TextState) → lent ≡ old → n ≡ length old → length new ≡ length lent
     → text_of old size ≡ now → IsText (text_of old size).marked × (length old ≡ (size + 4095) / 4096) → InRegion now.marked.bytes at →
     byte_of new (at - 65536) ≡ byte → ((k : ℕ) → k ≢ at - 65536 → byte_of new k ≡ byte_of lent k)
-    → ((k : ℕ) → mark_of new k ≡ mark_of lent k) → map is_some new ≡ map is_some lent
+    → ((k : ℕ) → mark_in_pages new k ≡ mark_in_pages lent k) → map is_some new ≡ map is_some lent
     → IsClosed (with_byte now.marked at byte).bytes now.marked.marks → IsSeenAs (take n (new ++ drop (length new) old)) size
     (state (with_byte now.marked at byte) now.made)
 put_done old lent new size n at byte now loan many long view kept inside here other marks made closed =
@@ -166,7 +166,7 @@ put_done old lent new size n at byte now loan many long view kept inside here ot
       seen = ap (λ (ps : List Slot). text_of ps size) table
           ∙ (put_seen old new size (at - 65536) byte (omega (arith, inside.0, inside.1, long_old, same)) here
           (λ k ne. other k ne ∙ ap (λ (ps : List Slot). byte_of ps k) loan)
-          (λ k. marks k ∙ ap (λ (ps : List Slot). mark_of ps k) loan)
+          (λ k. marks k ∙ ap (λ (ps : List Slot). mark_in_pages ps k) loan)
           (made ∙ ap (λ (ps : List Slot). map is_some ps) loan)
           ∙ ap (λ (t : TextState). state (with_byte t.marked at byte) t.made) view);
       whole = text_with_byte now.marked at byte (subst (λ (t : TextState). IsText t.marked) view kept.0) closed;
@@ -179,7 +179,7 @@ pub run_done : (old lent new : List Slot) (size n at : ℕ) (bytes : List ℕ) (
     → at - 65536 + length bytes ≤ length now.marked.bytes
     → ((k : ℕ) → k < length bytes → byte_of new (at - 65536 + k) ≡ get_or bytes k 0)
     → ((k : ℕ) → (k < at - 65536) ⊎ (at - 65536 + length bytes ≤ k) → byte_of new k ≡ byte_of lent k)
-    → ((k : ℕ) → mark_of new k ≡ mark_of lent k) → map is_some new ≡ map is_some lent
+    → ((k : ℕ) → mark_in_pages new k ≡ mark_in_pages lent k) → map is_some new ≡ map is_some lent
     → ((count : ℕ) → count ≤ length bytes → IsClosed (with_bytes now.marked at (take count bytes)).bytes now.marked.marks)
     → IsSeenAs (take n (new ++ drop (length new) old)) size (state (with_bytes now.marked at bytes) now.made)
 run_done old lent new size n at bytes now loan many long view kept fits within others marks made closed =
@@ -195,7 +195,7 @@ run_done old lent new size n at bytes now loan many long view kept fits within o
           (λ k low high. subst (λ (j : ℕ). byte_of new j ≡ get_or bytes (k - (at - 65536)) 0) (omega (arith, low))
           (within (k - (at - 65536)) (omega (arith, low, high))))
           (λ k out. others k out ∙ ap (λ (ps : List Slot). byte_of ps k) loan)
-          (λ k. marks k ∙ ap (λ (ps : List Slot). mark_of ps k) loan)
+          (λ k. marks k ∙ ap (λ (ps : List Slot). mark_in_pages ps k) loan)
           (made ∙ ap (λ (ps : List Slot). map is_some ps) loan)
           ∙ ap (λ (t : TextState). state (with_bytes t.marked at bytes) t.made) view);
       whole = text_with_bytes now.marked at bytes fits (subst (λ (t : TextState). IsText t.marked) view kept.0) all;
@@ -206,8 +206,8 @@ run_done old lent new size n at bytes now loan many long view kept fits within o
 pub span_done : (old lent new : List Slot) (size n at : ℕ) (marks : List Mark) (now : TextState) → lent ≡ old → n ≡ length old
     → length new ≡ length lent → text_of old size ≡ now → IsText (text_of old size).marked × (length old ≡ (size + 4095) / 4096) → at -
     65536 + length marks ≤ length now.marked.bytes → ((k : ℕ) → at - 65536 ≤ k → k < at - 65536 + length marks
-    → mark_of new k ≡ get_or marks (k - (at - 65536)) Unmarked) → ((k : ℕ) → k < at - 65536 → mark_of new k ≡ mark_of lent k) →
-    ((k : ℕ) → at - 65536 + length marks ≤ k → mark_of new k ≡ mark_of lent k) → ((k : ℕ) → byte_of new k ≡ byte_of lent k)
+    → mark_in_pages new k ≡ get_or marks (k - (at - 65536)) Unmarked) → ((k : ℕ) → k < at - 65536 → mark_in_pages new k ≡ mark_in_pages lent k) →
+    ((k : ℕ) → at - 65536 + length marks ≤ k → mark_in_pages new k ≡ mark_in_pages lent k) → ((k : ℕ) → byte_of new k ≡ byte_of lent k)
     → map is_some new ≡ map is_some lent → IsClosed now.marked.bytes (with_marks now.marked at marks).marks → IsSeenAs
     (take n (new ++ drop (length new) old)) size (state (with_marks now.marked at marks) now.made)
 span_done old lent new size n at marks now loan many long view kept fits within below above bytes made closed =
@@ -218,8 +218,8 @@ span_done old lent new size n at marks now loan many long view kept fits within 
     record {
       seen = ap (λ (ps : List Slot). text_of ps size) table
           ∙ (span_seen old new size (at - 65536) marks (omega (arith, fits, long_old, same)) within
-          (λ k lt. below k lt ∙ ap (λ (ps : List Slot). mark_of ps k) loan)
-          (λ k past. above k past ∙ ap (λ (ps : List Slot). mark_of ps k) loan)
+          (λ k lt. below k lt ∙ ap (λ (ps : List Slot). mark_in_pages ps k) loan)
+          (λ k past. above k past ∙ ap (λ (ps : List Slot). mark_in_pages ps k) loan)
           (λ k. bytes k ∙ ap (λ (ps : List Slot). byte_of ps k) loan)
           (made ∙ ap (λ (ps : List Slot). map is_some ps) loan)
           ∙ ap (λ (t : TextState). state (with_marks t.marked at marks) t.made) view);
@@ -278,19 +278,19 @@ with_made now new = state now.marked (map is_some new)
 
 -- where only pages were made, bytes and marks are as they were
 pub made_seen : (old lent new : List Slot) (size : ℕ) (now : TextState) → lent ≡ old → text_of old size ≡ now
-    → ((k : ℕ) → byte_of new k ≡ byte_of lent k) → ((k : ℕ) → mark_of new k ≡ mark_of lent k) → text_of new size ≡ with_made now new
+    → ((k : ℕ) → byte_of new k ≡ byte_of lent k) → ((k : ℕ) → mark_in_pages new k ≡ mark_in_pages lent k) → text_of new size ≡ with_made now new
 made_seen old lent new size now loan view bytes marks =
     state_is _ _ _ _ _ _
     (same_all 0 (byte_of old) (byte_of new) size (λ k lt. bytes k ∙ ap (λ (ps : List Slot). byte_of ps k) loan)
     ∙ ap (λ (t : TextState). t.marked.bytes) view)
-    (same_all Unmarked (mark_of old) (mark_of new) size (λ k lt. marks k ∙ ap (λ (ps : List Slot). mark_of ps k) loan)
+    (same_all Unmarked (mark_in_pages old) (mark_in_pages new) size (λ k lt. marks k ∙ ap (λ (ps : List Slot). mark_in_pages ps k) loan)
     ∙ ap (λ (t : TextState). t.marked.marks) view)
     refl
 
 -- pages were made in a table that was lent
 pub make_done : (old lent new : List Slot) (size n : ℕ) (now : TextState) → lent ≡ old → n ≡ length old → length new ≡ length lent
     → text_of old size ≡ now → IsText (text_of old size).marked × (length old ≡ (size + 4095) / 4096) →
-    ((k : ℕ) → byte_of new k ≡ byte_of lent k) → ((k : ℕ) → mark_of new k ≡ mark_of lent k)
+    ((k : ℕ) → byte_of new k ≡ byte_of lent k) → ((k : ℕ) → mark_in_pages new k ≡ mark_in_pages lent k)
     → IsSeenAs (take n (new ++ drop (length new) old)) size (with_made now new)
 make_done old lent new size n now loan many long view kept bytes marks =
     let many_lent : length lent ≡ length old = ap (λ (ps : List Slot). length ps) loan in

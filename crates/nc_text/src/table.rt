@@ -4,10 +4,10 @@ ghost use Rattle.std.specs.Prelude.{◌≡◌, ◌≢◌, ℕ, ◌+◌, ◌/◌,
 ghost use Rattle.std.specs.Prelude.{slice_index, slice_index_or, replicate, ◌^◌};
 ghost use Rattle.nc_decode.specs.declared.instruction.Mark.TheVariants.{Unmarked};
 ghost use Rattle.std.specs.Int.{bit_at};
-ghost use Rattle.nc_decode.specs.Bits.{bit_mark, mark_at};
+ghost use Rattle.nc_decode.specs.Bits.{bit_mark, mark_by_bits};
 ghost use Rattle.std.specs.Option.{is_some};
 ghost use Rattle.nc_text.specs.Marks.{mark_bit};
-ghost use Rattle.nc_text.specs.machinery.Pages.{byte_on, mark_on, byte_of, mark_of, page_of};
+ghost use Rattle.nc_text.specs.machinery.Pages.{byte_on, mark_on, byte_of, mark_in_pages, page_of};
 ghost use Rattle.nc_text.specs.MarkedText.{unused_mark, NamesRegister};
 
 use crate::masks::Masks;
@@ -49,7 +49,7 @@ pub(crate) fn byte(pages: &[Option<Box<Page>>], at: usize) -> u8
 /// The mark at a place.
 pub(crate) fn mark(pages: &[Option<Box<Page>>], at: usize) -> Mark
     requires { at / 4096 < length pages.now }
-    ensures { result ≡ mark_of pages.now at }
+    ensures { result ≡ mark_in_pages pages.now at }
 {
     match &pages[at / PAGE] {
         None => unused_mark(at),
@@ -61,7 +61,7 @@ pub(crate) fn mark(pages: &[Option<Box<Page>>], at: usize) -> Mark
 pub(crate) fn marked(pages: &[Option<Box<Page>>], at: usize) -> u32
     requires inside { at / 4096 < length pages.now }
     requires start { at % 32 ≡ 0 }
-    ensures { (k : ℕ) → k < 32 → bit_at result k ≡ mark_bit (mark_of pages.now (at + k)) }
+    ensures { (k : ℕ) → k < 32 → bit_at result k ≡ mark_bit (mark_in_pages pages.now (at + k)) }
 {
     match &pages[at / PAGE] {
         None => UNUSED,
@@ -85,7 +85,7 @@ pub(crate) fn put(pages: &mut [Option<Box<Page>>], at: usize, byte: u8)
     requires ready { is_some (page_of pages.old at) ≡ true }
     ensures same { byte_of pages.new at ≡ byte }
     ensures other { (k : ℕ) → k ≢ at → byte_of pages.new k ≡ byte_of pages.old k }
-    ensures marks { (k : ℕ) → mark_of pages.new k ≡ mark_of pages.old k }
+    ensures marks { (k : ℕ) → mark_in_pages pages.new k ≡ mark_in_pages pages.old k }
     ensures made { map is_some pages.new ≡ map is_some pages.old }
 {
     if let Some(page) = &mut pages[at / PAGE] {
@@ -99,7 +99,7 @@ pub(crate) fn put_run(pages: &mut [Option<Box<Page>>], at: usize, bytes: &[u8])
     requires one_bundle { at % 32 + length bytes.now ≤ 32 }
     ensures within { (k : ℕ) → k < length bytes.now → byte_of pages.new (at + k) ≡ slice_index bytes.now k }
     ensures others { (k : ℕ) → (k < at) ⊎ (at + length bytes.now ≤ k) → byte_of pages.new k ≡ byte_of pages.old k }
-    ensures marks { (k : ℕ) → mark_of pages.new k ≡ mark_of pages.old k }
+    ensures marks { (k : ℕ) → mark_in_pages pages.new k ≡ mark_in_pages pages.old k }
     ensures made { map is_some pages.new ≡ map is_some pages.old }
 {
     if let Some(page) = &mut pages[at / PAGE] {
@@ -112,8 +112,8 @@ fn set_part(pages: &mut [Option<Box<Page>>], at: usize, marks: &[Mark])
     requires ready { is_some (page_of pages.old at) ≡ true }
     requires one_bundle { at % 32 + length marks.now ≤ 32 }
     requires registers { All NamesRegister marks.now }
-    ensures within { (k : ℕ) → k < length marks.now → mark_of pages.new (at + k) ≡ slice_index_or marks.now k Unmarked }
-    ensures others { (k : ℕ) → (k < at) ⊎ (at + length marks.now ≤ k) → mark_of pages.new k ≡ mark_of pages.old k }
+    ensures within { (k : ℕ) → k < length marks.now → mark_in_pages pages.new (at + k) ≡ slice_index_or marks.now k Unmarked }
+    ensures others { (k : ℕ) → (k < at) ⊎ (at + length marks.now ≤ k) → mark_in_pages pages.new k ≡ mark_in_pages pages.old k }
     ensures bytes { (k : ℕ) → byte_of pages.new k ≡ byte_of pages.old k }
     ensures made { map is_some pages.new ≡ map is_some pages.old }
 {
@@ -127,9 +127,9 @@ pub(crate) fn set_span(pages: &mut [Option<Box<Page>>], start: usize, marks: &[M
     requires ready { (k : ℕ) → k < length marks.now → is_some (page_of pages.old (start + k)) ≡ true }
     requires registers { All NamesRegister marks.now }
     requires fits { start + length marks.now < 2 ^ 63 }
-    ensures within { (k : ℕ) → k < length marks.now → mark_of pages.new (start + k) ≡ slice_index_or marks.now k Unmarked }
-    ensures below { (k : ℕ) → k < start → mark_of pages.new k ≡ mark_of pages.old k }
-    ensures above { (k : ℕ) → start + length marks.now ≤ k → mark_of pages.new k ≡ mark_of pages.old k }
+    ensures within { (k : ℕ) → k < length marks.now → mark_in_pages pages.new (start + k) ≡ slice_index_or marks.now k Unmarked }
+    ensures below { (k : ℕ) → k < start → mark_in_pages pages.new k ≡ mark_in_pages pages.old k }
+    ensures above { (k : ℕ) → start + length marks.now ≤ k → mark_in_pages pages.new k ≡ mark_in_pages pages.old k }
     ensures bytes { (k : ℕ) → byte_of pages.new k ≡ byte_of pages.old k }
     ensures made { map is_some pages.new ≡ map is_some pages.old }
 {
@@ -148,8 +148,8 @@ fn set_bundle(pages: &mut [Option<Box<Page>>], at: usize, bundle: Bundle, code: 
     requires ready { is_some (page_of pages.old at) ≡ true }
     requires whole { at % 32 ≡ 0 }
     requires fits { start + 32 < 2 ^ 63 }
-    ensures within { (k : ℕ) → k < 32 → mark_of pages.new (at + k) ≡ bit_mark bundle k (slice_index code.now (start + k + 1)) }
-    ensures others { (k : ℕ) → (k < at) ⊎ (at + 32 ≤ k) → mark_of pages.new k ≡ mark_of pages.old k }
+    ensures within { (k : ℕ) → k < 32 → mark_in_pages pages.new (at + k) ≡ bit_mark bundle k (slice_index code.now (start + k + 1)) }
+    ensures others { (k : ℕ) → (k < at) ⊎ (at + 32 ≤ k) → mark_in_pages pages.new k ≡ mark_in_pages pages.old k }
     ensures bytes { (k : ℕ) → byte_of pages.new k ≡ byte_of pages.old k }
     ensures made { map is_some pages.new ≡ map is_some pages.old }
 {
@@ -169,9 +169,9 @@ pub(crate) fn set_bundles(
     requires start { base % 32 ≡ 0 }
     requires whole { length code.now % 32 ≡ 0 }
     requires fits { base + length code.now < 2 ^ 62 }
-    ensures within { (k : ℕ) → k < length code.now → mark_of pages.new (base + k) ≡ mark_at code.now bundles.now k }
-    ensures below { (k : ℕ) → k < base → mark_of pages.new k ≡ mark_of pages.old k }
-    ensures above { (k : ℕ) → base + length code.now ≤ k → mark_of pages.new k ≡ mark_of pages.old k }
+    ensures within { (k : ℕ) → k < length code.now → mark_in_pages pages.new (base + k) ≡ mark_by_bits code.now bundles.now k }
+    ensures below { (k : ℕ) → k < base → mark_in_pages pages.new k ≡ mark_in_pages pages.old k }
+    ensures above { (k : ℕ) → base + length code.now ≤ k → mark_in_pages pages.new k ≡ mark_in_pages pages.old k }
     ensures bytes { (k : ℕ) → byte_of pages.new k ≡ byte_of pages.old k }
     ensures made { map is_some pages.new ≡ map is_some pages.old }
 {
@@ -190,8 +190,8 @@ pub(crate) fn set_bundles(
 fn unmark_part(pages: &mut [Option<Box<Page>>], at: usize, len: usize)
     requires inside { at / 4096 < length pages.old }
     requires one_bundle { at % 32 + len ≤ 32 }
-    ensures within { (k : ℕ) → k < len → mark_of pages.new (at + k) ≡ unused_mark (at + k) }
-    ensures others { (k : ℕ) → (k < at) ⊎ (at + len ≤ k) → mark_of pages.new k ≡ mark_of pages.old k }
+    ensures within { (k : ℕ) → k < len → mark_in_pages pages.new (at + k) ≡ unused_mark (at + k) }
+    ensures others { (k : ℕ) → (k < at) ⊎ (at + len ≤ k) → mark_in_pages pages.new k ≡ mark_in_pages pages.old k }
     ensures bytes { (k : ℕ) → byte_of pages.new k ≡ byte_of pages.old k }
     ensures made { map is_some pages.new ≡ map is_some pages.old }
 {
@@ -204,9 +204,9 @@ fn unmark_part(pages: &mut [Option<Box<Page>>], at: usize, len: usize)
 pub(crate) fn unmark(pages: &mut [Option<Box<Page>>], start: usize, len: usize)
     requires fits { start + len < 2 ^ 63 }
     requires inside { (k : ℕ) → k < len → (start + k) / 4096 < length pages.old }
-    ensures within { (k : ℕ) → start ≤ k → k < start + len → mark_of pages.new k ≡ unused_mark k }
-    ensures below { (k : ℕ) → k < start → mark_of pages.new k ≡ mark_of pages.old k }
-    ensures above { (k : ℕ) → start + len ≤ k → mark_of pages.new k ≡ mark_of pages.old k }
+    ensures within { (k : ℕ) → start ≤ k → k < start + len → mark_in_pages pages.new k ≡ unused_mark k }
+    ensures below { (k : ℕ) → k < start → mark_in_pages pages.new k ≡ mark_in_pages pages.old k }
+    ensures above { (k : ℕ) → start + len ≤ k → mark_in_pages pages.new k ≡ mark_in_pages pages.old k }
     ensures bytes { (k : ℕ) → byte_of pages.new k ≡ byte_of pages.old k }
     ensures made { map is_some pages.new ≡ map is_some pages.old }
 {
@@ -241,7 +241,7 @@ pub(crate) fn make(
     ensures needed { (i : ℕ) → is_some (slice_index_or pages.new i None) ≡ true
         → (is_some (slice_index_or pages.old i None) ≡ true) ⊎ ((first ≤ i) × (i < last)) }
     ensures bytes { (k : ℕ) → byte_of pages.new k ≡ byte_of pages.old k }
-    ensures marks { (k : ℕ) → mark_of pages.new k ≡ mark_of pages.old k }
+    ensures marks { (k : ℕ) → mark_in_pages pages.new k ≡ mark_in_pages pages.old k }
 {
     for i in first..last {
         let missing = pages[i].is_none();

@@ -8,11 +8,11 @@ use Rattle.std.proofs.lemmas.Nat.Bits.{bit_at-suc, bit_at-trailing_zeros, bit_at
 use Rattle.std.proofs.lemmas.Nat.Bits.{bit_at_cat_low, bit_at_cat_high}
 use Rattle.nc_decode.proofs.Offered.{true_or_false}
 use Rattle.nc_decode.specs.declared.bundle.Bundle.{Bundle}
-use Rattle.nc_decode.specs.Bits.{is_start, is_second, no_bits}
+use Rattle.nc_decode.specs.Bits.{starts_instruction, is_second, no_bits}
 use Rattle.nc_vet.specs.machinery.Judged.{short_to, near_to, IsGood, AreGoodShorts, AreGoodNears, IsJudged, AreJudged}
 
 -- a start, by the word that is shifted by one
-pub start_bit : (w : Bundle) (k starts : ℕ) → starts ≡ 2 * w.ends + 1 → bit_and (starts / 2 ^ k) 1 ≡ 1 → is_start w k ≡ true
+pub start_bit : (w : Bundle) (k starts : ℕ) → starts ≡ 2 * w.ends + 1 → bit_and (starts / 2 ^ k) 1 ≡ 1 → starts_instruction w k ≡ true
 start_bit w zero starts is e = refl
 start_bit w (suc j) starts is e =
     let there : j ≡ suc j - 1 = omega arith in

@@ -18,8 +18,8 @@ use Rattle.nc_decode.proofs.Offered.{spells_some}
 use Rattle.nc_decode.specs.declared.bundle.Bundle.{Bundle}
 use Rattle.nc_vet.specs.Chunk.{Piece, code_of, place, AreSpelled, FollowsMask, marks_of, IsTarget}
 use Rattle.nc_vet.specs.machinery.Steps.{HasReadTo, HasReadAll, HasJudged}
-use Rattle.nc_decode.specs.Bits.{is_start, is_second, no_bits, mark_at, marks_in}
-use Rattle.nc_vet.specs.machinery.Running.{state_after, before, Tells, AreTold, EndsFront}
+use Rattle.nc_decode.specs.Bits.{starts_instruction, is_second, no_bits, mark_by_bits, marks_in}
+use Rattle.nc_vet.specs.machinery.Running.{state_after, state_before, TellsBundle, AreTold, EndsFront}
 use Rattle.nc_vet.specs.machinery.Scans.{AreStates, second, mark_by, IsDisplaced, IsScanned}
 use Rattle.nc_vet.specs.machinery.Judged.{short_to, near_to, IsGood, AreJudged}
 use Rattle.nc_vet.proofs.Pieces.{code_of-push, length-marks_of, piece_some, place-push}
@@ -30,7 +30,7 @@ use Rattle.nc_vet.proofs.Scanning.{scans}
 
 -- the bundle of a place is told
 told_at : (code : List ℕ) (bundles : List Bundle) (k : ℕ) → AreTold code bundles → k < 32 * length bundles
-    → Tells code (32 * (k / 32)) (get_or bundles (k / 32) no_bits)
+    → TellsBundle code (32 * (k / 32)) (get_or bundles (k / 32) no_bits)
 told_at code bundles k t lt = (t (k / 32) (omega (arith, lt))).0
 
 -- the states after the places, where bundles are told and an instruction ends at a place in the one after them
@@ -132,7 +132,7 @@ no_bit : (n k : ℕ) → n < 2 ^ 32 → k ≡ 32 → (bit_at n k == 1) ≡ false
 no_bit n k small is = ap (λ (b : ℕ). b == 1) (bit_at_above n 32 k small (omega (arith, is)))
 
 -- the bit of a second half tells what the states do
-second_told : (code : List ℕ) (bundles : List Bundle) (k : ℕ) → Tells code (32 * (k / 32)) (get_or bundles (k / 32) no_bits)
+second_told : (code : List ℕ) (bundles : List Bundle) (k : ℕ) → TellsBundle code (32 * (k / 32)) (get_or bundles (k / 32) no_bits)
     → is_second (get_or bundles (k / 32) no_bits) (k % 32) ≡ second (state_after code) k
 second_told code bundles k w = elim (cases_lt (k % 32) 31) [
   | inl inner ↦
@@ -151,8 +151,8 @@ second_told code bundles k w = elim (cases_lt (k % 32) 31) [
         go false e = e
 
 -- so does the bit of a start
-start_told : (code : List ℕ) (bundles : List Bundle) (k : ℕ) → Tells code (32 * (k / 32)) (get_or bundles (k / 32) no_bits)
-    → is_start (get_or bundles (k / 32) no_bits) (k % 32) ≡ nat_le END (before (state_after code) k)
+start_told : (code : List ℕ) (bundles : List Bundle) (k : ℕ) → TellsBundle code (32 * (k / 32)) (get_or bundles (k / 32) no_bits)
+    → starts_instruction (get_or bundles (k / 32) no_bits) (k % 32) ≡ nat_le END (state_before (state_after code) k)
 start_told code bundles k w = elim (true_or_false (k % 32 == 0)) [
   | inl first ↦ rw first refl
   | inr inner ↦
@@ -161,8 +161,8 @@ start_told code bundles k w = elim (true_or_false (k % 32 == 0)) [
 ]
 
 -- so the mark by the bits is that by the states
-mark_told : (code : List ℕ) (bundles : List Bundle) (k : ℕ) → Tells code (32 * (k / 32)) (get_or bundles (k / 32) no_bits)
-    → mark_at code bundles k ≡ mark_by (state_after code) code k
+mark_told : (code : List ℕ) (bundles : List Bundle) (k : ℕ) → TellsBundle code (32 * (k / 32)) (get_or bundles (k / 32) no_bits)
+    → mark_by_bits code bundles k ≡ mark_by (state_after code) code k
 mark_told code bundles k w = rw (second_told code bundles k w, start_told code bundles k w) refl
 
 -- ---- the reading

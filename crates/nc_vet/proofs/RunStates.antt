@@ -15,7 +15,7 @@ use Rattle.nc_decode.specs.Automaton.{next_state}
 use Rattle.nc_decode.proofs.Offered.{true_or_false}
 use Rattle.nc_decode.specs.declared.bundle.Bundle.{Bundle}
 use Rattle.nc_decode.specs.Bits.{no_bits}
-use Rattle.nc_vet.specs.machinery.Running.{run, state_after, before, TellsStates, entered, HasRun, Tells, AreTold, EndsFront}
+use Rattle.nc_vet.specs.machinery.Running.{run, state_after, state_before, TellsStates, entered, HasRun, TellsBundle, AreTold, EndsFront}
 
 -- one more byte of a run
 run_more : (s : ℕ) (bs : List ℕ) (b : ℕ) → run s (bs ++ b ∷ []) ≡ next_state (run s bs) b
@@ -23,7 +23,7 @@ run_more s [] b = refl
 run_more s (c ∷ bs) b = run_more (next_state s c) bs b
 
 -- the run before a place is the state there
-run_before : (code : List ℕ) (k : ℕ) → run END (take (k % 32) (drop (k - k % 32) code)) ≡ before (state_after code) k
+run_before : (code : List ℕ) (k : ℕ) → run END (take (k % 32) (drop (k - k % 32) code)) ≡ state_before (state_after code) k
 unfolding state_after
 run_before code k = elim (true_or_false (k % 32 == 0)) [
   | inl first ↦ rw first (ap (λ (n : ℕ). run END (take n (drop (k - k % 32) code))) {y = 0} (eqb-true _ 0 first))
@@ -35,7 +35,7 @@ run_before code k = elim (true_or_false (k % 32 == 0)) [
 ]
 
 -- each state is the next
-pub state_next : (code : List ℕ) (k : ℕ) → k < length code → state_after code k ≡ next_state (before (state_after code) k)
+pub state_next : (code : List ℕ) (k : ℕ) → k < length code → state_after code k ≡ next_state (state_before (state_after code) k)
     (get_or code k 0)
 unfolding state_after
 state_next code k lt =
@@ -44,13 +44,13 @@ state_next code k lt =
     ap (λ (z : List ℕ). run END z) (take_more (drop (k - k % 32) code) (k % 32) 0 in_rest)
     ∙ run_more END (take (k % 32) (drop (k - k % 32) code)) (get_or (drop (k - k % 32) code) (k % 32) 0)
     ∙ ap (λ (s : ℕ). next_state s (get_or (drop (k - k % 32) code) (k % 32) 0)) (run_before code k)
-    ∙ ap (λ (b : ℕ). next_state (before (state_after code) k) b)
+    ∙ ap (λ (b : ℕ). next_state (state_before (state_after code) k) b)
     (get_or-drop (k - k % 32) code (k % 32) 0 ∙ ap (λ (j : ℕ). get_or code j 0) (omega arith))
 
 -- ---- a lane
 
 -- the state that a lane has is the one before its next byte
-entered_before : (code : List ℕ) (at i : ℕ) → at % 32 ≡ 0 → i < 32 → entered code at i ≡ before (state_after code) (at + i)
+entered_before : (code : List ℕ) (at i : ℕ) → at % 32 ≡ 0 → i < 32 → entered code at i ≡ state_before (state_after code) (at + i)
 entered_before code at i start lt = elim (true_or_false (i == 0)) [
   | inl first ↦
       (let is : (at + i) % 32 ≡ 0 = omega (arith, start, eqb-true i 0 first) in
@@ -109,7 +109,7 @@ run_stepped code at i state byte after states more start lt in_code h is to set_
 
 -- all of a bundle
 pub run_told : (code : List ℕ) (at i state : ℕ) (states : List ℕ) (w : Bundle) → i ≡ 32 → HasRun code at i state states
-    → TellsStates states w → Tells code at w
+    → TellsStates states w → TellsBundle code at w
 run_told code at i state states w end h t = record {
   ends = λ k lt. t.ends k lt ∙ ap (λ (s : ℕ). nat_le END s) (h.each k (omega (arith, lt, end)));
   pairs = λ k lt. t.pairs k lt ∙ ap (λ (s : ℕ). s == AFTER_PAIR) (h.each k (omega (arith, lt, end)));
@@ -119,14 +119,14 @@ run_told code at i state states w end h t = record {
 }
 
 -- the same place
-pub moved : (code : List ℕ) (j k : ℕ) (w : Bundle) → j ≡ k → Tells code j w → Tells code k w
-moved code j k w e i = subst (λ (m : ℕ). Tells code m w) e i
+pub moved : (code : List ℕ) (j k : ℕ) (w : Bundle) → j ≡ k → TellsBundle code j w → TellsBundle code k w
+moved code j k w e i = subst (λ (m : ℕ). TellsBundle code m w) e i
 
 -- eight bundles
-pub eight_told : (code : List ℕ) (at : ℕ) (a b c d e f g h : Bundle) → Tells code at a → Tells code (at + 32) b → Tells code (at + 64) c
-    → Tells code (at + 96) d
-    → Tells code (at + 128) e → Tells code (at + 160) f → Tells code (at + 192) g → Tells code (at + 224) h
-    → (n : ℕ) → n < 8 → Tells code (at + 32 * n) (get_or (a ∷ b ∷ c ∷ d ∷ e ∷ f ∷ g ∷ h ∷ []) n no_bits)
+pub eight_told : (code : List ℕ) (at : ℕ) (a b c d e f g h : Bundle) → TellsBundle code at a → TellsBundle code (at + 32) b → TellsBundle code (at + 64) c
+    → TellsBundle code (at + 96) d
+    → TellsBundle code (at + 128) e → TellsBundle code (at + 160) f → TellsBundle code (at + 192) g → TellsBundle code (at + 224) h
+    → (n : ℕ) → n < 8 → TellsBundle code (at + 32 * n) (get_or (a ∷ b ∷ c ∷ d ∷ e ∷ f ∷ g ∷ h ∷ []) n no_bits)
 eight_told code at a b c d e f g h p q r s t u v w zero lt = moved code at (at + 32 * zero) a (omega arith) p
 eight_told code at a b c d e f g h p q r s t u v w (suc zero) lt = moved code (at + 32) (at + 32 * suc zero) b (omega arith) q
 eight_told code at a b c d e f g h p q r s t u v w (suc (suc zero)) lt = moved code (at + 64) (at + 32 * suc (suc zero)) c (omega arith) r
@@ -143,10 +143,10 @@ eight_told code at a b c d e f g h p q r s t u v w (suc (suc (suc (suc (suc (suc
 eight_told code at a b c d e f g h p q r s t u v w (suc (suc (suc (suc (suc (suc (suc (suc n)))))))) lt = absurd (omega (arith, lt))
 
 -- four bundles, of which those in the code are looked at
-pub four_told : (code : List ℕ) (at : ℕ) (v w x y : Bundle) → Tells code at v
-    → (at + 32 < length code → Tells code (at + 32) w) → (at + 64 < length code → Tells code (at + 64) x)
-    → (at + 96 < length code → Tells code (at + 96) y)
-    → (n : ℕ) → n < 4 → at + 32 * n < length code → Tells code (at + 32 * n) (get_or (v ∷ w ∷ x ∷ y ∷ []) n no_bits)
+pub four_told : (code : List ℕ) (at : ℕ) (v w x y : Bundle) → TellsBundle code at v
+    → (at + 32 < length code → TellsBundle code (at + 32) w) → (at + 64 < length code → TellsBundle code (at + 64) x)
+    → (at + 96 < length code → TellsBundle code (at + 96) y)
+    → (n : ℕ) → n < 4 → at + 32 * n < length code → TellsBundle code (at + 32 * n) (get_or (v ∷ w ∷ x ∷ y ∷ []) n no_bits)
 four_told code at v w x y p q r s zero lt in_code = moved code at (at + 32 * zero) v (omega arith) p
 four_told code at v w x y p q r s (suc zero) lt in_code = moved code (at + 32) (at + 32 * suc zero) w (omega arith)
     (q (omega (arith, in_code)))
@@ -159,13 +159,13 @@ four_told code at v w x y p q r s (suc (suc (suc (suc n)))) lt in_code = absurd 
 -- ---- all bundles
 
 -- an instruction ends with a bundle whose last bit says so
-whole_told : (code : List ℕ) (at : ℕ) (w : Bundle) → Tells code at w → bit_at w.ends 31 ≡ 1 → END ≤ state_after code (at + 31)
+whole_told : (code : List ℕ) (at : ℕ) (w : Bundle) → TellsBundle code at w → bit_at w.ends 31 ≡ 1 → END ≤ state_after code (at + 31)
 whole_told code at w t last = leb-true END (state_after code (at + 31)) (sym (t.ends 31 (omega arith)) ∙ eq-eqb (bit_at w.ends 31) 1 last)
 
 -- more bundles after those that were read, of which the first are whole
 pub told_more : (code : List ℕ) (bundles more items : List Bundle) (count : ℕ) → AreTold code bundles → items ≡ bundles ++ take count more
     → count ≤ length more
-    → ((n : ℕ) → n < count → Tells code (32 * length bundles + 32 * n) (get_or more n no_bits))
+    → ((n : ℕ) → n < count → TellsBundle code (32 * length bundles + 32 * n) (get_or more n no_bits))
     → ((n : ℕ) → n < count → bit_at (get_or more n no_bits).ends 31 ≡ 1)
     → AreTold code items × (length items ≡ length bundles + count)
 told_more code bundles more items count t is le f whole = (
@@ -179,7 +179,7 @@ told_more code bundles more items count t is le f whole = (
 
     all : AreTold code (bundles ++ take count more)
     all n lt = elim (cases_lt n (length bundles)) [
-      | inl earlier ↦ subst (λ (w : Bundle). Tells code (32 * n) w × (END ≤ state_after code (32 * n + 31)))
+      | inl earlier ↦ subst (λ (w : Bundle). TellsBundle code (32 * n) w × (END ≤ state_after code (32 * n + 31)))
           (sym (get_or_append_left bundles (take count more) no_bits n earlier)) (t n earlier)
       | inr later ↦
           (let m : ℕ = n - length bundles in
@@ -190,13 +190,13 @@ told_more code bundles more items count t is le f whole = (
           ∙ get_or-take count more (n - length bundles) no_bits m-lt in
           let tells = moved code (32 * length bundles + 32 * (n - length bundles)) (32 * n)
           (get_or more (n - length bundles) no_bits) here (f (n - length bundles) m-lt) in
-          subst (λ (w : Bundle). Tells code (32 * n) w × (END ≤ state_after code (32 * n + 31))) (sym word)
+          subst (λ (w : Bundle). TellsBundle code (32 * n) w × (END ≤ state_after code (32 * n + 31))) (sym word)
           (tells, whole_told code (32 * n) (get_or more (n - length bundles) no_bits) tells (whole (n - length bundles) m-lt)))
     ]
 
 -- where reading stops in a bundle
 pub stopped : (code : List ℕ) (bundles : List Bundle) (w : Bundle) (at end : ℕ) → AreTold code bundles → at ≡ 32 * length bundles
-    → at + 32 ≤ length code → Tells code at w → at ≤ end → end ≤ at + 32
+    → at + 32 ≤ length code → TellsBundle code at w → at ≤ end → end ≤ at + 32
     → (at < end → (bit_at w.ends (end - at - 1) ≡ 1) × (slice_index code (end - 1) ≢ 0xE0)) → EndsFront code bundles end
 stopped code bundles w at end told here room t low near ended = record {
   told = told;

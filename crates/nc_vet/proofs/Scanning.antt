@@ -11,7 +11,7 @@ use Rattle.nc_decode.specs.declared.automaton.TheConstants.{STATES, END, AFTER_P
 use Rattle.nc_decode.specs.declared.instruction.Instr.{Instr}
 use Rattle.nc_decode.specs.declared.instruction.Mark.{Mark}
 use Rattle.nc_decode.specs.declared.instruction.Mark.TheVariants.{Unmarked, Plain, After}
-use Rattle.nc_decode.specs.Automaton.{next_state, masked_at, Leads, Ends}
+use Rattle.nc_decode.specs.Automaton.{next_state, masked_at, LeadsToEnd, Ends}
 use Rattle.nc_decode.specs.Transfers.{is_direct, is_indirect}
 use Rattle.nc_decode.proofs.Offered.{spells_some}
 use Rattle.nc_decode.proofs.Offered.{true_or_false, both, cond_is_true, cond_is_false}
@@ -19,7 +19,7 @@ use Rattle.nc_decode.proofs.Offered.{reads_by_states, none_is_paired}
 use Rattle.nc_decode.proofs.Offered.{next_small}
 use Rattle.nc_vet.specs.Chunk.{Piece, code_of, place, FollowsMask, mark_of, instr_marks, marks_of}
 use Rattle.nc_vet.specs.Faults.{IsSoundFront}
-use Rattle.nc_vet.specs.machinery.Running.{before}
+use Rattle.nc_vet.specs.machinery.Running.{state_before}
 use Rattle.nc_vet.specs.machinery.Scans.{AreStates, second, mark_by, IsDisplaced, Scans}
 use Rattle.nc_vet.proofs.Splits.{split_none, split_push}
 use Rattle.nc_vet.proofs.Pieces.{code_of-push, place-push, marks_of-push, length-marks_of, none_sound, sound_push, rest_is}
@@ -27,26 +27,26 @@ use Rattle.nc_vet.proofs.Pieces.{code_of-push, place-push, marks_of-push, length
 -- ---- the states
 
 -- the state before a place that begins no bundle
-before_inner : (S : ℕ → ℕ) (k : ℕ) → k % 32 ≢ 0 → before S k ≡ S (k - 1)
+before_inner : (S : ℕ → ℕ) (k : ℕ) → k % 32 ≢ 0 → state_before S k ≡ S (k - 1)
 before_inner S k h = go (k % 32 == 0) refl
   where
-    go : (b : Bool) → (k % 32 == 0) ≡ b → before S k ≡ S (k - 1)
+    go : (b : Bool) → (k % 32 == 0) ≡ b → state_before S k ≡ S (k - 1)
     go true e = absurd (h (eqb-true _ 0 e))
     go false e = rw e refl
 
 -- the state before a bundle
-before_first : (S : ℕ → ℕ) (k : ℕ) → k % 32 ≡ 0 → before S k ≡ END
+before_first : (S : ℕ → ℕ) (k : ℕ) → k % 32 ≡ 0 → state_before S k ≡ END
 before_first S k h = rw h refl
 
 -- each state is small
 state_small : (code : List ℕ) (to : ℕ) (S : ℕ → ℕ) (k : ℕ) → AreStates code to S → k < length code → S k < STATES
-state_small code to S k a lt = omega (arith, a.next k lt, next_small (before S k) (get_or code k 0))
+state_small code to S k a lt = omega (arith, a.next k lt, next_small (state_before S k) (get_or code k 0))
 
 -- so is the state before each place
-before_small : (code : List ℕ) (to : ℕ) (S : ℕ → ℕ) (k : ℕ) → AreStates code to S → k < length code → before S k < STATES
+before_small : (code : List ℕ) (to : ℕ) (S : ℕ → ℕ) (k : ℕ) → AreStates code to S → k < length code → state_before S k < STATES
 before_small code to S k a lt = go (k % 32 == 0) refl
   where
-    go : (b : Bool) → (k % 32 == 0) ≡ b → before S k < STATES
+    go : (b : Bool) → (k % 32 == 0) ≡ b → state_before S k < STATES
     go true e = rw e (omega arith)
     go false e = rw e (state_small code to S (k - 1) a (omega (arith, lt)))
 
@@ -65,7 +65,7 @@ second_inside code to S k a lt e =
     let in_bundle : k % 32 < 31 = ltb-true (k % 32) 31 w.0 in
     let in_code : k + 1 < length code = omega (arith, in_bundle, a.bundles, lt) in
     let pair : S (k + 1) ≡ AFTER_PAIR = eqb-true (S (k + 1)) AFTER_PAIR w.1 in
-    let inner : before S (k + 1) ≡ S (k + 1 - 1) = before_inner S (k + 1) (λ z. omega (arith, z, in_bundle)) in
+    let inner : state_before S (k + 1) ≡ S (k + 1 - 1) = before_inner S (k + 1) (λ z. omega (arith, z, in_bundle)) in
     let same : S (k + 1 - 1) ≡ S k = ap S (omega arith) in (
       elim (cases_lt (S k) END) [
         | inl inside ↦ inside
@@ -79,32 +79,32 @@ second_inside code to S k a lt e =
 -- ---- one instruction
 
 -- one more byte before a run
-leads_more : (s c e : ℕ) (bs : List ℕ) → next_state s c < END → Leads (next_state s c) bs e → Leads s (c ∷ bs) e
+leads_more : (s c e : ℕ) (bs : List ℕ) → next_state s c < END → LeadsToEnd (next_state s c) bs e → LeadsToEnd s (c ∷ bs) e
 leads_more s c e [] lt l = absurd l
 leads_more s c e (b ∷ bs) lt l = (lt, l)
 
 -- bytes from one end to the next
-leads_from : (code : List ℕ) (to : ℕ) (S : ℕ → ℕ) → AreStates code to S → (n b s : ℕ) → b + n < to → s ≡ before S b
+leads_from : (code : List ℕ) (to : ℕ) (S : ℕ → ℕ) → AreStates code to S → (n b s : ℕ) → b + n < to → s ≡ state_before S b
     → ((k : ℕ) → b ≤ k → k < b + n → S k < END) → END ≤ S (b + n)
-    → Leads s (take (suc n) (drop b code)) (S (b + n))
+    → LeadsToEnd s (take (suc n) (drop b code)) (S (b + n))
 leads_from code to S a zero b s lt is inner ended =
     let here : b + 0 ≡ b = omega arith in
     let first : drop b code ≡ get_or code b 0 ∷ drop (b + 1) code = drop_more code b 0 (omega (arith, lt, a.within)) in
-    subst (λ (z : List ℕ). Leads s (take (suc zero) z) (S (b + 0))) (sym first)
+    subst (λ (z : List ℕ). LeadsToEnd s (take (suc zero) z) (S (b + 0))) (sym first)
     (ap S here ∙ a.next b (omega (arith, lt, a.within)) ∙ ap (λ (t : ℕ). next_state t (get_or code b 0)) (sym is), ended)
 leads_from code to S a (suc n) b s lt is inner ended =
     let b-lt : b < length code = omega (arith, lt, a.within) in
     let first : drop b code ≡ get_or code b 0 ∷ drop (b + 1) code = drop_more code b 0 b-lt in
     let state : next_state s (get_or code b 0) ≡ S b = ap (λ (t : ℕ). next_state t (get_or code b 0)) is ∙ sym (a.next b b-lt) in
     let low : S b < END = inner b (omega arith) (omega arith) in
-    let next : S b ≡ before S (b + 1) = ap S {y = b + 1 - 1} (omega arith)
+    let next : S b ≡ state_before S (b + 1) = ap S {y = b + 1 - 1} (omega arith)
     ∙ sym (before_inner S (b + 1) (λ z. omega (arith, z, inner_place code to S b a (omega (arith, lt)) low))) in
     let there : b + 1 + n ≡ b + suc n = omega arith in
     let rest = leads_from code to S a n (b + 1) (next_state s (get_or code b 0)) (omega (arith, lt)) (state ∙ next)
     (λ k lo hi. inner k (omega (arith, lo)) (omega (arith, hi))) (subst (λ (j : ℕ). END ≤ S j) (sym there) ended) in
-    subst (λ (z : List ℕ). Leads s (take (suc (suc n)) z) (S (b + suc n))) (sym first)
+    subst (λ (z : List ℕ). LeadsToEnd s (take (suc (suc n)) z) (S (b + suc n))) (sym first)
     (leads_more s (get_or code b 0) (S (b + suc n)) (take (suc n) (drop (b + 1) code)) (omega (arith, state, low))
-    (subst (λ (j : ℕ). Leads (next_state s (get_or code b 0)) (take (suc n) (drop (b + 1) code)) (S j)) there rest))
+    (subst (λ (j : ℕ). LeadsToEnd (next_state s (get_or code b 0)) (take (suc n) (drop (b + 1) code)) (S j)) there rest))
 
 -- what has been scanned so far
 record Scanned (code : List ℕ) (S : ℕ → ℕ) (at : ℕ) : Type 0 where
@@ -113,8 +113,8 @@ record Scanned (code : List ℕ) (S : ℕ → ℕ) (at : ℕ) : Type 0 where
   reads : IsSoundFront code rest front
   here : place front ≤ at
   inner : (k : ℕ) → place front ≤ k → k < at → S k < END
-  begins : END ≤ before S (place front)
-  masks : (r : ℕ) → masked_at (before S (place front)) ≡ Some r → FollowsMask front r
+  begins : END ≤ state_before S (place front)
+  masks : (r : ℕ) → masked_at (state_before S (place front)) ≡ Some r → FollowsMask front r
   marks : (k : ℕ) → k < place front → get_or (marks_of front) k Unmarked ≡ mark_by S code k
   direct : (b a : List Piece) (p : Piece) → front ≡ b ++ p ∷ a → IsTrue (is_direct p.instr.flow)
       → IsDisplaced S code (place b + length p.bytes) p.instr
@@ -138,7 +138,7 @@ none_scanned code S = record {
 -- an instruction from one place to another, by the states
 record Read (code : List ℕ) (S : ℕ → ℕ) (b at : ℕ) : Type 0 where
   instr : Instr
-  ends : Ends (before S b) (S at) (take (suc (at - b)) (drop b code)) instr
+  ends : Ends (state_before S b) (S at) (take (suc (at - b)) (drop b code)) instr
   inside : b % 32 + suc (at - b) ≤ 32
   long : length (take (suc (at - b)) (drop b code)) ≡ suc (at - b)
 
@@ -147,14 +147,14 @@ abbrev AllInside : (ℕ → ℕ) → ℕ → ℕ → Type 0
 AllInside S b at = (k : ℕ) → b ≤ k → k < at → S k < END
 
 -- what ends there is an instruction
-read_from : (code : List ℕ) (to : ℕ) (S : ℕ → ℕ) (b at : ℕ) → AreStates code to S → b ≤ at → at < to → AllInside S b at → END ≤ before S b
+read_from : (code : List ℕ) (to : ℕ) (S : ℕ → ℕ) (b at : ℕ) → AreStates code to S → b ≤ at → at < to → AllInside S b at → END ≤ state_before S b
     → END ≤ S at → Read code S b at
 read_from code to S b at a le lt inner begins ended =
     let sum : b + (at - b) ≡ at = omega arith in
-    let leads = leads_from code to S a (at - b) b (before S b) (omega (arith, lt)) refl (λ k lo hi. inner k lo (omega (arith, hi)))
+    let leads = leads_from code to S a (at - b) b (state_before S b) (omega (arith, lt)) refl (λ k lo hi. inner k lo (omega (arith, hi)))
     (subst (λ (j : ℕ). END ≤ S j) (sym sum) ended) in
-    let there : Leads (before S b) (take (suc (at - b)) (drop b code)) (S at) = subst
-    (λ (j : ℕ). Leads (before S b) (take (suc (at - b)) (drop b code)) (S j)) sum leads in
+    let there : LeadsToEnd (state_before S b) (take (suc (at - b)) (drop b code)) (S at) = subst
+    (λ (j : ℕ). LeadsToEnd (state_before S b) (take (suc (at - b)) (drop b code)) (S j)) sum leads in
     let long : length (take (suc (at - b)) (drop b code)) ≡ suc (at - b) = length-take-le (suc (at - b)) (drop b code)
     (omega (arith, length-drop b code, lt, a.within)) in
     let fits : All (λ x. x < 256) (take (suc (at - b)) (drop b code)) = λ k d k-lt. (
@@ -162,7 +162,7 @@ read_from code to S b at a le lt inner begins ended =
     let is : get_or (take (suc (at - b)) (drop b code)) k d ≡ get_or code (b + k) d = get_or-take (suc (at - b)) (drop b code) k d in_take
     ∙ get_or-drop b code k d in
     omega (arith, is, a.bytes (b + k) d (omega (arith, in_take, lt, a.within)))) in
-    let r = reads_by_states (before S b) (S at) (take (suc (at - b)) (drop b code)) begins
+    let r = reads_by_states (state_before S b) (S at) (take (suc (at - b)) (drop b code)) begins
     (before_small code to S b a (omega (arith, lt, a.within))) fits there in
     record {
       instr = r.0;
@@ -228,12 +228,12 @@ not_true true h = absurd (h refl)
 not_true false h = refl
 
 -- a mark by the states is plain
-plain_by : (S : ℕ → ℕ) (code : List ℕ) (k : ℕ) → second S k ≡ false → END ≤ before S k → mark_by S code k ≡ Plain
-plain_by S code k e low = rw (e, le-leb END (before S k) low) refl
+plain_by : (S : ℕ → ℕ) (code : List ℕ) (k : ℕ) → second S k ≡ false → END ≤ state_before S k → mark_by S code k ≡ Plain
+plain_by S code k e low = rw (e, le-leb END (state_before S k) low) refl
 
 -- or there is none
-unmarked_by : (S : ℕ → ℕ) (code : List ℕ) (k : ℕ) → second S k ≡ false → before S k < END → mark_by S code k ≡ Unmarked
-unmarked_by S code k e low = rw (e, not_true (nat_le END (before S k)) (λ h. omega (arith, leb-true END (before S k) h, low))) refl
+unmarked_by : (S : ℕ → ℕ) (code : List ℕ) (k : ℕ) → second S k ≡ false → state_before S k < END → mark_by S code k ≡ Unmarked
+unmarked_by S code k e low = rw (e, not_true (nat_le END (state_before S k)) (λ h. omega (arith, leb-true END (state_before S k) h, low))) refl
 
 -- or it is that of a second half
 after_by : (S : ℕ → ℕ) (code : List ℕ) (k : ℕ) → second S k ≡ true → mark_by S code k ≡ After (get_or code (k + 1) 0 % 8)
@@ -263,7 +263,7 @@ second_only code to S b at k a le lt inner ended r lo hi e =
     (omega (arith, two, r.long, at_is), omega (arith, two, r.long, le), pair)
 
 -- where it begins
-first_mark : (code : List ℕ) (to : ℕ) (S : ℕ → ℕ) (b at : ℕ) → AreStates code to S → b ≤ at → at < to → AllInside S b at → END ≤ before S b
+first_mark : (code : List ℕ) (to : ℕ) (S : ℕ → ℕ) (b at : ℕ) → AreStates code to S → b ≤ at → at < to → AllInside S b at → END ≤ state_before S b
     → END ≤ S at → (r : Read code S b at) → mark_of r.instr ≡ mark_by S code b
 first_mark code to S b at a le lt inner begins ended r =
     elim (true_or_false (S at == AFTER_PAIR)) [
@@ -291,12 +291,12 @@ later_mark code to S b at k a le lt inner ended r lo hi =
     let none : second S k ≡ false = not_true (second S k) (λ e. absurd
     (omega (arith, (second_only code to S b at k a le lt inner ended r (omega (arith, lo)) hi e).0, lo))) in
     let not_first : k % 32 ≢ 0 = λ z. omega (arith, z, r.inside, lo, hi) in
-    let low : before S k < END = omega (arith, before_inner S k not_first, inner (k - 1) (omega (arith, lo)) (omega (arith, lo, hi))) in
+    let low : state_before S k < END = omega (arith, before_inner S k not_first, inner (k - 1) (omega (arith, lo)) (omega (arith, lo, hi))) in
     sym (unmarked_by S code k none low)
 
 -- the mark of each of its places
 mark_here : (code : List ℕ) (to : ℕ) (S : ℕ → ℕ) (b at k : ℕ) → AreStates code to S → b ≤ at → at < to → AllInside S b at
-    → END ≤ before S b → END ≤ S at → (r : Read code S b at)
+    → END ≤ state_before S b → END ≤ S at → (r : Read code S b at)
     → r.instr.len ≡ length (take (suc (at - b)) (drop b code)) → b ≤ k → k < at + 1
     → get_or (instr_marks r.instr) (k - b) Unmarked ≡ mark_by S code k
 mark_here code to S b at k a le lt inner begins ended r len lo hi =
@@ -313,14 +313,14 @@ mark_here code to S b at k a le lt inner begins ended r len lo hi =
 
 -- the mask that it leaves
 masked_next : (code : List ℕ) (S : ℕ → ℕ) (at : ℕ) (front : List Piece) (r : Read code S (place front) at) → place front ≤ at → (q : ℕ)
-    → masked_at (before S (at + 1)) ≡ Some q
+    → masked_at (state_before S (at + 1)) ≡ Some q
     → FollowsMask (front ++ (record { bytes = take (suc (at - place front)) (drop (place front) code); instr = r.instr }) ∷ []) q
 masked_next code S at front r le q e =
     elim (true_or_false ((at + 1) % 32 == 0)) [
       | inl first ↦ absurd (let f : none ≡ some q = ap masked_at (sym (before_first S (at + 1) (eqb-true _ 0 first))) ∙ e in cc)
       | inr other ↦
           (let inner : (at + 1) % 32 ≢ 0 = eqb-false _ 0 other in
-          let state : before S (at + 1) ≡ S at = before_inner S (at + 1) inner ∙ ap S (omega arith) in
+          let state : state_before S (at + 1) ≡ S at = before_inner S (at + 1) inner ∙ ap S (omega arith) in
           record {
             earlier = front;
             mask = record { bytes = take (suc (at - place front)) (drop (place front) code); instr = r.instr };
@@ -374,9 +374,9 @@ pushed code to S at a lt h ended =
       };
       here = omega (arith, there);
       inner = λ k lo hi. absurd (omega (arith, there, lo, hi));
-      begins = subst (λ (k : ℕ). END ≤ before S k) (sym there) (begins_next (at + 1) (omega arith)
+      begins = subst (λ (k : ℕ). END ≤ state_before S k) (sym there) (begins_next (at + 1) (omega arith)
           (subst (λ (k : ℕ). END ≤ S k) {x = at} {y = at + 1 - 1} (omega arith) ended));
-      masks = λ q e. masked_next code S at h.front r h.here q (ap (λ (k : ℕ). masked_at (before S k)) (sym there) ∙ e);
+      masks = λ q e. masked_next code S at h.front r h.here q (ap (λ (k : ℕ). masked_at (state_before S k)) (sym there) ∙ e);
       marks = λ k k-lt. ap (λ (z : List Mark). get_or z k Unmarked) (marks_of-push h.front p) ∙ (elim (cases_lt k (place h.front)) [
         | inl earlier ↦ get_or_append_left (marks_of h.front) (instr_marks r.instr) Unmarked k (omega (arith, marks_len, earlier))
             ∙ h.marks k earlier
@@ -396,7 +396,7 @@ pushed code to S at a lt h ended =
     is_true true t = refl
     is_true false t = absurd cc
 
-    begins_next : (k : ℕ) → 0 < k → END ≤ S (k - 1) → END ≤ before S k
+    begins_next : (k : ℕ) → 0 < k → END ≤ S (k - 1) → END ≤ state_before S k
     begins_next k some low = elim (true_or_false (k % 32 == 0)) [
       | inl e ↦ rw e (omega arith)
       | inr e ↦ rw e low

@@ -3,7 +3,7 @@
 ghost use Rattle.std.specs.Prelude.{◌≡◌, ◌≢◌, ◌<◌, ◌≤◌, ◌+◌, ◌-◌, ◌*◌, ◌%◌, ◌^◌, ℕ, length, get_or, slice_index, IfSome};
 ghost use Rattle.std.specs.Int.{bit_at};
 ghost use Rattle.nc_decode.specs.Bits.{no_bits};
-ghost use Rattle.nc_vet.specs.machinery.Running.{Tells, EndsFront};
+ghost use Rattle.nc_vet.specs.machinery.Running.{TellsBundle, EndsFront};
 
 use crate::lane::{Lane, told};
 use nc_decode::Bundle;
@@ -35,7 +35,7 @@ pub(crate) struct Front {
 fn eight(code: &[u8], at: usize) -> [Bundle; LANES]
     requires start { at % 32 ≡ 0 }
     requires room { at + 256 ≤ length code.now }
-    ensures { (n : ℕ) → n < 8 → Tells code.now (at + 32 * n) (get_or result n no_bits) }
+    ensures { (n : ℕ) → n < 8 → TellsBundle code.now (at + 32 * n) (get_or result n no_bits) }
 {
     let mut a = Lane::new();
     let mut b = Lane::new();
@@ -74,7 +74,7 @@ fn four(code: &[u8], at: usize) -> [Bundle; FEW_LANES]
     requires start { at % 32 ≡ 0 }
     requires bundles { length code.now % 32 ≡ 0 }
     requires room { at < length code.now }
-    ensures { (n : ℕ) → n < 4 → at + 32 * n < length code.now → Tells code.now (at + 32 * n) (get_or result n no_bits) }
+    ensures { (n : ℕ) → n < 4 → at + 32 * n < length code.now → TellsBundle code.now (at + 32 * n) (get_or result n no_bits) }
 {
     let last = code.len() - 32;
     let second = last.min(at + 32);

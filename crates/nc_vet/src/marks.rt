@@ -1,7 +1,7 @@
 //! The marks of a chunk, in the form in which they are kept.
 
 ghost use Rattle.std.specs.Prelude.{◌≡◌, ◌<◌, length, slice_index, slice_get, Some};
-ghost use Rattle.nc_decode.specs.Bits.{bit_mark, mark_at};
+ghost use Rattle.nc_decode.specs.Bits.{bit_mark, mark_by_bits};
 ghost use Rattle.nc_vet.specs.Listed.{listed};
 
 use nc_decode::{Bundle, Mark, bundle_at};
@@ -42,7 +42,7 @@ fn byte_at(code: &[u8], k: usize) -> u8
 #[inline(always)]
 fn mark_at(code: &[u8], bundles: &[Bundle], k: usize) -> Mark
     requires { k < length code.now }
-    ensures { result ≡ mark_at code.now bundles.now k }
+    ensures { result ≡ mark_by_bits code.now bundles.now k }
 {
     bit_mark(bundle_at(bundles, k / 32), k % 32, byte_at(code, k + 1))
 }

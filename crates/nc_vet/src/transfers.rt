@@ -2,7 +2,7 @@
 
 ghost use Rattle.std.specs.Prelude.{◌≡◌, ◌≢◌, ◌<◌, ◌≤◌, ◌+◌, ◌*◌, ◌%◌, ◌^◌, ℕ, length, get_or, true, false, IsTrue};
 ghost use Rattle.std.specs.Int.{bit_at};
-ghost use Rattle.nc_decode.specs.Bits.{no_bits, is_start, is_second};
+ghost use Rattle.nc_decode.specs.Bits.{no_bits, starts_instruction, is_second};
 ghost use Rattle.nc_vet.specs.machinery.Judged.{short_to, near_to, IsGood, AreGoodShorts, AreGoodNears, AreJudged};
 
 use byteorder::{ByteOrder, LittleEndian};
@@ -12,7 +12,7 @@ use nc_decode::{BUNDLE, Bundle, bundle_at, is_bundle_start};
 #[inline(always)]
 fn is_plain(bundle: Bundle, k: u32) -> bool
     requires { k < 32 }
-    ensures start { IsTrue result → is_start bundle k ≡ true }
+    ensures start { IsTrue result → starts_instruction bundle k ≡ true }
     ensures second { IsTrue result → is_second bundle k ≡ false }
 {
     let starts = 2 * u64::from(bundle.ends) + 1;

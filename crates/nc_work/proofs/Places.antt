@@ -10,7 +10,7 @@ use Rattle.nc_vet.specs.declared.marks.Marks.{Marks}
 use Rattle.nc_vet.specs.declared.fault.VetFault.{VetFault}
 use Rattle.nc_work.specs.declared.job.Job.{Job}
 use Rattle.nc_work.specs.declared.work.Done.{Done}
-use Rattle.nc_work.specs.Answers.{IsJudged, FitsPlace, AreDone, AreAnswers}
+use Rattle.nc_work.specs.Answers.{AnswersJob, FitsPlace, AreDone, AreAnswers}
 
 -- what holds of each place holds after one of them has changed
 set_each : {X : Type 0} (P : ℕ → X → Type 0) (xs : List X) (i : ℕ) (y d : X) → ((k : ℕ) → P k (get_or xs k d)) → P i y → (k : ℕ)
@@ -32,7 +32,7 @@ none_done jobs done e = record { each = λ k d below. absurd (omega (arith, ap (
 
 -- a worker's list goes on by the answer on one more job
 pub done_more : (jobs : List Job) (done : List Done) (n : ℕ) (job : Job) (answer : Result Marks VetFault)
-    → AreDone jobs done → n < length jobs → job ≡ get_or jobs n job → IsJudged job answer
+    → AreDone jobs done → n < length jobs → job ≡ get_or jobs n job → AnswersJob job answer
     → AreDone jobs (done ++ record { job = n; answer = answer } ∷ [])
 done_more jobs done n job answer h below is judged =
     record {
@@ -42,11 +42,11 @@ done_more jobs done n job answer h below is judged =
 
 -- the answer in the place of a job is that on it
 pub fits_job : (jobs : List Job) (n : ℕ) (job : Job) (found : Option (Result Marks VetFault)) → slice_get jobs n ≡ Some job
-    → FitsPlace jobs n found → ForSome found (IsJudged job)
+    → FitsPlace jobs n found → ForSome found (AnswersJob job)
 fits_job jobs n job None is h = λ a e. absurd (cc)
 fits_job jobs n job (Some answer) is h =
-    λ a e. subst (λ (r : Result Marks VetFault). IsJudged job r) (same_Some answer a e)
-    (subst (λ (j : Job). IsJudged j answer) (same_Some h.0 job (sym h.1 ∙ is)) h.2)
+    λ a e. subst (λ (r : Result Marks VetFault). AnswersJob job r) (same_Some answer a e)
+    (subst (λ (j : Job). AnswersJob j answer) (same_Some h.0 job (sym h.1 ∙ is)) h.2)
 
 -- the first answer of a worker's list is that on its job
 pub done_head : (jobs : List Job) (all : List Done) (one : Done) (rest : List Done) → all ≡ one ∷ rest → AreDone jobs all
@@ -91,7 +91,7 @@ lists_back jobs old new n none done =
 pub found_fits : (jobs : List Job) (answers : List (Option (Result Marks VetFault))) (n m : ℕ) (job : Job)
     (at found : Option (Result Marks VetFault))
     → AreAnswers jobs answers → m ≡ n → m < length answers → at ≡ get_or answers m at → found ≡ at → slice_get jobs n ≡ Some job
-    → ForSome found (IsJudged job)
+    → ForSome found (AnswersJob job)
 found_fits jobs answers n m job at found h same below is e here =
     let read : get_or answers m None ≡ at =
     get_or_from_slice_get answers m at None (slice_get_read answers (length answers) m at refl below is) in

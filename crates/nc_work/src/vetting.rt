@@ -4,7 +4,7 @@ ghost use Rattle.std.specs.Prelude.{◌≡◌, ◌↔◌, [], All, Some, length,
 ghost use Rattle.std.specs.List.{AllZip};
 ghost use Rattle.std.specs.Option.{ForSome};
 ghost use Rattle.nc_work.specs.Verdicts.{IsVerdictOn, AreWorkers};
-ghost use Rattle.nc_work.specs.Answers.{IsJudged, FitsPlace, AreDone, AreAnswers};
+ghost use Rattle.nc_work.specs.Answers.{AnswersJob, FitsPlace, AreDone, AreAnswers};
 
 use crate::fault::WorkFault;
 use crate::gate::Gate;
@@ -76,7 +76,7 @@ fn gather(jobs: &[Job], lists: Vec<Vec<Done>>, answers: &mut [Option<Answer>])
 
 /// The verdict on a job, by the answer on its chunk.
 fn verdict(job: Job, answer: Answer) -> Verdict
-    requires { IsJudged job answer }
+    requires { AnswersJob job answer }
     ensures { IsVerdictOn job result }
 {
     match answer {
@@ -87,8 +87,8 @@ fn verdict(job: Job, answer: Answer) -> Verdict
 
 /// The answer that was found, or the job is judged here.
 fn answer_of<G: Gate>(number: usize, job: &Job, found: Option<Answer>, gate: &G) -> Answer
-    requires { ForSome found (IsJudged job.now) }
-    ensures { IsJudged job.now result }
+    requires { ForSome found (AnswersJob job.now) }
+    ensures { AnswersJob job.now result }
 {
     match found {
         Some(answer) => answer,

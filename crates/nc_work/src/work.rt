@@ -1,6 +1,6 @@
 //! What one worker does.
 
-ghost use Rattle.nc_work.specs.Answers.{IsJudged, AreDone};
+ghost use Rattle.nc_work.specs.Answers.{AnswersJob, AreDone};
 
 use crate::gate::Gate;
 use crate::job::Job;
@@ -19,7 +19,7 @@ pub struct Done {
 
 /// Judges a job's chunk where it lies, between the gate's calls.
 pub fn judge_job<G: Gate>(number: usize, job: &Job, gate: &G) -> Answer
-    ensures { IsJudged job.now result }
+    ensures { AnswersJob job.now result }
 {
     gate.before(number);
     let answer = judge(*job.code.allocator(), job.base, job.limit, &job.code);

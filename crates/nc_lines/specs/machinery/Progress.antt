@@ -35,7 +35,7 @@ AnswersKept answers old new before after left line (Err BadSeats) = ⊥
 AnswersKept answers old new before after left line (Err BadWorkers) = ⊥
 
 -- After these bytes: the lines that have ended are answered, and what is to be kept of the last one is kept.
-pub record Stands {S : Type 0} (answers : S → List ℕ → List ℕ → S → Type 0) (start : S) (before : Option (List ℕ)) (bytes : List ℕ)
+pub record KeepsUp {S : Type 0} (answers : S → List ℕ → List ℕ → S → Type 0) (start : S) (before : Option (List ℕ)) (bytes : List ℕ)
     (now : S) (after : Option (List ℕ)) (kept : List ℕ) : Type 0 where
   pub lines : List (List ℕ)
   pub part : List ℕ
@@ -48,7 +48,7 @@ pub record Stands {S : Type 0} (answers : S → List ℕ → List ℕ → S → 
 -- The same after a call that may fail; on a failure, whatever bytes are still to come.
 abbrev pub Feeds : {S T : Type 0} → (S → List ℕ → List ℕ → S → Type 0) → S → Option (List ℕ) → List ℕ → S → Option (List ℕ) → List ℕ
     → Result T ReplayFault → Type 0
-Feeds answers start before bytes now after kept (Ok _) = Stands answers start before bytes now after kept
+Feeds answers start before bytes now after kept (Ok _) = KeepsUp answers start before bytes now after kept
 Feeds answers start before bytes now after kept (Err WriteFailed) =
     (more : List ℕ) → IsBegun answers start before after (lines_of (bytes ++ more))
 Feeds answers start before bytes now after kept (Err OutOfMemory) =
@@ -61,7 +61,7 @@ Feeds answers start before bytes now after kept (Err BadWorkers) = ⊥
 -- The same after a call that takes some of the bytes, and says how many; on a failure, whatever bytes are still to come.
 abbrev pub FeedsPart : {S : Type 0} → (S → List ℕ → List ℕ → S → Type 0) → S → Option (List ℕ) → List ℕ → List ℕ → S → Option (List ℕ)
     → List ℕ → Result ℕ ReplayFault → Type 0
-FeedsPart answers start before bytes rest now after kept (Ok count) = Stands answers start before (bytes ++ take count rest) now after kept
+FeedsPart answers start before bytes rest now after kept (Ok count) = KeepsUp answers start before (bytes ++ take count rest) now after kept
 FeedsPart answers start before bytes rest now after kept (Err fault) =
     Feeds {T = Unit {0}} answers start before (bytes ++ rest) now after kept (Err fault)
 

@@ -4,7 +4,7 @@ use Rattle.std.specs.List.{count_by, range_with_len}
 use Rattle.nc_decode.specs.declared.instruction.Mark.{Mark}
 use Rattle.nc_decode.specs.declared.instruction.Mark.TheVariants.{Unmarked, Plain, After}
 use Rattle.nc_decode.specs.declared.bundle.Bundle.{Bundle}
-use Rattle.nc_decode.specs.Bits.{is_start, is_second}
+use Rattle.nc_decode.specs.Bits.{starts_instruction, is_second}
 
 -- one for a mark, and none for a place without one
 abbrev pub one : Mark → ℕ
@@ -14,7 +14,7 @@ one (After reg) = 1
 
 -- an instruction begins at this byte of the bundle
 abbrev pub begins_at : Bundle → ℕ → Bool
-begins_at w k = is_second w k || is_start w k
+begins_at w k = is_second w k || starts_instruction w k
 
 -- the number of instructions that begin in the bundle
 unfoldable pub begun_in : Bundle → ℕ

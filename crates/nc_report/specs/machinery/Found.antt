@@ -21,7 +21,7 @@ use Rattle.nc_report.specs.declared.source.Title.{Title}
 use Rattle.nc_report.specs.declared.source.Source.{Source}
 use Rattle.nc_report.specs.declared.spot.Spot.{Spot}
 use Rattle.nc_report.specs.Listing.{barred, ShowsBundle}
-use Rattle.nc_report.specs.Report.{place_of, accepted_text, refused_text, AreCalls, Explains, ReportsOthers, ReportsSome, detail_line, IsBeginning, Tells, Told}
+use Rattle.nc_report.specs.Report.{place_of, accepted_text, refused_text, AreCalls, Explains, ReportsOthers, ReportsSome, detail_line, IsBeginning, TellsSource, Told}
 use Rattle.nc_report.specs.Further.{lines_to}
 
 -- a verdict is true of the code in it
@@ -30,9 +30,9 @@ IsFinding base limit (Ok v) = (v.base ≡ base) × (v.limit ≡ limit) × IsVali
 IsFinding base limit (Err e) = HasFault base limit e.0.items e.1
 
 -- the code in a verdict
-abbrev pub code_in : Result MarkedChunk (Vec ℕ × VetFault) → List ℕ
-code_in (Ok v) = v.code
-code_in (Err e) = e.0.items
+abbrev pub code_of_verdict : Result MarkedChunk (Vec ℕ × VetFault) → List ℕ
+code_of_verdict (Ok v) = v.code
+code_of_verdict (Err e) = e.0.items
 
 -- a source without where its bytes lie in memory
 pub record SourceValue : Type 0 where
@@ -42,7 +42,7 @@ pub record SourceValue : Type 0 where
 
 -- the source of a title with the code of a verdict
 abbrev pub value_in : Title → Result MarkedChunk (Vec ℕ × VetFault) → SourceValue
-value_in title verdict = record { name = title.name.items; code = code_in verdict; labels = title.labels }
+value_in title verdict = record { name = title.name.items; code = code_of_verdict verdict; labels = title.labels }
 
 -- those of titles with verdicts, as long as there are both
 abbrev pub values_in : List Title → List (Result MarkedChunk (Vec ℕ × VetFault)) → List SourceValue
@@ -52,10 +52,10 @@ values_in (title ∷ titles) (verdict ∷ verdicts) = value_in title verdict ∷
 
 -- what is told of a source
 abbrev pub TellsValue : ℕ → ℕ → Detail → SourceValue → Told → Type 0
-TellsValue limit base detail value told = Tells limit base detail value.name value.code value.labels told
+TellsValue limit base detail value told = TellsSource limit base detail value.name value.code value.labels told
 
 -- Instructions inside their bundles end where the address is, and the code, which is whole bundles, goes on there.
-pub record StandsAt (base : ℕ) (code : List ℕ) (at : ℕ) : Type 0 where
+pub record GoesOnAt (base : ℕ) (code : List ℕ) (at : ℕ) : Type 0 where
   pub front : List Piece
   pub rest : List ℕ
   pub parts : code ≡ code_of front ++ rest
@@ -66,8 +66,8 @@ pub record StandsAt (base : ℕ) (code : List ℕ) (at : ℕ) : Type 0 where
   pub whole : length code % 32 ≡ 0
 
 -- the address of the fault, if it has one, is such a place
-abbrev pub IsPlaced : ℕ → List ℕ → VetFault → Type 0
-IsPlaced base code fault = MatchOption (place_of fault) ⊤ (λ at. StandsAt base code at)
+abbrev pub HasFaultPlace : ℕ → List ℕ → VetFault → Type 0
+HasFaultPlace base code fault = MatchOption (place_of fault) ⊤ (λ at. GoesOnAt base code at)
 
 -- lines were added
 pub record AddsLines (old new : List ℕ) (Says : List (List ℕ) → Type 0) : Type 0 where
@@ -76,7 +76,7 @@ pub record AddsLines (old new : List ℕ) (Says : List (List ℕ) → Type 0) : 
   pub added : new ≡ old ++ flat_map detail_line lines
 
 -- the bytes are whole instructions
-pub record AreInstructions (bytes : List ℕ) : Type 0 where
+pub record AreWholeInstructions (bytes : List ℕ) : Type 0 where
   pub pieces : List Piece
   pub spelled : AreSpelled pieces
   pub parts : bytes ≡ code_of pieces
@@ -116,7 +116,7 @@ pub record AddsAccepted (old new : List ℕ) (detail : Detail) (name : List ℕ)
 pub record TellsOne (limit base : ℕ) (detail : Detail) (name code : List ℕ) (labels : List Label) (before after : Option (List ℕ))
     (count : ℕ) : Type 0 where
   pub told : Told
-  pub tells : Tells limit base detail name code labels told
+  pub tells : TellsSource limit base detail name code labels told
   pub counted : count ≡ (if told.refused then 1 else 0)
   pub written : Appends before after told.text
 

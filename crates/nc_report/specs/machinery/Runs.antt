@@ -3,11 +3,11 @@ use Rattle.std.specs.Prelude.{◌≡◌, ◌≢◌, ℕ, ◌<◌, ◌≤◌, Lis
 use Rattle.std.specs.List.{flat_map}
 use Rattle.std.specs.List.Sorted.{IsNonDecreasing}
 use Rattle.nc_vet.specs.Chunk.{Piece, code_of, place, AreSpelled}
-use Rattle.nc_report.specs.Outside.{Row, AscendFrom, all_sent, row_words}
+use Rattle.nc_report.specs.Outside.{OutsideRow, AscendFrom, all_sent, row_words}
 use Rattle.nc_report.specs.Report.{detail_line}
 
 -- of these instructions those before a place are read, and what they send outside is known
-pub record HasRead (base len : ℕ) (pieces : List Piece) (at : ℕ) (sent : List ℕ) : Type 0 where
+pub record KnowsSent (base len : ℕ) (pieces : List Piece) (at : ℕ) (sent : List ℕ) : Type 0 where
   pub before : List Piece
   pub after : List Piece
   pub parts : pieces ≡ before ++ after
@@ -17,7 +17,7 @@ pub record HasRead (base len : ℕ) (pieces : List Piece) (at : ℕ) (sent : Lis
 -- whatever instructions the code has
 abbrev pub HasReadCode : ℕ → List ℕ → ℕ → List ℕ → Type 0
 HasReadCode base code at sent =
-    (pieces : List Piece) → AreSpelled pieces → code ≡ code_of pieces → HasRead base (length code) pieces at sent
+    (pieces : List Piece) → AreSpelled pieces → code ≡ code_of pieces → KnowsSent base (length code) pieces at sent
 
 -- this is all that the code sends outside, whatever instructions it has
 abbrev pub IsSent : ℕ → List ℕ → List ℕ → Type 0
@@ -25,29 +25,29 @@ IsSent base code sent =
     (pieces : List Piece) → AreSpelled pieces → code ≡ code_of pieces → sent ≡ all_sent base (length code) base pieces
 
 -- the first `count` numbers are the same, and the next one, if there is one, is another
-pub record IsRun (numbers : List ℕ) (count : ℕ) : Type 0 where
+pub record BeginsWithRun (numbers : List ℕ) (count : ℕ) : Type 0 where
   pub some : 0 < count
   pub within : count ≤ length numbers
   pub same : take count numbers ≡ replicate count (slice_index numbers 0)
   pub ends : count < length numbers → slice_index numbers count ≢ slice_index numbers 0
 
 -- the numbers that some rows stand for
-abbrev pub numbers_of : List Row → List ℕ
+abbrev pub numbers_of : List OutsideRow → List ℕ
 numbers_of rows = flat_map (λ row. replicate row.times row.to) rows
 
 -- a front of ascending numbers was written as rows, and the rest is left
 pub record HasCounted (numbers : List ℕ) (old new rest : List ℕ) : Type 0 where
-  pub rows : List Row
+  pub rows : List OutsideRow
   pub least : ℕ
   pub split : numbers ≡ numbers_of rows ++ rest
-  pub ascend : (more : List Row) → AscendFrom least more → AscendFrom 0 (rows ++ more)
+  pub ascend : (more : List OutsideRow) → AscendFrom least more → AscendFrom 0 (rows ++ more)
   pub above : (k : ℕ) → k < length rest → least ≤ slice_index rest k
   pub sorted : IsNonDecreasing rest
   pub added : new ≡ old ++ flat_map detail_line (map row_words rows)
 
 -- ascending numbers were written as rows
 pub record AddsCounts (numbers old new : List ℕ) : Type 0 where
-  pub rows : List Row
+  pub rows : List OutsideRow
   pub ascend : AscendFrom 0 rows
   pub all : numbers ≡ numbers_of rows
   pub added : new ≡ old ++ flat_map detail_line (map row_words rows)

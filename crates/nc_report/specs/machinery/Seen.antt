@@ -16,7 +16,7 @@ pub record HasSpots (code : List ℕ) (spots : List Spot) : Type 0 where
   pub each : length spots ≡ length code
 
 -- the code up to this place is read by some steps, whatever steps read the rest, and this is what is found at each byte so far
-pub record HasReadTo (code : List ℕ) (at : ℕ) (masked : Option ℕ) (spots : List Spot) : Type 0 where
+pub record HasSeenTo (code : List ℕ) (at : ℕ) (masked : Option ℕ) (spots : List Spot) : Type 0 where
   pub steps : List Step
   pub goes_on : (more : List Step) → ReadsFrom at masked (drop at code) more → IsReading code (steps ++ more)
   pub is : spots ≡ spots_of steps

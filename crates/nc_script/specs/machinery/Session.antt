@@ -10,7 +10,7 @@ use Rattle.nc_region.specs.Region.{Region}
 use Rattle.nc_region.specs.declared.chunk.Chunk.{Chunk}
 use Rattle.nc_region.specs.declared.chunk.ChunkState.{ChunkState}
 use Rattle.nc_region.specs.declared.chunk.ChunkState.TheVariants as chunk
-use Rattle.nc_script.specs.Script.{Script, ScriptChunk, State, Live, Retired, Seat, Staying, Left}
+use Rattle.nc_script.specs.Script.{Script, ScriptChunk, ScriptChunkState, Live, Retired, ScriptSeat, Staying, Left}
 use Rattle.nc_script.specs.Requests.{Request, Walk}
 use Rattle.nc_script.specs.Answers.{Serves, ServesOnly, AnswersOnly}
 
@@ -19,19 +19,19 @@ abbrev pub bytes_at : List ℕ → ℕ → ℕ → List ℕ
 bytes_at bytes base length = take length (drop (base - 0x10000) bytes)
 
 -- the state of a chunk with this span
-abbrev pub state_in : List ℕ → ℕ → ℕ → ChunkState → State
+abbrev pub state_in : List ℕ → ℕ → ℕ → ChunkState → ScriptChunkState
 state_in bytes base length chunk.Live = Live (bytes_at bytes base length)
 state_in bytes base length (chunk.Retired stamp) = Retired length stamp
 
 -- a chunk of the region, as the script has it
-abbrev pub chunk_in : List ℕ → Chunk → ScriptChunk
-chunk_in bytes c = record { base = c.base; state = state_in bytes c.base c.length c.state }
+abbrev pub script_chunk : List ℕ → Chunk → ScriptChunk
+script_chunk bytes c = record { base = c.base; state = state_in bytes c.base c.length c.state }
 
 -- the script's state by a region, its seats, and the number by which the last reclaim freed
-abbrev pub script_of : Region → List Seat → ℕ → Script
+abbrev pub script_of : Region → List ScriptSeat → ℕ → Script
 script_of region seats freed = record {
   limit = limit_of region.marked.bytes;
-  chunks = map (chunk_in region.marked.bytes) region.chunks;
+  chunks = map (script_chunk region.marked.bytes) region.chunks;
   generation = region.keeper.numbers.generation;
   seats = seats;
   freed = freed;
@@ -54,13 +54,13 @@ AreSeated table passes = (i : ℕ) (p : PassState) → slice_get passes i ≡ So
 -- A seat of the script, by its pass, if it hasn't left, and by the keeper's bound for it: the pass's own word is the seat's
 -- number, and so is the bound; for a seat that has left the bound isn't lower than its number. No bound is lower than the
 -- number by which the last reclaim freed.
-abbrev pub SeatFits : (generation freed : ℕ) → Option PassState → ℕ → Seat → Type 0
+abbrev pub SeatFits : (generation freed : ℕ) → Option PassState → ℕ → ScriptSeat → Type 0
 SeatFits generation freed (Some p) bound (Staying n) = (p.numbers.word ≡ n) × (bound ≡ n) × (n ≤ generation) × (freed ≤ n)
 SeatFits generation freed None bound (Left n) = (n ≤ bound) × (n ≤ generation) × (freed ≤ bound)
 SeatFits generation freed _ bound _ = ⊥
 
 -- the passes and the keeper's bounds fit the script's seats, of which there is at least one
-pub record SeatsFit (generation freed : ℕ) (passes : List (Option PassState)) (bounds : List ℕ) (seats : List Seat) : Type 0 where
+pub record SeatsFit (generation freed : ℕ) (passes : List (Option PassState)) (bounds : List ℕ) (seats : List ScriptSeat) : Type 0 where
   pub some : 0 < length seats
   pub passes_long : length passes ≡ length seats
   pub bounds_long : length bounds ≡ length seats
@@ -73,7 +73,7 @@ IsStamped generation chunk.Live = ⊤
 IsStamped generation (chunk.Retired stamp) = stamp ≤ generation
 
 -- the seats and the number fit the session: with its region they are a state that it stands for
-pub record Fits (session : SessionState) (seats : List Seat) (freed : ℕ) : Type 0 where
+pub record FitsSession (session : SessionState) (seats : List ScriptSeat) (freed : ℕ) : Type 0 where
   pub in_range : session.region.keeper.numbers.generation ≤ 2 ^ 62
   pub current : freed ≤ session.region.keeper.numbers.generation
   pub stamps : Each (λ (c : Chunk). IsStamped session.region.keeper.numbers.generation c.state) session.region.chunks
@@ -81,15 +81,15 @@ pub record Fits (session : SessionState) (seats : List Seat) (freed : ℕ) : Typ
 
 -- whatever state the session stood for, this answers the request, and leads to a state for which it stands now
 abbrev pub Follows : Request → SessionState → List ℕ → SessionState → Type 0
-Follows request old reply new = (seats : List Seat) (freed : ℕ) → Fits old seats freed
-    → (next : List Seat) × (number : ℕ) × Serves request (script_of old.region seats freed) reply (script_of new.region next number)
-    × Fits new next number
+Follows request old reply new = (seats : List ScriptSeat) (freed : ℕ) → FitsSession old seats freed
+    → (next : List ScriptSeat) × (number : ℕ) × Serves request (script_of old.region seats freed) reply (script_of new.region next number)
+    × FitsSession new next number
 
 -- whatever state the session stood for, this answers the line, and leads to a state for which it stands now
 abbrev pub FollowsLine : SessionState → List ℕ → List ℕ → SessionState → Type 0
-FollowsLine old line reply new = (seats : List Seat) (freed : ℕ) → Fits old seats freed
-    → (next : List Seat) × (number : ℕ) × AnswersOnly (script_of old.region seats freed) line reply (script_of new.region next number)
-    × Fits new next number
+FollowsLine old line reply new = (seats : List ScriptSeat) (freed : ℕ) → FitsSession old seats freed
+    → (next : List ScriptSeat) × (number : ℕ) × AnswersOnly (script_of old.region seats freed) line reply (script_of new.region next number)
+    × FitsSession new next number
 
 -- whatever state the region and any seats stood for, this answers the request, and leads to a state for which they stand now
 abbrev pub FollowsIn : Request → Region → List ℕ → Region → Type 0
@@ -98,5 +98,5 @@ FollowsIn request old reply new = (seats : SeatsState)
 
 -- whatever state the region stands for, this is the only answer to a walk
 abbrev pub WalksOnly : Region → ℕ → List ℕ → List ℕ → Type 0
-WalksOnly region start choices reply = (seats : List Seat) (freed : ℕ)
+WalksOnly region start choices reply = (seats : List ScriptSeat) (freed : ℕ)
     → ServesOnly (Walk start choices) (script_of region seats freed) reply (script_of region seats freed)

@@ -40,14 +40,14 @@ abbrev pub byte_of : List Slot → ℕ → ℕ
 byte_of pages k = byte_if_made (page_of pages k) (k % 4096)
 
 -- the mark at a place
-abbrev pub mark_of : List Slot → ℕ → Mark
-mark_of pages k = mark_if_made (page_of pages k) (k % 4096)
+abbrev pub mark_in_pages : List Slot → ℕ → Mark
+mark_in_pages pages k = mark_if_made (page_of pages k) (k % 4096)
 
 -- the text of `size` places in a table of pages: bytes and marks of its pages, and where one isn't made, those of
 -- places that no chunk uses
 abbrev pub text_of : List Slot → ℕ → TextState
 text_of pages size =
     record {
-      marked = record { bytes = map (byte_of pages) (range_with_len 0 size); marks = map (mark_of pages) (range_with_len 0 size) };
+      marked = record { bytes = map (byte_of pages) (range_with_len 0 size); marks = map (mark_in_pages pages) (range_with_len 0 size) };
       made = map is_some pages;
     }

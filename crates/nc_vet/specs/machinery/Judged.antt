@@ -3,7 +3,7 @@ use Rattle.std.specs.Prelude.{◌≡◌, ℕ, ◌+◌, ◌-◌, ◌*◌, ◌%◌
 use Rattle.std.specs.Int.{bit_at, w8, w32, cast_signed, cast_unsigned, from_le_bytes}
 use Rattle.nc_decode.specs.declared.instruction.Mark.TheVariants.{Plain}
 use Rattle.nc_decode.specs.declared.bundle.Bundle.{Bundle}
-use Rattle.nc_decode.specs.Bits.{no_bits, mark_at}
+use Rattle.nc_decode.specs.Bits.{no_bits, mark_by_bits}
 
 -- where a transfer goes whose displacement is the byte at a place
 abbrev pub short_to : ℕ → List ℕ → ℕ → ℕ
@@ -15,7 +15,7 @@ near_to base code k = (base + k + 1 + cast_unsigned w32 (cast_signed w32 (from_l
 
 -- a direct transfer may go to this address
 pub record IsGood (base limit : ℕ) (code : List ℕ) (bundles : List Bundle) (to : ℕ) : Type 0 where
-  pub inside : base ≤ to → to - base < length code → mark_at code bundles (to - base) ≡ Plain
+  pub inside : base ≤ to → to - base < length code → mark_by_bits code bundles (to - base) ≡ Plain
   pub outside : (base ≤ to → to - base < length code → ⊥) → (to % 32 ≡ 0) × (to < limit)
 
 -- the transfers may go where they go whose displacement is one byte, and of which these are the last bytes, counted from a place

@@ -19,8 +19,8 @@ unfoldable pub state_after : List ℕ → ℕ → ℕ
 state_after code k = run END (take (k % 32 + 1) (drop (k - k % 32) code))
 
 -- the state before a place, by those after the places
-abbrev pub before : (ℕ → ℕ) → ℕ → ℕ
-before S k = if k % 32 == 0 then END else S (k - 1)
+abbrev pub state_before : (ℕ → ℕ) → ℕ → ℕ
+state_before S k = if k % 32 == 0 then END else S (k - 1)
 
 -- bits tell the states after a bundle's bytes
 pub record TellsStates (states : List ℕ) (w : Bundle) : Type 0 where
@@ -42,7 +42,7 @@ pub record HasRun (code : List ℕ) (at i state : ℕ) (states : List ℕ) : Typ
   pub small : state < STATES
 
 -- the bits tell the states after the bytes of the bundle that begins at this place
-pub record Tells (code : List ℕ) (at : ℕ) (w : Bundle) : Type 0 where
+pub record TellsBundle (code : List ℕ) (at : ℕ) (w : Bundle) : Type 0 where
   pub ends : (k : ℕ) → k < 32 → (bit_at w.ends k == 1) ≡ nat_le END (state_after code (at + k))
   pub pairs : (k : ℕ) → k < 32 → (bit_at w.pairs k == 1) ≡ (state_after code (at + k) == AFTER_PAIR)
   pub shorts : (k : ℕ) → k < 32 → (bit_at w.shorts k == 1) ≡ (state_after code (at + k) == AFTER_SHORT)
@@ -51,7 +51,7 @@ pub record Tells (code : List ℕ) (at : ℕ) (w : Bundle) : Type 0 where
 
 -- the bits tell the states after the bytes of each of these bundles, and an instruction ends with each
 abbrev pub AreTold : List ℕ → List Bundle → Type 0
-AreTold code bundles = (n : ℕ) → n < length bundles → Tells code (32 * n) (get_or bundles n no_bits)
+AreTold code bundles = (n : ℕ) → n < length bundles → TellsBundle code (32 * n) (get_or bundles n no_bits)
     × (END ≤ state_after code (32 * n + 31))
 
 -- Bundles of the code are told, and reading may go on at a place: after them, or where an instruction ends in the next one that

@@ -10,11 +10,11 @@ use Rattle.nc_decode.specs.Automaton.{next_state}
 use Rattle.nc_decode.specs.Transfers.{is_direct}
 use Rattle.nc_vet.specs.Chunk.{Piece, place, marks_of}
 use Rattle.nc_vet.specs.Faults.{IsSoundFront}
-use Rattle.nc_vet.specs.machinery.Running.{before}
+use Rattle.nc_vet.specs.machinery.Running.{state_before}
 
 -- the states after the places of the code, of which an instruction ends with each bundle up to a place, and at that place
 pub record AreStates (code : List ℕ) (to : ℕ) (S : ℕ → ℕ) : Type 0 where
-  pub next : (k : ℕ) → k < length code → S k ≡ next_state (before S k) (get_or code k 0)
+  pub next : (k : ℕ) → k < length code → S k ≡ next_state (state_before S k) (get_or code k 0)
   pub whole : (k : ℕ) → k < to → k % 32 ≡ 31 → END ≤ S k
   pub ended : (k : ℕ) → k + 1 ≡ to → END ≤ S k
   pub bytes : All (λ b. b < 256) code
@@ -27,7 +27,7 @@ second S k = nat_lt (k % 32) 31 && (S (k + 1) == AFTER_PAIR)
 
 -- the mark of a place, by the states
 abbrev pub mark_by : (ℕ → ℕ) → List ℕ → ℕ → Mark
-mark_by S code k = if second S k then After (get_or code (k + 1) 0 % 8) else (if nat_le END (before S k) then Plain else Unmarked)
+mark_by S code k = if second S k then After (get_or code (k + 1) 0 % 8) else (if nat_le END (state_before S k) then Plain else Unmarked)
 
 -- where the displacement of a direct transfer stands that ends before a place
 abbrev pub IsDisplaced : (ℕ → ℕ) → List ℕ → ℕ → Instr → Type 0

@@ -1,6 +1,6 @@
 use Rattle.std.proofs.Common.{rules, arith, ◌≡◌, All, length, sym, ap, ◌∙◌, subst}
 use lib.ListN.{length-replicate}
-use Rattle.nc_gens.proofs.FirstTable.{length-first_passes, tables-first_passes}
+use Rattle.nc_gens.proofs.FirstTable.{length-new_passes, tables-new_passes}
 use Rattle.nc_gens.proofs.HandingOver.{gives_pass}
 use Rattle.nc_gens.proofs.opening.give_passes.Goals as goal
 
@@ -15,9 +15,9 @@ split_seat-token-requires c =
 
 pub returns-clause-count : goal.returns-clause-count
 returns-clause-count c =
-    let counted = ap length c.loop-seat.invariant.2 ∙ length-first_passes c.args.keeper.now.table_id c.loop-seat.seat in let end =
+    let counted = ap length c.loop-seat.invariant.2 ∙ length-new_passes c.args.keeper.now.table_id c.loop-seat.seat in let end =
     c.loop-seat-test.false in let within = c.loop-seat.auto.seat-end in omega arith
 
 pub returns-clause-tables : goal.returns-clause-tables
 returns-clause-tables c = subst (All (λ p. p.table ≡ c.args.keeper.now.table_id)) (sym c.loop-seat.invariant.2)
-    (tables-first_passes c.args.keeper.now.table_id c.loop-seat.seat)
+    (tables-new_passes c.args.keeper.now.table_id c.loop-seat.seat)

@@ -1,7 +1,7 @@
 use Rattle.std.proofs.Common.{◌≡◌, ◌++◌, ◌-◌, ℕ, List, [], Err, length, take, drop, refl, sym, ap, ◌∙◌, subst, append_assoc, append-nil}
 use Rattle.std.proofs.Common.{take-append-drop, rules}
 use Rattle.std.proofs.lemmas.List.{take_rest, drop_all}
-use Rattle.nc_lines.specs.machinery.Progress.{Stands, Feeds}
+use Rattle.nc_lines.specs.machinery.Progress.{KeepsUp, Feeds}
 use Rattle.nc_lines.proofs.lines.feed.Goals as goal
 
 -- the bytes so far go on by those that are taken next
@@ -15,7 +15,7 @@ loop-rest-init g c = (
   [],
   refl,
   λ start before bytes s.
-      subst (λ (xs : List ℕ). Stands g.S.Responder.answers start before xs c.args.responder.now
+      subst (λ (xs : List ℕ). KeepsUp g.S.Responder.answers start before xs c.args.responder.now
       (g.W.Write.contents c.args.writer.now) c.args.line.now.items) (sym (append-nil bytes)) s,
 )
 
@@ -27,7 +27,7 @@ loop-rest-preserved g c =
       done ++ take n rest,
       moves_front _ done rest n split,
       λ start before bytes s.
-          subst (λ (xs : List ℕ). Stands g.S.Responder.answers start before xs c.feed_part.new.responder
+          subst (λ (xs : List ℕ). KeepsUp g.S.Responder.answers start before xs c.feed_part.new.responder
           (g.W.Write.contents c.feed_part.new.writer) c.feed_part.new.line.items)
           (append_assoc bytes done (take n rest)) (c.in-Ok.ensures.feeds start before (bytes ++ done) (so_far start before bytes s)),
     )
@@ -45,7 +45,7 @@ pub returns : goal.returns
 returns g c = λ start before bytes s.
     let (done, split, so_far) = c.loop-rest.invariant in
     let empty : c.loop-rest.rest.now ≡ [] = drop_all 0 c.loop-rest.rest.now (search rules) in
-    subst (λ (xs : List ℕ). Stands g.S.Responder.answers start before xs c.loop-rest.responder
+    subst (λ (xs : List ℕ). KeepsUp g.S.Responder.answers start before xs c.loop-rest.responder
     (g.W.Write.contents c.loop-rest.writer) c.loop-rest.line.items)
     (ap (λ (xs : List ℕ). bytes ++ xs) (sym (split ∙ ap (λ (l : List ℕ). done ++ l) empty ∙ append-nil done)))
     (so_far start before bytes s)

@@ -3,7 +3,7 @@ use Rattle.std.proofs.Common.{append_assoc, take-append-drop, arith}
 use Rattle.std.proofs.lemmas.List.{take_more, length-append}
 use Rattle.nc_lines.specs.Lines.{lines_of}
 use Rattle.nc_lines.specs.Answering.{IsCutShort}
-use Rattle.nc_lines.specs.machinery.Progress.{Stands, Feeds}
+use Rattle.nc_lines.specs.machinery.Progress.{KeepsUp, Feeds}
 use Rattle.nc_lines.proofs.Steps.{stands_part, short_here, feeds_line, feeds_failed}
 use Rattle.nc_lines.proofs.lines.feed_part.Goals as goal
 
@@ -48,7 +48,7 @@ returns-in-Ok-answer_line-clause-feeds g c = λ start before bytes s.
     let next = stands_part answers start before bytes c.args.responder.now (contents c.args.writer.now) c.args.line.now.items
     (take end rest) c.keep.new.line.items s
     c.first_end-end.ensures.open (c.in-Ok.ensures s.part s.is_kept) in
-    subst (λ (xs : List ℕ). Stands answers start before xs c.answer_line.new.responder
+    subst (λ (xs : List ℕ). KeepsUp answers start before xs c.answer_line.new.responder
     (contents c.answer_line.new.writer) c.answer_line.new.line.items)
     (one_end bytes rest end below (c.first_end-end.ensures.end below))
     (feeds_line _ answers start before (bytes ++ take end rest) c.args.responder.now (contents c.args.writer.now) c.keep.new.line.items

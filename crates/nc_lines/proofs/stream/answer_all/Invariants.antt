@@ -1,12 +1,12 @@
 -- How far the run has come, by the bytes that were read.
 use Rattle.std.proofs.Common.{◌≡◌, ℕ, List, length}
 use Rattle.std.specs.Io.KnownBytes.{Consumes}
-use Rattle.nc_lines.specs.machinery.Progress.{Stands}
+use Rattle.nc_lines.specs.machinery.Progress.{KeepsUp}
 use Rattle.nc_lines.proofs.stream.answer_all.Given as goal
 
 abbrev pub invariant-loop : goal.invariant-loop
 invariant-loop g l =
     (front : List ℕ) × Consumes (g.R.Read.remaining l.initial.reader) (g.R.Read.remaining l.reader) front
-    × Stands g.S.Responder.answers l.initial.responder (g.W.Write.contents l.initial.writer) front l.responder
+    × KeepsUp g.S.Responder.answers l.initial.responder (g.W.Write.contents l.initial.writer) front l.responder
     (g.W.Write.contents l.writer) l.line.items
     × (length l.piece ≡ 4096)

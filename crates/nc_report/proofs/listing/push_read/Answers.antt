@@ -3,7 +3,7 @@ use Rattle.std.proofs.lemmas.List.{length-drop, take_rest}
 use Rattle.nc_decode.specs.Spelling.{IsAtFront}
 use Rattle.std.specs.Prelude.{codes}
 use Rattle.nc_report.specs.Listing.{spaced}
-use Rattle.nc_report.specs.machinery.Found.{AreInstructions, ListsFront}
+use Rattle.nc_report.specs.machinery.Found.{AreWholeInstructions, ListsFront}
 use Rattle.nc_report.proofs.ReadFronts.{none_listed, list_more, rest_read, none_left}
 use Rattle.nc_report.proofs.listing.push_read.Goals as goal
 
@@ -27,7 +27,7 @@ loop-at-preserved c =
     (c.in_ok-push_bytes.ensures ∙ ap (λ (z : List ℕ). c.loop-at.out.items ++ spaced z) shown) in (
       omega (arith, len, (c.in-Ok.ensures.sized), length-drop at bytes),
       subst (ListsFront _ _ bytes) (sym to) (list_more _ _ _ bytes at i lists f added),
-      λ r. subst (λ (n : ℕ). AreInstructions (drop n bytes)) (sym to) (rest_read bytes at i (left r) f),
+      λ r. subst (λ (n : ℕ). AreWholeInstructions (drop n bytes)) (sym to) (rest_read bytes at i (left r) f),
     )
 
 pub returns-in_default-clause-whole : goal.returns-in_default-clause-whole

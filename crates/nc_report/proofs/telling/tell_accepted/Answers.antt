@@ -1,6 +1,6 @@
 use Rattle.std.proofs.Common.{ℕ, List, subst, take, refl, inl, inr}
 use Rattle.std.specs.Io.KnownBytes.{Appends}
-use Rattle.nc_report.specs.Report.{IsAccepted}
+use Rattle.nc_report.specs.Report.{TellsAccepted}
 use Rattle.nc_report.proofs.ToldSources.{accepted}
 use Rattle.nc_report.proofs.telling.tell_accepted.Goals as goal
 
@@ -9,7 +9,7 @@ returns-in-Ok-write_out-clause-ok g c =
     let chunk = c.args.chunk.now in
     let out = c.push_accepted.new.out.items in (
       out,
-      subst (λ (z : List ℕ). IsAccepted chunk.limit chunk.base c.args.detail z chunk.code out) c.as_slice-name.ensures.value
+      subst (λ (z : List ℕ). TellsAccepted chunk.limit chunk.base c.args.detail z chunk.code out) c.as_slice-name.ensures.value
           (accepted chunk c.args.detail c.as_slice-name.result.now _ out c.in-Ok.ensures c.new-out.ensures.items),
       subst (λ (xs : List ℕ). Appends (g.W.Write.contents c.args.writer.now) (g.W.Write.contents c.write_out.new.writer) xs)
           c.deref.ensures.value c.in-Ok-write_out.ensures.all,
@@ -25,7 +25,7 @@ returns-clause-cut g c =
       begins = inr (
         out,
         front.0,
-        inl (subst (λ (z : List ℕ). IsAccepted chunk.limit chunk.base c.args.detail z chunk.code out) c.as_slice-name.ensures.value
+        inl (subst (λ (z : List ℕ). TellsAccepted chunk.limit chunk.base c.args.detail z chunk.code out) c.as_slice-name.ensures.value
             (accepted chunk c.args.detail c.as_slice-name.result.now _ out c.in-Ok.ensures c.new-out.ensures.items)),
         refl,
       );

@@ -5,14 +5,14 @@ use Rattle.nc_lines.specs.Lines.{lines_of, ended_lines}
 use Rattle.nc_lines.specs.Answering.{IsAnswered, IsBegun, IsCutShort}
 use Rattle.nc_script.specs.Answers.{AnswersOnly, new_script}
 use Rattle.nc_script.specs.Run.{HasAnswered}
-use Rattle.nc_script.specs.Script.{Seat, Staying}
+use Rattle.nc_script.specs.Script.{ScriptSeat, Staying}
 use Rattle.nc_script.specs.machinery.Session.{FollowsLine}
 use Rattle.nc_script.proofs.Carried.{answered_script, begun_script, cut_script, some_weaker}
 use Rattle.nc_script.proofs.replay.run_new.Goals as goal
 
 pub returns-in-Ok-new-clause-ok : goal.returns-in-Ok-new-clause-ok
 returns-in-Ok-new-clause-ok g c =
-    let seats : List Seat = replicate (length c.in-Ok.passes.items) (Staying 0) in
+    let seats : List ScriptSeat = replicate (length c.in-Ok.passes.items) (Staying 0) in
     let begins = c.in-Ok-new.ensures.script ∙ ap (λ (n : ℕ). new_script c.args.bundles n) c.in-Ok.ensures.count in
     let before = g.W.Write.contents c.args.writer.now in
     let after = g.W.Write.contents c.answer_all.new.writer in
@@ -28,7 +28,7 @@ returns-in-Ok-new-clause-ok g c =
 
 pub returns-in-Ok-new-clause-write_failed : goal.returns-in-Ok-new-clause-write_failed
 returns-in-Ok-new-clause-write_failed g c = λ e.
-    let seats : List Seat = replicate (length c.in-Ok.passes.items) (Staying 0) in
+    let seats : List ScriptSeat = replicate (length c.in-Ok.passes.items) (Staying 0) in
     let begins = c.in-Ok-new.ensures.script ∙ ap (λ (n : ℕ). new_script c.args.bundles n) c.in-Ok.ensures.count in
     let before = g.W.Write.contents c.args.writer.now in
     let after = g.W.Write.contents c.answer_all.new.writer in
@@ -42,7 +42,7 @@ returns-in-Ok-new-clause-write_failed g c = λ e.
 
 pub returns-in-Ok-new-clause-read_failed : goal.returns-in-Ok-new-clause-read_failed
 returns-in-Ok-new-clause-read_failed g c = λ e.
-    let seats : List Seat = replicate (length c.in-Ok.passes.items) (Staying 0) in
+    let seats : List ScriptSeat = replicate (length c.in-Ok.passes.items) (Staying 0) in
     let begins = c.in-Ok-new.ensures.script ∙ ap (λ (n : ℕ). new_script c.args.bundles n) c.in-Ok.ensures.count in
     let (front, consumed, answered) = c.answer_all.ensures.read_failed e in (
       front,
@@ -54,7 +54,7 @@ returns-in-Ok-new-clause-read_failed g c = λ e.
 
 pub returns-in-Ok-new-clause-out_of_memory : goal.returns-in-Ok-new-clause-out_of_memory
 returns-in-Ok-new-clause-out_of_memory g c = λ e.
-    let seats : List Seat = replicate (length c.in-Ok.passes.items) (Staying 0) in
+    let seats : List ScriptSeat = replicate (length c.in-Ok.passes.items) (Staying 0) in
     let begins = c.in-Ok-new.ensures.script ∙ ap (λ (n : ℕ). new_script c.args.bundles n) c.in-Ok.ensures.count in
     let before = g.W.Write.contents c.args.writer.now in
     let after = g.W.Write.contents c.answer_all.new.writer in

@@ -2,14 +2,14 @@ use Rattle.std.proofs.Common.{◌≡◌, ℕ, ◌+◌, ◌-◌, ◌*◌, ◌/◌
 use Rattle.std.specs.Prelude.{slice_index}
 use Rattle.std.proofs.lemmas.Bool.{cases_lt}
 use Rattle.nc_decode.specs.declared.bundle.Bundle.{Bundle}
-use Rattle.nc_decode.specs.Bits.{no_bits, bit_mark, mark_at}
-use Rattle.nc_text.specs.machinery.Pages.{mark_of}
+use Rattle.nc_decode.specs.Bits.{no_bits, bit_mark, mark_by_bits}
+use Rattle.nc_text.specs.machinery.Pages.{mark_in_pages}
 use Rattle.nc_text.proofs.Tables.{made_too}
 use Rattle.nc_text.proofs.table.set_bundles.Goals as goal
 
 -- the mark of a place by the bits of its bundle
 in_its_bundle : (code : List ℕ) (bundles : List Bundle) (n k : ℕ) (w : Bundle) → w ≡ get_or bundles n no_bits → 32 * n ≤ k
-    → k < 32 * n + 32 → bit_mark w (k - 32 * n) (slice_index code (32 * n + (k - 32 * n) + 1)) ≡ mark_at code bundles k
+    → k < 32 * n + 32 → bit_mark w (k - 32 * n) (slice_index code (32 * n + (k - 32 * n) + 1)) ≡ mark_by_bits code bundles k
 in_its_bundle code bundles n k w is low high =
     ap (λ (v : Bundle). bit_mark v (k - 32 * n) (slice_index code (32 * n + (k - 32 * n) + 1))) is
     ∙ (ap (λ (m : ℕ). bit_mark (get_or bundles m no_bits) (k - 32 * n) (slice_index code (32 * n + (k - 32 * n) + 1))) {x = n} {y = k / 32}
@@ -35,7 +35,7 @@ loop-n-preserved c =
         | inl before ↦ c.set_bundle.ensures.others (base + k) (inl (omega arith)) ∙ so.within k before
         | inr from ↦
             let place : base + 32 * n + (k - 32 * n) ≡ base + k = omega arith in
-            subst (λ (j : ℕ). mark_of c.set_bundle.new.pages j ≡ mark_at code c.args.bundles.now k) place
+            subst (λ (j : ℕ). mark_in_pages c.set_bundle.new.pages j ≡ mark_by_bits code c.args.bundles.now k) place
             (c.set_bundle.ensures.within (k - 32 * n) (omega arith)
             ∙ in_its_bundle code c.args.bundles.now n k _ c.bundle_at.ensures from (omega arith))
       ];

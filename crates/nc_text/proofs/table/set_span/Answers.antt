@@ -3,7 +3,7 @@ use Rattle.std.proofs.lemmas.Bool.{cases_lt}
 use Rattle.std.proofs.lemmas.List.{places, length-take, length-drop}
 use Rattle.nc_decode.specs.declared.instruction.Mark.{Mark}
 use Rattle.nc_decode.specs.declared.instruction.Mark.TheVariants.{Unmarked}
-use Rattle.nc_text.specs.machinery.Pages.{mark_of}
+use Rattle.nc_text.specs.machinery.Pages.{mark_in_pages}
 use Rattle.nc_text.proofs.Tables.{made_too}
 use Rattle.nc_text.proofs.table.set_span.Goals as goal
 
@@ -28,7 +28,7 @@ loop-done-preserved c =
         | inl before ↦ c.set_part.ensures.others (start + k) (inl (omega arith)) ∙ so.within k before
         | inr from ↦
             let place : start + done + (k - done) ≡ start + k = omega arith in
-            subst (λ (j : ℕ). mark_of c.set_part.new.pages j ≡ get_or c.args.marks.now k Unmarked) place
+            subst (λ (j : ℕ). mark_in_pages c.set_part.new.pages j ≡ get_or c.args.marks.now k Unmarked) place
             (c.set_part.ensures.within (k - done) (omega (arith, c.min-part.ensures, length-take {A = Mark}, length-drop {A = Mark}))
             ∙ part_at c.args.marks.now done _ k from (omega (arith, c.min-part.ensures)) (omega (arith, c.min-part.ensures)))
       ];

@@ -1,7 +1,7 @@
 use Rattle.std.proofs.Common.{◌≡◌, ℕ, ◌+◌, ◌-◌, arith, subst, ◌∙◌, inl, inr}
 use Rattle.std.proofs.lemmas.Bool.{cases_lt}
 use Rattle.nc_text.specs.MarkedText.{unused_mark}
-use Rattle.nc_text.specs.machinery.Pages.{mark_of}
+use Rattle.nc_text.specs.machinery.Pages.{mark_in_pages}
 use Rattle.nc_text.proofs.table.unmark.Goals as goal
 
 pub loop-done-preserved : goal.loop-done-preserved
@@ -15,7 +15,7 @@ loop-done-preserved c =
         | inl before ↦ c.unmark_part.ensures.others (start + k) (inl (omega arith)) ∙ so.within k before
         | inr from ↦
             let place : start + done + (k - done) ≡ start + k = omega arith in
-            subst (λ (j : ℕ). mark_of c.unmark_part.new.pages j ≡ unused_mark j) place
+            subst (λ (j : ℕ). mark_in_pages c.unmark_part.new.pages j ≡ unused_mark j) place
             (c.unmark_part.ensures.within (k - done) (omega (arith, c.min-part.ensures)))
       ];
       below = λ k lt. c.unmark_part.ensures.others k (inl (omega arith)) ∙ so.below k lt;
@@ -27,5 +27,5 @@ loop-done-preserved c =
 pub returns-clause-within : goal.returns-clause-within
 returns-clause-within c = λ k low high.
     let place : c.args.start + (k - c.args.start) ≡ k = omega arith in
-    subst (λ (j : ℕ). mark_of c.loop-done.pages j ≡ unused_mark j) place
+    subst (λ (j : ℕ). mark_in_pages c.loop-done.pages j ≡ unused_mark j) place
     (c.loop-done.invariant.within (k - c.args.start) (omega arith))

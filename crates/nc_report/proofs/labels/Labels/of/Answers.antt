@@ -1,7 +1,7 @@
 use Rattle.std.proofs.Common.{◌≡◌, ◌-◌, List, get_or, leb, rules, sym, subst, ap, ◌∙◌, arith, None, Some}
 use Rattle.std.proofs.lemmas.List.Sorted.{IsPartitionPoint-from_clause, IsPartitionedBy-leb}
 use Rattle.nc_report.specs.declared.labels.Label.{Label}
-use Rattle.nc_report.specs.Labels.{AreAscending, label_at}
+use Rattle.nc_report.specs.Labels.{LabelsAscend, label_at}
 use Rattle.nc_report.proofs.NearestLabels.{ArePartedAt, none_below, some_below, is_below}
 use Rattle.nc_report.proofs.labels.Labels.of.Goals as goal
 
@@ -9,7 +9,7 @@ pub returns-then-count-eq0-clause-none : goal.returns-then-count-eq0-clause-none
 returns-then-count-eq0-clause-none c =
     let xs = c.deref.result.now in
     let at = c.args.at in
-    let rises : AreAscending xs = subst AreAscending (sym c.deref.ensures.value) c.self.invariant in
+    let rises : LabelsAscend xs = subst LabelsAscend (sym c.deref.ensures.value) c.self.invariant in
     let parted : ArePartedAt xs at c.partition_point-count.result =
     IsPartitionPoint-from_clause (λ (l : Label). leb l.address at) xs c.partition_point-count.result
     c.partition_point-count.ensures.partitioned (IsPartitionedBy-leb (λ (l : Label). l.address) xs at rises) (λ a r q k. search rules) in
@@ -22,7 +22,7 @@ returns-clause-some c =
     let at = c.args.at in
     let count = c.partition_point-count.result in
     let label = c.index.result.now in
-    let rises : AreAscending xs = subst AreAscending (sym c.deref.ensures.value) c.self.invariant in
+    let rises : LabelsAscend xs = subst LabelsAscend (sym c.deref.ensures.value) c.self.invariant in
     let parted : ArePartedAt xs at count =
     IsPartitionPoint-from_clause (λ (l : Label). leb l.address at) xs count
     c.partition_point-count.ensures.partitioned (IsPartitionedBy-leb (λ (l : Label). l.address) xs at rises) (λ a r q k. search rules) in
@@ -37,7 +37,7 @@ returns-clause-below c =
     let at = c.args.at in
     let count = c.partition_point-count.result in
     let label = c.index.result.now in
-    let rises : AreAscending xs = subst AreAscending (sym c.deref.ensures.value) c.self.invariant in
+    let rises : LabelsAscend xs = subst LabelsAscend (sym c.deref.ensures.value) c.self.invariant in
     let parted : ArePartedAt xs at count =
     IsPartitionPoint-from_clause (λ (l : Label). leb l.address at) xs count
     c.partition_point-count.ensures.partitioned (IsPartitionedBy-leb (λ (l : Label). l.address) xs at rises) (λ a r q k. search rules) in

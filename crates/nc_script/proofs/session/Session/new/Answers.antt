@@ -2,7 +2,7 @@ use Rattle.std.proofs.Common.{List, length, map, Some, replicate, sym, ap, ◌�
 use Rattle.nc_gens.specs.Seen.{PassState}
 use Rattle.nc_region.specs.Region.{Region}
 use Rattle.nc_script.specs.Script.{Staying}
-use Rattle.nc_script.specs.machinery.Session.{SessionState, SeatsState, Fits}
+use Rattle.nc_script.specs.machinery.Session.{SessionState, SeatsState, FitsSession}
 use Rattle.nc_script.proofs.FirstState.{first_fits}
 use Rattle.nc_script.proofs.session.Session.new.Goals as goal
 
@@ -19,7 +19,7 @@ returns-in-Ok-clause-fits c =
     let chunks_are = ap (λ (r : Region). r.chunks) c.in-Ok.ensures.region in
     let told_is = ap (λ (r : Region). r.told) c.in-Ok.ensures.region in
     let logged_is = ap (λ (r : Region). r.logged) c.in-Ok.ensures.region in
-    subst (λ (s : SessionState). Fits s (replicate n (Staying 0)) 0)
+    subst (λ (s : SessionState). FitsSession s (replicate n (Staying 0)) 0)
     (λ j. record {
       region = record {
         marked = marked;

@@ -5,7 +5,7 @@ use Rattle.std.proofs.lemmas.Bool.{cases_eq}
 use Rattle.std.proofs.lemmas.Nat.Bits.{bit_at-zero}
 use Rattle.nc_decode.specs.declared.instruction.Mark.TheVariants.{Unmarked, Plain, After}
 use Rattle.nc_decode.specs.declared.bundle.Bundle.{Bundle}
-use Rattle.nc_decode.specs.Bits.{is_start, is_second, bit_mark}
+use Rattle.nc_decode.specs.Bits.{starts_instruction, is_second, bit_mark}
 use Rattle.nc_decode.proofs.Offered.{start_word, second_word}
 use Rattle.nc_text.specs.machinery.Masks.{mark_in, register_in}
 use Rattle.nc_text.specs.declared.masks.Masks.{Masks}
@@ -20,14 +20,14 @@ first_bits : (w : Bundle) (k next : ℕ) → k < 32 → bit_at (w.pairs / 2) k �
 first_bits w k next lt clear =
     let no : is_second w k ≡ false = sym (second_word w k) ∙ ap (λ (n : ℕ). n == 1) clear in
     ap (λ (b : Bool). if b then Plain else (if bit_at 0 k == 1 then After (register_in (starts_of w) k) else Unmarked)) (start_word w k lt)
-    ∙ ap (λ (n : ℕ). if is_start w k then Plain else (if n == 1 then After (register_in (starts_of w) k) else Unmarked)) (bit_at-zero k)
-    ∙ sym (ap (λ (b : Bool). if b then After (next % 8) else (if is_start w k then Plain else Unmarked)) no)
+    ∙ ap (λ (n : ℕ). if starts_instruction w k then Plain else (if n == 1 then After (register_in (starts_of w) k) else Unmarked)) (bit_at-zero k)
+    ∙ sym (ap (λ (b : Bool). if b then After (next % 8) else (if starts_instruction w k then Plain else Unmarked)) no)
 
 -- the mark of a second half
 second_bits : (w : Bundle) (k next : ℕ) → bit_at (w.pairs / 2) k ≡ 1 → After (next % 8) ≡ bit_mark w k next
 second_bits w k next set =
     let yes : is_second w k ≡ true = sym (second_word w k) ∙ ap (λ (n : ℕ). n == 1) set in
-    sym (ap (λ (b : Bool). if b then After (next % 8) else (if is_start w k then Plain else Unmarked)) yes)
+    sym (ap (λ (b : Bool). if b then After (next % 8) else (if starts_instruction w k then Plain else Unmarked)) yes)
 
 pub loop-left-init : goal.loop-left-init
 loop-left-init c =

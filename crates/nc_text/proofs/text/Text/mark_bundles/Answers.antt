@@ -3,7 +3,7 @@ use Rattle.std.proofs.lemmas.Bool.Decides.{nat_tests}
 use Rattle.nc_decode.specs.declared.instruction.Mark.TheVariants.{Unmarked}
 use Rattle.nc_decode.specs.Bits.{marks_in}
 use Rattle.nc_decode.proofs.Offered.{length-marks_in, marks_in-at}
-use Rattle.nc_text.specs.machinery.Pages.{mark_of}
+use Rattle.nc_text.specs.machinery.Pages.{mark_in_pages}
 use Rattle.nc_text.specs.Ready.{TextState}
 use Rattle.nc_text.proofs.Views.{span_done, ready_made, keeps_invariant}
 use Rattle.nc_text.proofs.text.Text.mark_bundles.Goals as goal
@@ -27,7 +27,7 @@ invariant_of-self c =
     c.self.view_is c.self.invariant (omega (arith, first.0, last.1, long))
     (λ k low high.
     let within : k - (c.args.at - 65536) < length c.args.code.now = omega (arith, low, high, long) in
-    subst (λ (j : ℕ). mark_of c.set_bundles.new.pages j ≡ get_or marks (k - (c.args.at - 65536)) Unmarked) (omega arith)
+    subst (λ (j : ℕ). mark_in_pages c.set_bundles.new.pages j ≡ get_or marks (k - (c.args.at - 65536)) Unmarked) (omega arith)
     (c.set_bundles.ensures.within (k - (c.args.at - 65536)) within
     ∙ sym (marks_in-at c.args.code.now c.args.bundles.now (k - (c.args.at - 65536)) Unmarked within)))
     c.set_bundles.ensures.below (λ k past. c.set_bundles.ensures.above k (omega (arith, past, long))) c.set_bundles.ensures.bytes
@@ -47,7 +47,7 @@ returns-clause-marked c =
     c.self.view_is c.self.invariant (omega (arith, first.0, last.1, long))
     (λ k low high.
     let within : k - (c.args.at - 65536) < length c.args.code.now = omega (arith, low, high, long) in
-    subst (λ (j : ℕ). mark_of c.set_bundles.new.pages j ≡ get_or marks (k - (c.args.at - 65536)) Unmarked) (omega arith)
+    subst (λ (j : ℕ). mark_in_pages c.set_bundles.new.pages j ≡ get_or marks (k - (c.args.at - 65536)) Unmarked) (omega arith)
     (c.set_bundles.ensures.within (k - (c.args.at - 65536)) within
     ∙ sym (marks_in-at c.args.code.now c.args.bundles.now (k - (c.args.at - 65536)) Unmarked within)))
     c.set_bundles.ensures.below (λ k past. c.set_bundles.ensures.above k (omega (arith, past, long))) c.set_bundles.ensures.bytes
@@ -67,7 +67,7 @@ returns-clause-made c =
     c.self.view_is c.self.invariant (omega (arith, first.0, last.1, long))
     (λ k low high.
     let within : k - (c.args.at - 65536) < length c.args.code.now = omega (arith, low, high, long) in
-    subst (λ (j : ℕ). mark_of c.set_bundles.new.pages j ≡ get_or marks (k - (c.args.at - 65536)) Unmarked) (omega arith)
+    subst (λ (j : ℕ). mark_in_pages c.set_bundles.new.pages j ≡ get_or marks (k - (c.args.at - 65536)) Unmarked) (omega arith)
     (c.set_bundles.ensures.within (k - (c.args.at - 65536)) within
     ∙ sym (marks_in-at c.args.code.now c.args.bundles.now (k - (c.args.at - 65536)) Unmarked within)))
     c.set_bundles.ensures.below (λ k past. c.set_bundles.ensures.above k (omega (arith, past, long))) c.set_bundles.ensures.bytes
@@ -87,7 +87,7 @@ returns-clause-whole c =
     c.self.view_is c.self.invariant (omega (arith, first.0, last.1, long))
     (λ k low high.
     let within : k - (c.args.at - 65536) < length c.args.code.now = omega (arith, low, high, long) in
-    subst (λ (j : ℕ). mark_of c.set_bundles.new.pages j ≡ get_or marks (k - (c.args.at - 65536)) Unmarked) (omega arith)
+    subst (λ (j : ℕ). mark_in_pages c.set_bundles.new.pages j ≡ get_or marks (k - (c.args.at - 65536)) Unmarked) (omega arith)
     (c.set_bundles.ensures.within (k - (c.args.at - 65536)) within
     ∙ sym (marks_in-at c.args.code.now c.args.bundles.now (k - (c.args.at - 65536)) Unmarked within)))
     c.set_bundles.ensures.below (λ k past. c.set_bundles.ensures.above k (omega (arith, past, long))) c.set_bundles.ensures.bytes

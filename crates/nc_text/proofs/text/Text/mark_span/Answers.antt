@@ -1,7 +1,7 @@
 use Rattle.std.proofs.Common.{◌≡◌, ℕ, ◌-◌, ◌<◌, length, get_or, arith, subst, ap}
 use Rattle.std.proofs.lemmas.Bool.Decides.{nat_tests}
 use Rattle.nc_decode.specs.declared.instruction.Mark.TheVariants.{Unmarked}
-use Rattle.nc_text.specs.machinery.Pages.{mark_of}
+use Rattle.nc_text.specs.machinery.Pages.{mark_in_pages}
 use Rattle.nc_text.specs.Ready.{TextState}
 use Rattle.nc_text.proofs.Views.{span_done, ready_made, keeps_invariant}
 use Rattle.nc_text.proofs.text.Text.mark_span.Goals as goal
@@ -21,7 +21,7 @@ invariant_of-self c =
     span_done c.self.inside.pages.items c.deref_mut.result.now c.set_span.new.pages c.self.inside.size c.self.inside.pages.len c.args.at
     c.args.marks.now c.args.self.now c.deref_mut.ensures.value (omega (arith, c.self.inside.pages.ok.0)) c.set_span.auto.pages
     c.self.view_is c.self.invariant (omega (arith, first.0, last.1))
-    (λ k low high. subst (λ (j : ℕ). mark_of c.set_span.new.pages j ≡ get_or c.args.marks.now (k - (c.args.at - 65536)) Unmarked)
+    (λ k low high. subst (λ (j : ℕ). mark_in_pages c.set_span.new.pages j ≡ get_or c.args.marks.now (k - (c.args.at - 65536)) Unmarked)
     (omega arith) (c.set_span.ensures.within (k - (c.args.at - 65536)) (omega arith)))
     c.set_span.ensures.below c.set_span.ensures.above c.set_span.ensures.bytes c.set_span.ensures.made c.requires.closed in
     keeps_invariant _ _ _ done
@@ -35,7 +35,7 @@ returns-clause-marked c =
     span_done c.self.inside.pages.items c.deref_mut.result.now c.set_span.new.pages c.self.inside.size c.self.inside.pages.len c.args.at
     c.args.marks.now c.args.self.now c.deref_mut.ensures.value (omega (arith, c.self.inside.pages.ok.0)) c.set_span.auto.pages
     c.self.view_is c.self.invariant (omega (arith, first.0, last.1))
-    (λ k low high. subst (λ (j : ℕ). mark_of c.set_span.new.pages j ≡ get_or c.args.marks.now (k - (c.args.at - 65536)) Unmarked)
+    (λ k low high. subst (λ (j : ℕ). mark_in_pages c.set_span.new.pages j ≡ get_or c.args.marks.now (k - (c.args.at - 65536)) Unmarked)
     (omega arith) (c.set_span.ensures.within (k - (c.args.at - 65536)) (omega arith)))
     c.set_span.ensures.below c.set_span.ensures.above c.set_span.ensures.bytes c.set_span.ensures.made c.requires.closed in
     ap (λ (t : TextState). t.marked) done.seen
@@ -49,7 +49,7 @@ returns-clause-made c =
     span_done c.self.inside.pages.items c.deref_mut.result.now c.set_span.new.pages c.self.inside.size c.self.inside.pages.len c.args.at
     c.args.marks.now c.args.self.now c.deref_mut.ensures.value (omega (arith, c.self.inside.pages.ok.0)) c.set_span.auto.pages
     c.self.view_is c.self.invariant (omega (arith, first.0, last.1))
-    (λ k low high. subst (λ (j : ℕ). mark_of c.set_span.new.pages j ≡ get_or c.args.marks.now (k - (c.args.at - 65536)) Unmarked)
+    (λ k low high. subst (λ (j : ℕ). mark_in_pages c.set_span.new.pages j ≡ get_or c.args.marks.now (k - (c.args.at - 65536)) Unmarked)
     (omega arith) (c.set_span.ensures.within (k - (c.args.at - 65536)) (omega arith)))
     c.set_span.ensures.below c.set_span.ensures.above c.set_span.ensures.bytes c.set_span.ensures.made c.requires.closed in
     ap (λ (t : TextState). t.made) done.seen
@@ -63,7 +63,7 @@ returns-clause-whole c =
     span_done c.self.inside.pages.items c.deref_mut.result.now c.set_span.new.pages c.self.inside.size c.self.inside.pages.len c.args.at
     c.args.marks.now c.args.self.now c.deref_mut.ensures.value (omega (arith, c.self.inside.pages.ok.0)) c.set_span.auto.pages
     c.self.view_is c.self.invariant (omega (arith, first.0, last.1))
-    (λ k low high. subst (λ (j : ℕ). mark_of c.set_span.new.pages j ≡ get_or c.args.marks.now (k - (c.args.at - 65536)) Unmarked)
+    (λ k low high. subst (λ (j : ℕ). mark_in_pages c.set_span.new.pages j ≡ get_or c.args.marks.now (k - (c.args.at - 65536)) Unmarked)
     (omega arith) (c.set_span.ensures.within (k - (c.args.at - 65536)) (omega arith)))
     c.set_span.ensures.below c.set_span.ensures.above c.set_span.ensures.bytes c.set_span.ensures.made c.requires.closed in
     (keeps_invariant _ _ _ done).0

@@ -1,7 +1,7 @@
 use Rattle.std.proofs.Common.{ℕ, ◌≡◌, ◌+◌, ◌-◌, ◌%◌, ◌<◌, length, List, get_or, arith, ap, sym, ◌∙◌}
 use Rattle.nc_decode.specs.declared.instruction.Mark.TheVariants.{Unmarked}
 use Rattle.nc_text.specs.Marks.{mark_bit}
-use Rattle.nc_text.specs.machinery.Pages.{Slot, mark_of}
+use Rattle.nc_text.specs.machinery.Pages.{Slot, mark_in_pages}
 use Rattle.nc_text.specs.Ready.{TextState}
 use Rattle.nc_text.proofs.Views.{bytes_long, mark_seen}
 use Rattle.nc_text.proofs.text.Text.marked_places.Goals as goal
@@ -23,7 +23,7 @@ returns c = λ k lt.
     let inside : at - 65536 + k < c.self.inside.size =
     omega (arith, long, same, whole, lt, c.requires.inside.0, c.requires.inside.1, c.requires.start) in
     let moved : at - 65536 + k ≡ at + k - 65536 = omega (arith, c.requires.inside.0) in
-    c.marked.ensures k lt ∙ ap mark_bit (ap (λ (ps : List Slot). mark_of ps (at - 65536 + k)) c.deref.ensures.value
+    c.marked.ensures k lt ∙ ap mark_bit (ap (λ (ps : List Slot). mark_in_pages ps (at - 65536 + k)) c.deref.ensures.value
     ∙ (sym (mark_seen pages c.self.inside.size (at - 65536 + k) inside)
     ∙ (ap (λ (t : TextState). get_or t.marked.marks (at - 65536 + k) Unmarked) c.self.view_is
     ∙ ap (λ (j : ℕ). get_or c.args.self.now.marked.marks j Unmarked) moved)))

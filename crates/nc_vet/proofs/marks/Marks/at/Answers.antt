@@ -3,7 +3,7 @@ use Rattle.std.specs.Prelude.{slice_get}
 use Rattle.std.proofs.lemmas.Option.{slice_get_read}
 use Rattle.nc_decode.specs.declared.bundle.Bundle.{Bundle}
 use Rattle.nc_vet.specs.declared.marks.Marks.{Marks}
-use Rattle.nc_decode.specs.Bits.{mark_at, marks_in}
+use Rattle.nc_decode.specs.Bits.{mark_by_bits, marks_in}
 use Rattle.nc_vet.specs.Listed.{listed}
 use Rattle.nc_decode.proofs.Offered.{marks_in-at, length-marks_in}
 use Rattle.nc_vet.proofs.marks.Marks.at.Goals as goal
@@ -13,8 +13,8 @@ index-requires c = omega (arith, c.requires.each, ap (λ (m : Marks). length (li
 
 pub returns-in-Bits : goal.returns-in-Bits
 returns-in-Bits c =
-    let read : c.mark_at.result ≡ mark_at c.args.code.now c.in-Bits.bundles.items c.args.k =
-    c.mark_at.ensures ∙ ap (λ (z : List Bundle). mark_at c.args.code.now z c.args.k) c.deref.ensures.value in
+    let read : c.mark_at.result ≡ mark_by_bits c.args.code.now c.in-Bits.bundles.items c.args.k =
+    c.mark_at.ensures ∙ ap (λ (z : List Bundle). mark_by_bits c.args.code.now z c.args.k) c.deref.ensures.value in
     let is : c.mark_at.result ≡ get_or (marks_in c.args.code.now c.in-Bits.bundles.items) c.args.k c.mark_at.result =
     read ∙ sym (marks_in-at c.args.code.now c.in-Bits.bundles.items c.args.k c.mark_at.result c.requires.place) in
     subst (λ (m : Marks). slice_get (listed c.args.code.now m) c.args.k ≡ Some c.mark_at.result) (sym c.in-Bits.is)
