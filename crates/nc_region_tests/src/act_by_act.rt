@@ -249,19 +249,19 @@ static LIFE_WITH_CALL: Steps<'static> = Steps {
 };
 
 /// Acts that are watched and told.
-trait Findable {
+trait Finder {
     /// What was found, and how many acts are told.
     fn found(&self) -> (Findings, usize);
 }
 
-impl<A: Acts + Telling + Drop> Findable for Watcher<A> {
+impl<A: Acts + Telling + Drop> Finder for Watcher<A> {
     fn found(&self) -> (Findings, usize) {
         (self.findings(), self.acts().told().unwrap_or(&[]).len())
     }
 }
 
 /// What is found in a life in this region.
-fn live_in<A: Acts + Findable + Drop>(
+fn live_in<A: Acts + Finder + Drop>(
     alloc: Global,
     region: &mut RegionOf<A>,
     gens: &Gens,

@@ -9,8 +9,8 @@ kept_back : (P : Pass → Type 0) (old new : List Pass) (n : ℕ) → All P old 
 kept_back P old new n before now = All-take P n (new ++ drop (length new) old)
     (All-append P new (drop (length new) old) now (All-drop P (length new) old before))
 
-pub last_leaves-requires : goal.last_leaves-requires
-last_leaves-requires g c =
+pub last_leaves-requires-after_bounds : goal.last_leaves-requires-after_bounds
+last_leaves-requires-after_bounds g c κs _ =
     let P : Pass → Type 0 = λ p. p.table ≡ c.args.shared.now in
     let before : All P c.args.passes.items = c.requires in
     kept_back P c.args.passes.items c.check_in_beside.new.passes c.args.passes.len before c.check_in_beside.ensures
