@@ -1,12 +1,17 @@
 -- Members of an object, written one after the other.
-use Rattle.std.proofs.Common.{◌≡◌, ℕ, ◌-◌, List, [], ◌∷◌, ◌++◌, sym, subst, ◌∙◌, ap, append_assoc, Option, Some}
+use Rattle.std.proofs.Common.{◌≡◌, ◌≢◌, ◌≤◌, ◌<◌, arith, ℕ, ◌-◌, List, [], ◌∷◌, ◌++◌, sym, subst, ◌∙◌, ap, append_assoc, Option, Some}
+use Rattle.std.proofs.lemmas.Bool.Decides.{nat_tests}
 use Rattle.std.specs.Prelude.{codes}
 use Rattle.nc_vet.specs.declared.fault.VetFault.{VetFault}
 use Rattle.nc_lines.specs.Replies.{reply_line, address_digits}
 use Rattle.nc_report.specs.declared.labels.Label.{Label}
 use Rattle.nc_report.specs.Labels.{label_at}
 use Rattle.nc_report.specs.Advice.{words_about}
-use Rattle.nc_report.specs.Objects.{string_member, symbol_member, place_members}
+use Rattle.nc_report.specs.Objects.{escaped, string_member, symbol_member, place_members}
+
+-- a byte that stands for itself
+pub escaped_plain : (byte : ℕ) → byte ≢ 0x22 → byte ≢ 0x5C → 0x20 ≤ byte → byte < 0x7F → escaped byte ≡ byte ∷ []
+escaped_plain byte quoted slashed low high = grind (arith, nat_tests)
 
 -- three lists after another one
 joined3 : (o a b c : List ℕ) → ((o ++ a) ++ b) ++ c ≡ o ++ (a ++ (b ++ c))

@@ -1,12 +1,24 @@
 -- Code that is read step by step.
 use Rattle.std.proofs.Common.{◌≡◌, ◌≢◌, ℕ, ◌+◌, ◌-◌, ◌%◌, ◌<◌, ◌≤◌, List, [], ◌∷◌, ◌++◌, length, drop, refl, sym, subst, ◌∙◌, ap, arith}
-use Rattle.std.proofs.Common.{append_assoc, append-nil, Option, None}
+use Rattle.std.proofs.Common.{append_assoc, append-nil, Option, None, Some, true, false}
+use Rattle.std.specs.Prelude.{MatchOption}
 use Rattle.std.proofs.lemmas.List.{length-append, length-replicate, drop-drop, length-drop}
 use Rattle.nc_vet.proofs.Offered.{flat_map-append}
 use Rattle.nc_report.specs.declared.spot.Spot.{Spot}
 use Rattle.nc_report.specs.declared.steps.Step.{Step}
 use Rattle.nc_report.specs.Reading.{ReadsFrom, IsReading, IsStep, masked_by, step_spots, spots_of, later_spot}
 use Rattle.nc_report.specs.machinery.Seen.{HasSpots, HasSeenTo}
+
+-- a step over an instruction whose length is known
+pub known_step : (known : Option ℕ) (room len : ℕ) → known ≡ Some len
+    → MatchOption known ((true ≡ false) × (len ≡ room)) (λ n. (true ≡ true) × (len ≡ n))
+known_step known room len e =
+    subst (λ (o : Option ℕ). MatchOption o ((true ≡ false) × (len ≡ room)) (λ n. (true ≡ true) × (len ≡ n))) (sym e) (refl, refl)
+
+-- a step to the end of the bundle
+pub cut_step : (known : Option ℕ) (room : ℕ) → known ≡ None → MatchOption known ((false ≡ false) × (room ≡ room)) (λ n. (false ≡ true) × (room ≡ n))
+cut_step known room e =
+    subst (λ (o : Option ℕ). MatchOption o ((false ≡ false) × (room ≡ room)) (λ n. (false ≡ true) × (room ≡ n))) (sym e) (refl, refl)
 
 -- before the first step
 pub none_read_yet : (code : List ℕ) (spots : List Spot) → spots ≡ [] → HasSeenTo code 0 None spots

@@ -57,6 +57,27 @@ pub fn read_source<R: Read>(
     let Ok(mut code) = Vec::with_capacity(alloc, expected.min(MOST_BYTES)) else {
         return Err(SourceFault::OutOfMemory);
     };
+    match read_pieces(&mut code, reader) {
+        Ok(()) => {}
+        Err(fault) => return Err(fault),
+    }
+    let labels = Labels::none(alloc);
+    Ok(Source { name, code, labels })
+}
+
+/// Reads what a reader has into an empty list.
+fn read_pieces<R: Read>(code: &mut Vec<u8>, reader: &mut R) -> Result<(), SourceFault>
+    requires { code.old.items ≡ [] }
+    ensures code { OnOk result (IfSome (R.remaining reader.old) (λ input. code.new.items ≡ input)) }
+    ensures read { OnOk result (IsAtEnd (R.remaining reader.new)) }
+    ensures fits { OnOk result (vec_len code.new ≤ MOST_BYTES) }
+    ensures too_long { IsErrOf result SourceFault.TooLong → (front : List ℕ)
+        × Consumes (R.remaining reader.old) (R.remaining reader.new) front × (MOST_BYTES < length front) }
+    ensures read_failed { IsErrOf result SourceFault.ReadFailed → (front : List ℕ)
+        × Consumes (R.remaining reader.old) (R.remaining reader.new) front × (length front ≤ MOST_BYTES) }
+    ensures out_of_memory { IsErrOf result SourceFault.OutOfMemory → (front : List ℕ)
+        × Consumes (R.remaining reader.old) (R.remaining reader.new) front × (length front ≤ MOST_BYTES) }
+{
     let mut piece = [0u8; 32768];
     // Each read but the last gives a byte.
     for _ in 0..=MOST_BYTES {
@@ -65,8 +86,7 @@ pub fn read_source<R: Read>(
             Err(_) => return Err(SourceFault::ReadFailed),
         };
         if count == 0 {
-            let labels = Labels::none(alloc);
-            return Ok(Source { name, code, labels });
+            return Ok(());
         }
         if MOST_BYTES - code.len() < count {
             return Err(SourceFault::TooLong);

@@ -10,7 +10,7 @@ use nc_decode::{BUNDLE, DecodeFault, Instr, decode};
 use std::alloc::{AllocError, Global};
 
 /// What stands at a place.
-#[derive(Clone, Copy, Debug, PartialEq, Eq)]
+#[derive(Clone, Copy)]
 pub(crate) enum Found {
     /// An instruction that may stand there.
     Sound(Instr),
@@ -23,7 +23,7 @@ pub(crate) enum Found {
 }
 
 /// One step of the reading.
-#[derive(Clone, Copy, Debug, PartialEq, Eq)]
+#[derive(Clone, Copy)]
 pub(crate) struct Step {
     /// What stands where it begins.
     pub found: Found,

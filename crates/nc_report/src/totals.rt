@@ -16,7 +16,7 @@ use nc_vet::VetFault;
 use std::alloc::{AllocError, Global};
 
 /// How many faults of each kind there are.
-#[derive(Clone, Copy, Debug, PartialEq, Eq)]
+#[derive(Clone, Copy)]
 pub(crate) struct Counts {
     pub crosses: usize,
     pub not_permitted: usize,
