@@ -51,6 +51,14 @@ apart_stay bytes base len stamp chunks low high placed apart other =
     (subst (λ (n : ℕ). Each (λ (c : Chunk). (c.base + c.length ≤ base) ⊎ (base + n ≤ c.base)) chunks) (sym long) apart)
     ∙ sym (others_stay base stamp (map (script_chunk bytes) chunks) (bases bytes base chunks other))
 
+-- a chunk at an index has a good span where each has one
+pub placed_at : (bytes : List ℕ) (k : ℕ) (chunks : List Chunk) (c : Chunk)
+    → Each (λ (d : Chunk). HasGoodSpan d.base (limit_of bytes) d.length) chunks → slice_get chunks k ≡ Some c
+    → HasGoodSpan c.base (limit_of bytes) c.length
+placed_at bytes k [] c p e = absurd cc
+placed_at bytes zero (x ∷ xs) c p e = let same : x ≡ c = cc in subst (λ (y : Chunk). HasGoodSpan y.base (limit_of bytes) y.length) same p.0
+placed_at bytes (suc k) (x ∷ xs) c p e = placed_at bytes k xs c p.1 e
+
 -- the chunks of the script after one of them was deleted
 pub retired_chunks : (bytes : List ℕ) (stamp from k : ℕ) (chunks : List Chunk) (c : Chunk) → IsRising from chunks
     → Each (λ (d : Chunk). HasGoodSpan d.base (limit_of bytes) d.length) chunks → slice_get chunks k ≡ Some c
@@ -84,7 +92,7 @@ retired_chunks bytes stamp from zero (d ∷ rest) c rising placed is =
 retired_chunks bytes stamp from (suc k) (d ∷ rest) c rising placed is =
     let new = with_span bytes (c.base - 0x10000) (replicate c.length 0xF4) in
     let below : d.base + d.length ≤ c.base = rises_at (d.base + d.length) k rest c rising.1 is in
-    let there = placed_at k rest c placed.1 is in
+    let there = placed_at bytes k rest c placed.1 is in
     let first = apart_stay bytes c.base c.length stamp (d ∷ []) there.low (omega (arith, there.high)) (placed.0, tt) (inl below, tt)
     ((λ e. omega (arith, e, below, placed.0.some)), tt) in
     let one : script_chunk new d ≡ retired_at c.base stamp (script_chunk bytes d) = cc in
@@ -96,12 +104,6 @@ retired_chunks bytes stamp from (suc k) (d ∷ rest) c rising placed is =
     rises_at from k [] c r e = absurd cc
     rises_at from zero (x ∷ xs) c r e = let same : x ≡ c = cc in subst (λ (y : Chunk). from ≤ y.base) same r.0
     rises_at from (suc k) (x ∷ xs) c r e = omega (arith, r.0, rises_at (x.base + x.length) k xs c r.1 e)
-
-    placed_at : (k : ℕ) (rest : List Chunk) (c : Chunk) → Each (λ (d : Chunk). HasGoodSpan d.base (limit_of bytes) d.length) rest
-        → slice_get rest k ≡ Some c → HasGoodSpan c.base (limit_of bytes) c.length
-    placed_at k [] c p e = absurd cc
-    placed_at zero (x ∷ xs) c p e = let same : x ≡ c = cc in subst (λ (y : Chunk). HasGoodSpan y.base (limit_of bytes) y.length) same p.0
-    placed_at (suc k) (x ∷ xs) c p e = placed_at k xs c p.1 e
 
 -- a chunk that is live in the region is live in the script
 live_state : (bytes : List ℕ) (base len : ℕ) (s : ChunkState) → IsLive s → reuse.IsLiveState (state_in bytes base len s)

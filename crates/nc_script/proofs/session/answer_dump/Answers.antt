@@ -1,7 +1,8 @@
-use Rattle.std.proofs.Common.{◌∙◌, sym}
+use Rattle.std.proofs.Common.{◌∙◌, sym, arith}
 use Rattle.nc_script.specs.machinery.Session.{script_chunk}
 use Rattle.nc_script.specs.Replies.{chunk_words}
 use Rattle.nc_script.proofs.DumpReply.{dump_more}
+use Rattle.nc_script.proofs.RetiredChunks.{placed_at}
 use Rattle.nc_script.proofs.session.answer_dump.Goals as goal
 
 pub loop-i-preserved : goal.loop-i-preserved
@@ -10,3 +11,24 @@ loop-i-preserved c =
     dump_more (script_chunk region.marked.bytes) chunk_words region.chunks c.loop-i.i c.unwrap-chunk.result c.extend_from_slice.new.self.items
     c.loop-i.out.items c.push_chunk.new.out.items
     (sym c.chunk.ensures ∙ c.unwrap-chunk.ensures) c.loop-i.invariant c.in_ok-push_chunk.ensures
+
+pub push_chunk-requires-clause-low : goal.push_chunk-requires-clause-low
+push_chunk-requires-clause-low c =
+    let region = c.args.region.now in
+    let span = placed_at region.marked.bytes c.loop-i.i region.chunks c.unwrap-chunk.result c.chunk_count-i-end.ensures.region.placed
+    (sym c.chunk.ensures ∙ c.unwrap-chunk.ensures) in
+    span.low
+
+pub push_chunk-requires-clause-high : goal.push_chunk-requires-clause-high
+push_chunk-requires-clause-high c =
+    let region = c.args.region.now in
+    let span = placed_at region.marked.bytes c.loop-i.i region.chunks c.unwrap-chunk.result c.chunk_count-i-end.ensures.region.placed
+    (sym c.chunk.ensures ∙ c.unwrap-chunk.ensures) in
+    omega (arith, span.high)
+
+pub push_chunk-requires-clause-fits : goal.push_chunk-requires-clause-fits
+push_chunk-requires-clause-fits c =
+    let region = c.args.region.now in
+    let span = placed_at region.marked.bytes c.loop-i.i region.chunks c.unwrap-chunk.result c.chunk_count-i-end.ensures.region.placed
+    (sym c.chunk.ensures ∙ c.unwrap-chunk.ensures) in
+    omega (arith, span.high, span.lawful)
