@@ -140,7 +140,14 @@ pub(crate) fn request_of(alloc: Global, line: &[u8]) -> Result<Option<Request>, 
         return Ok(None);
     }
     let words = words_of(alloc, line)?;
-    let Some((key, rest)) = words.as_slice().split_first() else {
+    asked_by(alloc, words.as_slice())
+}
+
+/// What the words of a line ask for, or nothing where they have no such form.
+fn asked_by(alloc: Global, words: &[&[u8]]) -> Result<Option<Request>, AllocError>
+    ensures { IfOk result (λ found. option_map shown found ≡ spec.request_of (map (λ word. word.now) words.now)) }
+{
+    let Some((key, rest)) = words.split_first() else {
         return Ok(None);
     };
     if *key == b"create".as_slice() {
