@@ -21,3 +21,4 @@ pub mod Reclaimed
 pub mod LineAnswers
 pub mod FirstState
 pub mod Carried
+pub mod ChoiceWords
