@@ -1,8 +1,8 @@
 -- The words of a dump, one chunk more at a time.
-use Rattle.std.proofs.Common.{◌≡◌, ℕ, ◌+◌, List, [], ◌∷◌, ◌++◌, take, map, Some, sym, ap, ◌∙◌, append_assoc, append-nil}
+use Rattle.std.proofs.Common.{◌≡◌, ℕ, ◌+◌, ◌≤◌, length, List, [], ◌∷◌, ◌++◌, take, map, Some, sym, ap, ◌∙◌, append_assoc, append-nil}
 use Rattle.std.specs.List.{flat_map, slice_get}
 use Rattle.std.proofs.lemmas.Grind.{flat_map-append}
-use Rattle.std.proofs.lemmas.List.{map-append, take_more}
+use Rattle.std.proofs.lemmas.List.{map-append, take_more, take_all}
 use Rattle.std.proofs.lemmas.Option.{get_or_from_slice_get, slice_get_within}
 
 -- the words of the next element comes after those of the elements before
@@ -18,3 +18,14 @@ dump_more shown words xs i x start now new is e f =
     ∙ append_assoc start (flat_map words front) (words (shown x))
     ∙ ap (λ (ys : List ℕ). start ++ (flat_map words front ++ ys)) (sym (append-nil (words (shown x))))
     ∙ ap (λ (ys : List ℕ). start ++ ys) (sym (ap (flat_map words) shown_longer ∙ flat_map-append words front (shown x ∷ [])))
+
+-- the end of the line comes after the words of all elements
+pub dump_whole : {X Y : Type 0} (shown : X → Y) (words : Y → List ℕ) (xs : List X) (i : ℕ) (old head start now new : List ℕ) → length xs ≤ i
+    → start ≡ old ++ head → now ≡ start ++ flat_map words (map shown (take i xs)) → new ≡ now ++ 10 ∷ []
+    → new ≡ old ++ ((head ++ flat_map words (map shown xs)) ++ 10 ∷ [])
+dump_whole shown words xs i old head start now new past e f g =
+    let all = flat_map words (map shown xs) in
+    g
+    ∙ ap (λ (z : List ℕ). z ++ 10 ∷ [])
+    (f ∙ ap (λ ys. start ++ flat_map words (map shown ys)) (take_all i xs past) ∙ ap (λ (z : List ℕ). z ++ all) e ∙ append_assoc old head all)
+    ∙ append_assoc old (head ++ all) (10 ∷ [])

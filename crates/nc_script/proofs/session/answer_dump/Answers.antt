@@ -1,7 +1,9 @@
-use Rattle.std.proofs.Common.{◌∙◌, sym, arith}
+use Rattle.std.proofs.Common.{◌∙◌, sym, refl, map, arith}
 use Rattle.nc_script.specs.machinery.Session.{script_chunk}
-use Rattle.nc_script.specs.Replies.{chunk_words}
-use Rattle.nc_script.proofs.DumpReply.{dump_more}
+use Rattle.nc_script.specs.Replies.{chunk_words, dump_reply}
+use Rattle.std.specs.Prelude.{codes}
+use Rattle.nc_lines.specs.Replies.{reply_line}
+use Rattle.nc_script.proofs.DumpReply.{dump_more, dump_whole}
 use Rattle.nc_script.proofs.RetiredChunks.{placed_at}
 use Rattle.nc_script.proofs.session.answer_dump.Goals as goal
 
@@ -32,3 +34,13 @@ push_chunk-requires-clause-fits c =
     let span = placed_at region.marked.bytes c.loop-i.i region.chunks c.unwrap-chunk.result c.chunk_count-i-end.ensures.region.placed
     (sym c.chunk.ensures ∙ c.unwrap-chunk.ensures) in
     omega (arith, span.high, span.lawful)
+
+pub returns : goal.returns
+returns c =
+    let region = c.args.region.now in
+    let shown = script_chunk region.marked.bytes in (
+      reply_line (dump_reply (map shown region.chunks)),
+      dump_whole shown chunk_words region.chunks c.loop-i.i c.args.out.now.items (codes "dump") c.extend_from_slice.new.self.items
+          c.loop-i.out.items c.push.new.self.items (omega arith) c.in_ok-extend_from_slice.ensures.items c.loop-i.invariant c.in_ok-push.ensures.items,
+      λ seats given freed fits. (given, freed, (refl, refl), fits),
+    )
