@@ -1,16 +1,16 @@
 //! A region's life, act by act.
 ghost use Rattle.std.specs.Prelude.{◌≡◌};
+ghost use Rattle.nc_region.specs.Region.{IsNew};
 
 use crate::fixtures::LIMIT;
 use crate::steps::{Step, Steps, take_both};
-use crate::trial::Telling;
+use crate::trial::{Telling, recorder};
 use crate::walking::Copied;
 use crate::watcher::{Findings, Watcher};
 use nc_calls::law_of_calls;
 use nc_decode::Mark;
-use nc_gens::{Gens, Keeper, Pass};
-use nc_region::{Acts, Plain, Recorder, RegionOf, law_of_schedules};
-use nc_text::Text;
+use nc_gens::{Gens, Pass};
+use nc_region::{Acts, RegionOf, law_of_schedules};
 use std::alloc::Global;
 use std::test::Fail;
 
@@ -179,24 +179,6 @@ fn broken_pairs(_rt: HostRuntime) -> Result<(), Fail> {
     try_pairs(&PAIRS)
 }
 
-/// A watched region of this size that tells at most this many acts.
-fn watched<'g>(
-    alloc: Global,
-    gens: &'g Gens,
-    keeper: Keeper,
-    bundles: u32,
-    room: usize,
-) -> Result<RegionOf<Watcher<Recorder<Plain<'g>>>>, Fail>
-    requires { keeper.table ≡ gens.now }
-{
-    let text = match Text::new(alloc, bundles) {
-        Ok(text) => text,
-        Err(fault) => return Err(Fail::new(format_args!("{fault:?}"))),
-    };
-    let recorder = Recorder::new(alloc, Plain::new(text, gens, keeper), room)?;
-    Ok(RegionOf::over(alloc, Watcher::new(recorder)))
-}
-
 /// What was found after 135 acts: no fault; the second half of the pair marked after each from its marking, the 32nd, to
 /// the look, the 101st; its span all stops after the bump, the look and the unmarking.
 const WANTED: Findings = Findings {
@@ -275,12 +257,26 @@ fn live_in<A: Acts + Finder + Drop>(
     Ok(region.acts().found())
 }
 
+/// What is found in a life in a new region over these acts.
+fn live_over<A: Acts + Telling + Drop>(
+    alloc: Global,
+    acts: A,
+    gens: &Gens,
+    pass: Pass,
+    life: &Steps<'_>,
+) -> Result<(Findings, usize), Fail>
+    requires { IsNew (A.marked acts) × (pass.table ≡ gens.now) }
+{
+    let mut region = RegionOf::over(alloc, Watcher::new(acts));
+    live_in(alloc, &mut region, gens, pass, life)
+}
+
 /// What is found in a life, and how many acts the recorder told.
 fn live(alloc: Global, life: &Steps<'_>) -> Result<(Findings, usize), Fail> {
     let (gens, keeper, mut passes) = Gens::new(alloc, 1)?;
     let pass = passes.remove(0);
-    let mut region = watched(alloc, &gens, keeper, 4, 200)?;
-    live_in(alloc, &mut region, &gens, pass, life)
+    let acts = recorder(alloc, 4, 200, &gens, keeper)?;
+    live_over(alloc, acts, &gens, pass, life)
 }
 
 /// This is found in a life, and the recorder told as many acts.

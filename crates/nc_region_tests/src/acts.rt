@@ -3,7 +3,7 @@ ghost use Rattle.std.specs.Prelude.{◌≡◌};
 
 use crate::calls::Calls;
 use crate::fixtures::chunk;
-use crate::steps::{Step, take_steps};
+use crate::steps::{Step, Steps, creates, take_both};
 use crate::trial::{Telling, Trial, try_in_region};
 use nc_gens::{Gens, Pass};
 use nc_region::{Act, Acts, DeleteFault, Entry, ModifyFault, RegionOf};
@@ -103,17 +103,18 @@ fn owed(alloc: Global, code: &[u8], len: u32) -> Result<Vec<Entry>, Fail> {
     Ok(owed)
 }
 
-/// After the creation: the patch, a patch and a deletion that are refused, the deletion, and a look in vain.
-static UNTIL_RETIRED: [Step<'static>; 5] = [
-    Step::Modify(BASE, PATCH, Ok(())),
-    Step::Modify(BASE, &[0xC3], Err(ModifyFault::NotPermitted)),
-    Step::Delete(0x10000, Err(DeleteFault::NoChunk)),
-    Step::Delete(BASE, Ok(1)),
-    Step::Reclaim(0),
-];
-
-/// Once the seat has checked in.
-static THEN: [Step<'static>; 1] = [Step::Reclaim(1)];
+/// After the creation: the patch, a patch and a deletion that are refused, the deletion, and a look in vain; and a look once the
+/// seat has checked in.
+static LIFE: Steps<'static> = Steps {
+    before: &[
+        Step::Modify(BASE, PATCH, Ok(())),
+        Step::Modify(BASE, &[0xC3], Err(ModifyFault::NotPermitted)),
+        Step::Delete(0x10000, Err(DeleteFault::NoChunk)),
+        Step::Delete(BASE, Ok(1)),
+        Step::Reclaim(0),
+    ],
+    after: &[Step::Reclaim(1)],
+};
 
 /// The acts told are those of the log, in its order.
 fn tells_as_logged<A: Telling>(alloc: Global, acts: &A) -> Result<bool, Fail> {
@@ -124,6 +125,29 @@ fn tells_as_logged<A: Telling>(alloc: Global, acts: &A) -> Result<bool, Fail> {
         }
     }
     Ok(acts.told() == Some(logged.as_slice()))
+}
+
+/// These entries are logged, and the acts among them told.
+fn has_logged<A: Telling>(alloc: Global, acts: &A, owed: &[Entry]) -> Result<(), Fail> {
+    if acts.logged() == Some(owed) && tells_as_logged(alloc, acts)? {
+        return Ok(());
+    }
+    Err(Fail::new(format_args!("{:?} and not {owed:?}", acts.logged())))
+}
+
+/// Creates the chunk, and answers what its whole life owes.
+fn create<C: Calls>(
+    alloc: Global,
+    region: &mut C,
+    bundles: usize,
+    len: u32,
+) -> Result<Vec<Entry>, Fail> {
+    let vetted = chunk(alloc, BASE, LIMIT, bundles, &FRONT)?;
+    let owed = owed(alloc, vetted.code(), len)?;
+    match region.created(vetted) {
+        Ok(()) => Ok(owed),
+        Err(_) => Err(Fail::new("not created")),
+    }
 }
 
 /// A chunk's life, until its span is free.
@@ -142,32 +166,31 @@ impl Trial for Life {
         pass: Pass,
     ) -> Result<(), Fail> {
         let mut pass = pass;
-        let vetted = chunk(self.alloc, BASE, LIMIT, self.bundles, &FRONT)?;
-        let owed = owed(self.alloc, vetted.code(), self.len)?;
-        let created = region.created(vetted).is_ok();
-        take_steps(self.alloc, region, LIMIT, &UNTIL_RETIRED)?;
-        gens.check_in(&mut pass);
-        take_steps(self.alloc, region, LIMIT, &THEN)?;
-        let acts = region.acts();
-        if created && acts.logged() == Some(owed.as_slice()) && tells_as_logged(self.alloc, acts)? {
-            return Ok(());
-        }
-        Err(Fail::new(format_args!("{:?} and not {owed:?}", acts.logged())))
+        let owed = create(self.alloc, region, self.bundles, self.len)?;
+        take_both(self.alloc, region, LIMIT, gens, &mut pass, &LIFE)?;
+        has_logged(self.alloc, region.acts(), &owed)
     }
 }
 
-#[test]
-fn order_of_acts(rt: HostRuntime) -> Result<(), Fail> {
-    let alloc = rt.alloc();
-    for (bundles, len) in [(1usize, 32u32), (2, 64), (3, 96)] {
+/// How many bundles the chunk has, and its length.
+static SIZES: [(usize, u32); 3] = [(1, 32), (2, 64), (3, 96)];
+
+/// Lives of chunks of these sizes.
+fn try_lives(alloc: Global, rows: &[(usize, u32)]) -> Result<(), Fail> {
+    for (bundles, len) in rows {
         let life = Life {
             alloc,
-            bundles,
-            len,
+            bundles: *bundles,
+            len: *len,
         };
         try_in_region(alloc, 8, 300, life)?;
     }
     Ok(())
+}
+
+#[test]
+fn order_of_acts(rt: HostRuntime) -> Result<(), Fail> {
+    try_lives(rt.alloc(), &SIZES)
 }
 
 /// The bases of chunks of one bundle, each with whether the region still tells after it, and whether it still logs. There is room for 34
@@ -177,6 +200,33 @@ static UNTIL_FULL: [(u32, bool, bool); 3] = [
     (0x10020, false, true),
     (0x10040, false, false),
 ];
+
+/// Creates a chunk of one bundle at this base: whether the region then tells and logs as is due.
+fn fills<A: Acts + Telling + Drop>(
+    alloc: Global,
+    region: &mut RegionOf<A>,
+    base: u32,
+    tells: bool,
+    logs: bool,
+) -> Result<bool, Fail> {
+    let created = creates(alloc, region, LIMIT, base, 1, &[], Ok(()))?;
+    let acts = region.acts();
+    Ok(created && acts.told().is_some() == tells && acts.logged().is_some() == logs)
+}
+
+/// After each of these creations the region tells and logs as is due.
+fn fill<A: Acts + Telling + Drop>(
+    alloc: Global,
+    region: &mut RegionOf<A>,
+    rows: &[(u32, bool, bool)],
+) -> Result<(), Fail> {
+    for (base, tells, logs) in rows {
+        if !fills(alloc, region, *base, *tells, *logs)? {
+            return Err(Fail::new(format_args!("at {base:x} not {tells} and {logs}")));
+        }
+    }
+    Ok(())
+}
 
 /// Chunks created in turn, until the region neither tells nor logs.
 #[derive(Drop)]
@@ -191,17 +241,7 @@ impl Trial for Filling {
         _gens: &Gens,
         _pass: Pass,
     ) -> Result<(), Fail> {
-        for (base, tells, logs) in &UNTIL_FULL {
-            let created = region
-                .created(chunk(self.alloc, *base, LIMIT, 1, &[])?)
-                .is_ok();
-            let acts = region.acts();
-            let is_so = acts.told().is_some() == *tells && acts.logged().is_some() == *logs;
-            if !created || !is_so {
-                return Err(Fail::new(format_args!("at {base:x} not {tells} and {logs}")));
-            }
-        }
-        Ok(())
+        fill(self.alloc, region, &UNTIL_FULL)
     }
 }
 

@@ -1,9 +1,11 @@
 //! What the tests are made of.
 ghost use Rattle.std.specs.Prelude.{◌≡◌, IfOk};
+ghost use Rattle.nc_region.specs.Region.{IsNew};
 
 use nc_decode::START;
 use nc_gens::{Gens, Keeper};
-use nc_region::{Acts, Region, RegionOf, Shared};
+use nc_region::{Acts, Plain, Region, RegionOf, Shared};
+use nc_text::Text;
 use nc_vet::{Vetted, vet};
 use std::alloc::Global;
 use std::test::Fail;
@@ -55,6 +57,23 @@ pub(crate) fn shared<'g>(
     ensures { IfOk result (λ s. s ≡ gens.now) }
 {
     Ok(Shared::new(region(alloc, bundles, gens, keeper)?))
+}
+
+/// What a region of this size is over that tells nothing.
+pub(crate) fn plain<'g>(
+    alloc: Global,
+    bundles: u32,
+    gens: &'g Gens,
+    keeper: Keeper,
+) -> Result<Plain<'g>, Fail>
+    requires { keeper.table ≡ gens.now }
+    ensures new { IfOk result (λ p. IsNew p.marked) }
+    ensures table { IfOk result (λ p. p.keeper.table ≡ gens.now) }
+{
+    match Text::new(alloc, bundles) {
+        Ok(text) => Ok(Plain::new(text, gens, keeper)),
+        Err(fault) => Err(Fail::new(format_args!("{fault:?}"))),
+    }
 }
 
 /// These bytes stand in the region, from this address on.

@@ -1,10 +1,12 @@
 //! A region's life as threads may read it that fetch each byte by itself: with every settling each mixture of bytes is right, and
 //! with one of them left out some mixture isn't.
+ghost use Rattle.std.specs.Prelude.{◌≡◌};
 
 use crate::fixtures::LIMIT;
 use crate::steps::{Step, Steps, take_both};
-use nc_gens::Gens;
-use nc_views::{Found, viewed};
+use nc_gens::{Gens, Pass};
+use nc_region::{Acts, RegionOf};
+use nc_views::{Found, Viewing, viewed};
 use std::alloc::Global;
 use std::test::Fail;
 
@@ -109,16 +111,28 @@ static LIFE: Steps<'static> = Steps {
     after: &[Step::Reclaim(1), Step::Create(0x10000, 2, AGAIN, Ok(()))],
 };
 
+/// What was found in this life, in this region.
+fn live_in<A: Acts + Drop>(
+    alloc: Global,
+    region: &mut RegionOf<Viewing<A>>,
+    gens: &Gens,
+    pass: Pass,
+) -> Result<Found, Fail>
+    requires { pass.table ≡ gens.now }
+{
+    let mut pass = pass;
+    take_both(alloc, region, LIMIT, gens, &mut pass, &LIFE)?;
+    Ok(region.acts().found())
+}
+
 /// What was found in this life. For what may be read one settling is left out, or none for 0.
 fn live(alloc: Global, left_out: u32) -> Result<Found, Fail> {
     let (gens, keeper, mut passes) = Gens::new(alloc, 1)?;
-    let mut pass = passes.remove(0);
-    let mut region = match viewed(alloc, &gens, keeper, 4, left_out) {
-        Ok(region) => region,
-        Err(fault) => return Err(Fail::new(format_args!("{fault:?}"))),
-    };
-    take_both(alloc, &mut region, LIMIT, &gens, &mut pass, &LIFE)?;
-    Ok(region.acts().found())
+    let pass = passes.remove(0);
+    match viewed(alloc, &gens, keeper, 4, left_out) {
+        Ok(mut region) => live_in(alloc, &mut region, &gens, pass),
+        Err(fault) => Err(Fail::new(format_args!("{fault:?}"))),
+    }
 }
 
 #[test]
@@ -133,18 +147,27 @@ fn every_mixture(rt: HostRuntime) -> Result<(), Fail> {
     Ok(())
 }
 
+/// The address and the bytes that were read first of those that aren't right.
+fn first_wrong(found: &Found) -> Option<(u32, &[u8])> {
+    match &found.first {
+        Some(reading) => Some((reading.at, reading.bytes())),
+        None => None,
+    }
+}
+
+/// Whether all acts of the life were viewed, and this is read first that isn't right.
+fn is_due(found: &Found, wrong: Option<(u32, &[u8])>) -> bool {
+    let is_whole = found.looks == 247 && found.settlings == 14 && found.missing == 0;
+    first_wrong(found) == wrong && is_whole
+}
+
 /// What is read first that isn't right, if this settling is left out.
 fn try_left_out(alloc: Global, left_out: u32, wrong: Option<(u32, &[u8])>) -> Result<(), Fail> {
     let found = live(alloc, left_out)?;
-    let first = match &found.first {
-        Some(reading) => Some((reading.at, reading.bytes())),
-        None => None,
-    };
-    let is_whole = found.looks == 247 && found.settlings == 14 && found.missing == 0;
-    if first == wrong && is_whole {
+    if is_due(&found, wrong) {
         return Ok(());
     }
-    Err(Fail::new(format_args!("{first:?} without settling {left_out}")))
+    Err(Fail::new(format_args!("{:?} without settling {left_out}", found.first)))
 }
 
 /// Without each of the settlings in turn, its row is read first.

@@ -2,8 +2,8 @@
 ghost use Rattle.std.specs.Prelude.{◌≡◌};
 
 use crate::calls::Calls;
-use crate::fixtures::{LIMIT, chunk, stands};
-use crate::steps::{Step, take_steps};
+use crate::fixtures::{LIMIT, stands};
+use crate::steps::{Step, creates, take_steps};
 use crate::trial::{Telling, Trial, try_in_region};
 use nc_gens::{Gens, Pass};
 use nc_region::{Act, Acts, ModifyFault, RegionOf};
@@ -117,6 +117,15 @@ fn patched(alloc: Global, front: &[u8], at: u32, new: &[u8]) -> Result<Vec<u8>, 
     Ok(bytes)
 }
 
+/// These puts as acts.
+fn acts_of(alloc: Global, puts: &[(u32, u8)]) -> Result<Vec<Act>, Fail> {
+    let mut acts = Vec::new(alloc);
+    for (at, byte) in puts {
+        acts.push(Act::Put(*at, *byte))?;
+    }
+    Ok(acts)
+}
+
 /// After the first acts the region has told exactly these puts.
 fn has_told<A: Telling>(
     alloc: Global,
@@ -124,14 +133,39 @@ fn has_told<A: Telling>(
     first: usize,
     puts: &[(u32, u8)],
 ) -> Result<bool, Fail> {
-    let mut owed = Vec::new(alloc);
-    for (at, byte) in puts {
-        owed.push(Act::Put(*at, *byte))?;
-    }
+    let owed = acts_of(alloc, puts)?;
     Ok(acts.told().unwrap_or(&[]).get(first..) == Some(owed.as_slice()))
 }
 
-/// A patch of a new chunk of one bundle.
+/// The region has made the puts of this patch, and has the bytes that are due.
+fn is_patched<A: Acts + Telling + Drop>(
+    alloc: Global,
+    region: &RegionOf<A>,
+    row: &Row,
+) -> Result<bool, Fail> {
+    let (front, at, new, due, puts) = *row;
+    let written = if due.is_ok() { new } else { &[] };
+    let bytes = patched(alloc, front, at, written)?;
+    // a creation has 33 acts
+    Ok(has_told(alloc, region.acts(), 33, puts)? && stands(region, 0x10000, &bytes))
+}
+
+/// A chunk of one bundle is created and patched. The patch has its answer, makes its puts, and leaves the bytes that are due.
+fn try_patch<A: Acts + Telling + Drop>(
+    alloc: Global,
+    region: &mut RegionOf<A>,
+    row: &Row,
+) -> Result<(), Fail> {
+    let (front, at, new, due, _) = *row;
+    let created = creates(alloc, region, LIMIT, 0x10000, 1, front, Ok(()))?;
+    let answer = region.modified(at, new);
+    if created && answer == due && is_patched(alloc, region, row)? {
+        return Ok(());
+    }
+    Err(Fail::new(format_args!("{answer:?} to {new:?} at {at:x} in {front:?}")))
+}
+
+/// A patch of a new chunk.
 #[derive(Drop)]
 struct Patch<'r> {
     alloc: Global,
@@ -145,23 +179,11 @@ impl Trial for Patch<'_> {
         _gens: &Gens,
         _pass: Pass,
     ) -> Result<(), Fail> {
-        let (front, at, new, due, puts) = *self.row;
-        let created = region
-            .created(chunk(self.alloc, 0x10000, LIMIT, 1, front)?)
-            .is_ok();
-        let answer = region.modified(at, new);
-        let written = if answer.is_ok() { new } else { &[] };
-        let bytes = patched(self.alloc, front, at, written)?;
-        // a creation has 33 acts
-        let told = has_told(self.alloc, region.acts(), 33, puts)?;
-        if created && answer == due && told && stands(region, 0x10000, &bytes) {
-            return Ok(());
-        }
-        Err(Fail::new(format_args!("{answer:?} to {new:?} at {at:x} in {front:?}")))
+        try_patch(self.alloc, region, self.row)
     }
 }
 
-/// Each patch of these rows has its answer, makes its puts, and leaves the bytes that are due.
+/// Tries the patch of each row in a region of its own.
 fn try_patches(alloc: Global, rows: &[Row]) -> Result<(), Fail> {
     for row in rows {
         try_in_region(alloc, 4, 100, Patch { alloc, row })?;
@@ -185,6 +207,14 @@ static TO_RETIRED: [Step<'static>; 4] = [
 /// The puts of that patch.
 static JUMP_PUTS: [(u32, u8); 3] = [(0x10000, 0xF4), (0x10001, 0x1E), (0x10000, 0xEB)];
 
+/// The patch that follows two creations and a deletion, of 33 acts each, makes these puts.
+fn ends_with<A: Telling>(alloc: Global, acts: &A, puts: &[(u32, u8)]) -> Result<(), Fail> {
+    if has_told(alloc, acts, 99, puts)? {
+        return Ok(());
+    }
+    Err(Fail::new(format_args!("{:?}", acts.told())))
+}
+
 /// A patch beside a retired chunk.
 #[derive(Drop)]
 struct Beside {
@@ -199,11 +229,7 @@ impl Trial for Beside {
         _pass: Pass,
     ) -> Result<(), Fail> {
         take_steps(self.alloc, region, LIMIT, &TO_RETIRED)?;
-        // two creations and a deletion, of 33 acts each
-        if has_told(self.alloc, region.acts(), 99, &JUMP_PUTS)? {
-            return Ok(());
-        }
-        Err(Fail::new(format_args!("{:?}", region.acts().told())))
+        ends_with(self.alloc, region.acts(), &JUMP_PUTS)
     }
 }
 

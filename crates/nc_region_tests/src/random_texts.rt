@@ -1,13 +1,14 @@
 //! Chunks created, patched, deleted and reclaimed at random on both sides of the ends of pages. After each call of the text all
 //! places are compared with a plain text (`plain_text`), to which the same calls were made.
 ghost use Rattle.std.specs.Prelude.{◌≡◌};
+ghost use Rattle.nc_region.specs.Region.{IsNew};
 
 use crate::calls::Calls;
 use crate::drawing::{Numbers, draw_chunk};
+use crate::fixtures::plain;
 use crate::plain_text::{PlainText, Twin};
-use nc_gens::{Gens, Keeper, Pass};
-use nc_region::{Acts, Plain, RegionOf};
-use nc_text::Text;
+use nc_gens::{Gens, Pass};
+use nc_region::{Acts, RegionOf};
 use std::alloc::Global;
 use std::test::Fail;
 
@@ -19,21 +20,6 @@ const LIMIT: u32 = 0x11060;
 
 /// The bundles from which chunks are drawn, eight from each: at the beginning, and from the end of the first page to the guard.
 static FROM: [u32; 2] = [0, 120];
-
-/// A region over a text beside a plain one.
-type Twinned<'g> = RegionOf<Twin<Plain<'g>>>;
-
-/// A new one.
-fn twinned<'g>(alloc: Global, gens: &'g Gens, keeper: Keeper) -> Result<Twinned<'g>, Fail>
-    requires { keeper.table ≡ gens.now }
-{
-    let text = match Text::new(alloc, BUNDLES) {
-        Ok(text) => text,
-        Err(fault) => return Err(Fail::new(format_args!("{fault:?}"))),
-    };
-    let plain = PlainText::new(alloc, 131 * 32)?;
-    Ok(RegionOf::over(alloc, Twin::new(Plain::new(text, gens, keeper), plain)))
-}
 
 /// How often each call did something.
 #[derive(Clone, Copy, Drop)]
@@ -110,29 +96,15 @@ fn step<A: Acts + Drop>(
     Ok(())
 }
 
-/// A hundred steps.
+/// A hundred steps, in which this is done.
 fn live<A: Acts + Drop>(
     alloc: Global,
-    numbers: &mut Numbers,
     region: &mut RegionOf<A>,
     gens: &Gens,
     pass: &mut Pass,
-    done: &mut Done,
-) -> Result<(), Fail>
+) -> Result<Done, Fail>
     requires { pass.old.table ≡ gens.now }
 {
-    for _ in 0..100 {
-        step(alloc, numbers, region, gens, pass, done)?;
-    }
-    Ok(())
-}
-
-/// What was done in a hundred steps, how often the texts were compared and how many differences there were, and how many pages
-/// were made.
-fn lived(alloc: Global) -> Result<(Done, (u32, u32), usize), Fail> {
-    let (gens, keeper, mut passes) = Gens::new(alloc, 1)?;
-    let mut pass = passes.remove(0);
-    let mut region = twinned(alloc, &gens, keeper)?;
     let mut numbers = Numbers::new(4096);
     let mut done = Done {
         created: 0,
@@ -140,16 +112,49 @@ fn lived(alloc: Global) -> Result<(Done, (u32, u32), usize), Fail> {
         deleted: 0,
         freed: 0,
     };
-    live(
-        alloc,
-        &mut numbers,
-        &mut region,
-        &gens,
-        &mut pass,
-        &mut done,
-    )?;
+    for _ in 0..100 {
+        step(alloc, &mut numbers, region, gens, pass, &mut done)?;
+    }
+    Ok(done)
+}
+
+/// What was done, how often the texts were compared and how many differences there were, and how many pages were made.
+type Lived = (Done, (u32, u32), usize);
+
+/// A life in this region.
+fn live_in<A: Acts + Drop>(
+    alloc: Global,
+    region: &mut RegionOf<Twin<A>>,
+    gens: &Gens,
+    pass: &mut Pass,
+) -> Result<Lived, Fail>
+    requires { pass.old.table ≡ gens.now }
+{
+    let done = live(alloc, region, gens, pass)?;
     let plain = region.acts().plain();
     Ok((done, plain.found(), plain.pages()))
+}
+
+/// A life in a new region over these acts, beside a plain text.
+fn live_over<A: Acts + Drop>(
+    alloc: Global,
+    acts: A,
+    gens: &Gens,
+    pass: &mut Pass,
+) -> Result<Lived, Fail>
+    requires { IsNew (A.marked acts) × (pass.old.table ≡ gens.now) }
+{
+    let plain = PlainText::new(alloc, 131 * 32)?;
+    let mut region = RegionOf::over(alloc, Twin::new(acts, plain));
+    live_in(alloc, &mut region, gens, pass)
+}
+
+/// A life in a new region.
+fn lived(alloc: Global) -> Result<Lived, Fail> {
+    let (gens, keeper, mut passes) = Gens::new(alloc, 1)?;
+    let mut pass = passes.remove(0);
+    let acts = plain(alloc, BUNDLES, &gens, keeper)?;
+    live_over(alloc, acts, &gens, &mut pass)
 }
 
 #[test]

@@ -1,12 +1,15 @@
 //! A region that threads share: what its calls do under the lock.
 ghost use Rattle.std.specs.Prelude.{◌≡◌};
+ghost use Rattle.nc_region.specs.Region.{IsNew};
 
 use crate::calls::{Calls, Locked};
 use crate::fixtures::{LIMIT, chunk, region, shared};
 use crate::steps::{Step, Steps, take_both, take_steps};
-use crate::trial::{SharedTrial, recorded, try_shared};
+use crate::trial::{SharedTrial, recorder, try_shared};
 use nc_gens::{Gens, Pass};
-use nc_region::{Acts, CreateFault, DeleteFault, End, ModifyFault, Shared, SharedOf, Trace};
+use nc_region::{
+    Acts, CreateFault, DeleteFault, End, ModifyFault, RegionOf, Shared, SharedOf, Trace,
+};
 use nc_vet::Vetted;
 use std::alloc::Global;
 use std::sync::Wait;
@@ -114,14 +117,28 @@ static FREE: Steps<'static> = Steps {
     ],
 };
 
+/// Two threads in a new region over these acts, and then the calls that free the second chunk.
+fn try_two_over<R: Threads + Wait + Sync, A: Acts + Drop + Send>(
+    rt: &R,
+    alloc: Global,
+    acts: A,
+    gens: &Gens,
+    pass: &mut Pass,
+) -> Result<(), Fail>
+    requires { IsNew (A.marked acts) × ((A.keeper acts).table ≡ gens.now) × (pass.old.table ≡ gens.now) }
+{
+    let shared = SharedOf::over(RegionOf::over(alloc, acts), gens);
+    try_two(rt, alloc, &shared)?;
+    take_both_shared(rt, alloc, &shared, LIMIT, gens, pass, &FREE)
+}
+
 #[test]
 fn two_threads_over_a_recorder(rt: HostRuntime) -> Result<(), Fail> {
     let alloc = rt.alloc();
     let (gens, keeper, mut passes) = Gens::new(alloc, 1)?;
     let mut pass = passes.remove(0);
-    let shared = SharedOf::over(recorded(alloc, 4, 100, &gens, keeper)?, &gens);
-    try_two(&rt, alloc, &shared)?;
-    take_both_shared(&rt, alloc, &shared, LIMIT, &gens, &mut pass, &FREE)
+    let acts = recorder(alloc, 4, 100, &gens, keeper)?;
+    try_two_over(&rt, alloc, acts, &gens, &mut pass)
 }
 
 /// A chunk of two bundles with a jump to 00010020, and then one there; the jump turned to 00010040, and a return put after it.

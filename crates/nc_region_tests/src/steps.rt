@@ -25,7 +25,7 @@ pub(crate) enum Step<'s> {
 }
 
 /// A chunk that begins with these bytes, for a region of this limit: whether its creation has this answer.
-fn creates<C: Calls>(
+pub(crate) fn creates<C: Calls>(
     alloc: Global,
     region: &mut C,
     limit: u32,

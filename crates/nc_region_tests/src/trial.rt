@@ -1,10 +1,10 @@
 //! Tests in a region whose acts are told.
 ghost use Rattle.std.specs.Prelude.{◌≡◌, All, IfOk};
+ghost use Rattle.nc_region.specs.Region.{IsNew};
 
-use crate::fixtures::shared;
+use crate::fixtures::{plain, shared};
 use nc_gens::{Gens, Keeper, Pass};
 use nc_region::{Act, Acts, Entry, Plain, Recorder, RegionOf, SharedOf};
-use nc_text::Text;
 use std::alloc::Global;
 use std::test::Fail;
 
@@ -41,23 +41,34 @@ pub(crate) trait Trial: Drop {
         requires { pass.table ≡ gens.now };
 }
 
-/// A region of this size that tells at most `room` acts.
-pub(crate) fn recorded<'g>(
+/// What a region of this size is over that tells at most `room` acts.
+pub(crate) fn recorder<'g>(
     alloc: Global,
     bundles: u32,
     room: usize,
     gens: &'g Gens,
     keeper: Keeper,
-) -> Result<RegionOf<Recorder<Plain<'g>>>, Fail>
+) -> Result<Recorder<Plain<'g>>, Fail>
     requires { keeper.table ≡ gens.now }
-    ensures { IfOk result (λ r. r.keeper.table ≡ gens.now) }
+    ensures new { IfOk result (λ r. IsNew r.acts.marked) }
+    ensures table { IfOk result (λ r. r.acts.keeper.table ≡ gens.now) }
 {
-    let text = match Text::new(alloc, bundles) {
-        Ok(text) => text,
-        Err(fault) => return Err(Fail::new(format_args!("{fault:?}"))),
-    };
-    let recorder = Recorder::new(alloc, Plain::new(text, gens, keeper), room)?;
-    Ok(RegionOf::over(alloc, recorder))
+    let plain = plain(alloc, bundles, gens, keeper)?;
+    Ok(Recorder::new(alloc, plain, room)?)
+}
+
+/// Tries this in a new region over these acts.
+fn try_over<A: Acts + Telling + Drop, T: Trial>(
+    alloc: Global,
+    acts: A,
+    gens: &Gens,
+    pass: Pass,
+    trial: T,
+) -> Result<(), Fail>
+    requires { IsNew (A.marked acts) × (pass.table ≡ gens.now) }
+{
+    let mut region = RegionOf::over(alloc, acts);
+    trial.run(&mut region, gens, pass)
 }
 
 /// Tries this in a new region of this size that tells at most `room` acts.
@@ -69,8 +80,8 @@ pub(crate) fn try_in_region<T: Trial>(
 ) -> Result<(), Fail> {
     let (gens, keeper, mut passes) = Gens::new(alloc, 1)?;
     let pass = passes.remove(0);
-    let mut region = recorded(alloc, bundles, room, &gens, keeper)?;
-    trial.run(&mut region, &gens, pass)
+    let acts = recorder(alloc, bundles, room, &gens, keeper)?;
+    try_over(alloc, acts, &gens, pass, trial)
 }
 
 /// What is tried in a region that threads share.
