@@ -362,18 +362,26 @@ fn large_mark(i: usize) -> Mark {
     }
 }
 
-/// Such a chunk is accepted whole, with a mark for each byte.
-fn is_accepted(alloc: Global, bundles: usize) -> Result<bool, Fail> {
-    let Ok(vetted) = vetted(BASE, FAR, large(alloc, bundles)?) else {
-        return Ok(false);
-    };
+/// A mark for each byte of such a chunk.
+fn has_large_marks(vetted: &Vetted) -> bool {
     for i in 0..vetted.code().len() {
         if vetted.mark(i) != large_mark(i) {
-            return Ok(false);
+            return false;
         }
     }
-    let judged = vetted.bundles().unwrap_or(&[]).len();
-    Ok(judged == bundles && vetted.code().len() == bundles.wrapping_mul(32))
+    true
+}
+
+/// Such a chunk is accepted whole, with its marks.
+fn is_accepted(alloc: Global, bundles: usize) -> Result<bool, Fail> {
+    match vetted(BASE, FAR, large(alloc, bundles)?) {
+        Ok(vetted) => {
+            let judged = vetted.bundles().unwrap_or(&[]).len();
+            let is_whole = judged == bundles && vetted.code().len() == bundles.wrapping_mul(32);
+            Ok(is_whole && has_large_marks(&vetted))
+        }
+        Err(_) => Ok(false),
+    }
 }
 
 /// Large chunks are accepted whole.

@@ -76,23 +76,31 @@ fn a_look_waits_for_each_seat(rt: HostRuntime) -> Result<(), Fail> {
     Ok(())
 }
 
+/// Looks before and after the second seat leaves, the first one having checked in, and before and after that one leaves too.
+fn looks_beside_leaving(gens: &Gens, keeper: &mut Keeper, first: Pass, second: Pass) -> [u64; 4]
+    requires { (keeper.old.table ≡ gens.now) × (first.table ≡ gens.now) × (second.table ≡ gens.now) }
+{
+    let mut first = first;
+    let _stamp = bump(gens, keeper);
+    check_in(gens, &mut first);
+    let before = look(gens, keeper);
+    gens.leave(second);
+    let after = look(gens, keeper);
+
+    // Once all have left, the answer is the generation.
+    let _second = bump(gens, keeper);
+    let still = look(gens, keeper);
+    gens.leave(first);
+    [before, after, still, look(gens, keeper)]
+}
+
 #[test]
 fn a_seat_that_leaves_is_not_waited_for(rt: HostRuntime) -> Result<(), Fail> {
     let (gens, mut keeper, mut passes) = Gens::new(rt.alloc(), 2)?;
     let second = passes.remove(1);
-    let mut first = passes.remove(0);
-    bump(&gens, &mut keeper)?;
-    check_in(&gens, &mut first);
-    let before = look(&gens, &mut keeper);
-    gens.leave(second);
-    let after = look(&gens, &mut keeper);
-
-    // Once all have left, the answer is the generation.
-    bump(&gens, &mut keeper)?;
-    let still = look(&gens, &mut keeper);
-    gens.leave(first);
-    let last = look(&gens, &mut keeper);
-    right([before, after, still, last] == [0, 1, 1, 2], 1)
+    let first = passes.remove(0);
+    let looks = looks_beside_leaving(&gens, &mut keeper, first, second);
+    right(looks == [0, 1, 1, 2], 1)
 }
 
 #[test]

@@ -1,8 +1,9 @@
 //! Labels that no file gives: below the code, of all addresses, with names of any bytes, and in no order.
 
 use crate::tests::devices::Slow;
-use crate::tests::reports::{copied, only, told};
-use nc_report::{Detail, Label, Labels};
+use crate::tests::reports::{copied, only, told, wrote};
+use crate::tests::rows::right;
+use nc_report::{Detail, Label, Labels, Source};
 use std::alloc::{AllocError, Global};
 use std::sync::Wait;
 use std::test::Fail;
@@ -63,18 +64,32 @@ fn list(alloc: Global, rows: &[Named]) -> Result<Vec<Label>, AllocError> {
     Ok(list)
 }
 
+/// The code with these labels.
+fn labeled(alloc: Global, named: &[Named]) -> Result<Vec<Source>, Fail> {
+    match Labels::new(list(alloc, named)?) {
+        Some(labels) => Ok(only(alloc, b"a", RETURN, labels)?),
+        None => Err(Fail::new("not ascending")),
+    }
+}
+
+/// This is written of the code with these labels.
+fn try_row<T: Threads + Wait + Sync>(
+    rt: &T,
+    alloc: Global,
+    named: &[Named],
+    detail: Detail,
+    owed: &[u8],
+) -> Result<(), Fail> {
+    let sources = labeled(alloc, named)?;
+    let mut writer = Slow::new(alloc, 100, true);
+    let result = told(rt, alloc, sources, detail, &mut writer);
+    wrote(&writer, result == Ok(1), owed)
+}
+
 /// Tries each row.
 fn try_rows<T: Threads + Wait + Sync>(rt: &T, alloc: Global, rows: &[Row]) -> Result<(), Fail> {
     for (named, detail, owed) in rows {
-        let Some(labels) = Labels::new(list(alloc, named)?) else {
-            return Err(Fail::new("not ascending"));
-        };
-        let sources = only(alloc, b"a", RETURN, labels)?;
-        let mut writer = Slow::new(alloc, 100, true);
-        let result = told(rt, alloc, sources, *detail, &mut writer);
-        if result != Ok(1) || writer.out.as_slice() != *owed {
-            return Err(Fail::new(format_args!("{:?}", writer.out)));
-        }
+        try_row(rt, alloc, named, *detail, owed)?;
     }
     Ok(())
 }
@@ -85,17 +100,31 @@ fn labels(rt: HostRuntime) -> Result<(), Fail> {
     try_rows(&rt, rt.alloc(), &ROWS)
 }
 
+/// Addresses and names, and whether they are labels.
+static ASCENDING: [(&[Named], bool); 4] = [
+    (&[(2, b"a"), (1, b"b")], false),
+    (&[(1, b"a"), (1, b"b"), (0, b"c")], false),
+    (&[(1, b"a"), (3, b"b"), (2, b"c"), (4, b"d")], false),
+    (&[(1, b"a"), (1, b"b"), (2, b"c")], true),
+];
+
+/// Whether these are labels.
+fn are_labels(alloc: Global, named: &[Named]) -> Result<bool, AllocError> {
+    Ok(Labels::new(list(alloc, named)?).is_some())
+}
+
+/// Each of these are labels or not.
+fn try_ascending(alloc: Global, rows: &[(&'static [Named], bool)]) -> Result<(), Fail> {
+    let mut row = 0u32;
+    for (named, wanted) in rows {
+        row = row.wrapping_add(1);
+        right(are_labels(alloc, named)? == *wanted, row)?;
+    }
+    Ok(())
+}
+
 /// Addresses that don't ascend are no labels, wherever it is that they fall.
 #[test]
 fn descending(rt: HostRuntime) -> Result<(), Fail> {
-    let rows: [&[Named]; 3] = [
-        &[(2, b"a"), (1, b"b")],
-        &[(1, b"a"), (1, b"b"), (0, b"c")],
-        &[(1, b"a"), (3, b"b"), (2, b"c"), (4, b"d")],
-    ];
-    for row in rows {
-        assert!(rt; Labels::new(list(rt.alloc(), row)?).is_none());
-    }
-    assert!(rt; Labels::new(list(rt.alloc(), &[(1, b"a"), (1, b"b"), (2, b"c")])?).is_some());
-    Ok(())
+    try_ascending(rt.alloc(), &ASCENDING)
 }

@@ -201,21 +201,38 @@ fn line_limit(rt: HostRuntime) -> Result<(), Fail> {
     Ok(())
 }
 
+/// Sizes of reads and writes, whether a flush succeeds, and how vetting ends.
+static FLUSHES: [(usize, bool, Result<(), ReplayFault>); 3] = [
+    (1, true, Ok(())),
+    (7, true, Ok(())),
+    (1, false, Err(ReplayFault::WriteFailed)),
+];
+
+/// Verdicts in pieces of this size, flushed once.
+fn try_flush<T: Threads + Wait + Sync>(
+    rt: &T,
+    alloc: Global,
+    size: usize,
+    flushes: bool,
+    due: Result<(), ReplayFault>,
+) -> Result<(), Fail> {
+    let verdicts = b"refused BadLength\nrefused BadBase\nbad line\n";
+    let mut reader = Pieces::new(b"00010000 -\n00010001 -\n00010000\n", size);
+    let mut writer = Slow::new(alloc, size, flushes);
+    let answer = vet(rt, alloc, &mut reader, &mut writer, 4, 2);
+    ended(answer, due, &writer.out, verdicts)?;
+    if writer.flushed == 1 {
+        return Ok(());
+    }
+    Err(Fail::new("not flushed once"))
+}
+
 /// Verdicts are flushed once, after all of them were written, whatever the sizes of reads and writes; a flush that fails is
 /// a failed write.
 #[test]
 fn flushed_verdicts(rt: HostRuntime) -> Result<(), Fail> {
-    let verdicts = b"refused BadLength\nrefused BadBase\nbad line\n";
-    for (size, flushes, due) in [
-        (1, true, Ok(())),
-        (7, true, Ok(())),
-        (1, false, Err(ReplayFault::WriteFailed)),
-    ] {
-        let mut reader = Pieces::new(b"00010000 -\n00010001 -\n00010000\n", size);
-        let mut writer = Slow::new(rt.alloc(), size, flushes);
-        let answer = vet(&rt, rt.alloc(), &mut reader, &mut writer, 4, 2);
-        ended(answer, due, &writer.out, verdicts)?;
-        assert_eq!(rt; writer.flushed, 1);
+    for (size, flushes, due) in &FLUSHES {
+        try_flush(&rt, rt.alloc(), *size, *flushes, *due)?;
     }
     Ok(())
 }

@@ -60,6 +60,27 @@ static NAMES: [(&[u8], &[u8]); 2] = [
     ),
 ];
 
+/// The answer was right, and what is owed was written; otherwise what was written is in the failure.
+pub fn wrote(writer: &Slow, is_right: bool, owed: &[u8]) -> Result<(), Fail> {
+    if is_right && writer.out.as_slice() == owed {
+        return Ok(());
+    }
+    Err(Fail::new(format_args!("{:?}", writer.out)))
+}
+
+/// The object of nops with this name.
+fn try_name<T: Threads + Wait + Sync>(
+    rt: &T,
+    alloc: Global,
+    name: &[u8],
+    owed: &[u8],
+) -> Result<(), Fail> {
+    let sources = only(alloc, name, &[0x90; 64], Labels::none(alloc))?;
+    let mut writer = Slow::new(alloc, 7, true);
+    let result = told(rt, alloc, sources, Detail::Object, &mut writer);
+    wrote(&writer, result == Ok(0) && writer.flushed == 1, owed)
+}
+
 /// The objects of nops with these names.
 fn try_names<T: Threads + Wait + Sync>(
     rt: &T,
@@ -67,12 +88,7 @@ fn try_names<T: Threads + Wait + Sync>(
     rows: &[(&'static [u8], &'static [u8])],
 ) -> Result<(), Fail> {
     for (name, owed) in rows {
-        let mut writer = Slow::new(alloc, 7, true);
-        let sources = only(alloc, name, &[0x90; 64], Labels::none(alloc))?;
-        let result = told(rt, alloc, sources, Detail::Object, &mut writer);
-        if result != Ok(0) || writer.out.as_slice() != *owed || writer.flushed != 1 {
-            return Err(Fail::new(format_args!("{:?}", writer.out)));
-        }
+        try_name(rt, alloc, name, owed)?;
     }
     Ok(())
 }

@@ -133,15 +133,20 @@ static ROWS: [Row; 37] = [
     (404, &[0], &[MAIN, UTC, PUTC, EN]),
 ];
 
+/// Writes other bytes in place of a file's own.
+fn write(file: &mut [u8], at: u16, bytes: &[u8]) {
+    for (i, byte) in bytes.iter().enumerate() {
+        if let Some(place) = file.get_mut(at as usize + i) {
+            *place = *byte;
+        }
+    }
+}
+
 /// The file with other bytes in place of its own.
 fn changed(alloc: Global, file: &[u8], at: u16, bytes: &[u8]) -> Result<Vec<u8>, AllocError> {
     let mut changed = Vec::new(alloc);
     changed.extend_from_slice(file)?;
-    for (i, byte) in bytes.iter().enumerate() {
-        if let Some(place) = changed.get_mut(at as usize + i) {
-            *place = *byte;
-        }
-    }
+    write(&mut changed, at, bytes);
     Ok(changed)
 }
 
@@ -178,19 +183,25 @@ fn cut(rt: HostRuntime) -> Result<(), Fail> {
     Ok(())
 }
 
+/// Adds a name of 256 bytes, with a 0 before and after it.
+fn push_long_name(file: &mut Vec<u8>) -> Result<(), AllocError> {
+    file.push(0)?;
+    for _ in 0..256 {
+        file.push(b'a')?;
+    }
+    file.push(0)?;
+    Ok(())
+}
+
 /// Two entries have names of 255 and of 256 bytes, each of the same bytes.
 #[test]
 fn long_name(rt: HostRuntime) -> Result<(), Fail> {
     let mut file = changed(rt.alloc(), &FILE, 112, &[48])?;
     file.truncate(380);
-    let lengths = changed(rt.alloc(), &file, 152, &[2, 1])?;
-    let mut named = changed(rt.alloc(), &lengths, 188, &[2])?;
-    named.push(0)?;
-    for _ in 0..256 {
-        named.push(b'a')?;
-    }
-    named.push(0)?;
-    right(has_symbols(rt.alloc(), &named, &[LONG])?, 1)
+    write(&mut file, 152, &[2, 1]);
+    write(&mut file, 188, &[2]);
+    push_long_name(&mut file)?;
+    right(has_symbols(rt.alloc(), &file, &[LONG])?, 1)
 }
 
 /// The last symbol has this name.

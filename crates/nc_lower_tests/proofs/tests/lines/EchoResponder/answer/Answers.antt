@@ -1,5 +1,5 @@
 -- What is written is the line, as far as it is kept, and an end.
-use Rattle.std.proofs.Common.{◌≡◌, ◌++◌, ◌∷◌, [], ℕ, List, refl, ap, ◌∙◌, append_assoc}
+use Rattle.std.proofs.Common.{◌++◌, ◌∷◌, [], ℕ, List, refl, ap, ◌∙◌, append_assoc}
 use Rattle.nc_lines.specs.Lines.{kept_of}
 use Rattle.nc_lower_tests.proofs.tests.lines.EchoResponder.answer.Goals as goal
 

@@ -12,7 +12,7 @@ use Rattle.nc_text.specs.MarkedText.{MarkedText, unused_mark, unused_marks, with
 use Rattle.nc_text.specs.Ready.{IsReady, AreReady}
 use Rattle.nc_text.proofs.Offered.{unused_closed, marked_within, closed_after_put}
 use Rattle.nc_text.proofs.Offered.{length-with_span, get_or-with_span_in, get_or-with_span_below, get_or-with_span_above}
-use Rattle.nc_lower_tests.proofs.tests.texts.acts.Goals as goal
+use Rattle.nc_lower_tests.proofs.tests.texts.after_acts.Goals as goal
 
 -- a mark that the span has, or that stood there outside it
 spanned : (xs ys : List Mark) (s k : ℕ) (m : Mark) → s + length ys ≤ length xs → get_or xs k Unmarked ≡ m
@@ -115,25 +115,25 @@ ready_at : (made : List Bool) (at k : ℕ) → AreReady made 65536 64 → at ≡
 ready_at made at k all e lt = subst (λ (a : ℕ). IsReady made a) (sym e) (all k lt)
 
 pub mark_span-requires-clause-ready : goal.mark_span-requires-clause-ready
-mark_span-requires-clause-ready g c = λ k lt. ready_at c.ready.new.self.made (65537 + k) (1 + k) c.in_ok-ready.ensures.ready (omega arith)
+mark_span-requires-clause-ready c = λ k lt. ready_at c.ready.new.self.made (65537 + k) (1 + k) c.in_ok-ready.ensures.ready (omega arith)
     (omega (arith, lt))
 
 pub mark_span-requires-clause-closed : goal.mark_span-requires-clause-closed
-mark_span-requires-clause-closed g c = subst (λ (t : MarkedText). IsClosed t.bytes (with_marks t 65537 two_marks).marks)
+mark_span-requires-clause-closed c = subst (λ (t : MarkedText). IsClosed t.bytes (with_marks t 65537 two_marks).marks)
     (sym (c.in_ok-ready.ensures.marked ∙ c.in_ok-text.ensures.marked)) closed_second
 
 pub unmark_span-requires-clause-closed : goal.unmark_span-requires-clause-closed
-unmark_span-requires-clause-closed g c =
+unmark_span-requires-clause-closed c =
     subst (λ (t : MarkedText). IsClosed t.bytes (without_marks t 65536 3).marks)
     (sym (c.mark_span.ensures.marked ∙ ap (λ (t : MarkedText). with_marks t 65537 two_marks)
     (c.in_ok-ready.ensures.marked ∙ c.in_ok-text.ensures.marked))) closed_third
 
 pub put-requires-clause-ready : goal.put-requires-clause-ready
-put-requires-clause-ready g c =
+put-requires-clause-ready c =
     subst (λ (made : List Bool). IsReady made 65539) (sym (c.unmark_span.ensures.made ∙ c.mark_span.ensures.made))
     (ready_at c.ready.new.self.made 65539 3 c.in_ok-ready.ensures.ready refl (omega arith))
 
 pub put-requires-clause-closed : goal.put-requires-clause-closed
-put-requires-clause-closed g c = subst (λ (t : MarkedText). IsClosed (with_byte t 65539 0x90).bytes t.marks)
+put-requires-clause-closed c = subst (λ (t : MarkedText). IsClosed (with_byte t 65539 0x90).bytes t.marks)
     (sym (c.unmark_span.ensures.marked ∙ ap (λ (t : MarkedText). without_marks t 65536 3) (c.mark_span.ensures.marked
     ∙ ap (λ (t : MarkedText). with_marks t 65537 two_marks) (c.in_ok-ready.ensures.marked ∙ c.in_ok-text.ensures.marked)))) closed_fourth
