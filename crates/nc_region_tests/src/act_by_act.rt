@@ -230,22 +230,16 @@ static LIFE_WITH_CALL: Steps<'static> = Steps {
     after: AGAIN,
 };
 
-/// Acts that are watched and told.
-trait Finder {
-    /// What was found, and how many acts are told.
-    fn found(&self) -> (Findings, usize);
-}
-
-impl<A: Acts + Telling + Drop> Finder for Watcher<A> {
-    fn found(&self) -> (Findings, usize) {
-        (self.findings(), self.acts().told().unwrap_or(&[]).len())
-    }
+/// What was found, and how many acts are told.
+fn found<A: Acts + Telling + Drop>(watcher: &Watcher<A>) -> (Findings, usize) {
+    let told = watcher.acts().told().unwrap_or(&[]);
+    (watcher.findings(), told.len())
 }
 
 /// What is found in a life in this region.
-fn live_in<A: Acts + Finder + Drop>(
+fn live_in<A: Acts + Telling + Drop>(
     alloc: Global,
-    region: &mut RegionOf<A>,
+    region: &mut RegionOf<Watcher<A>>,
     gens: &Gens,
     pass: Pass,
     life: &Steps<'_>,
@@ -254,7 +248,7 @@ fn live_in<A: Acts + Finder + Drop>(
 {
     let mut pass = pass;
     take_both(alloc, region, LIMIT, gens, &mut pass, life)?;
-    Ok(region.acts().found())
+    Ok(found(region.acts()))
 }
 
 /// What is found in a life in a new region over these acts.

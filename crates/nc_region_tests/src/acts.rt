@@ -1,7 +1,7 @@
 //! Which acts a region tells, in which order, and where it settles among them.
 ghost use Rattle.std.specs.Prelude.{◌≡◌};
 
-use crate::calls::Calls;
+use crate::calls::{Calls, is_created};
 use crate::fixtures::chunk;
 use crate::steps::{Step, Steps, creates, take_both};
 use crate::trial::{Telling, Trial, try_in_region};
@@ -144,10 +144,10 @@ fn create<C: Calls>(
 ) -> Result<Vec<Entry>, Fail> {
     let vetted = chunk(alloc, BASE, LIMIT, bundles, &FRONT)?;
     let owed = owed(alloc, vetted.code(), len)?;
-    match region.created(vetted) {
-        Ok(()) => Ok(owed),
-        Err(_) => Err(Fail::new("not created")),
+    if is_created(region, vetted) {
+        return Ok(owed);
     }
+    Err(Fail::new("not created"))
 }
 
 /// A chunk's life, until its span is free.

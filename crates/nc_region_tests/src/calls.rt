@@ -90,3 +90,8 @@ impl<R: Wait, A: Acts + Drop> Calls for Locked<'_, '_, R, A> {
         self.shared.chunk_count(self.rt)
     }
 }
+
+/// Whether `create` is done.
+pub(crate) fn is_created<C: Calls>(region: &mut C, vetted: Vetted) -> bool {
+    region.created(vetted).is_ok()
+}

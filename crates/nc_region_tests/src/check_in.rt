@@ -2,7 +2,7 @@
 ghost use Rattle.std.specs.Prelude.{◌≡◌, All};
 ghost use Rattle.std.specs.Thread.{IsSync};
 
-use crate::calls::{Calls, Locked};
+use crate::calls::{Calls, Locked, is_created};
 use crate::fixtures::{chunk, shared};
 use crate::steps::{Step, take_steps};
 use crate::trial::{SharedTrial, try_shared};
@@ -44,7 +44,7 @@ fn all_check_in<R: Threads + Sync, A: Acts + Drop + Send>(
 /// Creates 32 nops, deletes them and reclaims; the stamp has to be one more than the index. Answers how many were freed.
 fn write_one<C: Calls>(alloc: Global, region: &mut C, i: u32) -> Result<u32, Fail> {
     let base = 0x10000u32.wrapping_add(i.wrapping_mul(32));
-    let created = region.created(chunk(alloc, base, 0x11000, 1, &[])?).is_ok();
+    let created = is_created(region, chunk(alloc, base, 0x11000, 1, &[])?);
     let stamp = region.deleted(base);
     if created && stamp == Ok(u64::from(i).wrapping_add(1)) {
         return Ok(region.reclaimed());
@@ -173,26 +173,18 @@ struct NoWait<'r, T: Threads> {
 }
 
 impl<T: Threads> SharedTrial for NoWait<'_, T> {
-    fn run<A: Acts + Drop + Send>(
-        self,
-        shared: &SharedOf<'_, A>,
-        passes: Vec<Pass>,
-    ) -> Result<(), Fail> {
+    fn run<A: Acts + Drop + Send>(self, shared: &SharedOf<'_, A>, pass: Pass) -> Result<(), Fail> {
         let (gens, mut keeper, mut seats) = Gens::new(self.alloc, 1)?;
         let own = seats.remove(0);
-        let mut passes = passes;
-        let Some(pass) = passes.pop() else {
-            return Err(Fail::new("no pass"));
-        };
-        if no_wait(self.rt, &gens, shared, &mut keeper, pass, own) == 2 {
-            return Ok(());
+        match no_wait(self.rt, &gens, shared, &mut keeper, pass, own) {
+            2 => Ok(()),
+            _ => Err(Fail::new("another stamp or generation")),
         }
-        Err(Fail::new("another stamp or generation"))
     }
 }
 
 #[test]
 fn calls_that_never_wait(rt: HostRuntime) -> Result<(), Fail> {
     let alloc = rt.alloc();
-    try_shared(alloc, 4, 1, NoWait { rt: &rt, alloc })
+    try_shared(alloc, 4, NoWait { rt: &rt, alloc })
 }

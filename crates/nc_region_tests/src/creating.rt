@@ -87,6 +87,21 @@ static CHUNKS: [(u32, u32, Option<CreateFault>); 4] = [
     (0x10000, LIMIT, Some(CreateFault::Occupied)),
 ];
 
+/// Each of these chunks has its refusal.
+fn try_chunks<C: Calls>(
+    alloc: Global,
+    region: &mut C,
+    rows: &[(u32, u32, Option<CreateFault>)],
+) -> Result<(), Fail> {
+    for (base, limit, due) in rows {
+        let found = refused(alloc, region, *base, *limit)?;
+        if found != *due {
+            return Err(Fail::new(format_args!("{found:?} at {base:x} for {limit:x}")));
+        }
+    }
+    Ok(())
+}
+
 /// Each of the chunks has its refusal.
 #[derive(Drop)]
 struct Refusals {
@@ -100,13 +115,7 @@ impl Trial for Refusals {
         _gens: &Gens,
         _pass: Pass,
     ) -> Result<(), Fail> {
-        for (base, limit, due) in &CHUNKS {
-            let found = refused(self.alloc, region, *base, *limit)?;
-            if found != *due {
-                return Err(Fail::new(format_args!("{found:?} at {base:x} for {limit:x}")));
-            }
-        }
-        Ok(())
+        try_chunks(self.alloc, region, &CHUNKS)
     }
 }
 

@@ -28,6 +28,21 @@ fn marked_places<A: Acts>(acts: &A, at: u32) -> Option<u32> {
     Some(acts.marked_places(at))
 }
 
+/// The bits of a bundle that no chunk uses, and of one before and after its chunk is deleted.
+fn try_places<A: Acts + Drop>(alloc: Global, region: &mut RegionOf<A>) -> Result<(), Fail> {
+    take_steps(alloc, region, LIMIT, &CREATE)?;
+    let unused = marked_places(region.acts(), 0x10000);
+    let live = marked_places(region.acts(), 0x10020);
+    take_steps(alloc, region, LIMIT, &DELETE)?;
+    let retired = marked_places(region.acts(), 0x10020);
+    // a bundle that no chunk uses has its start alone; the pair's halves are at places 0 and 3, and nops from 5 on; a
+    // deleted chunk keeps its marks
+    if unused == Some(0x0000_0001) && live == Some(0xFFFF_FFE9) && retired == live {
+        return Ok(());
+    }
+    Err(Fail::new(format_args!("{unused:?}, {live:?}, {retired:?}")))
+}
+
 /// The bits of two bundles, of which the second one has the chunk.
 #[derive(Drop)]
 struct MarkedPlaces {
@@ -41,17 +56,7 @@ impl Trial for MarkedPlaces {
         _gens: &Gens,
         _pass: Pass,
     ) -> Result<(), Fail> {
-        take_steps(self.alloc, region, LIMIT, &CREATE)?;
-        let unused = marked_places(region.acts(), 0x10000);
-        let live = marked_places(region.acts(), 0x10020);
-        take_steps(self.alloc, region, LIMIT, &DELETE)?;
-        let retired = marked_places(region.acts(), 0x10020);
-        // a bundle that no chunk uses has its start alone; the pair's halves are at places 0 and 3, and nops from 5 on; a
-        // deleted chunk keeps its marks
-        if unused == Some(0x0000_0001) && live == Some(0xFFFF_FFE9) && retired == live {
-            return Ok(());
-        }
-        Err(Fail::new(format_args!("{unused:?}, {live:?}, {retired:?}")))
+        try_places(self.alloc, region)
     }
 }
 

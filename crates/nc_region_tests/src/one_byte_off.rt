@@ -2,7 +2,7 @@
 //! region of its own and walked, and wherever a walk stands in the region, an instruction stands.
 ghost use Rattle.std.specs.Prelude.{◌≡◌};
 
-use crate::calls::Calls;
+use crate::calls::{Calls, is_created};
 use crate::fixtures::LIMIT;
 use crate::trial::{Telling, Trial, try_in_region};
 use nc_decode::{BUNDLE, START, decode};
@@ -90,8 +90,7 @@ impl Trial for Walks {
         _gens: &Gens,
         _pass: Pass,
     ) -> Result<(), Fail> {
-        let created = region.created(self.vetted).is_ok();
-        if created && walks_on_instructions(self.alloc, region)? {
+        if is_created(region, self.vetted) && walks_on_instructions(self.alloc, region)? {
             return Ok(());
         }
         Err(Fail::new("not created, or a walk leaves the instructions"))

@@ -136,15 +136,20 @@ impl PlainText {
             self.differences = self.differences.saturating_add(1);
         }
         for at in START..limit {
-            let number = index(at);
-            let is_same = self.bytes.get(number) == Some(&acts.byte(at))
-                && self.marks.get(number) == Some(&acts.mark(at))
-                && (number % PAGE > 0
-                    || self.made.get(number / PAGE) == Some(&is_ready_at(acts, at)));
-            if !is_same {
+            if !self.is_same(acts, at) {
                 self.differences = self.differences.saturating_add(1);
             }
         }
+    }
+
+    /// Whether a place has what stands there, and a page's first place is ready if the page is made.
+    fn is_same<A: Acts>(&self, acts: &A, at: u32) -> bool
+        requires { InRegion (A.marked acts.now).bytes at }
+    {
+        let number = index(at);
+        self.bytes.get(number) == Some(&acts.byte(at))
+            && self.marks.get(number) == Some(&acts.mark(at))
+            && (number % PAGE > 0 || self.made.get(number / PAGE) == Some(&is_ready_at(acts, at)))
     }
 }
 

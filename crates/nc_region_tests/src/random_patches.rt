@@ -2,7 +2,7 @@
 //! the rules (`lawful`): the answer, the acts and the bytes have to be the same.
 ghost use Rattle.std.specs.Prelude.{◌≡◌};
 
-use crate::calls::Calls;
+use crate::calls::{Calls, is_created};
 use crate::drawing::{Drawn, Numbers, draw_chunk, draw_patch};
 use crate::fixtures::stands;
 use crate::lawful::{Judged, Standing, judge};
@@ -32,6 +32,13 @@ fn number(answer: Result<(), ModifyFault>) -> usize {
     }
 }
 
+/// A copy of these bytes.
+fn copied(alloc: Global, bytes: &[u8]) -> Result<Vec<u8>, Fail> {
+    let mut copy = Vec::new(alloc);
+    copy.extend_from_slice(bytes)?;
+    Ok(copy)
+}
+
 /// Creates a chunk that is drawn, of this many bundles.
 fn create_drawn<C: Calls>(
     alloc: Global,
@@ -41,12 +48,11 @@ fn create_drawn<C: Calls>(
     bundles: usize,
 ) -> Result<Standing, Fail> {
     let vetted = draw_chunk(alloc, numbers, base, LIMIT, bundles)?;
-    let mut code = Vec::new(alloc);
-    code.extend_from_slice(vetted.code())?;
-    if region.created(vetted).is_err() {
-        return Err(Fail::new("not created"));
+    let code = copied(alloc, vetted.code())?;
+    if is_created(region, vetted) {
+        return Ok(Standing { base, code });
     }
-    Ok(Standing { base, code })
+    Err(Fail::new("not created"))
 }
 
 /// A chunk that is created and retired.
@@ -101,7 +107,31 @@ fn differs(drawn: &Drawn, answer: Result<(), ModifyFault>, told: &[Act], judged:
     ))
 }
 
-/// Draws a patch, has it judged both ways, and compares. Answers the number of its answer.
+/// The acts that are told.
+fn told<A: Telling>(acts: &A) -> &[Act] {
+    acts.told().unwrap_or(&[])
+}
+
+/// Makes a patch that was judged, and compares. Answers the number of its answer.
+fn patch<A: Acts + Telling + Drop>(
+    region: &mut RegionOf<A>,
+    live: &mut [Standing],
+    drawn: &Drawn,
+    judged: &Judged,
+) -> Result<usize, Fail> {
+    let before = told(region.acts()).len();
+    let answer = region.modified(drawn.at, &drawn.new);
+    if answer.is_ok() {
+        write(live, drawn.at, &drawn.new);
+    }
+    let since = told(region.acts()).get(before..).unwrap_or(&[]);
+    if answer == judged.answer && since == judged.acts.as_slice() && text_stands(region, live) {
+        return Ok(number(answer));
+    }
+    Err(differs(drawn, answer, since, judged))
+}
+
+/// Draws a patch and has it judged both ways. Answers the number of its answer.
 fn patch_once<A: Acts + Telling + Drop>(
     alloc: Global,
     numbers: &mut Numbers,
@@ -110,21 +140,24 @@ fn patch_once<A: Acts + Telling + Drop>(
 ) -> Result<usize, Fail> {
     let drawn = draw_patch(alloc, numbers, live)?;
     let judged = judge(alloc, live, LIMIT, drawn.at, &drawn.new)?;
-    let before = region.acts().told().unwrap_or(&[]).len();
-    let answer = region.modified(drawn.at, &drawn.new);
-    if answer.is_ok() {
-        write(live, drawn.at, &drawn.new);
+    patch(region, live, &drawn, &judged)
+}
+
+/// Draws and makes forty patches, and counts their answers.
+fn patch_all<A: Acts + Telling + Drop>(
+    alloc: Global,
+    numbers: &mut Numbers,
+    region: &mut RegionOf<A>,
+    live: &mut [Standing],
+    counts: &mut [u32; 7],
+) -> Result<(), Fail> {
+    for _ in 0..40 {
+        let answer = patch_once(alloc, numbers, region, live)?;
+        if let Some(count) = counts.get_mut(answer) {
+            *count = count.saturating_add(1);
+        }
     }
-    let told = region
-        .acts()
-        .told()
-        .unwrap_or(&[])
-        .get(before..)
-        .unwrap_or(&[]);
-    if answer == judged.answer && told == judged.acts.as_slice() && text_stands(region, live) {
-        return Ok(number(answer));
-    }
-    Err(differs(&drawn, answer, told, &judged))
+    Ok(())
 }
 
 /// Chunks that are drawn and patched forty times, with the answers counted.
@@ -142,14 +175,10 @@ impl Trial for Patches<'_> {
         _gens: &Gens,
         _pass: Pass,
     ) -> Result<(), Fail> {
-        let mut live = lay_out(self.alloc, self.numbers, region)?;
-        for _ in 0..40 {
-            let answer = patch_once(self.alloc, self.numbers, region, &mut live)?;
-            if let Some(count) = self.counts.get_mut(answer) {
-                *count = count.saturating_add(1);
-            }
-        }
-        Ok(())
+        let numbers = self.numbers;
+        let counts = self.counts;
+        let mut live = lay_out(self.alloc, numbers, region)?;
+        patch_all(self.alloc, numbers, region, &mut live, counts)
     }
 }
 

@@ -3,7 +3,7 @@
 ghost use Rattle.std.specs.Prelude.{◌≡◌};
 ghost use Rattle.nc_region.specs.Region.{IsNew};
 
-use crate::calls::Calls;
+use crate::calls::{Calls, is_created};
 use crate::drawing::{Numbers, draw_chunk};
 use crate::fixtures::plain;
 use crate::plain_text::{PlainText, Twin};
@@ -42,7 +42,7 @@ fn create<C: Calls>(
     let base = 0x10000u32.saturating_add(bundle.saturating_mul(32));
     let bundles = numbers.below(3).saturating_add(1);
     let vetted = draw_chunk(alloc, numbers, base, LIMIT, bundles)?;
-    if region.created(vetted).is_ok() {
+    if is_created(region, vetted) {
         done.created = done.created.saturating_add(1);
     }
     Ok(())

@@ -2,7 +2,7 @@
 ghost use Rattle.std.specs.Prelude.{◌≡◌};
 ghost use Rattle.nc_region.specs.Region.{IsNew};
 
-use crate::calls::{Calls, Locked};
+use crate::calls::{Calls, Locked, is_created};
 use crate::fixtures::{LIMIT, chunk, region, shared};
 use crate::steps::{Step, Steps, take_both, take_steps};
 use crate::trial::{SharedTrial, recorder, try_shared};
@@ -18,7 +18,7 @@ use std::thread::{Threads, join};
 
 /// Creates a chunk, and walks from its base.
 fn create_and_walk<C: Calls + Drop>(mut region: C, base: u32, vetted: Vetted) -> Option<Trace> {
-    if region.created(vetted).is_err() {
+    if !is_created(&mut region, vetted) {
         return None;
     }
     region.walked(base, &[0, 0, 0]).ok()
@@ -44,7 +44,7 @@ const FORTH: &[u32] = &[0x10000, 0x10020, 0x10000, 0x10020];
 const BACK: &[u32] = &[0x10020, 0x10000, 0x10020, 0x10000];
 
 /// Whether a trace goes over all of these places; otherwise it has to be the first two, at a stop.
-fn is_long(trace: Option<Trace>, places: &[u32]) -> Result<bool, Fail> {
+fn is_long(trace: Option<&Trace>, places: &[u32]) -> Result<bool, Fail> {
     let Some(trace) = trace else {
         return Err(Fail::new("a thread has no trace"));
     };
@@ -56,6 +56,28 @@ fn is_long(trace: Option<Trace>, places: &[u32]) -> Result<bool, Fail> {
         return Ok(false);
     }
     Err(Fail::new(format_args!("{found:?}")))
+}
+
+/// At least one of the traces goes over both chunks.
+fn one_is_long(first: Option<&Trace>, second: Option<&Trace>) -> Result<(), Fail> {
+    let first_long = is_long(first, FORTH)?;
+    let second_long = is_long(second, BACK)?;
+    if first_long || second_long {
+        return Ok(());
+    }
+    Err(Fail::new("neither thread went over both chunks"))
+}
+
+/// The traces of two threads that share this region.
+fn traces<R: Threads + Wait + Sync, A: Acts + Drop + Send>(
+    rt: &R,
+    alloc: Global,
+    shared: &SharedOf<'_, A>,
+) -> Result<(Option<Trace>, Option<Trace>), Fail> {
+    // a jump to 00010020, and one to 00010000
+    let one = chunk(alloc, 0x10000, LIMIT, 1, &[0xEB, 0x1E])?;
+    let other = chunk(alloc, 0x10020, LIMIT, 1, &[0xEB, 0xDE])?;
+    Ok(run_two(rt, shared, one, other))
 }
 
 /// After both threads: a walk, and another one once the first jump is turned to 00010040.
@@ -72,15 +94,8 @@ fn try_two<R: Threads + Wait + Sync, A: Acts + Drop + Send>(
     alloc: Global,
     shared: &SharedOf<'_, A>,
 ) -> Result<(), Fail> {
-    // a jump to 00010020, and one to 00010000
-    let one = chunk(alloc, 0x10000, LIMIT, 1, &[0xEB, 0x1E])?;
-    let other = chunk(alloc, 0x10020, LIMIT, 1, &[0xEB, 0xDE])?;
-    let (first, second) = run_two(rt, shared, one, other);
-    let first_long = is_long(first, FORTH)?;
-    let second_long = is_long(second, BACK)?;
-    if !first_long && !second_long {
-        return Err(Fail::new("neither thread went over both chunks"));
-    }
+    let (first, second) = traces(rt, alloc, shared)?;
+    one_is_long(first.as_ref(), second.as_ref())?;
     take_steps(alloc, &mut Locked { rt, shared }, LIMIT, &JOINED)
 }
 
@@ -157,6 +172,22 @@ static CALLS: Steps<'static> = Steps {
     after: &[Step::Reclaim(1), Step::Count(0)],
 };
 
+/// Makes the calls under the lock, with a check-in between that is beside it.
+fn take_steps_beside<C: Calls, A: Acts + Drop>(
+    alloc: Global,
+    region: &mut C,
+    shared: &SharedOf<'_, A>,
+    pass: &mut Pass,
+    steps: &Steps<'_>,
+) -> Result<(), Fail>
+    requires { pass.old.table ≡ shared.now }
+    ensures { pass.new.table ≡ shared.now }
+{
+    take_steps(alloc, region, LIMIT, steps.before)?;
+    shared.check_in(pass);
+    take_steps(alloc, region, LIMIT, steps.after)
+}
+
 /// The calls under the lock, with a check-in beside it.
 #[derive(Drop)]
 struct SharedCalls<'r, R: Wait> {
@@ -165,22 +196,13 @@ struct SharedCalls<'r, R: Wait> {
 }
 
 impl<R: Wait> SharedTrial for SharedCalls<'_, R> {
-    fn run<A: Acts + Drop + Send>(
-        self,
-        shared: &SharedOf<'_, A>,
-        passes: Vec<Pass>,
-    ) -> Result<(), Fail> {
-        let mut passes = passes;
-        let Some(mut pass) = passes.pop() else {
-            return Err(Fail::new("no pass"));
-        };
+    fn run<A: Acts + Drop + Send>(self, shared: &SharedOf<'_, A>, pass: Pass) -> Result<(), Fail> {
+        let mut pass = pass;
         let mut region = Locked {
             rt: self.rt,
             shared,
         };
-        take_steps(self.alloc, &mut region, LIMIT, CALLS.before)?;
-        shared.check_in(&mut pass);
-        take_steps(self.alloc, &mut region, LIMIT, CALLS.after)?;
+        take_steps_beside(self.alloc, &mut region, shared, &mut pass, &CALLS)?;
         shared.leave(pass);
         Ok(())
     }
@@ -189,7 +211,7 @@ impl<R: Wait> SharedTrial for SharedCalls<'_, R> {
 #[test]
 fn shared_calls(rt: HostRuntime) -> Result<(), Fail> {
     let alloc = rt.alloc();
-    try_shared(alloc, 4, 1, SharedCalls { rt: &rt, alloc })
+    try_shared(alloc, 4, SharedCalls { rt: &rt, alloc })
 }
 
 /// The limit of a region of 6 bundles.

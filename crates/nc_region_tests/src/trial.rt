@@ -1,5 +1,5 @@
 //! Tests in a region whose acts are told.
-ghost use Rattle.std.specs.Prelude.{◌≡◌, All, IfOk};
+ghost use Rattle.std.specs.Prelude.{◌≡◌, IfOk};
 ghost use Rattle.nc_region.specs.Region.{IsNew};
 
 use crate::fixtures::{plain, shared};
@@ -86,23 +86,19 @@ pub(crate) fn try_in_region<T: Trial>(
 
 /// What is tried in a region that threads share.
 pub(crate) trait SharedTrial: Drop {
-    /// Tries it in a new region, which has these seats.
-    fn run<A: Acts + Drop + Send>(
-        self,
-        shared: &SharedOf<'_, A>,
-        passes: Vec<Pass>,
-    ) -> Result<(), Fail>
-        requires { All (λ p. p.table ≡ shared.now) passes.items };
+    /// Tries it in a new region with one seat.
+    fn run<A: Acts + Drop + Send>(self, shared: &SharedOf<'_, A>, pass: Pass) -> Result<(), Fail>
+        requires { pass.table ≡ shared.now };
 }
 
-/// Tries this in a new region of this size that tells nothing, with this many seats.
+/// Tries this in a new region of this size that tells nothing.
 pub(crate) fn try_shared<T: SharedTrial>(
     alloc: Global,
     bundles: u32,
-    seats: u32,
     trial: T,
 ) -> Result<(), Fail> {
-    let (gens, keeper, passes) = Gens::new(alloc, seats)?;
+    let (gens, keeper, mut passes) = Gens::new(alloc, 1)?;
+    let pass = passes.remove(0);
     let shared = shared(alloc, bundles, &gens, keeper)?;
-    trial.run(&shared, passes)
+    trial.run(&shared, pass)
 }
