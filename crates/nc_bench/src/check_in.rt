@@ -2,7 +2,7 @@
 
 ghost use Rattle.std.specs.Prelude.{◌≡◌};
 
-use nc_gens::{Gens, Pass};
+use nc_gens::{Gens, Keeper, Pass};
 use nc_region::{Region, Shared};
 use std::io;
 use std::sync::atomic::{AtomicU64, Ordering};
@@ -47,19 +47,52 @@ fn bare_once<R: Clock + AllocGlobal>(rt: &R, times: u32) -> io::Result<Duration>
     start.elapsed(rt)
 }
 
-/// What the check-ins took, where there is memory for a region.
-fn check_in_once<R: Clock + AllocGlobal>(rt: &R, times: u32) -> io::Result<Duration> {
-    let Ok((gens, keeper, mut passes)) = Gens::new(rt.alloc(), 1) else {
-        return Ok(Duration::MAX);
-    };
-    let mut pass = passes.remove(0);
-    let Ok(region) = Region::new(rt.alloc(), 2, &gens, keeper) else {
-        return Ok(Duration::MAX);
-    };
-    let shared = Shared::new(region);
+/// What the check-ins took.
+fn check_in_timed<R: Clock>(
+    rt: &R,
+    shared: &Shared<'_>,
+    pass: &mut Pass,
+    times: u32,
+) -> io::Result<Duration>
+    requires { pass.old.table ≡ shared.now }
+{
     let start = Instant::now(rt)?;
-    check_in_times(&shared, &mut pass, times);
+    check_in_times(shared, pass, times);
     start.elapsed(rt)
+}
+
+/// What they took in a new region over a table of generations, where there is memory for it.
+fn check_in_over<R: Clock + AllocGlobal>(
+    rt: &R,
+    gens: &Gens,
+    keeper: Keeper,
+    pass: &mut Pass,
+    times: u32,
+) -> io::Result<Duration>
+    requires { (keeper.table ≡ gens.now) × (pass.old.table ≡ gens.now) }
+{
+    match Region::new(rt.alloc(), 2, gens, keeper) {
+        Ok(region) => check_in_timed(rt, &Shared::new(region), pass, times),
+        Err(_refused) => Ok(Duration::MAX),
+    }
+}
+
+/// What they took over a new table of generations.
+fn check_in_once<R: Clock + AllocGlobal>(rt: &R, times: u32) -> io::Result<Duration> {
+    match Gens::new(rt.alloc(), 1) {
+        Ok((gens, keeper, mut passes)) => {
+            let mut pass = passes.remove(0);
+            check_in_over(rt, &gens, keeper, &mut pass, times)
+        }
+        Err(_refused) => Ok(Duration::MAX),
+    }
+}
+
+/// Prints the best times.
+fn report<R: Print>(rt: &R, times: u32, check_in: Duration, bare: Duration) -> io::Result<()> {
+    let check_in = check_in.as_nanos();
+    let bare = bare.as_nanos();
+    println!(rt; "{times} check-ins: {check_in} ns; {times} bare loads and stores: {bare} ns")
 }
 
 /// Times check-ins and bare steps by turns, and prints the best times.
@@ -68,12 +101,11 @@ pub fn measure_check_in<R: Clock + Print + AllocGlobal>(
     times: u32,
     rounds: u32,
 ) -> io::Result<()> {
-    let mut best = (Duration::MAX, Duration::MAX);
+    let mut check_in = Duration::MAX;
+    let mut bare = Duration::MAX;
     for _ in 0..rounds {
-        best.0 = best.0.min(check_in_once(rt, times)?);
-        best.1 = best.1.min(bare_once(rt, times)?);
+        check_in = check_in.min(check_in_once(rt, times)?);
+        bare = bare.min(bare_once(rt, times)?);
     }
-    let check_in = best.0.as_nanos();
-    let bare = best.1.as_nanos();
-    println!(rt; "{times} check-ins: {check_in} ns; {times} bare loads and stores: {bare} ns")
+    report(rt, times, check_in, bare)
 }

@@ -4,8 +4,9 @@ ghost use Rattle.std.specs.Prelude.{◌≡◌, All};
 
 use crate::load::{Load, create_all};
 use crate::ordinary::{PATCH, PATCH_AT};
-use nc_gens::{Gens, Pass};
+use nc_gens::{Gens, Keeper, Pass};
 use nc_region::Region;
+use nc_vet::Vetted;
 use std::io;
 use std::time::{Clock, Duration, Instant};
 
@@ -76,35 +77,101 @@ fn check_in_all(gens: &Gens, passes: &mut [Pass])
     }
 }
 
-/// Creates, patches, deletes and reclaims all chunks in a new region, where there is memory for it.
-fn live_once<R: Clock + AllocGlobal>(rt: &R, load: Load) -> io::Result<Option<Times>> {
-    let all = load.chunks(rt.alloc())?;
-    let Ok((gens, keeper, mut passes)) = Gens::new(rt.alloc(), load.seats) else {
-        return Ok(None);
-    };
-    let Ok(mut region) = Region::new(rt.alloc(), load.region(), &gens, keeper) else {
-        return Ok(None);
-    };
+/// Creates the chunks: what that took, and how many were created.
+fn create<R: Clock>(
+    rt: &R,
+    region: &mut Region<'_>,
+    all: Vec<Vetted>,
+) -> io::Result<(Duration, u32)> {
     let start = Instant::now(rt)?;
-    let created = create_all(&mut region, all);
-    let create = start.elapsed(rt)?;
+    let created = create_all(region, all);
+    Ok((start.elapsed(rt)?, created))
+}
+
+/// Patches the chunks: what that took, and how many were patched.
+fn patch<R: Clock>(rt: &R, region: &mut Region<'_>, load: Load) -> io::Result<(Duration, u32)> {
     let start = Instant::now(rt)?;
-    let patched = patch_all(&mut region, load);
-    let patch = start.elapsed(rt)?;
+    let patched = patch_all(region, load);
+    Ok((start.elapsed(rt)?, patched))
+}
+
+/// Deletes the chunks: what that took, and how many were deleted.
+fn delete<R: Clock>(rt: &R, region: &mut Region<'_>, load: Load) -> io::Result<(Duration, u32)> {
     let start = Instant::now(rt)?;
-    let deleted = delete_all(&mut region, load);
-    let delete = start.elapsed(rt)?;
-    check_in_all(&gens, passes.as_mut_slice());
+    let deleted = delete_all(region, load);
+    Ok((start.elapsed(rt)?, deleted))
+}
+
+/// Reclaims the chunks: what that took, and how many were reclaimed.
+fn reclaim<R: Clock>(rt: &R, region: &mut Region<'_>) -> io::Result<(Duration, u32)> {
     let start = Instant::now(rt)?;
     let reclaimed = region.reclaim();
-    let reclaim = start.elapsed(rt)?;
-    Ok(Some(Times {
+    Ok((start.elapsed(rt)?, reclaimed))
+}
+
+/// Creates, patches, deletes and reclaims all chunks in a region without a chunk.
+fn live_in<R: Clock>(
+    rt: &R,
+    load: Load,
+    all: Vec<Vetted>,
+    region: &mut Region<'_>,
+    gens: &Gens,
+    passes: &mut [Pass],
+) -> io::Result<Times>
+    requires { All (λ p. p.table ≡ gens.now) passes.old }
+{
+    let (create, created) = create(rt, region, all)?;
+    let (patch, patched) = patch(rt, region, load)?;
+    let (delete, deleted) = delete(rt, region, load)?;
+    check_in_all(gens, passes);
+    let (reclaim, reclaimed) = reclaim(rt, region)?;
+    Ok(Times {
         create,
         patch,
         delete,
         reclaim,
         done: [created, patched, deleted, reclaimed],
-    }))
+    })
+}
+
+/// The same in a new region over a table of generations, where there is memory for it.
+fn live_over<R: Clock + AllocGlobal>(
+    rt: &R,
+    load: Load,
+    all: Vec<Vetted>,
+    gens: &Gens,
+    keeper: Keeper,
+    passes: &mut [Pass],
+) -> io::Result<Option<Times>>
+    requires { (keeper.table ≡ gens.now) × All (λ p. p.table ≡ gens.now) passes.old }
+{
+    match Region::new(rt.alloc(), load.region(), gens, keeper) {
+        Ok(mut region) => live_in(rt, load, all, &mut region, gens, passes).map(Some),
+        Err(_refused) => Ok(None),
+    }
+}
+
+/// The same over a new table of generations.
+fn live_once<R: Clock + AllocGlobal>(rt: &R, load: Load) -> io::Result<Option<Times>> {
+    let all = load.chunks(rt.alloc())?;
+    match Gens::new(rt.alloc(), load.seats) {
+        Ok((gens, keeper, mut passes)) => {
+            live_over(rt, load, all, &gens, keeper, passes.as_mut_slice())
+        }
+        Err(_refused) => Ok(None),
+    }
+}
+
+/// Prints the best times, and the counts of the last round.
+fn report<R: Print>(rt: &R, load: Load, best: Times) -> io::Result<()> {
+    let create = best.create.as_nanos();
+    let patch = best.patch.as_nanos();
+    let delete = best.delete.as_nanos();
+    let reclaim = best.reclaim.as_nanos();
+    println!(rt;
+        "{} chunks of {} bundles, {} seats: create {create} ns, patch {patch} ns, delete {delete} ns, reclaim {reclaim} ns; done {:?}",
+        load.count, load.bundles, load.seats, best.done
+    )
 }
 
 /// Times the chunks in rounds, and prints the best times.
@@ -119,12 +186,5 @@ pub fn measure_chunks<R: Clock + Print + AllocGlobal>(
             best = best.best(times);
         }
     }
-    let create = best.create.as_nanos();
-    let patch = best.patch.as_nanos();
-    let delete = best.delete.as_nanos();
-    let reclaim = best.reclaim.as_nanos();
-    println!(rt;
-        "{} chunks of {} bundles, {} seats: create {create} ns, patch {patch} ns, delete {delete} ns, reclaim {reclaim} ns; done {:?}",
-        load.count, load.bundles, load.seats, best.done
-    )
+    report(rt, load, best)
 }

@@ -84,13 +84,22 @@ fn with_measurement<'a>(
     }
 }
 
-/// The whole command line, without the program's own name.
-fn program<'a>(alloc: Global) -> Result<Command<'a>, AllocError> {
-    let mut program = bare_program(alloc);
-    for measurement in &MEASUREMENTS {
+/// A command line with these measurements more.
+fn with_measurements<'a>(
+    alloc: Global,
+    program: Result<Command<'a>, AllocError>,
+    measurements: &[Measurement],
+) -> Result<Command<'a>, AllocError> {
+    let mut program = program;
+    for measurement in measurements {
         program = with_measurement(alloc, program, measurement);
     }
     program
+}
+
+/// The whole command line, without the program's own name.
+fn program<'a>(alloc: Global) -> Result<Command<'a>, AllocError> {
+    with_measurements(alloc, bare_program(alloc), &MEASUREMENTS)
 }
 
 /// What the words of a command line match.

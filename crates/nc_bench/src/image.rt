@@ -1,8 +1,10 @@
 //! Chunks of real code: created, walked and deleted.
 
+ghost use Rattle.std.specs.Prelude.{◌≡◌};
+
 use crate::numbers::Numbers;
 use nc_decode::{BUNDLE, START};
-use nc_gens::Gens;
+use nc_gens::{Gens, Keeper};
 use nc_region::Region;
 use nc_vet::{Vetted, vet};
 use std::alloc::{AllocError, Global};
@@ -107,6 +109,36 @@ fn create_all(region: &mut Region<'_>, all: Vec<Vetted>) -> bool {
     true
 }
 
+/// Creates the chunks: what that took, and whether all were created.
+fn create<R: Clock>(
+    rt: &R,
+    region: &mut Region<'_>,
+    all: Vec<Vetted>,
+) -> io::Result<(Duration, bool)> {
+    let start = Instant::now(rt)?;
+    let created = create_all(region, all);
+    Ok((start.elapsed(rt)?, created))
+}
+
+/// Walks: what that took, and over how many places.
+fn walk<R: Clock + AllocGlobal>(
+    rt: &R,
+    region: &Region<'_>,
+    count: u32,
+    steps: u64,
+) -> io::Result<(Duration, u64)> {
+    let start = Instant::now(rt)?;
+    let places = walk_about(rt.alloc(), region, bundles_for(count), steps)?;
+    Ok((start.elapsed(rt)?, places))
+}
+
+/// Deletes the chunks: what that took, and whether all were deleted.
+fn delete<R: Clock>(rt: &R, region: &mut Region<'_>, count: u32) -> io::Result<(Duration, bool)> {
+    let start = Instant::now(rt)?;
+    let deleted = delete_all(region, count);
+    Ok((start.elapsed(rt)?, deleted == count))
+}
+
 /// What creating, walking and deleting the chunks took in a region, where all were created and deleted.
 fn life<R: Clock + AllocGlobal>(
     rt: &R,
@@ -116,17 +148,12 @@ fn life<R: Clock + AllocGlobal>(
     count: u32,
     steps: u64,
 ) -> io::Result<Option<Times>> {
-    let start = Instant::now(rt)?;
-    if !create_all(region, all) {
+    let (create, all_created) = create(rt, region, all)?;
+    if !all_created {
         return Ok(None);
     }
-    let create = start.elapsed(rt)?;
-    let start = Instant::now(rt)?;
-    let places = walk_about(rt.alloc(), region, bundles_for(count), steps)?;
-    let walk = start.elapsed(rt)?;
-    let start = Instant::now(rt)?;
-    let deleted = delete_all(region, count);
-    let delete = start.elapsed(rt)?;
+    let (walk, places) = walk(rt, region, count, steps)?;
+    let (delete, all_deleted) = delete(rt, region, count)?;
     let times = Times {
         vet,
         create,
@@ -134,7 +161,37 @@ fn life<R: Clock + AllocGlobal>(
         delete,
         places,
     };
-    Ok(if deleted == count { Some(times) } else { None })
+    Ok(if all_deleted { Some(times) } else { None })
+}
+
+/// The same in a new region over a table of generations, where there is memory for it.
+fn life_over<R: Clock + AllocGlobal>(
+    rt: &R,
+    gens: &Gens,
+    keeper: Keeper,
+    all: Vec<Vetted>,
+    vet: Duration,
+    count: u32,
+    steps: u64,
+) -> io::Result<Option<Times>>
+    requires { keeper.table ≡ gens.now }
+{
+    match Region::new(rt.alloc(), bundles_for(count), gens, keeper) {
+        Ok(mut region) => life(rt, &mut region, all, vet, count, steps),
+        Err(_refused) => Ok(None),
+    }
+}
+
+/// The chunks, and what vetting them took.
+fn vetted<R: Clock + AllocGlobal>(
+    rt: &R,
+    image: &[u8],
+    count: u32,
+) -> io::Result<(Vec<Vetted>, Duration)> {
+    let start = Instant::now(rt)?;
+    let all = chunks(rt.alloc(), image, count)?;
+    let vet = start.elapsed(rt)?;
+    Ok((all, vet))
 }
 
 /// One region's life, where there is memory for it.
@@ -144,30 +201,25 @@ fn live<R: Clock + AllocGlobal>(
     count: u32,
     steps: u64,
 ) -> io::Result<Option<Times>> {
-    let start = Instant::now(rt)?;
-    let all = chunks(rt.alloc(), image, count)?;
-    let vet = start.elapsed(rt)?;
-    let Ok((gens, keeper, _passes)) = Gens::new(rt.alloc(), 1) else {
-        return Ok(None);
-    };
-    match Region::new(rt.alloc(), bundles_for(count), &gens, keeper) {
-        Ok(mut region) => life(rt, &mut region, all, vet, count, steps),
+    let (all, vet) = vetted(rt, image, count)?;
+    match Gens::new(rt.alloc(), 1) {
+        Ok((gens, keeper, _passes)) => life_over(rt, &gens, keeper, all, vet, count, steps),
         Err(_refused) => Ok(None),
     }
 }
 
-/// Creates, walks and deletes chunks of one mebibyte that are made of a file's code, and prints what each part took.
-pub fn measure_image<R: Files + Clock + Print + AllocGlobal>(
-    rt: &R,
-    path: &str,
-    count: u32,
-    steps: u32,
-) -> io::Result<()> {
+/// The first bytes of a file, at most as many as a chunk has.
+fn read_image<R: Files + AllocGlobal>(rt: &R, path: &str) -> io::Result<Vec<u8>> {
     let mut image = Vec::new(rt.alloc());
     let mut file = fs::open(rt, path)?;
     file.read_to_end(&mut image)?;
     image.truncate(CHUNK);
-    match live(rt, &image, count, u64::from(steps))? {
+    Ok(image)
+}
+
+/// Prints what each part took.
+fn report<R: Print>(rt: &R, count: u32, times: Option<Times>) -> io::Result<()> {
+    match times {
         Some(times) => println!(rt;
             "{count} chunks of {CHUNK} bytes: vet {} ns, create {} ns, delete {} ns; {} places in {} ns",
             times.vet.as_nanos(),
@@ -178,4 +230,16 @@ pub fn measure_image<R: Files + Clock + Print + AllocGlobal>(
         ),
         None => println!(rt; "not all chunks were created and deleted"),
     }
+}
+
+/// Creates, walks and deletes chunks of one mebibyte that are made of a file's code, and prints what each part took.
+pub fn measure_image<R: Files + Clock + Print + AllocGlobal>(
+    rt: &R,
+    path: &str,
+    count: u32,
+    steps: u32,
+) -> io::Result<()> {
+    let image = read_image(rt, path)?;
+    let times = live(rt, &image, count, u64::from(steps))?;
+    report(rt, count, times)
 }

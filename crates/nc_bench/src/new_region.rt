@@ -1,19 +1,36 @@
 //! How long making a region takes.
 
-use nc_gens::Gens;
+ghost use Rattle.std.specs.Prelude.{◌≡◌};
+
+use nc_gens::{Gens, Keeper};
 use nc_region::Region;
 use std::io;
 use std::time::{Clock, Duration, Instant};
 
-/// What making a region took, where there is memory for it.
-fn new_once<R: Clock + AllocGlobal>(rt: &R, bundles: u32) -> io::Result<Duration> {
-    let Ok((gens, keeper, _passes)) = Gens::new(rt.alloc(), 1) else {
-        return Ok(Duration::MAX);
-    };
+/// What making a region over a table of generations took, where there is memory for it.
+fn new_over<R: Clock + AllocGlobal>(
+    rt: &R,
+    bundles: u32,
+    gens: &Gens,
+    keeper: Keeper,
+) -> io::Result<Duration>
+    requires { keeper.table ≡ gens.now }
+{
     let start = Instant::now(rt)?;
-    let made = Region::new(rt.alloc(), bundles, &gens, keeper);
-    let taken = start.elapsed(rt)?;
-    Ok(if made.is_ok() { taken } else { Duration::MAX })
+    let made = Region::new(rt.alloc(), bundles, gens, keeper);
+    let taken = start.elapsed(rt);
+    let is_made = made.is_ok();
+    drop(made);
+    let taken = taken?;
+    Ok(if is_made { taken } else { Duration::MAX })
+}
+
+/// The same over a new table of generations.
+fn new_once<R: Clock + AllocGlobal>(rt: &R, bundles: u32) -> io::Result<Duration> {
+    match Gens::new(rt.alloc(), 1) {
+        Ok((gens, keeper, _passes)) => new_over(rt, bundles, &gens, keeper),
+        Err(_refused) => Ok(Duration::MAX),
+    }
 }
 
 /// Times making a region in rounds, and prints the best time.

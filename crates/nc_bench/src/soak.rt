@@ -6,6 +6,7 @@
 
 ghost use Rattle.std.specs.Prelude.{◌≡◌};
 
+mod calls;
 mod drawn;
 mod model;
 mod writer;
@@ -13,7 +14,7 @@ mod writer;
 use crate::numbers::Numbers;
 use nc_decode::{BUNDLE, START, decode};
 use nc_gens::{Gens, Pass};
-use nc_region::Trace;
+use nc_region::{Acts, RegionOf, Trace};
 use nc_views::{Viewed, viewed};
 use std::alloc::Global;
 use std::io::{Error, ErrorKind, Result};
@@ -48,7 +49,7 @@ impl Walked {
 }
 
 /// Whether an instruction stands at an address of the region, inside its bundle; a place below the region counts as one.
-fn stands_well(region: &Viewed<'_>, at: u32) -> bool {
+fn stands_well<A: Acts + Drop>(region: &RegionOf<A>, at: u32) -> bool {
     if at < START {
         return true;
     }
@@ -57,10 +58,9 @@ fn stands_well(region: &Viewed<'_>, at: u32) -> bool {
     let end = (at - at % BUNDLE).saturating_add(BUNDLE);
     for place in at..end {
         if let Some(byte) = bytes.get_mut(len)
-            && place >= START
-            && place < region.limit()
+            && let Some(found) = calls::byte(region, place)
         {
-            *byte = region.byte(place);
+            *byte = found;
             len = len.saturating_add(1);
         }
     }
@@ -68,7 +68,7 @@ fn stands_well(region: &Viewed<'_>, at: u32) -> bool {
 }
 
 /// The number of places of a trace at which no instruction stands.
-fn astray(region: &Viewed<'_>, trace: &Trace) -> u64 {
+fn astray<A: Acts + Drop>(region: &RegionOf<A>, trace: &Trace) -> u64 {
     let mut astray = 0u64;
     for at in trace.places.iter() {
         if !stands_well(region, *at) {
@@ -76,6 +76,15 @@ fn astray(region: &Viewed<'_>, trace: &Trace) -> u64 {
         }
     }
     astray
+}
+
+/// Walks once in a region, as these choices pick the steps.
+fn walk_in<A: Acts + Drop>(region: &RegionOf<A>, start: u32, choices: &[u32], walked: &mut Walked) {
+    if let Ok(trace) = calls::walk(region, start, choices) {
+        walked.walks = walked.walks.saturating_add(1);
+        walked.places = walked.places.saturating_add(trace.places.len() as u64);
+        walked.astray = walked.astray.saturating_add(astray(region, &trace));
+    }
 }
 
 /// Walks once from a bundle start, as these choices pick the steps.
@@ -86,12 +95,7 @@ fn walk_once<R: Wait>(
     choices: &[u32],
     walked: &mut Walked,
 ) {
-    let region = region.lock(rt);
-    if let Ok(trace) = region.walk(start, choices) {
-        walked.walks = walked.walks.saturating_add(1);
-        walked.places = walked.places.saturating_add(trace.places.len() as u64);
-        walked.astray = walked.astray.saturating_add(astray(&region, &trace));
-    }
+    walk_in(&region.lock(rt), start, choices, walked);
 }
 
 /// The choices of a walk, which leads to one target again and again.

@@ -2,6 +2,7 @@
 
 use crate::code::{LIMIT, Source, copy, read_code};
 use nc_vet::vet;
+use nc_work::Verdict;
 use std::alloc::{AllocError, Global};
 use std::io;
 use std::rt::Files;
@@ -27,25 +28,40 @@ fn chunks(alloc: Global, code: &[u8]) -> Result<Vec<Vec<u8>>, AllocError> {
     Ok(chunks)
 }
 
+/// Vets each chunk, and keeps the verdicts, for which there is room.
+fn vet_each(
+    base: u32,
+    chunks: Vec<Vec<u8>>,
+    verdicts: &mut Vec<Verdict>,
+) -> Result<(), AllocError> {
+    for code in chunks {
+        verdicts.push(vet(base, LIMIT, code))?;
+    }
+    Ok(())
+}
+
+/// How many chunks were accepted.
+fn count_accepted(verdicts: &[Verdict]) -> usize {
+    let mut accepted = 0usize;
+    for verdict in verdicts {
+        if verdict.is_ok() {
+            accepted = accepted.saturating_add(1);
+        }
+    }
+    accepted
+}
+
 /// Vets copies of the code, and takes the time of that and of nothing else.
 fn vet_round<R: Clock + AllocGlobal>(rt: &R, base: u32, code: &[u8]) -> io::Result<Round> {
     let chunks = chunks(rt.alloc(), code)?;
     let count = chunks.len();
     let mut verdicts = Vec::with_capacity(rt.alloc(), count)?;
     let start = Instant::now(rt)?;
-    for code in chunks {
-        verdicts.push(vet(base, LIMIT, code))?;
-    }
+    vet_each(base, chunks, &mut verdicts)?;
     let took = start.elapsed(rt)?;
-    let mut accepted = 0usize;
-    for verdict in &verdicts {
-        if verdict.is_ok() {
-            accepted = accepted.saturating_add(1);
-        }
-    }
     Ok(Round {
         took: took / u32::try_from(count).unwrap_or(1).max(1),
-        accepted,
+        accepted: count_accepted(&verdicts),
     })
 }
 

@@ -1,8 +1,10 @@
 //! How long a walk around a chunk takes.
 
+ghost use Rattle.std.specs.Prelude.{◌≡◌};
+
 use crate::load::{Load, create_all};
 use nc_decode::{BUNDLE, START};
-use nc_gens::Gens;
+use nc_gens::{Gens, Keeper};
 use nc_region::Region;
 use std::alloc::{AllocError, Global};
 use std::io;
@@ -19,25 +21,68 @@ fn choices(alloc: Global, load: Load, steps: u32) -> Result<Vec<u32>, AllocError
     Ok(choices)
 }
 
-/// What a walk took, and over how many places it went, where there is memory for it.
+/// What a walk took, and over how many places it went, where there is memory for its trace.
+fn walk_in<R: Clock>(
+    rt: &R,
+    region: &Region<'_>,
+    choices: &[u32],
+) -> io::Result<Option<(Duration, usize)>> {
+    let start = Instant::now(rt)?;
+    match region.walk(START, choices) {
+        Ok(trace) => {
+            let taken = start.elapsed(rt)?;
+            Ok(Some((taken, trace.places.len())))
+        }
+        Err(_refused) => Ok(None),
+    }
+}
+
+/// Creates the chunks in a region, and walks there.
+fn create_and_walk<R: Clock + AllocGlobal>(
+    rt: &R,
+    load: Load,
+    region: &mut Region<'_>,
+    choices: &[u32],
+) -> io::Result<Option<(Duration, usize)>> {
+    create_all(region, load.chunks(rt.alloc())?);
+    walk_in(rt, region, choices)
+}
+
+/// The same in a new region over a table of generations, where there is memory for it.
+fn walk_over<R: Clock + AllocGlobal>(
+    rt: &R,
+    load: Load,
+    gens: &Gens,
+    keeper: Keeper,
+    choices: &[u32],
+) -> io::Result<Option<(Duration, usize)>>
+    requires { keeper.table ≡ gens.now }
+{
+    match Region::new(rt.alloc(), load.region(), gens, keeper) {
+        Ok(mut region) => create_and_walk(rt, load, &mut region, choices),
+        Err(_refused) => Ok(None),
+    }
+}
+
+/// The same over a new table of generations.
 fn walk_once<R: Clock + AllocGlobal>(
     rt: &R,
     load: Load,
     choices: &[u32],
 ) -> io::Result<Option<(Duration, usize)>> {
-    let Ok((gens, keeper, _passes)) = Gens::new(rt.alloc(), load.seats) else {
-        return Ok(None);
-    };
-    let Ok(mut region) = Region::new(rt.alloc(), load.region(), &gens, keeper) else {
-        return Ok(None);
-    };
-    create_all(&mut region, load.chunks(rt.alloc())?);
-    let start = Instant::now(rt)?;
-    let Ok(trace) = region.walk(START, choices) else {
-        return Ok(None);
-    };
-    let taken = start.elapsed(rt)?;
-    Ok(Some((taken, trace.places.len())))
+    match Gens::new(rt.alloc(), load.seats) {
+        Ok((gens, keeper, _passes)) => walk_over(rt, load, &gens, keeper, choices),
+        Err(_refused) => Ok(None),
+    }
+}
+
+/// Prints the best time and over how many places the last walk went.
+fn report<R: Print>(rt: &R, load: Load, places: usize, best: Duration) -> io::Result<()> {
+    println!(rt;
+        "{places} places in {} bundles: {} ns",
+        load.bundles,
+        best.as_nanos()
+    )
 }
 
 /// Times walks in rounds, and prints the best time and over how many places the last one went.
@@ -56,9 +101,5 @@ pub fn measure_walk<R: Clock + Print + AllocGlobal>(
             places = long;
         }
     }
-    println!(rt;
-        "{places} places in {} bundles: {} ns",
-        load.bundles,
-        best.as_nanos()
-    )
+    report(rt, load, places, best)
 }

@@ -1,8 +1,8 @@
 //! A plain model of a region: its bytes and its chunks, changed as the rules say and compared with the region itself.
 
+use super::calls;
 use nc_decode::START;
-use nc_region::{Chunk, ChunkState};
-use nc_views::Viewed;
+use nc_region::{Acts, Chunk, ChunkState, RegionOf};
 use std::alloc::{AllocError, Global};
 
 /// The byte of unused and retired spans.
@@ -121,10 +121,10 @@ impl Model {
     }
 
     /// The region's chunks are the model's, by rising base.
-    fn has_chunks(&self, region: &Viewed<'_>) -> bool {
+    fn has_chunks<A: Acts + Drop>(&self, region: &RegionOf<A>) -> bool {
         let mut end = START;
-        for i in 0..region.chunk_count() {
-            let Some(chunk) = region.chunk(i) else {
+        for i in 0..calls::chunk_count(region) {
+            let Some(chunk) = calls::chunk(region, i) else {
                 return false;
             };
             if chunk.base < end || !self.chunks.contains(&chunk) {
@@ -132,23 +132,23 @@ impl Model {
             }
             end = chunk.base.saturating_add(chunk.length);
         }
-        region.chunk_count() == self.chunks.len()
+        calls::chunk_count(region) == self.chunks.len()
     }
 
     /// The region's bytes are the model's.
-    fn has_bytes(&self, region: &Viewed<'_>) -> bool {
+    fn has_bytes<A: Acts + Drop>(&self, region: &RegionOf<A>) -> bool {
         let mut at = START;
         for byte in self.bytes.iter() {
-            if at < START || at >= region.limit() || region.byte(at) != *byte {
+            if calls::byte(region, at) != Some(*byte) {
                 return false;
             }
             at = at.saturating_add(1);
         }
-        at == region.limit()
+        at == calls::limit(region)
     }
 
     /// The whole region is as the model says.
-    pub fn is_of(&self, region: &Viewed<'_>) -> bool {
+    pub fn is_of<A: Acts + Drop>(&self, region: &RegionOf<A>) -> bool {
         self.has_chunks(region) && self.has_bytes(region)
     }
 }

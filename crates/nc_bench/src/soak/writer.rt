@@ -1,10 +1,11 @@
 //! A writer that judges each answer of a region by a plain model of it.
 
+use super::calls;
 use super::drawn::{Patch, draw_code, draw_patch};
 use super::model::Model;
 use crate::numbers::Numbers;
 use nc_decode::START;
-use nc_region::{ChunkState, CreateFault, DeleteFault, ModifyFault};
+use nc_region::{Acts, ChunkState, CreateFault, DeleteFault, ModifyFault, RegionOf};
 use nc_vet::vet;
 use nc_views::{Found, Viewed};
 use std::alloc::{AllocError, Global};
@@ -28,17 +29,6 @@ pub struct Done {
 /// Adds one.
 fn count(number: &mut u64) {
     *number = number.saturating_add(1);
-}
-
-/// Patches a chunk, and answers why that was refused. This and the next function have no clause, so that a proof above them
-/// doesn't go through all faults of a call.
-fn patch_fault(region: &mut Viewed<'_>, patch: &Patch) -> Option<ModifyFault> {
-    region.modify(patch.at, patch.bytes()).err()
-}
-
-/// Deletes a chunk.
-fn delete_chunk(region: &mut Viewed<'_>, base: u32) -> Result<u64, DeleteFault> {
-    region.delete(base)
 }
 
 /// A writer, its model, and the last stamp that was drawn.
@@ -112,14 +102,25 @@ impl Writer {
             count(&mut self.done.wrong);
             return Ok(());
         };
-        let answer = region.lock(rt).create(vetted);
-        let free = self.model.is_free(base, length.saturating_mul(32));
+        let answer = calls::create(&mut region.lock(rt), vetted);
+        self.judge_create(base, length.saturating_mul(32), &copy, answer)
+    }
+
+    /// Judges how the creation of this code was answered.
+    fn judge_create(
+        &mut self,
+        base: u32,
+        length: u32,
+        code: &[u8],
+        answer: Result<(), CreateFault>,
+    ) -> Result<(), AllocError> {
+        let free = self.model.is_free(base, length);
         match answer {
             Ok(()) if free => {
-                self.model.create(base, length.saturating_mul(32), &copy)?;
+                self.model.create(base, length, code)?;
                 count(&mut self.done.created);
             }
-            Err((_, CreateFault::Occupied)) if !free => count(&mut self.done.refused),
+            Err(CreateFault::Occupied) if !free => count(&mut self.done.refused),
             _ => count(&mut self.done.wrong),
         }
         Ok(())
@@ -132,7 +133,7 @@ impl Writer {
     }
 
     /// Patches a chunk, live or retired.
-    fn patch(&mut self, region: &mut Viewed<'_>) {
+    fn patch<A: Acts + Drop>(&mut self, region: &mut RegionOf<A>) {
         let number = self.draw_chunk();
         let Some(chunk) = self.model.chunk(number) else {
             return;
@@ -147,7 +148,7 @@ impl Writer {
             ChunkState::Live => patch.refused,
             ChunkState::Retired(_) => Some(ModifyFault::NotLive),
         };
-        let found = patch_fault(region, &patch);
+        let found = calls::modify(region, patch.at, patch.bytes()).err();
         if found != wanted {
             count(&mut self.done.wrong);
         } else if found.is_none() {
@@ -159,13 +160,13 @@ impl Writer {
     }
 
     /// Deletes a chunk, live or retired.
-    fn delete(&mut self, region: &mut Viewed<'_>) {
+    fn delete<A: Acts + Drop>(&mut self, region: &mut RegionOf<A>) {
         let number = self.draw_chunk();
         let Some(chunk) = self.model.chunk(number) else {
             return;
         };
         let next = self.stamp.saturating_add(1);
-        match (chunk.state, delete_chunk(region, chunk.base)) {
+        match (chunk.state, calls::delete(region, chunk.base)) {
             (ChunkState::Live, Ok(stamp)) if stamp == next => {
                 self.stamp = next;
                 self.model.delete(number, next);
@@ -177,8 +178,8 @@ impl Writer {
     }
 
     /// Reclaims the retired chunks that no walker holds back.
-    fn reclaim(&mut self, region: &mut Viewed<'_>) {
-        let freed = region.reclaim();
+    fn reclaim<A: Acts + Drop>(&mut self, region: &mut RegionOf<A>) {
+        let freed = calls::reclaim(region);
         if freed > self.model.retired() {
             count(&mut self.done.wrong);
         }
@@ -188,7 +189,7 @@ impl Writer {
     }
 
     /// Compares the whole region with the model.
-    pub fn compare(&mut self, region: &Viewed<'_>) {
+    pub fn compare<A: Acts + Drop>(&mut self, region: &RegionOf<A>) {
         count(&mut self.done.compared);
         if !self.model.is_of(region) {
             count(&mut self.done.wrong);
