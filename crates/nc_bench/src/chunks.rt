@@ -5,7 +5,7 @@ ghost use Rattle.std.specs.Prelude.{◌≡◌, All};
 use crate::load::{Load, create_all};
 use crate::ordinary::{PATCH, PATCH_AT};
 use nc_gens::{Gens, Keeper, Pass};
-use nc_region::Region;
+use nc_region::{Acts, Region, RegionOf};
 use nc_vet::Vetted;
 use std::io;
 use std::time::{Clock, Duration, Instant};
@@ -46,7 +46,7 @@ impl Times {
 }
 
 /// Patches the first bundle of each chunk, and counts those that were patched.
-fn patch_all(region: &mut Region<'_>, load: Load) -> u32 {
+fn patch_all<A: Acts + Drop>(region: &mut RegionOf<A>, load: Load) -> u32 {
     let mut done = 0u32;
     for i in 0..load.count {
         let at = load.base(i).saturating_add(PATCH_AT);
@@ -58,7 +58,7 @@ fn patch_all(region: &mut Region<'_>, load: Load) -> u32 {
 }
 
 /// Deletes the chunks, and counts those that were deleted.
-fn delete_all(region: &mut Region<'_>, load: Load) -> u32 {
+fn delete_all<A: Acts + Drop>(region: &mut RegionOf<A>, load: Load) -> u32 {
     let mut done = 0u32;
     for i in 0..load.count {
         if region.delete(load.base(i)).is_ok() {
@@ -78,9 +78,9 @@ fn check_in_all(gens: &Gens, passes: &mut [Pass])
 }
 
 /// Creates the chunks: what that took, and how many were created.
-fn create<R: Clock>(
+fn create<R: Clock, A: Acts + Drop>(
     rt: &R,
-    region: &mut Region<'_>,
+    region: &mut RegionOf<A>,
     all: Vec<Vetted>,
 ) -> io::Result<(Duration, u32)> {
     let start = Instant::now(rt)?;
@@ -89,32 +89,43 @@ fn create<R: Clock>(
 }
 
 /// Patches the chunks: what that took, and how many were patched.
-fn patch<R: Clock>(rt: &R, region: &mut Region<'_>, load: Load) -> io::Result<(Duration, u32)> {
+fn patch<R: Clock, A: Acts + Drop>(
+    rt: &R,
+    region: &mut RegionOf<A>,
+    load: Load,
+) -> io::Result<(Duration, u32)> {
     let start = Instant::now(rt)?;
     let patched = patch_all(region, load);
     Ok((start.elapsed(rt)?, patched))
 }
 
 /// Deletes the chunks: what that took, and how many were deleted.
-fn delete<R: Clock>(rt: &R, region: &mut Region<'_>, load: Load) -> io::Result<(Duration, u32)> {
+fn delete<R: Clock, A: Acts + Drop>(
+    rt: &R,
+    region: &mut RegionOf<A>,
+    load: Load,
+) -> io::Result<(Duration, u32)> {
     let start = Instant::now(rt)?;
     let deleted = delete_all(region, load);
     Ok((start.elapsed(rt)?, deleted))
 }
 
 /// Reclaims the chunks: what that took, and how many were reclaimed.
-fn reclaim<R: Clock>(rt: &R, region: &mut Region<'_>) -> io::Result<(Duration, u32)> {
+fn reclaim<R: Clock, A: Acts + Drop>(
+    rt: &R,
+    region: &mut RegionOf<A>,
+) -> io::Result<(Duration, u32)> {
     let start = Instant::now(rt)?;
     let reclaimed = region.reclaim();
     Ok((start.elapsed(rt)?, reclaimed))
 }
 
 /// Creates, patches, deletes and reclaims all chunks in a region without a chunk.
-fn live_in<R: Clock>(
+fn live_in<R: Clock, A: Acts + Drop>(
     rt: &R,
     load: Load,
     all: Vec<Vetted>,
-    region: &mut Region<'_>,
+    region: &mut RegionOf<A>,
     gens: &Gens,
     passes: &mut [Pass],
 ) -> io::Result<Times>

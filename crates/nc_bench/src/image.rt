@@ -5,7 +5,7 @@ ghost use Rattle.std.specs.Prelude.{◌≡◌};
 use crate::numbers::Numbers;
 use nc_decode::{BUNDLE, START};
 use nc_gens::{Gens, Keeper};
-use nc_region::Region;
+use nc_region::{Acts, Region, RegionOf};
 use nc_vet::{Vetted, vet};
 use std::alloc::{AllocError, Global};
 use std::io::Read;
@@ -61,9 +61,9 @@ fn chunks(alloc: Global, image: &[u8], count: u32) -> Result<Vec<Vetted>, AllocE
 }
 
 /// Walks from bundle starts that are drawn, by choices that are drawn, until `steps` places were gone over.
-fn walk_about(
+fn walk_about<A: Acts + Drop>(
     alloc: Global,
-    region: &Region<'_>,
+    region: &RegionOf<A>,
     bundles: u32,
     steps: u64,
 ) -> Result<u64, AllocError> {
@@ -86,7 +86,7 @@ fn walk_about(
 }
 
 /// Deletes the chunks, and counts those that were deleted.
-fn delete_all(region: &mut Region<'_>, count: u32) -> u32 {
+fn delete_all<A: Acts + Drop>(region: &mut RegionOf<A>, count: u32) -> u32 {
     let mut done = 0u32;
     for i in 0..count {
         if region
@@ -100,7 +100,7 @@ fn delete_all(region: &mut Region<'_>, count: u32) -> u32 {
 }
 
 /// Creates the chunks, and says whether all were created.
-fn create_all(region: &mut Region<'_>, all: Vec<Vetted>) -> bool {
+fn create_all<A: Acts + Drop>(region: &mut RegionOf<A>, all: Vec<Vetted>) -> bool {
     for vetted in all {
         if region.create(vetted).is_err() {
             return false;
@@ -110,9 +110,9 @@ fn create_all(region: &mut Region<'_>, all: Vec<Vetted>) -> bool {
 }
 
 /// Creates the chunks: what that took, and whether all were created.
-fn create<R: Clock>(
+fn create<R: Clock, A: Acts + Drop>(
     rt: &R,
-    region: &mut Region<'_>,
+    region: &mut RegionOf<A>,
     all: Vec<Vetted>,
 ) -> io::Result<(Duration, bool)> {
     let start = Instant::now(rt)?;
@@ -121,9 +121,9 @@ fn create<R: Clock>(
 }
 
 /// Walks: what that took, and over how many places.
-fn walk<R: Clock + AllocGlobal>(
+fn walk<R: Clock + AllocGlobal, A: Acts + Drop>(
     rt: &R,
-    region: &Region<'_>,
+    region: &RegionOf<A>,
     count: u32,
     steps: u64,
 ) -> io::Result<(Duration, u64)> {
@@ -133,16 +133,20 @@ fn walk<R: Clock + AllocGlobal>(
 }
 
 /// Deletes the chunks: what that took, and whether all were deleted.
-fn delete<R: Clock>(rt: &R, region: &mut Region<'_>, count: u32) -> io::Result<(Duration, bool)> {
+fn delete<R: Clock, A: Acts + Drop>(
+    rt: &R,
+    region: &mut RegionOf<A>,
+    count: u32,
+) -> io::Result<(Duration, bool)> {
     let start = Instant::now(rt)?;
     let deleted = delete_all(region, count);
     Ok((start.elapsed(rt)?, deleted == count))
 }
 
 /// What creating, walking and deleting the chunks took in a region, where all were created and deleted.
-fn life<R: Clock + AllocGlobal>(
+fn life<R: Clock + AllocGlobal, A: Acts + Drop>(
     rt: &R,
-    region: &mut Region<'_>,
+    region: &mut RegionOf<A>,
     all: Vec<Vetted>,
     vet: Duration,
     count: u32,

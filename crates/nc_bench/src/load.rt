@@ -2,7 +2,7 @@
 
 use crate::ordinary::ordinary_code;
 use nc_decode::{BUNDLE, START};
-use nc_region::Region;
+use nc_region::{Acts, RegionOf};
 use nc_vet::{Vetted, vet};
 use std::alloc::{AllocError, Global};
 
@@ -72,7 +72,7 @@ impl Load {
 }
 
 /// Creates the chunks, and counts those that were created.
-pub fn create_all(region: &mut Region<'_>, all: Vec<Vetted>) -> u32 {
+pub fn create_all<A: Acts + Drop>(region: &mut RegionOf<A>, all: Vec<Vetted>) -> u32 {
     let mut done = 0u32;
     for vetted in all {
         if region.create(vetted).is_ok() {

@@ -34,10 +34,12 @@ mod workers;
 use asked::Ask;
 use check_in::measure_check_in;
 use chunks::measure_chunks;
+use clap::Error;
 use command_line::ask;
 use image::measure_image;
 use new_region::measure_new;
 use soak::soak_for;
+use std::alloc::{AllocError, Global};
 use std::process::ExitCode;
 use std::rt::Files;
 use std::sync::Wait;
@@ -73,18 +75,37 @@ fn measure<R: Threads + Wait + Sync + Clock + Files + Print + AllocGlobal>(
     }
 }
 
-fn main(rt: HostRuntime) -> io::Result<ExitCode> {
-    let words: Vec<String> = env::args(&rt)?.collect(rt.alloc())?;
-    let mut arguments = Vec::new(rt.alloc());
+/// Prints a fault of the command line, or help, and gives the status to end with.
+fn report<R: Print + Eprint>(rt: &R, error: &Error) -> io::Result<ExitCode> {
+    error.print(rt)?;
+    Ok(ExitCode::from(if error.use_stderr() { 2 } else { 0 }))
+}
+
+/// Does what these words ask for.
+fn run<R: Threads + Wait + Sync + Clock + Files + Print + Eprint + AllocGlobal>(
+    rt: &R,
+    words: &[&str],
+) -> io::Result<ExitCode> {
+    match ask(rt.alloc(), words) {
+        Ok(ask) => {
+            measure(rt, ask)?;
+            Ok(ExitCode::SUCCESS)
+        }
+        Err(error) => report(rt, &error),
+    }
+}
+
+/// The words after the program's own name.
+fn after_name(alloc: Global, words: &[String]) -> Result<Vec<&str>, AllocError> {
+    let mut arguments = Vec::new(alloc);
     for word in words.iter().skip(1) {
         arguments.push(word.as_str())?;
     }
-    match ask(rt.alloc(), arguments.as_slice()) {
-        Ok(ask) => measure(&rt, ask)?,
-        Err(error) => {
-            error.print(&rt)?;
-            return Ok(ExitCode::from(if error.use_stderr() { 2 } else { 0 }));
-        }
-    }
-    Ok(ExitCode::SUCCESS)
+    Ok(arguments)
+}
+
+fn main(rt: HostRuntime) -> io::Result<ExitCode> {
+    let words: Vec<String> = env::args(&rt)?.collect(rt.alloc())?;
+    let arguments = after_name(rt.alloc(), &words)?;
+    run(&rt, arguments.as_slice())
 }

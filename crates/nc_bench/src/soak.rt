@@ -88,9 +88,9 @@ fn walk_in<A: Acts + Drop>(region: &RegionOf<A>, start: u32, choices: &[u32], wa
 }
 
 /// Walks once from a bundle start, as these choices pick the steps.
-fn walk_once<R: Wait>(
+fn walk_once<R: Wait, A: Acts + Drop>(
     rt: &R,
-    region: &Mutex<Viewed<'_>>,
+    region: &Mutex<RegionOf<A>>,
     start: u32,
     choices: &[u32],
     walked: &mut Walked,
@@ -114,9 +114,9 @@ fn draw_choices(numbers: &mut Numbers) -> [u32; 8] {
 }
 
 /// Walks and checks in until it is told to stop, and then leaves.
-fn walk_on<R: Wait>(
+fn walk_on<R: Wait, A: Acts + Drop>(
     rt: &R,
-    region: &Mutex<Viewed<'_>>,
+    region: &Mutex<RegionOf<A>>,
     gens: &Gens,
     stop: &AtomicBool,
     pass: Pass,
@@ -149,10 +149,10 @@ fn walk_on<R: Wait>(
 }
 
 /// Writes for this time, and compares the whole region now and then.
-fn write_for<R: Wait + Clock>(
+fn write_for<R: Wait + Clock, A: Acts + Drop>(
     rt: &R,
     alloc: Global,
-    region: &Mutex<Viewed<'_>>,
+    region: &Mutex<RegionOf<A>>,
     time: Duration,
 ) -> Result<Writer> {
     let mut writer = Writer::new(alloc, BUNDLES)?;
@@ -171,10 +171,10 @@ fn write_for<R: Wait + Clock>(
 }
 
 /// Writes for this time, and then tells the walkers to stop.
-fn write_on<R: Wait + Clock>(
+fn write_on<R: Wait + Clock, A: Acts + Drop>(
     rt: &R,
     alloc: Global,
-    region: &Mutex<Viewed<'_>>,
+    region: &Mutex<RegionOf<A>>,
     stop: &AtomicBool,
     time: Duration,
 ) -> Result<Writer> {
@@ -184,9 +184,9 @@ fn write_on<R: Wait + Clock>(
 }
 
 /// Two walkers, each in a thread of its own.
-fn walk_both<R: Threads + Wait + Sync>(
+fn walk_both<R: Threads + Wait + Sync, A: Acts + Drop + Send>(
     rt: &R,
-    region: &Mutex<Viewed<'_>>,
+    region: &Mutex<RegionOf<A>>,
     gens: &Gens,
     stop: &AtomicBool,
     one: Pass,
@@ -207,10 +207,10 @@ fn walk_both<R: Threads + Wait + Sync>(
 }
 
 /// A writer beside two walkers, for this time: what the writer knows and what the walkers did.
-fn write_beside<R: Threads + Wait + Clock + Sync>(
+fn write_beside<R: Threads + Wait + Clock + Sync, A: Acts + Drop + Send>(
     rt: &R,
     alloc: Global,
-    region: &Mutex<Viewed<'_>>,
+    region: &Mutex<RegionOf<A>>,
     gens: &Gens,
     one: Pass,
     other: Pass,
@@ -227,6 +227,17 @@ fn write_beside<R: Threads + Wait + Clock + Sync>(
             requires { (one.table ≡ gens.now) × (other.table ≡ gens.now) }
         { walk_both(rt, region, gens, stop, one, other) },
     )
+}
+
+/// What the writer did, after a last look at the region.
+fn finish<R: Wait>(rt: &R, region: &Mutex<Viewed<'_>>, writer: Writer) -> Done {
+    let mut writer = writer;
+    let mut region = region.lock(rt);
+    writer.finish(&mut region);
+    Done {
+        found: region.acts().found(),
+        ..writer.done()
+    }
 }
 
 /// Lets them work for some seconds, and says what they did.
@@ -246,9 +257,7 @@ fn soak<R: Threads + Wait + Clock + Sync>(
     let region = Mutex::new(region);
     let time = Duration::from_secs(u64::from(seconds));
     let (wrote, walked) = write_beside(rt, alloc, &region, &gens, one, other, time);
-    let mut writer = wrote?;
-    writer.finish(&mut region.lock(rt));
-    Ok((writer.done(), walked))
+    Ok((finish(rt, &region, wrote?), walked))
 }
 
 /// Lets threads work for some seconds, prints what they did, and fails if anything was wrong.

@@ -5,7 +5,7 @@ ghost use Rattle.std.specs.Prelude.{◌≡◌};
 use crate::load::{Load, create_all};
 use nc_decode::{BUNDLE, START};
 use nc_gens::{Gens, Keeper};
-use nc_region::Region;
+use nc_region::{Acts, Region, RegionOf};
 use std::alloc::{AllocError, Global};
 use std::io;
 use std::time::{Clock, Duration, Instant};
@@ -22,9 +22,9 @@ fn choices(alloc: Global, load: Load, steps: u32) -> Result<Vec<u32>, AllocError
 }
 
 /// What a walk took, and over how many places it went, where there is memory for its trace.
-fn walk_in<R: Clock>(
+fn walk_in<R: Clock, A: Acts + Drop>(
     rt: &R,
-    region: &Region<'_>,
+    region: &RegionOf<A>,
     choices: &[u32],
 ) -> io::Result<Option<(Duration, usize)>> {
     let start = Instant::now(rt)?;
@@ -38,10 +38,10 @@ fn walk_in<R: Clock>(
 }
 
 /// Creates the chunks in a region, and walks there.
-fn create_and_walk<R: Clock + AllocGlobal>(
+fn create_and_walk<R: Clock + AllocGlobal, A: Acts + Drop>(
     rt: &R,
     load: Load,
-    region: &mut Region<'_>,
+    region: &mut RegionOf<A>,
     choices: &[u32],
 ) -> io::Result<Option<(Duration, usize)>> {
     create_all(region, load.chunks(rt.alloc())?);

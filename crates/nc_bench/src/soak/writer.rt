@@ -7,7 +7,7 @@ use crate::numbers::Numbers;
 use nc_decode::START;
 use nc_region::{Acts, ChunkState, CreateFault, DeleteFault, ModifyFault, RegionOf};
 use nc_vet::vet;
-use nc_views::{Found, Viewed};
+use nc_views::Found;
 use std::alloc::{AllocError, Global};
 use std::sync::{Mutex, Wait};
 
@@ -69,11 +69,11 @@ impl Writer {
     }
 
     /// Makes one call.
-    pub fn step<R: Wait>(
+    pub fn step<R: Wait, A: Acts + Drop>(
         &mut self,
         rt: &R,
         alloc: Global,
-        region: &Mutex<Viewed<'_>>,
+        region: &Mutex<RegionOf<A>>,
     ) -> Result<(), AllocError> {
         match self.numbers.below(8) {
             0..=2 => return self.create(rt, alloc, region),
@@ -85,11 +85,11 @@ impl Writer {
     }
 
     /// Creates a chunk of one to three bundles somewhere; it is vetted before the lock is taken.
-    fn create<R: Wait>(
+    fn create<R: Wait, A: Acts + Drop>(
         &mut self,
         rt: &R,
         alloc: Global,
-        region: &Mutex<Viewed<'_>>,
+        region: &Mutex<RegionOf<A>>,
     ) -> Result<(), AllocError> {
         let length = self.numbers.below(3).saturating_add(1);
         let first = self.numbers.below(self.bundles.saturating_sub(length));
@@ -197,12 +197,11 @@ impl Writer {
     }
 
     /// After all walkers have left: one reclaim frees all that is retired, and the whole region is as the model says.
-    pub fn finish(&mut self, region: &mut Viewed<'_>) {
+    pub fn finish<A: Acts + Drop>(&mut self, region: &mut RegionOf<A>) {
         self.reclaim(region);
         if self.model.retired() > 0 {
             count(&mut self.done.wrong);
         }
         self.compare(region);
-        self.done.found = region.acts().found();
     }
 }
