@@ -1,26 +1,26 @@
 -- What proofs of the crates above may use of this crate: the law of walks, lemmas on each member of a list, and, for the law of
 -- calls, what stands in the text between the acts of a call and why it is closed. The other files are private.
-pub use Rattle.nc_region.proofs.OneWalk.{one_trace}
+pub use Rattle.nc_region.proofs.walking.OneWalk.{one_trace}
 pub use Rattle.nc_region.proofs.EachMember.{each_map, each_both, each_take, each_drop}
-pub use Rattle.nc_region.proofs.Creating.{final_all, final_but_starts, same_code}
+pub use Rattle.nc_region.proofs.chunks.Creating.{final_all, final_but_starts, same_code}
 pub use Rattle.nc_region.proofs.EachMember.{each_append, each_set, each_get, each_from, each_at_set, each_middle}
-pub use Rattle.nc_region.proofs.Inserting.{unused_if_apart, region_with_chunk, region_of_new}
-pub use Rattle.nc_region.proofs.Joining.{Joins, chunk_joins, chunk_keeps}
-pub use Rattle.nc_region.proofs.Pieces.{valid_chunk_is_closed, chunk_names_registers}
-pub use Rattle.nc_region.proofs.Rising.{rises_above, rises_get}
+pub use Rattle.nc_region.proofs.chunks.Inserting.{unused_if_apart, region_with_chunk, region_of_new}
+pub use Rattle.nc_region.proofs.chunks.Joining.{Joins, chunk_joins, chunk_keeps}
+pub use Rattle.nc_region.proofs.chunks.Pieces.{valid_chunk_is_closed, chunk_names_registers}
+pub use Rattle.nc_region.proofs.chunks.Rising.{rises_above, rises_get}
 pub use Rattle.nc_region.proofs.SpanPlaces.{Before, Within, Behind, place_of, unused_is_start, unused_at_start, is_inside_false}
 pub use Rattle.nc_region.proofs.SpanPlaces.{is_start_false, start_or_not, span_within, span_before, before_span, span_behind}
-pub use Rattle.nc_region.proofs.Deleted.{region_deleted, listed_there}
-pub use Rattle.nc_region.proofs.Deleting.{all_stops}
-pub use Rattle.nc_region.proofs.QuietSpans.{quiet_chunks, quiet_spans}
-pub use Rattle.nc_region.proofs.Runs.{apart_by_index, held_same}
-pub use Rattle.nc_region.proofs.Standing.{lies, all_long, Standing, stands_with}
-pub use Rattle.nc_region.proofs.Exchanged.{Changes, changed, changed_holds, changed_text, changes_replace}
-pub use Rattle.nc_region.proofs.Patched.{region_patched}
-pub use Rattle.nc_region.proofs.Replacing.{patch_started, patching_from_put, patching_over, patch_final}
-pub use Rattle.nc_region.proofs.Replacing.{single_span}
-pub use Rattle.nc_region.proofs.Turns.{turn, next_patch, spans_join, stands_same, same_stands}
-pub use Rattle.nc_region.proofs.Puts.{put_none, put_more, put_passed}
-pub use Rattle.nc_region.proofs.Freed.{region_freed}
-pub use Rattle.nc_region.proofs.NewInstructions.{Parted, parted, not_found, none_of_none, slice_rest, some_same}
-pub use Rattle.nc_region.proofs.Exchanging.{Where, Here, Earlier, Later, where_is}
+pub use Rattle.nc_region.proofs.deleting.Deleted.{region_deleted, listed_there}
+pub use Rattle.nc_region.proofs.deleting.Deleting.{all_stops}
+pub use Rattle.nc_region.proofs.deleting.QuietSpans.{quiet_chunks, quiet_spans}
+pub use Rattle.nc_region.proofs.patching.Runs.{apart_by_index, held_same}
+pub use Rattle.nc_region.proofs.patching.Standing.{lies, all_long, Standing, stands_with}
+pub use Rattle.nc_region.proofs.patching.Exchanged.{Changes, changed, changed_holds, changed_text, changes_replace}
+pub use Rattle.nc_region.proofs.patching.Patched.{region_patched}
+pub use Rattle.nc_region.proofs.patching.Replacing.{patch_started, patching_from_put, patching_over, patch_final}
+pub use Rattle.nc_region.proofs.patching.Replacing.{single_span}
+pub use Rattle.nc_region.proofs.patching.Turns.{turn, next_patch, spans_join, stands_same, same_stands}
+pub use Rattle.nc_region.proofs.telling.Puts.{put_none, put_more, put_passed}
+pub use Rattle.nc_region.proofs.deleting.Freed.{region_freed}
+pub use Rattle.nc_region.proofs.patching.NewInstructions.{Parted, parted, not_found, none_of_none, slice_rest, some_same}
+pub use Rattle.nc_region.proofs.patching.Exchanging.{Where, Here, Earlier, Later, where_is}

@@ -7,10 +7,10 @@ use Rattle.nc_region.specs.declared.acts.Act.TheVariants.{MarkSpan}
 use Rattle.nc_region.specs.declared.acts.Entry.TheVariants.{Did}
 use Rattle.nc_region.specs.Chunks.{IsClosedChunk, with_chunk}
 use Rattle.nc_region.specs.machinery.Between.{IsUnused}
-use Rattle.nc_region.proofs.Told.{tells_more}
-use Rattle.nc_region.proofs.Logged.{logs_more, logs_after}
-use Rattle.nc_region.proofs.Joining.{Joins, chunk_joins, chunk_keeps}
-use Rattle.nc_region.proofs.Creating.{final_but_closed, final_but_starts, same_final, same_code}
+use Rattle.nc_region.proofs.telling.Told.{tells_more}
+use Rattle.nc_region.proofs.telling.Logged.{logs_more, logs_after}
+use Rattle.nc_region.proofs.chunks.Joining.{Joins, chunk_joins, chunk_keeps}
+use Rattle.nc_region.proofs.chunks.Creating.{final_but_closed, final_but_starts, same_final, same_code}
 use Rattle.nc_region.proofs.create.put_chunk.Goals as goal
 
 joins : (marked : MarkedText) (base : ℕ) (bytes : List ℕ) (marks : List Mark) → IsText marked

@@ -7,10 +7,10 @@ use Rattle.nc_text.specs.MarkedText.{with_span}
 use Rattle.nc_region.specs.Acts.{Tells, puts_where, is_inside}
 use Rattle.nc_region.specs.Log.{Logs, unsettled}
 use Rattle.nc_region.specs.machinery.Between.{HasPut}
-use Rattle.nc_region.proofs.Creating.{inside_closed}
-use Rattle.nc_region.proofs.Logged.{ends_settled}
-use Rattle.nc_region.proofs.ReadyPlaces.{ready_part}
-use Rattle.nc_region.proofs.PutRun.{behind_first, behind_first_long, behind_first_at, bundle_inside, told_bundle, log_bundle}
+use Rattle.nc_region.proofs.chunks.Creating.{inside_closed}
+use Rattle.nc_region.proofs.telling.Logged.{ends_settled}
+use Rattle.nc_region.proofs.chunks.ReadyPlaces.{ready_part}
+use Rattle.nc_region.proofs.telling.PutRun.{behind_first, behind_first_long, behind_first_at, bundle_inside, told_bundle, log_bundle}
 use Rattle.nc_region.proofs.create.put_inside.Goals as goal
 
 pub put_run-requires-clause-ready : goal.put_run-requires-clause-ready

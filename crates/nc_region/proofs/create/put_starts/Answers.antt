@@ -7,9 +7,9 @@ use Rattle.nc_text.specs.MarkedText.{with_span}
 use Rattle.nc_region.specs.Acts.{Tells, puts_where, is_start}
 use Rattle.nc_region.specs.Log.{Logs, unsettled}
 use Rattle.nc_region.specs.machinery.Between.{IsFinalBut}
-use Rattle.nc_region.proofs.Told.{told_put, told_passed_all}
-use Rattle.nc_region.proofs.Logged.{log_put, log_passed_all}
-use Rattle.nc_region.proofs.Creating.{final_but_closed, final_all, start_put, starts_passed}
+use Rattle.nc_region.proofs.telling.Told.{told_put, told_passed_all}
+use Rattle.nc_region.proofs.telling.Logged.{log_put, log_passed_all}
+use Rattle.nc_region.proofs.chunks.Creating.{final_but_closed, final_all, start_put, starts_passed}
 use Rattle.nc_region.proofs.SpanPlaces.{is_start_true, is_start_false}
 use Rattle.nc_region.proofs.create.put_starts.Goals as goal
 

@@ -5,9 +5,9 @@ use Rattle.nc_region.specs.declared.acts.Act.TheVariants.{Bump}
 use Rattle.nc_region.specs.declared.acts.Entry.TheVariants.{Did}
 use Rattle.nc_region.specs.Acts.{is_unmarked_at}
 use Rattle.nc_region.specs.machinery.Between.{HasPut}
-use Rattle.nc_region.proofs.Told.{tells_more}
-use Rattle.nc_region.proofs.Logged.{logs_more, logs_after}
-use Rattle.nc_region.proofs.Deleting.{all_stops}
+use Rattle.nc_region.proofs.telling.Told.{tells_more}
+use Rattle.nc_region.proofs.telling.Logged.{logs_more, logs_after}
+use Rattle.nc_region.proofs.deleting.Deleting.{all_stops}
 use Rattle.nc_region.proofs.delete.put_stops.Goals as goal
 
 pub stop_others-requires-clause-ready : goal.stop_others-requires-clause-ready

@@ -7,9 +7,9 @@ use Rattle.nc_text.specs.Ready.{IsReady}
 use Rattle.nc_region.specs.Acts.{Tells, puts_where, is_marked_at}
 use Rattle.nc_region.specs.Log.{Logs, unsettled}
 use Rattle.nc_region.specs.machinery.Between.{HasPut, is_set}
-use Rattle.nc_region.proofs.Deleting.{marked_closed}
-use Rattle.nc_region.proofs.Logged.{ends_settled}
-use Rattle.nc_region.proofs.Stopping.{set_marked, bundle_put, bundle_told, bundle_log}
+use Rattle.nc_region.proofs.deleting.Deleting.{marked_closed}
+use Rattle.nc_region.proofs.telling.Logged.{ends_settled}
+use Rattle.nc_region.proofs.deleting.Stopping.{set_marked, bundle_put, bundle_told, bundle_log}
 use Rattle.nc_region.proofs.delete.stop_marked.Goals as goal
 
 pub marked_places-marked-requires-clause-inside : goal.marked_places-marked-requires-clause-inside

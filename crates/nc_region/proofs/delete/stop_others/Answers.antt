@@ -8,8 +8,8 @@ use Rattle.nc_text.specs.Ready.{IsReady}
 use Rattle.nc_region.specs.Acts.{Tells, puts_where, is_unmarked_at}
 use Rattle.nc_region.specs.Log.{Logs, unsettled}
 use Rattle.nc_region.specs.machinery.Between.{HasPut, is_set}
-use Rattle.nc_region.proofs.Deleting.{others_closed}
-use Rattle.nc_region.proofs.Stopping.{set_unmarked, bundle_put, bundle_told, bundle_log}
+use Rattle.nc_region.proofs.deleting.Deleting.{others_closed}
+use Rattle.nc_region.proofs.deleting.Stopping.{set_unmarked, bundle_put, bundle_told, bundle_log}
 use Rattle.nc_region.proofs.delete.stop_others.Goals as goal
 
 pub marked_places-marked-requires-clause-inside : goal.marked_places-marked-requires-clause-inside

@@ -2,7 +2,7 @@ use Rattle.std.proofs.Common.{Bool, ◌≡◌, ℕ, ◌+◌, ◌-◌, List, set,
 use Rattle.nc_decode.specs.declared.instruction.Mark.{Mark}
 use Rattle.nc_text.specs.Marks.{IsClosed}
 use Rattle.nc_text.specs.Ready.{IsReady}
-use Rattle.nc_region.proofs.Stopping.{Stopping, stopping_next, next_bytes, stopping_all}
+use Rattle.nc_region.proofs.deleting.Stopping.{Stopping, stopping_next, next_bytes, stopping_all}
 use Rattle.nc_region.proofs.delete.stop_places.Goals as goal
 
 pub put-requires-clause-inside : goal.put-requires-clause-inside

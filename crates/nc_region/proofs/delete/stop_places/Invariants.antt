@@ -1,6 +1,6 @@
 use Rattle.std.proofs.Common.{◌≡◌}
 use Rattle.nc_text.specs.MarkedText.{IsText}
-use Rattle.nc_region.proofs.Stopping.{Stopping}
+use Rattle.nc_region.proofs.deleting.Stopping.{Stopping}
 use Rattle.nc_region.proofs.delete.stop_places.Given as goal
 
 abbrev pub invariant-loop-left : goal.invariant-loop-left

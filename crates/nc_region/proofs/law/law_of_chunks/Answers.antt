@@ -1,4 +1,4 @@
-use Rattle.nc_region.proofs.Pieces.{valid_chunk_is_closed}
+use Rattle.nc_region.proofs.chunks.Pieces.{valid_chunk_is_closed}
 use Rattle.nc_region.proofs.law.law_of_chunks.Goals as goal
 
 pub returns : goal.returns

@@ -1,7 +1,7 @@
 use Rattle.std.proofs.Common.{◌+◌, ◌<◌, ◌≤◌, ◌^◌, length, leb-true, leb-false, arith, subst}
 use Rattle.nc_region.specs.declared.chunk.Chunk.{Chunk}
 use Rattle.nc_region.proofs.EachMember.{each_get}
-use Rattle.nc_region.proofs.Rising.{below_from, meets_at}
+use Rattle.nc_region.proofs.chunks.Rising.{below_from, meets_at}
 use Rattle.nc_region.proofs.listing.begins_above.Goals as goal
 
 pub returns-clause-clear : goal.returns-clause-clear

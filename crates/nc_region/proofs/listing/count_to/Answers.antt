@@ -2,7 +2,7 @@ use Rattle.std.proofs.Common.{leb, leb-true, leb-false, arith, rules}
 use Rattle.std.proofs.lemmas.List.Sorted.{IsPartitionPoint-from_clause, IsPartitionedBy-leb, IsNonDecreasingBy-from_default}
 use Rattle.nc_region.specs.declared.chunk.Chunk.{Chunk}
 use Rattle.nc_region.specs.declared.chunk.ChunkState.TheVariants.{Live}
-use Rattle.nc_region.proofs.Rising.{rises_by_index}
+use Rattle.nc_region.proofs.chunks.Rising.{rises_by_index}
 use Rattle.nc_region.proofs.listing.count_to.Goals as goal
 
 pub returns-clause-below : goal.returns-clause-below

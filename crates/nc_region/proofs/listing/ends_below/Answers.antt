@@ -1,7 +1,7 @@
 use Rattle.std.proofs.Common.{◌≡◌, ℕ, suc, ◌+◌, ◌-◌, ◌<◌, ◌≤◌, take, leb-true, leb-false, arith, subst}
 use Rattle.nc_region.specs.declared.chunk.Chunk.{Chunk}
 use Rattle.nc_region.specs.Region.{IsAboveAll}
-use Rattle.nc_region.proofs.Rising.{above_to, meets_at}
+use Rattle.nc_region.proofs.chunks.Rising.{above_to, meets_at}
 use Rattle.nc_region.proofs.listing.ends_below.Goals as goal
 
 pub returns-clause-clear : goal.returns-clause-clear

@@ -2,7 +2,7 @@ use Rattle.std.proofs.Common.{sym, subst, ◌∙◌, arith}
 use Rattle.nc_region.specs.declared.chunk.Chunk.{Chunk}
 use Rattle.nc_region.specs.declared.chunk.ChunkState.TheVariants.{Live}
 use Rattle.nc_region.specs.Region.{IsLive, IsInChunk}
-use Rattle.nc_region.proofs.Runs.{held_last}
+use Rattle.nc_region.proofs.patching.Runs.{held_last}
 use Rattle.nc_region.proofs.listing.holder.Goals as goal
 
 pub returns-then-k-eq0-clause-none : goal.returns-then-k-eq0-clause-none

@@ -3,7 +3,7 @@ use Rattle.std.proofs.lemmas.Option.{slice_get-get_or}
 use Rattle.nc_region.specs.declared.chunk.Chunk.{Chunk}
 use Rattle.nc_region.specs.declared.chunk.ChunkState.TheVariants.{Live}
 use Rattle.nc_region.specs.Region.{IsLive}
-use Rattle.nc_region.proofs.Runs.{held_last, live_is_held}
+use Rattle.nc_region.proofs.patching.Runs.{held_last, live_is_held}
 use Rattle.nc_region.proofs.listing.live_at.Goals as goal
 
 pub returns-then-k-eq0-clause-none : goal.returns-then-k-eq0-clause-none

@@ -2,7 +2,7 @@ use Rattle.std.proofs.Common.{◌≡◌, None, length, eqb-true, refl, sym, ◌�
 use Rattle.std.proofs.lemmas.Bool.{eqb-false}
 use Rattle.std.specs.Result.{result_ok}
 use Rattle.nc_decode.specs.Front.{first_instruction}
-use Rattle.nc_region.proofs.NewInstructions.{instructions_none, not_found, one_more, rest_are}
+use Rattle.nc_region.proofs.patching.NewInstructions.{instructions_none, not_found, one_more, rest_are}
 use Rattle.nc_region.proofs.modify.+are_instructions.Goals as goal
 
 pub returns-then-is_empty : goal.returns-then-is_empty

@@ -4,8 +4,8 @@ use Rattle.std.specs.Result.{result_ok}
 use Rattle.nc_decode.specs.declared.instruction.Instr.{Instr}
 use Rattle.nc_decode.specs.Front.{first_instruction}
 use Rattle.nc_region.specs.machinery.PatchSteps.{Begins}
-use Rattle.nc_region.proofs.NewInstructions.{none_of_none, not_found, parted, some_same}
-use Rattle.nc_region.proofs.Standing.{standing, stands_some, next_begins, runs_from, runs_to, runs_none}
+use Rattle.nc_region.proofs.patching.NewInstructions.{none_of_none, not_found, parted, some_same}
+use Rattle.nc_region.proofs.patching.Standing.{standing, stands_some, next_begins, runs_from, runs_to, runs_none}
 use Rattle.nc_region.proofs.modify.+fits_from.Goals as goal
 
 pub returns-then-is_empty : goal.returns-then-is_empty

@@ -8,7 +8,7 @@ use Rattle.nc_decode.specs.Transfers.{is_direct, target}
 use Rattle.nc_vet.specs.Chunk.{IsTarget}
 use Rattle.nc_text.specs.Places.{limit_of}
 use Rattle.nc_region.specs.Patch.{GoWell}
-use Rattle.nc_region.proofs.NewInstructions.{none_of_none, not_found, parted}
+use Rattle.nc_region.proofs.patching.NewInstructions.{none_of_none, not_found, parted}
 use Rattle.nc_region.proofs.modify.+keeps_targets.Goals as goal
 
 pub returns-then-is_empty : goal.returns-then-is_empty

@@ -5,9 +5,9 @@ use Rattle.std.specs.Result.{result_ok}
 use Rattle.nc_decode.specs.Front.{first_instruction}
 use Rattle.nc_region.specs.Patch.{SparesPair}
 use Rattle.nc_region.specs.machinery.PatchSteps.{Along}
-use Rattle.nc_region.proofs.NewInstructions.{none_of_none, not_found, parted}
-use Rattle.nc_region.proofs.Standing.{standing, next_begins, runs_to}
-use Rattle.nc_region.proofs.Sparing.{spares_none, spares_from, spares_to, same_piece}
+use Rattle.nc_region.proofs.patching.NewInstructions.{none_of_none, not_found, parted}
+use Rattle.nc_region.proofs.patching.Standing.{standing, next_begins, runs_to}
+use Rattle.nc_region.proofs.patching.Sparing.{spares_none, spares_from, spares_to, same_piece}
 use Rattle.nc_region.proofs.modify.+leaves_pairs.Goals as goal
 
 pub returns-then-is_empty : goal.returns-then-is_empty

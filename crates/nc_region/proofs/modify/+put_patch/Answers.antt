@@ -15,14 +15,14 @@ use Rattle.nc_region.specs.Log.{Logs}
 use Rattle.nc_region.specs.Patch.{stands_there, acts_of_instruction, acts_of_modify, log_of_instruction, log_of_modify}
 use Rattle.nc_region.specs.machinery.PatchSteps.{CanPatch, IsReplacing}
 use Rattle.nc_region.proofs.SpanPlaces.{span_behind}
-use Rattle.nc_region.proofs.Creating.{same_code}
-use Rattle.nc_region.proofs.Told.{tells_none, tells_more}
-use Rattle.nc_region.proofs.Logged.{logs_none, logs_more}
-use Rattle.nc_region.proofs.NewInstructions.{none_of_none, not_found, parted, whole_again}
-use Rattle.nc_region.proofs.Standing.{lies}
-use Rattle.nc_region.proofs.ReadyPlaces.{ready_part}
-use Rattle.nc_region.proofs.Exchanged.{changed, changes_replace}
-use Rattle.nc_region.proofs.Turns.{turn, next_patch, spans_join, same_acts, same_log}
+use Rattle.nc_region.proofs.chunks.Creating.{same_code}
+use Rattle.nc_region.proofs.telling.Told.{tells_none, tells_more}
+use Rattle.nc_region.proofs.telling.Logged.{logs_none, logs_more}
+use Rattle.nc_region.proofs.patching.NewInstructions.{none_of_none, not_found, parted, whole_again}
+use Rattle.nc_region.proofs.patching.Standing.{lies}
+use Rattle.nc_region.proofs.chunks.ReadyPlaces.{ready_part}
+use Rattle.nc_region.proofs.patching.Exchanged.{changed, changes_replace}
+use Rattle.nc_region.proofs.patching.Turns.{turn, next_patch, spans_join, same_acts, same_log}
 use Rattle.nc_region.proofs.modify.+put_patch.Goals as goal
 
 pub returns-then-is_empty-clause-told : goal.returns-then-is_empty-clause-told

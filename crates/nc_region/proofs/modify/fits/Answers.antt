@@ -1,5 +1,5 @@
 use Rattle.std.proofs.Common.{◌≡◌, true, false, sym, ◌∙◌}
-use Rattle.nc_region.proofs.Runs.{begins_marked, run_of, run_along, run_marked}
+use Rattle.nc_region.proofs.patching.Runs.{begins_marked, run_of, run_along, run_marked}
 use Rattle.nc_region.proofs.modify.fits.Goals as goal
 
 pub fits_from-requires-clause-begins : goal.fits_from-requires-clause-begins

@@ -1,8 +1,8 @@
 use Rattle.std.proofs.Common.{◌≡◌, ℕ, List, length, eqb-true, sym, ◌∙◌, subst, arith}
 use Rattle.std.proofs.lemmas.List.{length-take, length-drop}
 use Rattle.nc_text.specs.Marks.{IsClosed}
-use Rattle.nc_region.proofs.ReadyPlaces.{ready_part, ready_place}
-use Rattle.nc_region.proofs.Replacing.{single_span}
+use Rattle.nc_region.proofs.chunks.ReadyPlaces.{ready_part, ready_place}
+use Rattle.nc_region.proofs.patching.Replacing.{single_span}
 use Rattle.nc_region.proofs.modify.put_instruction.Goals as goal
 
 pub put-requires-clause-ready : goal.put-requires-clause-ready

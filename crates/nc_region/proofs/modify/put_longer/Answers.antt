@@ -1,10 +1,10 @@
 use Rattle.std.proofs.Common.{◌+◌, ◌-◌, [], ◌∷◌, length, set, arith}
 use Rattle.nc_region.specs.declared.acts.Act.TheVariants.{Put}
 use Rattle.nc_region.specs.declared.acts.Entry.TheVariants.{Did, Settled}
-use Rattle.nc_region.proofs.ReadyPlaces.{ready_place}
-use Rattle.nc_region.proofs.Told.{tells_more}
-use Rattle.nc_region.proofs.Logged.{logs_more, logs_after}
-use Rattle.nc_region.proofs.Replacing.{patching_closed, patch_started, patching_over, patch_final}
+use Rattle.nc_region.proofs.chunks.ReadyPlaces.{ready_place}
+use Rattle.nc_region.proofs.telling.Told.{tells_more}
+use Rattle.nc_region.proofs.telling.Logged.{logs_more, logs_after}
+use Rattle.nc_region.proofs.patching.Replacing.{patching_closed, patch_started, patching_over, patch_final}
 use Rattle.nc_region.proofs.modify.put_longer.Goals as goal
 
 pub put-requires-clause-ready : goal.put-requires-clause-ready

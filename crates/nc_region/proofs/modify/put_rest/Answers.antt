@@ -7,11 +7,11 @@ use Rattle.nc_region.specs.declared.acts.Entry.TheVariants.{Settled}
 use Rattle.nc_region.specs.Acts.{puts_where}
 use Rattle.nc_region.specs.Log.{Logs, unsettled}
 use Rattle.nc_region.specs.Patch.{any_place}
-use Rattle.nc_region.proofs.Puts.{put_more}
-use Rattle.nc_region.proofs.ReadyPlaces.{ready_place}
-use Rattle.nc_region.proofs.Told.{told_put}
-use Rattle.nc_region.proofs.Logged.{log_put, ends_settled}
-use Rattle.nc_region.proofs.Replacing.{patching_from_put}
+use Rattle.nc_region.proofs.telling.Puts.{put_more}
+use Rattle.nc_region.proofs.chunks.ReadyPlaces.{ready_place}
+use Rattle.nc_region.proofs.telling.Told.{told_put}
+use Rattle.nc_region.proofs.telling.Logged.{log_put, ends_settled}
+use Rattle.nc_region.proofs.patching.Replacing.{patching_from_put}
 use Rattle.nc_region.proofs.modify.put_rest.Goals as goal
 
 pub loop-i-init : goal.loop-i-init

@@ -2,9 +2,9 @@ use Rattle.std.proofs.Common.{[], cond, Bool, sym, subst, ◌∙◌}
 use Rattle.nc_region.specs.Acts.{Tells}
 use Rattle.nc_region.specs.Log.{Logs}
 use Rattle.nc_region.specs.Patch.{acts_of_instruction, log_of_instruction}
-use Rattle.nc_region.proofs.Told.{tells_none}
-use Rattle.nc_region.proofs.Logged.{logs_none}
-use Rattle.nc_region.proofs.Turns.{stands_same}
+use Rattle.nc_region.proofs.telling.Told.{tells_none}
+use Rattle.nc_region.proofs.telling.Logged.{logs_none}
+use Rattle.nc_region.proofs.patching.Turns.{stands_same}
 use Rattle.nc_region.proofs.modify.put_where_new.Goals as goal
 
 pub returns-then-stands_there-clause-bytes : goal.returns-then-stands_there-clause-bytes

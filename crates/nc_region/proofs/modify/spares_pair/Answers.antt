@@ -1,7 +1,7 @@
 use Rattle.std.proofs.Common.{◌≡◌, ℕ, ◌+◌, true, false, sym, ◌∙◌, ap, arith, refl, List, length, get_or}
 use Rattle.nc_text.specs.Marks.{mark_at}
 use Rattle.nc_region.specs.machinery.PatchSteps.{is_after}
-use Rattle.nc_region.proofs.Sparing.{stands_as, bytes_stay, stands_if}
+use Rattle.nc_region.proofs.patching.Sparing.{stands_as, bytes_stay, stands_if}
 use Rattle.nc_region.proofs.modify.spares_pair.Goals as goal
 
 pub returns-then-not-keeps_transfer : goal.returns-then-not-keeps_transfer

@@ -2,7 +2,7 @@ use Rattle.std.proofs.Common.{◌≡◌, not, length, arith, rules, ap}
 use Rattle.std.proofs.lemmas.Fn.{filter_same}
 use Rattle.nc_region.specs.declared.chunk.Chunk.{Chunk}
 use Rattle.nc_region.specs.Deletion.{is_due, kept}
-use Rattle.nc_region.proofs.Due.{kept_and_freed}
+use Rattle.nc_region.proofs.deleting.Due.{kept_and_freed}
 use Rattle.nc_region.proofs.reclaim.remove_due.Goals as goal
 
 pub returns-clause-chunks : goal.returns-clause-chunks

@@ -9,10 +9,10 @@ use Rattle.nc_region.specs.Log.{Logs, unsettled}
 use Rattle.nc_region.specs.Region.{IsRegion}
 use Rattle.nc_region.specs.declared.chunk.Chunk.{Chunk}
 use Rattle.nc_region.specs.Deletion.{is_due, freed, kept, unmarked, unmarkings}
-use Rattle.nc_region.proofs.Told.{tells_more}
-use Rattle.nc_region.proofs.Logged.{logs_acts}
+use Rattle.nc_region.proofs.telling.Told.{tells_more}
+use Rattle.nc_region.proofs.telling.Logged.{logs_acts}
 use Rattle.nc_schedule.proofs.Offered.{freed_closed}
-use Rattle.nc_region.proofs.Due.{take_more, freed_due, freed_other, unmarked_more, unmarkings_more, next_frees, next_freed, next_kept, next_quiet}
+use Rattle.nc_region.proofs.deleting.Due.{take_more, freed_due, freed_other, unmarked_more, unmarkings_more, next_frees, next_freed, next_kept, next_quiet}
 use Rattle.nc_region.proofs.reclaim.unmark_due.Goals as goal
 use Rattle.nc_region.proofs.reclaim.unmark_due.Goals.{then-is_due, else-is_due}
 

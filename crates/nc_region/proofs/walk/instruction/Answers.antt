@@ -1,6 +1,6 @@
 use Rattle.std.proofs.Common.{◌-◌, ◌%◌, arith, sym, ◌∙◌, ap}
 use Rattle.std.specs.Result.{result_ok}
-use Rattle.nc_region.proofs.Windows.{found_in_window, shown_in_window, standing, not_none}
+use Rattle.nc_region.proofs.walking.Windows.{found_in_window, shown_in_window, standing, not_none}
 use Rattle.nc_region.proofs.walk.instruction.Goals as goal
 
 pub returns-in-Ok : goal.returns-in-Ok

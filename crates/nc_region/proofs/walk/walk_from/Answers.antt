@@ -6,8 +6,8 @@ use Rattle.nc_region.specs.declared.trace.End.TheVariants.{More}
 use Rattle.nc_decode.specs.declared.instruction.Mark.{Mark}
 use Rattle.nc_text.specs.Marks.{IsClosed}
 use Rattle.nc_region.specs.Trace.{IsTrace, IsOnlyTrace, IsSafeWalk, IsWalkStart}
-use Rattle.nc_region.proofs.OneWalk.{one_trace}
-use Rattle.nc_region.proofs.Walking.{way_is_safe, way_goes_on, way_ends_at, way_ends_last, walk_is_safe}
+use Rattle.nc_region.proofs.walking.OneWalk.{one_trace}
+use Rattle.nc_region.proofs.walking.Walking.{way_is_safe, way_goes_on, way_ends_at, way_ends_last, walk_is_safe}
 use Rattle.nc_region.proofs.walk.walk_from.Goals as goal
 use Rattle.nc_region.proofs.walk.walk_from.Goals.{in-Ok-instruction_or_end, in-Err-instruction_or_end}
 

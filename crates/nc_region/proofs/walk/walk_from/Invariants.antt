@@ -1,6 +1,6 @@
 use Rattle.std.proofs.Common.{take}
 use Rattle.nc_text.specs.Machine.{state}
-use Rattle.nc_region.proofs.Walking.{IsUnderWay}
+use Rattle.nc_region.proofs.walking.Walking.{IsUnderWay}
 use Rattle.nc_region.proofs.walk.walk_from.Given as goal
 
 abbrev pub invariant-loop-choice : goal.invariant-loop-choice

@@ -4,9 +4,9 @@ use Rattle.nc_text.specs.MarkedText.{MarkedText, with_byte, with_bytes}
 use Rattle.nc_region.specs.Patch.{any_place}
 use Rattle.std.proofs.lemmas.List.{length-take}
 use Rattle.nc_text.proofs.Offered.{length-with_span}
-use Rattle.nc_region.proofs.PutRun.{with_none, with_more}
-use Rattle.nc_region.proofs.Told.{tells_none, told_put}
-use Rattle.nc_region.proofs.Logged.{logs_none, log_put}
+use Rattle.nc_region.proofs.telling.PutRun.{with_none, with_more}
+use Rattle.nc_region.proofs.telling.Told.{tells_none, told_put}
+use Rattle.nc_region.proofs.telling.Logged.{logs_none, log_put}
 use Rattle.nc_region.proofs.acts.Acts.put_run.Goals as goal
 
 pub put-requires-clause-closed : goal.put-requires-clause-closed

@@ -1,6 +1,6 @@
 use Rattle.std.proofs.Common.{rules}
 use Rattle.nc_text.proofs.Offered.{confined_if_closed}
-use Rattle.nc_region.proofs.QuietSpans.{quiet_spans}
+use Rattle.nc_region.proofs.deleting.QuietSpans.{quiet_spans}
 use Rattle.nc_region.proofs.region.RegionOf.chunk_count.Goals as goal
 
 pub returns-clause-confined : goal.returns-clause-confined

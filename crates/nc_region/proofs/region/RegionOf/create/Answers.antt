@@ -10,10 +10,10 @@ use Rattle.nc_region.specs.declared.chunk.Chunk.{Chunk}
 use Rattle.nc_region.specs.Chunks.{HasGoodSpan, IsClosedChunk, with_chunk}
 use Rattle.nc_region.specs.Region.{FitsAt, live_chunk}
 use Rattle.nc_region.proofs.EachMember.{each_map}
-use Rattle.nc_region.proofs.Inserting.{unused_if_apart, region_with_chunk}
-use Rattle.nc_region.proofs.Pieces.{valid_chunk_is_closed, chunk_names_registers}
-use Rattle.nc_region.proofs.ReadyPlaces.{chunks_stay_ready, ready_inserted}
-use Rattle.nc_region.proofs.Rising.{fits_meets}
+use Rattle.nc_region.proofs.chunks.Inserting.{unused_if_apart, region_with_chunk}
+use Rattle.nc_region.proofs.chunks.Pieces.{valid_chunk_is_closed, chunk_names_registers}
+use Rattle.nc_region.proofs.chunks.ReadyPlaces.{chunks_stay_ready, ready_inserted}
+use Rattle.nc_region.proofs.chunks.Rising.{fits_meets}
 use Rattle.nc_region.proofs.region.RegionOf.create.Goals as goal
 
 -- what an answer that is no refusal ensures

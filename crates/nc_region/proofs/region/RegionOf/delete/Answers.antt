@@ -9,8 +9,8 @@ use Rattle.nc_region.specs.declared.chunk.ChunkState.TheVariants.{Live}
 use Rattle.nc_region.specs.Region.{Region, IsLive, IsRegion}
 use Rattle.nc_region.specs.Chunks.{HasGoodSpan}
 use Rattle.nc_region.proofs.EachMember.{each_get}
-use Rattle.nc_region.proofs.ReadyPlaces.{ready_listed, ready_set}
-use Rattle.nc_region.proofs.Deleted.{listed_there, retired_is, deleted_is, region_deleted}
+use Rattle.nc_region.proofs.chunks.ReadyPlaces.{ready_listed, ready_set}
+use Rattle.nc_region.proofs.deleting.Deleted.{listed_there, retired_is, deleted_is, region_deleted}
 use Rattle.nc_region.proofs.region.RegionOf.delete.Goals as goal
 
 pub returns-in_default-clause-confined : goal.returns-in_default-clause-confined

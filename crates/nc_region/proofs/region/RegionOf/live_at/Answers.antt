@@ -6,7 +6,7 @@ use Rattle.nc_region.specs.declared.chunk.Chunk.{Chunk}
 use Rattle.nc_region.specs.declared.chunk.ChunkState.TheVariants.{Live}
 use Rattle.nc_region.specs.Chunks.{HasGoodSpan}
 use Rattle.nc_region.proofs.EachMember.{each_get}
-use Rattle.nc_region.proofs.Deleted.{listed_there}
+use Rattle.nc_region.proofs.deleting.Deleted.{listed_there}
 use Rattle.nc_region.proofs.region.RegionOf.live_at.Goals as goal
 
 pub index-requires : goal.index-requires

@@ -4,10 +4,10 @@ use Rattle.nc_region.specs.Patch.{IsRun, IsHeldBy, IsPatch, LeavesPairs, KeepsTa
 use Rattle.nc_region.specs.declared.chunk.Chunk.{Chunk}
 use Rattle.nc_region.specs.declared.fault.ModifyFault.TheVariants.{Boundaries, PairTouched, BadTarget}
 use Rattle.nc_region.specs.Region.{Region}
-use Rattle.nc_region.proofs.Standing.{lies}
-use Rattle.nc_region.proofs.ReadyPlaces.{ready_part, ready_held}
-use Rattle.nc_region.proofs.Patched.{region_patched}
-use Rattle.nc_region.proofs.Runs.{run_along, held_same}
+use Rattle.nc_region.proofs.patching.Standing.{lies}
+use Rattle.nc_region.proofs.chunks.ReadyPlaces.{ready_part, ready_held}
+use Rattle.nc_region.proofs.patching.Patched.{region_patched}
+use Rattle.nc_region.proofs.patching.Runs.{run_along, held_same}
 use Rattle.nc_region.proofs.region.RegionOf.modify.Goals as goal
 
 pub returns-then-not-is_patch_span-clause-confined : goal.returns-then-not-is_patch_span-clause-confined

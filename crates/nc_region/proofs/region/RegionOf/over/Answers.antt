@@ -1,4 +1,4 @@
-use Rattle.nc_region.proofs.Inserting.{region_of_new}
+use Rattle.nc_region.proofs.chunks.Inserting.{region_of_new}
 use Rattle.nc_region.proofs.region.RegionOf.over.Goals as goal
 
 pub invariant_of-result : goal.invariant_of-result

@@ -5,8 +5,8 @@ use Rattle.nc_text.proofs.Offered.{confined_if_closed}
 use Rattle.nc_gens.specs.Seen.{KeeperState, HasLooked, least_number}
 use Rattle.nc_region.specs.Region.{Region}
 use Rattle.nc_region.specs.Deletion.{freed, unmarked}
-use Rattle.nc_region.proofs.ReadyPlaces.{ready_kept}
-use Rattle.nc_region.proofs.Due.{few, reclaimed_is}
+use Rattle.nc_region.proofs.chunks.ReadyPlaces.{ready_kept}
+use Rattle.nc_region.proofs.deleting.Due.{few, reclaimed_is}
 use Rattle.nc_region.proofs.region.RegionOf.reclaim.Goals as goal
 
 pub invariant_of-self : goal.invariant_of-self

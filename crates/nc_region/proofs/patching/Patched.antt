@@ -14,7 +14,7 @@ use Rattle.nc_region.specs.Region.{IsLive, IsInChunk, HoldsValid, IsRegion}
 use Rattle.nc_region.specs.Patch.{IsHeldBy}
 use Rattle.nc_region.proofs.EachMember.{each_get, each_from}
 use Rattle.nc_region.proofs.SpanPlaces.{span_before, span_behind}
-use Rattle.nc_region.proofs.Runs.{apart_by_index}
+use Rattle.nc_region.proofs.patching.Runs.{apart_by_index}
 
 -- a chunk of the list is patched
 pub record Patches (old new : MarkedText) (chunks : List Chunk) (c : Chunk) (at : ℕ) (bytes : List ℕ) : Type 0 where

@@ -24,11 +24,11 @@ use Rattle.nc_region.specs.Region.{IsInChunk, HoldsValid}
 use Rattle.nc_region.specs.machinery.PatchSteps.{Begins, IsReplacing}
 use Rattle.nc_region.proofs.SpanPlaces.{Before, Within, Behind, place_of, unused_is_start, span_within, span_before, span_behind}
 use Rattle.nc_region.proofs.SpanPlaces.{before_span, within_span}
-use Rattle.nc_region.proofs.Alone.{alone, alone_fits_bytes, alone_within, alone_before, alone_behind, alone_bytes_long, alone_marks_long}
-use Rattle.nc_region.proofs.Pieces.{valid_chunk_is_closed}
-use Rattle.nc_region.proofs.NewInstructions.{take_seam, some_same}
-use Rattle.nc_region.proofs.Standing.{Lies, lies, stands_with}
-use Rattle.nc_region.proofs.Exchanging.{Exchanges, exchanged, exchanged_valid, code_long, where_is, Here, Earlier, Later}
+use Rattle.nc_region.proofs.chunks.Alone.{alone, alone_fits_bytes, alone_within, alone_before, alone_behind, alone_bytes_long, alone_marks_long}
+use Rattle.nc_region.proofs.chunks.Pieces.{valid_chunk_is_closed}
+use Rattle.nc_region.proofs.patching.NewInstructions.{take_seam, some_same}
+use Rattle.nc_region.proofs.patching.Standing.{Lies, lies, stands_with}
+use Rattle.nc_region.proofs.patching.Exchanging.{Exchanges, exchanged, exchanged_valid, code_long, where_is, Here, Earlier, Later}
 
 -- ---- a chunk's bytes set anew under the marks that stand there
 

@@ -20,10 +20,10 @@ use Rattle.nc_gens.specs.Seen.{HasLooked, least_number}
 use Rattle.nc_region.specs.Acts.{Tells}
 use Rattle.nc_region.specs.Log.{Logs, unsettled}
 use Rattle.nc_region.specs.Deletion.{is_due, freed, kept, unmarked, unmarkings, IsReclaimed}
-use Rattle.nc_region.proofs.Told.{tells_more}
-use Rattle.nc_region.proofs.Logged.{logs_more}
+use Rattle.nc_region.proofs.telling.Told.{tells_more}
+use Rattle.nc_region.proofs.telling.Logged.{logs_more}
 use Rattle.nc_schedule.proofs.Offered.{MayFree}
-use Rattle.nc_region.proofs.Freed.{span_of, dead_is_quiet, frees, region_freed}
+use Rattle.nc_region.proofs.deleting.Freed.{span_of, dead_is_quiet, frees, region_freed}
 
 -- what is due isn't live
 due_dead : (least : ℕ) (s : ChunkState) → is_due least s ≡ true → IsLive s → ⊥

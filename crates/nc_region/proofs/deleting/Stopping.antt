@@ -15,9 +15,9 @@ use Rattle.nc_region.specs.declared.acts.Entry.TheVariants.{Did}
 use Rattle.nc_region.specs.Acts.{Tells, puts_where, is_mark, is_marked_at, is_unmarked_at}
 use Rattle.nc_region.specs.Log.{Logs, unsettled}
 use Rattle.nc_region.specs.machinery.Between.{HasPut, is_set}
-use Rattle.nc_region.proofs.Puts.{put_none, put_more, put_passed_all, put_join}
-use Rattle.nc_region.proofs.Told.{tells_none, tells_more, told_put, told_passed_all, joined_puts}
-use Rattle.nc_region.proofs.Logged.{logs_none, logs_acts, log_put, log_passed_all}
+use Rattle.nc_region.proofs.telling.Puts.{put_none, put_more, put_passed_all, put_join}
+use Rattle.nc_region.proofs.telling.Told.{tells_none, tells_more, told_put, told_passed_all, joined_puts}
+use Rattle.nc_region.proofs.telling.Logged.{logs_none, logs_acts, log_put, log_passed_all}
 
 -- ---- bits and marks
 

@@ -11,8 +11,8 @@ use Rattle.nc_text.specs.MarkedText.{MarkedText, IsText}
 use Rattle.nc_region.specs.declared.chunk.Chunk.{Chunk}
 use Rattle.nc_region.specs.Patch.{GoesOnIndirectly, SparesPair, SparesPairs, stands_there}
 use Rattle.nc_region.specs.machinery.PatchSteps.{Begins, is_after}
-use Rattle.nc_region.proofs.Standing.{stands_with, next_begins, goes_on}
-use Rattle.nc_region.proofs.Turns.{stands_bytes}
+use Rattle.nc_region.proofs.patching.Standing.{stands_with, next_begins, goes_on}
+use Rattle.nc_region.proofs.patching.Turns.{stands_bytes}
 
 -- what stands where this instruction of the chunk begins, and whether the one after it is a second half
 pub record StandsAs (marked : MarkedText) (at : ℕ) (old : Piece) (rest : List Piece) : Type 0 where

@@ -19,9 +19,9 @@ use Rattle.nc_region.specs.Patch.{AreBytesOf, lengths, SparesPairs, GoWell, stan
 use Rattle.nc_region.specs.Patch.{acts_of_modify, log_of_instruction, log_of_modify}
 use Rattle.nc_region.specs.machinery.PatchSteps.{CanPatch}
 use Rattle.nc_region.proofs.SpanPlaces.{place_of, Before, Within, Behind, span_within, span_before, span_behind}
-use Rattle.nc_region.proofs.NewInstructions.{some_same}
-use Rattle.nc_region.proofs.Exchanging.{target_stays}
-use Rattle.nc_region.proofs.Exchanged.{Changes, changed, changed_holds, changed_long}
+use Rattle.nc_region.proofs.patching.NewInstructions.{some_same}
+use Rattle.nc_region.proofs.patching.Exchanging.{target_stays}
+use Rattle.nc_region.proofs.patching.Exchanged.{Changes, changed, changed_holds, changed_long}
 
 -- the first lengths agree
 lengths_first : (o n : Piece) (os ns : List Piece) → lengths (o ∷ os) ≡ lengths (n ∷ ns)

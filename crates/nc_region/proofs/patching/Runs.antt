@@ -15,11 +15,11 @@ use Rattle.nc_region.specs.declared.chunk.Chunk.{Chunk}
 use Rattle.nc_region.specs.Region.{IsInChunk, IsRising, HoldsValid}
 use Rattle.nc_region.specs.Patch.{IsHeldBy, IsHeld, AreBytesOf, lengths, IsRun}
 use Rattle.nc_region.specs.machinery.PatchSteps.{Begins, Along, RunsAlong}
-use Rattle.nc_region.proofs.Standing.{all_long, standing}
+use Rattle.nc_region.proofs.patching.Standing.{all_long, standing}
 use Rattle.nc_region.specs.Each.{Each}
 use Rattle.nc_region.specs.Deletion.{HasLive}
 use Rattle.nc_region.proofs.EachMember.{each_get}
-use Rattle.nc_region.proofs.Rising.{rises_get}
+use Rattle.nc_region.proofs.chunks.Rising.{rises_get}
 
 -- where a place of the chunk is marked, an instruction begins
 pub begins_marked : (marked : MarkedText) (c : Chunk) (at : ℕ) → HoldsValid marked c → IsInChunk c at

@@ -17,9 +17,9 @@ use Rattle.nc_vet.specs.Chunk as vet
 use Rattle.nc_region.specs.Chunks.{HasGoodSpan, IsClosedChunk}
 use Rattle.nc_region.specs.Each.{Each}
 use Rattle.nc_region.proofs.EachMember.{each_append, each_replicate, each_get}
-use Rattle.nc_region.proofs.Instructions.{IsReading, NoneCrosses, FollowsMask, PairsHold, IsDirect, IsIndirect, BeginsAt, IsTarget}
-use Rattle.nc_region.proofs.Instructions.{TargetsHold, IsValid, mark_by, marks_of}
-use Rattle.nc_region.proofs.Sound.{valid_is_closed}
+use Rattle.nc_region.proofs.chunks.Instructions.{IsReading, NoneCrosses, FollowsMask, PairsHold, IsDirect, IsIndirect, BeginsAt, IsTarget}
+use Rattle.nc_region.proofs.chunks.Instructions.{TargetsHold, IsValid, mark_by, marks_of}
+use Rattle.nc_region.proofs.chunks.Sound.{valid_is_closed}
 
 -- what the pieces say, without their bytes
 abbrev pub instrs : List Piece → List Instr

@@ -11,9 +11,9 @@ use Rattle.nc_region.specs.Acts.{Tells, puts_where, is_inside}
 use Rattle.nc_region.specs.Log.{Logs, unsettled}
 use Rattle.nc_region.specs.Patch.{any_place}
 use Rattle.nc_region.specs.machinery.Between.{HasPut}
-use Rattle.nc_region.proofs.Puts.{put_passed, put_join}
-use Rattle.nc_region.proofs.Told.{tells_more, told_passed, joined_puts}
-use Rattle.nc_region.proofs.Logged.{logs_acts, log_passed}
+use Rattle.nc_region.proofs.telling.Puts.{put_passed, put_join}
+use Rattle.nc_region.proofs.telling.Told.{tells_more, told_passed, joined_puts}
+use Rattle.nc_region.proofs.telling.Logged.{logs_acts, log_passed}
 use Rattle.nc_region.proofs.SpanPlaces.{is_inside_true, is_inside_false}
 
 -- ---- a text with a run

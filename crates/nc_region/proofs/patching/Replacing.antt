@@ -10,7 +10,7 @@ use Rattle.nc_text.proofs.Offered.{closed_with_stops, length-with_span}
 use Rattle.nc_region.specs.Patch.{any_place}
 use Rattle.nc_region.specs.machinery.Between.{HasPut}
 use Rattle.nc_region.specs.machinery.PatchSteps.{IsReplacing, IsInterim}
-use Rattle.nc_region.proofs.Puts.{byte_at_other, byte_at_same}
+use Rattle.nc_region.proofs.telling.Puts.{byte_at_other, byte_at_same}
 use Rattle.nc_region.proofs.SpanPlaces.{place_of, Before, Within, Behind, span_before, span_within, span_behind}
 
 -- while an instruction is replaced the text is closed

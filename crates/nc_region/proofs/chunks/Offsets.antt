@@ -15,7 +15,7 @@ use Rattle.nc_text.specs.Machine.{IsMaskedFor}
 use Rattle.nc_decode.specs.Transfers.{target}
 use Rattle.nc_decode.specs.Bundles.{IsInOneBundle}
 use Rattle.nc_text.specs.Marks.{Admits}
-use Rattle.nc_region.proofs.Instructions.{IsReading, NoneCrosses, FollowsMask, PairsHold, IsDirect, TargetsHold, mark_by, marks_of}
+use Rattle.nc_region.proofs.chunks.Instructions.{IsReading, NoneCrosses, FollowsMask, PairsHold, IsDirect, TargetsHold, mark_by, marks_of}
 
 -- What stands at a marked offset of a chunk that begins at base: an instruction, which may be executed there, whose
 -- targets are good, and behind which the chunk ends or stands a mark that fits.

@@ -19,9 +19,9 @@ use Rattle.nc_text.specs.Marks.{IsMarked, mark_at, Admits}
 use Rattle.nc_text.specs.MarkedText.{with_span, unused_mark, unused_marks}
 use Rattle.nc_text.proofs.Offered.{safe_if_executes, executes_stop, no_step_from_stop, leads_of, marked_within, length-with_span}
 use Rattle.nc_region.specs.Chunks.{IsClosedChunk}
-use Rattle.nc_region.proofs.Instructions.{IsValid, IsReading, NoneCrosses, FollowsMask, PairsHold, IsDirect, IsIndirect, BeginsAt}
-use Rattle.nc_region.proofs.Instructions.{IsTarget, mark_by, marks_of}
-use Rattle.nc_region.proofs.Offsets.{Stands, stands_at, marks_long, marks_behind}
+use Rattle.nc_region.proofs.chunks.Instructions.{IsValid, IsReading, NoneCrosses, FollowsMask, PairsHold, IsDirect, IsIndirect, BeginsAt}
+use Rattle.nc_region.proofs.chunks.Instructions.{IsTarget, mark_by, marks_of}
+use Rattle.nc_region.proofs.chunks.Offsets.{Stands, stands_at, marks_long, marks_behind}
 use Rattle.nc_region.proofs.SpanPlaces.{place_of, Before, Within, Behind, span_before, span_within, span_behind, unused_at_start}
 
 -- an instruction of the chunk stands in the text with the chunk

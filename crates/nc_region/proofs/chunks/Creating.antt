@@ -13,7 +13,7 @@ use Rattle.nc_text.proofs.Offered.{closed_with_stops, length-with_span}
 use Rattle.nc_region.specs.Acts.{is_inside}
 use Rattle.nc_region.specs.Chunks.{HasGoodSpan}
 use Rattle.nc_region.specs.machinery.Between.{IsUnused, HasPut, IsFinalBut}
-use Rattle.nc_region.proofs.Puts.{byte_at_other, byte_at_same}
+use Rattle.nc_region.proofs.telling.Puts.{byte_at_other, byte_at_same}
 use Rattle.nc_region.proofs.SpanPlaces.{Before, Within, Behind, place_of, unused_is_start, is_inside_false, is_inside_true, start_or_not}
 use Rattle.nc_region.proofs.SpanPlaces.{span_within, span_before, span_behind, before_span}
 

@@ -7,11 +7,11 @@ use Rattle.nc_region.specs.Chunks.{HasGoodSpan}
 use Rattle.nc_region.specs.Each.{Each}
 use Rattle.nc_region.specs.Quiet.{RetiredSpan, IsQuiet}
 use Rattle.nc_region.specs.Region.{IsLive, IsInChunk, IsRising, HoldsValid, IsRegion}
-use Rattle.nc_region.proofs.AgreesOutside.{AgreesOutside, LiesBeside, still_holds}
+use Rattle.nc_region.proofs.chunks.AgreesOutside.{AgreesOutside, LiesBeside, still_holds}
 use Rattle.nc_region.proofs.EachMember.{each_map, each_both, each_middle, each_out, each_in}
 use Rattle.nc_schedule.proofs.Offered.{shut_if_quiet, MayFree, freed_within, freed_before, freed_behind, freed_long, freed_closed}
-use Rattle.nc_region.proofs.QuietSpans.{quiet_chunks}
-use Rattle.nc_region.proofs.Rising.{rises_above}
+use Rattle.nc_region.proofs.deleting.QuietSpans.{quiet_chunks}
+use Rattle.nc_region.proofs.chunks.Rising.{rises_above}
 use Rattle.nc_region.proofs.SpanPlaces.{place_of, Before, Within, Behind}
 
 -- a list that rises from a place rises from each lower one

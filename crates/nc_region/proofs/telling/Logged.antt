@@ -11,7 +11,7 @@ use Rattle.nc_region.specs.declared.acts.Entry.TheVariants.{Did, Settled}
 use Rattle.nc_region.specs.Acts.{puts_where, is_inside, is_start, is_marked_at, is_unmarked_at, acts_of_create, acts_of_delete}
 use Rattle.nc_region.specs.Log.{Logs, unsettled, acts_in, log_of_create, log_of_delete}
 use Rattle.nc_region.specs.Patch.{stands_there, any_place, acts_of_instruction, acts_of_modify, log_of_instruction, log_of_modify}
-use Rattle.nc_region.proofs.Told.{grows_none, grows_more, next_put, next_passed, all_passed}
+use Rattle.nc_region.proofs.telling.Told.{grows_none, grows_more, next_put, next_passed, all_passed}
 
 -- no entry is logged
 pub logs_none : (logged : Option (List Entry)) → Logs logged logged []

@@ -19,9 +19,9 @@ use Rattle.nc_region.specs.Acts.{Tells, acts_of_delete}
 use Rattle.nc_region.specs.Log.{Logs, log_of_delete}
 use Rattle.nc_region.specs.Deletion.{IsDeleted}
 use Rattle.nc_region.specs.Region.{Region, IsLive, IsInChunk, IsRising, HoldsValid, IsRegion}
-use Rattle.nc_region.proofs.AgreesOutside.{AgreesOutside, LiesBeside, still_holds}
+use Rattle.nc_region.proofs.chunks.AgreesOutside.{AgreesOutside, LiesBeside, still_holds}
 use Rattle.nc_region.proofs.EachMember.{each_get, each_set, each_set_but, each_at_set, each_unset}
-use Rattle.nc_region.proofs.Runs.{apart_by_index}
+use Rattle.nc_region.proofs.patching.Runs.{apart_by_index}
 use Rattle.nc_region.proofs.SpanPlaces.{place_of, Before, Within, Behind, span_within, span_before, span_behind}
 
 -- one chunk of a rising list put in place of another of the same span

@@ -1,0 +1,12 @@
+-- Valid chunks, by themselves and set into a text, and the list of them.
+pub mod Alone
+pub mod Joining
+pub mod Creating
+pub mod Instructions
+pub mod Offsets
+pub mod Sound
+pub mod Pieces
+pub mod Rising
+pub mod AgreesOutside
+pub mod Inserting
+pub mod ReadyPlaces

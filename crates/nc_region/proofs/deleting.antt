@@ -1,0 +1,7 @@
+-- Stops, retired spans, and what is freed.
+pub mod QuietSpans
+pub mod Freed
+pub mod Due
+pub mod Deleting
+pub mod Stopping
+pub mod Deleted

@@ -1,0 +1,4 @@
+-- Steps of a walk.
+pub mod Windows
+pub mod Walking
+pub mod OneWalk
