@@ -61,7 +61,7 @@ fn check_in_timed<R: Clock>(
     start.elapsed(rt)
 }
 
-/// What they took in a new region over a table of generations, where there is memory for it.
+/// What the check-ins took in a new region over this table of generations, where there is memory for it.
 fn check_in_over<R: Clock + AllocGlobal>(
     rt: &R,
     gens: &Gens,
@@ -77,7 +77,7 @@ fn check_in_over<R: Clock + AllocGlobal>(
     }
 }
 
-/// What they took over a new table of generations.
+/// What the check-ins took in a new region over a new table of generations, where there is memory for both.
 fn check_in_once<R: Clock + AllocGlobal>(rt: &R, times: u32) -> io::Result<Duration> {
     match Gens::new(rt.alloc(), 1) {
         Ok((gens, keeper, mut passes)) => {

@@ -145,7 +145,7 @@ fn live_in<R: Clock, A: Acts + Drop>(
     })
 }
 
-/// The same in a new region over a table of generations, where there is memory for it.
+/// The life of all chunks in a new region over this table of generations, where there is memory for it.
 fn live_over<R: Clock + AllocGlobal>(
     rt: &R,
     load: Load,
@@ -162,7 +162,7 @@ fn live_over<R: Clock + AllocGlobal>(
     }
 }
 
-/// The same over a new table of generations.
+/// The life of all chunks in a new region over a new table of generations, where there is memory for both.
 fn live_once<R: Clock + AllocGlobal>(rt: &R, load: Load) -> io::Result<Option<Times>> {
     let all = load.chunks(rt.alloc())?;
     match Gens::new(rt.alloc(), load.seats) {

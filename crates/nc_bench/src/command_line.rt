@@ -84,7 +84,7 @@ fn with_measurement<'a>(
     }
 }
 
-/// A command line with these measurements more.
+/// A command line that also has these measurements.
 fn with_measurements<'a>(
     alloc: Global,
     program: Result<Command<'a>, AllocError>,

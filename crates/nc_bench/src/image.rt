@@ -168,7 +168,8 @@ fn life<R: Clock + AllocGlobal, A: Acts + Drop>(
     Ok(if all_deleted { Some(times) } else { None })
 }
 
-/// The same in a new region over a table of generations, where there is memory for it.
+/// What creating, walking and deleting the chunks took in a new region over this table of generations, where there is memory for it
+/// and all were created and deleted.
 fn life_over<R: Clock + AllocGlobal>(
     rt: &R,
     gens: &Gens,

@@ -20,12 +20,13 @@ fn new_over<R: Clock + AllocGlobal>(
     let made = Region::new(rt.alloc(), bundles, gens, keeper);
     let taken = start.elapsed(rt);
     let is_made = made.is_ok();
+    // Dropped before the next exit, which else would drop it too.
     drop(made);
     let taken = taken?;
     Ok(if is_made { taken } else { Duration::MAX })
 }
 
-/// The same over a new table of generations.
+/// What making a region over a new table of generations took, where there is memory for both.
 fn new_once<R: Clock + AllocGlobal>(rt: &R, bundles: u32) -> io::Result<Duration> {
     match Gens::new(rt.alloc(), 1) {
         Ok((gens, keeper, _passes)) => new_over(rt, bundles, &gens, keeper),

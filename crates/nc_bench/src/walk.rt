@@ -48,7 +48,7 @@ fn create_and_walk<R: Clock + AllocGlobal, A: Acts + Drop>(
     walk_in(rt, region, choices)
 }
 
-/// The same in a new region over a table of generations, where there is memory for it.
+/// A walk around chunks in a new region over this table of generations, where there is memory for it.
 fn walk_over<R: Clock + AllocGlobal>(
     rt: &R,
     load: Load,
@@ -64,7 +64,7 @@ fn walk_over<R: Clock + AllocGlobal>(
     }
 }
 
-/// The same over a new table of generations.
+/// A walk around chunks in a new region over a new table of generations, where there is memory for both.
 fn walk_once<R: Clock + AllocGlobal>(
     rt: &R,
     load: Load,

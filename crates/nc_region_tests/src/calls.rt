@@ -91,7 +91,7 @@ impl<R: Wait, A: Acts + Drop> Calls for Locked<'_, '_, R, A> {
     }
 }
 
-/// Whether `create` is done.
+/// Creates a chunk, and says whether that was done.
 pub(crate) fn is_created<C: Calls>(region: &mut C, vetted: Vetted) -> bool {
     region.created(vetted).is_ok()
 }

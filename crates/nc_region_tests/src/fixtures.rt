@@ -59,7 +59,7 @@ pub(crate) fn shared<'g>(
     Ok(Shared::new(region(alloc, bundles, gens, keeper)?))
 }
 
-/// What a region of this size is over that tells nothing.
+/// Acts for a new region of this size, which tell nothing.
 pub(crate) fn plain<'g>(
     alloc: Global,
     bundles: u32,

@@ -207,7 +207,7 @@ static TO_RETIRED: [Step<'static>; 4] = [
 /// The puts of that patch.
 static JUMP_PUTS: [(u32, u8); 3] = [(0x10000, 0xF4), (0x10001, 0x1E), (0x10000, 0xEB)];
 
-/// The patch that follows two creations and a deletion, of 33 acts each, makes these puts.
+/// The patch after two creations and a deletion, of 33 acts each, makes these puts.
 fn ends_with<A: Telling>(alloc: Global, acts: &A, puts: &[(u32, u8)]) -> Result<(), Fail> {
     if has_told(alloc, acts, 99, puts)? {
         return Ok(());

@@ -41,7 +41,7 @@ pub(crate) trait Trial: Drop {
         requires { pass.table ≡ gens.now };
 }
 
-/// What a region of this size is over that tells at most `room` acts.
+/// Acts for a new region of this size, of which at most `room` are told.
 pub(crate) fn recorder<'g>(
     alloc: Global,
     bundles: u32,

@@ -113,7 +113,7 @@ fn are_labels(alloc: Global, named: &[Named]) -> Result<bool, AllocError> {
     Ok(Labels::new(list(alloc, named)?).is_some())
 }
 
-/// Each of these are labels or not.
+/// Each list is one of labels, or not.
 fn try_ascending(alloc: Global, rows: &[(&'static [Named], bool)]) -> Result<(), Fail> {
     let mut row = 0u32;
     for (named, wanted) in rows {
