@@ -64,8 +64,11 @@ fn has_first_marks(text: &Text) -> bool {
     true
 }
 
-/// Every byte is a stop, but for one place that has this byte.
+/// A text of two bundles: every byte is a stop, but for one place that has this byte.
 fn has_stops(text: &Text, place: u32, byte: u8) -> bool {
+    if text.limit() != 0x0001_0040 {
+        return false;
+    }
     for at in START..text.limit() {
         let wanted = if at == place { byte } else { 0xF4 };
         if text.byte(at) != wanted {
