@@ -6,10 +6,10 @@ use Rattle.nc_text.specs.Machine.{IsConfined, IsSafe}
 use Rattle.nc_text.specs.Headline.{Stands}
 use Rattle.nc_text.specs.MarkedText.{MarkedText, unused_text}
 use Rattle.nc_text.proofs.Offered.{confined_if_closed, stands_if_safe}
-use Rattle.nc_schedule.specs.Quiet.{RetiredSpan}
-use Rattle.nc_schedule.specs.World.{World, Seat, first_world, IsViewOf, AllStandSafe, NoneIsWithin}
-use Rattle.nc_schedule.specs.Events.{Event, Frees, world_after, AreAllowed}
-use Rattle.nc_schedule.proofs.Offered.{safe_after, none_is_within_freed, if_map}
+use Rattle.nc_region.specs.schedules.Spans.{RetiredSpan}
+use Rattle.nc_region.specs.schedules.World.{World, Seat, first_world, IsViewOf, AllStandSafe, NoneIsWithin}
+use Rattle.nc_region.specs.schedules.Events.{Event, Frees, world_after, AreAllowed}
+use Rattle.nc_region.proofs.Offered.{safe_after, none_is_within_freed, if_map}
 use Rattle.nc_region.specs.declared.fault.CreateFault.{CreateFault}
 use Rattle.nc_region.specs.declared.fault.CreateFault.TheVariants.{WrongLimit, Occupied, OutOfMemory}
 use Rattle.nc_region.specs.Region.{Region, IsRegion, IsRefused}

@@ -3,7 +3,7 @@ use Rattle.std.proofs.Common.{◌≡◌, ℕ, ◌+◌, Bool, true, false, cond, 
 use Rattle.std.specs.List.{flat_map}
 use Rattle.nc_decode.specs.declared.instruction.Mark.{Mark}
 use Rattle.nc_vet.specs.Chunk.{MarkedChunk, Piece}
-use Rattle.nc_schedule.specs.Events.{Event, Puts, Settles, Retires}
+use Rattle.nc_region.specs.schedules.Events.{Event, Puts, Settles, Retires}
 use Rattle.nc_region.specs.declared.acts.Act.{Act}
 use Rattle.nc_region.specs.declared.acts.Act.TheVariants.{MarkSpan, Bump}
 use Rattle.nc_region.specs.declared.acts.Entry.{Entry}

@@ -12,7 +12,7 @@ use Rattle.nc_text.specs.Marks.{IsMarked, IsClosed}
 use Rattle.nc_text.specs.MarkedText.{MarkedText}
 use Rattle.nc_text.proofs.Offered.{executes, leads_of, step_of, no_step_from_stop, closed_by_parts, KeepsBytes, same_instruction, stop_at}
 use Rattle.nc_text.proofs.Offered.{length_at}
-use Rattle.nc_schedule.specs.Quiet.{RetiredSpan, IsShut}
+use Rattle.nc_region.specs.schedules.Spans.{RetiredSpan, IsShut}
 use Rattle.nc_region.proofs.Offered.{some_same}
 use Rattle.nc_calls.specs.Views.{AreParted}
 

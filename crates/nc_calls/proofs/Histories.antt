@@ -9,10 +9,10 @@ use Rattle.nc_gens.specs.declared.view.KeeperNumbers.{KeeperNumbers}
 use Rattle.nc_gens.specs.Rule.{generation_raised, last_generation}
 use Rattle.nc_gens.specs.Seen.{KeeperState}
 use Rattle.nc_vet.specs.Chunk.{MarkedChunk, IsValid}
-use Rattle.nc_schedule.specs.Quiet.{RetiredSpan}
-use Rattle.nc_schedule.specs.World.{World, Seat, first_world}
-use Rattle.nc_schedule.specs.Events.{Event, Settles, Marks, Retires, after, world_after, AreAllowed}
-use Rattle.nc_schedule.proofs.Offered.{Keeps, keeps_reached, allowed_append, after_append}
+use Rattle.nc_region.specs.schedules.Spans.{RetiredSpan}
+use Rattle.nc_region.specs.schedules.World.{World, Seat, first_world}
+use Rattle.nc_region.specs.schedules.Events.{Event, Settles, Marks, Retires, after, world_after, AreAllowed}
+use Rattle.nc_region.proofs.Offered.{Keeps, keeps_reached, allowed_append, after_append}
 use Rattle.nc_region.specs.declared.acts.Act.TheVariants.{Put}
 use Rattle.nc_region.specs.declared.chunk.Chunk.{Chunk}
 use Rattle.nc_region.specs.declared.chunk.ChunkState.TheVariants.{Retired}

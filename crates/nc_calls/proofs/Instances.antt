@@ -9,8 +9,8 @@ use Rattle.nc_gens.specs.declared.view.KeeperNumbers.{KeeperNumbers}
 use Rattle.nc_gens.specs.Rule.{first_keeper_numbers, last_generation}
 use Rattle.nc_gens.specs.Seen.{PassState, HasMet}
 use Rattle.nc_vet.specs.Chunk.{MarkedChunk}
-use Rattle.nc_schedule.specs.World.{first_world}
-use Rattle.nc_schedule.specs.Events.{Event, Looks, world_after}
+use Rattle.nc_region.specs.schedules.World.{first_world}
+use Rattle.nc_region.specs.schedules.Events.{Event, Looks, world_after}
 use Rattle.nc_region.specs.declared.fault.CreateFault.{CreateFault}
 use Rattle.nc_region.specs.declared.fault.CreateFault.TheVariants.{WrongLimit, Occupied, OutOfMemory}
 use Rattle.nc_region.specs.Region.{Region, IsRefused}

@@ -7,11 +7,11 @@ use Rattle.std.proofs.lemmas.List.Elements.{All-nil, All-cons, All-head, All-tai
 use Rattle.nc_gens.specs.declared.view.KeeperNumbers.{KeeperNumbers}
 use Rattle.nc_gens.specs.Rule.{left_word, last_generation}
 use Rattle.nc_gens.specs.Seen.{staying, least_or, least_number}
-use Rattle.nc_schedule.specs.World.{World, Seat, seat_at, HasPassed}
-use Rattle.nc_schedule.specs.Events.{Event, Steps, Enters, Exits, Takes, Sees, Stores, Leaves, Puts, Settles, Marks, Bumps, Retires, Frees}
-use Rattle.nc_schedule.specs.Events.{Looks}
-use Rattle.nc_schedule.specs.Events.{IsAllowed, after, world_after, AreAllowed}
-use Rattle.nc_schedule.proofs.Offered.{Keeps}
+use Rattle.nc_region.specs.schedules.World.{World, Seat, seat_at, HasPassed}
+use Rattle.nc_region.specs.schedules.Events.{Event, Steps, Enters, Exits, Takes, Sees, Stores, Leaves, Puts, Settles, Marks, Bumps, Retires, Frees}
+use Rattle.nc_region.specs.schedules.Events.{Looks}
+use Rattle.nc_region.specs.schedules.Events.{IsAllowed, after, world_after, AreAllowed}
+use Rattle.nc_region.proofs.Offered.{Keeps}
 use Rattle.nc_calls.specs.Weaving.{is_writers, writers, IsKeepers, ThreadsMay}
 
 -- ---- the least number

@@ -13,8 +13,8 @@ use Rattle.nc_text.specs.Places.{instruction_at}
 use Rattle.nc_text.specs.Machine.{State}
 use Rattle.nc_text.specs.Marks.{IsMarked, mark_at}
 use Rattle.nc_text.specs.MarkedText.{MarkedText, IsText}
-use Rattle.nc_schedule.specs.Quiet.{RetiredSpan, IsQuiet, IsShut}
-use Rattle.nc_schedule.proofs.Offered.{shut_if_quiet}
+use Rattle.nc_region.specs.schedules.Spans.{RetiredSpan, IsQuiet, IsShut}
+use Rattle.nc_region.proofs.Offered.{shut_if_quiet}
 use Rattle.nc_region.specs.declared.chunk.Chunk.{Chunk}
 use Rattle.nc_region.specs.declared.chunk.ChunkState.{ChunkState}
 use Rattle.nc_region.specs.declared.chunk.ChunkState.TheVariants.{Live, Retired}

@@ -3,10 +3,10 @@ use Rattle.std.proofs.Common.{◌≡◌, ℕ, ◌+◌, ◌-◌, ◌<◌, ◌≤�
 use Rattle.std.proofs.Common.{refl, ◌∙◌, sym, ap, subst}
 use Rattle.std.proofs.lemmas.List.{drop_more, length-drop}
 use Rattle.nc_text.specs.Places.{InRegion}
-use Rattle.nc_schedule.specs.Views.{IsView}
-use Rattle.nc_schedule.specs.World.{World}
-use Rattle.nc_schedule.specs.Events.{Event, Puts, Settles, IsAllowed, after, world_after, AreAllowed}
-use Rattle.nc_schedule.proofs.Offered.{allowed_append, after_append, views_after_put, only_as_it_stands}
+use Rattle.nc_region.specs.schedules.Views.{IsView}
+use Rattle.nc_region.specs.schedules.World.{World}
+use Rattle.nc_region.specs.schedules.Events.{Event, Puts, Settles, IsAllowed, after, world_after, AreAllowed}
+use Rattle.nc_region.proofs.Offered.{allowed_append, after_append, views_after_put, only_as_it_stands}
 use Rattle.nc_region.specs.declared.acts.Act.TheVariants.{Put}
 use Rattle.nc_region.specs.Acts.{puts_where}
 use Rattle.nc_region.specs.machinery.Between.{HasPut}

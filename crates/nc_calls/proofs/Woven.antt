@@ -1,10 +1,10 @@
 -- Events of threads between those of the writer.
 use Rattle.std.proofs.Common.{◌≡◌, true, List, [], ◌∷◌, refl, ◌∙◌, sym, ap, subst}
 use Rattle.std.specs.Prelude.{⊤}
-use Rattle.nc_schedule.specs.World.{World, Seat}
-use Rattle.nc_schedule.specs.Events.{Event, Steps, Enters, Exits, Takes, Sees, Stores, Leaves, Puts, Settles, Marks, Bumps, Retires, Frees}
-use Rattle.nc_schedule.specs.Events.{Looks}
-use Rattle.nc_schedule.specs.Events.{IsAllowed, after, world_after, AreAllowed}
+use Rattle.nc_region.specs.schedules.World.{World, Seat}
+use Rattle.nc_region.specs.schedules.Events.{Event, Steps, Enters, Exits, Takes, Sees, Stores, Leaves, Puts, Settles, Marks, Bumps, Retires, Frees}
+use Rattle.nc_region.specs.schedules.Events.{Looks}
+use Rattle.nc_region.specs.schedules.Events.{IsAllowed, after, world_after, AreAllowed}
 use Rattle.nc_calls.specs.Weaving.{is_writers, writers, ThreadsMay}
 
 -- the world with these seats

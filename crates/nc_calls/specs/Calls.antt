@@ -5,9 +5,9 @@ use Rattle.nc_decode.specs.declared.instruction.Mark.{Mark}
 use Rattle.nc_decode.specs.Bundles.{IsLawfulLimit}
 use Rattle.nc_gens.specs.Rule.{last_generation}
 use Rattle.nc_vet.specs.Chunk.{MarkedChunk, Piece}
-use Rattle.nc_schedule.specs.Quiet.{RetiredSpan}
-use Rattle.nc_schedule.specs.World.{World, first_world}
-use Rattle.nc_schedule.specs.Events.{Event, Puts, Settles, Marks, Retires, Frees, Looks, world_after, AreAllowed}
+use Rattle.nc_region.specs.schedules.Spans.{RetiredSpan}
+use Rattle.nc_region.specs.schedules.World.{World, first_world}
+use Rattle.nc_region.specs.schedules.Events.{Event, Puts, Settles, Marks, Retires, Frees, Looks, world_after, AreAllowed}
 use Rattle.nc_region.specs.declared.acts.Act.{Act}
 use Rattle.nc_region.specs.declared.acts.Act.TheVariants.{Put, MarkSpan, UnmarkSpan, Bump, Look}
 use Rattle.nc_region.specs.declared.acts.Entry.{Entry}

@@ -8,8 +8,8 @@ use Rattle.nc_text.specs.Headline.{Stands}
 use Rattle.nc_text.specs.MarkedText.{unused_text}
 use Rattle.nc_gens.specs.Rule.{last_generation}
 use Rattle.nc_gens.specs.Seen.{least_number}
-use Rattle.nc_schedule.specs.World.{World, Seat, first_world, IsViewOf}
-use Rattle.nc_schedule.specs.Events.{Event, world_after}
+use Rattle.nc_region.specs.schedules.World.{World, Seat, first_world, IsViewOf}
+use Rattle.nc_region.specs.schedules.Events.{Event, world_after}
 use Rattle.nc_region.specs.declared.acts.Entry.{Entry}
 use Rattle.nc_region.specs.declared.fault.CreateFault.{CreateFault}
 use Rattle.nc_region.specs.Region.{Region, IsCreated, IsRefused}

@@ -1,7 +1,7 @@
 -- The writer's events among those of the threads.
 use Rattle.std.specs.Prelude.{◌≡◌, ⊤, Bool, true, false, List, [], ◌∷◌, filter}
-use Rattle.nc_schedule.specs.World.{World}
-use Rattle.nc_schedule.specs.Events.{Event, Puts, Settles, Marks, Bumps, Retires, Frees, Looks, ThreadMay, after}
+use Rattle.nc_region.specs.schedules.World.{World}
+use Rattle.nc_region.specs.schedules.Events.{Event, Puts, Settles, Marks, Bumps, Retires, Frees, Looks, ThreadMay, after}
 
 -- the writer does it, and no thread
 abbrev pub is_writers : Event → Bool
@@ -25,7 +25,7 @@ IsKeepers Bumps = ⊤
 IsKeepers (Looks k) = ⊤
 IsKeepers event = ⊥
 
--- Each event that a thread does is one that it may do where it happens (`ThreadMay` of nc_schedule). Of the writer's
+-- Each event that a thread does is one that it may do where it happens (`ThreadMay` of nc_region). Of the writer's
 -- events nothing is said.
 abbrev pub ThreadsMay : World → List Event → Type 0
 ThreadsMay w [] = ⊤

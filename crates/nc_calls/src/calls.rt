@@ -4,7 +4,7 @@
 //! believe that `IsCall` describes what a region does: each function here makes one call of a region, and is proved to be one.
 
 ghost use Rattle.std.specs.Prelude.{◌≡◌, ℕ, List, [], ◌∷◌, Contains, OnOk, OnErr};
-ghost use Rattle.nc_schedule.specs.Events.{Event};
+ghost use Rattle.nc_region.specs.schedules.Events.{Event};
 ghost use Rattle.nc_region.specs.declared.chunk.Chunk.{Chunk};
 ghost use Rattle.nc_region.specs.Quiet.{retired_spans};
 ghost use Rattle.nc_calls.specs.Calls.{no_details};

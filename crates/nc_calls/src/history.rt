@@ -3,9 +3,9 @@
 ghost use Rattle.std.specs.Prelude.{◌≡◌, ℕ, ◌∷◌, ◌++◌, List};
 ghost use Rattle.nc_vet.specs.Chunk.{MarkedChunk};
 ghost use Rattle.nc_text.specs.Machine.{IsConfined};
-ghost use Rattle.nc_schedule.specs.Quiet.{RetiredSpan};
-ghost use Rattle.nc_schedule.specs.World.{first_world, NoneIsWithin};
-ghost use Rattle.nc_schedule.specs.Events.{Event, world_after};
+ghost use Rattle.nc_region.specs.schedules.Spans.{RetiredSpan};
+ghost use Rattle.nc_region.specs.schedules.World.{first_world, NoneIsWithin};
+ghost use Rattle.nc_region.specs.schedules.Events.{Event, world_after};
 ghost use Rattle.nc_region.specs.declared.fault.CreateFault.{CreateFault};
 ghost use Rattle.nc_region.specs.Region.{Region, IsRefused};
 ghost use Rattle.nc_calls.specs.Calls.{StandsFor};

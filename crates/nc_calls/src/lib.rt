@@ -4,8 +4,8 @@
 //! made, and whatever threads do between any two acts, each thread inside stands where the headline says. `docs/THEOREM.md`
 //! walks through it.
 //!
-//! `nc_schedule` says that no list of allowed events brings a thread to a state that isn't safe; `nc_region` says which acts
-//! each of its calls makes, and where it settles. This crate has the bridge between them: [`law_of_calls`] says that the acts
+//! `law_of_schedules` of `nc_region` says that no list of allowed events brings a thread to a state that isn't safe; the
+//! contracts of a region's calls say which acts each makes, and where it settles. [`law_of_calls`] joins them: the acts
 //! and settlings of a call, with whatever the threads do between any two of them, are allowed events of a world that stands
 //! for the region, and leave a world that stands for the region after the call. What the keeper does by itself, before the
 //! region is made and after, and refused calls have clauses too. So what is proved of every schedule holds of every history

@@ -2,7 +2,7 @@
 //!
 //! `host` goes the whole way with a region behind its lock: seats, code vetted before the lock is taken, two threads that run it
 //! while it is patched and deleted, reclaiming, and the same span used again. `guest` is one of these threads, and `turns`
-//! makes what is printed the same for every schedule. `mirrored` has regions over acts of the host's own (`nc_image`).
+//! makes what is printed the same for every schedule. `mirrored` has regions over acts of the host's own (`Image`).
 #![tactic(auto)]
 
 mod admitting;

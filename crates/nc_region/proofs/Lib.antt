@@ -1,3 +1,4 @@
+pub mod schedules
 pub mod EachMember
 pub mod SpanPlaces
 pub mod telling

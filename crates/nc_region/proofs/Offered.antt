@@ -24,3 +24,9 @@ pub use Rattle.nc_region.proofs.telling.Puts.{put_none, put_more, put_passed}
 pub use Rattle.nc_region.proofs.deleting.Freed.{region_freed}
 pub use Rattle.nc_region.proofs.patching.NewInstructions.{Parted, parted, not_found, none_of_none, slice_rest, some_same}
 pub use Rattle.nc_region.proofs.patching.Exchanging.{Where, Here, Earlier, Later, where_is}
+pub use Rattle.nc_region.proofs.schedules.Unmarking.{shut_if_quiet, freed_was}
+pub use Rattle.nc_region.proofs.schedules.Invariant.{Keeps, if_map}
+pub use Rattle.nc_region.proofs.schedules.Schedules.{keeps_event, keeps_all, keeps_reached, safe_after, none_is_within_freed}
+pub use Rattle.nc_region.proofs.schedules.Schedules.{allowed_append, after_append}
+pub use Rattle.nc_region.proofs.schedules.Seeing.{as_it_stands, only_as_it_stands, views_after_put}
+pub use Rattle.nc_region.proofs.schedules.WriterEvents.{may_free_now}

@@ -2,8 +2,8 @@
 use Rattle.std.proofs.Common.{◌≡◌, ◌≢◌, ℕ, ◌%◌, ◌⊎◌, true, false, arith}
 use Rattle.std.proofs.lemmas.Bool.Decides.{nat_tests, eqb_tells}
 use Rattle.nc_decode.specs.Bundles.{IsBundleStart}
-pub use Rattle.nc_schedule.proofs.Offered.{Place, Before, Within, Behind, place_of, unused_is_start, unused_at_start}
-pub use Rattle.nc_schedule.proofs.Offered.{span_within, span_before, span_behind, before_span, within_span}
+pub use Rattle.nc_region.proofs.schedules.Places.{Place, Before, Within, Behind, place_of, unused_is_start, unused_at_start}
+pub use Rattle.nc_region.proofs.schedules.Places.{span_within, span_before, span_behind, before_span, within_span}
 use Rattle.nc_region.specs.Acts.{is_start, is_inside}
 
 -- the two tests of a place, by what it is

@@ -1,3 +1,4 @@
+pub mod schedules
 pub mod machinery
 pub mod Each
 pub mod Acts

@@ -1,7 +1,7 @@
 -- The spans of retired chunks, and that each of them is quiet.
 use Rattle.std.specs.Prelude.{List, [], ◌∷◌}
 use Rattle.nc_text.specs.MarkedText.{MarkedText}
-pub use Rattle.nc_schedule.specs.Quiet.{RetiredSpan, IsInSpan, IsWithin, IsQuiet}
+pub use Rattle.nc_region.specs.schedules.Spans.{RetiredSpan, IsInSpan, IsWithin, IsQuiet}
 use Rattle.nc_region.specs.declared.chunk.Chunk.{Chunk}
 use Rattle.nc_region.specs.declared.chunk.ChunkState.{ChunkState}
 use Rattle.nc_region.specs.declared.chunk.ChunkState.TheVariants.{Live, Retired}

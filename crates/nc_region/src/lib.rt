@@ -14,8 +14,20 @@
 //! [`modify`](RegionOf::modify) replaces instructions of a live one by others of the same lengths,
 //! [`delete`](RegionOf::delete) retires one, [`reclaim`](RegionOf::reclaim) frees what is due, and
 //! [`walk`](RegionOf::walk) shows where a path goes. [`Shared`] is a region behind a lock, with check-in beside the lock.
-//! [`RegionOf`] is a region over any [`Acts`], for example over a [`Recorder`], which writes each act down, and [`SharedOf`]
-//! is one behind a lock.
+//! [`RegionOf`] is a region over any [`Acts`], for example over a [`Recorder`], which writes each act down, or over an
+//! [`Image`], which puts each byte into memory of the host too. [`SharedOf`] is one behind a lock.
+//!
+//! That all this is safe while threads run can't be seen at a single call: a thread may stand anywhere between any two bytes
+//! that are put. `specs/schedules` has the world in which that is said. A *world* (`World`) holds a text with its marks, the
+//! retired spans with their stamps, the keeper of the generations, and for each seat where its thread stands and the numbers
+//! of its pass. It also holds the bytes that stood before each put since the last settling, since a processor may still
+//! execute them: a thread reads a *view* (`Views`), at each place one of the bytes seen there, in any mixture. An *event*
+//! (`Events`) is one step of one thread, one byte put, one settling, one atomic step on the table of generations.
+//! `IsAllowed` says when an event may happen; `after` is the world that it leaves, by the very definitions that the
+//! contracts of `nc_text` and `nc_gens` cite for the same changes. [`law_of_schedules`] says that no list of allowed events,
+//! however the threads and the writer take turns, brings a thread to a state that isn't safe, and that no thread stands in a
+//! span that is freed except at a bundle start: bundle starts may be entered and jumped to at any time, and a thread that
+//! does so waits on the stop there.
 //!
 //! ```text
 //! let (gens, keeper, mut passes) = Gens::new(alloc, 1)?;
@@ -36,6 +48,7 @@ mod chunk;
 mod create;
 mod delete;
 mod fault;
+mod image;
 mod law;
 mod listing;
 mod modify;
@@ -50,8 +63,8 @@ mod walk;
 pub use acts::{Act, Acts, Entry};
 pub use chunk::{Chunk, ChunkState};
 pub use fault::{CreateFault, DeleteFault, ModifyFault, RegionFault, WalkFault};
-pub use law::{law_of_chunks, law_of_logs};
-pub use nc_schedule::law_of_schedules;
+pub use image::Image;
+pub use law::{law_of_chunks, law_of_logs, law_of_schedules};
 pub use plain::Plain;
 pub use recorder::Recorder;
 pub use region::{Region, RegionOf};

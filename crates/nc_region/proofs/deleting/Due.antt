@@ -22,7 +22,7 @@ use Rattle.nc_region.specs.Log.{Logs, unsettled}
 use Rattle.nc_region.specs.Deletion.{is_due, freed, kept, unmarked, unmarkings, IsReclaimed}
 use Rattle.nc_region.proofs.telling.Told.{tells_more}
 use Rattle.nc_region.proofs.telling.Logged.{logs_more}
-use Rattle.nc_schedule.proofs.Offered.{MayFree}
+use Rattle.nc_region.proofs.schedules.Unmarking.{MayFree}
 use Rattle.nc_region.proofs.deleting.Freed.{span_of, dead_is_quiet, frees, region_freed}
 
 -- what is due isn't live

@@ -9,7 +9,7 @@ use Rattle.nc_region.specs.Quiet.{RetiredSpan, IsQuiet}
 use Rattle.nc_region.specs.Region.{IsLive, IsInChunk, IsRising, HoldsValid, IsRegion}
 use Rattle.nc_region.proofs.chunks.AgreesOutside.{AgreesOutside, LiesBeside, still_holds}
 use Rattle.nc_region.proofs.EachMember.{each_map, each_both, each_middle, each_out, each_in}
-use Rattle.nc_schedule.proofs.Offered.{shut_if_quiet, MayFree, freed_within, freed_before, freed_behind, freed_long, freed_closed}
+use Rattle.nc_region.proofs.schedules.Unmarking.{shut_if_quiet, MayFree, freed_within, freed_before, freed_behind, freed_long, freed_closed}
 use Rattle.nc_region.proofs.deleting.QuietSpans.{quiet_chunks}
 use Rattle.nc_region.proofs.chunks.Rising.{rises_above}
 use Rattle.nc_region.proofs.SpanPlaces.{place_of, Before, Within, Behind}

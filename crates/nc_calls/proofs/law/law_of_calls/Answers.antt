@@ -1,4 +1,4 @@
-use Rattle.nc_schedule.proofs.Offered.{safe_after}
+use Rattle.nc_region.proofs.Offered.{safe_after}
 use Rattle.nc_calls.proofs.Keeping.{begins, keeper}
 use Rattle.nc_calls.proofs.Histories.{goes_on, created, deleted}
 use Rattle.nc_calls.proofs.Modified.{modified}

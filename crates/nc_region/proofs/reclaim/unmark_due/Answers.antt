@@ -11,7 +11,7 @@ use Rattle.nc_region.specs.declared.chunk.Chunk.{Chunk}
 use Rattle.nc_region.specs.Deletion.{is_due, freed, kept, unmarked, unmarkings}
 use Rattle.nc_region.proofs.telling.Told.{tells_more}
 use Rattle.nc_region.proofs.telling.Logged.{logs_acts}
-use Rattle.nc_schedule.proofs.Offered.{freed_closed}
+use Rattle.nc_region.proofs.schedules.Unmarking.{freed_closed}
 use Rattle.nc_region.proofs.deleting.Due.{take_more, freed_due, freed_other, unmarked_more, unmarkings_more, next_frees, next_freed, next_kept, next_quiet}
 use Rattle.nc_region.proofs.reclaim.unmark_due.Goals as goal
 use Rattle.nc_region.proofs.reclaim.unmark_due.Goals.{then-is_due, else-is_due}

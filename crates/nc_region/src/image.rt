@@ -1,12 +1,17 @@
-//! Acts of the host's own: each byte that a region puts goes also into memory of the host.
+//! Acts of a host's own, as an example: each byte that a region puts also goes into memory of the host.
+//!
+//! It shows what an implementation of [`Acts`] by a host looks like, and what can be proved of it: after every act the
+//! memory holds the bytes of the region.
 
 ghost use Rattle.std.specs.Prelude.{◌≡◌, ◌+◌, ◌*◌, ◌↔◌, None, OnOk, IfOk, IfErr};
 ghost use Rattle.nc_decode.specs.Bundles.{IsLawfulLimit};
 ghost use Rattle.nc_text.specs.MarkedText.{unused_text};
 
+use crate::acts::Acts;
+use crate::fault::RegionFault;
+use crate::plain::Plain;
 use nc_decode::{BUNDLE, Bundle, Mark, START};
 use nc_gens::{Gens, GensFull, Keeper, Pass};
-use nc_region::{Acts, Plain, RegionFault};
 use nc_text::{Text, TextFault};
 use std::alloc::Global;
 

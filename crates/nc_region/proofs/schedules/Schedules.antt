@@ -8,17 +8,17 @@ use Rattle.nc_text.specs.Machine.{IsSafe}
 use Rattle.nc_text.proofs.Offered.{IsKnown, safe_if_known, new_is_text}
 use Rattle.nc_text.specs.Marks.{IsClosed}
 use Rattle.nc_text.specs.MarkedText.{unused_text}
-use Rattle.nc_schedule.specs.Quiet.{RetiredSpan, IsShut}
-use Rattle.nc_schedule.specs.World.{World, Seat, first_seat, first_world, seat_at, IsViewOf, IsWhole, AreApart, is_same_span}
-use Rattle.nc_schedule.specs.World.{IsUsable, AllStandSafe, NoneIsWithin}
-use Rattle.nc_schedule.specs.Events.{Event, Steps, Enters, Exits, Takes, Sees, Stores, Leaves, Puts, Settles, Marks, Bumps, Retires, Frees}
-use Rattle.nc_schedule.specs.Events.{Looks}
-use Rattle.nc_schedule.specs.Events.{IsAllowed, after, world_after, AreAllowed}
-use Rattle.nc_schedule.proofs.Invariant.{Keeps, SeatKeeps, if_map}
-use Rattle.nc_schedule.proofs.Seeing.{only_as_it_stands}
-use Rattle.nc_schedule.proofs.ThreadEvents.{keeps_steps, keeps_enters, keeps_exits, keeps_takes, keeps_sees, keeps_stores, keeps_leaves}
-use Rattle.nc_schedule.proofs.WriterEvents.{keeps_puts, keeps_settles, keeps_marks, keeps_bumps, keeps_retires, keeps_frees, keeps_looks}
-use Rattle.nc_schedule.proofs.WriterEvents.{none_is_within, freed_is_usable}
+use Rattle.nc_region.specs.schedules.Spans.{RetiredSpan, IsShut}
+use Rattle.nc_region.specs.schedules.World.{World, Seat, first_seat, first_world, seat_at, IsViewOf, IsWhole, AreApart, is_same_span}
+use Rattle.nc_region.specs.schedules.World.{IsUsable, AllStandSafe, NoneIsWithin}
+use Rattle.nc_region.specs.schedules.Events.{Event, Steps, Enters, Exits, Takes, Sees, Stores, Leaves, Puts, Settles, Marks, Bumps, Retires, Frees}
+use Rattle.nc_region.specs.schedules.Events.{Looks}
+use Rattle.nc_region.specs.schedules.Events.{IsAllowed, after, world_after, AreAllowed}
+use Rattle.nc_region.proofs.schedules.Invariant.{Keeps, SeatKeeps, if_map}
+use Rattle.nc_region.proofs.schedules.Seeing.{only_as_it_stands}
+use Rattle.nc_region.proofs.schedules.ThreadEvents.{keeps_steps, keeps_enters, keeps_exits, keeps_takes, keeps_sees, keeps_stores, keeps_leaves}
+use Rattle.nc_region.proofs.schedules.WriterEvents.{keeps_puts, keeps_settles, keeps_marks, keeps_bumps, keeps_retires, keeps_frees, keeps_looks}
+use Rattle.nc_region.proofs.schedules.WriterEvents.{none_is_within, freed_is_usable}
 
 -- each event
 pub keeps_event : (w : World) (event : Event) → Keeps w → IsAllowed w event → Keeps (after w event)

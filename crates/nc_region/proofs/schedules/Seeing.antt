@@ -4,10 +4,10 @@ use Rattle.std.proofs.lemmas.Bool.Decides.{eqb_tells}
 use Rattle.std.proofs.lemmas.List.{length-set, get_or-set_same, get_or-set_other}
 use Rattle.std.proofs.lemmas.Grind.{same_number_lists}
 use Rattle.nc_text.specs.Places.{InRegion, byte_at}
-use Rattle.nc_schedule.specs.Views.{WasSeen, IsView}
-use Rattle.nc_schedule.specs.World.{World, IsViewOf}
-use Rattle.nc_schedule.specs.Events.{Event, Steps, Enters, Exits, Takes, Sees, Stores, Leaves, Puts, Settles, Marks, Bumps, Retires, Frees}
-use Rattle.nc_schedule.specs.Events.{Looks, after}
+use Rattle.nc_region.specs.schedules.Views.{WasSeen, IsView}
+use Rattle.nc_region.specs.schedules.World.{World, IsViewOf}
+use Rattle.nc_region.specs.schedules.Events.{Event, Steps, Enters, Exits, Takes, Sees, Stores, Leaves, Puts, Settles, Marks, Bumps, Retires, Frees}
+use Rattle.nc_region.specs.schedules.Events.{Looks, after}
 
 -- the text as it stands is a view
 pub as_it_stands : (text : List ℕ) (earlier : List (List ℕ)) → IsView text earlier text

@@ -1,5 +1,5 @@
-pub mod Offered
-pub mod SpanPlaces
+-- What every event of a schedule keeps.
+pub mod Places
 pub mod Unmarking
 pub mod Seeing
 pub mod Invariant

@@ -10,8 +10,8 @@ use Rattle.nc_text.specs.MarkedText.{MarkedText, unused_text}
 use Rattle.nc_gens.specs.declared.view.PassNumbers.{PassNumbers}
 use Rattle.nc_gens.specs.declared.view.KeeperNumbers.{KeeperNumbers}
 use Rattle.nc_gens.specs.Rule.{first_pass_numbers, first_keeper_numbers}
-use Rattle.nc_schedule.specs.Quiet.{RetiredSpan, IsWithin, IsShut}
-use Rattle.nc_schedule.specs.Views.{IsView}
+use Rattle.nc_region.specs.schedules.Spans.{RetiredSpan, IsWithin, IsShut}
+use Rattle.nc_region.specs.schedules.Views.{IsView}
 
 -- What a world holds of one seat: where its thread is, if it is inside the region; the numbers of its pass; whether it
 -- has left, and whether the keeper has found that. These two are flags, since the generations of a world have no bound

@@ -8,9 +8,9 @@ use Rattle.nc_decode.specs.declared.instruction.Mark.{Mark}
 use Rattle.nc_text.specs.Machine.{State}
 use Rattle.nc_text.specs.Marks.{IsClosed}
 use Rattle.nc_text.proofs.Offered.{IsKnown}
-use Rattle.nc_schedule.specs.Quiet.{RetiredSpan, IsWithin, IsShut}
-use Rattle.nc_schedule.specs.World.{World, Seat, first_seat, seat_at, IsViewOf, IsWhole, AreApart, is_same_span}
-use Rattle.nc_schedule.specs.Events.{with_seat}
+use Rattle.nc_region.specs.schedules.Spans.{RetiredSpan, IsWithin, IsShut}
+use Rattle.nc_region.specs.schedules.World.{World, Seat, first_seat, seat_at, IsViewOf, IsWhole, AreApart, is_same_span}
+use Rattle.nc_region.specs.schedules.Events.{with_seat}
 
 -- whoever stands within a retired span came before its stamp
 abbrev pub CameBefore : ℕ → List RetiredSpan → State → Type 0

@@ -6,8 +6,8 @@ use Rattle.nc_text.specs.Places.{InRegion, SpanInRegion, byte_at}
 use Rattle.nc_text.specs.Machine.{State, state, Step}
 use Rattle.nc_text.specs.MarkedText.{with_byte, with_marks, without_marks, KeepsMarks}
 use Rattle.nc_gens.specs.Rule.{generation_taken, generation_seen, since_stored, left_stored, generation_raised, word_taken}
-use Rattle.nc_schedule.specs.Quiet.{RetiredSpan, IsShut}
-use Rattle.nc_schedule.specs.World.{Seat, World, seat_at, IsViewOf, IsSteady, IsWhole, AreApart, is_same_span, HasPassed}
+use Rattle.nc_region.specs.schedules.Spans.{RetiredSpan, IsShut}
+use Rattle.nc_region.specs.schedules.World.{Seat, World, seat_at, IsViewOf, IsSteady, IsWhole, AreApart, is_same_span, HasPassed}
 
 -- What a thread does, by the number of its seat: it `Steps`, `Enters` at a bundle start, `Exits`; its pass `Takes` the
 -- generation as its `since`, `Sees` it, `Stores` its `since` in its word, `Leaves`. What the writer does: it `Puts` a

@@ -6,12 +6,12 @@ use Rattle.nc_text.specs.Machine.{State, state}
 use Rattle.nc_text.specs.Marks.{IsMarked}
 use Rattle.nc_text.proofs.Offered.{IsKnown, start_is_marked}
 use Rattle.nc_gens.specs.Rule.{generation_taken, generation_seen, since_stored, left_stored}
-use Rattle.nc_schedule.specs.Quiet.{RetiredSpan, IsWithin, IsShut}
-use Rattle.nc_schedule.specs.World.{World, seat_at}
-use Rattle.nc_schedule.specs.Events.{Steps, Enters, Exits, Takes, Sees, Stores, Leaves, IsAllowed, after}
-use Rattle.nc_schedule.proofs.Invariant.{Keeps, CameBefore, if_none, some_at, none_is_some, with_seat_keeps}
-use Rattle.nc_schedule.proofs.Seeing.{as_it_stands}
-use Rattle.nc_schedule.proofs.Unmarking.{none_steps_in}
+use Rattle.nc_region.specs.schedules.Spans.{RetiredSpan, IsWithin, IsShut}
+use Rattle.nc_region.specs.schedules.World.{World, seat_at}
+use Rattle.nc_region.specs.schedules.Events.{Steps, Enters, Exits, Takes, Sees, Stores, Leaves, IsAllowed, after}
+use Rattle.nc_region.proofs.schedules.Invariant.{Keeps, CameBefore, if_none, some_at, none_is_some, with_seat_keeps}
+use Rattle.nc_region.proofs.schedules.Seeing.{as_it_stands}
+use Rattle.nc_region.proofs.schedules.Unmarking.{none_steps_in}
 
 -- a thread takes a step
 pub keeps_steps : (w : World) (k : ℕ) (next : State) → Keeps w → IsAllowed w (Steps k next) → Keeps (after w (Steps k next))

@@ -6,11 +6,11 @@ use Rattle.std.proofs.lemmas.List.{get_or-set_same, get_or-set_other}
 use Rattle.nc_decode.specs.Bundles.{IsLawfulLimit}
 use Rattle.nc_text.specs.Places.{InRegion}
 use Rattle.nc_text.specs.Machine.{State}
-use Rattle.nc_schedule.specs.World.{World, Seat, first_seat, first_world, seat_at}
-use Rattle.nc_schedule.specs.Events.{Event, Steps, Enters, Exits, Takes, Sees, Stores, Leaves, Puts, Settles, Marks, Bumps, Retires, Frees}
-use Rattle.nc_schedule.specs.Events.{Looks}
-use Rattle.nc_schedule.specs.Events.{IsAllowed, after, world_after, AreAllowed, IsMove, AllMove, ChangesBytes}
-use Rattle.nc_schedule.proofs.Schedules.{allowed_back}
+use Rattle.nc_region.specs.schedules.World.{World, Seat, first_seat, first_world, seat_at}
+use Rattle.nc_region.specs.schedules.Events.{Event, Steps, Enters, Exits, Takes, Sees, Stores, Leaves, Puts, Settles, Marks, Bumps, Retires, Frees}
+use Rattle.nc_region.specs.schedules.Events.{Looks}
+use Rattle.nc_region.specs.schedules.Events.{IsAllowed, after, world_after, AreAllowed, IsMove, AllMove, ChangesBytes}
+use Rattle.nc_region.proofs.schedules.Schedules.{allowed_back}
 
 -- who stays where it is moves as a thread may
 pub stays : (w : World) (inside : Option State) → IsMove w inside inside

@@ -1,4 +1,0 @@
-pub mod Quiet
-pub mod Views
-pub mod World
-pub mod Events
