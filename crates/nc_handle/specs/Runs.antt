@@ -1,10 +1,10 @@
 -- The acts of a chunk of a region as runs: how many there are, and when they aren't told.
 use Rattle.std.specs.Prelude.{◌≡◌, ℕ, ◌+◌, ◌*◌, ◌/◌, ◌<◌, List, Some, None}
-use Rattle.nc_handle.specs.declared.acts.act.NcAct.{NcAct}
-use Rattle.nc_handle.specs.acts.Runs.{runs_of_create, runs_of_delete, HasRuns}
 use Rattle.nc_region.specs.declared.chunk.Chunk.{Chunk}
 use Rattle.nc_region.specs.Deletion.{HasLive}
 use Rattle.nc_region.specs.Log.{log_of_create, log_of_delete}
+use Rattle.nc_handle.specs.declared.acts.act.NcAct.{NcAct}
+use Rattle.nc_handle.specs.acts.Runs.{runs_of_create, runs_of_delete, HasRuns}
 use Rattle.nc_handle.specs.declared.fault.RunsFault.{RunsFault}
 use Rattle.nc_handle.specs.declared.fault.RunsFault.TheVariants.{NoChunk, NoRoom}
 use Rattle.nc_handle.specs.Held.{HeldState, IsLiveAt}
