@@ -3,3 +3,5 @@ pub mod SpanReads
 pub mod Attended
 pub mod PatchPlaces
 pub mod Handled
+pub mod writing
+pub mod Offered

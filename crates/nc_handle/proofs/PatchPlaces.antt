@@ -8,8 +8,8 @@ use Rattle.nc_region.specs.declared.chunk.Chunk.{Chunk}
 use Rattle.nc_region.specs.Region.{Region, IsRegion}
 use Rattle.nc_region.specs.Patch.{IsPatch}
 use Rattle.nc_region.proofs.Offered.{each_get}
+use Rattle.nc_handle.specs.acts.Standing.{AreBytesAt}
 use Rattle.nc_handle.specs.machinery.Window.{HoldsText}
-use Rattle.nc_acts.specs.Standing.{AreBytesAt}
 
 pub record LiesIn (text : List ℕ) (at len : ℕ) : Type 0 where
   pub short : len ≤ 32

@@ -1,4 +1,5 @@
 pub mod machinery
+pub mod acts
 pub mod Shown
 pub mod Runs
 pub mod Held

@@ -1,10 +1,10 @@
 -- The acts of a chunk of a region as runs: how many there are, and when they aren't told.
 use Rattle.std.specs.Prelude.{◌≡◌, ℕ, ◌+◌, ◌*◌, ◌/◌, ◌<◌, List, Some, None}
-use Rattle.nc_acts.specs.declared.act.NcAct.{NcAct}
-use Rattle.nc_acts.specs.Runs.{runs_of_create, runs_of_delete, HasRuns}
 use Rattle.nc_region.specs.declared.chunk.Chunk.{Chunk}
 use Rattle.nc_region.specs.Deletion.{HasLive}
 use Rattle.nc_region.specs.Log.{log_of_create, log_of_delete}
+use Rattle.nc_handle.specs.declared.acts.act.NcAct.{NcAct}
+use Rattle.nc_handle.specs.acts.Runs.{runs_of_create, runs_of_delete, HasRuns}
 use Rattle.nc_handle.specs.declared.fault.RunsFault.{RunsFault}
 use Rattle.nc_handle.specs.declared.fault.RunsFault.TheVariants.{NoChunk, NoRoom}
 use Rattle.nc_handle.specs.Held.{HeldState, IsLiveAt}
@@ -14,15 +14,18 @@ use Rattle.nc_handle.specs.Shown.{bytes_of_span}
 abbrev pub runs_of : ℕ → ℕ
 runs_of len = 2 * (len / 32) + 2
 
--- the front of the buffer has the runs of this chunk's creation, with its bytes in the region, and they stand for the
--- log of that: two for each bundle and two more
+-- The front of the buffer has the runs of this chunk's creation, with its bytes in the region, and they stand for the
+-- log of that: for each bundle one for its bytes inside, then the settling and the marks, then for each bundle one for
+-- its first byte. A run is an entry; or 7 (the chunk's bytes) or 8 (F4), an address, and a number whose bits choose
+-- among the 32 places from there on, the lowest bit the first.
 abbrev pub AreCreationRuns : HeldState → Chunk → List NcAct → List NcAct → ℕ → Type 0
 AreCreationRuns h c old new count =
     let code = bytes_of_span h.region.marked.bytes c.base c.length in
     (count ≡ runs_of c.length) × HasRuns old new count c.base code (runs_of_create c.base code) (log_of_create c.base code)
 
--- the front of the buffer has the runs of this chunk's deletion, by the region's marks, and they stand for the log of
--- that: two for each bundle and two more
+-- The front of the buffer has the runs of this chunk's deletion, by the region's marks, and they stand for the log of
+-- that: for each bundle one for F4 at its marked places, then the settling, then for each bundle one for F4 at the
+-- others, then the stamp.
 abbrev pub AreDeletionRuns : HeldState → Chunk → List NcAct → List NcAct → ℕ → Type 0
 AreDeletionRuns h c old new count =
     (count ≡ runs_of c.length) × HasRuns old new count c.base (bytes_of_span h.region.marked.bytes c.base c.length)

@@ -1,8 +1,8 @@
 -- What a buffer has that may have been lent.
 use Rattle.std.specs.Prelude.{◌≡◌, ℕ, ◌-◌, ◌<◌, List, length, map, take, drop}
 use Rattle.nc_region.specs.declared.acts.Entry.{Entry}
-use Rattle.nc_acts.specs.declared.act.NcAct.{NcAct}
-use Rattle.nc_acts.specs.Shown.{entry_of, over}
+use Rattle.nc_handle.specs.declared.acts.act.NcAct.{NcAct}
+use Rattle.nc_handle.specs.acts.Shown.{entry_of, over}
 
 -- A lent buffer has exactly the entries of this log at its front, and their number is told. Where none is lent, the
 -- number is 0.

@@ -1,3 +1,6 @@
+-- Definitions that only private contracts cite, and what handles own.
+pub mod Writing
+pub mod Running
 pub mod Attending
 pub mod Window
 pub mod Handle

@@ -1,10 +1,16 @@
-//! A region of code and the seats of its threads as values without a lifetime, for hosts that hold them by handles.
+//! A region of code and the seats of its threads as values without a lifetime, for hosts that hold them by handles, and the acts of
+//! its changes as such hosts read them.
 //!
 //! [`Held`] is a region that owns all that it stands on: its text, a share of its table of generations, and the passes that
 //! nobody has been given yet. [`Guest`] is a seat with a share of the table. A host calls a `Held` under a lock of its own, one
 //! call at a time; a `Guest` is called by its own thread, without a lock.
+//!
+//! An [`NcAct`] is an entry of the log by which `nc_region` changes a text. The calls of a `Held` write such a log into a buffer that the
+//! host lends. Without a region [`write_creation`], [`write_deletion`] and [`write_patch`] write it, from a chunk that is read place by
+//! place ([`ReadChunk`]) or from its bytes.
 #![tactic(auto)]
 
+mod acts;
 mod attending;
 mod fault;
 mod guest;
@@ -23,11 +29,11 @@ mod span;
 mod vetted_handle;
 mod window;
 
+pub use acts::{NcAct, ReadChunk, write_creation, write_deletion, write_patch};
 pub use fault::{LoadFault, NewFault, PatchFault, RetireFault, RunsFault, SeatFault};
 pub use guest::Guest;
 pub use held::Held;
 pub use kept::Kept;
-pub use nc_acts::NcAct;
 pub use owned::Owned;
 pub use region_handle::NcRegion;
 pub use seat_handle::NcSeat;

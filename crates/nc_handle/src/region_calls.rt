@@ -6,15 +6,15 @@ ghost use Rattle.nc_vet.specs.Chunk.{Piece};
 ghost use Rattle.nc_region.specs.Log.{log_of_create, log_of_delete};
 ghost use Rattle.nc_region.specs.Patch.{AreBytesOf, IsModified, IsPatch, log_of_modify};
 ghost use Rattle.nc_region.specs.Region.{IsCreated};
+ghost use Rattle.nc_handle.specs.acts.Standing.{AreBytesAt};
 ghost use Rattle.nc_handle.specs.Held.{IsShort, IsShortForPatch, HasBegun, HasEnded, IsNotLoaded, MayRefuseBegin, MayRefuseLoad, MayRefuseModify};
-ghost use Rattle.nc_acts.specs.Standing.{AreBytesAt};
 ghost use Rattle.nc_handle.specs.Shown.{IsTold, bytes_of_span};
 
+use crate::acts::{NcAct, write_creation, write_deletion, write_patch};
 use crate::fault::{LoadFault, PatchFault, RetireFault};
 use crate::held::Held;
 use crate::span::Span;
 use crate::window::read_window;
-use nc_acts::{NcAct, write_creation, write_deletion, write_patch};
 use nc_gens::LAST_GENERATION;
 use nc_region::{Acts, Chunk, DeleteFault};
 use nc_vet::Vetted;

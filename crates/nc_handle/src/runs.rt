@@ -1,17 +1,17 @@
 //! The acts of a creation and of a deletion as runs, worked out from what the region has now.
 
 ghost use Rattle.std.specs.Prelude.{◌≡◌, ◌≤◌, Some, IfOk, IfErr, OnErr, length};
-ghost use Rattle.nc_acts.specs.Runs.{runs_of_create, runs_of_delete, HasRuns};
 ghost use Rattle.nc_region.specs.Log.{log_of_create, log_of_delete};
 ghost use Rattle.nc_region.specs.declared.chunk.Chunk.{Chunk};
+ghost use Rattle.nc_handle.specs.acts.Runs.{runs_of_create, runs_of_delete, HasRuns};
 ghost use Rattle.nc_handle.specs.Held.{IsLiveAt};
 ghost use Rattle.nc_handle.specs.Runs.{runs_of, AreCreationRuns, AreDeletionRuns, MayRefuseCreationRuns, MayRefuseDeletionRuns};
 ghost use Rattle.nc_handle.specs.Shown.{bytes_of_span};
 
+use crate::acts::{NcAct, write_creation_runs, write_deletion_runs};
 use crate::fault::RunsFault;
 use crate::held::Held;
 use crate::span::Span;
-use nc_acts::{NcAct, write_creation_runs, write_deletion_runs};
 
 /// How many runs a chunk of this many bytes has.
 fn runs_of(length: u32) -> usize

@@ -3,8 +3,8 @@
 ghost use Rattle.nc_text.specs.Places.{limit_of};
 ghost use Rattle.nc_vet.specs.Faults.{HasGoodSpan};
 
+use crate::acts::ReadChunk;
 use crate::owned::Owned;
-use nc_acts::ReadChunk;
 use nc_decode::Mark;
 use nc_region::RegionOf;
 

@@ -18,7 +18,7 @@ use Rattle.nc_region.specs.Region.{Region, HoldsValid, IsLive}
 use Rattle.nc_region.specs.Patch.{IsRun, LeavesPairs, KeepsTargets, GoWell, IsPatch, MayRefusePatch}
 use Rattle.nc_region.proofs.Offered.{each_get, held_same}
 use Rattle.nc_host.specs.Outcomes.{IsAccepted}
-use Rattle.nc_acts.specs.Standing.{AreBytesAt}
+use Rattle.nc_handle.specs.acts.Standing.{AreBytesAt}
 use Rattle.nc_host.specs.Patches.{HasLiveCode, IsAnsweredFor}
 use Rattle.nc_host.proofs.OnlyChunk.{member_of_one}
 

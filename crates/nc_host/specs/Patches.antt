@@ -8,7 +8,7 @@ use Rattle.nc_region.specs.declared.fault.ModifyFault.{ModifyFault}
 use Rattle.nc_region.specs.Chunks.{with_chunk}
 use Rattle.nc_region.specs.Region.{Region, IsRegion}
 use Rattle.nc_region.specs.Patch.{IsPatch, MayRefusePatch}
-use Rattle.nc_acts.specs.Standing.{AreBytesAt}
+use Rattle.nc_handle.specs.acts.Standing.{AreBytesAt}
 use Rattle.nc_host.specs.Shown.{patch_number}
 use Rattle.nc_host.specs.Outcomes.{IsAccepted, IsChunkFault}
 

@@ -3,13 +3,13 @@
 ghost use Rattle.std.specs.Prelude.{◌≡◌, ◌+◌, ◌^◌, ◌<◌, ◌⊎◌, ◌==◌, ◌||◌, List, length, map, if◌then◌else◌};
 ghost use Rattle.nc_decode.specs.declared.instruction.Mark.{Mark};
 ghost use Rattle.nc_region.specs.Log.{log_of_create, log_of_delete};
-ghost use Rattle.nc_acts.specs.Shown.{entry_of, over};
+ghost use Rattle.nc_handle.specs.acts.Shown.{entry_of, over};
 ghost use Rattle.nc_host.specs.Outcomes.{IsAccepted, IsOutcome, StandAt};
 
 use crate::answers::{NO_ROOM, NcActs, NcVerdict};
 use crate::lent::Lent;
 use crate::vetting::admit;
-use nc_acts::{NcAct, write_creation, write_deletion};
+use nc_handle::{NcAct, write_creation, write_deletion};
 use std::alloc::Global;
 
 /// A refusal, with the number of acts that there is no room for.

@@ -3,8 +3,8 @@
 ghost use Rattle.std.specs.Prelude.{◌≡◌, length};
 ghost use Rattle.nc_vet.specs.Listed.{listed};
 
-use nc_acts::ReadChunk;
 use nc_decode::Mark;
+use nc_handle::ReadChunk;
 use nc_vet::Marks;
 
 /// Code with its marks.

@@ -51,7 +51,7 @@ pub use decoding::nc_host_decode;
 pub use deleting::{nc_region_begin_delete, nc_region_end_delete, nc_region_reclaim};
 pub use looking::{nc_region_chunk, nc_region_generation, nc_region_place};
 pub use marking::nc_host_marks;
-pub use nc_acts::NcAct;
+pub use nc_handle::NcAct;
 pub use patching::nc_host_patch;
 pub use region_answers::{NcChange, NcChunk, NcCount, NcPlace, NcStamp, NcWalk};
 pub use regions::{nc_region_free, nc_region_new, nc_region_seat};

@@ -1,7 +1,7 @@
 use Rattle.std.proofs.Common.{◌+◌, ℕ, length, refl, arith, sym, subst, ◌∙◌}
 use Rattle.std.proofs.lemmas.Bool.{eqb-false}
 use Rattle.nc_region.specs.Log.{log_of_delete}
-use Rattle.nc_acts.specs.Written.{HasWritten}
+use Rattle.nc_handle.specs.acts.Written.{HasWritten}
 use Rattle.nc_handle.proofs.SpanReads.{span_long}
 use Rattle.nc_handle.proofs.region_calls.tell_deletion.Goals as goal
 

@@ -1,6 +1,6 @@
 use Rattle.std.specs.Prelude.{◌≡◌, length, map, take}
 use Rattle.nc_vet.specs.Listed.{listed}
-use Rattle.nc_acts.specs.Shown.{over}
+use Rattle.nc_handle.specs.acts.Shown.{over}
 use Rattle.nc_host.specs.Shown.{mark_number}
 use Rattle.nc_host.proofs.marking.write_marks.Given as goal
 

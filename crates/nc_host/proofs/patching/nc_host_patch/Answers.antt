@@ -1,7 +1,7 @@
 use Rattle.std.proofs.Common.{◌+◌, ◌-◌, ℕ, [], length, refl, arith, subst}
 use Rattle.nc_vet.specs.Listed.{listed}
 use Rattle.nc_region.specs.Patch.{log_of_modify}
-use Rattle.nc_acts.specs.Written.{HasWritten, Adds}
+use Rattle.nc_handle.specs.acts.Written.{HasWritten, Adds}
 use Rattle.std.specs.Prelude.{Option}
 use Rattle.nc_region.specs.declared.fault.ModifyFault.{ModifyFault}
 use Rattle.nc_host.specs.Patches.{IsAnsweredFor}

@@ -1,2 +1,0 @@
--- What proofs of the crates above may use of this crate: one more element of a buffer. The other files are private.
-pub use Rattle.nc_acts.proofs.Buffers.{over_more}

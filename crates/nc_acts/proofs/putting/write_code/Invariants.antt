@@ -1,5 +1,0 @@
-use Rattle.nc_acts.specs.machinery.Writing.{HasPutUpTo, starts_if}
-use Rattle.nc_acts.proofs.putting.write_code.Given as goal
-
-abbrev pub invariant-loop-i : goal.invariant-loop-i
-invariant-loop-i g l = HasPutUpTo (starts_if l.starts) l.base (g.C.ReadChunk.code l.chunk) l.initial.acts l.from l.i l.acts l.count

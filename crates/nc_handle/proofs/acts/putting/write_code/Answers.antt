@@ -1,0 +1,33 @@
+use Rattle.std.proofs.Common.{◌+◌, ◌<◌, ℕ, length, set, sym, subst, arith, ◌∙◌}
+use Rattle.nc_region.specs.declared.acts.Act.TheVariants.{Put}
+use Rattle.nc_handle.specs.acts.Shown.{act_of}
+use Rattle.nc_handle.specs.machinery.Writing.{HasPutUpTo, starts_if}
+use Rattle.nc_handle.proofs.writing.WriteSteps.{next_fits, put_next, pass_next}
+use Rattle.nc_handle.proofs.acts.putting.write_code.Goals.{then-is_chosen, else-is_chosen}
+use Rattle.nc_handle.proofs.acts.putting.write_code.Goals as goal
+
+pub write-count-requires : goal.write-count-requires
+write-count-requires g c =
+    let code = g.C.ReadChunk.code c.args.chunk.now in
+    next_fits (starts_if c.args.starts) c.args.base code c.args.acts.now c.args.from c.loop-i.i c.loop-i.acts c.loop-i.count
+    c.loop-i.invariant (omega (arith, c.loop-i-test.true, c.len-i-end.ensures)) (sym c.is_chosen.ensures ∙ c.if-is_chosen.true) c.requires.room
+
+pub loop-i-preserved : goal.loop-i-preserved
+loop-i-preserved g c =
+    let f = starts_if c.args.starts in
+    let code = g.C.ReadChunk.code c.args.chunk.now in
+    let start = c.args.acts.now in
+    let lt : c.loop-i.i < length code = omega (arith, c.loop-i-test.true, c.len-i-end.ensures) in
+    elim c.if-is_chosen.branch [
+      | then-is_chosen w ↦
+          let is = sym c.is_chosen.ensures ∙ w.if-is_chosen.true in
+          let next = put_next f c.args.base code start c.args.from c.loop-i.i c.loop-i.acts c.loop-i.count c.loop-i.invariant lt is
+          (next_fits f c.args.base code start c.args.from c.loop-i.i c.loop-i.acts c.loop-i.count c.loop-i.invariant lt is c.requires.room) in
+          rw (w.acts-is, w.count-is, w.write-count.ensures.acts, w.write-count.ensures.count, w.put.ensures)
+          (subst (λ (b : ℕ). HasPutUpTo f c.args.base code start c.args.from (c.loop-i.i + 1)
+          (set c.loop-i.acts c.loop-i.count (act_of (Put (c.args.base + c.loop-i.i) b))) (c.loop-i.count + 1)) (sym w.byte.ensures) next)
+      | else-is_chosen w ↦
+          rw (w.acts-is, w.count-is)
+          (pass_next f c.args.base code start c.args.from c.loop-i.i c.loop-i.acts c.loop-i.count c.loop-i.invariant lt
+          (sym c.is_chosen.ensures ∙ w.if-is_chosen.false))
+    ]

@@ -1,0 +1,31 @@
+-- Puts written into a buffer, one after the other.
+use Rattle.std.specs.Prelude.{◌≡◌, ℕ, ◌+◌, ◌-◌, Bool, true, false, not, List, ◌++◌, take, length}
+use Rattle.nc_decode.specs.declared.instruction.Mark.{Mark}
+use Rattle.nc_region.specs.declared.acts.Entry.{Entry}
+use Rattle.nc_region.specs.Acts.{puts_where, is_start, is_inside, is_mark}
+use Rattle.nc_region.specs.Log.{unsettled}
+use Rattle.nc_handle.specs.declared.acts.act.NcAct.{NcAct}
+use Rattle.nc_handle.specs.acts.Written.{HasWritten}
+
+-- Of these bytes the first n have been looked at, and the puts of those at places that pass the test stand in the buffer after
+-- the entries that stood there at first.
+pub record HasPutUpTo (chosen : ℕ → Bool) (at : ℕ) (bytes : List ℕ) (initial : List NcAct) (from n : ℕ) (acts : List NcAct) (count : ℕ)
+    : Type 0 where
+  pub len : length acts ≡ length initial
+  pub counted : count ≡ from + length (puts_where chosen at (take n bytes))
+  pub written : (start : List NcAct) (log : List Entry) → HasWritten start initial from log
+      → HasWritten start acts count (log ++ unsettled (puts_where chosen at (take n bytes)))
+
+-- bundle starts, or the other places
+abbrev pub starts_if : Bool → ℕ → Bool
+starts_if true = is_start
+starts_if false = is_inside
+
+-- a mark that stands for some state, or one that stands for none
+abbrev pub mark_if : Bool → Mark → Bool
+mark_if true mark = is_mark mark
+mark_if false mark = not (is_mark mark)
+
+-- marked places, or the others, by the marks of a chunk at this base
+abbrev pub marked_if : Bool → (ℕ → Mark) → ℕ → ℕ → Bool
+marked_if marked marks base at = mark_if marked (marks (at - base))

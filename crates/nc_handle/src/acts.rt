@@ -1,0 +1,16 @@
+//! Acts and settlings as a host reads them, and the writers of their lists into a buffer that it lends.
+//!
+//! Each act of the log is written by itself, or, of a creation and of a deletion, one for the puts of a bundle (`runs`).
+
+mod act;
+mod entries;
+mod putting;
+mod reading;
+mod replacing;
+mod runs;
+
+pub use act::NcAct;
+pub use putting::{write_creation, write_deletion};
+pub use reading::ReadChunk;
+pub use replacing::write_patch;
+pub(crate) use runs::{write_creation_runs, write_deletion_runs};

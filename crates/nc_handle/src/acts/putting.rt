@@ -1,0 +1,106 @@
+//! The acts of a creation and of a deletion with their settlings, written into a host's buffer.
+
+ghost use Rattle.std.specs.Prelude.{◌≡◌, ◌+◌, ◌<◌, ◌≤◌, ◌^◌, List, length, replicate};
+ghost use Rattle.nc_decode.specs.declared.instruction.Mark.{Mark};
+ghost use Rattle.nc_region.specs.Acts.{puts_where};
+ghost use Rattle.nc_region.specs.Log.{log_of_create, log_of_delete};
+ghost use Rattle.nc_handle.specs.acts.Standing.{AreMarksAt};
+ghost use Rattle.nc_handle.specs.acts.Written.{HasWritten};
+ghost use Rattle.nc_handle.specs.machinery.Writing.{HasPutUpTo, starts_if, mark_if, marked_if};
+
+use crate::acts::act::NcAct;
+use crate::acts::entries::{STOP, bump, mark_span, put, settle, write};
+use crate::acts::reading::ReadChunk;
+use nc_decode::{BUNDLE, Mark};
+
+/// The place is a bundle start, or it is none.
+pub(crate) fn is_chosen(at: u32, starts: bool) -> bool
+    ensures { result ≡ starts_if starts at }
+{
+    if starts {
+        at % BUNDLE == 0
+    } else {
+        at % BUNDLE != 0
+    }
+}
+
+/// The mark stands for some state, or it stands for none.
+pub(crate) fn is_as(mark: Mark, marked: bool) -> bool
+    ensures { result ≡ mark_if marked mark }
+{
+    match mark {
+        Mark::Unmarked => !marked,
+        Mark::Plain | Mark::After(_) => marked,
+    }
+}
+
+/// Writes the puts of a chunk's bundle starts, or of its other bytes, rising. It answers how many acts there are then.
+fn write_code<C: ReadChunk>(
+    acts: &mut [NcAct],
+    from: usize,
+    base: u32,
+    chunk: &C,
+    starts: bool,
+) -> usize
+    requires high { base + length (C.code chunk.now) < 2 ^ 32 }
+    requires room { from + length (puts_where (starts_if starts) base (C.code chunk.now)) ≤ length acts.old }
+    ensures { HasPutUpTo (starts_if starts) base (C.code chunk.now) acts.old from (length (C.code chunk.now)) acts.new result }
+{
+    let mut count = from;
+    for i in 0..chunk.len() {
+        let at = base + i as u32;
+        if is_chosen(at, starts) {
+            count = write(acts, count, put(at, chunk.byte(i)));
+        }
+    }
+    count
+}
+
+/// Writes stops at a chunk's marked places, or at its others, rising. It answers how many acts there are then.
+fn write_stops<C: ReadChunk>(
+    acts: &mut [NcAct],
+    from: usize,
+    base: u32,
+    chunk: &C,
+    marked: bool,
+) -> usize
+    requires high { base + length (C.code chunk.now) < 2 ^ 32 }
+    requires room { from + length (puts_where (marked_if marked (C.marks chunk.now) base) base (replicate (length (C.code chunk.now)) 0xF4))
+        ≤ length acts.old }
+    ensures { HasPutUpTo (marked_if marked (C.marks chunk.now) base) base (replicate (length (C.code chunk.now)) 0xF4) acts.old from
+        (length (C.code chunk.now)) acts.new result }
+{
+    let mut count = from;
+    for i in 0..chunk.len() {
+        if is_as(chunk.mark(i), marked) {
+            count = write(acts, count, put(base + i as u32, STOP));
+        }
+    }
+    count
+}
+
+/// Writes the acts of a creation, with its settling: two more than the chunk has bytes.
+pub fn write_creation<C: ReadChunk>(acts: &mut [NcAct], base: u32, chunk: &C)
+    requires high { base + length (C.code chunk.now) < 2 ^ 32 }
+    requires room { length (C.code chunk.now) + 2 ≤ length acts.old }
+    ensures { HasWritten acts.old acts.new (length (C.code chunk.now) + 2) (log_of_create base (C.code chunk.now)) }
+{
+    let count = write_code(acts, 0, base, chunk, false);
+    let settled = write(acts, count, settle());
+    let marked = write(acts, settled, mark_span(base, chunk.len() as u32));
+    write_code(acts, marked, base, chunk, true);
+}
+
+/// Writes the acts of a deletion, with its settling: two more than the chunk has bytes.
+pub fn write_deletion<C: ReadChunk>(acts: &mut [NcAct], base: u32, chunk: &C)
+    requires high { base + length (C.code chunk.now) < 2 ^ 32 }
+    requires room { length (C.code chunk.now) + 2 ≤ length acts.old }
+    // For any text in which the chunk's marks stand there.
+    ensures { (text : List Mark) → AreMarksAt text base (length (C.code chunk.now)) (C.marks chunk.now)
+        → HasWritten acts.old acts.new (length (C.code chunk.now) + 2) (log_of_delete text base (length (C.code chunk.now))) }
+{
+    let marked = write_stops(acts, 0, base, chunk, true);
+    let settled = write(acts, marked, settle());
+    let count = write_stops(acts, settled, base, chunk, false);
+    write(acts, count, bump());
+}

@@ -1,0 +1,125 @@
+//! The acts of a creation and of a deletion as runs, one for each bundle and each kind of place.
+
+ghost use Rattle.std.specs.Prelude.{◌≡◌, ◌+◌, ◌*◌, ◌/◌, ◌%◌, ◌<◌, ◌≤◌, ◌^◌, List, length};
+ghost use Rattle.nc_decode.specs.declared.instruction.Mark.{Mark};
+ghost use Rattle.nc_region.specs.Acts.{puts_where};
+ghost use Rattle.nc_region.specs.Log.{log_of_create, log_of_delete, unsettled};
+ghost use Rattle.nc_handle.specs.acts.Runs.{HasRuns, run_of, runs_where, runs_of_create, runs_of_delete};
+ghost use Rattle.nc_handle.specs.acts.Standing.{AreMarksAt};
+ghost use Rattle.nc_handle.specs.machinery.Running.{AddsRuns, HasBits, bytes_for, picks, run_at};
+
+use crate::acts::act::NcAct;
+use crate::acts::entries::{bump, mark_span, settle, write};
+use crate::acts::putting::{is_as, is_chosen};
+use crate::acts::reading::ReadChunk;
+
+/// Which places of a bundle a run has.
+#[derive(Clone, Copy, Drop)]
+enum Places {
+    /// Those inside: all but its start.
+    Inside,
+    /// Its start.
+    Starts,
+    /// Those with a mark.
+    Marked,
+    /// Those without one.
+    Unmarked,
+}
+
+/// Whether a run of these places has the one at an index of the chunk's code.
+fn is_picked<C: ReadChunk>(chunk: &C, base: u32, i: usize, places: Places) -> bool
+    requires within { i < length (C.code chunk.now) }
+    requires high { base + length (C.code chunk.now) < 2 ^ 32 }
+    ensures { result ≡ picks places (C.marks chunk.now) base (base + i) }
+{
+    match places {
+        Places::Inside => is_chosen(base + i as u32, false),
+        Places::Starts => is_chosen(base + i as u32, true),
+        Places::Marked => is_as(chunk.mark(i), true),
+        Places::Unmarked => is_as(chunk.mark(i), false),
+    }
+}
+
+/// The bits of the places of a bundle that a run has, which begins at this index of the chunk's code.
+fn bits_of<C: ReadChunk>(chunk: &C, base: u32, from: usize, places: Places) -> u32
+    requires within { from + 32 ≤ length (C.code chunk.now) }
+    requires high { base + length (C.code chunk.now) < 2 ^ 32 }
+    ensures { HasBits (picks places (C.marks chunk.now) base) (base + from) 32 result }
+{
+    let mut bits = 0;
+    for k in 0..32 {
+        bits = 2 * bits + u32::from(is_picked(chunk, base, from + 31 - k, places));
+    }
+    bits
+}
+
+/// A run at this address.
+fn run(places: Places, at: u32, bits: u32) -> NcAct
+    ensures { result ≡ run_of (run_at places at bits) }
+{
+    let kind = match places {
+        Places::Inside | Places::Starts => 7,
+        Places::Marked | Places::Unmarked => 8,
+    };
+    NcAct {
+        kind,
+        at,
+        value: bits,
+    }
+}
+
+/// Writes a run for each bundle of a chunk. It answers how many acts there are then.
+fn write_runs<C: ReadChunk>(
+    acts: &mut [NcAct],
+    from: usize,
+    base: u32,
+    chunk: &C,
+    places: Places,
+) -> usize
+    requires high { base + length (C.code chunk.now) < 2 ^ 32 }
+    requires whole { length (C.code chunk.now) % 32 ≡ 0 }
+    requires room { from + length (C.code chunk.now) / 32 ≤ length acts.old }
+    ensures len { length acts.new ≡ length acts.old }
+    ensures count { result ≡ from + length (C.code chunk.now) / 32 }
+    ensures added { AddsRuns base (C.code chunk.now) acts.old from acts.new result
+        (runs_where (run_at places) (picks places (C.marks chunk.now) base) base (length (C.code chunk.now) / 32))
+        (unsettled (puts_where (picks places (C.marks chunk.now) base) base (bytes_for places (C.code chunk.now)))) }
+{
+    let mut count = from;
+    for i in 0..chunk.len() / 32 {
+        let bits = bits_of(chunk, base, 32 * i, places);
+        count = write(acts, count, run(places, base + 32 * i as u32, bits));
+    }
+    count
+}
+
+/// Writes the acts of a creation, with its settling, as runs: two for each bundle of the chunk, and two more.
+pub(crate) fn write_creation_runs<C: ReadChunk>(acts: &mut [NcAct], base: u32, chunk: &C)
+    requires high { base + length (C.code chunk.now) < 2 ^ 32 }
+    requires whole { length (C.code chunk.now) % 32 ≡ 0 }
+    requires room { 2 * (length (C.code chunk.now) / 32) + 2 ≤ length acts.old }
+    // These very runs, and they stand for this log.
+    ensures { HasRuns acts.old acts.new (2 * (length (C.code chunk.now) / 32) + 2) base (C.code chunk.now)
+        (runs_of_create base (C.code chunk.now)) (log_of_create base (C.code chunk.now)) }
+{
+    let count = write_runs(acts, 0, base, chunk, Places::Inside);
+    let settled = write(acts, count, settle());
+    let marked = write(acts, settled, mark_span(base, chunk.len() as u32));
+    write_runs(acts, marked, base, chunk, Places::Starts);
+}
+
+/// Writes the acts of a deletion, with its settling, as runs: two for each bundle of the chunk, and two more.
+pub(crate) fn write_deletion_runs<C: ReadChunk>(acts: &mut [NcAct], base: u32, chunk: &C)
+    requires high { base + length (C.code chunk.now) < 2 ^ 32 }
+    requires whole { length (C.code chunk.now) % 32 ≡ 0 }
+    requires room { 2 * (length (C.code chunk.now) / 32) + 2 ≤ length acts.old }
+    // For any text in which the chunk's marks stand there.
+    ensures { (text : List Mark) → AreMarksAt text base (length (C.code chunk.now)) (C.marks chunk.now)
+        → HasRuns acts.old acts.new (2 * (length (C.code chunk.now) / 32) + 2) base (C.code chunk.now)
+        (runs_of_delete text base (length (C.code chunk.now))) (log_of_delete text base (length (C.code chunk.now))) }
+{
+    let marked = write_runs(acts, 0, base, chunk, Places::Marked);
+    let settled = write(acts, marked, settle());
+    let count = write_runs(acts, settled, base, chunk, Places::Unmarked);
+    write(acts, count, bump());
+}
