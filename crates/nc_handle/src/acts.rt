@@ -1,6 +1,6 @@
 //! Acts and settlings as a host reads them, and the writers of their lists into a buffer that it lends.
 //!
-//! Each act of the log is written by itself, or, of a creation and of a deletion, one for the puts of a bundle (`runs`).
+//! A log is written act by act (`putting`, `replacing`), or as runs, each for the puts of a bundle (`runs`).
 
 mod act;
 mod entries;
