@@ -47,4 +47,6 @@ pub enum Ask<'a> {
     },
     /// To test a region beside threads, for these seconds, against a plain model of it.
     Soak(u32),
+    /// To make the call of this name, or each call, that may be refused memory.
+    Refusals(Option<&'a str>),
 }

@@ -241,6 +241,7 @@ fn asked<'a>(alloc: Global, name: &str, found: &ArgMatches<'a>) -> Result<Ask<'a
             steps: number(found, "STEPS"),
         },
         "soak" => Ask::Soak(number(found, "SECONDS")),
+        "refusals" => Ask::Refusals(found.get_str("CALL")),
         _ => return Err(missing(alloc)?),
     })
 }

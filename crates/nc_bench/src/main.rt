@@ -13,6 +13,7 @@
 //! | `walk` | `walk` |
 //! | `image` | `image`, in one round |
 //! | `soak` | `soak`, which times nothing |
+//! | `refusals` | `refusals`, which times nothing |
 #![tactic(auto)]
 
 mod asked;
@@ -26,6 +27,7 @@ mod measurements;
 mod new_region;
 mod numbers;
 mod ordinary;
+mod refusals;
 mod soak;
 mod vetting;
 mod walk;
@@ -38,6 +40,7 @@ use clap::Error;
 use command_line::ask;
 use image::measure_image;
 use new_region::measure_new;
+use refusals::make_calls;
 use soak::soak_for;
 use std::alloc::{AllocError, Global};
 use std::process::ExitCode;
@@ -72,6 +75,7 @@ fn measure<R: Threads + Wait + Sync + Clock + Files + Print + AllocGlobal>(
         } => measure_walk(rt, load, steps, rounds),
         Ask::Image { path, count, steps } => measure_image(rt, path, count, steps),
         Ask::Soak(seconds) => soak_for(rt, seconds),
+        Ask::Refusals(call) => make_calls(rt, call),
     }
 }
 

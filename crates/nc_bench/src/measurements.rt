@@ -1,5 +1,6 @@
 //! The measurements, and the words that each takes on the command line.
 
+use crate::refusals::CALLS;
 use clap::builder::ValueParser;
 
 /// Whether a word has to be given.
@@ -42,6 +43,9 @@ const KIND: ValueParser<'static> = ValueParser::Names(&["accepted", "stuck", "as
 /// The parser of an order of creations.
 const ORDER: ValueParser<'static> = ValueParser::Names(&["ascending", "descending", "scattered"]);
 
+/// The parser of the name of a call.
+const CALL: ValueParser<'static> = ValueParser::Names(&CALLS);
+
 /// A word.
 macro_rules! word {
     ($presence:expr, $name:literal, $parser:ident, $help:literal) => {
@@ -77,7 +81,7 @@ const ROUNDS: Word = required!(
 
 /// All measurements.
 #[rattlefmt::skip]
-pub static MEASUREMENTS: [Measurement; 9] = [
+pub static MEASUREMENTS: [Measurement; 10] = [
     Measurement {
         name: "vet",
         about: "Time vetting by one thread, on a file's code",
@@ -150,5 +154,10 @@ pub static MEASUREMENTS: [Measurement; 9] = [
         name: "soak",
         about: "Test a region beside threads against a plain model of it; nothing is timed",
         words: &[required!("SECONDS", NUMBER, "Seconds that the test takes")],
+    },
+    Measurement {
+        name: "refusals",
+        about: "Make the calls to which tools/refuse-growths refuses memory, and show what they leave; nothing is timed",
+        words: &[optional!("CALL", CALL, "Call that is made [default: each in turn]")],
     },
 ];

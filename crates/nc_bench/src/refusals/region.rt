@@ -1,8 +1,8 @@
 //! A chunk created, and a walk through it.
 
-use crate::calls;
-use crate::chunks::{chunk, region, region_with, table};
-use crate::shown::{after, before, print_region, print_trace, print_vetted};
+use super::calls;
+use super::chunks::{chunk, region, region_with, table};
+use super::shown::{after, before, print_region, print_trace, print_vetted};
 use nc_decode::START;
 use nc_region::{CreateFault, Region, Trace, WalkFault};
 use nc_vet::Vetted;

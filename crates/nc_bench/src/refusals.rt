@@ -1,10 +1,9 @@
 //! Calls that take memory, each made once, so that it can be tried what they answer where they are given none.
 //!
-//! `nc_refusals CALL` makes one of them, and shows what it answered, what stands then, and what the same call answers when it
-//! is made again after a refusal. The line `call` is written directly before the call and the line `answer` directly after
-//! it: `tools/refuse-growths` runs this program over a library that refuses allocations between these two lines, and
-//! compares what is shown. Without a word each call is made, with ample memory.
-#![tactic(auto)]
+//! `nc_bench refusals CALL` makes one of them, and shows what it answered, what stands then, and what the same call answers
+//! when it is made again after a refusal. The line `call` is written directly before the call and the line `answer` directly
+//! after it: `tools/refuse-growths` runs the program over a library that refuses allocations between these two lines, and
+//! compares what is shown. Without CALL each call is made, with ample memory.
 
 mod calls;
 mod chunks;
@@ -16,14 +15,14 @@ mod without;
 
 use making::{make_gens, make_pages, make_region, make_text};
 use region::{create_chunk, walk_chunk};
+use std::io;
 use std::sync::Wait;
 use std::thread::Threads;
-use std::{env, io};
 use vetting::{vet_jobs, vet_jumps, vet_pair};
 use without::{patch, patch_pair, refuse_patches, retire, two_seats};
 
 /// The names of the calls.
-const CALLS: [&str; 15] = [
+pub(crate) const CALLS: [&str; 15] = [
     "vet-pair",
     "vet-jumps",
     "vet-all-1",
@@ -64,14 +63,16 @@ fn make<R: Threads + Wait + Sync + Print + AllocGlobal>(rt: &R, name: &str) -> i
     }
 }
 
-fn main(rt: HostRuntime) -> io::Result<()> {
-    let mut words = env::args(&rt)?;
-    let _program = words.next();
-    if let Some(name) = words.next() {
-        return make(&rt, name.as_str());
+/// Makes the call of this name, or each call in turn.
+pub(crate) fn make_calls<R: Threads + Wait + Sync + Print + AllocGlobal>(
+    rt: &R,
+    name: Option<&str>,
+) -> io::Result<()> {
+    if let Some(name) = name {
+        return make(rt, name);
     }
     for name in CALLS {
-        make(&rt, name)?;
+        make(rt, name)?;
     }
     Ok(())
 }

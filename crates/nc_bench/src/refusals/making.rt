@@ -1,8 +1,8 @@
 //! Texts, tables of generations and regions made.
 ghost use Rattle.std.specs.Prelude.{◌≡◌};
 
-use crate::chunks::table;
-use crate::shown::{after, before, print_bytes, print_region};
+use super::chunks::table;
+use super::shown::{after, before, print_bytes, print_region};
 use nc_decode::START;
 use nc_gens::{Gens, Keeper, Pass};
 use nc_region::Region;

@@ -1,9 +1,9 @@
 //! Calls that take no memory: they answer the same where every allocation is refused.
 ghost use Rattle.std.specs.Prelude.{◌≡◌};
 
-use crate::calls;
-use crate::chunks::{chunk, region_with, table};
-use crate::shown::{after, before, print_region};
+use super::calls;
+use super::chunks::{chunk, region_with, table};
+use super::shown::{after, before, print_region};
 use nc_gens::{Gens, Pass};
 use nc_region::{DeleteFault, ModifyFault, Region, Shared};
 use std::io::Result;

@@ -1,7 +1,7 @@
 //! Chunks vetted, one by one and by workers.
 
-use crate::chunks::{LIMIT, code};
-use crate::shown::{after, before, print_bytes, print_verdict};
+use super::chunks::{LIMIT, code};
+use super::shown::{after, before, print_bytes, print_verdict};
 use nc_decode::START;
 use nc_vet::vet;
 use nc_work::{Job, Open, Verdict, vet_all};
