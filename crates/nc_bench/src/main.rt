@@ -13,7 +13,7 @@
 //! | `walk` | `walk` |
 //! | `image` | `image`, in one round |
 //! | `soak` | `soak`, which times nothing |
-//! | `refusals` | `refusals`, which times nothing |
+//! | `refusals` | `refusals`, which makes calls for `tools/refuse-growths` |
 #![tactic(auto)]
 
 mod asked;
