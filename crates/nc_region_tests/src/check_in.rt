@@ -1,0 +1,190 @@
+//! Check-in beside the lock, while a writer works.
+ghost use Rattle.std.specs.Prelude.{◌≡◌, All};
+ghost use Rattle.std.specs.Thread.{IsSync};
+
+use crate::calls::{Calls, Locked, is_created};
+use crate::fixtures::{chunk, shared};
+use crate::steps::{Step, take_steps};
+use crate::trial::{SharedTrial, try_shared};
+use nc_gens::{Gens, Keeper, Pass};
+use nc_region::{Acts, SharedOf};
+use std::alloc::Global;
+use std::sync::Wait;
+use std::test::Fail;
+use std::thread::{Threads, for_each_mut, join_mut};
+
+/// Checks in several times, beside the lock.
+fn check_in_often<A: Acts + Drop>(shared: &SharedOf<'_, A>, pass: &mut Pass, times: usize)
+    requires { pass.old.table ≡ shared.now }
+    ensures { pass.new.table ≡ pass.old.table }
+{
+    for _ in 0..times {
+        shared.check_in(pass);
+    }
+}
+
+/// Each pass in a thread of its own.
+fn all_check_in<R: Threads + Sync, A: Acts + Drop + Send>(
+    rt: &R,
+    shared: &SharedOf<'_, A>,
+    passes: &mut [Pass],
+    times: usize,
+)
+    requires { All (λ p. p.table ≡ shared.now) passes.old }
+    ensures { All (λ p. p.table ≡ shared.now) passes.new }
+{
+    for_each_mut(
+        rt,
+        passes,
+        4,
+        &|_, pass| check_in_often(shared, pass, times),
+    );
+}
+
+/// Creates 32 nops, deletes them and reclaims; the stamp has to be one more than the index. Answers how many were freed.
+fn write_one<C: Calls>(alloc: Global, region: &mut C, i: u32) -> Result<u32, Fail> {
+    let base = 0x10000u32.wrapping_add(i.wrapping_mul(32));
+    let created = is_created(region, chunk(alloc, base, 0x11000, 1, &[])?);
+    let stamp = region.deleted(base);
+    if created && stamp == Ok(u64::from(i).wrapping_add(1)) {
+        return Ok(region.reclaimed());
+    }
+    Err(Fail::new("not created, or another stamp"))
+}
+
+/// A hundred times.
+fn write_all<C: Calls>(alloc: Global, region: &mut C) -> Result<u32, Fail> {
+    let mut freed = 0u32;
+    for i in 0..100 {
+        freed = freed.wrapping_add(write_one(alloc, region, i)?);
+    }
+    Ok(freed)
+}
+
+/// Four passes check in a thousand times each while a writer works.
+fn check_in_beside<R: Threads + Wait + Sync, A: Acts + Drop + Send>(
+    rt: &R,
+    alloc: Global,
+    shared: &SharedOf<'_, A>,
+    passes: &mut [Pass],
+) -> Result<u32, Fail>
+    requires { All (λ p. p.table ≡ shared.now) passes.old }
+    ensures { All (λ p. p.table ≡ shared.now) passes.new }
+{
+    let (_, wrote) = join_mut(
+        rt,
+        &mut ||
+            requires { IsSync R.row × All (λ p. p.table ≡ shared.now) passes.now }
+            ensures { All (λ p. p.table ≡ shared.entry.now) passes.exit.now }
+        { all_check_in(rt, shared, passes, 1000) },
+        &mut || write_all(alloc, &mut Locked { rt, shared }),
+    );
+    wrote
+}
+
+/// All passes but the last check in once more, and the last one leaves.
+fn last_leaves<R: Threads + Sync, A: Acts + Drop + Send>(
+    rt: &R,
+    shared: &SharedOf<'_, A>,
+    passes: Vec<Pass>,
+)
+    requires { All (λ p. p.table ≡ shared.now) passes.items }
+{
+    let mut passes = passes;
+    if let Some(last) = passes.pop() {
+        all_check_in(rt, shared, passes.as_mut_slice(), 1);
+        shared.leave(last);
+    }
+}
+
+/// A last chunk is created and deleted.
+static LAST: [Step<'static>; 2] = [
+    Step::Create(0x10C80, 1, &[], Ok(())),
+    Step::Delete(0x10C80, Ok(101)),
+];
+
+/// A last chunk is created and deleted, and a chunk is there then.
+fn retire_last<R: Wait, A: Acts + Drop>(
+    rt: &R,
+    alloc: Global,
+    shared: &SharedOf<'_, A>,
+) -> Result<(), Fail> {
+    take_steps(alloc, &mut Locked { rt, shared }, 0x11000, &LAST)?;
+    if shared.chunk_count(rt) >= 1 {
+        return Ok(());
+    }
+    Err(Fail::new("no chunk is there"))
+}
+
+/// Passes that check in beside a writer, and once more when a last chunk is retired: all chunks are freed.
+fn check_in_and_leave<R: Threads + Wait + Sync, A: Acts + Drop + Send>(
+    rt: &R,
+    alloc: Global,
+    shared: &SharedOf<'_, A>,
+    passes: Vec<Pass>,
+) -> Result<(), Fail>
+    requires { All (λ p. p.table ≡ shared.now) passes.items }
+{
+    let mut passes = passes;
+    let freed = check_in_beside(rt, alloc, shared, passes.as_mut_slice())?;
+    retire_last(rt, alloc, shared)?;
+    last_leaves(rt, shared, passes);
+    let rest = shared.reclaim(rt);
+    if freed.wrapping_add(rest) == 101 && shared.chunk_count(rt) == 0 {
+        return Ok(());
+    }
+    Err(Fail::new(format_args!("{freed} and {rest} are freed")))
+}
+
+#[test]
+fn check_in_beside_writer(rt: HostRuntime) -> Result<(), Fail> {
+    let alloc = rt.alloc();
+    let (gens, keeper, passes) = Gens::new(alloc, 4)?;
+    let shared = shared(alloc, 128, &gens, keeper)?;
+    check_in_and_leave(&rt, alloc, &shared, passes)
+}
+
+/// It is allowed to start threads and not to wait, so nothing that it calls waits.
+fn no_wait<T: Threads, A: Acts + Drop>(
+    _rt: &T,
+    gens: &Gens,
+    shared: &SharedOf<'_, A>,
+    keeper: &mut Keeper,
+    mut pass: Pass,
+    own: Pass,
+) -> u64
+    requires { (keeper.old.table ≡ gens.now) × (own.table ≡ gens.now) × (pass.table ≡ shared.now) }
+{
+    let mut own = own;
+    let stamp = gens.bump(keeper).unwrap_or(0);
+    gens.check_in(&mut own);
+    gens.meet(&mut own, keeper);
+    gens.leave(own);
+    shared.check_in(&mut pass);
+    shared.leave(pass);
+    stamp.wrapping_add(gens.look(keeper))
+}
+
+/// Calls that never wait, of a second table and of a region.
+#[derive(Drop)]
+struct NoWait<'r, T: Threads> {
+    rt: &'r T,
+    alloc: Global,
+}
+
+impl<T: Threads> SharedTrial for NoWait<'_, T> {
+    fn run<A: Acts + Drop + Send>(self, shared: &SharedOf<'_, A>, pass: Pass) -> Result<(), Fail> {
+        let (gens, mut keeper, mut seats) = Gens::new(self.alloc, 1)?;
+        let own = seats.remove(0);
+        match no_wait(self.rt, &gens, shared, &mut keeper, pass, own) {
+            2 => Ok(()),
+            _ => Err(Fail::new("another stamp or generation")),
+        }
+    }
+}
+
+#[test]
+fn calls_that_never_wait(rt: HostRuntime) -> Result<(), Fail> {
+    let alloc = rt.alloc();
+    try_shared(alloc, 4, NoWait { rt: &rt, alloc })
+}

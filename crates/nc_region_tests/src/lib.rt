@@ -1,0 +1,50 @@
+//! The tests of `nc_region`: what no clause says, and what the clauses' words come to on examples. What the calls answer is tested by
+//! scripts too, which `tools/try-scripts` runs.
+//!
+//! They stand in a crate of their own above it. A crate with tests is proved once more for them, and its must-fail edits
+//! wait for that proof; here the tests are proved beside those edits. They use only what `nc_region` exports.
+//!
+//! What happens between two acts of a region is tested too: after each of them all marks are walked once, and every mixture of
+//! bytes that a thread may read there is decoded.
+#![tactic(auto)]
+
+#[cfg(test)]
+mod act_by_act;
+#[cfg(test)]
+mod acts;
+#[cfg(test)]
+mod calls;
+#[cfg(test)]
+mod check_in;
+#[cfg(test)]
+mod creating;
+#[cfg(test)]
+mod drawing;
+#[cfg(test)]
+mod fixtures;
+#[cfg(test)]
+mod lawful;
+#[cfg(test)]
+mod marked_places;
+#[cfg(test)]
+mod mixtures;
+#[cfg(test)]
+mod one_byte_off;
+#[cfg(test)]
+mod patches;
+#[cfg(test)]
+mod plain_text;
+#[cfg(test)]
+mod random_patches;
+#[cfg(test)]
+mod random_texts;
+#[cfg(test)]
+mod shared;
+#[cfg(test)]
+mod steps;
+#[cfg(test)]
+mod trial;
+#[cfg(test)]
+mod walking;
+#[cfg(test)]
+mod watcher;

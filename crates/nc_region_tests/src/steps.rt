@@ -1,0 +1,106 @@
+//! Calls of a region in tables, each with the answer that is due.
+ghost use Rattle.std.specs.Prelude.{◌≡◌};
+
+use crate::calls::Calls;
+use crate::fixtures::chunk;
+use nc_gens::{Gens, Pass};
+use nc_region::{CreateFault, DeleteFault, End, ModifyFault};
+use std::alloc::Global;
+use std::test::Fail;
+
+/// A call, with its answer last.
+pub(crate) enum Step<'s> {
+    /// Creates a chunk: its base, how many bundles it has, and the bytes with which it begins. Nops follow.
+    Create(u32, usize, &'s [u8], Result<(), CreateFault>),
+    /// Modifies: the address, and the new bytes.
+    Modify(u32, &'s [u8], Result<(), ModifyFault>),
+    /// Deletes the chunk of this base.
+    Delete(u32, Result<u64, DeleteFault>),
+    /// Walks: the start, the choices, and the places and the end of the trace.
+    Walk(u32, &'s [u32], &'s [u32], End),
+    /// Reclaims: how many chunks are freed.
+    Reclaim(u32),
+    /// How many chunks there are.
+    Count(usize),
+}
+
+/// A chunk that begins with these bytes, for a region of this limit: whether its creation has this answer.
+pub(crate) fn creates<C: Calls>(
+    alloc: Global,
+    region: &mut C,
+    limit: u32,
+    base: u32,
+    bundles: usize,
+    front: &[u8],
+    due: Result<(), CreateFault>,
+) -> Result<bool, Fail> {
+    let vetted = chunk(alloc, base, limit, bundles, front)?;
+    match region.created(vetted) {
+        Ok(()) => Ok(due == Ok(())),
+        Err((_, fault)) => Ok(due == Err(fault)),
+    }
+}
+
+/// Whether a walk has these places and this end.
+fn walks<C: Calls>(region: &C, start: u32, choices: &[u32], places: &[u32], end: End) -> bool {
+    match region.walked(start, choices) {
+        Ok(trace) => trace.places.as_slice() == places && trace.end == end,
+        Err(_) => false,
+    }
+}
+
+/// Whether a call has the answer that is due.
+fn answers<C: Calls>(alloc: Global, region: &mut C, limit: u32, step: &Step) -> Result<bool, Fail> {
+    match step {
+        Step::Create(base, bundles, front, due) => {
+            creates(alloc, region, limit, *base, *bundles, front, *due)
+        }
+        Step::Modify(at, new, due) => Ok(region.modified(*at, new) == *due),
+        Step::Delete(base, due) => Ok(region.deleted(*base) == *due),
+        Step::Walk(start, choices, places, end) => {
+            Ok(walks(region, *start, choices, places, *end))
+        }
+        Step::Reclaim(due) => Ok(region.reclaimed() == *due),
+        Step::Count(due) => Ok(region.counted() == *due),
+    }
+}
+
+/// Makes these calls in turn on a region of this limit. Each of them has its answer.
+pub(crate) fn take_steps<C: Calls>(
+    alloc: Global,
+    region: &mut C,
+    limit: u32,
+    steps: &[Step<'_>],
+) -> Result<(), Fail> {
+    for (i, step) in steps.iter().enumerate() {
+        if !answers(alloc, region, limit, step)? {
+            return Err(Fail::new(format_args!("call {i} of {} has another answer", steps.len())));
+        }
+    }
+    Ok(())
+}
+
+/// Calls before a check-in and after it.
+pub(crate) struct Steps<'s> {
+    /// Those before it.
+    pub(crate) before: &'s [Step<'s>],
+    /// Those after it.
+    pub(crate) after: &'s [Step<'s>],
+}
+
+/// Makes the calls of a region of this limit, with a check-in between.
+pub(crate) fn take_both<C: Calls>(
+    alloc: Global,
+    region: &mut C,
+    limit: u32,
+    gens: &Gens,
+    pass: &mut Pass,
+    steps: &Steps<'_>,
+) -> Result<(), Fail>
+    requires { pass.old.table ≡ gens.now }
+    ensures { pass.new.table ≡ gens.now }
+{
+    take_steps(alloc, region, limit, steps.before)?;
+    gens.check_in(pass);
+    take_steps(alloc, region, limit, steps.after)
+}
