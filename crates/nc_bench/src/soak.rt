@@ -2,7 +2,7 @@
 //!
 //! The writer keeps a plain model of the region, judges each answer by it, and compares the whole region with it now and
 //! then and at the end. A walker looks at each place where it comes: an instruction has to stand there. After each change of the
-//! text, every mixture of bytes is read that a thread may then fetch one by one (`nc_views`).
+//! text, every mixture of bytes is read that a thread may then fetch one by one (`nc_region_tests`).
 
 ghost use Rattle.std.specs.Prelude.{◌≡◌};
 
@@ -15,7 +15,7 @@ use crate::numbers::Numbers;
 use nc_decode::{BUNDLE, START, decode};
 use nc_gens::{Gens, Pass};
 use nc_region::{Acts, RegionOf, Trace};
-use nc_views::{Viewed, viewed};
+use nc_region_tests::{Viewed, viewed};
 use std::alloc::Global;
 use std::io::{Error, ErrorKind, Result};
 use std::sync::atomic::{AtomicBool, Ordering};

@@ -4,9 +4,10 @@ ghost use Rattle.std.specs.Prelude.{◌≡◌};
 
 use crate::fixtures::LIMIT;
 use crate::steps::{Step, Steps, take_both};
+use crate::viewing::{Viewing, viewed};
+use crate::views::Found;
 use nc_gens::{Gens, Pass};
 use nc_region::{Acts, RegionOf};
-use nc_views::{Found, Viewing, viewed};
 use std::alloc::Global;
 use std::test::Fail;
 

@@ -1,6 +1,6 @@
 //! A text and its marks, walked once: what is wrong with them.
+use crate::judging::{Places, is_right};
 use nc_decode::{Instr, Mark, START, decode};
-use nc_views::{Places, is_right};
 
 /// Bytes and marks of the places from 00010000 on.
 #[derive(Drop)]

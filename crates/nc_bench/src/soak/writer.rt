@@ -6,8 +6,8 @@ use super::model::Model;
 use crate::numbers::Numbers;
 use nc_decode::START;
 use nc_region::{Acts, ChunkState, CreateFault, DeleteFault, ModifyFault, RegionOf};
+use nc_region_tests::Found;
 use nc_vet::vet;
-use nc_views::Found;
 use std::alloc::{AllocError, Global};
 use std::sync::{Mutex, Wait};
 

@@ -4,7 +4,7 @@ use Rattle.nc_decode.specs.Bundles.{IsLawfulLimit}
 use Rattle.nc_text.specs.Places.{limit_of}
 use Rattle.nc_text.specs.MarkedText.{MarkedText}
 use Rattle.nc_region.specs.Region.{PlainState}
-use Rattle.nc_views.proofs.viewing.viewed.Goals as goal
+use Rattle.nc_region_tests.proofs.viewing.viewed.Goals as goal
 
 pub over-requires : goal.over-requires
 over-requires c =
