@@ -25,6 +25,13 @@ def archives():
     return [LIBRARY, os.path.join(kit(), "c", "liblibc_c.a")]
 
 
+def shared(folder):
+    """The path of a shared library, which is made from these in a folder."""
+    path, (own, libc) = os.path.join(folder, "libnc_host.so"), archives()
+    subprocess.run([compiler(), "-shared", "-o", path, "-Wl,--whole-archive", own, "-Wl,--no-whole-archive", libc], check=True)
+    return path
+
+
 def has_cargo():
     """Whether cargo is here, with a toolchain of Rust that it can run."""
     return shutil.which("cargo") is not None and subprocess.run(["cargo", "--version"], capture_output=True).returncode == 0

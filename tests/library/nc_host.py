@@ -1,0 +1,200 @@
+"""The library nc_host for tests in Python: the calls of include/nc_host.h by ctypes, with their names and numbers.
+
+The environment variable NC_HOST names the shared library, which `tools/try-library` makes. A call answers with a named tuple that has the
+fields of its struct in C; one that writes into a buffer has the list of what was written in place of `count`.
+"""
+import collections
+import ctypes
+import os
+
+BUNDLE, START, STOP = 32, 0x10000, 0xF4
+
+(OK, BAD_BASE, BAD_LENGTH, OUT_OF_RANGE, NOT_PERMITTED, CROSSES, BARE, BAD_TARGET, OUT_OF_MEMORY, NO_ROOM, CUT_SHORT) = range(11)
+(PATCH_BAD_SPAN, PATCH_NOT_LIVE, PATCH_NOT_PERMITTED, PATCH_BOUNDARIES, PATCH_PAIR_TOUCHED, PATCH_BAD_TARGET) = range(16, 22)
+(NO_HANDLE, HANDLE_TAKEN, BAD_SEATS, BAD_SIZE, NO_SEAT, UNDER_WAY, NOT_BEGUN, WRONG_LIMIT, OCCUPIED, NO_CHUNK, FULL, NO_PLACE,
+ NO_START) = range(32, 45)
+FLOW_NEXT, FLOW_BRANCH, FLOW_JUMP, FLOW_CALL, FLOW_INDIRECT_JUMP, FLOW_INDIRECT_CALL, FLOW_STOP = range(1, 8)
+END_STOP, END_TRAMPOLINE, END_BEYOND, END_MORE = range(1, 5)
+UNMARKED, PLAIN, MASKED = 0, 1, 16
+PUT, MARK, BUMP, SETTLE, PUT_RUN, STOP_RUN = 1, 2, 3, 6, 7, 8
+
+u32, size = ctypes.c_uint32, ctypes.c_size_t
+
+
+def struct(name, **fields):
+    """A struct of C, and a named tuple with its fields."""
+    kind = type(name, (ctypes.Structure,), {"_fields_": [*fields.items()]})
+    plain = collections.namedtuple(name, fields)
+    kind.plain = lambda self: plain(*(getattr(self, field) for field in fields))
+    return kind
+
+
+Instruction = struct("Instruction", fault=u32, length=u32, flow=u32, rel=ctypes.c_int32, reg=u32, masks=u32)
+Verdict = struct("Verdict", fault=u32, at=u32)
+Act = struct("Act", kind=u32, at=u32, value=u32)
+Acts = struct("Acts", fault=u32, at=u32, count=u32)
+Change = struct("Change", fault=u32, at=u32, count=size)
+Stamp = struct("Stamp", stamp=ctypes.c_uint64, fault=u32)
+Count = struct("Count", fault=u32, count=u32)
+Chunk = struct("Chunk", stamp=ctypes.c_uint64, fault=u32, base=u32, length=u32, retired=u32)
+Place = struct("Place", fault=u32, byte=u32, mark=u32)
+Walk = struct("Walk", count=size, fault=u32, end=u32)
+Handle = struct("Handle", at=ctypes.c_void_p)
+to = ctypes.POINTER
+
+LIBRARY = ctypes.CDLL(os.environ["NC_HOST"])
+
+# What each call returns and takes. Code is lent as bytes.
+CALLS = {
+    "nc_host_decode": (Instruction, ctypes.c_char_p, size),
+    "nc_host_vet": (Verdict, u32, u32, ctypes.c_char_p, size),
+    "nc_host_marks": (Verdict, u32, u32, ctypes.c_char_p, size, ctypes.c_char_p, size),
+    "nc_host_create": (Acts, u32, u32, ctypes.c_char_p, size, to(Act), size),
+    "nc_host_patch": (Acts, u32, u32, ctypes.c_char_p, size, u32, ctypes.c_char_p, size, to(Act), size),
+    "nc_host_delete": (Acts, u32, u32, ctypes.c_char_p, size, to(Act), size),
+    "nc_region_new": (u32, u32, u32, to(Handle)),
+    "nc_region_free": (None, to(Handle)),
+    "nc_region_seat": (u32, to(Handle), to(Handle)),
+    "nc_region_create": (Change, to(Handle), u32, ctypes.c_char_p, size, to(Act), size),
+    "nc_vetted_new": (Verdict, u32, u32, ctypes.c_char_p, size, to(Handle)),
+    "nc_vetted_free": (None, to(Handle)),
+    "nc_region_load": (Change, to(Handle), to(Handle), to(Act), size),
+    "nc_region_patch": (Change, to(Handle), u32, ctypes.c_char_p, size, to(Act), size),
+    "nc_region_begin_delete": (Change, to(Handle), u32, to(Act), size),
+    "nc_region_end_delete": (Stamp, to(Handle)),
+    "nc_region_creation_runs": (Change, to(Handle), u32, to(Act), size),
+    "nc_region_deletion_runs": (Change, to(Handle), to(Act), size),
+    "nc_region_reclaim": (Count, to(Handle)),
+    "nc_region_chunk": (Chunk, to(Handle), size),
+    "nc_region_place": (Place, to(Handle), u32),
+    "nc_region_walk": (Walk, to(Handle), u32, to(u32), size, to(u32), size),
+    "nc_region_generation": (Stamp, to(Handle)),
+    "nc_seat_check_in": (u32, to(Handle)),
+    "nc_seat_leave": (None, to(Handle)),
+}
+for _name, (_returned, *_taken) in CALLS.items():
+    _call = getattr(LIBRARY, _name)
+    _call.restype, _call.argtypes = _returned, _taken
+
+
+def limit(bundles):
+    """The limit of a region with this many bundles."""
+    return START + BUNDLE * bundles
+
+
+def decode(code):
+    return LIBRARY.nc_host_decode(code, len(code)).plain()
+
+
+def vet(base, end, code):
+    return LIBRARY.nc_host_vet(base, end, code, len(code)).plain()
+
+
+def marks(base, end, code):
+    """The verdict, and the list of marks of a valid chunk."""
+    room = ctypes.create_string_buffer(len(code))
+    verdict = LIBRARY.nc_host_marks(base, end, code, len(code), room, len(code)).plain()
+    return verdict, [*room.raw] if verdict.fault == OK else []
+
+
+Changed = collections.namedtuple("Changed", "fault at acts")
+
+
+def written(call, *words, room):
+    """A call that writes acts: its fault, its address, and the acts."""
+    acts = (Act * room)()
+    change = call(*words, acts, room).plain()
+    return Changed(change.fault, change.at, [act.plain() for act in acts[: change.count]] if change.fault == OK else [])
+
+
+class Seat:
+    """A seat of a region."""
+
+    def __init__(self, handle):
+        self.handle = handle
+
+    def check_in(self):
+        return LIBRARY.nc_seat_check_in(self.handle)
+
+    def leave(self):
+        LIBRARY.nc_seat_leave(self.handle)
+
+
+class Region:
+    """A region by its handle. It is freed when nothing holds it."""
+
+    def __init__(self, bundles, seats=1):
+        self.handle, self.limit = Handle(), limit(bundles)
+        self.fault = LIBRARY.nc_region_new(bundles, seats, self.handle)
+
+    def __del__(self):
+        LIBRARY.nc_region_free(self.handle)
+
+    def seat(self):
+        """The next seat; None once each was given."""
+        handle = Handle()
+        return Seat(handle) if LIBRARY.nc_region_seat(self.handle, handle) == OK else None
+
+    def create(self, base, code):
+        return written(LIBRARY.nc_region_create, self.handle, base, code, len(code), room=len(code) + 2)
+
+    def load(self, base, end, code):
+        """Vets a chunk for a region with this limit, and creates it in this one."""
+        vetted = Handle()
+        verdict = LIBRARY.nc_vetted_new(base, end, code, len(code), vetted).plain()
+        if verdict.fault != OK:
+            return Changed(*verdict, [])
+        changed = written(LIBRARY.nc_region_load, self.handle, vetted, room=len(code) + 2)
+        LIBRARY.nc_vetted_free(vetted)
+        return changed
+
+    def patch(self, at, new):
+        return written(LIBRARY.nc_region_patch, self.handle, at, new, len(new), room=3 * len(new))
+
+    def begin_delete(self, base, room):
+        """The first step of a deletion, with room for this many acts."""
+        return written(LIBRARY.nc_region_begin_delete, self.handle, base, room=room)
+
+    def end_delete(self):
+        return LIBRARY.nc_region_end_delete(self.handle).plain()
+
+    def delete(self, base):
+        """Both steps of a deletion: the answer of the first one, and the stamp, or 0."""
+        length = next((chunk.length for chunk in self.chunks() if chunk.base == base), 0)
+        begun = self.begin_delete(base, length + 2)
+        return begun, self.end_delete().stamp if begun.fault == OK else 0
+
+    def reclaim(self):
+        """How many chunks left the list."""
+        return LIBRARY.nc_region_reclaim(self.handle).plain().count
+
+    def chunk(self, index):
+        return LIBRARY.nc_region_chunk(self.handle, index).plain()
+
+    def chunks(self):
+        """All chunks, by ascending base."""
+        found = []
+        while (chunk := self.chunk(len(found))).fault == OK:
+            found.append(chunk)
+        return found
+
+    def place(self, at):
+        return LIBRARY.nc_region_place(self.handle, at).plain()
+
+    def bytes(self, start=START, end=None):
+        """The bytes from one address to another."""
+        return bytes(self.place(at).byte for at in range(start, self.limit if end is None else end))
+
+    def marks(self, start=START, end=None):
+        """The marks from one address to another."""
+        return [self.place(at).mark for at in range(start, self.limit if end is None else end)]
+
+    def walk(self, start, choices):
+        """The fault, the places, and how the walk ended."""
+        room = len(choices) + 1
+        places = (u32 * room)()
+        walk = LIBRARY.nc_region_walk(self.handle, start, (u32 * len(choices))(*choices), len(choices), places, room).plain()
+        return walk.fault, places[: walk.count] if walk.fault == OK else [], walk.end
+
+    def generation(self):
+        return LIBRARY.nc_region_generation(self.handle).plain().stamp
