@@ -7,8 +7,7 @@
 //! What happens between two acts of a region is tested too: after each of them all marks are walked once, and every mixture of
 //! bytes that a thread may read there is decoded. A thread that fetches each byte by itself may read any byte that stood at its
 //! place at some moment since the last settling, beside any such byte of the next place. A region over [`Viewing`] acts as any
-//! other; each such mixture at a marked place is decoded and judged by the marks. `nc_bench soak` uses it too, so this part is
-//! exported.
+//! other; each such mixture at a marked place is decoded and judged by the marks.
 #![tactic(auto)]
 
 #[cfg(test)]
