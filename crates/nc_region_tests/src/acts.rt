@@ -189,7 +189,7 @@ fn try_lives(alloc: Global, rows: &[(usize, u32)]) -> Result<(), Fail> {
     Ok(())
 }
 
-/// The laws about these acts are called for their own sake: each public function is called once.
+/// The laws on such acts are called too, since each public function is called in some test.
 #[test]
 fn order_of_acts(rt: HostRuntime) -> Result<(), Fail> {
     law_of_schedules();
