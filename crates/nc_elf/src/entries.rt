@@ -37,7 +37,7 @@ const SHN_LORESERVE: u16 = 0xFF00;
 const NAME_FIELD_LEN: usize = 256;
 
 /// What an entry of a table of symbols says of its symbol.
-#[derive(Clone, Copy, Debug, Drop, PartialEq, Eq)]
+#[derive(Clone, Copy, Drop)]
 pub(crate) struct SymbolEntry {
     /// Where the name begins in the table of strings.
     pub name: u32,

@@ -34,7 +34,7 @@ const PF_X: u32 = 1;
 const PF_W: u32 = 2;
 
 /// What a program header says of its segment.
-#[derive(Clone, Copy, Debug, Drop, PartialEq, Eq)]
+#[derive(Clone, Copy, Drop)]
 pub(crate) struct ProgramHeader {
     /// The segment's type.
     pub kind: u32,

@@ -38,7 +38,7 @@ const SHT_STRTAB: u32 = 3;
 pub(crate) const SYMBOL_ENTRY_LEN: u32 = 16;
 
 /// What a section header says of its section.
-#[derive(Clone, Copy, Debug, Drop, PartialEq, Eq)]
+#[derive(Clone, Copy, Drop)]
 pub(crate) struct SectionHeader {
     /// The section's type.
     pub kind: u32,
@@ -53,7 +53,7 @@ pub(crate) struct SectionHeader {
 }
 
 /// The sections that have the symbols and their names.
-#[derive(Clone, Copy, Debug, Drop, PartialEq, Eq)]
+#[derive(Clone, Copy, Drop)]
 pub(crate) struct SymbolSections {
     /// The table of symbols.
     pub symbols: SectionHeader,

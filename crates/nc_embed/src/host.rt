@@ -16,7 +16,10 @@ use std::thread::Threads;
 
 /// Vets code first, however long that takes, and takes the lock only for what has passed.
 fn load(rt: &impl Wait, shared: &Shared<'_>, base: u32, code: Vec<u8>) -> Result<(), LoadFault> {
-    let vetted = admit(base, LIMIT, code).map_err(LoadFault::NotAdmitted)?;
+    let vetted = match admit(base, LIMIT, code) {
+        Ok(vetted) => vetted,
+        Err(fault) => return Err(LoadFault::NotAdmitted(fault)),
+    };
     match shared.create(rt, vetted) {
         Ok(()) => Ok(()),
         Err((_vetted, fault)) => Err(LoadFault::NotCreated(fault)),

@@ -1,82 +1,66 @@
-//! Why a call is refused.
+//! Why a call is refused. `nc_host` turns each fault into a number of `include/nc_host.h`, which says what it means; so the types
+//! derive no more than that takes.
 
 use nc_region::{CreateFault, DeleteFault, ModifyFault};
-use thiserror::Error;
 
 /// Why no region is made. The first that holds is given, in this order.
-#[derive(Clone, Copy, Debug, PartialEq, Eq, Error)]
+#[derive(Clone, Copy)]
 pub enum NewFault {
     /// The number of seats isn't 1 to 256.
-    #[error("bad seats")]
     BadSeats,
     /// The number of bundles isn't that of a lawful limit.
-    #[error("bad size")]
     BadSize,
     /// The allocator gave no memory.
-    #[error("out of memory")]
     OutOfMemory,
 }
 
 /// Why no seat is given.
-#[derive(Clone, Copy, Debug, PartialEq, Eq, Error)]
+#[derive(Clone, Copy)]
 pub enum SeatFault {
     /// Each seat has been given.
-    #[error("no seat is left")]
     NoneLeft,
     /// The allocator gave no memory.
-    #[error("out of memory")]
     OutOfMemory,
 }
 
 /// Why a chunk isn't created. The first that holds is given, in this order.
-#[derive(Clone, Copy, Debug, PartialEq, Eq, Error)]
+#[derive(Clone, Copy)]
 pub enum LoadFault {
     /// A deletion is under way.
-    #[error("a deletion is under way")]
     Underway,
     /// The buffer for the acts is too short: this many elements are wanted.
-    #[error("no room for {0} acts")]
     NoRoom(usize),
     /// The region refuses the chunk.
-    #[error("refused: {0}")]
     Refused(CreateFault),
 }
 
 /// Why a patch isn't made. The first that holds is given, in this order.
-#[derive(Clone, Copy, Debug, PartialEq, Eq, Error)]
+#[derive(Clone, Copy)]
 pub enum PatchFault {
     /// A deletion is under way.
-    #[error("a deletion is under way")]
     Underway,
     /// The buffer for the acts is too short: this many elements are wanted.
-    #[error("no room for {0} acts")]
     NoRoom(usize),
     /// The region refuses the patch.
-    #[error("refused: {0}")]
     Refused(ModifyFault),
 }
 
 /// Why no deletion begins. The first that holds is given, in this order.
-#[derive(Clone, Copy, Debug, PartialEq, Eq, Error)]
+#[derive(Clone, Copy)]
 pub enum RetireFault {
     /// A deletion is under way.
-    #[error("a deletion is under way")]
     Underway,
     /// The region refuses the deletion.
-    #[error("refused: {0}")]
     Refused(DeleteFault),
     /// The buffer for the acts is too short: this many elements are wanted.
-    #[error("no room for {0} acts")]
     NoRoom(usize),
 }
 
 /// Why the runs of a creation or of a deletion aren't told.
-#[derive(Clone, Copy, Debug, PartialEq, Eq, Error)]
+#[derive(Clone, Copy)]
 pub enum RunsFault {
     /// No live chunk has the base, or no deletion is under way.
-    #[error("no chunk")]
     NoChunk,
     /// The buffer for the acts is too short: this many elements are wanted.
-    #[error("no room for {0} acts")]
     NoRoom(usize),
 }

@@ -18,7 +18,7 @@ use std::alloc::{AllocError, Global};
 const FEW: u32 = 6;
 
 /// Where a thread stands, and the register that the instruction just executed has masked.
-#[derive(Clone, Copy, Debug, Drop)]
+#[derive(Clone, Copy, Drop)]
 struct State {
     place: u32,
     masked: Option<u8>,

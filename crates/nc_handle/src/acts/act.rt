@@ -2,7 +2,7 @@
 
 /// One act on a text, or a settling between two acts.
 #[repr(C)]
-#[derive(Clone, Copy, Debug, PartialEq, Eq)]
+#[derive(Clone, Copy)]
 pub struct NcAct {
     /// The number of its kind.
     pub kind: u32,
