@@ -1,7 +1,5 @@
-mod chunks;
 mod devices;
 mod generations;
-mod instructions;
 mod labels;
 mod lengths;
 mod lines;
@@ -10,5 +8,4 @@ mod reports;
 mod rows;
 mod segments;
 mod symbols;
-mod texts;
 mod workers;
