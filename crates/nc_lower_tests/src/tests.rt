@@ -1,11 +1,9 @@
 mod devices;
 mod generations;
 mod labels;
-mod lengths;
 mod lines;
 mod pipes;
 mod reports;
 mod rows;
-mod segments;
 mod symbols;
 mod workers;
