@@ -1,8 +1,6 @@
 mod devices;
 mod generations;
-mod labels;
 mod lines;
-mod pipes;
 mod reports;
 mod rows;
 mod symbols;
