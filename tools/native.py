@@ -25,10 +25,11 @@ def archives():
     return [LIBRARY, os.path.join(kit(), "c", "liblibc_c.a")]
 
 
-def shared(folder):
-    """The path of a shared library, which is made from these in a folder."""
+def shared(folder, sources=()):
+    """The path of a shared library, which is made from these, and from sources in C, in a folder."""
     path, (own, libc) = os.path.join(folder, "libnc_host.so"), archives()
-    subprocess.run([compiler(), "-shared", "-o", path, "-Wl,--whole-archive", own, "-Wl,--no-whole-archive", libc], check=True)
+    words = ["-shared", "-fPIC", *WARN, *sources, "-o", path, "-Wl,--whole-archive", own, "-Wl,--no-whole-archive", libc]
+    subprocess.run([compiler(), *words], check=True)
     return path
 
 

@@ -1,11 +1,12 @@
 /*
  * What the calls on a region by its handle cost, in nanoseconds a call: the best of some rounds.
  *
- *     costs COUNT BUNDLES ROUNDS
+ *     costs COUNT BUNDLES ROUNDS [SEATS]
  *
- * A round makes a region, creates COUNT chunks of BUNDLES bundles of ordinary code in it, patches and deletes each of them, and reclaims
- * all. Creations, patches and deletions are made with a buffer for their acts, and without one; creations and deletions also without one
- * and then with their acts as runs. Beside them stand a call that only vets, the loading of vetted chunks, and a check-in. docs/PERFORMANCE.md has numbers.
+ * A round makes a region with SEATS seats (default 1), creates COUNT chunks of BUNDLES bundles of ordinary code in it, patches and deletes
+ * each of them, and reclaims all once each seat has checked in. Creations, patches and deletions are made with a buffer for their acts, and
+ * without one; creations and deletions also without one and then with their acts as runs. Beside them stand a call that only vets, the
+ * loading of vetted chunks, a check-in, and the making of a largest region. docs/PERFORMANCE.md has numbers.
  */
 #define _POSIX_C_SOURCE 199506L
 #include "nc_host.h"
@@ -19,11 +20,11 @@
 enum { SILENT, ACTS, RUNS };
 
 /* What is timed; creations, patches and deletions in the order of the ways above. */
-enum { VET, CREATE, LOAD = CREATE + 3, PATCH, DELETE = PATCH + 2, RECLAIM = DELETE + 3, CHECK_IN, KINDS };
+enum { VET, CREATE, LOAD = CREATE + 3, PATCH, DELETE = PATCH + 2, RECLAIM = DELETE + 3, CHECK_IN, NEW, KINDS };
 
 static const char *const names[KINDS] = {
     "vet", "create", "create, with acts", "create, with runs", "load a vetted chunk", "patch", "patch, with acts", "delete",
-    "delete, with acts", "delete, with runs", "reclaim a chunk", "check in",
+    "delete, with acts", "delete, with runs", "reclaim a chunk", "check in", "make a region of 64 MiB",
 };
 
 /* Ordinary code with a branch and a masked jump in it, and the same with another number. */
@@ -39,7 +40,8 @@ static uint8_t *code;
 static NcAct *acts;
 static size_t room;
 static NcRegion region;
-static NcSeat seat;
+static NcSeat seats[256];
+static uint32_t seat_count;
 static NcVetted *vetted;
 
 static double now(void) {
@@ -86,7 +88,9 @@ static void patch_and_delete(int way) {
         need(nc_region_end_delete(&region).fault == NC_OK);
     }
     keep(DELETE + way, start, count);
-    need(nc_seat_check_in(&seat) == NC_OK);
+    for (k = 0; k < seat_count; k++) {
+        need(nc_seat_check_in(&seats[k]) == NC_OK);
+    }
     start = now();
     need(nc_region_reclaim(&region).count == count);
     keep(RECLAIM, start, count);
@@ -117,38 +121,59 @@ static void load_all(uint32_t limit) {
     keep(LOAD, start, count);
 }
 
-static void do_round(uint32_t bundles) {
-    uint32_t limit = NC_LIMIT(bundles), k;
+static void vet_all(uint32_t limit) {
     double start = now();
-    int way;
+    uint32_t k;
     for (k = 0; k < count; k++) {
         need(nc_host_vet(base(k), limit, code, len).fault == NC_OK);
     }
     keep(VET, start, count);
-    need(nc_region_new(bundles, 1, &region) == NC_OK && nc_region_seat(&region, &seat) == NC_OK);
+}
+
+static void make_regions(uint32_t bundles) {
+    double start = now();
+    uint32_t k;
+    need(nc_region_new(NC_MAX_BUNDLES, 1, &region) == NC_OK);
+    keep(NEW, start, 1);
+    nc_region_free(&region);
+    need(nc_region_new(bundles, seat_count, &region) == NC_OK);
+    for (k = 0; k < seat_count; k++) {
+        need(nc_region_seat(&region, &seats[k]) == NC_OK);
+    }
+}
+
+static void do_round(uint32_t bundles) {
+    double start;
+    uint32_t k;
+    int way;
+    vet_all(NC_LIMIT(bundles));
+    make_regions(bundles);
     for (way = SILENT; way <= RUNS; way++) {
         create_all(way);
         patch_and_delete(way);
     }
-    load_all(limit);
+    load_all(NC_LIMIT(bundles));
     start = now();
     for (k = 0; k < 100000; k++) {
-        nc_seat_check_in(&seat);
+        nc_seat_check_in(&seats[0]);
     }
     keep(CHECK_IN, start, 100000);
-    nc_seat_leave(&seat);
+    for (k = 0; k < seat_count; k++) {
+        nc_seat_leave(&seats[k]);
+    }
     nc_region_free(&region);
 }
 
 int main(int argc, char **argv) {
     uint32_t rounds, k;
-    if (argc != 4) {
-        fprintf(stderr, "usage: costs COUNT BUNDLES ROUNDS\n");
+    if (argc != 4 && argc != 5) {
+        fprintf(stderr, "usage: costs COUNT BUNDLES ROUNDS [SEATS]\n");
         return 2;
     }
     count = (uint32_t)atoi(argv[1]);
     len = NC_BUNDLE * (uint32_t)atoi(argv[2]);
     rounds = (uint32_t)atoi(argv[3]);
+    seat_count = argc == 5 ? (uint32_t)atoi(argv[4]) : 1;
     room = len + 2;
     code = (uint8_t *)malloc(len);
     acts = (NcAct *)malloc(room * sizeof *acts);
@@ -162,7 +187,7 @@ int main(int argc, char **argv) {
     }
     printf("%u chunks of %u bundles, nanoseconds a call\n", (unsigned)count, (unsigned)(len / NC_BUNDLE));
     for (k = 0; k < KINDS; k++) {
-        printf("%-20s %10.0f\n", names[k], best[k]);
+        printf("%-23s %10.0f\n", names[k], best[k]);
     }
     return 0;
 }

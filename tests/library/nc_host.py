@@ -1,7 +1,7 @@
 """The library nc_host for tests in Python: the calls of include/nc_host.h by ctypes, with their names and numbers.
 
-The environment variable NC_HOST names the shared library, which `tools/try-library` makes. A call answers with a named tuple that has the
-fields of its struct in C; one that writes into a buffer has the list of what was written in place of `count`.
+The environment variable NC_HOST names the shared library, which `tools/try-library` makes, with places.c in it. A call answers with a named
+tuple that has the fields of its struct in C; one that writes into a buffer has the list of what was written in place of `count`.
 """
 import collections
 import ctypes
@@ -71,6 +71,7 @@ CALLS = {
     "nc_region_generation": (Stamp, to(Handle)),
     "nc_seat_check_in": (u32, to(Handle)),
     "nc_seat_leave": (None, to(Handle)),
+    "places": (None, to(Handle), u32, size, ctypes.c_char_p, ctypes.c_char_p),
 }
 for _name, (_returned, *_taken) in CALLS.items():
     _call = getattr(LIBRARY, _name)
@@ -107,6 +108,18 @@ def written(call, *words, room):
     return Changed(change.fault, change.at, [act.plain() for act in acts[: change.count]] if change.fault == OK else [])
 
 
+class Vetted:
+    """A vetted chunk by its handle, which is empty where the verdict is a fault. It is freed when nothing holds it."""
+
+    def __init__(self, base, end, code):
+        self.handle = Handle()
+        self.verdict = LIBRARY.nc_vetted_new(base, end, code, len(code), self.handle).plain()
+        self.length = len(code)
+
+    def __del__(self):
+        LIBRARY.nc_vetted_free(self.handle)
+
+
 class Seat:
     """A seat of a region."""
 
@@ -138,15 +151,9 @@ class Region:
     def create(self, base, code):
         return written(LIBRARY.nc_region_create, self.handle, base, code, len(code), room=len(code) + 2)
 
-    def load(self, base, end, code):
-        """Vets a chunk for a region with this limit, and creates it in this one."""
-        vetted = Handle()
-        verdict = LIBRARY.nc_vetted_new(base, end, code, len(code), vetted).plain()
-        if verdict.fault != OK:
-            return Changed(*verdict, [])
-        changed = written(LIBRARY.nc_region_load, self.handle, vetted, room=len(code) + 2)
-        LIBRARY.nc_vetted_free(vetted)
-        return changed
+    def load(self, vetted):
+        """Creates a vetted chunk, whose handle is empty then."""
+        return written(LIBRARY.nc_region_load, self.handle, vetted.handle, room=vetted.length + 2)
 
     def patch(self, at, new):
         return written(LIBRARY.nc_region_patch, self.handle, at, new, len(new), room=3 * len(new))
@@ -154,6 +161,10 @@ class Region:
     def begin_delete(self, base, room):
         """The first step of a deletion, with room for this many acts."""
         return written(LIBRARY.nc_region_begin_delete, self.handle, base, room=room)
+
+    def deletion_runs(self, room):
+        """The acts of the deletion that is under way, as runs."""
+        return written(LIBRARY.nc_region_deletion_runs, self.handle, room=room)
 
     def end_delete(self):
         return LIBRARY.nc_region_end_delete(self.handle).plain()
@@ -181,13 +192,20 @@ class Region:
     def place(self, at):
         return LIBRARY.nc_region_place(self.handle, at).plain()
 
+    def places(self, start=START, end=None):
+        """The bytes from one address to another, and their marks, each mark as a byte."""
+        count = (self.limit if end is None else end) - start
+        found, marks = ctypes.create_string_buffer(count), ctypes.create_string_buffer(count)
+        LIBRARY.places(self.handle, start, count, found, marks)
+        return found.raw, marks.raw
+
     def bytes(self, start=START, end=None):
         """The bytes from one address to another."""
-        return bytes(self.place(at).byte for at in range(start, self.limit if end is None else end))
+        return self.places(start, end)[0]
 
     def marks(self, start=START, end=None):
         """The marks from one address to another."""
-        return [self.place(at).mark for at in range(start, self.limit if end is None else end)]
+        return [*self.places(start, end)[1]]
 
     def walk(self, start, choices):
         """The fault, the places, and how the walk ended."""

@@ -3,6 +3,7 @@ import unittest
 
 import memory
 import nc_host as nc
+from reading import filled, replaced
 
 # Where the chunks of the first two tables stand, in a region of four bundles.
 BASE, LIMIT = 0x10000, 0x10080
@@ -125,18 +126,17 @@ AT_THE_END = [
 MANY = 129
 
 # A bundle with a pair and a jump over it, and its marks.
-LARGE = bytes.fromhex("83e1e0ffd1ebf9").ljust(nc.BUNDLE, b"\x90")
+LARGE = filled("83e1e0ffd1ebf9")
 LARGE_MARKS = [nc.PLAIN, nc.UNMARKED, nc.UNMARKED, nc.MASKED + 1, nc.UNMARKED, nc.PLAIN, nc.UNMARKED] + [nc.PLAIN] * 25
 
 
-def filled(bundles, parts):
+def with_parts(bundles, parts):
     """Nops, in which these bytes stand at these places."""
-    code = bytearray(b"\x90" * nc.BUNDLE * bundles)
+    code = filled("", bundles)
     for place, digits in parts.items():
-        found = bytes.fromhex(digits)
-        code[place:place + len(found)] = found
+        code = replaced(code, place, bytes.fromhex(digits))
     assert len(code) == nc.BUNDLE * bundles, "a part has no room"
-    return bytes(code)
+    return code
 
 
 def memory_of(code):
@@ -153,14 +153,14 @@ class Chunks(unittest.TestCase):
     def test_valid_chunks(self):
         for bundles, parts, some_marks in VALID:
             with self.subTest(parts):
-                verdict, marks = nc.marks(BASE, LIMIT, filled(bundles, parts))
+                verdict, marks = nc.marks(BASE, LIMIT, with_parts(bundles, parts))
                 self.assertEqual(verdict, (nc.OK, 0))
                 self.assertEqual({place: marks[place] for place in some_marks}, some_marks)
 
     def test_faulty_chunks(self):
         for bundles, parts, fault, at in FAULTY:
             with self.subTest(parts):
-                self.assertEqual(nc.vet(BASE, LIMIT, filled(bundles, parts)), (fault, at))
+                self.assertEqual(nc.vet(BASE, LIMIT, with_parts(bundles, parts)), (fault, at))
 
     def test_spans(self):
         for base, limit, length, fault in SPANS:
@@ -174,7 +174,7 @@ class Chunks(unittest.TestCase):
                 for place, digits, fault in AT_THE_END:
                     with self.subTest(digits, bundles=bundles, number=number):
                         start = nc.BUNDLE * number + place
-                        self.assertEqual(nc.vet(BASE, FAR, filled(bundles, {start: digits})), (fault, BASE + start))
+                        self.assertEqual(nc.vet(BASE, FAR, with_parts(bundles, {start: digits})), (fault, BASE + start))
 
     def test_large_chunks(self):
         """Large chunks are accepted whole, with a mark for each byte."""
@@ -197,7 +197,7 @@ class QuickReading(unittest.TestCase):
     def test_valid_chunks(self):
         for bundles, parts, _ in VALID:
             with self.subTest(parts):
-                self.assert_quick(filled(bundles, parts) * -(-MANY // bundles))
+                self.assert_quick(with_parts(bundles, parts) * -(-MANY // bundles))
 
     def test_large_chunks(self):
         for bundles in (129, 130, 1000, 4095, 32768):
@@ -206,10 +206,10 @@ class QuickReading(unittest.TestCase):
 
     def test_each_byte(self):
         """A pair and nops, with each byte set to each value, as far as it is valid then."""
-        bundle = bytes.fromhex("83e3e0ffe3").ljust(nc.BUNDLE, b"\x90")
+        bundle = filled("83e3e0ffe3")
         for place in range(nc.BUNDLE):
             for value in range(256):
-                code = (bundle[:place] + bytes([value]) + bundle[place + 1:]) * MANY
+                code = replaced(bundle, place, bytes([value])) * MANY
                 if nc.vet(BASE, FAR, code).fault == nc.OK:
                     with self.subTest(place=place, value=value):
                         self.assert_quick(code)

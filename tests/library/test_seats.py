@@ -4,13 +4,12 @@ import threading
 import unittest
 
 import nc_host as nc
-
-NOPS = b"\x90" * nc.BUNDLE
+from reading import filled
 
 
 def deleted(region, base=nc.START):
     """The stamp of a chunk that is created and deleted."""
-    created = region.create(base, NOPS)
+    created = region.create(base, filled(""))
     assert created.fault == nc.OK, created
     return region.delete(base)[1]
 

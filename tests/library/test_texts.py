@@ -1,25 +1,11 @@
-"""A region's bytes and marks: its sizes, what stands at unused places, what a chunk's creation, patch and deletion leave, and pages."""
+"""A region's bytes and marks: what stands at unused places, what a chunk's creation, patch and deletion leave, and pages."""
 import unittest
 
 import memory
 import nc_host as nc
-
-# Numbers of bundles, and the limits of their regions, or None where there is no such region.
-SIZES = [
-    (0, None),
-    (1, None),
-    (2, 0x10040),
-    (4, 0x10080),
-    (2048, 0x20000),
-    (524288, 0x1010000),
-    (524289, 0x1010020),
-    (2097152, 0x4010000),
-    (2097153, None),
-    (2**32 - 1, None),
-]
+from reading import filled, replaced
 
 STOPS = bytes([nc.STOP]) * nc.BUNDLE
-NOPS = b"\x90" * nc.BUNDLE
 UNUSED = [nc.PLAIN] + [nc.UNMARKED] * 31
 
 # A bundle, and the places at which its instructions begin.
@@ -49,26 +35,16 @@ def stops_at(places):
 
 
 class Texts(unittest.TestCase):
-    def test_sizes(self):
-        for bundles, limit in SIZES:
-            with self.subTest(bundles=bundles):
-                region = nc.Region(bundles)
-                if limit is None:
-                    self.assertEqual(region.fault, nc.BAD_SIZE)
-                    continue
-                faults = [region.place(at).fault for at in (nc.START - 1, nc.START, limit - 1, limit)]
-                self.assertEqual(faults, [nc.NO_PLACE, nc.OK, nc.OK, nc.NO_PLACE])
-
     def test_changes(self):
         """A region of two bundles: new, with a chunk, with one byte of it patched, with the chunk deleted, and once that is reclaimed."""
-        code = bytes.fromhex("83e3e0ffe3").ljust(nc.BUNDLE, b"\x90")
+        code = filled("83e3e0ffe3")
         marks = [nc.PLAIN, nc.UNMARKED, nc.UNMARKED, nc.MASKED + 3, nc.UNMARKED] + [nc.PLAIN] * 27
         region = nc.Region(2)
         self.assertEqual((region.bytes(), region.marks()), (STOPS * 2, UNUSED * 2))
         self.assertEqual(region.create(nc.START, code).fault, nc.OK)
         self.assertEqual((region.bytes(), region.marks()), (code + STOPS, marks + UNUSED))
         self.assertEqual(region.patch(nc.START + 9, b"\x40").fault, nc.OK)
-        self.assertEqual((region.bytes(), region.marks()), (code[:9] + b"\x40" + code[10:] + STOPS, marks + UNUSED))
+        self.assertEqual((region.bytes(), region.marks()), (replaced(code, 9, b"\x40") + STOPS, marks + UNUSED))
         self.assertEqual(region.delete(nc.START)[1], 1)
         self.assertEqual((region.bytes(), region.marks()), (STOPS * 2, marks + UNUSED))
         self.assertEqual(region.reclaim(), 1)
@@ -87,7 +63,7 @@ class Texts(unittest.TestCase):
         code, starts = PARTED
         marked = [*starts, *range(32, 64)]
         region = nc.Region(3)
-        self.assertEqual(region.create(nc.START, code + NOPS).fault, nc.OK)
+        self.assertEqual(region.create(nc.START, code + filled("")).fault, nc.OK)
         begun = region.begin_delete(nc.START, room=66)
         others = [place for place in range(64) if place not in marked]
         self.assertEqual(begun.acts, stops_at(marked) + [(nc.SETTLE, 0, 0)] + stops_at(others) + [(nc.BUMP, 0, 0)])
@@ -95,7 +71,7 @@ class Texts(unittest.TestCase):
     def test_pages(self):
         """A chunk has the pages made in which it lies, and no others; no byte or mark changes beside it."""
         region = nc.Region(524288)
-        taken = [memory_for(region, 0x10FE0, NOPS * 2), memory_for(region, 0x10F80, NOPS), memory_for(region, 0x12000, NOPS)]
+        taken = [memory_for(region, base, filled("", bundles)) for base, bundles in ((0x10FE0, 2), (0x10F80, 1), (0x12000, 1))]
         self.assertEqual([count // PAGE for count in taken], [2, 0, 1])
         found = [region.place(at)[1:] for at in (0x10FDF, 0x10FE0, 0x1101F, 0x11020, 0x12FE0, 0x12FE1, 0x13000, 0x100FFFF)]
         stop, start, nop = (nc.STOP, nc.UNMARKED), (nc.STOP, nc.PLAIN), (0x90, nc.PLAIN)

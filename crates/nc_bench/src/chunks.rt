@@ -1,23 +1,27 @@
 //! How long a region's calls on chunks take.
 
-ghost use Rattle.std.specs.Prelude.{◌≡◌, All};
+ghost use Rattle.std.specs.Prelude.{◌≡◌};
 
 use crate::load::{Load, create_all};
 use crate::ordinary::{PATCH, PATCH_AT};
+use nc_decode::{BUNDLE, START};
 use nc_gens::{Gens, Keeper, Pass};
 use nc_region::{Acts, Region, RegionOf};
 use nc_vet::Vetted;
+use std::alloc::{AllocError, Global};
 use std::io;
 use std::time::{Clock, Duration, Instant};
 
-/// What each part took, and how many chunks were created, patched, deleted and reclaimed.
+/// What each part took; how many chunks were created, patched, deleted and reclaimed; and over how many places the walk went.
 #[derive(Clone, Copy, Drop)]
 struct Times {
     create: Duration,
+    walk: Duration,
     patch: Duration,
     delete: Duration,
     reclaim: Duration,
     done: [u32; 4],
+    places: usize,
 }
 
 impl Times {
@@ -25,23 +29,33 @@ impl Times {
     fn worst() -> Times {
         Times {
             create: Duration::MAX,
+            walk: Duration::MAX,
             patch: Duration::MAX,
             delete: Duration::MAX,
             reclaim: Duration::MAX,
             done: [0; 4],
+            places: 0,
         }
     }
 
     /// The better time of each part, and the counts of the later round.
     fn best(self, later: Times) -> Times {
-        let done = later.done;
         Times {
             create: self.create.min(later.create),
+            walk: self.walk.min(later.walk),
             patch: self.patch.min(later.patch),
             delete: self.delete.min(later.delete),
             reclaim: self.reclaim.min(later.reclaim),
-            done,
+            ..later
         }
+    }
+}
+
+/// Walks as these choices pick the steps: over how many places, or 0 where there is no memory for them.
+fn walk<A: Acts + Drop>(region: &RegionOf<A>, choices: &[u32]) -> usize {
+    match region.walk(START, choices) {
+        Ok(trace) => trace.places.len(),
+        Err(_refused) => 0,
     }
 }
 
@@ -68,80 +82,39 @@ fn delete_all<A: Acts + Drop>(region: &mut RegionOf<A>, load: Load) -> u32 {
     done
 }
 
-/// Each pass checks in.
-fn check_in_all(gens: &Gens, passes: &mut [Pass])
-    requires { All (λ p. p.table ≡ gens.now) passes.old }
-{
-    for pass in passes.iter_mut() {
-        gens.check_in(pass);
-    }
-}
-
-/// Creates the chunks: what that took, and how many were created.
-fn create<R: Clock, A: Acts + Drop>(
-    rt: &R,
-    region: &mut RegionOf<A>,
-    all: Vec<Vetted>,
-) -> io::Result<(Duration, u32)> {
-    let start = Instant::now(rt)?;
-    let created = create_all(region, all);
-    Ok((start.elapsed(rt)?, created))
-}
-
-/// Patches the chunks: what that took, and how many were patched.
-fn patch<R: Clock, A: Acts + Drop>(
-    rt: &R,
-    region: &mut RegionOf<A>,
-    load: Load,
-) -> io::Result<(Duration, u32)> {
-    let start = Instant::now(rt)?;
-    let patched = patch_all(region, load);
-    Ok((start.elapsed(rt)?, patched))
-}
-
-/// Deletes the chunks: what that took, and how many were deleted.
-fn delete<R: Clock, A: Acts + Drop>(
-    rt: &R,
-    region: &mut RegionOf<A>,
-    load: Load,
-) -> io::Result<(Duration, u32)> {
-    let start = Instant::now(rt)?;
-    let deleted = delete_all(region, load);
-    Ok((start.elapsed(rt)?, deleted))
-}
-
-/// Reclaims the chunks: what that took, and how many were reclaimed.
-fn reclaim<R: Clock, A: Acts + Drop>(
-    rt: &R,
-    region: &mut RegionOf<A>,
-) -> io::Result<(Duration, u32)> {
-    let start = Instant::now(rt)?;
-    let reclaimed = region.reclaim();
-    Ok((start.elapsed(rt)?, reclaimed))
-}
-
-/// Creates, patches, deletes and reclaims all chunks in a region without a chunk.
+/// Creates all chunks in a region without a chunk, walks there, and patches, deletes and reclaims them.
 fn live_in<R: Clock, A: Acts + Drop>(
     rt: &R,
     load: Load,
     all: Vec<Vetted>,
+    choices: &[u32],
     region: &mut RegionOf<A>,
     gens: &Gens,
-    passes: &mut [Pass],
+    pass: &mut Pass,
 ) -> io::Result<Times>
-    requires { All (λ p. p.table ≡ gens.now) passes.old }
+    requires { pass.old.table ≡ gens.now }
 {
-    let (create, created) = create(rt, region, all)?;
-    let (patch, patched) = patch(rt, region, load)?;
-    let (delete, deleted) = delete(rt, region, load)?;
-    check_in_all(gens, passes);
-    let (reclaim, reclaimed) = reclaim(rt, region)?;
+    let begun = Instant::now(rt)?;
+    let created = create_all(region, all);
+    let at_create = Instant::now(rt)?;
+    let places = walk(region, choices);
+    let at_walk = Instant::now(rt)?;
+    let patched = patch_all(region, load);
+    let at_patch = Instant::now(rt)?;
+    let deleted = delete_all(region, load);
+    let at_delete = Instant::now(rt)?;
+    gens.check_in(pass);
+    let at_check_in = Instant::now(rt)?;
+    let reclaimed = region.reclaim();
+    let at_reclaim = Instant::now(rt)?;
     Ok(Times {
-        create,
-        patch,
-        delete,
-        reclaim,
+        create: at_create.duration_since(begun),
+        walk: at_walk.duration_since(at_create),
+        patch: at_patch.duration_since(at_walk),
+        delete: at_delete.duration_since(at_patch),
+        reclaim: at_reclaim.duration_since(at_check_in),
         done: [created, patched, deleted, reclaimed],
+        places,
     })
 }
 
@@ -149,53 +122,88 @@ fn live_in<R: Clock, A: Acts + Drop>(
 fn live_over<R: Clock + AllocGlobal>(
     rt: &R,
     load: Load,
-    all: Vec<Vetted>,
+    choices: &[u32],
     gens: &Gens,
     keeper: Keeper,
-    passes: &mut [Pass],
-) -> io::Result<Option<Times>>
-    requires { (keeper.table ≡ gens.now) × All (λ p. p.table ≡ gens.now) passes.old }
+    pass: &mut Pass,
+) -> io::Result<Times>
+    requires { (keeper.table ≡ gens.now) × (pass.old.table ≡ gens.now) }
 {
+    let all = load.chunks(rt.alloc())?;
     match Region::new(rt.alloc(), load.region(), gens, keeper) {
-        Ok(mut region) => live_in(rt, load, all, &mut region, gens, passes).map(Some),
-        Err(_refused) => Ok(None),
+        Ok(mut region) => live_in(rt, load, all, choices, &mut region, gens, pass),
+        Err(_refused) => Ok(Times::worst()),
     }
 }
 
 /// The life of all chunks in a new region over a new table of generations, where there is memory for both.
-fn live_once<R: Clock + AllocGlobal>(rt: &R, load: Load) -> io::Result<Option<Times>> {
-    let all = load.chunks(rt.alloc())?;
-    match Gens::new(rt.alloc(), load.seats) {
+fn live_once<R: Clock + AllocGlobal>(rt: &R, load: Load, choices: &[u32]) -> io::Result<Times> {
+    match Gens::new(rt.alloc(), 1) {
         Ok((gens, keeper, mut passes)) => {
-            live_over(rt, load, all, &gens, keeper, passes.as_mut_slice())
+            let mut pass = passes.remove(0);
+            live_over(rt, load, choices, &gens, keeper, &mut pass)
         }
-        Err(_refused) => Ok(None),
+        Err(_refused) => Ok(Times::worst()),
     }
 }
 
-/// Prints the best times, and the counts of the last round.
-fn report<R: Print>(rt: &R, load: Load, best: Times) -> io::Result<()> {
-    let create = best.create.as_nanos();
-    let patch = best.patch.as_nanos();
-    let delete = best.delete.as_nanos();
-    let reclaim = best.reclaim.as_nanos();
-    println!(rt;
-        "{} chunks of {} bundles, {} seats: create {create} ns, patch {patch} ns, delete {delete} ns, reclaim {reclaim} ns; done {:?}",
-        load.count, load.bundles, load.seats, best.done
-    )
+/// The best times of these rounds.
+fn live<R: Clock + AllocGlobal>(
+    rt: &R,
+    load: Load,
+    choices: &[u32],
+    rounds: u32,
+) -> io::Result<Times> {
+    let mut best = Times::worst();
+    for _ in 0..rounds {
+        best = best.best(live_once(rt, load, choices)?);
+    }
+    Ok(best)
 }
 
-/// Times the chunks in rounds, and prints the best times.
+/// Choices that lead a walk around a chunk, whose bundles have twelve instructions each, the last an indirect jump.
+fn choices(alloc: Global, load: Load, steps: u32) -> Result<Vec<u32>, AllocError> {
+    let mut choices = Vec::new(alloc);
+    for i in 0..steps {
+        let next = (i / 12 + 1) % load.bundles.max(1);
+        let place = START.saturating_add(next.saturating_mul(BUNDLE));
+        choices.push(if i % 12 == 11 { place } else { 0 })?;
+    }
+    Ok(choices)
+}
+
+/// Times the chunks in rounds, and prints the best times and the counts of the last round.
 pub fn measure_chunks<R: Clock + Print + AllocGlobal>(
     rt: &R,
     load: Load,
     rounds: u32,
 ) -> io::Result<()> {
-    let mut best = Times::worst();
-    for _ in 0..rounds {
-        if let Some(times) = live_once(rt, load)? {
-            best = best.best(times);
-        }
-    }
-    report(rt, load, best)
+    let best = live(rt, load, &[], rounds)?;
+    println!(rt;
+        "{} chunks of {} bundles: create {} ns, patch {} ns, delete {} ns, reclaim {} ns; done {:?}",
+        load.count,
+        load.bundles,
+        best.create.as_nanos(),
+        best.patch.as_nanos(),
+        best.delete.as_nanos(),
+        best.reclaim.as_nanos(),
+        best.done
+    )
+}
+
+/// Times a walk in rounds, and prints the best time and over how many places the last one went.
+pub fn measure_walk<R: Clock + Print + AllocGlobal>(
+    rt: &R,
+    load: Load,
+    steps: u32,
+    rounds: u32,
+) -> io::Result<()> {
+    let choices = choices(rt.alloc(), load, steps)?;
+    let best = live(rt, load, &choices, rounds)?;
+    println!(rt;
+        "{} places in {} bundles: {} ns",
+        best.places,
+        load.bundles,
+        best.walk.as_nanos()
+    )
 }

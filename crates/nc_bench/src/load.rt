@@ -29,13 +29,12 @@ impl Order {
     }
 }
 
-/// The number of chunks, the bundles of each, the order of their creation, and the number of seats.
+/// The number of chunks, the bundles of each, and the order of their creation.
 #[derive(Clone, Copy, Drop)]
 pub struct Load {
     pub count: u32,
     pub bundles: u32,
     pub order: Order,
-    pub seats: u32,
 }
 
 impl Load {

@@ -7,41 +7,24 @@
 //! |---|---|
 //! | `vet` | `vetting`, on what `code` makes of a file |
 //! | `workers` | `workers` |
-//! | `chunks`, `seats` | `chunks` |
+//! | `chunks`, `walk` | `chunks` |
 //! | `checkin` | `check_in` |
-//! | `new` | `new_region` |
-//! | `walk` | `walk` |
-//! | `image` | `image`, in one round |
-//! | `soak` | `soak`, which times nothing |
-//! | `refusals` | `refusals`, which makes calls for `tools/refuse-growths` |
 #![tactic(auto)]
 
-mod asked;
 mod check_in;
 mod chunks;
 mod code;
 mod command_line;
-mod image;
 mod load;
 mod measurements;
-mod new_region;
-mod numbers;
 mod ordinary;
-mod refusals;
-mod soak;
 mod vetting;
-mod walk;
 mod workers;
 
-use asked::Ask;
 use check_in::measure_check_in;
-use chunks::measure_chunks;
-use clap::Error;
-use command_line::ask;
-use image::measure_image;
-use new_region::measure_new;
-use refusals::make_calls;
-use soak::soak_for;
+use chunks::{measure_chunks, measure_walk};
+use clap::{ArgMatches, Error};
+use command_line::{jobs, load, matches, number, source};
 use std::alloc::{AllocError, Global};
 use std::process::ExitCode;
 use std::rt::Files;
@@ -50,33 +33,33 @@ use std::thread::Threads;
 use std::time::Clock;
 use std::{env, io};
 use vetting::measure_vet;
-use walk::measure_walk;
 use workers::measure_workers;
 
-/// Does what is asked for.
+/// Makes the measurement of this name.
 fn measure<R: Threads + Wait + Sync + Clock + Files + Print + AllocGlobal>(
     rt: &R,
-    ask: Ask<'_>,
+    name: &str,
+    found: &ArgMatches<'_>,
 ) -> io::Result<()> {
-    match ask {
-        Ask::Vet { source, rounds } => measure_vet(rt, &source, rounds),
-        Ask::Workers {
-            jobs,
-            rounds,
-            workers,
-        } => measure_workers(rt, jobs, rounds, workers),
-        Ask::Chunks { load, rounds } => measure_chunks(rt, load, rounds),
-        Ask::CheckIn { times, rounds } => measure_check_in(rt, times, rounds),
-        Ask::New { bundles, rounds } => measure_new(rt, bundles, rounds),
-        Ask::Walk {
-            load,
-            steps,
-            rounds,
-        } => measure_walk(rt, load, steps, rounds),
-        Ask::Image { path, count, steps } => measure_image(rt, path, count, steps),
-        Ask::Soak(seconds) => soak_for(rt, seconds),
-        Ask::Refusals(call) => make_calls(rt, call),
+    let rounds = number(found, "ROUNDS");
+    match name {
+        "vet" => measure_vet(rt, &source(found)?, rounds),
+        "workers" => measure_workers(rt, jobs(found), rounds, found.get_one("WORKERS")),
+        "chunks" => measure_chunks(rt, load(found), rounds),
+        "walk" => measure_walk(rt, load(found), number(found, "STEPS"), rounds),
+        _ => measure_check_in(rt, number(found, "TIMES"), rounds),
     }
+}
+
+/// Makes the measurement that a command line names.
+fn measure_named<R: Threads + Wait + Sync + Clock + Files + Print + AllocGlobal>(
+    rt: &R,
+    found: &ArgMatches<'_>,
+) -> io::Result<ExitCode> {
+    if let Some((name, found)) = found.subcommand() {
+        measure(rt, name, found)?;
+    }
+    Ok(ExitCode::SUCCESS)
 }
 
 /// Prints a fault of the command line, or help, and gives the status to end with.
@@ -90,11 +73,8 @@ fn run<R: Threads + Wait + Sync + Clock + Files + Print + Eprint + AllocGlobal>(
     rt: &R,
     words: &[&str],
 ) -> io::Result<ExitCode> {
-    match ask(rt.alloc(), words) {
-        Ok(ask) => {
-            measure(rt, ask)?;
-            Ok(ExitCode::SUCCESS)
-        }
+    match matches(rt.alloc(), words) {
+        Ok(found) => measure_named(rt, &found),
         Err(error) => report(rt, &error),
     }
 }

@@ -1,26 +1,14 @@
 //! The measurements, and the words that each takes on the command line.
 
-use crate::refusals::CALLS;
 use clap::builder::ValueParser;
-
-/// Whether a word has to be given.
-#[derive(Clone, Copy)]
-pub enum Presence {
-    /// It has to be given.
-    Required,
-    /// It may be left out.
-    Optional,
-    /// It may be left out, and is this text then.
-    Default(&'static str),
-}
 
 /// A word after the name of a measurement.
 #[derive(Clone, Copy)]
 pub struct Word {
     pub name: &'static str,
-    pub help: &'static str,
+    pub is_required: bool,
     pub parser: ValueParser<'static>,
-    pub presence: Presence,
+    pub help: &'static str,
 }
 
 /// A measurement: its name, what it does, and its words in their order.
@@ -43,37 +31,21 @@ const KIND: ValueParser<'static> = ValueParser::Names(&["accepted", "stuck", "as
 /// The parser of an order of creations.
 const ORDER: ValueParser<'static> = ValueParser::Names(&["ascending", "descending", "scattered"]);
 
-/// The parser of the name of a call.
-const CALL: ValueParser<'static> = ValueParser::Names(&CALLS);
-
-/// A word.
+/// A word that has to be given, or one that may be left out.
 macro_rules! word {
-    ($presence:expr, $name:literal, $parser:ident, $help:literal) => {
+    ($is_required:expr, $name:literal, $parser:ident, $help:literal) => {
         Word {
             name: $name,
-            help: $help,
+            is_required: $is_required,
             parser: $parser,
-            presence: $presence,
+            help: $help,
         }
     };
 }
 
-/// A word that has to be given.
-macro_rules! required {
-    ($name:literal, $parser:ident, $help:literal) => {
-        word!(Presence::Required, $name, $parser, $help)
-    };
-}
-
-/// A word that may be left out.
-macro_rules! optional {
-    ($name:literal, $parser:ident, $help:literal) => {
-        word!(Presence::Optional, $name, $parser, $help)
-    };
-}
-
 /// The number of rounds.
-const ROUNDS: Word = required!(
+const ROUNDS: Word = word!(
+    true,
     "ROUNDS",
     NUMBER,
     "Number of rounds, of which the best is printed"
@@ -81,83 +53,50 @@ const ROUNDS: Word = required!(
 
 /// All measurements.
 #[rattlefmt::skip]
-pub static MEASUREMENTS: [Measurement; 10] = [
+pub static MEASUREMENTS: [Measurement; 5] = [
     Measurement {
         name: "vet",
         about: "Time vetting by one thread, on a file's code",
         words: &[
-            required!("FILE", TEXT, "File of raw code"),
-            required!("ADDRESS", TEXT, "Address of its first byte, in hexadecimal"),
+            word!(true, "FILE", TEXT, "File of raw code"),
+            word!(true, "ADDRESS", TEXT, "Address of its first byte, in hexadecimal"),
             ROUNDS,
-            word!(Presence::Default("accepted"), "KIND", KIND, "Verdict: accepted, or refused at the end for a byte or a target"),
-            optional!("BUNDLES", NUMBER, "Number of bundles, the file's first [default: all]"),
+            word!(false, "KIND", KIND, "Verdict: accepted, or refused at the end for a byte or a target [default: accepted]"),
+            word!(false, "BUNDLES", NUMBER, "Number of bundles, the file's first [default: all]"),
         ],
     },
     Measurement {
         name: "workers",
         about: "Time vetting by several threads, on jobs of different sizes",
         words: &[
-            required!("JOBS", NUMBER, "Number of jobs"),
-            required!("BUNDLES", NUMBER, "Most bundles of a job"),
+            word!(true, "JOBS", NUMBER, "Number of jobs"),
+            word!(true, "BUNDLES", NUMBER, "Most bundles of a job"),
             ROUNDS,
-            optional!("WORKERS", NUMBER, "Number of threads [default: 1, 2, 3, 4, 8 and 16 in turn]"),
+            word!(false, "WORKERS", NUMBER, "Number of threads [default: 1, 2, 3, 4, 8 and 16 in turn]"),
         ],
     },
     Measurement {
         name: "chunks",
         about: "Time creating, patching, deleting and reclaiming chunks in a new region",
         words: &[
-            required!("COUNT", NUMBER, "Number of chunks"),
-            required!("BUNDLES", NUMBER, "Bundles of a chunk"),
+            word!(true, "COUNT", NUMBER, "Number of chunks"),
+            word!(true, "BUNDLES", NUMBER, "Bundles of a chunk"),
             ROUNDS,
-            word!(Presence::Default("ascending"), "ORDER", ORDER, "Order of the bases in which the chunks are created"),
-        ],
-    },
-    Measurement {
-        name: "seats",
-        about: "Time the same for chunks of one bundle, where all seats check in before the chunks are reclaimed",
-        words: &[
-            required!("COUNT", NUMBER, "Number of chunks"),
-            required!("SEATS", NUMBER, "Number of seats"),
-            ROUNDS,
+            word!(false, "ORDER", ORDER, "Order of the bases in which the chunks are created [default: ascending]"),
         ],
     },
     Measurement {
         name: "checkin",
         about: "Time check-ins, and as many bare loads and stores of atomic words",
-        words: &[required!("TIMES", NUMBER, "Check-ins of a round"), ROUNDS],
-    },
-    Measurement {
-        name: "new",
-        about: "Time making a region without a chunk",
-        words: &[required!("BUNDLES", NUMBER, "Bundles of the region"), ROUNDS],
+        words: &[word!(true, "TIMES", NUMBER, "Check-ins of a round"), ROUNDS],
     },
     Measurement {
         name: "walk",
         about: "Time a walk around a chunk",
         words: &[
-            required!("BUNDLES", NUMBER, "Bundles of the chunk"),
-            required!("STEPS", NUMBER, "Number of steps"),
+            word!(true, "BUNDLES", NUMBER, "Bundles of the chunk"),
+            word!(true, "STEPS", NUMBER, "Number of steps"),
             ROUNDS,
         ],
-    },
-    Measurement {
-        name: "image",
-        about: "Time vetting, creating, walking and deleting chunks of 1 MiB, made of a file's code",
-        words: &[
-            required!("FILE", TEXT, "File of raw code"),
-            required!("COUNT", NUMBER, "Number of chunks"),
-            required!("STEPS", NUMBER, "Number of places that are walked over"),
-        ],
-    },
-    Measurement {
-        name: "soak",
-        about: "Test a region beside threads against a plain model of it; nothing is timed",
-        words: &[required!("SECONDS", NUMBER, "Seconds that the test takes")],
-    },
-    Measurement {
-        name: "refusals",
-        about: "Make the calls to which tools/refuse-growths refuses memory, and show what they leave; nothing is timed",
-        words: &[optional!("CALL", CALL, "Call that is made [default: each in turn]")],
     },
 ];

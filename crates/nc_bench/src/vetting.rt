@@ -11,13 +11,6 @@ use std::time::{Clock, Duration, Instant};
 /// The bytes that are vetted in a round, unless one chunk has more.
 const ROUND: usize = 65_536;
 
-/// What one round gave: the time for a chunk, and how many chunks were accepted.
-#[derive(Drop)]
-struct Round {
-    took: Duration,
-    accepted: usize,
-}
-
 /// Copies of the code, for one round.
 fn chunks(alloc: Global, code: &[u8]) -> Result<Vec<Vec<u8>>, AllocError> {
     let count = (ROUND / code.len().max(1)).max(1);
@@ -41,7 +34,7 @@ fn vet_each(
 }
 
 /// How many chunks were accepted.
-fn count_accepted(verdicts: &[Verdict]) -> usize {
+pub fn count_accepted(verdicts: &[Verdict]) -> usize {
     let mut accepted = 0usize;
     for verdict in verdicts {
         if verdict.is_ok() {
@@ -51,18 +44,20 @@ fn count_accepted(verdicts: &[Verdict]) -> usize {
     accepted
 }
 
-/// Vets copies of the code, and takes the time of that and of nothing else.
-fn vet_round<R: Clock + AllocGlobal>(rt: &R, base: u32, code: &[u8]) -> io::Result<Round> {
+/// Vets copies of the code, and takes the time of that and of nothing else: the time for a chunk, and how many were accepted.
+fn vet_round<R: Clock + AllocGlobal>(
+    rt: &R,
+    base: u32,
+    code: &[u8],
+) -> io::Result<(Duration, usize)> {
     let chunks = chunks(rt.alloc(), code)?;
     let count = chunks.len();
     let mut verdicts = Vec::with_capacity(rt.alloc(), count)?;
     let start = Instant::now(rt)?;
     vet_each(base, chunks, &mut verdicts)?;
     let took = start.elapsed(rt)?;
-    Ok(Round {
-        took: took / u32::try_from(count).unwrap_or(1).max(1),
-        accepted: count_accepted(&verdicts),
-    })
+    let each = took / u32::try_from(count).unwrap_or(1).max(1);
+    Ok((each, count_accepted(&verdicts)))
 }
 
 /// Prints what one chunk took in the best round. A megabyte is a million bytes.
@@ -83,9 +78,9 @@ pub fn measure_vet<R: Files + Clock + Print + AllocGlobal>(
     let mut best = Duration::MAX;
     let mut accepted = 0;
     for _ in 0..rounds {
-        let round = vet_round(rt, source.base, &code)?;
-        best = best.min(round.took);
-        accepted = round.accepted;
+        let (took, valid) = vet_round(rt, source.base, &code)?;
+        best = best.min(took);
+        accepted = valid;
     }
     report(rt, code.len(), accepted, best)
 }

@@ -1,8 +1,8 @@
 //! How much faster several workers vet.
 
 use crate::code::LIMIT;
-use crate::numbers::Numbers;
 use crate::ordinary::ordinary_code;
+use crate::vetting::count_accepted;
 use nc_decode::START;
 use nc_work::{Job, Open, vet_all};
 use std::alloc::{AllocError, Global};
@@ -21,12 +21,15 @@ pub struct Jobs {
     pub bundles: u32,
 }
 
-/// Jobs of different sizes.
+/// Jobs of pseudo-random sizes.
 fn draw_jobs(alloc: Global, jobs: Jobs) -> Result<Vec<Job>, AllocError> {
     let mut all = Vec::new(alloc);
-    let mut numbers = Numbers::new(12345);
+    let mut drawn = 12345u64;
     for _ in 0..jobs.count {
-        let bundles = numbers.below(jobs.bundles).saturating_add(1);
+        drawn = drawn
+            .wrapping_mul(6_364_136_223_846_793_005)
+            .wrapping_add(1_442_695_040_888_963_407);
+        let bundles = ((drawn >> 33) as u32 % jobs.bundles.max(1)).saturating_add(1);
         all.push(Job {
             base: START,
             limit: LIMIT,
@@ -45,15 +48,10 @@ fn vet_once<R: Threads + Wait + Sync + Clock>(
     let start = Instant::now(rt)?;
     let verdicts = vet_all(rt, jobs, workers, &Open);
     let took = start.elapsed(rt)?;
-    let mut good = 0usize;
-    if let Ok(verdicts) = verdicts {
-        for verdict in verdicts.iter() {
-            if verdict.is_ok() {
-                good = good.saturating_add(1);
-            }
-        }
+    match verdicts {
+        Ok(verdicts) => Ok((took, count_accepted(&verdicts))),
+        Err(_refused) => Ok((took, 0)),
     }
-    Ok((took, good))
 }
 
 /// Times one number of workers in rounds, and prints the best time.

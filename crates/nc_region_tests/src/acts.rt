@@ -5,8 +5,9 @@ use crate::calls::{Calls, is_created};
 use crate::fixtures::chunk;
 use crate::steps::{Step, Steps, creates, take_both};
 use crate::trial::{Telling, Trial, try_in_region};
+use nc_calls::law_of_calls;
 use nc_gens::{Gens, Pass};
-use nc_region::{Act, Acts, DeleteFault, Entry, ModifyFault, RegionOf};
+use nc_region::{Act, Acts, DeleteFault, Entry, ModifyFault, RegionOf, law_of_schedules};
 use std::alloc::Global;
 use std::test::Fail;
 
@@ -188,8 +189,11 @@ fn try_lives(alloc: Global, rows: &[(usize, u32)]) -> Result<(), Fail> {
     Ok(())
 }
 
+/// The laws on such acts are called too, since each public function is called in some test.
 #[test]
 fn order_of_acts(rt: HostRuntime) -> Result<(), Fail> {
+    law_of_schedules();
+    law_of_calls();
     try_lives(rt.alloc(), &SIZES)
 }
 

@@ -2,9 +2,8 @@
 ghost use Rattle.std.specs.Prelude.{◌≡◌, IfOk};
 ghost use Rattle.nc_region.specs.Region.{IsNew};
 
-use nc_decode::START;
 use nc_gens::{Gens, Keeper};
-use nc_region::{Acts, Plain, Region, RegionOf, Shared};
+use nc_region::{Plain, Region, Shared};
 use nc_text::Text;
 use nc_vet::{Vetted, vet};
 use std::alloc::Global;
@@ -74,16 +73,4 @@ pub(crate) fn plain<'g>(
         Ok(text) => Ok(Plain::new(text, gens, keeper)),
         Err(fault) => Err(Fail::new(format_args!("{fault:?}"))),
     }
-}
-
-/// These bytes stand in the region, from this address on.
-pub(crate) fn stands<A: Acts + Drop>(region: &RegionOf<A>, base: u32, bytes: &[u8]) -> bool {
-    let mut at = base;
-    for byte in bytes {
-        if at < START || at >= region.limit() || region.byte(at) != *byte {
-            return false;
-        }
-        at = at.wrapping_add(1);
-    }
-    true
 }

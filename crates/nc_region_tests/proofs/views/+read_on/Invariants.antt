@@ -1,5 +1,0 @@
-use Rattle.std.proofs.Common.{length}
-use Rattle.nc_region_tests.proofs.views.+read_on.Given as goal
-
-abbrev pub decreases-read_on : goal.decreases-read_on
-decreases-read_on g l = length l.places.now

@@ -1,0 +1,91 @@
+"""A text that follows a region act by act."""
+import nc_host as nc
+
+# What a reclaim does, and no call writes: it looks at the seats, and unmarks each span that it frees.
+UNMARK, LOOK = 4, 5
+
+
+def unused_marks(length):
+    """The marks of a span that no chunk uses: bundle starts are plain."""
+    return bytes([nc.PLAIN]).ljust(nc.BUNDLE, bytes([nc.UNMARKED])) * (length // nc.BUNDLE)
+
+
+class Text:
+    """The bytes and marks of a region with this limit, at first without a chunk."""
+
+    def __init__(self, limit):
+        self.limit = limit
+        self.bytes = bytearray([nc.STOP]) * (limit - nc.START)
+        self.marks = bytearray(unused_marks(limit - nc.START))
+
+    def mark(self, at):
+        """The mark at an address. Outside the region there are none."""
+        return self.marks[at - nc.START] if nc.START <= at < self.limit else nc.UNMARKED
+
+    def rest_of_bundle(self, at):
+        """The bytes from an address to its bundle's end."""
+        return bytes(self.bytes[at - nc.START : at - at % nc.BUNDLE + nc.BUNDLE - nc.START])
+
+    def make(self, act, marks=b""):
+        """Makes an act. A marking sets these marks."""
+        kind, at, value = act
+        span = slice(at - nc.START, at - nc.START + value)
+        if kind == nc.PUT:
+            self.bytes[at - nc.START] = value
+        elif kind == nc.MARK:
+            self.marks[span] = marks
+        elif kind == UNMARK:
+            self.marks[span] = unused_marks(value)
+
+
+def differences(region, text):
+    """The addresses at which a region's bytes or marks aren't those of a text."""
+    if region.places() == (text.bytes, text.marks):
+        return []
+    pairs = zip(zip(*region.places()), zip(text.bytes, text.marks))
+    return [hex(nc.START + i) for i, (found, wanted) in enumerate(pairs) if found != wanted]
+
+
+class Life:
+    """A region with one seat, on which a test case makes calls, and a text that follows it."""
+
+    def __init__(self, case, bundles):
+        self.case, self.region = case, nc.Region(bundles)
+        self.seat = self.region.seat()
+        self.text = Text(self.region.limit)
+
+    def live(self, steps):
+        """Makes calls, each given as the name of a method below and its arguments. Yields each of their acts once it was made in the text.
+        After each call the region has the text's bytes and marks.
+        """
+        for name, *words in steps:
+            acts, marks = getattr(self, name)(*words)
+            for act in acts:
+                self.text.make(act, marks)
+                yield act
+            self.case.assertEqual(differences(self.region, self.text), [], (name, words))
+
+    def create(self, base, code):
+        changed = self.region.create(base, code)
+        verdict, marks = nc.marks(base, self.region.limit, code)
+        self.case.assertEqual((changed.fault, verdict.fault), (nc.OK, nc.OK))
+        return changed.acts, bytes(marks)
+
+    def patch(self, at, new):
+        changed = self.region.patch(at, bytes.fromhex(new))
+        self.case.assertEqual(changed.fault, nc.OK)
+        return changed.acts, b""
+
+    def delete(self, base, stamp):
+        begun, drawn = self.region.delete(base)
+        self.case.assertEqual((begun.fault, drawn), (nc.OK, stamp))
+        return begun.acts, b""
+
+    def check_in(self):
+        self.case.assertEqual(self.seat.check_in(), nc.OK)
+        return [], b""
+
+    def reclaim(self, *spans):
+        """Frees these spans, each given as its base and its length."""
+        self.case.assertEqual(self.region.reclaim(), len(spans))
+        return [(LOOK, 0, 0)] + [(UNMARK, base, length) for base, length in spans], b""

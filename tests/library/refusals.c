@@ -1,0 +1,288 @@
+/*
+ * The library's calls that take memory, and others that take none, each made once: refusals [CALL].
+ *
+ * The line `call` is written directly before a call and the line `answer` directly after it: tools/refuse-growths refuses allocations
+ * between these two lines. Then come the fault and what stands after the call. A call that lacked memory is made once more, with ample
+ * memory, and has to leave what it leaves otherwise. Without CALL each call is made in turn; tests/refusals/ample.txt is what is printed
+ * then.
+ */
+#define NC_FAULT_NAMES
+#include "nc_host.h"
+
+#include <stdbool.h>
+#include <stdio.h>
+#include <stdlib.h>
+#include <string.h>
+#include <unistd.h>
+
+#define BUNDLES 4u
+#define LIMIT NC_LIMIT(BUNDLES)
+#define PAGE_END 0x10FE0u        /* the last bundle in the first page of a larger region */
+#define ROOM (2 * NC_BUNDLE + 2) /* acts, enough for each chunk */
+#define UNTOUCHED UINT32_MAX     /* what a buffer has where nothing was written into it */
+
+/* Code without a byte of zeros, so that a text can hold it. */
+#define NOPS3 "\x90\x90\x90"
+#define NOPS9 NOPS3 NOPS3 NOPS3
+#define NOPS27 NOPS9 NOPS9 NOPS9
+#define NOPS30 NOPS27 NOPS3
+#define PAIR "\x83\xE0\xE0\xFF\xE0"                              /* and eax, -32; jmp *eax */
+#define NUMBER "\xB8\x01\x01\x01\x01"                            /* mov eax, 01010101 */
+#define JUMP "\xEB\x1E" NOPS30                                   /* to the next bundle */
+#define JUMPS "\xEB\x3C" NOPS30 NOPS30 "\xEB\xC0"                /* at both ends of two bundles, each to the other */
+#define SEVERAL "\xEB\xFE" NUMBER PAIR NOPS9 NOPS9 "\x90\x90"    /* a jump to itself, and some more */
+
+/* A text as bytes and their number: two arguments. */
+#define BYTES(text) (const uint8_t *)(text), strlen(text)
+
+/* What a call finds: no region; one; a larger one, and code that begins at PAGE_END; one, and vetted code; one in which the code is a
+   chunk; and that with both seats given. */
+typedef enum Stand { NO_REGION, REGION, PAGES, VETTED, CHUNK, SEATS } Stand;
+
+typedef struct Call {
+    const char *name;
+    const char *code;
+    Stand stand;
+    uint32_t (*make)(void); /* its fault; what it answers besides is printed */
+    void (*show)(void);     /* what stands after it */
+} Call;
+
+static const char *code;
+static uint32_t base;
+static NcRegion region;
+static NcSeat seats[2];
+static NcVetted vetted;
+static NcWalk walked;
+
+static struct {
+    NcAct acts[ROOM];
+    uint8_t marks[2 * NC_BUNDLE];
+    uint32_t places[3];
+} buffers;
+
+/* ---- Calls that take memory */
+
+static uint32_t mark(void) { return nc_host_marks(base, LIMIT, BYTES(code), buffers.marks, sizeof buffers.marks).fault; }
+static uint32_t host_create(void) { return nc_host_create(base, LIMIT, BYTES(code), buffers.acts, ROOM).fault; }
+static uint32_t host_delete(void) { return nc_host_delete(base, LIMIT, BYTES(code), buffers.acts, ROOM).fault; }
+static uint32_t new_region(void) { return nc_region_new(BUNDLES, 1, &region); }
+static uint32_t seat(void) { return nc_region_seat(&region, &seats[0]); }
+static uint32_t create(void) { return nc_region_create(&region, base, BYTES(code), buffers.acts, ROOM).fault; }
+static uint32_t new_vetted(void) { return nc_vetted_new(base, LIMIT, BYTES(code), &vetted).fault; }
+static uint32_t load(void) { return nc_region_load(&region, &vetted, buffers.acts, ROOM).fault; }
+
+static uint32_t host_patch(void) {
+    return nc_host_patch(base, LIMIT, BYTES(code), base + 2, BYTES("\xB8\x02\x01\x01\x01"), buffers.acts, ROOM).fault;
+}
+
+static uint32_t walk(void) {
+    static const uint32_t choices[2];
+    walked = nc_region_walk(&region, base, choices, 2, buffers.places, 3);
+    return walked.fault;
+}
+
+/* ---- Calls that take none */
+
+static void tell(const char *what, uint32_t fault) {
+    printf("%s: %s\n", what, nc_fault_name(fault));
+}
+
+static void patch(const char *what, uint32_t place, const char *bytes) {
+    tell(what, nc_region_patch(&region, base + place, BYTES(bytes), NULL, 0).fault);
+}
+
+static uint32_t patches(void) {
+    patch("another number", 2, "\xB8\x02\x01\x01\x01");
+    patch("other lengths", 2, "\xEB\xFE" NOPS3);
+    patch("another register", 7, "\x83\xE1\xE0\xFF\xE1");
+    patch("a jump to the limit", 0, "\xEB\x7E");
+    patch("a jump to the next bundle", 0, "\xEB\x1E");
+    patch("across a bundle's end", 31, "\x90\x90");
+    patch("outside", 32, "\x90");
+    patch("a return", 12, "\xC3");
+    tell("delete outside", nc_region_begin_delete(&region, base + NC_BUNDLE, NULL, 0).fault);
+    return NC_OK;
+}
+
+static void reclaim(void) {
+    NcCount freed = nc_region_reclaim(&region);
+    printf("freed: %u, %s\n", freed.count, nc_fault_name(freed.fault));
+}
+
+/* The chunk is free once one seat has checked in and the other one has left. */
+static uint32_t retire(void) {
+    tell("delete", nc_region_begin_delete(&region, base, NULL, 0).fault);
+    printf("stamp: %u\n", (unsigned)nc_region_end_delete(&region).stamp);
+    reclaim();
+    tell("check in", nc_seat_check_in(&seats[0]));
+    reclaim();
+    nc_seat_leave(&seats[1]);
+    reclaim();
+    return NC_OK;
+}
+
+static uint32_t tell_runs(void) {
+    printf("length of the first instruction: %u\n", nc_host_decode(BYTES(code)).length);
+    printf("runs of the creation: %zu\n", nc_region_creation_runs(&region, base, buffers.acts, ROOM).count);
+    tell("delete", nc_region_begin_delete(&region, base, NULL, 0).fault);
+    printf("runs of the deletion: %zu\n", nc_region_deletion_runs(&region, buffers.acts, ROOM).count);
+    return nc_region_end_delete(&region).fault;
+}
+
+/* ---- What stands after a call */
+
+static char mark_char(uint32_t mark) {
+    return mark == NC_UNMARKED ? '.' : mark == NC_PLAIN ? 'p' : mark == (uint8_t)UNTOUCHED ? '?' : (char)('0' + mark - NC_MASKED(0));
+}
+
+static void show_marks(void) {
+    for (size_t i = 0; i < sizeof buffers.marks; i++) {
+        putchar(mark_char(buffers.marks[i]));
+    }
+    putchar('\n');
+}
+
+static void show_acts(void) {
+    unsigned written = 0;
+    for (size_t i = 0; i < ROOM; i++) {
+        written += buffers.acts[i].kind != UNTOUCHED;
+    }
+    printf("acts: %u\n", written);
+}
+
+static void show_bundle(uint32_t at) {
+    printf("%08x ", at);
+    for (uint32_t i = 0; i < NC_BUNDLE; i++) {
+        printf("%02x", nc_region_place(&region, at + i).byte);
+    }
+    putchar(' ');
+    for (uint32_t i = 0; i < NC_BUNDLE; i++) {
+        putchar(mark_char(nc_region_place(&region, at + i).mark));
+    }
+    putchar('\n');
+}
+
+/* Four bundles, and each chunk. */
+static void show_region(void) {
+    NcChunk chunk = nc_region_chunk(&region, 0);
+    if (chunk.fault == NC_NO_HANDLE) {
+        puts("no region");
+        return;
+    }
+    for (uint32_t i = 0; i < BUNDLES; i++) {
+        show_bundle(base + i * NC_BUNDLE);
+    }
+    for (size_t i = 1; chunk.fault == NC_OK; i++) {
+        printf("chunk %08x length %u %s\n", chunk.base, chunk.length, chunk.retired ? "retired" : "live");
+        chunk = nc_region_chunk(&region, i);
+    }
+}
+
+static void show_change(void) {
+    show_acts();
+    show_region();
+}
+
+static void show_seat(void) {
+    tell("check in", nc_seat_check_in(&seats[0]));
+}
+
+static void show_vetted(void) {
+    tell("load", nc_region_load(&region, &vetted, NULL, 0).fault);
+    show_region();
+}
+
+/* The place of a chunk that was freed is taken again. */
+static void show_reused(void) {
+    tell("create", create());
+    show_region();
+}
+
+static void show_walk(void) {
+    for (size_t i = 0; i < 3; i++) {
+        if (buffers.places[i] != UNTOUCHED) {
+            printf("place %08x\n", buffers.places[i]);
+        }
+    }
+    printf("end %u\n", walked.end);
+    show_region();
+}
+
+/* ---- All calls */
+
+static const Call calls[] = {
+    {"marks-pair", NOPS27 PAIR, NO_REGION, mark, show_marks},
+    {"marks-jumps", JUMPS, NO_REGION, mark, show_marks},
+    {"host-create", JUMP, NO_REGION, host_create, show_acts},
+    {"host-patch", SEVERAL, NO_REGION, host_patch, show_acts},
+    {"host-delete", JUMP, NO_REGION, host_delete, show_acts},
+    {"region", JUMP, NO_REGION, new_region, show_region},
+    {"seat", JUMP, REGION, seat, show_seat},
+    {"create", JUMP, REGION, create, show_change},
+    {"create-pages", JUMPS, PAGES, create, show_change},
+    {"vetted", JUMP, REGION, new_vetted, show_vetted},
+    {"load", JUMP, VETTED, load, show_change},
+    {"walk", JUMP, CHUNK, walk, show_walk},
+    {"retire", JUMP, SEATS, retire, show_reused},
+    {"patches", SEVERAL, CHUNK, patches, show_region},
+    {"runs", JUMP, CHUNK, tell_runs, show_change},
+};
+
+static void need(bool holds) {
+    if (!holds) {
+        fputs("refusals: a call can't be made\n", stderr);
+        exit(2);
+    }
+}
+
+static void prepare(const Call *call) {
+    Stand stand = call->stand;
+    code = call->code;
+    base = stand == PAGES ? PAGE_END : NC_START;
+    memset(&buffers, 0xFF, sizeof buffers);
+    need(stand == NO_REGION || nc_region_new(stand == PAGES ? 132 : BUNDLES, 2, &region) == NC_OK);
+    need(stand != VETTED || new_vetted() == NC_OK);
+    need(stand < CHUNK || nc_region_create(&region, base, BYTES(code), NULL, 0).fault == NC_OK);
+    need(stand < SEATS || (seat() == NC_OK && nc_region_seat(&region, &seats[1]) == NC_OK));
+}
+
+/* Writes at once, past the buffer in which all else that is printed waits: tools/refuse.c counts these lines. */
+static void write_line(const char *words) {
+    char line[32];
+    int size = snprintf(line, sizeof line, "%s\n", words);
+    need(write(STDOUT_FILENO, line, (size_t)size) == size);
+}
+
+static void show(const Call *call, uint32_t fault) {
+    puts(nc_fault_name(fault));
+    call->show();
+}
+
+static void make(const Call *call) {
+    prepare(call);
+    write_line(call->name);
+    write_line("call");
+    uint32_t fault = call->make();
+    write_line("answer");
+    if (fault == NC_OUT_OF_MEMORY) {
+        show(call, fault);
+        fault = call->make();
+    }
+    show(call, fault);
+    fflush(stdout);
+    nc_region_free(&region);
+    nc_seat_leave(&seats[0]);
+    nc_seat_leave(&seats[1]);
+    nc_vetted_free(&vetted);
+}
+
+int main(int argc, char **argv) {
+    static char buffer[1 << 14];
+    setvbuf(stdout, buffer, _IOFBF, sizeof buffer);
+    for (size_t i = 0; i < sizeof calls / sizeof calls[0]; i++) {
+        if (argc < 2 || strcmp(argv[1], calls[i].name) == 0) {
+            make(&calls[i]);
+        }
+    }
+    return 0;
+}
