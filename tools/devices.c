@@ -5,8 +5,12 @@
    FAILING_FILE   the file of which a call fails: 0, 1, or another number for none
    FAILING_CALL   the number of the call that fails, counted from 1. It moves nothing, and those after it go on
    FAILING_ERROR  its error, as in errno; 0 has a write answer that it took nothing
-   FAILING_REPORT the number of an open file, to which a byte is written when that call comes */
+   FAILING_REPORT the number of an open file, to which a byte is written when that call comes
+   STARTED_REPORT the number of an open file, to which a byte is written for each thread that the program starts */
+#define _GNU_SOURCE
+#include <dlfcn.h>
 #include <errno.h>
+#include <pthread.h>
 #include <stdlib.h>
 #include <sys/syscall.h>
 #include <unistd.h>
@@ -17,6 +21,7 @@ static long calls_to_it;
 static long error;
 static long report;
 static long calls;
+static long started;
 
 static long number(const char *name)
 {
@@ -31,6 +36,7 @@ __attribute__((constructor)) static void begin(void)
     report = number("FAILING_REPORT");
     size = (size_t)number("FAILING_SIZE");
     failing = number("FAILING_FILE");
+    started = number("STARTED_REPORT");
 }
 
 /* Whether this call is the one that fails. */
@@ -62,4 +68,12 @@ ssize_t write(int file, const void *bytes, size_t count)
     if (fails(file))
         return error ? -1 : 0;
     return syscall(SYS_write, file, bytes, at_most(count));
+}
+
+int pthread_create(pthread_t *thread, const pthread_attr_t *attributes, void *(*routine)(void *), void *argument)
+{
+    int (*create)(pthread_t *, const pthread_attr_t *, void *(*)(void *), void *) = dlsym(RTLD_NEXT, "pthread_create");
+    if (started >= 0)
+        syscall(SYS_write, (int)started, "t", 1);
+    return create(thread, attributes, routine, argument);
 }

@@ -135,3 +135,9 @@ def meanings(name):
     """The rows of a file of instructions that aren't permitted: their bytes, and how the words on them begin."""
     rows = [line.split(None, 1) for line in lines_of("reports", name) if line and not line.startswith("#")]
     return [(bytes.fromhex(digits), words) for digits, words in rows]
+
+
+def lengths(name):
+    """The rows of a file of such instructions with their lengths: their bytes, and the length, or None where none is known."""
+    rows = [line.split() for line in lines_of("reports", name) if line and not line.startswith("#")]
+    return [(bytes.fromhex(digits), None if length == "-" else int(length)) for digits, length in rows]

@@ -8,7 +8,7 @@ from reading import filled
 BAD_SIZES = [0, 1, 2_097_153, 2**32 - 1]
 
 # Numbers of bundles, and the limits of their regions.
-SIZES = [(2, 0x10040), (4, 0x10080), (524_288, 0x1010000), (2_097_152, 0x4010000)]
+SIZES = [(2, 0x10040), (4, 0x10080), (2048, 0x20000), (524_288, 0x1010000), (524_289, 0x1010020), (2_097_152, 0x4010000)]
 
 # A chunk, and then others: vetted for another limit, where a chunk stands and where none does, and in its place.
 CHUNKS = [

@@ -1,14 +1,7 @@
-mod chunks;
 mod devices;
 mod generations;
-mod instructions;
-mod labels;
-mod lengths;
 mod lines;
-mod pipes;
 mod reports;
 mod rows;
-mod segments;
 mod symbols;
-mod texts;
 mod workers;

@@ -11,8 +11,8 @@ ghost use Rattle.nc_replay.specs.Status.{status_of};
 pub mod program;
 
 use clap::error::ErrorKind as ClapKind;
-pub use nc_command::{Ask, ask, not_utf8};
-pub use nc_script::{Piped, ReplayFault, run, vet_lines};
+use nc_command::not_utf8;
+use nc_script::{Piped, ReplayFault};
 use program::{Halt, start};
 use std::io::{ErrorKind, Input, Write};
 use std::process::ExitCode;
@@ -20,9 +20,6 @@ use std::rt::Env;
 use std::sync::Wait;
 use std::thread::Threads;
 use std::{env, io};
-
-#[cfg(test)]
-mod tests;
 
 /// The words of the command line, the program's own name first.
 fn command_words<R: Env + AllocGlobal>(rt: &R) -> Result<Vec<String>, Halt> {

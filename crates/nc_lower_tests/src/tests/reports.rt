@@ -1,43 +1,99 @@
-//! Sources and reports, as far as the built program doesn't show them: names that no file has, guesses of a length, numbers
-//! out of range, and a flush that fails.
+//! Sources and reports, as far as the built program doesn't show them: names and labels that no file has, guesses of a length,
+//! numbers out of range, and a flush that fails.
 
-use crate::tests::devices::{Pieces, Slow};
-use nc_report::{Detail, Labels, ReportFault, Source, push_file_object, read_source, report};
+use crate::tests::devices::Slow;
+use crate::tests::rows::right;
+use nc_report::{Detail, Label, Labels, ReportFault, Source, read_source, report};
 use std::alloc::{AllocError, Global};
 use std::io::Write;
 use std::sync::Wait;
 use std::test::Fail;
 use std::thread::Threads;
 
+/// An address and its name.
+type Named = (u32, &'static [u8]);
+
+/// A return before nops.
+const RETURN: &[u8] =
+    b"\xc3\x90\x90\x90\x90\x90\x90\x90\x90\x90\x90\x90\x90\x90\x90\x90\x90\x90\x90\x90\x90\x90\x90\x90\x90\x90\x90\x90\x90\x90\x90\x90";
+
+/// Nops.
+const NOPS: &[u8] = &[0x90; 64];
+
+/// A source's name, its code at 00010000, its labels, how much is written, how many are refused, and what is written.
+type Row = (&'static [u8], &'static [u8], &'static [Named], Detail, usize, &'static [u8]);
+
+#[rattlefmt::skip]
+static ROWS: [Row; 7] = [
+    // The label of an address may lie below the code; offsets of one digit and of more.
+    (b"a", RETURN, &[(0xFFFF, b"f")], Detail::Usual, 1,
+        b"a: refused NotPermitted 00010000\n\
+        \x20 00010000 <f+0x1>\n\
+        \x20 00010000: > c3 90 90 90 90 90 90 90 90 90 90 90 90 90 90 90 90 90 90 90 90 90 90 90 90 90 90 90 90 90 90 90\n\
+        \x20 a return (ret): compile with nc-cc, or pop the address into a register, mask it, and jump through it: see docs/GUIDE.md\n"),
+    (b"a", RETURN, &[(0, b"zero"), (0xFFFF_FFFF, b"top")], Detail::Usual, 1,
+        b"a: refused NotPermitted 00010000\n\
+        \x20 00010000 <zero+0x10000>\n\
+        \x20 00010000: > c3 90 90 90 90 90 90 90 90 90 90 90 90 90 90 90 90 90 90 90 90 90 90 90 90 90 90 90 90 90 90 90\n\
+        \x20 a return (ret): compile with nc-cc, or pop the address into a register, mask it, and jump through it: see docs/GUIDE.md\n"),
+    // Bytes that would end the line, or command a terminal; a space, and bytes of UTF-8; no byte at all.
+    (b"a", RETURN, &[(0x1_0000, b"\x00a\nb\x1b[1m\x1f \x7e\x7f\x80\xc3\xa9\xff")], Detail::Usual, 1,
+        b"a: refused NotPermitted 00010000\n\
+        \x20 00010000 <?a?b?[1m? ~?\x80\xc3\xa9\xff>\n\
+        \x20 00010000: > c3 90 90 90 90 90 90 90 90 90 90 90 90 90 90 90 90 90 90 90 90 90 90 90 90 90 90 90 90 90 90 90\n\
+        \x20 a return (ret): compile with nc-cc, or pop the address into a register, mask it, and jump through it: see docs/GUIDE.md\n"),
+    (b"a", RETURN, &[(0xFFFF, b"")], Detail::Usual, 1,
+        b"a: refused NotPermitted 00010000\n\
+        \x20 00010000 <+0x1>\n\
+        \x20 00010000: > c3 90 90 90 90 90 90 90 90 90 90 90 90 90 90 90 90 90 90 90 90 90 90 90 90 90 90 90 90 90 90 90\n\
+        \x20 a return (ret): compile with nc-cc, or pop the address into a register, mask it, and jump through it: see docs/GUIDE.md\n"),
+    (b"a", RETURN, &[(0xFFFF, b"\"\\\n\x7f\xc3\xa9")], Detail::Object, 1,
+        b"{\"file\":\"a\",\"address\":\"00010000\",\"verdict\":\"refused\",\"fault\":\"NotPermitted\",\"at\":\"00010000\",\
+        \"symbol\":\"\\\"\\\\\\u000a\\u007f\\u00c3\\u00a9+0x1\",\"meaning\":\
+        \"a return (ret): compile with nc-cc, or pop the address into a register, mask it, and jump through it: see docs/GUIDE.md\"}\n"),
+    // A name with each byte that JSON wants to have escaped, and one without a byte.
+    (b"a\"b\\c/\x00\x0a\x1f ~\x7f\x80\xc3\xa9\xff", NOPS, &[], Detail::Object, 0,
+        b"{\"file\":\"a\\\"b\\\\c/\\u0000\\u000a\\u001f ~\\u007f\\u0080\\u00c3\\u00a9\\u00ff\",\"address\":\"00010000\",\
+        \"verdict\":\"ok\",\"bytes\":64,\"instructions\":64}\n"),
+    (b"", NOPS, &[], Detail::Object, 0,
+        b"{\"file\":\"\",\"address\":\"00010000\",\"verdict\":\"ok\",\"bytes\":64,\"instructions\":64}\n"),
+];
+
 /// A copy of these bytes.
-pub fn copied(alloc: Global, bytes: &[u8]) -> Result<Vec<u8>, AllocError> {
+fn copied(alloc: Global, bytes: &[u8]) -> Result<Vec<u8>, AllocError> {
     let mut copy = Vec::new(alloc);
     copy.extend_from_slice(bytes)?;
     Ok(copy)
 }
 
-/// A list of one source.
-fn listed(alloc: Global, source: Source) -> Result<Vec<Source>, AllocError> {
-    let mut sources = Vec::new(alloc);
-    sources.push(source)?;
-    Ok(sources)
+/// Labels of these addresses and names.
+fn list(alloc: Global, rows: &[Named]) -> Result<Vec<Label>, AllocError> {
+    let mut list = Vec::new(alloc);
+    for (address, name) in rows {
+        let name = copied(alloc, name)?;
+        list.push(Label {
+            address: *address,
+            name,
+        })?;
+    }
+    Ok(list)
 }
 
-/// The only source, with this name, code and labels.
-pub fn only(
-    alloc: Global,
-    name: &[u8],
-    code: &[u8],
-    labels: Labels,
-) -> Result<Vec<Source>, AllocError> {
+/// A list of one source, with this name, code and labels.
+fn only(alloc: Global, name: &[u8], code: &[u8], named: &[Named]) -> Result<Vec<Source>, Fail> {
+    let Some(labels) = Labels::new(list(alloc, named)?) else {
+        return Err(Fail::new("not ascending"));
+    };
     let name = copied(alloc, name)?;
     let code = copied(alloc, code)?;
-    listed(alloc, Source { name, code, labels })
+    let mut sources = Vec::new(alloc);
+    sources.push(Source { name, code, labels })?;
+    Ok(sources)
 }
 
 /// What is written of sources in a region of five bundles, by one worker. It has no clause, so that no proof above goes through
 /// what the contract says.
-pub fn told<T: Threads + Wait + Sync, W: Write>(
+fn told<T: Threads + Wait + Sync, W: Write>(
     rt: &T,
     alloc: Global,
     sources: Vec<Source>,
@@ -47,55 +103,47 @@ pub fn told<T: Threads + Wait + Sync, W: Write>(
     report(rt, alloc, sources, 0x10000, 5, 1, detail, writer)
 }
 
-/// Names that no file has, and the objects of code that they name: each byte that JSON wants to have escaped, and no byte.
-static NAMES: [(&[u8], &[u8]); 2] = [
-    (
-        b"a\"b\\c/\x00\x0a\x1f ~\x7f\x80\xc3\xa9\xff",
-        b"{\"file\":\"a\\\"b\\\\c/\\u0000\\u000a\\u001f ~\\u007f\\u0080\\u00c3\\u00a9\\u00ff\",\"address\":\"00010000\",\
-        \"verdict\":\"ok\",\"bytes\":64,\"instructions\":64}\n",
-    ),
-    (
-        b"",
-        b"{\"file\":\"\",\"address\":\"00010000\",\"verdict\":\"ok\",\"bytes\":64,\"instructions\":64}\n",
-    ),
-];
-
-/// The answer was right, and what is owed was written; otherwise what was written is in the failure.
-pub fn wrote(writer: &Slow, is_right: bool, owed: &[u8]) -> Result<(), Fail> {
-    if is_right && writer.out.as_slice() == owed {
-        return Ok(());
-    }
-    Err(Fail::new(format_args!("{:?}", writer.out)))
-}
-
-/// The object of nops with this name.
-fn try_name<T: Threads + Wait + Sync>(
-    rt: &T,
-    alloc: Global,
-    name: &[u8],
-    owed: &[u8],
-) -> Result<(), Fail> {
-    let sources = only(alloc, name, &[0x90; 64], Labels::none(alloc))?;
-    let mut writer = Slow::new(alloc, 7, true);
-    let result = told(rt, alloc, sources, Detail::Object, &mut writer);
-    wrote(&writer, result == Ok(0) && writer.flushed == 1, owed)
-}
-
-/// The objects of nops with these names.
-fn try_names<T: Threads + Wait + Sync>(
-    rt: &T,
-    alloc: Global,
-    rows: &[(&'static [u8], &'static [u8])],
-) -> Result<(), Fail> {
-    for (name, owed) in rows {
-        try_name(rt, alloc, name, owed)?;
+/// Tries each row. What is written is flushed once.
+fn try_rows<T: Threads + Wait + Sync>(rt: &T, alloc: Global, rows: &[Row]) -> Result<(), Fail> {
+    for (name, code, named, detail, refused, owed) in rows {
+        let sources = only(alloc, name, code, named)?;
+        let mut writer = Slow::new(alloc, 7, true);
+        let result = told(rt, alloc, sources, *detail, &mut writer);
+        if result != Ok(*refused) || writer.flushed != 1 || writer.out.as_slice() != *owed {
+            return Err(Fail::new(format_args!("{:?}", writer.out)));
+        }
     }
     Ok(())
 }
 
 #[test]
-fn names(rt: HostRuntime) -> Result<(), Fail> {
-    try_names(&rt, rt.alloc(), &NAMES)
+fn reports(rt: HostRuntime) -> Result<(), Fail> {
+    try_rows(&rt, rt.alloc(), &ROWS)
+}
+
+/// Addresses and names, and whether they are labels.
+static ASCENDING: [(&[Named], bool); 4] = [
+    (&[(2, b"a"), (1, b"b")], false),
+    (&[(1, b"a"), (1, b"b"), (0, b"c")], false),
+    (&[(1, b"a"), (3, b"b"), (2, b"c"), (4, b"d")], false),
+    (&[(1, b"a"), (1, b"b"), (2, b"c")], true),
+];
+
+/// Each list is one of labels, or not.
+fn try_ascending(alloc: Global, rows: &[(&'static [Named], bool)]) -> Result<(), Fail> {
+    let mut row = 0u32;
+    for (named, wanted) in rows {
+        row = row.wrapping_add(1);
+        let labels = Labels::new(list(alloc, named)?);
+        right(labels.is_some() == *wanted, row)?;
+    }
+    Ok(())
+}
+
+/// Addresses that don't ascend are no labels, wherever it is that they fall.
+#[test]
+fn descending(rt: HostRuntime) -> Result<(), Fail> {
+    try_ascending(rt.alloc(), &ASCENDING)
 }
 
 /// A flush that fails after all was taken is a failed write.
@@ -103,7 +151,7 @@ fn names(rt: HostRuntime) -> Result<(), Fail> {
 fn flush_fails(rt: HostRuntime) -> Result<(), Fail> {
     for detail in [Detail::Usual, Detail::All, Detail::Object] {
         let mut writer = Slow::new(rt.alloc(), 1, false);
-        let sources = only(rt.alloc(), b"a", &[0x90; 32], Labels::none(rt.alloc()))?;
+        let sources = only(rt.alloc(), b"a", NOPS, &[])?;
         let result = told(&rt, rt.alloc(), sources, detail, &mut writer);
         let is_whole = writer.out.ends_with(b"\n") && writer.flushed == 1;
         if result != Err(ReportFault::WriteFailed) || !is_whole {
@@ -161,41 +209,23 @@ const BYTES: &[u8] = b"\x90\x0a\xc3\x00 bytes";
 
 const NAME: &[u8] = b"a b";
 
-/// Whether all of a source is read in pieces of this size, where so many bytes are expected.
-fn is_read(alloc: Global, name: Vec<u8>, size: usize, expected: usize) -> bool {
-    match read_source(alloc, name, &mut Pieces::new(BYTES, size), expected) {
+/// Whether all of a source is read, where so many bytes are expected.
+fn is_read(alloc: Global, name: Vec<u8>, expected: usize) -> bool {
+    let mut reader = BYTES;
+    match read_source(alloc, name, &mut reader, expected) {
         Ok(source) => source.name.as_slice() == NAME && source.code.as_slice() == BYTES,
         Err(_) => false,
     }
 }
 
-/// Whatever the sizes of reads and the room that is guessed, all bytes are read.
+/// Whatever the room that is guessed, all bytes are read.
 #[test]
 fn whole(rt: HostRuntime) -> Result<(), Fail> {
-    for (size, expected) in [(1usize, 0usize), (3, 7), (100, 100_000), (7, usize::MAX)] {
+    for expected in [0usize, 7, 100_000, usize::MAX] {
         let name = copied(rt.alloc(), NAME)?;
-        if !is_read(rt.alloc(), name, size, expected) {
-            return Err(Fail::new(format_args!("{size} {expected}")));
+        if !is_read(rt.alloc(), name, expected) {
+            return Err(Fail::new(format_args!("{expected}")));
         }
     }
     Ok(())
-}
-
-/// The object of a file that is refused as a whole, after a byte.
-fn file_object(alloc: Global) -> Result<Vec<u8>, AllocError> {
-    let mut out = copied(alloc, b".")?;
-    push_file_object(&mut out, b"x\t", b"BadElf", b"no \"code\"")?;
-    Ok(out)
-}
-
-/// A file that is refused as a whole.
-#[test]
-fn whole_file(rt: HostRuntime) -> Result<(), Fail> {
-    let out = file_object(rt.alloc())?;
-    let owed: &[u8] =
-        b".{\"file\":\"x\\u0009\",\"verdict\":\"refused\",\"fault\":\"BadElf\",\"meaning\":\"no \\\"code\\\"\"}\n";
-    if out.as_slice() == owed {
-        return Ok(());
-    }
-    Err(Fail::new(format_args!("{out:?}")))
 }

@@ -1,11 +1,11 @@
-//! Jobs with the verdicts that vetting one by one gives.
+//! Two workers at once, and numbers of workers that are refused.
 
 use crate::tests::rows::right;
 use nc_vet::VetFault;
 use nc_work::{Gate, Job, Open, Verdict, WorkFault, vet_all};
 use std::alloc::{AllocError, Global};
 use std::sync::Wait;
-use std::sync::atomic::{AtomicBool, AtomicU64, Ordering};
+use std::sync::atomic::{AtomicBool, Ordering};
 use std::test::Fail;
 use std::thread::{Threads, yield_now};
 
@@ -49,32 +49,15 @@ impl Gate for Until {
     }
 }
 
-/// Counts the calls of the gate.
-#[derive(Drop)]
-struct Count {
-    before: AtomicU64,
-    after: AtomicU64,
-}
-
-impl Gate for Count {
-    fn before(&self, _job: usize) {
-        self.before.fetch_add(1, Ordering::SeqCst);
-    }
-
-    fn after(&self, _job: usize) {
-        self.after.fetch_add(1, Ordering::SeqCst);
-    }
-}
-
 /// A job of nops, the first byte apart.
-fn job(alloc: Global, base: u32, len: usize, first: u8) -> Result<Job, AllocError> {
+fn job(alloc: Global, first: u8) -> Result<Job, AllocError> {
     let mut code = Vec::new(alloc);
-    code.resize(len, 0x90)?;
+    code.resize(32, 0x90)?;
     if let Some(place) = code.get_mut(0) {
         *place = first;
     }
     Ok(Job {
-        base,
+        base: BASE,
         limit: LIMIT,
         code,
     })
@@ -83,8 +66,8 @@ fn job(alloc: Global, base: u32, len: usize, first: u8) -> Result<Job, AllocErro
 /// One chunk that isn't permitted, and one that is valid.
 fn bad_and_good(alloc: Global) -> Result<Vec<Job>, AllocError> {
     let mut jobs = Vec::new(alloc);
-    jobs.push(job(alloc, BASE, 32, 0xC3)?)?;
-    jobs.push(job(alloc, BASE, 32, 0x90)?)?;
+    jobs.push(job(alloc, 0xC3)?)?;
+    jobs.push(job(alloc, 0x90)?)?;
     Ok(jobs)
 }
 
@@ -142,80 +125,4 @@ fn bad_workers(rt: HostRuntime) -> Result<(), Fail> {
     right(come_back(&rt, 0)?, 0)?;
     right(come_back(&rt, 17)?, 17)?;
     right(come_back(&rt, u32::MAX)?, u32::MAX)
-}
-
-/// The jobs of which every third one, from the second one on, isn't permitted.
-fn many_jobs(alloc: Global, count: usize) -> Result<Vec<Job>, AllocError> {
-    let mut jobs = Vec::new(alloc);
-    for i in 0..count {
-        let first = if i % 3 == 1 { 0xC3 } else { 0x90 };
-        jobs.push(job(alloc, BASE, 32, first)?)?;
-    }
-    Ok(jobs)
-}
-
-/// The faults of such jobs.
-fn are_every_third(faults: &[Option<VetFault>]) -> bool {
-    let mut i = 0usize;
-    for fault in faults {
-        let wanted = if i % 3 == 1 { NOT_PERMITTED } else { None };
-        if *fault != wanted {
-            return false;
-        }
-        i = i.wrapping_add(1);
-    }
-    true
-}
-
-/// So many jobs have their verdicts by so many workers, and the gate is called once before each and once after it.
-fn are_vetted<R: Threads + Wait + Sync + AllocGlobal>(
-    rt: &R,
-    workers: u32,
-    count: usize,
-) -> Result<bool, Fail> {
-    let gate = Count {
-        before: AtomicU64::new(0),
-        after: AtomicU64::new(0),
-    };
-    let faults = faults(rt, many_jobs(rt.alloc(), count)?, workers, &gate)?;
-    let is_called = gate.before.load(Ordering::SeqCst) == count as u64
-        && gate.after.load(Ordering::SeqCst) == count as u64;
-    Ok(is_called && faults.len() == count && are_every_third(&faults))
-}
-
-/// Some numbers of jobs by this number of workers.
-fn try_counts<R: Threads + Wait + Sync + AllocGlobal>(rt: &R, workers: u32) -> Result<(), Fail> {
-    for count in [0usize, 1, 3, 40] {
-        right(are_vetted(rt, workers, count)?, workers)?;
-    }
-    Ok(())
-}
-
-#[test]
-fn any_number_of_workers(rt: HostRuntime) -> Result<(), Fail> {
-    for workers in 1..17u32 {
-        try_counts(&rt, workers)?;
-    }
-    Ok(())
-}
-
-/// One chunk that is valid, one of a wrong length, and one at a wrong base.
-fn three_jobs(alloc: Global) -> Result<Vec<Job>, AllocError> {
-    let mut jobs = Vec::new(alloc);
-    jobs.push(job(alloc, 0x10020, 32, 0x90)?)?;
-    jobs.push(job(alloc, BASE, 1, 0xC3)?)?;
-    jobs.push(job(alloc, 0x10001, 32, 0x90)?)?;
-    Ok(jobs)
-}
-
-/// Their faults.
-static THREE: [Option<VetFault>; 3] = [None, Some(VetFault::BadLength), Some(VetFault::BadBase)];
-
-#[test]
-fn each_by_its_own_answer(rt: HostRuntime) -> Result<(), Fail> {
-    for workers in 1..17u32 {
-        let faults = faults(&rt, three_jobs(rt.alloc())?, workers, &Open)?;
-        right(faults.as_slice() == THREE.as_slice(), workers)?;
-    }
-    Ok(())
 }
