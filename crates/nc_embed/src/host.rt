@@ -138,19 +138,33 @@ fn show<R: Print>(rt: &R, who: &str, seen: Seen) -> Result<(), HostFault> {
     Ok(())
 }
 
-/// The whole story, from the seats to the last thread's leave.
-pub fn run<R: Threads + Wait + Print + Sync>(rt: &R, alloc: Global) -> Result<(), HostFault> {
-    let (gens, keeper, mut passes) = Gens::new(alloc, 2)?;
-    let one = passes.remove(0);
-    let other = passes.remove(0);
-    let region = Region::new(alloc, BUNDLES, &gens, keeper).map_err(|(_keeper, fault)| fault)?;
-    let shared = Shared::new(region);
-    open(rt, alloc, &shared)?;
-    let (first, second) = run_both(rt, alloc, &shared, one, other)?;
+/// The whole story, from the first load to the last thread's leave.
+fn tell<R: Threads + Wait + Print + Sync>(
+    rt: &R,
+    alloc: Global,
+    shared: &Shared<'_>,
+    one: Pass,
+    other: Pass,
+) -> Result<(), HostFault>
+    requires { (one.table ≡ shared.now) × (other.table ≡ shared.now) }
+{
+    open(rt, alloc, shared)?;
+    let (first, second) = run_both(rt, alloc, shared, one, other)?;
     show(rt, "the first thread", first)?;
     show(rt, "the second thread", second)?;
     shared.delete(rt, BASE)?;
     let freed = shared.reclaim(rt);
     println!(rt; "all have left: {freed} freed")?;
     Ok(())
+}
+
+/// Makes the seats and the region, and tells the story.
+pub fn run<R: Threads + Wait + Print + Sync>(rt: &R, alloc: Global) -> Result<(), HostFault> {
+    let (gens, keeper, mut passes) = Gens::new(alloc, 2)?;
+    let one = passes.remove(0);
+    let other = passes.remove(0);
+    match Region::new(alloc, BUNDLES, &gens, keeper) {
+        Ok(region) => tell(rt, alloc, &Shared::new(region), one, other),
+        Err((_keeper, fault)) => Err(HostFault::Region(fault)),
+    }
 }

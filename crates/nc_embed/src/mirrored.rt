@@ -63,33 +63,35 @@ fn switch<R: Wait>(rt: &R, region: &Mutex<RegionOf<Image<'_>>>) -> Result<(), Mo
     region.lock(rt).modify(BASE, &SWITCHED)
 }
 
-/// The chunk's life once more, in memory of the host's own.
-pub fn run<R: Wait + Print>(rt: &R, alloc: Global) -> Result<(), HostFault> {
-    let (gens, keeper, _passes) = Gens::new(alloc, 1)?;
-    let image = Image::new(alloc, BUNDLES, &gens, keeper)?;
-    let mut region = RegionOf::over(alloc, image);
-    load(&mut region, BASE, bundles(alloc, &SWITCH)?)?;
-    let region = Mutex::new(region);
-    show(rt, &region, "memory after the load")?;
-    switch(rt, &region)?;
-    show(rt, &region, "memory after the patch")?;
-    region.lock(rt).delete(BASE)?;
-    show(rt, &region, "memory after the deletion")
-}
-
-/// A region in memory of the host's own, with the chunk in it, for threads to share.
-fn shared_image<'g>(
+/// A region in memory of the host's own, with the chunk in it.
+fn loaded<'g>(
     alloc: Global,
     gens: &'g Gens,
     keeper: Keeper,
-) -> Result<SharedOf<'g, Image<'g>>, HostFault>
+) -> Result<RegionOf<Image<'g>>, HostFault>
     requires { keeper.table ≡ gens.now }
-    ensures { IfOk result (λ s. s ≡ gens.now) }
+    ensures { IfOk result (λ r. r.keeper.table ≡ gens.now) }
 {
     let image = Image::new(alloc, BUNDLES, gens, keeper)?;
     let mut region = RegionOf::over(alloc, image);
     load(&mut region, BASE, bundles(alloc, &SWITCH)?)?;
-    Ok(SharedOf::over(region, gens))
+    Ok(region)
+}
+
+/// Patches and deletes the chunk, and shows the memory after each step.
+fn change<R: Wait + Print>(rt: &R, region: &Mutex<RegionOf<Image<'_>>>) -> Result<(), HostFault> {
+    show(rt, region, "memory after the load")?;
+    switch(rt, region)?;
+    show(rt, region, "memory after the patch")?;
+    region.lock(rt).delete(BASE)?;
+    show(rt, region, "memory after the deletion")
+}
+
+/// The chunk's life once more, in memory of the host's own.
+pub fn run<R: Wait + Print>(rt: &R, alloc: Global) -> Result<(), HostFault> {
+    let (gens, keeper, _passes) = Gens::new(alloc, 1)?;
+    let region = Mutex::new(loaded(alloc, &gens, keeper)?);
+    change(rt, &region)
 }
 
 /// A thread's time with its pass: it runs the code, checks in outside, and leaves for good.
@@ -118,6 +120,23 @@ fn visit_and_switch<R: Threads + Wait + Sync>(
     )
 }
 
+/// The chunk is patched beside a thread, and then deleted.
+fn change_shared<R: Threads + Wait + Print + Sync>(
+    rt: &R,
+    shared: &SharedOf<'_, Image<'_>>,
+    pass: Pass,
+) -> Result<(), HostFault>
+    requires { pass.table ≡ shared.now }
+{
+    let (end, patched) = visit_and_switch(rt, shared, pass);
+    let end = end?;
+    patched?;
+    shared.delete(rt, BASE)?;
+    let freed = shared.reclaim(rt);
+    println!(rt; "in memory of the host's own, patched beside a thread: {end:?}, {freed} freed")?;
+    Ok(())
+}
+
 /// The chunk's life once more: threads share the region.
 pub fn run_shared<R: Threads + Wait + Print + Sync>(
     rt: &R,
@@ -125,12 +144,6 @@ pub fn run_shared<R: Threads + Wait + Print + Sync>(
 ) -> Result<(), HostFault> {
     let (gens, keeper, mut passes) = Gens::new(alloc, 1)?;
     let pass = passes.remove(0);
-    let shared = shared_image(alloc, &gens, keeper)?;
-    let (end, patched) = visit_and_switch(rt, &shared, pass);
-    let end = end?;
-    patched?;
-    shared.delete(rt, BASE)?;
-    let freed = shared.reclaim(rt);
-    println!(rt; "in memory of the host's own, patched beside a thread: {end:?}, {freed} freed")?;
-    Ok(())
+    let shared = SharedOf::over(loaded(alloc, &gens, keeper)?, &gens);
+    change_shared(rt, &shared, pass)
 }

@@ -164,7 +164,14 @@ fn workers(rt: HostRuntime) -> Result<(), Fail> {
     for (bundles, workers, due) in &WORKERS {
         let mut reader = b"bad".as_slice();
         let mut writer = Slow::new(rt.alloc(), 9, true);
-        let answer = vet(&rt, rt.alloc(), &mut reader, &mut writer, *bundles, *workers);
+        let answer = vet(
+            &rt,
+            rt.alloc(),
+            &mut reader,
+            &mut writer,
+            *bundles,
+            *workers,
+        );
         ended_by_numbers(answer, *due, &writer, reader)?;
     }
     Ok(())

@@ -21,7 +21,14 @@ const RETURN: &[u8] =
 const NOPS: &[u8] = &[0x90; 64];
 
 /// A source's name, its code at 00010000, its labels, how much is written, how many are refused, and what is written.
-type Row = (&'static [u8], &'static [u8], &'static [Named], Detail, usize, &'static [u8]);
+type Row = (
+    &'static [u8],
+    &'static [u8],
+    &'static [Named],
+    Detail,
+    usize,
+    &'static [u8],
+);
 
 #[rattlefmt::skip]
 static ROWS: [Row; 7] = [
