@@ -1,8 +1,8 @@
 //! Calls of a region in tables, each with the answer that is due.
 ghost use Rattle.std.specs.Prelude.{◌≡◌};
 
-use crate::calls::Calls;
-use crate::fixtures::chunk;
+use crate::region::calls::Calls;
+use crate::region::fixtures::chunk;
 use nc_gens::{Gens, Pass};
 use nc_region::{CreateFault, DeleteFault, End, ModifyFault};
 use std::alloc::Global;

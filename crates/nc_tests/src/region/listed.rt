@@ -2,8 +2,8 @@
 ghost use Rattle.std.specs.Prelude.{◌≡◌};
 ghost use Rattle.nc_region.specs.Region.{IsNew};
 
-use crate::fixtures::{LIMIT, plain};
-use crate::steps::{Step, take_steps};
+use crate::region::fixtures::{LIMIT, plain};
+use crate::region::steps::{Step, take_steps};
 use nc_decode::{Mark, START};
 use nc_gens::{Gens, GensFull, Pass};
 use nc_region::{Acts, End, RegionOf};

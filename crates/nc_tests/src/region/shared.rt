@@ -2,10 +2,10 @@
 ghost use Rattle.std.specs.Prelude.{◌≡◌};
 ghost use Rattle.nc_region.specs.Region.{IsNew};
 
-use crate::calls::{Calls, Locked, is_created};
-use crate::fixtures::{LIMIT, chunk, region, shared};
-use crate::steps::{Step, Steps, take_both, take_steps};
-use crate::trial::{SharedTrial, recorder, try_shared};
+use crate::region::calls::{Calls, Locked, is_created};
+use crate::region::fixtures::{LIMIT, chunk, region, shared};
+use crate::region::steps::{Step, Steps, take_both, take_steps};
+use crate::region::trial::{SharedTrial, recorder, try_shared};
 use nc_gens::{Gens, Pass};
 use nc_region::{
     Acts, CreateFault, DeleteFault, End, ModifyFault, RegionOf, Shared, SharedOf, Trace,

@@ -1,8 +1,8 @@
 //! What no system shows of scripts and of lines of chunks: how often a writer is flushed, a flush that fails, errors of kinds that
 //! no device gives, and numbers that no command line lets through.
 
-use crate::tests::devices::{Failing, Slow};
-use crate::tests::rows::right;
+use crate::lower::devices::{Failing, Slow};
+use crate::lower::rows::right;
 use nc_lines::{Piped, ReplayFault, vet_lines};
 use nc_script::run;
 use nc_work::Open;

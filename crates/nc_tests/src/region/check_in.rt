@@ -2,10 +2,10 @@
 ghost use Rattle.std.specs.Prelude.{◌≡◌, All};
 ghost use Rattle.std.specs.Thread.{IsSync};
 
-use crate::calls::{Calls, Locked, is_created};
-use crate::fixtures::{chunk, shared};
-use crate::steps::{Step, take_steps};
-use crate::trial::{SharedTrial, try_shared};
+use crate::region::calls::{Calls, Locked, is_created};
+use crate::region::fixtures::{chunk, shared};
+use crate::region::steps::{Step, take_steps};
+use crate::region::trial::{SharedTrial, try_shared};
 use nc_gens::{Gens, Keeper, Pass};
 use nc_region::{Acts, SharedOf};
 use std::alloc::Global;

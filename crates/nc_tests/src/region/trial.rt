@@ -2,7 +2,7 @@
 ghost use Rattle.std.specs.Prelude.{◌≡◌, IfOk};
 ghost use Rattle.nc_region.specs.Region.{IsNew};
 
-use crate::fixtures::{plain, shared};
+use crate::region::fixtures::{plain, shared};
 use nc_gens::{Gens, Keeper, Pass};
 use nc_region::{Act, Acts, Entry, Plain, Recorder, RegionOf, SharedOf};
 use std::alloc::Global;

@@ -2,7 +2,7 @@
 
 ghost use Rattle.nc_elf.specs.Symbols.{AreAscending};
 
-use crate::tests::rows::right;
+use crate::lower::rows::right;
 use nc_elf::{Symbol, code_symbols, nearest};
 use std::test::Fail;
 

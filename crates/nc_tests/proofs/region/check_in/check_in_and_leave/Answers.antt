@@ -2,7 +2,7 @@ use Rattle.std.proofs.Common.{◌≡◌, ℕ, List, ◌++◌, length, take, drop
 use Rattle.std.specs.Prelude.{All}
 use Rattle.std.proofs.lemmas.List.Elements.{All-take, All-append, All-drop}
 use Rattle.nc_gens.specs.declared.table.Pass.{Pass}
-use Rattle.nc_region_tests.proofs.check_in.check_in_and_leave.Goals as goal
+use Rattle.nc_tests.proofs.region.check_in.check_in_and_leave.Goals as goal
 
 -- what holds of each pass holds once they are read out of the slice again
 kept_back : (P : Pass → Type 0) (old new : List Pass) (n : ℕ) → All P old → All P new → All P (take n (new ++ drop (length new) old))

@@ -1,3 +1,5 @@
+//! Tests of `nc_gens`, `nc_work`, `nc_elf`, `nc_lines`, `nc_script` and `nc_report`.
+
 mod devices;
 mod generations;
 mod lines;

@@ -1,8 +1,8 @@
 //! Sources and reports, as far as the built program doesn't show them: names and labels that no file has, guesses of a length,
 //! numbers out of range, and a flush that fails.
 
-use crate::tests::devices::Slow;
-use crate::tests::rows::right;
+use crate::lower::devices::Slow;
+use crate::lower::rows::right;
 use nc_report::{Detail, Label, Labels, ReportFault, Source, read_source, report};
 use std::alloc::{AllocError, Global};
 use std::io::Write;

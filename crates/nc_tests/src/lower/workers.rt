@@ -1,6 +1,6 @@
 //! Two workers at once, and numbers of workers that are refused.
 
-use crate::tests::rows::right;
+use crate::lower::rows::right;
 use nc_vet::VetFault;
 use nc_work::{Gate, Job, Open, Verdict, WorkFault, vet_all};
 use std::alloc::{AllocError, Global};

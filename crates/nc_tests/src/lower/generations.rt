@@ -1,7 +1,7 @@
 //! Calls that never wait.
 ghost use Rattle.std.specs.Prelude.{◌≡◌};
 
-use crate::tests::rows::right;
+use crate::lower::rows::right;
 use nc_gens::{Gens, Keeper, Pass};
 use std::test::Fail;
 use std::thread::Threads;

@@ -1,10 +1,10 @@
 //! Which acts a region tells, in which order, and where it settles among them.
 ghost use Rattle.std.specs.Prelude.{◌≡◌};
 
-use crate::calls::{Calls, is_created};
-use crate::fixtures::chunk;
-use crate::steps::{Step, Steps, creates, take_both};
-use crate::trial::{Telling, Trial, try_in_region};
+use crate::region::calls::{Calls, is_created};
+use crate::region::fixtures::chunk;
+use crate::region::steps::{Step, Steps, creates, take_both};
+use crate::region::trial::{Telling, Trial, try_in_region};
 use nc_calls::law_of_calls;
 use nc_gens::{Gens, Pass};
 use nc_region::{Act, Acts, DeleteFault, Entry, ModifyFault, RegionOf, law_of_schedules};

@@ -1,0 +1,10 @@
+//! Tests of `nc_region`: the acts that a `Recorder` tells and logs, marks that are set by a list, and regions that threads share.
+
+mod acts;
+mod calls;
+mod check_in;
+mod fixtures;
+mod listed;
+mod shared;
+mod steps;
+mod trial;
