@@ -1,8 +1,13 @@
-use Rattle.std.proofs.Common.{◌≡◌, ℕ, ◌≤◌, List, ap, arith, rules}
+use Rattle.std.proofs.Common.{◌≡◌, ℕ, ◌+◌, ◌≤◌, List, length, ap, subst, arith, rules}
 use Rattle.nc_elf.specs.declared.program.ProgramHeader.{ProgramHeader}
-use Rattle.nc_elf.specs.Segments.{program_header, EndBy}
+use Rattle.nc_elf.specs.Segments.{program_header, EndBy, IsInFile}
 use Rattle.nc_elf.specs.machinery.Pass.{IsFloor}
 use Rattle.nc_elf.proofs.checks.segment_fault.Goals as goal
+
+-- what was read ends in the file
+in_file : (file : List ℕ) (i : ℕ) (h : ProgramHeader) → h ≡ program_header file i → h.offset + h.file_len ≤ length file
+    → IsInFile file (program_header file i)
+in_file file i h e k = subst (λ (h : ProgramHeader). IsInFile file h) e k
 
 -- a segment at the floor or above is after the others
 after : (file : List ℕ) (i floor : ℕ) (h : ProgramHeader) → h ≡ program_header file i → IsFloor file i floor → floor ≤ h.address
@@ -14,13 +19,21 @@ above : (file : List ℕ) (i floor : ℕ) (h : ProgramHeader) → h ≡ program_
     → EndBy file i (program_header file i).address → floor ≤ h.address
 above file i floor h e f k = omega (arith, ap (λ (h : ProgramHeader). h.address) e, (f.least (program_header file i).address).0 k)
 
+pub returns-then-header-clause-some : goal.returns-then-header-clause-some
+returns-then-header-clause-some c = (in_file _ _ _ c.program_header-header.ensures c.if-header-file.false, search rules)
+
+pub returns-then-end-gt-TOP-clause-some : goal.returns-then-end-gt-TOP-clause-some
+returns-then-end-gt-TOP-clause-some c =
+    (in_file _ _ _ c.program_header-header.ensures c.if-header-file.false, search rules, search rules)
+
 pub returns-then-header-floor-clause-some : goal.returns-then-header-floor-clause-some
 returns-then-header-floor-clause-some c =
-    (search rules, search rules, search rules, λ k. omega (arith, above _ _ _ _ c.program_header-header.ensures c.requires.floor k))
+    (in_file _ _ _ c.program_header-header.ensures c.if-header-file.false, search rules, search rules,
+    λ k. omega (arith, above _ _ _ _ c.program_header-header.ensures c.requires.floor k))
 
 pub returns-then-is_writable-clause-some : goal.returns-then-is_writable-clause-some
 returns-then-is_writable-clause-some c = (
-  search rules,
+  in_file _ _ _ c.program_header-header.ensures c.if-header-file.false,
   search rules,
   search rules,
   after _ _ _ _ c.program_header-header.ensures c.requires.floor c.if-header-floor.false,
@@ -29,7 +42,7 @@ returns-then-is_writable-clause-some c = (
 
 pub returns-then-header-2-clause-some : goal.returns-then-header-2-clause-some
 returns-then-header-2-clause-some c = (
-  search rules,
+  in_file _ _ _ c.program_header-header.ensures c.if-header-file.false,
   search rules,
   search rules,
   after _ _ _ _ c.program_header-header.ensures c.requires.floor c.if-header-floor.false,
@@ -40,7 +53,7 @@ returns-then-header-2-clause-some c = (
 pub returns-clause-none : goal.returns-clause-none
 returns-clause-none c =
     record {
-      in_file = search rules;
+      in_file = in_file _ _ _ c.program_header-header.ensures c.if-header-file.false;
       in_memory = search rules;
       below_top = search rules;
       after_others = after _ _ _ _ c.program_header-header.ensures c.requires.floor c.if-header-floor.false;

@@ -1,6 +1,8 @@
-use Rattle.std.proofs.Common.{◌≡◌, ap, sym, ◌∙◌}
+use Rattle.std.proofs.Common.{◌≡◌, ℕ, ap, sym, ◌∙◌, arith}
 use Rattle.nc_elf.specs.declared.program.ProgramHeader.{ProgramHeader}
+use Rattle.nc_elf.specs.Header.{e_phnum}
 use Rattle.nc_elf.specs.Segments.{program_header, is_code, segment_of}
+use Rattle.nc_elf.specs.machinery.Pass.{first_segments}
 use Rattle.nc_elf.proofs.Lists.{more_code, more_other}
 use Rattle.nc_elf.proofs.listing.list_segments.Goals as goal
 use Rattle.nc_elf.proofs.listing.list_segments.Goals.{then-is_code+in_ok-push, else-is_code}
@@ -22,3 +24,8 @@ loop-number-preserved c =
           let same = more_other file i (asked ∙ w.if-is_code.false) in
           cc
     ]
+
+pub returns : goal.returns
+returns c =
+    let all : c.loop-number.number ≡ e_phnum c.args.file.now = omega arith in
+    c.loop-number.invariant ∙ ap (λ (n : ℕ). first_segments c.args.file.now n) all
