@@ -27,6 +27,9 @@ returns-then-limit-clause-confined g c = rw (← c.self.view_is) (confined_if_cl
 pub returns-in_default-clause-confined : goal.returns-in_default-clause-confined
 returns-in_default-clause-confined g c = rw (← c.self.view_is) (confined_if_closed _ _ c.self.invariant.0.whole.closed)
 
+pub returns-in_default-clause-unchanged : goal.returns-in_default-clause-unchanged
+returns-in_default-clause-unchanged g c = (refl, refl)
+
 pub returns-then-is_err-clause-confined : goal.returns-then-is_err-clause-confined
 returns-then-is_err-clause-confined g c = confined_if_closed _ _ c.self.invariant.0.whole.closed
 
