@@ -81,7 +81,7 @@ REFUSED = [
 # Lengths to which the file is cut, and why the rest is refused as a whole.
 CUT = [(255, SEGMENT % (3, BEYOND_FILE)), (223, SEGMENT % (1, BEYOND_FILE)), (179, TABLE), (52, TABLE), (51, HEADER), (4, HEADER)]
 
-# Files that are none of ELF, and so raw code.
+# Files that aren't ELF files, and so are raw code.
 RAW = [b"\x7e" + CODE_FILE[1:], CODE_FILE[:3] + b"f" + CODE_FILE[4:], CODE_FILE[:3], b""]
 
 # Entries of a table of symbols: for each the place of its name, its address, length, type and binding, visibility, and section.

@@ -37,7 +37,7 @@ LINES_VERDICTS = "ok\nrefused BadBase\n"
 
 
 def lines_words(workers):
-    """The command line that vets lines by so many workers."""
+    """The command line that vets lines by this many workers."""
     return ["vet", "--bundles", "4", "--workers", str(workers)]
 
 

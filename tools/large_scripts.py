@@ -8,7 +8,7 @@ LINE_LIMIT = 1048576
 
 
 def create(at, bundles=2):
-    """A line that creates a chunk of so many bundles of nops."""
+    """A line that creates a chunk of this many bundles of nops."""
     return "create %08x %s\n" % (at, NOPS * bundles)
 
 
@@ -60,7 +60,7 @@ def long_walk():
 
 
 def long_line(bundles):
-    """A chunk of so many bundles, and a list that shows it. The last line has no end."""
+    """A chunk of this many bundles, and a list that shows it. The last line has no end."""
     return create(START, bundles) + "dump", "ok\ndump 00010000 live " + NOPS * bundles + "\n"
 
 
@@ -81,12 +81,12 @@ def last_of_the_most_seats():
 
 
 def create_of_length(digits):
-    """A line that creates a chunk of so many digits, and another one."""
+    """A line that creates a chunk of this many digits, and another one."""
     return "create 00010000 " + "9" * digits + "\ndump"
 
 
 def chunk_line_of_length(length):
-    """A line of chunks of so many bytes, nearly all of it digits, and one without an end."""
+    """A line of chunks of this many bytes, nearly all of it digits, and one without an end."""
     return "00010000 ".ljust(length, "9") + "\n00010001 -"
 
 

@@ -29,6 +29,7 @@
 #define PAIR "\x83\xE0\xE0\xFF\xE0"                              /* and eax, -32; jmp *eax */
 #define NUMBER "\xB8\x01\x01\x01\x01"                            /* mov eax, 01010101 */
 #define JUMP "\xEB\x1E" NOPS30                                   /* to the next bundle */
+#define RETURN "\xC3" NOPS30 "\x90"                              /* refused */
 #define JUMPS "\xEB\x3C" NOPS30 NOPS30 "\xEB\xC0"                /* at both ends of two bundles, each to the other */
 #define SEVERAL "\xEB\xFE" NUMBER PAIR NOPS9 NOPS9 "\x90\x90"    /* a jump to itself, and some more */
 
@@ -62,6 +63,7 @@ static struct {
 
 /* ---- Calls that take memory */
 
+static uint32_t vet(void) { return nc_host_vet(base, LIMIT, BYTES(code)).fault; }
 static uint32_t mark(void) { return nc_host_marks(base, LIMIT, BYTES(code), buffers.marks, sizeof buffers.marks).fault; }
 static uint32_t host_create(void) { return nc_host_create(base, LIMIT, BYTES(code), buffers.acts, ROOM).fault; }
 static uint32_t host_delete(void) { return nc_host_delete(base, LIMIT, BYTES(code), buffers.acts, ROOM).fault; }
@@ -211,6 +213,8 @@ static void show_walk(void) {
 /* ---- All calls */
 
 static const Call calls[] = {
+    {"vet", JUMP, NO_REGION, vet, show_marks},
+    {"vet-return", RETURN, NO_REGION, vet, show_marks},
     {"marks-pair", NOPS27 PAIR, NO_REGION, mark, show_marks},
     {"marks-jumps", JUMPS, NO_REGION, mark, show_marks},
     {"host-create", JUMP, NO_REGION, host_create, show_acts},

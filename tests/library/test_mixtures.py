@@ -3,7 +3,6 @@ of them left out some mixture isn't.
 """
 import unittest
 
-import nc_host as nc
 from following import Life
 from reading import filled
 from views import Views, mixtures

@@ -7,7 +7,7 @@
 
 #include <stdbool.h>
 
-#define SEEN 16 /* bytes of one place: between two settlings the writer puts at most nine different ones */
+#define SEEN 16 /* bytes of one place: between two settlings the writer puts at most ten different ones */
 
 typedef struct Place {
     uint8_t byte, mark;

@@ -24,7 +24,8 @@ fn replay<R: Read, W: Write>(
     run(alloc, reader, writer, bundles, seats)
 }
 
-/// Vets lines of chunks for a region of `bundles` bundles, by this number of workers. It has no clause either.
+/// Vets lines of chunks for a region of `bundles` bundles, by this number of workers. It has no clause, so that
+/// no proof above goes through what the contract says.
 fn vet<T: Threads + Wait + Sync, R: Read, W: Write>(
     rt: &T,
     alloc: Global,

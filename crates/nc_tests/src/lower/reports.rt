@@ -216,7 +216,7 @@ const BYTES: &[u8] = b"\x90\x0a\xc3\x00 bytes";
 
 const NAME: &[u8] = b"a b";
 
-/// Whether all of a source is read, where so many bytes are expected.
+/// Whether all of a source is read, where this number of bytes is expected.
 fn is_read(alloc: Global, name: Vec<u8>, expected: usize) -> bool {
     let mut reader = BYTES;
     match read_source(alloc, name, &mut reader, expected) {

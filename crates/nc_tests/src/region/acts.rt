@@ -189,7 +189,7 @@ fn try_lives(alloc: Global, rows: &[(usize, u32)]) -> Result<(), Fail> {
     Ok(())
 }
 
-/// The laws on such acts are called too, since each public function is called in some test.
+/// The laws on such acts are called too: they require nothing, and do nothing.
 #[test]
 fn order_of_acts(rt: HostRuntime) -> Result<(), Fail> {
     law_of_schedules();
