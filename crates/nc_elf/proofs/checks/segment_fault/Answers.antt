@@ -27,9 +27,12 @@ returns-then-end-gt-TOP-clause-some c =
     (in_file _ _ _ c.program_header-header.ensures c.if-header-file.false, search rules, search rules)
 
 pub returns-then-header-floor-clause-some : goal.returns-then-header-floor-clause-some
-returns-then-header-floor-clause-some c =
-    (in_file _ _ _ c.program_header-header.ensures c.if-header-file.false, search rules, search rules,
-    λ k. omega (arith, above _ _ _ _ c.program_header-header.ensures c.requires.floor k))
+returns-then-header-floor-clause-some c = (
+  in_file _ _ _ c.program_header-header.ensures c.if-header-file.false,
+  search rules,
+  search rules,
+  λ k. omega (arith, above _ _ _ _ c.program_header-header.ensures c.requires.floor k),
+)
 
 pub returns-then-is_writable-clause-some : goal.returns-then-is_writable-clause-some
 returns-then-is_writable-clause-some c = (
