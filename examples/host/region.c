@@ -71,7 +71,7 @@ static void show_fault(uint32_t fault) {
     printf("fault %u: %s, %s\n", (unsigned)fault, nc_fault_name(fault), nc_fault_sentence(fault));
 }
 
-/* A walk by some choices, into so many places. */
+/* A walk by some choices, into a buffer of `room` places. */
 static void show_walk(uint32_t start, size_t room) {
     static const uint32_t choices[] = {0, 0, 0, NC_START + 64 + 5, 0};
     uint32_t places[6];

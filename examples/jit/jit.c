@@ -21,7 +21,7 @@
 
 #define SKIPPED 77
 #define CACHED_AT 0x20000u /* what threads run while its inline cache is patched */
-#define STUB_AT 0x30000u   /* the stubs of that cache: so many bundles, used by turns */
+#define STUB_AT 0x30000u   /* the stubs of that cache: STUBS bundles, used in turns */
 #define STUBS 64u
 #define SHORT_AT 0x40000u  /* what is made, run and thrown away */
 #define ROUNDS 50u

@@ -10,7 +10,9 @@ class Numbers(ctypes.Structure):
 
 
 MALLINFO = getattr(ctypes.CDLL(None), "mallinfo2", None)
-if MALLINFO is not None:
+if MALLINFO is None:
+    print("skipped: how much memory the library keeps: there is no mallinfo2, so no glibc", flush=True)
+else:
     MALLINFO.restype = Numbers
 
 

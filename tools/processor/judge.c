@@ -245,14 +245,14 @@ static void judge_beginning(Judge *j, Beginning *b, unsigned step) {
     }
 }
 
-Counts judge(List *list, unsigned of_so_many, FILE *to) {
+Counts judge(List *list, unsigned slice, FILE *to) {
     Judge j;
     size_t i;
     memset(&j, 0, sizeof j);
     j.to = to;
     for (i = 0; i < list->count; i++) {
-        if (!list->all[i].sib || i % of_so_many == 0) {
-            judge_beginning(&j, &list->all[i], of_so_many == 1 ? 1 : 9);
+        if (!list->all[i].sib || i % slice == 0) {
+            judge_beginning(&j, &list->all[i], slice == 1 ? 1 : 9);
         }
     }
     return j.n;

@@ -12,8 +12,8 @@ typedef struct Counts {
     uint64_t never, wrong; /* beginnings that only divide wrongly; differences */
 } Counts;
 
-/* Judges each beginning that is chosen: all without a SIB, and one of so many of those with one. Those that differ are marked in the list;
+/* Judges each beginning that is chosen: all without a SIB, and one in `slice` of those with one. Those that differ are marked in the list;
    the first differences are written out where `to` is a file. */
-Counts judge(List *list, unsigned of_so_many, FILE *to);
+Counts judge(List *list, unsigned slice, FILE *to);
 
 #endif

@@ -6,7 +6,7 @@
 #include <string.h>
 
 #define SKIPPED 77
-#define SLICE 101 /* of the beginnings with a SIB one in so many */
+#define SLICE 101 /* one in this many of the beginnings with a SIB */
 
 static void show(const Counts *n) {
     printf("%llu beginnings, %llu instructions, %llu runs: %llu completed, %llu faulted, %llu cut short by the page's end\n",

@@ -56,7 +56,7 @@ fn part_of(
     })
 }
 
-/// The parts of an ELF file, of which so much is to be written: its segments of code, in the order of its program headers. Their
+/// The parts of an ELF file, for this amount of detail: its segments of code, in the order of its program headers. Their
 /// names are the file's, with their addresses unless these are written by themselves.
 pub fn parts_of(alloc: Global, file: &Source, detail: Detail) -> Result<Vec<Part>, ElfFault>
     // What is judged are the bytes that the program headers name, at the addresses that they name.

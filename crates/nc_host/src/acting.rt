@@ -32,7 +32,7 @@ pub(crate) fn refused(verdict: NcVerdict, len: usize) -> NcActs
 /// bytes that aren't bundle starts, a settling, the marks of the span, the bundle starts. There are two acts more than the code has
 /// bytes.
 ///
-/// If the buffer has not so much room for a valid chunk, the fault is 9 and `count` says how much is wanted. The buffer is as it
+/// If the buffer has less room for a valid chunk, the fault is 9 and `count` says how much is wanted. The buffer is as it
 /// was on each refusal.
 #[unsafe(no_mangle)]
 pub extern "C" fn nc_host_create(

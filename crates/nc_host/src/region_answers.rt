@@ -112,7 +112,7 @@ pub(crate) fn no_place(fault: u32) -> NcPlace
     }
 }
 
-/// A change that isn't made, for this reason; where the reason is that there is no room, so much is wanted.
+/// A change that isn't made, for this reason; where the reason is that there is no room, `count` says how much is wanted.
 pub(crate) fn no_change(fault: u32, count: usize) -> NcChange
     ensures { result ≡ record { fault = fault; at = 0; count = count } }
 {

@@ -6,5 +6,6 @@ mod check_in;
 mod fixtures;
 mod listed;
 mod shared;
+mod sizes;
 mod steps;
 mod trial;

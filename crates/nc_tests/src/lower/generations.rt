@@ -1,10 +1,24 @@
-//! Calls that never wait.
+//! Numbers of seats for which there is no table, and calls that never wait.
 ghost use Rattle.std.specs.Prelude.{◌≡◌};
 
 use crate::lower::rows::right;
-use nc_gens::{Gens, Keeper, Pass};
+use nc_gens::{Gens, GensFault, Keeper, Pass};
+use std::alloc::Global;
 use std::test::Fail;
 use std::thread::Threads;
+
+/// There is no table of this many seats.
+fn is_refused(alloc: Global, seats: u32) -> bool {
+    matches!(Gens::new(alloc, seats), Err(GensFault::BadSeats))
+}
+
+#[test]
+fn bad_seats_are_refused(rt: HostRuntime) -> Result<(), Fail> {
+    for seats in [0, 257, u32::MAX] {
+        right(is_refused(rt.alloc(), seats), seats)?;
+    }
+    Ok(())
+}
 
 /// It is allowed to start threads and not to wait, so nothing that it calls waits. It answers the
 /// first stamp, `since` after a meeting and after a check-in, and a look once the seat has left
