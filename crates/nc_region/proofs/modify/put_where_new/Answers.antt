@@ -13,12 +13,6 @@ returns-then-stands_there-clause-bytes g c =
     stands_same (g.A.Acts.marked c.args.acts.now).bytes c.args.at c.args.bytes.now r.low r.high (sym c.stands_there.ensures
     ∙ c.if-stands_there.true)
 
-pub put_instruction-requires-clause-replacing : goal.put_instruction-requires-clause-replacing
-put_instruction-requires-clause-replacing g c = c.requires.replacing
-
-pub returns-clause-marks : goal.returns-clause-marks
-returns-clause-marks g c = c.put_instruction.ensures.marks
-
 pub returns-then-stands_there-clause-told : goal.returns-then-stands_there-clause-told
 returns-then-stands_there-clause-told g c =
     subst (λ (z : Bool). Tells (g.A.Acts.told c.args.acts.now) (g.A.Acts.told c.args.acts.now)

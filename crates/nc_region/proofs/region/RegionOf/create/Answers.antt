@@ -1,15 +1,14 @@
-use Rattle.std.proofs.Common.{◌≡◌, ℕ, ◌+◌, ◌<◌, ◌^◌, List, length, arith, rules, sym, ap, subst, ◌∙◌, refl}
+use Rattle.std.proofs.Common.{◌≡◌, ℕ, ◌+◌, ◌<◌, ◌^◌, length, arith, rules, sym, ap, subst, ◌∙◌, refl}
 use Rattle.std.proofs.Common.{Result, Ok, Err, IfOk, true, false}
 use Rattle.std.specs.Result.{is_err}
 use Rattle.std.specs.List.{insert}
-use Rattle.nc_text.specs.Machine.{IsConfined}
 use Rattle.nc_text.specs.Places.{limit_of}
 use Rattle.nc_text.specs.MarkedText.{MarkedText, IsText}
 use Rattle.nc_text.specs.Ready.{AreReady}
 use Rattle.nc_text.proofs.Offered.{confined_if_closed}
 use Rattle.nc_region.specs.declared.chunk.Chunk.{Chunk}
 use Rattle.nc_region.specs.Chunks.{HasGoodSpan, IsClosedChunk, with_chunk}
-use Rattle.nc_region.specs.Region.{Region, IsRegion, AreChunksReady, FitsAt, live_chunk}
+use Rattle.nc_region.specs.Region.{FitsAt, live_chunk}
 use Rattle.nc_region.proofs.EachMember.{each_map}
 use Rattle.nc_region.proofs.chunks.Inserting.{unused_if_apart, region_with_chunk}
 use Rattle.nc_region.proofs.chunks.Pieces.{valid_chunk_is_closed, chunk_names_registers}
@@ -26,8 +25,7 @@ pub returns-then-limit-clause-confined : goal.returns-then-limit-clause-confined
 returns-then-limit-clause-confined g c = rw (← c.self.view_is) (confined_if_closed _ _ c.self.invariant.0.whole.closed)
 
 pub returns-in_default-clause-confined : goal.returns-in_default-clause-confined
-returns-in_default-clause-confined g c =
-    subst (λ (r : Region). IsConfined r.marked.bytes) c.self.view_is (confined_if_closed _ _ c.self.invariant.0.whole.closed)
+returns-in_default-clause-confined g c = rw (← c.self.view_is) (confined_if_closed _ _ c.self.invariant.0.whole.closed)
 
 pub returns-in_default-clause-unchanged : goal.returns-in_default-clause-unchanged
 returns-in_default-clause-unchanged g c = (refl, refl)
@@ -67,11 +65,6 @@ returns-then-is_err-2-clause-refused g c =
     let same : v.limit ≡ limit_of (g.A.Acts.marked c.self.inside.acts).bytes = sym c.limit.ensures.value
     ∙ (c.if-limit.false ∙ c.limit-2.ensures.limit) in
     rw (← c.self.view_is) (same, fits_meets c.self.inside.chunks.items v.base (length v.code) c.in-Some.k fit.1 fit.2)
-
-pub invariant_of-self : goal.invariant_of-self
-invariant_of-self g c =
-    subst (λ (l : List Chunk). IsRegion (g.A.Acts.marked c.self.inside.acts) l × AreChunksReady (g.A.Acts.made c.self.inside.acts) l)
-    (sym c.reserve.ensures.items) c.self.invariant
 
 pub invariant_of-self-then-is_err-2 : goal.invariant_of-self-then-is_err-2
 invariant_of-self-then-is_err-2 g c =

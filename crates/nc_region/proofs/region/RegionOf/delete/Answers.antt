@@ -1,7 +1,6 @@
 use Rattle.std.specs.List.{slice_get}
 use Rattle.std.proofs.lemmas.Option.{get_or_from_slice_get}
-use Rattle.std.proofs.Common.{◌≡◌, ℕ, ◌-◌, set, replicate, Some, refl, sym, subst, ap, ◌∙◌, arith}
-use Rattle.nc_text.specs.Machine.{IsConfined}
+use Rattle.std.proofs.Common.{◌≡◌, ℕ, ◌-◌, set, replicate, Some, sym, subst, ap, ◌∙◌, arith}
 use Rattle.nc_text.specs.Places.{limit_of}
 use Rattle.nc_text.proofs.Offered.{confined_if_closed}
 use Rattle.nc_text.specs.MarkedText.{with_span}
@@ -19,10 +18,7 @@ returns-in_default-clause-confined g c = rw (← c.self.view_is) (confined_if_cl
 
 pub returns-then-generation-ge-LAST_GENERATION-clause-confined : goal.returns-then-generation-ge-LAST_GENERATION-clause-confined
 returns-then-generation-ge-LAST_GENERATION-clause-confined g c =
-    subst (λ (r : Region). IsConfined r.marked.bytes) c.self.view_is (confined_if_closed _ _ c.self.invariant.0.whole.closed)
-
-pub returns-then-generation-ge-LAST_GENERATION-clause-unchanged : goal.returns-then-generation-ge-LAST_GENERATION-clause-unchanged
-returns-then-generation-ge-LAST_GENERATION-clause-unchanged g c = refl
+    rw (← c.self.view_is) (confined_if_closed _ _ c.self.invariant.0.whole.closed)
 
 pub returns-then-generation-ge-LAST_GENERATION-clause-refused : goal.returns-then-generation-ge-LAST_GENERATION-clause-refused
 returns-then-generation-ge-LAST_GENERATION-clause-refused g c =
