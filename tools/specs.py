@@ -118,10 +118,13 @@ class Files:
         return self.files[crate, path]
 
     def resolved(self, key):
-        """Where a name is defined: a constructor with its type, a name that a file hands on where that has it from."""
+        """Where a name is defined: a constructor with its type, a name that a file hands on where that has it from. None for a field of a
+        variable that is named as a module is for short."""
         crate, path, name = key
         file = self.file(crate, path)
-        return (crate, path, file.owner[name]) if name in file.owner else self.resolved(file.imports[name])
+        if name in file.owner:
+            return crate, path, file.owner[name]
+        return self.resolved(file.imports[name]) if name in file.imports else None
 
 
 class Definitions(Files):
@@ -133,9 +136,10 @@ class Definitions(Files):
         todo = [(key, root) for key in self.law(root) or self.definition(root)]
         while todo:
             key, by = todo.pop(0)
-            crate, path, name = key = self.resolved(STANDS_FOR.get(key, key))
-            if key not in self.found:
+            key = self.resolved(STANDS_FOR.get(key, key))
+            if key is not None and key not in self.found:
                 self.found[key] = by
+                crate, path, name = key
                 file = self.file(crate, path)
                 cited = self.clauses(*MET_BY[key]) if key in MET_BY else file.names(file.parts[name], {name})
                 todo += [(other, name) for other in cited]
@@ -149,7 +153,7 @@ class Definitions(Files):
     def law(self, name):
         """The definitions that the clauses of a public function name, or None if there is no such function."""
         for source in sorted(pathlib.Path("crates").glob("nc_*/src/**/*.rt")):
-            clauses = re.search(rf"^pub fn {name}\(.*?^{{", source.read_text(encoding="utf-8"), re.M | re.S)
+            clauses = re.search(rf'^pub (?:extern "C" )?fn {name}\(.*?^{{', source.read_text(encoding="utf-8"), re.M | re.S)
             if clauses:
                 file = self.file(source.parts[1], "/".join(source.parts[2:]))
                 return file.names(counted(clauses.group().split("\n")))
