@@ -14,6 +14,7 @@ TYPE = re.compile(r"^(?:pub(?:\(crate\))? )?(?:struct|enum|const) (\w+)")
 WORD = re.compile(r"(?<![\w.])[A-Za-z_][\w']*(?:\.[A-Za-z_][\w']*)*")
 LABEL = re.compile(r"(?<=[{;])\s*\w+ =(?= )")
 BOUND = re.compile(r"\(([^():]*) :")
+EQUATION = re.compile(r"^[A-Za-z_][\w']* ([^=:]+) =", re.M)
 NAME = re.compile(r"[a-z_][\w']*")
 
 
@@ -87,11 +88,14 @@ class File:
         return equations[0] if same else []
 
     def names(self, lines, but=()):
-        """Whatever these lines cite of this project: crate, file and name."""
-        for word in WORD.findall(LABEL.sub("", "\n".join(lines))):
+        """Whatever these lines cite of this project: crate, file and name. A module's short name may also be a variable's."""
+        text = LABEL.sub("", "\n".join(lines))
+        variables = {word for group in BOUND.findall(text) + EQUATION.findall(text) for word in re.findall(NAME, group)}
+        for word in WORD.findall(text):
             module, _, inner = word.partition(".")
-            if inner and module in self.modules:
-                yield (*self.modules[module][:2], inner)
+            if inner and module in self.modules and module not in variables:
+                source, file, kind = self.modules[module]
+                yield source, file, kind or inner
             elif module in self.imports:
                 yield self.imports[module]
             elif module in self.owner and self.owner[module] not in but:
@@ -118,13 +122,10 @@ class Files:
         return self.files[crate, path]
 
     def resolved(self, key):
-        """Where a name is defined: a constructor with its type, a name that a file hands on where that has it from. None for a field of a
-        variable that is named as a module is for short."""
+        """Where a name is defined: a constructor with its type, a name that a file hands on where that has it from."""
         crate, path, name = key
         file = self.file(crate, path)
-        if name in file.owner:
-            return crate, path, file.owner[name]
-        return self.resolved(file.imports[name]) if name in file.imports else None
+        return (crate, path, file.owner[name]) if name in file.owner else self.resolved(file.imports[name])
 
 
 class Definitions(Files):
@@ -136,10 +137,9 @@ class Definitions(Files):
         todo = [(key, root) for key in self.law(root) or self.definition(root)]
         while todo:
             key, by = todo.pop(0)
-            key = self.resolved(STANDS_FOR.get(key, key))
-            if key is not None and key not in self.found:
+            crate, path, name = key = self.resolved(STANDS_FOR.get(key, key))
+            if key not in self.found:
                 self.found[key] = by
-                crate, path, name = key
                 file = self.file(crate, path)
                 cited = self.clauses(*MET_BY[key]) if key in MET_BY else file.names(file.parts[name], {name})
                 todo += [(other, name) for other in cited]
