@@ -10,7 +10,7 @@ MET_BY = {("nc_calls", "specs/Histories.antt", "IsCall"): ("nc_calls", "src/call
 
 IMPORT = re.compile(r"^\s*(?:ghost |pub )*use Rattle\.(nc_\w+)\.specs\.([\w.]+?)(?:\.\{([^}]*)\}| as (\w+));?", re.M)
 START = re.compile(r"^(?:(?:abbrev|unfoldable) )?(?:pub )?(?:(record|data) )?([A-Za-z_][\w']*)(?: |$)")
-TYPE = re.compile(r"^(?:pub(?:\(crate\))? )?(?:struct|enum|const) (\w+)")
+TYPE = re.compile(r"^(?:pub(?:\(crate\))? )?(?:struct|enum|const|static) (\w+)")
 WORD = re.compile(r"(?<![\w.])[A-Za-z_][\w']*(?:\.[A-Za-z_][\w']*)*")
 LABEL = re.compile(r"(?<=[{;])\s*\w+ =(?= )")
 BOUND = re.compile(r"\(([^():]*) :")
@@ -67,7 +67,7 @@ class File:
         return name
 
     def cut_types(self, text):
-        """Finds each struct, enum and constant of a file of the program."""
+        """Finds each struct, enum, constant and static of a file of the program."""
         name = None
         for line in counted(text.split("\n")):
             head = TYPE.match(line)
