@@ -26,6 +26,18 @@ pub answers_set : (jobs : List Job) (answers : List (Option (Result Marks VetFau
     → AreAnswers jobs answers → FitsPlace jobs at answer → AreAnswers jobs (set answers at answer)
 answers_set jobs answers at answer h p = record { each = set_each (FitsPlace jobs) answers at answer None h.each p }
 
+-- where no place has an answer, none has a wrong one
+none_at : (answers : List (Option (Result Marks VetFault))) → All (λ a. a ≡ None) answers → (k : ℕ) → get_or answers k None ≡ None
+none_at [] none k = refl
+none_at (a ∷ rest) none zero = none zero None (omega arith)
+none_at (a ∷ rest) none (suc k) = none_at rest (λ j d below. none (suc j) d (omega (arith, below))) k
+
+pub none_answers : (jobs : List Job) (answers : List (Option (Result Marks VetFault))) → All (λ a. a ≡ None) answers
+    → AreAnswers jobs answers
+none_answers jobs answers none = record {
+  each = λ k. subst (λ (a : Option (Result Marks VetFault)). FitsPlace jobs k a) (sym (none_at answers none k)) tt;
+}
+
 -- a worker that has done nothing has done it right
 pub none_done : (jobs : List Job) (done : List Done) → done ≡ [] → AreDone jobs done
 none_done jobs done e = record { each = λ k d below. absurd (omega (arith, ap (λ (z : List Done). length z) e)) }

@@ -146,6 +146,7 @@ pub fn vet_all<G: Gate, T: Threads + Wait + Sync>(
         verdicts,
     } = room;
     work_all(rt, &jobs, &mut lists, gate);
-    gather(&jobs, lists, &mut answers);
-    Ok(conclude(jobs, &mut answers, verdicts, gate))
+    let places = answers.as_mut_slice();
+    gather(&jobs, lists, places);
+    Ok(conclude(jobs, places, verdicts, gate))
 }

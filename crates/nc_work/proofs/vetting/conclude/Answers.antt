@@ -28,3 +28,6 @@ loop-job-preserved g c =
       so_far = rw (c.push_reserved.ensures.len, add-one, c.push_reserved.ensures.items, next.front)
           (all_zipped_more IsVerdictOn _ _ _ _ c.loop-job.invariant.so_far c.verdict.ensures);
     }
+
+pub verdict-requires : goal.verdict-requires
+verdict-requires g c = c.answer_of-answer.ensures

@@ -1,4 +1,4 @@
-use Rattle.std.proofs.Common.{subst}
+use Rattle.std.proofs.Common.{subst, sym}
 use Rattle.std.specs.Prelude.{List, All}
 use Rattle.std.specs.Global.{Vec}
 use Rattle.std.proofs.lemmas.List.Elements.{All-head, All-rest}
@@ -19,3 +19,20 @@ loop-done-preserved c =
       answers =
           c.put_all.ensures.answers;
     }
+
+pub loop-done-init : goal.loop-done-init
+loop-done-init c =
+    let P : Vec Done → Type 0 = λ h. AreDone c.args.jobs.now h.items in
+    record {
+      lists = subst (λ (z : List (Vec Done)). All P z) (sym c.into_iter-done-iterator.ensures.into_iter_gives.0) c.requires.lists;
+      answers = c.requires.answers;
+    }
+
+pub put_all-requires-clause-answers : goal.put_all-requires-clause-answers
+put_all-requires-clause-answers c = c.loop-done.invariant.answers
+
+pub returns-clause-len : goal.returns-clause-len
+returns-clause-len c = c.loop-done.auto.answers
+
+pub returns-clause-answers : goal.returns-clause-answers
+returns-clause-answers c = c.loop-done.invariant.answers
