@@ -1,6 +1,6 @@
 -- The symbols of code that a table of symbols names.
-use Rattle.std.specs.Prelude.{◌≡◌, ℕ, ◌+◌, ◌*◌, ◌/◌, ◌<◌, ◌≤◌, ◌==◌, ◌&&◌, ◌||◌, not, Bool, List, Some, [], ◌∷◌, length, map, filter}
-use Rattle.std.specs.Prelude.{take, drop, bit_and, nat_eq, nat_lt, nat_le, slice_get, slice_index, slice_index_or, slice_range}
+use Rattle.std.specs.Prelude.{◌≡◌, ℕ, ◌+◌, ◌*◌, ◌/◌, ◌<◌, ◌≤◌, ◌==◌, ◌&&◌, ◌||◌, not, Bool, List, [], ◌∷◌, length, map, filter}
+use Rattle.std.specs.Prelude.{take, drop, bit_and, nat_eq, nat_lt, nat_le, slice_index, slice_range}
 use Rattle.std.specs.List.{range_with_len, prefix_len, starts_with}
 use Rattle.std.specs.List.Sorted.{IsPermutation, IsNonDecreasingBy, IsStableByKey}
 use Rattle.std.specs.Ordering.{nat_cmp}
@@ -95,10 +95,3 @@ pub record IsNamed (file : List ℕ) (s : Symbol) : Type 0 where
 -- the bytes of the file that are the symbol's name
 abbrev pub name_of : List ℕ → Symbol → List ℕ
 name_of file s = slice_range file s.name_at (s.name_at + s.name_len)
-
--- the symbol is the last one of the list whose address is at most this one
-pub record IsNearest (symbols : List Symbol) (at : ℕ) (s : Symbol) : Type 0 where
-  pub index : ℕ
-  pub found : slice_get symbols index ≡ Some s
-  pub before : s.address ≤ at
-  pub last : (i : ℕ) (d : Symbol) → index < i → i < length symbols → at < (slice_index_or symbols i d).address

@@ -22,7 +22,7 @@ fn segment_fault(file: &[u8], number: usize, floor: u64) -> Option<SegmentFault>
     ensures some { IfSome result (HasSegmentFault file.now number) }
 {
     let header = program_header(file, number);
-    if header.offset as usize + header.file_len as usize > file.len() {
+    if !header.is_in_file(file) {
         return Some(SegmentFault::BeyondFile);
     }
     if header.file_len > header.memory_len {

@@ -19,14 +19,13 @@
 //! }
 //! ```
 //!
-//! [`code_symbols`] lists the names that the file's table of symbols has for code, by ascending address, and [`nearest`] finds the one
-//! for an address. Symbols decide nothing: they are names for messages. A file without a table of symbols, or with a malformed one, has
-//! none, and isn't refused.
+//! [`code_symbols`] lists the names that the file's table of symbols has for code, by ascending address. Symbols decide nothing: they
+//! are names for messages. A file without a table of symbols, or with a malformed one, has none, and isn't refused.
 //!
 //! ```
 //! let symbols = code_symbols(alloc, file)?;
-//! if let Some(symbol) = nearest(&symbols, address) {
-//!     let (name, offset) = (symbol.name(file), address - symbol.address);
+//! for symbol in &symbols {
+//!     print(symbol.address, symbol.name(file));
 //! }
 //! ```
 #![tactic(auto)]
@@ -46,4 +45,4 @@ pub use fault::{ElfFault, SegmentFault};
 pub use header::is_elf;
 pub use listing::code_segments;
 pub use segment::Segment;
-pub use symbols::{Symbol, code_symbols, nearest};
+pub use symbols::{Symbol, code_symbols};

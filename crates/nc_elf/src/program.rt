@@ -1,8 +1,8 @@
 //! Program headers, each of which names a segment.
 
-ghost use Rattle.std.specs.Prelude.{◌≡◌, ◌+◌, ◌<◌};
+ghost use Rattle.std.specs.Prelude.{◌≡◌, ◌+◌, ◌<◌, ◌↔◌, IsTrue};
 ghost use Rattle.nc_elf.specs.Header.{e_phnum, HasTable};
-ghost use Rattle.nc_elf.specs.Segments.{program_header, is_load, is_executable, is_writable, is_code, segment_of};
+ghost use Rattle.nc_elf.specs.Segments.{program_header, is_load, is_executable, is_writable, is_code, segment_of, IsInFile};
 
 use crate::header::{E_PHNUM, E_PHOFF};
 use crate::numbers::{u16_at, u32_at};
@@ -77,6 +77,13 @@ impl ProgramHeader {
         ensures { result ≡ is_code self }
     {
         self.is_load() && self.is_executable() && self.file_len > 0
+    }
+
+    /// The bytes that the file has of the segment lie in it.
+    pub(crate) fn is_in_file(self, file: &[u8]) -> bool
+        ensures { IsTrue result ↔ IsInFile file.now self }
+    {
+        self.offset as usize + self.file_len as usize <= file.len()
     }
 
     /// The first address after the segment.

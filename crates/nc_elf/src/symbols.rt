@@ -1,15 +1,15 @@
 //! The symbols of code: names for addresses.
 
-ghost use Rattle.std.specs.Prelude.{◌≡◌, ◌+◌, ◌≤◌, ◌<◌, IfOk, IfSome, IfNone, All, length};
+ghost use Rattle.std.specs.Prelude.{◌≡◌, ◌+◌, ◌≤◌, IfOk, All, length};
 ghost use Rattle.nc_elf.specs.Sections.{AreSymbolSections};
-ghost use Rattle.nc_elf.specs.Symbols.{symbols_of, AreAscending, AreCodeSymbols, IsNamed, IsNearest, name_of};
+ghost use Rattle.nc_elf.specs.Symbols.{symbols_of, AreAscending, AreCodeSymbols, IsNamed, name_of};
 
 use crate::entries::{entry_count, listed_symbol, symbol_entry};
 use crate::sections::{SymbolSections, symbol_sections};
 use std::alloc::{AllocError, Global};
 
 /// An address and where its name lies in the file.
-#[derive(Clone, Copy, Debug, Drop, PartialEq, Eq)]
+#[derive(Clone, Copy, Drop)]
 pub struct Symbol {
     /// The address.
     pub address: u32,
@@ -57,7 +57,7 @@ pub fn code_symbols(alloc: Global, file: &[u8]) -> Result<Vec<Symbol>, AllocErro
     ensures symbols { IfOk result (λ symbols. AreCodeSymbols file.now symbols.items) }
     // Each name is short and lies in the file.
     ensures named { IfOk result (λ symbols. All (IsNamed file.now) symbols.items) }
-    // They ascend, as `nearest` wants them.
+    // They ascend.
     ensures ascending { IfOk result (λ symbols. AreAscending symbols.items) }
 {
     let Some(sections) = symbol_sections(file) else {
@@ -66,17 +66,4 @@ pub fn code_symbols(alloc: Global, file: &[u8]) -> Result<Vec<Symbol>, AllocErro
     let mut symbols = list_symbols(alloc, file, sections)?;
     symbols.sort_by_key(|symbol| symbol.address)?;
     Ok(symbols)
-}
-
-/// The last symbol whose address is at most this one, by binary search.
-pub fn nearest(symbols: &[Symbol], address: u32) -> Option<Symbol>
-    requires { AreAscending symbols.now }
-    ensures some { IfSome result (IsNearest symbols.now address) }
-    ensures none { IfNone result (All (λ (s : Symbol). address < s.address) symbols.now) }
-{
-    let count = symbols.partition_point(|symbol| symbol.address <= address);
-    if count == 0 {
-        return None;
-    }
-    Some(symbols[count - 1])
 }

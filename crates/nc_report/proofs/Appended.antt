@@ -1,6 +1,9 @@
 -- Text that is added part after part.
-use Rattle.std.proofs.Common.{◌≡◌, ℕ, Bool, true, false, List, ◌∷◌, [], ◌++◌, if◌then◌else◌, sym, ap, ◌∙◌, append_assoc, append-nil}
+use Rattle.std.proofs.Common.{◌≡◌, ℕ, ◌+◌, ◌<◌, ◌≤◌, Bool, true, false, length, take, get_or, List, ◌∷◌, [], ◌++◌, if◌then◌else◌, sym, ap, ◌∙◌, append_assoc, append-nil}
 use Rattle.std.specs.Prelude.{codes}
+use Rattle.std.specs.List.{flat_map}
+use Rattle.std.proofs.lemmas.List.{take_all, take_more}
+use Rattle.nc_vet.proofs.Offered.{flat_map-append}
 use Rattle.hex.specs.Hex.{encode_lower}
 use Rattle.nc_report.specs.Listing.{spaced}
 
@@ -68,3 +71,19 @@ pub row_parts : (o digits times words : List ℕ)
     → o ++ (codes "  -> " ++ (digits ++ (codes ": " ++ (times ++ (words ++ 10 ∷ [])))))
     ≡ o ++ (codes "  -> " ++ ((digits ++ (codes ": " ++ (times ++ words))) ++ 10 ∷ []))
 row_parts o digits times words = simp append_assoc
+
+-- what a byte is written as was added to what those before it are
+pub one_written : (f : ℕ → List ℕ) (xs old now next : List ℕ) (i : ℕ) → i < length xs → now ≡ old ++ flat_map f (take i xs)
+    → next ≡ now ++ f (get_or xs i 0) → next ≡ old ++ flat_map f (take (i + 1) xs)
+one_written f xs old now next i lt e n =
+    let x = get_or xs i 0 in
+    n ∙ ap (λ (z : List ℕ). z ++ f x) e
+    ∙ append_assoc old (flat_map f (take i xs)) (f x)
+    ∙ ap (λ (z : List ℕ). old ++ z)
+    (sym (ap (flat_map f) (take_more xs i 0 lt) ∙ flat_map-append f (take i xs) (x ∷ [])
+    ∙ ap (λ (z : List ℕ). flat_map f (take i xs) ++ z) (append-nil (f x))))
+
+-- so all bytes were
+pub all_written : (f : ℕ → List ℕ) (xs old now : List ℕ) (i : ℕ) → length xs ≤ i → now ≡ old ++ flat_map f (take i xs)
+    → now ≡ old ++ flat_map f xs
+all_written f xs old now i le e = e ∙ ap (λ (z : List ℕ). old ++ flat_map f z) (take_all i xs le)

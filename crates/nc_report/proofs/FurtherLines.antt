@@ -1,5 +1,5 @@
 -- Lines on the places of a chunk, one place after the other, and what of them was written.
-use Rattle.std.proofs.Common.{◌≡◌, ℕ, ◌+◌, List, [], ◌∷◌, ◌++◌, length, take, refl, sym, subst, ◌∙◌, ap}
+use Rattle.std.proofs.Common.{◌≡◌, ◌≢◌, ℕ, ◌+◌, Bool, cond, eq-eqb, ne_eqb, List, [], ◌∷◌, ◌++◌, length, take, refl, sym, subst, ◌∙◌, ap}
 use Rattle.std.proofs.Common.{append_assoc, append-nil, Option, inl, inr}
 use Rattle.std.specs.Prelude.{slice_index}
 use Rattle.std.specs.List.{AllZip, flat_map}
@@ -8,10 +8,11 @@ use Rattle.std.proofs.KnownBytes.{Appends-trans, Appends-nil}
 use Rattle.std.proofs.lemmas.List.{take_at}
 use Rattle.std.proofs.Math.Seq.{take-append-add}
 use Rattle.nc_vet.proofs.Offered.{flat_map-append}
+use Rattle.nc_vet.specs.declared.fault.VetFault.{VetFault}
 use Rattle.nc_report.specs.declared.labels.Label.{Label}
 use Rattle.nc_report.specs.declared.spot.Spot.{Spot}
 use Rattle.nc_report.specs.Listing.{spaced}
-use Rattle.nc_report.specs.Further.{parted, bar, lines_at, lines_to}
+use Rattle.nc_report.specs.Further.{fault_at, parted, bar, lines_on, lines_at, lines_to}
 use Rattle.nc_report.specs.Totals.{last_lines}
 use Rattle.nc_report.specs.Report.{detail_line, ReportsOthers, ReportsSome}
 use Rattle.nc_report.specs.machinery.Found.{WritesLines, CutsLines, AreLinesTo, AreSomeLines}
@@ -132,3 +133,17 @@ all_lines limit base code labels spots own lines h e = record {
   is = ap (λ (z : List (List ℕ)). z ++ last_lines base limit code spots) e
       ∙ ap (λ (z : List Spot). lines_to base limit code labels z own (length code) ++ last_lines base limit code z) h.is;
 }
+
+-- at the chunk's own fault there are no lines
+pub none_at_own : (base limit : ℕ) (code : List ℕ) (labels : List Label) (spots : List Spot) (own k : ℕ) (old : List ℕ) → k ≡ own
+    → old ≡ old ++ flat_map detail_line (lines_at base limit code labels spots own k)
+none_at_own base limit code labels spots own k old e =
+    sym (append-nil old) ∙ ap (λ (b : Bool). old ++ flat_map detail_line (cond b [] (lines_on base limit code labels spots k (fault_at base limit code spots k)))) (sym (eq-eqb k own e))
+
+-- elsewhere they are those on the fault there
+pub lines_elsewhere : (base limit : ℕ) (code : List ℕ) (labels : List Label) (spots : List Spot) (own k : ℕ) (found : Option VetFault)
+    → k ≢ own → found ≡ fault_at base limit code spots k
+    → lines_on base limit code labels spots k found ≡ lines_at base limit code labels spots own k
+lines_elsewhere base limit code labels spots own k found other is =
+    ap (lines_on base limit code labels spots k) is
+    ∙ ap (λ (b : Bool). cond b [] (lines_on base limit code labels spots k (fault_at base limit code spots k))) (sym (ne_eqb k own other))

@@ -1,5 +1,5 @@
 -- Members of an object, written one after the other.
-use Rattle.std.proofs.Common.{◌≡◌, ◌≢◌, ◌≤◌, ◌<◌, arith, ℕ, ◌-◌, List, [], ◌∷◌, ◌++◌, sym, subst, ◌∙◌, ap, append_assoc, Option, Some}
+use Rattle.std.proofs.Common.{◌≡◌, ◌≢◌, ◌≤◌, ◌<◌, arith, ℕ, ◌-◌, List, [], ◌∷◌, ◌++◌, refl, sym, subst, ◌∙◌, ap, append_assoc, Option, Some}
 use Rattle.std.proofs.lemmas.Bool.Decides.{nat_tests}
 use Rattle.std.specs.Prelude.{codes}
 use Rattle.nc_vet.specs.declared.fault.VetFault.{VetFault}
@@ -47,6 +47,12 @@ pub five_members : (o a b c d e n1 n2 n3 n4 n5 n6 : List ℕ) → n1 ≡ o ++ a 
 five_members o a b c d e n1 n2 n3 n4 n5 n6 e1 e2 e3 e4 e5 e6 =
     four_members o (a ++ b) c d e n2 n3 n4 n5 n6 (e2 ∙ ap (λ (z : List ℕ). z ++ b) e1 ∙ append_assoc o a b) e3 e4 e5 e6
     ∙ ap (λ (z : List ℕ). o ++ reply_line z) (append_assoc a b (c ++ (d ++ (e ++ codes "}"))))
+
+-- three members that were added as one, two more, and the end of an object
+pub headed_members : (o a b c d e n1 n2 n3 n4 : List ℕ) → n1 ≡ o ++ (a ++ (b ++ c)) → n2 ≡ n1 ++ d → n3 ≡ n2 ++ e → n4 ≡ n3 ++ codes "}\n"
+    → n4 ≡ o ++ reply_line (a ++ (b ++ (c ++ (d ++ (e ++ codes "}")))))
+headed_members o a b c d e n1 n2 n3 n4 e1 e2 e3 e4 =
+    five_members o a b c d e (o ++ a) ((o ++ a) ++ b) n1 n2 n3 n4 refl refl (e1 ∙ sym (joined3 o a b c)) e2 e3 e4
 
 -- the members on a fault's address, on the name of that and on what the fault means
 pub placed_members : (base at : ℕ) (code : List ℕ) (labels : List Label) (o n1 n2 n3 words : List ℕ) (fault : VetFault) (place : Option ℕ)

@@ -381,7 +381,7 @@ fn at_most(room: usize, whole: usize) -> Option<usize>
 /// There is none where the bytes end before the instruction does, where the instruction would have more than 15 bytes, or
 /// where its opcode isn't one that the manual's maps have. It says nothing on whether a processor executes the instruction:
 /// an opcode that exists has a length with any operand and any prefixes.
-pub fn known_len(bytes: &[u8]) -> Option<usize>
+pub(crate) fn known_len(bytes: &[u8]) -> Option<usize>
     ensures value { result ≡ known_length bytes.now }
     ensures within { IfSome result (λ n. (1 ≤ n) × (n ≤ longest) × (n ≤ length bytes.now)) }
 {

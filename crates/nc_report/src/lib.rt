@@ -10,7 +10,7 @@
 //! a valid chunk.
 //!
 //! All faults of a refused chunk are found by one reading of it: `steps` reads it past its faults, with the lengths that
-//! `lengths` knows ([`known_len`]), and gives a `spot` for each byte; `further` finds the faults by the spots, `aim` says where
+//! `lengths` knows, and gives a `spot` for each byte; `further` finds the faults by the spots, `aim` says where
 //! a bad transfer goes, `others` writes the lines on each fault, and `totals` counts them.
 //!
 //! A source may have [`Labels`], names for addresses of its code: `labels` finds the nearest one at an address or below it, and
@@ -47,7 +47,6 @@ pub use detail::Detail;
 pub use fault::{ReportFault, SourceFault};
 pub use labels::{Label, Labels};
 pub use law::{law_of_details, law_of_readings};
-pub use lengths::known_len;
 pub use nc_lines::Piped;
 pub use objects::push_file_object;
 pub use reporting::report;

@@ -152,6 +152,22 @@ fn push_places(
     )
 }
 
+/// Adds the members that the object of a source begins with: its name, its address and its verdict.
+fn push_head(
+    alloc: Global,
+    out: &mut Vec<u8>,
+    name: &[u8],
+    base: u32,
+    verdict: &[u8],
+) -> Result<(), AllocError>
+    ensures { OnOk result (out.new.items ≡ out.old.items ++ (file_member name.now
+        ++ (string_member (codes "address") (address_digits base) ++ string_member (codes "verdict") verdict.now))) }
+{
+    push_file(out, name)?;
+    push_place(alloc, out, b"address", base)?;
+    push_member(out, b"verdict", verdict)
+}
+
 /// Adds the object of a source that is accepted, and the end of its line.
 pub(crate) fn push_accepted_object(
     alloc: Global,
@@ -163,9 +179,7 @@ pub(crate) fn push_accepted_object(
 ) -> Result<(), AllocError>
     ensures { OnOk result (out.new.items ≡ out.old.items ++ reply_line (accepted_object base name.now bytes instructions)) }
 {
-    push_file(out, name)?;
-    push_place(alloc, out, b"address", base)?;
-    push_member(out, b"verdict", b"ok")?;
+    push_head(alloc, out, name, base, b"ok")?;
     push_count(alloc, out, b"bytes", bytes)?;
     push_count(alloc, out, b"instructions", instructions)?;
     push_end(out)
@@ -185,9 +199,7 @@ pub(crate) fn push_refused_object(
     ensures { OnOk result ((fault ≢ vet.OutOfMemory) × (out.new.items ≡ out.old.items
         ++ reply_line (refused_object base name.now code.now labels.now fault (place_of fault)))) }
 {
-    push_file(out, name)?;
-    push_place(alloc, out, b"address", base)?;
-    push_member(out, b"verdict", b"refused")?;
+    push_head(alloc, out, name, base, b"refused")?;
     push_member(out, b"fault", fault_name(fault)?)?;
     push_places(alloc, out, base, code, labels, fault)?;
     push_end(out)

@@ -4,6 +4,7 @@ ghost use Rattle.std.specs.Prelude.{◌≡◌, ◌++◌, ◌∷◌, [], ◌+◌,
 ghost use Rattle.std.specs.List.{flat_map};
 ghost use Rattle.std.specs.Io.KnownBytes.{Appends};
 ghost use Rattle.nc_vet.specs.Faults.{HasGoodSpan};
+ghost use Rattle.nc_lines.specs.Replies.{fault_words};
 ghost use Rattle.nc_report.specs.Listing.{spaced};
 ghost use Rattle.nc_report.specs.Further.{parted, listing, goes_lines, lines_on, lines_at};
 ghost use Rattle.nc_report.specs.Report.{detail_line, ReportsOthers, ReportsSome};
@@ -112,6 +113,15 @@ fn push_goes(
     }
 }
 
+/// Adds the line that names a further fault.
+fn push_heading(out: &mut Vec<u8>, fault: VetFault) -> Result<(), AllocError>
+    ensures { OnOk result (out.new.items ≡ out.old.items ++ detail_line (codes "also " ++ fault_words fault)) }
+{
+    push_text(out, b"  also ")?;
+    push_name(out, fault)?;
+    push_text(out, b"\n")
+}
+
 /// Adds the lines on a fault at this place.
 fn push_also(
     alloc: Global,
@@ -131,9 +141,7 @@ fn push_also(
     ensures { OnOk result (out.new.items ≡ out.old.items
         ++ flat_map detail_line (lines_on base limit code.now labels.now spots.now k (Some fault))) }
 {
-    push_text(out, b"  also ")?;
-    push_name(out, fault)?;
-    push_text(out, b"\n")?;
+    push_heading(out, fault)?;
     push_label(alloc, out, labels, base + k as u32)?;
     push_listing(out, base, code, spots, k)?;
     push_goes(out, base, limit, code, spots, k, fault)?;

@@ -1,6 +1,6 @@
 //! Vetting of sources, and the report of what was found.
 
-ghost use Rattle.std.specs.Prelude.{◌≡◌, ◌↔◌, All, map, length, IfOk, IfErr, OnErr, IsErrOf};
+ghost use Rattle.std.specs.Prelude.{◌≡◌, ◌↔◌, ◌++◌, ◌∷◌, [], All, map, length, IfOk, IfErr, OnOk, OnErr, IsErrOf};
 ghost use Rattle.nc_decode.specs.Bundles.{IsRegionSize, limit_after};
 ghost use Rattle.nc_work.specs.Verdicts.{AreWorkers};
 ghost use Rattle.nc_report.specs.Report.{HasReported, HasBegunReport};
@@ -24,18 +24,37 @@ struct Parted {
     jobs: Vec<Job>,
 }
 
+/// Room for the titles and jobs of this many sources.
+fn room_for(alloc: Global, count: usize) -> Result<Parted, AllocError>
+    ensures titles { IfOk result (λ p. p.titles.items ≡ []) }
+    ensures jobs { IfOk result (λ p. p.jobs.items ≡ []) }
+{
+    let titles = Vec::with_capacity(alloc, count)?;
+    let jobs = Vec::with_capacity(alloc, count)?;
+    Ok(Parted { titles, jobs })
+}
+
+/// Adds the title and the job of a source.
+fn push_parted(parted: &mut Parted, source: Source, base: u32, limit: u32) -> Result<(), AllocError>
+    ensures titles { OnOk result (parted.new.titles.items ≡ parted.old.titles.items ++ title_of source ∷ []) }
+    ensures jobs { OnOk result (parted.new.jobs.items ≡ parted.old.jobs.items ++ job_of base limit source ∷ []) }
+{
+    let Source { name, code, labels } = source;
+    parted.titles.push(Title { name, labels })?;
+    parted.jobs.push(Job { base, limit, code })?;
+    Ok(())
+}
+
 /// Parts sources into titles and jobs.
 fn part(alloc: Global, sources: Vec<Source>, base: u32, limit: u32) -> Result<Parted, AllocError>
     ensures titles { IfOk result (λ p. p.titles.items ≡ map title_of sources.items) }
     ensures jobs { IfOk result (λ p. p.jobs.items ≡ map (job_of base limit) sources.items) }
 {
-    let mut titles = Vec::with_capacity(alloc, sources.len())?;
-    let mut jobs = Vec::with_capacity(alloc, sources.len())?;
-    for Source { name, code, labels } in sources {
-        titles.push(Title { name, labels })?;
-        jobs.push(Job { base, limit, code })?;
+    let mut parted = room_for(alloc, sources.len())?;
+    for source in sources {
+        push_parted(&mut parted, source, base, limit)?;
     }
-    Ok(Parted { titles, jobs })
+    Ok(parted)
 }
 
 /// Writes what is said of each source, and gives how many are refused.

@@ -1,9 +1,8 @@
-//! Tests of `nc_gens`, `nc_work`, `nc_elf`, `nc_lines`, `nc_script` and `nc_report`.
+//! Tests of `nc_gens`, `nc_work`, `nc_lines`, `nc_script` and `nc_report`.
 
 mod devices;
 mod generations;
 mod lines;
 mod reports;
 mod rows;
-mod symbols;
 mod workers;

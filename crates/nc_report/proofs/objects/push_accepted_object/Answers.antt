@@ -1,10 +1,14 @@
+use Rattle.std.specs.Prelude.{codes}
 use Rattle.std.proofs.lemmas.Result.{on_ok_weaker}
-use Rattle.nc_report.proofs.ObjectTexts.{five_members}
+use Rattle.nc_lines.specs.Replies.{address_digits}
+use Rattle.nc_report.specs.Objects.{file_member, string_member}
+use Rattle.nc_report.proofs.ObjectTexts.{headed_members}
 use Rattle.nc_report.proofs.objects.push_accepted_object.Goals as goal
 
 pub returns : goal.returns
 returns c =
     on_ok_weaker c.push_end.result
-    (λ e. five_members c.args.out.now.items _ _ _ _ _ _ _ _ _ _ c.push_end.new.out.items c.in_ok-push_file.ensures
-    c.in_ok-push_place.ensures c.in_ok-push_member.ensures c.in_ok-push_count.ensures c.in_ok-push_count-2.ensures e)
+    (λ e. headed_members c.args.out.now.items (file_member c.args.name.now) (string_member (codes "address") (address_digits c.args.base))
+    (string_member (codes "verdict") (codes "ok")) _ _ _ _ _ c.push_end.new.out.items c.in_ok-push_head.ensures
+    c.in_ok-push_count.ensures c.in_ok-push_count-2.ensures e)
     c.push_end.ensures

@@ -1,6 +1,6 @@
-use Rattle.std.proofs.Common.{◌+◌, ◌++◌, List, ℕ, sym, ap, ◌∙◌, arith}
+use Rattle.std.proofs.Common.{◌+◌, ◌++◌, List, ℕ, inl, refl, sym, ap, ◌∙◌, subst, arith}
 use Rattle.nc_report.specs.Further.{lines_at}
-use Rattle.nc_report.specs.machinery.Found.{AreLinesTo, AreSomeLines}
+use Rattle.nc_report.specs.machinery.Found.{WritesLines, AreLinesTo, AreSomeLines}
 use Rattle.nc_report.proofs.FurtherLines.{none_written, written_more, cut_here, cut_in, lines_more}
 use Rattle.nc_report.proofs.others.write_places.Goals as goal
 
@@ -40,3 +40,14 @@ loop-k-preserved g c =
     (λ lines h. ap (λ (z : List (List ℕ)). z ++ more) h
     ∙ sym (lines_more c.args.base c.args.limit c.args.code.now c.args.labels.now c.args.spots.now c.args.own k))
     appended kept
+
+pub returns-clause-ok : goal.returns-clause-ok
+returns-clause-ok g c =
+    subst (λ (n : ℕ). WritesLines (g.W.Write.contents c.args.writer.now) (g.W.Write.contents c.loop-k.writer) c.args.out.now.items c.loop-k.out.items
+    (AreLinesTo c.args.base c.args.limit c.args.code.now c.args.labels.now c.args.spots.now c.args.own n)) (omega arith) c.loop-k.invariant
+
+pub returns-in-Err-clause-faults : goal.returns-in-Err-clause-faults
+returns-in-Err-clause-faults g c = inl refl
+
+pub returns-in-Err-write_much-clause-faults : goal.returns-in-Err-write_much-clause-faults
+returns-in-Err-write_much-clause-faults g c = c.in-Err-write_much.ensures.faults
