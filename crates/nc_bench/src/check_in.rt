@@ -2,6 +2,7 @@
 
 ghost use Rattle.std.specs.Prelude.{◌≡◌};
 
+use crate::report::report;
 use nc_gens::{Gens, Keeper, Pass};
 use nc_region::{Region, Shared};
 use std::io;
@@ -88,13 +89,6 @@ fn check_in_once<R: Clock + AllocGlobal>(rt: &R, times: u32) -> io::Result<Durat
     }
 }
 
-/// Prints the best times.
-fn report<R: Print>(rt: &R, times: u32, check_in: Duration, bare: Duration) -> io::Result<()> {
-    let check_in = check_in.as_nanos();
-    let bare = bare.as_nanos();
-    println!(rt; "{times} check-ins: {check_in} ns; {times} bare loads and stores: {bare} ns")
-}
-
 /// Times check-ins and bare steps by turns, and prints the best times.
 pub fn measure_check_in<R: Clock + Print + AllocGlobal>(
     rt: &R,
@@ -107,5 +101,6 @@ pub fn measure_check_in<R: Clock + Print + AllocGlobal>(
         check_in = check_in.min(check_in_once(rt, times)?);
         bare = bare.min(bare_once(rt, times)?);
     }
-    report(rt, times, check_in, bare)
+    report(rt, times, "check-ins", check_in)?;
+    report(rt, times, "bare loads and stores", bare)
 }

@@ -1,13 +1,13 @@
 //! The program `nc_bench`: how fast code is vetted, and how long a region's calls take.
 //!
 //! It has a subcommand for each measurement; without words it says which. `measurements` lists them with their words, and
-//! `command_line` reads these by `clap`. Each measurement works in rounds and prints the best time, and has a file of its own:
+//! `command_line` says what these ask for. Each measurement works in rounds and prints the best time, and has a file of its own:
 //!
 //! | Subcommand | File |
 //! |---|---|
 //! | `vet` | `vetting`, on what `code` makes of a file |
 //! | `workers` | `workers` |
-//! | `chunks`, `walk` | `chunks` |
+//! | `chunks` | `chunks` |
 //! | `checkin` | `check_in` |
 #![tactic(auto)]
 
@@ -18,13 +18,15 @@ mod command_line;
 mod load;
 mod measurements;
 mod ordinary;
+mod report;
 mod vetting;
 mod workers;
 
 use check_in::measure_check_in;
-use chunks::{measure_chunks, measure_walk};
+use chunks::measure_chunks;
 use clap::{ArgMatches, Error};
-use command_line::{jobs, load, matches, number, source};
+use command_line::{jobs, load, number, source};
+use measurements::matches;
 use std::alloc::{AllocError, Global};
 use std::process::ExitCode;
 use std::rt::Files;
@@ -46,7 +48,6 @@ fn measure<R: Threads + Wait + Sync + Clock + Files + Print + AllocGlobal>(
         "vet" => measure_vet(rt, &source(found)?, rounds),
         "workers" => measure_workers(rt, jobs(found), rounds, found.get_one("WORKERS")),
         "chunks" => measure_chunks(rt, load(found), rounds),
-        "walk" => measure_walk(rt, load(found), number(found, "STEPS"), rounds),
         _ => measure_check_in(rt, number(found, "TIMES"), rounds),
     }
 }
@@ -63,7 +64,7 @@ fn measure_named<R: Threads + Wait + Sync + Clock + Files + Print + AllocGlobal>
 }
 
 /// Prints a fault of the command line, or help, and gives the status to end with.
-fn report<R: Print + Eprint>(rt: &R, error: &Error) -> io::Result<ExitCode> {
+fn report_fault<R: Print + Eprint>(rt: &R, error: &Error) -> io::Result<ExitCode> {
     error.print(rt)?;
     Ok(ExitCode::from(if error.use_stderr() { 2 } else { 0 }))
 }
@@ -75,7 +76,7 @@ fn run<R: Threads + Wait + Sync + Clock + Files + Print + Eprint + AllocGlobal>(
 ) -> io::Result<ExitCode> {
     match matches(rt.alloc(), words) {
         Ok(found) => measure_named(rt, &found),
-        Err(error) => report(rt, &error),
+        Err(error) => report_fault(rt, &error),
     }
 }
 

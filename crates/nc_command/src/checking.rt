@@ -5,117 +5,74 @@ ghost use Rattle.std.specs.Str.Parse.{IsNumeral};
 ghost use Rattle.nc_command.specs.Checking.{EndsInDigits, SpellsBase, IsCheckInRange};
 
 use crate::asked::{CheckAsk, Said};
-use crate::command_line::{
-    bundles_option, fault, matches, named, number, with, with_made, workers_option,
-};
+use crate::building::{fault, matches};
+use crate::command_line::number;
+use crate::table::{BUNDLES, FLAG, OPTION, Program, Usage, WORKERS, Word};
+use clap::builder::ValueParser;
 use clap::error::ErrorKind;
-use clap::{Arg, ArgAction, ArgMatches, Command, Error};
+use clap::{ArgAction, ArgMatches, Error};
 use nc_decode::MAX_BUNDLES;
 use std::alloc::{AllocError, Global};
 
-/// An option that takes no value.
-fn flag<'a>(alloc: Global, name: &'a str, help: &'a str) -> Arg<'a> {
-    named(alloc, name, help).action(ArgAction::SetTrue)
-}
-
-/// The option for the address of the first byte.
-fn base_option<'a>(alloc: Global) -> Arg<'a> {
-    Arg::new(alloc, "base")
-        .long("base")
-        .value_name("ADDRESS")
-        .help("Address of a raw file's first byte, 1 to 8 hexadecimal digits")
-        .default_value("00010000")
-}
-
-/// The files, at least one.
-fn files<'a>(alloc: Global) -> Arg<'a> {
-    Arg::new(alloc, "files")
-        .value_name("FILE")
-        .help("ELF files and files of raw code; `-` is standard input")
-        .num_args(1..)
-        .required(true)
-}
-
-/// The option for all faults, which excludes the one for a single line.
-fn all_option<'a>(alloc: Global) -> Result<Arg<'a>, AllocError> {
-    flag(
-        alloc,
-        "all",
-        "Also write each further fault, and how many there are",
-    )
-    .conflicts_with("quiet")
-}
-
-/// The option for the transfers out of a file, which excludes those for less and for more on a refused file.
-fn calls_option<'a>(alloc: Global) -> Result<Arg<'a>, AllocError> {
-    let calls = flag(
-        alloc,
-        "calls",
-        "Also write the addresses outside an accepted file that it jumps to and calls (00000000: unresolved symbols)",
-    );
-    calls.conflicts_with("quiet")?.conflicts_with("all")
-}
-
-/// The forms in which verdicts are written.
-static FORMATS: [&str; 2] = ["text", "json"];
-
-/// The option for the form in which verdicts are written.
-fn format_option<'a>(alloc: Global) -> Arg<'a> {
-    Arg::new(alloc, "format")
-        .long("format")
-        .value_name("FORMAT")
-        .help("How the verdicts are written")
-        .value_parser(FORMATS.as_slice())
-        .default_value("text")
-}
-
-/// The command line before it has options.
-fn bare_program<'a>(alloc: Global) -> Result<Command<'a>, AllocError> {
-    Command::new(alloc, "nc_check")
-        .version("0.1.0")
-        .about("Judge files of 32-bit x86 code for a region of untrusted code")
-        .no_binary_name(true)
-        .bin_name("nc_check")
-}
-
-/// The command line with the options for what is judged, and by how many threads.
-fn with_judging<'a>(
-    alloc: Global,
-    program: Result<Command<'a>, AllocError>,
-) -> Result<Command<'a>, AllocError> {
-    let raw = flag(
-        alloc,
-        "raw",
-        "Judge each file as raw code, also one that begins as an ELF file",
-    );
-    let program = with(program, base_option(alloc));
-    let program = with(program, raw);
-    let program = with(program, bundles_option(alloc, "2097152"));
-    with(program, workers_option(alloc))
-}
-
-/// The command line with the options for what is said of each file.
-fn with_saying<'a>(
-    alloc: Global,
-    program: Result<Command<'a>, AllocError>,
-) -> Result<Command<'a>, AllocError> {
-    let quiet = flag(
-        alloc,
-        "quiet",
-        "Write only one line for each file that is refused",
-    );
-    let program = with(program, quiet);
-    let program = with_made(program, all_option(alloc));
-    let program = with_made(program, calls_option(alloc));
-    with(program, format_option(alloc))
-}
-
-/// The whole command line, without the program's own name.
-fn program<'a>(alloc: Global) -> Result<Command<'a>, AllocError> {
-    let program = with_judging(alloc, bare_program(alloc));
-    let program = with_saying(alloc, program);
-    with(program, files(alloc))
-}
+/// The program `nc_check`.
+#[rattlefmt::skip]
+static CHECK: Program = Program {
+    usage: Usage {
+        name: "nc_check",
+        about: "Judge files of 32-bit x86 code for a region of untrusted code",
+        words: &[
+            Word {
+                name: "base",
+                value_names: &["ADDRESS"],
+                defaults: &["00010000"],
+                help: "Address of a raw file's first byte, 1 to 8 hexadecimal digits",
+                ..OPTION
+            },
+            Word {
+                name: "raw",
+                help: "Judge each file as raw code, also one that begins as an ELF file",
+                ..FLAG
+            },
+            Word { defaults: &["2097152"], ..BUNDLES },
+            WORKERS,
+            Word {
+                name: "quiet",
+                help: "Write only one line for each file that is refused",
+                ..FLAG
+            },
+            Word {
+                name: "all",
+                conflicts: &["quiet"],
+                help: "Also write each further fault, and how many there are",
+                ..FLAG
+            },
+            Word {
+                name: "calls",
+                conflicts: &["quiet", "all"],
+                help: "Also write the addresses outside an accepted file that it jumps to and calls (00000000: unresolved symbols)",
+                ..FLAG
+            },
+            Word {
+                name: "format",
+                value_names: &["FORMAT"],
+                parser: ValueParser::Names(&["text", "json"]),
+                defaults: &["text"],
+                help: "How the verdicts are written",
+                ..OPTION
+            },
+            Word {
+                name: "files",
+                is_option: false,
+                action: ArgAction::Append,
+                value_names: &["FILE"],
+                is_required: true,
+                help: "ELF files and files of raw code; `-` is standard input",
+                ..OPTION
+            },
+        ],
+    },
+    subcommands: &[],
+};
 
 /// A text without the `0x` or `0X` at its front.
 fn without_prefix(text: &str) -> &str
@@ -142,7 +99,7 @@ fn base_of(text: &str) -> Option<u32>
 
 /// A fault of what the words give, which the parser doesn't find.
 fn refusal(alloc: Global, message: &str) -> Error {
-    fault(program(alloc), ErrorKind::InvalidValue, message)
+    fault(alloc, &CHECK, ErrorKind::InvalidValue, message)
 }
 
 /// The fault that a message tells, if there was memory for the message.
@@ -226,7 +183,7 @@ pub fn ask_check<'a>(alloc: Global, words: &'a [&'a str]) -> Result<CheckAsk<'a>
     // The numbers are in the ranges of the options, and there is a file.
     ensures { IfOk result IsCheckInRange }
 {
-    let found = matches(program(alloc), words)?;
+    let found = matches(alloc, &CHECK, words)?;
     let asked = asked(alloc, &found);
     drop(found);
     asked

@@ -1,13 +1,14 @@
 //! A region over acts of the host's own: behind a lock of the host's own, and shared by `SharedOf`.
 
 ghost use Rattle.std.specs.Prelude.{◌≡◌, IfOk, OnOk, IfErr};
+ghost use Rattle.nc_region.specs.Region.{IsNew};
 ghost use Rattle.nc_embed.specs.Load.{IsLoaded, IsLeft, MayRefuseCode};
 
 use crate::admitting::admit;
 use crate::code::{BASE, BUNDLES, SWITCH, SWITCHED, bundles};
 use crate::fault::{HostFault, LoadFault};
 use nc_gens::{Gens, Keeper, Pass};
-use nc_region::{Acts, End, Image, ModifyFault, RegionOf, SharedOf, WalkFault};
+use nc_region::{Acts, DeleteFault, End, Image, ModifyFault, RegionOf, SharedOf, WalkFault};
 use std::alloc::Global;
 use std::sync::{Mutex, Wait};
 use std::thread::{Threads, join};
@@ -59,8 +60,27 @@ fn show<R: Wait + Print>(
 }
 
 /// Patches the chunk. It is a function without a clause: a proof of the whole life needs to know nothing of this fault.
-fn switch<R: Wait>(rt: &R, region: &Mutex<RegionOf<Image<'_>>>) -> Result<(), ModifyFault> {
+fn switch<R: Wait, A: Acts + Drop>(rt: &R, region: &Mutex<RegionOf<A>>) -> Result<(), ModifyFault> {
     region.lock(rt).modify(BASE, &SWITCHED)
+}
+
+/// Deletes the chunk, likewise.
+fn delete<R: Wait, A: Acts + Drop>(
+    rt: &R,
+    region: &Mutex<RegionOf<A>>,
+) -> Result<u64, DeleteFault> {
+    region.lock(rt).delete(BASE)
+}
+
+/// A region over these acts, with the chunk in it.
+fn loaded_over<A: Acts + Drop>(alloc: Global, acts: A) -> Result<RegionOf<A>, HostFault>
+    requires { IsNew (A.marked acts) }
+    ensures { IfOk result (λ r. r.keeper ≡ A.keeper acts) }
+{
+    let code = bundles(alloc, &SWITCH)?;
+    let mut region = RegionOf::over(alloc, acts);
+    load(&mut region, BASE, code)?;
+    Ok(region)
 }
 
 /// A region in memory of the host's own, with the chunk in it.
@@ -73,9 +93,7 @@ fn loaded<'g>(
     ensures { IfOk result (λ r. r.keeper.table ≡ gens.now) }
 {
     let image = Image::new(alloc, BUNDLES, gens, keeper)?;
-    let mut region = RegionOf::over(alloc, image);
-    load(&mut region, BASE, bundles(alloc, &SWITCH)?)?;
-    Ok(region)
+    loaded_over(alloc, image)
 }
 
 /// Patches and deletes the chunk, and shows the memory after each step.
@@ -83,7 +101,7 @@ fn change<R: Wait + Print>(rt: &R, region: &Mutex<RegionOf<Image<'_>>>) -> Resul
     show(rt, region, "memory after the load")?;
     switch(rt, region)?;
     show(rt, region, "memory after the patch")?;
-    region.lock(rt).delete(BASE)?;
+    delete(rt, region)?;
     show(rt, region, "memory after the deletion")
 }
 
@@ -95,7 +113,11 @@ pub fn run<R: Wait + Print>(rt: &R, alloc: Global) -> Result<(), HostFault> {
 }
 
 /// A thread's time with its pass: it runs the code, checks in outside, and leaves for good.
-fn visit(rt: &impl Wait, shared: &SharedOf<'_, Image<'_>>, pass: Pass) -> Result<End, WalkFault>
+fn visit<A: Acts + Drop>(
+    rt: &impl Wait,
+    shared: &SharedOf<'_, A>,
+    pass: Pass,
+) -> Result<End, WalkFault>
     requires { pass.table ≡ shared.now }
 {
     let mut pass = pass;
@@ -106,9 +128,9 @@ fn visit(rt: &impl Wait, shared: &SharedOf<'_, Image<'_>>, pass: Pass) -> Result
 }
 
 /// The code is patched while a thread runs it.
-fn visit_and_switch<R: Threads + Wait + Sync>(
+fn visit_and_switch<R: Threads + Wait + Sync, A: Acts + Drop + Send>(
     rt: &R,
-    shared: &SharedOf<'_, Image<'_>>,
+    shared: &SharedOf<'_, A>,
     pass: Pass,
 ) -> (Result<End, WalkFault>, Result<(), ModifyFault>)
     requires { pass.table ≡ shared.now }
@@ -121,9 +143,9 @@ fn visit_and_switch<R: Threads + Wait + Sync>(
 }
 
 /// The chunk is patched beside a thread, and then deleted.
-fn change_shared<R: Threads + Wait + Print + Sync>(
+fn change_shared<R: Threads + Wait + Print + Sync, A: Acts + Drop + Send>(
     rt: &R,
-    shared: &SharedOf<'_, Image<'_>>,
+    shared: &SharedOf<'_, A>,
     pass: Pass,
 ) -> Result<(), HostFault>
     requires { pass.table ≡ shared.now }

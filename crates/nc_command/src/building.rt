@@ -1,0 +1,104 @@
+//! The command lines that tables describe, built and read by `clap`.
+
+use crate::table::{Program, Usage, Word};
+use clap::error::ErrorKind;
+use clap::{Arg, ArgMatches, Command, Error};
+use std::alloc::{AllocError, Global};
+
+/// The version of all programs.
+const VERSION: &str = "0.1.0";
+
+/// A row of a table, which describes a part of a command line.
+trait Row<T> {
+    /// The part that it describes.
+    fn part(&self, alloc: Global) -> Result<T, AllocError>;
+}
+
+impl<'a> Row<Arg<'a>> for Word {
+    fn part(&self, alloc: Global) -> Result<Arg<'a>, AllocError> {
+        let argument = Arg::new(alloc, self.name)
+            .help(self.help)
+            .action(self.action)
+            .value_names(self.value_names)
+            .value_parser(self.parser)
+            .default_values(self.defaults)
+            .required(self.is_required);
+        let argument = if self.is_option {
+            argument.long(self.name)
+        } else {
+            argument
+        };
+        argument.conflicts_with_all(self.conflicts)
+    }
+}
+
+impl<'a> Row<Command<'a>> for Usage {
+    fn part(&self, alloc: Global) -> Result<Command<'a>, AllocError> {
+        let words = parts(alloc, self.words)?;
+        Command::new(alloc, self.name).about(self.about).args(words)
+    }
+}
+
+/// The parts that the rows of a table describe. A proof of a loop over parts of any type takes a fraction of what one over
+/// those of `clap` takes.
+fn parts<T: Drop, W: Row<T>>(alloc: Global, rows: &[W]) -> Result<Vec<T>, AllocError> {
+    let mut parts = Vec::new(alloc);
+    for row in rows {
+        parts.push(row.part(alloc)?)?;
+    }
+    Ok(parts)
+}
+
+/// Two parts, if both were made.
+fn both<S: Drop, T: Drop>(
+    one: Result<S, AllocError>,
+    other: Result<T, AllocError>,
+) -> Result<(S, T), AllocError> {
+    Ok((one?, other?))
+}
+
+/// The command line of a program, which has all its parts, without the program's own name.
+fn named<'a>(command: Command<'a>, program: &Program) -> Result<Command<'a>, AllocError> {
+    command
+        .version(VERSION)
+        .no_binary_name(true)
+        .subcommand_required(!program.subcommands.is_empty())
+        .bin_name(program.usage.name)
+}
+
+/// The whole command line of a program.
+fn command<'a>(alloc: Global, program: &Program) -> Result<Command<'a>, AllocError> {
+    let subcommands = parts(alloc, program.subcommands);
+    let (usage, subcommands) = both(program.usage.part(alloc), subcommands)?;
+    named(usage.subcommands(subcommands)?, program)
+}
+
+/// What the words of a command line match.
+pub fn matches<'a>(
+    alloc: Global,
+    program: &Program,
+    words: &'a [&'a str],
+) -> Result<ArgMatches<'a>, Error> {
+    match command(alloc, program) {
+        Ok(command) => command.try_get_matches_from(words),
+        Err(error) => Err(Error::from(error)),
+    }
+}
+
+/// A fault of a command line, if there is memory for it.
+fn made_fault(
+    alloc: Global,
+    program: &Program,
+    kind: ErrorKind,
+    message: &str,
+) -> Result<Error, AllocError> {
+    command(alloc, program)?.error(kind, message)
+}
+
+/// A fault of a command line.
+pub(crate) fn fault(alloc: Global, program: &Program, kind: ErrorKind, message: &str) -> Error {
+    match made_fault(alloc, program, kind, message) {
+        Ok(error) => error,
+        Err(error) => Error::from(error),
+    }
+}
