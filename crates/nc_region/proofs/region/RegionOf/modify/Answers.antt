@@ -3,7 +3,8 @@ use Rattle.nc_text.proofs.Offered.{confined_if_closed}
 use Rattle.nc_region.specs.Patch.{IsRun, IsHeldBy, IsPatch, LeavesPairs, KeepsTargets, MayRefusePatch}
 use Rattle.nc_region.specs.declared.chunk.Chunk.{Chunk}
 use Rattle.nc_region.specs.declared.fault.ModifyFault.TheVariants.{Boundaries, PairTouched, BadTarget}
-use Rattle.nc_region.specs.Region.{Region}
+use Rattle.nc_region.specs.Region.{Region, IsLive, HoldsValid}
+use Rattle.nc_region.proofs.EachMember.{each_get}
 use Rattle.nc_region.proofs.patching.Standing.{lies}
 use Rattle.nc_region.proofs.chunks.ReadyPlaces.{ready_part, ready_held}
 use Rattle.nc_region.proofs.patching.Patched.{region_patched}
@@ -345,3 +346,60 @@ returns-clause-unchanged g c = tt
 
 pub returns-clause-refused : goal.returns-clause-refused
 returns-clause-refused g c = tt
+
+pub fits-requires : goal.fits-requires
+fits-requires g c =
+    let marked = g.A.Acts.marked c.self.inside.acts in
+    let spans : c.is_patch_span.result ≡ true = c.if-not-is_patch_span.false in
+    let news : c.are_instructions.result ≡ true = c.if-not-are_instructions.false in
+    let held : IsHeldBy c.self.inside.chunks.items c.args.at c.in-Some.chunk = c.in-Some.ensures.some in
+    let holds : HoldsValid (g.A.Acts.marked c.self.inside.acts) c.in-Some.chunk =
+    subst (λ (d : Chunk). IsLive d.state → HoldsValid (g.A.Acts.marked c.self.inside.acts) d) held.0.2
+    (each_get (λ (d : Chunk). IsLive d.state → HoldsValid (g.A.Acts.marked c.self.inside.acts) d) c.self.inside.chunks.items
+    held.0.0 c.in-Some.chunk held.0.1 c.self.invariant.0.live) held.1 in
+    let l = lies marked c.in-Some.chunk c.self.invariant.0.whole holds in
+    record {
+      whole = c.self.invariant.0.whole;
+      holds = holds;
+      from = held.2;
+      ends = omega (arith, (c.is_patch_span.ensures.0 spans).1, held.2.0, held.2.1, l.start, l.whole);
+      some = c.are_instructions.ensures.0 news;
+    }
+
+pub leaves_pairs-requires-clause-whole : goal.leaves_pairs-requires-clause-whole
+leaves_pairs-requires-clause-whole g c = c.self.invariant.0.whole
+
+pub leaves_pairs-requires-clause-ends : goal.leaves_pairs-requires-clause-ends
+leaves_pairs-requires-clause-ends g c =
+    let fits : c.fits.result ≡ true = c.if-not-fits.false in
+    let spans : c.is_patch_span.result ≡ true = c.if-not-is_patch_span.false in
+    let held : IsHeldBy c.self.inside.chunks.items c.args.at c.in-Some.chunk = c.in-Some.ensures.some in
+    let l = lies (g.A.Acts.marked c.self.inside.acts) c.in-Some.chunk c.self.invariant.0.whole (c.fits.ensures.run fits).holds in
+    omega (arith, (c.is_patch_span.ensures.0 spans).1, held.2.0, held.2.1, l.start, l.whole)
+
+pub keeps_targets-requires-clause-whole : goal.keeps_targets-requires-clause-whole
+keeps_targets-requires-clause-whole g c = c.self.invariant.0.whole
+
+pub keeps_targets-requires-clause-ends : goal.keeps_targets-requires-clause-ends
+keeps_targets-requires-clause-ends g c =
+    let fits : c.fits.result ≡ true = c.if-not-fits.false in
+    let spans : c.is_patch_span.result ≡ true = c.if-not-is_patch_span.false in
+    let held : IsHeldBy c.self.inside.chunks.items c.args.at c.in-Some.chunk = c.in-Some.ensures.some in
+    let l = lies (g.A.Acts.marked c.self.inside.acts) c.in-Some.chunk c.self.invariant.0.whole (c.fits.ensures.run fits).holds in
+    omega (arith, (c.is_patch_span.ensures.0 spans).1, held.2.0, held.2.1, l.start, l.whole)
+
+pub put_patch-requires-clause-whole : goal.put_patch-requires-clause-whole
+put_patch-requires-clause-whole g c = c.self.invariant.0.whole
+
+pub put_patch-requires-clause-ends : goal.put_patch-requires-clause-ends
+put_patch-requires-clause-ends g c =
+    let fits : c.fits.result ≡ true = c.if-not-fits.false in
+    let spans : c.is_patch_span.result ≡ true = c.if-not-is_patch_span.false in
+    let held : IsHeldBy c.self.inside.chunks.items c.args.at c.in-Some.chunk = c.in-Some.ensures.some in
+    let l = lies (g.A.Acts.marked c.self.inside.acts) c.in-Some.chunk c.self.invariant.0.whole (c.fits.ensures.run fits).holds in
+    omega (arith, (c.is_patch_span.ensures.0 spans).1, held.2.0, held.2.1, l.start, l.whole)
+
+pub keeps_targets-requires-clause-holds : goal.keeps_targets-requires-clause-holds
+keeps_targets-requires-clause-holds g c =
+    let fits : c.fits.result ≡ true = c.if-not-fits.false in
+    (c.fits.ensures.run fits).holds
