@@ -6,9 +6,9 @@ use Rattle.nc_region.proofs.modify.goes_well.Goals as goal
 pub returns-then-not-is_direct : goal.returns-then-not-is_direct
 returns-then-not-is_direct g c = record {
   exact = λ h. (
-        λ yes direct. absurd (let differ : true ≡ false = sym direct ∙ (sym c.is_direct.ensures ∙ c.if-not-is_direct.true) in cc),
-        λ goes. refl,
-      );
+    λ yes direct. absurd (let differ : true ≡ false = sym direct ∙ (sym c.is_direct.ensures ∙ c.if-not-is_direct.true) in cc),
+    λ goes. refl,
+  );
 }
 
 pub returns : goal.returns

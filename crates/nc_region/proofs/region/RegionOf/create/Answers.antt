@@ -60,9 +60,9 @@ returns-in-Err g c =
       log = tt;
       free = tt;
       unchanged = rw (← c.self.view_is) (
-          refl,
-          refused_as old new c.args.vetted c.in-Err.fault same c.make_room.ensures.only c.in-Err.ensures.made,
-        );
+        refl,
+        refused_as old new c.args.vetted c.in-Err.fault same c.make_room.ensures.only c.in-Err.ensures.made,
+      );
       refused = rw (← c.self.view_is) c.in-Err.ensures.refused;
       confined = rw others.1 (confined_if_closed _ _ c.self.invariant.0.whole.closed);
     }
@@ -81,11 +81,11 @@ put_chunk-requires g c =
       code = c.code.ensures.value;
       room = (c.in-Ok.ensures.marks.0, rw c.code.ensures.value c.in-Ok.ensures.marks.1);
       chunk = rw (
-          others.1,
-          c.base.ensures.value,
-          c.code.ensures.value,
-          ← found.limit,
-        ) (valid_chunk_is_closed v found.valid);
+        others.1,
+        c.base.ensures.value,
+        c.code.ensures.value,
+        ← found.limit,
+      ) (valid_chunk_is_closed v found.valid);
       registers = chunk_names_registers v found.valid;
       unused = rw (others.1, c.base.ensures.value, c.code.ensures.value)
           (unused_if_apart marked c.self.inside.chunks.items k v.base (length v.code) c.self.invariant.0 placed found.fits.1 found.fits.2);
@@ -143,18 +143,18 @@ returns g c =
     c.insert_chunk.ensures ∙ rw (others.0, c.live_chunk.ensures) refl in
     record {
       created = rw (← c.self.view_is) (record {
-          bytes = ap (λ (m : MarkedText). m.bytes) put;
-          marks = ap (λ (m : MarkedText). m.marks) put;
-          chunks = (c.in-Ok.found.0, found.fits, list);
-          ready = rw c.put_chunk.ensures.made c.make_room.ensures.only;
-          others = rw (c.put_chunk.ensures.keeper, others.2) refl;
-        });
+        bytes = ap (λ (m : MarkedText). m.bytes) put;
+        marks = ap (λ (m : MarkedText). m.marks) put;
+        chunks = (c.in-Ok.found.0, found.fits, list);
+        ready = rw c.put_chunk.ensures.made c.make_room.ensures.only;
+        others = rw (c.put_chunk.ensures.keeper, others.2) refl;
+      });
       acts = rw (← c.self.view_is, ← others.3, ← c.base.ensures.value, ← c.code.ensures.value) c.put_chunk.ensures.told;
       log = rw (← c.self.view_is, ← others.4, ← c.base.ensures.value, ← c.code.ensures.value) c.put_chunk.ensures.log;
       free = rw (← c.self.view_is) (
-          found.limit,
-          fits_meets chunks v.base (length v.code) c.in-Ok.found.0 found.fits.1 found.fits.2,
-        );
+        found.limit,
+        fits_meets chunks v.base (length v.code) c.in-Ok.found.0 found.fits.1 found.fits.2,
+      );
       unchanged = tt;
       refused = tt;
       confined = confined_if_closed _ _ c.put_chunk.ensures.whole.closed;
