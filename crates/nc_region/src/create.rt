@@ -1,21 +1,86 @@
 //! A chunk put into a text that threads are running.
 
-ghost use Rattle.std.specs.Prelude.{◌≡◌, ◌+◌, ◌-◌, ◌<◌, ◌≤◌, ◌^◌, ℕ, List, [], ◌∷◌, ◌++◌, length, vec_capacity, All, IsTrue, false};
+ghost use Rattle.std.specs.Prelude.{◌≡◌, ◌≢◌, ◌+◌, ◌-◌, ◌<◌, ◌≤◌, ◌^◌, ℕ, List, [], ◌∷◌, ◌++◌, length, vec_capacity, All, IsTrue, false};
+ghost use Rattle.std.specs.Prelude.{IfOk, IfErr};
+ghost use Rattle.std.specs.VecDeque.{deque_len, deque_capacity};
 ghost use Rattle.nc_decode.specs.declared.instruction.Mark.{Mark};
 ghost use Rattle.nc_text.specs.Marks.{IsClosed};
 ghost use Rattle.nc_text.specs.Places.{limit_of};
-ghost use Rattle.nc_text.specs.Ready.{AreReady};
+ghost use Rattle.nc_text.specs.Ready.{AreReady, GetsReady};
 ghost use Rattle.nc_text.specs.MarkedText.{MarkedText, IsText, with_span, with_marks, KeepsMarks, NamesRegister};
 ghost use Rattle.nc_region.specs.declared.acts.Act.{Act};
 ghost use Rattle.nc_region.specs.declared.acts.Entry.{Entry};
 ghost use Rattle.nc_region.specs.Acts.{Tells, puts_where, is_inside, is_start, acts_of_create};
 ghost use Rattle.nc_region.specs.Log.{Logs, unsettled, log_of_create};
 ghost use Rattle.nc_region.specs.Chunks.{HasGoodSpan, IsClosedChunk, with_chunk};
-ghost use Rattle.nc_region.specs.machinery.Between.{IsUnused, HasPut, IsFinalBut};
+ghost use Rattle.nc_region.specs.declared.fault.CreateFault.{CreateFault};
+ghost use Rattle.nc_region.specs.Region.{IsRegion, MayRefuse, live_chunk};
+ghost use Rattle.nc_region.specs.machinery.Between.{HasRoom, IsUnused, HasPut, IsFinalBut};
 
 use crate::acts::Acts;
+use crate::chunk::{Chunk, ChunkState};
+use crate::fault::CreateFault;
+use crate::listing::room_for;
 use nc_decode::Mark;
 use nc_vet::Vetted;
+use std::collections::VecDeque;
+
+/// What has to be there before a chunk is created: where it goes in the list, with room in the list for one more; room for a
+/// list of its marks; and every place of its span made ready.
+pub(crate) fn make_room<A: Acts>(
+    acts: &mut A,
+    chunks: &mut VecDeque<Chunk>,
+    vetted: &Vetted,
+) -> Result<(usize, Vec<Mark>), CreateFault>
+    requires region { IsRegion (A.marked acts.old) chunks.old.items }
+    ensures found { IfOk result (λ r. HasRoom (A.marked acts.old) (A.made acts.new) chunks.old.items vetted.now r.0) }
+    ensures marks { IfOk result (λ r. (r.1.items ≡ []) × (length vetted.now.code ≤ vec_capacity r.1)) }
+    ensures place { IfOk result (λ r. (r.0 ≤ deque_len chunks.new) × (deque_len chunks.new < deque_capacity chunks.new)) }
+    ensures only { GetsReady (A.made acts.old) (A.made acts.new) vetted.now.base (length vetted.now.code) }
+    ensures others { (chunks.new.items ≡ chunks.old.items) × (A.marked acts.new ≡ A.marked acts.old)
+        × (A.keeper acts.new ≡ A.keeper acts.old) × (A.told acts.new ≡ A.told acts.old) × (A.logged acts.new ≡ A.logged acts.old) }
+    // A refusal that isn't for want of memory leaves the pages too.
+    ensures made { IfErr result (λ fault. fault ≢ CreateFault.OutOfMemory → A.made acts.new ≡ A.made acts.old) }
+    ensures refused { IfErr result (λ fault. MayRefuse
+        (record {
+          marked = A.marked acts.old;
+          made = A.made acts.old;
+          chunks = chunks.old.items;
+          keeper = A.keeper acts.old;
+          told = A.told acts.old;
+          logged = A.logged acts.old;
+        }) vetted.now fault) }
+{
+    if vetted.limit() != acts.limit() {
+        return Err(CreateFault::WrongLimit);
+    }
+    let base = vetted.base();
+    let length = vetted.code().len() as u32;
+    let Some(k) = room_for(chunks, base, length) else {
+        return Err(CreateFault::Occupied);
+    };
+    if chunks.reserve(1).is_err() {
+        return Err(CreateFault::OutOfMemory);
+    }
+    let Ok(room) = Vec::with_capacity(*chunks.allocator(), length as usize) else {
+        return Err(CreateFault::OutOfMemory);
+    };
+    if acts.ready(base, length).is_err() {
+        return Err(CreateFault::OutOfMemory);
+    }
+    Ok((k, room))
+}
+
+/// The chunk as the list has it.
+pub(crate) fn live_chunk(vetted: &Vetted) -> Chunk
+    ensures { result ≡ live_chunk vetted.now }
+{
+    Chunk {
+        base: vetted.base(),
+        length: vetted.code().len() as u32,
+        state: ChunkState::Live,
+    }
+}
 
 /// Creates a chunk that is closed by itself in an unused span. `room` is for a list of its marks, if `acts` takes no bits.
 pub(crate) fn put_chunk<A: Acts>(

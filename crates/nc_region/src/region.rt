@@ -21,10 +21,10 @@ ghost use Rattle.nc_region.specs.Trace.{IsTrace, IsOnlyTrace, IsSafeWalk, IsWalk
 
 use crate::acts::Acts;
 use crate::chunk::{Chunk, ChunkState};
-use crate::create::put_chunk;
+use crate::create::{live_chunk, make_room, put_chunk};
 use crate::delete::put_stops;
 use crate::fault::{CreateFault, DeleteFault, ModifyFault, RegionFault, WalkFault};
-use crate::listing::{holder, insert_chunk, live_at, room_for, set_chunk};
+use crate::listing::{holder, insert_chunk, live_at, set_chunk};
 use crate::modify::{
     are_instructions, fits, is_patch_span, keeps_targets, leaves_pairs, put_patch,
 };
@@ -219,30 +219,12 @@ impl<A: Acts + Drop> RegionOf<A> {
         ensures refused { IfErr result (λ e. MayRefuse self.old vetted e.1) }
         ensures confined { IsConfined self.new.marked.bytes }
     {
-        let base = vetted.base();
-        if vetted.limit() != self.acts.limit() {
-            return Err((vetted, CreateFault::WrongLimit));
-        }
-        let length = vetted.code().len() as u32;
-        let Some(k) = room_for(&self.chunks, base, length) else {
-            return Err((vetted, CreateFault::Occupied));
+        let (k, room) = match make_room(&mut self.acts, &mut self.chunks, &vetted) {
+            Ok(found) => found,
+            Err(fault) => return Err((vetted, fault)),
         };
-        if self.chunks.reserve(1).is_err() {
-            return Err((vetted, CreateFault::OutOfMemory));
-        }
-        let Ok(room) = Vec::with_capacity(*self.chunks.allocator(), length as usize) else {
-            return Err((vetted, CreateFault::OutOfMemory));
-        };
-        if self.acts.ready(base, length).is_err() {
-            return Err((vetted, CreateFault::OutOfMemory));
-        }
-        put_chunk(&mut self.acts, base, vetted.code(), &vetted, room);
-        let chunk = Chunk {
-            base,
-            length,
-            state: ChunkState::Live,
-        };
-        insert_chunk(&mut self.chunks, k, chunk);
+        put_chunk(&mut self.acts, vetted.base(), vetted.code(), &vetted, room);
+        insert_chunk(&mut self.chunks, k, live_chunk(&vetted));
         Ok(())
     }
 

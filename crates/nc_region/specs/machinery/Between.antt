@@ -2,9 +2,13 @@
 use Rattle.std.specs.Prelude.{◌≡◌, ◌≢◌, ℕ, ◌+◌, ◌-◌, ◌%◌, ◌==◌, ◌<◌, ◌≤◌, Bool, true, false, List, length, slice_index}
 use Rattle.std.specs.Int.{bit_at}
 use Rattle.nc_decode.specs.Bundles.{IsBundleStart}
-use Rattle.nc_text.specs.Places.{byte_at}
+use Rattle.nc_text.specs.Places.{byte_at, limit_of}
 use Rattle.nc_text.specs.Marks.{mark_at}
+use Rattle.nc_text.specs.Ready.{AreReady}
 use Rattle.nc_text.specs.MarkedText.{MarkedText, unused_mark}
+use Rattle.nc_vet.specs.Chunk.{MarkedChunk, IsValid}
+use Rattle.nc_region.specs.declared.chunk.Chunk.{Chunk}
+use Rattle.nc_region.specs.Region.{FitsAt}
 
 -- the span is unused: stops, with only bundle starts marked
 pub record IsUnused (marked : MarkedText) (base length : ℕ) : Type 0 where
@@ -30,3 +34,10 @@ pub record IsFinalBut (final now : List ℕ) (from to : ℕ) : Type 0 where
   pub before : (at : ℕ) → 0x10000 ≤ at → at < from → byte_at now at ≡ byte_at final at
   pub behind : (at : ℕ) → to ≤ at → byte_at now at ≡ byte_at final at
   pub inside : (at : ℕ) → 0x10000 ≤ at → at % 32 ≢ 0 → byte_at now at ≡ byte_at final at
+
+-- a valid chunk for the text's limit may be created: it fits into the list at index `k`, and its span is ready
+pub record HasRoom (marked : MarkedText) (made : List Bool) (chunks : List Chunk) (v : MarkedChunk) (k : ℕ) : Type 0 where
+  pub valid : IsValid v
+  pub limit : v.limit ≡ limit_of marked.bytes
+  pub fits : FitsAt v.base (length v.code) chunks k
+  pub ready : AreReady made v.base (length v.code)

@@ -99,7 +99,10 @@ put_patch-requires g t c =
     (length (take (length c.args.new.now - c.in-Ok.instr.len) (drop c.in-Ok.instr.len c.args.new.now))) =
     rw c.put_where_new.ensures.made (ready_part _ c.args.at (length c.args.new.now) (c.args.at + c.from.result) _ c.requires.ready
     (omega arith) (omega (arith, c.from.ensures, p.len, p.long, length-take {A = ℕ}, length-drop {A = ℕ}))) in
-    search rules
+    let ends : c.args.at + c.from.result + length (take (length c.args.new.now - c.in-Ok.instr.len) (drop c.in-Ok.instr.len c.args.new.now))
+    ≤ c.args.chunk.base + c.args.chunk.length =
+    omega (arith, c.requires.ends, c.from.ensures, p.len, p.long, length-take {A = ℕ}, length-drop {A = ℕ}) in
+    λ κs lives. (search rules, (search rules, (c.put_where_new.ensures.whole, (next, (ends, ready)))))
 
 pub returns-clause-bytes : goal.returns-clause-bytes
 returns-clause-bytes g t c =
@@ -191,3 +194,6 @@ returns-clause-log g t c = λ news b.
     subst (λ (z : List Piece). Logs (g.A.Acts.logged c.args.acts.now) (g.A.Acts.logged c.put_patch.new.acts)
     (log_of_modify (g.A.Acts.marked c.args.acts.now).bytes c.args.at z)) (sym q.is)
     (logs_more _ _ _ _ _ one two)
+
+pub returns-clause-holds : goal.returns-clause-holds
+returns-clause-holds g t c = c.put_patch.ensures.holds

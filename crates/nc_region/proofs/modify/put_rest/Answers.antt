@@ -1,12 +1,13 @@
-use Rattle.std.proofs.Common.{Bool, ℕ, ◌+◌, ◌-◌, List, [], ◌∷◌, length, get_or, set, arith, rules, sym, subst, ◌∙◌, refl}
+use Rattle.std.proofs.Common.{◌≡◌, Bool, ℕ, ◌+◌, ◌-◌, List, [], ◌∷◌, length, get_or, set, arith, rules, sym, subst, ◌∙◌, refl}
 use Rattle.std.proofs.lemmas.List.{take_all}
 use Rattle.nc_decode.specs.declared.instruction.Mark.{Mark}
 use Rattle.nc_text.specs.Marks.{IsClosed}
 use Rattle.nc_text.specs.Ready.{IsReady}
 use Rattle.nc_region.specs.declared.acts.Entry.TheVariants.{Settled}
-use Rattle.nc_region.specs.Acts.{puts_where}
+use Rattle.nc_region.specs.Acts.{Tells, puts_where}
 use Rattle.nc_region.specs.Log.{Logs, unsettled}
 use Rattle.nc_region.specs.Patch.{any_place}
+use Rattle.nc_region.specs.machinery.Between.{HasPut}
 use Rattle.nc_region.proofs.telling.Puts.{put_more}
 use Rattle.nc_region.proofs.chunks.ReadyPlaces.{ready_place}
 use Rattle.nc_region.proofs.telling.Told.{told_put}
@@ -72,3 +73,23 @@ returns-clause-log g c =
     (Settled ∷ unsettled (puts_where any_place (c.args.at + 1) z))) (take_all c.loop-i.i c.args.rest.now (omega arith))
     c.loop-i.invariant.log in
     search (ends_settled _ _ _ log)
+
+pub returns-clause-bytes : goal.returns-clause-bytes
+returns-clause-bytes g c =
+    let end : c.loop-i.i ≡ length c.args.rest.now = omega arith in
+    rw c.settle-2.ensures.marked (subst (λ (n : ℕ). HasPut any_place (c.args.at + 1) c.args.rest.now n
+    (g.A.Acts.marked c.args.acts.now).bytes (g.A.Acts.marked c.loop-i.acts).bytes) end c.loop-i.invariant.bytes)
+
+pub returns-clause-marks : goal.returns-clause-marks
+returns-clause-marks g c = rw c.settle-2.ensures.marked c.loop-i.invariant.marks
+
+pub returns-clause-made : goal.returns-clause-made
+returns-clause-made g c = c.settle-2.ensures.made ∙ c.loop-i.invariant.made
+
+pub returns-clause-keeper : goal.returns-clause-keeper
+returns-clause-keeper g c = c.settle-2.ensures.keeper ∙ c.loop-i.invariant.keeper
+
+pub returns-clause-told : goal.returns-clause-told
+returns-clause-told g c =
+    rw c.settle-2.ensures.told (subst (λ (z : List ℕ). Tells (g.A.Acts.told c.args.acts.now) (g.A.Acts.told c.loop-i.acts)
+    (puts_where any_place (c.args.at + 1) z)) (take_all c.loop-i.i c.args.rest.now (omega arith)) c.loop-i.invariant.told)

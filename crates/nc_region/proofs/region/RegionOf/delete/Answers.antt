@@ -1,6 +1,6 @@
 use Rattle.std.specs.List.{slice_get}
 use Rattle.std.proofs.lemmas.Option.{get_or_from_slice_get}
-use Rattle.std.proofs.Common.{◌≡◌, ℕ, ◌-◌, set, replicate, Some, sym, subst, ap, ◌∙◌, arith}
+use Rattle.std.proofs.Common.{◌≡◌, ℕ, ◌-◌, set, replicate, Some, sym, subst, ap, ◌∙◌, refl, arith}
 use Rattle.nc_text.specs.Places.{limit_of}
 use Rattle.nc_text.proofs.Offered.{confined_if_closed}
 use Rattle.nc_text.specs.MarkedText.{with_span}
@@ -137,3 +137,30 @@ returns-clause-deleted g c =
 
 pub returns-clause-confined : goal.returns-clause-confined
 returns-clause-confined g c = confined_if_closed _ _ c.put_stops-stamp.ensures.whole.closed
+
+pub returns-in_default-clause-deleted : goal.returns-in_default-clause-deleted
+returns-in_default-clause-deleted g c = tt
+
+pub returns-in_default-clause-unchanged : goal.returns-in_default-clause-unchanged
+returns-in_default-clause-unchanged g c = refl
+
+pub returns-in_default-clause-refused : goal.returns-in_default-clause-refused
+returns-in_default-clause-refused g c = rw (← c.self.view_is) c.in_default.ensures.none
+
+pub returns-then-generation-ge-LAST_GENERATION-clause-deleted : goal.returns-then-generation-ge-LAST_GENERATION-clause-deleted
+returns-then-generation-ge-LAST_GENERATION-clause-deleted g c = tt
+
+pub returns-then-generation-ge-LAST_GENERATION-clause-unchanged : goal.returns-then-generation-ge-LAST_GENERATION-clause-unchanged
+returns-then-generation-ge-LAST_GENERATION-clause-unchanged g c = refl
+
+pub put_stops-stamp-requires-clause-whole : goal.put_stops-stamp-requires-clause-whole
+put_stops-stamp-requires-clause-whole g c = c.self.invariant.0.whole
+
+pub put_stops-stamp-requires-clause-room : goal.put_stops-stamp-requires-clause-room
+put_stops-stamp-requires-clause-room g c = omega (arith, c.generation.ensures.generation, c.if-generation-ge-LAST_GENERATION.false)
+
+pub returns-clause-unchanged : goal.returns-clause-unchanged
+returns-clause-unchanged g c = tt
+
+pub returns-clause-refused : goal.returns-clause-refused
+returns-clause-refused g c = tt

@@ -1,9 +1,10 @@
-use Rattle.std.proofs.Common.{◌≡◌, true, false, ◌∙◌, length, arith, sym, subst}
+use Rattle.std.proofs.Common.{◌≡◌, true, false, ◌∙◌, length, arith, sym, subst, refl}
 use Rattle.nc_text.proofs.Offered.{confined_if_closed}
 use Rattle.nc_region.specs.Patch.{IsRun, IsHeldBy, IsPatch, LeavesPairs, KeepsTargets, MayRefusePatch}
 use Rattle.nc_region.specs.declared.chunk.Chunk.{Chunk}
 use Rattle.nc_region.specs.declared.fault.ModifyFault.TheVariants.{Boundaries, PairTouched, BadTarget}
-use Rattle.nc_region.specs.Region.{Region}
+use Rattle.nc_region.specs.Region.{Region, IsLive, HoldsValid}
+use Rattle.nc_region.proofs.EachMember.{each_get}
 use Rattle.nc_region.proofs.patching.Standing.{lies}
 use Rattle.nc_region.proofs.chunks.ReadyPlaces.{ready_part, ready_held}
 use Rattle.nc_region.proofs.patching.Patched.{region_patched}
@@ -213,3 +214,192 @@ returns-clause-lawful g c =
       ),
     ) in
     subst (λ (r : Region). IsPatch r c.args.at c.args.new.now) c.self.view_is lawful
+
+pub returns-then-not-is_patch_span-clause-modified : goal.returns-then-not-is_patch_span-clause-modified
+returns-then-not-is_patch_span-clause-modified g c = tt
+
+pub returns-then-not-is_patch_span-clause-acts : goal.returns-then-not-is_patch_span-clause-acts
+returns-then-not-is_patch_span-clause-acts g c = tt
+
+pub returns-then-not-is_patch_span-clause-log : goal.returns-then-not-is_patch_span-clause-log
+returns-then-not-is_patch_span-clause-log g c = tt
+
+pub returns-then-not-is_patch_span-clause-lawful : goal.returns-then-not-is_patch_span-clause-lawful
+returns-then-not-is_patch_span-clause-lawful g c = tt
+
+pub returns-then-not-is_patch_span-clause-unchanged : goal.returns-then-not-is_patch_span-clause-unchanged
+returns-then-not-is_patch_span-clause-unchanged g c = refl
+
+pub returns-in_default-clause-modified : goal.returns-in_default-clause-modified
+returns-in_default-clause-modified g c = tt
+
+pub returns-in_default-clause-acts : goal.returns-in_default-clause-acts
+returns-in_default-clause-acts g c = tt
+
+pub returns-in_default-clause-log : goal.returns-in_default-clause-log
+returns-in_default-clause-log g c = tt
+
+pub returns-in_default-clause-lawful : goal.returns-in_default-clause-lawful
+returns-in_default-clause-lawful g c = tt
+
+pub returns-in_default-clause-unchanged : goal.returns-in_default-clause-unchanged
+returns-in_default-clause-unchanged g c = refl
+
+pub returns-then-not-are_instructions-clause-modified : goal.returns-then-not-are_instructions-clause-modified
+returns-then-not-are_instructions-clause-modified g c = tt
+
+pub returns-then-not-are_instructions-clause-acts : goal.returns-then-not-are_instructions-clause-acts
+returns-then-not-are_instructions-clause-acts g c = tt
+
+pub returns-then-not-are_instructions-clause-log : goal.returns-then-not-are_instructions-clause-log
+returns-then-not-are_instructions-clause-log g c = tt
+
+pub returns-then-not-are_instructions-clause-lawful : goal.returns-then-not-are_instructions-clause-lawful
+returns-then-not-are_instructions-clause-lawful g c = tt
+
+pub returns-then-not-are_instructions-clause-unchanged : goal.returns-then-not-are_instructions-clause-unchanged
+returns-then-not-are_instructions-clause-unchanged g c = refl
+
+pub returns-then-not-fits-clause-modified : goal.returns-then-not-fits-clause-modified
+returns-then-not-fits-clause-modified g c = tt
+
+pub returns-then-not-fits-clause-acts : goal.returns-then-not-fits-clause-acts
+returns-then-not-fits-clause-acts g c = tt
+
+pub returns-then-not-fits-clause-log : goal.returns-then-not-fits-clause-log
+returns-then-not-fits-clause-log g c = tt
+
+pub returns-then-not-fits-clause-lawful : goal.returns-then-not-fits-clause-lawful
+returns-then-not-fits-clause-lawful g c = tt
+
+pub returns-then-not-fits-clause-unchanged : goal.returns-then-not-fits-clause-unchanged
+returns-then-not-fits-clause-unchanged g c = refl
+
+pub returns-then-not-leaves_pairs-clause-modified : goal.returns-then-not-leaves_pairs-clause-modified
+returns-then-not-leaves_pairs-clause-modified g c = tt
+
+pub returns-then-not-leaves_pairs-clause-acts : goal.returns-then-not-leaves_pairs-clause-acts
+returns-then-not-leaves_pairs-clause-acts g c = tt
+
+pub returns-then-not-leaves_pairs-clause-log : goal.returns-then-not-leaves_pairs-clause-log
+returns-then-not-leaves_pairs-clause-log g c = tt
+
+pub returns-then-not-leaves_pairs-clause-lawful : goal.returns-then-not-leaves_pairs-clause-lawful
+returns-then-not-leaves_pairs-clause-lawful g c = tt
+
+pub returns-then-not-leaves_pairs-clause-unchanged : goal.returns-then-not-leaves_pairs-clause-unchanged
+returns-then-not-leaves_pairs-clause-unchanged g c = refl
+
+pub returns-then-not-keeps_targets-clause-modified : goal.returns-then-not-keeps_targets-clause-modified
+returns-then-not-keeps_targets-clause-modified g c = tt
+
+pub returns-then-not-keeps_targets-clause-acts : goal.returns-then-not-keeps_targets-clause-acts
+returns-then-not-keeps_targets-clause-acts g c = tt
+
+pub returns-then-not-keeps_targets-clause-log : goal.returns-then-not-keeps_targets-clause-log
+returns-then-not-keeps_targets-clause-log g c = tt
+
+pub returns-then-not-keeps_targets-clause-lawful : goal.returns-then-not-keeps_targets-clause-lawful
+returns-then-not-keeps_targets-clause-lawful g c = tt
+
+pub returns-then-not-keeps_targets-clause-unchanged : goal.returns-then-not-keeps_targets-clause-unchanged
+returns-then-not-keeps_targets-clause-unchanged g c = refl
+
+pub returns-then-not-is_patch_span-clause-refused : goal.returns-then-not-is_patch_span-clause-refused
+returns-then-not-is_patch_span-clause-refused g c = λ span.
+    let yes : c.is_patch_span.result ≡ true = c.is_patch_span.ensures.1 span in
+    let differ : true ≡ false = sym yes ∙ c.if-not-is_patch_span.true in
+    cc
+
+pub returns-in_default-clause-refused : goal.returns-in_default-clause-refused
+returns-in_default-clause-refused g c =
+    let spans : c.is_patch_span.result ≡ true = c.if-not-is_patch_span.false in
+    rw (← c.self.view_is) (c.is_patch_span.ensures.0 spans, c.in_default.ensures.none)
+
+pub returns-then-not-are_instructions-clause-refused : goal.returns-then-not-are_instructions-clause-refused
+returns-then-not-are_instructions-clause-refused g c =
+    let spans : c.is_patch_span.result ≡ true = c.if-not-is_patch_span.false in
+    rw (← c.self.view_is) (
+      c.is_patch_span.ensures.0 spans,
+      (c.in-Some.chunk, c.in-Some.ensures.some),
+      λ news.
+          let yes : c.are_instructions.result ≡ true = c.are_instructions.ensures.1 news in
+          let differ : true ≡ false = sym yes ∙ c.if-not-are_instructions.true in
+          cc,
+    )
+
+pub returns-clause-modified : goal.returns-clause-modified
+returns-clause-modified g c =
+    rw (← c.self.view_is) (record {
+      patched = c.put_patch.ensures.bytes;
+      others = rw (c.put_patch.ensures.made, c.put_patch.ensures.keeper, ← c.put_patch.ensures.marks) refl;
+    })
+
+pub returns-clause-acts : goal.returns-clause-acts
+returns-clause-acts g c = rw (← c.self.view_is) c.put_patch.ensures.told
+
+pub returns-clause-log : goal.returns-clause-log
+returns-clause-log g c = rw (← c.self.view_is) c.put_patch.ensures.log
+
+pub returns-clause-unchanged : goal.returns-clause-unchanged
+returns-clause-unchanged g c = tt
+
+pub returns-clause-refused : goal.returns-clause-refused
+returns-clause-refused g c = tt
+
+pub fits-requires : goal.fits-requires
+fits-requires g c =
+    let marked = g.A.Acts.marked c.self.inside.acts in
+    let spans : c.is_patch_span.result ≡ true = c.if-not-is_patch_span.false in
+    let news : c.are_instructions.result ≡ true = c.if-not-are_instructions.false in
+    let held : IsHeldBy c.self.inside.chunks.items c.args.at c.in-Some.chunk = c.in-Some.ensures.some in
+    let holds : HoldsValid (g.A.Acts.marked c.self.inside.acts) c.in-Some.chunk =
+    subst (λ (d : Chunk). IsLive d.state → HoldsValid (g.A.Acts.marked c.self.inside.acts) d) held.0.2
+    (each_get (λ (d : Chunk). IsLive d.state → HoldsValid (g.A.Acts.marked c.self.inside.acts) d) c.self.inside.chunks.items
+    held.0.0 c.in-Some.chunk held.0.1 c.self.invariant.0.live) held.1 in
+    let l = lies marked c.in-Some.chunk c.self.invariant.0.whole holds in
+    record {
+      whole = c.self.invariant.0.whole;
+      holds = holds;
+      from = held.2;
+      ends = omega (arith, (c.is_patch_span.ensures.0 spans).1, held.2.0, held.2.1, l.start, l.whole);
+      some = c.are_instructions.ensures.0 news;
+    }
+
+pub leaves_pairs-requires-clause-whole : goal.leaves_pairs-requires-clause-whole
+leaves_pairs-requires-clause-whole g c = c.self.invariant.0.whole
+
+pub leaves_pairs-requires-clause-ends : goal.leaves_pairs-requires-clause-ends
+leaves_pairs-requires-clause-ends g c =
+    let fits : c.fits.result ≡ true = c.if-not-fits.false in
+    let spans : c.is_patch_span.result ≡ true = c.if-not-is_patch_span.false in
+    let held : IsHeldBy c.self.inside.chunks.items c.args.at c.in-Some.chunk = c.in-Some.ensures.some in
+    let l = lies (g.A.Acts.marked c.self.inside.acts) c.in-Some.chunk c.self.invariant.0.whole (c.fits.ensures.run fits).holds in
+    omega (arith, (c.is_patch_span.ensures.0 spans).1, held.2.0, held.2.1, l.start, l.whole)
+
+pub keeps_targets-requires-clause-whole : goal.keeps_targets-requires-clause-whole
+keeps_targets-requires-clause-whole g c = c.self.invariant.0.whole
+
+pub keeps_targets-requires-clause-ends : goal.keeps_targets-requires-clause-ends
+keeps_targets-requires-clause-ends g c =
+    let fits : c.fits.result ≡ true = c.if-not-fits.false in
+    let spans : c.is_patch_span.result ≡ true = c.if-not-is_patch_span.false in
+    let held : IsHeldBy c.self.inside.chunks.items c.args.at c.in-Some.chunk = c.in-Some.ensures.some in
+    let l = lies (g.A.Acts.marked c.self.inside.acts) c.in-Some.chunk c.self.invariant.0.whole (c.fits.ensures.run fits).holds in
+    omega (arith, (c.is_patch_span.ensures.0 spans).1, held.2.0, held.2.1, l.start, l.whole)
+
+pub put_patch-requires-clause-whole : goal.put_patch-requires-clause-whole
+put_patch-requires-clause-whole g c = c.self.invariant.0.whole
+
+pub put_patch-requires-clause-ends : goal.put_patch-requires-clause-ends
+put_patch-requires-clause-ends g c =
+    let fits : c.fits.result ≡ true = c.if-not-fits.false in
+    let spans : c.is_patch_span.result ≡ true = c.if-not-is_patch_span.false in
+    let held : IsHeldBy c.self.inside.chunks.items c.args.at c.in-Some.chunk = c.in-Some.ensures.some in
+    let l = lies (g.A.Acts.marked c.self.inside.acts) c.in-Some.chunk c.self.invariant.0.whole (c.fits.ensures.run fits).holds in
+    omega (arith, (c.is_patch_span.ensures.0 spans).1, held.2.0, held.2.1, l.start, l.whole)
+
+pub keeps_targets-requires-clause-holds : goal.keeps_targets-requires-clause-holds
+keeps_targets-requires-clause-holds g c =
+    let fits : c.fits.result ≡ true = c.if-not-fits.false in
+    (c.fits.ensures.run fits).holds
