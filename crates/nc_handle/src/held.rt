@@ -46,10 +46,10 @@ fn first(alloc: Global, bundles: u32, seats: u32) -> Option<Held>
     requires lawful { IsLawfulLimit (0x10000 + 32 * bundles) }
     ensures { IfSome result (IsFirst bundles seats) }
 {
-    let Ok((gens, keeper, passes)) = Gens::new(alloc, seats) else {
+    let Ok(text) = Text::new(alloc, bundles) else {
         return None;
     };
-    let Ok(text) = Text::new(alloc, bundles) else {
+    let Ok((gens, keeper, passes)) = Gens::new(alloc, seats) else {
         return None;
     };
     let Some((gens, share)) = in_two_shares(alloc, gens) else {

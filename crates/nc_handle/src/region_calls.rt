@@ -2,12 +2,14 @@
 
 ghost use Rattle.std.specs.Prelude.{◌≡◌, ◌+◌, ◌*◌, ◌^◌, ◌<◌, ◌≤◌, ◌↔◌, ℕ, List, IfOk, IfErr, IfSome, IsNone, IsTrue, OnOk, OnErr, None, length};
 ghost use Rattle.nc_text.specs.Machine.{IsConfined};
+ghost use Rattle.nc_text.specs.Places.{limit_of};
 ghost use Rattle.nc_vet.specs.Chunk.{Piece};
+ghost use Rattle.nc_vet.specs.Faults.{HasGoodSpan};
 ghost use Rattle.nc_region.specs.Log.{log_of_create, log_of_delete};
 ghost use Rattle.nc_region.specs.Patch.{AreBytesOf, IsModified, IsPatch, log_of_modify};
 ghost use Rattle.nc_region.specs.Region.{IsCreated};
 ghost use Rattle.nc_handle.specs.acts.Standing.{AreBytesAt};
-ghost use Rattle.nc_handle.specs.Held.{IsShort, IsShortForPatch, HasBegun, HasEnded, IsNotLoaded, MayRefuseBegin, MayRefuseLoad, MayRefuseModify};
+ghost use Rattle.nc_handle.specs.Held.{IsLiveAt, IsShort, IsShortForPatch, HasBegun, HasEnded, IsNotLoaded, MayRefuseBegin, MayRefuseLoad, MayRefuseModify};
 ghost use Rattle.nc_handle.specs.Shown.{IsTold, bytes_of_span};
 
 use crate::acts::{NcAct, write_creation, write_deletion, write_patch};
@@ -72,6 +74,63 @@ fn tell_deletion(acts: &mut [NcAct], span: &Span) -> usize
     span.length as usize + 2
 }
 
+/// What is tested before a region is changed.
+impl Held {
+    /// No deletion is under way, and a lent buffer has room for the acts of this chunk's creation.
+    fn check_load(&self, vetted: &Vetted, room: usize) -> Result<(), LoadFault>
+        ensures allowed { OnOk result ((self.now.begun ≡ None) × ¬ IsShort room (length vetted.now.code + 2)) }
+        ensures refused { IfErr result (λ fault. MayRefuseLoad self.now vetted.now room fault × IsNotLoaded self.now self.now vetted.now fault) }
+    {
+        let wanted = vetted.code().len() + 2;
+        if self.begun.is_some() {
+            return Err(LoadFault::Underway);
+        }
+        if is_short(room, wanted) {
+            return Err(LoadFault::NoRoom(wanted));
+        }
+        Ok(())
+    }
+
+    /// No deletion is under way, and a lent buffer has room for the acts of a patch with these bytes, wherever it begins.
+    fn check_patch(&self, new: &[u8], room: usize) -> Result<(), PatchFault>
+        ensures allowed { OnOk result ((self.now.begun ≡ None) × ¬ IsShortForPatch room (length new.now)) }
+        ensures refused { IfErr result (λ fault. (at : ℕ) → MayRefuseModify self.now at new.now room fault) }
+    {
+        if self.begun.is_some() {
+            return Err(PatchFault::Underway);
+        }
+        if is_short_for_patch(room, new.len()) {
+            return Err(PatchFault::NoRoom(3 * new.len()));
+        }
+        Ok(())
+    }
+
+    /// The live chunk with this base. No deletion is under way, a stamp is left for it, and a lent buffer has room for its acts.
+    fn check_begin(&self, base: u32, room: usize) -> Result<Chunk, RetireFault>
+        ensures live { IfOk result (IsLiveAt self.now.region.chunks base) }
+        ensures placed { IfOk result (λ c. HasGoodSpan c.base (limit_of self.now.region.marked.bytes) c.length) }
+        ensures stamp { OnOk result (self.now.region.keeper.numbers.generation < 2 ^ 62) }
+        ensures none { OnOk result (self.now.begun ≡ None) }
+        ensures allowed { IfOk result (λ c. ¬ IsShort room (c.length + 2)) }
+        ensures refused { IfErr result (MayRefuseBegin self.now base room) }
+    {
+        if self.begun.is_some() {
+            return Err(RetireFault::Underway);
+        }
+        let Some(chunk) = self.region.live_at(base) else {
+            return Err(RetireFault::Refused(DeleteFault::NoChunk));
+        };
+        if self.region.acts().generation() >= LAST_GENERATION {
+            return Err(RetireFault::Refused(DeleteFault::GensFull));
+        }
+        let wanted = chunk.length as usize + 2;
+        if is_short(room, wanted) {
+            return Err(RetireFault::NoRoom(wanted));
+        }
+        Ok(chunk)
+    }
+}
+
 impl Held {
     /// `RegionOf::create`, with its acts. Each is written into the buffer with the settling among them, two more than the chunk has
     /// bytes; a buffer without an element is none. It answers how many there are.
@@ -96,20 +155,17 @@ impl Held {
         // Each refusal comes exactly where it is due.
         ensures refused { IfErr result (λ e. MayRefuseLoad self.old vetted (length acts.old) e.1) }
     {
+        if let Err(fault) = self.check_load(&vetted, acts.len()) {
+            return Err((vetted, fault));
+        }
         let base = vetted.base();
-        let length = vetted.code().len();
-        if self.begun.is_some() {
-            return Err((vetted, LoadFault::Underway));
-        }
-        if is_short(acts.len(), length + 2) {
-            return Err((vetted, LoadFault::NoRoom(length + 2)));
-        }
+        let length = vetted.code().len() as u32;
         match self.region.create(vetted) {
             Ok(()) => {
                 let span = Span {
                     region: &self.region,
                     base,
-                    length: length as u32,
+                    length,
                 };
                 Ok(tell_creation(acts, &span))
             }
@@ -135,11 +191,8 @@ impl Held {
         // Each refusal comes exactly where it is due.
         ensures refused { IfErr result (MayRefuseModify self.old at new.now (length acts.old)) }
     {
-        if self.begun.is_some() {
-            return Err(PatchFault::Underway);
-        }
-        if is_short_for_patch(acts.len(), new.len()) {
-            return Err(PatchFault::NoRoom(3 * new.len()));
+        if let Err(fault) = self.check_patch(new, acts.len()) {
+            return Err(fault);
         }
         let before = read_window(&self.region, at);
         match self.region.modify(at, new) {
@@ -185,19 +238,10 @@ impl Held {
         // Each refusal comes exactly where it is due.
         ensures refused { IfErr result (MayRefuseBegin self.old base (length acts.old)) }
     {
-        if self.begun.is_some() {
-            return Err(RetireFault::Underway);
-        }
-        let Some(chunk) = self.region.live_at(base) else {
-            return Err(RetireFault::Refused(DeleteFault::NoChunk));
+        let chunk = match self.check_begin(base, acts.len()) {
+            Ok(chunk) => chunk,
+            Err(fault) => return Err(fault),
         };
-        if self.region.acts().generation() >= LAST_GENERATION {
-            return Err(RetireFault::Refused(DeleteFault::GensFull));
-        }
-        let wanted = chunk.length as usize + 2;
-        if is_short(acts.len(), wanted) {
-            return Err(RetireFault::NoRoom(wanted));
-        }
         self.begun = Some(chunk);
         let span = Span {
             region: &self.region,

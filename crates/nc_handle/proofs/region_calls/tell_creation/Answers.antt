@@ -1,6 +1,6 @@
-use Rattle.std.proofs.Common.{length, arith, sym, ◌∙◌}
+use Rattle.std.proofs.Common.{◌+◌, length, arith, sym, ◌∙◌}
 use Rattle.std.proofs.lemmas.Bool.{eqb-false}
-use Rattle.nc_handle.proofs.SpanReads.{span_long}
+use Rattle.nc_handle.proofs.SpanReads.{span_long, span_high, has_room}
 use Rattle.nc_handle.proofs.region_calls.tell_creation.Goals as goal
 
 pub returns : goal.returns
@@ -12,3 +12,18 @@ returns c =
       lent = λ lt. (omega (arith, wrote.counted, span_long span.region.now.marked.bytes span.base span.length span.placed), wrote.buffer);
       not_lent = λ e. absurd (omega (arith, e, some));
     }
+
+pub write_creation-requires-clause-high : goal.write_creation-requires-clause-high
+write_creation-requires-clause-high c =
+    let span = c.args.span.now in
+    span_high span.region.now.marked.bytes span.base span.length span.placed
+
+pub write_creation-requires-clause-room : goal.write_creation-requires-clause-room
+write_creation-requires-clause-room c =
+    let some = eqb-false (length c.args.acts.now) 0 (sym c.is_empty.ensures ∙ c.if-is_empty.false) in
+    let span = c.args.span.now in
+    omega (
+      arith,
+      span_long span.region.now.marked.bytes span.base span.length span.placed,
+      has_room (length c.args.acts.now) (span.length + 2) c.requires.room some,
+    )

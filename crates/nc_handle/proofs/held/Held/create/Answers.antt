@@ -1,14 +1,74 @@
-use Rattle.std.proofs.Common.{rules}
+use Rattle.std.proofs.Common.{rules, ap, subst}
+use Rattle.nc_region.specs.Region.{IsCreated, IsRefused, MayRefuse}
+use Rattle.nc_handle.specs.Held.{HeldState}
+use Rattle.nc_handle.proofs.SpanReads.{created_span, created_told}
+use Rattle.nc_handle.proofs.held.Held.create.Goals.{in-Ok, in-Err-create}
 use Rattle.nc_handle.proofs.held.Held.create.Goals as goal
 
-pub returns-then-is_short-clause-refused : goal.returns-then-is_short-clause-refused
-returns-then-is_short-clause-refused c = search rules
+pub invariant_of-span : goal.invariant_of-span
+invariant_of-span c = record {
+  placed = created_span c.self.inside.region c.create.new.self c.args.vetted c.base-base.result c.code.result.now
+      c.base-base.ensures.value c.code.ensures.value c.in-Ok.ensures.created c.code.ensures.valid c.in-Ok.ensures.free.0;
+}
 
 pub invariant_of-self : goal.invariant_of-self
 invariant_of-self c = search rules
 
-pub returns-clause-allowed : goal.returns-clause-allowed
-returns-clause-allowed c = search rules
+pub returns-clause-created : goal.returns-clause-created
+returns-clause-created c =
+    elim c.match-create.branch [
+      | in-Ok w ↦ rw w.result-is (subst (λ (h : HeldState). IsCreated h.region c.create.new.self c.args.vetted) c.self.view_is w.in-Ok.ensures.created)
+      | in-Err-create w ↦ rw w.result-is tt
+    ]
+
+pub returns-clause-others : goal.returns-clause-others
+returns-clause-others c =
+    elim c.match-create.branch [
+      | in-Ok w ↦ rw w.result-is (ap (λ (h : HeldState). record h { region = c.create.new.self }) c.self.view_is)
+      | in-Err-create w ↦ rw w.result-is tt
+    ]
+
+pub returns-clause-told : goal.returns-clause-told
+returns-clause-told c =
+    elim c.match-create.branch [
+      | in-Ok w ↦
+          rw (w.result-is, w.acts-is)
+          (created_told c.self.inside.region c.create.new.self c.args.vetted c.base-base.result c.code.result.now c.args.acts.now
+          w.tell_creation.new.acts w.tell_creation.result c.base-base.ensures.value c.code.ensures.value w.in-Ok.ensures.created
+          c.code.ensures.valid w.in-Ok.ensures.free.0 w.tell_creation.ensures)
+      | in-Err-create w ↦ rw w.result-is tt
+    ]
+
+pub returns-clause-unchanged : goal.returns-clause-unchanged
+returns-clause-unchanged c =
+    elim c.match-create.branch [
+      | in-Ok w ↦ rw w.result-is tt
+      | in-Err-create w ↦
+          rw w.result-is (
+            w.in-Err-create.ensures.unchanged.0,
+            (
+              ap (λ (h : HeldState). record h { region = c.create.new.self }) c.self.view_is,
+              subst (λ (h : HeldState). IsRefused h.region c.create.new.self c.args.vetted w.in-Err-create.fault) c.self.view_is
+                  w.in-Err-create.ensures.unchanged.1,
+            ),
+          )
+    ]
+
+pub returns-clause-untouched : goal.returns-clause-untouched
+returns-clause-untouched c =
+    elim c.match-create.branch [
+      | in-Ok w ↦ rw w.result-is tt
+      | in-Err-create w ↦ rw w.result-is w.acts-is
+    ]
 
 pub returns-clause-refused : goal.returns-clause-refused
-returns-clause-refused c = search rules
+returns-clause-refused c =
+    elim c.match-create.branch [
+      | in-Ok w ↦ rw w.result-is tt
+      | in-Err-create w ↦
+          rw w.result-is (
+            c.in_default.ensures.allowed.0,
+            c.in_default.ensures.allowed.1,
+            subst (λ (h : HeldState). MayRefuse h.region c.args.vetted w.in-Err-create.fault) c.self.view_is w.in-Err-create.ensures.refused,
+          )
+    ]
