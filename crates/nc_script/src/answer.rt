@@ -1,6 +1,6 @@
 //! How replies are written: single spaces, decimal numbers, addresses and bytes in lower-case hexadecimal.
 
-ghost use Rattle.std.specs.Prelude.{◌≡◌, ◌++◌, ◌∷◌, [], ◌+◌, ◌<◌, ◌≤◌, ◌^◌, OnOk};
+ghost use Rattle.std.specs.Prelude.{◌≡◌, ◌++◌, ◌∷◌, [], ◌+◌, ◌<◌, ◌≤◌, ◌^◌, OnOk, codes};
 ghost use Rattle.std.specs.Fmt.{decimal};
 ghost use Rattle.hex.specs.Hex.{encode_lower};
 ghost use Rattle.nc_text.specs.Places.{limit_of};
@@ -10,7 +10,7 @@ ghost use Rattle.nc_script.specs.Replies.{places_words, end_word, walk_reply};
 ghost use Rattle.nc_script.specs.Replies.{chunk_words, patch_words, deletion_words, stamp_reply, freed_reply};
 
 use nc_lines::push_address;
-use nc_region::{Chunk, ChunkState, DeleteFault, End, ModifyFault, Region, Trace};
+use nc_region::{Chunk, ChunkState, CreateFault, DeleteFault, End, ModifyFault, Region, Trace};
 use std::alloc::{AllocError, Global};
 
 /// Adds the two digits of a byte.
@@ -39,6 +39,19 @@ pub(crate) fn push_places(out: &mut Vec<u8>, places: &[u32]) -> Result<(), Alloc
         push_address(out, *place)?;
     }
     Ok(())
+}
+
+/// Adds the answer to a creation that is refused, where it isn't memory that was missing.
+pub(crate) fn push_create_fault(out: &mut Vec<u8>, fault: CreateFault) -> Result<(), AllocError>
+    ensures { OnOk result ((fault ≡ CreateFault.Occupied)
+        × (out.new.items ≡ out.old.items ++ reply_line (refused_reply (codes "Occupied")))) }
+{
+    match fault {
+        CreateFault::Occupied => out.extend_from_slice(b"refused Occupied\n"),
+        CreateFault::OutOfMemory => Err(AllocError),
+        // this doesn't come: the chunk was vetted for the region's own limit
+        CreateFault::WrongLimit => Err(AllocError),
+    }
 }
 
 /// Adds the answer to a patch that is refused.

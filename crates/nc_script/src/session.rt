@@ -8,13 +8,14 @@ ghost use Rattle.nc_script.specs.Script.{Staying};
 ghost use Rattle.nc_script.specs.machinery.Session.{script_of, FitsSession, Follows, FollowsIn, FollowsLine, WalksOnly};
 
 use crate::answer::{
-    push_chunk, push_delete_fault, push_freed, push_patch_fault, push_stamp, push_trace,
+    push_chunk, push_create_fault, push_delete_fault, push_freed, push_patch_fault, push_stamp,
+    push_trace,
 };
 use crate::request::{Request, request_of};
 use crate::seats::Seats;
 use nc_gens::{Gens, Keeper, Pass};
 use nc_lines::{Responder, push_fault};
-use nc_region::{CreateFault, Region, WalkFault};
+use nc_region::{Region, WalkFault};
 use nc_vet::vet;
 use std::alloc::{AllocError, Global};
 use std::marker::Model;
@@ -116,10 +117,7 @@ fn answer_create(
     };
     match region.create(vetted) {
         Ok(()) => out.extend_from_slice(b"ok\n"),
-        Err((_, CreateFault::Occupied)) => out.extend_from_slice(b"refused Occupied\n"),
-        Err((_, CreateFault::OutOfMemory)) => Err(AllocError),
-        // this doesn't come: the chunk was vetted for the region's own limit
-        Err((_, CreateFault::WrongLimit)) => Err(AllocError),
+        Err((_, fault)) => push_create_fault(out, fault),
     }
 }
 

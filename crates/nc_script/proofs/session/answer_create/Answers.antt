@@ -1,8 +1,11 @@
-use Rattle.std.proofs.Common.{◌∙◌, ℕ, refl, ap, sym, subst}
+use Rattle.std.proofs.Common.{◌≡◌, ◌∙◌, ℕ, refl, ap, sym, subst}
 use Rattle.std.specs.Prelude.{codes}
 use Rattle.std.proofs.lemmas.Result.{on_ok_weaker}
 use Rattle.nc_vet.specs.Faults.{HasFault}
+use Rattle.nc_vet.specs.Chunk.{MarkedChunk}
 use Rattle.nc_region.specs.Region.{Region, IsRefused, MayRefuse, live_chunk}
+use Rattle.nc_region.specs.declared.fault.CreateFault.{CreateFault}
+use Rattle.nc_region.specs.declared.fault.CreateFault.TheVariants.{WrongLimit, Occupied, OutOfMemory}
 use Rattle.nc_script.specs.Requests.{Create}
 use Rattle.nc_script.specs.machinery.Session.{FollowsIn}
 use Rattle.nc_lines.specs.Replies.{reply_line, refused_reply, fault_words}
@@ -10,7 +13,14 @@ use Rattle.nc_script.proofs.Fitting.{follows_kept, follows_same}
 use Rattle.nc_script.proofs.ChunkRequests.{inserted_stamped}
 use Rattle.nc_script.proofs.Serving.{fault_serves, created_serves, crowded_serves, as_asked}
 use Rattle.nc_lines.proofs.Offered.{added}
+use Rattle.nc_script.proofs.session.answer_create.Goals.{in-Ok-create, in-Err-create}
 use Rattle.nc_script.proofs.session.answer_create.Goals as goal
+
+-- a refusal leaves the keeper
+keeper_stays : (old new : Region) (v : MarkedChunk) (fault : CreateFault) → IsRefused old new v fault → new.keeper ≡ old.keeper
+keeper_stays old new v WrongLimit same = ap (λ (r : Region). r.keeper) same
+keeper_stays old new v Occupied same = ap (λ (r : Region). r.keeper) same
+keeper_stays old new v OutOfMemory h = ap (λ (r : Region). r.keeper) h.0
 
 pub returns-in-Err-clause-follows : goal.returns-in-Err-clause-follows
 returns-in-Err-clause-follows c =
@@ -27,36 +37,47 @@ returns-in-Err-clause-follows c =
     ))
     c.push_fault.ensures
 
-pub returns-in-Ok-create-clause-follows : goal.returns-in-Ok-create-clause-follows
-returns-in-Ok-create-clause-follows c =
+pub returns-clause-follows : goal.returns-clause-follows
+returns-clause-follows c =
     let (base_is, limit_is, code_is, valid) = c.in-Ok.ensures.vetted in
     let old = c.args.region.now in
     let new = c.create.new.self in
-    let created = c.in-Ok-create.ensures.created in
-    added c.extend_from_slice.result _ _ (reply_line (codes "ok"))
-    (λ reply. FollowsIn (Create c.args.base c.args.bytes.items) old reply new)
-    c.extend_from_slice.ensures.items
-    (follows_kept (Create c.args.base c.args.bytes.items) old new (reply_line (codes "ok"))
-    (ap (λ (r : Region). r.keeper) created.others)
-    (λ generation h. inserted_stamped generation old.chunks new.chunks (live_chunk c.in-Ok.vetted) refl created.chunks h)
-    (λ seats freed. as_asked c.in-Ok.vetted c.args.base c.args.bytes.items _ _ _ base_is code_is
-    (created_serves old new seats freed c.in-Ok.vetted c.limit-limit.ensures.region
-    (limit_is ∙ c.limit-limit.ensures.limit) valid created c.in-Ok-create.ensures.free.1)))
-
-pub returns-in-Err-default-Occupied-clause-follows : goal.returns-in-Err-default-Occupied-clause-follows
-returns-in-Err-default-Occupied-clause-follows c =
-    let (base_is, limit_is, code_is, valid) = c.in-Ok.ensures.vetted in
-    let old = c.args.region.now in
     let refused = reply_line (refused_reply (codes "Occupied")) in
-    added c.extend_from_slice-in-Err-default-Occupied.result _ _ refused
-    (λ reply. FollowsIn (Create c.args.base c.args.bytes.items) old reply c.create.new.self)
-    c.extend_from_slice-in-Err-default-Occupied.ensures.items
-    (subst (λ (now : Region). FollowsIn (Create c.args.base c.args.bytes.items) old refused now)
-    (sym (subst (IsRefused old c.create.new.self c.in-Ok.vetted) c.in-Err-default-Occupied.field-0-1-is
-    c.in-Err-default-Occupied.ensures.unchanged.1))
-    (follows_same (Create c.args.base c.args.bytes.items) old refused
-    (λ seats freed. as_asked c.in-Ok.vetted c.args.base c.args.bytes.items _ _ _ base_is code_is
-    (crowded_serves old seats freed c.in-Ok.vetted c.limit-limit.ensures.region
-    (limit_is ∙ c.limit-limit.ensures.limit) valid
-    (subst (MayRefuse old c.in-Ok.vetted) c.in-Err-default-Occupied.field-0-1-is
-    c.in-Err-default-Occupied.ensures.refused).1))))
+    elim c.match-create.branch [
+      | in-Ok-create w ↦
+          let created = w.in-Ok-create.ensures.created in
+          rw (w.result-is, w.out-is) (added w.extend_from_slice.result _ _ (reply_line (codes "ok"))
+          (λ reply. FollowsIn (Create c.args.base c.args.bytes.items) old reply new)
+          w.extend_from_slice.ensures.items
+          (follows_kept (Create c.args.base c.args.bytes.items) old new (reply_line (codes "ok"))
+          (ap (λ (r : Region). r.keeper) created.others)
+          (λ generation h. inserted_stamped generation old.chunks new.chunks (live_chunk c.in-Ok.vetted) refl created.chunks h)
+          (λ seats freed. as_asked c.in-Ok.vetted c.args.base c.args.bytes.items _ _ _ base_is code_is
+          (created_serves old new seats freed c.in-Ok.vetted c.limit-limit.ensures.region
+          (limit_is ∙ c.limit-limit.ensures.limit) valid created w.in-Ok-create.ensures.free.1))))
+      | in-Err-create w ↦
+          rw (w.result-is, w.out-is) (on_ok_weaker w.push_create_fault.result
+          (λ h.
+          let unchanged : new ≡ old = subst (IsRefused old new c.in-Ok.vetted) h.0 w.in-Err-create.ensures.unchanged.1 in
+          let due : MayRefuse old c.in-Ok.vetted Occupied = subst (MayRefuse old c.in-Ok.vetted) h.0 w.in-Err-create.ensures.refused in (
+            refused,
+            h.1,
+            subst (λ (now : Region). FollowsIn (Create c.args.base c.args.bytes.items) old refused now)
+                (sym unchanged)
+                (follows_same (Create c.args.base c.args.bytes.items) old refused
+                (λ seats freed. as_asked c.in-Ok.vetted c.args.base c.args.bytes.items _ _ _ base_is code_is
+                (crowded_serves old seats freed c.in-Ok.vetted c.limit-limit.ensures.region
+                (limit_is ∙ c.limit-limit.ensures.limit) valid
+                due.1))),
+          ))
+          w.push_create_fault.ensures)
+    ]
+
+pub returns-clause-keeper : goal.returns-clause-keeper
+returns-clause-keeper c =
+    let old = c.args.region.now in
+    let new = c.create.new.self in
+    elim c.match-create.branch [
+      | in-Ok-create w ↦ ap (λ (r : Region). r.keeper) w.in-Ok-create.ensures.created.others
+      | in-Err-create w ↦ keeper_stays old new c.in-Ok.vetted w.in-Err-create.fault w.in-Err-create.ensures.unchanged.1
+    ]
