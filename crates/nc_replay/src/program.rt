@@ -12,16 +12,13 @@ use std::alloc::Global;
 use std::io::{Read, Write};
 use std::sync::Wait;
 use std::thread::Threads;
-use thiserror::Error;
 
 /// Why the program stops before its work is done.
-#[derive(Debug, Drop, Error)]
+#[derive(Debug, Drop)]
 pub enum Halt {
     /// The words of the command line ask for nothing that can be done, or for help.
-    #[error("{0}")]
     Words(clap::Error),
     /// A script or the lines of chunks could not be answered whole.
-    #[error("{0}")]
     Fault(ReplayFault),
 }
 
