@@ -1,6 +1,5 @@
 -- Where the bytes of a lawful patch lie.
-use Rattle.std.proofs.Common.{◌≡◌, ℕ, ◌+◌, ◌<◌, ◌≤◌, ◌^◌, List, length, take, refl, arith, sym, subst, ◌∙◌}
-use Rattle.std.specs.Prelude.{Bool, IsTrue, Option, Some, None, is_some, false}
+use Rattle.std.proofs.Common.{◌≡◌, ℕ, ◌+◌, ◌<◌, ◌≤◌, ◌^◌, List, length, take, arith, sym, subst, ◌∙◌}
 use Rattle.std.proofs.lemmas.List.{get_or-take, length-take-le}
 use Rattle.nc_text.specs.Places.{limit_of}
 use Rattle.nc_vet.specs.Faults.{HasGoodSpan}
@@ -40,12 +39,3 @@ window_stands text at len bytes lies h = λ k lt.
     let here : k < len = omega (arith, lt, long) in
     sym (get_or-take len bytes k 0 here
     ∙ h.read k (omega (arith, here, lies.short)) lies.low (omega (arith, here, lies.short, lies.high)))
-
--- no chunk
-pub not_some : (o : Option Chunk) → is_some o ≡ false → o ≡ None
-not_some None e = refl
-not_some (Some c) e = absurd (grind (arith, e))
-
--- false is not true
-pub not_true : (b : Bool) → b ≡ false → IsTrue b → ⊥
-not_true b e t = grind (arith, e, t)

@@ -1,5 +1,6 @@
 mod WrittenMarks
 mod Reading
+mod Refusals
 mod Accepted
 mod OnlyChunk
 mod AnyRegion

@@ -1,15 +1,18 @@
 //! The acts of a chunk that is created or deleted, with the settling of each.
 
-ghost use Rattle.std.specs.Prelude.{◌≡◌, ◌+◌, ◌^◌, ◌<◌, ◌⊎◌, ◌==◌, ◌||◌, List, length, map, if◌then◌else◌};
+ghost use Rattle.std.specs.Prelude.{◌≡◌, ◌+◌, ◌^◌, ◌<◌, ◌≤◌, ◌⊎◌, ◌==◌, ◌||◌, List, length, map, if◌then◌else◌};
 ghost use Rattle.nc_decode.specs.declared.instruction.Mark.{Mark};
+ghost use Rattle.nc_vet.specs.Listed.{listed};
 ghost use Rattle.nc_region.specs.Log.{log_of_create, log_of_delete};
 ghost use Rattle.nc_handle.specs.acts.Shown.{entry_of, over};
+ghost use Rattle.nc_handle.specs.acts.Written.{HasWritten};
 ghost use Rattle.nc_host.specs.Outcomes.{IsAccepted, IsOutcome, StandAt};
 
 use crate::answers::{NO_ROOM, NcActs, NcVerdict};
 use crate::lent::Lent;
 use crate::vetting::admit;
 use nc_handle::{NcAct, write_creation, write_deletion};
+use nc_vet::Marks;
 use std::alloc::Global;
 
 /// A refusal, with the number of acts that there is no room for.
@@ -25,6 +28,39 @@ pub(crate) fn refused(verdict: NcVerdict, len: usize) -> NcActs
         } else {
             0
         },
+    }
+}
+
+/// The acts of a vetted chunk's creation, written into a buffer that has room for them.
+fn creation(acts: &mut [NcAct], base: u32, code: &[u8], own: &Marks) -> NcActs
+    requires each { length (listed code.now own.now) ≡ length code.now }
+    requires high { base + length code.now + 2 < 2 ^ 32 }
+    requires room { length code.now + 2 ≤ length acts.old }
+    ensures answer { result ≡ record { fault = 0; at = 0; count = length code.now + 2 } }
+    ensures written { HasWritten acts.old acts.new (length code.now + 2) (log_of_create base code.now) }
+{
+    write_creation(acts, base, &Lent { code, marks: own });
+    NcActs {
+        fault: 0,
+        at: 0,
+        count: code.len() as u32 + 2,
+    }
+}
+
+/// The acts of its deletion.
+fn deletion(acts: &mut [NcAct], base: u32, code: &[u8], own: &Marks) -> NcActs
+    requires each { length (listed code.now own.now) ≡ length code.now }
+    requires high { base + length code.now + 2 < 2 ^ 32 }
+    requires room { length code.now + 2 ≤ length acts.old }
+    ensures answer { result ≡ record { fault = 0; at = 0; count = length code.now + 2 } }
+    ensures written { (text : List Mark) → StandAt text base (listed code.now own.now)
+        → HasWritten acts.old acts.new (length code.now + 2) (log_of_delete text base (length code.now)) }
+{
+    write_deletion(acts, base, &Lent { code, marks: own });
+    NcActs {
+        fault: 0,
+        at: 0,
+        count: code.len() as u32 + 2,
     }
 }
 
@@ -53,14 +89,7 @@ pub extern "C" fn nc_host_create(
         → (result.fault ≡ 0) ⊎ ((result.fault ≡ 8) ⊎ (result.fault ≡ 9)) }
 {
     match admit(alloc, base, limit, code, code.len() + 2, acts.len()) {
-        Ok(own) => {
-            write_creation(acts, base, &Lent { code, marks: &own });
-            NcActs {
-                fault: 0,
-                at: 0,
-                count: code.len() as u32 + 2,
-            }
-        }
+        Ok(own) => creation(acts, base, code, &own),
         Err(verdict) => refused(verdict, code.len()),
     }
 }
@@ -89,14 +118,7 @@ pub extern "C" fn nc_host_delete(
         → (result.fault ≡ 0) ⊎ ((result.fault ≡ 8) ⊎ (result.fault ≡ 9)) }
 {
     match admit(alloc, base, limit, code, code.len() + 2, acts.len()) {
-        Ok(own) => {
-            write_deletion(acts, base, &Lent { code, marks: &own });
-            NcActs {
-                fault: 0,
-                at: 0,
-                count: code.len() as u32 + 2,
-            }
-        }
+        Ok(own) => deletion(acts, base, code, &own),
         Err(verdict) => refused(verdict, code.len()),
     }
 }

@@ -1,13 +1,15 @@
 //! The verdict on a patch of a chunk, and its acts.
 
-ghost use Rattle.std.specs.Prelude.{◌≡◌, ◌+◌, ◌*◌, ◌≤◌, ◌<◌, ◌⊎◌, ◌==◌, ℕ, List, length, map, IfOk, None, if◌then◌else◌};
+ghost use Rattle.std.specs.Prelude.{◌≡◌, ◌+◌, ◌*◌, ◌^◌, ◌≤◌, ◌<◌, ◌⊎◌, ◌==◌, ℕ, List, [], length, map, IfOk, None, if◌then◌else◌};
 ghost use Rattle.nc_decode.specs.declared.instruction.Mark.{Mark};
+ghost use Rattle.nc_text.specs.MarkedText.{unused_text};
 ghost use Rattle.nc_vet.specs.Chunk.{Piece, IsValid};
 ghost use Rattle.nc_vet.specs.Listed.{listed};
 ghost use Rattle.nc_region.specs.Region.{Region};
 ghost use Rattle.nc_region.specs.Patch.{AreBytesOf, IsPatch, log_of_modify};
 ghost use Rattle.nc_handle.specs.acts.Shown.{entry_of, over};
 ghost use Rattle.nc_handle.specs.acts.Standing.{AreBytesAt};
+ghost use Rattle.nc_handle.specs.acts.Written.{HasWritten};
 ghost use Rattle.nc_host.specs.Shown.{patch_number};
 ghost use Rattle.nc_host.specs.Outcomes.{IsAccepted};
 ghost use Rattle.nc_host.specs.Patches.{IsAnsweredFor, IsPatchOutcome, HasLiveCode, LiesWithin};
@@ -18,7 +20,7 @@ use crate::vetting::admit;
 use nc_decode::{BUNDLE, START};
 use nc_gens::Gens;
 use nc_handle::{NcAct, write_patch};
-use nc_region::{ModifyFault, Region};
+use nc_region::{Acts, ModifyFault, Region, RegionOf};
 use nc_vet::{Marks, Vetted};
 use std::alloc::{AllocError, Global};
 
@@ -33,6 +35,28 @@ pub(crate) fn patch_number(fault: ModifyFault) -> u32
         ModifyFault::Boundaries => 19,
         ModifyFault::PairTouched => 20,
         ModifyFault::BadTarget => 21,
+    }
+}
+
+/// What a region in which no chunk stands answers to a patch of a valid chunk that it is given.
+fn answer_in<A: Acts + Drop>(
+    region: &mut RegionOf<A>,
+    vetted: Vetted,
+    at: u32,
+    new: &[u8],
+) -> Result<Option<ModifyFault>, AllocError>
+    requires valid { IsValid vetted }
+    requires text { region.old.marked ≡ unused_text vetted.limit }
+    requires chunks { region.old.chunks ≡ [] }
+    ensures answer { IfOk result (λ a. IsAnsweredFor vetted.base vetted.limit vetted.code at new.now a) }
+    ensures within { IfOk result (λ a. a ≡ None → LiesWithin vetted.base vetted.code at new.now) }
+{
+    let Ok(()) = region.create(vetted) else {
+        return Err(AllocError);
+    };
+    match region.modify(at, new) {
+        Ok(()) => Ok(None),
+        Err(fault) => Ok(Some(fault)),
     }
 }
 
@@ -51,15 +75,9 @@ fn answer(
         return Err(AllocError);
     };
     let bundles = (vetted.limit() - START) / BUNDLE;
-    let Ok(mut region) = Region::new(alloc, bundles, &gens, keeper) else {
-        return Err(AllocError);
-    };
-    let Ok(()) = region.create(vetted) else {
-        return Err(AllocError);
-    };
-    match region.modify(at, new) {
-        Ok(()) => Ok(None),
-        Err(fault) => Ok(Some(fault)),
+    match Region::new(alloc, bundles, &gens, keeper) {
+        Ok(mut region) => answer_in(&mut region, vetted, at, new),
+        Err(_) => Err(AllocError),
     }
 }
 
@@ -89,6 +107,23 @@ fn refusal(fault: u32, count: u32) -> NcActs
         fault,
         at: 0,
         count,
+    }
+}
+
+/// The acts of a lawful patch of a chunk, written into a buffer that has room for them.
+fn lawful(acts: &mut [NcAct], base: u32, code: &[u8], at: u32, new: &[u8]) -> NcActs
+    requires within { LiesWithin base code.now at new.now }
+    requires high { base + length code.now < 2 ^ 32 }
+    requires room { 3 * length new.now ≤ length acts.old }
+    ensures answer { (result.fault ≡ 0) × (result.at ≡ 0) }
+    ensures written { (text : List ℕ) (news : List Piece) → AreBytesAt text base code.now → AreBytesOf new.now news
+        → HasWritten acts.old acts.new result.count (log_of_modify text at news) }
+{
+    let count = write_patch(acts, 0, base, code, (at - base) as usize, new);
+    NcActs {
+        fault: 0,
+        at: 0,
+        count: count as u32,
     }
 }
 
@@ -132,13 +167,6 @@ pub extern "C" fn nc_host_patch(
         Err(AllocError) => refusal(NO_MEMORY, 0),
         Ok(Some(fault)) => refusal(patch_number(fault), 0),
         Ok(None) if acts.len() < 3 * new.len() => refusal(NO_ROOM, 3 * new.len() as u32),
-        Ok(None) => {
-            let count = write_patch(acts, 0, base, code, (at - base) as usize, new);
-            NcActs {
-                fault: 0,
-                at: 0,
-                count: count as u32,
-            }
-        }
+        Ok(None) => lawful(acts, base, code, at, new),
     }
 }

@@ -1,13 +1,17 @@
-use Rattle.std.proofs.Common.{◌+◌, length}
+use Rattle.std.proofs.Common.{◌+◌, length, arith}
 use Rattle.nc_vet.proofs.Offered.{valid_len}
-use Rattle.nc_host.proofs.Accepted.{eight_or_nine}
+use Rattle.nc_host.proofs.Accepted.{ends_low, eight_or_nine}
 use Rattle.nc_host.proofs.acting.nc_host_create.Goals as goal
 
-pub invariant_of-write_creation : goal.invariant_of-write_creation
-invariant_of-write_creation c = record { each = valid_len _ c.in-Ok.ensures.valid.0 }
+pub creation-requires-clause-each : goal.creation-requires-clause-each
+creation-requires-clause-each c = valid_len _ c.in-Ok.ensures.valid.0
+
+pub creation-requires-clause-high : goal.creation-requires-clause-high
+creation-requires-clause-high c = omega (arith, ends_low _ _ _ _ c.in-Ok.ensures.valid.0)
 
 pub returns-in-Ok-clause-written : goal.returns-in-Ok-clause-written
-returns-in-Ok-clause-written c = λ e. (c.write_creation.ensures.counted, c.write_creation.ensures.buffer)
+returns-in-Ok-clause-written c = λ e.
+    rw c.creation.ensures.answer (c.creation.ensures.written.counted, c.creation.ensures.written.buffer)
 
 pub returns-in-Err-clause-valid : goal.returns-in-Err-clause-valid
 returns-in-Err-clause-valid c = λ m valid.

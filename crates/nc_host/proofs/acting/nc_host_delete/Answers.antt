@@ -3,20 +3,21 @@ use Rattle.nc_decode.specs.declared.instruction.Mark.{Mark}
 use Rattle.nc_vet.specs.Listed.{listed}
 use Rattle.nc_vet.proofs.Offered.{valid_len}
 use Rattle.nc_host.specs.Outcomes.{StandAt}
-use Rattle.nc_host.proofs.Accepted.{eight_or_nine, same_marks}
+use Rattle.nc_host.proofs.Accepted.{ends_low, eight_or_nine, same_marks}
 use Rattle.nc_host.proofs.acting.nc_host_delete.Goals as goal
 
-pub invariant_of-write_deletion : goal.invariant_of-write_deletion
-invariant_of-write_deletion c = record { each = valid_len _ c.in-Ok.ensures.valid.0 }
+pub deletion-requires-clause-each : goal.deletion-requires-clause-each
+deletion-requires-clause-each c = valid_len _ c.in-Ok.ensures.valid.0
+
+pub deletion-requires-clause-high : goal.deletion-requires-clause-high
+deletion-requires-clause-high c = omega (arith, ends_low _ _ _ _ c.in-Ok.ensures.valid.0)
 
 pub returns-in-Ok-clause-written : goal.returns-in-Ok-clause-written
 returns-in-Ok-clause-written c = λ e m text valid stand.
     let own : List Mark = listed c.args.code.now c.in-Ok.own in
     let same : m ≡ own = same_marks c.args.base c.args.limit c.args.code.now m own valid c.in-Ok.ensures.valid.0 in
-    let stands : StandAt text c.args.base own = subst (λ (z : List Mark). StandAt text c.args.base z) same stand in
-    let long : length own ≡ length c.args.code.now = valid_len _ c.in-Ok.ensures.valid.0 in
-    let wrote = c.write_deletion.ensures text (λ k lt. stands k (omega (arith, lt, long))) in
-    (wrote.counted, wrote.buffer)
+    let wrote = c.deletion.ensures.written text (subst (λ (z : List Mark). StandAt text c.args.base z) same stand) in
+    rw c.deletion.ensures.answer (wrote.counted, wrote.buffer)
 
 pub returns-in-Err-clause-valid : goal.returns-in-Err-clause-valid
 returns-in-Err-clause-valid c = λ m valid.

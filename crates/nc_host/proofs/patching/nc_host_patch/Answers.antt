@@ -1,12 +1,10 @@
-use Rattle.std.proofs.Common.{◌+◌, ◌-◌, ℕ, [], length, refl, arith, subst}
+use Rattle.std.proofs.Common.{length, refl, arith, subst}
 use Rattle.nc_vet.specs.Listed.{listed}
-use Rattle.nc_region.specs.Patch.{log_of_modify}
-use Rattle.nc_handle.specs.acts.Written.{HasWritten, Adds}
 use Rattle.std.specs.Prelude.{Option}
 use Rattle.nc_region.specs.declared.fault.ModifyFault.{ModifyFault}
 use Rattle.nc_host.specs.Patches.{IsAnsweredFor}
 use Rattle.nc_host.proofs.AnyRegion.{lawful_anywhere, live_accepted, refused_everywhere}
-use Rattle.nc_host.proofs.Accepted.{eight_or_nine}
+use Rattle.nc_host.proofs.Accepted.{ends_low, eight_or_nine}
 use Rattle.nc_host.proofs.OnlyChunk.{chunk_outcome, memory_outcome, at_least_eight, chunk_not_nine}
 use Rattle.nc_host.proofs.patching.nc_host_patch.Goals as goal
 
@@ -26,14 +24,15 @@ returns-in-Err-judge_patch-clause-outcome c =
     (memory_outcome c.args.base c.args.limit c.args.code.now (listed c.args.code.now c.in-Ok.marks) c.args.at c.args.new.now
     (length c.args.acts.now) c.in-Ok.ensures.valid.0)
 
+pub lawful-requires-clause-within : goal.lawful-requires-clause-within
+lawful-requires-clause-within c = c.in-Ok-None.ensures.within c.in-Ok-None.field-0-is
+
+pub lawful-requires-clause-high : goal.lawful-requires-clause-high
+lawful-requires-clause-high c = omega (arith, ends_low _ _ _ _ c.in-Ok.ensures.valid.0)
+
 pub returns-in-Ok-None-2-clause-written : goal.returns-in-Ok-None-2-clause-written
 returns-in-Ok-None-2-clause-written c = λ e text news h b.
-    let within = c.in-Ok-None.ensures.within c.in-Ok-None.field-0-is in
-    let none : HasWritten c.args.acts.now c.args.acts.now 0 [] = record { buffer = refl; counted = refl } in
-    let added : Adds c.args.acts.now 0 c.write_patch-count.new.acts c.write_patch-count.result (log_of_modify text c.args.at news) =
-    subst (λ (k : ℕ). Adds c.args.acts.now 0 c.write_patch-count.new.acts c.write_patch-count.result (log_of_modify text k news))
-    {x = c.args.base + (c.args.at - c.args.base)} {y = c.args.at} (omega (arith, within.0)) (c.write_patch-count.ensures.written text news h b) in
-    let wrote = added c.args.acts.now [] none in
+    let wrote = c.lawful.ensures.written text news h b in
     (wrote.counted, wrote.buffer)
 
 pub returns-in-Ok-None-2-clause-anywhere : goal.returns-in-Ok-None-2-clause-anywhere
