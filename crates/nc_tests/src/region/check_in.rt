@@ -5,8 +5,7 @@ ghost use Rattle.std.specs.Thread.{IsSync};
 use crate::region::calls::{Calls, Locked, is_created};
 use crate::region::fixtures::{chunk, shared};
 use crate::region::steps::{Step, take_steps};
-use crate::region::trial::{SharedTrial, try_shared};
-use nc_gens::{Gens, Keeper, Pass};
+use nc_gens::{Gens, Pass};
 use nc_region::{Acts, SharedOf};
 use std::alloc::Global;
 use std::sync::Wait;
@@ -82,7 +81,8 @@ fn check_in_beside<R: Threads + Wait + Sync, A: Acts + Drop + Send>(
     wrote
 }
 
-/// All passes but the last check in once more, and the last one leaves.
+/// All passes but the last check in once more, and the last one leaves. It is allowed to start threads and not to wait, so
+/// neither call waits.
 fn last_leaves<R: Threads + Sync, A: Acts + Drop + Send>(
     rt: &R,
     shared: &SharedOf<'_, A>,
@@ -142,49 +142,4 @@ fn check_in_beside_writer(rt: HostRuntime) -> Result<(), Fail> {
     let (gens, keeper, passes) = Gens::new(alloc, 4)?;
     let shared = shared(alloc, 128, &gens, keeper)?;
     check_in_and_leave(&rt, alloc, &shared, passes)
-}
-
-/// It is allowed to start threads and not to wait, so nothing that it calls waits.
-fn no_wait<T: Threads, A: Acts + Drop>(
-    _rt: &T,
-    gens: &Gens,
-    shared: &SharedOf<'_, A>,
-    keeper: &mut Keeper,
-    mut pass: Pass,
-    own: Pass,
-) -> u64
-    requires { (keeper.old.table ≡ gens.now) × (own.table ≡ gens.now) × (pass.table ≡ shared.now) }
-{
-    let mut own = own;
-    let stamp = gens.bump(keeper).unwrap_or(0);
-    gens.check_in(&mut own);
-    gens.meet(&mut own, keeper);
-    gens.leave(own);
-    shared.check_in(&mut pass);
-    shared.leave(pass);
-    stamp.wrapping_add(gens.look(keeper))
-}
-
-/// Calls that never wait, of a second table and of a region.
-#[derive(Drop)]
-struct NoWait<'r, T: Threads> {
-    rt: &'r T,
-    alloc: Global,
-}
-
-impl<T: Threads> SharedTrial for NoWait<'_, T> {
-    fn run<A: Acts + Drop + Send>(self, shared: &SharedOf<'_, A>, pass: Pass) -> Result<(), Fail> {
-        let (gens, mut keeper, mut seats) = Gens::new(self.alloc, 1)?;
-        let own = seats.remove(0);
-        match no_wait(self.rt, &gens, shared, &mut keeper, pass, own) {
-            2 => Ok(()),
-            _ => Err(Fail::new("another stamp or generation")),
-        }
-    }
-}
-
-#[test]
-fn calls_that_never_wait(rt: HostRuntime) -> Result<(), Fail> {
-    let alloc = rt.alloc();
-    try_shared(alloc, 4, NoWait { rt: &rt, alloc })
 }

@@ -5,7 +5,7 @@ ghost use Rattle.nc_region.specs.Region.{IsNew};
 use crate::region::calls::{Calls, Locked, is_created};
 use crate::region::fixtures::{LIMIT, chunk, region, shared};
 use crate::region::steps::{Step, Steps, take_both, take_steps};
-use crate::region::trial::{SharedTrial, recorder, try_shared};
+use crate::region::trial::recorder;
 use nc_gens::{Gens, Pass};
 use nc_region::{
     Acts, CreateFault, DeleteFault, End, ModifyFault, RegionOf, Shared, SharedOf, Trace,
@@ -188,30 +188,27 @@ fn take_steps_beside<C: Calls, A: Acts + Drop>(
     take_steps(alloc, region, LIMIT, steps.after)
 }
 
-/// The calls under the lock, with a check-in beside it.
-#[derive(Drop)]
-struct SharedCalls<'r, R: Wait> {
-    rt: &'r R,
+/// The calls under the lock, with a check-in beside it; the seat leaves afterwards.
+fn try_calls<R: Wait, A: Acts + Drop>(
+    rt: &R,
     alloc: Global,
-}
-
-impl<R: Wait> SharedTrial for SharedCalls<'_, R> {
-    fn run<A: Acts + Drop + Send>(self, shared: &SharedOf<'_, A>, pass: Pass) -> Result<(), Fail> {
-        let mut pass = pass;
-        let mut region = Locked {
-            rt: self.rt,
-            shared,
-        };
-        take_steps_beside(self.alloc, &mut region, shared, &mut pass, &CALLS)?;
-        shared.leave(pass);
-        Ok(())
-    }
+    shared: &SharedOf<'_, A>,
+    mut pass: Pass,
+) -> Result<(), Fail>
+    requires { pass.table ≡ shared.now }
+{
+    take_steps_beside(alloc, &mut Locked { rt, shared }, shared, &mut pass, &CALLS)?;
+    shared.leave(pass);
+    Ok(())
 }
 
 #[test]
 fn shared_calls(rt: HostRuntime) -> Result<(), Fail> {
     let alloc = rt.alloc();
-    try_shared(alloc, 4, SharedCalls { rt: &rt, alloc })
+    let (gens, keeper, mut passes) = Gens::new(alloc, 1)?;
+    let pass = passes.remove(0);
+    let shared = shared(alloc, 4, &gens, keeper)?;
+    try_calls(&rt, alloc, &shared, pass)
 }
 
 /// The limit of a region of 6 bundles.

@@ -2,9 +2,9 @@
 ghost use Rattle.std.specs.Prelude.{◌≡◌, IfOk};
 ghost use Rattle.nc_region.specs.Region.{IsNew};
 
-use crate::region::fixtures::{plain, shared};
+use crate::region::fixtures::plain;
 use nc_gens::{Gens, Keeper, Pass};
-use nc_region::{Act, Acts, Entry, Plain, Recorder, RegionOf, SharedOf};
+use nc_region::{Act, Acts, Entry, Plain, Recorder, RegionOf};
 use std::alloc::Global;
 use std::test::Fail;
 
@@ -82,23 +82,4 @@ pub(crate) fn try_in_region<T: Trial>(
     let pass = passes.remove(0);
     let acts = recorder(alloc, bundles, room, &gens, keeper)?;
     try_over(alloc, acts, &gens, pass, trial)
-}
-
-/// What is tried in a region that threads share.
-pub(crate) trait SharedTrial: Drop {
-    /// Tries it in a new region with one seat.
-    fn run<A: Acts + Drop + Send>(self, shared: &SharedOf<'_, A>, pass: Pass) -> Result<(), Fail>
-        requires { pass.table ≡ shared.now };
-}
-
-/// Tries this in a new region of this size that tells nothing.
-pub(crate) fn try_shared<T: SharedTrial>(
-    alloc: Global,
-    bundles: u32,
-    trial: T,
-) -> Result<(), Fail> {
-    let (gens, keeper, mut passes) = Gens::new(alloc, 1)?;
-    let pass = passes.remove(0);
-    let shared = shared(alloc, bundles, &gens, keeper)?;
-    trial.run(&shared, pass)
 }
