@@ -1,4 +1,6 @@
-use Rattle.std.proofs.Common.{◌+◌, ◌-◌, [], ◌∷◌, length, set, arith}
+use Rattle.std.proofs.Common.{◌+◌, ◌-◌, [], ◌∷◌, length, set, arith, ap, ◌∙◌}
+use Rattle.std.proofs.lemmas.List.{length-set}
+use Rattle.nc_text.specs.MarkedText.{MarkedText}
 use Rattle.nc_region.specs.declared.acts.Act.TheVariants.{Put}
 use Rattle.nc_region.specs.declared.acts.Entry.TheVariants.{Did, Settled}
 use Rattle.nc_region.proofs.chunks.ReadyPlaces.{ready_place}
@@ -63,3 +65,31 @@ pub returns-clause-log : goal.returns-clause-log
 returns-clause-log g c =
     logs_more _ _ _ (Did (Put c.args.at 244) ∷ []) _ c.put.ensures.logged
     (logs_after _ _ _ (Settled ∷ _) (Did (Put c.args.at c.args.first) ∷ []) c.put_rest.ensures.log c.put-2.ensures.logged)
+
+pub put-requires-clause-inside : goal.put-requires-clause-inside
+put-requires-clause-inside g c =
+    let r = c.requires.replacing in
+    (r.low, omega (arith, r.high))
+
+pub put_rest-requires-clause-high : goal.put_rest-requires-clause-high
+put_rest-requires-clause-high g c =
+    let old = g.A.Acts.marked c.args.acts.now in
+    rw c.put.ensures.marked (omega (arith, c.requires.replacing.high, length-set old.bytes (c.args.at - 65536) 244))
+
+pub put-requires-2-clause-inside : goal.put-requires-2-clause-inside
+put-requires-2-clause-inside g c =
+    let old = g.A.Acts.marked c.args.acts.now in
+    let r = c.requires.replacing in
+    let long = ap (λ (m : MarkedText). length m.bytes) c.put.ensures.marked ∙ length-set old.bytes (c.args.at - 65536) 244 in
+    (r.low, omega (arith, r.high, c.put_rest.ensures.bytes.as_long, long))
+
+pub returns-clause-marks : goal.returns-clause-marks
+returns-clause-marks g c =
+    ap (λ (m : MarkedText). m.marks) c.put-2.ensures.marked
+    ∙ (c.put_rest.ensures.marks ∙ ap (λ (m : MarkedText). m.marks) c.put.ensures.marked)
+
+pub returns-clause-made : goal.returns-clause-made
+returns-clause-made g c = c.put-2.ensures.made ∙ (c.put_rest.ensures.made ∙ c.put.ensures.made)
+
+pub returns-clause-keeper : goal.returns-clause-keeper
+returns-clause-keeper g c = c.put-2.ensures.keeper ∙ (c.put_rest.ensures.keeper ∙ c.put.ensures.keeper)
