@@ -16,9 +16,6 @@ const BASE: u32 = 0x10000;
 
 const LIMIT: u32 = 0x10080;
 
-/// The verdict on a chunk that isn't permitted.
-const NOT_PERMITTED: Option<VetFault> = Some(VetFault::NotPermitted { at: BASE });
-
 /// Holds the one job until the other one is done, for a limited number of turns.
 #[derive(Drop)]
 struct Until {
@@ -71,39 +68,32 @@ fn bad_and_good(alloc: Global) -> Result<Vec<Job>, AllocError> {
     Ok(jobs)
 }
 
-/// The fault of a verdict, if it has one.
-fn fault(verdict: &Verdict) -> Option<VetFault> {
-    match verdict {
-        Ok(_) => None,
-        Err(e) => Some(e.1),
+/// The first chunk is refused at its base, and the second one is valid.
+fn are_due(verdicts: &[Verdict]) -> bool {
+    match verdicts {
+        [Err((_, VetFault::NotPermitted { at })), Ok(_)] => *at == BASE,
+        _ => false,
     }
 }
 
-/// The faults of the verdicts on these jobs, in their order. It has no clause, so what the verdicts promise isn't known where
-/// they are compared.
-fn faults<G: Gate, R: Threads + Wait + Sync + AllocGlobal>(
-    rt: &R,
-    jobs: Vec<Job>,
-    workers: u32,
-    gate: &G,
-) -> Result<Vec<Option<VetFault>>, Fail> {
-    let Ok(verdicts) = vet_all(rt, jobs, workers, gate) else {
-        return Err(Fail::new("the jobs were refused"));
-    };
-    Ok(verdicts.iter().map(fault).collect(rt.alloc())?)
+/// Whether two workers have the verdicts that are due. It has no clause, so what the verdicts promise isn't known above.
+fn judge<G: Gate, R: Threads + Wait + Sync>(rt: &R, jobs: Vec<Job>, gate: &G) -> bool {
+    match vet_all(rt, jobs, 2, gate) {
+        Ok(verdicts) => are_due(verdicts.as_slice()),
+        Err(_) => false,
+    }
 }
 
 /// Each job of two held until the other is done: whether neither was held too long, and both have their verdicts.
 fn are_at_once<R: Threads + Wait + Sync + AllocGlobal>(rt: &R, held: usize) -> Result<bool, Fail> {
+    let jobs = bad_and_good(rt.alloc())?;
     let gate = Until {
         held,
         other: 1usize.saturating_sub(held),
         done: AtomicBool::new(false),
         late: AtomicBool::new(false),
     };
-    let faults = faults(rt, bad_and_good(rt.alloc())?, 2, &gate)?;
-    let wanted = [NOT_PERMITTED, None];
-    Ok(!gate.late.load(Ordering::SeqCst) && faults.as_slice() == wanted.as_slice())
+    Ok(judge(rt, jobs, &gate) && !gate.late.load(Ordering::SeqCst))
 }
 
 #[test]

@@ -1,4 +1,5 @@
 use Rattle.std.proofs.Common.{sym, ◌∙◌, arith}
+use Rattle.std.proofs.lemmas.Grind.{common_steps}
 use Rattle.nc_script.proofs.ChoiceWords.{one_more, none_here}
 use Rattle.nc_script.proofs.request.addresses_of.Goals as goal
 
@@ -11,3 +12,6 @@ pub returns-in-None : goal.returns-in-None
 returns-in-None c =
     none_here (λ word. word.now) _ c.args.words.now c.loop-word.word-index c.loop-word.choices.items
     (omega arith) (sym c.address_of.ensures ∙ c.in-None.is) c.loop-word.invariant
+
+pub returns : goal.returns
+returns c = grind (arith, common_steps)

@@ -1,5 +1,6 @@
-use Rattle.std.proofs.Common.{refl, sym, ◌∙◌}
+use Rattle.std.proofs.Common.{arith, refl, sym, ◌∙◌}
 use Rattle.std.proofs.lemmas.List.{set-get_or}
+use Rattle.std.proofs.lemmas.Grind.{common_steps}
 use Rattle.nc_script.proofs.Passes.{none_there}
 use Rattle.nc_script.proofs.seats.check_in_at.Goals as goal
 
@@ -10,3 +11,6 @@ returns-clause-checks c = (
   set-get_or c.args.passes.now c.args.seat c.index-passes-seat.result,
   refl,
 )
+
+pub returns-clause-seated : goal.returns-clause-seated
+returns-clause-seated c = grind (arith, common_steps)
