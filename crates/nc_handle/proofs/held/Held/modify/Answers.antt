@@ -1,9 +1,48 @@
-use Rattle.std.proofs.Common.{length, subst}
-use Rattle.nc_region.specs.Patch.{IsPatch, MayRefusePatch}
+use Rattle.std.proofs.Common.{length, ap, subst, ◌∙◌}
+use Rattle.nc_region.specs.Patch.{IsModified, IsPatch, MayRefusePatch}
+use Rattle.nc_region.specs.Region.{Region}
 use Rattle.nc_handle.specs.Held.{HeldState}
 use Rattle.nc_handle.proofs.PatchPlaces.{patch_lies, window_stands}
 use Rattle.nc_handle.proofs.held.Held.modify.Goals.{in-Ok, in-Err-modify}
 use Rattle.nc_handle.proofs.held.Held.modify.Goals as goal
+
+pub returns-clause-modified : goal.returns-clause-modified
+returns-clause-modified c =
+    elim c.match-modify.branch [
+      | in-Ok w ↦
+          rw w.result-is
+          (subst (λ (h : HeldState). IsModified h.region c.modify.new.self c.args.at c.args.new.now) c.self.view_is w.in-Ok.ensures.modified)
+      | in-Err-modify w ↦ rw w.result-is tt
+    ]
+
+pub returns-clause-others : goal.returns-clause-others
+returns-clause-others c =
+    elim c.match-modify.branch [
+      | in-Ok w ↦ rw w.result-is (ap (λ (h : HeldState). record h { region = c.modify.new.self }) c.self.view_is)
+      | in-Err-modify w ↦ rw w.result-is tt
+    ]
+
+pub returns-clause-allowed : goal.returns-clause-allowed
+returns-clause-allowed c =
+    elim c.match-modify.branch [
+      | in-Ok w ↦ rw w.result-is c.in_default.ensures.allowed
+      | in-Err-modify w ↦ rw w.result-is tt
+    ]
+
+pub returns-clause-unchanged : goal.returns-clause-unchanged
+returns-clause-unchanged c =
+    let held : Region → HeldState = λ r. record { region = r; passes = c.self.inside.passes.items; begun = c.self.inside.begun } in
+    elim c.match-modify.branch [
+      | in-Ok w ↦ rw w.result-is tt
+      | in-Err-modify w ↦ rw w.result-is (ap held w.in-Err-modify.ensures.unchanged ∙ c.self.view_is)
+    ]
+
+pub returns-clause-untouched : goal.returns-clause-untouched
+returns-clause-untouched c =
+    elim c.match-modify.branch [
+      | in-Ok w ↦ rw w.result-is tt
+      | in-Err-modify w ↦ rw w.result-is w.acts-is
+    ]
 
 pub returns-clause-lawful : goal.returns-clause-lawful
 returns-clause-lawful c =
