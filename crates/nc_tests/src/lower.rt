@@ -5,4 +5,5 @@ mod generations;
 mod lines;
 mod reports;
 mod rows;
+mod texts;
 mod workers;
