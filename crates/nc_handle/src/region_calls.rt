@@ -7,7 +7,7 @@ ghost use Rattle.nc_vet.specs.Chunk.{Piece};
 ghost use Rattle.nc_vet.specs.Faults.{HasGoodSpan};
 ghost use Rattle.nc_region.specs.Log.{log_of_create, log_of_delete};
 ghost use Rattle.nc_region.specs.Patch.{AreBytesOf, IsModified, IsPatch, log_of_modify};
-ghost use Rattle.nc_region.specs.Region.{IsCreated};
+ghost use Rattle.nc_region.specs.Region.{IsCreated, Meets};
 ghost use Rattle.nc_handle.specs.acts.Standing.{AreBytesAt};
 ghost use Rattle.nc_handle.specs.Held.{IsLiveAt, IsShort, IsShortForPatch, HasBegun, HasEnded, IsNotLoaded, MayRefuseBegin, MayRefuseLoad, MayRefuseModify};
 ghost use Rattle.nc_handle.specs.Shown.{IsTold, bytes_of_span};
@@ -147,6 +147,9 @@ impl Held {
         ensures others { OnOk result (self.new ≡ record self.old { region = self.new.region }) }
         // No deletion was under way, and a buffer that was lent had room for the acts.
         ensures allowed { OnOk result ((self.old.begun ≡ None) × ¬ IsShort (length acts.old) (length vetted.code + 2)) }
+        // It was vetted for this region's limit, and no chunk stood there.
+        ensures free { OnOk result ((vetted.limit ≡ limit_of self.old.region.marked.bytes)
+            × ¬ Meets vetted.base (length vetted.code) self.old.region.chunks) }
         // The acts written are those of a creation, with the settling.
         ensures told { IfOk result (λ count. IsTold acts.old acts.new count (log_of_create vetted.base vetted.code)) }
         // The chunk comes back, and the buffer is as it was.

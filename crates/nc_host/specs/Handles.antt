@@ -1,11 +1,11 @@
 -- What the calls on handles leave in them, and the numbers of their refusals.
-use Rattle.std.specs.Prelude.{◌≡◌, ℕ, ◌⊎◌, List, Option, Some, None}
+use Rattle.std.specs.Prelude.{◌≡◌, ℕ, ◌⊎◌, List, Option, Some, None, length}
 use Rattle.nc_text.specs.Places.{limit_of}
 use Rattle.nc_vet.specs.Chunk.{MarkedChunk, IsValid}
 use Rattle.nc_region.specs.declared.fault.CreateFault.TheVariants.{WrongLimit, Occupied, OutOfMemory}
 use Rattle.nc_region.specs.declared.fault.DeleteFault.TheVariants.{NoChunk, GensFull}
 use Rattle.nc_region.specs.Patch.{IsModified, IsPatch}
-use Rattle.nc_region.specs.Region.{IsCreated}
+use Rattle.nc_region.specs.Region.{IsCreated, Meets}
 use Rattle.nc_handle.specs.declared.fault.NewFault.{NewFault}
 use Rattle.nc_handle.specs.declared.fault.NewFault.TheVariants as new
 use Rattle.nc_handle.specs.declared.fault.SeatFault.{SeatFault}
@@ -97,9 +97,12 @@ HoldsVetted base limit code held = (k : Kept) × (held ≡ Some k) × ((v : Mark
 abbrev pub IsChunkFor : HeldState → ℕ → List ℕ → MarkedChunk → Type 0
 IsChunkFor h base code v = IsVetted base (limit_of h.region.marked.bytes) code v
 
--- no deletion was under way, the chunk was created in the region (`IsCreated`), and all else is as before
+-- no deletion was under way, the chunk was vetted for the region's limit, no chunk stood in its span, it was created in
+-- the region (`IsCreated`), and all else is as before
 abbrev pub HasLoaded : MarkedChunk → HeldState → HeldState → Type 0
-HasLoaded v old new = (old.begun ≡ None) × IsCreated old.region new.region v × (new ≡ record old { region = new.region })
+HasLoaded v old new =
+    (old.begun ≡ None) × (v.limit ≡ limit_of old.region.marked.bytes) × (¬ Meets v.base (length v.code) old.region.chunks)
+    × IsCreated old.region new.region v × (new ≡ record old { region = new.region })
 
 -- no deletion was under way, a lawful patch (`IsPatch`) was made in the region (`IsModified`), and all else is as
 -- before

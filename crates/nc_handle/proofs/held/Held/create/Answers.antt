@@ -1,5 +1,7 @@
 use Rattle.std.proofs.Common.{rules, ap, subst}
-use Rattle.nc_region.specs.Region.{IsCreated, IsRefused, MayRefuse}
+use Rattle.std.specs.Prelude.{◌≡◌, length}
+use Rattle.nc_text.specs.Places.{limit_of}
+use Rattle.nc_region.specs.Region.{IsCreated, IsRefused, MayRefuse, Meets}
 use Rattle.nc_handle.specs.Held.{HeldState}
 use Rattle.nc_handle.proofs.SpanReads.{created_span, created_told}
 use Rattle.nc_handle.proofs.held.Held.create.Goals.{in-Ok, in-Err-create}
@@ -18,6 +20,17 @@ pub returns-clause-created : goal.returns-clause-created
 returns-clause-created c =
     elim c.match-create.branch [
       | in-Ok w ↦ rw w.result-is (subst (λ (h : HeldState). IsCreated h.region c.create.new.self c.args.vetted) c.self.view_is w.in-Ok.ensures.created)
+      | in-Err-create w ↦ rw w.result-is tt
+    ]
+
+pub returns-clause-free : goal.returns-clause-free
+returns-clause-free c =
+    elim c.match-create.branch [
+      | in-Ok w ↦
+          rw w.result-is (
+          subst (λ (h : HeldState). (c.args.vetted.limit ≡ limit_of h.region.marked.bytes)
+          × ¬ Meets c.args.vetted.base (length c.args.vetted.code) h.region.chunks) c.self.view_is w.in-Ok.ensures.free
+          )
       | in-Err-create w ↦ rw w.result-is tt
     ]
 
