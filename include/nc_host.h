@@ -191,7 +191,7 @@ extern "C" {
 #define NC_END_MORE 4u        /* at an instruction for which no choice was left */
 
 /* The marks of a chunk's bytes. Registers are numbered as in ModRM: 0 EAX, 1 ECX, 2 EDX, 3 EBX, 4 ESP, 5 EBP, 6 ESI, 7 EDI. */
-#define NC_UNMARKED 0u             /* control is never there */
+#define NC_UNMARKED 0u             /* control is never there; bundle starts that no chunk covers are NC_PLAIN */
 #define NC_PLAIN 1u                /* an instruction starts there */
 #define NC_MASKED(reg) (16u + (reg)) /* an indirect jump or call on this register, directly after its mask */
 
@@ -349,7 +349,7 @@ NcActs nc_host_patch(uint32_t base, uint32_t limit, const uint8_t *code, size_t 
  * NC_SETTLE, stops at its other places, and NC_BUMP.
  * Promised: for NC_OK exactly the acts of a deletion (log_of_delete) of a text that has the chunk's marks. The marks are derived from
  * `code` again, so that nobody can name a wrong order. NC_NO_ROOM as in nc_host_create.
- * The host must lend as `code` the bytes that are in the text. The marks of the span stay until it is reused.
+ * The host must lend as `code` the bytes that are in the text. The marks of the span stay until it is reclaimed.
  * Cost: memory of half the code's length. For lack of it a deletion may be refused; a host that must be able to delete keeps some in
  * reserve.
  */
@@ -368,9 +368,10 @@ uint32_t nc_host_version(void);
  *   Refusals    Each refusal leaves the region, the seats and the buffer unchanged, except that after a creation refused for lack of memory
  *               the region may have allocated memory for the text of its span. An empty handle is refused with NC_NO_HANDLE.
  *   Acts        Each change writes the acts by which it changes the region's text, including the settlings, so that the host's memory has
- *               the region's bytes once the host has made them. If a buffer is too short, nothing is written and nothing changes: the fault
- *               is NC_NO_ROOM, and `count` is a length that is enough. But a length of 0 doesn't ask for this number: the change is made,
- *               `count` is 0, and its acts aren't told, so that the host's memory no longer has the region's bytes. That is for a host
+ *               the region's bytes once the host has made them (of a deletion, once nc_region_end_delete has been called). If a buffer is
+ *               shorter than the most that a change of this length may write, nothing is written and nothing changes, even if fewer acts
+ *               are due: the fault is NC_NO_ROOM, and `count` is that length. But a length of 0 doesn't ask for this number: the change is
+ *               made, `count` is 0, and its acts aren't told, so that the host's memory no longer has the region's bytes. That is for a host
  *               without memory of its own, and for one that asks for the acts as runs (nc_region_creation_runs, nc_region_deletion_runs).
  *               A buffer that is to grow begins with a length above 0. (nc_host_create and its neighbours refuse a length of 0.)
  *   Memory      nc_region_free frees what a region has allocated, and nc_seat_leave what a seat has; the table of stamps and check-ins is
@@ -395,6 +396,7 @@ void nc_region_free(NcRegion *region);
  * once, and not again after it was left: a host with many threads keeps a pool.
  * Promised: NC_HANDLE_TAKEN for a seat's handle that isn't empty; else NC_NO_HANDLE; else NC_NO_SEAT exactly where each seat has been
  * given, and NC_OUT_OF_MEMORY only where one is still to be given (MayRefuseSeat). That seat can still be given later.
+ * Until its first check-in it also holds back stamps drawn since the last reclaim before it was given: check in once when it is given.
  */
 uint32_t nc_region_seat(NcRegion *region, NcSeat *seat);
 
@@ -477,7 +479,8 @@ NcChange nc_region_deletion_runs(NcRegion *region, NcAct *acts, size_t acts_len)
 
 /*
  * Checks in for each seat that nobody was given, and removes from the list exactly those retired chunks that no seat holds back
- * (HasReclaimed): `count` of them. Their spans may be reused. It puts no byte, writes no act, and allocates no memory.
+ * (HasReclaimed): `count` of them. Their spans may be reused, and keep only the marks of bundle starts. It puts no byte, writes no act,
+ * and allocates no memory.
  * Promised: it is refused with NC_NO_HANDLE, or with NC_UNDER_WAY while a deletion is under way.
  * Cost: a look at each seat and at each chunk.
  */
