@@ -6,7 +6,7 @@ use crate::code::{BASE, FIRST_SERVICE, SECOND_SERVICE};
 use crate::fault::HostFault;
 use crate::turns::{DELETED, OTHER_MAY_GO, PATCHED, RELOADED, Turns};
 use nc_gens::Pass;
-use nc_region::{Acts, End, SharedOf};
+use nc_region::{End, Shared};
 use std::sync::Wait;
 
 /// What a thread saw: how many of its walks ended where none may, how its last walk in the deleted code ended, and how one in
@@ -23,9 +23,9 @@ pub struct Seen {
 /// The walk stands where a real host saves its own stack and registers, loads those of the untrusted code and jumps there,
 /// without the lock. Control comes back at a bundle start of the trampoline zone, or by the signal of a stop. There the host
 /// first clears the direction flag and takes its own stack, and believes no register.
-fn run_inside<A: Acts + Drop>(
+fn run_inside(
     rt: &impl Wait,
-    shared: &SharedOf<'_, A>,
+    shared: &Shared<'_>,
     start: u32,
     choices: &[u32],
 ) -> Result<(u32, End), HostFault> {
@@ -35,9 +35,9 @@ fn run_inside<A: Acts + Drop>(
 }
 
 /// Runs the code again and again until it is patched. Between two times inside the thread is outside: only there it checks in.
-fn serve<A: Acts + Drop>(
+fn serve(
     rt: &impl Wait,
-    shared: &SharedOf<'_, A>,
+    shared: &Shared<'_>,
     turns: &Turns,
     pass: &mut Pass,
 ) -> Result<u64, HostFault>
@@ -62,9 +62,9 @@ fn serve<A: Acts + Drop>(
 }
 
 /// Goes inside, and stands there, at the start of the third bundle, while the host deletes the code; then goes on from where it stands.
-fn stand_inside<A: Acts + Drop>(
+fn stand_inside(
     rt: &impl Wait,
-    shared: &SharedOf<'_, A>,
+    shared: &Shared<'_>,
     turns: &Turns,
     until: u32,
 ) -> Result<End, HostFault> {
@@ -76,9 +76,9 @@ fn stand_inside<A: Acts + Drop>(
 }
 
 /// The first thread's time with its pass. Once it is outside it checks in, and so it may come back for what is loaded next.
-fn stay<A: Acts + Drop>(
+fn stay(
     rt: &impl Wait,
-    shared: &SharedOf<'_, A>,
+    shared: &Shared<'_>,
     turns: &Turns,
     pass: &mut Pass,
 ) -> Result<Seen, HostFault>
@@ -99,9 +99,9 @@ fn stay<A: Acts + Drop>(
 }
 
 /// The second thread's time with its pass: it is inside for longer than the first.
-fn go<A: Acts + Drop>(
+fn go(
     rt: &impl Wait,
-    shared: &SharedOf<'_, A>,
+    shared: &Shared<'_>,
     turns: &Turns,
     pass: &mut Pass,
 ) -> Result<Seen, HostFault>
@@ -119,9 +119,9 @@ fn go<A: Acts + Drop>(
 
 /// A thread's whole life. Whatever came, it leaves at its end, outside and for good: a pass that is only dropped holds back
 /// every later stamp.
-pub fn live<A: Acts + Drop>(
+pub fn live(
     rt: &impl Wait,
-    shared: &SharedOf<'_, A>,
+    shared: &Shared<'_>,
     turns: &Turns,
     pass: Pass,
     stays: bool,

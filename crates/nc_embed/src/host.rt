@@ -7,20 +7,15 @@ use crate::code::{BARE, BASE, BUNDLES, LIMIT, MASKED, SWITCH, SWITCHED, bundles}
 use crate::fault::{HostFault, LoadFault};
 use crate::guest::{Seen, live};
 use crate::turns::{BOTH_INSIDE, BOTH_RAN, ONE_CHECKED_IN, OTHER_LEFT, Turns};
-use nc_gens::{Gens, Keeper, Pass};
-use nc_region::{Acts, Region, Shared, SharedOf};
+use nc_gens::{Gens, Pass};
+use nc_region::{Region, Shared};
 use std::alloc::Global;
 use std::sync::Wait;
 use std::thread;
 use std::thread::Threads;
 
 /// Vets code first, however long that takes, and takes the lock only for what has passed.
-fn load<A: Acts + Drop>(
-    rt: &impl Wait,
-    shared: &SharedOf<'_, A>,
-    base: u32,
-    code: Vec<u8>,
-) -> Result<(), LoadFault> {
+fn load(rt: &impl Wait, shared: &Shared<'_>, base: u32, code: Vec<u8>) -> Result<(), LoadFault> {
     let vetted = match admit(base, LIMIT, code) {
         Ok(vetted) => vetted,
         Err(fault) => return Err(LoadFault::NotAdmitted(fault)),
@@ -32,11 +27,7 @@ fn load<A: Acts + Drop>(
 }
 
 /// Before any thread runs: code that is refused never comes to the lock, and other code is loaded.
-fn open<R: Wait + Print, A: Acts + Drop>(
-    rt: &R,
-    alloc: Global,
-    shared: &SharedOf<'_, A>,
-) -> Result<(), HostFault> {
+fn open<R: Wait + Print>(rt: &R, alloc: Global, shared: &Shared<'_>) -> Result<(), HostFault> {
     if let Err(fault) = load(rt, shared, BASE, bundles(alloc, &BARE)?) {
         println!(rt; "a bare jump: {fault}")?;
     }
@@ -46,11 +37,7 @@ fn open<R: Wait + Print, A: Acts + Drop>(
 }
 
 /// While both threads run the code: a patch, and a deletion. No thread is stopped for either.
-fn change<R: Wait + Print, A: Acts + Drop>(
-    rt: &R,
-    shared: &SharedOf<'_, A>,
-    turns: &Turns,
-) -> Result<(), HostFault> {
+fn change<R: Wait + Print>(rt: &R, shared: &Shared<'_>, turns: &Turns) -> Result<(), HostFault> {
     turns.wait_for(rt, BOTH_RAN);
     shared.modify(rt, BASE, &SWITCHED)?;
     println!(rt; "patched while both ran")?;
@@ -64,10 +51,10 @@ fn change<R: Wait + Print, A: Acts + Drop>(
 }
 
 /// The span is used again only after each seat has checked in since, or has left.
-fn load_again<R: Wait + Print, A: Acts + Drop>(
+fn load_again<R: Wait + Print>(
     rt: &R,
     alloc: Global,
-    shared: &SharedOf<'_, A>,
+    shared: &Shared<'_>,
     turns: &Turns,
 ) -> Result<(), HostFault> {
     turns.wait_for(rt, ONE_CHECKED_IN);
@@ -87,10 +74,10 @@ fn load_again<R: Wait + Print, A: Acts + Drop>(
 }
 
 /// What the host does while the threads run.
-fn work<R: Wait + Print, A: Acts + Drop>(
+fn work<R: Wait + Print>(
     rt: &R,
     alloc: Global,
-    shared: &SharedOf<'_, A>,
+    shared: &Shared<'_>,
     turns: &Turns,
 ) -> Result<(), HostFault> {
     change(rt, shared, turns)?;
@@ -98,10 +85,10 @@ fn work<R: Wait + Print, A: Acts + Drop>(
 }
 
 /// Two threads, each with a pass of its own, and the host beside them. Whoever fails lets the others go.
-fn run_both<R: Threads + Wait + Print + Sync, A: Acts + Drop + Send>(
+fn run_both<R: Threads + Wait + Print + Sync>(
     rt: &R,
     alloc: Global,
-    shared: &SharedOf<'_, A>,
+    shared: &Shared<'_>,
     one: Pass,
     other: Pass,
 ) -> Result<(Seen, Seen), HostFault>
@@ -152,10 +139,10 @@ fn show<R: Print>(rt: &R, who: &str, seen: Seen) -> Result<(), HostFault> {
 }
 
 /// The whole story, from the first load to the last thread's leave.
-fn tell<R: Threads + Wait + Print + Sync, A: Acts + Drop + Send>(
+fn tell<R: Threads + Wait + Print + Sync>(
     rt: &R,
     alloc: Global,
-    shared: &SharedOf<'_, A>,
+    shared: &Shared<'_>,
     one: Pass,
     other: Pass,
 ) -> Result<(), HostFault>
@@ -171,27 +158,13 @@ fn tell<R: Threads + Wait + Print + Sync, A: Acts + Drop + Send>(
     Ok(())
 }
 
-/// Makes the region over these seats, and tells the story.
-fn tell_over<R: Threads + Wait + Print + Sync>(
-    rt: &R,
-    alloc: Global,
-    gens: &Gens,
-    keeper: Keeper,
-    one: Pass,
-    other: Pass,
-) -> Result<(), HostFault>
-    requires { (keeper.table ≡ gens.now) × (one.table ≡ gens.now) × (other.table ≡ gens.now) }
-{
-    match Region::new(alloc, BUNDLES, gens, keeper) {
-        Ok(region) => tell(rt, alloc, &Shared::new(region), one, other),
-        Err((_keeper, fault)) => Err(HostFault::Region(fault)),
-    }
-}
-
 /// Makes the seats and the region, and tells the story.
 pub fn run<R: Threads + Wait + Print + Sync>(rt: &R, alloc: Global) -> Result<(), HostFault> {
     let (gens, keeper, mut passes) = Gens::new(alloc, 2)?;
     let one = passes.remove(0);
     let other = passes.remove(0);
-    tell_over(rt, alloc, &gens, keeper, one, other)
+    match Region::new(alloc, BUNDLES, &gens, keeper) {
+        Ok(region) => tell(rt, alloc, &Shared::new(region), one, other),
+        Err((_keeper, fault)) => Err(HostFault::Region(fault)),
+    }
 }

@@ -1,14 +1,13 @@
 //! A region over acts of the host's own: behind a lock of the host's own, and shared by `SharedOf`.
 
 ghost use Rattle.std.specs.Prelude.{◌≡◌, IfOk, OnOk, IfErr};
-ghost use Rattle.nc_region.specs.Region.{IsNew};
 ghost use Rattle.nc_embed.specs.Load.{IsLoaded, IsLeft, MayRefuseCode};
 
 use crate::admitting::admit;
 use crate::code::{BASE, BUNDLES, SWITCH, SWITCHED, bundles};
 use crate::fault::{HostFault, LoadFault};
 use nc_gens::{Gens, Keeper, Pass};
-use nc_region::{Acts, DeleteFault, End, Image, ModifyFault, RegionOf, SharedOf, WalkFault};
+use nc_region::{Acts, End, Image, ModifyFault, RegionOf, SharedOf, WalkFault};
 use std::alloc::Global;
 use std::sync::{Mutex, Wait};
 use std::thread::{Threads, join};
@@ -60,27 +59,8 @@ fn show<R: Wait + Print>(
 }
 
 /// Patches the chunk. It is a function without a clause: a proof of the whole life needs to know nothing of this fault.
-fn switch<R: Wait, A: Acts + Drop>(rt: &R, region: &Mutex<RegionOf<A>>) -> Result<(), ModifyFault> {
+fn switch<R: Wait>(rt: &R, region: &Mutex<RegionOf<Image<'_>>>) -> Result<(), ModifyFault> {
     region.lock(rt).modify(BASE, &SWITCHED)
-}
-
-/// Deletes the chunk, likewise.
-fn delete<R: Wait, A: Acts + Drop>(
-    rt: &R,
-    region: &Mutex<RegionOf<A>>,
-) -> Result<u64, DeleteFault> {
-    region.lock(rt).delete(BASE)
-}
-
-/// A region over these acts, with the chunk in it.
-fn loaded_over<A: Acts + Drop>(alloc: Global, acts: A) -> Result<RegionOf<A>, HostFault>
-    requires { IsNew (A.marked acts) }
-    ensures { IfOk result (λ r. r.keeper ≡ A.keeper acts) }
-{
-    let code = bundles(alloc, &SWITCH)?;
-    let mut region = RegionOf::over(alloc, acts);
-    load(&mut region, BASE, code)?;
-    Ok(region)
 }
 
 /// A region in memory of the host's own, with the chunk in it.
@@ -93,7 +73,9 @@ fn loaded<'g>(
     ensures { IfOk result (λ r. r.keeper.table ≡ gens.now) }
 {
     let image = Image::new(alloc, BUNDLES, gens, keeper)?;
-    loaded_over(alloc, image)
+    let mut region = RegionOf::over(alloc, image);
+    load(&mut region, BASE, bundles(alloc, &SWITCH)?)?;
+    Ok(region)
 }
 
 /// Patches and deletes the chunk, and shows the memory after each step.
@@ -101,7 +83,7 @@ fn change<R: Wait + Print>(rt: &R, region: &Mutex<RegionOf<Image<'_>>>) -> Resul
     show(rt, region, "memory after the load")?;
     switch(rt, region)?;
     show(rt, region, "memory after the patch")?;
-    delete(rt, region)?;
+    region.lock(rt).delete(BASE)?;
     show(rt, region, "memory after the deletion")
 }
 
@@ -113,11 +95,7 @@ pub fn run<R: Wait + Print>(rt: &R, alloc: Global) -> Result<(), HostFault> {
 }
 
 /// A thread's time with its pass: it runs the code, checks in outside, and leaves for good.
-fn visit<A: Acts + Drop>(
-    rt: &impl Wait,
-    shared: &SharedOf<'_, A>,
-    pass: Pass,
-) -> Result<End, WalkFault>
+fn visit(rt: &impl Wait, shared: &SharedOf<'_, Image<'_>>, pass: Pass) -> Result<End, WalkFault>
     requires { pass.table ≡ shared.now }
 {
     let mut pass = pass;
@@ -128,9 +106,9 @@ fn visit<A: Acts + Drop>(
 }
 
 /// The code is patched while a thread runs it.
-fn visit_and_switch<R: Threads + Wait + Sync, A: Acts + Drop + Send>(
+fn visit_and_switch<R: Threads + Wait + Sync>(
     rt: &R,
-    shared: &SharedOf<'_, A>,
+    shared: &SharedOf<'_, Image<'_>>,
     pass: Pass,
 ) -> (Result<End, WalkFault>, Result<(), ModifyFault>)
     requires { pass.table ≡ shared.now }
@@ -143,9 +121,9 @@ fn visit_and_switch<R: Threads + Wait + Sync, A: Acts + Drop + Send>(
 }
 
 /// The chunk is patched beside a thread, and then deleted.
-fn change_shared<R: Threads + Wait + Print + Sync, A: Acts + Drop + Send>(
+fn change_shared<R: Threads + Wait + Print + Sync>(
     rt: &R,
-    shared: &SharedOf<'_, A>,
+    shared: &SharedOf<'_, Image<'_>>,
     pass: Pass,
 ) -> Result<(), HostFault>
     requires { pass.table ≡ shared.now }
