@@ -5,5 +5,4 @@ mod generations;
 mod lines;
 mod reports;
 mod rows;
-mod texts;
 mod workers;
