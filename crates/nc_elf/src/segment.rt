@@ -4,7 +4,7 @@ ghost use Rattle.std.specs.Prelude.{◌≡◌, ◌+◌, ◌≤◌, length};
 ghost use Rattle.nc_elf.specs.Segments.{bytes_of};
 
 /// Where the bytes of a segment lie, in memory and in the file.
-#[derive(Clone, Copy, Drop)]
+#[derive(Clone, Copy, Debug, Drop, PartialEq, Eq)]
 pub struct Segment {
     /// The address of the first byte.
     pub address: u32,

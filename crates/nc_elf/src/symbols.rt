@@ -9,7 +9,7 @@ use crate::sections::{SymbolSections, symbol_sections};
 use std::alloc::{AllocError, Global};
 
 /// An address and where its name lies in the file.
-#[derive(Clone, Copy, Drop)]
+#[derive(Clone, Copy, Debug, Drop, PartialEq, Eq)]
 pub struct Symbol {
     /// The address.
     pub address: u32,

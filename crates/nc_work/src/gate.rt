@@ -10,7 +10,7 @@ pub trait Gate: Sync {
 }
 
 /// A gate that does nothing.
-#[derive(Clone, Copy, Drop)]
+#[derive(Clone, Copy, Debug, Drop)]
 pub struct Open;
 
 impl Gate for Open {
