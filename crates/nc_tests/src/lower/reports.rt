@@ -20,56 +20,50 @@ const RETURN: &[u8] =
 /// Nops.
 const NOPS: &[u8] = &[0x90; 64];
 
-/// A source's name, its code at 00010000, its labels, how much is written, how many are refused or how it fails, and what is
-/// written.
+/// A source's name, its code at 00010000, its labels, how much is written, how many are refused, and what is written.
 type Row = (
     &'static [u8],
     &'static [u8],
     &'static [Named],
     Detail,
-    Result<usize, ReportFault>,
+    usize,
     &'static [u8],
 );
 
 #[rattlefmt::skip]
-static ROWS: [Row; 10] = [
+static ROWS: [Row; 7] = [
     // The label of an address may lie below the code; offsets of one digit and of more.
-    (b"a", RETURN, &[(0xFFFF, b"f")], Detail::Usual, Ok(1),
+    (b"a", RETURN, &[(0xFFFF, b"f")], Detail::Usual, 1,
         b"a: refused NotPermitted 00010000\n\
         \x20 00010000 <f+0x1>\n\
         \x20 00010000: > c3 90 90 90 90 90 90 90 90 90 90 90 90 90 90 90 90 90 90 90 90 90 90 90 90 90 90 90 90 90 90 90\n\
         \x20 a return (ret): compile with nc-cc, or pop the address into a register, mask it, and jump through it: see docs/GUIDE.md\n"),
-    (b"a", RETURN, &[(0, b"zero"), (0xFFFF_FFFF, b"top")], Detail::Usual, Ok(1),
+    (b"a", RETURN, &[(0, b"zero"), (0xFFFF_FFFF, b"top")], Detail::Usual, 1,
         b"a: refused NotPermitted 00010000\n\
         \x20 00010000 <zero+0x10000>\n\
         \x20 00010000: > c3 90 90 90 90 90 90 90 90 90 90 90 90 90 90 90 90 90 90 90 90 90 90 90 90 90 90 90 90 90 90 90\n\
         \x20 a return (ret): compile with nc-cc, or pop the address into a register, mask it, and jump through it: see docs/GUIDE.md\n"),
     // Bytes that would end the line, or command a terminal; a space, and bytes of UTF-8; no byte at all.
-    (b"a", RETURN, &[(0x1_0000, b"\x00a\nb\x1b[1m\x1f \x7e\x7f\x80\xc3\xa9\xff")], Detail::Usual, Ok(1),
+    (b"a", RETURN, &[(0x1_0000, b"\x00a\nb\x1b[1m\x1f \x7e\x7f\x80\xc3\xa9\xff")], Detail::Usual, 1,
         b"a: refused NotPermitted 00010000\n\
         \x20 00010000 <?a?b?[1m? ~?\x80\xc3\xa9\xff>\n\
         \x20 00010000: > c3 90 90 90 90 90 90 90 90 90 90 90 90 90 90 90 90 90 90 90 90 90 90 90 90 90 90 90 90 90 90 90\n\
         \x20 a return (ret): compile with nc-cc, or pop the address into a register, mask it, and jump through it: see docs/GUIDE.md\n"),
-    (b"a", RETURN, &[(0xFFFF, b"")], Detail::Usual, Ok(1),
+    (b"a", RETURN, &[(0xFFFF, b"")], Detail::Usual, 1,
         b"a: refused NotPermitted 00010000\n\
         \x20 00010000 <+0x1>\n\
         \x20 00010000: > c3 90 90 90 90 90 90 90 90 90 90 90 90 90 90 90 90 90 90 90 90 90 90 90 90 90 90 90 90 90 90 90\n\
         \x20 a return (ret): compile with nc-cc, or pop the address into a register, mask it, and jump through it: see docs/GUIDE.md\n"),
-    (b"a", RETURN, &[(0xFFFF, b"\"\\\n\x7f\xc3\xa9")], Detail::Object, Ok(1),
+    (b"a", RETURN, &[(0xFFFF, b"\"\\\n\x7f\xc3\xa9")], Detail::Object, 1,
         b"{\"file\":\"a\",\"address\":\"00010000\",\"verdict\":\"refused\",\"fault\":\"NotPermitted\",\"at\":\"00010000\",\
         \"symbol\":\"\\\"\\\\\\u000a\\u007f\\u00c3\\u00a9+0x1\",\"meaning\":\
         \"a return (ret): compile with nc-cc, or pop the address into a register, mask it, and jump through it: see docs/GUIDE.md\"}\n"),
     // A name with each byte that JSON wants to have escaped, and one without a byte.
-    (b"a\"b\\c/\x00\x0a\x1f ~\x7f\x80\xc3\xa9\xff", NOPS, &[], Detail::Object, Ok(0),
+    (b"a\"b\\c/\x00\x0a\x1f ~\x7f\x80\xc3\xa9\xff", NOPS, &[], Detail::Object, 0,
         b"{\"file\":\"a\\\"b\\\\c/\\u0000\\u000a\\u001f ~\\u007f\\u0080\\u00c3\\u00a9\\u00ff\",\"address\":\"00010000\",\
         \"verdict\":\"ok\",\"bytes\":64,\"instructions\":64}\n"),
-    (b"", NOPS, &[], Detail::Object, Ok(0),
+    (b"", NOPS, &[], Detail::Object, 0,
         b"{\"file\":\"\",\"address\":\"00010000\",\"verdict\":\"ok\",\"bytes\":64,\"instructions\":64}\n"),
-    // A flush that fails after all was taken.
-    (b"a", NOPS, &[], Detail::Usual, Err(ReportFault::WriteFailed), b"a: ok, 64 bytes, 64 instructions\n"),
-    (b"a", NOPS, &[], Detail::All, Err(ReportFault::WriteFailed), b"a: ok, 64 bytes, 64 instructions\n"),
-    (b"a", NOPS, &[], Detail::Object, Err(ReportFault::WriteFailed),
-        b"{\"file\":\"a\",\"address\":\"00010000\",\"verdict\":\"ok\",\"bytes\":64,\"instructions\":64}\n"),
 ];
 
 /// A copy of these bytes.
@@ -116,14 +110,13 @@ fn told<T: Threads + Wait + Sync, W: Write>(
     report(rt, alloc, sources, 0x10000, 5, 1, detail, writer)
 }
 
-/// Tries each row. What is written is flushed once; a flush that fails is a failed write.
+/// Tries each row. What is written is flushed once.
 fn try_rows<T: Threads + Wait + Sync>(rt: &T, alloc: Global, rows: &[Row]) -> Result<(), Fail> {
-    for (name, code, named, detail, due, owed) in rows {
+    for (name, code, named, detail, refused, owed) in rows {
         let sources = only(alloc, name, code, named)?;
-        let size = if due.is_ok() { 7 } else { 1 };
-        let mut writer = Slow::new(alloc, size, due.is_ok());
+        let mut writer = Slow::new(alloc, 7, true);
         let result = told(rt, alloc, sources, *detail, &mut writer);
-        if result != *due || writer.flushed != 1 || writer.out.as_slice() != *owed {
+        if result != Ok(*refused) || writer.flushed != 1 || writer.out.as_slice() != *owed {
             return Err(Fail::new(format_args!("{:?}", writer.out)));
         }
     }
@@ -158,6 +151,40 @@ fn try_ascending(alloc: Global, rows: &[(&'static [Named], bool)]) -> Result<(),
 #[test]
 fn descending(rt: HostRuntime) -> Result<(), Fail> {
     try_ascending(rt.alloc(), &ASCENDING)
+}
+
+/// How much is written of nops, and what.
+#[rattlefmt::skip]
+static ACCEPTED: [(Detail, &[u8]); 3] = [
+    (Detail::Usual, b"a: ok, 64 bytes, 64 instructions\n"),
+    (Detail::All, b"a: ok, 64 bytes, 64 instructions\n"),
+    (Detail::Object, b"{\"file\":\"a\",\"address\":\"00010000\",\"verdict\":\"ok\",\"bytes\":64,\"instructions\":64}\n"),
+];
+
+/// Tries each row with a flush that fails.
+fn try_flushes<T: Threads + Wait + Sync>(
+    rt: &T,
+    alloc: Global,
+    rows: &[(Detail, &[u8])],
+) -> Result<(), Fail> {
+    for (detail, owed) in rows {
+        let mut writer = Slow::new(alloc, 1, false);
+        let sources = only(alloc, b"a", NOPS, &[])?;
+        let result = told(rt, alloc, sources, *detail, &mut writer);
+        if result != Err(ReportFault::WriteFailed)
+            || writer.flushed != 1
+            || writer.out.as_slice() != *owed
+        {
+            return Err(Fail::new(format_args!("{result:?}")));
+        }
+    }
+    Ok(())
+}
+
+/// A flush that fails after all was taken is a failed write.
+#[test]
+fn flush_fails(rt: HostRuntime) -> Result<(), Fail> {
+    try_flushes(&rt, rt.alloc(), &ACCEPTED)
 }
 
 /// Numbers of bundles and of workers, and how a report on no source ends.

@@ -99,6 +99,14 @@ fn try_two<R: Threads + Wait + Sync, A: Acts + Drop + Send>(
     take_steps(alloc, &mut Locked { rt, shared }, LIMIT, &JOINED)
 }
 
+#[test]
+fn two_threads(rt: HostRuntime) -> Result<(), Fail> {
+    let alloc = rt.alloc();
+    let (gens, keeper, _passes) = Gens::new(alloc, 1)?;
+    let shared = shared(alloc, 4, &gens, keeper)?;
+    try_two(&rt, alloc, &shared)
+}
+
 /// Makes the calls under the lock, with a check-in between.
 fn take_both_shared<R: Wait, A: Acts + Drop>(
     rt: &R,
@@ -194,26 +202,13 @@ fn try_calls<R: Wait, A: Acts + Drop>(
     Ok(())
 }
 
-/// The calls in turn, after which the region is free again, and then two threads.
-fn try_calls_and_two<R: Threads + Wait + Sync, A: Acts + Drop + Send>(
-    rt: &R,
-    alloc: Global,
-    shared: &SharedOf<'_, A>,
-    pass: Pass,
-) -> Result<(), Fail>
-    requires { pass.table ≡ shared.now }
-{
-    try_calls(rt, alloc, shared, pass)?;
-    try_two(rt, alloc, shared)
-}
-
 #[test]
-fn two_threads(rt: HostRuntime) -> Result<(), Fail> {
+fn shared_calls(rt: HostRuntime) -> Result<(), Fail> {
     let alloc = rt.alloc();
     let (gens, keeper, mut passes) = Gens::new(alloc, 1)?;
     let pass = passes.remove(0);
     let shared = shared(alloc, 4, &gens, keeper)?;
-    try_calls_and_two(&rt, alloc, &shared, pass)
+    try_calls(&rt, alloc, &shared, pass)
 }
 
 /// The limit of a region of 6 bundles.
