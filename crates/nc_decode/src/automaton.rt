@@ -1,8 +1,8 @@
 //! The permitted instructions as an automaton that reads one byte at a time.
 //!
-//! A state is a number: `DEAD` where no permitted instruction begins so, 1 to 64 inside an instruction, `END` and above after
-//! one. The numbers from `END` on tell what has just been read: a mask and of which register, a transfer and how far its
-//! displacement reaches, an indirect transfer with its mask, or none of these. `law_of_automaton` says what a run of it means.
+//! Its states are those of `states`, from which the numbers from `END` on tell what has just been read: a mask and of which
+//! register, a transfer and how far its displacement reaches, an indirect transfer with its mask, or none of these.
+//! `law_of_automaton` says what a run of it means.
 //!
 //! The macros write its table out when the crate is compiled, from the opcode maps of `table`. Nobody need trust them: the
 //! table that they make is proved equal, entry by entry, to what each state waits for, in the words of the decoder.
@@ -10,87 +10,119 @@
 ghost use Rattle.std.specs.Prelude.{◌≡◌, ◌<◌};
 ghost use Rattle.nc_decode.specs.Automaton.{next_state};
 
+use crate::states::State;
+use crate::states::State::*;
 use crate::table::{one_byte, two_byte};
 
 /// The number of states.
 pub const STATES: usize = AFTER_PAIR as usize + 1;
 /// No permitted instruction begins so.
-pub const DEAD: u8 = 0;
+pub const DEAD: u8 = State::Dead as u8;
 /// After an instruction, and at the start of a bundle. All states from here on come after an instruction.
-pub const END: u8 = 65;
+pub const END: u8 = State::End as u8;
 /// After the mask of register 0; the masks of 1, 2, 3, 5, 6 and 7 follow.
-pub const AFTER_MASK: u8 = END + 1;
+pub const AFTER_MASK: u8 = State::AfterMask0 as u8;
 /// After a direct transfer with a displacement of one byte.
-pub const AFTER_SHORT: u8 = AFTER_MASK + 7;
+pub const AFTER_SHORT: u8 = State::AfterShort as u8;
 /// After a direct transfer with a displacement of four bytes.
-pub const AFTER_NEAR: u8 = AFTER_SHORT + 1;
+pub const AFTER_NEAR: u8 = State::AfterNear as u8;
 /// After an indirect transfer with its mask.
-pub const AFTER_PAIR: u8 = AFTER_NEAR + 1;
+pub const AFTER_PAIR: u8 = State::AfterPair as u8;
 
 /// The states after an opcode with this entry: with no prefix, and after 66, F3, F2 and F0.
 #[rattlefmt::skip]
 macro_rules! kind {
+    //           none         66           F3    F2    F0
     // No opcode, and an opcode with nothing after it.
-    (NO)   => { [0, 0, 0, 0, 0] };                (OP)   => { [END, 0, 0, 0, 0] };              (HLT)  => { [END, 0, 0, 0, 0] };
-    (OPV)  => { [END, END, 0, 0, 0] };            (STR)  => { [END, 0, END, 0, 0] };            (STRV) => { [END, END, END, 0, 0] };
-    (SCN)  => { [END, 0, END, END, 0] };          (SCNV) => { [END, END, END, END, 0] };        (UD2)  => { [END, 0, 0, 0, 0] };
+    (NO)   => { [Dead,        Dead,        Dead, Dead, Dead] };
+    (OP)   => { [End,         Dead,        Dead, Dead, Dead] };
+    (STOP) => { [End,         Dead,        Dead, Dead, Dead] };
+    (OPV)  => { [End,         End,         Dead, Dead, Dead] };
+    (STR)  => { [End,         Dead,        End,  Dead, Dead] };
+    (STRV) => { [End,         End,         End,  Dead, Dead] };
+    (SCN)  => { [End,         Dead,        End,  End,  Dead] };
+    (SCNV) => { [End,         End,         End,  End,  Dead] };
     // Prefixes, and 0F.
-    (P66)  => { [1, 0, 0, 0, 0] };       (PF3)  => { [2, 0, 0, 0, 0] };       (PF2)  => { [3, 0, 0, 0, 0] };
-    (PF0)  => { [4, 0, 0, 0, 0] };       (ESC)  => { [5, 6, 0, 0, 7] };
+    (P66)  => { [After66,     Dead,        Dead, Dead, Dead] };
+    (PF3)  => { [AfterF3,     Dead,        Dead, Dead, Dead] };
+    (PF2)  => { [AfterF2,     Dead,        Dead, Dead, Dead] };
+    (PF0)  => { [AfterF0,     Dead,        Dead, Dead, Dead] };
+    (ESC)  => { [After0F,     After66_0F,  Dead, Dead, AfterF0_0F] };
     // A number that comes directly after the opcode.
-    (IB)   => { [50, 0, 0, 0, 0] };      (IBV)  => { [50, 50, 0, 0, 0] };     (IZV)  => { [53, 51, 0, 0, 0] };
-    (OFF)  => { [53, 0, 0, 0, 0] };      (OFFV) => { [53, 53, 0, 0, 0] };     (JCCB) => { [59, 0, 0, 0, 0] };
-    (JMPB) => { [59, 0, 0, 0, 0] };      (JCCZ) => { [63, 0, 0, 0, 0] };      (JMPZ) => { [63, 0, 0, 0, 0] };
-    (CALL) => { [63, 0, 0, 0, 0] };
+    (IB)   => { [Left1,       Dead,        Dead, Dead, Dead] };
+    (IBV)  => { [Left1,       Left1,       Dead, Dead, Dead] };
+    (IZV)  => { [Left4,       Left2,       Dead, Dead, Dead] };
+    (OFF)  => { [Left4,       Dead,        Dead, Dead, Dead] };
+    (OFFV) => { [Left4,       Left4,       Dead, Dead, Dead] };
+    (JCCB) => { [Short,       Dead,        Dead, Dead, Dead] };
+    (JMPB) => { [Short,       Dead,        Dead, Dead, Dead] };
+    (JCCZ) => { [Near4,       Dead,        Dead, Dead, Dead] };
+    (JMPZ) => { [Near4,       Dead,        Dead, Dead, Dead] };
+    (CALL) => { [Near4,       Dead,        Dead, Dead, Dead] };
     // ModRM.
-    (M)    => { [27, 0, 0, 0, 0] };      (MV)   => { [27, 27, 0, 0, 0] };     (ML)   => { [27, 0, 0, 0, 14] };
-    (MVL)  => { [27, 27, 0, 0, 14] };    (MIBV) => { [28, 28, 0, 0, 0] };     (MIZV) => { [30, 29, 0, 0, 0] };
-    (LEA)  => { [14, 14, 0, 0, 0] };     (NOPV) => { [15, 15, 0, 0, 0] };     (G1)   => { [28, 0, 0, 0, 11] };
-    (G1Z)  => { [30, 29, 0, 0, 12] };    (G1V)  => { [31, 28, 0, 0, 11] };    (G2)   => { [21, 0, 0, 0, 0] };
-    (G2V)  => { [21, 21, 0, 0, 0] };     (G2I)  => { [22, 0, 0, 0, 0] };      (G2IV) => { [22, 22, 0, 0, 0] };
-    (G3)   => { [24, 0, 0, 0, 9] };      (G3V)  => { [26, 25, 0, 0, 10] };    (G4)   => { [19, 0, 0, 0, 8] };
-    (G5)   => { [20, 20, 0, 0, 8] };     (G8)   => { [23, 23, 0, 0, 13] };    (G9)   => { [64, 0, 0, 0, 64] };
-    (G11)  => { [16, 0, 0, 0, 0] };      (G11V) => { [18, 17, 0, 0, 0] };
+    (M)    => { [Any,         Dead,        Dead, Dead, Dead] };
+    (MV)   => { [Any,         Any,         Dead, Dead, Dead] };
+    (ML)   => { [Any,         Dead,        Dead, Dead, Memory] };
+    (MVL)  => { [Any,         Any,         Dead, Dead, Memory] };
+    (MIBV) => { [AnyByte,     AnyByte,     Dead, Dead, Dead] };
+    (MIZV) => { [AnyLong,     AnyWord,     Dead, Dead, Dead] };
+    (LEA)  => { [Memory,      Memory,      Dead, Dead, Dead] };
+    (NOPV) => { [Nop,         Nop,         Dead, Dead, Dead] };
+    (G1)   => { [AnyByte,     Dead,        Dead, Dead, Group1LockedByte] };
+    (G1Z)  => { [AnyLong,     AnyWord,     Dead, Dead, Group1LockedLong] };
+    (G1V)  => { [After83,     AnyByte,     Dead, Dead, Group1LockedByte] };
+    (G2)   => { [Group2,      Dead,        Dead, Dead, Dead] };
+    (G2V)  => { [Group2,      Group2,      Dead, Dead, Dead] };
+    (G2I)  => { [Group2Byte,  Dead,        Dead, Dead, Dead] };
+    (G2IV) => { [Group2Byte,  Group2Byte,  Dead, Dead, Dead] };
+    (G3)   => { [Group3Byte,  Dead,        Dead, Dead, Group3LockedByte] };
+    (G3V)  => { [Group3Long,  Group3Word,  Dead, Dead, Group3LockedLong] };
+    (G4)   => { [Group4,      Dead,        Dead, Dead, Group4Locked] };
+    (G5)   => { [Group5,      Group5,      Dead, Dead, Group4Locked] };
+    (G8)   => { [Group8Byte,  Group8Byte,  Dead, Dead, Group8LockedByte] };
+    (G9)   => { [Group9,      Dead,        Dead, Dead, Group9] };
+    (G11)  => { [Group11Byte, Dead,        Dead, Dead, Dead] };
+    (G11V) => { [Group11Long, Group11Word, Dead, Dead, Dead] };
 }
 
 /// The states after each opcode of a map, with the prefix of this place.
 macro_rules! opcodes {
-    (($prefix:tt) $($entry:ident,)*) => { [$(kind!($entry)[$prefix]),*] };
+    (($prefix:tt) $($entry:ident,)*) => { [$(kind!($entry)[$prefix] as u8),*] };
 }
 
 /// The states after each opcode of a map with no prefix, except that FF leads to this state.
 macro_rules! after_mask {
     (($transfer:tt) $($entry:ident,)*) => { [$(after_mask!($entry $transfer)),*] };
-    (G5 $transfer:tt) => { $transfer };
-    ($entry:ident $transfer:tt) => { kind!($entry)[0] };
+    (G5 $transfer:tt) => { $transfer as u8 };
+    ($entry:ident $transfer:tt) => { kind!($entry)[0] as u8 };
 }
 
 /// A state by the form of ModRM: where it isn't permitted (O), is (X), is with no number (N), and by rm.
 #[rattlefmt::skip]
 macro_rules! form {
-    (O $rm:tt $state:tt $none:tt) => { 0 };
-    (X $rm:tt $state:tt $none:tt) => { $state };
-    (N $rm:tt $state:tt $none:tt) => { $none };
-    ([$($by_rm:tt)*] $rm:tt $state:tt $none:tt) => { [$($by_rm),*][$rm] };
+    (O $rm:tt $state:tt $none:tt) => { Dead as u8 };
+    (X $rm:tt $state:tt $none:tt) => { $state as u8 };
+    (N $rm:tt $state:tt $none:tt) => { $none as u8 };
+    ([$($by_rm:tt)*] $rm:tt $state:tt $none:tt) => { [$($by_rm),*][$rm] as u8 };
 }
 
 /// The states after ModRM, by the number that comes last, and by reg with an operand in memory and in a register.
 #[rattlefmt::skip]
 macro_rules! modrm {
-    (none $m:tt $r:tt) => { modrm!(END 50 51 53 54 46 $m $r) };
-    (byte $m:tt $r:tt) => { modrm!(50 51 52 54 55 47 $m $r) };
-    (word $m:tt $r:tt) => { modrm!(51 52 53 55 56 48 $m $r) };
-    (long $m:tt $r:tt) => { modrm!(53 54 55 57 58 49 $m $r) };
-    // The states where 0, 1, 2, 4 and 5 bytes come before the number, and where SIB does with mod 0.
+    (none $m:tt $r:tt) => { modrm!(End   Left1 Left2 Left4 Left5 Sib     $m $r) };
+    (byte $m:tt $r:tt) => { modrm!(Left1 Left2 Left3 Left5 Left6 SibByte $m $r) };
+    (word $m:tt $r:tt) => { modrm!(Left2 Left3 Left4 Left6 Left7 SibWord $m $r) };
+    (long $m:tt $r:tt) => { modrm!(Left4 Left5 Left6 Left8 Left9 SibLong $m $r) };
+    // The states where 0, 1, 2, 4 and 5 bytes come before the number, and where Sib does with mod 0.
     ($a:tt $b:tt $c:tt $d:tt $e:tt $s:tt [$($m:tt)*] [$($r:tt)*]) => { [
-        $(form!($m 0 $a END), form!($m 0 $a END), form!($m 0 $a END), form!($m 0 $a END),
-          form!($m 0 $s 46), form!($m 0 $d 53), form!($m 0 $a END), form!($m 0 $a END),)*
-        $(form!($m 0 $b 50), form!($m 0 $b 50), form!($m 0 $b 50), form!($m 0 $b 50),
-          form!($m 0 $c 51), form!($m 0 $b 50), form!($m 0 $b 50), form!($m 0 $b 50),)*
-        $(form!($m 0 $d 53), form!($m 0 $d 53), form!($m 0 $d 53), form!($m 0 $d 53),
-          form!($m 0 $e 54), form!($m 0 $d 53), form!($m 0 $d 53), form!($m 0 $d 53),)*
-        $(form!($r 0 $a END), form!($r 1 $a END), form!($r 2 $a END), form!($r 3 $a END),
-          form!($r 4 $a END), form!($r 5 $a END), form!($r 6 $a END), form!($r 7 $a END),)*
+        $(form!($m 0 $a End), form!($m 0 $a End), form!($m 0 $a End), form!($m 0 $a End),
+          form!($m 0 $s Sib), form!($m 0 $d Left4), form!($m 0 $a End), form!($m 0 $a End),)*
+        $(form!($m 0 $b Left1), form!($m 0 $b Left1), form!($m 0 $b Left1), form!($m 0 $b Left1),
+          form!($m 0 $c Left2), form!($m 0 $b Left1), form!($m 0 $b Left1), form!($m 0 $b Left1),)*
+        $(form!($m 0 $d Left4), form!($m 0 $d Left4), form!($m 0 $d Left4), form!($m 0 $d Left4),
+          form!($m 0 $e Left5), form!($m 0 $d Left4), form!($m 0 $d Left4), form!($m 0 $d Left4),)*
+        $(form!($r 0 $a End), form!($r 1 $a End), form!($r 2 $a End), form!($r 3 $a End),
+          form!($r 4 $a End), form!($r 5 $a End), form!($r 6 $a End), form!($r 7 $a End),)*
     ] };
 }
 
@@ -102,56 +134,103 @@ macro_rules! transfer {
 /// The states after the number of a mask: masked, where it is E0.
 #[rattlefmt::skip]
 macro_rules! mask_number {
-    ($masked:tt) => { modrm!(END END END END END END [X X X X X X X X] [X X X X [$masked END END END END END END END] X X X]) };
+    ($masked:tt) => { modrm!(End End End End End End [X X X X X X X X] [X X X X [$masked End End End End End End End] X X X]) };
 }
 
-/// The states after SIB with mod 0: the base 5 comes with four bytes more.
+/// The states after Sib with mod 0: the base 5 comes with four bytes more.
 #[rattlefmt::skip]
 macro_rules! sib {
     ($n:tt $four:tt) => { sib!($n $four X X X X X X X X X X X X X X X X X X X X X X X X X X X X X X X X) };
-    ($n:tt $four:tt $($x:tt)*) => { [$(form!($x 0 $n 0), form!($x 1 $n 0), form!($x 2 $n 0), form!($x 3 $n 0),
-        form!($x 4 $n 0), form!($x 5 $four 0), form!($x 6 $n 0), form!($x 7 $n 0),)*] };
+    ($n:tt $four:tt $($x:tt)*) => { [$(form!($x 0 $n Dead), form!($x 1 $n Dead), form!($x 2 $n Dead), form!($x 3 $n Dead),
+        form!($x 4 $n Dead), form!($x 5 $four Dead), form!($x 6 $n Dead), form!($x 7 $n Dead),)*] };
 }
 
 /// The next state, by state and byte.
 #[rattlefmt::skip]
 pub(crate) static NEXT: [[u8; 256]; STATES] = [
-    [DEAD; 256],
-    // 1 to 4: after 66, F3, F2 and F0. 5 to 7: after 0F, 66 0F and F0 0F.
-    one_byte!(opcodes 1), one_byte!(opcodes 2), one_byte!(opcodes 3), one_byte!(opcodes 4),
-    two_byte!(opcodes 0), two_byte!(opcodes 1), two_byte!(opcodes 4),
-    // 8 to 31: before ModRM.
-    /*  8 */ modrm!(none [X X O O O O O O] [O O O O O O O O]),    /*  9 */ modrm!(byte [O O N N O O O O] [O O O O O O O O]),
-    /* 10 */ modrm!(long [O O N N O O O O] [O O O O O O O O]),    /* 11 */ modrm!(byte [X X X X X X X O] [O O O O O O O O]),
-    /* 12 */ modrm!(long [X X X X X X X O] [O O O O O O O O]),    /* 13 */ modrm!(byte [O O O O O X X X] [O O O O O O O O]),
-    /* 14 */ modrm!(none [X X X X X X X X] [O O O O O O O O]),    /* 15 */ modrm!(none [X O O O O O O O] [X O O O O O O O]),
-    /* 16 */ modrm!(byte [X O O O O O O O] [X O O O O O O O]),    /* 17 */ modrm!(word [X O O O O O O O] [X O O O O O O O]),
-    /* 18 */ modrm!(long [X O O O O O O O] [X O O O O O O O]),    /* 19 */ modrm!(none [X X O O O O O O] [X X O O O O O O]),
-    /* 20 */ modrm!(none [X X O O O O X O] [X X O O O O X O]),    /* 21 */ modrm!(none [X X X X X X O X] [X X X X X X O X]),
-    /* 22 */ modrm!(byte [X X X X X X O X] [X X X X X X O X]),    /* 23 */ modrm!(byte [O O O O X X X X] [O O O O X X X X]),
-    /* 24 */ modrm!(byte [X O N N N N N N] [X O N N N N N N]),    /* 25 */ modrm!(word [X O N N N N N N] [X O N N N N N N]),
-    /* 26 */ modrm!(long [X O N N N N N N] [X O N N N N N N]),    /* 27 */ modrm!(none [X X X X X X X X] [X X X X X X X X]),
-    /* 28 */ modrm!(byte [X X X X X X X X] [X X X X X X X X]),    /* 29 */ modrm!(word [X X X X X X X X] [X X X X X X X X]),
-    /* 30 */ modrm!(long [X X X X X X X X] [X X X X X X X X]),
-    /* 31, after 83: */ modrm!(byte [X X X X X X X X] [X X X X [32 33 34 35 50 36 37 38] X X X]),
-    // 32 to 38: before the number of a mask, by register. 39 to 45: before ModRM of FF after that mask.
-    mask_number!(AFTER_MASK), mask_number!((AFTER_MASK + 1)), mask_number!((AFTER_MASK + 2)), mask_number!((AFTER_MASK + 3)),
-    mask_number!((AFTER_MASK + 4)), mask_number!((AFTER_MASK + 5)), mask_number!((AFTER_MASK + 6)),
-    transfer!(AFTER_PAIR 0 0 0 0 0 0 0), transfer!(0 AFTER_PAIR 0 0 0 0 0 0), transfer!(0 0 AFTER_PAIR 0 0 0 0 0),
-    transfer!(0 0 0 AFTER_PAIR 0 0 0 0), transfer!(0 0 0 0 0 AFTER_PAIR 0 0), transfer!(0 0 0 0 0 0 AFTER_PAIR 0),
-    transfer!(0 0 0 0 0 0 0 AFTER_PAIR),
-    // 46 to 49: before SIB with mod 0, and then 0, 1, 2 or 4 bytes. 50 to 58: before 1 to 9 bytes.
-    sib!(END 53), sib!(50 54), sib!(51 55), sib!(53 57),
-    [END; 256], [50; 256], [51; 256], [52; 256], [53; 256], [54; 256], [55; 256], [56; 256], [57; 256],
-    // 59: before a displacement of one byte. 60 to 63: before the last 1 to 4 bytes of one of four.
-    [AFTER_SHORT; 256], [AFTER_NEAR; 256], [60; 256], [61; 256], [62; 256],
-    // 64: before ModRM of group 9.
-    modrm!(none [O X O O O O O O] [O O O O O O O O]),
-    // END, AFTER_MASK and those after it, AFTER_SHORT, AFTER_NEAR, AFTER_PAIR.
-    one_byte!(opcodes 0),
-    one_byte!(after_mask 39), one_byte!(after_mask 40), one_byte!(after_mask 41), one_byte!(after_mask 42),
-    one_byte!(after_mask 43), one_byte!(after_mask 44), one_byte!(after_mask 45),
-    one_byte!(opcodes 0), one_byte!(opcodes 0), one_byte!(opcodes 0),
+    /* Dead             */ [Dead as u8; 256],
+    // An opcode comes next.
+    /* After66          */ one_byte!(opcodes 1),
+    /* AfterF3          */ one_byte!(opcodes 2),
+    /* AfterF2          */ one_byte!(opcodes 3),
+    /* AfterF0          */ one_byte!(opcodes 4),
+    /* After0F          */ two_byte!(opcodes 0),
+    /* After66_0F       */ two_byte!(opcodes 1),
+    /* AfterF0_0F       */ two_byte!(opcodes 4),
+    // ModRM comes next.
+    /* Group4Locked     */ modrm!(none [X X O O O O O O] [O O O O O O O O]),
+    /* Group3LockedByte */ modrm!(byte [O O N N O O O O] [O O O O O O O O]),
+    /* Group3LockedLong */ modrm!(long [O O N N O O O O] [O O O O O O O O]),
+    /* Group1LockedByte */ modrm!(byte [X X X X X X X O] [O O O O O O O O]),
+    /* Group1LockedLong */ modrm!(long [X X X X X X X O] [O O O O O O O O]),
+    /* Group8LockedByte */ modrm!(byte [O O O O O X X X] [O O O O O O O O]),
+    /* Memory           */ modrm!(none [X X X X X X X X] [O O O O O O O O]),
+    /* Nop              */ modrm!(none [X O O O O O O O] [X O O O O O O O]),
+    /* Group11Byte      */ modrm!(byte [X O O O O O O O] [X O O O O O O O]),
+    /* Group11Word      */ modrm!(word [X O O O O O O O] [X O O O O O O O]),
+    /* Group11Long      */ modrm!(long [X O O O O O O O] [X O O O O O O O]),
+    /* Group4           */ modrm!(none [X X O O O O O O] [X X O O O O O O]),
+    /* Group5           */ modrm!(none [X X O O O O X O] [X X O O O O X O]),
+    /* Group2           */ modrm!(none [X X X X X X O X] [X X X X X X O X]),
+    /* Group2Byte       */ modrm!(byte [X X X X X X O X] [X X X X X X O X]),
+    /* Group8Byte       */ modrm!(byte [O O O O X X X X] [O O O O X X X X]),
+    /* Group3Byte       */ modrm!(byte [X O N N N N N N] [X O N N N N N N]),
+    /* Group3Word       */ modrm!(word [X O N N N N N N] [X O N N N N N N]),
+    /* Group3Long       */ modrm!(long [X O N N N N N N] [X O N N N N N N]),
+    /* Any              */ modrm!(none [X X X X X X X X] [X X X X X X X X]),
+    /* AnyByte          */ modrm!(byte [X X X X X X X X] [X X X X X X X X]),
+    /* AnyWord          */ modrm!(word [X X X X X X X X] [X X X X X X X X]),
+    /* AnyLong          */ modrm!(long [X X X X X X X X] [X X X X X X X X]),
+    /* After83          */ modrm!(byte [X X X X X X X X] [X X X X [Mask0 Mask1 Mask2 Mask3 Left1 Mask5 Mask6 Mask7] X X X]),
+    // Inside a mask, and an indirect transfer after it.
+    /* Mask0            */ mask_number!(AfterMask0),
+    /* Mask1            */ mask_number!(AfterMask1),
+    /* Mask2            */ mask_number!(AfterMask2),
+    /* Mask3            */ mask_number!(AfterMask3),
+    /* Mask5            */ mask_number!(AfterMask5),
+    /* Mask6            */ mask_number!(AfterMask6),
+    /* Mask7            */ mask_number!(AfterMask7),
+    /* Pair0            */ transfer!(AfterPair Dead Dead Dead Dead Dead Dead Dead),
+    /* Pair1            */ transfer!(Dead AfterPair Dead Dead Dead Dead Dead Dead),
+    /* Pair2            */ transfer!(Dead Dead AfterPair Dead Dead Dead Dead Dead),
+    /* Pair3            */ transfer!(Dead Dead Dead AfterPair Dead Dead Dead Dead),
+    /* Pair5            */ transfer!(Dead Dead Dead Dead Dead AfterPair Dead Dead),
+    /* Pair6            */ transfer!(Dead Dead Dead Dead Dead Dead AfterPair Dead),
+    /* Pair7            */ transfer!(Dead Dead Dead Dead Dead Dead Dead AfterPair),
+    // After ModRM.
+    /* Sib              */ sib!(End Left4),
+    /* SibByte          */ sib!(Left1 Left5),
+    /* SibWord          */ sib!(Left2 Left6),
+    /* SibLong          */ sib!(Left4 Left8),
+    /* Left1            */ [End as u8; 256],
+    /* Left2            */ [Left1 as u8; 256],
+    /* Left3            */ [Left2 as u8; 256],
+    /* Left4            */ [Left3 as u8; 256],
+    /* Left5            */ [Left4 as u8; 256],
+    /* Left6            */ [Left5 as u8; 256],
+    /* Left7            */ [Left6 as u8; 256],
+    /* Left8            */ [Left7 as u8; 256],
+    /* Left9            */ [Left8 as u8; 256],
+    // A direct transfer's displacement.
+    /* Short            */ [AfterShort as u8; 256],
+    /* Near1            */ [AfterNear as u8; 256],
+    /* Near2            */ [Near1 as u8; 256],
+    /* Near3            */ [Near2 as u8; 256],
+    /* Near4            */ [Near3 as u8; 256],
+    // ModRM again.
+    /* Group9           */ modrm!(none [O X O O O O O O] [O O O O O O O O]),
+    // An instruction begins.
+    /* End              */ one_byte!(opcodes 0),
+    /* AfterMask0       */ one_byte!(after_mask Pair0),
+    /* AfterMask1       */ one_byte!(after_mask Pair1),
+    /* AfterMask2       */ one_byte!(after_mask Pair2),
+    /* AfterMask3       */ one_byte!(after_mask Pair3),
+    /* AfterMask5       */ one_byte!(after_mask Pair5),
+    /* AfterMask6       */ one_byte!(after_mask Pair6),
+    /* AfterMask7       */ one_byte!(after_mask Pair7),
+    /* AfterShort       */ one_byte!(opcodes 0),
+    /* AfterNear        */ one_byte!(opcodes 0),
+    /* AfterPair        */ one_byte!(opcodes 0),
 ];
 
 /// The state after one more byte.

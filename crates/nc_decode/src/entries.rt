@@ -138,14 +138,12 @@ pub(crate) const CALL: Entry = Entry {
     forms: [1, 0, 0, 0, 0],
     ..NO
 };
-/// HLT, which ends a thread.
-pub(crate) const HLT: Entry = Entry {
+/// HLT and UD2, at which a thread traps.
+pub(crate) const STOP: Entry = Entry {
     flow: Flow::Stop,
     forms: [1, 0, 0, 0, 0],
     ..NO
 };
-/// UD2, which raises an exception: a thread ends there as at HLT.
-pub(crate) const UD2: Entry = HLT;
 
 // ---- ModRM
 

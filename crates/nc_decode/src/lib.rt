@@ -34,6 +34,7 @@ mod instruction;
 mod law;
 mod operand;
 mod shape;
+mod states;
 mod table;
 mod transfer;
 
