@@ -111,7 +111,7 @@ after short b = ended by_short
 after (near n) b = if n == 1 then ended by_near else near (n - 1)
 after (ended k) b = begun (masked_by k) b
 
--- the states, from 0 on
+-- the states, from 0 on, in the order of `State`
 abbrev pub stages : List Stage
 stages =
     dead ∷ (prefixed Word) ∷ (prefixed Repeat) ∷ (prefixed RepeatNot) ∷ (prefixed Lock) ∷ (escaped Unprefixed) ∷
