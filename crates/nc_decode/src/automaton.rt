@@ -113,7 +113,7 @@ macro_rules! modrm {
     (byte $m:tt $r:tt) => { modrm!(Left1 Left2 Left3 Left5 Left6 SibByte $m $r) };
     (word $m:tt $r:tt) => { modrm!(Left2 Left3 Left4 Left6 Left7 SibWord $m $r) };
     (long $m:tt $r:tt) => { modrm!(Left4 Left5 Left6 Left8 Left9 SibLong $m $r) };
-    // The states where 0, 1, 2, 4 and 5 bytes come before the number, and where Sib does with mod 0.
+    // The states where 0, 1, 2, 4 and 5 bytes come before the number, and where SIB does with mod 0.
     ($a:tt $b:tt $c:tt $d:tt $e:tt $s:tt [$($m:tt)*] [$($r:tt)*]) => { [
         $(form!($m 0 $a End), form!($m 0 $a End), form!($m 0 $a End), form!($m 0 $a End),
           form!($m 0 $s Sib), form!($m 0 $d Left4), form!($m 0 $a End), form!($m 0 $a End),)*
@@ -137,7 +137,7 @@ macro_rules! mask_number {
     ($masked:tt) => { modrm!(End End End End End End [X X X X X X X X] [X X X X [$masked End End End End End End End] X X X]) };
 }
 
-/// The states after Sib with mod 0: the base 5 comes with four bytes more.
+/// The states after SIB with mod 0: the base 5 comes with four bytes more.
 #[rattlefmt::skip]
 macro_rules! sib {
     ($n:tt $four:tt) => { sib!($n $four X X X X X X X X X X X X X X X X X X X X X X X X X X X X X X X X) };
