@@ -2,6 +2,7 @@
 
 ghost use Rattle.std.specs.Prelude.{◌≡◌, ◌++◌, List, ℕ, OnOk, IfOk, ◌<◌, replicate, length};
 ghost use Rattle.nc_gens.specs.Seen.{AreSeats, first_keeper, new_passes};
+ghost use Rattle.nc_region.specs.Region.{IsRegion};
 ghost use Rattle.nc_script.specs.Requests.{Create, Modify, Delete, CheckIn, Leave, Reclaim, Walk};
 ghost use Rattle.nc_script.specs.Answers.{new_script};
 ghost use Rattle.nc_script.specs.Script.{Staying};
@@ -90,7 +91,8 @@ fn serve(
     request: Request,
     out: &mut Vec<u8>,
 ) -> Result<(), AllocError>
-    requires { region.old.keeper.table ≡ seats.old.table }
+    requires region { IsRegion region.old.marked region.old.chunks }
+    requires table { region.old.keeper.table ≡ seats.old.table }
     ensures follows { OnOk result ((reply : List ℕ) × (out.new.items ≡ out.old.items ++ reply)
         × Follows (shown request) (record { region = region.old; seats = seats.old }) reply
         (record { region = region.new; seats = seats.new })) }
@@ -137,12 +139,11 @@ fn answer_modify(
     bytes: &[u8],
     out: &mut Vec<u8>,
 ) -> Result<(), AllocError>
+    requires { IsRegion region.old.marked region.old.chunks }
     ensures follows { OnOk result ((reply : List ℕ) × (out.new.items ≡ out.old.items ++ reply)
         × FollowsIn (Modify at bytes.now) region.old reply region.new) }
     ensures keeper { region.new.keeper ≡ region.old.keeper }
 {
-    // Called for what it ensures.
-    let _facts = region.limit();
     match region.modify(at, bytes) {
         Ok(()) => out.extend_from_slice(b"ok\n"),
         Err(fault) => push_patch_fault(out, fault),
@@ -156,12 +157,11 @@ fn answer_delete(
     base: u32,
     out: &mut Vec<u8>,
 ) -> Result<(), AllocError>
+    requires { IsRegion region.old.marked region.old.chunks }
     ensures follows { OnOk result ((reply : List ℕ) × (out.new.items ≡ out.old.items ++ reply)
         × FollowsIn (Delete base) region.old reply region.new) }
     ensures table { region.new.keeper.table ≡ region.old.keeper.table }
 {
-    // Called for what it ensures.
-    let _facts = region.limit();
     match region.delete(base) {
         Ok(stamp) => push_stamp(alloc, out, stamp),
         Err(fault) => push_delete_fault(out, fault),
@@ -232,11 +232,10 @@ fn answer_walk(
     choices: &[u32],
     out: &mut Vec<u8>,
 ) -> Result<(), AllocError>
+    requires { IsRegion region.now.marked region.now.chunks }
     ensures { OnOk result ((reply : List ℕ) × (out.new.items ≡ out.old.items ++ reply)
         × FollowsIn (Walk start choices.now) region.now reply region.now) }
 {
-    // Called for what it ensures.
-    let _facts = region.limit();
     match region.walk(start, choices) {
         Ok(trace) => push_trace(out, &trace),
         Err(WalkFault::NotBundle) => out.extend_from_slice(b"refused NotBundle\n"),

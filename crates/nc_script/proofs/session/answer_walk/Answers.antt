@@ -21,7 +21,7 @@ returns-in-Ok c =
           (reply_line (walk_reply c.in-Ok.trace.places.items c.in-Ok.trace.end))
           (λ seats freed.
           walk_serves c.args.region.now seats freed c.args.start c.args.choices.now c.in-Ok.trace.places.items c.in-Ok.trace.end
-          c.limit-facts.ensures.region c.in-Ok.ensures.begins c.in-Ok.ensures.trace),
+          c.requires c.in-Ok.ensures.begins c.in-Ok.ensures.trace),
     ))
     c.push_trace.ensures
 
@@ -33,4 +33,4 @@ returns-in-Err-NotBundle c =
     let not = subst (MayRefuseWalk region.marked.bytes c.args.start) c.in-Err-NotBundle.field-0-is c.in-Err-NotBundle.ensures.refused in
     added c.extend_from_slice.result _ _ reply (λ reply. FollowsIn request region reply region) c.extend_from_slice.ensures.items
     (follows_same request region reply
-    (λ seats freed. no_start_serves region seats freed c.args.start c.args.choices.now c.limit-facts.ensures.region not))
+    (λ seats freed. no_start_serves region seats freed c.args.start c.args.choices.now c.requires not))
