@@ -19,13 +19,9 @@ dump_more shown words xs i x start now new is e f =
     ∙ ap (λ (ys : List ℕ). start ++ (flat_map words front ++ ys)) (sym (append-nil (words (shown x))))
     ∙ ap (λ (ys : List ℕ). start ++ ys) (sym (ap (flat_map words) shown_longer ∙ flat_map-append words front (shown x ∷ [])))
 
--- the end of the line comes after the words of all elements
-pub dump_whole : {X Y : Type 0} (shown : X → Y) (words : Y → List ℕ) (xs : List X) (i : ℕ) (old head start now new : List ℕ) → length xs ≤ i
-    → start ≡ old ++ head → now ≡ start ++ flat_map words (map shown (take i xs)) → new ≡ now ++ 10 ∷ []
-    → new ≡ old ++ ((head ++ flat_map words (map shown xs)) ++ 10 ∷ [])
-dump_whole shown words xs i old head start now new past e f g =
+-- after the last element the words of all are there
+pub dump_whole : {X Y : Type 0} (shown : X → Y) (words : Y → List ℕ) (xs : List X) (i : ℕ) (old head start now : List ℕ) → length xs ≤ i
+    → start ≡ old ++ head → now ≡ start ++ flat_map words (map shown (take i xs)) → now ≡ old ++ (head ++ flat_map words (map shown xs))
+dump_whole shown words xs i old head start now past e f =
     let all = flat_map words (map shown xs) in
-    g
-    ∙ ap (λ (z : List ℕ). z ++ 10 ∷ [])
-    (f ∙ ap (λ ys. start ++ flat_map words (map shown ys)) (take_all i xs past) ∙ ap (λ (z : List ℕ). z ++ all) e ∙ append_assoc old head all)
-    ∙ append_assoc old (head ++ all) (10 ∷ [])
+    f ∙ ap (λ ys. start ++ flat_map words (map shown ys)) (take_all i xs past) ∙ ap (λ (z : List ℕ). z ++ all) e ∙ append_assoc old head all

@@ -1,7 +1,7 @@
 -- A line has one answer, and leads to one state.
 use Rattle.std.proofs.Common.{◌≤◌, length, slice_set, ◌^◌}
-use Rattle.std.proofs.Common.{◌≡◌, ◌≢◌, ◌++◌, ℕ, ◌<◌, List, [], ◌∷◌, Option, Some, None, inl, inr, refl, sym, ap, ◌∙◌, subst, arith, suc}
-use Rattle.std.specs.Prelude.{All, MatchOption, codes}
+use Rattle.std.proofs.Common.{◌≡◌, ◌≢◌, ◌⊎◌, ◌++◌, ℕ, ◌<◌, List, [], ◌∷◌, Option, Some, None, inl, inr, refl, sym, ap, ◌∙◌, subst, arith, suc}
+use Rattle.std.specs.Prelude.{All, MatchOption}
 use Rattle.nc_vet.specs.Faults.{HasFault}
 use Rattle.nc_vet.specs.declared.fault.VetFault.{VetFault}
 use Rattle.nc_vet.specs.declared.fault.VetFault.TheVariants.{OutOfMemory}
@@ -16,9 +16,10 @@ use Rattle.nc_region.specs.declared.fault.ModifyFault.{ModifyFault}
 use Rattle.nc_region.specs.declared.fault.ModifyFault.TheVariants.{BadSpan, NotLive, NotPermitted, Boundaries, PairTouched, BadTarget}
 use Rattle.nc_region.specs.declared.fault.DeleteFault.{DeleteFault}
 use Rattle.nc_region.specs.declared.fault.DeleteFault.TheVariants.{NoChunk, GensFull}
-use Rattle.nc_script.specs.Requests.{Request, Create, Modify, Delete, CheckIn, Leave, Reclaim, Walk, Dump, request_in}
+use Rattle.nc_script.specs.Requests.{Request, Create, Modify, Delete, CheckIn, Leave, Reclaim, Walk, Ask, request_in}
 use Rattle.nc_lines.specs.Lines.{bad_line}
-use Rattle.nc_script.specs.Script.{Script, ScriptChunk, ScriptSeat, Staying, Left, IsPutBetween}
+use Rattle.nc_script.specs.Script.{Script, ScriptChunk, ScriptSeat, Staying, Left, script_text, IsPutBetween}
+use Rattle.nc_script.specs.declared.query.Query.{Query}
 use Rattle.nc_script.specs.Patching.{LiesInLive, Replaces, IsLawfulPatch, IsRefusedPatch}
 use Rattle.nc_script.specs.Reuse.{ListsLive, IsRefusedDeletion, AllStay, Stays, LetsFree, number_of, IsFreeingNumber, freed_by, kept_by}
 use Rattle.nc_lines.specs.Vetting.{IsValidAt}
@@ -64,7 +65,7 @@ not_valid : (base limit : ℕ) (bytes : List ℕ) (fault : VetFault) → IsValid
 not_valid base limit bytes fault v h known = known (none_valid base limit bytes v.0 fault v.1 h)
 
 -- a creation has one answer
-pub create_only : (base : ℕ) (bytes : List ℕ) (old : Script) (reply : List ℕ) (new : Script) → Serves (Create base bytes) old reply new
+create_only : (base : ℕ) (bytes : List ℕ) (old : Script) (reply : List ℕ) (new : Script) → Serves (Create base bytes) old reply new
     → IsOnly (Create base bytes) old reply new
 create_only base bytes old reply new (inl a) other next (inl b) = (
   b.reply_is ∙ sym a.reply_is,
@@ -88,34 +89,29 @@ create_only base bytes old reply new (inr (inr a)) other next (inr (inl b)) =
     absurd (not_valid base old.limit bytes b.fault a.valid b.has b.known)
 create_only base bytes old reply new (inr (inr a)) other next (inr (inr b)) = (b.reply_is ∙ sym a.reply_is, b.same ∙ sym a.same)
 
--- a dump has one answer
-pub dump_only : (old : Script) (reply : List ℕ) (new : Script) → Serves Dump old reply new → IsOnly Dump old reply new
-dump_only old reply new a other next b = (b.0 ∙ sym a.0, b.1 ∙ sym a.1)
+-- a query has one answer
+ask_only : (query : Query) (old : Script) (reply : List ℕ) (new : Script) → Serves (Ask query) old reply new → IsOnly (Ask query) old reply new
+ask_only query old reply new a other next b = (b.0 ∙ sym a.0, b.1 ∙ sym a.1)
 
--- a walk has one answer, since there is one trace
-pub walk_only : (region : Region) (seats : List ScriptSeat) (freed : ℕ) (start : ℕ) (choices places : List ℕ) (end : End)
-    → IsRegion region.marked region.chunks
-    → IsWalkStart region.marked.bytes start → IsTrace region.marked.bytes start choices places end
-    → IsOnly (Walk start choices) (script_of region seats freed) (reply_line (walk_reply places end)) (script_of region seats freed)
-walk_only region seats freed start choices places end is at trace other next (inl w) =
-    let shown = subst (λ (text : List ℕ). IsTrace text start choices w.places w.end) (script_text-script_of region seats freed is) w.trace in
-    let same =
-    one_trace region.marked.bytes region.marked.marks start choices places w.places end w.end is.whole.closed at trace shown in (
-      w.reply_is ∙ (ap (λ (ps : List ℕ). reply_line (walk_reply ps w.end)) same.0
-          ∙ ap (λ (e : End). reply_line (walk_reply places e)) same.1),
-      w.same,
+-- a walk through a region has one answer, since there is one trace
+walk_only : (region : Region) (seats : List ScriptSeat) (freed : ℕ) (start : ℕ) (choices reply : List ℕ) (new : Script)
+    → IsRegion region.marked region.chunks → Serves (Walk start choices) (script_of region seats freed) reply new
+    → IsOnly (Walk start choices) (script_of region seats freed) reply new
+walk_only region seats freed start choices reply new is (inl a) other next (inl b) =
+    let text_is = script_text-script_of region seats freed is in
+    let traced : (places : List ℕ) (end : End) → IsTrace (script_text (script_of region seats freed)) start choices places end
+    → IsTrace region.marked.bytes start choices places end =
+    λ places end trace. subst (λ (text : List ℕ). IsTrace text start choices places end) text_is trace in
+    let at = subst (λ (text : List ℕ). IsWalkStart text start) text_is a.begins in
+    let same = one_trace region.marked.bytes region.marked.marks start choices a.places b.places a.end b.end is.whole.closed at
+    (traced a.places a.end a.trace) (traced b.places b.end b.trace) in (
+      b.reply_is ∙ (ap (λ (ps : List ℕ). reply_line (walk_reply ps b.end)) same.0
+          ∙ (ap (λ (e : End). reply_line (walk_reply a.places e)) same.1 ∙ sym a.reply_is)),
+      b.same ∙ sym a.same,
     )
-walk_only region seats freed start choices places end is at trace other next (inr n) =
-    absurd (n.begins_not (subst (λ (text : List ℕ). IsWalkStart text start) (sym (script_text-script_of region seats freed is)) at))
-
--- a walk from elsewhere is only refused
-pub no_start_only : (region : Region) (seats : List ScriptSeat) (freed : ℕ) (start : ℕ) (choices : List ℕ) → IsRegion region.marked region.chunks
-    → ¬ IsWalkStart region.marked.bytes start
-    → IsOnly (Walk start choices) (script_of region seats freed) (reply_line (refused_reply (codes "NotBundle")))
-    (script_of region seats freed)
-no_start_only region seats freed start choices is not other next (inl w) =
-    absurd (not (subst (λ (text : List ℕ). IsWalkStart text start) (script_text-script_of region seats freed is) w.begins))
-no_start_only region seats freed start choices is not other next (inr n) = (n.reply_is, n.same)
+walk_only region seats freed start choices reply new is (inl a) other next (inr b) = absurd (b.begins_not a.begins)
+walk_only region seats freed start choices reply new is (inr a) other next (inl b) = absurd (a.begins_not b.begins)
+walk_only region seats freed start choices reply new is (inr a) other next (inr b) = (b.reply_is ∙ sym a.reply_is, b.same ∙ sym a.same)
 
 -- the six refusals of a patch exclude each other, and an accepted one
 module _ (old : Script) (at : ℕ) (bytes : List ℕ) where
@@ -176,7 +172,7 @@ module _ (old : Script) (at : ℕ) (bytes : List ℕ) where
   one_refusal BadTarget BadTarget a b = refl
 
 -- a patch has one answer
-pub modify_only : (at : ℕ) (bytes : List ℕ) (old : Script) (reply : List ℕ) (new : Script) → Serves (Modify at bytes) old reply new
+modify_only : (at : ℕ) (bytes : List ℕ) (old : Script) (reply : List ℕ) (new : Script) → Serves (Modify at bytes) old reply new
     → IsOnly (Modify at bytes) old reply new
 modify_only at bytes old reply new (inl a) other next (inl b) = (b.reply_is ∙ sym a.reply_is, b.new_is ∙ sym a.new_is)
 modify_only at bytes old reply new (inl a) other next (inr b) = absurd (lawful_due old at bytes a.lawful b.fault b.due)
@@ -201,7 +197,7 @@ one_deletion_refusal old base GensFull NoChunk a b = absurd (b a.0)
 one_deletion_refusal old base GensFull GensFull a b = refl
 
 -- a deletion has one answer
-pub delete_only : (base : ℕ) (old : Script) (reply : List ℕ) (new : Script) → Serves (Delete base) old reply new
+delete_only : (base : ℕ) (old : Script) (reply : List ℕ) (new : Script) → Serves (Delete base) old reply new
     → IsOnly (Delete base) old reply new
 delete_only base old reply new (inl a) other next (inl b) = (b.reply_is ∙ sym a.reply_is, b.new_is ∙ sym a.new_is)
 delete_only base old reply new (inl a) other next (inr b) = absurd (deleted_due old base a.live a.room b.fault b.due)
@@ -213,7 +209,7 @@ delete_only base old reply new (inr a) other next (inr b) = (
 )
 
 -- a check-in has one answer
-pub check_in_only : (seat : ℕ) (old : Script) (reply : List ℕ) (new : Script) → Serves (CheckIn seat) old reply new
+check_in_only : (seat : ℕ) (old : Script) (reply : List ℕ) (new : Script) → Serves (CheckIn seat) old reply new
     → IsOnly (CheckIn seat) old reply new
 check_in_only seat old reply new (inl a) other next (inl b) = (b.reply_is ∙ sym a.reply_is, b.new_is ∙ sym a.new_is)
 check_in_only seat old reply new (inl a) other next (inr b) = absurd (b.none a.there)
@@ -221,7 +217,7 @@ check_in_only seat old reply new (inr a) other next (inl b) = absurd (a.none b.t
 check_in_only seat old reply new (inr a) other next (inr b) = (b.reply_is ∙ sym a.reply_is, b.same ∙ sym a.same)
 
 -- a leave has one answer
-pub leave_only : (seat : ℕ) (old : Script) (reply : List ℕ) (new : Script) → Serves (Leave seat) old reply new
+leave_only : (seat : ℕ) (old : Script) (reply : List ℕ) (new : Script) → Serves (Leave seat) old reply new
     → IsOnly (Leave seat) old reply new
 leave_only seat old reply new (inl a) other next (inl b) =
     let found : Some (Staying b.number) ≡ Some (Staying a.number) = sym b.there ∙ a.there in
@@ -244,7 +240,7 @@ number_below old a b stay x y =
     at_most (Left n) stays allowed least = absurd stays
 
 -- while no seat has left, a reclaim has one answer
-pub reclaim_only : (old : Script) (reply : List ℕ) (new : Script) → AllStay old → Serves Reclaim old reply new
+reclaim_only : (old : Script) (reply : List ℕ) (new : Script) → AllStay old → Serves Reclaim old reply new
     → IsOnly Reclaim old reply new
 reclaim_only old reply new stay a other next b =
     let up = number_below old a.a b.a stay a.number b.number in
@@ -253,6 +249,23 @@ reclaim_only old reply new stay a other next b =
       b.reply_is ∙ (ap (λ (n : ℕ). reply_line (freed_reply (length (freed_by n old.chunks)))) same ∙ sym a.reply_is),
       b.new_is ∙ (ap (λ (n : ℕ). record old { chunks = kept_by n old.chunks; freed = n }) same ∙ sym a.new_is),
     )
+
+-- a request to a session has one answer, if it is no reclaim or no seat has left
+pub request_only : (request : Request) (region : Region) (seats : List ScriptSeat) (freed : ℕ) (reply : List ℕ) (new : Script)
+    → IsRegion region.marked region.chunks → (Some request ≢ Some Reclaim) ⊎ AllStay (script_of region seats freed)
+    → Serves request (script_of region seats freed) reply new → IsOnly request (script_of region seats freed) reply new
+request_only (Create base bytes) region seats freed reply new is settled h =
+    create_only base bytes (script_of region seats freed) reply new h
+request_only (Modify at bytes) region seats freed reply new is settled h =
+    modify_only at bytes (script_of region seats freed) reply new h
+request_only (Delete base) region seats freed reply new is settled h = delete_only base (script_of region seats freed) reply new h
+request_only (CheckIn seat) region seats freed reply new is settled h = check_in_only seat (script_of region seats freed) reply new h
+request_only (Leave seat) region seats freed reply new is settled h = leave_only seat (script_of region seats freed) reply new h
+request_only Reclaim region seats freed reply new is (inl other) h = absurd (other refl)
+request_only Reclaim region seats freed reply new is (inr stay) h = reclaim_only (script_of region seats freed) reply new stay h
+request_only (Walk start choices) region seats freed reply new is settled h =
+    walk_only region seats freed start choices reply new is h
+request_only (Ask query) region seats freed reply new is settled h = ask_only query (script_of region seats freed) reply new h
 
 -- a line that asks for this has this answer, and only this one if it leaves nothing open
 pub line_only : (request : Request) (old new : Script) (line reply : List ℕ) → request_in line ≡ Some request
@@ -274,8 +287,3 @@ bad_only old line e =
       serves = subst (λ (r : Option Request). Shown r bad_line old) (sym e) (refl, refl);
       only = λ settled other next s. subst (λ (r : Option Request). Shown r other next) e s;
     }
-
--- a reclaim leaves nothing open only where no seat has left
-pub settled_stays : (old : Script) (line : List ℕ) → request_in line ≡ Some Reclaim → IsSettled old line → AllStay old
-settled_stays old line e (inl other) = absurd (other e)
-settled_stays old line e (inr stay) = stay

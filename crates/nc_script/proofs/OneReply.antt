@@ -4,7 +4,7 @@ use Rattle.std.proofs.Common.{subst, append_assoc, arith, zero, suc}
 use Rattle.std.specs.Prelude.{All, MatchOption}
 use Rattle.nc_lines.specs.Answering.{AnswersLines}
 use Rattle.nc_lines.specs.Lines.{bad_line}
-use Rattle.nc_script.specs.Requests.{Request, Create, Modify, Delete, CheckIn, Leave, Reclaim, Walk, Dump, request_in}
+use Rattle.nc_script.specs.Requests.{Request, Create, Modify, Delete, CheckIn, Leave, Reclaim, Walk, Ask, request_in}
 use Rattle.nc_script.specs.Answers.{Serves, ServesLine}
 use Rattle.nc_script.specs.Laws.{HasOneReply, BeginsAll, FreesByLeast, IsNoLeave, LeavesOpen, one_left}
 use Rattle.nc_script.specs.Reuse.{AllStay, Stays, LetsFree, number_of, IsFreeingNumber}
@@ -39,7 +39,7 @@ stay_on (Leave seat) old reply new not_leave stay h = absurd (not_leave seat ref
 stay_on Reclaim old reply new not_leave stay a = subst (All Stays) (sym (ap (λ (s : Script). s.seats) a.new_is)) stay
 stay_on (Walk start choices) old reply new not_leave stay (inl a) = subst AllStay (sym a.same) stay
 stay_on (Walk start choices) old reply new not_leave stay (inr a) = subst AllStay (sym a.same) stay
-stay_on Dump old reply new not_leave stay a = subst AllStay (sym a.1) stay
+stay_on (Ask query) old reply new not_leave stay a = subst AllStay (sym a.1) stay
 
 -- nor does a line
 stay_on_line : (asked : Option Request) (old : Script) (reply : List ℕ) (new : Script) → ((seat : ℕ) → asked ≢ Some (Leave seat))

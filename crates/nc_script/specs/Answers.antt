@@ -9,13 +9,14 @@ use Rattle.nc_region.specs.Trace.{IsTrace, IsWalkStart}
 use Rattle.nc_lines.specs.Lines.{bad_line}
 use Rattle.nc_region.specs.declared.fault.ModifyFault.{ModifyFault}
 use Rattle.nc_region.specs.declared.fault.DeleteFault.{DeleteFault}
-use Rattle.nc_script.specs.Requests.{Request, Create, Modify, Delete, CheckIn, Leave, Reclaim, Walk, Dump, request_in}
+use Rattle.nc_script.specs.Requests.{Request, Create, Modify, Delete, CheckIn, Leave, Reclaim, Walk, Ask, request_in}
 use Rattle.nc_script.specs.Script.{Script, Live, Staying, Left, script_text, IsOccupied, IsPutBetween}
 use Rattle.nc_script.specs.Patching.{IsLawfulPatch, IsRefusedPatch, patched_at}
 use Rattle.nc_script.specs.Reuse.{ListsLive, retired_at, IsRefusedDeletion, IsThere, IsFreeingNumber, freed_by, kept_by, AllStay}
 use Rattle.nc_lines.specs.Replies.{reply_line, refused_reply, fault_words}
 use Rattle.nc_lines.specs.Vetting.{IsValidAt}
-use Rattle.nc_script.specs.Replies.{walk_reply, dump_reply, patch_words, deletion_words}
+use Rattle.nc_script.specs.Queries.{reply_to}
+use Rattle.nc_script.specs.Replies.{walk_reply, patch_words, deletion_words}
 use Rattle.nc_script.specs.Replies.{stamp_reply, freed_reply}
 
 -- a valid chunk that meets no other is put into the list
@@ -119,7 +120,7 @@ Serves (CheckIn seat) old reply new = IsCheckedIn seat old reply new ⊎ IsNoSea
 Serves (Leave seat) old reply new = HasLeft seat old reply new ⊎ IsNoSeat seat old reply new
 Serves Reclaim old reply new = IsFreed old reply new
 Serves (Walk start choices) old reply new = IsWalked start choices old reply new ⊎ IsNoStart start old reply new
-Serves Dump old reply new = (reply ≡ reply_line (dump_reply old.chunks)) × (new ≡ old)
+Serves (Ask query) old reply new = (reply ≡ reply_line (reply_to query old)) × (new ≡ old)
 
 -- The same for a line. A line that asks for nothing is a bad line, and nothing changes.
 abbrev pub ServesLine : Script → List ℕ → List ℕ → Script → Type 0
@@ -129,11 +130,6 @@ ServesLine old line reply new =
 -- the request has no other answer, and leads to no other state
 abbrev pub IsOnly : Request → Script → List ℕ → Script → Type 0
 IsOnly request old reply new = (other : List ℕ) (next : Script) → Serves request old other next → (other ≡ reply) × (next ≡ new)
-
--- From old, this is the answer to the request, new is the state after it, and there is no other.
-pub record ServesOnly (request : Request) (old : Script) (reply : List ℕ) (new : Script) : Type 0 where
-  pub serves : Serves request old reply new
-  pub only : IsOnly request old reply new
 
 -- The line leaves nothing open: it is no reclaim, or no seat has left. (Once a seat has left, the number by which a reclaim
 -- frees depends on when the keeper sees that.)

@@ -1,9 +1,10 @@
 pub mod machinery
-pub mod Requests
 pub mod Script
 pub mod Patching
 pub mod Reuse
 pub mod Replies
+pub mod Queries
+pub mod Requests
 pub mod Answers
 pub mod Run
 pub mod Laws

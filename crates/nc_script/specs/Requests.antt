@@ -1,11 +1,10 @@
 -- What a line asks for, and what its words spell.
-use Rattle.std.specs.Prelude.{ℕ, ◌+◌, ◌-◌, ◌*◌, Bool, ◌&&◌, List, [], ◌∷◌, Option, Some, None, if◌then◌else◌}
-use Rattle.std.specs.Prelude.{codes}
-use Rattle.std.specs.Prelude.{nat_eq, nat_le}
-use Rattle.std.specs.Cmp.Lexicographic.{pointwise}
+use Rattle.std.specs.Prelude.{ℕ, ◌+◌, ◌-◌, ◌*◌, ◌&&◌, List, [], ◌∷◌, Option, Some, None, if◌then◌else◌, codes, nat_le}
 use Rattle.std.specs.Option.{option_map, option_and_then}
 use Rattle.nc_lines.specs.Lines.{words_in, is_long}
 use Rattle.nc_lines.specs.Words.{address_in, placed_in}
+use Rattle.nc_script.specs.Queries.{is_word, query_in}
+use Rattle.nc_script.specs.declared.query.Query.{Query}
 
 -- what a line of a script asks for
 pub data Request : Type 0 where
@@ -16,7 +15,7 @@ pub data Request : Type 0 where
   Leave : (seat : ℕ) → Request
   Reclaim : Request
   Walk : (start : ℕ) (choices : List ℕ) → Request
-  Dump : Request
+  Ask : (query : Query) → Request
 
 -- words that are addresses, all of them
 abbrev pub addresses_in : List (List ℕ) → Option (List ℕ)
@@ -37,10 +36,6 @@ seat_in (a ∷ []) = digit_in a
 seat_in (a ∷ b ∷ []) = next_digit (digit_in a) b
 seat_in (a ∷ b ∷ c ∷ []) = next_digit (next_digit (digit_in a) b) c
 seat_in _ = None
-
--- the word is spelled so
-abbrev pub is_word : List ℕ → List ℕ → Bool
-is_word word spelling = pointwise nat_eq word spelling
 
 -- what follows the word `create`: an address and bytes
 abbrev pub create_in : List (List ℕ) → Option Request
@@ -70,6 +65,10 @@ abbrev pub single_in : Request → List (List ℕ) → Option Request
 single_in request [] = Some request
 single_in request (word ∷ words) = None
 
+-- the word of a query, which nothing follows
+abbrev pub ask_in : List ℕ → List (List ℕ) → Option Request
+ask_in word words = option_and_then (λ query. single_in (Ask query) words) (query_in word)
+
 -- what the words of a line ask for
 abbrev pub request_of : List (List ℕ) → Option Request
 request_of [] = None
@@ -81,8 +80,7 @@ request_of (word ∷ words) =
     else if is_word word (codes "leave") then of_seat_in Leave words
     else if is_word word (codes "reclaim") then single_in Reclaim words
     else if is_word word (codes "walk") then walk_in words
-    else if is_word word (codes "dump") then single_in Dump words
-    else None
+    else ask_in word words
 
 -- what a line asks for; a line that is too long or has no such form asks for nothing, and is a bad line
 abbrev pub request_in : List ℕ → Option Request

@@ -3,10 +3,11 @@
 ghost use Rattle.std.specs.Prelude.{◌≡◌, ℕ, IfOk, map, Some, None, ◌∷◌};
 ghost use Rattle.std.specs.Option.{option_map};
 ghost use Rattle.nc_script.specs.Requests.{request_in, create_in, modify_in, delete_in, of_seat_in, walk_in};
-ghost use Rattle.nc_script.specs.Requests.{addresses_in, single_in};
+ghost use Rattle.nc_script.specs.Requests.{addresses_in, ask_in, single_in};
 ghost use Rattle.nc_script.specs.Requests as spec;
 ghost use Rattle.nc_script.specs.machinery.Shown.{shown};
 
+use crate::query::{Query, query_of};
 use crate::words::seat_of;
 use nc_lines::{LINE_LIMIT, address_of, placed_of, words_of};
 use std::alloc::{AllocError, Global};
@@ -28,8 +29,8 @@ pub(crate) enum Request {
     Reclaim,
     /// A walk from this address, which uses up one choice at each instruction.
     Walk { start: u32, choices: Vec<u32> },
-    /// The list of all chunks.
-    Dump,
+    /// Something that changes nothing.
+    Ask { query: Query },
 }
 
 /// What follows the word `create`.
@@ -102,6 +103,16 @@ fn single_of(request: Request, words: &[&[u8]]) -> Option<Request>
     }
 }
 
+/// What the word of a query asks for, where nothing follows it.
+fn ask_of(word: &[u8], words: &[&[u8]]) -> Option<Request>
+    ensures { option_map shown result ≡ ask_in word.now (map (λ word. word.now) words.now) }
+{
+    match query_of(word) {
+        Some(query) => single_of(Request::Ask { query }, words),
+        None => None,
+    }
+}
+
 /// Words that are addresses, all of them.
 fn addresses_of(alloc: Global, words: &[&[u8]]) -> Result<Option<Vec<u32>>, AllocError>
     ensures { IfOk result (λ found. option_map (λ choices. choices.items) found ≡ addresses_in (map (λ word. word.now) words.now)) }
@@ -171,8 +182,5 @@ fn asked_by(alloc: Global, words: &[&[u8]]) -> Result<Option<Request>, AllocErro
     if *key == b"walk".as_slice() {
         return walk_of(alloc, rest);
     }
-    if *key == b"dump".as_slice() {
-        return Ok(single_of(Request::Dump, rest));
-    }
-    Ok(None)
+    Ok(ask_of(key, rest))
 }

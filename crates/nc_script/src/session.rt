@@ -2,15 +2,17 @@
 
 ghost use Rattle.std.specs.Prelude.{◌≡◌, ◌++◌, List, ℕ, OnOk, IfOk, ◌<◌, replicate, length};
 ghost use Rattle.nc_gens.specs.Seen.{AreSeats, first_keeper, new_passes};
-ghost use Rattle.nc_script.specs.Requests.{Create, Modify, Delete, CheckIn, Leave, Reclaim, Walk, Dump};
+ghost use Rattle.nc_region.specs.Region.{IsRegion};
+ghost use Rattle.nc_script.specs.Requests.{Create, Modify, Delete, CheckIn, Leave, Reclaim, Walk};
 ghost use Rattle.nc_script.specs.Answers.{new_script};
 ghost use Rattle.nc_script.specs.Script.{Staying};
-ghost use Rattle.nc_script.specs.machinery.Session.{script_of, FitsSession, Follows, FollowsIn, FollowsLine, WalksOnly};
+ghost use Rattle.nc_script.specs.machinery.Session.{script_of, FitsSession, Follows, FollowsIn, FollowsLine};
+ghost use Rattle.nc_script.specs.machinery.Shown.{shown};
 
 use crate::answer::{
-    push_chunk, push_create_fault, push_delete_fault, push_freed, push_patch_fault, push_stamp,
-    push_trace,
+    push_create_fault, push_delete_fault, push_freed, push_patch_fault, push_stamp, push_trace,
 };
+use crate::query::answer_query;
 use crate::request::{Request, request_of};
 use crate::seats::Seats;
 use nc_gens::{Gens, Keeper, Pass};
@@ -72,30 +74,39 @@ impl<'g> Responder for Session<'g> {
     ghost answers = { FollowsLine };
 
     fn answer(&mut self, kept: &[u8], out: &mut Vec<u8>) -> Result<(), AllocError> {
-        let alloc = self.alloc;
+        // Called for what it ensures.
+        let _facts = self.region.limit();
         match request_of(self.alloc, kept)? {
-            Some(Request::Create { at, bytes }) => {
-                answer_create(&mut self.region, at, bytes, out)
-            }
-            Some(Request::Modify { at, bytes }) => {
-                answer_modify(&mut self.region, at, &bytes, out)
-            }
-            Some(Request::Delete { base }) => answer_delete(alloc, &mut self.region, base, out),
-            Some(Request::CheckIn { seat }) => {
-                answer_check_in(&mut self.region, &mut self.seats, seat, out)
-            }
-            Some(Request::Leave { seat }) => {
-                answer_leave(&self.region, &mut self.seats, seat, out)
-            }
-            Some(Request::Reclaim) => {
-                answer_reclaim(alloc, &mut self.region, &mut self.seats, out)
-            }
-            Some(Request::Walk { start, choices }) => {
-                answer_walk(&self.region, start, &choices, out)
-            }
-            Some(Request::Dump) => answer_dump(alloc, &self.region, out),
+            Some(request) => serve(self.alloc, &mut self.region, &mut self.seats, request, out),
             None => out.extend_from_slice(b"bad line\n"),
         }
+    }
+}
+
+/// Answers a request.
+fn serve(
+    alloc: Global,
+    region: &mut Region,
+    seats: &mut Seats<'_>,
+    request: Request,
+    out: &mut Vec<u8>,
+) -> Result<(), AllocError>
+    requires region { IsRegion region.old.marked region.old.chunks }
+    requires table { region.old.keeper.table ≡ seats.old.table }
+    ensures follows { OnOk result ((reply : List ℕ) × (out.new.items ≡ out.old.items ++ reply)
+        × Follows (shown request) (record { region = region.old; seats = seats.old }) reply
+        (record { region = region.new; seats = seats.new })) }
+    ensures table { region.new.keeper.table ≡ seats.new.table }
+{
+    match request {
+        Request::Create { at, bytes } => answer_create(region, at, bytes, out),
+        Request::Modify { at, bytes } => answer_modify(region, at, &bytes, out),
+        Request::Delete { base } => answer_delete(alloc, region, base, out),
+        Request::CheckIn { seat } => answer_check_in(region, seats, seat, out),
+        Request::Leave { seat } => answer_leave(region, seats, seat, out),
+        Request::Reclaim => answer_reclaim(alloc, region, seats, out),
+        Request::Walk { start, choices } => answer_walk(region, start, &choices, out),
+        Request::Ask { query } => answer_query(alloc, region, query, out),
     }
 }
 
@@ -128,12 +139,11 @@ fn answer_modify(
     bytes: &[u8],
     out: &mut Vec<u8>,
 ) -> Result<(), AllocError>
+    requires { IsRegion region.old.marked region.old.chunks }
     ensures follows { OnOk result ((reply : List ℕ) × (out.new.items ≡ out.old.items ++ reply)
         × FollowsIn (Modify at bytes.now) region.old reply region.new) }
     ensures keeper { region.new.keeper ≡ region.old.keeper }
 {
-    // Called for what it ensures.
-    let _facts = region.limit();
     match region.modify(at, bytes) {
         Ok(()) => out.extend_from_slice(b"ok\n"),
         Err(fault) => push_patch_fault(out, fault),
@@ -147,12 +157,11 @@ fn answer_delete(
     base: u32,
     out: &mut Vec<u8>,
 ) -> Result<(), AllocError>
+    requires { IsRegion region.old.marked region.old.chunks }
     ensures follows { OnOk result ((reply : List ℕ) × (out.new.items ≡ out.old.items ++ reply)
         × FollowsIn (Delete base) region.old reply region.new) }
     ensures table { region.new.keeper.table ≡ region.old.keeper.table }
 {
-    // Called for what it ensures.
-    let _facts = region.limit();
     match region.delete(base) {
         Ok(stamp) => push_stamp(alloc, out, stamp),
         Err(fault) => push_delete_fault(out, fault),
@@ -223,28 +232,13 @@ fn answer_walk(
     choices: &[u32],
     out: &mut Vec<u8>,
 ) -> Result<(), AllocError>
+    requires { IsRegion region.now.marked region.now.chunks }
     ensures { OnOk result ((reply : List ℕ) × (out.new.items ≡ out.old.items ++ reply)
-        × WalksOnly region.now start choices.now reply) }
+        × FollowsIn (Walk start choices.now) region.now reply region.now) }
 {
-    // Called for what it ensures.
-    let _facts = region.limit();
     match region.walk(start, choices) {
         Ok(trace) => push_trace(out, &trace),
         Err(WalkFault::NotBundle) => out.extend_from_slice(b"refused NotBundle\n"),
         Err(WalkFault::OutOfMemory) => Err(AllocError),
     }
-}
-
-/// Shows every chunk of the region.
-fn answer_dump(alloc: Global, region: &Region, out: &mut Vec<u8>) -> Result<(), AllocError>
-    ensures { OnOk result ((reply : List ℕ) × (out.new.items ≡ out.old.items ++ reply)
-        × FollowsIn Dump region.now reply region.now) }
-{
-    out.extend_from_slice(b"dump")?;
-    for i in 0..region.chunk_count() {
-        let chunk = region.chunk(i).unwrap();
-        push_chunk(alloc, region, chunk, out)?;
-    }
-    out.push(b'\n')?;
-    Ok(())
 }

@@ -11,8 +11,8 @@ use Rattle.nc_region.specs.declared.chunk.Chunk.{Chunk}
 use Rattle.nc_region.specs.declared.chunk.ChunkState.{ChunkState}
 use Rattle.nc_region.specs.declared.chunk.ChunkState.TheVariants as chunk
 use Rattle.nc_script.specs.Script.{Script, ScriptChunk, ScriptChunkState, Live, Retired, ScriptSeat, Staying, Left}
-use Rattle.nc_script.specs.Requests.{Request, Walk}
-use Rattle.nc_script.specs.Answers.{Serves, ServesOnly, AnswersOnly}
+use Rattle.nc_script.specs.Requests.{Request}
+use Rattle.nc_script.specs.Answers.{Serves, AnswersOnly}
 
 -- the bytes of a span of the region
 abbrev pub bytes_at : List ℕ → ℕ → ℕ → List ℕ
@@ -95,8 +95,3 @@ FollowsLine old line reply new = (seats : List ScriptSeat) (freed : ℕ) → Fit
 abbrev pub FollowsIn : Request → Region → List ℕ → Region → Type 0
 FollowsIn request old reply new = (seats : SeatsState)
     → Follows request (record { region = old; seats = seats }) reply (record { region = new; seats = seats })
-
--- whatever state the region stands for, this is the only answer to a walk
-abbrev pub WalksOnly : Region → ℕ → List ℕ → List ℕ → Type 0
-WalksOnly region start choices reply = (seats : List ScriptSeat) (freed : ℕ)
-    → ServesOnly (Walk start choices) (script_of region seats freed) reply (script_of region seats freed)

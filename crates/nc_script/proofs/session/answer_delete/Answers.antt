@@ -10,7 +10,7 @@ returns-in-Ok-clause-follows c =
     (λ e. (
       reply_line (stamp_reply c.in-Ok.stamp),
       e,
-      deleted_follows c.args.region.now c.delete.new.self c.args.base c.in-Ok.stamp c.limit-facts.ensures.region c.in-Ok.ensures.deleted,
+      deleted_follows c.args.region.now c.delete.new.self c.args.base c.in-Ok.stamp c.requires c.in-Ok.ensures.deleted,
     ))
     c.push_stamp.ensures
 

@@ -14,7 +14,7 @@ returns-in-Ok-clause-follows c =
     added c.extend_from_slice.result _ _ (reply_line (codes "ok"))
     (λ reply. FollowsIn (Modify c.args.at c.args.bytes.now) old reply c.modify.new.self)
     c.extend_from_slice.ensures.items
-    (modified_follows old c.modify.new.self c.args.at c.args.bytes.now c.limit-facts.ensures.region c.in-Ok.ensures.modified
+    (modified_follows old c.modify.new.self c.args.at c.args.bytes.now c.requires c.in-Ok.ensures.modified
     c.in-Ok.ensures.lawful)
 
 pub returns-in-Err-clause-follows : goal.returns-in-Err-clause-follows
@@ -23,7 +23,7 @@ returns-in-Err-clause-follows c =
     (λ e. (
       reply_line (refused_reply (patch_words c.in-Err.fault)),
       e,
-      unmodified_follows c.args.region.now c.modify.new.self c.args.at c.args.bytes.now c.in-Err.fault c.limit-facts.ensures.region
+      unmodified_follows c.args.region.now c.modify.new.self c.args.at c.args.bytes.now c.in-Err.fault c.requires
           c.in-Err.ensures.refused c.in-Err.ensures.unchanged,
     ))
     c.push_patch_fault.ensures

@@ -3,7 +3,7 @@ use Rattle.std.proofs.Common.{◌≡◌, ◌++◌, take, map}
 use Rattle.std.specs.List.{flat_map}
 use Rattle.nc_script.specs.machinery.Session.{script_chunk}
 use Rattle.nc_script.specs.Replies.{chunk_words}
-use Rattle.nc_script.proofs.session.answer_dump.Given as goal
+use Rattle.nc_script.proofs.query.push_dump.Given as goal
 
 abbrev pub invariant-loop-i : goal.invariant-loop-i
 invariant-loop-i l =

@@ -1,11 +1,10 @@
-use Rattle.std.proofs.Common.{◌∙◌, sym, refl, map, arith}
+use Rattle.std.proofs.Common.{◌∙◌, sym, arith}
 use Rattle.nc_script.specs.machinery.Session.{script_chunk}
-use Rattle.nc_script.specs.Replies.{chunk_words, dump_reply}
+use Rattle.nc_script.specs.Replies.{chunk_words}
 use Rattle.std.specs.Prelude.{codes}
-use Rattle.nc_lines.specs.Replies.{reply_line}
 use Rattle.nc_script.proofs.DumpReply.{dump_more, dump_whole}
 use Rattle.nc_script.proofs.RetiredChunks.{placed_at}
-use Rattle.nc_script.proofs.session.answer_dump.Goals as goal
+use Rattle.nc_script.proofs.query.push_dump.Goals as goal
 
 pub loop-i-preserved : goal.loop-i-preserved
 loop-i-preserved c =
@@ -38,9 +37,5 @@ push_chunk-requires-clause-fits c =
 pub returns : goal.returns
 returns c =
     let region = c.args.region.now in
-    let shown = script_chunk region.marked.bytes in (
-      reply_line (dump_reply (map shown region.chunks)),
-      dump_whole shown chunk_words region.chunks c.loop-i.i c.args.out.now.items (codes "dump") c.extend_from_slice.new.self.items
-          c.loop-i.out.items c.push.new.self.items (omega arith) c.in_ok-extend_from_slice.ensures.items c.loop-i.invariant c.in_ok-push.ensures.items,
-      λ seats given freed fits. (given, freed, (refl, refl), fits),
-    )
+    dump_whole (script_chunk region.marked.bytes) chunk_words region.chunks c.loop-i.i c.args.out.now.items (codes "dump")
+    c.extend_from_slice.new.self.items c.loop-i.out.items (omega arith) c.in_ok-extend_from_slice.ensures.items c.loop-i.invariant
