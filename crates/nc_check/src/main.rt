@@ -22,27 +22,14 @@ mod working;
 
 use checking::check_files;
 use clap::error::ErrorKind as ClapKind;
-use nc_command::{CheckAsk, ask_check, check_not_utf8};
+use nc_command::{CheckAsk, arguments, ask_check, check_words};
 use outcome::Halt;
 use progress::Progress;
-use std::env;
 use std::io::{ErrorKind, Input, IsTerminal};
 use std::process::ExitCode;
 use std::rt::{Env, Files};
 use std::sync::Wait;
 use std::thread::Threads;
-
-/// The words of the command line, the program's own name first.
-fn command_words<R: Env + AllocGlobal>(rt: &R) -> Result<Vec<String>, Halt> {
-    match env::args(rt) {
-        Ok(words) => match words.collect::<Vec<String>>(rt.alloc()) {
-            Ok(words) => Ok(words),
-            Err(_) => Err(Halt::OutOfMemory),
-        },
-        Err(error) if error.kind() == ErrorKind::OutOfMemory => Err(Halt::OutOfMemory),
-        Err(_) => Err(Halt::Words(check_not_utf8(rt.alloc()))),
-    }
-}
 
 /// Does what the command line asks for, and gives the status to end with.
 fn run<R: Threads + Wait + Sync + Env + AllocGlobal + Input + Files + Print + Eprint>(
@@ -55,14 +42,14 @@ where
     R::Dir: Send + Sync,
     R::Reader: Send + Sync,
 {
-    let words = command_words(rt)?;
-    let mut arguments = Vec::new(rt.alloc());
-    for word in words.iter().skip(1) {
-        match arguments.push(word.as_str()) {
-            Ok(()) => {}
-            Err(_) => return Err(Halt::OutOfMemory),
-        }
-    }
+    let words = match check_words(rt) {
+        Ok(words) => words,
+        Err(error) => return Err(Halt::Words(error)),
+    };
+    let arguments = match arguments(rt.alloc(), words.as_slice()) {
+        Ok(arguments) => arguments,
+        Err(_) => return Err(Halt::OutOfMemory),
+    };
     let ask: CheckAsk<'_> = match ask_check(rt.alloc(), arguments.as_slice()) {
         Ok(ask) => ask,
         Err(error) => return Err(Halt::Words(error)),

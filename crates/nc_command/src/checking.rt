@@ -8,11 +8,13 @@ use crate::asked::{CheckAsk, Said};
 use crate::building::{fault, matches};
 use crate::command_line::number;
 use crate::table::{BUNDLES, FLAG, OPTION, Program, Usage, WORKERS, Word};
+use crate::words::command_words;
 use clap::builder::ValueParser;
 use clap::error::ErrorKind;
 use clap::{ArgAction, ArgMatches, Error};
 use nc_decode::MAX_BUNDLES;
 use std::alloc::{AllocError, Global};
+use std::rt::Env;
 
 /// The program `nc_check`.
 #[rattlefmt::skip]
@@ -189,7 +191,8 @@ pub fn ask_check<'a>(alloc: Global, words: &'a [&'a str]) -> Result<CheckAsk<'a>
     asked
 }
 
-/// The fault of a command line of `nc_check` with a word that is not valid UTF-8.
-pub fn check_not_utf8(alloc: Global) -> Error {
-    refusal(alloc, "a word is not valid UTF-8 text")
+/// The words of the command line of `nc_check`, the program's own name first. Without memory for them the fault is one of
+/// kind `OutOfMemory`.
+pub fn check_words<R: Env + AllocGlobal>(rt: &R) -> Result<Vec<String>, Error> {
+    command_words(rt, &CHECK)
 }

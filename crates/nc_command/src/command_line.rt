@@ -6,12 +6,14 @@ ghost use Rattle.nc_command.specs.Range.{AsksInRange};
 use crate::asked::Ask;
 use crate::building::{fault, matches};
 use crate::table::{BUNDLES, OPTION, Program, Usage, WORKERS, Word};
+use crate::words::command_words;
 use clap::builder::ValueParser;
 use clap::error::ErrorKind;
 use clap::{ArgMatches, Error};
 use nc_decode::MAX_BUNDLES;
 use nc_gens::MOST_SEATS;
 use std::alloc::Global;
+use std::rt::Env;
 
 /// The option for the size of the region, with its value.
 const SMALL: Word = Word {
@@ -101,12 +103,8 @@ pub fn ask<'a>(alloc: Global, words: &'a [&'a str]) -> Result<Ask, Error>
     }
 }
 
-/// The fault of a command line with a word that is not valid UTF-8.
-pub fn not_utf8(alloc: Global) -> Error {
-    fault(
-        alloc,
-        &REPLAY,
-        ErrorKind::InvalidValue,
-        "a word is not valid UTF-8 text",
-    )
+/// The words of the command line of `nc_replay`, the program's own name first. Without memory for them the fault is one of
+/// kind `OutOfMemory`.
+pub fn replay_words<R: Env + AllocGlobal>(rt: &R) -> Result<Vec<String>, Error> {
+    command_words(rt, &REPLAY)
 }

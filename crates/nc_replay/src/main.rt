@@ -11,49 +11,34 @@ ghost use Rattle.nc_replay.specs.Status.{status_of};
 pub mod program;
 
 use clap::error::ErrorKind as ClapKind;
-use nc_command::not_utf8;
+use nc_command::{arguments, replay_words};
 use nc_script::{Piped, ReplayFault};
 use program::{Halt, start};
-use std::io::{ErrorKind, Input, Write};
+use std::io::{self, ErrorKind, Input, Write};
 use std::process::ExitCode;
 use std::rt::Env;
 use std::sync::Wait;
 use std::thread::Threads;
-use std::{env, io};
-
-/// The words of the command line, the program's own name first.
-fn command_words<R: Env + AllocGlobal>(rt: &R) -> Result<Vec<String>, Halt> {
-    let out_of_memory = Halt::Fault(ReplayFault::OutOfMemory);
-    match env::args(rt) {
-        Ok(words) => match words.collect::<Vec<String>>(rt.alloc()) {
-            Ok(words) => Ok(words),
-            Err(_) => Err(out_of_memory),
-        },
-        Err(error) if error.kind() == ErrorKind::OutOfMemory => Err(out_of_memory),
-        Err(_) => Err(Halt::Words(not_utf8(rt.alloc()))),
-    }
-}
 
 /// Does what the command line asks for, and writes to this writer.
 fn run_words<R: Threads + Wait + Sync + Env + AllocGlobal + Input, W: Write>(
     rt: &R,
     writer: &mut W,
 ) -> Result<(), Halt> {
-    let words = command_words(rt)?;
-    let mut arguments = Vec::new(rt.alloc());
-    for word in words.iter().skip(1) {
-        match arguments.push(word.as_str()) {
-            Ok(()) => {}
-            Err(_) => return Err(Halt::Fault(ReplayFault::OutOfMemory)),
-        }
+    let words = match replay_words(rt) {
+        Ok(words) => words,
+        Err(error) => return Err(Halt::Words(error)),
+    };
+    match arguments(rt.alloc(), words.as_slice()) {
+        Ok(arguments) => start(
+            rt,
+            rt.alloc(),
+            arguments.as_slice(),
+            &mut rt.reader(),
+            writer,
+        ),
+        Err(_) => Err(Halt::Fault(ReplayFault::OutOfMemory)),
     }
-    start(
-        rt,
-        rt.alloc(),
-        arguments.as_slice(),
-        &mut rt.reader(),
-        writer,
-    )
 }
 
 /// Prints a fault as one line on standard error. Where that can't be done nothing else is left to do.
