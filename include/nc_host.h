@@ -29,9 +29,10 @@
  *   Memory      The host lends code and buffers for the duration of the call. The library keeps nothing between calls, not even a pointer.
  *               Each call except nc_host_decode and nc_host_version allocates memory of its own by malloc, and frees all of it before it
  *               returns.
- *   Answers     The same arguments give the same answer, except for NC_OUT_OF_MEMORY.
+ *   Answers     The same arguments give the same answer, except for NC_OUT_OF_MEMORY. That it comes only where memory ran out is tested, not
+ *               proved.
  *
- * What the host has to keep, without which no verdict protects it (docs/EMBEDDING.md says why):
+ * What the host has to keep, without which no verdict protects it, in short (docs/EMBEDDING.md lists every duty, with its reason):
  *   - Untrusted code runs in a 32-bit code segment; in 64-bit mode the same bytes are other instructions. Nothing in that segment is
  *     executable except the text and what is below NC_START.
  *   - Untrusted code can write neither the region's text nor the code below NC_START, and can read no more than it is allowed to.
@@ -50,13 +51,13 @@
  *   - A chunk is created only where there is no chunk, live or retired. (Until a call has judged the range, `base` + `len` may wrap.)
  *   - A stop at which a thread traps may be gone when the handler looks: it belonged to a patch that was being made, or to unused text
  *     where a chunk is being created. The trap doesn't tell it from a data fault. So the writer increments a count before the first act of
- *     a call and after the last. The handler reads an even count, then the byte, then the same count again. If the byte is NC_STOP, the
- *     stop is the code's own. If it isn't, the thread goes back to the same instruction once; the same fault at the same count is the
- *     code's own.
+ *     a call and after the last (of a deletion, after the last stop). The handler waits for an even count, then reads the byte and the count
+ *     again, until the count is the same. If the byte is NC_STOP, the stop is the code's own. If it isn't, the thread goes back to the same
+ *     instruction once; the same fault at the same count, unless the thread has entered anew, is the code's own.
  *   - Signal handlers run on an alternate stack that no 32-bit stack pointer reaches (above 4 GiB, or disarmed while in use), or their
  *     signals are blocked while a thread is inside: a kernel takes the untrusted stack pointer as a flat address.
  *   - Trusted code that is entered clears the direction flag, since untrusted code may set it, and uses no stack before it has loaded its
- *     own stack pointer. It reads each address by which it goes back once, and then masks it.
+ *     own stack pointer. It reads each address by which it goes back once, masks it, and checks that it lies in the region.
  *   - A deleted span is reused only once every thread that may have been in it has left the region or has been outside since the stamp was
  *     drawn. Until then and afterwards its pages stay executable and full of NC_STOP: threads may jump to its bundle starts.
  *
@@ -102,9 +103,9 @@ extern "C" {
  *
  *  0 to 10  For a chunk the first fault is returned: 1 to 3 in this order, then the one of 4 to 6 with the lowest address, then 7 with the
  *           lowest address. 8 says nothing about the code, except that 1 to 3 don't hold. 9 from a call without a handle says that the
- *           chunk is valid, or the patch lawful; from a call on a handle it comes before the faults of a patch. 10 comes only from
- *           nc_host_decode. docs/GUIDE.md says what a compiler may emit; specs/Rows of nc_decode is the table of permitted
- *           instructions.
+ *           chunk is valid, or the patch lawful; from a call on a handle it comes before the faults of a patch and after those of a
+ *           chunk. 10 comes only from nc_host_decode. docs/GUIDE.md says what a compiler may emit; specs/Rows of nc_decode is the table
+ *           of permitted instructions.
  * 16 to 21  For a patch the first of these is returned, in this order. None has an address.
  * 32 to 44  From calls on handles, beside those above.
  */
@@ -381,7 +382,7 @@ uint32_t nc_host_version(void);
 /*
  * Makes a region of `bundles` bundles, all stops, with no chunk and `seats` seats (IsFirst), in an empty handle.
  * Promised: NC_HANDLE_TAKEN for a handle that isn't empty; else NC_BAD_SEATS and NC_BAD_SIZE exactly where they apply, in this order;
- * else NC_OUT_OF_MEMORY only if memory ran out.
+ * else no fault but NC_OUT_OF_MEMORY.
  * Cost: memory for a table of the text's pages, and 8 bytes and more for each seat.
  */
 uint32_t nc_region_new(uint32_t bundles, uint32_t seats, NcRegion *region);
@@ -396,14 +397,14 @@ void nc_region_free(NcRegion *region);
  * once, and not again after it was left: a host with many threads keeps a pool.
  * Promised: NC_HANDLE_TAKEN for a seat's handle that isn't empty; else NC_NO_HANDLE; else NC_NO_SEAT exactly where each seat has been
  * given, and NC_OUT_OF_MEMORY only where one is still to be given (MayRefuseSeat). That seat can still be given later.
- * Until its first check-in it also holds back stamps drawn since the last reclaim before it was given: check in once when it is given.
+ * Until its first check-in it also holds back the deletions since the last reclaim before it was given: check in once when it is given.
  */
 uint32_t nc_region_seat(NcRegion *region, NcSeat *seat);
 
 /*
  * Vets the chunk and creates it in the region (IsCreated), and writes the acts as nc_host_create does.
- * Promised: a refusal is NC_NO_HANDLE; else one of the chunk's own faults; else the first of NC_UNDER_WAY, NC_NO_ROOM, NC_OCCUPIED and
- * NC_OUT_OF_MEMORY that holds. A buffer of `len` + 2 acts is enough.
+ * Promised: a refusal is NC_NO_HANDLE; else what vetting finds, 1 to 8; else the first of NC_UNDER_WAY, NC_NO_ROOM, NC_OCCUPIED and
+ * NC_OUT_OF_MEMORY that holds. A buffer of `len` + 2 acts is enough; an `acts_len` of 0 makes the change without telling its acts.
  * The host must make the acts after the call, before the next change. No call names a free span: nc_region_chunk returns the chunks, in
  * ascending order, and what lies between them is free.
  * Cost: that of nc_host_vet, and a copy of the code. This is under the lock.
@@ -431,7 +432,7 @@ NcChange nc_region_load(NcRegion *region, NcVetted *vetted, NcAct *acts, size_t 
 /*
  * Patches a chunk (IsPatch, IsModified), and writes the acts as nc_host_patch does.
  * Promised: a refusal is NC_NO_HANDLE; else the first of NC_UNDER_WAY, NC_NO_ROOM (for at most 32 bytes; more are a fault of the patch) and the
- * faults of a patch that holds. A buffer of 3 * `len` acts is enough.
+ * faults of a patch that holds. A buffer of 3 * `len` acts is enough; an `acts_len` of 0 makes the change without telling its acts.
  * The bytes must be whole instructions, even where only an immediate or a displacement in one changes. Acts are written for the
  * instructions that differ, so `count` may be 0. The host must make the acts after the call, before the next change.
  * Cost: that of the patch and of the bundles in which its targets lie, whatever the chunk; no memory is allocated.
@@ -443,7 +444,7 @@ NcChange nc_region_patch(NcRegion *region, uint32_t at, const uint8_t *bytes, si
  * which can't be left out, each call that changes the region is refused with NC_UNDER_WAY; calls that only look, and nc_region_seat,
  * answer.
  * Promised: a refusal is NC_NO_HANDLE; else the first of NC_UNDER_WAY, NC_NO_CHUNK, NC_FULL and NC_NO_ROOM that holds. A buffer for two
- * acts more than the chunk has bytes is enough.
+ * acts more than the chunk has bytes is enough; an `acts_len` of 0 begins the deletion without telling its acts.
  * The host must make all acts except NC_BUMP, which is the last one, before it calls nc_region_end_delete, which is that act. A stamp drawn
  * before the stops are there would free the span while a thread is in it.
  * Cost: that of writing the acts; no memory is allocated.
