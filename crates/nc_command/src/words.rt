@@ -1,5 +1,7 @@
 //! The words that a program is started with.
 
+ghost use Rattle.std.specs.Prelude.{◌≡◌, IfOk, map, drop, string_bytes};
+
 use crate::building::fault;
 use crate::table::Program;
 use clap::Error;
@@ -29,11 +31,23 @@ pub(crate) fn command_words<R: Env + AllocGlobal>(
     }
 }
 
-/// The words after the program's own name.
-pub fn arguments<'a>(alloc: Global, words: &'a [String]) -> Result<Vec<&'a str>, AllocError> {
-    let mut arguments = Vec::new(alloc);
-    for word in words.iter().skip(1) {
-        arguments.push(word.as_str())?;
+/// The texts of words.
+fn texts_of<'a>(alloc: Global, words: &'a [String]) -> Result<Vec<&'a str>, AllocError>
+    ensures { IfOk result (λ texts. map (λ text. text.now) texts.items ≡ map string_bytes words.now) }
+{
+    let mut texts = Vec::new(alloc);
+    for word in words {
+        texts.push(word.as_str())?;
     }
-    Ok(arguments)
+    Ok(texts)
+}
+
+/// The words after the program's own name.
+pub fn arguments<'a>(alloc: Global, words: &'a [String]) -> Result<Vec<&'a str>, AllocError>
+    ensures { IfOk result (λ texts. map (λ text. text.now) texts.items ≡ map string_bytes (drop 1 words.now)) }
+{
+    match words.split_first() {
+        Some((_, rest)) => texts_of(alloc, rest),
+        None => texts_of(alloc, words),
+    }
 }
