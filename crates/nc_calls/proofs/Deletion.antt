@@ -17,7 +17,7 @@ use Rattle.nc_text.proofs.Offered.{executes, length-with_span}
 use Rattle.nc_region.specs.schedules.Spans.{IsQuiet, IsShut}
 use Rattle.nc_region.specs.schedules.World.{World, AreApart}
 use Rattle.nc_region.specs.schedules.Events.{Event, Settles, Retires, IsAllowed, after, new_span}
-use Rattle.nc_region.proofs.Offered.{Keeps, shut_if_quiet, as_it_stands}
+use Rattle.nc_region.proofs.Offered.{Keeps, admits_is_mark, shut_if_quiet, as_it_stands}
 use Rattle.nc_region.specs.declared.chunk.Chunk.{Chunk}
 use Rattle.nc_region.specs.declared.chunk.ChunkState.TheVariants.{Retired}
 use Rattle.nc_region.specs.Acts.{is_mark, is_marked_at, is_unmarked_at, puts_where}
@@ -36,12 +36,6 @@ use Rattle.nc_calls.proofs.OnePut.{good_put_marked, good_put_unread, byte_beside
 use Rattle.nc_calls.proofs.Parting.{Kept, region_stopped}
 use Rattle.nc_calls.proofs.Putting.{with_text, settled, Views, Leads, Reaches, leads_one, leads_more, settling_leads, settled_views, MayLay, lay_all}
 use Rattle.nc_calls.proofs.RetiredSpans.{AreSpansOf, IsBeside, all_spans, retired_each}
-
--- a mark that stands for a state is a mark
-admits_is_mark : (mark : Mark) (masked : Option ℕ) → Admits mark masked → is_mark mark ≡ true
-admits_is_mark Unmarked masked m = absurd m
-admits_is_mark Plain masked m = refl
-admits_is_mark (After register) masked m = refl
 
 -- what is marked stands for some state
 pub marked_state : (mark : Mark) → is_mark mark ≡ true → (masked : Option ℕ) × Admits mark masked

@@ -72,7 +72,7 @@ pub patches : {T E : Type 0} (answer : Result T E) (seats : ℕ) (old new : Regi
     → Logs old.logged new.logged (log_of_modify old.marked.bytes at news))
     → IfErr answer (λ e. new ≡ old) → LogsCall seats no_details old new
 patches (Ok x) seats old new at bytes lawful is log same =
-    let run = lawful.1.2.0 in
+    let run = lawful.1.2.0.run in
     logs_call seats no_details old new (log_of_modify old.marked.bytes at run.news) (log run.news run.bytes)
     (Patches at bytes run.news lawful run.bytes is refl)
 patches (Err e) seats old new at bytes lawful is log same = keeps_logged seats old new same

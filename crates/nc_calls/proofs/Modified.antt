@@ -57,7 +57,12 @@ modified limit seats before events old new at bytes news h region lawful b is ow
     let here = h.stands.marked in
     let c = lawful.1.0 in
     let held = lawful.1.1 in
-    let patch : CanPatch old.marked lawful.1.0 at bytes = record { run = lawful.1.2.0; pairs = lawful.1.2.1; targets = lawful.1.2.2 } in
+    let patch : CanPatch old.marked lawful.1.0 at bytes = record {
+      holds = lawful.1.2.0.holds;
+      run = lawful.1.2.0.run;
+      pairs = lawful.1.2.1;
+      targets = lawful.1.2.2;
+    } in
     let l = lies old.marked lawful.1.0 region.whole lawful.1.2.0.holds in
     let ends : at + length bytes ≤ c.base + c.length = omega (arith, lawful.0.1, held.2.0, held.2.1, l.start, l.whole) in
     let good = start_good w old.chunks (kept_there limit seats before old h) h.views in

@@ -319,7 +319,7 @@ starts marked chunks c at new n ns region has live from patch b ends =
     let bytes_rest : AreBytesOf (code_of ns) ns =
     record { spelled = λ before behind p is. b.spelled (n ∷ before) behind p (ap (λ (z : List Piece). n ∷ z) is); parts = refl } in
     let rep = changes_replace marked c at patch.run.before (t.os ++ patch.run.after) t.o n t.change in
-    let l = lies marked c region.whole patch.run.holds in
+    let l = lies marked c region.whole patch.holds in
     let long : length new ≡ length n.bytes + length (code_of ns) =
     ap (λ (z : List ℕ). length z) b.parts ∙ length-append n.bytes (code_of ns) in
     let held : IsHeldBy chunks at c = (has, live, (from, omega (arith, ends, long, rep.some))) in

@@ -24,12 +24,12 @@ use Rattle.nc_region.specs.Deletion.{is_due, freed, kept, unmarked, unmarkings}
 use Rattle.nc_region.specs.Each.{Each}
 use Rattle.nc_region.specs.Quiet.{with_retired, retired_spans}
 use Rattle.nc_region.specs.Region.{IsLive, IsRising, IsRegion}
-use Rattle.nc_region.proofs.Offered.{each_map, each_both, each_middle, region_freed, rises_above}
+use Rattle.nc_region.proofs.Offered.{each_map, each_both, each_contains, each_middle, region_freed, rises_above}
 use Rattle.nc_calls.specs.Weaving.{writers, ThreadsMay}
 use Rattle.nc_calls.specs.Calls.{span_from}
 use Rattle.nc_calls.proofs.Entries.{events_of}
 use Rattle.nc_calls.proofs.Looking.{has_passed}
-use Rattle.nc_calls.proofs.RetiredSpans.{AreSameSpans, retired_append, retired_head, each_contains, into_middle, out_of_middle}
+use Rattle.nc_calls.proofs.RetiredSpans.{AreSameSpans, retired_append, retired_head, into_middle, out_of_middle}
 use Rattle.nc_calls.proofs.RetiredSpans.{the_middle, retired_each}
 use Rattle.nc_calls.proofs.Woven.{Woven, seated, writer_more, thread_more}
 

@@ -13,7 +13,7 @@ use Rattle.nc_region.specs.declared.chunk.ChunkState.TheVariants.{Live, Retired}
 use Rattle.nc_region.specs.Each.{Each}
 use Rattle.nc_region.specs.Quiet.{with_retired, retired_spans}
 use Rattle.nc_region.specs.Region.{IsLive}
-use Rattle.nc_region.proofs.Offered.{each_get}
+use Rattle.nc_region.proofs.Offered.{each_contains}
 
 -- one chunk's span before others
 with_append : (c : Chunk) (s : ChunkState) (xs ys : List RetiredSpan) → with_retired c s (xs ++ ys) ≡ with_retired c s xs ++ ys
@@ -52,10 +52,6 @@ pub retired_each : (P : RetiredSpan → Type 0) (chunks : List Chunk)
     → Each P (retired_spans chunks)
 retired_each P [] h = tt
 retired_each P (c ∷ rest) h = with_each P c c.state (retired_spans rest) refl h.0 (retired_each P rest h.1)
-
--- what holds of each member holds of what the list contains
-pub each_contains : {X : Type 0} (P : X → Type 0) (xs : List X) (x : X) → Each P xs → Contains xs x → P x
-each_contains P xs x h has = subst P has.2 (each_get P xs has.0 x has.1 h)
 
 -- what holds of all that a list contains
 pub all_contained : {X : Type 0} (P : X → Type 0) (xs : List X) → ((x : X) → Contains xs x → P x) → All P xs

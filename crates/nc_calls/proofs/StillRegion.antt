@@ -9,15 +9,13 @@ use Rattle.nc_text.specs.Marks.{IsClosed}
 use Rattle.nc_text.specs.MarkedText.{MarkedText, with_span, without_marks}
 use Rattle.nc_text.proofs.Offered.{closed_with_stops, length-with_span}
 use Rattle.nc_region.specs.declared.chunk.Chunk.{Chunk}
-use Rattle.nc_region.specs.declared.chunk.ChunkState.{ChunkState}
-use Rattle.nc_region.specs.declared.chunk.ChunkState.TheVariants.{Live, Retired}
 use Rattle.nc_gens.specs.Seen.{least_number}
 use Rattle.nc_region.specs.Chunks.{HasGoodSpan}
 use Rattle.nc_region.specs.Deletion.{is_due, freed, kept, unmarked, IsDeleted, IsReclaimed}
 use Rattle.nc_region.specs.Patch.{IsPatch, IsModified, AreBytesOf}
 use Rattle.nc_region.specs.machinery.PatchSteps.{CanPatch}
 use Rattle.nc_region.specs.Region.{Region, IsLive, IsRegion, IsCreated}
-use Rattle.nc_region.proofs.Offered.{each_get, listed_there, same_code, lies, region_deleted, region_freed, changed}
+use Rattle.nc_region.proofs.Offered.{due_dead, each_get, listed_there, same_code, lies, region_deleted, region_freed, changed}
 use Rattle.nc_region.proofs.Offered.{place_of, Before, Within, Behind, before_span, span_before, span_behind, span_within}
 use Rattle.nc_calls.proofs.Creation.{created_region}
 use Rattle.nc_calls.proofs.Good.{text_of}
@@ -40,7 +38,12 @@ pub still_patched : (old new : Region) (at : ℕ) (bytes : List ℕ) (news : Lis
 still_patched old new at bytes news region lawful b is =
     let c = lawful.1.0 in
     let held = lawful.1.1 in
-    let patch : CanPatch old.marked lawful.1.0 at bytes = record { run = lawful.1.2.0; pairs = lawful.1.2.1; targets = lawful.1.2.2 } in
+    let patch : CanPatch old.marked lawful.1.0 at bytes = record {
+      holds = lawful.1.2.0.holds;
+      run = lawful.1.2.0.run;
+      pairs = lawful.1.2.1;
+      targets = lawful.1.2.2;
+    } in
     let l = lies old.marked lawful.1.0 region.whole lawful.1.2.0.holds in
     let ends : at + length bytes ≤ c.base + c.length = omega (arith, lawful.0.1, held.2.0, held.2.1, l.start, l.whole) in
     let same : new.marked ≡ changed old.marked at bytes =
@@ -102,11 +105,6 @@ still_deleted old new base stamp region is =
       bytes_are = bytes;
       marks_are = marks;
     }))
-
--- what is due isn't live
-due_dead : (least : ℕ) (s : ChunkState) → is_due least s ≡ true → IsLive s → ⊥
-due_dead least Live is live = absurd (let no : false ≡ true = is in cc)
-due_dead least (Retired stamp) is live = live
 
 -- the chunks that are due are unmarked, one after the other
 unmarked_region : (least : ℕ) (rest done : List Chunk) (marked : MarkedText) → IsRegion marked (done ++ rest)

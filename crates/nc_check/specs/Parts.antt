@@ -4,8 +4,8 @@ use Rattle.nc_elf.specs.declared.segment.Segment.{Segment}
 use Rattle.nc_elf.specs.declared.symbols.Symbol.{Symbol}
 use Rattle.nc_elf.specs.Segments.{segments_of}
 use Rattle.nc_elf.specs.Symbols.{AreCodeSymbols, name_of}
-use Rattle.nc_report.specs.declared.detail.Detail.{Detail}
-use Rattle.nc_report.specs.declared.detail.Detail.TheVariants.{Brief}
+use Rattle.nc_output.specs.declared.detail.Detail.{Detail}
+use Rattle.nc_output.specs.declared.detail.Detail.TheVariants.{Brief}
 use Rattle.nc_report.specs.declared.labels.Label.{Label}
 use Rattle.nc_check.specs.declared.parts.Part.{Part}
 

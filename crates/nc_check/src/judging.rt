@@ -2,10 +2,10 @@
 
 use crate::files::{Unread, read_file};
 use crate::parts::{Part, parts_of};
-use nc_command::{CheckAsk, Said};
+use nc_command::CheckAsk;
 use nc_elf::{ElfFault, is_elf};
-use nc_lines::write_out;
-use nc_report::{Detail, ReportFault, push_file_object, report};
+use nc_output::{Detail, write_out};
+use nc_report::{ReportFault, push_file_object, report};
 use std::alloc::Global;
 use std::io;
 use std::io::{Input, Write};
@@ -24,17 +24,6 @@ pub enum Unjudged {
     WriteFailed,
 }
 
-/// How much is written of a file.
-fn detail(said: Said) -> Detail {
-    match said {
-        Said::Quiet => Detail::Brief,
-        Said::Usual => Detail::Usual,
-        Said::All => Detail::All,
-        Said::Calls => Detail::Calls,
-        Said::Object => Detail::Object,
-    }
-}
-
 /// Judges code and writes what was found. Tells whether it was refused.
 fn judge_part<R: Threads + Wait + Sync + AllocGlobal, W: Write>(
     rt: &R,
@@ -48,7 +37,6 @@ fn judge_part<R: Threads + Wait + Sync + AllocGlobal, W: Write>(
         Ok(()) => {}
         Err(_) => return Err(Unjudged::OutOfMemory),
     }
-    let detail = detail(ask.said);
     match report(
         rt,
         rt.alloc(),
@@ -56,7 +44,7 @@ fn judge_part<R: Threads + Wait + Sync + AllocGlobal, W: Write>(
         base,
         ask.bundles,
         1,
-        detail,
+        ask.detail,
         writer,
     ) {
         Ok(refused) => Ok(refused > 0),
@@ -84,14 +72,14 @@ fn judge_parts<R: Threads + Wait + Sync + AllocGlobal, W: Write>(
 }
 
 /// What is written of an ELF file that is refused as a whole.
-fn refusal(alloc: Global, said: Said, file: &str, fault: ElfFault) -> io::Result<Vec<u8>> {
+fn refusal(alloc: Global, detail: Detail, file: &str, fault: ElfFault) -> io::Result<Vec<u8>> {
     let mut text = Vec::new(alloc);
-    match said {
-        Said::Object => {
+    match detail {
+        Detail::Object => {
             let meaning = fault.to_string(alloc)?;
             push_file_object(&mut text, file.as_bytes(), b"BadElf", meaning.as_bytes())?;
         }
-        Said::Quiet => {
+        Detail::Brief => {
             let line = format!(in alloc; "{file}: refused BadElf\n")?;
             text.extend_from_slice(line.as_bytes())?;
         }
@@ -111,7 +99,7 @@ fn refuse<W: Write>(
     fault: ElfFault,
     writer: &mut W,
 ) -> Result<bool, Unjudged> {
-    let Ok(text) = refusal(alloc, ask.said, file, fault) else {
+    let Ok(text) = refusal(alloc, ask.detail, file, fault) else {
         return Err(Unjudged::OutOfMemory);
     };
     match write_out(writer, &text) {
@@ -136,7 +124,7 @@ pub fn judge_file<R: Threads + Wait + Sync + AllocGlobal + Input + Files, W: Wri
         let base = ask.base;
         return judge_part(rt, ask, Part { base, source }, writer);
     }
-    match parts_of(rt.alloc(), &source, detail(ask.said)) {
+    match parts_of(rt.alloc(), &source, ask.detail) {
         Ok(parts) => judge_parts(rt, ask, parts, writer),
         Err(ElfFault::OutOfMemory) => Err(Unjudged::OutOfMemory),
         Err(fault) => refuse(rt.alloc(), ask, file, fault, writer),

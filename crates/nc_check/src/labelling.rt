@@ -5,7 +5,8 @@ ghost use Rattle.nc_elf.specs.Symbols.{AreAscending, IsNamed};
 ghost use Rattle.nc_check.specs.Parts.{NamesBy, is_in, name_in, named, labels_of};
 
 use nc_elf::{Segment, Symbol, code_symbols};
-use nc_report::{Detail, Label, Labels};
+use nc_output::Detail;
+use nc_report::{Label, Labels};
 use std::alloc::{AllocError, Global};
 
 /// The symbols by which faults are named: where only verdicts are written, none.

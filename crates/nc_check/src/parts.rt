@@ -7,7 +7,8 @@ ghost use Rattle.nc_check.specs.Parts.{code_in, bases_in, codes_in, named, label
 
 use crate::labelling::{labels_of, names_by};
 use nc_elf::{ElfFault, Segment, Symbol, code_segments};
-use nc_report::{Detail, Source};
+use nc_output::Detail;
+use nc_report::Source;
 use std::alloc::{AllocError, Global};
 
 /// Code to be judged, and the address of its first byte.

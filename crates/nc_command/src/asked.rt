@@ -1,5 +1,7 @@
 //! What the programs can be asked for.
 
+use nc_output::Detail;
+
 /// What a command line of `nc_replay` asks for.
 #[derive(Clone, Copy, Debug, Drop, PartialEq, Eq)]
 pub enum Ask {
@@ -7,22 +9,6 @@ pub enum Ask {
     Replay { bundles: u32, seats: u32 },
     /// To vet lines of chunks.
     Vet { bundles: u32, workers: u32 },
-}
-
-/// How much is said of a file that is judged. `nc_report` has a word of its own for it, so that a command line is proved without
-/// what stands on it.
-#[derive(Clone, Copy, Drop)]
-pub enum Said {
-    /// Only the verdict on each file that is refused.
-    Quiet,
-    /// The verdict on each file; and of one that is refused also the bundle of the fault, and what the fault means.
-    Usual,
-    /// As `Usual`, and each further fault, and how many there are.
-    All,
-    /// As `Usual`, and the addresses outside of an accepted file that its direct transfers go to.
-    Calls,
-    /// The verdict on each file, as an object of JSON in one line.
-    Object,
 }
 
 /// What a command line of `nc_check` asks for: to judge the code of files.
@@ -36,8 +22,8 @@ pub struct CheckAsk<'a> {
     pub bundles: u32,
     /// The number of threads that judge.
     pub workers: u32,
-    /// How much is said of each file.
-    pub said: Said,
+    /// How much is written of each file.
+    pub detail: Detail,
     /// The files, at least one; `-` is standard input.
     pub files: Vec<&'a str>,
 }

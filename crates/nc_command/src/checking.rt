@@ -4,7 +4,7 @@ ghost use Rattle.std.specs.Prelude.{◌≡◌, ◌≤◌, ℕ, List, IfOk, IfSom
 ghost use Rattle.std.specs.Str.Parse.{IsNumeral};
 ghost use Rattle.nc_command.specs.Checking.{EndsInDigits, SpellsBase, IsCheckInRange};
 
-use crate::asked::{CheckAsk, Said};
+use crate::asked::CheckAsk;
 use crate::building::{fault, matches};
 use crate::command_line::number;
 use crate::table::{BUNDLES, FLAG, OPTION, Program, Usage, WORKERS, Word};
@@ -13,6 +13,7 @@ use clap::builder::ValueParser;
 use clap::error::ErrorKind;
 use clap::{ArgAction, ArgMatches, Error};
 use nc_decode::MAX_BUNDLES;
+use nc_output::Detail;
 use std::alloc::{AllocError, Global};
 use std::rt::Env;
 
@@ -112,28 +113,28 @@ fn refusal_by(alloc: Global, message: Result<String, AllocError>) -> Error {
     }
 }
 
-/// How much is asked to be said of a file in text, and the option that asks for it.
-fn said_in_text(found: &ArgMatches<'_>) -> (Said, &'static str) {
+/// How much text is to be written of a file, and the option that asks for it.
+fn text_asked(found: &ArgMatches<'_>) -> (Detail, &'static str) {
     if found.get_flag("quiet") {
-        (Said::Quiet, "--quiet")
+        (Detail::Brief, "--quiet")
     } else if found.get_flag("all") {
-        (Said::All, "--all")
+        (Detail::All, "--all")
     } else if found.get_flag("calls") {
-        (Said::Calls, "--calls")
+        (Detail::Calls, "--calls")
     } else {
-        (Said::Usual, "")
+        (Detail::Usual, "")
     }
 }
 
-/// How much is asked to be said of a file, and in which form. An object says the same of each file, so an option that asks for
-/// less or more excludes it.
-fn said(alloc: Global, found: &ArgMatches<'_>) -> Result<Said, Error> {
-    let (said, option) = said_in_text(found);
+/// How much is to be written of a file. Its object of JSON is always the same, so `--format json` excludes each option that
+/// asks for less or more.
+fn detail_asked(alloc: Global, found: &ArgMatches<'_>) -> Result<Detail, Error> {
+    let (detail, option) = text_asked(found);
     if found.get_str("format") != Some("json") {
-        return Ok(said);
+        return Ok(detail);
     }
     if option.is_empty() {
-        return Ok(Said::Object);
+        return Ok(Detail::Object);
     }
     let message = format!(in alloc; "the argument '--format json' cannot be used with '{option}'");
     Err(refusal_by(alloc, message))
@@ -168,14 +169,14 @@ fn asked<'a>(alloc: Global, found: &ArgMatches<'a>) -> Result<CheckAsk<'a>, Erro
     ensures { IfOk result IsCheckInRange }
 {
     let base = base_asked(alloc, found)?;
-    let said = said(alloc, found)?;
+    let detail = detail_asked(alloc, found)?;
     let files = files_asked(alloc, found)?;
     Ok(CheckAsk {
         base,
         raw: found.get_flag("raw"),
         bundles: number(found, "bundles", 2, MAX_BUNDLES),
         workers: number(found, "workers", 1, 16),
-        said,
+        detail,
         files,
     })
 }

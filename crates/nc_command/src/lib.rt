@@ -12,7 +12,7 @@ mod command_line;
 mod table;
 mod words;
 
-pub use asked::{Ask, CheckAsk, Said};
+pub use asked::{Ask, CheckAsk};
 pub use building::matches;
 pub use checking::{ask_check, check_words};
 pub use command_line::{ask, replay_words};

@@ -1,3 +1,4 @@
+pub mod Offered
 pub mod FirstTable
 pub mod HandingOver
 pub mod LeastNumber

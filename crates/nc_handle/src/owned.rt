@@ -69,7 +69,7 @@ impl Acts for Owned {
     }
 
     fn settle(&mut self) {
-        // Called for what it ensures.
+        // Called for its postconditions.
         let _facts = self.text.limit();
     }
 

@@ -86,7 +86,7 @@ impl Held {
         if acts.len() < wanted {
             return Err(RunsFault::NoRoom(wanted));
         }
-        // Called for what it ensures.
+        // Called for its postconditions.
         let _facts = self.region.chunk_count();
         let span = Span {
             region: &self.region,

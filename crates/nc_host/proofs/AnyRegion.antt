@@ -35,33 +35,35 @@ held_code m c code h bytes long =
 -- the same run of instructions in another text that holds the chunk
 record Moves (n : MarkedText) (c : Chunk) (at : ℕ) (new : List ℕ) : Type 0 where
   pub run : IsRun n c at new
-  pub pairs : LeavesPairs n c at new run
-  pub targets : KeepsTargets n c at new run
+  pub pairs : LeavesPairs run.run
+  pub targets : KeepsTargets (limit_of n.bytes) run.run
 
 run_moves : (m n : MarkedText) (c : Chunk) (at : ℕ) (new code : List ℕ) → limit_of m.bytes ≡ limit_of n.bytes → AreBytesAt m.bytes c.base code
-    → AreBytesAt n.bytes c.base code → c.length ≡ length code → (h : HoldsValid n c) (run : IsRun m c at new) → LeavesPairs m c at new run
-    → KeepsTargets m c at new run → Moves n c at new
-run_moves m n c at new code same at_m at_n long h run pairs targets =
-    let codes : h.vetted.code ≡ run.holds.vetted.code =
-    held_code n c code h at_n long ∙ sym (held_code m c code run.holds at_m long) in
-    let pieces : h.valid.pieces ≡ run.holds.valid.pieces =
-    same_pieces h.valid.pieces run.holds.valid.pieces h.valid.sound.spelled run.holds.valid.sound.spelled
-    (sym h.valid.parts ∙ (codes ∙ run.holds.valid.parts)) in
+    → AreBytesAt n.bytes c.base code → c.length ≡ length code → (h : HoldsValid n c) (is : IsRun m c at new) → LeavesPairs is.run
+    → KeepsTargets (limit_of m.bytes) is.run → Moves n c at new
+run_moves m n c at new code same at_m at_n long h is pairs targets =
+    let codes : h.vetted.code ≡ is.holds.vetted.code =
+    held_code n c code h at_n long ∙ sym (held_code m c code is.holds at_m long) in
+    let pieces : h.valid.pieces ≡ is.holds.valid.pieces =
+    same_pieces h.valid.pieces is.holds.valid.pieces h.valid.sound.spelled is.holds.valid.sound.spelled
+    (sym h.valid.parts ∙ (codes ∙ is.holds.valid.parts)) in
     record {
       run = record {
         holds = h;
-        before = run.before;
-        old = run.old;
-        after = run.after;
-        parts = pieces ∙ run.parts;
-        here = run.here;
-        news = run.news;
-        bytes = run.bytes;
-        as_long = run.as_long;
+        run = record {
+          before = is.run.before;
+          old = is.run.old;
+          after = is.run.after;
+          parts = pieces ∙ is.run.parts;
+          here = is.run.here;
+          news = is.run.news;
+          bytes = is.run.bytes;
+          as_long = is.run.as_long;
+        };
       };
       pairs = pairs;
-      targets = subst (λ (ps : List Piece). GoWell (IsTarget c.base (limit_of n.bytes) ps) at run.news) (sym pieces)
-          (subst (λ (l : ℕ). GoWell (IsTarget c.base l run.holds.valid.pieces) at run.news) same targets);
+      targets = subst (λ (ps : List Piece). GoWell (IsTarget c.base (limit_of n.bytes) ps) at is.run.news) (sym pieces)
+          (subst (λ (l : ℕ). GoWell (IsTarget c.base l is.holds.valid.pieces) at is.run.news) same targets);
     }
 
 -- in the text of only this chunk its bytes stand, and it ends at the limit
@@ -164,7 +166,7 @@ lawful_only base limit code marks at new r v live low high h =
 not_refused : (r : Region) (at : ℕ) (new : List ℕ) (f : ModifyFault) → IsPatch r at new → MayRefusePatch r at new f → ⊥
 not_refused r at new BadSpan h m = m h.0
 not_refused r at new NotLive h m = m.1 (h.1.0, h.1.1)
-not_refused r at new NotPermitted h m = m.2 (h.1.2.0.news, h.1.2.0.bytes)
+not_refused r at new NotPermitted h m = m.2 (h.1.2.0.run.news, h.1.2.0.run.bytes)
 not_refused r at new Boundaries h m = m.3 (h.1.0, h.1.1, h.1.2.0)
 not_refused r at new PairTouched h m = m.2 (h.1.0, h.1.1, (h.1.2.0, h.1.2.1))
 not_refused r at new BadTarget h m = m.2 h

@@ -1,18 +1,14 @@
 -- Lines of bytes that are cut at their ends, and what is kept of a line.
 use Rattle.std.proofs.Common.{◌≡◌, ◌≢◌, ◌++◌, ◌+◌, ◌<◌, ◌≤◌, ◌-◌, min, ℕ, Bool, true, false, eqb, cond, List, [], ◌∷◌, length, take, refl}
 use Rattle.std.proofs.Common.{sym, ap, ◌∙◌, append_assoc, append-nil, arith}
-use Rattle.std.proofs.lemmas.Bool.Decides.{eqb_tells}
 use Rattle.std.proofs.Common.{⊎_elim}
 use Rattle.std.proofs.Math.Seq.{take-append-add}
 use Rattle.std.proofs.lemmas.Bool.{cases_lt}
 use Rattle.std.proofs.lemmas.List.{take_all, take-append-le, length-take, length-take-le, length-append}
 use Rattle.std.specs.List.{flat_map}
+use Rattle.nc_output.proofs.Offered.{eqb_no}
 use Rattle.nc_lines.specs.Lines.{onto_line, lines_of, onto_ended, ended_lines}
 use Rattle.nc_lines.specs.machinery.Progress.{IsOpen, AreOpen, ended}
-
--- bytes that differ are told apart
-pub eqb_no : (a b : ℕ) → a ≢ b → eqb a b ≡ false
-eqb_no a b ne = ⊎_elim (λ h. absurd (ne h.1)) (λ h. h.0) (eqb_tells a b)
 
 -- what is after the last end is one line, or none
 abbrev pub last_line : List ℕ → List (List ℕ)

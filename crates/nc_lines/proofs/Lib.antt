@@ -6,4 +6,3 @@ pub mod WholeInput
 pub mod Kept
 pub mod Gathering
 pub mod VetReplies
-pub mod Added

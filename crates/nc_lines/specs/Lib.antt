@@ -2,6 +2,4 @@ pub mod machinery
 pub mod Lines
 pub mod Words
 pub mod Answering
-pub mod Replies
 pub mod Vetting
-pub mod Piped

@@ -2,26 +2,20 @@
 use Rattle.std.specs.Prelude.{◌≡◌, ◌≢◌, ℕ, ◌⊎◌, List, MatchOption, Option, codes, take}
 use Rattle.std.specs.List.{AllZip, flat_map}
 use Rattle.std.specs.Io.KnownBytes.{Appends}
-use Rattle.nc_decode.specs.declared.instruction.Mark.{Mark}
-use Rattle.nc_vet.specs.Chunk.{IsValid}
 use Rattle.nc_vet.specs.Faults.{HasFault}
 use Rattle.nc_vet.specs.declared.fault.VetFault.{VetFault}
 use Rattle.nc_vet.specs.declared.fault.VetFault.TheVariants.{OutOfMemory}
 use Rattle.nc_lines.specs.Lines.{bad_line}
 use Rattle.nc_lines.specs.Words.{chunk_in}
-use Rattle.nc_lines.specs.Replies.{reply_line, refused_reply, fault_words}
-
--- the bytes are a valid chunk at this base for this limit
-abbrev pub IsValidAt : ℕ → ℕ → List ℕ → Type 0
-IsValidAt base limit bytes = (marks : List Mark) × IsValid (record { base = base; limit = limit; code = bytes; marks = marks })
+use Rattle.nc_output.specs.Verdicts.{IsValidAt, with_line_end, refused_words, fault_words}
 
 -- the reply to a chunk that is only vetted: `ok` if it is valid for this limit, else `refused` with its fault; lack of
 -- memory is no verdict
 abbrev pub SaysVerdict : ℕ → ℕ → List ℕ → List ℕ → Type 0
 SaysVerdict limit base bytes reply =
-    (IsValidAt base limit bytes × (reply ≡ reply_line (codes "ok")))
+    (IsValidAt base limit bytes × (reply ≡ with_line_end (codes "ok")))
     ⊎ ((fault : VetFault) × HasFault base limit bytes fault × (fault ≢ OutOfMemory)
-    × (reply ≡ reply_line (refused_reply (fault_words fault))))
+    × (reply ≡ with_line_end (refused_words (fault_words fault))))
 
 -- the reply to a line: the verdict on the chunk that it names, or `bad line` where it names none
 abbrev pub VetsLine : ℕ → List ℕ → List ℕ → Type 0

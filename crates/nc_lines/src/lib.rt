@@ -2,16 +2,12 @@
 //!
 //! [`answer_all`] reads lines of any length in pieces, and hands each to whatever replies to one line (a [`Responder`]).
 //! [`vet_lines`] vets the chunks that lines name, several at a time: `batch` gathers the lines, and `verdicts` writes what
-//! was found of them. [`words_of`] and its neighbours read what a line's words spell, [`push_fault`] writes the reply to a
-//! chunk that has a fault.
+//! was found of them. [`words_of`] and its neighbours read what a line's words spell.
 #![tactic(auto)]
 
 mod batch;
 mod fault;
 mod lines;
-mod output;
-mod piped;
-mod replies;
 mod responder;
 mod stream;
 mod verdicts;
@@ -20,9 +16,6 @@ mod words;
 
 pub use fault::ReplayFault;
 pub use lines::LINE_LIMIT;
-pub use output::write_out;
-pub use piped::Piped;
-pub use replies::{push_address, push_fault, push_name};
 pub use responder::Responder;
 pub use stream::answer_all;
 pub use vetting::vet_lines;

@@ -5,8 +5,8 @@ ghost use Rattle.nc_lines.specs.Lines.{kept_of};
 ghost use Rattle.nc_lines.specs.machinery.Progress.{AnswersKept, IsOpen, KeepsUp, FeedsPart, Feeds};
 
 use crate::fault::ReplayFault;
-use crate::output::write_out;
 use crate::responder::Responder;
+use nc_output::write_out;
 use std::alloc::{AllocError, Global};
 use std::io::Write;
 

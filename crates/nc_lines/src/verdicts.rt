@@ -5,7 +5,7 @@ ghost use Rattle.std.specs.Vec.Iter.{into_iter_items};
 ghost use Rattle.nc_lines.specs.Vetting.{SaysVerdict, VetsLine, VetsLines};
 ghost use Rattle.nc_lines.specs.machinery.Batch.{IsFound, AreFound};
 
-use crate::replies::push_fault;
+use nc_output::push_fault;
 use nc_work::Verdict;
 use std::alloc::{AllocError, Global};
 use std::vec::IntoIter;

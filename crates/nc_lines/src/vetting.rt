@@ -10,10 +10,10 @@ ghost use Rattle.nc_lines.specs.machinery.Batch.{HasGathered};
 
 use crate::batch::Batch;
 use crate::fault::ReplayFault;
-use crate::output::write_out;
 use crate::stream::answer_all;
 use crate::verdicts::push_verdicts;
 use nc_decode::{BUNDLE, START, is_region_size};
+use nc_output::write_out;
 use nc_work::{Gate, vet_all};
 use std::alloc::Global;
 use std::io::{Read, Write};

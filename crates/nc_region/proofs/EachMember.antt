@@ -1,5 +1,5 @@
 -- What holds of each member of a list.
-use Rattle.std.proofs.Common.{ℕ, ◌≢◌, ◌<◌, List, [], ◌∷◌, ◌++◌, length, get_or, set, take, drop, replicate, arith, zero, suc}
+use Rattle.std.proofs.Common.{ℕ, ◌≢◌, ◌<◌, List, [], ◌∷◌, ◌++◌, length, get_or, set, take, drop, replicate, arith, zero, suc, subst, Contains}
 use Rattle.nc_region.specs.Each.{Each}
 
 -- what follows from P for each holds of each
@@ -17,6 +17,10 @@ pub each_get : {X : Type 0} (P : X → Type 0) (xs : List X) (k : ℕ) (d : X) �
 each_get P [] k d lt h = absurd (omega arith)
 each_get P (x ∷ xs) zero d lt h = h.0
 each_get P (x ∷ xs) (suc k) d lt h = each_get P xs k d (omega arith) h.1
+
+-- what the list contains
+pub each_contains : {X : Type 0} (P : X → Type 0) (xs : List X) (x : X) → Each P xs → Contains xs x → P x
+each_contains P xs x h has = subst P has.2 (each_get P xs has.0 x has.1 h)
 
 -- one member set
 pub each_set : {X : Type 0} (P : X → Type 0) (xs : List X) (k : ℕ) (y : X) → Each P xs → P y → Each P (set xs k y)

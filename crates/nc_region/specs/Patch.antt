@@ -42,18 +42,22 @@ AreInstructions bytes = (pieces : List Piece) × AreBytesOf bytes pieces
 abbrev pub lengths : List Piece → List ℕ
 lengths pieces = map (λ p. length p.bytes) pieces
 
--- The chunk is valid, and the new bytes are instructions. From `at` on the chunk has as many instructions, each as long
--- as the new one in its place.
-pub record IsRun (marked : MarkedText) (c : Chunk) (at : ℕ) (new : List ℕ) : Type 0 where
-  pub holds : HoldsValid marked c
+-- The new bytes are instructions. Of these instructions, the first of which is at the base, as many stand from `at` on, each
+-- as long as the new one in its place.
+pub record IsRunOf (pieces : List Piece) (base at : ℕ) (new : List ℕ) : Type 0 where
   pub before : List Piece
   pub old : List Piece
   pub after : List Piece
-  pub parts : holds.valid.pieces ≡ before ++ (old ++ after)
-  pub here : c.base + place before ≡ at
+  pub parts : pieces ≡ before ++ (old ++ after)
+  pub here : base + place before ≡ at
   pub news : List Piece
   pub bytes : AreBytesOf new news
   pub as_long : lengths old ≡ lengths news
+
+-- the chunk is valid, and the new bytes can take the place of instructions of it
+pub record IsRun (marked : MarkedText) (c : Chunk) (at : ℕ) (new : List ℕ) : Type 0 where
+  pub holds : HoldsValid marked c
+  pub run : IsRunOf holds.valid.pieces c.base at new
 
 -- The list begins with an indirect transfer. In a valid chunk it is then the second half of a pair, and the instruction
 -- directly before it is the mask.
@@ -79,14 +83,13 @@ abbrev pub GoWell : (ℕ → Type 0) → ℕ → List Piece → Type 0
 GoWell good at [] = ⊤
 GoWell good at (p ∷ rest) = (IsTrue (is_direct p.instr.flow) → good (target p.instr at)) × GoWell good (at + length p.bytes) rest
 
--- the new instructions spare the pairs of the chunk
-abbrev pub LeavesPairs : (marked : MarkedText) (c : Chunk) (at : ℕ) (new : List ℕ) → IsRun marked c at new → Type 0
-LeavesPairs marked c at new run = SparesPairs (run.old ++ run.after) run.news
+-- the new instructions spare the pairs of the old ones
+abbrev pub LeavesPairs : {pieces : List Piece} {base at : ℕ} {new : List ℕ} → IsRunOf pieces base at new → Type 0
+LeavesPairs run = SparesPairs (run.old ++ run.after) run.news
 
--- each direct transfer of the new instructions goes to a target that a valid chunk may have, judged by the chunk's own
--- instructions
-abbrev pub KeepsTargets : (marked : MarkedText) (c : Chunk) (at : ℕ) (new : List ℕ) → IsRun marked c at new → Type 0
-KeepsTargets marked c at new run = GoWell (IsTarget c.base (limit_of marked.bytes) run.holds.valid.pieces) at run.news
+-- each direct transfer of the new instructions goes to a target that a valid chunk of the old ones may have for this limit
+abbrev pub KeepsTargets : {pieces : List Piece} {base at : ℕ} {new : List ℕ} → ℕ → IsRunOf pieces base at new → Type 0
+KeepsTargets {pieces} {base} {at} limit run = GoWell (IsTarget base limit pieces) at run.news
 
 -- The new bytes take the place of whole instructions of a live chunk; they leave its pairs alone; and they go where it
 -- may. Each of the three says what the one before says too.
@@ -95,7 +98,7 @@ Fits r at new = (c : Chunk) × IsHeldBy r.chunks at c × IsRun r.marked c at new
 
 -- the second: the pairs are left alone
 abbrev pub FitsBesidePairs : Region → ℕ → List ℕ → Type 0
-FitsBesidePairs r at new = (c : Chunk) × IsHeldBy r.chunks at c × ((run : IsRun r.marked c at new) × LeavesPairs r.marked c at new run)
+FitsBesidePairs r at new = (c : Chunk) × IsHeldBy r.chunks at c × ((is : IsRun r.marked c at new) × LeavesPairs is.run)
 
 -- A lawful patch: the new bytes lie in one bundle and take the place of whole instructions of a live chunk, each as
 -- long. They leave its pairs alone (`SparesPair`), and direct transfers go where those of a valid chunk may (Yee et al.
@@ -104,18 +107,22 @@ abbrev pub IsPatch : Region → ℕ → List ℕ → Type 0
 IsPatch r at new =
     IsPatchSpan at (length new)
     × ((c : Chunk) × IsHeldBy r.chunks at c
-    × ((run : IsRun r.marked c at new) × LeavesPairs r.marked c at new run × KeepsTargets r.marked c at new run))
+    × ((is : IsRun r.marked c at new) × LeavesPairs is.run × KeepsTargets (limit_of r.marked.bytes) is.run))
 
--- the refusal of a patch is the first of these that doesn't hold: the bytes lie in one bundle, at a place of a live
--- chunk; they are whole instructions; they take the place of instructions of the chunk; they leave pairs alone; their
--- targets are good
+-- The refusal of a patch is the first of these that doesn't hold: the bytes lie in one bundle, at a place of a live chunk
+-- (`Held`); they are whole instructions; they take the place of instructions of the chunk (`Fit`); they leave pairs alone
+-- (`Beside`); their targets are good (`Lawful`).
+abbrev pub IsRefusalBy : (Held Fit Beside Lawful : Type 0) → ℕ → List ℕ → ModifyFault → Type 0
+IsRefusalBy Held Fit Beside Lawful at new BadSpan = ¬ IsPatchSpan at (length new)
+IsRefusalBy Held Fit Beside Lawful at new NotLive = IsPatchSpan at (length new) × ¬ Held
+IsRefusalBy Held Fit Beside Lawful at new NotPermitted = IsPatchSpan at (length new) × Held × ¬ AreInstructions new
+IsRefusalBy Held Fit Beside Lawful at new Boundaries = IsPatchSpan at (length new) × Held × AreInstructions new × ¬ Fit
+IsRefusalBy Held Fit Beside Lawful at new PairTouched = IsPatchSpan at (length new) × Fit × ¬ Beside
+IsRefusalBy Held Fit Beside Lawful at new BadTarget = IsPatchSpan at (length new) × Beside × ¬ Lawful
+
+-- the fault by which a region refuses a patch
 abbrev pub MayRefusePatch : Region → ℕ → List ℕ → ModifyFault → Type 0
-MayRefusePatch r at new BadSpan = ¬ IsPatchSpan at (length new)
-MayRefusePatch r at new NotLive = IsPatchSpan at (length new) × ¬ IsHeld r.chunks at
-MayRefusePatch r at new NotPermitted = IsPatchSpan at (length new) × IsHeld r.chunks at × ¬ AreInstructions new
-MayRefusePatch r at new Boundaries = IsPatchSpan at (length new) × IsHeld r.chunks at × AreInstructions new × ¬ Fits r at new
-MayRefusePatch r at new PairTouched = IsPatchSpan at (length new) × Fits r at new × ¬ FitsBesidePairs r at new
-MayRefusePatch r at new BadTarget = IsPatchSpan at (length new) × FitsBesidePairs r at new × ¬ IsPatch r at new
+MayRefusePatch r at new fault = IsRefusalBy (IsHeld r.chunks at) (Fits r at new) (FitsBesidePairs r at new) (IsPatch r at new) at new fault
 
 -- The region after a patch: it has the new bytes at their place. All else is as before, except for the acts told and
 -- logged.

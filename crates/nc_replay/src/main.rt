@@ -12,7 +12,8 @@ pub mod program;
 
 use clap::error::ErrorKind as ClapKind;
 use nc_command::{arguments, replay_words};
-use nc_script::{Piped, ReplayFault};
+use nc_lines::ReplayFault;
+use nc_output::Piped;
 use program::{Halt, start};
 use std::io::{self, ErrorKind, Input, Write};
 use std::process::ExitCode;

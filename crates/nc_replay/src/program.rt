@@ -6,7 +6,8 @@ ghost use Rattle.nc_replay.specs.Status.{status_of};
 
 use clap::error::ErrorKind;
 use nc_command::{Ask, ask};
-use nc_script::{ReplayFault, run, vet_lines};
+use nc_lines::{ReplayFault, vet_lines};
+use nc_script::run;
 use nc_work::Open;
 use std::alloc::Global;
 use std::io::{Read, Write};

@@ -12,7 +12,7 @@ use Rattle.std.proofs.lemmas.Simd.{mask_l-lt, bit_mask_l, ones-mask_l}
 use lib.Lanes.{mask_l}
 use Rattle.nc_decode.specs.declared.instruction.Mark.{Mark}
 use Rattle.nc_decode.specs.declared.instruction.Mark.TheVariants.{Unmarked, Plain, After}
-use Rattle.nc_lines.proofs.Offered.{eqb_no}
+use Rattle.nc_output.proofs.Offered.{eqb_no}
 use Rattle.nc_decode.specs.declared.bundle.Bundle.{Bundle}
 use Rattle.nc_decode.specs.Bits.{starts_instruction, is_second, no_bits, bit_mark, mark_by_bits, marks_in}
 use Rattle.nc_report.specs.machinery.Counts.{one, begins_at, begun_in}

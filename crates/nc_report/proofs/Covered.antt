@@ -9,7 +9,7 @@ use Rattle.nc_vet.specs.Chunk.{Piece, code_of, place, AreSound}
 use Rattle.nc_vet.proofs.Offered.{code_of-append, place-push}
 use Rattle.nc_report.specs.machinery.Aims.{IsReadTo, StepsFrom, CoversPlace}
 use Rattle.nc_report.proofs.Placed.{part_at}
-use Rattle.nc_report.proofs.ReadFronts.{one_at_front}
+use Rattle.nc_vet.proofs.Offered.{one_at_front}
 
 -- an instruction of sound code stands at a place, and is at the front there
 pub record StandsThere (code : List ℕ) (at : ℕ) : Type 0 where

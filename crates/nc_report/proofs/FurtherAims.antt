@@ -5,7 +5,7 @@ use Rattle.std.specs.Prelude.{codes}
 use Rattle.std.specs.List.{flat_map}
 use Rattle.nc_decode.specs.declared.instruction.Instr.{Instr}
 use Rattle.nc_decode.specs.Transfers.{target}
-use Rattle.nc_lines.specs.Replies.{address_digits}
+use Rattle.nc_output.specs.Verdicts.{address_digits}
 use Rattle.nc_vet.proofs.Offered.{flat_map-append}
 use Rattle.nc_report.specs.declared.spot.Spot.{Spot}
 use Rattle.nc_report.specs.declared.spot.Spot.TheVariants.{Inside}

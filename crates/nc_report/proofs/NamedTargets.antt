@@ -7,7 +7,7 @@ use Rattle.nc_decode.specs.declared.instruction.Instr.{Instr}
 use Rattle.nc_decode.specs.Spelling.{Spells, IsAtFront}
 use Rattle.nc_decode.specs.Transfers.{is_indirect, target}
 use Rattle.nc_decode.proofs.Offered.{spells_some, exact, masks_exactly, true_or_false}
-use Rattle.nc_lines.specs.Replies.{address_digits}
+use Rattle.nc_output.specs.Verdicts.{address_digits}
 use Rattle.nc_vet.specs.Chunk.{Piece, place, IsTarget, FollowsMask}
 use Rattle.nc_vet.specs.Faults.{HasFault, IsMistargeted}
 use Rattle.nc_vet.specs.declared.fault.VetFault.{VetFault}
@@ -19,7 +19,7 @@ use Rattle.nc_report.specs.Targets.{SaysWhy, NamesTarget}
 use Rattle.nc_report.specs.machinery.Aims.{IsReadTo, CoversPlace, IsNoTarget, AddsWhy, AddsAim}
 use Rattle.nc_report.specs.machinery.Found.{AddsLines}
 use Rattle.nc_report.proofs.Covered.{front_of}
-use Rattle.nc_report.proofs.ReadFronts.{one_at_front}
+use Rattle.nc_vet.proofs.Offered.{one_at_front}
 
 -- sound code is read to its beginning
 pub read_none : (limit base : ℕ) (code : List ℕ) (to : ℕ) → IsNoTarget limit base code to → IsReadTo code 0

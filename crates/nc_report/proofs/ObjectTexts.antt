@@ -3,7 +3,7 @@ use Rattle.std.proofs.Common.{◌≡◌, ◌≢◌, ◌≤◌, ◌<◌, arith, �
 use Rattle.std.proofs.lemmas.Bool.Decides.{nat_tests}
 use Rattle.std.specs.Prelude.{codes}
 use Rattle.nc_vet.specs.declared.fault.VetFault.{VetFault}
-use Rattle.nc_lines.specs.Replies.{reply_line, address_digits}
+use Rattle.nc_output.specs.Verdicts.{with_line_end, address_digits}
 use Rattle.nc_report.specs.declared.labels.Label.{Label}
 use Rattle.nc_report.specs.Labels.{label_at}
 use Rattle.nc_report.specs.Advice.{words_about}
@@ -19,7 +19,7 @@ joined3 o a b c = append_assoc (o ++ a) b c ∙ append_assoc o a (b ++ c)
 
 -- four members and the end of an object
 pub four_members : (o a b c d n1 n2 n3 n4 n5 : List ℕ) → n1 ≡ o ++ a → n2 ≡ n1 ++ b → n3 ≡ n2 ++ c → n4 ≡ n3 ++ d → n5 ≡ n4 ++ codes "}\n"
-    → n5 ≡ o ++ reply_line (a ++ (b ++ (c ++ (d ++ codes "}"))))
+    → n5 ≡ o ++ with_line_end (a ++ (b ++ (c ++ (d ++ codes "}"))))
 four_members o a b c d n1 n2 n3 n4 n5 e1 e2 e3 e4 e5 =
     e5
     ∙ ap (λ (z : List ℕ). z ++ codes "}\n")
@@ -43,14 +43,14 @@ four_members o a b c d n1 n2 n3 n4 n5 e1 e2 e3 e4 e5 =
 
 -- five members and the end of an object
 pub five_members : (o a b c d e n1 n2 n3 n4 n5 n6 : List ℕ) → n1 ≡ o ++ a → n2 ≡ n1 ++ b → n3 ≡ n2 ++ c → n4 ≡ n3 ++ d → n5 ≡ n4 ++ e
-    → n6 ≡ n5 ++ codes "}\n" → n6 ≡ o ++ reply_line (a ++ (b ++ (c ++ (d ++ (e ++ codes "}")))))
+    → n6 ≡ n5 ++ codes "}\n" → n6 ≡ o ++ with_line_end (a ++ (b ++ (c ++ (d ++ (e ++ codes "}")))))
 five_members o a b c d e n1 n2 n3 n4 n5 n6 e1 e2 e3 e4 e5 e6 =
     four_members o (a ++ b) c d e n2 n3 n4 n5 n6 (e2 ∙ ap (λ (z : List ℕ). z ++ b) e1 ∙ append_assoc o a b) e3 e4 e5 e6
-    ∙ ap (λ (z : List ℕ). o ++ reply_line z) (append_assoc a b (c ++ (d ++ (e ++ codes "}"))))
+    ∙ ap (λ (z : List ℕ). o ++ with_line_end z) (append_assoc a b (c ++ (d ++ (e ++ codes "}"))))
 
 -- three members that were added as one, two more, and the end of an object
 pub headed_members : (o a b c d e n1 n2 n3 n4 : List ℕ) → n1 ≡ o ++ (a ++ (b ++ c)) → n2 ≡ n1 ++ d → n3 ≡ n2 ++ e → n4 ≡ n3 ++ codes "}\n"
-    → n4 ≡ o ++ reply_line (a ++ (b ++ (c ++ (d ++ (e ++ codes "}")))))
+    → n4 ≡ o ++ with_line_end (a ++ (b ++ (c ++ (d ++ (e ++ codes "}")))))
 headed_members o a b c d e n1 n2 n3 n4 e1 e2 e3 e4 =
     five_members o a b c d e (o ++ a) ((o ++ a) ++ b) n1 n2 n3 n4 refl refl (e1 ∙ sym (joined3 o a b c)) e2 e3 e4
 

@@ -6,7 +6,7 @@ use Rattle.std.specs.Fmt.{digits as digits_in}
 use Rattle.std.specs.Int.{w32, to_be_bytes}
 use Rattle.std.specs.List.{flat_map, range_with_len}
 use Rattle.hex.specs.Hex.{encode_with, encode_lower, lower_digits}
-use Rattle.nc_lines.specs.Replies.{address_digits, fault_words}
+use Rattle.nc_output.specs.Verdicts.{address_digits, address_after, fault_name, fault_words, place_of}
 use Rattle.nc_decode.specs.declared.bundles.TheConstants.{START}
 use Rattle.nc_decode.specs.declared.instruction.Instr.{Instr}
 use Rattle.nc_decode.specs.Front.{first_instruction}
@@ -24,15 +24,15 @@ use Rattle.nc_report.specs.declared.kind.Kind.TheVariants.{SegmentRegister, Addr
 use Rattle.nc_report.specs.declared.kind.Kind.TheVariants.{Lock, Repeat, OperandSize}
 use Rattle.nc_report.specs.declared.words.TheConstants.{BAD_BASE, BAD_LENGTH, EMPTY_FILE, ELF_FILE, ARCHIVE, TEXT, OUT_OF_RANGE, CROSSES, CUT_PREFIX}
 use Rattle.nc_report.specs.declared.words.TheConstants.{BARE, BAD_TARGET, NO_MEMORY, BEYOND_REGION, IN_ZONE, OUTSIDE_CODE, INSIDE, SECOND_HALF}
-use Rattle.nc_report.specs.declared.detail.Detail.{Detail}
-use Rattle.nc_report.specs.declared.detail.Detail.TheVariants.{Brief, Usual, Calls, Object}
-use Rattle.nc_report.specs.declared.detail.Detail.TheVariants as detail
+use Rattle.nc_output.specs.declared.detail.Detail.{Detail}
+use Rattle.nc_output.specs.declared.detail.Detail.TheVariants.{Brief, Usual, Calls, Object}
+use Rattle.nc_output.specs.declared.detail.Detail.TheVariants as detail
 use Rattle.nc_report.specs.declared.labels.Label.{Label}
 use Rattle.nc_report.specs.Labels.{label_at, shown_byte, shown_name, offset_words, label_line, line_by, label_lines}
 use Rattle.nc_report.specs.Listing.{spaced, barred, ShowsPlace, ShowsBundle}
 use Rattle.nc_report.specs.Advice.{kind_in, words_on, key_of, meaning_of, is_elf, is_archive, is_text, words_about}
 use Rattle.nc_report.specs.Targets.{why_outside, SaysWhy, NamesTarget}
-use Rattle.nc_report.specs.Report.{AddsTarget, Explains, ReportsOthers, ReportsSome, AreDetailsBy, place_of}
+use Rattle.nc_report.specs.Report.{AddsTarget, Explains, ReportsOthers, ReportsSome, AreDetailsBy}
 use Rattle.nc_report.specs.declared.spot.Spot.{Spot}
 use Rattle.nc_report.specs.declared.spot.Spot.TheVariants.{Inside}
 use Rattle.nc_report.specs.declared.totals.Counts.{Counts}
@@ -161,15 +161,24 @@ words_one code fault place =
     (either (is_text code) TEXT.now (meaning_of fault (drop place code)) (tested TEXT.now refl) (meaning_one fault (drop place code))))
 
 -- a fault's name
-name_one : (fault : VetFault) → IsOneLine (fault_words fault)
-name_one BadBase = tested (fault_words BadBase) refl
-name_one BadLength = tested (fault_words BadLength) refl
-name_one OutOfRange = tested (fault_words OutOfRange) refl
-name_one (NotPermitted at) = both (codes "NotPermitted ") (address_digits at) (tested (codes "NotPermitted ") refl) (digits (to_be_bytes w32 at))
-name_one (Crosses at) = both (codes "Crosses ") (address_digits at) (tested (codes "Crosses ") refl) (digits (to_be_bytes w32 at))
-name_one (Bare at) = both (codes "Bare ") (address_digits at) (tested (codes "Bare ") refl) (digits (to_be_bytes w32 at))
-name_one (BadTarget at) = both (codes "BadTarget ") (address_digits at) (tested (codes "BadTarget ") refl) (digits (to_be_bytes w32 at))
-name_one OutOfMemory = tested (fault_words OutOfMemory) refl
+name_one : (fault : VetFault) → IsOneLine (fault_name fault)
+name_one BadBase = tested (fault_name BadBase) refl
+name_one BadLength = tested (fault_name BadLength) refl
+name_one OutOfRange = tested (fault_name OutOfRange) refl
+name_one (NotPermitted at) = tested (codes "NotPermitted") refl
+name_one (Crosses at) = tested (codes "Crosses") refl
+name_one (Bare at) = tested (codes "Bare") refl
+name_one (BadTarget at) = tested (codes "BadTarget") refl
+name_one OutOfMemory = tested (fault_name OutOfMemory) refl
+
+-- an address after a space
+after_one : (at : Option ℕ) → IsOneLine (address_after at)
+after_one None = tt
+after_one (Some at) = both (codes " ") (address_digits at) (tested (codes " ") refl) (digits (to_be_bytes w32 at))
+
+-- a fault with its address
+fault_one : (fault : VetFault) → IsOneLine (fault_words fault)
+fault_one fault = both (fault_name fault) (address_after (place_of fault)) (name_one fault) (after_one (place_of fault))
 
 -- why an address is no target
 why_one : (limit base : ℕ) (pieces : List Piece) (to : ℕ) (words : List ℕ) → SaysWhy limit base pieces to words → IsOneLine words
@@ -369,7 +378,7 @@ found_one base limit code labels spots k None = tt
 found_one base limit code labels spots k (Some fault) =
     let goes = goes_lines base limit code spots k fault in
     let words = words_about code fault k in (
-      both (codes "also ") (fault_words fault) (tested (codes "also ") refl) (name_one fault),
+      both (codes "also ") (fault_words fault) (tested (codes "also ") refl) (fault_one fault),
       all_both (label_lines labels (base + k)) (listing base code spots k ∷ (goes ++ words ∷ [])) (labels_one labels (base + k)) (
         listing_one base code spots k,
         all_both goes (words ∷ []) (further_goes_one base limit code spots k fault) (words_one code fault k, tt),

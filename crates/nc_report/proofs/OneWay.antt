@@ -10,7 +10,7 @@ use Rattle.nc_report.specs.declared.steps.Found.{Found}
 use Rattle.nc_report.specs.declared.steps.Found.TheVariants.{Sound, Bare, Crosses, NotPermitted}
 use Rattle.nc_report.specs.declared.steps.Step.{Step}
 use Rattle.nc_report.specs.Reading.{Finds, IsStep, ReadsFrom, masked_by, extent, IsReadOneWay}
-use Rattle.nc_report.proofs.ReadFronts.{one_at_front}
+use Rattle.nc_vet.proofs.Offered.{one_at_front}
 
 -- the second of two lists whose parts are none is none
 last_none : (xs ys : List ℕ) → xs ++ ys ≡ [] → ys ≡ []

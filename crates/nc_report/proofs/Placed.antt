@@ -13,10 +13,11 @@ use Rattle.nc_vet.specs.declared.fault.VetFault.{VetFault}
 use Rattle.nc_vet.specs.declared.fault.VetFault.TheVariants.{BadBase, BadLength, OutOfRange, NotPermitted, Crosses, Bare, BadTarget}
 use Rattle.nc_vet.specs.declared.fault.VetFault.TheVariants.{OutOfMemory}
 use Rattle.nc_vet.proofs.Offered.{code_of-append, place-push, place-append, flat_map-append}
+use Rattle.nc_output.specs.Verdicts.{place_of}
 use Rattle.nc_report.specs.declared.labels.Label.{Label}
 use Rattle.nc_report.specs.Labels.{label_lines}
 use Rattle.nc_report.specs.Listing.{ShowsPlace}
-use Rattle.nc_report.specs.Report.{place_of, AddsTarget, Explains, detail_line}
+use Rattle.nc_report.specs.Report.{AddsTarget, Explains, detail_line}
 use Rattle.nc_report.specs.Advice.{words_about}
 use Rattle.nc_report.specs.machinery.Found.{GoesOnAt, HasFaultPlace, IsRealTarget, AreWholeInstructions, AddsBundle, AddsLines}
 

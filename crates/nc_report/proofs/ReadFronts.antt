@@ -5,9 +5,9 @@ use Rattle.std.specs.Prelude.{codes}
 use Rattle.std.proofs.lemmas.List.{length-append, take_at, drop_at, drop-drop, length-drop}
 use Rattle.nc_decode.specs.declared.instruction.Instr.{Instr}
 use Rattle.nc_decode.specs.Spelling.{Spells, IsAtFront}
-use Rattle.nc_decode.proofs.Offered.{spells_some, exact}
+use Rattle.nc_decode.proofs.Offered.{spells_some}
 use Rattle.nc_vet.specs.Chunk.{Piece, code_of, AreSpelled}
-use Rattle.nc_vet.proofs.Offered.{split_none, split_push, flat_map-append, code_of-append, place-push, spelled_after}
+use Rattle.nc_vet.proofs.Offered.{one_at_front, split_none, split_push, flat_map-append, code_of-append, place-push, spelled_after}
 use Rattle.nc_report.specs.Listing.{spaced, barred}
 use Rattle.nc_report.specs.machinery.Found.{AreWholeInstructions, ListsFront}
 
@@ -21,11 +21,6 @@ spelled_push front p s spells = λ before after q e. elim (split_push front befo
   | inl w ↦ subst (λ (x : Piece). Spells x.bytes x.instr) w.1 spells
   | inr w ↦ s before w.0 q w.1
 ]
-
--- at most one instruction is at the front
-pub one_at_front : (bytes : List ℕ) (i j : Instr) → IsAtFront bytes i → IsAtFront bytes j → i ≡ j
-one_at_front bytes i j f g =
-    let e = sym ((exact bytes i).1 f) ∙ (exact bytes j).1 g in cc
 
 -- before the first instruction nothing is listed
 pub none_listed : (out bytes : List ℕ) → ListsFront out out bytes 0

@@ -6,16 +6,16 @@ use Rattle.std.specs.List.{flat_map}
 use Rattle.std.specs.Io.KnownBytes.{Appends}
 use Rattle.std.proofs.KnownBytes.{Appends-trans, Appends-nil}
 use Rattle.std.proofs.Math.Seq.{take-append-add}
-use Rattle.nc_lines.specs.Replies.{reply_line, refused_reply, fault_words}
+use Rattle.nc_output.specs.Verdicts.{with_line_end, refused_words, fault_words, place_of}
 use Rattle.nc_vet.specs.Faults.{HasFault}
 use Rattle.nc_vet.specs.declared.fault.VetFault.{VetFault}
 use Rattle.nc_vet.specs.declared.fault.VetFault.TheVariants.{OutOfMemory}
 use Rattle.nc_vet.proofs.Offered.{flat_map-append}
 use Rattle.nc_report.specs.declared.labels.Label.{Label}
-use Rattle.nc_report.specs.declared.detail.Detail.{Detail}
-use Rattle.nc_report.specs.declared.detail.Detail.TheVariants.{Brief, Usual, Calls, Object}
-use Rattle.nc_report.specs.declared.detail.Detail.TheVariants as detail
-use Rattle.nc_report.specs.Report.{said_of, refused_text, detail_line, place_of, Explains, ReportsOthers, ReportsSome, AreDetailsBy, IsRefusedBy, TellsRefused}
+use Rattle.nc_output.specs.declared.detail.Detail.{Detail}
+use Rattle.nc_output.specs.declared.detail.Detail.TheVariants.{Brief, Usual, Calls, Object}
+use Rattle.nc_output.specs.declared.detail.Detail.TheVariants as detail
+use Rattle.nc_report.specs.Report.{said_of, refused_text, detail_line, Explains, ReportsOthers, ReportsSome, AreDetailsBy, IsRefusedBy, TellsRefused}
 use Rattle.nc_report.specs.machinery.Found.{AddsLines, AddsRefused, AreFirst, AreMoreBy, AreMore, AreSomeMore, WritesLines, CutsLines, IsCutOff}
 
 -- other lines, where there is an address or none
@@ -94,10 +94,10 @@ details Others detail.All limit base code labels fault first more f m = (first, 
 
 -- the verdict, and lines after others
 verdict_more : (name : List ℕ) (fault : VetFault) (first more : List (List ℕ))
-    → (said_of name (reply_line (refused_reply (fault_words fault))) ++ flat_map detail_line first) ++ flat_map detail_line more
-    ≡ said_of name (reply_line (refused_reply (fault_words fault))) ++ flat_map detail_line (first ++ more)
+    → (said_of name (with_line_end (refused_words (fault_words fault))) ++ flat_map detail_line first) ++ flat_map detail_line more
+    ≡ said_of name (with_line_end (refused_words (fault_words fault))) ++ flat_map detail_line (first ++ more)
 verdict_more name fault first more =
-    let verdict = said_of name (reply_line (refused_reply (fault_words fault))) in
+    let verdict = said_of name (with_line_end (refused_words (fault_words fault))) in
     append_assoc verdict (flat_map detail_line first) (flat_map detail_line more)
     ∙ ap (λ (z : List ℕ). verdict ++ z) (sym (flat_map-append detail_line first more))
 
@@ -117,20 +117,20 @@ text_more Others Object base name code labels fault first more m =
 -- the verdict was added by itself, where no lines are asked for
 pub verdict_added : (old new : List ℕ) (d : Detail) (name : List ℕ) (limit base : ℕ) (code : List ℕ) (labels : List Label) (fault : VetFault)
     → d ≡ Brief
-    → fault ≢ OutOfMemory → new ≡ old ++ said_of name (reply_line (refused_reply (fault_words fault)))
+    → fault ≢ OutOfMemory → new ≡ old ++ said_of name (with_line_end (refused_words (fault_words fault)))
     → AddsRefused old new d name limit base code labels fault
 verdict_added old new d name limit base code labels fault is some e = record {
   real = some;
   lines = [];
   first = subst (λ (x : Detail). AreFirst x limit base code labels fault []) (sym is) refl;
   added = subst (λ (x : Detail). new ≡ old ++ refused_text x base name code labels fault []) (sym is)
-      (e ∙ ap (λ (z : List ℕ). old ++ z) (sym (append-nil (said_of name (reply_line (refused_reply (fault_words fault)))))));
+      (e ∙ ap (λ (z : List ℕ). old ++ z) (sym (append-nil (said_of name (with_line_end (refused_words (fault_words fault)))))));
 }
 
 -- the verdict was added, and then the lines on the fault, where they are asked for
 pub explained_added : (old mid new : List ℕ) (d : Detail) (name : List ℕ) (limit base : ℕ) (code : List ℕ) (labels : List Label) (fault : VetFault)
     → d ≢ Object → d ≢ Brief
-    → fault ≢ OutOfMemory → mid ≡ old ++ said_of name (reply_line (refused_reply (fault_words fault)))
+    → fault ≢ OutOfMemory → mid ≡ old ++ said_of name (with_line_end (refused_words (fault_words fault)))
     → AddsLines mid new (Explains limit base code labels fault) → AddsRefused old new d name limit base code labels fault
 explained_added old mid new d name limit base code labels fault object brief some e a = record {
   real = some;
@@ -140,7 +140,7 @@ explained_added old mid new d name limit base code labels fault object brief som
 }
   where
     verdict : List ℕ
-    verdict = said_of name (reply_line (refused_reply (fault_words fault)))
+    verdict = said_of name (with_line_end (refused_words (fault_words fault)))
 
     joined : new ≡ old ++ (verdict ++ flat_map detail_line a.lines)
     joined = a.added ∙ ap (λ (z : List ℕ). z ++ flat_map detail_line a.lines) e ∙ append_assoc old verdict (flat_map detail_line a.lines)

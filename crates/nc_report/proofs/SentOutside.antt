@@ -9,7 +9,7 @@ use Rattle.nc_vet.specs.Chunk.{Piece, code_of, place, AreSpelled}
 use Rattle.nc_vet.proofs.Offered.{code_of-append, place-push}
 use Rattle.nc_report.specs.Outside.{sent_outside, all_sent}
 use Rattle.nc_report.specs.machinery.Runs.{KnowsSent, HasReadCode, IsSent}
-use Rattle.nc_report.proofs.ReadFronts.{one_at_front}
+use Rattle.nc_vet.proofs.Offered.{one_at_front}
 
 -- what instructions send, and those after them
 sent_append : (base len at : ℕ) (xs ys : List Piece)

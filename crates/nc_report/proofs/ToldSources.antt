@@ -13,9 +13,9 @@ use Rattle.nc_vet.specs.declared.fault.VetFault.{VetFault}
 use Rattle.nc_vet.proofs.Offered.{flat_map-append}
 use Rattle.nc_work.specs.Verdicts.{IsVerdictOn}
 use Rattle.nc_work.specs.declared.job.Job.{Job}
-use Rattle.nc_report.specs.declared.detail.Detail.{Detail}
-use Rattle.nc_report.specs.declared.detail.Detail.TheVariants.{Brief, Calls, Object}
-use Rattle.nc_lines.specs.Replies.{reply_line}
+use Rattle.nc_output.specs.declared.detail.Detail.{Detail}
+use Rattle.nc_output.specs.declared.detail.Detail.TheVariants.{Brief, Calls, Object}
+use Rattle.nc_output.specs.Verdicts.{with_line_end}
 use Rattle.nc_report.specs.Outside.{ListsOutside}
 use Rattle.nc_report.specs.Objects.{accepted_object}
 use Rattle.nc_report.specs.declared.labels.Label.{Label}
@@ -309,10 +309,10 @@ adds_none chunk d name out v e = record {
 
 -- and where the lines on its transfers that go outside come after its verdict
 pub adds_calls : (chunk : MarkedChunk) (name old mid new : List ℕ) (count : ℕ) (has : HasInstructions chunk.code count) → IsValid chunk
-    → mid ≡ old ++ said_of name (reply_line (accepted_words (length chunk.code) count))
+    → mid ≡ old ++ said_of name (with_line_end (accepted_words (length chunk.code) count))
     → AddsLines mid new (ListsOutside chunk.base has.pieces) → AddsAccepted old new Calls name chunk
 adds_calls chunk name old mid new count has v e a =
-    let verdict = said_of name (reply_line (accepted_words (length chunk.code) count)) in
+    let verdict = said_of name (with_line_end (accepted_words (length chunk.code) count)) in
     record {
       valid = v;
       count = count;
@@ -325,9 +325,9 @@ adds_calls chunk name old mid new count has v e a =
 
 -- and where its verdict is an object
 pub adds_object : (chunk : MarkedChunk) (d : Detail) (name old new : List ℕ) (count : ℕ) → HasInstructions chunk.code count → IsValid chunk
-    → d ≡ Object → new ≡ old ++ reply_line (accepted_object chunk.base name (length chunk.code) count) → AddsAccepted old new d name chunk
+    → d ≡ Object → new ≡ old ++ with_line_end (accepted_object chunk.base name (length chunk.code) count) → AddsAccepted old new d name chunk
 adds_object chunk d name old new count has v is e =
-    let object = reply_line (accepted_object chunk.base name (length chunk.code) count) in
+    let object = with_line_end (accepted_object chunk.base name (length chunk.code) count) in
     record {
       valid = v;
       count = count;

@@ -1,7 +1,7 @@
 -- Lines of details: none has an end inside, so each stands after its two spaces.
 use Rattle.std.specs.Prelude.{◌≢◌, ◌⊎◌, ℕ, List, [], ◌∷◌, ⊤}
 use Rattle.nc_vet.specs.declared.fault.VetFault.{VetFault}
-use Rattle.nc_report.specs.declared.detail.Detail.{Detail}
+use Rattle.nc_output.specs.declared.detail.Detail.{Detail}
 use Rattle.nc_report.specs.declared.labels.Label.{Label}
 use Rattle.nc_report.specs.Report.{AreDetails, AreFirstDetails}
 

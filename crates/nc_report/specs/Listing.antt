@@ -3,7 +3,7 @@ use Rattle.std.specs.Prelude.{◌≡◌, ℕ, ◌+◌, ◌-◌, ◌%◌, List, [
 use Rattle.std.specs.List.{flat_map}
 use Rattle.hex.specs.Hex.{encode_lower}
 use Rattle.nc_vet.specs.Chunk.{Piece, code_of, place, AreSpelled}
-use Rattle.nc_lines.specs.Replies.{address_digits}
+use Rattle.nc_output.specs.Verdicts.{address_digits}
 
 -- bytes, each after a space
 abbrev pub spaced : List ℕ → List ℕ

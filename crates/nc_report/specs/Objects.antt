@@ -4,9 +4,7 @@ use Rattle.std.specs.List.{flat_map}
 use Rattle.std.specs.Fmt.{decimal}
 use Rattle.hex.specs.Hex.{encode_lower}
 use Rattle.nc_vet.specs.declared.fault.VetFault.{VetFault}
-use Rattle.nc_vet.specs.declared.fault.VetFault.TheVariants.{BadBase, BadLength, OutOfRange, NotPermitted, Crosses, Bare, BadTarget}
-use Rattle.nc_vet.specs.declared.fault.VetFault.TheVariants.{OutOfMemory}
-use Rattle.nc_lines.specs.Replies.{address_digits}
+use Rattle.nc_output.specs.Verdicts.{address_digits, fault_name}
 use Rattle.nc_report.specs.declared.labels.Label.{Label}
 use Rattle.nc_report.specs.Labels.{label_at, offset_words}
 use Rattle.nc_report.specs.Advice.{words_about}
@@ -31,17 +29,6 @@ string_member name value = codes "," ++ (string_of name ++ (codes ":" ++ string_
 
 abbrev pub number_member : List ℕ → ℕ → List ℕ
 number_member name value = codes "," ++ (string_of name ++ (codes ":" ++ decimal value))
-
--- a fault's name
-abbrev pub fault_name : VetFault → List ℕ
-fault_name BadBase = codes "BadBase"
-fault_name BadLength = codes "BadLength"
-fault_name OutOfRange = codes "OutOfRange"
-fault_name (NotPermitted at) = codes "NotPermitted"
-fault_name (Crosses at) = codes "Crosses"
-fault_name (Bare at) = codes "Bare"
-fault_name (BadTarget at) = codes "BadTarget"
-fault_name OutOfMemory = codes "OutOfMemory"
 
 -- the member that names an address by a label, if it has one: the label's name and the offset
 abbrev pub symbol_member : Option Label → ℕ → List ℕ

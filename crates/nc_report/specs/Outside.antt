@@ -7,7 +7,7 @@ use Rattle.std.specs.Fmt.{decimal}
 use Rattle.nc_decode.specs.declared.instruction.Instr.{Instr}
 use Rattle.nc_decode.specs.Transfers.{is_direct, target}
 use Rattle.nc_vet.specs.Chunk.{Piece, place}
-use Rattle.nc_lines.specs.Replies.{address_digits}
+use Rattle.nc_output.specs.Verdicts.{address_digits}
 
 -- the address isn't one of the `len` addresses from the base on
 abbrev pub is_outside : ℕ → ℕ → ℕ → Bool

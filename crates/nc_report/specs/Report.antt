@@ -1,18 +1,17 @@
--- What is written of sources: a verdict, and of a refused one what its fault is and means.
+-- Reports on sources: a verdict, and for a refused source its fault and what that means.
 use Rattle.std.specs.Prelude.{◌≡◌, ◌≢◌, ℕ, ◌-◌, ◌≤◌, ◌⊎◌, Bool, true, false, List, [], ◌∷◌, ◌++◌, length, take, codes}
-use Rattle.std.specs.Prelude.{MatchOption, Option, Some, None}
+use Rattle.std.specs.Prelude.{MatchOption, Option}
 use Rattle.std.specs.List.{AllZip, flat_map, count_by}
 use Rattle.std.specs.Fmt.{decimal}
 use Rattle.std.specs.Io.KnownBytes.{Appends}
 use Rattle.nc_vet.specs.Chunk.{Piece, code_of, AreSpelled}
 use Rattle.nc_vet.specs.Faults.{HasFault}
 use Rattle.nc_vet.specs.declared.fault.VetFault.{VetFault}
-use Rattle.nc_vet.specs.declared.fault.VetFault.TheVariants.{NotPermitted, Crosses, Bare, BadTarget, OutOfMemory}
-use Rattle.nc_lines.specs.Replies.{reply_line, refused_reply, fault_words}
-use Rattle.nc_lines.specs.Vetting.{IsValidAt}
-use Rattle.nc_report.specs.declared.detail.Detail.{Detail}
-use Rattle.nc_report.specs.declared.detail.Detail.TheVariants.{Brief, Usual, Calls, Object}
-use Rattle.nc_report.specs.declared.detail.Detail.TheVariants as detail
+use Rattle.nc_vet.specs.declared.fault.VetFault.TheVariants.{BadTarget, OutOfMemory}
+use Rattle.nc_output.specs.Verdicts.{IsValidAt, with_line_end, refused_words, fault_words, place_of}
+use Rattle.nc_output.specs.declared.detail.Detail.{Detail}
+use Rattle.nc_output.specs.declared.detail.Detail.TheVariants.{Brief, Usual, Calls, Object}
+use Rattle.nc_output.specs.declared.detail.Detail.TheVariants as detail
 use Rattle.nc_report.specs.declared.labels.Label.{Label}
 use Rattle.nc_report.specs.declared.source.Source.{Source}
 use Rattle.nc_report.specs.Labels.{label_lines}
@@ -38,12 +37,12 @@ accepted_words bytes instructions =
 -- what is written of an accepted source
 abbrev pub accepted_text : Detail → ℕ → List ℕ → ℕ → ℕ → List ℕ
 accepted_text Brief base name bytes instructions = []
-accepted_text Object base name bytes instructions = reply_line (accepted_object base name bytes instructions)
-accepted_text _ base name bytes instructions = said_of name (reply_line (accepted_words bytes instructions))
+accepted_text Object base name bytes instructions = with_line_end (accepted_object base name bytes instructions)
+accepted_text _ base name bytes instructions = said_of name (with_line_end (accepted_words bytes instructions))
 
 -- a line of details, which begins with two spaces
 abbrev pub detail_line : List ℕ → List ℕ
-detail_line line = codes "  " ++ reply_line line
+detail_line line = codes "  " ++ with_line_end line
 
 -- the lines on an accepted source of these instructions: where they are asked for, those on its transfers that go outside
 abbrev pub AreCalls : Detail → ℕ → List Piece → List (List ℕ) → Type 0
@@ -59,14 +58,6 @@ pub record TellsAccepted (limit base : ℕ) (detail : Detail) (name code text : 
   pub lines : List (List ℕ)
   pub calls : AreCalls detail base pieces lines
   pub written : text ≡ accepted_text detail base name (length code) (length pieces) ++ flat_map detail_line lines
-
--- the address of a fault, if it has one
-abbrev pub place_of : VetFault → Option ℕ
-place_of (NotPermitted at) = Some at
-place_of (Crosses at) = Some at
-place_of (Bare at) = Some at
-place_of (BadTarget at) = Some at
-place_of _ = None
 
 -- the line on where a refused direct transfer goes; on other faults there is none
 abbrev pub AddsTarget : ℕ → ℕ → List ℕ → VetFault → List (List ℕ) → Type 0
@@ -123,9 +114,9 @@ AreFirstDetails limit base detail code labels fault lines =
 
 -- what is written of a source that has this fault, with these lines of details
 abbrev pub refused_text : Detail → ℕ → List ℕ → List ℕ → List Label → VetFault → List (List ℕ) → List ℕ
-refused_text Object base name code labels fault lines = reply_line (refused_object base name code labels fault (place_of fault))
+refused_text Object base name code labels fault lines = with_line_end (refused_object base name code labels fault (place_of fault))
 refused_text _ base name code labels fault lines =
-    said_of name (reply_line (refused_reply (fault_words fault))) ++ flat_map detail_line lines
+    said_of name (with_line_end (refused_words (fault_words fault))) ++ flat_map detail_line lines
 
 -- the code has a fault, and this is written of it, with details of which this holds
 pub record IsRefusedBy (limit base : ℕ) (detail : Detail) (Details : VetFault → List (List ℕ) → Type 0) (name code : List ℕ)

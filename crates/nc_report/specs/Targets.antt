@@ -2,7 +2,7 @@
 use Rattle.std.specs.Prelude.{◌≡◌, ℕ, ◌+◌, ◌<◌, ◌≤◌, ◌⊎◌, List, ◌∷◌, ◌++◌, length, codes, IsTrue, nat_le, nat_lt, if◌then◌else◌, Some}
 use Rattle.nc_decode.specs.declared.bundles.TheConstants.{START}
 use Rattle.nc_decode.specs.Transfers.{is_direct, is_indirect, target}
-use Rattle.nc_lines.specs.Replies.{address_digits}
+use Rattle.nc_output.specs.Verdicts.{address_digits}
 use Rattle.nc_vet.specs.Chunk.{Piece, code_of, place, AreSound}
 use Rattle.nc_report.specs.declared.words.TheConstants.{BEYOND_REGION, IN_ZONE, OUTSIDE_CODE, INSIDE, SECOND_HALF}
 

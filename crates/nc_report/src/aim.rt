@@ -12,7 +12,7 @@ use crate::spot::{Spot, spot_at};
 use crate::targets::why_outside;
 use crate::words::{INSIDE, SECOND_HALF};
 use nc_decode::decode;
-use nc_lines::push_address;
+use nc_output::push_address;
 use std::alloc::AllocError;
 
 /// The bytes of a mask.

@@ -1,7 +1,8 @@
 //! The lines on a fault: the name of its address, its bundle, where a refused transfer goes, and what the fault means.
 
 ghost use Rattle.std.specs.Prelude.{◌≡◌, ◌++◌, OnOk};
-ghost use Rattle.nc_report.specs.Report.{place_of, detail_line, AddsTarget, Explains};
+ghost use Rattle.nc_output.specs.Verdicts.{place_of};
+ghost use Rattle.nc_report.specs.Report.{detail_line, AddsTarget, Explains};
 ghost use Rattle.nc_report.specs.machinery.Found.{HasFaultPlace, IsRealTarget, AddsLines};
 
 use crate::advice::words_about;
@@ -11,21 +12,9 @@ use crate::naming::push_label;
 use crate::numbers::push_text;
 use crate::targets::push_target;
 use nc_decode::BUNDLE;
+use nc_output::place_of;
 use nc_vet::VetFault;
 use std::alloc::{AllocError, Global};
-
-/// The address of a fault, if it has one.
-pub(crate) fn place_of(fault: VetFault) -> Option<u32>
-    ensures { result ≡ place_of fault }
-{
-    match fault {
-        VetFault::NotPermitted { at } => Some(at),
-        VetFault::Crosses { at } => Some(at),
-        VetFault::Bare { at } => Some(at),
-        VetFault::BadTarget { at } => Some(at),
-        _ => None,
-    }
-}
 
 /// Adds a line of words.
 pub(crate) fn push_words(out: &mut Vec<u8>, words: &[u8]) -> Result<(), AllocError>

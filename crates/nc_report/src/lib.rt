@@ -20,7 +20,6 @@
 mod advice;
 mod aim;
 mod counting;
-mod detail;
 mod explaining;
 mod fault;
 mod further;
@@ -43,11 +42,9 @@ mod telling;
 mod totals;
 mod words;
 
-pub use detail::Detail;
 pub use fault::{ReportFault, SourceFault};
 pub use labels::{Label, Labels};
 pub use law::{law_of_details, law_of_readings};
-pub use nc_lines::Piped;
 pub use objects::push_file_object;
 pub use reporting::report;
 pub use source::{MOST_BYTES, Source, read_source};

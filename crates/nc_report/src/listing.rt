@@ -6,7 +6,7 @@ ghost use Rattle.nc_report.specs.machinery.Found.{AreWholeInstructions, ListsFro
 
 use crate::numbers::{push_bytes, push_text};
 use nc_decode::{BUNDLE, decode};
-use nc_lines::push_address;
+use nc_output::push_address;
 use std::alloc::{AllocError, Global};
 
 /// Adds the instructions at the front of these bytes, each with a bar after it, and gives how many bytes they have.

@@ -7,7 +7,7 @@ ghost use Rattle.nc_report.specs.Report.{detail_line};
 
 use crate::labels::{Label, Labels};
 use crate::numbers::push_text;
-use nc_lines::push_address;
+use nc_output::push_address;
 use std::alloc::{AllocError, Global};
 
 /// A byte of a name as text shows it: a control byte could end the line, or be a terminal's command.

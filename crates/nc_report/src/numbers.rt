@@ -1,10 +1,10 @@
 //! How texts, numbers and bytes are written.
 
-ghost use Rattle.std.specs.Prelude.{◌≡◌, ◌++◌, ◌∷◌, [], OnOk};
+ghost use Rattle.std.specs.Prelude.{◌≡◌, ◌++◌, OnOk};
 ghost use Rattle.std.specs.Fmt.{decimal};
-ghost use Rattle.hex.specs.Hex.{encode_lower};
 ghost use Rattle.nc_report.specs.Listing.{spaced};
 
+use nc_output::push_byte;
 use std::alloc::{AllocError, Global};
 
 /// Adds a text.
@@ -20,15 +20,6 @@ pub(crate) fn push_number(alloc: Global, out: &mut Vec<u8>, number: usize) -> Re
 {
     let digits = number.to_string(alloc)?;
     out.extend_from_slice(digits.as_bytes())
-}
-
-/// Adds the two digits of a byte.
-pub(crate) fn push_byte(out: &mut Vec<u8>, byte: u8) -> Result<(), AllocError>
-    ensures { OnOk result (out.new.items ≡ out.old.items ++ encode_lower (byte ∷ [])) }
-{
-    let mut digits = [0u8; 2];
-    hex::encode_to_slice([byte], &mut digits).unwrap();
-    out.extend_from_slice(&digits)
 }
 
 /// Adds bytes, each after a space.

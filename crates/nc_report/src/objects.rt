@@ -3,19 +3,17 @@
 ghost use Rattle.std.specs.Prelude.{◌≡◌, ◌≢◌, ◌++◌, codes, IfOk, OnOk};
 ghost use Rattle.std.specs.List.{flat_map};
 ghost use Rattle.nc_vet.specs.declared.fault.VetFault.TheVariants as vet;
-ghost use Rattle.nc_lines.specs.Replies.{reply_line, address_digits};
-ghost use Rattle.nc_report.specs.Report.{place_of};
-ghost use Rattle.nc_report.specs.Objects.{escaped, string_of, file_member, string_member, number_member, fault_name};
+ghost use Rattle.nc_output.specs.Verdicts.{with_line_end, address_digits, place_of};
+ghost use Rattle.nc_report.specs.Objects.{escaped, string_of, file_member, string_member, number_member};
 ghost use Rattle.nc_report.specs.Labels.{label_at};
 ghost use Rattle.nc_report.specs.Objects.{symbol_member, place_members, accepted_object, refused_object, file_object};
 ghost use Rattle.nc_report.specs.machinery.Found.{HasFaultPlace};
 
 use crate::advice::words_about;
-use crate::explaining::place_of;
 use crate::labels::Labels;
 use crate::naming::symbol_words;
-use crate::numbers::{push_byte, push_number, push_text};
-use nc_lines::push_address;
+use crate::numbers::{push_number, push_text};
+use nc_output::{fault_name, place_of, push_address, push_byte};
 use nc_vet::VetFault;
 use std::alloc::{AllocError, Global};
 
@@ -101,22 +99,6 @@ fn push_end(out: &mut Vec<u8>) -> Result<(), AllocError>
     push_text(out, b"}\n")
 }
 
-/// A fault's name. Lack of memory is no verdict.
-fn fault_name(fault: VetFault) -> Result<&'static [u8], AllocError>
-    ensures { IfOk result (λ name. (fault ≢ vet.OutOfMemory) × (name.now ≡ fault_name fault)) }
-{
-    match fault {
-        VetFault::BadBase => Ok(b"BadBase"),
-        VetFault::BadLength => Ok(b"BadLength"),
-        VetFault::OutOfRange => Ok(b"OutOfRange"),
-        VetFault::NotPermitted { .. } => Ok(b"NotPermitted"),
-        VetFault::Crosses { .. } => Ok(b"Crosses"),
-        VetFault::Bare { .. } => Ok(b"Bare"),
-        VetFault::BadTarget { .. } => Ok(b"BadTarget"),
-        VetFault::OutOfMemory => Err(AllocError),
-    }
-}
-
 /// Adds the member that names an address, if it has a label.
 fn push_symbol(alloc: Global, out: &mut Vec<u8>, labels: &Labels, at: u32) -> Result<(), AllocError>
     ensures { OnOk result (out.new.items ≡ out.old.items ++ symbol_member (label_at labels.now at) at) }
@@ -177,7 +159,7 @@ pub(crate) fn push_accepted_object(
     bytes: usize,
     instructions: usize,
 ) -> Result<(), AllocError>
-    ensures { OnOk result (out.new.items ≡ out.old.items ++ reply_line (accepted_object base name.now bytes instructions)) }
+    ensures { OnOk result (out.new.items ≡ out.old.items ++ with_line_end (accepted_object base name.now bytes instructions)) }
 {
     push_head(alloc, out, name, base, b"ok")?;
     push_count(alloc, out, b"bytes", bytes)?;
@@ -197,7 +179,7 @@ pub(crate) fn push_refused_object(
 ) -> Result<(), AllocError>
     requires { HasFaultPlace base code.now fault }
     ensures { OnOk result ((fault ≢ vet.OutOfMemory) × (out.new.items ≡ out.old.items
-        ++ reply_line (refused_object base name.now code.now labels.now fault (place_of fault)))) }
+        ++ with_line_end (refused_object base name.now code.now labels.now fault (place_of fault)))) }
 {
     push_head(alloc, out, name, base, b"refused")?;
     push_member(out, b"fault", fault_name(fault)?)?;
@@ -213,7 +195,7 @@ pub fn push_file_object(
     fault: &[u8],
     meaning: &[u8],
 ) -> Result<(), AllocError>
-    ensures { OnOk result (out.new.items ≡ out.old.items ++ reply_line (file_object name.now fault.now meaning.now)) }
+    ensures { OnOk result (out.new.items ≡ out.old.items ++ with_line_end (file_object name.now fault.now meaning.now)) }
 {
     push_file(out, name)?;
     push_member(out, b"verdict", b"refused")?;

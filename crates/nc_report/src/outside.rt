@@ -10,7 +10,7 @@ ghost use Rattle.nc_report.specs.machinery.Runs.{IsSent, BeginsWithRun, AddsCoun
 
 use crate::numbers::{push_number, push_text};
 use nc_decode::{Instr, decode};
-use nc_lines::push_address;
+use nc_output::push_address;
 use std::alloc::{AllocError, Global};
 
 /// Adds the address outside of the code that an instruction at this address transfers to, if it is a direct transfer to one.

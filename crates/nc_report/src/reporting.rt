@@ -6,11 +6,11 @@ ghost use Rattle.nc_work.specs.Verdicts.{AreWorkers};
 ghost use Rattle.nc_report.specs.Report.{HasReported, HasBegunReport};
 ghost use Rattle.nc_report.specs.machinery.Found.{IsFinding, values_in, title_of, job_of, IsOfWriting, HasToldAll, HasToldFirst};
 
-use crate::detail::Detail;
 use crate::fault::ReportFault;
 use crate::source::{Source, Title};
 use crate::telling::tell;
 use nc_decode::{BUNDLE, START, is_region_size};
+use nc_output::Detail;
 use nc_work::{Job, Open, Verdict, vet_all};
 use std::alloc::{AllocError, Global};
 use std::io::Write;

@@ -9,7 +9,7 @@ ghost use Rattle.nc_report.specs.machinery.Aims.{IsReadTo, StepsFrom, CoversPlac
 use crate::numbers::push_text;
 use crate::words::{BEYOND_REGION, IN_ZONE, INSIDE, OUTSIDE_CODE, SECOND_HALF};
 use nc_decode::{BUNDLE, START, decode};
-use nc_lines::push_address;
+use nc_output::push_address;
 use std::alloc::AllocError;
 
 /// The bytes of a mask.

@@ -4,14 +4,13 @@ ghost use Rattle.std.specs.Prelude.{◌≡◌, ◌≢◌, ◌++◌, ℕ, List, I
 ghost use Rattle.std.specs.Io.KnownBytes.{Appends};
 ghost use Rattle.nc_vet.specs.Faults.{HasFault};
 ghost use Rattle.nc_vet.specs.declared.fault.VetFault.TheVariants.{OutOfMemory};
-ghost use Rattle.nc_lines.specs.Replies.{reply_line, refused_reply, fault_words};
+ghost use Rattle.nc_output.specs.Verdicts.{with_line_end, refused_words, fault_words};
 ghost use Rattle.nc_report.specs.Report.{said_of, accepted_words, TellsAccepted, TellsRefused};
 ghost use Rattle.nc_report.specs.machinery.Found.{IsFinding, code_of_verdict, HasFaultPlace, IsRealTarget, AddsAccepted, AddsRefused, TellsOne};
 ghost use Rattle.nc_report.specs.machinery.Found.{IsOfWriting, IsCutOff, WritesLines, CutsLines, AreMore, AreSomeMore};
 
 use crate::counting::count_instructions;
-use crate::detail::Detail;
-use crate::explaining::{place_of, push_explained};
+use crate::explaining::push_explained;
 use crate::fault::ReportFault;
 use crate::labels::Labels;
 use crate::numbers::{push_number, push_text};
@@ -19,7 +18,7 @@ use crate::objects::{push_accepted_object, push_refused_object};
 use crate::others::write_others;
 use crate::outside::push_outside;
 use crate::source::Title;
-use nc_lines::{push_fault, write_out};
+use nc_output::{Detail, place_of, push_fault, write_out};
 use nc_vet::{VetFault, Vetted};
 use nc_work::Verdict;
 use std::alloc::{AllocError, Global};
@@ -33,7 +32,7 @@ fn push_ok(
     bytes: usize,
     instructions: usize,
 ) -> Result<(), AllocError>
-    ensures { OnOk result (out.new.items ≡ out.old.items ++ said_of name.now (reply_line (accepted_words bytes instructions))) }
+    ensures { OnOk result (out.new.items ≡ out.old.items ++ said_of name.now (with_line_end (accepted_words bytes instructions))) }
 {
     push_text(out, name)?;
     push_text(out, b": ok, ")?;
@@ -111,7 +110,7 @@ fn tell_accepted<W: Write>(
 /// Adds the verdict on a source that is refused. Lack of memory is no verdict.
 fn push_refusal(out: &mut Vec<u8>, name: &[u8], fault: VetFault) -> Result<(), AllocError>
     ensures { OnOk result ((fault ≢ OutOfMemory)
-        × (out.new.items ≡ out.old.items ++ said_of name.now (reply_line (refused_reply (fault_words fault))))) }
+        × (out.new.items ≡ out.old.items ++ said_of name.now (with_line_end (refused_words (fault_words fault))))) }
 {
     push_text(out, name)?;
     push_text(out, b": ")?;

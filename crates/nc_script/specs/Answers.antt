@@ -13,8 +13,8 @@ use Rattle.nc_script.specs.Requests.{Request, Create, Modify, Delete, CheckIn, L
 use Rattle.nc_script.specs.Script.{Script, Live, Staying, Left, script_text, IsOccupied, IsPutBetween}
 use Rattle.nc_script.specs.Patching.{IsLawfulPatch, IsRefusedPatch, patched_at}
 use Rattle.nc_script.specs.Reuse.{ListsLive, retired_at, IsRefusedDeletion, IsThere, IsFreeingNumber, freed_by, kept_by, AllStay}
-use Rattle.nc_lines.specs.Replies.{reply_line, refused_reply, fault_words}
-use Rattle.nc_lines.specs.Vetting.{IsValidAt}
+use Rattle.nc_output.specs.Verdicts.{with_line_end, refused_words, fault_words}
+use Rattle.nc_output.specs.Verdicts.{IsValidAt}
 use Rattle.nc_script.specs.Queries.{reply_to}
 use Rattle.nc_script.specs.Replies.{walk_reply, patch_words, deletion_words}
 use Rattle.nc_script.specs.Replies.{stamp_reply, freed_reply}
@@ -23,7 +23,7 @@ use Rattle.nc_script.specs.Replies.{stamp_reply, freed_reply}
 pub record IsAdded (base : ℕ) (bytes : List ℕ) (old : Script) (reply : List ℕ) (new : Script) : Type 0 where
   pub valid : IsValidAt base old.limit bytes
   pub free : ¬ IsOccupied base (length bytes) old.chunks
-  pub reply_is : reply ≡ reply_line (codes "ok")
+  pub reply_is : reply ≡ with_line_end (codes "ok")
   pub others : new ≡ record old { chunks = new.chunks }
   pub inserted : IsPutBetween (record { base = base; state = Live bytes }) old.chunks new.chunks
 
@@ -32,14 +32,14 @@ pub record IsFaulted (base : ℕ) (bytes : List ℕ) (old : Script) (reply : Lis
   pub fault : VetFault
   pub has : HasFault base old.limit bytes fault
   pub known : fault ≢ OutOfMemory
-  pub reply_is : reply ≡ reply_line (refused_reply (fault_words fault))
+  pub reply_is : reply ≡ with_line_end (refused_words (fault_words fault))
   pub same : new ≡ old
 
 -- a valid chunk that meets another is refused
 pub record IsCrowdedOut (base : ℕ) (bytes : List ℕ) (old : Script) (reply : List ℕ) (new : Script) : Type 0 where
   pub valid : IsValidAt base old.limit bytes
   pub taken : IsOccupied base (length bytes) old.chunks
-  pub reply_is : reply ≡ reply_line (refused_reply (codes "Occupied"))
+  pub reply_is : reply ≡ with_line_end (refused_words (codes "Occupied"))
   pub same : new ≡ old
 
 -- a walk from a bundle start of the region shows its trace
@@ -48,66 +48,66 @@ pub record IsWalked (start : ℕ) (choices : List ℕ) (old : Script) (reply : L
   pub places : List ℕ
   pub end : End
   pub trace : IsTrace (script_text old) start choices places end
-  pub reply_is : reply ≡ reply_line (walk_reply places end)
+  pub reply_is : reply ≡ with_line_end (walk_reply places end)
   pub same : new ≡ old
 
 -- a walk from any other place is refused
 pub record IsNoStart (start : ℕ) (old : Script) (reply : List ℕ) (new : Script) : Type 0 where
   pub begins_not : ¬ IsWalkStart (script_text old) start
-  pub reply_is : reply ≡ reply_line (refused_reply (codes "NotBundle"))
+  pub reply_is : reply ≡ with_line_end (refused_words (codes "NotBundle"))
   pub same : new ≡ old
 
 -- a lawful patch is made: the new bytes stand in the chunk
 pub record IsPatched (at : ℕ) (bytes : List ℕ) (old : Script) (reply : List ℕ) (new : Script) : Type 0 where
   pub lawful : IsLawfulPatch old at bytes
-  pub reply_is : reply ≡ reply_line (codes "ok")
+  pub reply_is : reply ≡ with_line_end (codes "ok")
   pub new_is : new ≡ record old { chunks = map (patched_at at bytes) old.chunks }
 
 -- any other patch is refused
 pub record IsNotPatched (at : ℕ) (bytes : List ℕ) (old : Script) (reply : List ℕ) (new : Script) : Type 0 where
   pub fault : ModifyFault
   pub due : IsRefusedPatch old at bytes fault
-  pub reply_is : reply ≡ reply_line (refused_reply (patch_words fault))
+  pub reply_is : reply ≡ with_line_end (refused_words (patch_words fault))
   pub same : new ≡ old
 
 -- a live chunk is deleted: it is retired, and its stamp is the next generation
 pub record IsRetired (base : ℕ) (old : Script) (reply : List ℕ) (new : Script) : Type 0 where
   pub live : ListsLive old.chunks base
   pub room : old.generation < 2 ^ 62
-  pub reply_is : reply ≡ reply_line (stamp_reply (old.generation + 1))
+  pub reply_is : reply ≡ with_line_end (stamp_reply (old.generation + 1))
   pub new_is : new ≡ record old { chunks = map (retired_at base (old.generation + 1)) old.chunks; generation = old.generation + 1 }
 
 -- any other deletion is refused
 pub record IsNotDeleted (base : ℕ) (old : Script) (reply : List ℕ) (new : Script) : Type 0 where
   pub fault : DeleteFault
   pub due : IsRefusedDeletion old base fault
-  pub reply_is : reply ≡ reply_line (refused_reply (deletion_words fault))
+  pub reply_is : reply ≡ with_line_end (refused_words (deletion_words fault))
   pub same : new ≡ old
 
 -- a seat that is there checks in: its number is the generation
 pub record IsCheckedIn (seat : ℕ) (old : Script) (reply : List ℕ) (new : Script) : Type 0 where
   pub there : IsThere old.seats seat
-  pub reply_is : reply ≡ reply_line (codes "ok")
+  pub reply_is : reply ≡ with_line_end (codes "ok")
   pub new_is : new ≡ record old { seats = slice_set old.seats seat (Staying old.generation) }
 
 -- a seat that is there leaves, and keeps its number
 pub record HasLeft (seat : ℕ) (old : Script) (reply : List ℕ) (new : Script) : Type 0 where
   pub number : ℕ
   pub there : slice_get old.seats seat ≡ Some (Staying number)
-  pub reply_is : reply ≡ reply_line (codes "ok")
+  pub reply_is : reply ≡ with_line_end (codes "ok")
   pub new_is : new ≡ record old { seats = slice_set old.seats seat (Left number) }
 
 -- there is no such seat, or it has left
 pub record IsNoSeat (seat : ℕ) (old : Script) (reply : List ℕ) (new : Script) : Type 0 where
   pub none : ¬ IsThere old.seats seat
-  pub reply_is : reply ≡ reply_line (refused_reply (codes "NoSeat"))
+  pub reply_is : reply ≡ with_line_end (refused_words (codes "NoSeat"))
   pub same : new ≡ old
 
 -- exactly the retired chunks with a stamp of at most the number are freed
 pub record IsFreed (old : Script) (reply : List ℕ) (new : Script) : Type 0 where
   pub a : ℕ
   pub number : IsFreeingNumber old a
-  pub reply_is : reply ≡ reply_line (freed_reply (length (freed_by a old.chunks)))
+  pub reply_is : reply ≡ with_line_end (freed_reply (length (freed_by a old.chunks)))
   pub new_is : new ≡ record old { chunks = kept_by a old.chunks; freed = a }
 
 -- From old, this is an answer to the request, and new is the state after it.
@@ -120,7 +120,7 @@ Serves (CheckIn seat) old reply new = IsCheckedIn seat old reply new ⊎ IsNoSea
 Serves (Leave seat) old reply new = HasLeft seat old reply new ⊎ IsNoSeat seat old reply new
 Serves Reclaim old reply new = IsFreed old reply new
 Serves (Walk start choices) old reply new = IsWalked start choices old reply new ⊎ IsNoStart start old reply new
-Serves (Ask query) old reply new = (reply ≡ reply_line (reply_to query old)) × (new ≡ old)
+Serves (Ask query) old reply new = (reply ≡ with_line_end (reply_to query old)) × (new ≡ old)
 
 -- The same for a line. A line that asks for nothing is a bad line, and nothing changes.
 abbrev pub ServesLine : Script → List ℕ → List ℕ → Script → Type 0

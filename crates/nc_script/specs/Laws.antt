@@ -3,7 +3,7 @@ use Rattle.std.specs.Prelude.{◌≡◌, ◌≢◌, ◌++◌, ℕ, ◌≤◌, Li
 use Rattle.std.specs.Io.KnownBytes.{Appends}
 use Rattle.nc_lines.specs.Answering.{AnswersLines, IsBegun}
 use Rattle.nc_script.specs.Answers.{AnswersOnly, Serves, ServesLine}
-use Rattle.nc_lines.specs.Replies.{reply_line}
+use Rattle.nc_output.specs.Verdicts.{with_line_end}
 use Rattle.nc_script.specs.Replies.{freed_reply}
 use Rattle.nc_script.specs.Requests.{Leave, Reclaim, request_in}
 use Rattle.nc_script.specs.Reuse.{number_of, IsFreeingNumber, AllStay}
@@ -50,5 +50,5 @@ one_left = record {
 -- chunk or not
 abbrev pub LeavesOpen : Type 0
 LeavesOpen =
-    ((new : Script) × Serves Reclaim one_left (reply_line (freed_reply 0)) new)
-    × ((new : Script) × Serves Reclaim one_left (reply_line (freed_reply 1)) new)
+    ((new : Script) × Serves Reclaim one_left (with_line_end (freed_reply 0)) new)
+    × ((new : Script) × Serves Reclaim one_left (with_line_end (freed_reply 1)) new)

@@ -1,11 +1,10 @@
 -- A patch in a script: some instructions of a live chunk replaced by others of the same lengths.
-use Rattle.std.specs.Prelude.{◌≡◌, ℕ, ◌+◌, ◌-◌, ◌<◌, ◌≤◌, List, ◌++◌, length, Contains, if◌then◌else◌}
+use Rattle.std.specs.Prelude.{ℕ, ◌+◌, ◌-◌, ◌<◌, ◌≤◌, List, length, Contains, if◌then◌else◌}
 use Rattle.nc_decode.specs.declared.instruction.Mark.{Mark}
-use Rattle.nc_vet.specs.Chunk.{Piece, place, IsValid, IsTarget}
+use Rattle.nc_vet.specs.Chunk.{IsValid}
 use Rattle.nc_text.specs.MarkedText.{with_span}
-use Rattle.nc_region.specs.Patch.{IsPatchSpan, AreBytesOf, AreInstructions, lengths, SparesPairs, GoWell}
+use Rattle.nc_region.specs.Patch.{IsPatchSpan, IsRunOf, LeavesPairs, KeepsTargets, IsRefusalBy}
 use Rattle.nc_region.specs.declared.fault.ModifyFault.{ModifyFault}
-use Rattle.nc_region.specs.declared.fault.ModifyFault.TheVariants.{BadSpan, NotLive, NotPermitted, Boundaries, PairTouched, BadTarget}
 use Rattle.nc_script.specs.Script.{Script, ScriptChunk, ScriptChunkState, Live, Retired, covers}
 
 -- a live chunk of the list, of this base and with these bytes, has the place
@@ -18,18 +17,6 @@ pub record HoldsPlace (chunks : List ScriptChunk) (at base : ℕ) (bytes : List 
 abbrev pub LiesInLive : List ScriptChunk → ℕ → Type 0
 LiesInLive chunks at = (base : ℕ) × (bytes : List ℕ) × HoldsPlace chunks at base bytes
 
--- The new bytes are instructions, and from the address on stand as many of these, of which the first is at the base; each
--- is as long as the new one in its place.
-pub record IsRunOf (pieces : List Piece) (base at : ℕ) (new : List ℕ) : Type 0 where
-  pub before : List Piece
-  pub old : List Piece
-  pub after : List Piece
-  pub parts : pieces ≡ before ++ (old ++ after)
-  pub here : base + place before ≡ at
-  pub news : List Piece
-  pub bytes : AreBytesOf new news
-  pub as_long : lengths old ≡ lengths news
-
 -- the new bytes take the place of whole instructions of a live chunk
 pub record Replaces (script : Script) (at : ℕ) (new : List ℕ) : Type 0 where
   pub base : ℕ
@@ -39,36 +26,21 @@ pub record Replaces (script : Script) (at : ℕ) (new : List ℕ) : Type 0 where
   pub valid : IsValid (record { base = base; limit = script.limit; code = bytes; marks = marks })
   pub run : IsRunOf valid.pieces base at new
 
--- pairs are left alone
-abbrev pub KeepsPairs : (script : Script) (at : ℕ) (new : List ℕ) → Replaces script at new → Type 0
-KeepsPairs script at new r = SparesPairs (r.run.old ++ r.run.after) r.run.news
-
--- the direct transfers that come go where those of a valid chunk may
-abbrev pub GoesToTargets : (script : Script) (at : ℕ) (new : List ℕ) → Replaces script at new → Type 0
-GoesToTargets script at new r = GoWell (IsTarget r.base script.limit r.valid.pieces) at r.run.news
-
 -- the new bytes replace instructions, and leave pairs alone
 abbrev pub ReplacesBesidePairs : Script → ℕ → List ℕ → Type 0
-ReplacesBesidePairs script at new = (r : Replaces script at new) × KeepsPairs script at new r
+ReplacesBesidePairs script at new = (r : Replaces script at new) × LeavesPairs r.run
 
 -- A lawful patch of a script's chunk: the new bytes lie in one bundle and take the place of whole instructions of a
 -- live chunk, each as long. Pairs are left alone, and direct transfers go where those of a valid chunk may.
 abbrev pub IsLawfulPatch : Script → ℕ → List ℕ → Type 0
 IsLawfulPatch script at new =
-    IsPatchSpan at (length new) × ((r : Replaces script at new) × KeepsPairs script at new r × GoesToTargets script at new r)
+    IsPatchSpan at (length new) × ((r : Replaces script at new) × LeavesPairs r.run × KeepsTargets script.limit r.run)
 
--- The first of these that doesn't hold is the refusal: the bytes lie in one bundle; that is part of a live chunk; they
--- are whole instructions; they take the place of instructions of the chunk; they leave pairs alone; their targets are good.
+-- the fault by which a patch of a script's chunk is refused
 abbrev pub IsRefusedPatch : Script → ℕ → List ℕ → ModifyFault → Type 0
-IsRefusedPatch script at new BadSpan = ¬ IsPatchSpan at (length new)
-IsRefusedPatch script at new NotLive = IsPatchSpan at (length new) × ¬ LiesInLive script.chunks at
-IsRefusedPatch script at new NotPermitted = IsPatchSpan at (length new) × LiesInLive script.chunks at × ¬ AreInstructions new
-IsRefusedPatch script at new Boundaries =
-    IsPatchSpan at (length new) × LiesInLive script.chunks at × AreInstructions new × ¬ Replaces script at new
-IsRefusedPatch script at new PairTouched =
-    IsPatchSpan at (length new) × Replaces script at new × ¬ ReplacesBesidePairs script at new
-IsRefusedPatch script at new BadTarget =
-    IsPatchSpan at (length new) × ReplacesBesidePairs script at new × ¬ IsLawfulPatch script at new
+IsRefusedPatch script at new fault =
+    IsRefusalBy (LiesInLive script.chunks at) (Replaces script at new) (ReplacesBesidePairs script at new) (IsLawfulPatch script at new)
+    at new fault
 
 -- a live chunk with these bytes from this place of it on
 abbrev pub patched_state : ℕ → List ℕ → ScriptChunkState → ScriptChunkState

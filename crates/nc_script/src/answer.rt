@@ -5,22 +5,13 @@ ghost use Rattle.std.specs.Fmt.{decimal};
 ghost use Rattle.hex.specs.Hex.{encode_lower};
 ghost use Rattle.nc_text.specs.Places.{limit_of};
 ghost use Rattle.nc_script.specs.machinery.Session.{bytes_at, script_chunk};
-ghost use Rattle.nc_lines.specs.Replies.{reply_line, refused_reply};
+ghost use Rattle.nc_output.specs.Verdicts.{with_line_end, refused_words};
 ghost use Rattle.nc_script.specs.Replies.{places_words, end_word, walk_reply};
 ghost use Rattle.nc_script.specs.Replies.{chunk_words, patch_words, deletion_words, stamp_reply, freed_reply};
 
-use nc_lines::push_address;
+use nc_output::{push_address, push_byte};
 use nc_region::{Chunk, ChunkState, CreateFault, DeleteFault, End, ModifyFault, Region, Trace};
 use std::alloc::{AllocError, Global};
-
-/// Adds the two digits of a byte.
-pub(crate) fn push_byte(out: &mut Vec<u8>, byte: u8) -> Result<(), AllocError>
-    ensures { OnOk result (out.new.items ≡ out.old.items ++ encode_lower (byte ∷ [])) }
-{
-    let mut digits = [0u8; 2];
-    hex::encode_to_slice([byte], &mut digits).unwrap();
-    out.extend_from_slice(&digits)
-}
 
 /// Adds a decimal number.
 pub(crate) fn push_number(alloc: Global, out: &mut Vec<u8>, number: u64) -> Result<(), AllocError>
@@ -44,7 +35,7 @@ pub(crate) fn push_places(out: &mut Vec<u8>, places: &[u32]) -> Result<(), Alloc
 /// Adds the answer to a creation that is refused, where it isn't memory that was missing.
 pub(crate) fn push_create_fault(out: &mut Vec<u8>, fault: CreateFault) -> Result<(), AllocError>
     ensures { OnOk result ((fault ≡ CreateFault.Occupied)
-        × (out.new.items ≡ out.old.items ++ reply_line (refused_reply (codes "Occupied")))) }
+        × (out.new.items ≡ out.old.items ++ with_line_end (refused_words (codes "Occupied")))) }
 {
     match fault {
         CreateFault::Occupied => out.extend_from_slice(b"refused Occupied\n"),
@@ -56,7 +47,7 @@ pub(crate) fn push_create_fault(out: &mut Vec<u8>, fault: CreateFault) -> Result
 
 /// Adds the answer to a patch that is refused.
 pub(crate) fn push_patch_fault(out: &mut Vec<u8>, fault: ModifyFault) -> Result<(), AllocError>
-    ensures { OnOk result (out.new.items ≡ out.old.items ++ reply_line (refused_reply (patch_words fault))) }
+    ensures { OnOk result (out.new.items ≡ out.old.items ++ with_line_end (refused_words (patch_words fault))) }
 {
     match fault {
         ModifyFault::BadSpan => out.extend_from_slice(b"refused BadSpan\n"),
@@ -70,7 +61,7 @@ pub(crate) fn push_patch_fault(out: &mut Vec<u8>, fault: ModifyFault) -> Result<
 
 /// Adds the answer to a deletion that is refused.
 pub(crate) fn push_delete_fault(out: &mut Vec<u8>, fault: DeleteFault) -> Result<(), AllocError>
-    ensures { OnOk result (out.new.items ≡ out.old.items ++ reply_line (refused_reply (deletion_words fault))) }
+    ensures { OnOk result (out.new.items ≡ out.old.items ++ with_line_end (refused_words (deletion_words fault))) }
 {
     match fault {
         DeleteFault::NoChunk => out.extend_from_slice(b"refused NoChunk\n"),
@@ -80,7 +71,7 @@ pub(crate) fn push_delete_fault(out: &mut Vec<u8>, fault: DeleteFault) -> Result
 
 /// Adds the stamp of a chunk that was deleted.
 pub(crate) fn push_stamp(alloc: Global, out: &mut Vec<u8>, stamp: u64) -> Result<(), AllocError>
-    ensures { OnOk result (out.new.items ≡ out.old.items ++ reply_line (stamp_reply stamp)) }
+    ensures { OnOk result (out.new.items ≡ out.old.items ++ with_line_end (stamp_reply stamp)) }
 {
     out.extend_from_slice(b"stamp ")?;
     push_number(alloc, out, stamp)?;
@@ -90,7 +81,7 @@ pub(crate) fn push_stamp(alloc: Global, out: &mut Vec<u8>, stamp: u64) -> Result
 
 /// Adds how many chunks were freed.
 pub(crate) fn push_freed(alloc: Global, out: &mut Vec<u8>, count: u32) -> Result<(), AllocError>
-    ensures { OnOk result (out.new.items ≡ out.old.items ++ reply_line (freed_reply count)) }
+    ensures { OnOk result (out.new.items ≡ out.old.items ++ with_line_end (freed_reply count)) }
 {
     out.extend_from_slice(b"freed ")?;
     push_number(alloc, out, u64::from(count))?;
@@ -112,7 +103,7 @@ fn push_end(out: &mut Vec<u8>, end: End) -> Result<(), AllocError>
 
 /// Adds the answer to a walk.
 pub(crate) fn push_trace(out: &mut Vec<u8>, trace: &Trace) -> Result<(), AllocError>
-    ensures { OnOk result (out.new.items ≡ out.old.items ++ reply_line (walk_reply trace.now.places.items trace.now.end)) }
+    ensures { OnOk result (out.new.items ≡ out.old.items ++ with_line_end (walk_reply trace.now.places.items trace.now.end)) }
 {
     out.extend_from_slice(b"walk")?;
     push_places(out, &trace.places)?;

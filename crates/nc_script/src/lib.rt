@@ -14,5 +14,4 @@ mod seats;
 mod session;
 mod words;
 
-pub use nc_lines::{Piped, ReplayFault, Responder, answer_all, vet_lines};
 pub use replay::{law_of_answers, run};

@@ -2,7 +2,7 @@
 -- spans. The other files are private.
 pub use Rattle.nc_text.proofs.Closing.{executes, safe_if_executes, leads_of, executes_stop, no_step_from_stop, Borrows}
 pub use Rattle.nc_text.proofs.Closing.{step_borrowed, closed_by_parts, closed_with_stops}
-pub use Rattle.nc_text.proofs.Confined.{IsKnown, safe_if_known, start_is_marked, confined_if_closed}
+pub use Rattle.nc_text.proofs.Confined.{IsKnown, safe_if_known, plain_is_marked, start_is_marked, confined_if_closed}
 pub use Rattle.nc_text.proofs.Fetch.{length_at, stop_at}
 pub use Rattle.nc_text.proofs.Fresh.{marked_within, new_is_text, unused_closed}
 pub use Rattle.nc_text.proofs.SpanElements.{length-with_span, is_with_span, get_or-with_span_in, get_or-with_span_below, get_or-with_span_above}

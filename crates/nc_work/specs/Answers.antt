@@ -1,6 +1,5 @@
--- Machinery: answers on jobs, and the places where they are put. No public contract cites it.
+-- Machinery, cited by no public contract: the answers on jobs, and their places.
 use Rattle.std.specs.Prelude.{◌≡◌, ℕ, List, All, slice_get, slice_index_or, Option, Some, None, Result, Ok, Err, ⊤}
-use Rattle.std.specs.Global.{Vec}
 use Rattle.nc_vet.specs.declared.marks.Marks.{Marks}
 use Rattle.nc_vet.specs.Listed.{listed}
 use Rattle.nc_vet.specs.declared.fault.VetFault.{VetFault}

@@ -1,27 +1,12 @@
 -- Lists of puts: one more byte, and how many there are.
 use Rattle.std.proofs.Common.{◌≡◌, ℕ, suc, ◌+◌, ◌<◌, ◌≤◌, Bool, true, false, cond, List, [], ◌∷◌, ◌++◌, length, get_or, take, drop, refl, ap}
-use Rattle.std.proofs.Common.{arith, sym, subst, ◌∙◌, add-zero}
+use Rattle.std.proofs.Common.{arith, sym, subst, ◌∙◌}
 use Rattle.std.specs.Prelude.{not}
 use Rattle.std.proofs.lemmas.List.{append-nil, take_more, length-take-le, take-append-drop, length-append}
 use Rattle.nc_region.specs.declared.acts.Act.{Act}
 use Rattle.nc_region.specs.declared.acts.Act.TheVariants.{Put}
+use Rattle.nc_region.proofs.Offered.{puts_append}
 use Rattle.nc_region.specs.Acts.{puts_where}
-
--- an act before a list that grows
-one_more : (b : Bool) (y : Act) (p q r : List Act) → p ≡ q ++ r → cond b (y ∷ p) p ≡ cond b (y ∷ q) q ++ r
-one_more true y p q r e = ap (λ (z : List Act). y ∷ z) e
-one_more false y p q r e = e
-
--- the puts of bytes and of those after them
-pub puts_append : (chosen : ℕ → Bool) (at : ℕ) (front back : List ℕ)
-    → puts_where chosen at (front ++ back) ≡ puts_where chosen at front ++ puts_where chosen (at + length front) back
-puts_append chosen at [] back = rw add-zero refl
-puts_append chosen at (x ∷ rest) back =
-    let e : at + 1 + length rest ≡ at + suc (length rest) = omega arith in
-    one_more (chosen at) (Put at x) (puts_where chosen (at + 1) (rest ++ back)) (puts_where chosen (at + 1) rest)
-    (puts_where chosen (at + suc (length rest)) back)
-    (subst (λ (n : ℕ). puts_where chosen (at + 1) (rest ++ back) ≡ puts_where chosen (at + 1) rest ++ puts_where chosen n back) e
-    (puts_append chosen (at + 1) rest back))
 
 -- the puts of one more byte of some
 pub puts_more : (chosen : ℕ → Bool) (at : ℕ) (bytes : List ℕ) (i : ℕ) → i < length bytes

@@ -8,7 +8,7 @@ use Rattle.nc_decode.specs.Bundles.{IsBundleStart}
 use Rattle.nc_text.specs.Machine.{State}
 use Rattle.nc_text.specs.Marks.{IsMarked, IsClosed, mark_at, Admits}
 use Rattle.nc_text.specs.MarkedText.{MarkedText, unused_mark, unused_text, StaysOrPlain, KeepsMarks}
-use Rattle.nc_text.proofs.Offered.{Borrows, closed_by_parts, length-with_span, marked_within}
+use Rattle.nc_text.proofs.Offered.{Borrows, closed_by_parts, length-with_span, marked_within, plain_is_marked}
 use Rattle.nc_region.specs.Chunks.{IsClosedChunk, with_chunk}
 use Rattle.nc_region.specs.machinery.Between.{IsUnused}
 use Rattle.nc_region.proofs.chunks.Alone.{alone, alone_fits_bytes, alone_within, alone_before, alone_behind, alone_bytes_long, alone_marks_long}
@@ -64,10 +64,6 @@ chunk_starts marked base bytes marks j at inside start =
       | Behind p ↦ marks_behind marked base bytes marks at j p ∙ j.closed.starts at inside start
     ]
 
--- a plain mark stands for every state
-marked_if_plain : (marks : List Mark) (now : State) → 65536 ≤ now.place → mark_at marks now.place ≡ Plain → IsMarked marks now
-marked_if_plain marks now low plain = (low, subst (λ (mark : Mark). Admits mark now.masked) (sym plain) tt)
-
 -- what was marked in the old text is marked in the text with the chunk
 old_marked : (marked : MarkedText) (base : ℕ) (bytes : List ℕ) (marks : List Mark) → Joins marked base bytes marks → (now : State)
     → IsMarked marked.marks now → IsMarked (with_chunk marked base bytes marks).marks now
@@ -79,7 +75,7 @@ old_marked marked base bytes marks j now m =
             (sym (marks_before marked base bytes marks now.place j m.0 l)) m.1,
       )
       | Within low high ↦
-          marked_if_plain (with_chunk marked base bytes marks).marks now m.0
+          plain_is_marked (with_chunk marked base bytes marks).marks now m.0
           (chunk_starts marked base bytes marks j now.place (m.0, omega (arith, marked_within marked.marks now m, j.as_long))
           (unused_is_start now.place now.masked
           (subst (λ (mark : Mark). Admits mark now.masked) (j.unused.unused now.place low high) m.1)))
@@ -100,7 +96,7 @@ alone_marked marked base bytes marks j now m =
     ) in
     let at_start : mark_at (alone marked base bytes marks).marks now.place ≡ unused_mark now.place
     → IsMarked (with_chunk marked base bytes marks).marks now = λ is.
-    marked_if_plain (with_chunk marked base bytes marks).marks now m.0
+    plain_is_marked (with_chunk marked base bytes marks).marks now m.0
     (chunk_starts marked base bytes marks j now.place inside
     (unused_is_start now.place now.masked (subst (λ (mark : Mark). Admits mark now.masked) is m.1))) in
     elim (place_of base (length bytes) now.place) [

@@ -14,6 +14,7 @@ use Rattle.nc_decode.proofs.Offered.{exact, names_registers, spells_some}
 use Rattle.nc_text.specs.MarkedText.{NamesRegister}
 use Rattle.nc_vet.specs.Chunk.{Piece, code_of, place}
 use Rattle.nc_vet.specs.Chunk as vet
+use Rattle.nc_vet.proofs.Offered.{place-push}
 use Rattle.nc_region.specs.Chunks.{HasGoodSpan, IsClosedChunk}
 use Rattle.nc_region.specs.Each.{Each}
 use Rattle.nc_region.proofs.EachMember.{each_append, each_replicate, each_get}
@@ -35,16 +36,6 @@ spelled_at c v done more p e = spells_some p.bytes p.instr (v.sound.spelled done
 further : (all done more : List Piece) (p : Piece) → all ≡ done ++ p ∷ more → all ≡ (done ++ p ∷ []) ++ more
 further all done more p e = e ∙ sym (append_assoc done (p ∷ []) more)
 
--- the code of two lists of pieces
-code_append : (xs ys : List Piece) → code_of (xs ++ ys) ≡ code_of xs ++ code_of ys
-code_append [] ys = refl
-code_append (x ∷ xs) ys = ap (λ (bs : List ℕ). x.bytes ++ bs) (code_append xs ys) ∙ sym (append_assoc x.bytes (code_of xs) (code_of ys))
-
--- the place after one more piece
-place_more : (done : List Piece) (p : Piece) → place (done ++ p ∷ []) ≡ place done + length p.bytes
-place_more done p = ap (λ (bs : List ℕ). length bs) (code_append done (p ∷ []))
-    ∙ (length-append (code_of done) (p.bytes ++ []) ∙ omega (arith, length-append p.bytes []))
-
 -- the pieces are a reading of the code
 reading_of : (c : vet.MarkedChunk) (v : vet.IsValid c) (done rest : List Piece) → v.pieces ≡ done ++ rest
     → IsReading (code_of rest) (instrs rest)
@@ -64,7 +55,7 @@ crossing_of : (c : vet.MarkedChunk) (v : vet.IsValid c) (done rest : List Piece)
 crossing_of c v done [] e = tt
 crossing_of c v done (p ∷ more) e =
     let n = spelled_at c v done more p e in
-    let next : c.base + place (done ++ p ∷ []) ≡ c.base + place done + p.instr.len = omega (arith, place_more done p, n.0) in (
+    let next : c.base + place (done ++ p ∷ []) ≡ c.base + place done + p.instr.len = omega (arith, place-push done p, n.0) in (
       omega (arith, n.0, v.sound.inside done more p e, v.base_is.0),
       subst (λ (at : ℕ). NoneCrosses at (instrs more)) next (crossing_of c v (done ++ p ∷ []) more (further v.pieces done more p e)),
     )
@@ -89,7 +80,7 @@ follows_of c v done more p e reg f =
     let whole : v.pieces ≡ f.earlier ++ f.mask ∷ (p ∷ more) = e
     ∙ (ap (λ (xs : List Piece). xs ++ p ∷ more) f.last ∙ append_assoc f.earlier (f.mask ∷ []) (p ∷ more)) in
     let n = spelled_at c v f.earlier (p ∷ more) f.mask whole in
-    let here : place done ≡ place f.earlier + length f.mask.bytes = ap place f.last ∙ place_more f.earlier f.mask in
+    let here : place done ≡ place f.earlier + length f.mask.bytes = ap place f.last ∙ place-push f.earlier f.mask in
     (last, λ start. omega (arith, n.0, n.1, here, f.together, v.base_is.0, start))
 
 -- an indirect transfer follows its mask
@@ -109,7 +100,7 @@ pairs_of : (c : vet.MarkedChunk) (v : vet.IsValid c) (done rest : List Piece) �
 pairs_of c v done [] e = tt
 pairs_of c v done (p ∷ more) e =
     let n = spelled_at c v done more p e in
-    let next : c.base + place (done ++ p ∷ []) ≡ c.base + place done + p.instr.len = omega (arith, place_more done p, n.0) in (
+    let next : c.base + place (done ++ p ∷ []) ≡ c.base + place done + p.instr.len = omega (arith, place-push done p, n.0) in (
       follows_by p.instr.flow p.instr.reg (last_masks done) (c.base + place done)
           (λ indirect. follows_of c v done more p e p.instr.reg (v.sound.paired done more p e indirect)),
       subst (λ (masks : Option ℕ). PairsHold masks (c.base + place done + p.instr.len) (instrs more)) (last_masks_of done p)
@@ -183,7 +174,7 @@ targets_of : (c : vet.MarkedChunk) (v : vet.IsValid c) (done rest : List Piece) 
 targets_of c v done [] e = tt
 targets_of c v done (p ∷ more) e =
     let n = spelled_at c v done more p e in
-    let next : c.base + place (done ++ p ∷ []) ≡ c.base + place done + p.instr.len = omega (arith, place_more done p, n.0) in (
+    let next : c.base + place (done ++ p ∷ []) ≡ c.base + place done + p.instr.len = omega (arith, place-push done p, n.0) in (
       λ direct. target_of c v (target p.instr (c.base + place done)) (v.targets done more p e (direct_is p.instr.flow direct)),
       subst (λ (at : ℕ). TargetsHold (IsTarget c.base c.limit (length c.code) (instrs v.pieces)) at (instrs more)) next
           (targets_of c v (done ++ p ∷ []) more (further v.pieces done more p e)),

@@ -17,7 +17,7 @@ use Rattle.nc_decode.specs.Transfers.{target}
 use Rattle.nc_decode.specs.Bundles.{IsInOneBundle}
 use Rattle.nc_text.specs.Marks.{IsMarked, mark_at, Admits}
 use Rattle.nc_text.specs.MarkedText.{with_span, unused_mark, unused_marks}
-use Rattle.nc_text.proofs.Offered.{safe_if_executes, executes_stop, no_step_from_stop, leads_of, marked_within, length-with_span}
+use Rattle.nc_text.proofs.Offered.{safe_if_executes, executes_stop, no_step_from_stop, leads_of, marked_within, plain_is_marked, length-with_span}
 use Rattle.nc_region.specs.Chunks.{IsClosedChunk}
 use Rattle.nc_region.proofs.chunks.Instructions.{IsValid, IsReading, NoneCrosses, FollowsMask, PairsHold, IsDirect, IsIndirect, BeginsAt}
 use Rattle.nc_region.proofs.chunks.Instructions.{IsTarget, mark_by, marks_of}
@@ -203,10 +203,6 @@ alone_start base limit code chunk at v low high start =
       | Behind p ↦ outside_mark base limit code chunk at v low high (inr p) ∙ unused_at_start at start
     ]
 
--- a plain place is marked
-plain_marked : (marks : List Mark) (now : State) → 65536 ≤ now.place → mark_at marks now.place ≡ Plain → IsMarked marks now
-plain_marked marks now low plain = (low, subst (λ (mark : Mark). Admits mark now.masked) (sym plain) tt)
-
 -- where a step may lead: to a mark of the chunk, to a bundle start of the region or to the trampoline
 abbrev IsLanding : List Mark → State → Type 0
 IsLanding marks next = IsMarked marks next ⊎ IsTrampoline next.place
@@ -217,7 +213,7 @@ start_lands : (base limit : ℕ) (code : List ℕ) (chunk : List Instr) (next : 
 start_lands base limit code chunk next v high start =
     ⊎_elim
     (λ (zone : next.place < 65536). inr (zone, start))
-    (λ (low : 65536 ≤ next.place). inl (plain_marked (alone_marks base limit chunk) next low
+    (λ (low : 65536 ≤ next.place). inl (plain_is_marked (alone_marks base limit chunk) next low
     (alone_start base limit code chunk next.place v low high start)))
     (cases_lt next.place 65536)
 
@@ -227,7 +223,7 @@ target_lands : (base limit : ℕ) (code : List ℕ) (chunk : List Instr) (place 
 target_lands base limit code chunk place v good =
     elim good [
       | inl inside ↦
-          inl (plain_marked (alone_marks base limit chunk) (state place None) (omega (arith, inside.0, v.placed.low))
+          inl (plain_is_marked (alone_marks base limit chunk) (state place None) (omega (arith, inside.0, v.placed.low))
           (within_mark base limit code chunk place v inside.0 inside.1 ∙ (begins_plain chunk base place code v.reading inside.2).1))
       | inr outside ↦ start_lands base limit code chunk (state place None) v outside.2 outside.1
     ]

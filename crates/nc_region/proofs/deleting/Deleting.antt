@@ -14,7 +14,7 @@ use Rattle.nc_region.specs.machinery.Between.{HasPut}
 use Rattle.nc_region.proofs.SpanPlaces.{place_of, Before, Within, Behind, before_span, span_before, span_within, span_behind}
 
 -- a mark that stands for a state is a mark
-admits_is_mark : (mark : Mark) (masked : Option ℕ) → Admits mark masked → is_mark mark ≡ true
+pub admits_is_mark : (mark : Mark) (masked : Option ℕ) → Admits mark masked → is_mark mark ≡ true
 admits_is_mark Unmarked masked m = absurd m
 admits_is_mark Plain masked m = refl
 admits_is_mark (After register) masked m = refl

@@ -26,7 +26,7 @@ use Rattle.nc_region.proofs.schedules.Unmarking.{MayFree}
 use Rattle.nc_region.proofs.deleting.Freed.{span_of, dead_is_quiet, frees, region_freed}
 
 -- what is due isn't live
-due_dead : (least : ℕ) (s : ChunkState) → is_due least s ≡ true → IsLive s → ⊥
+pub due_dead : (least : ℕ) (s : ChunkState) → is_due least s ≡ true → IsLive s → ⊥
 due_dead least Live is live = absurd cc
 due_dead least (Retired stamp) is live = live
 

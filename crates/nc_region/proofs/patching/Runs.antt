@@ -74,28 +74,36 @@ run_of marked c at new b news bytes runs =
     let k = cut b.rest news runs in
     record {
       holds = b.holds;
-      before = b.before;
-      old = k.old;
-      after = k.after;
-      parts = b.parts
-          ∙ ap (λ (z : List Piece). b.before ++ z) k.parts;
-      here = b.here;
-      news = news;
-      bytes = bytes;
-      as_long = k.as_long;
+      run = record {
+        before = b.before;
+        old = k.old;
+        after = k.after;
+        parts = b.parts
+            ∙ ap (λ (z : List Piece). b.before ++ z) k.parts;
+        here = b.here;
+        news = news;
+        bytes = bytes;
+        as_long = k.as_long;
+      };
     }
 
 -- and a run runs along
 abbrev pub run_begins : (marked : MarkedText) (c : Chunk) (at : ℕ) (new : List ℕ) → IsRun marked c at new → Begins marked c at
-run_begins marked c at new r = record { holds = r.holds; before = r.before; rest = r.old ++ r.after; parts = r.parts; here = r.here }
+run_begins marked c at new r = record {
+  holds = r.holds;
+  before = r.run.before;
+  rest = r.run.old ++ r.run.after;
+  parts = r.run.parts;
+  here = r.run.here;
+}
 
 -- a run is a list of new instructions along those of the chunk
 abbrev pub run_along : (marked : MarkedText) (c : Chunk) (at : ℕ) (new : List ℕ) → IsRun marked c at new → Along marked c at new
 run_along marked c at new r = record {
-  begins = record { holds = r.holds; before = r.before; rest = r.old ++ r.after; parts = r.parts; here = r.here };
-  news = r.news;
-  bytes = r.bytes;
-  runs = joined r.old r.after r.news r.as_long;
+  begins = run_begins marked c at new r;
+  news = r.run.news;
+  bytes = r.run.bytes;
+  runs = joined r.run.old r.run.after r.run.news r.run.as_long;
 }
 
 -- a mark of an instruction is a mark

@@ -54,8 +54,8 @@ pub record Turn (marked : MarkedText) (c : Chunk) (at : ℕ) (new : List ℕ) (p
   pub change : Changes marked c at patch.run.before (os ++ patch.run.after) o n
   pub lens : lengths os ≡ lengths ns
   pub pairs : SparesPairs (os ++ patch.run.after) ns
-  pub well : GoWell (IsTarget c.base (limit_of marked.bytes) patch.run.holds.valid.pieces) (at + length n.bytes) ns
-  pub parts : patch.run.holds.valid.pieces ≡ patch.run.before ++ o ∷ (os ++ patch.run.after)
+  pub well : GoWell (IsTarget c.base (limit_of marked.bytes) patch.holds.valid.pieces) (at + length n.bytes) ns
+  pub parts : patch.holds.valid.pieces ≡ patch.run.before ++ o ∷ (os ++ patch.run.after)
 
 -- the next instruction of a patch
 pub turn : (marked : MarkedText) (c : Chunk) (at : ℕ) (new : List ℕ) (patch : CanPatch marked c at new) (n : Piece) (ns : List Piece)
@@ -66,28 +66,28 @@ turn marked c at new patch n ns t is = go patch.run.old refl
     go [] e = absurd (lengths_none n ns (ap lengths (sym e) ∙ (patch.run.as_long ∙ ap lengths is)))
     go (o ∷ os) e =
         let run = patch.run in
-        let h = patch.run.holds in
-        let parts : patch.run.holds.valid.pieces ≡ patch.run.before ++ o ∷ (os ++ patch.run.after) = patch.run.parts
+        let h = patch.holds in
+        let parts : patch.holds.valid.pieces ≡ patch.run.before ++ o ∷ (os ++ patch.run.after) = patch.run.parts
         ∙ ap (λ (z : List Piece). patch.run.before ++ (z ++ patch.run.after)) e in
         let lens = lengths_first o n os ns (ap lengths (sym e) ∙ (patch.run.as_long ∙ ap lengths is)) in
         let pairs : SparesPairs (o ∷ (os ++ patch.run.after)) (n ∷ ns) =
         subst (λ (z : List Piece). SparesPairs (z ++ patch.run.after) (n ∷ ns)) e
         (subst (SparesPairs (patch.run.old ++ patch.run.after)) is patch.pairs) in
-        let old_spells = patch.run.holds.valid.sound.spelled patch.run.before (os ++ patch.run.after) o parts in
+        let old_spells = patch.holds.valid.sound.spelled patch.run.before (os ++ patch.run.after) o parts in
         let new_spells = patch.run.bytes.spelled [] ns n is in
-        let well : GoWell (IsTarget c.base (limit_of marked.bytes) patch.run.holds.valid.pieces) at (n ∷ ns) =
-        subst (GoWell (IsTarget c.base (limit_of marked.bytes) patch.run.holds.valid.pieces) at) is patch.targets in
-        let place_is : at ≡ patch.run.holds.vetted.base + place patch.run.before =
-        omega (arith, patch.run.here, patch.run.holds.base_is) in
+        let well : GoWell (IsTarget c.base (limit_of marked.bytes) patch.holds.valid.pieces) at (n ∷ ns) =
+        subst (GoWell (IsTarget c.base (limit_of marked.bytes) patch.holds.valid.pieces) at) is patch.targets in
+        let place_is : at ≡ patch.holds.vetted.base + place patch.run.before =
+        omega (arith, patch.run.here, patch.holds.base_is) in
         record {
           o = o;
           os = os;
           old = e;
           change = record {
             whole = t;
-            holds = patch.run.holds;
+            holds = patch.holds;
             exchange = record {
-              valid = patch.run.holds.valid;
+              valid = patch.holds.valid;
               parts = parts;
               spells = new_spells;
               as_long = lens.0;
@@ -95,11 +95,11 @@ turn marked c at new patch n ns t is = go patch.run.old refl
               register = pairs.0.register;
               mask = λ half. ap (λ (i : Instr). i.masks) (same_instr o n old_spells new_spells (pairs.0.mask half));
               good = λ d.
-                  subst (λ (b : ℕ). IsTarget b patch.run.holds.vetted.limit patch.run.holds.valid.pieces
-                  (target n.instr (patch.run.holds.vetted.base + place patch.run.before))) (sym patch.run.holds.base_is)
-                  (subst (λ (l : ℕ). IsTarget c.base l patch.run.holds.valid.pieces
-                  (target n.instr (patch.run.holds.vetted.base + place patch.run.before))) (sym patch.run.holds.limit_is)
-                  (subst (λ (k : ℕ). IsTarget c.base (limit_of marked.bytes) patch.run.holds.valid.pieces (target n.instr k)) place_is
+                  subst (λ (b : ℕ). IsTarget b patch.holds.vetted.limit patch.holds.valid.pieces
+                  (target n.instr (patch.holds.vetted.base + place patch.run.before))) (sym patch.holds.base_is)
+                  (subst (λ (l : ℕ). IsTarget c.base l patch.holds.valid.pieces
+                  (target n.instr (patch.holds.vetted.base + place patch.run.before))) (sym patch.holds.limit_is)
+                  (subst (λ (k : ℕ). IsTarget c.base (limit_of marked.bytes) patch.holds.valid.pieces (target n.instr k)) place_is
                   (well.0 d)));
             };
             here = patch.run.here;
@@ -117,8 +117,8 @@ pub next_patch : (marked : MarkedText) (c : Chunk) (at : ℕ) (new : List ℕ) (
 next_patch marked c at new patch n ns t len rest e bytes =
     let x = t.change in
     record {
+      holds = changed_holds marked c at patch.run.before (t.os ++ patch.run.after) t.o n t.change;
       run = record {
-        holds = changed_holds marked c at patch.run.before (t.os ++ patch.run.after) t.o n t.change;
         before = patch.run.before ++ n ∷ [];
         old = t.os;
         after = patch.run.after;
@@ -132,7 +132,7 @@ next_patch marked c at new patch n ns t len rest e bytes =
       targets =
           subst (λ (k : ℕ). GoWell (IsTarget c.base (limit_of (with_span marked.bytes (at - 65536) n.bytes))
           (patch.run.before ++ n ∷ (t.os ++ patch.run.after))) (at + k) ns) (sym e)
-          (well_map (IsTarget c.base (limit_of marked.bytes) patch.run.holds.valid.pieces)
+          (well_map (IsTarget c.base (limit_of marked.bytes) patch.holds.valid.pieces)
           (IsTarget c.base (limit_of (with_span marked.bytes (at - 65536) n.bytes))
           (patch.run.before ++ n ∷ (t.os ++ patch.run.after)))
           (λ to g. subst (λ (l : ℕ). IsTarget c.base l (patch.run.before ++ n ∷ (t.os ++ patch.run.after)) to)

@@ -3,11 +3,11 @@ use Rattle.std.proofs.Common.{◌≡◌, ℕ, ◌+◌, ◌-◌, ◌%◌, ◌<◌
 use Rattle.std.proofs.lemmas.Bool.Decides.{eqb_tells}
 use Rattle.std.proofs.lemmas.List.FromFn.{length-map-range_with_len, get_or-map-range_with_len}
 use Rattle.nc_decode.specs.declared.instruction.Mark.{Mark}
-use Rattle.nc_decode.specs.declared.instruction.Mark.TheVariants.{Unmarked, Plain}
+use Rattle.nc_decode.specs.declared.instruction.Mark.TheVariants.{Unmarked}
 use Rattle.nc_text.specs.Machine.{State, Step}
 use Rattle.nc_text.specs.Marks.{IsMarked, IsClosed, mark_at, Admits}
 use Rattle.nc_text.specs.MarkedText.{MarkedText, without_marks, unused_mark, unused_marks}
-use Rattle.nc_text.proofs.Offered.{no_step_from_stop, length-with_span}
+use Rattle.nc_text.proofs.Offered.{no_step_from_stop, plain_is_marked, length-with_span}
 use Rattle.nc_region.specs.schedules.Spans.{RetiredSpan, IsWithin, IsQuiet, IsShut}
 use Rattle.nc_region.specs.schedules.World.{IsWhole}
 use Rattle.nc_region.proofs.schedules.Places.{place_of, Before, Within, Behind, span_before, span_within, span_behind, unused_is_start}
@@ -72,10 +72,6 @@ freed_behind marked span at f p =
 pub freed_long : (marked : MarkedText) (span : RetiredSpan) → MayFree marked span → length (freed_marks marked span) ≡ length marked.marks
 freed_long marked span f =
     length-with_span marked.marks (span.base - 65536) (unused_marks span.base span.length) (omega (arith, fits marked span f, f.whole.low))
-
--- a plain place is marked
-plain_is_marked : (marks : List Mark) (now : State) → 65536 ≤ now.place → mark_at marks now.place ≡ Plain → IsMarked marks now
-plain_is_marked marks now low plain = (low, subst (λ (mark : Mark). Admits mark now.masked) (sym plain) tt)
 
 -- what is marked afterwards was marked before
 pub freed_was : (marked : MarkedText) (span : RetiredSpan) → MayFree marked span → (now : State) → IsMarked (freed_marks marked span) now

@@ -38,17 +38,16 @@ one_more : (b : Bool) (y : Act) (p q r : List Act) → p ≡ q ++ r → cond b (
 one_more true y p q r e = ap (λ (z : List Act). y ∷ z) e
 one_more false y p q r e = e
 
--- the puts of one more byte
-puts_where_push : (chosen : ℕ → Bool) (at : ℕ) (bytes : List ℕ) (byte : ℕ)
-    → puts_where chosen at (bytes ++ byte ∷ []) ≡ puts_where chosen at bytes ++ cond (chosen (at + length bytes))
-    (Put (at + length bytes) byte ∷ []) []
-puts_where_push chosen at [] byte = rw add-zero refl
-puts_where_push chosen at (x ∷ rest) byte =
+-- the puts of bytes and of those after them
+pub puts_append : (chosen : ℕ → Bool) (at : ℕ) (front back : List ℕ)
+    → puts_where chosen at (front ++ back) ≡ puts_where chosen at front ++ puts_where chosen (at + length front) back
+puts_append chosen at [] back = rw add-zero refl
+puts_append chosen at (x ∷ rest) back =
     let e : at + 1 + length rest ≡ at + suc (length rest) = omega arith in
-    one_more (chosen at) (Put at x) (puts_where chosen (at + 1) (rest ++ byte ∷ [])) (puts_where chosen (at + 1) rest)
-    (cond (chosen (at + suc (length rest))) (Put (at + suc (length rest)) byte ∷ []) [])
-    (subst (λ (n : ℕ). puts_where chosen (at + 1) (rest ++ byte ∷ []) ≡ puts_where chosen (at + 1) rest
-    ++ cond (chosen n) (Put n byte ∷ []) []) e (puts_where_push chosen (at + 1) rest byte))
+    one_more (chosen at) (Put at x) (puts_where chosen (at + 1) (rest ++ back)) (puts_where chosen (at + 1) rest)
+    (puts_where chosen (at + suc (length rest)) back)
+    (subst (λ (n : ℕ). puts_where chosen (at + 1) (rest ++ back) ≡ puts_where chosen (at + 1) rest ++ puts_where chosen n back) e
+    (puts_append chosen (at + 1) rest back))
 
 -- the puts up to the next place, where it is chosen
 pub next_put : (chosen : ℕ → Bool) (base : ℕ) (bytes : List ℕ) (i : ℕ) → i < length bytes → chosen (base + i) ≡ true
@@ -56,7 +55,7 @@ pub next_put : (chosen : ℕ → Bool) (base : ℕ) (bytes : List ℕ) (i : ℕ)
 next_put chosen base bytes i lt is =
     let here : base + length (take i bytes) ≡ base + i = omega (arith, length-take i bytes) in
     ap (puts_where chosen base) (take_more bytes i 0 lt)
-    ∙ (puts_where_push chosen base (take i bytes) (get_or bytes i 0)
+    ∙ (puts_append chosen base (take i bytes) (get_or bytes i 0 ∷ [])
     ∙ ap (λ (n : ℕ). puts_where chosen base (take i bytes) ++ cond (chosen n) (Put n (get_or bytes i 0) ∷ []) []) here
     ∙ ap (λ (z : Bool). puts_where chosen base (take i bytes) ++ cond z (Put (base + i) (get_or bytes i 0) ∷ []) []) is)
 
@@ -66,7 +65,7 @@ pub next_passed : (chosen : ℕ → Bool) (base : ℕ) (bytes : List ℕ) (i : �
 next_passed chosen base bytes i lt not =
     let here : base + length (take i bytes) ≡ base + i = omega (arith, length-take i bytes) in
     ap (puts_where chosen base) (take_more bytes i 0 lt)
-    ∙ (puts_where_push chosen base (take i bytes) (get_or bytes i 0)
+    ∙ (puts_append chosen base (take i bytes) (get_or bytes i 0 ∷ [])
     ∙ ap (λ (n : ℕ). puts_where chosen base (take i bytes) ++ cond (chosen n) (Put n (get_or bytes i 0) ∷ []) []) here
     ∙ (ap (λ (z : Bool). puts_where chosen base (take i bytes) ++ cond z (Put (base + i) (get_or bytes i 0) ∷ []) []) not
     ∙ append-nil (puts_where chosen base (take i bytes))))

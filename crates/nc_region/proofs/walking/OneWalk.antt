@@ -1,5 +1,5 @@
 -- In a closed text a walk goes one way: its start and its choices determine its places and its end.
-use Rattle.std.proofs.Common.{◌≡◌, ℕ, ◌<◌, List, [], ◌∷◌, map, Option, Some, None, inl, inr, arith, refl, ap, sym, subst, ◌∙◌, true, false}
+use Rattle.std.proofs.Common.{◌≡◌, ℕ, ◌<◌, List, [], ◌∷◌, map, Option, None, inl, inr, arith, refl, ap, sym, subst, ◌∙◌, true, false}
 use Rattle.std.specs.Prelude.{IsSomeAnd, IsTrue}
 use Rattle.nc_decode.specs.declared.instruction.Instr.{Instr}
 use Rattle.nc_decode.specs.declared.instruction.Mark.{Mark}
@@ -14,11 +14,8 @@ use Rattle.nc_text.proofs.Offered.{executes, leads_of, IsKnown, safe_if_known, s
 use Rattle.nc_region.specs.declared.trace.End.{End}
 use Rattle.nc_region.specs.declared.trace.End.TheVariants.{Stop, Trampoline, Beyond, More}
 use Rattle.nc_region.specs.Trace.{EndsBy, GoesOn, IsTrace, IsWalkStart, LeavesBy, Moves, Picks, Walks, bundle_of}
+use Rattle.nc_region.proofs.patching.NewInstructions.{some_same}
 use Rattle.nc_region.proofs.walking.Walking.{known_next}
-
--- at a place there is one instruction
-same_instr : (o : Option Instr) (i j : Instr) → o ≡ Some i → o ≡ Some j → i ≡ j
-same_instr o i j a b = cc
 
 -- a choice picks one step
 one_step : (kind : Flow) (limit : ℕ) (i : Instr) (now : State) (choice : ℕ) (a b : State) → LeadsBy kind limit i now a
@@ -34,7 +31,7 @@ one_step flow.Stop limit i now choice a b la lb pa pb = absurd la
 -- so a choice picks one step at a place
 one_move : (text : List ℕ) (now : State) (choice : ℕ) (a b : State) → Moves text now choice a → Moves text now choice b → a ≡ b
 one_move text now choice a b ma mb =
-    let same = same_instr (instruction_at text now.place) mb.instr ma.instr mb.is ma.is in
+    let same = some_same (instruction_at text now.place) mb.instr ma.instr mb.is ma.is in
     let picked = subst (λ (i : Instr). Picks i.flow i now choice b) same mb.picked in
     one_step ma.instr.flow (limit_of text) ma.instr now choice a b (leads_of text now a ma.instr ma.is ma.step)
     (leads_of text now b ma.instr ma.is mb.step) ma.picked picked
@@ -61,7 +58,7 @@ leaves_or_moves : (text : List ℕ) (now next : State) (choice : ℕ) → IsSafe
     → Moves text now choice next → ⊥
 leaves_or_moves text now next choice safe goes leaves moves =
     let e = executes text now goes.0 safe in
-    let same = same_instr (instruction_at text now.place) e.i moves.instr e.is moves.is in
+    let same = some_same (instruction_at text now.place) e.i moves.instr e.is moves.is in
     let may = subst (λ (i : Instr). IsMaskedFor i.flow i.reg now.masked) same e.permitted.1 in
     let is = subst (λ (o : Option Instr). IsSomeAnd o (λ i. IsTrue (is_indirect i.flow))) moves.is leaves.0 in
     let low = below moves.instr.flow (limit_of text) moves.instr now next choice is may

@@ -12,7 +12,7 @@ use Rattle.nc_text.specs.Marks.{IsMarked, IsClosed}
 use Rattle.nc_text.specs.MarkedText.{MarkedText, with_span}
 use Rattle.nc_region.specs.declared.chunk.Chunk.{Chunk}
 use Rattle.nc_region.specs.Region.{HoldsValid}
-use Rattle.nc_region.specs.Patch.{AreBytesOf, IsRun, LeavesPairs, KeepsTargets}
+use Rattle.nc_region.specs.Patch.{AreBytesOf, IsRunOf, LeavesPairs, KeepsTargets}
 
 -- an instruction of the chunk begins at the address, or the chunk ends there
 pub record Begins (marked : MarkedText) (c : Chunk) (at : ℕ) : Type 0 where
@@ -48,9 +48,10 @@ KeepsTransfer old new =
 
 -- a lawful patch of a chunk, except for the list of chunks
 pub record CanPatch (marked : MarkedText) (c : Chunk) (at : ℕ) (new : List ℕ) : Type 0 where
-  pub run : IsRun marked c at new
-  pub pairs : LeavesPairs marked c at new run
-  pub targets : KeepsTargets marked c at new run
+  pub holds : HoldsValid marked c
+  pub run : IsRunOf holds.valid.pieces c.base at new
+  pub pairs : LeavesPairs run
+  pub targets : KeepsTargets (limit_of marked.bytes) run
 
 -- An instruction is to be replaced by these bytes: afterwards the text is closed, and no other marked state's
 -- instruction has a byte of the span.

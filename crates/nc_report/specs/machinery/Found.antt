@@ -10,9 +10,10 @@ use Rattle.nc_vet.specs.Faults.{HasFault}
 use Rattle.nc_vet.specs.declared.fault.VetFault.{VetFault}
 use Rattle.nc_vet.specs.declared.fault.VetFault.TheVariants.{BadTarget, OutOfMemory}
 use Rattle.nc_work.specs.declared.job.Job.{Job}
-use Rattle.nc_report.specs.declared.detail.Detail.{Detail}
-use Rattle.nc_report.specs.declared.detail.Detail.TheVariants.{Brief, Object}
-use Rattle.nc_report.specs.declared.detail.Detail.TheVariants as detail
+use Rattle.nc_output.specs.declared.detail.Detail.{Detail}
+use Rattle.nc_output.specs.declared.detail.Detail.TheVariants.{Brief, Object}
+use Rattle.nc_output.specs.declared.detail.Detail.TheVariants as detail
+use Rattle.nc_output.specs.Verdicts.{place_of}
 use Rattle.nc_report.specs.declared.fault.ReportFault.{ReportFault}
 use Rattle.nc_report.specs.declared.fault.ReportFault.TheVariants.{WriteFailed}
 use Rattle.nc_report.specs.declared.fault.ReportFault.TheVariants as report
@@ -21,7 +22,7 @@ use Rattle.nc_report.specs.declared.source.Title.{Title}
 use Rattle.nc_report.specs.declared.source.Source.{Source}
 use Rattle.nc_report.specs.declared.spot.Spot.{Spot}
 use Rattle.nc_report.specs.Listing.{barred, ShowsBundle}
-use Rattle.nc_report.specs.Report.{place_of, accepted_text, refused_text, AreCalls, Explains, ReportsOthers, ReportsSome, detail_line, IsBeginning, TellsSource, Told}
+use Rattle.nc_report.specs.Report.{accepted_text, refused_text, AreCalls, Explains, ReportsOthers, ReportsSome, detail_line, IsBeginning, TellsSource, Told}
 use Rattle.nc_report.specs.Further.{lines_to}
 
 -- a verdict is true of the code in it

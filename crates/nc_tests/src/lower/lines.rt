@@ -3,7 +3,8 @@
 
 use crate::lower::devices::{Failing, Slow};
 use crate::lower::rows::right;
-use nc_lines::{Piped, ReplayFault, vet_lines};
+use nc_lines::{ReplayFault, vet_lines};
+use nc_output::Piped;
 use nc_script::run;
 use nc_work::Open;
 use std::alloc::Global;

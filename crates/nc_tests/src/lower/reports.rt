@@ -3,7 +3,8 @@
 
 use crate::lower::devices::Slow;
 use crate::lower::rows::right;
-use nc_report::{Detail, Label, Labels, ReportFault, Source, read_source, report};
+use nc_output::Detail;
+use nc_report::{Label, Labels, ReportFault, Source, read_source, report};
 use std::alloc::{AllocError, Global};
 use std::io::Write;
 use std::sync::Wait;

@@ -1,6 +1,6 @@
 use Rattle.std.proofs.Common.{refl}
 use Rattle.nc_decode.specs.Automaton.{next_state}
-use Rattle.nc_decode.proofs.Stages.{next_small}
+use Rattle.nc_decode.proofs.stages.Stages.{next_small}
 use Rattle.nc_decode.proofs.automaton.advance.Goals as goal
 
 pub returns-clause-next : goal.returns-clause-next

@@ -3,9 +3,9 @@ use Rattle.std.specs.Result.{result_ok}
 use Rattle.std.specs.Prelude.{Result}
 use Rattle.nc_decode.specs.declared.instruction.DecodeFault.{DecodeFault}
 use Rattle.nc_decode.specs.declared.instruction.Instr.{Instr}
-use Rattle.nc_decode.proofs.Readings.{found_from, found_by, reading_front, front_read, refused_from, refused_by, result_sized}
-use Rattle.nc_decode.proofs.NeverBarred.{spelling_is_allowed}
-use Rattle.nc_decode.proofs.FrontLaws.{first_read}
+use Rattle.nc_decode.proofs.reading.Readings.{found_from, found_by, reading_front, front_read, refused_from, refused_by, result_sized}
+use Rattle.nc_decode.proofs.fronts.NeverBarred.{spelling_is_allowed}
+use Rattle.nc_decode.proofs.fronts.FrontLaws.{first_read}
 use Rattle.nc_decode.proofs.decoding.decode.Goals as goal
 
 pub returns-clause-found : goal.returns-clause-found

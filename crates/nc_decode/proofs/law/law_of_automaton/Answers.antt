@@ -1,5 +1,5 @@
-use Rattle.nc_decode.proofs.Stages.{next_small}
-use Rattle.nc_decode.proofs.Runs.{reads_by_states, none_is_paired}
+use Rattle.nc_decode.proofs.stages.Stages.{next_small}
+use Rattle.nc_decode.proofs.stages.Runs.{reads_by_states, none_is_paired}
 use Rattle.nc_decode.proofs.law.law_of_automaton.Goals as goal
 
 pub returns-clause-reads : goal.returns-clause-reads

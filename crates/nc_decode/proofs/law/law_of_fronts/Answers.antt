@@ -1,6 +1,6 @@
-use Rattle.nc_decode.proofs.FrontLaws.{exact, prefix_free, stop_first, has_its_length, depends_on_its_bytes, masks_only_before_next}
-use Rattle.nc_decode.proofs.FrontLaws.{names_registers, masks_exactly, goes_on_after_prefix, never_barred, never_barred_at_front}
-use Rattle.nc_decode.proofs.TransferBytes.{direct_begins}
+use Rattle.nc_decode.proofs.fronts.FrontLaws.{exact, prefix_free, stop_first, has_its_length, depends_on_its_bytes, masks_only_before_next}
+use Rattle.nc_decode.proofs.fronts.FrontLaws.{names_registers, masks_exactly, goes_on_after_prefix, never_barred, never_barred_at_front}
+use Rattle.nc_decode.proofs.fronts.TransferBytes.{direct_begins}
 use Rattle.nc_decode.proofs.law.law_of_fronts.Goals as goal
 
 pub returns-clause-exact : goal.returns-clause-exact

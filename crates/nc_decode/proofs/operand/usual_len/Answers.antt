@@ -1,5 +1,5 @@
 use Rattle.std.proofs.Common.{arith}
-use Rattle.nc_decode.proofs.OperandTable.{operand_at}
+use Rattle.nc_decode.proofs.opcodes.OperandTable.{operand_at}
 use Rattle.nc_decode.proofs.operand.usual_len.Goals as goal
 
 pub returns : goal.returns

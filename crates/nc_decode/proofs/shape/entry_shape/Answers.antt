@@ -1,5 +1,5 @@
 use Rattle.std.proofs.Common.{[], ◌∷◌, drop, sym, ◌∙◌}
-use Rattle.nc_decode.proofs.EntryShapes.{entry_with_none, entry_without_sib, entry_of_two}
+use Rattle.nc_decode.proofs.opcodes.EntryShapes.{entry_with_none, entry_without_sib, entry_of_two}
 use Rattle.nc_decode.proofs.shape.entry_shape.Goals as goal
 
 pub returns-then-not-entry-clause-shape : goal.returns-then-not-entry-clause-shape

@@ -1,14 +1,9 @@
-use Rattle.std.proofs.Common.{◌≡◌, ◌++◌, ◌-◌, ℕ, List, [], Err, length, take, drop, refl, sym, ap, ◌∙◌, subst, append_assoc, append-nil}
-use Rattle.std.proofs.Common.{take-append-drop, rules}
-use Rattle.std.proofs.lemmas.List.{take_rest, drop_all}
+use Rattle.std.proofs.Common.{◌≡◌, ◌++◌, ◌-◌, ℕ, List, [], Err, take, refl, sym, ap, ◌∙◌, subst, append_assoc, append-nil}
+use Rattle.std.proofs.Common.{rules}
+use Rattle.std.proofs.lemmas.List.{drop_all}
+use Rattle.nc_output.proofs.Offered.{moves_front}
 use Rattle.nc_lines.specs.machinery.Progress.{KeepsUp, Feeds}
 use Rattle.nc_lines.proofs.lines.feed.Goals as goal
-
--- the bytes so far go on by those that are taken next
-moves_front : (all done rest : List ℕ) (n : ℕ) → all ≡ done ++ rest → all ≡ (done ++ take n rest) ++ take (length rest - n) (drop n rest)
-moves_front all done rest n e =
-    e ∙ ap (λ (l : List ℕ). done ++ l) (sym (take-append-drop n rest)) ∙ sym (append_assoc done (take n rest) (drop n rest))
-    ∙ ap (λ (l : List ℕ). (done ++ take n rest) ++ l) (sym (take_rest rest n))
 
 pub loop-rest-init : goal.loop-rest-init
 loop-rest-init g c = (

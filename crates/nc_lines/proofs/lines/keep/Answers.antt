@@ -1,6 +1,6 @@
 use Rattle.std.proofs.Common.{◌≡◌, ◌-◌, min, length, take, rules, ◌∙◌}
 use Rattle.std.proofs.lemmas.Result.{on_ok_weaker}
-use Rattle.nc_lines.proofs.Added.{added_all}
+use Rattle.nc_output.proofs.Offered.{added_all}
 use Rattle.nc_lines.proofs.Cuts.{kept_append}
 use Rattle.nc_lines.proofs.lines.keep.Goals as goal
 

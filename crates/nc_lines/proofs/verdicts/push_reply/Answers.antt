@@ -2,7 +2,7 @@ use Rattle.std.proofs.Common.{◌≡◌, ◌++◌, ℕ, List, length, arith, rul
 use Rattle.std.proofs.lemmas.Result.{on_ok_weaker}
 use Rattle.std.proofs.lemmas.List.{drop_all}
 use Rattle.nc_lines.specs.Lines.{bad_line}
-use Rattle.nc_lines.proofs.Added.{added_all}
+use Rattle.nc_output.proofs.Offered.{added_all}
 use Rattle.nc_lines.proofs.VetReplies.{bad_next, named_next, none_next}
 use Rattle.nc_lines.proofs.verdicts.push_reply.Goals as goal
 

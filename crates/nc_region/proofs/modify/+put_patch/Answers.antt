@@ -114,7 +114,7 @@ returns-clause-bytes g t c =
     let r = changes_replace marked c.args.chunk c.args.at patch.run.before (w.os ++ patch.run.after) w.o p.first w.change in
     let rest : List ℕ = take (length c.args.new.now - c.in-Ok.instr.len) (drop c.in-Ok.instr.len c.args.new.now) in
     let fits : c.args.at + length c.args.new.now ≤ limit_of (g.A.Acts.marked c.args.acts.now).bytes =
-    omega (arith, c.requires.ends, (lies marked c.args.chunk c.requires.whole patch.run.holds).high) in
+    omega (arith, c.requires.ends, (lies marked c.args.chunk c.requires.whole patch.holds).high) in
     c.put_patch.ensures.bytes
     ∙ (ap (λ (z : List ℕ). with_span z (c.args.at + c.from.result - 65536)
     (take (length c.args.new.now - c.in-Ok.instr.len) (drop c.in-Ok.instr.len c.args.new.now))) (c.put_where_new.ensures.bytes

@@ -1,6 +1,6 @@
 use Rattle.std.proofs.Common.{◌≡◌, ◌-◌, ◌++◌, List, ℕ, ap, refl, subst, ◌∙◌}
 use Rattle.std.proofs.lemmas.Result.{on_ok_weaker}
-use Rattle.nc_lines.specs.Replies.{address_digits}
+use Rattle.nc_output.specs.Verdicts.{address_digits}
 use Rattle.nc_report.specs.Labels.{shown_name, offset_words}
 use Rattle.nc_report.proofs.Appended.{six_added, label_parts}
 use Rattle.nc_report.proofs.naming.push_line.Goals as goal

@@ -1,6 +1,6 @@
 use Rattle.std.specs.Prelude.{codes}
 use Rattle.std.proofs.lemmas.Result.{on_ok_weaker}
-use Rattle.nc_lines.specs.Replies.{address_digits}
+use Rattle.nc_output.specs.Verdicts.{address_digits}
 use Rattle.nc_report.specs.Objects.{file_member, string_member}
 use Rattle.nc_report.proofs.ObjectTexts.{headed_members}
 use Rattle.nc_report.proofs.objects.push_accepted_object.Goals as goal

@@ -1,6 +1,6 @@
 use Rattle.std.proofs.Common.{sym, ◌∙◌}
 use Rattle.std.proofs.lemmas.Result.{on_ok_weaker}
-use Rattle.nc_report.specs.Report.{place_of}
+use Rattle.nc_output.specs.Verdicts.{place_of}
 use Rattle.nc_report.proofs.ObjectTexts.{placed_members}
 use Rattle.nc_report.proofs.objects.push_places.Goals as goal
 

@@ -1,7 +1,7 @@
 use Rattle.std.proofs.Common.{◌+◌, ◌++◌, ℕ, List, ap, ◌∙◌}
 use Rattle.std.specs.Prelude.{codes}
 use Rattle.std.proofs.lemmas.Result.{on_ok_weaker}
-use Rattle.nc_lines.specs.Replies.{fault_words}
+use Rattle.nc_output.specs.Verdicts.{fault_words}
 use Rattle.nc_report.specs.Further.{listing, goes_lines}
 use Rattle.nc_report.specs.Labels.{label_lines}
 use Rattle.nc_report.specs.Advice.{words_about}

@@ -1,6 +1,6 @@
 use Rattle.std.proofs.Common.{◌++◌, ◌∷◌, [], ℕ, List, ap, ◌∙◌}
 use Rattle.std.proofs.lemmas.Result.{on_ok_weaker}
-use Rattle.nc_lines.specs.Replies.{fault_words}
+use Rattle.nc_output.specs.Verdicts.{fault_words}
 use Rattle.nc_report.proofs.FurtherAims.{also_joined}
 use Rattle.nc_report.proofs.others.push_heading.Goals as goal
 

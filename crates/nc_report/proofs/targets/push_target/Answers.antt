@@ -4,7 +4,7 @@ use Rattle.std.proofs.lemmas.Result.{on_ok_weaker}
 use Rattle.std.specs.Prelude.{codes}
 use Rattle.nc_decode.specs.Spelling.{IsAtFront}
 use Rattle.nc_decode.specs.Transfers.{target}
-use Rattle.nc_lines.specs.Replies.{address_digits}
+use Rattle.nc_output.specs.Verdicts.{address_digits}
 use Rattle.nc_report.specs.machinery.Aims.{IsNoTarget, AddsWhy}
 use Rattle.nc_report.proofs.NamedTargets.{aimed, goes_astray, target_named}
 use Rattle.nc_report.proofs.targets.push_target.Goals as goal

@@ -1,6 +1,6 @@
 use Rattle.std.proofs.Common.{ℕ, List, ◌++◌, length, ap, ◌∙◌}
 use Rattle.std.proofs.lemmas.Result.{on_ok_weaker}
-use Rattle.nc_lines.specs.Replies.{reply_line}
+use Rattle.nc_output.specs.Verdicts.{with_line_end}
 use Rattle.nc_report.specs.Objects.{accepted_object}
 use Rattle.nc_report.proofs.ToldSources.{adds_none, adds_object}
 use Rattle.nc_report.proofs.telling.push_accepted.Goals as goal
@@ -17,6 +17,6 @@ returns-in-Object c =
     let name = c.args.name.now in
     on_ok_weaker c.push_accepted_object.result
     (λ e. adds_object chunk c.args.detail name old new count c.count_instructions-count.ensures c.code-bytes.ensures.valid c.in-Object.is
-    (e ∙ ap (λ (b : ℕ). old ++ reply_line (accepted_object b name (length c.code-bytes.result.now) count)) c.base.ensures.value
-    ∙ ap (λ (z : List ℕ). old ++ reply_line (accepted_object chunk.base name (length z) count)) c.code-bytes.ensures.value))
+    (e ∙ ap (λ (b : ℕ). old ++ with_line_end (accepted_object b name (length c.code-bytes.result.now) count)) c.base.ensures.value
+    ∙ ap (λ (z : List ℕ). old ++ with_line_end (accepted_object chunk.base name (length z) count)) c.code-bytes.ensures.value))
     c.push_accepted_object.ensures

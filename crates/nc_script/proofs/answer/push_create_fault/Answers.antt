@@ -2,13 +2,13 @@ use Rattle.std.proofs.Common.{◌≡◌, ◌++◌, ℕ, List, Result, Ok, Err, O
 use Rattle.std.specs.Prelude.{codes}
 use Rattle.nc_region.specs.declared.fault.CreateFault.{CreateFault}
 use Rattle.nc_region.specs.declared.fault.CreateFault.TheVariants.{Occupied}
-use Rattle.nc_lines.specs.Replies.{reply_line, refused_reply}
+use Rattle.nc_output.specs.Verdicts.{with_line_end, refused_words}
 use Rattle.nc_script.proofs.answer.push_create_fault.Goals as goal
 
 -- the answer was added for a fault that is known
 added_known : {T E : Type 0} (fault : CreateFault) (r : Result T E) (new old : List ℕ) → fault ≡ Occupied
-    → new ≡ cond (is_ok r) (old ++ reply_line (refused_reply (codes "Occupied"))) old
-    → OnOk r ((fault ≡ Occupied) × (new ≡ old ++ reply_line (refused_reply (codes "Occupied"))))
+    → new ≡ cond (is_ok r) (old ++ with_line_end (refused_words (codes "Occupied"))) old
+    → OnOk r ((fault ≡ Occupied) × (new ≡ old ++ with_line_end (refused_words (codes "Occupied"))))
 added_known fault (Ok x) new old known e = (known, e)
 added_known fault (Err x) new old known e = tt
 

@@ -1,6 +1,6 @@
 use Rattle.std.proofs.Common.{◌∷◌, [], ◌++◌, ℕ, ap, ◌∙◌, arith}
 use Rattle.hex.specs.Hex.{encode_lower}
-use Rattle.nc_script.proofs.SpanDigits.{digits_none, digits_more}
+use Rattle.nc_script.proofs.chunks.SpanDigits.{digits_none, digits_more}
 use Rattle.nc_script.proofs.answer.push_span.Goals as goal
 
 pub loop-at-init : goal.loop-at-init

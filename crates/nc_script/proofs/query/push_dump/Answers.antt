@@ -2,8 +2,8 @@ use Rattle.std.proofs.Common.{◌∙◌, sym, arith}
 use Rattle.nc_script.specs.machinery.Session.{script_chunk}
 use Rattle.nc_script.specs.Replies.{chunk_words}
 use Rattle.std.specs.Prelude.{codes}
-use Rattle.nc_script.proofs.DumpReply.{dump_more, dump_whole}
-use Rattle.nc_script.proofs.RetiredChunks.{placed_at}
+use Rattle.nc_script.proofs.chunks.DumpReply.{dump_more, dump_whole}
+use Rattle.nc_script.proofs.chunks.RetiredChunks.{placed_at}
 use Rattle.nc_script.proofs.query.push_dump.Goals as goal
 
 pub loop-i-preserved : goal.loop-i-preserved

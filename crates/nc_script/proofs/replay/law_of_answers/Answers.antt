@@ -1,4 +1,4 @@
-use Rattle.nc_script.proofs.OneReply.{one_text, begins_all, frees_by_least, leaves_open}
+use Rattle.nc_script.proofs.serving.OneReply.{one_text, begins_all, frees_by_least, leaves_open}
 use Rattle.nc_script.proofs.replay.law_of_answers.Goals as goal
 
 pub returns-clause-one_text : goal.returns-clause-one_text

@@ -3,11 +3,12 @@ use Rattle.std.proofs.Common.{ℕ, List, length, replicate, inr, ap, ◌∙◌}
 use Rattle.std.proofs.lemmas.Result.{on_ok_weaker}
 use Rattle.nc_lines.specs.Lines.{lines_of, ended_lines}
 use Rattle.nc_lines.specs.Answering.{IsAnswered, IsBegun, IsCutShort}
+use Rattle.nc_region.proofs.Offered.{if_map}
 use Rattle.nc_script.specs.Answers.{AnswersOnly, new_script}
 use Rattle.nc_script.specs.Run.{HasAnswered}
 use Rattle.nc_script.specs.Script.{ScriptSeat, Staying}
 use Rattle.nc_script.specs.machinery.Session.{FollowsLine}
-use Rattle.nc_script.proofs.Carried.{answered_script, begun_script, cut_script, some_weaker}
+use Rattle.nc_script.proofs.serving.Carried.{answered_script, begun_script, cut_script}
 use Rattle.nc_script.proofs.replay.run_new.Goals as goal
 
 pub returns-in-Ok-new-clause-ok : goal.returns-in-Ok-new-clause-ok
@@ -18,7 +19,7 @@ returns-in-Ok-new-clause-ok g c =
     let after = g.W.Write.contents c.answer_all.new.writer in
     on_ok_weaker c.answer_all.result
     (λ h.
-    some_weaker (g.R.Read.remaining c.args.reader.now)
+    if_map (g.R.Read.remaining c.args.reader.now)
     (λ input. IsAnswered FollowsLine c.in-Ok-new.session c.answer_all.new.responder before after (lines_of input))
     (λ input. HasAnswered c.args.bundles c.args.seats before after (lines_of input))
     (λ input a.
@@ -32,7 +33,7 @@ returns-in-Ok-new-clause-write_failed g c = λ e.
     let begins = c.in-Ok-new.ensures.script ∙ ap (λ (n : ℕ). new_script c.args.bundles n) c.in-Ok.ensures.count in
     let before = g.W.Write.contents c.args.writer.now in
     let after = g.W.Write.contents c.answer_all.new.writer in
-    some_weaker (g.R.Read.remaining c.args.reader.now)
+    if_map (g.R.Read.remaining c.args.reader.now)
     (λ input. IsBegun FollowsLine c.in-Ok-new.session before after (lines_of input))
     (λ input. IsBegun AnswersOnly (new_script c.args.bundles c.args.seats) before after (lines_of input))
     (λ input b.
@@ -59,7 +60,7 @@ returns-in-Ok-new-clause-out_of_memory g c = λ e.
     let before = g.W.Write.contents c.args.writer.now in
     let after = g.W.Write.contents c.answer_all.new.writer in
     inr
-    (some_weaker (g.R.Read.remaining c.args.reader.now)
+    (if_map (g.R.Read.remaining c.args.reader.now)
     (λ input. IsCutShort FollowsLine c.in-Ok-new.session before after (lines_of input))
     (λ input. IsCutShort AnswersOnly (new_script c.args.bundles c.args.seats) before after (lines_of input))
     (λ input s.

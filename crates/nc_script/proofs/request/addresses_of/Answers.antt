@@ -1,6 +1,6 @@
 use Rattle.std.proofs.Common.{sym, ◌∙◌, arith}
 use Rattle.std.proofs.lemmas.Grind.{common_steps}
-use Rattle.nc_script.proofs.ChoiceWords.{one_more, none_here}
+use Rattle.nc_script.proofs.serving.ChoiceWords.{one_more, none_here}
 use Rattle.nc_script.proofs.request.addresses_of.Goals as goal
 
 pub loop-word-preserved : goal.loop-word-preserved

@@ -1,7 +1,7 @@
 use Rattle.std.proofs.Common.{arith, refl, sym, ◌∙◌}
 use Rattle.std.proofs.lemmas.List.{set-get_or}
 use Rattle.std.proofs.lemmas.Grind.{common_steps}
-use Rattle.nc_script.proofs.Passes.{none_there}
+use Rattle.nc_script.proofs.seating.Passes.{none_there}
 use Rattle.nc_script.proofs.seats.check_in_at.Goals as goal
 
 pub returns-clause-checks : goal.returns-clause-checks

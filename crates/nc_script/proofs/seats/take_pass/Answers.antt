@@ -1,4 +1,4 @@
-use Rattle.nc_script.proofs.Passes.{taken}
+use Rattle.nc_script.proofs.seating.Passes.{taken}
 use Rattle.nc_script.proofs.seats.take_pass.Goals as goal
 
 pub returns : goal.returns

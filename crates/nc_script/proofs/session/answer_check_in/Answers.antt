@@ -1,15 +1,15 @@
 use Rattle.std.proofs.Common.{subst}
 use Rattle.std.specs.Prelude.{codes}
 use Rattle.nc_script.specs.Requests.{CheckIn}
-use Rattle.nc_lines.specs.Replies.{reply_line, refused_reply}
+use Rattle.nc_output.specs.Verdicts.{with_line_end, refused_words}
 use Rattle.nc_script.specs.machinery.Session.{SessionState, Follows}
-use Rattle.nc_lines.proofs.Offered.{added}
-use Rattle.nc_script.proofs.SeatRequests.{checked_follows, no_seat_checks_in, same_state}
+use Rattle.nc_output.proofs.Offered.{added}
+use Rattle.nc_script.proofs.serving.SeatRequests.{checked_follows, no_seat_checks_in, same_state}
 use Rattle.nc_script.proofs.session.answer_check_in.Goals as goal
 
 pub returns-then-check_in-clause-follows : goal.returns-then-check_in-clause-follows
 returns-then-check_in-clause-follows c =
-    added c.extend_from_slice.result _ _ (reply_line (codes "ok"))
+    added c.extend_from_slice.result _ _ (with_line_end (codes "ok"))
     (λ reply. Follows (CheckIn c.args.seat) (record { region = c.args.region.now; seats = c.args.seats.now }) reply
     (record { region = c.check_in.new.region; seats = c.check_in.new.self }))
     c.extend_from_slice.ensures.items
@@ -19,9 +19,9 @@ pub returns-else-check_in-clause-follows : goal.returns-else-check_in-clause-fol
 returns-else-check_in-clause-follows c =
     let old : SessionState = record { region = c.args.region.now; seats = c.args.seats.now } in
     let none = c.if-check_in.ensures.checks in
-    added c.extend_from_slice-else-check_in.result _ _ (reply_line (refused_reply (codes "NoSeat")))
+    added c.extend_from_slice-else-check_in.result _ _ (with_line_end (refused_words (codes "NoSeat")))
     (λ reply. Follows (CheckIn c.args.seat) old reply (record { region = c.check_in.new.region; seats = c.check_in.new.self }))
     c.extend_from_slice-else-check_in.ensures.items
-    (subst (λ (now : SessionState). Follows (CheckIn c.args.seat) old (reply_line (refused_reply (codes "NoSeat"))) now)
+    (subst (λ (now : SessionState). Follows (CheckIn c.args.seat) old (with_line_end (refused_words (codes "NoSeat"))) now)
     (same_state c.args.region.now c.check_in.new.region c.args.seats.now c.check_in.new.self none.2 c.if-check_in.ensures.table none.1)
     (no_seat_checks_in c.args.seat old none.0))

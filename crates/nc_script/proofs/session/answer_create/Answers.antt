@@ -8,11 +8,11 @@ use Rattle.nc_region.specs.declared.fault.CreateFault.{CreateFault}
 use Rattle.nc_region.specs.declared.fault.CreateFault.TheVariants.{WrongLimit, Occupied, OutOfMemory}
 use Rattle.nc_script.specs.Requests.{Create}
 use Rattle.nc_script.specs.machinery.Session.{FollowsIn}
-use Rattle.nc_lines.specs.Replies.{reply_line, refused_reply, fault_words}
-use Rattle.nc_script.proofs.Fitting.{follows_kept, follows_same}
-use Rattle.nc_script.proofs.ChunkRequests.{inserted_stamped}
-use Rattle.nc_script.proofs.Serving.{fault_serves, created_serves, crowded_serves, as_asked}
-use Rattle.nc_lines.proofs.Offered.{added}
+use Rattle.nc_output.specs.Verdicts.{with_line_end, refused_words, fault_words}
+use Rattle.nc_script.proofs.chunks.Fitting.{follows_kept, follows_same}
+use Rattle.nc_script.proofs.serving.ChunkRequests.{inserted_stamped}
+use Rattle.nc_script.proofs.serving.Serving.{fault_serves, created_serves, crowded_serves, as_asked}
+use Rattle.nc_output.proofs.Offered.{added}
 use Rattle.nc_script.proofs.session.answer_create.Goals.{in-Ok-create, in-Err-create}
 use Rattle.nc_script.proofs.session.answer_create.Goals as goal
 
@@ -28,9 +28,9 @@ returns-in-Err-clause-follows c =
     let fault = c.in-Err.fault in
     on_ok_weaker c.push_fault.result
     (λ h. (
-      reply_line (refused_reply (fault_words fault)),
+      with_line_end (refused_words (fault_words fault)),
       h.1,
-      follows_same (Create c.args.base c.args.bytes.items) region (reply_line (refused_reply (fault_words fault)))
+      follows_same (Create c.args.base c.args.bytes.items) region (with_line_end (refused_words (fault_words fault)))
           (λ seats freed. fault_serves region seats freed c.args.base c.args.bytes.items fault
           (subst (λ (limit : ℕ). HasFault c.args.base limit c.args.bytes.items fault) c.limit-limit.ensures.limit c.in-Err.ensures.fault)
           h.0),
@@ -42,14 +42,14 @@ returns-clause-follows c =
     let (base_is, limit_is, code_is, valid) = c.in-Ok.ensures.vetted in
     let old = c.args.region.now in
     let new = c.create.new.self in
-    let refused = reply_line (refused_reply (codes "Occupied")) in
+    let refused = with_line_end (refused_words (codes "Occupied")) in
     elim c.match-create.branch [
       | in-Ok-create w ↦
           let created = w.in-Ok-create.ensures.created in
-          rw (w.result-is, w.out-is) (added w.extend_from_slice.result _ _ (reply_line (codes "ok"))
+          rw (w.result-is, w.out-is) (added w.extend_from_slice.result _ _ (with_line_end (codes "ok"))
           (λ reply. FollowsIn (Create c.args.base c.args.bytes.items) old reply new)
           w.extend_from_slice.ensures.items
-          (follows_kept (Create c.args.base c.args.bytes.items) old new (reply_line (codes "ok"))
+          (follows_kept (Create c.args.base c.args.bytes.items) old new (with_line_end (codes "ok"))
           (ap (λ (r : Region). r.keeper) created.others)
           (λ generation h. inserted_stamped generation old.chunks new.chunks (live_chunk c.in-Ok.vetted) refl created.chunks h)
           (λ seats freed. as_asked c.in-Ok.vetted c.args.base c.args.bytes.items _ _ _ base_is code_is

@@ -1,17 +1,17 @@
 use Rattle.std.specs.Prelude.{codes}
 use Rattle.std.proofs.lemmas.Result.{on_ok_weaker}
 use Rattle.nc_script.specs.Requests.{Modify}
-use Rattle.nc_lines.specs.Replies.{reply_line, refused_reply}
+use Rattle.nc_output.specs.Verdicts.{with_line_end, refused_words}
 use Rattle.nc_script.specs.Replies.{patch_words}
 use Rattle.nc_script.specs.machinery.Session.{FollowsIn}
-use Rattle.nc_lines.proofs.Offered.{added}
-use Rattle.nc_script.proofs.ChunkRequests.{modified_follows, unmodified_follows}
+use Rattle.nc_output.proofs.Offered.{added}
+use Rattle.nc_script.proofs.serving.ChunkRequests.{modified_follows, unmodified_follows}
 use Rattle.nc_script.proofs.session.answer_modify.Goals as goal
 
 pub returns-in-Ok-clause-follows : goal.returns-in-Ok-clause-follows
 returns-in-Ok-clause-follows c =
     let old = c.args.region.now in
-    added c.extend_from_slice.result _ _ (reply_line (codes "ok"))
+    added c.extend_from_slice.result _ _ (with_line_end (codes "ok"))
     (λ reply. FollowsIn (Modify c.args.at c.args.bytes.now) old reply c.modify.new.self)
     c.extend_from_slice.ensures.items
     (modified_follows old c.modify.new.self c.args.at c.args.bytes.now c.requires c.in-Ok.ensures.modified
@@ -21,7 +21,7 @@ pub returns-in-Err-clause-follows : goal.returns-in-Err-clause-follows
 returns-in-Err-clause-follows c =
     on_ok_weaker c.push_patch_fault.result
     (λ e. (
-      reply_line (refused_reply (patch_words c.in-Err.fault)),
+      with_line_end (refused_words (patch_words c.in-Err.fault)),
       e,
       unmodified_follows c.args.region.now c.modify.new.self c.args.at c.args.bytes.now c.in-Err.fault c.requires
           c.in-Err.ensures.refused c.in-Err.ensures.unchanged,

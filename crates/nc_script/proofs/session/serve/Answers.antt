@@ -1,7 +1,7 @@
 use Rattle.std.proofs.Common.{sym, ap, ◌∙◌}
 use Rattle.nc_script.specs.Requests.{Modify, Walk}
 use Rattle.nc_script.specs.machinery.Shown.{shown}
-use Rattle.nc_script.proofs.LineAnswers.{served, served_in}
+use Rattle.nc_script.proofs.serving.LineAnswers.{served, served_in}
 use Rattle.nc_script.proofs.session.serve.Goals as goal
 
 pub returns-in-Create-clause-follows : goal.returns-in-Create-clause-follows

@@ -1,4 +1,5 @@
 use Rattle.std.proofs.Common.{◌≡◌, true, false, ◌∙◌, length, arith, sym, subst, refl}
+use Rattle.nc_text.specs.Places.{limit_of}
 use Rattle.nc_text.proofs.Offered.{confined_if_closed}
 use Rattle.nc_region.specs.Patch.{IsRun, IsHeldBy, IsPatch, LeavesPairs, KeepsTargets, MayRefusePatch}
 use Rattle.nc_region.specs.declared.chunk.Chunk.{Chunk}
@@ -46,9 +47,10 @@ put_patch-requires-clause-patch g c =
     let run : IsRun (g.A.Acts.marked c.self.inside.acts) c.in-Some.chunk c.args.at c.args.new.now = c.fits.ensures.run fits in
     let a = run_along marked c.in-Some.chunk c.args.at c.args.new.now run in
     record {
-      run = run;
+      holds = run.holds;
+      run = run.run;
       pairs = (c.leaves_pairs.ensures.exact a.begins a.news a.bytes a.runs).0 apart;
-      targets = (c.keeps_targets.ensures.exact run.holds run.news run.bytes).0 well;
+      targets = (c.keeps_targets.ensures.exact run.holds run.run.news run.run.bytes).0 well;
     }
 
 pub put_patch-requires-clause-ready : goal.put_patch-requires-clause-ready
@@ -108,7 +110,7 @@ returns-then-not-leaves_pairs-clause-refused g c =
       (c.in-Some.chunk, held, run),
       λ f.
           let x = subst (λ (d : Chunk). (r : IsRun (g.A.Acts.marked c.self.inside.acts) d c.args.at c.args.new.now)
-          × LeavesPairs (g.A.Acts.marked c.self.inside.acts) d c.args.at c.args.new.now r)
+          × LeavesPairs r.run)
           (held_same c.self.inside.chunks.items c.args.at c.in-Some.chunk f.0 c.self.invariant.0.rising held f.1) f.2 in
           let a = run_along (g.A.Acts.marked c.self.inside.acts) c.in-Some.chunk c.args.at c.args.new.now x.0 in
           let yes : c.leaves_pairs.result ≡ true =
@@ -148,10 +150,10 @@ returns-then-not-keeps_targets-clause-refused g c =
       λ p.
           let f = p.1 in
           let x = subst (λ (d : Chunk). (r : IsRun (g.A.Acts.marked c.self.inside.acts) d c.args.at c.args.new.now)
-          × LeavesPairs (g.A.Acts.marked c.self.inside.acts) d c.args.at c.args.new.now r
-          × KeepsTargets (g.A.Acts.marked c.self.inside.acts) d c.args.at c.args.new.now r)
+          × LeavesPairs r.run
+          × KeepsTargets (limit_of (g.A.Acts.marked c.self.inside.acts).bytes) r.run)
           (held_same c.self.inside.chunks.items c.args.at c.in-Some.chunk f.0 c.self.invariant.0.rising held f.1) f.2 in
-          let yes : c.keeps_targets.result ≡ true = (c.keeps_targets.ensures.exact x.0.holds x.0.news x.0.bytes).1 x.2 in
+          let yes : c.keeps_targets.result ≡ true = (c.keeps_targets.ensures.exact x.0.holds x.0.run.news x.0.run.bytes).1 x.2 in
           let differ : true ≡ false = sym yes ∙ c.if-not-keeps_targets.true in
           cc,
     ) in
@@ -209,7 +211,7 @@ returns-clause-lawful g c =
         (
           run,
           (c.leaves_pairs.ensures.exact a.begins a.news a.bytes a.runs).0 apart,
-          (c.keeps_targets.ensures.exact run.holds run.news run.bytes).0 well,
+          (c.keeps_targets.ensures.exact run.holds run.run.news run.run.bytes).0 well,
         ),
       ),
     ) in

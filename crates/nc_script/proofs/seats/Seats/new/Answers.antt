@@ -2,7 +2,7 @@
 use Rattle.std.proofs.Common.{List, Option, Some, map, length, ap, sym, ◌∙◌, subst}
 use Rattle.nc_gens.specs.Seen.{PassState}
 use Rattle.nc_script.specs.machinery.Session.{AreSeated}
-use Rattle.nc_script.proofs.Passes.{seated_first}
+use Rattle.nc_script.proofs.seating.Passes.{seated_first}
 use Rattle.nc_script.proofs.seats.Seats.new.Goals as goal
 
 pub invariant_of-result : goal.invariant_of-result

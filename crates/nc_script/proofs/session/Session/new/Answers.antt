@@ -3,7 +3,7 @@ use Rattle.nc_gens.specs.Seen.{PassState}
 use Rattle.nc_region.specs.Region.{Region}
 use Rattle.nc_script.specs.Script.{Staying}
 use Rattle.nc_script.specs.machinery.Session.{SessionState, SeatsState, FitsSession}
-use Rattle.nc_script.proofs.FirstState.{first_fits}
+use Rattle.nc_script.proofs.seating.FirstState.{first_fits}
 use Rattle.nc_script.proofs.session.Session.new.Goals as goal
 
 pub returns-in-Ok-clause-fits : goal.returns-in-Ok-clause-fits

@@ -5,9 +5,9 @@ use Rattle.nc_script.specs.Requests.{request_in}
 use Rattle.nc_lines.specs.Lines.{bad_line}
 use Rattle.nc_script.specs.machinery.Shown.{shown}
 use Rattle.nc_script.specs.machinery.Session.{SessionState, FollowsLine}
-use Rattle.nc_lines.proofs.Offered.{added_all}
-use Rattle.nc_script.proofs.LineAnswers.{line_follows, bad_line_follows}
-use Rattle.nc_script.proofs.Kept.{request_of_kept}
+use Rattle.nc_output.proofs.Offered.{added_all}
+use Rattle.nc_script.proofs.serving.LineAnswers.{line_follows, bad_line_follows}
+use Rattle.nc_script.proofs.serving.Kept.{request_of_kept}
 use Rattle.nc_script.proofs.session.SessionResponder.answer.Goals as goal
 
 pub returns-in-Some : goal.returns-in-Some

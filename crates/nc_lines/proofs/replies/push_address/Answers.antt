@@ -1,5 +1,0 @@
-use Rattle.nc_lines.proofs.replies.push_address.Goals as goal
-use Rattle.std.proofs.Common.{rules}
-
-pub returns : goal.returns
-returns c = search rules

@@ -1,0 +1,2 @@
+-- What proofs of the crates above may use of this crate: lemmas on bytes that were added to others, and on bytes that differ.
+pub use Rattle.nc_output.proofs.Added.{added, added_all, moves_front, eqb_no}

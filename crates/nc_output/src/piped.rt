@@ -1,0 +1,75 @@
+//! A writer that tells whether its reader is gone.
+
+ghost use Rattle.std.specs.Prelude.{◌≡◌, ◌↔◌, true, false};
+ghost use Rattle.std.specs.Io.{WritesAtMost};
+ghost use Rattle.std.specs.Io.KnownBytes.{Keeps, WriteAppends};
+ghost use Rattle.std.specs.IoError.{error_kind};
+ghost use Rattle.nc_output.specs.Piped.{TellsClosed};
+
+use std::io::{Error, ErrorKind, Result, Write};
+
+/// Passes bytes on to a writer, and tells whether that failed because nobody reads them any more, as those of a closed
+/// pipe (`EPIPE`).
+#[derive(Drop)]
+pub struct Piped<W> {
+    writer: W,
+    is_closed: bool,
+}
+
+impl<W> Piped<W> {
+    /// Passes bytes on to this writer, which hasn't failed yet.
+    pub fn new(writer: W) -> Piped<W>
+        ensures writer { result.writer ≡ writer }
+        ensures open { result.is_closed ≡ false }
+    {
+        Piped {
+            writer,
+            is_closed: false,
+        }
+    }
+
+    /// Whether the last error was that nobody reads what is written.
+    pub fn is_closed(&self) -> bool
+        ensures { result ≡ self.now.is_closed }
+    {
+        self.is_closed
+    }
+}
+
+/// Whether an error says that nobody reads what is written.
+fn is_of_pipe(error: &Error) -> bool
+    ensures { (result ≡ true) ↔ (error_kind error.now ≡ ErrorKind.BrokenPipe) }
+{
+    error.kind() == ErrorKind::BrokenPipe
+}
+
+impl<W: Write> Write for Piped<W> {
+    ghost contents = { λ p. W.contents p.writer };
+
+    fn write(&mut self, buf: &[u8]) -> Result<usize>
+        ensures bound { WritesAtMost result buf.now }
+        ensures bytes { WriteAppends (W.contents self.old.writer) (W.contents self.new.writer) result buf.now }
+        ensures closed { TellsClosed result self.old.is_closed self.new.is_closed }
+    {
+        match self.writer.write(buf) {
+            Ok(count) => Ok(count),
+            Err(error) => {
+                self.is_closed = is_of_pipe(&error);
+                Err(error)
+            }
+        }
+    }
+
+    fn flush(&mut self) -> Result<()>
+        ensures bytes { Keeps (W.contents self.old.writer) (W.contents self.new.writer) }
+        ensures closed { TellsClosed result self.old.is_closed self.new.is_closed }
+    {
+        match self.writer.flush() {
+            Ok(()) => Ok(()),
+            Err(error) => {
+                self.is_closed = is_of_pipe(&error);
+                Err(error)
+            }
+        }
+    }
+}

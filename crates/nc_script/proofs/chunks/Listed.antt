@@ -1,0 +1,41 @@
+-- Members of lists, and of what is made of each of them.
+use Rattle.std.proofs.Common.{◌≡◌, ℕ, zero, suc, ◌+◌, ◌≤◌, List, [], ◌∷◌, map, Some, refl, ap, subst, arith}
+use Rattle.std.specs.List.{slice_get}
+use Rattle.std.specs.Prelude.{Contains}
+use Rattle.nc_region.specs.Each.{Each}
+use Rattle.nc_region.specs.Region.{IsRising}
+use Rattle.nc_region.specs.declared.chunk.Chunk.{Chunk}
+
+-- what is made of a member is a member
+pub listed_map : {X Y : Type 0} (f : X → Y) (xs : List X) (x : X) → Contains xs x → Contains (map f xs) (f x)
+listed_map f [] x h = absurd (omega (arith, h.1))
+listed_map f (y ∷ ys) x (zero, l, e) = (0, omega arith, ap f e)
+listed_map f (y ∷ ys) x (suc k, l, e) =
+    let rest = listed_map f ys x (k, omega (arith, l), e) in (suc rest.0, omega (arith, rest.1), rest.2)
+
+-- it is made of a member
+pub listed_unmap : {X Y : Type 0} (f : X → Y) (xs : List X) (z : Y) → Contains (map f xs) z → (x : X) × Contains xs x × (f x ≡ z)
+listed_unmap f [] z (k, l, e) = absurd (omega (arith, l))
+listed_unmap f (y ∷ ys) z (zero, l, e) = (y, (0, omega arith, refl), e)
+listed_unmap f (y ∷ ys) z (suc k, l, e) =
+    let rest = listed_unmap f ys z (k, omega (arith, l), e) in
+    (rest.0, (suc rest.1.0, omega (arith, rest.1.1), rest.1.2), rest.2)
+
+-- what stands at an index is a member
+pub listed_at : {X : Type 0} (xs : List X) (k : ℕ) (x : X) → slice_get xs k ≡ Some x → Contains xs x
+listed_at [] k x e = absurd cc
+listed_at (y ∷ ys) zero x e = (0, omega arith, cc)
+listed_at (y ∷ ys) (suc k) x e = let rest = listed_at ys k x e in (suc rest.0, omega (arith, rest.1), rest.2)
+
+-- chunks that rise from a place lie above it
+pub rising_listed : (from : ℕ) (chunks : List Chunk) (c : Chunk) → IsRising from chunks → Contains chunks c → from ≤ c.base
+rising_listed from [] c rising (k, l, e) = absurd (omega (arith, l))
+rising_listed from (d ∷ rest) c rising (zero, l, e) = subst (λ (x : Chunk). from ≤ x.base) e rising.0
+rising_listed from (d ∷ rest) c rising (suc k, l, e) =
+    omega (arith, rising.0, rising_listed (d.base + d.length) rest c rising.1 (k, omega (arith, l), e))
+
+-- and so does each of them
+pub rising_each : (from to : ℕ) (chunks : List Chunk) → to ≤ from → IsRising from chunks → Each (λ (c : Chunk). to ≤ c.base) chunks
+rising_each from to [] le rising = tt
+rising_each from to (d ∷ rest) le rising =
+    (omega (arith, le, rising.0), rising_each (d.base + d.length) to rest (omega (arith, le, rising.0)) rising.1)

@@ -1,0 +1,62 @@
+-- A new session stands for the first state of a script.
+use Rattle.std.proofs.Common.{◌≡◌, ℕ, zero, suc, ◌<◌, ◌≤◌, ◌+◌, Bool, List, [], ◌∷◌, ◌++◌, length, map, get_or, replicate}
+use Rattle.std.proofs.Common.{Option, Some, None}
+use Rattle.std.proofs.Common.{refl, sym, ◌∙◌}
+use Rattle.std.proofs.Common.{subst, arith}
+use Rattle.std.proofs.lemmas.List.{map-append, length-map, length-replicate, get_or-replicate}
+use Rattle.atomic_table.specs.Seated.{TableId}
+use Rattle.nc_gens.specs.Seen.{PassState, first_pass, new_passes, first_keeper}
+use Rattle.nc_text.specs.MarkedText.{MarkedText}
+use Rattle.nc_script.specs.Script.{ScriptSeat, Staying, Left}
+use Rattle.nc_script.specs.machinery.Session.{SessionState, FitsSession, SeatFits}
+use Rattle.nc_gens.proofs.Offered.{length-new_passes}
+
+-- what holds of each member and of one more
+each_push : {X : Type 0} (P : X → Type 0) (xs : List X) (y d : X) → ((i : ℕ) → i < length xs → P (get_or xs i d)) → P y → (i : ℕ)
+    → i < length xs + 1
+    → P (get_or (xs ++ y ∷ []) i d)
+each_push P [] y d h p zero l = p
+each_push P [] y d h p (suc i) l = absurd (omega (arith, l))
+each_push P (x ∷ xs) y d h p zero l = h 0 (omega arith)
+each_push P (x ∷ xs) y d h p (suc i) l = each_push P xs y d (λ j m. h (suc j) (omega (arith, m))) p i (omega (arith, l))
+
+-- the word of each first pass is 0
+first_words : (table : TableId) (n i : ℕ) → i < n → SeatFits 0 0 (get_or (map (λ (p : PassState). Some p)
+    (new_passes table n)) i None) 0 (Staying 0)
+first_words table zero i l = absurd (omega (arith, l))
+first_words table (suc n) i l =
+    let first = map (λ (p : PassState). Some p) (new_passes table n) in
+    let long : length first ≡ n = length-map (new_passes table n) (λ (p : PassState). Some p) ∙ length-new_passes table n in
+    subst (λ (ps : List (Option PassState)). SeatFits 0 0 (get_or ps i None) 0 (Staying 0))
+    (sym (map-append (λ (p : PassState). Some p) (new_passes table n) (first_pass table n ∷ [])))
+    (each_push (λ (p : Option PassState). SeatFits 0 0 p 0 (Staying 0)) first (Some (first_pass table n)) None
+    (λ j m. first_words table n j (omega (arith, m, long))) (refl, refl, omega arith, omega arith) i (omega (arith, l, long)))
+
+-- a session over a new region
+abbrev pub first_state : MarkedText → List Bool → TableId → ℕ → SessionState
+first_state marked made table n = record {
+  region = record { marked = marked; made = made; chunks = []; keeper = first_keeper table n; told = None; logged = None };
+  seats = record { table = table; passes = map (λ (p : PassState). Some p) (new_passes table n) };
+}
+
+-- its seats are all there, with the number 0
+pub first_fits : (marked : MarkedText) (made : List Bool) (table : TableId) (n : ℕ) → 1 ≤ n
+    → FitsSession (first_state marked made table n) (replicate n (Staying 0)) 0
+first_fits marked made table n some =
+    let long = length-replicate n (Staying 0) in
+    record {
+      in_range = omega arith;
+      current = omega arith;
+      stamps = tt;
+      seats_fit = record {
+        some = omega (arith, long, some);
+        passes_long = length-map (new_passes table n) (λ (p : PassState). Some p) ∙ (length-new_passes table n ∙ sym long);
+        bounds_long = length-replicate {A = ℕ} n 0 ∙ sym long;
+        each = λ i l.
+            let inside : i < n = omega (arith, l, long) in
+            subst (λ (b : ℕ). SeatFits 0 0 (get_or (map (λ (p : PassState). Some p) (new_passes table n)) i None) b
+            (get_or (replicate n (Staying 0)) i (Left 0))) (sym (get_or-replicate {A = ℕ} n i 0 0 inside))
+            (subst (λ (s : ScriptSeat). SeatFits 0 0 (get_or (map (λ (p : PassState). Some p) (new_passes table n)) i None) 0 s)
+            (sym (get_or-replicate n i (Staying 0) (Left 0) inside)) (first_words table n i inside));
+      };
+    }
