@@ -9,10 +9,10 @@
  * What every call keeps
  *   Threads     The library starts no threads. Any thread may call, and several may call at once, as long as nobody writes what a call
  *               reads or writes. Calls on one region must be made one at a time.
- *   Arguments   Numbers other than lengths can have any value: where a value makes no sense, the call answers with a fault. The host must
+ *   Arguments   Numbers other than lengths can have any value: where a value makes no sense, the call returns a fault. The host must
  *               ensure that
- *               - a pointer with a length leads to that many bytes or elements, even where the call uses fewer (so a length is below 2^63:
- *                 a difference that has wrapped is not a length, and no fault reveals it);
+ *               - a pointer with a length points to that many bytes or elements, even where the call uses fewer (so a length is below
+ *                 2^63: a difference that has wrapped is not a length, and no fault reveals it);
  *               - no pointer is null, except one whose length is 0: nothing is read or written through it, so it may be null or any other
  *                 address (tested for each call, not proved);
  *               - no buffer that is written overlaps another argument, and nobody changes lent memory while the call runs.
@@ -29,14 +29,14 @@
  *   Memory      The host lends code and buffers for the duration of the call. The library keeps nothing between calls, not even a pointer.
  *               Each call except nc_host_decode and nc_host_version allocates memory of its own by malloc, and frees all of it before it
  *               returns.
- *   Answers     The same arguments give the same answer, except for NC_OUT_OF_MEMORY. That it comes only where memory ran out is tested, not
- *               proved.
+ *   Answers     The same arguments give the same answer, except for NC_OUT_OF_MEMORY. That it is returned only when memory ran out is
+ *               tested, not proved.
  *
- * What the host has to keep, without which no verdict protects it, in short (docs/EMBEDDING.md lists every duty, with its reason):
+ * The host's duties, without which no verdict protects it, in short (docs/EMBEDDING.md lists every duty, with its reason):
  *   - Untrusted code runs in a 32-bit code segment; in 64-bit mode the same bytes are other instructions. Nothing in that segment is
- *     executable except the text and what is below NC_START.
+ *     executable except the text and the memory below NC_START.
  *   - Untrusted code can write neither the region's text nor the code below NC_START, and can read no more than it is allowed to.
- *   - A segment ends at the limit, so that whatever goes to the limit or above it traps.
+ *   - A segment ends at the limit, so that control that goes to the limit or above it traps.
  *   - Untrusted code is entered only at bundle starts, and bundle starts below NC_START hold trusted code or stops.
  *   - Every address of the region that no chunk covers holds NC_STOP; those of the last bundle, the guard, always do.
  *   - Each put is one atomic store of one byte (memory_order_seq_cst), and the puts are made in the order in which they are written. At
@@ -49,15 +49,15 @@
  *   - A patch or a deletion names a chunk by the base and the length with which it was created. A part of a chunk is never deleted or
  *     patched as a chunk of its own: the rest of the chunk could then jump between instructions, and no call would report it.
  *   - A chunk is created only where there is no chunk, live or retired. (Until a call has judged the range, `base` + `len` may wrap.)
- *   - A stop at which a thread traps may be gone when the handler looks: it belonged to a patch that was being made, or to unused text
- *     where a chunk is being created. The trap doesn't tell it from a data fault. So the writer increments a count before the first act of
- *     a call and after the last (of a deletion, after the last stop). The handler waits for an even count, then reads the byte and the count
- *     again, until the count is the same. If the byte is NC_STOP, the stop is the code's own. If it isn't, the thread goes back to the same
- *     instruction once; the same fault at the same count, unless the thread has entered anew, is the code's own.
+ *   - A stop at which a thread traps may be gone when the handler reads it: it belonged to a patch that was being made, or to unused text
+ *     where a chunk is being created. The trap doesn't distinguish it from a data fault. So the writer increments a count before the first
+ *     act of a call and after the last (for a deletion, after the last stop). The handler waits for an even count, then reads the byte and
+ *     the count again, until the count is the same. If the byte is NC_STOP, the stop is the code's own. If it isn't, the thread goes back
+ *     to the same instruction once; the same fault at the same count, unless the thread has entered anew, is the code's own.
  *   - Signal handlers run on an alternate stack that no 32-bit stack pointer reaches (above 4 GiB, or disarmed while in use), or their
  *     signals are blocked while a thread is inside: a kernel takes the untrusted stack pointer as a flat address.
  *   - Trusted code that is entered clears the direction flag, since untrusted code may set it, and uses no stack before it has loaded its
- *     own stack pointer. It reads each address by which it goes back once, masks it, and checks that it lies in the region.
+ *     own stack pointer. It reads each address to which it goes back once, masks it, and checks that it is in the region.
  *   - A deleted span is reused only once every thread that may have been in it has left the region or has been outside since the stamp was
  *     drawn. Until then and afterwards its pages stay executable and full of NC_STOP: threads may jump to its bundle starts.
  *
@@ -103,9 +103,9 @@ extern "C" {
  *
  *  0 to 10  For a chunk the first fault is returned: 1 to 3 in this order, then the one of 4 to 6 with the lowest address, then 7 with the
  *           lowest address. 8 says nothing about the code, except that 1 to 3 don't hold. 9 from a call without a handle says that the
- *           chunk is valid, or the patch lawful; from a call on a handle it comes before the faults of a patch and after those of a
- *           chunk. 10 comes only from nc_host_decode. docs/GUIDE.md says what a compiler may emit; specs/Rows of nc_decode is the table
- *           of permitted instructions.
+ *           chunk is valid, or the patch lawful; from a call on a handle it precedes the faults of a patch and follows those of a
+ *           chunk. 10 is returned only by nc_host_decode. docs/GUIDE.md says what a compiler may emit; specs/Rows of nc_decode is the
+ *           table of permitted instructions.
  * 16 to 21  For a patch the first of these is returned, in this order. None has an address.
  * 32 to 44  From calls on handles, beside those above.
  */
@@ -215,7 +215,7 @@ typedef struct NcInstruction {
     uint32_t flow;
     int32_t rel;      /* the displacement of a branch, jump or call, else 0 */
     uint32_t reg;     /* the register of an indirect jump or call, else 0 */
-    uint32_t masks;   /* for `and reg, -32` spelled 83 E0+reg E0, any but ESP: 16 + that register; else 0. Longer forms mask nothing */
+    uint32_t masks;   /* for `and reg, -32` encoded 83 E0+reg E0, any but ESP: 16 + that register; else 0. Longer forms mask nothing */
 } NcInstruction;
 
 typedef struct NcVerdict {
@@ -291,11 +291,11 @@ typedef struct NcWalk {
 
 /*
  * Decodes the instruction at the start of the bytes.
- * Promised: NC_OK exactly where the bytes begin with a whole permitted instruction (IsAtFront), with what that instruction says;
+ * Promised: NC_OK exactly where the bytes begin with a whole permitted instruction (IsAtFront), with that instruction's numbers;
  * NC_CUT_SHORT exactly where the bytes are a proper prefix of one (IsProperFront), as an empty list of bytes is; NC_NOT_PERMITTED
  * otherwise.
- * Not promised: that the instruction may stand at some address; nc_host_vet judges that.
- * Cost: at most 12 bytes are looked at; no memory is allocated.
+ * Not promised: that the instruction is allowed at any particular address; nc_host_vet judges that.
+ * Cost: at most 12 bytes are examined; no memory is allocated.
  */
 NcInstruction nc_host_decode(const uint8_t *code, size_t len);
 
@@ -320,8 +320,8 @@ NcVerdict nc_host_marks(uint32_t base, uint32_t limit, const uint8_t *code, size
  * Vets a chunk, and writes the acts of its creation, which put it into a span of the text that holds only stops.
  * Promised: for NC_OK exactly the `len` + 2 acts of a creation (log_of_create): the first `len` - `len` / 32 put the bytes that aren't at
  * bundle starts, the next is NC_SETTLE, the next marks the span, and the others put the bytes at bundle starts. NC_NO_ROOM if the chunk is
- * valid and the buffer has room for fewer acts. That every path is confined between any two of these acts is proved of a region's creation,
- * which makes them in an unused span.
+ * valid and the buffer has room for fewer acts. That every path is confined between any two of these acts is proved for a region's
+ * creation, which makes them in an unused span.
  * Not promised: that the span is unused; the host knows its chunks.
  */
 NcActs nc_host_create(uint32_t base, uint32_t limit, const uint8_t *code, size_t len, NcAct *acts, size_t acts_len);
@@ -329,8 +329,8 @@ NcActs nc_host_create(uint32_t base, uint32_t limit, const uint8_t *code, size_t
 /*
  * Writes the acts of a patch: `new_len` new bytes from the address `at` on, in the chunk whose bytes at `base` are now `code`. The new
  * bytes are instructions of the same lengths as those that they replace.
- * Promised: the verdict is that on this patch of a region in which there is only this chunk (IsPatch, MayRefusePatch). A patch that is
- * reported lawful is lawful in every region in which the chunk is live, whatever other chunks there are. A patch that begins in the chunk
+ * Promised: the verdict is that on this patch in a region with only this chunk (IsPatch, MayRefusePatch). A patch that is reported
+ * lawful is lawful in every region in which the chunk is live, whatever other chunks there are. A patch that begins in the chunk
  * and is lawful in such a region gets NC_OK, NC_OUT_OF_MEMORY or NC_NO_ROOM. For NC_OK the acts are exactly those of the patch
  * (log_of_modify): for each instruction whose bytes change, a stop at its first byte, NC_SETTLE, its further bytes, NC_SETTLE, its first
  * byte; for an instruction of a single byte, only that byte. NC_NO_ROOM if the patch is lawful and the buffer has room for fewer than
@@ -338,8 +338,8 @@ NcActs nc_host_create(uint32_t base, uint32_t limit, const uint8_t *code, size_t
  * The host must lend as `code` the bytes that are in the text. If it lends others, the verdict is on those.
  * Cost: `code` is vetted again, and a region is made for the duration of the call, in memory of some five times the chunk's length and one
  * byte for each 256 bytes of the region: only its bytes tell the library that the chunk was accepted, and where its instructions begin.
- * (nc_region_patch knows this, and looks only at the bundles of the patch and of its targets.) So the time has a part for the chunk, some
- * fifteen to twenty times that of nc_host_vet, and a part for the region, whatever the chunk: for a chunk of a few bundles some 5
+ * (nc_region_patch knows this, and reads only the bundles of the patch and of its targets.) So the time has a part for the chunk, some
+ * fifteen to twenty times that of nc_host_vet, and a part for the region, independent of the chunk: for a chunk of a few bundles some 5
  * microseconds in a region of 4 MiB and 50 in one of 64 MiB. A patch may be refused for lack of memory.
  */
 NcActs nc_host_patch(uint32_t base, uint32_t limit, const uint8_t *code, size_t len, uint32_t at, const uint8_t *new_bytes, size_t new_len,
@@ -365,11 +365,11 @@ uint32_t nc_host_version(void);
  * What all of them keep
  *   Locks       Calls on one region must be made one at a time: the host has its own lock around them, and around the acts that it makes in
  *               its memory. Calls on one seat must be made by one thread at a time, and need no lock, whatever runs on the region.
- *   Threads     A handle may go to another thread, if this is ordered by a lock, a thread's start or join, or a SeqCst atomic.
+ *   Threads     A handle may be passed to another thread, if this is ordered by a lock, a thread's start or join, or a SeqCst atomic.
  *   Refusals    Each refusal leaves the region, the seats and the buffer unchanged, except that after a creation refused for lack of memory
  *               the region may have allocated memory for the text of its span. An empty handle is refused with NC_NO_HANDLE.
  *   Acts        Each change writes the acts by which it changes the region's text, including the settlings, so that the host's memory has
- *               the region's bytes once the host has made them (of a deletion, once nc_region_end_delete has been called). If a buffer is
+ *               the region's bytes once the host has made them (for a deletion, once nc_region_end_delete has been called). If a buffer is
  *               shorter than the most that a change of this length may write, nothing is written and nothing changes, even if fewer acts
  *               are due: the fault is NC_NO_ROOM, and `count` is that length. But a length of 0 doesn't ask for this number: the change is
  *               made, `count` is 0, and its acts aren't told, so that the host's memory no longer has the region's bytes. That is for a host
@@ -382,7 +382,7 @@ uint32_t nc_host_version(void);
 /*
  * Makes a region of `bundles` bundles, all stops, with no chunk and `seats` seats (IsFirst), in an empty handle.
  * Promised: NC_HANDLE_TAKEN for a handle that isn't empty; else NC_BAD_SEATS and NC_BAD_SIZE exactly where they apply, in this order;
- * else no fault but NC_OUT_OF_MEMORY.
+ * else no fault except NC_OUT_OF_MEMORY.
  * Cost: memory for a table of the text's pages, and 8 bytes and more for each seat.
  */
 uint32_t nc_region_new(uint32_t bundles, uint32_t seats, NcRegion *region);
@@ -403,16 +403,16 @@ uint32_t nc_region_seat(NcRegion *region, NcSeat *seat);
 
 /*
  * Vets the chunk and creates it in the region (IsCreated), and writes the acts as nc_host_create does.
- * Promised: a refusal is NC_NO_HANDLE; else what vetting finds, 1 to 8; else the first of NC_UNDER_WAY, NC_NO_ROOM, NC_OCCUPIED and
- * NC_OUT_OF_MEMORY that holds. A buffer of `len` + 2 acts is enough; an `acts_len` of 0 makes the change without telling its acts.
+ * Promised: a refusal is NC_NO_HANDLE; else the fault that vetting finds, 1 to 8; else the first of NC_UNDER_WAY, NC_NO_ROOM, NC_OCCUPIED
+ * and NC_OUT_OF_MEMORY that holds. A buffer of `len` + 2 acts is enough; an `acts_len` of 0 makes the change without telling its acts.
  * The host must make the acts after the call, before the next change. No call names a free span: nc_region_chunk returns the chunks, in
- * ascending order, and what lies between them is free.
+ * ascending order, and the spans between them are free.
  * Cost: that of nc_host_vet, and a copy of the code. This is under the lock.
  */
 NcChange nc_region_create(NcRegion *region, uint32_t base, const uint8_t *code, size_t len, NcAct *acts, size_t acts_len);
 
 /*
- * Vets a chunk for a region with this limit and keeps a copy of it, in an empty handle. No region is looked at, so no lock is needed.
+ * Vets a chunk for a region with this limit and keeps a copy of it, in an empty handle. No region is read, so no lock is needed.
  * Promised: NC_HANDLE_TAKEN for a handle that isn't empty; else NC_OK only for a valid chunk, and 1 to 8 only for a chunk with that fault.
  * Cost: that of nc_host_vet, and memory for a copy of the code and half as much for its marks, until it is loaded or freed.
  */
@@ -431,22 +431,22 @@ NcChange nc_region_load(NcRegion *region, NcVetted *vetted, NcAct *acts, size_t 
 
 /*
  * Patches a chunk (IsPatch, IsModified), and writes the acts as nc_host_patch does.
- * Promised: a refusal is NC_NO_HANDLE; else the first of NC_UNDER_WAY, NC_NO_ROOM (for at most 32 bytes; more are a fault of the patch) and the
- * faults of a patch that holds. A buffer of 3 * `len` acts is enough; an `acts_len` of 0 makes the change without telling its acts.
+ * Promised: a refusal is NC_NO_HANDLE; else the first of NC_UNDER_WAY, NC_NO_ROOM (for at most 32 bytes; more are a fault of the patch) and
+ * the faults of a patch that holds. A buffer of 3 * `len` acts is enough; an `acts_len` of 0 makes the change without telling its acts.
  * The bytes must be whole instructions, even where only an immediate or a displacement in one changes. Acts are written for the
  * instructions that differ, so `count` may be 0. The host must make the acts after the call, before the next change.
- * Cost: that of the patch and of the bundles in which its targets lie, whatever the chunk; no memory is allocated.
+ * Cost: that of the patch and of its targets' bundles, whatever the chunk; no memory is allocated.
  */
 NcChange nc_region_patch(NcRegion *region, uint32_t at, const uint8_t *bytes, size_t len, NcAct *acts, size_t acts_len);
 
 /*
  * The first step of a deletion: writes its acts as nc_host_delete does; the region still has the chunk (HasBegun). Until the last step,
- * which can't be left out, each call that changes the region is refused with NC_UNDER_WAY; calls that only look, and nc_region_seat,
- * answer.
+ * which can't be left out, each call that changes the region is refused with NC_UNDER_WAY; calls that only read, and nc_region_seat,
+ * are not.
  * Promised: a refusal is NC_NO_HANDLE; else the first of NC_UNDER_WAY, NC_NO_CHUNK, NC_FULL and NC_NO_ROOM that holds. A buffer for two
  * acts more than the chunk has bytes is enough; an `acts_len` of 0 begins the deletion without telling its acts.
- * The host must make all acts except NC_BUMP, which is the last one, before it calls nc_region_end_delete, which is that act. A stamp drawn
- * before the stops are there would free the span while a thread is in it.
+ * The host must make all acts except NC_BUMP, the last one, before it calls nc_region_end_delete, which is that act. A stamp drawn before
+ * the stops are in place would free the span while a thread is in it.
  * Cost: that of writing the acts; no memory is allocated.
  */
 NcChange nc_region_begin_delete(NcRegion *region, uint32_t base, NcAct *acts, size_t acts_len);
@@ -459,9 +459,9 @@ NcStamp nc_region_end_delete(NcRegion *region);
 
 /*
  * Writes the acts of the creation of the live chunk at `base`, as runs: for each bundle an NC_PUT_RUN of all its addresses but the first;
- * NC_SETTLE; NC_MARK; and for each bundle an NC_PUT_RUN of its first address. These are `len` / 16 + 2 acts in the place of `len` + 2: for
- * a chunk of 64 MiB 50 MB in the place of 800. The chunk's bytes are those that the region has now, so directly after a creation these are
- * its acts (AreCreationRuns): a host makes a large chunk by nc_region_create, without a buffer, and then calls this. It changes nothing.
+ * NC_SETTLE; NC_MARK; and for each bundle an NC_PUT_RUN of its first address. These are `len` / 16 + 2 acts instead of `len` + 2: for a
+ * chunk of 64 MiB 50 MB instead of 800. The chunk's bytes are those that the region has now, so directly after a creation these are its
+ * acts (AreCreationRuns): a host creates a large chunk by nc_region_create, without a buffer, and then calls this. It changes nothing.
  * Promised: a refusal is NC_NO_HANDLE; else NC_NO_CHUNK exactly where no live chunk has this base; else NC_NO_ROOM exactly where the buffer
  * is shorter, and then `count` is the number of acts. A length of 0 asks for this number.
  * Cost: that of reading the chunk twice; no memory is allocated.

@@ -2,16 +2,16 @@
  * nc_host.hpp: regions, seats and vetted chunks of nc_host.h as C++ values.
  *
  * It needs C++17, and neither exceptions nor RTTI. A member makes the call of the library that its comment names (a deletion makes two), and
- * nc_host.h says what that call promises, what it costs, and what the host has to keep. Nothing is proved of this header. The calls over
- * lent memory, whose names begin with nc_host_, have no handle, so there is nothing to wrap: a host makes them by nc_host.h.
+ * nc_host.h says what that call promises, what it costs, and what the host has to keep. Nothing is proved about this header. The calls
+ * over lent memory, whose names begin with nc_host_, have no handle, so there is nothing to wrap: a host makes them by nc_host.h.
  *
- *   Locks     "Under the lock" means the host's own lock for the region: calls on one region must be made one at a time, those that only
- *             look included, so no member is const. The lock also covers the acts that the host makes for a change. "No lock" means that
+ *   Locks     "Under the lock" means the host's own lock for the region: calls on one region must be made one at a time, including those
+ *             that only read, so no member is const. The lock also covers the acts that the host makes for a change. "No lock" means that
  *             the call needs none, as long as one thread at a time uses the value.
  *   Values    Region, Seat and Vetted own a handle. They are moved and never copied. A default-constructed and a moved-from value are
  *             empty and may be used: their calls are refused with NC_NO_HANDLE. A destructor frees or leaves, and so does an assignment
  *             before it takes the other handle; for a Region that is a call under the lock, too.
- *   Threads   A value may go to another thread, as nc_host.h says of handles.
+ *   Threads   A value may be passed to another thread, as nc_host.h says about handles.
  *   Buffers   A call that writes acts returns the written part of the buffer. An empty buffer means what a length of 0 does in nc_host.h:
  *             a change is made, and its acts aren't told.
  *   Programs  All sources of a program should be compiled in one standard, since spans are std::span only where there is one.
@@ -53,7 +53,7 @@ class Span {
     template <std::size_t N>
     constexpr Span(T (&array)[N]) noexcept : data_(array), size_(N) {}
 
-    /* From whatever has data() and size(): an array, a vector, a span of elements that aren't const. */
+    /* From anything that has data() and size(): an array, a vector, a span of elements that aren't const. */
     template <class Source, class Data = decltype(std::declval<Source &>().data()), class = decltype(std::declval<Source &>().size()),
               class = std::enable_if_t<std::is_convertible_v<std::remove_pointer_t<Data> (*)[], T (*)[]>>>
     constexpr Span(Source &&source) noexcept : data_(source.data()), size_(source.size()) {}
@@ -78,7 +78,7 @@ using Buffer = Span<NcAct>;
 
 /* ---- Faults and results */
 
-/* A fault of nc_host.h, with what its call tells beside it. */
+/* A fault of nc_host.h, with the other numbers that its call returns. */
 class Fault {
   public:
     constexpr Fault() noexcept = default; /* NC_OK */
@@ -150,7 +150,7 @@ class [[nodiscard]] Result : public Result<void> {
 
 namespace detail {
 
-/* The handle of one value. All zeros are an empty one, to which `give_back` does nothing. */
+/* The handle of one value. All zeros are an empty handle, for which `give_back` does nothing. */
 template <class Handle, void (*give_back)(Handle *)>
 class Owned {
   public:
@@ -354,8 +354,8 @@ class Region {
         return end_delete(acts.first(begun.count), make);
     }
 
-    /* The same from the second step on, for a deletion whose `make` threw an exception. It has no acts, so `make` asks for the runs, and makes
-       all of them: those that were made before are stops already. NC_NOT_BEGUN, and no call of `make`, where no deletion is under way. */
+    /* delete_chunk from the second step on, for a deletion whose `make` threw an exception. It has no acts, so `make` asks for the runs, and
+       makes all of them: those that were made before are stops already. NC_NOT_BEGUN, and no call of `make`, if no deletion is under way. */
     template <class Make>
     Result<std::uint64_t> resume_delete(Make &&make) {
         NcChange wanted = nc_region_deletion_runs(handle(), nullptr, 0);
@@ -430,7 +430,7 @@ struct PutsOnly {
 
 namespace detail {
 
-/* Whether visit knows what an act does: its kind, and for NC_PUT_RUN the bytes of its bundle. */
+/* Whether visit can make an act: whether it knows the kind, and for NC_PUT_RUN the bytes of the bundle. */
 inline bool is_known(const NcAct &act, std::uint32_t base, Bytes code) noexcept {
     if (act.kind == NC_PUT_RUN) {
         return act.at >= base && code.size() >= NC_BUNDLE && act.at - base <= code.size() - NC_BUNDLE;
@@ -452,9 +452,9 @@ void visit_run(std::uint32_t bits, Put put) {
 
 /*
  * Goes through acts in their order, and through the puts of a run one by one: visitor.put(at, byte), visitor.settle(),
- * visitor.mark(at, length) and visitor.bump(). `code` is the code of the chunk at `base`, from which the bytes of NC_PUT_RUN come; only
- * nc_region_creation_runs writes such acts. Returns false, and calls nothing, where an act is of no kind of nc_host.h, or where a run needs
- * bytes that `code` hasn't. No call of the library is made; the host holds its lock around making the acts.
+ * visitor.mark(at, length) and visitor.bump(). `code` is the code of the chunk at `base`, and the source of the bytes of NC_PUT_RUN; only
+ * nc_region_creation_runs writes such acts. Returns false, and calls nothing, if nc_host.h doesn't name an act's kind, or if a run needs
+ * bytes that `code` doesn't have. No call of the library is made; the host holds its lock around making the acts.
  */
 template <class Visitor>
 [[nodiscard]] bool visit(Acts acts, std::uint32_t base, Bytes code, Visitor &&visitor) {
@@ -488,7 +488,7 @@ template <class Visitor>
     return true;
 }
 
-/* The same for acts without NC_PUT_RUN: those of every call except nc_region_creation_runs. */
+/* As above, for acts without NC_PUT_RUN: those of every call except nc_region_creation_runs. */
 template <class Visitor>
 bool visit(Acts acts, Visitor &&visitor) {
     return visit(acts, 0, Bytes(), std::forward<Visitor>(visitor));

@@ -1,4 +1,4 @@
-//! How long a check-in takes, and beside it a bare load and store of atomic words in the same order of memory.
+//! The time of a check-in, and for comparison that of a bare load and store of atomic words with the same memory ordering.
 
 ghost use Rattle.std.specs.Prelude.{◌≡◌};
 
@@ -26,8 +26,8 @@ fn bare_step(generation: &AtomicU64, word: &AtomicU64) {
     word.store(generation.load(Ordering::SeqCst), Ordering::SeqCst);
 }
 
-/// Does this step `times` times. It is a function of its own, since a compiler that sees that
-/// nobody shares the words makes plain ones of them.
+/// Does the bare step `times` times. It is a function of its own, since a compiler that sees that the words aren't shared
+/// turns them into plain ones.
 #[inline(never)]
 fn bare_times(generation: &AtomicU64, word: &AtomicU64, times: u32) {
     for _ in 0..times {
@@ -35,7 +35,7 @@ fn bare_times(generation: &AtomicU64, word: &AtomicU64, times: u32) {
     }
 }
 
-/// What the bare steps took, on words side by side on the heap.
+/// The time of the bare steps, on adjacent words on the heap.
 fn bare_once<R: Clock + AllocGlobal>(rt: &R, times: u32) -> io::Result<Duration> {
     let mut words = Vec::new(rt.alloc());
     words.push(AtomicU64::new(0))?;
@@ -48,7 +48,7 @@ fn bare_once<R: Clock + AllocGlobal>(rt: &R, times: u32) -> io::Result<Duration>
     start.elapsed(rt)
 }
 
-/// What the check-ins took.
+/// The time of the check-ins.
 fn check_in_timed<R: Clock>(
     rt: &R,
     shared: &Shared<'_>,
@@ -62,7 +62,7 @@ fn check_in_timed<R: Clock>(
     start.elapsed(rt)
 }
 
-/// What the check-ins took in a new region over this table of generations, where there is memory for it.
+/// The time of the check-ins in a new region over this table of generations, or the maximum if there is no memory for it.
 fn check_in_over<R: Clock + AllocGlobal>(
     rt: &R,
     gens: &Gens,
@@ -78,7 +78,7 @@ fn check_in_over<R: Clock + AllocGlobal>(
     }
 }
 
-/// What the check-ins took in a new region over a new table of generations, where there is memory for both.
+/// The time of the check-ins in a new region over a new table of generations, or the maximum if there is no memory for both.
 fn check_in_once<R: Clock + AllocGlobal>(rt: &R, times: u32) -> io::Result<Duration> {
     match Gens::new(rt.alloc(), 1) {
         Ok((gens, keeper, mut passes)) => {
@@ -89,7 +89,7 @@ fn check_in_once<R: Clock + AllocGlobal>(rt: &R, times: u32) -> io::Result<Durat
     }
 }
 
-/// Times check-ins and bare steps by turns, and prints the best times.
+/// Times check-ins and bare steps alternately, and prints the best times.
 pub fn measure_check_in<R: Clock + Print + AllocGlobal>(
     rt: &R,
     times: u32,

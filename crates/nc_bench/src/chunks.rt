@@ -1,4 +1,4 @@
-//! How long a region's calls on chunks take.
+//! The time of a region's calls on chunks.
 
 ghost use Rattle.std.specs.Prelude.{◌≡◌};
 
@@ -11,7 +11,7 @@ use nc_vet::Vetted;
 use std::io;
 use std::time::{Clock, Duration, Instant};
 
-/// What each part took, and how many chunks were created, patched, deleted and reclaimed.
+/// The time of each part, and the numbers of chunks that were created, patched, deleted and reclaimed.
 #[derive(Clone, Copy, Drop)]
 struct Times {
     create: Duration,
@@ -22,7 +22,7 @@ struct Times {
 }
 
 impl Times {
-    /// Times that any others are better than.
+    /// Times that are worse than any others.
     fn worst() -> Times {
         Times {
             create: Duration::MAX,
@@ -68,7 +68,7 @@ fn delete_all<A: Acts + Drop>(region: &mut RegionOf<A>, load: Load) -> u32 {
     done
 }
 
-/// Creates all chunks in a region without a chunk, and patches, deletes and reclaims them.
+/// Creates all chunks in a region without a chunk, then patches, deletes and reclaims them.
 fn live_in<R: Clock + AllocGlobal, A: Acts + Drop>(
     rt: &R,
     load: Load,
@@ -99,7 +99,7 @@ fn live_in<R: Clock + AllocGlobal, A: Acts + Drop>(
     })
 }
 
-/// The life of all chunks in a new region over this table of generations, where there is memory for it.
+/// The life of all chunks in a new region over this table of generations, or the worst times if there is no memory for it.
 fn live_over<R: Clock + AllocGlobal>(
     rt: &R,
     load: Load,
@@ -115,7 +115,7 @@ fn live_over<R: Clock + AllocGlobal>(
     }
 }
 
-/// The life of all chunks in a new region over a new table of generations, where there is memory for both.
+/// The life of all chunks in a new region over a new table of generations, or the worst times if there is no memory for both.
 fn live_once<R: Clock + AllocGlobal>(rt: &R, load: Load) -> io::Result<Times> {
     match Gens::new(rt.alloc(), 1) {
         Ok((gens, keeper, mut passes)) => {

@@ -1,4 +1,4 @@
-//! The code that is vetted, made of a file's bytes.
+//! The code that is vetted, made from a file's bytes.
 
 use nc_vet::{VetFault, vet};
 use std::alloc::{AllocError, Global};
@@ -12,7 +12,7 @@ pub const LIMIT: u32 = 0x101_0000;
 /// A nop.
 const NOP: u8 = 0x90;
 
-/// The bytes of a bundle.
+/// The number of bytes of a bundle.
 const BUNDLE: usize = 32;
 
 /// The last bytes of a stuck chunk: the second is a return, which is not permitted.
@@ -21,10 +21,10 @@ const STUCK: [u8; 2] = [NOP, 0xC3];
 /// The last bytes of a chunk that goes astray: a jump into itself.
 const ASTRAY: [u8; 2] = [0xEB, 0xFF];
 
-/// Which verdict the code is prepared for.
+/// The verdict that the code is prepared for.
 #[derive(Clone, Copy, Drop)]
 pub enum Kind {
-    /// It is accepted: nops replace each direct transfer to a bad target.
+    /// The code is accepted: nops replace each direct transfer to a bad target.
     Accepted,
     /// As `Accepted`, but the last bundle is nops that end with a byte that is not permitted.
     Stuck,
@@ -32,7 +32,7 @@ pub enum Kind {
     Astray,
 }
 
-/// Where the code comes from: the first bundles of a file of raw code, or all of them, for an address.
+/// The source of the code: the first bundles of a file of raw code, or all of them, for an address.
 #[derive(Clone, Copy, Drop)]
 pub struct Source<'a> {
     pub path: &'a str,
@@ -66,7 +66,7 @@ fn clear(code: &mut [u8], start: usize, len: usize) {
     }
 }
 
-/// Writes nops over each direct transfer to a bad target. What is refused for something else stays as it is.
+/// Writes nops over each direct transfer to a bad target. Code that is refused for another reason stays as it is.
 fn settle(alloc: Global, code: Vec<u8>, base: u32) -> Result<Vec<u8>, AllocError> {
     let mut code = code;
     for _ in 0..code.len() {

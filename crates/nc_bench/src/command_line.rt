@@ -1,4 +1,4 @@
-//! What the words of the command line ask for.
+//! The meaning of the words of the command line.
 
 use crate::code::{Kind, Source};
 use crate::load::{Load, Order};
@@ -6,12 +6,12 @@ use crate::workers::Jobs;
 use clap::ArgMatches;
 use std::io;
 
-/// The number of a word, or 1 if it isn't there.
+/// The number that a word gives, or 1 if the word isn't there.
 pub fn number(found: &ArgMatches<'_>, name: &str) -> u32 {
     found.get_one::<u32>(name).unwrap_or(1)
 }
 
-/// The text of a word.
+/// The text of a word, empty if the word isn't there.
 fn text<'a>(found: &ArgMatches<'a>, name: &str) -> &'a str {
     found.get_str(name).unwrap_or("")
 }
@@ -47,7 +47,7 @@ fn order(found: &ArgMatches<'_>) -> Order {
     }
 }
 
-/// The chunks that are asked for; 1 stands for each number that no word gives.
+/// The chunks that are asked for; each number that no word gives is 1.
 pub fn load(found: &ArgMatches<'_>) -> Load {
     Load {
         count: number(found, "COUNT"),

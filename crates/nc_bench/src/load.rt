@@ -6,7 +6,7 @@ use nc_region::{Acts, RegionOf};
 use nc_vet::{Vetted, vet};
 use std::alloc::{AllocError, Global};
 
-/// In which order of their bases chunks are created.
+/// The order of their bases in which chunks are created.
 #[derive(Clone, Copy, Drop)]
 pub enum Order {
     Ascending,
@@ -20,7 +20,7 @@ impl Order {
         match self {
             Order::Ascending => i,
             Order::Descending => count.saturating_sub(i).saturating_sub(1),
-            // Each number comes once, since the factor is a prime that doesn't divide `count`.
+            // Each number is picked once, since the factor is a prime that doesn't divide `count`.
             Order::Scattered => {
                 let picked = u64::from(i).wrapping_mul(2_654_435_761) % u64::from(count.max(1));
                 picked as u32
@@ -43,7 +43,7 @@ impl Load {
         START.saturating_add(self.bundles.saturating_mul(BUNDLE).saturating_mul(i))
     }
 
-    /// The bundles of the region, its guard included.
+    /// The number of bundles of the region, including its guard.
     pub fn region(self) -> u32 {
         self.count
             .saturating_mul(self.bundles)

@@ -1,11 +1,11 @@
 //! The program `nc_bench`: how fast code is vetted, and how long a region's calls take.
 //!
-//! It has a subcommand for each measurement; without words it says which. `measurements` lists them with their words, and
-//! `command_line` says what these ask for. Each measurement works in rounds and prints the best time, and has a file of its own:
+//! It has a subcommand for each measurement; without words it prints the list of them. `measurements` defines them with their
+//! words, and `command_line` reads these. Each measurement works in rounds, prints the best time, and has a file of its own:
 //!
 //! | Subcommand | File |
 //! |---|---|
-//! | `vet` | `vetting`, on what `code` makes of a file |
+//! | `vet` | `vetting`, on code that `code` makes from a file |
 //! | `workers` | `workers` |
 //! | `chunks` | `chunks` |
 //! | `checkin` | `check_in` |
@@ -63,13 +63,13 @@ fn measure_named<R: Threads + Wait + Sync + Clock + Files + Print + AllocGlobal>
     Ok(ExitCode::SUCCESS)
 }
 
-/// Prints a fault of the command line, or help, and gives the status to end with.
+/// Prints a fault of the command line, or help, and returns the exit status.
 fn report_fault<R: Print + Eprint>(rt: &R, error: &Error) -> io::Result<ExitCode> {
     error.print(rt)?;
     Ok(ExitCode::from(if error.use_stderr() { 2 } else { 0 }))
 }
 
-/// Does what these words ask for.
+/// Makes the measurement that these words ask for.
 fn run<R: Threads + Wait + Sync + Clock + Files + Print + Eprint + AllocGlobal>(
     rt: &R,
     words: &[&str],

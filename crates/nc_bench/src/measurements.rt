@@ -17,7 +17,7 @@ const KIND: ValueParser<'static> = ValueParser::Names(&["accepted", "stuck", "as
 /// The parser of an order of creations.
 const ORDER: ValueParser<'static> = ValueParser::Names(&["ascending", "descending", "scattered"]);
 
-/// A word that has to be given, or one that may be left out.
+/// A word that must be given, or one that may be left out.
 macro_rules! word {
     ($is_required:expr, $name:literal, $parser:ident, $help:literal) => {
         Word {
@@ -90,7 +90,7 @@ static BENCH: Program = Program {
     ],
 };
 
-/// What stands for a command line without words.
+/// The words that are read in place of a command line without any.
 static HELP: [&str; 1] = ["--help"];
 
 /// Reads the words of a command line, without the program's own name. If there are none, the error is the help.

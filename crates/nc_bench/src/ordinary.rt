@@ -1,4 +1,4 @@
-//! Code of which chunks are made.
+//! The code that chunks are made of.
 
 use std::alloc::{AllocError, Global};
 
@@ -8,10 +8,10 @@ static BUNDLE: [u8; 32] = [
     0x00, 0x00, 0x00, 0x0F, 0xB6, 0xC0, 0x8D, 0x04, 0x80, 0x55, 0x5D, 0x83, 0xE1, 0xE0, 0xFF, 0xE1,
 ];
 
-/// Where in the bundle an instruction stands that is patched, and what is put there: mov eax, 2 for mov eax, 1.
+/// The offset in the bundle of the instruction that is patched: `mov eax, 1`.
 pub const PATCH_AT: u32 = 14;
 
-/// The new instruction.
+/// The new instruction: `mov eax, 2`.
 pub const PATCH: [u8; 5] = [0xB8, 0x02, 0x00, 0x00, 0x00];
 
 /// The code, `count` times in a row.

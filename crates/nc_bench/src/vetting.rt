@@ -1,4 +1,4 @@
-//! How fast one thread vets.
+//! The vetting speed of one thread.
 
 use crate::code::{LIMIT, Source, copy, read_code};
 use nc_vet::vet;
@@ -8,7 +8,7 @@ use std::io;
 use std::rt::Files;
 use std::time::{Clock, Duration, Instant};
 
-/// The bytes that are vetted in a round, unless one chunk has more.
+/// The number of bytes that are vetted in a round, unless one chunk has more.
 const ROUND: usize = 65_536;
 
 /// Copies of the code, for one round.
@@ -33,7 +33,7 @@ fn vet_each(
     Ok(())
 }
 
-/// How many chunks were accepted.
+/// The number of accepted chunks.
 pub fn count_accepted(verdicts: &[Verdict]) -> usize {
     let mut accepted = 0usize;
     for verdict in verdicts {
@@ -44,7 +44,7 @@ pub fn count_accepted(verdicts: &[Verdict]) -> usize {
     accepted
 }
 
-/// Vets copies of the code, and takes the time of that and of nothing else: the time for a chunk, and how many were accepted.
+/// Vets copies of the code, and times only the vetting: the time for a chunk, and the number of accepted chunks.
 fn vet_round<R: Clock + AllocGlobal>(
     rt: &R,
     base: u32,
@@ -60,7 +60,7 @@ fn vet_round<R: Clock + AllocGlobal>(
     Ok((each, count_accepted(&verdicts)))
 }
 
-/// Prints what one chunk took in the best round. A megabyte is a million bytes.
+/// Prints the time for one chunk in the best round. A megabyte is a million bytes.
 fn report<R: Print>(rt: &R, bytes: usize, accepted: usize, best: Duration) -> io::Result<()> {
     let nanos = u64::try_from(best.as_nanos()).unwrap_or(u64::MAX).max(1);
     let speed = (bytes as u64).saturating_mul(1000) / nanos;

@@ -1,4 +1,4 @@
-//! How much faster several workers vet.
+//! The time of vetting by several workers.
 
 use crate::code::LIMIT;
 use crate::ordinary::ordinary_code;
@@ -11,10 +11,10 @@ use std::sync::Wait;
 use std::thread::Threads;
 use std::time::{Clock, Duration, Instant};
 
-/// The numbers of workers that are timed where none is named.
+/// The numbers of workers that are timed if none is given.
 const WORKERS: [u32; 6] = [1, 2, 3, 4, 8, 16];
 
-/// The number of jobs, and the most bundles that one has.
+/// The number of jobs, and the largest number of bundles of a job.
 #[derive(Clone, Copy, Drop)]
 pub struct Jobs {
     pub count: u32,
@@ -39,7 +39,7 @@ fn draw_jobs(alloc: Global, jobs: Jobs) -> Result<Vec<Job>, AllocError> {
     Ok(all)
 }
 
-/// The time of one call, and how many chunks are valid.
+/// The time of one call, and the number of valid chunks.
 fn vet_once<R: Threads + Wait + Sync + Clock>(
     rt: &R,
     jobs: Vec<Job>,

@@ -20,16 +20,16 @@ use Rattle.nc_region.specs.Quiet.{retired_spans}
 use Rattle.nc_region.specs.Region.{Region}
 use Rattle.nc_calls.specs.Views.{ViewsKeep}
 
--- the world stands for the region: it has its text and marks, its keeper's numbers, and as retired spans those of its
--- retired chunks, in any order
+-- the world stands for the region: it has the region's text and marks, its keeper's numbers, and as retired spans those of
+-- its retired chunks, in any order
 pub record StandsFor (w : World) (r : Region) : Type 0 where
   pub marked : w.marked ≡ r.marked
   pub keeper : w.keeper ≡ r.keeper.numbers
   pub spans : (span : RetiredSpan) → Contains w.retired span ↔ Contains (retired_spans r.chunks) span
 
 -- The events lead to the region: each was allowed where it happened, and the world they leave stands for the region. In
--- every view of that world no instruction at a marked place reaches another marked place, and marked places outside
--- live chunks hold F4. The limit is lawful, and the generation at most 2^62.
+-- every view of that world no instruction at a marked place overlaps another marked place, and marked places outside live
+-- chunks hold F4. The limit is lawful, and the generation at most 2^62.
 pub record HasLedTo (limit seats : ℕ) (events : List Event) (r : Region) : Type 0 where
   pub lawful : IsLawfulLimit limit
   pub allowed : AreAllowed (first_world limit seats) events
@@ -37,8 +37,8 @@ pub record HasLedTo (limit seats : ℕ) (events : List Event) (r : Region) : Typ
   pub views : ViewsKeep (world_after (first_world limit seats) events) r.chunks
   pub in_range : r.keeper.numbers.generation ≤ last_generation
 
--- what acts leave open: the marks that a span gets, the span that a stamp is drawn for, how many seats a look goes
--- over, and the spans of which one is unmarked
+-- the details that acts leave open: the marks that a span gets, the span for which a stamp is drawn, the number of seats
+-- that are looked at, and the retired spans, of which one is freed
 pub record Details : Type 0 where
   pub marks : List Mark
   pub base : ℕ
@@ -46,13 +46,13 @@ pub record Details : Type 0 where
   pub seats : ℕ
   pub spans : List RetiredSpan
 
--- the first span of a list that has this base, or one without a place
+-- the first span of the list that has this base, or else an empty one
 abbrev pub span_from : List RetiredSpan → ℕ → RetiredSpan
 span_from [] at = record { base = at; length = 0; stamp = 0 }
 span_from (span ∷ rest) at = if span.base == at then span else span_from rest at
 
--- the events that an act is: a put, a marking with these marks, the freeing of the span of that base, the retiring of
--- this span, or a load of each seat's word in the seats' order
+-- the events of an act: a put, a marking with these marks, the freeing of the span with that base, the retiring of this
+-- span, or a load of each seat's word in the order of the seats
 abbrev pub events_of_act : Details → Act → List Event
 events_of_act d (Put at byte) = Puts at byte ∷ []
 events_of_act d (MarkSpan at len) = Marks at d.marks ∷ []
@@ -60,16 +60,16 @@ events_of_act d (UnmarkSpan at len) = Frees (span_from d.spans at) ∷ []
 events_of_act d Bump = Retires d.base d.len ∷ []
 events_of_act d Look = map Looks (range_with_len 0 d.seats)
 
--- The events that an entry of a log is: those of an act, or a settling.
+-- The events of an entry of a log: those of its act, or a settling.
 abbrev pub events_of_entry : Details → Entry → List Event
 events_of_entry d (Did act) = events_of_act d act
 events_of_entry d Settled = Settles ∷ []
 
--- the events that a log is, one entry after the other
+-- the events of a log: those of its entries, concatenated
 abbrev pub events_of_log : Details → List Entry → List Event
 events_of_log d log = flat_map (events_of_entry d) log
 
--- nothing is left open
+-- empty details, for acts that leave nothing open
 abbrev pub no_details : Details
 no_details = record { marks = []; base = 0; len = 0; seats = 0; spans = [] }
 
@@ -85,8 +85,7 @@ modify_events text at news = events_of_log no_details (log_of_modify text at new
 abbrev pub delete_events : List Mark → ℕ → ℕ → List Event
 delete_events marks base len = events_of_log (record no_details { base = base; len = len }) (log_of_delete marks base len)
 
--- the events of a reclaiming: one look at each of the seats in order, then each freed span is unmarked; it has no
--- settling
+-- the events of a reclaim: one look at each seat in order, then `Frees` for each freed span; there is no settling
 abbrev pub reclaim_events : ℕ → ℕ → List Chunk → List Event
 reclaim_events seats least chunks =
     events_of_log (record no_details { seats = seats; spans = retired_spans chunks })

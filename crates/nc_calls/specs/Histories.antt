@@ -1,5 +1,5 @@
--- Histories of a region: its calls one after the other, with whatever threads do between any two acts of them; and
--- where threads may be.
+-- Histories of a region: its calls one after the other, interleaved with events of threads between any two acts; and the
+-- states in which threads may be.
 use Rattle.std.specs.Prelude.{◌≡◌, ℕ, ◌≤◌, ⊤, List, [], ◌∷◌, ◌++◌, All, IfSome, IsSomeAnd}
 use Rattle.nc_decode.specs.Bundles.{IsLawfulLimit}
 use Rattle.nc_vet.specs.Chunk.{MarkedChunk, Piece, IsValid}
@@ -18,10 +18,10 @@ use Rattle.nc_region.specs.Patch.{IsPatch, IsModified, AreBytesOf}
 use Rattle.nc_calls.specs.Weaving.{writers, IsKeepers, ThreadsMay}
 use Rattle.nc_calls.specs.Calls.{Details, events_of_log, create_events, modify_events, delete_events, reclaim_events}
 
--- What a call of a region does, by the words of its contract: the region that it leaves, and its own events. `Creates`,
--- `Patches`, `Deletes` and `Reclaims` are the accepted calls, with the events of their logs. `UsesKeeper` uses the
--- keeper by itself. `Refuses` is a refused creation, which has no event and may have made pages. `Keeps` is any other
--- refusal, and a call that only asks: it has no event and leaves an equal region.
+-- A call of a region, as its contract describes it: the region that it leaves, and its own events. `Creates`, `Patches`,
+-- `Deletes` and `Reclaims` are the accepted calls, with the events of their logs. `UsesKeeper` uses the keeper by itself.
+-- `Refuses` is a refused creation, which has no event and may have made pages. `Keeps` is any other refusal, or a call that
+-- only reads: it has no event and leaves an equal region.
 pub data IsCall (seats : ℕ) (old new : Region) (own : List Event) : Type 0 where
   Creates : (v : MarkedChunk) → IsValid v → v.limit ≡ limit_of old.marked.bytes → IsCreated old new v → own ≡ create_events v
       → IsCall seats old new own
@@ -36,34 +36,34 @@ pub data IsCall (seats : ℕ) (old new : Region) (own : List Event) : Type 0 whe
   Refuses : (v : MarkedChunk) (fault : CreateFault) → IsRefused old new v fault → own ≡ [] → IsCall seats old new own
   Keeps : new ≡ old → own ≡ [] → IsCall seats old new own
 
--- While a region logs its acts: what it logged between the old and the new region, read as events with what acts leave
--- open, is one call of a history.
+-- If the region logs its acts, the entries logged between the old and the new region, read as events with these details,
+-- are one call of a history.
 abbrev pub LogsCall : ℕ → Details → Region → Region → Type 0
 LogsCall seats details old new =
     IfSome new.logged (λ log. IsSomeAnd old.logged (λ earlier.
     (own : List Entry) × (log ≡ earlier ++ own) × IsCall seats old new (events_of_log details own)))
 
--- a call in a history: all events since the call before it, up to its own end, the threads' among them, and the region
--- that it leaves
+-- a call in a history: all events from the end of the previous call up to its own end, including those of threads, and the
+-- region that it leaves
 pub record Turn : Type 0 where
   pub events : List Event
   pub region : Region
 
--- after the events before, the writer's events of the turn are those of one call, threads do only what they may, and
--- the keeper's numbers of the world are those of the region
+-- after the events `before`, the writer's events of the turn are those of one call, threads do only what they may, and the
+-- world's keeper then has the numbers of the region's keeper
 pub record IsTurn (limit seats : ℕ) (before : List Event) (old : Region) (turn : Turn) : Type 0 where
   pub call : IsCall seats old turn.region (writers turn.events)
   pub threads : ThreadsMay (world_after (first_world limit seats) before) turn.events
   pub keeper : (world_after (first_world limit seats) (before ++ turn.events)).keeper ≡ turn.region.keeper.numbers
 
--- the turns are calls one after the other, from a region to which some events have led
+-- the turns are calls one after the other, from a region that the events `before` have led to
 abbrev pub AreTurns : ℕ → ℕ → List Event → Region → List Turn → Type 0
 AreTurns limit seats before r [] = ⊤
 AreTurns limit seats before r (turn ∷ rest) =
     IsTurn limit seats before r turn × AreTurns limit seats (before ++ turn.events) turn.region rest
 
--- a history of a region: a keeper that may have been used, with threads beside it; then the region, new, over that
--- keeper, with a lawful limit; then its calls
+-- a history of a region: events of its keeper, which may have been used before, and of threads; then the new region over
+-- that keeper, with a lawful limit; then the region's calls
 pub record IsHistory (limit seats : ℕ) (first : List Event) (r : Region) (turns : List Turn) : Type 0 where
   pub lawful : IsLawfulLimit limit
   pub keepers : All IsKeepers (writers first)
@@ -84,6 +84,6 @@ abbrev pub region_at_end : Region → List Turn → Region
 region_at_end r [] = r
 region_at_end r (turn ∷ rest) = region_at_end turn.region rest
 
--- each thread that is inside is, in every view, where `Stands` of nc_text says
+-- each thread inside is, in every view, in a state that `Stands` of nc_text describes
 abbrev pub AllStand : World → Type 0
 AllStand w = All (λ (seat : Seat). IfSome seat.inside (λ now. (view : List ℕ) → IsViewOf w view → Stands view now)) w.seats

@@ -1,4 +1,4 @@
--- What every view of a world keeps between two calls of a region.
+-- Properties of every view of a world between two calls of a region.
 use Rattle.std.specs.Prelude.{◌≡◌, ℕ, ◌+◌, ◌<◌, List, Some}
 use Rattle.nc_decode.specs.declared.instruction.Instr.{Instr}
 use Rattle.nc_decode.specs.declared.instruction.Mark.{Mark}
@@ -11,7 +11,7 @@ use Rattle.nc_region.specs.declared.chunk.Chunk.{Chunk}
 use Rattle.nc_region.specs.Each.{Each}
 use Rattle.nc_region.specs.Region.{IsLive, IsInChunk}
 
--- no instruction that stands at a marked place reaches another marked place
+-- no instruction at a marked place overlaps another marked place
 abbrev pub AreParted : List ℕ → List Mark → Type 0
 AreParted text marks =
     (now : State) (i : Instr) (k : ℕ) → IsMarked marks now → instruction_at text now.place ≡ Some i → 0 < k → k < i.len
@@ -21,11 +21,12 @@ AreParted text marks =
 abbrev pub IsFree : List Chunk → ℕ → Type 0
 IsFree chunks at = Each (λ (c : Chunk). IsLive c.state → ¬ IsInChunk c at) chunks
 
--- at each marked place that lies in no live chunk stands a stop
+-- each marked place that lies in no live chunk holds F4
 abbrev pub AreStopped : List ℕ → List Mark → List Chunk → Type 0
 AreStopped text marks chunks = (now : State) → IsMarked marks now → IsFree chunks now.place → byte_at text now.place ≡ 0xF4
 
--- In every view no instruction at a marked place reaches another one, and where no live chunk is, marked places are stops.
+-- In every view no instruction at a marked place overlaps another marked place, and marked places outside live chunks hold
+-- F4.
 pub record ViewsKeep (w : World) (chunks : List Chunk) : Type 0 where
   pub parted : (view : List ℕ) → IsViewOf w view → AreParted view w.marked.marks
   pub stopped : (view : List ℕ) → IsViewOf w view → AreStopped view w.marked.marks chunks

@@ -1,7 +1,8 @@
 //! The calls of a region, each with a clause that says it is a call of a history.
 //!
-//! [`law_of_histories`](crate::law_of_histories) speaks of lists of calls, and `IsCall` says what a call is. Nobody has to
-//! believe that `IsCall` describes what a region does: each function here makes one call of a region, and is proved to be one.
+//! [`law_of_histories`](crate::law_of_histories) is about lists of calls, and `IsCall` says what a call is. That `IsCall`
+//! describes what a region does needn't be taken on trust: each function here makes one call of a region, and its contract
+//! says that this is one by `IsCall`.
 
 ghost use Rattle.std.specs.Prelude.{◌≡◌, ℕ, List, [], ◌∷◌, Contains, OnOk, OnErr};
 ghost use Rattle.nc_region.specs.schedules.Events.{Event};
@@ -22,7 +23,7 @@ pub fn create<A: Acts + Drop>(
     ensures call { (seats : ℕ) → OnOk result (LogsCall seats (record no_details { marks = vetted.marks }) region.old region.new) }
     ensures refused { (seats : ℕ) → OnErr result (LogsCall seats no_details region.old region.new) }
 {
-    // Called for what it ensures.
+    // Called for its postconditions.
     let _facts = vetted.code();
     region.create(vetted)
 }

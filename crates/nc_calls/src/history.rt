@@ -1,4 +1,4 @@
-//! What every history of a region keeps: the theorem at the top.
+//! The main theorem: properties of every history of a region.
 
 ghost use Rattle.std.specs.Prelude.{◌≡◌, ℕ, ◌∷◌, ◌++◌, List};
 ghost use Rattle.nc_vet.specs.Chunk.{MarkedChunk};
@@ -14,20 +14,20 @@ ghost use Rattle.nc_calls.specs.Histories.{Turn, IsHistory, AllStand, happened, 
 /// For every history of a region, whatever calls are made on it, accepted or refused, in any order and over any keeper, and
 /// whatever its threads do between any two acts:
 ///
-/// - after every event each thread inside stands, in every view, on a permitted instruction that isn't barred, wholly inside
-///   its bundle, on an indirect jump or call only with that register just masked, or on a bundle start of the zone;
+/// - after every event each thread inside is, in every view, at a permitted instruction that isn't barred and lies wholly
+///   inside its bundle (at an indirect jump or call only with its register just masked), or at a bundle start of the zone;
 /// - when a retired span is freed, no thread is in it except possibly at a bundle start;
 /// - the world at the end stands for the region at the end: its bytes and marks are the region's, and its retired spans
-///   those of the retired chunks; and the region's text is confined, so whoever enters it later is as safe;
-/// - a creation that was refused has changed nothing but pages made. (A refused patch or deletion leaves an equal region.)
+///   those of the retired chunks; and the region's text is confined, so a thread that enters later is just as safe;
+/// - a refused creation has changed nothing but which pages are made. (A refused patch or deletion leaves an equal region.)
 ///
-/// A *view* has at each place one of the bytes that stood there since the last settling, in any mixture, so a thread may
-/// fetch each byte of an instruction at another moment. A *history* (`specs/Histories`) is a list of calls; what a call
-/// does is what its contract says of it. It does nothing when it is called.
+/// A *view* has at each place one of the bytes that were there since the last settling, in any mixture, so a thread may
+/// fetch each byte of an instruction at a different moment. A *history* (`specs/Histories`) is a list of calls, each of which
+/// does what its contract says. The function does nothing when called.
 ///
-/// What it takes for granted is in `ThreadsMay`, `IsTurn` and `IsHistory`: a thread enters at bundle starts and while its seat
-/// hasn't left, and its pass checks in and leaves only while it is outside; the keeper finds what stands in the seats'
-/// words; and puts and settlings reach execution in the order in which the calls make them.
+/// Its assumptions are in `ThreadsMay`, `IsTurn` and `IsHistory`: a thread enters only at bundle starts and while its seat
+/// hasn't left, and its pass checks in and leaves only while it is outside; the keeper finds the current words of the seats;
+/// and puts and settlings reach execution in the order in which the calls make them.
 pub fn law_of_histories()
     ensures stand { (limit seats : ℕ) (first events later : List Event) (r : Region) (turns : List Turn)
         → IsHistory limit seats first r turns → happened first turns ≡ events ++ later

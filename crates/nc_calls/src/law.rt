@@ -17,29 +17,28 @@ ghost use Rattle.nc_calls.specs.Calls.{HasLedTo, create_events, modify_events, d
 
 /// The acts of each call of a region are allowed events, whatever the threads do between them.
 ///
-/// A schedule has led to a region, and a call makes another of it. Then come some events, of which the writer's are the acts
-/// that the call's contract names, and of which those of the threads are allowed where they stand. All of them are allowed
-/// then, and with them the schedule has led to the region after the call. A refused call has no act; pages that it made are
-/// no part of a world.
+/// Suppose that a schedule has led to a region, and that a call turns it into another. Append events of which the writer's
+/// are the acts that the call's contract names, and the threads' are allowed where they happen. Then all these events are
+/// allowed, and the longer schedule has led to the region after the call. A refused call has no act; the pages that it made
+/// aren't part of a world.
 ///
 /// Between two calls, and before the region was made, the keeper may act by itself: it draws a stamp for no span, it looks,
 /// or it meets a pass, which is a look at that pass's seat (`Looks`). Wherever the keeper looks, it is a premise that its
-/// numbers afterwards are those of the world: no contract tells what stands in the words of seats, and a load finds what
-/// stands there. That the generation is at most 2^62 is ensured of every keeper (`Keeper::generation`).
+/// numbers afterwards are those of the world: a load returns the current word of a seat, and no contract says what that is.
+/// The generation is at most 2^62 for every keeper (`Keeper::generation`).
 ///
-/// The events of any calls, made one after the other, are therefore those of `law_of_schedules`. The function does nothing when it
-/// is called.
+/// Therefore `law_of_schedules` covers the events of any sequence of calls. The function does nothing when called.
 pub fn law_of_calls()
-    // A new region, after what its keeper and the threads did before it was made. That may be nothing.
+    // A new region, after any events of its keeper and of the threads before it was made.
     ensures begins { (limit seats : ℕ) (events : List Event) (r : Region) → IsLawfulLimit limit → r.marked ≡ unused_text limit
         → r.chunks ≡ [] → All IsKeepers (writers events) → ThreadsMay (first_world limit seats) events
         → (world_after (first_world limit seats) events).keeper ≡ r.keeper.numbers
         → r.keeper.numbers.generation ≤ last_generation → HasLedTo limit seats events r }
-    // Threads by themselves, also beside a call that is refused.
+    // Threads by themselves, or beside a refused call.
     ensures goes_on { (limit seats : ℕ) (before events : List Event) (old new : Region) → HasLedTo limit seats before old
         → new ≡ record old { made = new.made } → writers events ≡ []
         → ThreadsMay (world_after (first_world limit seats) before) events → HasLedTo limit seats (before ++ events) new }
-    // The keeper by itself, where it finds what stands in the seats' words: no text and no chunk changes.
+    // The keeper by itself, provided it finds the current words of the seats: no text and no chunk changes.
     ensures keeper { (limit seats : ℕ) (before events : List Event) (old new : Region) → HasLedTo limit seats before old
         → new.marked ≡ old.marked → new.chunks ≡ old.chunks → All IsKeepers (writers events)
         → ThreadsMay (world_after (first_world limit seats) before) events
@@ -60,14 +59,14 @@ pub fn law_of_calls()
         → HasLedTo limit seats before old → IsRegion old.marked old.chunks → (is : IsDeleted old new base stamp)
         → writers events ≡ delete_events old.marked.marks base is.chunk.length
         → ThreadsMay (world_after (first_world limit seats) before) events → HasLedTo limit seats (before ++ events) new }
-    // A reclaiming, where the keeper finds what stands in the seats' words.
+    // A reclaim, provided the keeper finds the current words of the seats.
     ensures reclaimed { (limit seats : ℕ) (before events : List Event) (old new : Region) (count : ℕ)
         → HasLedTo limit seats before old → IsRegion old.marked old.chunks → IsReclaimed old new count
         → writers events ≡ reclaim_events seats (least_number new.keeper.numbers) old.chunks
         → ThreadsMay (world_after (first_world limit seats) before) events
         → (world_after (first_world limit seats) (before ++ events)).keeper ≡ new.keeper.numbers
         → HasLedTo limit seats (before ++ events) new }
-    // After every event each thread inside stands on a safe state.
+    // After every event each thread inside is in a safe state.
     ensures safe { (limit seats : ℕ) (events later : List Event) (r : Region) → HasLedTo limit seats (events ++ later) r
         → AllStandSafe (world_after (first_world limit seats) events) }
 {}

@@ -1,27 +1,27 @@
-//! What every history of a region keeps.
+//! Properties of every history of a region.
 //!
-//! Whoever wants to judge what is proved of a region opens [`law_of_histories`] first, in `src/history`: whatever calls are
-//! made, and whatever threads do between any two acts, each thread inside stands where the headline says. `docs/THEOREM.md`
-//! walks through it.
+//! To judge what is proved about a region, read [`law_of_histories`] first, in `src/history`: whatever calls are made, and
+//! whatever threads do between any two acts, each thread inside is where the headline says. `docs/THEOREM.md` walks through
+//! it.
 //!
 //! `law_of_schedules` of `nc_region` says that no list of allowed events brings a thread to a state that isn't safe; the
 //! contracts of a region's calls say which acts each makes, and where it settles. [`law_of_calls`] joins them: the acts
 //! and settlings of a call, with whatever the threads do between any two of them, are allowed events of a world that stands
-//! for the region, and leave a world that stands for the region after the call. What the keeper does by itself, before the
-//! region is made and after, and refused calls have clauses too. So what is proved of every schedule holds of every history
-//! of a region.
+//! for the region, and leave a world that stands for the region after the call. Further clauses cover the keeper by itself,
+//! before and after the region is made, and refused calls. Whatever is proved about every schedule therefore holds for every
+//! history of a region.
 //!
-//! [`create`], [`modify`], [`delete`], [`reclaim`] and [`meet`] make these calls of a region, and their contracts say that what
-//! is logged is a call of a history. So nobody has to compare `IsCall`, by which the laws speak of calls, with the contracts of
-//! `nc_region`. A host calls the region itself: these do the same and promise nothing else.
+//! [`create`], [`modify`], [`delete`], [`reclaim`] and [`meet`] make these calls of a region, and their contracts say that the
+//! logged entries are a call of a history. Nobody has to compare `IsCall`, the calls that the laws are about, with the
+//! contracts of `nc_region`. A host calls the region itself: these functions do the same and promise nothing more.
 //!
 //! ```text
 //! law_of_histories();   // does nothing; what it promises is its contract
 //! law_of_calls();
 //! ```
 //!
-//! `specs/Weaving` parts the writer's events from those of the threads, `specs/Calls` says which events the acts and settlings
-//! of each call are, `specs/Views` what every view keeps between two calls, and `specs/Histories` what a history is.
+//! `specs/Weaving` separates the writer's events from those of the threads, `specs/Calls` turns the acts and settlings of each
+//! call into events, `specs/Views` says what is true in every view between two calls, and `specs/Histories` defines a history.
 #![tactic(auto)]
 
 mod calls;

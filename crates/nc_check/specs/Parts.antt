@@ -13,7 +13,7 @@ use Rattle.nc_check.specs.declared.parts.Part.{Part}
 abbrev pub code_in : Part → List ℕ
 code_in part = part.source.code.items
 
--- the addresses of the parts' first bytes, and their codes
+-- the addresses of the parts' first bytes; `codes_in` has their code
 abbrev pub bases_in : List Part → List ℕ
 bases_in parts = map (λ part. part.base) parts
 
@@ -40,13 +40,13 @@ labels_of file symbols segment = map (name_in file) (filter (is_in segment) symb
 abbrev pub labels_in : List Part → List (List (ℕ × List ℕ))
 labels_in parts = map (λ part. map named part.source.labels) parts
 
--- faults are named by the file's symbols of code, or, where only verdicts are written, by none
+-- these symbols name faults: the file's symbols of code, or none if only verdicts are written
 abbrev pub NamesBy : Detail → List ℕ → List Symbol → Type 0
 NamesBy Brief file symbols = symbols ≡ []
 NamesBy _ file symbols = AreCodeSymbols file symbols
 
--- the labels of each part are the symbols in its segment, with their addresses and names; where only verdicts are written there
--- are none
+-- the labels of each part are the symbols in its segment, with their addresses and names; there are none if only verdicts are
+-- written
 pub record AreLabelled (detail : Detail) (file : List ℕ) (parts : List Part) : Type 0 where
   pub symbols : List Symbol
   pub names : NamesBy detail file symbols

@@ -1,4 +1,4 @@
-//! The judging of files, a round after the other.
+//! Judging files, one round after another.
 
 use crate::files::Unread;
 use crate::judging::{Unjudged, judge_file};
@@ -17,29 +17,29 @@ use std::thread::Threads;
 /// A block that is larger than most files.
 const LARGE: usize = 31 << 20;
 
-/// The number of files that several workers judge before what was found is printed.
+/// The number of files that several workers judge before the reports on them are printed.
 const ROUND: usize = 256;
 
-/// How far the program is: what it has found, and what it shows of that.
+/// The state of the program: the outcome so far, and the progress that it shows.
 #[derive(Drop)]
 struct State {
     outcome: Outcome,
     progress: Progress,
 }
 
-/// Has the C library keep the memory of a file for the next one: glibc does so for up to twice the size of the largest block
-/// that was given back (up to 32 MiB). Otherwise it would give much of it back to the system, which makes it anew, page by page.
-/// The block isn't touched. Where there is no memory for it nothing is lost but time.
+/// Makes the C library keep the memory of a file for the next one: glibc does so for up to twice the size of the largest block
+/// that was freed (up to 32 MiB). Otherwise it would return much of it to the system, which allocates it anew, page by page.
+/// The block isn't touched. If there is no memory for it, only time is lost.
 fn keep_memory(alloc: Global) {
     let _ = Vec::<u8>::with_capacity(alloc, LARGE);
 }
 
-/// Says on standard error why a file isn't judged. Where that can't be done nothing else is left to do.
+/// Prints on standard error why a file isn't judged. If that fails, nothing else is left to do.
 fn say<R: Eprint>(rt: &R, file: &str, unread: Unread) {
     let _ = eprintln!(rt; "nc_check: {file}: {}", unread.text());
 }
 
-/// Judges a file alone, and prints what was found while it is found.
+/// Judges a file alone, and prints the report on it as it is made.
 fn judge_alone<R: Threads + Wait + Sync + AllocGlobal + Input + Files + Print + Eprint>(
     rt: &R,
     ask: &CheckAsk<'_>,
@@ -64,7 +64,7 @@ fn judge_alone<R: Threads + Wait + Sync + AllocGlobal + Input + Files + Print + 
     }
 }
 
-/// Prints what a worker has found.
+/// Prints the report that a worker has made.
 fn print<R: Print + Eprint>(rt: &R, state: &mut State, told: &Told) -> Result<(), Halt> {
     state.progress.yield_output(rt);
     state.outcome.is_refused |= told.is_refused;
@@ -75,7 +75,7 @@ fn print<R: Print + Eprint>(rt: &R, state: &mut State, told: &Told) -> Result<()
     }
 }
 
-/// Judges the files of a round by several workers, and prints what was found in their order.
+/// Judges the files of a round by several workers, and prints the reports in the order of the files.
 fn judge_round<R: Threads + Wait + Sync + AllocGlobal + Input + Files + Print + Eprint>(
     rt: &R,
     ask: &CheckAsk<'_>,
@@ -99,7 +99,7 @@ where
     Ok(())
 }
 
-/// Judges the files that are asked for, in their order, and gives the status to end with.
+/// Judges the files that are asked for, in order, and returns the exit status.
 pub fn check_files<R: Threads + Wait + Sync + AllocGlobal + Input + Files + Print + Eprint>(
     rt: &R,
     ask: &CheckAsk<'_>,

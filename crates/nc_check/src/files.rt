@@ -1,4 +1,4 @@
-//! The opening and reading of files.
+//! Opening and reading files.
 
 ghost use Rattle.std.specs.Prelude.{◌≡◌, [], IfOk};
 
@@ -13,7 +13,7 @@ use std::rt::Files;
 pub enum Unread {
     /// No file has this name.
     Missing,
-    /// The system doesn't let this user read it.
+    /// This user isn't permitted to read it.
     Denied,
     /// It is a directory.
     Directory,
@@ -58,7 +58,7 @@ fn not_read(fault: SourceFault) -> Unread {
     }
 }
 
-/// Reads a file, or standard input where its name is `-`.
+/// Reads a file, or standard input if its name is `-`.
 pub fn read_file<R: Files + Input + AllocGlobal>(rt: &R, file: &str) -> Result<Source, Unread>
     ensures name { IfOk result (λ source. source.name.items ≡ file.now) }
     ensures labels { IfOk result (λ source. source.labels ≡ []) }

@@ -1,4 +1,4 @@
-//! The judging of one file, with what is written of it.
+//! Judging one file, and writing the report on it.
 
 use crate::files::{Unread, read_file};
 use crate::parts::{Part, parts_of};
@@ -13,7 +13,7 @@ use std::rt::Files;
 use std::sync::Wait;
 use std::thread::Threads;
 
-/// Why a file isn't judged, or not all of what was found is written.
+/// Why a file isn't judged, or the report on it isn't complete.
 #[derive(Clone, Copy, Debug, Drop, PartialEq, Eq)]
 pub enum Unjudged {
     /// It can't be read.
@@ -24,7 +24,7 @@ pub enum Unjudged {
     WriteFailed,
 }
 
-/// Judges code and writes what was found. Tells whether it was refused.
+/// Judges code and writes the report on it. Returns whether it was refused.
 fn judge_part<R: Threads + Wait + Sync + AllocGlobal, W: Write>(
     rt: &R,
     ask: &CheckAsk<'_>,
@@ -49,12 +49,12 @@ fn judge_part<R: Threads + Wait + Sync + AllocGlobal, W: Write>(
     ) {
         Ok(refused) => Ok(refused > 0),
         Err(ReportFault::WriteFailed) => Err(Unjudged::WriteFailed),
-        // the numbers are in range, since the command line was read
+        // the numbers are in range, since the command line was parsed
         Err(_) => Err(Unjudged::OutOfMemory),
     }
 }
 
-/// Judges the parts of an ELF file, in their order.
+/// Judges the parts of an ELF file, in order. Returns whether any of them was refused.
 fn judge_parts<R: Threads + Wait + Sync + AllocGlobal, W: Write>(
     rt: &R,
     ask: &CheckAsk<'_>,
@@ -71,7 +71,7 @@ fn judge_parts<R: Threads + Wait + Sync + AllocGlobal, W: Write>(
     Ok(is_refused)
 }
 
-/// What is written of an ELF file that is refused as a whole.
+/// The text written for an ELF file that is refused as a whole.
 fn refusal(alloc: Global, detail: Detail, file: &str, fault: ElfFault) -> io::Result<Vec<u8>> {
     let mut text = Vec::new(alloc);
     match detail {
@@ -108,7 +108,7 @@ fn refuse<W: Write>(
     }
 }
 
-/// Reads a file, judges its code, and writes what was found. Tells whether any of it was refused.
+/// Reads a file, judges its code, and writes the report on it. Returns whether any of it was refused.
 pub fn judge_file<R: Threads + Wait + Sync + AllocGlobal + Input + Files, W: Write>(
     rt: &R,
     ask: &CheckAsk<'_>,

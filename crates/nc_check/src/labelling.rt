@@ -1,4 +1,4 @@
-//! Names for addresses of a segment: the file's symbols of code that are in it.
+//! Names for addresses of a segment: the file's symbols of code in it.
 
 ghost use Rattle.std.specs.Prelude.{◌≡◌, All, IfOk, filter, map};
 ghost use Rattle.nc_elf.specs.Symbols.{AreAscending, IsNamed};
@@ -9,7 +9,7 @@ use nc_output::Detail;
 use nc_report::{Label, Labels};
 use std::alloc::{AllocError, Global};
 
-/// The symbols by which faults are named: where only verdicts are written, none.
+/// The symbols that name faults; none if only verdicts are written.
 pub fn names_by(alloc: Global, file: &[u8], detail: Detail) -> Result<Vec<Symbol>, AllocError>
     ensures symbols { IfOk result (λ symbols. NamesBy detail file.now symbols.items) }
     ensures named { IfOk result (λ symbols. All (IsNamed file.now) symbols.items) }
@@ -21,7 +21,7 @@ pub fn names_by(alloc: Global, file: &[u8], detail: Detail) -> Result<Vec<Symbol
     code_symbols(alloc, file)
 }
 
-/// The label that a symbol is. Its name is copied.
+/// The label for a symbol, with a copy of its name.
 fn label_of(alloc: Global, file: &[u8], symbol: Symbol) -> Result<Label, AllocError>
     requires { IsNamed file.now symbol }
     ensures { IfOk result (λ label. named label ≡ name_in file.now symbol) }
@@ -33,7 +33,7 @@ fn label_of(alloc: Global, file: &[u8], symbol: Symbol) -> Result<Label, AllocEr
     })
 }
 
-/// The labels that symbols are, in their order.
+/// The labels for these symbols, in order.
 fn list_labels(alloc: Global, file: &[u8], symbols: &[Symbol]) -> Result<Vec<Label>, AllocError>
     requires { All (IsNamed file.now) symbols.now }
     ensures { IfOk result (λ list. map named list.items ≡ map (name_in file.now) symbols.now) }
@@ -45,7 +45,7 @@ fn list_labels(alloc: Global, file: &[u8], symbols: &[Symbol]) -> Result<Vec<Lab
     Ok(list)
 }
 
-/// Of ascending symbols those in a segment.
+/// The symbols that are in a segment, out of symbols in ascending order of their addresses.
 fn symbols_in(symbols: &[Symbol], segment: Segment) -> &[Symbol]
     requires { AreAscending symbols.now }
     ensures { result.now ≡ filter (is_in segment) symbols.now }

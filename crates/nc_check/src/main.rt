@@ -1,10 +1,9 @@
 //! The program `nc_check`: files of code, and the verdict on each.
 //!
-//! `ask_check` of `nc_command` reads the command line. `checking` goes through the files, a round after the other, and prints
-//! what was found; `working` has workers judge the files of a round and keep what is to be printed in a `page`. `judging` judges
-//! one file: `files` opens and reads it, `parts` has the segments of code of an ELF file and `labelling` the names in them, and
-//! `report` of `nc_report` writes what was found. `outcome` says which status the program ends with, `progress` shows how far
-//! it is.
+//! `ask_check` of `nc_command` parses the command line. `checking` goes through the files, one round after another, and prints
+//! the reports; `working` lets workers judge the files of a round and keep each report in a `page`. `judging` judges one file:
+//! `files` opens and reads it, `parts` finds the segments of code of an ELF file and `labelling` the names in them, and
+//! `report` of `nc_report` writes the report. `outcome` has the exit status, and `progress` shows how far the program is.
 #![tactic(auto)]
 
 ghost use Rattle.std.specs.Prelude.{◌≡◌, ◌⊎◌};
@@ -31,7 +30,7 @@ use std::rt::{Env, Files};
 use std::sync::Wait;
 use std::thread::Threads;
 
-/// Does what the command line asks for, and gives the status to end with.
+/// Carries out the command line, and returns the exit status.
 fn run<R: Threads + Wait + Sync + Env + AllocGlobal + Input + Files + Print + Eprint>(
     rt: &R,
     is_terminal: bool,
@@ -58,7 +57,7 @@ where
     check_files(rt, &ask, progress)
 }
 
-/// Prints why the program stops, and gives the status to end with: 2 also where help can't be printed.
+/// Prints why the program stops, and returns the exit status, which is 2 also if help can't be printed.
 fn stop<R: Print + Eprint>(rt: &R, halt: &Halt) -> u8
     ensures { (result ≡ halt_status halt.now) ⊎ ((halt_status halt.now ≡ 0) × (result ≡ 2)) }
 {
@@ -75,8 +74,8 @@ fn stop<R: Print + Eprint>(rt: &R, halt: &Halt) -> u8
     stop_by(rt, halt)
 }
 
-/// Prints a fault as one line on standard error, if anything is said of it. Where that can't be done nothing else is left
-/// to do.
+/// Prints a fault as one line on standard error, if it has a text, and returns the exit status. If printing fails, nothing
+/// else is left to do.
 fn stop_by<R: Eprint>(rt: &R, halt: &Halt) -> u8
     ensures { result ≡ halt_status halt.now }
 {

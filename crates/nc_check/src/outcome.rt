@@ -1,4 +1,4 @@
-//! How the program ends.
+//! The end of the program: the reason, and the exit status.
 
 ghost use Rattle.std.specs.Prelude.{◌≡◌, ◌<◌, ◌↔◌, true, false};
 ghost use Rattle.nc_check.specs.Status.{halt_status};
@@ -9,18 +9,18 @@ use std::io::ErrorKind as IoKind;
 /// Why the program stops before it has been through its files.
 #[derive(Debug, Drop)]
 pub enum Halt {
-    /// The words of the command line ask for nothing that can be done, or for help.
+    /// The words of the command line can't be carried out, or ask for help.
     Words(clap::Error),
     /// There is no memory.
     OutOfMemory,
-    /// What was found can't be written.
+    /// A report can't be written.
     WriteFailed,
-    /// Nobody reads what is written, as where a pipe is closed: a write failed, and nothing is said of it.
+    /// The reader of the output is gone, as with a closed pipe: a write failed, and nothing is printed about it.
     OutputClosed,
 }
 
 impl Halt {
-    /// The status that the program ends with: 0 after help, otherwise 2.
+    /// The exit status: 0 after help, otherwise 2.
     pub fn status(&self) -> u8
         ensures { result ≡ halt_status self.now }
     {
@@ -33,7 +33,7 @@ impl Halt {
         }
     }
 
-    /// A write failed, perhaps because nobody reads what is written.
+    /// A write failed, perhaps because the reader of the output is gone.
     pub fn of_writing(is_closed: bool) -> Halt {
         if is_closed {
             Halt::OutputClosed
@@ -42,7 +42,7 @@ impl Halt {
         }
     }
 
-    /// Something wasn't written, for an error of this kind.
+    /// Output failed with an error of this kind.
     pub fn of_output(kind: IoKind) -> Halt {
         match kind {
             IoKind::OutOfMemory => Halt::OutOfMemory,
@@ -50,8 +50,8 @@ impl Halt {
         }
     }
 
-    /// The fault in words, if anything is said of it; a command line's fault has a text of its own, unless that found no
-    /// memory.
+    /// The fault in words, if anything is printed about it; a fault of the command line has a text of its own, unless there was
+    /// no memory for that.
     pub fn text(&self) -> Option<&'static str> {
         match self {
             Halt::OutputClosed => None,
@@ -61,7 +61,7 @@ impl Halt {
     }
 }
 
-/// What was found of the files so far.
+/// The findings about the files so far.
 #[derive(Clone, Copy, Debug, Drop, PartialEq, Eq)]
 pub struct Outcome {
     /// A file couldn't be read, or was too long.
@@ -71,7 +71,7 @@ pub struct Outcome {
 }
 
 impl Outcome {
-    /// The status that the program ends with after it has been through its files.
+    /// The exit status after the program has been through its files.
     pub fn status(self) -> u8
         ensures faulty { (result ≡ 2) ↔ (self.is_faulty ≡ true) }
         ensures refused { (result ≡ 1) ↔ ((self.is_faulty ≡ false) × (self.is_refused ≡ true)) }

@@ -1,4 +1,4 @@
-//! Text that is kept until it is its turn to be printed.
+//! Text that is kept until its turn to be printed.
 
 ghost use Rattle.std.specs.Prelude.{◌≡◌, ◌≤◌, [], Some, vec_len};
 ghost use Rattle.std.specs.Io.{WritesAtMost};
@@ -7,7 +7,7 @@ ghost use Rattle.std.specs.Io.KnownBytes.{Keeps, WriteAppends};
 use std::alloc::Global;
 use std::io::{Error, ErrorKind, Result, Write};
 
-/// A writer with room for a number of bytes. A write that doesn't fit fails, and leaves what was written before.
+/// A writer with room for a number of bytes. A write that doesn't fit fails, and leaves the text as it was.
 #[derive(Drop)]
 pub struct Page {
     text: Vec<u8>,
@@ -16,7 +16,7 @@ pub struct Page {
 }
 
 impl Page {
-    /// A page without a byte.
+    /// An empty page.
     pub fn new(alloc: Global, room: usize) -> Page
         ensures { (result.text.items ≡ []) × (result.room ≡ room) }
     {
@@ -26,7 +26,7 @@ impl Page {
         }
     }
 
-    /// What was written.
+    /// The text that was written.
     pub fn into_text(self) -> Vec<u8>
         ensures text { result ≡ self.text }
         ensures fits { vec_len result ≤ self.room }

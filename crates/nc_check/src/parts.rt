@@ -18,7 +18,8 @@ pub struct Part {
     pub source: Source,
 }
 
-/// The name of a segment: the file's, and the segment's address, but in JSON, where that is a member of its own.
+/// The name of a segment: the file's name and the segment's address, or in JSON, where the address is a member of its own, the
+/// file's name alone.
 fn segment_name(
     alloc: Global,
     file: &[u8],
@@ -33,7 +34,7 @@ fn segment_name(
     Ok(name)
 }
 
-/// The source that a segment of a file is.
+/// The part that consists of a segment of a file.
 fn part_of(
     alloc: Global,
     file: &Source,
@@ -57,14 +58,14 @@ fn part_of(
     })
 }
 
-/// The parts of an ELF file, for this amount of detail: its segments of code, in the order of its program headers. Their
-/// names are the file's, with their addresses unless these are written by themselves.
+/// The parts of an ELF file, for this amount of detail: its segments of code, in the order of its program headers. Each has the
+/// file's name, with its address unless that is written separately.
 pub fn parts_of(alloc: Global, file: &Source, detail: Detail) -> Result<Vec<Part>, ElfFault>
-    // What is judged are the bytes that the program headers name, at the addresses that they name.
+    // The bytes to be judged are those that the program headers name, at the addresses that they name.
     ensures bases { IfOk result (λ parts. bases_in parts.items ≡ map (λ s. s.address) (segments_of file.now.code.items)) }
     ensures codes { IfOk result (λ parts. codes_in parts.items
         ≡ map (bytes_of file.now.code.items) (segments_of file.now.code.items)) }
-    // Faults are named by the file's symbols of code, or not at all where only verdicts are written.
+    // Faults are named by the file's symbols of code, or not at all if only verdicts are written.
     ensures labels { IfOk result (λ parts. AreLabelled detail file.now.code.items parts.items) }
 {
     let segments = code_segments(alloc, file.code.as_slice())?;

@@ -1,12 +1,12 @@
-//! How far the program is, shown on standard error where that is a terminal.
+//! The progress of the program, shown on standard error if that is a terminal.
 
-/// As many spaces as wipe a line that is shown.
+/// Enough spaces to wipe the line.
 const BLANK: &str = "                                                ";
 
-/// The most times that the line is written, where it may stay.
+/// The most times that the line is written, if other output doesn't wipe it.
 const TIMES: usize = 256;
 
-/// A line that is written anew after each round of files.
+/// A line that is rewritten after each round of files.
 #[derive(Drop)]
 pub struct Progress {
     all: usize,
@@ -17,8 +17,8 @@ pub struct Progress {
 }
 
 impl Progress {
-    /// Of `all` files nothing is shown yet. It is wanted where standard error is a terminal; where standard output is
-    /// one too, the line can't stay while something else is written.
+    /// The progress through `all` files, with no line shown yet. A line is wanted if standard error is a terminal; if standard
+    /// output is one too, the line can't stay while something else is written.
     pub fn new(all: usize, is_wanted: bool, is_shared: bool) -> Progress {
         Progress {
             all,
@@ -29,7 +29,7 @@ impl Progress {
         }
     }
 
-    /// Shows how many files are done. Where nothing can be written nothing is lost.
+    /// Shows the number of files that are done. If it can't be written, nothing is lost.
     pub fn show<R: Eprint>(&mut self, rt: &R, done: usize) {
         let is_due = self.is_shared || done.saturating_sub(self.shown) > self.all / TIMES;
         if self.is_wanted && is_due && done < self.all {
@@ -39,14 +39,14 @@ impl Progress {
         }
     }
 
-    /// Takes the line away, before anything is written to standard output.
+    /// Removes the line before anything is written to standard output.
     pub fn yield_output<R: Eprint>(&mut self, rt: &R) {
         if self.is_shared {
             self.wipe(rt);
         }
     }
 
-    /// Takes the line away, before anything else is written to standard error, and at the end.
+    /// Removes the line before anything else is written to standard error, and at the end.
     pub fn wipe<R: Eprint>(&mut self, rt: &R) {
         if self.is_shown {
             let _ = eprint!(rt; "\r{BLANK}\r");

@@ -1,4 +1,4 @@
-//! Files that several workers judge, each of them from its reading on.
+//! Files that several workers judge; one worker does all of a file, from its reading on.
 
 use crate::judging::judge_file;
 use crate::page::Page;
@@ -17,21 +17,21 @@ const LARGE: u64 = 8 << 20;
 /// The most bytes of text that a worker keeps.
 const ROOM: usize = 4 << 20;
 
-/// What is to be printed of a file.
+/// The report on a file, to be printed later.
 #[derive(Drop)]
 pub struct Told {
     pub text: Vec<u8>,
     pub is_refused: bool,
 }
 
-/// A file's number, and what is to be printed of it.
+/// A file's number, and the report on it.
 #[derive(Drop)]
 struct Done {
     number: usize,
     told: Told,
 }
 
-/// What a worker has found, and its room for more.
+/// The reports that a worker has made, and its room for more.
 #[derive(Drop)]
 struct Worker {
     done: Vec<Done>,
@@ -50,7 +50,7 @@ fn make_workers(alloc: Global, count: usize) -> Result<Vec<Worker>, AllocError> 
     Ok(workers)
 }
 
-/// Judges a file, and keeps what is to be printed of it, if there is room for that.
+/// Judges a file, and keeps the report on it, if there is room for that.
 fn tell<R: Threads + Wait + Sync + AllocGlobal + Input + Files>(
     rt: &R,
     ask: &CheckAsk<'_>,
@@ -67,7 +67,7 @@ fn tell<R: Threads + Wait + Sync + AllocGlobal + Input + Files>(
     }
 }
 
-/// How many bytes a file has, if it is one that several workers may open in any order; devices and pipes aren't.
+/// The length of a file that several workers may open in any order; none for a device or a pipe.
 fn len_of<R: Files>(rt: &R, file: &str) -> Option<u64> {
     if file == "-" {
         return None;
@@ -78,7 +78,7 @@ fn len_of<R: Files>(rt: &R, file: &str) -> Option<u64> {
     }
 }
 
-/// What a worker does with a file. It leaves the file to the caller unless all goes well.
+/// Judges a file for a worker, which leaves the file to the caller unless all goes well.
 fn judge_one<R: Threads + Wait + Sync + AllocGlobal + Input + Files>(
     rt: &R,
     ask: &CheckAsk<'_>,
@@ -94,7 +94,7 @@ fn judge_one<R: Threads + Wait + Sync + AllocGlobal + Input + Files>(
     tell(rt, ask, file, room)
 }
 
-/// What a worker does: it judges the next file that nobody has taken, until none is left.
+/// The loop of a worker: it judges the next file that no worker has taken, until none is left.
 fn work<R: Threads + Wait + Sync + AllocGlobal + Input + Files>(
     rt: &R,
     ask: &CheckAsk<'_>,
@@ -138,7 +138,7 @@ where
     );
 }
 
-/// A place for each file.
+/// An empty slot for each file.
 fn make_places(alloc: Global, count: usize) -> Result<Vec<Option<Told>>, AllocError> {
     let mut places = Vec::with_capacity(alloc, count)?;
     for _ in 0..count {
@@ -147,7 +147,7 @@ fn make_places(alloc: Global, count: usize) -> Result<Vec<Option<Told>>, AllocEr
     Ok(places)
 }
 
-/// Puts what a worker has found into the places of its files.
+/// Puts the reports of a worker into the slots of its files.
 fn put_all(done: Vec<Done>, places: &mut [Option<Told>]) {
     for Done { number, told } in done {
         if number < places.len() {
@@ -156,9 +156,9 @@ fn put_all(done: Vec<Done>, places: &mut [Option<Told>]) {
     }
 }
 
-/// Judges files by as many workers as are asked for, of which the caller is one. What is to be printed of each file is at its
-/// place, and nothing where the caller has to judge it alone: standard input, a device or a pipe, since several of them must
-/// be read one after the other; a file that can't be read; and one of which too much is to be printed.
+/// Judges files by the number of workers that is asked for; the caller is one of them. The slot of each file has the report on
+/// it, or nothing if the caller must judge it alone: standard input, a device or a pipe, since several of these must be read
+/// one after another; a file that can't be read; and a file whose report is too long.
 pub fn judge_files<R: Threads + Wait + Sync + AllocGlobal + Input + Files>(
     rt: &R,
     ask: &CheckAsk<'_>,

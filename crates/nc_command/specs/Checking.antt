@@ -1,4 +1,4 @@
--- What a command line of `nc_check` may ask for.
+-- Valid requests of a command line of `nc_check`.
 use Rattle.std.specs.Prelude.{◌≡◌, ◌≤◌, ◌⊎◌, ℕ, List, ◌∷◌, length}
 use Rattle.std.specs.Str.Parse.{IsNumeral, digits_value}
 use Rattle.nc_decode.specs.Bundles.{IsRegionSize}
@@ -9,11 +9,11 @@ use Rattle.nc_command.specs.declared.asked.CheckAsk.{CheckAsk}
 abbrev pub EndsInDigits : List ℕ → List ℕ → Type 0
 EndsInDigits text digits = (text ≡ digits) ⊎ ((text ≡ 48 ∷ 120 ∷ digits) ⊎ (text ≡ 48 ∷ 88 ∷ digits))
 
--- a text spells an address: 1 to 8 hexadecimal digits, by themselves or after `0x` or `0X`
+-- a text denotes an address: 1 to 8 hexadecimal digits, by themselves or after `0x` or `0X`
 abbrev pub SpellsBase : List ℕ → ℕ → Type 0
 SpellsBase text base = (digits : List ℕ) × EndsInDigits text digits
     × IsNumeral 16 digits × length digits ≤ 8 × digits_value 16 digits ≡ base
 
--- the numbers that a command line of `nc_check` asks for are those of a region and of workers, and it names a file
+-- the numbers that a command line of `nc_check` asks for are in the ranges of bundles and of workers, and it names a file
 abbrev pub IsCheckInRange : CheckAsk → Type 0
 IsCheckInRange ask = IsRegionSize ask.bundles × AreWorkers ask.workers × 1 ≤ length ask.files.items

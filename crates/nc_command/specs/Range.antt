@@ -1,11 +1,11 @@
--- Which numbers a command line of `nc_replay` may ask for.
+-- The ranges of the numbers that a command line of `nc_replay` may ask for.
 use Rattle.nc_gens.specs.Seen.{AreSeats}
 use Rattle.nc_decode.specs.Bundles.{IsRegionSize}
 use Rattle.nc_work.specs.Verdicts.{AreWorkers}
 use Rattle.nc_command.specs.declared.asked.Ask.{Ask}
 use Rattle.nc_command.specs.declared.asked.Ask.TheVariants.{Replay, Vet}
 
--- the numbers that a command line of `nc_replay` asks for are those of a region, of seats, of workers
+-- the numbers that a command line of `nc_replay` asks for are in the ranges of bundles, of seats and of workers
 abbrev pub AsksInRange : Ask → Type 0
 AsksInRange (Replay bundles seats) = IsRegionSize bundles × AreSeats seats
 AsksInRange (Vet bundles workers) = IsRegionSize bundles × AreWorkers workers

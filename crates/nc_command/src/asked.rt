@@ -1,28 +1,28 @@
-//! What the programs can be asked for.
+//! The requests that the programs' command lines make.
 
 use nc_output::Detail;
 
-/// What a command line of `nc_replay` asks for.
+/// The request that a command line of `nc_replay` makes.
 #[derive(Clone, Copy, Debug, Drop, PartialEq, Eq)]
 pub enum Ask {
-    /// To run a script.
+    /// Runs a script.
     Replay { bundles: u32, seats: u32 },
-    /// To vet lines of chunks.
+    /// Vets lines of chunks.
     Vet { bundles: u32, workers: u32 },
 }
 
-/// What a command line of `nc_check` asks for: to judge the code of files.
+/// The request that a command line of `nc_check` makes: to judge the code of files.
 #[derive(Drop)]
 pub struct CheckAsk<'a> {
     /// The address of the first byte of each file of raw code.
     pub base: u32,
-    /// Whether files that begin as ELF files are raw code too.
+    /// Whether files that begin as ELF files do are judged as raw code too.
     pub raw: bool,
     /// The size of the region in bundles.
     pub bundles: u32,
     /// The number of threads that judge.
     pub workers: u32,
-    /// How much is written of each file.
+    /// How much is written about each file.
     pub detail: Detail,
     /// The files, at least one; `-` is standard input.
     pub files: Vec<&'a str>,

@@ -1,4 +1,4 @@
-//! The command lines that tables describe, built and read by `clap`.
+//! The command lines that tables describe, built and parsed by `clap`.
 
 use crate::table::{Program, Usage, Word};
 use clap::error::ErrorKind;
@@ -10,7 +10,7 @@ const VERSION: &str = "0.1.0";
 
 /// A row of a table, which describes a part of a command line.
 trait Row<T> {
-    /// The part that it describes.
+    /// The part that the row describes.
     fn part(&self, alloc: Global) -> Result<T, AllocError>;
 }
 
@@ -39,8 +39,8 @@ impl<'a> Row<Command<'a>> for Usage {
     }
 }
 
-/// The parts that the rows of a table describe. A proof of a loop over parts of any type takes a fraction of what one over
-/// those of `clap` takes.
+/// The parts that the rows of a table describe. The proof of a loop over parts of any type takes a fraction of the time that
+/// one over the types of `clap` takes.
 fn parts<T: Drop, W: Row<T>>(alloc: Global, rows: &[W]) -> Result<Vec<T>, AllocError> {
     let mut parts = Vec::new(alloc);
     for row in rows {
@@ -57,7 +57,7 @@ fn both<S: Drop, T: Drop>(
     Ok((one?, other?))
 }
 
-/// The command line of a program, which has all its parts, without the program's own name.
+/// A command line that has all its parts, with the program's version and name, for words without the program's own name.
 fn named<'a>(command: Command<'a>, program: &Program) -> Result<Command<'a>, AllocError> {
     command
         .version(VERSION)
@@ -73,7 +73,7 @@ fn command<'a>(alloc: Global, program: &Program) -> Result<Command<'a>, AllocErr
     named(usage.subcommands(subcommands)?, program)
 }
 
-/// What the words of a command line match.
+/// The matches of the words of a command line.
 pub fn matches<'a>(
     alloc: Global,
     program: &Program,

@@ -1,4 +1,4 @@
-//! What the words of the command line of `nc_check` ask for.
+//! The command line of `nc_check`, and the request that its words make.
 
 ghost use Rattle.std.specs.Prelude.{◌≡◌, ◌≤◌, ℕ, List, IfOk, IfSome, Some, length};
 ghost use Rattle.std.specs.Str.Parse.{IsNumeral};
@@ -77,7 +77,7 @@ static CHECK: Program = Program {
     subcommands: &[],
 };
 
-/// A text without the `0x` or `0X` at its front.
+/// A text without the prefix `0x` or `0X`, if it has one.
 fn without_prefix(text: &str) -> &str
     ensures is { EndsInDigits text.now result.now }
     ensures only { (digits : List ℕ) → EndsInDigits text.now digits → IsNumeral 16 digits → result.now ≡ digits }
@@ -88,7 +88,7 @@ fn without_prefix(text: &str) -> &str
     }
 }
 
-/// The address that a text spells: 1 to 8 hexadecimal digits, with or without `0x` or `0X` before them.
+/// The address that a text denotes: 1 to 8 hexadecimal digits, with or without the prefix `0x` or `0X`.
 fn base_of(text: &str) -> Option<u32>
     ensures spelled { IfSome result (SpellsBase text.now) }
     ensures only { (base : ℕ) → SpellsBase text.now base → result ≡ Some base }
@@ -100,12 +100,12 @@ fn base_of(text: &str) -> Option<u32>
     u32::from_str_radix(digits, 16).ok()
 }
 
-/// A fault of what the words give, which the parser doesn't find.
+/// A fault of the words that the parser doesn't find.
 fn refusal(alloc: Global, message: &str) -> Error {
     fault(alloc, &CHECK, ErrorKind::InvalidValue, message)
 }
 
-/// The fault that a message tells, if there was memory for the message.
+/// The fault with this message, or lack of memory if there was none for the message.
 fn refusal_by(alloc: Global, message: Result<String, AllocError>) -> Error {
     match message {
         Ok(message) => refusal(alloc, message.as_str()),
@@ -113,7 +113,7 @@ fn refusal_by(alloc: Global, message: Result<String, AllocError>) -> Error {
     }
 }
 
-/// How much text is to be written of a file, and the option that asks for it.
+/// How much text is to be written about a file, and the option that asks for it.
 fn text_asked(found: &ArgMatches<'_>) -> (Detail, &'static str) {
     if found.get_flag("quiet") {
         (Detail::Brief, "--quiet")
@@ -126,8 +126,8 @@ fn text_asked(found: &ArgMatches<'_>) -> (Detail, &'static str) {
     }
 }
 
-/// How much is to be written of a file. Its object of JSON is always the same, so `--format json` excludes each option that
-/// asks for less or more.
+/// How much is to be written about a file. There is only one form of JSON object for a file, so `--format json` excludes each
+/// option that asks for less or more.
 fn detail_asked(alloc: Global, found: &ArgMatches<'_>) -> Result<Detail, Error> {
     let (detail, option) = text_asked(found);
     if found.get_str("format") != Some("json") {
@@ -158,13 +158,13 @@ fn files_asked<'a>(alloc: Global, found: &ArgMatches<'a>) -> Result<Vec<&'a str>
 {
     let files = found.get_strs("files").unwrap_or(&[]);
     if files.is_empty() {
-        // this doesn't come: the parser has asked for a file
+        // this can't happen: the parser requires a file
         return Err(refusal(alloc, "a file is missing"));
     }
     Ok(files.to_vec(alloc)?)
 }
 
-/// What the matches of a command line of `nc_check` ask for.
+/// The request that the matches of a command line of `nc_check` make.
 fn asked<'a>(alloc: Global, found: &ArgMatches<'a>) -> Result<CheckAsk<'a>, Error>
     ensures { IfOk result IsCheckInRange }
 {
@@ -192,8 +192,8 @@ pub fn ask_check<'a>(alloc: Global, words: &'a [&'a str]) -> Result<CheckAsk<'a>
     asked
 }
 
-/// The words of the command line of `nc_check`, the program's own name first. Without memory for them the fault is one of
-/// kind `OutOfMemory`.
+/// The words of the command line of `nc_check`, the program's own name first. If there is no memory for them, the fault has
+/// the kind `OutOfMemory`.
 pub fn check_words<R: Env + AllocGlobal>(rt: &R) -> Result<Vec<String>, Error> {
     command_words(rt, &CHECK)
 }

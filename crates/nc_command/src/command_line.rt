@@ -1,4 +1,4 @@
-//! What the words of a command line ask for.
+//! The command line of `nc_replay`, and the request that its words make.
 
 ghost use Rattle.std.specs.Prelude.{◌≤◌, IfOk, IfSome};
 ghost use Rattle.nc_command.specs.Range.{AsksInRange};
@@ -53,8 +53,8 @@ static REPLAY: Program = Program {
     ],
 };
 
-/// The number of an option. The option's parser has refused every number outside the range; what is left to do here is
-/// to give some number for the words that it has refused.
+/// The number of an option. The option's parser has refused every number outside the range, so this function only has to
+/// return some number for the words that were refused.
 pub(crate) fn number(found: &ArgMatches<'_>, name: &str, least: u32, most: u32) -> u32
     requires { least ≤ most }
     ensures least { least ≤ result }
@@ -66,7 +66,7 @@ pub(crate) fn number(found: &ArgMatches<'_>, name: &str, least: u32, most: u32) 
         .clamp(least, most)
 }
 
-/// What a subcommand asks for.
+/// The request that a subcommand makes.
 fn asked(found: &ArgMatches<'_>) -> Option<Ask>
     ensures { IfSome result AsksInRange }
 {
@@ -93,7 +93,7 @@ pub fn ask<'a>(alloc: Global, words: &'a [&'a str]) -> Result<Ask, Error>
     drop(found);
     match asked {
         Some(ask) => Ok(ask),
-        // this doesn't come: the parser has asked for a subcommand
+        // this can't happen: the parser requires a subcommand
         None => Err(fault(
             alloc,
             &REPLAY,
@@ -103,8 +103,8 @@ pub fn ask<'a>(alloc: Global, words: &'a [&'a str]) -> Result<Ask, Error>
     }
 }
 
-/// The words of the command line of `nc_replay`, the program's own name first. Without memory for them the fault is one of
-/// kind `OutOfMemory`.
+/// The words of the command line of `nc_replay`, the program's own name first. If there is no memory for them, the fault has
+/// the kind `OutOfMemory`.
 pub fn replay_words<R: Env + AllocGlobal>(rt: &R) -> Result<Vec<String>, Error> {
     command_words(rt, &REPLAY)
 }

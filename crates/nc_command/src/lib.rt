@@ -1,8 +1,9 @@
-//! The command lines of `nc_replay` and `nc_check`: what their words ask for.
+//! The command lines of `nc_replay` and `nc_check`, and the requests that their words make.
 //!
-//! A command line is a table, a [`Program`], of which `clap` makes what reads the words ([`matches`]). [`ask`] and [`ask_check`]
-//! read those of the two programs, which [`replay_words`] and [`check_words`] take from the system. They stand in a crate of their own, so that nothing else has to be checked with them: a check
-//! that proves how a command line is built takes long. `nc_bench` has a table of its own.
+//! A table, a [`Program`], describes a command line, and `clap` builds the parser of its words from the table ([`matches`]).
+//! [`ask`] and [`ask_check`] parse the words of the two programs, which [`replay_words`] and [`check_words`] take from the
+//! system. They are in a crate of their own, so that nothing else has to be checked with them: the proof of how a command
+//! line is built takes long. `nc_bench` has a table of its own.
 #![tactic(auto)]
 
 mod asked;

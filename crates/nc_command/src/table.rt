@@ -4,30 +4,30 @@ use clap::ArgAction;
 use clap::builder::ValueParser;
 use nc_decode::MAX_BUNDLES;
 
-/// An option, or a word at its place.
+/// An option or a positional argument.
 #[derive(Clone, Copy)]
 pub struct Word {
-    /// What it is read back by; an option is called so.
+    /// The name by which its value is read back; an option has this name on the command line too.
     pub name: &'static str,
     /// Whether it is an option.
     pub is_option: bool,
-    /// What it does where it is given: it is a flag, or has a value, or may come several times.
+    /// Its effect if it is given: it is a flag, has a value, or may be given several times.
     pub action: ArgAction,
-    /// What help calls its value, where that isn't its name.
+    /// The name of its value in help, if that isn't its own name.
     pub value_names: &'static [&'static str],
-    /// What its value has to be.
+    /// The parser of its value.
     pub parser: ValueParser<'static>,
-    /// Its value where it isn't given.
+    /// Its value if it isn't given.
     pub defaults: &'static [&'static str],
-    /// Whether it has to be given.
+    /// Whether it must be given.
     pub is_required: bool,
     /// The options that exclude it.
     pub conflicts: &'static [&'static str],
-    /// What help says of it.
+    /// Its description in help.
     pub help: &'static str,
 }
 
-/// A program or a subcommand: its name, what it does, and its words in their order.
+/// A program or a subcommand: its name, its description, and its words in order.
 #[derive(Clone, Copy)]
 pub struct Usage {
     pub name: &'static str,
@@ -35,7 +35,7 @@ pub struct Usage {
     pub words: &'static [Word],
 }
 
-/// A program, and its subcommands, of which one has to be given if there are any.
+/// A program, and its subcommands, one of which must be given if there are any.
 #[derive(Clone, Copy)]
 pub struct Program {
     pub usage: Usage,

@@ -1,4 +1,4 @@
--- The automaton that reads one byte at a time, and what its states say of the bytes.
+-- The automaton that reads one byte at a time, and the meaning of its states.
 use Rattle.std.specs.Prelude.{ℕ, ◌≡◌, ◌+◌, ◌-◌, ◌%◌, ◌<◌, ◌≤◌, ◌⊎◌, List, [], ◌∷◌, length, drop, slice_index, get_or, Option, Some, None}
 use Rattle.std.specs.Prelude.{IsTrue, All, ◌==◌, if◌then◌else◌}
 use Rattle.std.specs.Int.{w8, w32, cast_signed, from_le_bytes}
@@ -11,7 +11,7 @@ use Rattle.nc_decode.specs.Transfers.{is_direct, is_indirect}
 unfoldable pub next_state : ℕ → ℕ → ℕ
 next_state s b = get_or (get_or NEXT s []) b 0
 
--- the register that was masked directly before a state
+-- the register masked directly before a state, if any
 abbrev pub masked_at : ℕ → Option ℕ
 masked_at s =
     if s == AFTER_MASK then Some 0
@@ -22,14 +22,14 @@ masked_at s =
     else (if s == AFTER_MASK + 5 then Some 6
     else (if s == AFTER_MASK + 6 then Some 7 else None))))))
 
--- bytes lead from a state to one after an instruction, by no other such state
+-- the bytes lead from state `s` to `e`, the first state on the way that is `END` or above (after an instruction)
 abbrev pub LeadsToEnd : ℕ → List ℕ → ℕ → Type 0
 LeadsToEnd s [] e = ⊥
 LeadsToEnd s (b ∷ []) e = (e ≡ next_state s b) × (END ≤ e)
 LeadsToEnd s (b ∷ c ∷ bs) e = (next_state s b < END) × LeadsToEnd (next_state s b) (c ∷ bs) e
 
--- The bytes are one whole instruction. The state after it tells whether it is an indirect transfer, where the displacement
--- of a direct one stands, and which register is masked; and an indirect transfer's register was masked directly before.
+-- The bytes are one whole instruction. The state `e` after it says whether it is an indirect transfer, where the
+-- displacement of a direct one is, and which register it masks. An indirect transfer's register was masked directly before.
 pub record Ends (m e : ℕ) (bytes : List ℕ) (i : Instr) : Type 0 where
   pub spells : Spells bytes i
   pub indirect : is_indirect i.flow ≡ (e == AFTER_PAIR)
@@ -38,7 +38,7 @@ pub record Ends (m e : ℕ) (bytes : List ℕ) (i : Instr) : Type 0 where
   pub masks : (r : ℕ) → masked_at e ≡ Some r → i.masks ≡ Some r
   pub paired : e ≡ AFTER_PAIR → (masked_at m ≡ Some i.reg) × (length bytes ≡ 2) × (i.reg ≡ slice_index bytes 1 % 8)
 
--- Bytes that lead from a state after an instruction to the next such state are one whole instruction. That state tells
+-- Bytes that lead from a state after an instruction to the next such state are one whole instruction. That state says
 -- whether it is an indirect transfer, where the displacement of a direct one is, and which register it masks. An
 -- indirect transfer directly follows its mask.
 abbrev pub ReadsByStates : Type 0

@@ -1,4 +1,4 @@
--- The marks of a chunk by the bits of its bundles.
+-- The marks of a chunk, computed from the bits of its bundles.
 use Rattle.std.specs.Prelude.{ℕ, ◌+◌, ◌-◌, ◌/◌, ◌%◌, Bool, List, length, map, get_or, slice_index, ◌==◌, ◌||◌, if◌then◌else◌}
 use Rattle.std.specs.Int.{bit_at}
 use Rattle.std.specs.List.{range_with_len}
@@ -6,15 +6,15 @@ use Rattle.nc_decode.specs.declared.instruction.Mark.{Mark}
 use Rattle.nc_decode.specs.declared.instruction.Mark.TheVariants.{Unmarked, Plain, After}
 use Rattle.nc_decode.specs.declared.bundle.Bundle.{Bundle}
 
--- an instruction begins at this byte of the bundle: at its first, or where another has ended before
+-- an instruction begins at byte k of the bundle: k is 0, or another instruction ends at byte k - 1
 abbrev pub starts_instruction : Bundle → ℕ → Bool
 starts_instruction w k = (k == 0) || (bit_at w.ends (k - 1) == 1)
 
--- an indirect transfer begins there, which has two bytes
+-- an indirect transfer, which has two bytes, begins at byte k of the bundle
 abbrev pub is_second : Bundle → ℕ → Bool
 is_second w k = bit_at w.pairs (k + 1) == 1
 
--- the mark at a byte of a bundle; the byte after it names the register of an indirect transfer
+-- the mark at byte k of a bundle; `next`, the byte after it, names the register of an indirect transfer
 abbrev pub bit_mark : Bundle → ℕ → ℕ → Mark
 bit_mark w k next = if is_second w k then After (next % 8) else (if starts_instruction w k then Plain else Unmarked)
 
@@ -22,10 +22,10 @@ bit_mark w k next = if is_second w k then After (next % 8) else (if starts_instr
 abbrev pub no_bits : Bundle
 no_bits = record { ends = 0; pairs = 0; shorts = 0; nears = 0 }
 
--- the mark of a place of a chunk, by the bits of its bundles
+-- the mark at offset k of a chunk, by the bits of its bundles
 abbrev pub mark_by_bits : List ℕ → List Bundle → ℕ → Mark
 mark_by_bits code bundles k = bit_mark (get_or bundles (k / 32) no_bits) (k % 32) (slice_index code (k + 1))
 
--- the marks of all places of a chunk, by the bits of its bundles
+-- the marks at all offsets of a chunk, by the bits of its bundles
 abbrev pub marks_in : List ℕ → List Bundle → List Mark
 marks_in code bundles = map (mark_by_bits code bundles) (range_with_len 0 (length code))

@@ -1,5 +1,5 @@
--- The instruction at the front of some bytes as one function, and what is known of it. The law `law_of_fronts` ties it
--- to the relation of `Spelling`; the crates above cite only these words.
+-- The function that finds the instruction at the front of some bytes, and its properties. `law_of_fronts` ties it to the
+-- relation of `Spelling`; the crates above cite only these definitions.
 use Rattle.std.specs.Prelude.{◌≡◌, ◌≢◌, ◌↔◌, ℕ, ◌<◌, ◌≤◌, List, [], ◌∷◌, ◌++◌, length, take, Option, Some, None, nat_lt, if◌then◌else◌}
 use Rattle.std.specs.Prelude.{pos, IfSome, IsTrue}
 use Rattle.std.specs.Result.{result_ok}
@@ -11,16 +11,16 @@ use Rattle.nc_decode.specs.machinery.Reading.{reading}
 use Rattle.nc_decode.specs.Spelling.{mask, Spells, IsAtFront}
 use Rattle.nc_decode.specs.Transfers.{is_direct, may_transfer}
 
--- the bytes before the first number that is no byte
+-- the bytes before the first number that is not a byte
 abbrev pub leading_bytes : List ℕ → List ℕ
 leading_bytes [] = []
 leading_bytes (b ∷ rest) = if nat_lt b 256 then b ∷ leading_bytes rest else []
 
--- the permitted instruction at the front of the bytes, if there is one; `decode` answers by it
+-- the permitted instruction at the front of the bytes, if there is one; `decode` returns it
 unfoldable pub first_instruction : List ℕ → Option Instr
 first_instruction bytes = result_ok (reading (leading_bytes bytes))
 
--- for every list of numbers, `first_instruction` finds `i` exactly where `IsAtFront bytes i`
+-- for every list of numbers, `first_instruction` finds `i` if and only if `IsAtFront bytes i`
 abbrev pub IsExact : Type 0
 IsExact = (bytes : List ℕ) (i : Instr) → (first_instruction bytes ≡ Some i) ↔ IsAtFront bytes i
 
@@ -28,7 +28,7 @@ IsExact = (bytes : List ℕ) (i : Instr) → (first_instruction bytes ≡ Some i
 abbrev pub IsPrefixFree : Type 0
 IsPrefixFree = (one more : List ℕ) (i j : Instr) → Spells one i → Spells (one ++ more) j → more ≡ []
 
--- an instruction of this length and flow that neither names a register nor a displacement
+-- an instruction of this length and flow, with no displacement and no register, that masks nothing
 abbrev pub plain : ℕ → Flow → Instr
 plain len flow = record { len = len; flow = flow; rel = pos 0; reg = 0; masks = None }
 
@@ -36,16 +36,16 @@ plain len flow = record { len = len; flow = flow; rel = pos 0; reg = 0; masks = 
 abbrev pub IsStopFirst : Type 0
 IsStopFirst = (rest : List ℕ) → first_instruction (0xF4 ∷ rest) ≡ Some (plain 1 Stop)
 
--- the instruction at the front has at least one byte, and no more than there are
+-- the length of the instruction at the front is at least 1, and at most the number of bytes given
 abbrev pub HasItsLength : Type 0
 HasItsLength = (bytes : List ℕ) (i : Instr) → first_instruction bytes ≡ Some i → (1 ≤ i.len) × (i.len ≤ length bytes)
 
--- the bytes after an instruction don't matter
+-- the instruction at the front depends on its own bytes only, not on those after it
 abbrev pub DependsOnItsBytes : Type 0
 DependsOnItsBytes = (bytes others : List ℕ) (i : Instr) → first_instruction bytes ≡ Some i → take i.len others ≡ take i.len bytes
     → first_instruction others ≡ Some i
 
--- only an instruction that goes on to the next one masks a register
+-- only an instruction with the flow `Next` masks a register
 abbrev pub MasksOnlyBeforeNext : Type 0
 MasksOnlyBeforeNext = (bytes : List ℕ) (i : Instr) → first_instruction bytes ≡ Some i → i.flow ≢ Next → i.masks ≡ None
 
@@ -53,12 +53,12 @@ MasksOnlyBeforeNext = (bytes : List ℕ) (i : Instr) → first_instruction bytes
 abbrev pub NamesRegisters : Type 0
 NamesRegisters = (bytes : List ℕ) (i : Instr) → first_instruction bytes ≡ Some i → (i.reg < 8) × IfSome i.masks (λ r. (r < 8) × (r ≢ 4))
 
--- an instruction masks a register exactly where its bytes are that register's `mask`, for the registers 0 to 7 but 4
+-- an instruction masks register r if and only if its bytes are `mask r` and r is one of 0 to 7 except 4
 abbrev pub MasksExactly : Type 0
 MasksExactly = (bytes : List ℕ) (i : Instr) (r : ℕ) → first_instruction bytes ≡ Some i → (i.masks ≡ Some r)
     ↔ ((take i.len bytes ≡ mask r) × (r < 8) × (r ≢ 4))
 
--- an instruction with a prefix goes on to the next one and masks nothing
+-- an instruction with a prefix has the flow `Next` and masks nothing
 abbrev pub GoesOnAfterPrefix : Type 0
 GoesOnAfterPrefix = (bytes : List ℕ) (i : Instr) (s : Spells bytes i) → s.parts.prefix ≢ None → (i.flow ≡ Next) × (i.masks ≡ None)
 
@@ -70,6 +70,6 @@ NeverBarred = (bytes : List ℕ) (i : Instr) → Spells bytes i → ¬ IsBarred 
 abbrev pub NeverBarredAtFront : Type 0
 NeverBarredAtFront = (bytes : List ℕ) (i : Instr) → first_instruction bytes ≡ Some i → ¬ IsBarred (take i.len bytes)
 
--- a direct transfer begins with a byte of `may_transfer`
+-- the first byte of a direct transfer passes `may_transfer`
 abbrev pub BeginsAsTransfer : Type 0
 BeginsAsTransfer = (byte : ℕ) (rest : List ℕ) (i : Instr) → Spells (byte ∷ rest) i → IsTrue (is_direct i.flow) → IsTrue (may_transfer byte)

@@ -18,12 +18,12 @@ is_indirect IndirectJump = true
 is_indirect IndirectCall = true
 is_indirect _ = false
 
--- the address after an instruction at this one (no region ends near 2^32, so it is the same modulo 2^32)
+-- the address directly after an instruction at `at` (no region ends near 2^32, so the sum is the same modulo 2^32)
 abbrev pub behind : Instr → ℕ → ℕ
 behind i at = at + i.len
 
--- the target of a direct transfer at an address: address, length and displacement, added modulo 2^32 (Intel SDM volume
--- 2, JMP, Jcc and CALL)
+-- the target of a direct transfer: the sum of its address, length and displacement modulo 2^32 (Intel SDM volume 2, JMP,
+-- Jcc and CALL)
 abbrev pub target : Instr → ℕ → ℕ
 target i at = (at + i.len + cast_unsigned w32 i.rel) % 2 ^ 32
 

@@ -1,4 +1,4 @@
--- Machinery of the proofs, cited by no public contract: what the code reads, byte by byte.
+-- Machinery of the proofs, cited by no public contract: how the code reads an instruction, byte by byte.
 pub mod Entries
 pub mod Shapes
 pub mod Reading

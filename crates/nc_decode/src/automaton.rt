@@ -1,11 +1,11 @@
 //! The permitted instructions as an automaton that reads one byte at a time.
 //!
-//! Its states are those of `states`, from which the numbers from `END` on tell what has just been read: a mask and of which
-//! register, a transfer and how far its displacement reaches, an indirect transfer with its mask, or none of these.
-//! `law_of_automaton` says what a run of it means.
+//! Its states are those of `states`. A state from `END` on says what has just been read: a mask and its register, a direct
+//! transfer and the size of its displacement, an indirect transfer with its mask, or none of these. `law_of_automaton` says
+//! what a run of it means.
 //!
-//! The macros write its table out when the crate is compiled, from the opcode maps of `table`. Nobody need trust them: the
-//! table that they make is proved equal, entry by entry, to what each state waits for, in the words of the decoder.
+//! The macros generate its table at compile time from the opcode maps of `table`. Nobody need trust them: the table is
+//! proved equal, entry by entry, to what each state expects, in the terms of the decoder.
 
 ghost use Rattle.std.specs.Prelude.{◌≡◌, ◌<◌};
 ghost use Rattle.nc_decode.specs.Automaton.{next_state};
@@ -16,9 +16,9 @@ use crate::table::{one_byte, two_byte};
 
 /// The number of states.
 pub const STATES: usize = AFTER_PAIR as usize + 1;
-/// No permitted instruction begins so.
+/// No permitted instruction begins with these bytes.
 pub const DEAD: u8 = State::Dead as u8;
-/// After an instruction, and at the start of a bundle. All states from here on come after an instruction.
+/// After an instruction, and at the start of a bundle. All states from here on are after an instruction.
 pub const END: u8 = State::End as u8;
 /// After the mask of register 0; the masks of 1, 2, 3, 5, 6 and 7 follow.
 pub const AFTER_MASK: u8 = State::AfterMask0 as u8;
@@ -33,7 +33,7 @@ pub const AFTER_PAIR: u8 = State::AfterPair as u8;
 #[rattlefmt::skip]
 macro_rules! kind {
     //           none         66           F3    F2    F0
-    // No opcode, and an opcode with nothing after it.
+    // No opcode, and opcodes with nothing after them.
     (NO)   => { [Dead,        Dead,        Dead, Dead, Dead] };
     (OP)   => { [End,         Dead,        Dead, Dead, Dead] };
     (STOP) => { [End,         Dead,        Dead, Dead, Dead] };
@@ -48,7 +48,7 @@ macro_rules! kind {
     (PF2)  => { [AfterF2,     Dead,        Dead, Dead, Dead] };
     (PF0)  => { [AfterF0,     Dead,        Dead, Dead, Dead] };
     (ESC)  => { [After0F,     After66_0F,  Dead, Dead, AfterF0_0F] };
-    // A number that comes directly after the opcode.
+    // A number directly after the opcode.
     (IB)   => { [Left1,       Dead,        Dead, Dead, Dead] };
     (IBV)  => { [Left1,       Left1,       Dead, Dead, Dead] };
     (IZV)  => { [Left4,       Left2,       Dead, Dead, Dead] };
@@ -85,7 +85,7 @@ macro_rules! kind {
     (G11V) => { [Group11Long, Group11Word, Dead, Dead, Dead] };
 }
 
-/// The states after each opcode of a map, with the prefix of this place.
+/// The states after each opcode of a map, with the prefix of this index.
 macro_rules! opcodes {
     (($prefix:tt) $($entry:ident,)*) => { [$(kind!($entry)[$prefix] as u8),*] };
 }
@@ -97,7 +97,7 @@ macro_rules! after_mask {
     ($entry:ident $transfer:tt) => { kind!($entry)[0] as u8 };
 }
 
-/// A state by the form of ModRM: where it isn't permitted (O), is (X), is with no number (N), and by rm.
+/// The state by the form of ModRM: not permitted (O), permitted (X), permitted with no number (N), or by rm.
 #[rattlefmt::skip]
 macro_rules! form {
     (O $rm:tt $state:tt $none:tt) => { Dead as u8 };
@@ -106,14 +106,14 @@ macro_rules! form {
     ([$($by_rm:tt)*] $rm:tt $state:tt $none:tt) => { [$($by_rm),*][$rm] as u8 };
 }
 
-/// The states after ModRM, by the number that comes last, and by reg with an operand in memory and in a register.
+/// The states after ModRM, by the length of the number at the end, and by reg with an operand in memory and in a register.
 #[rattlefmt::skip]
 macro_rules! modrm {
     (none $m:tt $r:tt) => { modrm!(End   Left1 Left2 Left4 Left5 Sib     $m $r) };
     (byte $m:tt $r:tt) => { modrm!(Left1 Left2 Left3 Left5 Left6 SibByte $m $r) };
     (word $m:tt $r:tt) => { modrm!(Left2 Left3 Left4 Left6 Left7 SibWord $m $r) };
     (long $m:tt $r:tt) => { modrm!(Left4 Left5 Left6 Left8 Left9 SibLong $m $r) };
-    // The states where 0, 1, 2, 4 and 5 bytes come before the number, and where SIB does with mod 0.
+    // The states with 0, 1, 2, 4 and 5 bytes still before the number, and with SIB still before it and mod 0.
     ($a:tt $b:tt $c:tt $d:tt $e:tt $s:tt [$($m:tt)*] [$($r:tt)*]) => { [
         $(form!($m 0 $a End), form!($m 0 $a End), form!($m 0 $a End), form!($m 0 $a End),
           form!($m 0 $s Sib), form!($m 0 $d Left4), form!($m 0 $a End), form!($m 0 $a End),)*
@@ -126,18 +126,18 @@ macro_rules! modrm {
     ] };
 }
 
-/// The states after ModRM of FF, by rm where it is an indirect transfer.
+/// The states after ModRM of FF; for an indirect transfer they depend on rm.
 macro_rules! transfer {
     ($($by_rm:tt)*) => { modrm!(none [X X O O O O X O] [X X [$($by_rm)*] O [$($by_rm)*] O X O]) };
 }
 
-/// The states after the number of a mask: masked, where it is E0.
+/// The states after the immediate byte of a possible mask: masked if it is E0.
 #[rattlefmt::skip]
 macro_rules! mask_number {
     ($masked:tt) => { modrm!(End End End End End End [X X X X X X X X] [X X X X [$masked End End End End End End End] X X X]) };
 }
 
-/// The states after SIB with mod 0: the base 5 comes with four bytes more.
+/// The states after SIB with mod 0: the base 5 takes four more bytes.
 #[rattlefmt::skip]
 macro_rules! sib {
     ($n:tt $four:tt) => { sib!($n $four X X X X X X X X X X X X X X X X X X X X X X X X X X X X X X X X) };
@@ -149,7 +149,7 @@ macro_rules! sib {
 #[rattlefmt::skip]
 pub(crate) static NEXT: [[u8; 256]; STATES] = [
     /* Dead             */ [Dead as u8; 256],
-    // An opcode comes next.
+    // An opcode is next.
     /* After66          */ one_byte!(opcodes 1),
     /* AfterF3          */ one_byte!(opcodes 2),
     /* AfterF2          */ one_byte!(opcodes 3),
@@ -157,7 +157,7 @@ pub(crate) static NEXT: [[u8; 256]; STATES] = [
     /* After0F          */ two_byte!(opcodes 0),
     /* After66_0F       */ two_byte!(opcodes 1),
     /* AfterF0_0F       */ two_byte!(opcodes 4),
-    // ModRM comes next.
+    // ModRM is next.
     /* Group4Locked     */ modrm!(none [X X O O O O O O] [O O O O O O O O]),
     /* Group3LockedByte */ modrm!(byte [O O N N O O O O] [O O O O O O O O]),
     /* Group3LockedLong */ modrm!(long [O O N N O O O O] [O O O O O O O O]),
@@ -182,7 +182,7 @@ pub(crate) static NEXT: [[u8; 256]; STATES] = [
     /* AnyWord          */ modrm!(word [X X X X X X X X] [X X X X X X X X]),
     /* AnyLong          */ modrm!(long [X X X X X X X X] [X X X X X X X X]),
     /* After83          */ modrm!(byte [X X X X X X X X] [X X X X [Mask0 Mask1 Mask2 Mask3 Left1 Mask5 Mask6 Mask7] X X X]),
-    // Inside a mask, and an indirect transfer after it.
+    // Inside a possible mask, and inside an indirect transfer directly after a mask.
     /* Mask0            */ mask_number!(AfterMask0),
     /* Mask1            */ mask_number!(AfterMask1),
     /* Mask2            */ mask_number!(AfterMask2),

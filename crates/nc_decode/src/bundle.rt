@@ -1,18 +1,18 @@
-//! What is known of a bundle that has been read.
+//! The bits that describe a bundle that has been read.
 
 ghost use Rattle.std.specs.Prelude.{◌≡◌, get_or};
 ghost use Rattle.nc_decode.specs.Bits.{no_bits};
 
-/// The instructions of a bundle: bit k speaks of the one whose last byte is byte k.
+/// The instructions of a bundle: bit k is about the one whose last byte is byte k.
 #[derive(Clone, Copy, Drop)]
 pub struct Bundle {
-    /// One ends there.
+    /// An instruction ends at byte k.
     pub ends: u32,
-    /// An indirect transfer ends there, directly after its mask.
+    /// An indirect transfer, directly after its mask, ends at byte k.
     pub pairs: u32,
-    /// A direct transfer ends there whose displacement is one byte.
+    /// A direct transfer with a displacement of one byte ends at byte k.
     pub shorts: u32,
-    /// A direct transfer ends there whose displacement is four bytes.
+    /// A direct transfer with a displacement of four bytes ends at byte k.
     pub nears: u32,
 }
 
@@ -24,7 +24,7 @@ const NO_BITS: Bundle = Bundle {
     nears: 0,
 };
 
-/// The bits of a bundle by its number, or none where there is no bundle.
+/// The bits of bundle `n`, or no bits if there is no such bundle.
 #[inline(always)]
 pub fn bundle_at(bundles: &[Bundle], n: usize) -> Bundle
     ensures { result ≡ get_or bundles.now n no_bits }

@@ -1,21 +1,21 @@
-//! The numbers of bundles and regions, for every crate.
+//! The constants of bundles and regions, for every crate.
 
 ghost use Rattle.std.specs.Prelude.{◌≡◌, ◌+◌, ◌*◌, ◌%◌, ◌-◌, ◌≤◌, ◌<◌, ◌↔◌, IsTrue};
 ghost use Rattle.nc_decode.specs.Bundles.{IsBundleStart, IsLawfulLimit, IsRegionSize};
 
-/// The bytes of a bundle. No permitted instruction crosses the end of one.
+/// The number of bytes in a bundle. No permitted instruction crosses the end of one.
 pub const BUNDLE: u32 = 32;
 
-/// The address of a region's first byte. What stands below it is trusted.
+/// The address of a region's first byte. Code below it is trusted.
 pub const START: u32 = 0x10000;
 
-/// The fewest bundles of a region: one for code, and the guard.
+/// The smallest number of bundles in a region: one for code, and the guard.
 pub const MIN_BUNDLES: u32 = 2;
 
-/// The most bundles of a region, which is then 64 MiB.
+/// The largest number of bundles in a region, which is then 64 MiB.
 pub const MAX_BUNDLES: u32 = 2_097_152;
 
-/// A bundle starts at this address.
+/// Whether this address is a bundle start.
 #[inline(always)]
 pub fn is_bundle_start(at: u32) -> bool
     ensures { IsTrue result ↔ IsBundleStart at }
@@ -23,7 +23,7 @@ pub fn is_bundle_start(at: u32) -> bool
     at % BUNDLE == 0
 }
 
-/// The bytes from this address to the end of its bundle, from 1 to 32.
+/// The number of bytes from this address to the end of its bundle, from 1 to 32.
 #[inline(always)]
 pub fn bundle_rest(at: u32) -> u32
     ensures rest { result ≡ 32 - at % 32 }
@@ -32,14 +32,14 @@ pub fn bundle_rest(at: u32) -> u32
     BUNDLE - at % BUNDLE
 }
 
-/// A region may have this many bundles.
+/// Whether a region may have this number of bundles.
 pub fn is_region_size(bundles: u32) -> bool
     ensures { IsTrue result ↔ IsRegionSize bundles }
 {
     MIN_BUNDLES <= bundles && bundles <= MAX_BUNDLES
 }
 
-/// A region may end at this address.
+/// Whether a region may end at this address.
 pub fn is_lawful_limit(limit: u32) -> bool
     ensures { IsTrue result ↔ IsLawfulLimit limit }
 {

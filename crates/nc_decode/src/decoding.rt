@@ -1,4 +1,4 @@
-//! The instruction at the front of some bytes: their shape first, then a test that all of it is there.
+//! Decodes the instruction at the front of some bytes: first its shape, then a test that all of it is present.
 
 ghost use Rattle.std.specs.Prelude.{◌≡◌, ◌≤◌, ◌<◌, ◌+◌, ◌↔◌, length, drop, IfOk};
 ghost use Rattle.std.specs.Result.{result_ok};
@@ -12,7 +12,7 @@ use crate::instruction::{DecodeFault, Instr};
 use crate::shape::shape;
 use byteorder::{ByteOrder, LittleEndian};
 
-/// The displacement at the front of `rest`, if the number is one.
+/// The displacement at the front of `rest` if the number is a displacement, else 0.
 #[inline(always)]
 fn rel(number: Number, rest: &[u8]) -> i32
     requires short { number ≡ Number.Short → 1 ≤ length rest.now }
@@ -26,12 +26,12 @@ fn rel(number: Number, rest: &[u8]) -> i32
     }
 }
 
-/// The register that a whole instruction masks.
+/// The register that a whole instruction masks, if any.
 #[inline(always)]
 fn masks(bytes: &[u8]) -> Option<u8>
     ensures { result ≡ masks_of bytes.now }
 {
-    // The opcode comes first: few instructions have it, while the length by itself tells little.
+    // The opcode is tested first: few instructions have it, while the length by itself rules out few.
     let [0x83, rest @ ..] = bytes else {
         return None;
     };
@@ -41,7 +41,7 @@ fn masks(bytes: &[u8]) -> Option<u8>
     }
 }
 
-/// The instruction of this shape, where all its bytes are there.
+/// The instruction of this shape, if all its bytes are present.
 #[inline(always)]
 #[tactic(auto, unfolding(crate::specs::machinery::Reading::whole_of))]
 fn whole(bytes: &[u8], shape: Shape) -> Result<Instr, DecodeFault>
@@ -61,7 +61,7 @@ fn whole(bytes: &[u8], shape: Shape) -> Result<Instr, DecodeFault>
     })
 }
 
-/// The instruction that stands at the front, found from the left.
+/// The instruction at the front, read from the left.
 #[inline(always)]
 #[tactic(auto, unfolding(crate::specs::machinery::Reading::reading))]
 fn read(bytes: &[u8]) -> Result<Instr, DecodeFault>
@@ -70,35 +70,34 @@ fn read(bytes: &[u8]) -> Result<Instr, DecodeFault>
     whole(bytes, shape(bytes)?)
 }
 
-/// The instruction at the front of the bytes: one whole permitted instruction, whatever stands after it.
+/// The instruction at the front of the bytes: one whole permitted instruction, whatever follows it.
 ///
-/// The permitted instructions are a part of 32-bit x86 without floating point and vectors: the rows of `specs/Rows`, as
-/// `specs/Spelling` puts them together, with the lengths of the Intel SDM, volume 2. At most one prefix is permitted, and
-/// each only where the prefix table says so. Segment overrides, returns, far transfers, software interrupts, SYSCALL and
-/// SYSENTER are never read.
+/// The permitted instructions are a subset of 32-bit x86 without floating point and vectors: the rows of `specs/Rows`,
+/// combined as in `specs/Spelling`, with the lengths of the Intel SDM, volume 2. An instruction may have at most one
+/// prefix, and only where the prefix table permits it. Segment overrides, returns, far transfers, software interrupts,
+/// SYSCALL and SYSENTER are never permitted.
 ///
-/// It takes no memory, and answers for any bytes, with no need for more of them than the instruction has. It doesn't
-/// say whether the instruction may stand at an address: bundles, masks before indirect transfers and targets are judged
-/// by `nc_vet`.
+/// It allocates nothing, accepts any bytes, and needs none after the instruction. It doesn't judge whether the
+/// instruction is permitted at an address: `nc_vet` checks bundles, masks before indirect transfers, and targets.
 ///
 /// # Errors
 ///
-/// `Truncated` exactly where the bytes are a proper front of a permitted instruction, `NotPermitted` in all other cases
-/// in which no front of them is one.
+/// `Truncated` exactly if the bytes are the beginning of a permitted instruction but not all of it, `NotPermitted` in all
+/// other cases in which they don't begin with one.
 #[inline(always)]
 pub fn decode(bytes: &[u8]) -> Result<Instr, DecodeFault>
-    // A front of the bytes is a whole instruction, and this is what it says.
+    // The bytes begin with a whole instruction, described by `i`.
     ensures found { (i : Instr) → (result ≡ Ok i) ↔ IsAtFront bytes.now i }
-    // The bytes are the beginning of a whole instruction, and not all of it.
+    // The bytes are the beginning of an instruction, but not all of it.
     ensures truncated { (result ≡ Err DecodeFault.Truncated) ↔ IsProperFront bytes.now }
-    // Neither.
+    // The bytes neither begin with a whole instruction nor are the beginning of one.
     ensures refused { (result ≡ Err DecodeFault.NotPermitted)
         ↔ (((i : Instr) → ¬ IsAtFront bytes.now i) × ¬ IsProperFront bytes.now) }
-    // What is at the front has none of the barred beginnings.
+    // The instruction at the front is not barred.
     ensures allowed { (i : Instr) (f : IsAtFront bytes.now i) → ¬ IsBarred f.front }
-    // The layers above know only this function of the table.
+    // The layers above know the table only by this function.
     ensures first { result_ok result ≡ first_instruction bytes.now }
-    // What callers need of the length: it is that of the instruction.
+    // The length is at least 1, and at most the number of bytes given.
     ensures sized { IfOk result (λ i. (0 < i.len) × (i.len ≤ length bytes.now)) }
 {
     read(bytes)

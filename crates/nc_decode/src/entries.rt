@@ -1,18 +1,18 @@
 //! The entries of the opcode maps.
 //!
-//! A name is what follows the opcode, in the letters of the manual's opcode maps (Intel SDM volume 2, appendix A):
+//! A name says what follows the opcode, in the letters of the manual's opcode maps (Intel SDM volume 2, appendix A):
 //! `OP` nothing, `IB` a byte, `IZ` four bytes (two after 66), `OFF` a memory offset, `M` ModRM with its SIB and
-//! displacement, `MIB` and `MIZ` ModRM and then a number. A transfer and LEA have their own names, with `B` for a
-//! displacement of one byte and `Z` for one of four. Letters at the end name the prefixes that may stand before the
-//! opcode: `V` the byte 66, which gives the operand 16 bits, and `L` the lock prefix F0, only with an operand in memory.
-//! The five forms are those without a prefix and after 66, F3, F2 and F0.
+//! displacement, `MIB` and `MIZ` ModRM and then an immediate. Transfers and LEA have their own names, with `B` for a
+//! displacement of one byte and `Z` for one of four. Letters at the end name the prefixes that may precede the opcode:
+//! `V` the byte 66, which gives the operand 16 bits, and `L` the lock prefix F0, only with an operand in memory. The five
+//! forms are those without a prefix and after 66, F3, F2 and F0.
 
 use crate::entry::{Entry, Number};
 use crate::instruction::Flow;
 
-/// Every form of ModRM: each reg field, with an operand in memory (low byte) or in a register (high byte).
+/// Every form of ModRM: any reg field, with an operand in memory (low byte) or in a register (high byte).
 pub(crate) const ANY: u16 = 0xFFFF;
-/// Each reg field, with an operand in memory.
+/// Any reg field, with an operand in memory.
 const MEM: u16 = 0x00FF;
 
 // ---- the opcode by itself, or with a number after it
@@ -90,7 +90,7 @@ pub(crate) const OFFV: Entry = Entry {
 
 // ---- no opcode
 
-/// 0F, which comes before an opcode of two bytes.
+/// 0F, the first byte of an opcode of two bytes.
 pub(crate) const ESC: Entry = NO;
 /// The prefix 66.
 pub(crate) const P66: Entry = NO;
@@ -180,7 +180,7 @@ pub(crate) const MIZV: Entry = Entry {
     forms: [ANY, ANY, 0, 0, 0],
     ..M
 };
-/// LEA: ModRM that names a place in memory.
+/// LEA: ModRM with an operand in memory.
 pub(crate) const LEA: Entry = Entry {
     forms: [MEM, MEM, 0, 0, 0],
     ..M

@@ -1,9 +1,9 @@
-//! The entries of the opcode maps where ModRM's reg field chooses the instruction.
+//! The entries of the opcode maps for which ModRM's reg field selects the instruction.
 //!
 //! `G1` to `G11` are the groups of these numbers in the manual (Intel SDM volume 2, appendix A, table A-6). Groups 6, 7 and
-//! 10 are missing, since none of their instructions is permitted. At the end,
-//! `I` is an immediate byte where the group has another form, `Z` an immediate of the operand's size, and `V` the byte 66
-//! as in `entries`. Bit r of a form is reg r with an operand in memory, bit 8 + r is reg r with one in a register.
+//! 10 are missing, since none of their instructions is permitted. At the end of a name, `I` means an immediate byte where
+//! the group has another form, `Z` an immediate of the operand's size, and `V` the byte 66 as in `entries`. Bit r of a form
+//! is reg r with an operand in memory; bit 8 + r is reg r with an operand in a register.
 
 use crate::entries::{ANY, M};
 use crate::entry::{Entry, Number};

@@ -1,25 +1,25 @@
-//! One instruction of the permitted part of x86-32, read from the front of some bytes.
+//! Decodes one instruction of the permitted subset of x86-32 from the front of some bytes.
 //!
-//! Code that isn't trusted may run only if each instruction in it is known beforehand. So the instructions that it may use
-//! are a part of 32-bit x86 that is read in one way only, and this crate reads them.
+//! Untrusted code may run only if every instruction in it is known beforehand. It is therefore limited to a subset of
+//! 32-bit x86 that can be decoded in only one way, and this crate decodes it.
 //!
-//! - The *permitted instructions* stand as data in `specs/Rows`, and `specs/Spelling` says what a whole instruction is. Lengths
+//! - The *permitted instructions* are data in `specs/Rows`, and `specs/Spelling` defines a whole instruction. Lengths
 //!   and encodings are those of the Intel 64 and IA-32 Architectures Software Developer's Manual (SDM), volume 2.
-//! - [`Instr`] is what one instruction says about control: its length, where control goes after it ([`Flow`]), and the
-//!   register that it masks. Nothing is said of the data that it reads and writes.
-//! - A *bundle* is 32 bytes; no instruction crosses the end of one. `bundles` has the numbers of bundles and regions, and a
-//!   [`Bundle`] tells by bits where the instructions of one end.
+//! - [`Instr`] describes one instruction's effect on control: its length, where control goes after it ([`Flow`]), and the
+//!   register that it masks. It says nothing about the data that the instruction reads and writes.
+//! - A *bundle* is 32 bytes; no instruction crosses the end of one. `bundles` has the constants of bundles and regions, and
+//!   the bits of a [`Bundle`] say where its instructions end.
 //!
-//! Which call to use: [`decode`] reads one instruction and names what is wrong. [`advance`] reads one byte at a time and answers
-//! only yes or no, which is much faster over a whole text. [`may_transfer`] tells by its first byte that an instruction is no
-//! direct transfer. `law_of_fronts` and `law_of_automaton` do nothing; their contracts are what the crates above may know.
+//! Which call to use: [`decode`] decodes one instruction or reports the fault. [`advance`] reads one byte at a time and
+//! answers only yes or no, which is much faster over a whole text. [`may_transfer`] rules out direct transfers by the first
+//! byte of an instruction. `law_of_fronts` and `law_of_automaton` do nothing; the crates above rely only on their contracts.
 //!
 //! ```
 //! // 83 E3 E0 is `and ebx, -32`, the mask of register 3.
 //! let Ok(instr) = decode(&[0x83, 0xE3, 0xE0, 0xFF, 0xE3]) else { .. };
 //! assert!(instr.len == 3 && instr.flow == Flow::Next && instr.masks == Some(3));
 //! assert!(decode(&[0xC3]) == Err(DecodeFault::NotPermitted)); // a return
-//! assert!(decode(&[0xE8, 0x00]) == Err(DecodeFault::Truncated)); // the front of a call
+//! assert!(decode(&[0xE8, 0x00]) == Err(DecodeFault::Truncated)); // the beginning of a call
 //! ```
 #![tactic(auto)]
 

@@ -4,8 +4,8 @@ ghost use Rattle.std.specs.Prelude.{◌≡◌, ◌≤◌, false};
 ghost use Rattle.nc_decode.specs.machinery.Shapes.{has_sib, is_baseless};
 ghost use Rattle.nc_decode.specs.Spelling.{operand_len};
 
-/// The bytes of an operand by its ModRM, where SIB doesn't ask for more: a row for the first digit of ModRM, a column for
-/// the second (Intel SDM volume 2, table 2-2). Mod is 0 in the rows 0 to 3, 1 in 4 to 7, 2 in 8 to B and 3 below.
+/// The length of an operand by its ModRM, unless SIB adds to it: a row for the first digit of ModRM, a column for the
+/// second (Intel SDM volume 2, table 2-2). Mod is 0 in rows 0 to 3, 1 in rows 4 to 7, 2 in rows 8 to B, and 3 below.
 #[rattlefmt::skip]
 pub(crate) static OPERAND: [u8; 256] = [
     //      0  1  2  3  4  5  6  7  8  9  A  B  C  D  E  F
@@ -27,7 +27,7 @@ pub(crate) static OPERAND: [u8; 256] = [
     /* F */ 1, 1, 1, 1, 1, 1, 1, 1, 1, 1, 1, 1, 1, 1, 1, 1,
 ];
 
-/// The bytes of an operand whose SIB, if it has one, doesn't ask for more.
+/// The length of an operand whose SIB, if it has one, doesn't add to it.
 #[inline(always)]
 fn usual_len(modrm: u8) -> u8
     ensures { result ≡ operand_len modrm 0 }
@@ -35,7 +35,7 @@ fn usual_len(modrm: u8) -> u8
     OPERAND[modrm as usize]
 }
 
-/// SIB stands for no base, and mod for no displacement: then four bytes of displacement follow.
+/// Mod is 0 and SIB names no base: four bytes of displacement follow.
 #[inline(always)]
 fn is_baseless(modrm: u8, sib: u8) -> bool
     ensures { result ≡ is_baseless modrm sib }
@@ -43,13 +43,13 @@ fn is_baseless(modrm: u8, sib: u8) -> bool
     (modrm < 64) & (modrm % 8 == 4) & (sib % 8 == 5)
 }
 
-/// The bytes of an operand. Where ModRM has no SIB after it, `sib` doesn't count.
+/// The length of an operand. If no SIB follows ModRM, `sib` doesn't matter.
 #[inline(always)]
 pub(crate) fn operand_len(modrm: u8, sib: u8) -> u8
     ensures len { result ≡ operand_len modrm sib }
     ensures alone { has_sib modrm ≡ false → result ≡ operand_len modrm 0 }
     ensures small { result ≤ 6 }
 {
-    // No branches: which form comes next is hard to foresee for the processor.
+    // No branches: the form of the next operand is hard to predict.
     usual_len(modrm) + 4 * u8::from(is_baseless(modrm, sib))
 }

@@ -1,13 +1,13 @@
 //! The states of the automaton.
 
-/// What the automaton waits for after some bytes, in the order of the rows of its table.
+/// What the automaton expects after some bytes, in the order of the rows of its table.
 ///
-/// A name that begins with `After` says what has just been read, and each other one what has to come next. Where a number
-/// comes last, `Byte`, `Word` or `Long` at the end tells that it has 1, 2 or 4 bytes. A digit after `Mask`, `Pair` or
-/// `AfterMask` is the masked register.
+/// A name that begins with `After` says what has just been read; any other name says what must follow. If the instruction
+/// ends with a number, `Byte`, `Word` or `Long` at the end of the name means that it has 1, 2 or 4 bytes. A digit after
+/// `Mask`, `Pair` or `AfterMask` is the masked register.
 #[derive(Clone, Copy)]
 pub(crate) enum State {
-    /// No permitted instruction begins so.
+    /// No permitted instruction begins with these bytes.
     Dead,
 
     // An opcode, after a prefix or 0F.
@@ -19,9 +19,9 @@ pub(crate) enum State {
     After66_0F,
     AfterF0_0F,
 
-    // ModRM. `Any` and `Memory` are of the forms `ANY` and `MEM` of `entries`, and groups are those of `groups`: all their
-    // forms, or those that may be locked.
-    /// INC and DEC with an operand in memory, of group 5 too.
+    // ModRM. `Any` and `Memory` permit the forms `ANY` and `MEM` of `entries`. Groups are those of `groups`, with all their
+    // forms or only those that may be locked.
+    /// INC and DEC with an operand in memory, for group 5 too.
     Group4Locked,
     Group3LockedByte,
     Group3LockedLong,
@@ -34,7 +34,7 @@ pub(crate) enum State {
     Group11Word,
     Group11Long,
     Group4,
-    /// The group without its indirect transfers, which only come after a mask.
+    /// Group 5 without its indirect transfers, which are permitted only after a mask.
     Group5,
     Group2,
     Group2Byte,
@@ -46,10 +46,10 @@ pub(crate) enum State {
     AnyByte,
     AnyWord,
     AnyLong,
-    /// Any form, and a byte after it; with a register it may be a mask.
+    /// Any form, and a byte after it; with a register, the instruction may be a mask.
     After83,
 
-    // The byte E0 that makes a mask, or another one.
+    // The immediate byte after 83 and a register: E0 makes the instruction a mask.
     Mask0,
     Mask1,
     Mask2,
@@ -73,7 +73,7 @@ pub(crate) enum State {
     SibWord,
     SibLong,
 
-    // The last bytes, 1 to 9.
+    // The last 1 to 9 bytes.
     Left1,
     Left2,
     Left3,
@@ -94,7 +94,7 @@ pub(crate) enum State {
     // ModRM of CMPXCHG8B.
     Group9,
 
-    // An instruction. All states from here on come after one.
+    // The next instruction. All states from here on are at the end of one.
     End,
     AfterMask0,
     AfterMask1,

@@ -5,11 +5,11 @@ ghost use Rattle.nc_decode.specs.Transfers.{may_transfer};
 
 /// A direct transfer may begin with the byte.
 const X: bool = true;
-/// None does.
+/// No direct transfer begins with the byte.
 const O: bool = false;
 
 /// The bytes with which a direct transfer may begin: a row for the first digit, a column for the second. They are 0F, the
-/// branches 70 to 7F and E0 to E3, and CALL and JMP; E4 to E7 and EA, between these, have no permitted instruction.
+/// branches 70 to 7F and E0 to E3, and CALL and JMP; no permitted instruction begins with E4 to E7 or EA, among these.
 #[rattlefmt::skip]
 pub(crate) static TRANSFERS: [bool; 256] = [
     //      0  1  2  3  4  5  6  7  8  9  A  B  C  D  E  F
@@ -31,10 +31,10 @@ pub(crate) static TRANSFERS: [bool; 256] = [
     /* F */ O, O, O, O, O, O, O, O, O, O, O, O, O, O, O, O,
 ];
 
-/// Whether a direct jump, call or branch may begin with this byte. By `law_of_fronts` none begins with another one.
+/// Whether a direct jump, call or branch may begin with this byte. By `law_of_fronts` none begins with any other byte.
 ///
-/// It spares a reader of many instructions the decoding of those that aren't direct transfers. Other instructions may
-/// begin with these bytes too.
+/// It saves a caller that reads many instructions from decoding those that can't be direct transfers. Other instructions
+/// may begin with these bytes too.
 pub fn may_transfer(byte: u8) -> bool
     ensures { result ≡ may_transfer byte }
 {

@@ -1,4 +1,4 @@
--- Which fault an ELF file has: the first, in the order of `ElfFault` and, for the segments, of the program headers.
+-- The fault of an ELF file: the first in the order of `ElfFault` and, for segments, of the program headers.
 use Rattle.std.specs.Prelude.{◌≡◌, ◌≢◌, ℕ, ◌<◌, List, IsTrue, slice_index}
 use Rattle.nc_elf.specs.declared.fault.ElfFault.{ElfFault}
 use Rattle.nc_elf.specs.declared.fault.ElfFault.TheVariants.{NotElf, ShortHeader, Elf64, OtherFormat, OtherMachine, Unlinked}
@@ -46,8 +46,8 @@ HasHeaderFault file BadTable =
     IsElf file × HasWholeHeader file × IsElf32 file × IsX86 file × (e_type file ≢ 1) × IsLinked file × ¬ HasTable file
 HasHeaderFault file _ = ⊥
 
--- The first fault of a file: of the header, of the first loaded segment that isn't good, or that there is no code. Lack
--- of memory says nothing of a file except that it is well-formed.
+-- The first fault of a file: that of the header, that of the first loaded segment that isn't good, or the absence of code.
+-- Lack of memory says nothing about a file except that it is well-formed.
 abbrev pub HasElfFault : List ℕ → ElfFault → Type 0
 HasElfFault file (BadSegment i fault) = IsFirstBad file i fault
 HasElfFault file NoCode = HasTable file × AreGood file (e_phnum file) × ¬ HasCode file

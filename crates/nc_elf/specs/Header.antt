@@ -11,19 +11,19 @@ u16_at file at = little_number 2 (drop at file)
 unfoldable pub u32_at : List ℕ → ℕ → ℕ
 u32_at file at = little_number 4 (drop at file)
 
--- 1 is a relocatable file, 2 an executable file, 3 a shared object
+-- the file's type: 1 is a relocatable file, 2 an executable file, 3 a shared object
 abbrev pub e_type : List ℕ → ℕ
 e_type file = u16_at file 16
 
--- 3 is the Intel 80386
+-- the file's machine: 3 is the Intel 80386
 abbrev pub e_machine : List ℕ → ℕ
 e_machine file = u16_at file 18
 
--- the file's version; the fourth byte after the magic number says it too
+-- the file's version, which byte 6 of the file repeats
 abbrev pub e_version : List ℕ → ℕ
 e_version file = u32_at file 20
 
--- where the program headers begin
+-- the offset of the first program header
 abbrev pub e_phoff : List ℕ → ℕ
 e_phoff file = u32_at file 28
 
@@ -31,7 +31,7 @@ e_phoff file = u32_at file 28
 abbrev pub e_phentsize : List ℕ → ℕ
 e_phentsize file = u16_at file 42
 
--- the number of program headers; FFFF says that it stands elsewhere
+-- the number of program headers; FFFF means that it is stored elsewhere
 abbrev pub e_phnum : List ℕ → ℕ
 e_phnum file = u16_at file 44
 
@@ -44,7 +44,7 @@ pub record HasWholeHeader (file : List ℕ) : Type 0 where
   pub elf : IsElf file
   pub long : 52 ≤ length file
 
--- the file is of class 1 (32 bits), encoding 1 (little-endian) and version 1, which two fields say
+-- the file is of class 1 (32 bits), encoding 1 (little-endian) and version 1 in both version fields
 pub record IsElf32 (file : List ℕ) : Type 0 where
   pub whole : HasWholeHeader file
   pub size : slice_index file 4 ≡ 1

@@ -1,11 +1,11 @@
--- The section headers of an ELF file, and the two sections that have its symbols and their names.
+-- The section headers of an ELF file, and the two sections that hold its symbols and their names.
 use Rattle.std.specs.Prelude.{◌≡◌, ℕ, ◌+◌, ◌*◌, ◌<◌, ◌≤◌, ◌==◌, Bool, List, Some, length, map, find}
 use Rattle.std.specs.List.{range_with_len}
 use Rattle.nc_elf.specs.declared.sections.SectionHeader.{SectionHeader}
 use Rattle.nc_elf.specs.declared.sections.SymbolSections.{SymbolSections}
 use Rattle.nc_elf.specs.Header.{u16_at, u32_at, IsElf32}
 
--- where the section headers begin
+-- the offset of the first section header
 abbrev pub e_shoff : List ℕ → ℕ
 e_shoff file = u32_at file 32
 
@@ -17,7 +17,7 @@ e_shentsize file = u16_at file 46
 abbrev pub e_shnum : List ℕ → ℕ
 e_shnum file = u16_at file 48
 
--- a 32-bit little-endian file whose section headers stand in it, each of 40 bytes
+-- the file is a 32-bit little-endian one, and its section headers are in it, each of 40 bytes
 pub record HasSections (file : List ℕ) : Type 0 where
   pub elf32 : IsElf32 file
   pub size : e_shentsize file ≡ 40
@@ -38,16 +38,16 @@ section_header file i =
 abbrev pub section_headers : List ℕ → List SectionHeader
 section_headers file = map (λ i. section_header file i) (range_with_len 0 (e_shnum file))
 
--- the section is a table of symbols (SHT_SYMTAB)
+-- the section is a symbol table (SHT_SYMTAB)
 abbrev pub is_symbol_table : SectionHeader → Bool
 is_symbol_table h = h.kind == 2
 
--- the section's bytes lie in the file
+-- the section's bytes are in the file
 abbrev pub IsSectionInFile : List ℕ → SectionHeader → Type 0
 IsSectionInFile file h = h.offset + h.len ≤ length file
 
--- The first table of symbols (SHT_SYMTAB), with entries of 16 bytes, and the table of strings that it links to
--- (SHT_STRTAB). Both are in the file, a 32-bit little-endian one with its section headers in it, each of 40 bytes.
+-- The first symbol table (SHT_SYMTAB), with entries of 16 bytes, and the string table (SHT_STRTAB) to which it links. Both
+-- are in the file, a 32-bit little-endian one with its section headers in it, each of 40 bytes.
 pub record AreSymbolSections (file : List ℕ) (t : SymbolSections) : Type 0 where
   pub sections : HasSections file
   pub symbols : find is_symbol_table (section_headers file) ≡ Some t.symbols
@@ -58,6 +58,6 @@ pub record AreSymbolSections (file : List ℕ) (t : SymbolSections) : Type 0 whe
   pub kind : t.names.kind ≡ 3
   pub names_inside : IsSectionInFile file t.names
 
--- the file has such sections (`AreSymbolSections`)
+-- the file has a symbol table and its string table (`AreSymbolSections`)
 abbrev pub HasSymbols : List ℕ → Type 0
 HasSymbols file = (t : SymbolSections) × AreSymbolSections file t

@@ -1,4 +1,4 @@
--- The program headers of an ELF file, and which segments of code they name.
+-- The program headers of an ELF file, and the segments of code that they name.
 use Rattle.std.specs.Prelude.{ℕ, ◌+◌, ◌*◌, ◌^◌, ◌<◌, ◌≤◌, ◌==◌, ◌&&◌, Bool, List, length, map, filter, bit_and, nat_lt, slice_range, IsTrue}
 use Rattle.std.specs.List.{range_with_len}
 use Rattle.nc_elf.specs.declared.program.ProgramHeader.{ProgramHeader}
@@ -37,7 +37,7 @@ is_writable h = bit_and h.flags 2 == 2
 abbrev pub is_code : ProgramHeader → Bool
 is_code h = is_load h && is_executable h && nat_lt 0 h.file_len
 
--- where a program header's bytes lie in memory and in the file; their number is that in the file
+-- the position of a program header's bytes in memory and in the file; only the bytes in the file are counted
 abbrev pub segment_of : ProgramHeader → Segment
 segment_of h = record { address = h.address; offset = h.offset; len = h.file_len }
 
@@ -46,7 +46,7 @@ segment_of h = record { address = h.address; offset = h.offset; len = h.file_len
 abbrev pub segments_of : List ℕ → List Segment
 segments_of file = map segment_of (filter is_code (program_headers file))
 
--- the segment's bytes lie in the file
+-- the segment's bytes are in the file
 abbrev pub IsInFile : List ℕ → ProgramHeader → Type 0
 IsInFile file h = h.offset + h.file_len ≤ length file
 
@@ -58,7 +58,7 @@ IsInMemory h = h.file_len ≤ h.memory_len
 abbrev pub IsBelowTop : ProgramHeader → Type 0
 IsBelowTop h = h.address + h.memory_len ≤ 2 ^ 32
 
--- each loaded segment of the first i program headers ends at this address or before
+-- each loaded segment of the first i program headers ends at this address or below
 pub record EndBy (file : List ℕ) (i : ℕ) (at : ℕ) : Type 0 where
   pub each : (j : ℕ) → j < i → IsTrue (is_load (program_header file j))
       → (program_header file j).address + (program_header file j).memory_len ≤ at
@@ -103,10 +103,10 @@ pub record IsPlaced (file : List ℕ) (s : Segment) : Type 0 where
   pub in_file : s.offset + s.len ≤ length file
   pub below_top : s.address + s.len ≤ 2 ^ 32
 
--- the first segment ends where the second begins, or before
+-- the first segment ends at or below the address where the second begins
 abbrev pub EndsBefore : Segment → Segment → Type 0
 EndsBefore s t = s.address + s.len ≤ t.address
 
--- the bytes of the file that the segment names
+-- the bytes of the segment in the file
 abbrev pub bytes_of : List ℕ → Segment → List ℕ
 bytes_of file s = slice_range file s.offset (s.offset + s.len)

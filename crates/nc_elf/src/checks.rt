@@ -1,4 +1,4 @@
-//! Whether a file is well-formed.
+//! Checks whether a file is well-formed.
 
 ghost use Rattle.std.specs.Prelude.{◌<◌, ◌↔◌, IsTrue, IfErr, OnOk, IfNone, IfSome};
 ghost use Rattle.nc_elf.specs.Header.{e_phnum, HasTable};
@@ -13,7 +13,7 @@ use crate::program::{header_count, program_header};
 /// The number of addresses.
 const TOP: u64 = 1 << 32;
 
-/// The first fault of a loaded segment, which may begin at the floor or above.
+/// The first fault of a loaded segment, which has to begin at `floor` or above.
 fn segment_fault(file: &[u8], number: usize, floor: u64) -> Option<SegmentFault>
     requires table { HasTable file.now }
     requires listed { number < e_phnum file.now }
@@ -43,7 +43,7 @@ fn segment_fault(file: &[u8], number: usize, floor: u64) -> Option<SegmentFault>
     None
 }
 
-/// The first of the faults of the loaded segments.
+/// The first fault of the loaded segments, if there is one.
 fn check_segments(file: &[u8]) -> Result<(), ElfFault>
     requires { HasTable file.now }
     ensures fine { OnOk result (AreGood file.now (e_phnum file.now)) }
@@ -75,7 +75,7 @@ fn has_code(file: &[u8]) -> bool
     false
 }
 
-/// The first of the faults of a file.
+/// The first fault of a file, if there is one.
 pub(crate) fn check(file: &[u8]) -> Result<(), ElfFault>
     ensures fine { OnOk result (IsWellFormed file.now) }
     ensures fault { IfErr result (HasElfFault file.now) }

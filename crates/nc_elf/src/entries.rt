@@ -1,4 +1,4 @@
-//! The entries of a table of symbols, and their names.
+//! The entries of a symbol table, and their names.
 
 ghost use Rattle.std.specs.Prelude.{◌≡◌, ◌+◌, ◌<◌, ◌≤◌, ◌/◌, IfSome, IfNone, IsTrue, length, false, true};
 ghost use Rattle.nc_elf.specs.Sections.{IsSectionInFile, AreSymbolSections};
@@ -9,7 +9,7 @@ use crate::numbers::{u16_at, u32_at};
 use crate::sections::{SYMBOL_ENTRY_LEN, SectionHeader};
 use crate::symbols::Symbol;
 
-// Where an entry's fields stand, by their names in the System V ABI.
+// The offsets of an entry's fields, by their names in the System V ABI.
 const ST_NAME: usize = 0;
 
 const ST_VALUE: usize = 4;
@@ -21,7 +21,7 @@ const ST_SHNDX: usize = 14;
 /// The bits of `st_info` that give the symbol's type.
 const TYPE_MASK: u8 = 0x0F;
 
-/// The type of a symbol of which no type is said.
+/// The type of a symbol without a specified type.
 const STT_NOTYPE: u8 = 0;
 
 /// The type of a function.
@@ -30,27 +30,27 @@ const STT_FUNC: u8 = 2;
 /// The section of a symbol that the file doesn't define.
 const SHN_UNDEF: u16 = 0;
 
-/// The first section number that is no section's.
+/// The first reserved section number, which no section has.
 const SHN_LORESERVE: u16 = 0xFF00;
 
-/// The longest name and the 0 that ends it.
+/// The length of the longest name and its terminating 0.
 const NAME_FIELD_LEN: usize = 256;
 
-/// What an entry of a table of symbols says of its symbol.
+/// The contents of an entry of a symbol table.
 #[derive(Clone, Copy, Drop)]
 pub(crate) struct SymbolEntry {
-    /// Where the name begins in the table of strings.
+    /// The offset of the name in the string table.
     pub name: u32,
     /// The address.
     pub address: u32,
-    /// The type, and how the symbol is bound.
+    /// The symbol's type and binding.
     pub info: u8,
-    /// The number of the section in which it is defined.
+    /// The number of the section in which the symbol is defined.
     pub section: u16,
 }
 
 impl SymbolEntry {
-    /// The symbol's type is none or a function.
+    /// Whether the symbol's type is none or a function.
     fn is_code_type(self) -> bool
         ensures { result ≡ is_code_type self }
     {
@@ -58,7 +58,7 @@ impl SymbolEntry {
         kind == STT_NOTYPE || kind == STT_FUNC
     }
 
-    /// The symbol is defined in a section.
+    /// Whether the symbol is defined in a section.
     fn is_defined(self) -> bool
         ensures { result ≡ is_defined self }
     {
@@ -66,7 +66,7 @@ impl SymbolEntry {
     }
 }
 
-/// The number of whole entries of a table of symbols.
+/// The number of whole entries in a symbol table.
 pub(crate) fn entry_count(table: SectionHeader) -> usize
     ensures { result ≡ table.len / 16 }
 {
@@ -88,7 +88,7 @@ pub(crate) fn symbol_entry(file: &[u8], table: SectionHeader, number: usize) -> 
     }
 }
 
-/// What the table of strings has from the entry's name on, up to 256 bytes.
+/// The bytes of the string table from the entry's name on, at most 256.
 fn name_field<'a>(file: &'a [u8], names: SectionHeader, entry: SymbolEntry) -> &'a [u8]
     requires { IsSectionInFile file.now names }
     ensures field { result.now ≡ name_field file.now names entry }
@@ -101,14 +101,14 @@ fn name_field<'a>(file: &'a [u8], names: SectionHeader, entry: SymbolEntry) -> &
     &rest[..NAME_FIELD_LEN.min(rest.len())]
 }
 
-/// Whether a name may have this byte.
+/// Whether a name may contain this byte.
 fn is_name_byte(byte: u8) -> bool
     ensures { result ≡ is_name_byte byte }
 {
     0x21 <= byte && byte <= 0x7E
 }
 
-/// The length of the name that begins a field.
+/// The length of the name at the beginning of a field.
 fn name_len(field: &[u8]) -> usize
     ensures { result ≡ name_len field.now }
 {
@@ -120,7 +120,7 @@ fn name_len(field: &[u8]) -> usize
     field.len()
 }
 
-/// Whether a name of this length, ended by a 0, begins a field.
+/// Whether a field begins with a name of this length, terminated by a 0.
 fn has_name(field: &[u8], len: usize) -> bool
     requires { len ≡ name_len field.now }
     ensures name { result ≡ has_name field.now }
@@ -129,7 +129,7 @@ fn has_name(field: &[u8], len: usize) -> bool
     len > 0 && len < field.len() && field[len] == 0
 }
 
-/// Whether the name that begins a field is an assembler's own label, or a mark in code.
+/// Whether the name at the beginning of a field is an assembler's own label, or a mark in code.
 fn is_local_label(field: &[u8]) -> bool
     ensures { result ≡ is_local_label field.now }
 {

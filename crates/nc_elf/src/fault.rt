@@ -1,11 +1,11 @@
-//! Why the segments of a file aren't read.
+//! The faults for which the segments of a file aren't listed.
 
 use thiserror::Error;
 
-/// What is wrong with a loaded segment. The first that holds is given, in this order.
+/// The fault of a loaded segment: the first that holds, in this order.
 #[derive(Clone, Copy, Debug, Drop, PartialEq, Eq, Error)]
 pub enum SegmentFault {
-    /// Some of its bytes would lie after the end of the file.
+    /// Some of its bytes would be after the end of the file.
     #[error("reaches beyond the end of the file")]
     BeyondFile,
     /// It has more bytes in the file than in memory.
@@ -14,7 +14,7 @@ pub enum SegmentFault {
     /// It ends above the last address.
     #[error("wraps around the end of the addresses")]
     Wraps,
-    /// It overlaps an earlier loaded segment, or lies below one.
+    /// It overlaps an earlier loaded segment, or is below one.
     #[error("overlaps an earlier segment or lies below it")]
     OutOfOrder,
     /// It is both writable and executable.
@@ -25,7 +25,7 @@ pub enum SegmentFault {
     UnfilledCode,
 }
 
-/// Why the segments of a file aren't read. The first that holds is given, in this order.
+/// The fault for which the segments of a file aren't listed: the first that holds, in this order.
 #[derive(Clone, Copy, Debug, Drop, PartialEq, Eq, Error)]
 pub enum ElfFault {
     /// The file doesn't begin with 7F, `E`, `L`, `F`.
@@ -49,16 +49,16 @@ pub enum ElfFault {
     /// The file is neither an executable file nor a shared object.
     #[error("neither an executable file nor a shared object")]
     OtherType,
-    /// Program headers aren't 32 bytes long, are too many to be counted in the header, or don't all lie in the file.
+    /// The program headers aren't 32 bytes long, are too many for the header's count, or aren't all in the file.
     #[error("bad table of program headers")]
     BadTable,
-    /// A loaded segment has a fault. The number is that of its program header, counted from 0; it is the first one.
+    /// A loaded segment has a fault. It is the first such segment; `number` is that of its program header, counted from 0.
     #[error("the segment of program header {number} {fault}")]
     BadSegment { number: usize, fault: SegmentFault },
     /// No loaded segment is executable and has bytes in the file.
     #[error("no executable segment")]
     NoCode,
-    /// The allocator gave no memory for the list.
+    /// There was no memory for the list.
     #[error("out of memory")]
     OutOfMemory,
 }

@@ -8,13 +8,13 @@ use crate::fault::ElfFault;
 use crate::numbers::{u16_at, u32_at};
 use crate::program::PROGRAM_HEADER_LEN;
 
-/// What each ELF file begins with.
+/// The bytes with which every ELF file begins.
 const MAGIC: [u8; 4] = [0x7F, b'E', b'L', b'F'];
 
 /// The length of the header.
 pub(crate) const HEADER_LEN: usize = 52;
 
-// Where the header's fields stand, by their names in the System V ABI.
+// The offsets of the header's fields, by their names in the System V ABI.
 const EI_CLASS: usize = 4;
 
 const EI_DATA: usize = 5;
@@ -33,7 +33,7 @@ const E_PHENTSIZE: usize = 42;
 
 pub(crate) const E_PHNUM: usize = 44;
 
-// What the fields may say.
+// Values of the fields.
 const ELFCLASS32: u8 = 1;
 
 const ELFCLASS64: u8 = 2;
@@ -50,7 +50,7 @@ const ET_DYN: u16 = 3;
 
 const EM_386: u16 = 3;
 
-/// The number of program headers that says that the number stands elsewhere.
+/// The count of program headers that means that the real count is stored elsewhere.
 const PN_XNUM: u16 = 0xFFFF;
 
 /// Whether a file begins as ELF files do: with 7F, `E`, `L`, `F`.
@@ -60,7 +60,7 @@ pub fn is_elf(file: &[u8]) -> bool
     file.starts_with(&MAGIC)
 }
 
-/// Whether a file with a whole header is a 32-bit little-endian one of version 1.
+/// Whether a file with a whole header is a 32-bit little-endian file of version 1.
 pub(crate) fn is_elf32(file: &[u8]) -> bool
     requires { HasWholeHeader file.now }
     ensures { IsTrue result ↔ IsElf32 file.now }
@@ -71,7 +71,7 @@ pub(crate) fn is_elf32(file: &[u8]) -> bool
         && u32_at(file, E_VERSION) == u32::from(EV_CURRENT)
 }
 
-/// Whether the program headers of a linked file stand in it.
+/// Whether the program headers of a linked file are in it, fewer than 65535 and each of 32 bytes.
 fn has_table(file: &[u8]) -> bool
     requires { IsLinked file.now }
     ensures { IsTrue result ↔ HasTable file.now }
@@ -82,7 +82,7 @@ fn has_table(file: &[u8]) -> bool
         && u32_at(file, E_PHOFF) as usize + PROGRAM_HEADER_LEN * count as usize <= file.len()
 }
 
-/// The first of the faults of the header.
+/// The first fault of the header, if there is one.
 pub(crate) fn check_header(file: &[u8]) -> Result<(), ElfFault>
     ensures fine { OnOk result (HasTable file.now) }
     ensures fault { IfErr result (HasElfFault file.now) }

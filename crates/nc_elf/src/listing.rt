@@ -31,15 +31,15 @@ fn list_segments(alloc: Global, file: &[u8]) -> Result<Vec<Segment>, AllocError>
 pub fn code_segments(alloc: Global, file: &[u8]) -> Result<Vec<Segment>, ElfFault>
     // All segments of code that the program headers name, and nothing else.
     ensures segments { IfOk result (λ segments. segments.items ≡ segments_of file.now) }
-    // The file is linked, for the processor, and its loaded segments have no fault.
+    // The file is linked and for the Intel 80386, and its loaded segments have no fault.
     ensures well_formed { OnOk result (IsWellFormed file.now) }
-    // Each segment has bytes, which lie in the file, and in memory below 2^32.
+    // Each segment has bytes, which are in the file, and below 2^32 in memory.
     ensures placed { IfOk result (λ segments. All (IsPlaced file.now) segments.items) }
-    // Each ends where the later ones begin, or before.
+    // Each segment ends at or below the addresses where the later ones begin.
     ensures apart { IfOk result (λ segments. AllPairs EndsBefore segments.items) }
-    // A refusal names the file's fault.
+    // A refusal reports the file's fault.
     ensures fault { IfErr result (HasElfFault file.now) }
-    // A fault is given exactly when it is due, except for lack of memory.
+    // Each fault except lack of memory is reported exactly if the file has it.
     ensures exact { (fault : ElfFault) → fault ≢ ElfFault.OutOfMemory
         → ((result ≡ Err fault) ↔ HasElfFault file.now fault) }
 {

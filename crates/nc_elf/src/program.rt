@@ -11,7 +11,7 @@ use crate::segment::Segment;
 /// The length of a program header.
 pub(crate) const PROGRAM_HEADER_LEN: usize = 32;
 
-// Where a program header's fields stand, by their names in the System V ABI.
+// The offsets of a program header's fields, by their names in the System V ABI.
 const P_TYPE: usize = 0;
 
 const P_OFFSET: usize = 4;
@@ -33,14 +33,14 @@ const PF_X: u32 = 1;
 /// The flag of a writable segment.
 const PF_W: u32 = 2;
 
-/// What a program header says of its segment.
+/// The contents of a program header.
 #[derive(Clone, Copy, Drop)]
 pub(crate) struct ProgramHeader {
     /// The segment's type.
     pub kind: u32,
-    /// Where its bytes begin in the file.
+    /// The offset of its first byte in the file.
     pub offset: u32,
-    /// Where its bytes begin in memory.
+    /// The address of its first byte.
     pub address: u32,
     /// The number of its bytes in the file.
     pub file_len: u32,
@@ -51,35 +51,35 @@ pub(crate) struct ProgramHeader {
 }
 
 impl ProgramHeader {
-    /// The segment is loaded into memory.
+    /// Whether the segment is loaded into memory.
     pub(crate) fn is_load(self) -> bool
         ensures { result ≡ is_load self }
     {
         self.kind == PT_LOAD
     }
 
-    /// The segment is executable.
+    /// Whether the segment is executable.
     pub(crate) fn is_executable(self) -> bool
         ensures { result ≡ is_executable self }
     {
         self.flags & PF_X == PF_X
     }
 
-    /// The segment is writable.
+    /// Whether the segment is writable.
     pub(crate) fn is_writable(self) -> bool
         ensures { result ≡ is_writable self }
     {
         self.flags & PF_W == PF_W
     }
 
-    /// The segment is loaded and executable, and has bytes in the file.
+    /// Whether the segment is loaded and executable, and has bytes in the file.
     pub(crate) fn is_code(self) -> bool
         ensures { result ≡ is_code self }
     {
         self.is_load() && self.is_executable() && self.file_len > 0
     }
 
-    /// The bytes that the file has of the segment lie in it.
+    /// Whether the file contains all the bytes that the header places in it.
     pub(crate) fn is_in_file(self, file: &[u8]) -> bool
         ensures { IsTrue result ↔ IsInFile file.now self }
     {
@@ -93,7 +93,7 @@ impl ProgramHeader {
         u64::from(self.address) + u64::from(self.memory_len)
     }
 
-    /// Where the bytes lie that the file has of the segment.
+    /// The position of those of the segment's bytes that are in the file.
     pub(crate) fn segment(self) -> Segment
         ensures { result ≡ segment_of self }
     {

@@ -1,4 +1,4 @@
-//! The section headers, and the two sections that have the symbols and their names.
+//! The section headers, and the two sections that hold the symbols and their names.
 
 ghost use Rattle.std.specs.Prelude.{◌≡◌, ◌+◌, ◌<◌, ◌≤◌, ◌↔◌, IsTrue, IfSome, IfNone, length, find};
 ghost use Rattle.nc_elf.specs.Sections.{e_shnum, HasSections, section_header, section_headers, is_symbol_table};
@@ -7,7 +7,7 @@ ghost use Rattle.nc_elf.specs.Sections.{IsSectionInFile, AreSymbolSections, HasS
 use crate::header::{HEADER_LEN, is_elf, is_elf32};
 use crate::numbers::{u16_at, u32_at};
 
-// Where the header's fields stand, by their names in the System V ABI.
+// The offsets of the header's fields, by their names in the System V ABI.
 const E_SHOFF: usize = 32;
 
 const E_SHENTSIZE: usize = 46;
@@ -17,7 +17,7 @@ const E_SHNUM: usize = 48;
 /// The length of a section header.
 const SECTION_HEADER_LEN: usize = 40;
 
-// Where a section header's fields stand.
+// The offsets of a section header's fields, by their names in the System V ABI.
 const SH_TYPE: usize = 4;
 
 const SH_OFFSET: usize = 16;
@@ -28,48 +28,48 @@ const SH_LINK: usize = 24;
 
 const SH_ENTSIZE: usize = 36;
 
-/// The type of a table of symbols.
+/// The type of a symbol table.
 const SHT_SYMTAB: u32 = 2;
 
-/// The type of a table of strings.
+/// The type of a string table.
 const SHT_STRTAB: u32 = 3;
 
-/// The length of an entry of a table of symbols.
+/// The length of an entry of a symbol table.
 pub(crate) const SYMBOL_ENTRY_LEN: u32 = 16;
 
-/// What a section header says of its section.
+/// The contents of a section header.
 #[derive(Clone, Copy, Drop)]
 pub(crate) struct SectionHeader {
     /// The section's type.
     pub kind: u32,
-    /// Where its bytes begin in the file.
+    /// The offset of its first byte in the file.
     pub offset: u32,
     /// The number of its bytes.
     pub len: u32,
-    /// The number of another section, for a table of symbols that of the names.
+    /// The number of another section; for a symbol table, that of its string table.
     pub link: u32,
     /// The length of an entry, for a table.
     pub entry_len: u32,
 }
 
-/// The sections that have the symbols and their names.
+/// The sections that hold the symbols and their names.
 #[derive(Clone, Copy, Drop)]
 pub(crate) struct SymbolSections {
-    /// The table of symbols.
+    /// The symbol table.
     pub symbols: SectionHeader,
-    /// The table of strings with their names.
+    /// The string table with the symbols' names.
     pub names: SectionHeader,
 }
 
 impl SectionHeader {
-    /// The section is a table of symbols.
+    /// Whether the section is a symbol table.
     fn is_symbol_table(self) -> bool
         ensures { result ≡ is_symbol_table self }
     {
         self.kind == SHT_SYMTAB
     }
 
-    /// The section's bytes lie in the file.
+    /// Whether the section's bytes are in the file.
     fn is_in_file(self, file: &[u8]) -> bool
         ensures { IsTrue result ↔ IsSectionInFile file.now self }
     {
@@ -77,7 +77,7 @@ impl SectionHeader {
     }
 }
 
-/// Whether the section headers of a 32-bit file stand in it.
+/// Whether the file is a 32-bit one with its section headers in it, each of 40 bytes.
 fn has_sections(file: &[u8]) -> bool
     ensures { IsTrue result ↔ HasSections file.now }
 {
@@ -113,7 +113,7 @@ fn section_header(file: &[u8], number: usize) -> SectionHeader
     }
 }
 
-/// The first table of symbols.
+/// The first symbol table.
 fn symbol_table(file: &[u8]) -> Option<SectionHeader>
     requires { HasSections file.now }
     ensures { result ≡ find is_symbol_table (section_headers file.now) }
@@ -127,7 +127,7 @@ fn symbol_table(file: &[u8]) -> Option<SectionHeader>
     None
 }
 
-/// The sections with the symbols and their names, if the file has both as the ABI lays them out.
+/// The sections with the symbols and their names, if the file has both, well-formed by the ABI.
 pub(crate) fn symbol_sections(file: &[u8]) -> Option<SymbolSections>
     ensures some { IfSome result (AreSymbolSections file.now) }
     ensures none { IfNone result (¬ HasSymbols file.now) }

@@ -3,19 +3,19 @@
 ghost use Rattle.std.specs.Prelude.{◌≡◌, ◌+◌, ◌≤◌, length};
 ghost use Rattle.nc_elf.specs.Segments.{bytes_of};
 
-/// Where the bytes of a segment lie, in memory and in the file.
+/// The position of a segment's bytes in memory and in the file.
 #[derive(Clone, Copy, Debug, Drop, PartialEq, Eq)]
 pub struct Segment {
     /// The address of the first byte.
     pub address: u32,
-    /// The first byte's offset in the file.
+    /// The offset of the first byte in the file.
     pub offset: u32,
     /// The number of bytes.
     pub len: u32,
 }
 
 impl Segment {
-    /// The segment's bytes, where they lie in its file.
+    /// The segment's bytes, as a slice of its file.
     pub fn bytes<'a>(self, file: &'a [u8]) -> &'a [u8]
         requires { self.offset + self.len ≤ length file.now }
         ensures { result.now ≡ bytes_of file.now self }

@@ -8,19 +8,19 @@ use crate::entries::{entry_count, listed_symbol, symbol_entry};
 use crate::sections::{SymbolSections, symbol_sections};
 use std::alloc::{AllocError, Global};
 
-/// An address and where its name lies in the file.
+/// An address, and the position of its name in the file.
 #[derive(Clone, Copy, Debug, Drop, PartialEq, Eq)]
 pub struct Symbol {
     /// The address.
     pub address: u32,
     /// The offset of the name's first byte in the file.
     pub name_at: usize,
-    /// The number of the name's bytes.
+    /// The length of the name in bytes.
     pub name_len: usize,
 }
 
 impl Symbol {
-    /// The symbol's name, where it lies in its file.
+    /// The symbol's name, as a slice of its file.
     pub fn name<'a>(self, file: &'a [u8]) -> &'a [u8]
         requires { self.name_at + self.name_len ≤ length file.now }
         ensures { result.now ≡ name_of file.now self }
@@ -49,15 +49,15 @@ fn list_symbols(
     Ok(symbols)
 }
 
-/// The symbols of code that the file's table of symbols names, by ascending address. A file without such a table, or with a malformed
+/// The symbols of code in the file's symbol table, by ascending address. A file without such a table, or with a malformed
 /// one, has none.
 pub fn code_symbols(alloc: Global, file: &[u8]) -> Result<Vec<Symbol>, AllocError>
-    // The symbols of all entries that are listed, sorted, those of one address in the table's order; without a well-formed table
-    // none.
+    // The symbols of all listed entries, sorted by address, those with the same address in the table's order; none if there is
+    // no well-formed table.
     ensures symbols { IfOk result (λ symbols. AreCodeSymbols file.now symbols.items) }
-    // Each name is short and lies in the file.
+    // Each name is short and in the file.
     ensures named { IfOk result (λ symbols. All (IsNamed file.now) symbols.items) }
-    // They ascend.
+    // The addresses ascend.
     ensures ascending { IfOk result (λ symbols. AreAscending symbols.items) }
 {
     let Some(sections) = symbol_sections(file) else {

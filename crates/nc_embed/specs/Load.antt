@@ -1,4 +1,4 @@
--- What a host's load does to a region, and when it is refused.
+-- The effect of a host's load on a region, and when the load is refused.
 use Rattle.std.specs.Prelude.{◌≡◌, ℕ, List}
 use Rattle.nc_text.specs.Places.{limit_of}
 use Rattle.nc_vet.specs.Chunk.{MarkedChunk, IsValid}
@@ -24,8 +24,8 @@ MayRefuseCode r base code (NotAdmitted fault) = HasFault base (limit_of r.marked
 MayRefuseCode r base code (NotCreated fault) =
     (v : MarkedChunk) × IsAdmitted base (limit_of r.marked.bytes) code v × MayRefuse r v fault
 
--- What a refusal leaves: where the code isn't admitted, the region as it was; where a valid chunk isn't created, what the
--- refused creation leaves: the region as it was, or, where memory was refused, with pages of the span made.
+-- The region after a refused load: if the code isn't admitted, the region as it was; if a valid chunk isn't created, the
+-- region after that refusal (`IsRefused`): as it was, except that pages of the span may have been made if memory ran out.
 abbrev pub IsLeft : Region → Region → ℕ → List ℕ → LoadFault → Type 0
 IsLeft old new base code (NotAdmitted fault) = new ≡ old
 IsLeft old new base code (NotCreated fault) =

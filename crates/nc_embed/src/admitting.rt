@@ -1,4 +1,4 @@
-//! Code is vetted before anybody takes a lock.
+//! Vetting code before any lock is taken.
 
 ghost use Rattle.std.specs.Prelude.{IfOk, IfErr};
 ghost use Rattle.nc_vet.specs.Faults.{HasFault};
@@ -8,9 +8,9 @@ use nc_vet::{VetFault, Vetted, vet};
 
 /// Vets code for a base and a limit. It takes no lock, however long the code is.
 pub fn admit(base: u32, limit: u32, code: Vec<u8>) -> Result<Vetted, VetFault>
-    // The code is a valid chunk there.
+    // The code is a valid chunk at this base, for this limit.
     ensures admitted { IfOk result (IsAdmitted base limit code.items) }
-    // It has this fault.
+    // The code has this fault.
     ensures refused { IfErr result (HasFault base limit code.items) }
 {
     match vet(base, limit, code) {

@@ -10,15 +10,15 @@ use thiserror::Error;
 /// Why code isn't loaded.
 #[derive(Clone, Copy, Debug, Drop, Error)]
 pub enum LoadFault {
-    /// The code is no valid chunk.
+    /// The code isn't a valid chunk.
     #[error("not admitted: {0}")]
     NotAdmitted(VetFault),
-    /// The region has no place for it, or memory is out.
+    /// The region has no room for it, or memory ran out.
     #[error("not created: {0}")]
     NotCreated(CreateFault),
 }
 
-/// Why the host gives up: a call's own fault, or what only a host has.
+/// Why the host gives up: a fault of a call, or one that only a host has.
 #[derive(Debug, Drop, Error)]
 pub enum HostFault {
     #[error("no table of generations: {0}")]

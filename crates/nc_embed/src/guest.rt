@@ -1,4 +1,4 @@
-//! A thread that runs untrusted code. A walk through the region stands where a real host switches to that code.
+//! A thread that runs untrusted code. A walk through the region takes the place of a real host's switch to that code.
 
 ghost use Rattle.std.specs.Prelude.{◌≡◌};
 
@@ -9,8 +9,8 @@ use nc_gens::Pass;
 use nc_region::{End, Shared};
 use std::sync::Wait;
 
-/// What a thread saw: how many of its walks ended where none may, how its last walk in the deleted code ended, and how one in
-/// the new code did.
+/// A thread's observations: the number of its walks that ended where none may, how its last walk in the deleted code ended,
+/// and how its walk in the new code ended.
 #[derive(Clone, Copy, Debug, Drop)]
 pub struct Seen {
     pub astray: u64,
@@ -18,11 +18,11 @@ pub struct Seen {
     pub in_new: Option<End>,
 }
 
-/// One time inside, from a bundle start of the region. It answers where the thread came, and how that ended.
+/// One run inside, from a bundle start of the region. It returns the last place of the thread, and how the run ended.
 ///
-/// The walk stands where a real host saves its own stack and registers, loads those of the untrusted code and jumps there,
-/// without the lock. Control comes back at a bundle start of the trampoline zone, or by the signal of a stop. There the host
-/// first clears the direction flag and takes its own stack, and believes no register.
+/// In place of the walk, a real host saves its own stack and registers, loads those of the untrusted code and jumps there,
+/// without the lock. Control returns at a bundle start of the trampoline zone, or by the signal of a stop. The host then
+/// first clears the direction flag and switches to its own stack, and trusts no register.
 fn run_inside(
     rt: &impl Wait,
     shared: &Shared<'_>,
@@ -34,7 +34,7 @@ fn run_inside(
     Ok((last, trace.end))
 }
 
-/// Runs the code again and again until it is patched. Between two times inside the thread is outside: only there it checks in.
+/// Runs the code repeatedly until it is patched. Between two runs the thread is outside, and only there does it check in.
 fn serve(
     rt: &impl Wait,
     shared: &Shared<'_>,
@@ -61,7 +61,7 @@ fn serve(
     Ok(astray)
 }
 
-/// Goes inside, and stands there, at the start of the third bundle, while the host deletes the code; then goes on from where it stands.
+/// Enters, stays inside at the start of the third bundle while the host deletes the code, and then continues from there.
 fn stand_inside(
     rt: &impl Wait,
     shared: &Shared<'_>,
@@ -75,7 +75,7 @@ fn stand_inside(
     Ok(end)
 }
 
-/// The first thread's time with its pass. Once it is outside it checks in, and so it may come back for what is loaded next.
+/// The first thread's time with its pass. Once it is outside it checks in, so it may enter again when other code is loaded.
 fn stay(
     rt: &impl Wait,
     shared: &Shared<'_>,
@@ -117,8 +117,8 @@ fn go(
     })
 }
 
-/// A thread's whole life. Whatever came, it leaves at its end, outside and for good: a pass that is only dropped holds back
-/// every later stamp.
+/// A thread's whole life. Even if it failed, it leaves at the end, outside and for good: a pass that is only dropped holds
+/// back every later stamp.
 pub fn live(
     rt: &impl Wait,
     shared: &Shared<'_>,

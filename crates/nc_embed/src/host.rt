@@ -14,7 +14,7 @@ use std::sync::Wait;
 use std::thread;
 use std::thread::Threads;
 
-/// Vets code first, however long that takes, and takes the lock only for what has passed.
+/// Vets code first, however long that takes, and takes the lock only for a valid chunk.
 fn load(rt: &impl Wait, shared: &Shared<'_>, base: u32, code: Vec<u8>) -> Result<(), LoadFault> {
     let vetted = match admit(base, LIMIT, code) {
         Ok(vetted) => vetted,
@@ -26,7 +26,7 @@ fn load(rt: &impl Wait, shared: &Shared<'_>, base: u32, code: Vec<u8>) -> Result
     }
 }
 
-/// Before any thread runs: code that is refused never comes to the lock, and other code is loaded.
+/// Before any thread runs: tries code that is refused before the lock is taken, and loads other code.
 fn open<R: Wait + Print>(rt: &R, alloc: Global, shared: &Shared<'_>) -> Result<(), HostFault> {
     if let Err(fault) = load(rt, shared, BASE, bundles(alloc, &BARE)?) {
         println!(rt; "a bare jump: {fault}")?;
@@ -36,7 +36,7 @@ fn open<R: Wait + Print>(rt: &R, alloc: Global, shared: &Shared<'_>) -> Result<(
     Ok(())
 }
 
-/// While both threads run the code: a patch, and a deletion. No thread is stopped for either.
+/// While both threads run the code: patches it, and deletes it. No thread is stopped for either.
 fn change<R: Wait + Print>(rt: &R, shared: &Shared<'_>, turns: &Turns) -> Result<(), HostFault> {
     turns.wait_for(rt, BOTH_RAN);
     shared.modify(rt, BASE, &SWITCHED)?;
@@ -50,7 +50,7 @@ fn change<R: Wait + Print>(rt: &R, shared: &Shared<'_>, turns: &Turns) -> Result
     Ok(())
 }
 
-/// The span is used again only after each seat has checked in since, or has left.
+/// Loads other code into the span. That is refused until each seat has checked in since the deletion, or has left.
 fn load_again<R: Wait + Print>(
     rt: &R,
     alloc: Global,
@@ -73,7 +73,7 @@ fn load_again<R: Wait + Print>(
     Ok(())
 }
 
-/// What the host does while the threads run.
+/// The host's work while the threads run.
 fn work<R: Wait + Print>(
     rt: &R,
     alloc: Global,
@@ -84,7 +84,8 @@ fn work<R: Wait + Print>(
     load_again(rt, alloc, shared, turns)
 }
 
-/// Two threads, each with a pass of its own, and the host beside them. Whoever fails lets the others go.
+/// Runs two threads, each with a pass of its own, and the host beside them. If one of the three fails, the others don't wait
+/// for it.
 fn run_both<R: Threads + Wait + Print + Sync>(
     rt: &R,
     alloc: Global,
@@ -126,7 +127,7 @@ fn run_both<R: Threads + Wait + Print + Sync>(
     )
 }
 
-/// Shows what a thread saw.
+/// Prints a thread's observations.
 fn show<R: Print>(rt: &R, who: &str, seen: Seen) -> Result<(), HostFault> {
     println!(rt;
         "{who}: {} astray, {:?} in the deleted code",
@@ -138,7 +139,7 @@ fn show<R: Print>(rt: &R, who: &str, seen: Seen) -> Result<(), HostFault> {
     Ok(())
 }
 
-/// The whole story, from the first load to the last thread's leave.
+/// The whole example, from the first load until the last thread has left.
 fn tell<R: Threads + Wait + Print + Sync>(
     rt: &R,
     alloc: Global,
@@ -158,7 +159,7 @@ fn tell<R: Threads + Wait + Print + Sync>(
     Ok(())
 }
 
-/// Makes the seats and the region, and tells the story.
+/// Makes the seats and the region, and runs the example.
 pub fn run<R: Threads + Wait + Print + Sync>(rt: &R, alloc: Global) -> Result<(), HostFault> {
     let (gens, keeper, mut passes) = Gens::new(alloc, 2)?;
     let one = passes.remove(0);

@@ -1,8 +1,8 @@
-//! An example of a host: what `docs/EMBEDDING.md` walks through.
+//! An example of a host, which `docs/EMBEDDING.md` walks through.
 //!
-//! `host` goes the whole way with a region behind its lock: seats, code vetted before the lock is taken, two threads that run it
-//! while it is patched and deleted, reclaiming, and the same span used again. `guest` is one of these threads, and `turns`
-//! makes what is printed the same for every schedule. `mirrored` has regions over acts of the host's own (`Image`).
+//! `host` takes a region behind its lock through a whole life: seats, code vetted before the lock is taken, two threads that
+//! run it while it is patched and deleted, reclaiming, and the same span used again. `guest` is one of these threads, and
+//! `turns` makes the output the same for every schedule. `mirrored` has regions over the host's own acts (`Image`).
 #![tactic(auto)]
 
 mod admitting;

@@ -1,4 +1,4 @@
-//! A region over acts of the host's own: behind a lock of the host's own, and shared by `SharedOf`.
+//! A region over the host's own acts: behind a lock of the host's own, and shared by `SharedOf`.
 
 ghost use Rattle.std.specs.Prelude.{◌≡◌, IfOk, OnOk, IfErr};
 ghost use Rattle.nc_embed.specs.Load.{IsLoaded, IsLeft, MayRefuseCode};
@@ -12,19 +12,20 @@ use std::alloc::Global;
 use std::sync::{Mutex, Wait};
 use std::thread::{Threads, join};
 
-/// Vets code and creates it: afterwards the chunk stands there, or nothing has changed but that pages may have been made.
+/// Vets code and creates the chunk. Afterwards the chunk is in its span, or nothing has changed, except that pages may have
+/// been made.
 ///
-/// It vets while the region is lent. Once other threads wait for the lock, vet first, and take the lock for `create` only.
+/// It vets while the region is lent. If other threads wait for a lock, vet first, and take the lock for `create` only.
 pub fn load<A: Acts + Drop>(
     region: &mut RegionOf<A>,
     base: u32,
     code: Vec<u8>,
 ) -> Result<(), LoadFault>
-    // The code was a valid chunk, its bytes and marks stand in its span, and all else is as before.
+    // The code was a valid chunk, its bytes and marks are in its span, and all else is as before.
     ensures loaded { OnOk result (IsLoaded region.old region.new base code.items) }
-    // The region is as it was; only where memory was refused, pages of the span may have been made.
+    // The region is as it was, except that pages of the span may have been made if memory ran out.
     ensures unchanged { IfErr result (IsLeft region.old region.new base code.items) }
-    // Each refusal comes where it is due.
+    // Each refusal is returned only if it applies.
     ensures refused { IfErr result (MayRefuseCode region.old base code.items) }
 {
     let vetted = match admit(base, region.limit(), code) {
@@ -44,7 +45,7 @@ fn memory<'r, 'g>(region: &'r RegionOf<Image<'g>>) -> &'r [u8]
     region.acts().memory()
 }
 
-/// Shows the first two bytes of the chunk in the host's memory.
+/// Prints the first two bytes of the chunk in the host's memory.
 fn show<R: Wait + Print>(
     rt: &R,
     region: &Mutex<RegionOf<Image<'_>>>,
@@ -58,12 +59,12 @@ fn show<R: Wait + Print>(
     Ok(())
 }
 
-/// Patches the chunk. It is a function without a clause: a proof of the whole life needs to know nothing of this fault.
+/// Patches the chunk. The function has no clause, so that proofs of its callers know nothing about the fault.
 fn switch<R: Wait>(rt: &R, region: &Mutex<RegionOf<Image<'_>>>) -> Result<(), ModifyFault> {
     region.lock(rt).modify(BASE, &SWITCHED)
 }
 
-/// A region in memory of the host's own, with the chunk in it.
+/// A region in the host's own memory, with the chunk in it.
 fn loaded<'g>(
     alloc: Global,
     gens: &'g Gens,
@@ -78,7 +79,7 @@ fn loaded<'g>(
     Ok(region)
 }
 
-/// Patches and deletes the chunk, and shows the memory after each step.
+/// Patches and deletes the chunk, and prints the memory after each step.
 fn change<R: Wait + Print>(rt: &R, region: &Mutex<RegionOf<Image<'_>>>) -> Result<(), HostFault> {
     show(rt, region, "memory after the load")?;
     switch(rt, region)?;
@@ -87,7 +88,7 @@ fn change<R: Wait + Print>(rt: &R, region: &Mutex<RegionOf<Image<'_>>>) -> Resul
     show(rt, region, "memory after the deletion")
 }
 
-/// The chunk's life once more, in memory of the host's own.
+/// The chunk's life once more, in the host's own memory.
 pub fn run<R: Wait + Print>(rt: &R, alloc: Global) -> Result<(), HostFault> {
     let (gens, keeper, _passes) = Gens::new(alloc, 1)?;
     let region = Mutex::new(loaded(alloc, &gens, keeper)?);
@@ -105,7 +106,7 @@ fn visit(rt: &impl Wait, shared: &SharedOf<'_, Image<'_>>, pass: Pass) -> Result
     Ok(trace?.end)
 }
 
-/// The code is patched while a thread runs it.
+/// Patches the code while a thread runs it.
 fn visit_and_switch<R: Threads + Wait + Sync>(
     rt: &R,
     shared: &SharedOf<'_, Image<'_>>,
@@ -120,7 +121,7 @@ fn visit_and_switch<R: Threads + Wait + Sync>(
     )
 }
 
-/// The chunk is patched beside a thread, and then deleted.
+/// Patches the chunk beside a thread, then deletes and reclaims it.
 fn change_shared<R: Threads + Wait + Print + Sync>(
     rt: &R,
     shared: &SharedOf<'_, Image<'_>>,
@@ -137,7 +138,7 @@ fn change_shared<R: Threads + Wait + Print + Sync>(
     Ok(())
 }
 
-/// The chunk's life once more: threads share the region.
+/// The chunk's life once more, in a region that threads share.
 pub fn run_shared<R: Threads + Wait + Print + Sync>(
     rt: &R,
     alloc: Global,

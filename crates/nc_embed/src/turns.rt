@@ -1,9 +1,9 @@
-//! Turns that the host and its threads take, so that what is printed is the same for every schedule.
+//! Turns that the host and its threads take, so that the output is the same for every schedule.
 
 use std::sync::{Condvar, Mutex, Wait};
 
-// Both threads have run the code; it is patched; both stand inside; it is deleted; the first thread has checked in; the second
-// may go out; it has left; other code stands there.
+// The turns, in this order: both threads have run the code; it is patched; both are inside; it is deleted; the first thread has
+// checked in; the second may exit; it has left; other code is loaded.
 pub const BOTH_RAN: u32 = 2;
 
 pub const PATCHED: u32 = 3;
@@ -20,7 +20,7 @@ pub const OTHER_LEFT: u32 = 9;
 
 pub const RELOADED: u32 = 10;
 
-/// The number of a turn, for which threads wait. It only grows.
+/// The number of the current turn, for which threads wait. It only grows.
 #[derive(Drop)]
 pub struct Turns {
     now: Mutex<u32>,
@@ -35,26 +35,26 @@ impl Turns {
         }
     }
 
-    /// Whether a turn has come.
+    /// Whether a turn has been reached.
     pub fn has_come(&self, rt: &impl Wait, turn: u32) -> bool {
         *self.now.lock(rt) >= turn
     }
 
-    /// Waits until a turn has come.
+    /// Waits until a turn has been reached.
     pub fn wait_for(&self, rt: &impl Wait, turn: u32) {
         let _now = self
             .changed
             .wait_while(rt, self.now.lock(rt), |now| *now < turn);
     }
 
-    /// The next turn.
+    /// Moves on to the next turn.
     pub fn pass_on(&self, rt: &impl Wait) {
         let mut now = self.now.lock(rt);
         *now = now.saturating_add(1);
         self.changed.notify_all();
     }
 
-    /// Every turn has come, so that nobody waits for a thread that has failed.
+    /// Moves past every turn, so that nobody waits for a thread that has failed.
     pub fn give_up(&self, rt: &impl Wait) {
         *self.now.lock(rt) = u32::MAX;
         self.changed.notify_all();

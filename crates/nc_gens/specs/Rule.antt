@@ -1,5 +1,5 @@
--- The rule of the words, and what each step on them makes of the numbers. Word 0 is the generation, and word i + 1 is
--- the word of seat i. Who may step on the words has a token, and each token has a view: what it knows of them.
+-- The rule of the words, and the effect of each step on the numbers. Word 0 is the generation, and word i + 1 is the word
+-- of seat i. Steps on the words need a token, and each token has a view: what it knows about the words.
 use Rattle.std.specs.Prelude.{◌≡◌, ◌≢◌, ℕ, ◌+◌, ◌<◌, ◌≤◌, ◌⊎◌, true, List, length, replicate, slice_index, slice_set}
 use mathlib.Core.Option.{some}
 use lib.ListN.{get_elem?}
@@ -16,21 +16,21 @@ left_word = 18446744073709551615
 abbrev pub last_generation : ℕ
 last_generation = 4611686018427387904
 
--- What a step makes of the numbers of a pass, or of the keeper
+-- The effect of a step on the numbers of a pass, or of the keeper
 
--- the numbers of a pass that has loaded a generation and takes it as its `since`
+-- the numbers of a pass after it has loaded generation `n` and taken it as its `since`
 abbrev pub generation_taken : ℕ → PassNumbers → PassNumbers
 generation_taken n p = record p { since = n; seen = n; loads = p.loads + 1 }
 
--- the numbers of a pass that has loaded a generation, and whose `since` stays
+-- the numbers of a pass after it has loaded generation `n`, with its `since` unchanged
 abbrev pub generation_seen : ℕ → PassNumbers → PassNumbers
 generation_seen n p = record p { seen = n; loads = p.loads + 1 }
 
--- the numbers of a pass that has stored its `since` in its own word
+-- the numbers of a pass after it has stored its `since` in its own word
 abbrev pub since_stored : PassNumbers → PassNumbers
 since_stored p = record p { word = p.since }
 
--- the numbers of a pass that has stored "left" in its own word
+-- the numbers of a pass after it has stored "left" in its own word
 abbrev pub left_stored : PassNumbers → PassNumbers
 left_stored p = record p { word = left_word }
 
@@ -42,19 +42,19 @@ generation_raised k = record k { generation = k.generation + 1 }
 abbrev pub word_taken : ℕ → ℕ → KeeperNumbers → KeeperNumbers
 word_taken i n k = record k { bounds = slice_set k.bounds i n; looks = slice_set k.looks i (slice_index k.looks i + 1) }
 
--- the numbers of a pass at first, all 0
+-- the initial numbers of a pass, all 0
 abbrev pub first_pass_numbers : PassNumbers
 first_pass_numbers = record { word = 0; since = 0; seen = 0; loads = 0 }
 
--- the keeper's numbers at first: the generation and the bound of each seat are 0
+-- the initial numbers of the keeper: the generation and the bound of each seat are 0
 abbrev pub first_keeper_numbers : ℕ → KeeperNumbers
 first_keeper_numbers seats = record { generation = 0; bounds = replicate seats 0; looks = replicate seats 0 }
 
--- What ties a view to the words. `at` is its place in the list of all views, and `owner` gives, for each word, the
--- place of the one view that may store it.
+-- The relation between a view and the words. `at` is the index of the view in the list of all views, and `owner` gives,
+-- for each word, the index of the one view that may store it.
 
 module _ (words : List ℕ) (owner : ℕ → ℕ) (at : ℕ) where
-  -- the pass of a seat: its own word is what it knows; unless that is "left", it is at most `since`; `since` is at most the generation
+  -- the pass of a seat: it knows its own word, which is "left" or at most `since`; `since` is at most the generation
   pub record FitsPass (seat : ℕ) (p : PassNumbers) : Type 0 where
     pub inside : seat + 1 < length words
     pub owns : owner (seat + 1) ≡ at
@@ -63,8 +63,8 @@ module _ (words : List ℕ) (owner : ℕ → ℕ) (at : ℕ) where
     pub saw : p.since ≤ p.seen
     pub current : p.seen ≤ slice_index words 0
 
-  -- the keeper, who has given out the passes of the seats below `given`: the generation is its own; each bound is at
-  -- most the seat's word, and "left" only where the word is
+  -- the keeper, which has given out the passes of the seats below `given`: it knows the generation; each bound is at most
+  -- the seat's word, and "left" only if the word is
   pub record FitsKeeper (given : ℕ) (k : KeeperNumbers) : Type 0 where
     pub owns : owner 0 ≡ at
     pub generation_is : slice_index words 0 ≡ k.generation
@@ -81,15 +81,15 @@ module _ (words : List ℕ) (owner : ℕ → ℕ) (at : ℕ) where
 abbrev pub HasKeeper : View → Type 0
 HasKeeper v = v.is_keeper ≡ true
 
--- the pass of the seat i is in this view, or the keeper in it has still to give it out
+-- the pass of seat i is in this view, or the keeper in this view hasn't given it out yet
 abbrev pub HasSeat : ℕ → View → Type 0
 HasSeat i v = ((v.is_pass ≡ true) × (v.seat ≡ i)) ⊎ ((v.is_keeper ≡ true) × (v.given ≤ i))
 
--- at this place of the list stands a view with P
+-- the list has a view at this index, and P holds for it
 abbrev pub StandsAt : List View → ℕ → (View → Type 0) → Type 0
 StandsAt views at P = (v : View) × (get_elem? views at ≡ some v) × P v
 
--- the rule: the generation is at most the last one, the keeper and each seat's pass are there, and each view fits
+-- the rule: the generation is at most the last one, the keeper and each seat's pass are in some view, and each view fits
 pub record Ruled (s : State (Unit {0}) View) : Type 0 where
   pub owner : ℕ → ℕ
   pub in_range : slice_index s.words 0 ≤ last_generation

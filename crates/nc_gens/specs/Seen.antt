@@ -1,4 +1,4 @@
--- What contracts see of a pass and of the keeper. Of a `Gens` they see which table it is.
+-- A pass and the keeper as contracts see them. A `Gens` is seen only as the identity of its table.
 use Rattle.std.specs.Prelude.{◌≡◌, ℕ, zero, suc, ◌+◌, ◌++◌, ◌<◌, ◌≤◌, ◌==◌, not, min, fold, filter, List, [], ◌∷◌, length, slice_index}
 use Rattle.atomic_table.specs.Seated.{TableId}
 use Rattle.nc_gens.specs.declared.view.PassNumbers.{PassNumbers}
@@ -9,27 +9,27 @@ use Rattle.nc_gens.specs.Rule.{left_word, last_generation, first_pass_numbers, f
 abbrev pub AreSeats : ℕ → Type 0
 AreSeats seats = (1 ≤ seats) × (seats ≤ 256)
 
--- what contracts see of a pass: its table (that of the `Gens` made with it), seat and numbers
+-- a pass as contracts see it: its table (that of the `Gens` made with it), seat and numbers
 pub record PassState : Type 0 where
   pub table : TableId
   pub seat : ℕ
   pub numbers : PassNumbers
 
--- what contracts see of the keeper: its table and numbers
+-- the keeper as contracts see it: its table and numbers
 pub record KeeperState : Type 0 where
   pub table : TableId
   pub numbers : KeeperNumbers
 
--- the pass of a seat, as it is made
+-- a new pass of a seat, with all numbers 0
 abbrev pub first_pass : TableId → ℕ → PassState
 first_pass table seat = record { table = table; seat = seat; numbers = first_pass_numbers }
 
--- a pass for each seat below a number, in order, with all numbers 0
+-- the new passes of the seats below a number, in order, with all numbers 0
 abbrev pub new_passes : TableId → ℕ → List PassState
 new_passes table zero = []
 new_passes table (suc n) = new_passes table n ++ first_pass table n ∷ []
 
--- the keeper of this number of seats as it is made, with all numbers 0
+-- the new keeper of a table with this number of seats, with all numbers 0
 abbrev pub first_keeper : TableId → ℕ → KeeperState
 first_keeper table seats = record { table = table; numbers = first_keeper_numbers seats }
 
@@ -37,7 +37,7 @@ first_keeper table seats = record { table = table; numbers = first_keeper_number
 abbrev pub staying : List ℕ → List ℕ
 staying = filter (λ b. not (b == left_word))
 
--- the least of a list, or another number where the list is empty
+-- the least number of a list, or `other` if the list is empty
 abbrev pub least_or : ℕ → List ℕ → ℕ
 least_or other [] = other
 least_or other (b ∷ bs) = fold min b bs
@@ -46,15 +46,15 @@ least_or other (b ∷ bs) = fold min b bs
 abbrev pub least_number : KeeperNumbers → ℕ
 least_number k = least_or k.generation (staying k.bounds)
 
--- no number of the list is lower than before
+-- the lists have the same length, and no number is lower than before
 abbrev pub Raised : List ℕ → List ℕ → Type 0
 Raised old new = (length new ≡ length old) × ((i : ℕ) → i < length old → slice_index old i ≤ slice_index new i)
 
--- each number of the list is one more than before
+-- the lists have the same length, and each number is one more than before
 abbrev pub RaisedByOne : List ℕ → List ℕ → Type 0
 RaisedByOne old new = (length new ≡ length old) × ((i : ℕ) → i < length old → slice_index new i ≡ slice_index old i + 1)
 
--- the keeper after a look: table and generation stay, each seat's word was loaded once, and no bound fell
+-- the keeper after a look: table and generation are unchanged, each seat's word was loaded once, and no bound decreased
 pub record HasLooked (old new : KeeperState) : Type 0 where
   pub table : new.table ≡ old.table
   pub generation : new.numbers.generation ≡ old.numbers.generation
@@ -62,9 +62,9 @@ pub record HasLooked (old new : KeeperState) : Type 0 where
   pub counted : length new.numbers.looks ≡ length new.numbers.bounds
   pub raised : Raised old.numbers.bounds new.numbers.bounds
 
--- A pass and the keeper after they met. The pass has seen the generation, and its `since` stays. The keeper's bound for
--- the seat didn't fall and is the pass's own word, which is at most its `since`, and that at most the generation, which
--- is at most 2^62.
+-- A pass and the keeper after they met. The pass has seen the generation, and its `since` is unchanged. The keeper's bound
+-- for the seat hasn't decreased and is the pass's own word. The word is at most the pass's `since`, `since` at most the
+-- generation, and the generation at most 2^62.
 pub record HasMet (old : PassState) (before : KeeperState) (new : PassState) (after : KeeperState) : Type 0 where
   pub pass : new ≡ record old { numbers = generation_seen before.numbers.generation old.numbers }
   pub keeper : after ≡ record before { numbers = word_taken old.seat old.numbers.word before.numbers }

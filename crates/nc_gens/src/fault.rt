@@ -1,4 +1,4 @@
-//! What the calls refuse.
+//! The refusals of the calls.
 
 use thiserror::Error;
 
@@ -8,7 +8,7 @@ pub enum GensFault {
     /// The number of seats is not in 1 to [`MOST_SEATS`](crate::MOST_SEATS).
     #[error("bad seats")]
     BadSeats,
-    /// A growth was refused.
+    /// An allocation was refused.
     #[error("out of memory")]
     OutOfMemory,
 }

@@ -1,4 +1,4 @@
-//! What the keeper does: it draws stamps, and it looks how far the seats have come.
+//! The calls of the keeper, which draws stamps and looks at the words of the seats.
 ghost use Rattle.std.specs.Prelude.{◌≡◌, ◌≢◌, ◌+◌, ◌^◌, ◌<◌, ◌≤◌, ◌↔◌, All, length, slice_index, IfOk, IsOk, OnOk, OnErr};
 ghost use Rattle.nc_gens.specs.Rule.{left_word, generation_raised, word_taken};
 ghost use Rattle.nc_gens.specs.Seen.{HasLooked, least_number, least_or, staying};
@@ -7,14 +7,14 @@ use crate::fault::GensFull;
 use crate::steps::{AddOne, TakeWord};
 use crate::table::{Gens, Keeper, LEFT};
 
-/// The last generation, 2^62. After it no stamp is drawn.
+/// The last generation, 2^62. No stamp is drawn after it.
 pub const LAST_GENERATION: u64 = 1 << 62;
 
 impl Gens {
-    /// Adds one to the generation, and answers the new one: the stamp for what is retired now.
+    /// Adds one to the generation, and returns the new one: the stamp for spans retired now.
     ///
-    /// It takes no memory and never waits. It is refused exactly when the generation is 2^62, and
-    /// then nothing changed.
+    /// It allocates nothing and never waits. It is refused exactly if the generation is 2^62, and
+    /// then changes nothing.
     ///
     /// Not promised: that any seat ever takes the new generation.
     pub fn bump(&self, keeper: &mut Keeper) -> Result<u64, GensFull>
@@ -34,18 +34,19 @@ impl Gens {
         Ok(keeper.generation)
     }
 
-    /// Loads each seat's word, raises the keeper's bound of that seat to the number loaded, and
-    /// answers the least bound of the seats whose word it didn't find "left", or the generation if
-    /// there are none. What is retired with a stamp of at most the answer can be reclaimed: every
-    /// seat has checked in since, or has left.
+    /// Loads each seat's word, raises the keeper's bound for that seat to the number loaded, and
+    /// returns the least bound of the seats whose word it didn't find to be "left", or the
+    /// generation if there are none. A span retired with a stamp of at most the result can be
+    /// reclaimed: every seat has checked in since, or has left.
     ///
-    /// It takes no memory, never waits, and has no refusal.
+    /// It allocates nothing, never waits, and is never refused.
     ///
-    /// Not promised: that the answer ever rises (a seat that never checks in holds it back), or
-    /// that the words stood so at one moment. They are loaded one after the other, and only rise.
+    /// Not promised: that the result ever increases (a seat that never checks in holds it back),
+    /// or that the words had these values at a single moment. They are loaded one after the other,
+    /// and never decrease.
     pub fn look(&self, keeper: &mut Keeper) -> u64
         requires { keeper.old.table ≡ self.now }
-        // Each seat's word is loaded once, no bound falls, and the generation stays.
+        // Each seat's word is loaded once, no bound decreases, and the generation is unchanged.
         ensures looked { HasLooked keeper.old keeper.new }
         ensures seats { self.now.words ≡ length keeper.new.numbers.bounds + 1 }
 

@@ -1,17 +1,17 @@
-//! The table of generations: when a deleted span of code may be used again.
+//! The table of generations, which decides when a deleted span of code may be used again.
 //!
-//! A thread that runs untrusted code may stand inside a span that is being deleted. So the span
-//! is only retired, with a generation as its stamp, and is reclaimed once every thread has been
-//! quiescent (outside the code region) since. [`Gens`] holds the generation and one word for each
-//! seat. A thread that holds a [`Pass`] checks in while it is outside, without a lock. The writer
-//! holds the [`Keeper`], draws stamps by `bump`, and learns by `look` up to which generation every
-//! seat has checked in or left.
+//! A thread that runs untrusted code may be inside a span that is being deleted. The span is
+//! therefore only retired, with a generation as its stamp, and is reclaimed once every thread has
+//! been quiescent (outside the code region) since. [`Gens`] holds the generation and one word for
+//! each seat. A thread that holds a [`Pass`] checks in while it is outside, without a lock. The
+//! writer holds the [`Keeper`], draws stamps by `bump`, and learns by `look` up to which
+//! generation every seat has checked in or left.
 //!
-//! Native Client deletes dynamic code so (Ansel et al. 2011, "Language-independent sandboxing of
-//! just-in-time compilation and self-modifying code"); as a technique it is quiescent-state-based
-//! reclamation. A pass stores only in its own seat's word, and only the keeper changes the
-//! generation. Nothing here waits, and nothing is promised of progress: a seat that never checks
-//! in holds back every later stamp for good.
+//! Native Client deletes dynamic code in this way (Ansel et al. 2011, "Language-independent
+//! sandboxing of just-in-time compilation and self-modifying code"); the technique is
+//! quiescent-state-based reclamation. A pass stores only to its own seat's word, and only the
+//! keeper changes the generation. Nothing here waits, and progress is not guaranteed: a seat that
+//! never checks in holds back every later stamp for good.
 #![tactic(auto)]
 
 mod fault;

@@ -1,4 +1,4 @@
-//! A pass and the keeper meet.
+//! The meeting of a pass and the keeper.
 ghost use Rattle.std.specs.Prelude.{◌≡◌};
 ghost use Rattle.nc_gens.specs.Seen.{HasMet};
 
@@ -6,19 +6,19 @@ use crate::steps::{PassIn, PassOut, SeeGeneration, TakeWord};
 use crate::table::{Gens, Keeper, Pass};
 
 impl Gens {
-    /// The pass loads the generation, and the keeper loads the pass's word, so that each knows
-    /// where the other stands. `since` stays: this is no check-in.
+    /// The pass loads the generation, and the keeper loads the pass's word, so that each knows the
+    /// other's number. `since` is unchanged: this is not a check-in.
     ///
-    /// It takes no memory, never waits, and has no refusal.
+    /// It allocates nothing, never waits, and is never refused.
     ///
-    /// Not promised: anything of other seats.
+    /// Not promised: anything about other seats.
     pub fn meet(&self, pass: &mut Pass, keeper: &mut Keeper)
         requires pass { pass.old.table ≡ self.now }
         requires keeper { keeper.old.table ≡ self.now }
         ensures { HasMet pass.old keeper.old pass.new keeper.new }
     {
-        // A load tells nothing of another token's view. So the keeper's token takes in the pass's
-        // view for the two loads, and gives it back.
+        // A load reveals nothing about another token's view. The keeper's token therefore takes in
+        // the pass's view for the two loads, and then gives it back.
         let words = &self.words.shared;
         let lent = words.split_seat::<PassOut>(&mut pass.token);
         words.join_seat::<PassIn>(&mut keeper.token, lent);

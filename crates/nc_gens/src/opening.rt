@@ -1,4 +1,4 @@
-//! A table is made, with its keeper and its passes.
+//! Creates a table with its keeper and its passes.
 ghost use Rattle.std.specs.Prelude.{◌≡◌, ◌+◌, ◌<◌, ◌≤◌, ◌↔◌, ◌⊎◌, [], All, IfOk, OnOk, IsErrOf, length, replicate};
 ghost use Rattle.nc_gens.specs.machinery.Views.{giving_view};
 ghost use Rattle.nc_gens.specs.Seen.{AreSeats, new_passes, first_keeper};
@@ -10,23 +10,23 @@ use crate::view::{Token, WordTable};
 use arrayvec::ArrayVec;
 use std::alloc::{AllocError, Global};
 
-/// The most seats that a table has.
+/// The largest number of seats in a table.
 pub const MOST_SEATS: usize = 256;
 
 impl Gens {
     /// The table, its keeper, and a pass for each seat, in the seats' order. The generation, every
     /// word and every `since` begin at 0.
     ///
-    /// Refusals, the first in this order: `BadSeats` exactly where `seats` isn't in 1 to [`MOST_SEATS`], before
-    /// anything is allocated; `OutOfMemory` where a growth was refused. No other call takes memory.
+    /// Refusals, the first in this order: `BadSeats` exactly if `seats` isn't in 1 to [`MOST_SEATS`], before anything
+    /// is allocated; `OutOfMemory` if an allocation was refused. No other call allocates.
     ///
-    /// Not promised: that memory is there.
+    /// Not promised: that memory is available.
     pub fn new(alloc: Global, seats: u32) -> Result<(Gens, Keeper, Vec<Pass>), GensFault>
         ensures bad_seats { IsErrOf result GensFault.BadSeats ↔ ¬ AreSeats seats }
         ensures keeper { IfOk result (λ r. r.1 ≡ first_keeper r.0 seats) }
         ensures passes { IfOk result (λ r. r.2.items ≡ new_passes r.0 seats) }
 
-        // Passes and keeper come from the call that made the table.
+        // Passes and keeper belong to the table that this call made.
         ensures count { IfOk result (λ r. length r.2.items ≡ seats) }
         ensures tables { IfOk result (λ r. (r.1.table ≡ r.0) × All (λ p. p.table ≡ r.0) r.2.items) }
     {

@@ -1,4 +1,4 @@
-//! What a pass does: it checks in, and it leaves.
+//! The calls of a pass, which checks in and leaves.
 ghost use Rattle.std.specs.Prelude.{◌≡◌, ◌+◌, ◌≤◌};
 ghost use Rattle.nc_gens.specs.Rule.{generation_taken, since_stored, left_stored};
 
@@ -7,21 +7,21 @@ use crate::table::{Gens, LEFT, Pass};
 use crate::view::Token;
 
 impl Gens {
-    /// Loads the generation, and then stores it in the seat's own word. `since` becomes it, and
-    /// never falls.
+    /// Loads the generation, and then stores it in the seat's own word. `since` becomes that
+    /// generation, and never decreases.
     ///
-    /// To be called while the seat's thread is quiescent, outside the code region: that can be seen
-    /// in no contract here, and reclaiming rests on it. It takes no memory and no lock, never waits,
-    /// whatever other threads do or hold, and has no refusal.
+    /// It must be called while the seat's thread is quiescent, outside the code region: no contract
+    /// here can express that, and reclaiming relies on it. It allocates nothing, takes no lock,
+    /// never waits, whatever other threads do or hold, and is never refused.
     ///
     /// Not promised: that the generation taken is still the highest when the call returns, that a
-    /// look of the keeper at the same time sees the new word, or any order between the check-ins
-    /// of two seats.
+    /// concurrent look of the keeper sees the new word, or any order between the check-ins of two
+    /// seats.
     pub fn check_in(&self, pass: &mut Pass)
         requires { pass.old.table ≡ self.now }
         ensures same { (pass.new.table ≡ pass.old.table) × (pass.new.seat ≡ pass.old.seat) }
 
-        // One load of the generation, and one store of it.
+        // The generation is loaded once, and stored once.
         ensures steps { pass.new.numbers
             ≡ since_stored (generation_taken pass.new.numbers.since pass.old.numbers) }
         ensures loads { pass.new.numbers.loads ≡ pass.old.numbers.loads + 1 }
@@ -36,21 +36,21 @@ impl Gens {
         pass.since = generation;
     }
 
-    /// Stores "left" in the seat's own word, and spends the pass: the seat holds back nothing any
-    /// more, and nobody can check in for it again.
+    /// Stores "left" in the seat's own word, and consumes the pass: the seat no longer holds
+    /// anything back, and nobody can check in for it again.
     ///
-    /// To be called while the seat's thread is outside the code region, for good. It takes no
-    /// memory and no lock, never waits, and has no refusal.
+    /// It must be called once the seat's thread is outside the code region for good. It allocates
+    /// nothing, takes no lock, never waits, and is never refused.
     ///
-    /// Not promised: that a look of the keeper at the same time sees it. What stands in the word
-    /// afterwards no contract can tell, since the pass is spent.
+    /// Not promised: that a concurrent look of the keeper sees it. No contract can express the
+    /// word's value afterwards, since the pass is consumed.
     pub fn leave(&self, pass: Pass)
         requires { pass.table ≡ self.now }
     {
         self.store_left(pass);
     }
 
-    // The token comes back only to tell what was stored.
+    // The token is returned only so that the contract can say what was stored.
     fn store_left(&self, pass: Pass) -> Token
         requires { pass.table ≡ self.now }
         ensures { result.me.0.pass ≡ left_stored pass.numbers }

@@ -1,4 +1,4 @@
-//! The kinds of atomic step on the words, and how a view passes from one token to another.
+//! The kinds of atomic step on the words, and the moves of a view from one token to another.
 ghost use Rattle.nc_gens.specs.machinery.Steps.{TakesGeneration, SeesGeneration, StoresSince, StoresLeft, AddsOne, TakesWord};
 ghost use Rattle.nc_gens.specs.machinery.Views.{given_one_more};
 ghost use Rattle.nc_gens.specs.machinery.Views.{new_pass_view, without_pass, without_keeper, with_pass_of, spent_view};
@@ -13,7 +13,7 @@ impl Play<(), View> for TakeGeneration {
     ghost then = { TakesGeneration };
 }
 
-/// A pass loads the generation, and its `since` stays.
+/// A pass loads the generation, and its `since` is unchanged.
 pub(crate) struct SeeGeneration;
 
 impl Play<(), View> for SeeGeneration {
@@ -57,7 +57,7 @@ impl Split<View> for GivePass {
     ghost right = { new_pass_view };
 }
 
-/// The pass goes out of a view. The keeper stays, if it is there.
+/// The pass is taken out of a view. The keeper stays, if it is in the view.
 pub(crate) struct PassOut;
 
 impl Split<View> for PassOut {
@@ -66,7 +66,7 @@ impl Split<View> for PassOut {
     ghost right = { without_keeper };
 }
 
-/// The pass comes into a view.
+/// The pass is put into a view.
 pub(crate) struct PassIn;
 
 impl Join<View> for PassIn {

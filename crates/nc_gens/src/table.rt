@@ -9,8 +9,8 @@ use std::marker::Model;
 /// The word of a seat that has left.
 pub(crate) const LEFT: u64 = u64::MAX;
 
-/// The table of generations. Contracts see which table it is, and nothing of its words: other
-/// threads may change these at any moment.
+/// The table of generations. Contracts see its identity and not its words, which other threads may
+/// change at any moment.
 ///
 /// A `&Gens` may be shared among threads. Each call takes effect by single atomic steps.
 #[derive(Drop)]
@@ -30,8 +30,8 @@ impl Model for Gens {
 
 /// One seat's right to check in and to leave. There is one for each seat, and it can't be copied.
 ///
-/// A pass that is dropped without [`Gens::leave`] keeps its seat's last word for good, so nothing
-/// that is retired later is ever reclaimed.
+/// If a pass is dropped without [`Gens::leave`], its seat keeps its last word for good, and
+/// nothing that is retired later is ever reclaimed.
 #[derive(Drop)]
 pub struct Pass {
     pub(crate) seat: usize,
@@ -72,8 +72,8 @@ impl Model for Keeper {
 }
 
 impl Pass {
-    /// The generation that the last check-in took, 0 if there was none. The seat holds back what
-    /// is retired with a higher stamp.
+    /// The generation that the last check-in took, or 0 if there was none. The seat holds back
+    /// every span that is retired with a higher stamp.
     pub fn since(&self) -> u64
         ensures { result ≡ self.now.numbers.since }
     {
@@ -82,7 +82,7 @@ impl Pass {
 }
 
 impl Keeper {
-    /// The generation. None but the keeper changes it, so this needs no load.
+    /// The generation. Only the keeper changes it, so this needs no load.
     pub fn generation(&self) -> u64
         ensures generation { result ≡ self.now.numbers.generation }
         ensures in_range { result ≤ 2 ^ 62 }

@@ -1,33 +1,33 @@
-//! The table's words, and what each holder of a right to step on them knows.
+//! The table's words, and what the holder of each token knows about them.
 //!
-//! Word 0 is the generation, and word i + 1 is the word of seat i. The structs of numbers are
-//! names for proofs: no value of them is ever made, so they cost nothing when the program runs.
+//! Word 0 is the generation, and word i + 1 is the word of seat i. The structs of numbers exist
+//! only for proofs: no value of them is ever made, so they cost nothing at run time.
 use atomic_table::{Seat, Table, TableRule};
 use std::alloc::Global;
 
 /// The numbers of a pass. No value of it is made.
 pub struct PassNumbers {
-    /// What stands in the word of the pass's own seat.
+    /// The value of the word of the pass's own seat.
     pub word: u64,
     /// The generation that the last check-in took.
     pub since: u64,
     /// The last generation that the pass has loaded, by a check-in or a meeting.
     pub seen: u64,
-    /// How often the pass has loaded the generation.
+    /// The number of times that the pass has loaded the generation.
     pub loads: u64,
 }
 
 /// The numbers of the keeper. No value of it is made.
 pub struct KeeperNumbers {
     pub generation: u64,
-    /// For each seat the number last loaded from its word, at first 0. In a clause an array is a
-    /// list, of any length.
+    /// For each seat, the number last loaded from its word, initially 0. In a clause, an array is a
+    /// list of any length.
     pub bounds: [u64; 0],
-    /// For each seat how often its word was loaded.
+    /// For each seat, the number of times that its word was loaded.
     pub looks: [u64; 0],
 }
 
-/// What a token knows of the words: a pass's part, the keeper's, both while they meet, or neither.
+/// What a token knows about the words: a pass's part, the keeper's, both while they meet, or neither.
 /// No value of it is made.
 pub(crate) struct View {
     pub is_pass: bool,
@@ -54,5 +54,5 @@ impl TableRule<(), View, usize> for WordRule {
 
 pub(crate) type WordTable = Table<(), View, usize, WordRule, Global>;
 
-/// The right to step on the words, with a view. It has no bytes.
+/// The right to take steps on the words, with a view. It occupies no memory.
 pub(crate) type Token = Seat<(), View>;

@@ -1,4 +1,4 @@
--- What contracts see of a region that owns all that it needs, and when its calls are refused.
+-- The contracts' view of a region that owns everything it needs, and when its calls are refused.
 use Rattle.std.specs.Prelude.{◌≡◌, ℕ, ◌+◌, ◌*◌, ◌^◌, ◌<◌, ◌≤◌, List, [], ◌∷◌, ◌++◌, Option, Some, None, Contains, IfSome, IsSome, All, length, map, slice_index}
 use Rattle.nc_decode.specs.Bundles.{IsLawfulLimit}
 use Rattle.nc_gens.specs.Seen.{AreSeats, PassState, Raised, first_keeper, new_passes}
@@ -21,14 +21,14 @@ use Rattle.nc_handle.specs.declared.fault.PatchFault.TheVariants as patch
 use Rattle.nc_handle.specs.declared.fault.RetireFault.{RetireFault}
 use Rattle.nc_handle.specs.declared.fault.RetireFault.TheVariants as retire
 
--- what contracts see of a `Held`: its region, the passes that nobody has been given, and the chunk whose deletion is
--- under way, if any
+-- the contracts' view of a `Held`: its region, the passes not given out yet, and the chunk whose deletion is under way,
+-- if any
 pub record HeldState : Type 0 where
   pub region : Region
   pub passes : List PassState
   pub begun : Option Chunk
 
--- the chunk is a live one of the list, with this base
+-- the chunk is a live chunk of the list, with this base
 abbrev pub IsLiveAt : List Chunk → ℕ → Chunk → Type 0
 IsLiveAt chunks base c = Contains chunks c × (c.state ≡ Live) × (c.base ≡ base)
 
@@ -36,8 +36,8 @@ IsLiveAt chunks base c = Contains chunks c × (c.state ≡ Live) × (c.base ≡ 
 abbrev pub CanEnd : Option Chunk → Region → Type 0
 CanEnd begun r = IfSome begun (λ c. IsLiveAt r.chunks c.base c × (r.keeper.numbers.generation < 2 ^ 62))
 
--- a new region of a lawful size with 1 to 256 seats: only F4, no page made, no chunk, no stamp drawn, nothing told, no
--- pass given
+-- a new region of a lawful size with 1 to 256 seats: only F4, no page allocated, no chunk, no stamp drawn, nothing told,
+-- no pass given out
 pub record IsFirst (bundles seats : ℕ) (h : HeldState) : Type 0 where
   pub numbers : AreSeats seats
   pub lawful : IsLawfulLimit (0x10000 + 32 * bundles)
@@ -50,14 +50,14 @@ pub record IsFirst (bundles seats : ℕ) (h : HeldState) : Type 0 where
   pub passes : h.passes ≡ new_passes h.region.keeper.table seats
   pub begun : h.begun ≡ None
 
--- when each refusal of `new` comes: the seats aren't 1 to 256; they are, and the size isn't lawful; both are lawful,
--- and memory ran out
+-- when `new` returns each refusal: the number of seats isn't 1 to 256; it is, and the size isn't lawful; both are
+-- lawful, and memory ran out
 abbrev pub MayRefuseNew : ℕ → ℕ → NewFault → Type 0
 MayRefuseNew bundles seats BadSeats = ¬ AreSeats seats
 MayRefuseNew bundles seats BadSize = AreSeats seats × ¬ IsLawfulLimit (0x10000 + 32 * bundles)
 MayRefuseNew bundles seats OutOfMemory = AreSeats seats × IsLawfulLimit (0x10000 + 32 * bundles)
 
--- when each refusal of `seat` comes: no seat is left; or one is, and memory ran out
+-- when `seat` returns each refusal: no seat is left; or one is, and memory ran out
 abbrev pub MayRefuseSeat : HeldState → SeatFault → Type 0
 MayRefuseSeat h seat.NoneLeft = h.passes ≡ []
 MayRefuseSeat h seat.OutOfMemory = ¬ (h.passes ≡ [])
@@ -66,26 +66,26 @@ MayRefuseSeat h seat.OutOfMemory = ¬ (h.passes ≡ [])
 abbrev pub IsShort : ℕ → ℕ → Type 0
 IsShort room wanted = (0 < room) × (room < wanted)
 
--- a buffer is lent for a patch of at most a bundle, and it has less room than three acts for each new byte
+-- a buffer is lent for a patch of at most 32 bytes, and it has room for fewer than three acts for each new byte
 abbrev pub IsShortForPatch : ℕ → ℕ → Type 0
 IsShortForPatch room len = (len ≤ 32) × IsShort room (3 * len)
 
--- when each refusal of `create` comes: a deletion is under way; or else a lent buffer has less room than two acts more
--- than the chunk has bytes; or else the region refuses (`MayRefuse` of nc_region)
+-- when `create` returns each refusal: a deletion is under way; or else a lent buffer has room for fewer acts than the
+-- chunk has bytes plus two; or else the region refuses (`MayRefuse` of nc_region)
 abbrev pub MayRefuseLoad : HeldState → MarkedChunk → ℕ → LoadFault → Type 0
 MayRefuseLoad h v room load.Underway = IsSome h.begun
 MayRefuseLoad h v room (load.NoRoom wanted) = (h.begun ≡ None) × IsShort room (length v.code + 2) × (wanted ≡ length v.code + 2)
 MayRefuseLoad h v room (load.Refused fault) = (h.begun ≡ None) × (¬ IsShort room (length v.code + 2)) × MayRefuse h.region v fault
 
--- what a refused creation leaves: all as before, but where the region was refused memory, pages of the span may have
--- been made
+-- the state after a refused creation: all is as before, except that where the region was refused memory, pages of the
+-- span may have been allocated
 abbrev pub IsNotLoaded : HeldState → HeldState → MarkedChunk → LoadFault → Type 0
 IsNotLoaded old new v load.Underway = new ≡ old
 IsNotLoaded old new v (load.NoRoom wanted) = new ≡ old
 IsNotLoaded old new v (load.Refused fault) = (new ≡ record old { region = new.region }) × IsRefused old.region new.region v fault
 
--- when each refusal of `modify` comes: a deletion is under way; or else a buffer lent for at most 32 new bytes has less
--- room than three acts for each; or else the region refuses (`MayRefusePatch` of nc_region)
+-- when `modify` returns each refusal: a deletion is under way; or else a buffer lent for at most 32 new bytes has room
+-- for fewer than three acts for each; or else the region refuses (`MayRefusePatch` of nc_region)
 abbrev pub MayRefuseModify : HeldState → ℕ → List ℕ → ℕ → PatchFault → Type 0
 MayRefuseModify h at new room patch.Underway = IsSome h.begun
 MayRefuseModify h at new room (patch.NoRoom wanted) =
@@ -94,15 +94,15 @@ MayRefuseModify h at new room (patch.Refused fault) =
     (h.begun ≡ None) × (¬ IsShortForPatch room (length new)) × MayRefusePatch h.region at new fault
 
 -- when no deletion begins: one is under way; or else the region refuses (`MayRefuseDelete` of nc_region), or a lent
--- buffer has less room than two acts more than the live chunk has bytes
+-- buffer has room for fewer acts than the live chunk has bytes plus two
 abbrev pub MayRefuseBegin : HeldState → ℕ → ℕ → RetireFault → Type 0
 MayRefuseBegin h base room retire.Underway = IsSome h.begun
 MayRefuseBegin h base room (retire.Refused fault) = (h.begun ≡ None) × MayRefuseDelete h.region base fault
 MayRefuseBegin h base room (retire.NoRoom wanted) =
     (h.begun ≡ None) × ((c : Chunk) × IsLiveAt h.region.chunks base c × IsShort room (c.length + 2) × (wanted ≡ c.length + 2))
 
--- The deletion of this live chunk of this base is under way, after none was, and a stamp is left for it. All else is as
--- before.
+-- The deletion of this live chunk with this base is under way, none was before, and a stamp is left for it. All else is
+-- as before.
 pub record HasBegun (old new : HeldState) (base : ℕ) (c : Chunk) : Type 0 where
   pub live : IsLiveAt old.region.chunks base c
   pub room : old.region.keeper.numbers.generation < 2 ^ 62
@@ -117,18 +117,18 @@ pub record HasEnded (old new : HeldState) (stamp : ℕ) : Type 0 where
   pub deleted : IsDeleted old.region new.region chunk.base stamp
   pub others : new ≡ record old { region = new.region; begun = None }
 
--- The last of the passes that nobody had been given went to a seat. All else is as before.
+-- The last of the passes not given out yet has been given to a seat. All else is as before.
 pub record HasGiven (old new : HeldState) (guest : PassState) : Type 0 where
   pub passes : old.passes ≡ new.passes ++ guest ∷ []
   pub others : new ≡ record old { passes = new.passes }
 
--- the pass has a seat of the region's table, and the keeper's bound for it is this number or a higher one
+-- the pass has a seat of the region's table, and the keeper's bound for it is at least this number
 abbrev pub IsIn : Region → ℕ → PassState → Type 0
 IsIn r number p = (p.seat < length r.keeper.numbers.bounds) × (number ≤ slice_index r.keeper.numbers.bounds p.seat)
 
--- No deletion was under way. The passes that nobody has been given checked in, the keeper met them, and this many
--- retired chunks were reclaimed (`IsReclaimed` of nc_region). These passes keep their seats, and the keeper's bounds
--- for them are at least the generation. All else is as before.
+-- No deletion was under way. The passes not given out yet checked in, the keeper met them, and this many retired chunks
+-- were reclaimed (`IsReclaimed` of nc_region). These passes keep their seats, and the keeper's bounds for them are at
+-- least the generation. All else is as before.
 pub record HasReclaimed (old new : HeldState) (count : ℕ) : Type 0 where
   pub none : old.begun ≡ None
   pub met : Region

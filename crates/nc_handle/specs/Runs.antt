@@ -1,4 +1,4 @@
--- The acts of a chunk of a region as runs: how many there are, and when they aren't told.
+-- The acts of a chunk of a region as runs: their number, and when they are refused.
 use Rattle.std.specs.Prelude.{◌≡◌, ℕ, ◌+◌, ◌*◌, ◌/◌, ◌<◌, List, Some, None}
 use Rattle.nc_region.specs.declared.chunk.Chunk.{Chunk}
 use Rattle.nc_region.specs.Deletion.{HasLive}
@@ -10,34 +10,34 @@ use Rattle.nc_handle.specs.declared.fault.RunsFault.TheVariants.{NoChunk, NoRoom
 use Rattle.nc_handle.specs.Held.{HeldState, IsLiveAt}
 use Rattle.nc_handle.specs.Shown.{bytes_of_span}
 
--- two for each bundle of a span of this length, and two more
+-- the number of runs for a span of this length: two for each bundle, and two more
 abbrev pub runs_of : ℕ → ℕ
 runs_of len = 2 * (len / 32) + 2
 
--- The front of the buffer has the runs of this chunk's creation, with its bytes in the region, and they stand for the
--- log of that: for each bundle one for its bytes inside, then the settling and the marks, then for each bundle one for
--- its first byte. A run is an entry; or 7 (the chunk's bytes) or 8 (F4), an address, and a number whose bits choose
--- among the 32 places from there on, the lowest bit the first.
+-- The buffer begins with the runs of this chunk's creation, for its bytes in the region, and they stand for the log of
+-- that creation: for each bundle one run for its bytes after the first, then the settling and the marks, then for each
+-- bundle one run for its first byte. A run is an entry; or it is 7 (the chunk's bytes) or 8 (F4), an address, and a
+-- number whose bits select among the 32 places from that address on, the lowest bit the first.
 abbrev pub AreCreationRuns : HeldState → Chunk → List NcAct → List NcAct → ℕ → Type 0
 AreCreationRuns h c old new count =
     let code = bytes_of_span h.region.marked.bytes c.base c.length in
     (count ≡ runs_of c.length) × HasRuns old new count c.base code (runs_of_create c.base code) (log_of_create c.base code)
 
--- The front of the buffer has the runs of this chunk's deletion, by the region's marks, and they stand for the log of
--- that: for each bundle one for F4 at its marked places, then the settling, then for each bundle one for F4 at the
--- others, then the stamp.
+-- The buffer begins with the runs of this chunk's deletion, by the region's marks, and they stand for the log of that
+-- deletion: for each bundle one run for F4 at its marked places, then the settling, then for each bundle one run for F4
+-- at the others, then the stamp.
 abbrev pub AreDeletionRuns : HeldState → Chunk → List NcAct → List NcAct → ℕ → Type 0
 AreDeletionRuns h c old new count =
     (count ≡ runs_of c.length) × HasRuns old new count c.base (bytes_of_span h.region.marked.bytes c.base c.length)
     (runs_of_delete h.region.marked.marks c.base c.length) (log_of_delete h.region.marked.marks c.base c.length)
 
--- when the runs of a creation aren't told: no live chunk has this base, or the buffer is too short for them
+-- when the runs of a creation are refused: no live chunk has this base, or the buffer is too short for them
 abbrev pub MayRefuseCreationRuns : HeldState → ℕ → ℕ → RunsFault → Type 0
 MayRefuseCreationRuns h base room NoChunk = ¬ HasLive h.region.chunks base
 MayRefuseCreationRuns h base room (NoRoom wanted) =
     (c : Chunk) × IsLiveAt h.region.chunks base c × (room < runs_of c.length) × (wanted ≡ runs_of c.length)
 
--- when the runs of a deletion aren't told: none is under way, or the buffer is too short for them
+-- when the runs of a deletion are refused: no deletion is under way, or the buffer is too short for them
 abbrev pub MayRefuseDeletionRuns : HeldState → ℕ → RunsFault → Type 0
 MayRefuseDeletionRuns h room NoChunk = h.begun ≡ None
 MayRefuseDeletionRuns h room (NoRoom wanted) =

@@ -1,11 +1,11 @@
--- What a buffer has that may have been lent.
+-- The contents of a buffer that may have been lent.
 use Rattle.std.specs.Prelude.{◌≡◌, ℕ, ◌-◌, ◌<◌, List, length, map, take, drop}
 use Rattle.nc_region.specs.declared.acts.Entry.{Entry}
 use Rattle.nc_handle.specs.declared.acts.act.NcAct.{NcAct}
 use Rattle.nc_handle.specs.acts.Shown.{entry_of, over}
 
--- A lent buffer has exactly the entries of this log at its front, and their number is told. Where none is lent, the
--- number is 0.
+-- A lent buffer begins with exactly the entries of this log, and the count is their number. Where none is lent, the
+-- count is 0.
 pub record IsTold (old new : List NcAct) (count : ℕ) (log : List Entry) : Type 0 where
   pub lent : 0 < length old → (count ≡ length log) × (new ≡ over (map entry_of log) old)
   pub not_lent : length old ≡ 0 → count ≡ 0

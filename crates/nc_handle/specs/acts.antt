@@ -1,4 +1,4 @@
--- Acts as a host reads them, and what a buffer has that they were written into.
+-- Acts as a host reads them, and the contents of the buffer into which they were written.
 pub mod Shown
 pub mod Standing
 pub mod Written

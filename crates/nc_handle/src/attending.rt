@@ -1,4 +1,4 @@
-//! Checking in for seats that nobody has been given.
+//! Checking in for seats that haven't been given out.
 
 ghost use Rattle.std.specs.Prelude.{◌≡◌, ◌≤◌, ◌<◌, All, length, map, slice_index};
 ghost use Rattle.nc_gens.specs.Seen.{Raised, PassState};
@@ -8,7 +8,7 @@ use crate::owned::Owned;
 use nc_gens::{Gens, Pass};
 use nc_region::RegionOf;
 
-/// A pass checks in while no thread has its seat, and the region's keeper learns of it.
+/// Checks in for a pass whose seat no thread has, and lets the region's keeper learn of it.
 fn attend_one(region: &mut RegionOf<Owned>, gens: &Gens, pass: &mut Pass)
     requires region { region.old.keeper.table ≡ gens.now }
     requires pass { pass.old.table ≡ gens.now }
@@ -20,12 +20,12 @@ fn attend_one(region: &mut RegionOf<Owned>, gens: &Gens, pass: &mut Pass)
     ensures inside { pass.old.seat < length region.new.keeper.numbers.bounds }
     ensures bound { region.old.keeper.numbers.generation ≤ slice_index region.new.keeper.numbers.bounds pass.old.seat }
 {
-    region.meet(pass); // It learns the generation,
-    gens.check_in(pass); // takes it,
-    region.meet(pass); // and the keeper takes its word.
+    region.meet(pass); // The pass learns the generation,
+    gens.check_in(pass); // stores it,
+    region.meet(pass); // and the keeper learns that.
 }
 
-/// The passes check in while no thread has one of their seats, and the region's keeper learns of it.
+/// Checks in for passes whose seats no thread has, and lets the region's keeper learn of it.
 pub(crate) fn attend(region: &mut RegionOf<Owned>, gens: &Gens, passes: &mut [Pass])
     requires region { region.old.keeper.table ≡ gens.now }
     requires passes { All (λ p. p.table ≡ gens.now) passes.old }

@@ -9,7 +9,7 @@ use std::alloc::Global;
 use std::marker::Model;
 use std::sync::Arc;
 
-/// A seat that was given: its pass, and a share of the table.
+/// A seat that was given out: its pass, and a share of the table.
 #[derive(Drop)]
 pub struct Guest {
     gens: Arc<Gens, Global>,
@@ -45,10 +45,10 @@ impl Guest {
         pass
     }
 
-    /// `Gens::check_in`: it takes no memory and no lock, never waits, and has no refusal.
+    /// `Gens::check_in`: it takes no memory and no lock, never waits and is never refused.
     ///
-    /// To be called while the seat's thread is outside the region: that can be seen in no contract here, and reclaiming
-    /// rests on it.
+    /// It must be called while the seat's thread is outside the region: no contract here can state that, and reclaiming
+    /// relies on it.
     pub fn check_in(&mut self)
         ensures same { (self.new.table ≡ self.old.table) × (self.new.seat ≡ self.old.seat) }
         // One load of the generation, and one store of it.
@@ -62,9 +62,9 @@ impl Guest {
         self.gens.check_in(&mut self.pass);
     }
 
-    /// `Gens::leave`, and the share of the table is given back. It takes no lock and never waits.
+    /// `Gens::leave`, which also gives back the share of the table. It takes no lock and never waits.
     ///
-    /// To be called while the seat's thread is outside the region, for good.
+    /// It must be called once the seat's thread is outside the region for good.
     pub fn leave(self) {
         let Guest { gens, pass } = self;
         gens.leave(pass);

@@ -1,4 +1,4 @@
-//! A region that owns all that it stands on.
+//! A region that owns everything it needs.
 
 ghost use Rattle.std.specs.Prelude.{◌≡◌, ◌+◌, ◌*◌, ◌↔◌, None, IfOk, IfErr, IfSome, IsErrOf};
 ghost use Rattle.std.specs.Arc.{arc_value};
@@ -17,8 +17,8 @@ use std::alloc::Global;
 use std::marker::Model;
 use std::sync::Arc;
 
-/// A region with its text, a share of its table of generations, the passes that nobody has been given yet, and the chunk
-/// whose deletion is under way.
+/// A region with its text, a share of its table of generations, the passes not given out yet, and the chunk whose deletion
+/// is under way.
 #[derive(Drop)]
 pub struct Held {
     pub(crate) region: RegionOf<Owned>,
@@ -40,7 +40,7 @@ impl Model for Held {
         × All (λ p. p.table ≡ arc_value h.gens) h.passes.items × CanEnd h.begun h.region };
 }
 
-/// A new region with lawful numbers, if there is memory.
+/// A new region of this lawful size with this lawful number of seats, if there is memory.
 fn first(alloc: Global, bundles: u32, seats: u32) -> Option<Held>
     requires seats { AreSeats seats }
     requires lawful { IsLawfulLimit (0x10000 + 32 * bundles) }
@@ -64,7 +64,7 @@ fn first(alloc: Global, bundles: u32, seats: u32) -> Option<Held>
     })
 }
 
-/// A table, shared by two.
+/// Two shares of a table, if there is memory.
 fn in_two_shares(alloc: Global, gens: Gens) -> Option<(Arc<Gens, Global>, Arc<Gens, Global>)>
     ensures { IfSome result (λ shares. (arc_value shares.0 ≡ gens) × (arc_value shares.1 ≡ gens)) }
 {
@@ -78,11 +78,11 @@ fn in_two_shares(alloc: Global, gens: Gens) -> Option<(Arc<Gens, Global>, Arc<Ge
 }
 
 impl Held {
-    /// A region of this many bundles without a chunk, with this many seats, of which none has been given. Its last bundle is
-    /// the guard, in which no chunk stands. Both numbers are tested before anything is allocated.
+    /// A region of this many bundles without a chunk, with this many seats, none of them given out. Its last bundle is the
+    /// guard, which never holds a chunk. Both numbers are checked before anything is allocated.
     pub fn new(alloc: Global, bundles: u32, seats: u32) -> Result<Held, NewFault>
         ensures made { IfOk result (IsFirst bundles seats) }
-        // The first two refusals come exactly where they are due, and the third only where neither is.
+        // The first two refusals are returned exactly when they are due, and the third only when neither is.
         ensures bad_seats { IsErrOf result NewFault.BadSeats ↔ ¬ AreSeats seats }
         ensures bad_size { IsErrOf result NewFault.BadSize ↔ (AreSeats seats × ¬ IsLawfulLimit (0x10000 + 32 * bundles)) }
         ensures refused { IfErr result (MayRefuseNew bundles seats) }

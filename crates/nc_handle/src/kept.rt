@@ -2,7 +2,7 @@
 
 use nc_vet::Vetted;
 
-/// Room for a vetted chunk, from which it is taken to be created in a region, and to which a refusal gives it back without memory.
+/// A slot for a vetted chunk: creating the chunk in a region empties it, and a refusal refills it without allocating.
 #[derive(Drop)]
 pub struct Kept {
     pub chunk: Option<Vetted>,

@@ -1,13 +1,13 @@
-//! A region of code and the seats of its threads as values without a lifetime, for hosts that hold them by handles, and the acts of
-//! its changes as such hosts read them.
+//! A code region and its threads' seats as values without a lifetime, for hosts that hold them by handles, and the acts of
+//! each change in the form that such hosts read.
 //!
-//! [`Held`] is a region that owns all that it stands on: its text, a share of its table of generations, and the passes that
-//! nobody has been given yet. [`Guest`] is a seat with a share of the table. A host calls a `Held` under a lock of its own, one
-//! call at a time; a `Guest` is called by its own thread, without a lock.
+//! [`Held`] is a region that owns everything it needs: its text, a share of its table of generations, and the passes not given
+//! out yet. [`Guest`] is a seat with a share of the table. A host calls a `Held` under a lock of its own, one call at a time; a
+//! `Guest` is called by its own thread, without a lock.
 //!
-//! An [`NcAct`] is an entry of the log by which `nc_region` changes a text. The calls of a `Held` write such a log into a buffer that the
-//! host lends. Without a region [`write_creation`], [`write_deletion`] and [`write_patch`] write it, from a chunk that is read place by
-//! place ([`ReadChunk`]) or from its bytes.
+//! An [`NcAct`] is an entry of the log by which `nc_region` changes a text. The calls of a `Held` write such a log into a
+//! buffer that the host lends. [`write_creation`], [`write_deletion`] and [`write_patch`] write it without a region, from a
+//! chunk that is read place by place ([`ReadChunk`]) or from its bytes.
 #![tactic(auto)]
 
 mod acts;

@@ -11,7 +11,7 @@ use std::alloc::Global;
 use std::marker::Model;
 use std::sync::Arc;
 
-/// A text, a share of a table of generations, and the table's keeper. It tells nothing of its acts.
+/// A text, a share of a table of generations, and the table's keeper. Its acts are told to no sink.
 #[derive(Drop)]
 pub struct Owned {
     text: Text,

@@ -1,4 +1,4 @@
-//! What a region that owns all that it stands on tells of itself.
+//! Queries of a region that owns everything it needs.
 
 ghost use Rattle.std.specs.Prelude.{◌≡◌, ◌+◌, ◌*◌, ◌↔◌, ◌≤◌, ◌^◌, IfOk, IfErr, IfSome, IsNone, OnOk, length, slice_get};
 ghost use Rattle.nc_text.specs.Machine.{IsConfined};
@@ -50,7 +50,7 @@ impl Held {
         Some(self.region.mark(at))
     }
 
-    /// How many chunks there are, live and retired, with what each region keeps.
+    /// The number of chunks, live and retired, with the invariants of every region.
     pub fn chunk_count(&self) -> usize
         ensures count { result ≡ length self.now.region.chunks }
         ensures confined { IsConfined self.now.region.marked.bytes }
@@ -60,7 +60,7 @@ impl Held {
         self.region.chunk_count()
     }
 
-    /// The chunk at an index of the list, by rising base, if there is one.
+    /// The chunk at an index of the list, in ascending order of base, if there is one.
     pub fn chunk(&self, i: usize) -> Option<Chunk>
         ensures { result ≡ slice_get self.now.region.chunks i }
     {
@@ -74,7 +74,7 @@ impl Held {
         self.begun
     }
 
-    /// `RegionOf::walk`. Only its places take memory.
+    /// `RegionOf::walk`. Only the places it returns take memory.
     pub fn walk(&self, start: u32, choices: &[u32]) -> Result<Trace, WalkFault>
         ensures trace { IfOk result (λ t. IsTrace self.now.region.marked.bytes start choices.now t.places.items t.end) }
         ensures only { IfOk result (λ t. IsOnlyTrace self.now.region.marked.bytes start choices.now t.places.items t.end) }

@@ -1,4 +1,4 @@
-//! The calls that change a region that owns all that it stands on, with the acts by which they change it.
+//! The calls that change a region that owns everything it needs, with the acts of each change.
 
 ghost use Rattle.std.specs.Prelude.{◌≡◌, ◌+◌, ◌*◌, ◌^◌, ◌<◌, ◌≤◌, ◌↔◌, ℕ, List, IfOk, IfErr, IfSome, IsNone, IsTrue, OnOk, OnErr, None, length};
 ghost use Rattle.nc_text.specs.Machine.{IsConfined};
@@ -21,21 +21,21 @@ use nc_gens::LAST_GENERATION;
 use nc_region::{Acts, Chunk, DeleteFault};
 use nc_vet::Vetted;
 
-/// A buffer is lent, and it has less room than this.
+/// Whether a buffer is lent and has less room than this.
 fn is_short(room: usize, wanted: usize) -> bool
     ensures { IsTrue result ↔ IsShort room wanted }
 {
     0 < room && room < wanted
 }
 
-/// A buffer is lent for a patch of at most a bundle, and it has less room than three acts for each new byte.
+/// Whether a buffer is lent for a patch of at most 32 bytes and has less room than three acts for each new byte.
 fn is_short_for_patch(room: usize, len: usize) -> bool
     ensures { IsTrue result ↔ IsShortForPatch room len }
 {
     len <= 32 && is_short(room, 3 * len)
 }
 
-/// The acts of a patch are written if a buffer is lent. It answers how many.
+/// Writes the acts of a patch if a buffer is lent. Returns the number written.
 fn tell_patch(acts: &mut [NcAct], at: u32, before: &[u8], new: &[u8]) -> usize
     requires long { length new.now ≤ length before.now }
     requires high { at + length before.now < 2 ^ 32 }
@@ -49,7 +49,7 @@ fn tell_patch(acts: &mut [NcAct], at: u32, before: &[u8], new: &[u8]) -> usize
     write_patch(acts, 0, at, before, 0, new)
 }
 
-/// The acts of the creation of the chunk that stands in a span are written if a buffer is lent. It answers how many.
+/// Writes the acts of the creation of the chunk in a span if a buffer is lent. Returns the number written.
 fn tell_creation(acts: &mut [NcAct], span: &Span) -> usize
     requires room { ¬ IsShort (length acts.old) (span.now.length + 2) }
     ensures { IsTold acts.old acts.new result
@@ -62,7 +62,7 @@ fn tell_creation(acts: &mut [NcAct], span: &Span) -> usize
     span.length as usize + 2
 }
 
-/// The acts of the deletion of the chunk that stands in a span are written if a buffer is lent. It answers how many.
+/// Writes the acts of the deletion of the chunk in a span if a buffer is lent. Returns the number written.
 fn tell_deletion(acts: &mut [NcAct], span: &Span) -> usize
     requires room { ¬ IsShort (length acts.old) (span.now.length + 2) }
     ensures { IsTold acts.old acts.new result (log_of_delete span.now.region.now.marked.marks span.now.base span.now.length) }
@@ -74,9 +74,9 @@ fn tell_deletion(acts: &mut [NcAct], span: &Span) -> usize
     span.length as usize + 2
 }
 
-/// What is tested before a region is changed.
+/// The checks made before a region is changed.
 impl Held {
-    /// No deletion is under way, and a lent buffer has room for the acts of this chunk's creation.
+    /// Checks that no deletion is under way, and that a lent buffer has room for the acts of this chunk's creation.
     fn check_load(&self, vetted: &Vetted, room: usize) -> Result<(), LoadFault>
         ensures allowed { OnOk result ((self.now.begun ≡ None) × ¬ IsShort room (length vetted.now.code + 2)) }
         ensures refused { IfErr result (λ fault. MayRefuseLoad self.now vetted.now room fault × IsNotLoaded self.now self.now vetted.now fault) }
@@ -91,7 +91,8 @@ impl Held {
         Ok(())
     }
 
-    /// No deletion is under way, and a lent buffer has room for the acts of a patch with these bytes, wherever it begins.
+    /// Checks that no deletion is under way, and that a lent buffer has room for the acts of a patch with these bytes,
+    /// at any address.
     fn check_patch(&self, new: &[u8], room: usize) -> Result<(), PatchFault>
         ensures allowed { OnOk result ((self.now.begun ≡ None) × ¬ IsShortForPatch room (length new.now)) }
         ensures refused { IfErr result (λ fault. (at : ℕ) → MayRefuseModify self.now at new.now room fault) }
@@ -105,7 +106,7 @@ impl Held {
         Ok(())
     }
 
-    /// The live chunk with this base. No deletion is under way, a stamp is left for it, and a lent buffer has room for its acts.
+    /// The live chunk with this base, if no deletion is under way, a stamp is left, and a lent buffer has room for its acts.
     fn check_begin(&self, base: u32, room: usize) -> Result<Chunk, RetireFault>
         ensures live { IfOk result (IsLiveAt self.now.region.chunks base) }
         ensures placed { IfOk result (λ c. HasGoodSpan c.base (limit_of self.now.region.marked.bytes) c.length) }
@@ -132,11 +133,11 @@ impl Held {
 }
 
 impl Held {
-    /// `RegionOf::create`, with its acts. Each is written into the buffer with the settling among them, two more than the chunk has
-    /// bytes; a buffer without an element is none. It answers how many there are.
+    /// `RegionOf::create`, which also writes its acts into the buffer, with the settling among them: two more than the chunk
+    /// has bytes. An empty buffer counts as none. Returns the number of acts written.
     ///
-    /// A refusal gives the chunk back and leaves all as it was; only where memory was refused, pages of the chunk's span may
-    /// have been made.
+    /// A refusal returns the chunk and changes nothing, except that a lack of memory may leave pages of the chunk's span
+    /// allocated.
     pub fn create(
         &mut self,
         vetted: Vetted,
@@ -145,17 +146,17 @@ impl Held {
         // The span holds the chunk's code and marks, and the chunk is in the list; all else is as before.
         ensures created { OnOk result (IsCreated self.old.region self.new.region vetted) }
         ensures others { OnOk result (self.new ≡ record self.old { region = self.new.region }) }
-        // No deletion was under way, and a buffer that was lent had room for the acts.
+        // No deletion was under way, and a lent buffer had room for the acts.
         ensures allowed { OnOk result ((self.old.begun ≡ None) × ¬ IsShort (length acts.old) (length vetted.code + 2)) }
-        // It was vetted for this region's limit, and no chunk stood there.
+        // The chunk was vetted for this region's limit, and its span overlapped no chunk.
         ensures free { OnOk result ((vetted.limit ≡ limit_of self.old.region.marked.bytes)
             × ¬ Meets vetted.base (length vetted.code) self.old.region.chunks) }
         // The acts written are those of a creation, with the settling.
         ensures told { IfOk result (λ count. IsTold acts.old acts.new count (log_of_create vetted.base vetted.code)) }
-        // The chunk comes back, and the buffer is as it was.
+        // The chunk is returned, and the buffer is as it was.
         ensures unchanged { IfErr result (λ e. (e.0 ≡ vetted) × IsNotLoaded self.old self.new vetted e.1) }
         ensures untouched { OnErr result (acts.new ≡ acts.old) }
-        // Each refusal comes exactly where it is due.
+        // Each refusal is returned exactly when it is due.
         ensures refused { IfErr result (λ e. MayRefuseLoad self.old vetted (length acts.old) e.1) }
     {
         if let Err(fault) = self.check_load(&vetted, acts.len()) {
@@ -176,22 +177,22 @@ impl Held {
         }
     }
 
-    /// `RegionOf::modify`, with its acts. Each is written into the buffer with the settlings among them, at most three for each new
-    /// byte; a buffer without an element is none. It answers how many were written. It takes no memory.
+    /// `RegionOf::modify`, which also writes its acts into the buffer, with the settlings among them: at most three for each
+    /// new byte. An empty buffer counts as none. Returns the number of acts written. It takes no memory.
     pub fn modify(&mut self, at: u32, new: &[u8], acts: &mut [NcAct]) -> Result<usize, PatchFault>
-        // The new bytes stand there; all else is as before.
+        // The new bytes are in place; all else is as before.
         ensures modified { OnOk result (IsModified self.old.region self.new.region at new.now) }
         ensures others { OnOk result (self.new ≡ record self.old { region = self.new.region }) }
         // Only lawful patches are made.
         ensures lawful { OnOk result (IsPatch self.old.region at new.now) }
-        // No deletion was under way, and a buffer that was lent had room for three acts for each byte.
+        // No deletion was under way, and a lent buffer had room for three acts for each byte.
         ensures allowed { OnOk result ((self.old.begun ≡ None) × ¬ IsShortForPatch (length acts.old) (length new.now)) }
         // The acts written are those of a patch of the region's own bytes, with the settlings.
         ensures told { IfOk result (λ count. (news : List Piece) → AreBytesOf new.now news
             → IsTold acts.old acts.new count (log_of_modify self.old.region.marked.bytes at news)) }
         ensures unchanged { OnErr result (self.new ≡ self.old) }
         ensures untouched { OnErr result (acts.new ≡ acts.old) }
-        // Each refusal comes exactly where it is due.
+        // Each refusal is returned exactly when it is due.
         ensures refused { IfErr result (MayRefuseModify self.old at new.now (length acts.old)) }
     {
         if let Err(fault) = self.check_patch(new, acts.len()) {
@@ -206,7 +207,7 @@ impl Held {
 
     /// The last step of a deletion: the chunk is deleted, as by `RegionOf::delete`, and its stamp drawn. It takes no memory.
     pub fn end_delete(&mut self) -> Option<u64>
-        // Where a deletion is under way, it is never refused.
+        // While a deletion is under way, it is never refused.
         ensures ended { IfSome result (HasEnded self.old self.new) }
         ensures none { IsNone result ↔ (self.old.begun ≡ None) }
         ensures unchanged { IsNone result → self.new ≡ self.old }
@@ -223,22 +224,23 @@ impl Held {
         }
     }
 
-    /// The first step of a deletion: its acts are written, the stops with the settling among them and the stamp, two more than the
-    /// chunk has bytes. Nothing else changes. The host makes them, and then `end_delete` draws the stamp; until then every call that
-    /// changes the region is refused. A buffer without an element is none. It answers how many acts there are. It takes no memory.
+    /// The first step of a deletion: writes its acts, which are the stops, the settling among them and the stamp, two more
+    /// than the chunk has bytes. Nothing else changes. The host makes them, and then `end_delete` draws the stamp; until then
+    /// every call that changes the region is refused. An empty buffer counts as none. Returns the chunk and the number of acts
+    /// written. It takes no memory.
     pub fn begin_delete(
         &mut self,
         base: u32,
         acts: &mut [NcAct],
     ) -> Result<(Chunk, usize), RetireFault>
         ensures begun { IfOk result (λ r. HasBegun self.old self.new base r.0) }
-        // A buffer that was lent had room for the acts.
+        // A lent buffer had room for the acts.
         ensures allowed { IfOk result (λ r. ¬ IsShort (length acts.old) (r.0.length + 2)) }
         // The acts written are those of a deletion, by the region's own marks, with the settling.
         ensures told { IfOk result (λ r. IsTold acts.old acts.new r.1 (log_of_delete self.old.region.marked.marks base r.0.length)) }
         ensures unchanged { OnErr result (self.new ≡ self.old) }
         ensures untouched { OnErr result (acts.new ≡ acts.old) }
-        // Each refusal comes exactly where it is due.
+        // Each refusal is returned exactly when it is due.
         ensures refused { IfErr result (MayRefuseBegin self.old base (length acts.old)) }
     {
         let chunk = match self.check_begin(base, acts.len()) {

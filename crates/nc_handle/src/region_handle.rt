@@ -12,9 +12,9 @@ use std::marker::Model;
 use std::mem::replace;
 use std::ptr::null_mut;
 
-/// A handle to a region, or to nothing, as zeros are. Only this library follows its pointer.
+/// A handle to a region, or to nothing (all zero bytes). Only this library follows its pointer.
 ///
-/// A handle that is dropped frees nothing: what it holds comes back by `take` alone.
+/// Dropping a handle frees nothing: only `take` gives back what it holds.
 #[repr(C)]
 #[derive(Drop)]
 pub struct NcRegion {
@@ -38,7 +38,7 @@ impl NcRegion {
         }
     }
 
-    /// A handle to what these parts are of.
+    /// A handle to the value of these parts.
     fn of_parts(parts: Parts<Held, Global>) -> NcRegion
         ensures { result.value ≡ Some parts.value }
     {
@@ -49,7 +49,7 @@ impl NcRegion {
         }
     }
 
-    /// The parts of what the handle has, if it has something.
+    /// The parts of the handle's value, if it has one.
     fn into_parts(self) -> Option<Parts<Held, Global>>
         ensures { MatchOption result (self.value ≡ None) (λ parts. self.value ≡ Some parts.value) }
     {
@@ -64,14 +64,14 @@ impl NcRegion {
         }
     }
 
-    /// A handle to this region, which may go to another thread.
+    /// A handle to this region, which may be moved to another thread.
     pub fn of(boxed: Box<Held, Global>) -> NcRegion
         ensures { result.value ≡ Some boxed.value }
     {
         NcRegion::of_parts(Parts::of(sent(boxed)))
     }
 
-    /// The region, if the handle has one. Afterwards it has nothing.
+    /// Takes the region out of the handle, if it has one. Afterwards the handle has nothing.
     pub fn take(&mut self, alloc: Global) -> Option<Box<Held, Global>>
         ensures some { IfSome result (λ boxed. self.old.value ≡ Some boxed.value) }
         ensures none { IsNone result → self.old.value ≡ None }

@@ -1,4 +1,4 @@
-//! The acts of a creation and of a deletion as runs, worked out from what the region has now.
+//! The acts of a creation and of a deletion as runs, computed from the region's present bytes and marks.
 
 ghost use Rattle.std.specs.Prelude.{◌≡◌, ◌≤◌, Some, IfOk, IfErr, OnErr, length};
 ghost use Rattle.nc_region.specs.Log.{log_of_create, log_of_delete};
@@ -13,14 +13,14 @@ use crate::fault::RunsFault;
 use crate::held::Held;
 use crate::span::Span;
 
-/// How many runs a chunk of this many bytes has.
+/// The number of runs for a chunk of this many bytes.
 fn runs_of(length: u32) -> usize
     ensures { result ≡ runs_of length }
 {
     2 * (length as usize / 32) + 2
 }
 
-/// Writes the runs of the creation of the chunk that stands in a span.
+/// Writes the runs of the creation of the chunk in a span.
 fn tell_creation_runs(acts: &mut [NcAct], span: &Span)
     requires { runs_of span.now.length ≤ length acts.old }
     ensures { HasRuns acts.old acts.new (runs_of span.now.length) span.now.base
@@ -31,7 +31,7 @@ fn tell_creation_runs(acts: &mut [NcAct], span: &Span)
     write_creation_runs(acts, span.base, span);
 }
 
-/// Writes the runs of the deletion of the chunk that stands in a span.
+/// Writes the runs of the deletion of the chunk in a span.
 fn tell_deletion_runs(acts: &mut [NcAct], span: &Span)
     requires { runs_of span.now.length ≤ length acts.old }
     ensures { HasRuns acts.old acts.new (runs_of span.now.length) span.now.base
@@ -43,14 +43,14 @@ fn tell_deletion_runs(acts: &mut [NcAct], span: &Span)
 }
 
 impl Held {
-    /// The acts by which the creation of a live chunk with the bytes that stand there now would be made, as runs: two for each bundle of
-    /// it, and two more. Directly after `create` these are the acts of that call. It answers how many there are.
+    /// The acts that would create a live chunk with its present bytes, as runs: two for each of its bundles, and two more.
+    /// Directly after `create` these are the acts of that call. Returns their number.
     pub fn creation_runs(&self, base: u32, acts: &mut [NcAct]) -> Result<usize, RunsFault>
         // The runs of a creation of the chunk's bytes, which stand for its acts, with the settling.
         ensures told { IfOk result (λ count. (c : Chunk) × IsLiveAt self.now.region.chunks base c
             × AreCreationRuns self.now c acts.old acts.new count) }
         ensures untouched { OnErr result (acts.new ≡ acts.old) }
-        // Each refusal comes exactly where it is due.
+        // Each refusal is returned exactly when it is due.
         ensures refused { IfErr result (MayRefuseCreationRuns self.now base (length acts.old)) }
     {
         let Some(chunk) = self.region.live_at(base) else {
@@ -69,14 +69,14 @@ impl Held {
         Ok(wanted)
     }
 
-    /// The acts of the deletion that is under way, as runs: two for each bundle of its chunk, and two more. It answers how many there
-    /// are.
+    /// The acts of the deletion that is under way, as runs: two for each bundle of its chunk, and two more. Returns their
+    /// number.
     pub fn deletion_runs(&self, acts: &mut [NcAct]) -> Result<usize, RunsFault>
         // The runs of a deletion by the region's own marks, which stand for its acts, with the settling.
         ensures told { IfOk result (λ count. (c : Chunk) × (self.now.begun ≡ Some c)
             × AreDeletionRuns self.now c acts.old acts.new count) }
         ensures untouched { OnErr result (acts.new ≡ acts.old) }
-        // Each refusal comes exactly where it is due.
+        // Each refusal is returned exactly when it is due.
         ensures refused { IfErr result (MayRefuseDeletionRuns self.now (length acts.old)) }
     {
         let Some(chunk) = self.begun else {

@@ -1,4 +1,4 @@
-//! The seats of a region that owns its table: given once each, and checked in for where nobody was given them.
+//! The seats of a region that owns its table: each is given out once, and until then the region checks in for it.
 
 ghost use Rattle.std.specs.Prelude.{◌≡◌, ◌≤◌, ◌<◌, ◌↔◌, [], All, IfOk, IfErr, IfSome, IsErrOf, IsNone, IsSome, OnErr, length, slice_index};
 ghost use Rattle.std.specs.Arc.{arc_value};
@@ -14,7 +14,7 @@ use nc_gens::{Gens, Pass};
 use std::alloc::Global;
 use std::sync::Arc;
 
-/// The seat of a pass in a box, with a share of its table. The pass comes back where there is no memory.
+/// The seat of a pass in a box, with a share of its table. The pass is returned where there is no memory.
 fn boxed(alloc: Global, gens: &Arc<Gens, Global>, pass: Pass) -> Result<Box<Guest, Global>, Pass>
     requires { pass.table ≡ arc_value gens.now }
     ensures boxed { IfOk result (λ guest. guest.value ≡ pass) }
@@ -30,12 +30,12 @@ fn boxed(alloc: Global, gens: &Arc<Gens, Global>, pass: Pass) -> Result<Box<Gues
 }
 
 impl Held {
-    /// A seat that nobody has been given yet, in a box. A refusal leaves every pass where it was.
+    /// A seat that hasn't been given out yet, in a box. A refusal leaves every pass where it was.
     pub fn seat(&mut self, alloc: Global) -> Result<Box<Guest, Global>, SeatFault>
         // The last of the passes is the seat's now; all else is as before.
         ensures given { IfOk result (λ guest. HasGiven self.old self.new guest.value) }
         ensures unchanged { OnErr result (self.new ≡ self.old) }
-        // Where a seat is left, a refusal is one of memory; where none is, it says so.
+        // Where a seat is left, only a lack of memory refuses it; where none is, the refusal says so.
         ensures refused { IfErr result (MayRefuseSeat self.old) }
         ensures none_left { IsErrOf result SeatFault.NoneLeft ↔ (self.old.passes ≡ []) }
     {
@@ -51,17 +51,17 @@ impl Held {
         }
     }
 
-    /// How many seats nobody has been given.
+    /// The number of seats not given out yet.
     pub fn seats_left(&self) -> usize
         ensures { result ≡ length self.now.passes }
     {
         self.passes.len()
     }
 
-    /// Checks in for each seat that nobody has been given, and then frees what is due, as `RegionOf::reclaim`: it puts no byte.
-    /// While a deletion is under way it does nothing. It takes no memory.
+    /// Checks in for each seat not given out yet, and then frees the chunks that are due, as `RegionOf::reclaim`: it puts no
+    /// byte. While a deletion is under way it does nothing. It takes no memory.
     pub fn reclaim(&mut self) -> Option<u32>
-        // No seat that nobody has been given holds anything back.
+        // No seat that wasn't given out delays reclaiming.
         ensures reclaimed { IfSome result (HasReclaimed self.old self.new) }
         ensures underway { IsNone result ↔ IsSome self.old.begun }
         ensures unchanged { IsNone result → self.new ≡ self.old }

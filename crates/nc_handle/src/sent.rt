@@ -1,8 +1,8 @@
-//! What a host may move to another thread.
+//! Values that a host may move to another thread.
 
 ghost use Rattle.std.specs.Prelude.{◌≡◌};
 
-/// The value, which may go to another thread: the prover is asked for it.
+/// The value itself: the bound makes the prover check that it may be moved to another thread.
 pub(crate) fn sent<T: Send>(value: T) -> T
     ensures { result ≡ value }
 {

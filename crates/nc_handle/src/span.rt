@@ -8,7 +8,7 @@ use crate::owned::Owned;
 use nc_decode::Mark;
 use nc_region::RegionOf;
 
-/// A span of a region in which a chunk stands.
+/// A span of a region that holds a chunk.
 #[derive(Drop)]
 pub(crate) struct Span<'a> {
     pub(crate) region: &'a RegionOf<Owned>,

@@ -8,7 +8,7 @@ use crate::owned::Owned;
 use nc_decode::START;
 use nc_region::RegionOf;
 
-/// The bytes of as many places from an address on as a bundle has; 0 for each that isn't one of the region.
+/// The region's 32 bytes from an address on: 0 after its end, and all 0 where the address is outside.
 pub(crate) fn read_window(region: &RegionOf<Owned>, at: u32) -> [u8; 32]
     ensures read { HoldsText region.now.marked.bytes at result 32 }
     ensures region { IsRegion region.now.marked region.now.chunks }

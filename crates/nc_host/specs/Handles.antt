@@ -1,4 +1,4 @@
--- What the calls on handles leave in them, and the numbers of their refusals.
+-- The values of handles after the calls on them, and the numbers of the calls' refusals.
 use Rattle.std.specs.Prelude.{◌≡◌, ℕ, ◌⊎◌, List, Option, Some, None, length}
 use Rattle.nc_text.specs.Places.{limit_of}
 use Rattle.nc_vet.specs.Chunk.{MarkedChunk, IsValid}
@@ -20,7 +20,7 @@ use Rattle.nc_handle.specs.declared.kept.Kept.{Kept}
 use Rattle.nc_handle.specs.Held.{HeldState}
 use Rattle.nc_host.specs.Shown.{patch_number}
 
--- the handle had a value and has one, and the relation holds of the two
+-- the handle had a value and has one, and the relation holds between the two
 pub record IsDone {X : Type 0} (old new : Option X) (step : X → X → Type 0) : Type 0 where
   pub before : X
   pub after : X
@@ -28,8 +28,8 @@ pub record IsDone {X : Type 0} (old new : Option X) (step : X → X → Type 0) 
   pub has : new ≡ Some after
   pub did : step before after
 
--- the fault is 32 and the handle has nothing; or it is the number of a refusal that its value may get, with what that
--- refusal wants
+-- the fault is 32 and the handle has nothing; or it is the number of a refusal that its value may get, with the count
+-- that the refusal needs
 abbrev pub IsRefusal : {X F : Type 0} → Option X → (X → F → Type 0) → (F → ℕ) → (F → ℕ) → (fault count : ℕ) → Type 0
 IsRefusal {X} {F} held may number wanted fault count =
     ((held ≡ None) × (fault ≡ 32) × (count ≡ 0))
@@ -54,7 +54,7 @@ load_number (load.Refused WrongLimit) = 39
 load_number (load.Refused Occupied) = 40
 load_number (load.Refused OutOfMemory) = 8
 
--- how many acts a creation has that is refused for no room; otherwise 0
+-- the number of acts of a creation that is refused for no room; otherwise 0
 abbrev pub load_wanted : LoadFault → ℕ
 load_wanted load.Underway = 0
 load_wanted (load.NoRoom wanted) = wanted
@@ -66,7 +66,7 @@ modify_number patch.Underway = 37
 modify_number (patch.NoRoom wanted) = 9
 modify_number (patch.Refused fault) = patch_number fault
 
--- how many acts a patch has at most that is refused for no room; otherwise 0
+-- the largest number of acts of a patch that is refused for no room; otherwise 0
 abbrev pub modify_wanted : PatchFault → ℕ
 modify_wanted patch.Underway = 0
 modify_wanted (patch.NoRoom wanted) = wanted
@@ -79,7 +79,7 @@ retire_number (retire.NoRoom wanted) = 9
 retire_number (retire.Refused NoChunk) = 41
 retire_number (retire.Refused GensFull) = 42
 
--- how many acts a deletion has that is refused for no room; otherwise 0
+-- the number of acts of a deletion that is refused for no room; otherwise 0
 abbrev pub retire_wanted : RetireFault → ℕ
 retire_wanted retire.Underway = 0
 retire_wanted (retire.NoRoom wanted) = wanted
@@ -93,12 +93,12 @@ IsVetted base limit code v = (v.base ≡ base) × (v.limit ≡ limit) × (v.code
 abbrev pub HoldsVetted : (base limit : ℕ) → List ℕ → Option Kept → Type 0
 HoldsVetted base limit code held = (k : Kept) × (held ≡ Some k) × ((v : MarkedChunk) × (k.chunk ≡ Some v) × IsVetted base limit code v)
 
--- the chunk is a valid one of this code at this base for the region's limit
+-- the chunk is valid, with this code at this base, for the region's limit
 abbrev pub IsChunkFor : HeldState → ℕ → List ℕ → MarkedChunk → Type 0
 IsChunkFor h base code v = IsVetted base (limit_of h.region.marked.bytes) code v
 
--- no deletion was under way, the chunk was vetted for the region's limit, no chunk stood in its span, it was created in
--- the region (`IsCreated`), and all else is as before
+-- no deletion was under way, the chunk was vetted for the region's limit, no chunk overlapped its span, it was created
+-- in the region (`IsCreated`), and all else is as before
 abbrev pub HasLoaded : MarkedChunk → HeldState → HeldState → Type 0
 HasLoaded v old new =
     (old.begun ≡ None) × (v.limit ≡ limit_of old.region.marked.bytes) × (¬ Meets v.base (length v.code) old.region.chunks)
@@ -110,6 +110,6 @@ abbrev pub HasPatched : ℕ → List ℕ → HeldState → HeldState → Type 0
 HasPatched at bytes old new =
     (old.begun ≡ None) × IsPatch old.region at bytes × IsModified old.region new.region at bytes × (new ≡ record old { region = new.region })
 
--- all is as before, except that pages of the text may have been made
+-- all is as before, except that pages of the text may have been allocated
 abbrev pub IsSameButPages : HeldState → HeldState → Type 0
 IsSameButPages old new = new ≡ record old { region = record old.region { made = new.region.made } }

@@ -1,4 +1,4 @@
--- What a host reads of a region: numbers for a chunk and for a place.
+-- A region as a host reads it: numbers for a chunk and for a place.
 use Rattle.std.specs.Prelude.{ℕ}
 use Rattle.nc_text.specs.Marks.{mark_at}
 use Rattle.nc_text.specs.Places.{byte_at}
@@ -10,12 +10,12 @@ use Rattle.nc_host.specs.declared.region_answers.NcChunk.{NcChunk}
 use Rattle.nc_host.specs.declared.region_answers.NcPlace.{NcPlace}
 use Rattle.nc_host.specs.Shown.{mark_number}
 
--- 1 for a retired chunk
+-- 1 for a retired chunk, 0 for a live one
 abbrev pub retired_of : ChunkState → ℕ
 retired_of Live = 0
 retired_of (Retired stamp) = 1
 
--- its stamp, or 0
+-- a retired chunk's stamp; 0 for a live one
 abbrev pub stamp_of : ChunkState → ℕ
 stamp_of Live = 0
 stamp_of (Retired stamp) = stamp

@@ -1,4 +1,4 @@
--- What the calls of a host tell of a chunk.
+-- The results that a host's calls report for a chunk.
 use Rattle.std.specs.Prelude.{◌≡◌, ℕ, ◌+◌, ◌<◌, ◌≤◌, ◌⊎◌, List, length, slice_index_or}
 use Rattle.nc_decode.specs.declared.instruction.Mark.{Mark}
 use Rattle.nc_decode.specs.declared.instruction.Mark.TheVariants.{Unmarked}
@@ -17,14 +17,14 @@ abbrev pub IsChunkFault : ℕ → ℕ → List ℕ → ℕ → ℕ → Type 0
 IsChunkFault base limit code fault at =
     (f : VetFault) × HasFault base limit code f × (fault ≡ fault_number f) × (at ≡ fault_place f)
 
--- the outcome of a call that vets a chunk and then writes elements into a buffer: fault 0 for a valid chunk with room
--- enough; 9 for a valid one without; else the chunk's fault, 1 to 8, with its address
+-- the outcome of a call that vets a chunk and then writes elements into a buffer: fault 0 for a valid chunk with enough
+-- room; 9 for a valid chunk without; else the chunk's fault, 1 to 8, with its address
 abbrev pub IsOutcome : (base limit : ℕ) → List ℕ → (wanted room : ℕ) → (fault at : ℕ) → Type 0
 IsOutcome base limit code wanted room fault at =
     ((fault ≡ 0) × (at ≡ 0) × (wanted ≤ room) × ((marks : List Mark) × IsAccepted base limit code marks))
     ⊎ (((fault ≡ 9) × (at ≡ 0) × (room < wanted) × ((marks : List Mark) × IsAccepted base limit code marks))
     ⊎ IsChunkFault base limit code fault at)
 
--- the marks of the text from the base on are these
+-- the text has these marks from the base on
 abbrev pub StandAt : List Mark → ℕ → List Mark → Type 0
 StandAt text base marks = (k : ℕ) → k < length marks → mark_at text (base + k) ≡ slice_index_or marks k Unmarked

@@ -1,4 +1,4 @@
--- What a host is told of a patch.
+-- The results that a host is told for a patch.
 use Rattle.std.specs.Prelude.{◌≡◌, ℕ, ◌+◌, ◌*◌, ◌<◌, ◌≤◌, ◌⊎◌, List, [], ◌∷◌, length, Contains, Option, Some, None}
 use Rattle.nc_decode.specs.declared.instruction.Mark.{Mark}
 use Rattle.nc_text.specs.Places.{limit_of}
@@ -17,20 +17,20 @@ pub record HasOnly (r : Region) (base limit : ℕ) (code : List ℕ) (marks : Li
   pub text : r.marked ≡ with_chunk (unused_text limit) base code marks
   pub chunks : r.chunks ≡ record { base = base; length = length code; state = Live } ∷ []
 
--- no fault answers a lawful patch of the region (`IsPatch`), and a fault one that may be refused for it
--- (`MayRefusePatch`)
+-- the answer to a patch of the region: no fault for a lawful patch (`IsPatch`), else a fault for which the patch may be
+-- refused (`MayRefusePatch`)
 abbrev pub IsPatchAnswer : Region → ℕ → List ℕ → Option ModifyFault → Type 0
 IsPatchAnswer r at new None = IsPatch r at new
 IsPatchAnswer r at new (Some fault) = MayRefusePatch r at new fault
 
--- the code is a valid chunk, and so the patch is answered in each region that has only this chunk (`IsPatchAnswer`)
+-- the code is a valid chunk, and each region that has only this chunk gives this answer to the patch (`IsPatchAnswer`)
 pub record IsAnsweredFor (base limit : ℕ) (code : List ℕ) (at : ℕ) (new : List ℕ) (answer : Option ModifyFault) : Type 0 where
   pub marks : List Mark
   pub valid : IsAccepted base limit code marks
   pub each : (r : Region) → HasOnly r base limit code marks → IsPatchAnswer r at new answer
 
 -- The outcome of a call that judges a patch and then writes its log, at most three entries for each new byte: fault 0
--- for a lawful patch with room enough; 9 for a lawful one without; 16 to 21 for a refused one; else the chunk's fault,
+-- for a lawful patch with enough room; 9 for a lawful one without; 16 to 21 for a refused one; else the chunk's fault,
 -- 1 to 8. A patch is lawful or refused if it is so in each region that has only this chunk (`IsPatch`,
 -- `MayRefusePatch`).
 abbrev pub IsPatchOutcome : (base limit : ℕ) → List ℕ → (at : ℕ) → List ℕ → (room fault place : ℕ) → Type 0
@@ -40,14 +40,14 @@ IsPatchOutcome base limit code at new room fault place =
     ⊎ (((f : ModifyFault) × (fault ≡ patch_number f) × (place ≡ 0) × IsAnsweredFor base limit code at new (Some f))
     ⊎ IsChunkFault base limit code fault place))
 
--- the region keeps what every region keeps (`IsRegion`) and ends at the limit, and this chunk is live in it with these
--- bytes
+-- the region has the properties of every region (`IsRegion`) and ends at the limit, and this chunk is live in it with
+-- these bytes
 pub record HasLiveCode (r : Region) (base limit : ℕ) (code : List ℕ) : Type 0 where
   pub region : IsRegion r.marked r.chunks
   pub limit_is : limit_of r.marked.bytes ≡ limit
   pub listed : Contains r.chunks (record { base = base; length = length code; state = Live })
   pub bytes : AreBytesAt r.marked.bytes base code
 
--- the new bytes lie in the chunk, and in one bundle
+-- the new bytes are within the chunk, and at most 32
 abbrev pub LiesWithin : ℕ → List ℕ → ℕ → List ℕ → Type 0
 LiesWithin base code at new = (base ≤ at) × (at + length new ≤ base + length code) × (length new ≤ 32)

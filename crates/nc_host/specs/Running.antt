@@ -1,4 +1,4 @@
--- The numbers that a host is told where runs aren't.
+-- The numbers that a host is told where runs are refused.
 use Rattle.std.specs.Prelude.{ℕ}
 use Rattle.nc_handle.specs.declared.fault.RunsFault.{RunsFault}
 use Rattle.nc_handle.specs.declared.fault.RunsFault.TheVariants.{NoChunk, NoRoom}
@@ -8,7 +8,7 @@ abbrev pub runs_number : ℕ → RunsFault → ℕ
 runs_number none NoChunk = none
 runs_number none (NoRoom wanted) = 9
 
--- how many runs there would be where the refusal is for no room; otherwise 0
+-- the number of runs needed where the refusal is for no room; otherwise 0
 abbrev pub runs_wanted : RunsFault → ℕ
 runs_wanted NoChunk = 0
 runs_wanted (NoRoom wanted) = wanted

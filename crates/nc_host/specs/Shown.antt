@@ -1,4 +1,4 @@
--- What a host reads: numbers for instructions, marks and faults.
+-- Instructions, marks and faults as a host reads them: as numbers.
 use Rattle.std.specs.Prelude.{ℕ, ◌+◌, pos, Option, Some, None}
 use Rattle.nc_decode.specs.declared.instruction.Flow.{Flow}
 use Rattle.nc_decode.specs.declared.instruction.Flow.TheVariants.{Next, Branch, Jump, Call, IndirectJump, IndirectCall, Stop}
@@ -22,7 +22,7 @@ flow_number IndirectJump = 5
 flow_number IndirectCall = 6
 flow_number Stop = 7
 
--- 16 and the number of a register, or 0 for none
+-- 16 plus the number of a register, or 0 for none
 abbrev pub register_number : Option ℕ → ℕ
 register_number None = 0
 register_number (Some register) = 16 + register
@@ -59,7 +59,7 @@ fault_number (Bare at) = 6
 fault_number (BadTarget at) = 7
 fault_number OutOfMemory = 8
 
--- the address where it stands, for a fault that has one
+-- the address of a chunk's fault, or 0 for a fault without one
 abbrev pub fault_place : VetFault → ℕ
 fault_place (NotPermitted at) = at
 fault_place (Crosses at) = at

@@ -1,4 +1,4 @@
--- What a host is told of a walk.
+-- A walk as a host is told of it.
 use Rattle.std.specs.Prelude.{◌≡◌, ◌⊎◌, ◌<◌, ℕ, List, length}
 use Rattle.nc_region.specs.declared.trace.End.{End}
 use Rattle.nc_region.specs.declared.trace.End.TheVariants.{Stop, Trampoline, Beyond, More}
@@ -22,7 +22,7 @@ abbrev pub no_walk : ℕ → NcWalk
 no_walk fault = record { count = 0; fault = fault; end = 0 }
 
 -- The walk told is a trace (`IsTrace`) over safe states, the only one by these choices from this bundle start of the
--- region. Its places are at the front of the buffer; all after them is as before.
+-- region. The buffer begins with its places; the rest of it is as before.
 pub record IsShownWalk (text : List ℕ) (start : ℕ) (choices : List ℕ) (told : NcWalk) (old new : List ℕ) : Type 0 where
   pub places : List ℕ
   pub end : End
@@ -33,7 +33,7 @@ pub record IsShownWalk (text : List ℕ) (start : ℕ) (choices : List ℕ) (tol
   pub numbers : told ≡ walk_of (length places) end
   pub written : new ≡ over places old
 
--- there is a walk over more places than the buffer has; what is told is 9, with the number of its places
+-- there is a walk over more places than the buffer holds; fault 9 is told, with the number of its places
 pub record IsLongWalk (text : List ℕ) (start : ℕ) (choices : List ℕ) (room : ℕ) (told : NcWalk) : Type 0 where
   pub places : List ℕ
   pub end : End
@@ -42,8 +42,8 @@ pub record IsLongWalk (text : List ℕ) (start : ℕ) (choices : List ℕ) (room
   pub longer : room < length places
   pub numbers : told ≡ record { count = length places; fault = 9; end = 0 }
 
--- when a walk is refused: 44 where none may begin; 8, lack of memory, only where one may; 9, with the number of places,
--- if the buffer has fewer
+-- when a walk is refused: 44 where no walk may begin; 8, lack of memory, only where one may; 9, with the number of
+-- places, if the buffer holds fewer
 abbrev pub MayRefuseShownWalk : List ℕ → ℕ → List ℕ → ℕ → NcWalk → Type 0
 MayRefuseShownWalk text start choices room told =
     ((told ≡ no_walk 44) × ¬ IsWalkStart text start)

@@ -1,4 +1,4 @@
-//! The acts of a chunk that is created or deleted, with the settling of each.
+//! The acts of a chunk's creation and of its deletion, each with its settling.
 
 ghost use Rattle.std.specs.Prelude.{◌≡◌, ◌+◌, ◌^◌, ◌<◌, ◌≤◌, ◌⊎◌, ◌==◌, ◌||◌, List, length, map, if◌then◌else◌};
 ghost use Rattle.nc_decode.specs.declared.instruction.Mark.{Mark};
@@ -15,7 +15,7 @@ use nc_handle::{NcAct, write_creation, write_deletion};
 use nc_vet::Marks;
 use std::alloc::Global;
 
-/// A refusal, with the number of acts that there is no room for.
+/// A refusal, with the number of acts needed where there is no room.
 pub(crate) fn refused(verdict: NcVerdict, len: usize) -> NcActs
     requires { verdict.fault ≡ 9 → len + 2 < 2 ^ 32 }
     ensures { result ≡ record { fault = verdict.fault; at = verdict.at; count = if verdict.fault == 9 then len + 2 else 0 } }
@@ -47,7 +47,7 @@ fn creation(acts: &mut [NcAct], base: u32, code: &[u8], own: &Marks) -> NcActs
     }
 }
 
-/// The acts of its deletion.
+/// The acts of a vetted chunk's deletion, written into a buffer that has room for them.
 fn deletion(acts: &mut [NcAct], base: u32, code: &[u8], own: &Marks) -> NcActs
     requires each { length (listed code.now own.now) ≡ length code.now }
     requires high { base + length code.now + 2 < 2 ^ 32 }
@@ -64,12 +64,12 @@ fn deletion(acts: &mut [NcAct], base: u32, code: &[u8], own: &Marks) -> NcActs
     }
 }
 
-/// Vets a chunk where it lies, and writes the acts by which it is put into an unused span of a text that threads are running: the
-/// bytes that aren't bundle starts, a settling, the marks of the span, the bundle starts. There are two acts more than the code has
+/// Vets a chunk in place, and writes the acts that put it into an unused span of a text that threads are running: the bytes
+/// that aren't bundle starts, a settling, the marks of the span, the bundle starts. There are two acts more than the code has
 /// bytes.
 ///
-/// If the buffer has less room for a valid chunk, the fault is 9 and `count` says how much is wanted. The buffer is as it
-/// was on each refusal.
+/// If the buffer is too short for the acts of a valid chunk, the fault is 9 and `count` is the number needed. A refusal leaves
+/// the buffer as it was.
 #[unsafe(no_mangle)]
 pub extern "C" fn nc_host_create(
     alloc: Global,
@@ -94,8 +94,8 @@ pub extern "C" fn nc_host_create(
     }
 }
 
-/// Vets a chunk as it stands in a text, and writes the acts by which it is deleted while threads are running: stops at its marked
-/// places, a settling, stops at its others, the stamp. There are two acts more than the code has bytes.
+/// Vets a chunk as it is in a text, and writes the acts that delete it while threads are running: stops at its marked places,
+/// a settling, stops at its other places, the stamp. There are two acts more than the code has bytes.
 ///
 /// The marks are those of the code that is lent, as `nc_host_marks` writes them. Refusals are as in `nc_host_create`.
 #[unsafe(no_mangle)]
@@ -108,7 +108,8 @@ pub extern "C" fn nc_host_delete(
 ) -> NcActs
     ensures outcome { IsOutcome base limit code.now (length code.now + 2) (length acts.old) result.fault result.at }
     ensures count { result.count ≡ (if (result.fault == 0) || (result.fault == 9) then length code.now + 2 else 0) }
-    // Exactly the acts of a deletion and its settling, in their order, for any text in which the chunk's marks stand there.
+    // Exactly the acts of a deletion and its settling, in their order, for any text that has the chunk's marks from the base
+    // on.
     ensures written { result.fault ≡ 0 → (m text : List Mark) → IsAccepted base limit code.now m → StandAt text base m
         → (result.count ≡ length (log_of_delete text base (length code.now)))
         × (acts.new ≡ over (map entry_of (log_of_delete text base (length code.now))) acts.old) }

@@ -1,10 +1,10 @@
-//! What the calls answer: structs that C reads as they are.
+//! The results of the calls: structs with the layout that C reads.
 
-/// What stands at the front of some bytes.
+/// The instruction with which some bytes begin.
 #[repr(C)]
 #[derive(Clone, Copy)]
 pub struct NcInstruction {
-    /// 0 where a permitted instruction stands there, else why none does; then all other fields are 0.
+    /// 0 if the bytes begin with a permitted instruction, else the reason why not; then all other fields are 0.
     pub fault: u32,
     /// Its length in bytes.
     pub length: u32,
@@ -14,7 +14,7 @@ pub struct NcInstruction {
     pub rel: i32,
     /// The number of the register of an indirect transfer, else 0.
     pub register: u32,
-    /// 16 and the number of the register that it masks, or 0 if it masks none.
+    /// 16 plus the number of the register that it masks, or 0 if it masks none.
     pub masks: u32,
 }
 
@@ -24,19 +24,19 @@ pub struct NcInstruction {
 pub struct NcVerdict {
     /// 0, or the number of the fault.
     pub fault: u32,
-    /// The address where the fault stands, for a fault that has one, else 0.
+    /// The address of the fault, for a fault that has one, else 0.
     pub at: u32,
 }
 
-/// A verdict, and how many acts there are.
+/// A verdict, and the number of acts.
 #[repr(C)]
 #[derive(Clone, Copy)]
 pub struct NcActs {
     /// 0, or the number of the fault.
     pub fault: u32,
-    /// The address where the fault stands, for a fault that has one, else 0.
+    /// The address of the fault, for a fault that has one, else 0.
     pub at: u32,
-    /// How many acts there are, settlings among them: written where the fault is 0, wanted where it is that there is no room.
+    /// The number of acts, settlings among them: written where the fault is 0, needed where there is no room, else 0.
     pub count: u32,
 }
 

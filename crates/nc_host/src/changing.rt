@@ -1,4 +1,4 @@
-//! Chunks of a region by its handle: created and patched, each with its acts.
+//! Creating and patching chunks of a region by its handle, with the acts of each change.
 
 ghost use Rattle.std.specs.Prelude.{◌≡◌, ◌<◌, ◌⊎◌, List, None, Some, length};
 ghost use Rattle.nc_text.specs.Places.{limit_of};
@@ -20,7 +20,7 @@ use nc_handle::{Held, NcAct, NcRegion};
 use nc_vet::Vetted;
 use std::alloc::Global;
 
-/// Creates a vetted chunk, and answers by numbers.
+/// Creates a vetted chunk, and returns the result as numbers.
 pub(crate) fn load(held: &mut Held, vetted: Vetted, acts: &mut [NcAct]) -> NcChange
     ensures created { result.fault ≡ 0 → HasLoaded vetted held.old held.new }
     ensures told { result.fault ≡ 0 → IsTold acts.old acts.new result.count (log_of_create vetted.base vetted.code) }
@@ -39,7 +39,7 @@ pub(crate) fn load(held: &mut Held, vetted: Vetted, acts: &mut [NcAct]) -> NcCha
     }
 }
 
-/// Vets a chunk and creates it, and answers by numbers.
+/// Vets a chunk and creates it, and returns the result as numbers.
 fn vet_and_load(
     alloc: Global,
     held: &mut Held,
@@ -68,9 +68,9 @@ fn vet_and_load(
 
 /// Vets a chunk and creates it in a region, with its acts.
 ///
-/// Each act is written into the buffer with the settling among them, two more than the chunk has bytes; a buffer without an
-/// element is none, and then the count is 0. A refusal changes nothing, but that pages of the chunk's span may have been made where
-/// memory was refused.
+/// The acts are written into the buffer, with the settling among them: two more than the chunk has bytes. An empty buffer
+/// counts as none, and then the count is 0. A refusal changes nothing, except that a lack of memory may leave pages of the
+/// chunk's span allocated.
 #[unsafe(no_mangle)]
 pub extern "C" fn nc_region_create(
     alloc: Global,
@@ -86,7 +86,7 @@ pub extern "C" fn nc_region_create(
     ensures untouched { 0 < result.fault → acts.new ≡ acts.old }
     ensures unchanged { 0 < result.fault → (region.new.value ≡ region.old.value)
         ⊎ ((result.fault ≡ 8) × IsDone region.old.value region.new.value IsSameButPages) }
-    // Each refusal comes where it is due: there is no region, the chunk has a fault, or the region refuses it.
+    // Each refusal is returned when it is due: there is no region, the chunk has a fault, or the region refuses it.
     ensures refused { 0 < result.fault → ((region.old.value ≡ None) × (result ≡ record { fault = 32; at = 0; count = 0 }))
         ⊎ ((h : HeldState) × (region.old.value ≡ Some h) × (
         ((result.count ≡ 0) × IsChunkFault base (limit_of h.region.marked.bytes) code.now result.fault result.at)
@@ -101,7 +101,7 @@ pub extern "C" fn nc_region_create(
     change
 }
 
-/// Patches a chunk, and answers by numbers.
+/// Patches a chunk, and returns the result as numbers.
 fn patch(held: &mut Held, at: u32, new: &[u8], acts: &mut [NcAct]) -> NcChange
     ensures modified { result.fault ≡ 0 → HasPatched at new.now held.old held.new }
     ensures allowed { result.fault ≡ 0 → ¬ IsShortForPatch (length acts.old) (length new.now) }
@@ -122,11 +122,11 @@ fn patch(held: &mut Held, at: u32, new: &[u8], acts: &mut [NcAct]) -> NcChange
     }
 }
 
-/// Patches a chunk of a region, with its acts. It takes no memory, and looks at no more of the chunk than the patch and what
-/// it leads to.
+/// Patches a chunk of a region, with its acts. It takes no memory, and of the chunk it reads only the bundles of the patch and
+/// of its targets.
 ///
-/// Each act is written into the buffer with the settlings among them, at most three for each new byte; a buffer without an element
-/// is none, and then the count is 0. A refusal changes nothing.
+/// The acts are written into the buffer, with the settlings among them: at most three for each new byte. An empty buffer counts
+/// as none, and then the count is 0. A refusal changes nothing.
 #[unsafe(no_mangle)]
 pub extern "C" fn nc_region_patch(
     alloc: Global,
@@ -135,16 +135,16 @@ pub extern "C" fn nc_region_patch(
     bytes: &[u8],
     acts: &mut [NcAct],
 ) -> NcChange
-    // No deletion was under way, and the new bytes stand there, by a lawful patch; all else is as before.
+    // No deletion was under way, and the new bytes are in place, by a lawful patch; all else is as before.
     ensures modified { result.fault ≡ 0 → IsDone region.old.value region.new.value (HasPatched at bytes.now) }
-    // A buffer that was lent had room for three acts for each byte.
+    // A lent buffer had room for three acts for each byte.
     ensures allowed { result.fault ≡ 0 → ¬ IsShortForPatch (length acts.old) (length bytes.now) }
     // The acts written are those of a patch of the region's own bytes, with the settlings.
     ensures told { result.fault ≡ 0 → (h : HeldState) (news : List Piece) → region.old.value ≡ Some h → AreBytesOf bytes.now news
         → IsTold acts.old acts.new result.count (log_of_modify h.region.marked.bytes at news) }
     ensures untouched { 0 < result.fault → acts.new ≡ acts.old }
     ensures unchanged { 0 < result.fault → region.new.value ≡ region.old.value }
-    // Each refusal comes exactly where it is due.
+    // Each refusal is returned exactly when it is due.
     ensures at { result.at ≡ 0 }
     ensures refused { 0 < result.fault → IsRefusal region.old.value (λ h f. MayRefuseModify h at bytes.now (length acts.old) f)
         modify_number modify_wanted result.fault result.count }

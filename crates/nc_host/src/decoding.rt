@@ -1,4 +1,4 @@
-//! The instruction at the front of some bytes.
+//! The instruction with which some bytes begin.
 
 ghost use Rattle.std.specs.Prelude.{◌≡◌, ◌↔◌, ◌⊎◌};
 ghost use Rattle.nc_decode.specs.declared.instruction.Instr.{Instr};
@@ -11,7 +11,7 @@ use nc_decode::{DecodeFault, Flow, Instr, decode};
 /// No permitted instruction begins with the bytes.
 const NOT_PERMITTED: u32 = 4;
 
-/// The bytes are the beginning of a permitted instruction, and not all of it.
+/// The bytes are a proper prefix of a permitted instruction's bytes.
 const CUT_SHORT: u32 = 10;
 
 /// The number of a flow.
@@ -29,7 +29,7 @@ fn flow_number(flow: Flow) -> u32
     }
 }
 
-/// 16 and the number of a register, or 0 for none.
+/// 16 plus the number of a register, or 0 for none.
 fn register_number(register: Option<u8>) -> u32
     ensures { result ≡ register_number register }
 {
@@ -67,18 +67,18 @@ fn no_instruction(fault: u32) -> NcInstruction
     }
 }
 
-/// The instruction at the front of the bytes, or why there is none: 4 where no permitted one begins so, 10 where the bytes
-/// are the beginning of one and not all of it, as no bytes at all are.
+/// The instruction with which the bytes begin, or why there is none: 4 if no permitted instruction begins like them, 10 if they
+/// are a proper prefix of a permitted instruction's bytes, as no bytes at all are.
 ///
-/// It says nothing of addresses: bundles, pairs and targets are judged by `nc_host_vet`. It takes no memory.
+/// It says nothing about addresses: bundles, pairs and targets are judged by `nc_host_vet`. It takes no memory.
 #[unsafe(no_mangle)]
 pub extern "C" fn nc_host_decode(code: &[u8]) -> NcInstruction
-    // A front of the bytes is a whole instruction, and this is what it says.
+    // The bytes begin with a whole instruction, and the result describes it.
     ensures found { (i : Instr) → (result ≡ instruction_of i) ↔ IsAtFront code.now i }
     ensures cut_short { (result ≡ no_instruction 10) ↔ IsProperFront code.now }
     ensures not_permitted { (result ≡ no_instruction 4)
         ↔ (((i : Instr) → ¬ IsAtFront code.now i) × ¬ IsProperFront code.now) }
-    // One of the three.
+    // The result is one of the three.
     ensures faults { (result.fault ≡ 0) ⊎ ((result ≡ no_instruction 10) ⊎ (result ≡ no_instruction 4)) }
 {
     match decode(code) {

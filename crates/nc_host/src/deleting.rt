@@ -13,7 +13,7 @@ use crate::region_answers::{NcChange, NcCount, NcStamp, no_change};
 use nc_handle::{Held, NcAct, NcRegion};
 use std::alloc::Global;
 
-/// The first step of a deletion, answered by numbers.
+/// The first step of a deletion, with its result as numbers.
 fn begin(held: &mut Held, base: u32, acts: &mut [NcAct]) -> NcChange
     ensures begun { result.fault ≡ 0 → (c : Chunk) × HasBegun held.old held.new base c
         × IsTold acts.old acts.new result.count (log_of_delete held.old.region.marked.marks base c.length) }
@@ -32,11 +32,11 @@ fn begin(held: &mut Held, base: u32, acts: &mut [NcAct]) -> NcChange
     }
 }
 
-/// The first step of a deletion: its acts are written, and the region has the chunk still. It takes no memory.
+/// The first step of a deletion: its acts are written, and the region still has the chunk. It takes no memory.
 ///
-/// Each act is written into the buffer with the settling among them and the stamp at the end, two more than the chunk has bytes; a
-/// buffer without an element is none, and then the count is 0. Until `nc_region_end_delete` every call that changes the region
-/// is refused. A refusal changes nothing.
+/// The acts are written into the buffer, with the settling among them and the stamp at the end: two more than the chunk has
+/// bytes. An empty buffer counts as none, and then the count is 0. Until `nc_region_end_delete` every call that changes the
+/// region is refused. A refusal changes nothing.
 #[unsafe(no_mangle)]
 pub extern "C" fn nc_region_begin_delete(
     alloc: Global,
@@ -49,7 +49,7 @@ pub extern "C" fn nc_region_begin_delete(
         × IsTold acts.old acts.new result.count (log_of_delete old.region.marked.marks base c.length)) }
     ensures untouched { 0 < result.fault → acts.new ≡ acts.old }
     ensures unchanged { 0 < result.fault → region.new.value ≡ region.old.value }
-    // Each refusal comes exactly where it is due.
+    // Each refusal is returned exactly when it is due.
     ensures at { result.at ≡ 0 }
     ensures refused { 0 < result.fault → IsRefusal region.old.value (λ h f. MayRefuseBegin h base (length acts.old) f)
         retire_number retire_wanted result.fault result.count }
@@ -62,8 +62,8 @@ pub extern "C" fn nc_region_begin_delete(
     change
 }
 
-/// The last step of a deletion: the chunk is deleted, and its stamp drawn. It takes no memory, and where a deletion is under way it
-/// is never refused.
+/// The last step of a deletion: the chunk is deleted, and its stamp drawn. It takes no memory, and while a deletion is under
+/// way it is never refused.
 #[unsafe(no_mangle)]
 pub extern "C" fn nc_region_end_delete(alloc: Global, region: &mut NcRegion) -> NcStamp
     ensures ended { result.fault ≡ 0 → IsDone region.old.value region.new.value (λ old new. HasEnded old new result.stamp) }
@@ -88,8 +88,8 @@ pub extern "C" fn nc_region_end_delete(alloc: Global, region: &mut NcRegion) -> 
     }
 }
 
-/// Checks in for each seat that nobody has been given, and then frees what is due: it answers how many chunks that were. It
-/// puts no byte and takes no memory.
+/// Checks in for each seat not given out yet, and then frees the chunks that are due. Returns their number. It puts no byte
+/// and takes no memory.
 #[unsafe(no_mangle)]
 pub extern "C" fn nc_region_reclaim(alloc: Global, region: &mut NcRegion) -> NcCount
     ensures reclaimed { result.fault ≡ 0 → IsDone region.old.value region.new.value (λ old new. HasReclaimed old new result.count) }

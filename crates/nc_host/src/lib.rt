@@ -1,27 +1,28 @@
 //! Calls for a host in another language: on a region that it holds by a handle, and over memory that it lends.
 //!
-//! The library starts no thread, and keeps nothing between two calls but what a handle has. Each call may be made from any thread, but
-//! for those that take memory not from a signal handler or a forked child. Each answers for any arguments: a C compiler checks no
-//! condition, so none is asked for. `nc_host.h` is the header, and says of each call what it promises.
+//! The library starts no thread, and keeps nothing between two calls except in handles. Each call may be made from any thread,
+//! but those that take memory must not be made from a signal handler or a forked child. Each call accepts any arguments: a C
+//! compiler checks no condition, so no call requires one. The header `nc_host.h` says what each call promises.
 //!
 //! By a handle:
 //!
 //! - [`nc_region_new`], [`nc_region_free`], [`nc_region_seat`]: a region, and a seat for each of its threads.
-//! - [`nc_region_create`], [`nc_region_patch`], [`nc_region_begin_delete`], [`nc_region_end_delete`]: the region is changed, and the acts
-//!   of the change are written, in their order, with the places where the host settles.
+//! - [`nc_region_create`], [`nc_region_patch`], [`nc_region_begin_delete`], [`nc_region_end_delete`]: the region is changed,
+//!   and the acts of the change are written, in their order, with the places where the host settles.
 //! - [`nc_vetted_new`], [`nc_vetted_free`], [`nc_region_load`]: a chunk that is vetted without a region, and created in one.
 //! - [`nc_region_reclaim`], [`nc_seat_check_in`], [`nc_seat_leave`]: when a deleted chunk's span may be used again.
-//! - [`nc_region_creation_runs`], [`nc_region_deletion_runs`]: the same acts with one for the puts of a bundle.
-//! - [`nc_region_chunk`], [`nc_region_place`], [`nc_region_walk`], [`nc_region_generation`]: what a region has.
+//! - [`nc_region_creation_runs`], [`nc_region_deletion_runs`]: the same acts, with runs for the puts of a bundle.
+//! - [`nc_region_chunk`], [`nc_region_place`], [`nc_region_walk`], [`nc_region_generation`]: a region's contents and
+//!   generation.
 //!
-//! [`nc_host_version`] tells the library's version.
+//! [`nc_host_version`] returns the library's version.
 //!
 //! Over lent memory:
 //!
-//! - [`nc_host_decode`]: the instruction at the front of some bytes.
+//! - [`nc_host_decode`]: the instruction with which some bytes begin.
 //! - [`nc_host_vet`], [`nc_host_marks`]: the verdict on a chunk, and its marks.
-//! - [`nc_host_create`], [`nc_host_patch`], [`nc_host_delete`]: the acts by which a chunk is put into a text that threads are
-//!   running, changed there, or turned into stops, in their order, and where the host settles between them.
+//! - [`nc_host_create`], [`nc_host_patch`], [`nc_host_delete`]: the acts, in their order, that put a chunk into a text that
+//!   threads are running, change it there, or turn it into stops, with the places where the host settles.
 #![tactic(auto)]
 
 mod acting;

@@ -1,4 +1,4 @@
-//! What a region tells by its handle.
+//! Reading a region by its handle.
 
 ghost use Rattle.std.specs.Prelude.{◌≡◌, ◌<◌, ◌≤◌, ◌⊎◌, None, Some, length, slice_get};
 ghost use Rattle.nc_text.specs.Marks.{mark_at};
@@ -32,7 +32,7 @@ fn shown(chunk: Chunk) -> NcChunk
     }
 }
 
-/// The chunk at an index of a region's list, by rising base, live or retired: so a host goes through all of them.
+/// The chunk at an index of a region's list, live or retired, in ascending order of base. By this a host lists all chunks.
 #[unsafe(no_mangle)]
 pub extern "C" fn nc_region_chunk(alloc: Global, region: &mut NcRegion, index: usize) -> NcChunk
     ensures same { region.new.value ≡ region.old.value }
@@ -63,7 +63,7 @@ fn mark_number(mark: Mark) -> u32
     }
 }
 
-/// What stands at a place, if it is one of the region.
+/// The byte and the mark at a place, if it is in the region.
 fn look_at(held: &Held, at: u32) -> NcPlace
     ensures { ((result ≡ shown_place held.now.region at) × InRegion held.now.region.marked.bytes at)
         ⊎ ((result ≡ no_place 43) × ¬ InRegion held.now.region.marked.bytes at) }

@@ -38,10 +38,10 @@ fn write_marks(buffer: &mut [u8], code: &[u8], marks: &Marks)
     }
 }
 
-/// Vets a chunk where it lies, and writes its marks, one byte for each of its bytes: 0 where control never stands, 1 at the start of
-/// an instruction, 16 and the number of the register at an indirect transfer, which directly follows its mask.
+/// Vets a chunk in place, and writes its marks, one byte for each of its bytes: 0 where control never is, 1 at the start of an
+/// instruction, 16 plus the number of the register at an indirect transfer, which directly follows its mask.
 ///
-/// If the buffer is shorter than the code of a valid chunk, the fault is 9. The buffer is as it was on each refusal.
+/// If the buffer is shorter than the code of a valid chunk, the fault is 9. A refusal leaves the buffer as it was.
 #[unsafe(no_mangle)]
 pub extern "C" fn nc_host_marks(
     alloc: Global,
@@ -51,7 +51,7 @@ pub extern "C" fn nc_host_marks(
     marks: &mut [u8],
 ) -> NcVerdict
     ensures outcome { IsOutcome base limit code.now (length code.now) (length marks.old) result.fault result.at }
-    // Valid with these marks, which are the only ones.
+    // The chunk is valid with these marks, and with no others.
     ensures written { result.fault ≡ 0 → (m : List Mark) × IsAccepted base limit code.now m
         × (marks.new ≡ over (map mark_number m) marks.old) }
     ensures untouched { 0 < result.fault → marks.new ≡ marks.old }

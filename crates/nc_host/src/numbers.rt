@@ -8,10 +8,10 @@ use crate::patching::patch_number;
 use nc_handle::{LoadFault, NewFault, PatchFault, RetireFault, SeatFault};
 use nc_region::{CreateFault, DeleteFault};
 
-/// The handle has nothing.
+/// The handle is empty.
 pub(crate) const NOTHING: u32 = 32;
 
-/// The handle that is to be filled has something.
+/// The handle to be filled isn't empty.
 pub(crate) const TAKEN: u32 = 33;
 
 /// A deletion is under way.
@@ -20,16 +20,16 @@ pub(crate) const UNDERWAY: u32 = 37;
 /// There is no such chunk.
 pub(crate) const NO_CHUNK: u32 = 41;
 
-/// The address is none of the region's.
+/// The address isn't in the region.
 pub(crate) const NO_PLACE: u32 = 43;
 
 /// No walk begins at the address.
 pub(crate) const NO_START: u32 = 44;
 
-/// None is under way.
+/// No deletion is under way.
 pub(crate) const NOT_BEGUN: u32 = 38;
 
-/// The number of a fault of a region that isn't made.
+/// The number of a refusal to make a region.
 pub(crate) fn new_number(fault: NewFault) -> u32
     ensures { result ≡ new_number fault }
 {
@@ -40,7 +40,7 @@ pub(crate) fn new_number(fault: NewFault) -> u32
     }
 }
 
-/// Of a seat that isn't given.
+/// The number of a refusal to give a seat.
 pub(crate) fn seat_number(fault: SeatFault) -> u32
     ensures { result ≡ seat_number fault }
 {
@@ -50,7 +50,7 @@ pub(crate) fn seat_number(fault: SeatFault) -> u32
     }
 }
 
-/// Of a creation, with the number of acts that there is no room for.
+/// The number of a refused creation, with the number of acts needed where there is no room.
 pub(crate) fn load_numbers(fault: LoadFault) -> (u32, usize)
     ensures { (result.0 ≡ load_number fault) × (result.1 ≡ load_wanted fault) }
 {
@@ -63,7 +63,7 @@ pub(crate) fn load_numbers(fault: LoadFault) -> (u32, usize)
     }
 }
 
-/// Of a patch, with the number of acts that there is no room for.
+/// The number of a refused patch, with the number of acts needed where there is no room.
 pub(crate) fn modify_numbers(fault: PatchFault) -> (u32, usize)
     ensures { (result.0 ≡ modify_number fault) × (result.1 ≡ modify_wanted fault) }
 {
@@ -74,7 +74,7 @@ pub(crate) fn modify_numbers(fault: PatchFault) -> (u32, usize)
     }
 }
 
-/// Of a deletion that doesn't begin, with the number of acts that there is no room for.
+/// The number of a deletion that doesn't begin, with the number of acts needed where there is no room.
 pub(crate) fn retire_numbers(fault: RetireFault) -> (u32, usize)
     ensures { (result.0 ≡ retire_number fault) × (result.1 ≡ retire_wanted fault) }
 {

@@ -38,7 +38,7 @@ pub(crate) fn patch_number(fault: ModifyFault) -> u32
     }
 }
 
-/// What a region in which no chunk stands answers to a patch of a valid chunk that it is given.
+/// Creates a valid chunk in a region without chunks, and returns the region's answer to a patch of it.
 fn answer_in<A: Acts + Drop>(
     region: &mut RegionOf<A>,
     vetted: Vetted,
@@ -60,7 +60,7 @@ fn answer_in<A: Acts + Drop>(
     }
 }
 
-/// Why a patch of a valid chunk isn't lawful, or none if it is. A region is made in which only this chunk stands, and is asked.
+/// Why a patch of a valid chunk isn't lawful, or none if it is: the answer of a new region that has only this chunk.
 fn answer(
     alloc: Global,
     vetted: Vetted,
@@ -81,7 +81,7 @@ fn answer(
     }
 }
 
-/// A copy of a valid chunk, and what is answered to a patch of it.
+/// Copies a valid chunk, and returns the answer to a patch of it.
 fn judge_patch(
     alloc: Global,
     base: u32,
@@ -127,13 +127,13 @@ fn lawful(acts: &mut [NcAct], base: u32, code: &[u8], at: u32, new: &[u8]) -> Nc
     }
 }
 
-/// Vets a chunk as it stands in a text, judges a patch of it, and writes the acts by which the patch is made while threads are running:
-/// for each instruction whose bytes change, rising, a stop at its first byte, a settling, its further bytes, a settling, its first
-/// byte; for one of a single byte only that.
+/// Vets a chunk as it is in a text, judges a patch of it, and writes the acts that make the patch while threads are running:
+/// for each instruction whose bytes change, in ascending order, a stop at its first byte, a settling, its further bytes, a
+/// settling, its first byte; for an instruction of one byte only that byte.
 ///
-/// The faults are 1 to 8 for the chunk itself, as in `nc_host_vet`; 16 to 21 for the patch; and 9 where the patch is lawful and the
-/// buffer has not three times as many places as there are new bytes, with `count` for how many are wanted. The buffer is as it was on
-/// each refusal. A call costs what it costs to make a region and to create the chunk there; the memory is given back.
+/// The faults are 1 to 8 for the chunk itself, as in `nc_host_vet`; 16 to 21 for the patch; and 9 where the patch is lawful
+/// and the buffer has fewer than three elements for each new byte, with the number needed in `count`. A refusal leaves the
+/// buffer as it was. A call costs as much as making a region and creating the chunk in it; the memory is given back.
 #[unsafe(no_mangle)]
 pub extern "C" fn nc_host_patch(
     alloc: Global,
@@ -147,10 +147,11 @@ pub extern "C" fn nc_host_patch(
     ensures outcome { IsPatchOutcome base limit code.now at new.now (length acts.old) result.fault result.at }
     // An accepted patch is lawful in every region in which the chunk is live.
     ensures anywhere { result.fault ≡ 0 → (r : Region) → HasLiveCode r base limit code.now → IsPatch r at new.now }
-    // And a patch of the chunk that is lawful in one of them is refused only for lack of memory, or of room.
+    // A patch of the chunk that is lawful in one of these regions is refused only for lack of memory, or of room.
     ensures exact { (r : Region) → HasLiveCode r base limit code.now → base ≤ at → at < base + length code.now → IsPatch r at new.now
         → (result.fault ≡ 0) ⊎ ((result.fault ≡ 8) ⊎ (result.fault ≡ 9)) }
-    // Exactly the acts of a patch and their settlings, in their order, for any text in which the chunk's bytes stand there.
+    // Exactly the acts of a patch and their settlings, in their order, for any text that has the chunk's bytes from the base
+    // on.
     ensures written { result.fault ≡ 0 → (text : List ℕ) (news : List Piece) → AreBytesAt text base code.now → AreBytesOf new.now news
         → (result.count ≡ length (log_of_modify text at news))
         × (acts.new ≡ over (map entry_of (log_of_modify text at news)) acts.old) }

@@ -1,18 +1,18 @@
-//! What the calls on handles answer: structs that C reads as they are.
+//! The results of the calls on handles: structs with the layout that C reads.
 
 ghost use Rattle.std.specs.Prelude.{◌≡◌};
 ghost use Rattle.nc_host.specs.Looks.{no_chunk, no_place};
 ghost use Rattle.nc_host.specs.Walked.{no_walk};
 
-/// A verdict on a change, and how many acts it has.
+/// A verdict on a change, and the number of its acts.
 #[repr(C)]
 #[derive(Clone, Copy)]
 pub struct NcChange {
     /// 0, or the number of the fault.
     pub fault: u32,
-    /// The address where the fault stands, for a fault that has one, else 0.
+    /// The address of the fault, for a fault that has one, else 0.
     pub at: u32,
-    /// How many acts were written; for the fault that there is no room, how many there would be at most; else 0.
+    /// The number of acts written; where there is no room, the number there would be at most; else 0.
     pub count: usize,
 }
 
@@ -26,13 +26,13 @@ pub struct NcStamp {
     pub fault: u32,
 }
 
-/// How many there are.
+/// A number of chunks.
 #[repr(C)]
 #[derive(Clone, Copy)]
 pub struct NcCount {
     /// 0, or the number of the fault.
     pub fault: u32,
-    /// How many, or 0.
+    /// The number, or 0.
     pub count: u32,
 }
 
@@ -40,19 +40,19 @@ pub struct NcCount {
 #[repr(C)]
 #[derive(Clone, Copy)]
 pub struct NcChunk {
-    /// Of a retired chunk the stamp, else 0.
+    /// The stamp of a retired chunk, else 0.
     pub stamp: u64,
     /// 0, or the number of the fault; then all other fields are 0.
     pub fault: u32,
     /// The address of its first byte.
     pub base: u32,
-    /// Its bytes.
+    /// The number of its bytes.
     pub length: u32,
     /// 1 for a retired chunk, else 0.
     pub retired: u32,
 }
 
-/// What stands at an address.
+/// The byte and the mark at an address.
 #[repr(C)]
 #[derive(Clone, Copy)]
 pub struct NcPlace {
@@ -68,12 +68,12 @@ pub struct NcPlace {
 #[repr(C)]
 #[derive(Clone, Copy)]
 pub struct NcWalk {
-    /// How many places were written; for the fault that there is no room, how many there are; else 0.
+    /// The number of places written; where there is no room, the number there are; else 0.
     pub count: usize,
     /// 0, or the number of the fault.
     pub fault: u32,
-    /// How it ended: 1 at a stop, 2 below the region, 3 by an indirect jump or call to the limit or above it, 4 where no choice was left;
-    /// 0 where there is a fault.
+    /// How it ended: 1 at a stop, 2 below the region, 3 by an indirect jump or call to the limit or above it, 4 when no choice
+    /// was left; 0 where there is a fault.
     pub end: u32,
 }
 
@@ -112,7 +112,7 @@ pub(crate) fn no_place(fault: u32) -> NcPlace
     }
 }
 
-/// A change that isn't made, for this reason; where the reason is that there is no room, `count` says how much is wanted.
+/// A result without an address: 0 or the number of a fault, and the count.
 pub(crate) fn no_change(fault: u32, count: usize) -> NcChange
     ensures { result ≡ record { fault = fault; at = 0; count = count } }
 {

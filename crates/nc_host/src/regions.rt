@@ -1,4 +1,4 @@
-//! Regions by handles: made, freed, and their seats given.
+//! Making and freeing regions by handles, and giving out their seats.
 
 ghost use Rattle.std.specs.Prelude.{◌≡◌, ◌<◌, ◌≤◌, ◌⊎◌, None, Some, IfOk, IfErr};
 ghost use Rattle.nc_gens.specs.Seen.{PassState};
@@ -26,7 +26,7 @@ fn make(alloc: Global, bundles: u32, seats: u32) -> Result<Box<Held, Global>, Ne
     }
 }
 
-/// Makes a region of this many bundles with this many seats, of which none is given, for a handle that has nothing.
+/// Makes a region of this many bundles with this many seats, none of them given out, in an empty handle.
 #[unsafe(no_mangle)]
 pub extern "C" fn nc_region_new(
     alloc: Global,
@@ -36,7 +36,7 @@ pub extern "C" fn nc_region_new(
 ) -> u32
     ensures made { result ≡ 0 → (region.old.value ≡ None) × ((h : HeldState) × (region.new.value ≡ Some h) × IsFirst bundles seats h) }
     ensures unchanged { 0 < result → region.new.value ≡ region.old.value }
-    // A handle that has something is refused; else each refusal comes where it is due.
+    // A handle that isn't empty is refused; else each refusal is returned when it is due.
     ensures refused { 0 < result → ((result ≡ 33) × ((h : HeldState) × (region.old.value ≡ Some h)))
         ⊎ ((region.old.value ≡ None) × ((f : NewFault) × MayRefuseNew bundles seats f × (result ≡ new_number f))) }
 {
@@ -53,7 +53,7 @@ pub extern "C" fn nc_region_new(
     }
 }
 
-/// Frees a region. Seats that were given stay as they are, and are left one by one. A handle that has nothing stays so.
+/// Frees a region. Seats that were given out stay as they are until each is left. An empty handle stays empty.
 #[unsafe(no_mangle)]
 pub extern "C" fn nc_region_free(alloc: Global, region: &mut NcRegion)
     ensures { region.new.value ≡ None }
@@ -61,13 +61,14 @@ pub extern "C" fn nc_region_free(alloc: Global, region: &mut NcRegion)
     drop(region.take(alloc));
 }
 
-/// Gives a seat that nobody has been given yet, for a handle that has nothing. A refusal leaves every pass where it was.
+/// Gives a seat that hasn't been given out yet to an empty handle. A refusal leaves every pass where it was.
 #[unsafe(no_mangle)]
 pub extern "C" fn nc_region_seat(alloc: Global, region: &mut NcRegion, seat: &mut NcSeat) -> u32
     ensures given { result ≡ 0 → (seat.old.value ≡ None) × ((guest : PassState) × (seat.new.value ≡ Some guest)
         × IsDone region.old.value region.new.value (λ old new. HasGiven old new guest)) }
     ensures unchanged { 0 < result → (region.new.value ≡ region.old.value) × (seat.new.value ≡ seat.old.value) }
-    // A handle that has something is refused, and one that has nothing. Else there is no seat left, or no memory for the one that is.
+    // A seat's handle that isn't empty is refused, as is an empty region's handle. Else no seat is left, or there is no memory
+    // for it.
     ensures refused { 0 < result → ((result ≡ 33) × ((guest : PassState) × (seat.old.value ≡ Some guest)))
         ⊎ (((result ≡ 32) × (region.old.value ≡ None))
         ⊎ ((h : HeldState) × (region.old.value ≡ Some h)

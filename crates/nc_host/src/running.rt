@@ -13,7 +13,7 @@ use crate::region_answers::{NcChange, no_change};
 use nc_handle::{NcAct, NcRegion, RunsFault};
 use std::alloc::Global;
 
-/// What is answered, where this number stands for no chunk.
+/// The result of a call for runs, with this number where there is no chunk.
 fn answer(told: Result<usize, RunsFault>, none: u32) -> NcChange
     ensures told { IfOk told (λ count. result ≡ record { fault = 0; at = 0; count = count }) }
     ensures refused { IfErr told (λ f. result ≡ record { fault = runs_number none f; at = 0; count = runs_wanted f }) }
@@ -25,8 +25,8 @@ fn answer(told: Result<usize, RunsFault>, none: u32) -> NcChange
     }
 }
 
-/// The acts of the creation of a live chunk with the bytes that stand there now, as runs; directly after the chunk was created these are
-/// the acts of that call. Two for each bundle of the chunk, and two more, are written into the buffer. Nothing changes.
+/// Writes the acts that would create a live chunk with its present bytes, as runs: two for each of its bundles, and two more.
+/// Directly after the chunk was created these are the acts of that call. The region doesn't change.
 #[unsafe(no_mangle)]
 pub extern "C" fn nc_region_creation_runs(
     alloc: Global,
@@ -38,7 +38,7 @@ pub extern "C" fn nc_region_creation_runs(
     ensures told { result.fault ≡ 0 → (h : HeldState) × (region.old.value ≡ Some h)
         × ((c : Chunk) × IsLiveAt h.region.chunks base c × AreCreationRuns h c acts.old acts.new result.count) }
     ensures untouched { 0 < result.fault → acts.new ≡ acts.old }
-    // Each refusal comes exactly where it is due.
+    // Each refusal is returned exactly when it is due.
     ensures at { result.at ≡ 0 }
     ensures refused { 0 < result.fault → IsRefusal region.old.value (λ h f. MayRefuseCreationRuns h base (length acts.old) f)
         (runs_number 41) runs_wanted result.fault result.count }
@@ -51,8 +51,8 @@ pub extern "C" fn nc_region_creation_runs(
     answer(told, NO_CHUNK)
 }
 
-/// The acts of the deletion that is under way, as runs: two for each bundle of its chunk, and two more, are written into the buffer.
-/// Nothing changes.
+/// Writes the acts of the deletion that is under way, as runs: two for each bundle of its chunk, and two more. The region
+/// doesn't change.
 #[unsafe(no_mangle)]
 pub extern "C" fn nc_region_deletion_runs(
     alloc: Global,
@@ -63,7 +63,7 @@ pub extern "C" fn nc_region_deletion_runs(
     ensures told { result.fault ≡ 0 → (h : HeldState) × (region.old.value ≡ Some h)
         × ((c : Chunk) × (h.begun ≡ Some c) × AreDeletionRuns h c acts.old acts.new result.count) }
     ensures untouched { 0 < result.fault → acts.new ≡ acts.old }
-    // Each refusal comes exactly where it is due.
+    // Each refusal is returned exactly when it is due.
     ensures at { result.at ≡ 0 }
     ensures refused { 0 < result.fault → IsRefusal region.old.value (λ h f. MayRefuseDeletionRuns h (length acts.old) f)
         (runs_number 38) runs_wanted result.fault result.count }

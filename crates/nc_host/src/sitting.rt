@@ -8,7 +8,7 @@ use crate::numbers::NOTHING;
 use nc_handle::NcSeat;
 use std::alloc::Global;
 
-/// The seat's thread is outside the region: it checks in. It takes no lock and no memory, and never waits.
+/// Checks in for a seat whose thread is outside the region. It takes no lock and no memory, and never waits.
 #[unsafe(no_mangle)]
 pub extern "C" fn nc_seat_check_in(alloc: Global, seat: &mut NcSeat) -> u32
     ensures checked_in { result ≡ 0 → IsDone seat.old.value seat.new.value HasCheckedIn }
@@ -22,7 +22,7 @@ pub extern "C" fn nc_seat_check_in(alloc: Global, seat: &mut NcSeat) -> u32
     0
 }
 
-/// The seat's thread is outside for good. A handle that has nothing stays so.
+/// Leaves a seat whose thread is outside the region for good. An empty handle stays empty.
 #[unsafe(no_mangle)]
 pub extern "C" fn nc_seat_leave(alloc: Global, seat: &mut NcSeat)
     ensures { seat.new.value ≡ None }

@@ -37,7 +37,7 @@ fn keep(alloc: Global, base: u32, limit: u32, code: &[u8]) -> Result<Box<Kept, G
     }
 }
 
-/// Vets a chunk for a handle that has nothing: the library keeps a copy of the bytes, with their marks. No region is looked at.
+/// Vets a chunk into an empty handle: the library keeps a copy of the bytes, with their marks. No region is read.
 #[unsafe(no_mangle)]
 pub extern "C" fn nc_vetted_new(
     alloc: Global,
@@ -48,7 +48,7 @@ pub extern "C" fn nc_vetted_new(
 ) -> NcVerdict
     ensures vetted { result.fault ≡ 0 → (vetted.old.value ≡ None) × HoldsVetted base limit code.now vetted.new.value }
     ensures unchanged { 0 < result.fault → vetted.new.value ≡ vetted.old.value }
-    // A handle that has something is refused; else the fault is one that the chunk has.
+    // A handle that isn't empty is refused; else the fault is one that the chunk has.
     ensures refused { 0 < result.fault → ((result ≡ record { fault = 33; at = 0 }) × ((k : Kept) × (vetted.old.value ≡ Some k)))
         ⊎ ((vetted.old.value ≡ None) × IsChunkFault base limit code.now result.fault result.at) }
 {
@@ -68,7 +68,7 @@ pub extern "C" fn nc_vetted_new(
     }
 }
 
-/// Frees a vetted chunk that isn't loaded. A handle that has nothing stays so.
+/// Frees a vetted chunk that isn't loaded. An empty handle stays empty.
 #[unsafe(no_mangle)]
 pub extern "C" fn nc_vetted_free(alloc: Global, vetted: &mut NcVetted)
     ensures { vetted.new.value ≡ None }
@@ -76,7 +76,7 @@ pub extern "C" fn nc_vetted_free(alloc: Global, vetted: &mut NcVetted)
     drop(vetted.take(alloc));
 }
 
-/// Creates a vetted chunk in a region, and answers by numbers.
+/// Creates a vetted chunk in a region, and returns the result as numbers.
 fn load_kept(held: &mut Held, kept: &mut Kept, acts: &mut [NcAct]) -> NcChange
     ensures created { result.fault ≡ 0 → (v : MarkedChunk) × (kept.old.chunk ≡ Some v) × HasLoaded v held.old held.new
         × IsTold acts.old acts.new result.count (log_of_create v.base v.code) }
@@ -100,8 +100,8 @@ fn load_kept(held: &mut Held, kept: &mut Kept, acts: &mut [NcAct]) -> NcChange
     }
 }
 
-/// Creates a vetted chunk in a region, with its acts, as `nc_region_create` does; its handle has nothing then. A refusal leaves
-/// it in its handle.
+/// Creates a vetted chunk in a region, with its acts, as `nc_region_create` does; its handle is then empty. A refusal leaves
+/// the chunk in its handle.
 #[unsafe(no_mangle)]
 pub extern "C" fn nc_region_load(
     alloc: Global,
@@ -116,7 +116,7 @@ pub extern "C" fn nc_region_load(
     ensures untouched { 0 < result.fault → (acts.new ≡ acts.old) × (vetted.new.value ≡ vetted.old.value) }
     ensures unchanged { 0 < result.fault → (region.new.value ≡ region.old.value)
         ⊎ ((result.fault ≡ 8) × IsDone region.old.value region.new.value IsSameButPages) }
-    // Each refusal comes where it is due: there is no chunk or no region, or the region refuses the chunk.
+    // Each refusal is returned when it is due: there is no chunk or no region, or the region refuses the chunk.
     ensures at { result.at ≡ 0 }
     ensures refused { 0 < result.fault → ((result.fault ≡ 32) × (result.count ≡ 0) × ((vetted.old.value ≡ None) ⊎ ((region.old.value ≡ None)
         ⊎ ((k : Kept) × (vetted.old.value ≡ Some k) × (k.chunk ≡ None))))) ⊎ ((h : HeldState) × (k : Kept) × (v : MarkedChunk)

@@ -27,7 +27,7 @@ pub(crate) fn told(fault: VetFault) -> NcVerdict
     NcVerdict { fault, at }
 }
 
-/// The marks of a valid chunk, if there is room for one element for each; else the outcome.
+/// The marks of a valid chunk, if there is the room wanted; else the outcome.
 pub(crate) fn admit(
     alloc: Global,
     base: u32,
@@ -51,9 +51,9 @@ pub(crate) fn admit(
     }
 }
 
-/// Vets a chunk where it lies: 0 for a valid one, else its fault.
+/// Vets a chunk in place: 0 for a valid one, else its fault.
 ///
-/// The rules are those of `nc_vet::vet`, and so is the order of the faults. Memory is taken for the marks, and given back.
+/// The rules and the order of the faults are those of `nc_vet::vet`. Memory is taken for the marks, and given back.
 #[unsafe(no_mangle)]
 pub extern "C" fn nc_host_vet(alloc: Global, base: u32, limit: u32, code: &[u8]) -> NcVerdict
     ensures outcome { IsOutcome base limit code.now 0 0 result.fault result.at }

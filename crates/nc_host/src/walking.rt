@@ -61,8 +61,8 @@ fn walk_into(held: &Held, start: u32, choices: &[u32], places: &mut [u32]) -> Nc
     }
 }
 
-/// A walk from a bundle start of a region, as these choices pick its steps (`RegionOf::walk`): its places are written into a buffer, and
-/// nothing is executed. One place more than there are choices is room enough.
+/// Walks from a bundle start of a region, with its steps picked by these choices (`RegionOf::walk`), and writes the places
+/// into a buffer; nothing is executed. Room for one place more than there are choices is enough.
 #[unsafe(no_mangle)]
 pub extern "C" fn nc_region_walk(
     alloc: Global,

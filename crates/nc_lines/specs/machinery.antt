@@ -1,3 +1,3 @@
--- Machinery of the proofs, cited by no public contract: how far a run has come, and lines gathered to be vetted.
+-- Machinery of the proofs, cited by no public contract: the progress of a run, and lines gathered to be vetted.
 pub mod Progress
 pub mod Batch

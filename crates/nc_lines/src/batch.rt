@@ -18,7 +18,7 @@ pub(crate) struct Batch {
 }
 
 impl Batch {
-    /// No line yet; chunks are to be vetted for this limit.
+    /// An empty batch, whose chunks are to be vetted for this limit.
     pub fn new(alloc: Global, limit: u32) -> Batch
         ensures limit { result.limit ≡ limit }
         ensures empty { (result.named.items ≡ []) × (result.jobs.items ≡ []) }
@@ -32,7 +32,7 @@ impl Batch {
     }
 }
 
-/// A line is gathered and not answered: its verdict comes when all lines were read.
+/// A line is only gathered: its reply is written once all lines have been read.
 impl Responder for Batch {
     ghost answers = { Gathers };
 

@@ -5,16 +5,16 @@ use thiserror::Error;
 /// Why a run ended early.
 #[derive(Clone, Copy, Debug, PartialEq, Eq, Error)]
 pub enum ReplayFault {
-    /// The reader failed, or hadn't ended after 2^64 - 1 reads.
+    /// The reader failed, or had not ended after 2^64 - 1 reads.
     #[error("read failed")]
     ReadFailed,
-    /// The writer failed, or took no byte of some.
+    /// The writer failed, or accepted none of the bytes offered.
     #[error("write failed")]
     WriteFailed,
-    /// Memory for a line, its answer or the region wasn't there.
+    /// There was no memory for a line, its answer or the region.
     #[error("out of memory")]
     OutOfMemory,
-    /// The number of bundles isn't that of a region.
+    /// No region can have this number of bundles.
     #[error("bad size")]
     BadSize,
     /// The number of seats isn't in 1 to 256.

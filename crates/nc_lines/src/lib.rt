@@ -1,8 +1,8 @@
-//! Lines in, one reply line for each out; and lines of chunks that are only vetted.
+//! Lines in, one reply line out for each; and lines of chunks that are only vetted.
 //!
-//! [`answer_all`] reads lines of any length in pieces, and hands each to whatever replies to one line (a [`Responder`]).
-//! [`vet_lines`] vets the chunks that lines name, several at a time: `batch` gathers the lines, and `verdicts` writes what
-//! was found of them. [`words_of`] and its neighbours read what a line's words spell.
+//! [`answer_all`] reads lines of any length in pieces, and hands each line to a [`Responder`], which replies to it.
+//! [`vet_lines`] vets the chunks that lines name, several at a time: `batch` gathers the lines, and `verdicts` writes the
+//! verdicts. [`words_of`], [`address_of`] and [`placed_of`] parse the words of a line.
 #![tactic(auto)]
 
 mod batch;

@@ -1,4 +1,4 @@
-//! Bytes gathered into lines, each answered as it ends. No more is kept of a line than shows that it is too long.
+//! Bytes gathered into lines, each answered as soon as it ends. A line is kept up to the first byte beyond the limit.
 
 ghost use Rattle.std.specs.Prelude.{◌≡◌, ◌++◌, ◌<◌, ◌≤◌, ℕ, List, Option, OnOk, IfOk, length, take, slice_index};
 ghost use Rattle.nc_lines.specs.Lines.{kept_of};
@@ -10,10 +10,10 @@ use nc_output::write_out;
 use std::alloc::{AllocError, Global};
 use std::io::Write;
 
-/// The longest line that is read, in bytes, without its end.
+/// The most bytes that a line may have, without its line end.
 pub const LINE_LIMIT: usize = 1_048_576;
 
-/// Answers a line, of which `line` has what is kept, and then keeps nothing.
+/// Answers a line, whose kept part is in `line`, and then clears `line`.
 pub(crate) fn answer_line<S: Responder, W: Write>(
     alloc: Global,
     responder: &mut S,
@@ -36,7 +36,7 @@ pub(crate) fn answer_line<S: Responder, W: Write>(
     Ok(())
 }
 
-/// The place of the first end of a line, or how many bytes there are if none of them is one.
+/// The position of the first line end, or the number of bytes if there is none.
 fn first_end(bytes: &[u8]) -> usize
     ensures within { result ≤ length bytes.now }
     ensures open { IsOpen (take result bytes.now) }
@@ -50,7 +50,7 @@ fn first_end(bytes: &[u8]) -> usize
     bytes.len()
 }
 
-/// Adds what is to be kept of more bytes of a line.
+/// Adds more bytes of a line, as far as they are to be kept.
 fn keep(line: &mut Vec<u8>, part: &[u8]) -> Result<(), AllocError>
     ensures { OnOk result ((whole : List ℕ) → line.old.items ≡ kept_of whole → line.new.items ≡ kept_of (whole ++ part.now)) }
 {
@@ -59,8 +59,8 @@ fn keep(line: &mut Vec<u8>, part: &[u8]) -> Result<(), AllocError>
     line.extend_from_slice(&part[..count])
 }
 
-/// Takes the next bytes up to the first end of a line, or all of them, and answers the line if it has ended. The answer
-/// is how many bytes were taken.
+/// Takes the next bytes up to the first line end, or all of them, and answers the line if it has ended. Returns the number
+/// of bytes taken.
 fn feed_part<S: Responder, W: Write>(
     alloc: Global,
     responder: &mut S,
@@ -88,7 +88,7 @@ fn feed_part<S: Responder, W: Write>(
     }
 }
 
-/// Takes the next bytes, and answers each line as it ends.
+/// Takes the next bytes, and answers each line as soon as it ends.
 pub(crate) fn feed<S: Responder, W: Write>(
     alloc: Global,
     responder: &mut S,

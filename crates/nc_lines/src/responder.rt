@@ -1,17 +1,17 @@
-//! What answers one line of a script.
+//! The trait of types that answer lines.
 
 ghost use Rattle.std.specs.Prelude.{◌≡◌, ◌++◌, ℕ, List, OnOk};
 ghost use Rattle.nc_lines.specs.Lines.{kept_of};
 
 use std::alloc::AllocError;
 
-/// What answers one line, and goes on to its next state.
+/// Answers lines one at a time, and may change its state with each.
 pub trait Responder {
-    /// From old, this may be the answer to the line, and new is the state after it.
+    /// From the old state this may be the answer to the line, and the new state is the one after it.
     ghost answers: { Self → List ℕ → List ℕ → Self → Type 0 };
 
-    /// Adds the answer to a line to `out`, with its end, by what is kept of the line. After an error nothing is
-    /// promised of the state.
+    /// Adds the answer to a line, with its line end, to `out`, given the kept part of the line. After an error nothing is
+    /// promised about the state.
     fn answer(&mut self, kept: &[u8], out: &mut Vec<u8>) -> Result<(), AllocError>
         ensures { OnOk result ((line : List ℕ) → kept.now ≡ kept_of line → (reply : List ℕ)
             × (out.new.items ≡ out.old.items ++ reply) × answers self.old line reply self.new) };

@@ -1,4 +1,4 @@
-//! The lines of a reader, answered one after the other.
+//! The lines of a reader, answered one after another.
 
 ghost use Rattle.std.specs.Prelude.{◌≡◌, ◌≢◌, ◌++◌, ℕ, List, Option, OnOk, IfErr, IfSome, IsErrOf};
 ghost use Rattle.std.specs.Io.KnownBytes.{Consumes, IsAtEnd};
@@ -12,7 +12,7 @@ use crate::responder::Responder;
 use std::alloc::Global;
 use std::io::{Read, Write};
 
-/// Answers the last line, if it has no end.
+/// Answers the last line, if it has no line end.
 fn answer_rest<S: Responder, W: Write>(
     alloc: Global,
     responder: &mut S,
@@ -29,7 +29,7 @@ fn answer_rest<S: Responder, W: Write>(
     answer_line(alloc, responder, writer, line)
 }
 
-/// Answers the last line, if it has no end, and flushes.
+/// Answers the last line, if it has no line end, and flushes.
 fn finish<S: Responder, W: Write>(
     alloc: Global,
     responder: &mut S,
@@ -50,32 +50,32 @@ fn finish<S: Responder, W: Write>(
     }
 }
 
-/// Reads all lines and answers each, as soon as its end was read.
+/// Reads all lines and answers each as soon as its line end has been read.
 pub fn answer_all<S: Responder, R: Read, W: Write>(
     alloc: Global,
     responder: &mut S,
     reader: &mut R,
     writer: &mut W,
 ) -> Result<(), ReplayFault>
-    // The whole input was read, and exactly its answers were written.
+    // The whole input was read, and exactly the answers to its lines were written.
     ensures ok { OnOk result (IfSome (R.remaining reader.old) (λ input.
         IsAnswered S.answers responder.old responder.new (W.contents writer.old) (W.contents writer.new) (lines_of input))) }
     ensures read { OnOk result (IsAtEnd (R.remaining reader.new)) }
 
-    // A beginning of the answers was written.
+    // A prefix of the answers was written.
     ensures write_failed { IsErrOf result ReplayFault.WriteFailed → IfSome (R.remaining reader.old) (λ input.
         IsBegun S.answers responder.old (W.contents writer.old) (W.contents writer.new) (lines_of input)) }
 
-    // The answers to all lines whose end was read were written.
+    // Exactly the answers to the lines whose line end was read were written.
     ensures read_failed { IsErrOf result ReplayFault.ReadFailed → (front : List ℕ)
         × Consumes (R.remaining reader.old) (R.remaining reader.new) front
         × IsAnswered S.answers responder.old responder.new (W.contents writer.old) (W.contents writer.new) (ended_lines front) }
 
-    // The answers to all lines before the one that failed were written.
+    // Exactly the answers to the lines before the one that failed were written.
     ensures out_of_memory { IsErrOf result ReplayFault.OutOfMemory → IfSome (R.remaining reader.old) (λ input.
         IsCutShort S.answers responder.old (W.contents writer.old) (W.contents writer.new) (lines_of input)) }
 
-    // No other fault comes.
+    // No other fault is returned.
     ensures faults { IfErr result (λ fault. (fault ≢ ReplayFault.BadSize) × (fault ≢ ReplayFault.BadSeats)
         × (fault ≢ ReplayFault.BadWorkers)) }
 {

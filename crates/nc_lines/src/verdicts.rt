@@ -1,4 +1,4 @@
-//! Verdicts as lines.
+//! Verdicts as reply lines.
 
 ghost use Rattle.std.specs.Prelude.{◌≡◌, ◌++◌, ◌∷◌, Bool, List, ℕ, OnOk};
 ghost use Rattle.std.specs.Vec.Iter.{into_iter_items};
@@ -10,7 +10,7 @@ use nc_work::Verdict;
 use std::alloc::{AllocError, Global};
 use std::vec::IntoIter;
 
-/// Adds the reply to a line whose chunk has this verdict. Lack of memory is no verdict.
+/// Adds the reply to a line whose chunk has this verdict. Lack of memory is not a verdict: it is returned as an error.
 fn push_verdict(out: &mut Vec<u8>, verdict: Verdict) -> Result<(), AllocError>
     ensures { OnOk result ((limit base : ℕ) (bytes : List ℕ) → IsFound limit (base, bytes) verdict → (reply : List ℕ)
         × (out.new.items ≡ out.old.items ++ reply) × SaysVerdict limit base bytes reply) }
@@ -21,7 +21,7 @@ fn push_verdict(out: &mut Vec<u8>, verdict: Verdict) -> Result<(), AllocError>
     }
 }
 
-/// Adds the reply to the next line, which has the next verdict if it names a chunk.
+/// Adds the reply to the next line: the next verdict if it names a chunk, else `bad line`.
 fn push_reply(
     out: &mut Vec<u8>,
     is_named: bool,
@@ -36,12 +36,12 @@ fn push_reply(
     }
     match left.next() {
         Some(verdict) => push_verdict(out, verdict),
-        // this doesn't come: each chunk has its verdict
+        // this can't happen: each chunk has its verdict
         None => Ok(()),
     }
 }
 
-/// Adds the replies to lines, of which `named` says which name a chunk.
+/// Adds the replies to lines; `named` says which of them name a chunk.
 pub(crate) fn push_verdicts(
     out: &mut Vec<u8>,
     named: Vec<bool>,

@@ -22,10 +22,10 @@ use std::thread::Threads;
 
 /// Vets the chunks that lines name, by several workers, for a region of this many bundles.
 ///
-/// Each line is an address and bytes, as after `create` in a script. All lines are read before a chunk is vetted, and
-/// all chunks are vetted before a byte is written. Then comes, for each line in its order, `ok`, `refused` with the
-/// chunk's fault, or `bad line`. What is promised of bytes holds of a reader and a writer that tell theirs; nothing is
-/// promised of when a device fails.
+/// Each line is an address and bytes, as after `create` in a script. All lines are read before any chunk is vetted, and all
+/// chunks are vetted before any byte is written. The reply to each line, in order, is `ok`, `refused` with the chunk's fault,
+/// or `bad line`. The promises about bytes hold for a reader and a writer whose bytes are known; nothing is promised about
+/// when a device fails.
 pub fn vet_lines<R: Read, W: Write, G: Gate, T: Threads + Wait + Sync>(
     rt: &T,
     alloc: Global,
@@ -35,18 +35,18 @@ pub fn vet_lines<R: Read, W: Write, G: Gate, T: Threads + Wait + Sync>(
     workers: u32,
     gate: &G,
 ) -> Result<(), ReplayFault>
-    // The two numbers are tested first, in this order, before anything is read or written.
+    // The two numbers are checked first, in this order, before anything is read or written.
     ensures bad_size { IsErrOf result ReplayFault.BadSize ↔ ¬ IsRegionSize bundles }
     ensures bad_workers { IsErrOf result ReplayFault.BadWorkers ↔ (IsRegionSize bundles × ¬ AreWorkers workers) }
     ensures no_seats { IfErr result (λ fault. fault ≢ ReplayFault.BadSeats) }
     ensures untouched { ¬ (IsRegionSize bundles × AreWorkers workers) → (reader.new ≡ reader.old) × (writer.new ≡ writer.old) }
 
-    // The whole input was read, and exactly its verdicts were written.
+    // The whole input was read, and exactly the replies to its lines were written.
     ensures ok { OnOk result (IfSome (R.remaining reader.old) (λ input.
         HasVetted (limit_after bundles) (W.contents writer.old) (W.contents writer.new) (lines_of input))) }
     ensures read { OnOk result (IsAtEnd (R.remaining reader.new)) }
 
-    // A beginning of the verdicts was written.
+    // A prefix of the replies was written.
     ensures write_failed { IsErrOf result ReplayFault.WriteFailed → IfSome (R.remaining reader.old) (λ input.
         HasBegunVetted (limit_after bundles) (W.contents writer.old) (W.contents writer.new) (lines_of input)) }
 
@@ -120,7 +120,7 @@ fn gather<R: Read>(alloc: Global, batch: &mut Batch, reader: &mut R) -> Result<(
     ensures read { OnOk result (IsAtEnd (R.remaining reader.new)) }
     ensures faults { IfErr result (λ fault. (fault ≡ ReplayFault.ReadFailed) ⊎ (fault ≡ ReplayFault.OutOfMemory)) }
 {
-    // what is written for a gathered line: nothing
+    // nothing is written here: a gathered line has no reply
     let mut nowhere = Vec::new(alloc);
     match answer_all(alloc, batch, reader, &mut nowhere) {
         Ok(()) => Ok(()),

@@ -1,4 +1,4 @@
-//! The words of a line, and what they spell.
+//! The words of a line: addresses and bytes in hexadecimal.
 
 ghost use Rattle.std.specs.Prelude.{◌≡◌, IfOk, map};
 ghost use Rattle.std.specs.Option.{option_map};
@@ -9,14 +9,14 @@ use crate::lines::LINE_LIMIT;
 use hex::FromHexError;
 use std::alloc::{AllocError, Global};
 
-/// The words of a line, each between two spaces or at an end; two spaces beside each other have an empty word between them.
+/// The words of a line, separated by single spaces; two adjacent spaces have an empty word between them.
 pub fn words_of(alloc: Global, line: &[u8]) -> Result<Vec<&[u8]>, AllocError>
     ensures { IfOk result (λ words. map (λ word. word.now) words.items ≡ words_in line.now) }
 {
     line.split(|b| *b == b' ').collect(alloc)
 }
 
-/// An address or a choice of exactly eight hexadecimal digits of either case.
+/// An address, or a choice of a walk: exactly eight hexadecimal digits, in either case.
 pub fn address_of(word: &[u8]) -> Option<u32>
     ensures { result ≡ address_in word.now }
 {
@@ -27,7 +27,7 @@ pub fn address_of(word: &[u8]) -> Option<u32>
     }
 }
 
-/// Bytes of two hexadecimal digits each, at least one; or none, written `-`.
+/// One or more bytes of two hexadecimal digits each, or `-` for no bytes.
 fn bytes_of(alloc: Global, word: &[u8]) -> Result<Option<Vec<u8>>, AllocError>
     ensures { IfOk result (λ found. option_map (λ bytes. bytes.items) found ≡ bytes_in word.now) }
 {
@@ -44,7 +44,7 @@ fn bytes_of(alloc: Global, word: &[u8]) -> Result<Option<Vec<u8>>, AllocError>
     }
 }
 
-/// An address, and the bytes that are to stand there.
+/// The address and the bytes that two words denote.
 pub fn placed_of(alloc: Global, words: &[&[u8]]) -> Result<Option<(u32, Vec<u8>)>, AllocError>
     ensures { IfOk result (λ found. option_map address_and_bytes found ≡ placed_in (map (λ word. word.now) words.now)) }
 {
@@ -62,7 +62,7 @@ pub fn placed_of(alloc: Global, words: &[&[u8]]) -> Result<Option<(u32, Vec<u8>)
     }
 }
 
-/// The address and bytes of a line that names a chunk to be vetted, or nothing where it is a bad line.
+/// The address and bytes of a line that names a chunk to be vetted, or nothing if it is a bad line.
 pub(crate) fn placed_in_line(
     alloc: Global,
     line: &[u8],

@@ -20,7 +20,7 @@ with_line_end line = line ++ 10 ∷ []
 abbrev pub refused_words : List ℕ → List ℕ
 refused_words name = codes "refused " ++ name
 
--- an address as eight digits in lower case
+-- an address as eight lower-case hexadecimal digits
 abbrev pub address_digits : ℕ → List ℕ
 address_digits at = encode_lower (to_be_bytes w32 at)
 
@@ -43,11 +43,11 @@ place_of (Bare at) = Some at
 place_of (BadTarget at) = Some at
 place_of _ = None
 
--- an address after a space, if there is one
+-- a space and the address, if there is one
 abbrev pub address_after : Option ℕ → List ℕ
 address_after None = []
 address_after (Some at) = codes " " ++ address_digits at
 
--- a chunk's fault by its name, with its address if it has one
+-- the name of a chunk's fault, followed by its address if it has one
 abbrev pub fault_words : VetFault → List ℕ
 fault_words fault = fault_name fault ++ address_after (place_of fault)

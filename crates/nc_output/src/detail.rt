@@ -1,18 +1,18 @@
-//! How much is written of a source.
+//! How much is written about a source.
 
-/// How much is written of a source.
+/// How much is written about a source.
 #[derive(Clone, Copy, Debug, Drop, PartialEq, Eq)]
 pub enum Detail {
-    /// Nothing of an accepted source, and of a refused one only the verdict.
+    /// Nothing for an accepted source; only the verdict for a refused one.
     Brief,
-    /// The verdict of each source; of a refused one also the name of its fault's address, if it has a label, the bundle of the
-    /// fault, where a refused direct transfer goes, and what the fault means.
+    /// The verdict on each source; for a refused one also the name of the fault's address, if it has a label, the bundle of the
+    /// fault, the target of a refused direct transfer, and what the fault means.
     Usual,
-    /// As `Usual`, and of a refused source also each other fault that one reading of all of it finds, and how many there are.
+    /// As `Usual`; for a refused source also every other fault found by one reading of all of it, and the number of faults.
     All,
-    /// As `Usual`, and of an accepted source also the addresses outside of it that its direct transfers go to, with the number
-    /// of transfers to each.
+    /// As `Usual`; for an accepted source also the addresses outside it that its direct transfers target, with the number of
+    /// transfers to each.
     Calls,
-    /// The verdict of each source as an object of JSON, in one line.
+    /// The verdict on each source as a JSON object on one line.
     Object,
 }

@@ -1,8 +1,8 @@
-//! How a verdict is written, and how bytes get to a writer. Lines of chunks, scripts and reports on files all stand on this.
+//! Verdicts as text, and bytes passed to a writer. Lines of chunks, scripts and reports on files all use this crate.
 //!
-//! [`push_fault`] writes a refusal with its end, [`push_name`] a fault with its address, [`fault_name`] and [`place_of`] are the
-//! two parts of that. [`write_out`] writes all of some bytes; a [`Piped`] writer knows whether its reader is gone. [`Detail`] is
-//! how much is written of a file.
+//! [`push_fault`] adds a refusal with its line end, [`push_name`] a fault with its address; [`fault_name`] and [`place_of`]
+//! give these two parts. [`write_out`] writes all of the given bytes; a [`Piped`] writer reports whether its reader is gone.
+//! [`Detail`] says how much is written about a file.
 #![tactic(auto)]
 
 mod detail;

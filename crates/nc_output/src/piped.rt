@@ -1,4 +1,4 @@
-//! A writer that tells whether its reader is gone.
+//! A writer that reports whether its reader is gone.
 
 ghost use Rattle.std.specs.Prelude.{◌≡◌, ◌↔◌, true, false};
 ghost use Rattle.std.specs.Io.{WritesAtMost};
@@ -8,8 +8,8 @@ ghost use Rattle.nc_output.specs.Piped.{TellsClosed};
 
 use std::io::{Error, ErrorKind, Result, Write};
 
-/// Passes bytes on to a writer, and tells whether that failed because nobody reads them any more, as those of a closed
-/// pipe (`EPIPE`).
+/// Passes bytes on to a writer, and reports whether that failed because nobody reads them any more, as with a closed pipe
+/// (`EPIPE`).
 #[derive(Drop)]
 pub struct Piped<W> {
     writer: W,
@@ -17,7 +17,7 @@ pub struct Piped<W> {
 }
 
 impl<W> Piped<W> {
-    /// Passes bytes on to this writer, which hasn't failed yet.
+    /// Wraps a writer that has not failed yet.
     pub fn new(writer: W) -> Piped<W>
         ensures writer { result.writer ≡ writer }
         ensures open { result.is_closed ≡ false }
@@ -28,7 +28,7 @@ impl<W> Piped<W> {
         }
     }
 
-    /// Whether the last error was that nobody reads what is written.
+    /// Whether the last error was that the reader is gone.
     pub fn is_closed(&self) -> bool
         ensures { result ≡ self.now.is_closed }
     {
@@ -36,7 +36,7 @@ impl<W> Piped<W> {
     }
 }
 
-/// Whether an error says that nobody reads what is written.
+/// Whether an error says that the reader is gone.
 fn is_of_pipe(error: &Error) -> bool
     ensures { (result ≡ true) ↔ (error_kind error.now ≡ ErrorKind.BrokenPipe) }
 {

@@ -1,4 +1,4 @@
-//! How the verdict on a chunk that has a fault is written.
+//! The verdict on a chunk that has a fault, as text.
 
 ghost use Rattle.std.specs.Prelude.{◌≡◌, ◌≢◌, ◌++◌, ◌∷◌, [], IfOk, OnOk};
 ghost use Rattle.hex.specs.Hex.{encode_lower};
@@ -9,7 +9,7 @@ ghost use Rattle.nc_output.specs.Verdicts.{with_line_end};
 use nc_vet::VetFault;
 use std::alloc::AllocError;
 
-/// Adds the two digits of a byte.
+/// Adds a byte as two hexadecimal digits.
 pub fn push_byte(out: &mut Vec<u8>, byte: u8) -> Result<(), AllocError>
     ensures { OnOk result (out.new.items ≡ out.old.items ++ encode_lower (byte ∷ [])) }
 {
@@ -18,7 +18,7 @@ pub fn push_byte(out: &mut Vec<u8>, byte: u8) -> Result<(), AllocError>
     out.extend_from_slice(&digits)
 }
 
-/// Adds the eight digits of an address.
+/// Adds an address as eight hexadecimal digits.
 pub fn push_address(out: &mut Vec<u8>, at: u32) -> Result<(), AllocError>
     ensures { OnOk result (out.new.items ≡ out.old.items ++ address_digits at) }
 {
@@ -27,7 +27,7 @@ pub fn push_address(out: &mut Vec<u8>, at: u32) -> Result<(), AllocError>
     out.extend_from_slice(&digits)
 }
 
-/// A fault's name. Lack of memory is no verdict.
+/// A fault's name. Lack of memory is not a verdict: it is returned as an error.
 pub fn fault_name(fault: VetFault) -> Result<&'static [u8], AllocError>
     ensures { IfOk result (λ name. (fault ≢ vet.OutOfMemory) × (name.now ≡ fault_name fault)) }
 {
@@ -56,7 +56,7 @@ pub fn place_of(fault: VetFault) -> Option<u32>
     }
 }
 
-/// Adds an address after a space, if there is one.
+/// Adds a space and the address, if there is one.
 fn push_after(out: &mut Vec<u8>, at: Option<u32>) -> Result<(), AllocError>
     ensures { OnOk result (out.new.items ≡ out.old.items ++ address_after at) }
 {
@@ -67,7 +67,7 @@ fn push_after(out: &mut Vec<u8>, at: Option<u32>) -> Result<(), AllocError>
     push_address(out, at)
 }
 
-/// Adds a fault's name, with its address if it has one. Lack of memory is no verdict.
+/// Adds a fault's name, followed by its address if it has one. Lack of memory is not a verdict: it is returned as an error.
 pub fn push_name(out: &mut Vec<u8>, fault: VetFault) -> Result<(), AllocError>
     ensures { OnOk result ((fault ≢ vet.OutOfMemory) × (out.new.items ≡ out.old.items ++ fault_words fault)) }
 {
@@ -75,7 +75,7 @@ pub fn push_name(out: &mut Vec<u8>, fault: VetFault) -> Result<(), AllocError>
     push_after(out, place_of(fault))
 }
 
-/// Adds the refusal of a chunk that has a fault, with its end. Lack of memory is no verdict.
+/// Adds the refusal of a chunk for this fault, with its line end. Lack of memory is not a verdict: it is returned as an error.
 pub fn push_fault(out: &mut Vec<u8>, fault: VetFault) -> Result<(), AllocError>
     ensures { OnOk result ((fault ≢ vet.OutOfMemory) × (out.new.items ≡ out.old.items ++ with_line_end (refused_words (fault_words fault)))) }
 {

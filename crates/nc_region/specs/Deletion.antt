@@ -19,8 +19,8 @@ use Rattle.nc_region.specs.Region.{Region, IsLive}
 abbrev pub HasLive : List Chunk → ℕ → Type 0
 HasLive chunks base = (c : Chunk) × Contains chunks c × IsLive c.state × (c.base ≡ base)
 
--- The region after the live chunk of this base was deleted: its bytes are F4, it is retired in its place of the list,
--- and its marks stay. The stamp is the next generation, which is the keeper's now and at most 2^62. All else is as
+-- The region after the live chunk with this base was deleted: its bytes are F4, it is retired at its index in the list,
+-- and its marks stay. The stamp is the next generation, at most 2^62, and is the keeper's generation now. All else is as
 -- before. The acts told and entries logged are those of a deletion.
 pub record IsDeleted (old new : Region) (base stamp : ℕ) : Type 0 where
   pub index : ℕ
@@ -44,7 +44,8 @@ pub record IsDeleted (old new : Region) (base stamp : ℕ) : Type 0 where
   pub acts : Tells old.told new.told (acts_of_delete old.marked.marks base chunk.length)
   pub log : Logs old.logged new.logged (log_of_delete old.marked.marks base chunk.length)
 
--- when each refusal of `delete` comes: no live chunk has this base; or one has, and the generation is 2^62
+-- when `delete` may return each fault: `NoChunk` if no live chunk has this base; `GensFull` if one has and the generation
+-- is 2^62
 abbrev pub MayRefuseDelete : Region → ℕ → DeleteFault → Type 0
 MayRefuseDelete r base NoChunk = ¬ HasLive r.chunks base
 MayRefuseDelete r base GensFull = HasLive r.chunks base × (r.keeper.numbers.generation ≡ 2 ^ 62)
@@ -54,11 +55,11 @@ abbrev pub is_due : ℕ → ChunkState → Bool
 is_due least Live = false
 is_due least (Retired stamp) = nat_le stamp least
 
--- the chunks that such a number frees, by rising base
+-- the retired chunks with a stamp of at most this number, in the order of the list
 abbrev pub freed : ℕ → List Chunk → List Chunk
 freed least chunks = filter (λ (c : Chunk). is_due least c.state) chunks
 
--- the chunks that stay in the list
+-- the other chunks, which stay in the list: the live ones, and the retired ones with a stamp above this number
 abbrev pub kept : ℕ → List Chunk → List Chunk
 kept least chunks = filter (λ (c : Chunk). not (is_due least c.state)) chunks
 
@@ -71,10 +72,10 @@ unmarked marked (c ∷ rest) = unmarked (without_marks marked c.base c.length) r
 abbrev pub unmarkings : List Chunk → List Act
 unmarkings chunks = map (λ (c : Chunk). UnmarkSpan c.base c.length) chunks
 
--- The region after a reclaiming: the keeper has looked, and exactly the retired chunks with a stamp of at most its
--- least number, this many, have left the list. Their spans are unmarked except for bundle starts; no byte changed, and
--- all else is as before. The acts are one look and then one unmarking for each chunk freed, in ascending order, with no
--- settling.
+-- The region after a reclaim: the keeper has looked, and exactly the retired chunks with a stamp of at most its least
+-- number have been removed from the list; `count` is their number. Their spans are unmarked except for bundle starts; no
+-- byte changed, and all else is as before. The acts are one look and then one unmarking for each freed chunk, in
+-- ascending order, with no settling.
 pub record IsReclaimed (old new : Region) (count : ℕ) : Type 0 where
   pub looked : HasLooked old.keeper new.keeper
   pub chunks : new.chunks ≡ kept (least_number new.keeper.numbers) old.chunks

@@ -1,4 +1,4 @@
--- What holds of each member of a list.
+-- A property of each member of a list.
 use Rattle.std.specs.Prelude.{⊤, List, [], ◌∷◌}
 
 -- each member of the list has the property `P`

@@ -7,21 +7,23 @@ use Rattle.nc_region.specs.declared.acts.Entry.{Entry}
 use Rattle.nc_region.specs.declared.acts.Entry.TheVariants.{Did, Settled}
 use Rattle.nc_region.specs.Acts.{puts_where, is_start, is_inside, is_marked_at, is_unmarked_at}
 
--- if entries are logged still, they were logged before, and these entries have come to the end of the list
+-- if entries are still logged, they were logged before, and these entries have been appended to the list
 abbrev pub Logs : Option (List Entry) → Option (List Entry) → List Entry → Type 0
 Logs before after entries = IfSome after (λ log. IsSomeAnd before (λ earlier. log ≡ earlier ++ entries))
 
--- these acts, with no settling among them
+-- the log entries of these acts, with no settling among them
 abbrev pub unsettled : List Act → List Entry
 unsettled acts = map Did acts
 
--- the log of a creation: its acts, with one settling after the bytes that aren't bundle starts and before the marks
+-- the log of a creation: its acts, with one settling after the bytes that aren't at bundle starts are put and before the
+-- chunk is marked
 abbrev pub log_of_create : ℕ → List ℕ → List Entry
 log_of_create base code =
     unsettled (puts_where is_inside base code)
     ++ (Settled ∷ Did (MarkSpan base (length code)) ∷ unsettled (puts_where is_start base code))
 
--- the log of a deletion: its acts, with one settling after the F4 at the marked places and before those at the others
+-- the log of a deletion: its acts, with one settling after F4 is put at the marked places and before it is put at the
+-- others
 abbrev pub log_of_delete : List Mark → ℕ → ℕ → List Entry
 log_of_delete marks base len =
     unsettled (puts_where (is_marked_at marks) base (replicate len 0xF4))

@@ -7,17 +7,17 @@ use Rattle.nc_region.specs.declared.chunk.ChunkState.{ChunkState}
 use Rattle.nc_region.specs.declared.chunk.ChunkState.TheVariants.{Live, Retired}
 use Rattle.nc_region.specs.Each.{Each}
 
--- the span of a chunk, before other spans, if the chunk is retired
+-- these spans, with the chunk's span in front of them if the chunk is retired
 abbrev pub with_retired : Chunk → ChunkState → List RetiredSpan → List RetiredSpan
 with_retired c Live spans = spans
 with_retired c (Retired stamp) spans = record { base = c.base; length = c.length; stamp = stamp } ∷ spans
 
--- the spans of the retired chunks, in their order
+-- the spans of the retired chunks, in the order of the list
 abbrev pub retired_spans : List Chunk → List RetiredSpan
 retired_spans [] = []
 retired_spans (c ∷ rest) = with_retired c c.state (retired_spans rest)
 
--- the span of each retired chunk is quiet: all its bytes are F4, and no state that a mark outside it stands for has a
--- step into it, except to a bundle start
+-- the span of each retired chunk is quiet: all its bytes are F4, and no marked state outside it has a step into it, except
+-- to a bundle start
 abbrev pub AreQuiet : MarkedText → List Chunk → Type 0
 AreQuiet marked chunks = Each (IsQuiet marked.bytes marked.marks) (retired_spans chunks)

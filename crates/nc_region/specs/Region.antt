@@ -21,8 +21,9 @@ use Rattle.nc_region.specs.declared.fault.CreateFault.TheVariants.{WrongLimit, O
 use Rattle.nc_region.specs.Chunks.{HasGoodSpan}
 use Rattle.nc_region.specs.Each.{Each}
 
--- what contracts see of a region: bytes and marks, the pages that are made, the chunks by ascending base, the keeper,
--- the acts told so far, and these with the settlings among them, while they are told and logged
+-- What contracts see of a region: bytes and marks, which pages are made, the chunks by ascending base, the keeper, the
+-- acts told so far, and the entries logged so far, which are acts and settlings. The last two are `None` where nothing is
+-- told or logged.
 pub record Region : Type 0 where
   pub marked : MarkedText
   pub made : List Bool
@@ -31,7 +32,7 @@ pub record Region : Type 0 where
   pub told : Option (List Act)
   pub logged : Option (List Entry)
 
--- what contracts see of a `Plain`: bytes and marks, the pages that are made, and the keeper
+-- what contracts see of a `Plain`: bytes and marks, which pages are made, and the keeper
 pub record PlainState : Type 0 where
   pub marked : MarkedText
   pub made : List Bool
@@ -46,12 +47,13 @@ IsLive (Retired stamp) = ⊥
 abbrev pub IsInChunk : Chunk → ℕ → Type 0
 IsInChunk c at = (c.base ≤ at) × (at < c.base + c.length)
 
--- the chunks ascend from a place on, without overlap
+-- the chunks begin at or above this place, in ascending order and without overlap
 abbrev pub IsRising : ℕ → List Chunk → Type 0
 IsRising from [] = ⊤
 IsRising from (c ∷ rest) = (from ≤ c.base) × IsRising (c.base + c.length) rest
 
--- the chunk's span has the bytes and the marks of a valid chunk of its base, for the text's limit (`IsValid` of nc_vet)
+-- the chunk's span has the bytes and marks of a valid chunk of its base and length, for the text's limit (`IsValid` of
+-- nc_vet)
 pub record HoldsValid (marked : MarkedText) (c : Chunk) : Type 0 where
   pub vetted : vet.MarkedChunk
   pub valid : IsValid vetted
@@ -61,8 +63,8 @@ pub record HoldsValid (marked : MarkedText) (c : Chunk) : Type 0 where
   pub bytes_are : (at : ℕ) → IsInChunk c at → byte_at marked.bytes at ≡ slice_index vetted.code (at - c.base)
   pub marks_are : (at : ℕ) → IsInChunk c at → mark_at marked.marks at ≡ slice_index_or vetted.marks (at - c.base) Unmarked
 
--- What every region keeps: the text is closed, the chunks ascend and have good spans, and live ones hold valid chunks.
--- Outside live chunks all bytes are F4, and outside all chunks only bundle starts are marked.
+-- The invariant of a region: the text is closed, the chunks ascend without overlap and have good spans, and live ones hold
+-- valid code (`HoldsValid`). Outside live chunks all bytes are F4, and outside all chunks only bundle starts are marked.
 pub record IsRegion (marked : MarkedText) (chunks : List Chunk) : Type 0 where
   pub whole : IsText marked
   pub rising : IsRising 0x10000 chunks
@@ -73,7 +75,7 @@ pub record IsRegion (marked : MarkedText) (chunks : List Chunk) : Type 0 where
   pub unused : (at : ℕ) → InRegion marked.bytes at → Each (λ (c : Chunk). IsInChunk c at → ⊥) chunks
       → mark_at marked.marks at ≡ unused_mark at
 
--- each place of each listed chunk is ready; every region keeps this too
+-- each place of each chunk of the list is ready; this too is an invariant of a region
 abbrev pub AreChunksReady : List Bool → List Chunk → Type 0
 AreChunksReady made chunks = Each (λ (c : Chunk). AreReady made c.base c.length) chunks
 
@@ -89,11 +91,11 @@ IsAboveAll base chunks = Each (λ (d : Chunk). d.base + d.length ≤ base) chunk
 abbrev pub IsBelowAll : ℕ → List Chunk → Type 0
 IsBelowAll end chunks = Each (λ (d : Chunk). end ≤ d.base) chunks
 
--- a chunk of this span keeps the list ascending where it is inserted at index `k`
+-- a chunk with this span can be inserted at index `k`: the list stays ascending and without overlap
 abbrev pub FitsAt : ℕ → ℕ → List Chunk → ℕ → Type 0
 FitsAt base len chunks k = (k ≤ length chunks) × IsAboveAll base (take k chunks) × IsBelowAll (base + len) (drop k chunks)
 
--- some chunk of the list has a place of the span
+-- some chunk of the list overlaps the span
 abbrev pub Meets : ℕ → ℕ → List Chunk → Type 0
 Meets base len [] = ⊥
 Meets base len (d ∷ rest) = ((base < d.base + d.length) × (d.base < base + len)) ⊎ Meets base len rest
@@ -102,11 +104,11 @@ Meets base len (d ∷ rest) = ((base < d.base + d.length) × (d.base < base + le
 abbrev pub IsInserted : List Chunk → List Chunk → Chunk → Type 0
 IsInserted old new c = (k : ℕ) × FitsAt c.base c.length old k × (new ≡ insert old k c)
 
--- a vetted chunk in the list
+-- the list's entry for a vetted chunk, which is live
 abbrev pub live_chunk : vet.MarkedChunk → Chunk
 live_chunk v = record { base = v.base; length = length v.code; state = Live }
 
--- The region after a chunk was created: its span has the chunk's code and marks, and the list has the chunk. Pages of
+-- The region after a chunk was created: its span has the chunk's code and marks, and the chunk is in the list. Pages of
 -- the span may have been made. All else is as before, except for the acts told and logged.
 pub record IsCreated (old new : Region) (v : vet.MarkedChunk) : Type 0 where
   pub bytes : new.marked.bytes ≡ with_span old.marked.bytes (v.base - 0x10000) v.code
@@ -121,14 +123,14 @@ pub record IsCreated (old new : Region) (v : vet.MarkedChunk) : Type 0 where
     logged = new.logged;
   }
 
--- the region after a refused creation: as before, but where memory was refused, pages of the span may have been made
+-- the region after a refused creation: as before, except that pages of the span may have been made if memory ran out
 abbrev pub IsRefused : Region → Region → vet.MarkedChunk → CreateFault → Type 0
 IsRefused old new v WrongLimit = new ≡ old
 IsRefused old new v Occupied = new ≡ old
 IsRefused old new v OutOfMemory = (new ≡ record old { made = new.made }) × GetsReady old.made new.made v.base (length v.code)
 
--- when each refusal of `create` comes: the limits differ; they agree, and the span meets a chunk; they agree, it meets
--- none, and memory ran out
+-- when `create` may return each fault: `WrongLimit` if the limits differ; `Occupied` if they agree and the span overlaps a
+-- chunk; `OutOfMemory` only if they agree and it overlaps none
 abbrev pub MayRefuse : Region → vet.MarkedChunk → CreateFault → Type 0
 MayRefuse r v WrongLimit = v.limit ≢ limit_of r.marked.bytes
 MayRefuse r v Occupied = (v.limit ≡ limit_of r.marked.bytes) × Meets v.base (length v.code) r.chunks

@@ -1,4 +1,4 @@
--- Walks through a text: which states a list of choices leads over, and how it ends.
+-- Walks through a text: the states through which a list of choices leads, and how the walk ends.
 use Rattle.std.specs.Prelude.{◌≡◌, ℕ, ◌-◌, ◌%◌, ◌<◌, ◌≤◌, ◌==◌, ⊤, List, [], ◌∷◌, map, Some, None, IsTrue, IsSomeAnd, if◌then◌else◌}
 use Rattle.nc_decode.specs.declared.instruction.Instr.{Instr}
 use Rattle.nc_decode.specs.declared.instruction.Flow.{Flow}
@@ -17,8 +17,8 @@ use Rattle.nc_region.specs.declared.trace.End.TheVariants.{Stop, Trampoline, Bey
 abbrev pub bundle_of : ℕ → ℕ
 bundle_of choice = choice - choice % 32
 
--- Of the steps of an instruction, the one that a choice picks: at a branch 0 falls through and every other choice goes
--- to the target; an indirect transfer goes to the bundle start that the choice names. Elsewhere there is one step.
+-- The choice picks this step of the instruction: at a branch 0 falls through and any other choice goes to the target; an
+-- indirect transfer goes to the bundle start that the choice names. Any other instruction has at most one step.
 abbrev pub Picks : Flow → Instr → State → ℕ → State → Type 0
 Picks Branch i now choice next = next ≡ state (if choice == 0 then behind i now.place else target i now.place) None
 Picks IndirectJump i now choice next = next ≡ state (bundle_of choice) None
@@ -32,11 +32,11 @@ pub record Moves (text : List ℕ) (now : State) (choice : ℕ) (next : State) :
   pub step : Step text now next
   pub picked : Picks instr.flow instr now choice next
 
--- an instruction that goes nowhere stands there
+-- the state is at an instruction of the region that goes nowhere
 abbrev pub StopsAt : List ℕ → State → Type 0
 StopsAt text now = InRegion text now.place × IsSomeAnd (instruction_at text now.place) (λ i. i.flow ≡ flow.Stop)
 
--- neither in the trampoline zone nor at such an instruction
+-- the state is neither in the trampoline zone nor at an instruction that goes nowhere
 abbrev pub GoesOn : List ℕ → State → Type 0
 GoesOn text now = (0x10000 ≤ now.place) × ¬ StopsAt text now
 
@@ -45,8 +45,8 @@ abbrev pub LeavesBy : List ℕ → State → ℕ → Type 0
 LeavesBy text now choice = IsSomeAnd (instruction_at text now.place) (λ i. IsTrue (is_indirect i.flow))
     × (limit_of text ≤ bundle_of choice)
 
--- How a walk ends in a state, with these choices left: in the trampoline zone, at a stop, for lack of a choice, or by
--- an indirect transfer to the limit or above it; the first of these in this order.
+-- How a walk ends in a state with these choices left: in the trampoline zone, at an instruction that goes nowhere, for
+-- lack of a choice, or by an indirect transfer to the limit or above it; the first of these that applies.
 abbrev pub EndsBy : List ℕ → State → List ℕ → End → Type 0
 EndsBy text now choices Trampoline = now.place < 0x10000
 EndsBy text now choices Stop = StopsAt text now
@@ -54,15 +54,16 @@ EndsBy text now choices More = GoesOn text now × (choices ≡ [])
 EndsBy text now [] Beyond = ⊥
 EndsBy text now (choice ∷ choices) Beyond = GoesOn text now × LeavesBy text now choice
 
--- from a state, these choices lead over these states to this end
+-- from a state, these choices lead through these states to this end
 abbrev pub Walks : List ℕ → State → List ℕ → List State → End → Type 0
 Walks text now choices [] end = EndsBy text now choices end
 Walks text now [] (next ∷ rest) end = ⊥
 Walks text now (choice ∷ choices) (next ∷ rest) end = GoesOn text now × Moves text now choice next × Walks text next choices rest end
 
 -- The trace of a walk from a place with nothing masked: the places of its states, and its end. At a branch the choice 0
--- falls through and every other goes to the target; an indirect transfer goes to the bundle start that the choice
--- names. The end is the first that applies: trampoline, stop, no choice left, or a transfer to the limit or above.
+-- falls through and any other goes to the target; an indirect transfer goes to the bundle start that the choice names. The
+-- end is the first that applies: in the zone, at an instruction that goes nowhere, no choice left, or a transfer to the
+-- limit or above.
 pub record IsTrace (text : List ℕ) (start : ℕ) (choices places : List ℕ) (end : End) : Type 0 where
   pub states : List State
   pub walks : Walks text (state start None) choices states end
@@ -78,11 +79,11 @@ abbrev pub IsSafeWalk : List ℕ → ℕ → List ℕ → End → Type 0
 IsSafeWalk text start choices end =
     (states : List State) → Walks text (state start None) choices states end → AllSafe text (state start None ∷ states)
 
--- a walk may begin there: at a bundle start of the region
+-- a walk may begin at this place: it is a bundle start of the region
 abbrev pub IsWalkStart : List ℕ → ℕ → Type 0
 IsWalkStart text start = InRegion text start × IsBundleStart start
 
--- when each refusal of a walk comes: `NotBundle` where none may begin, lack of memory only where one may
+-- when `walk` may return each fault: `NotBundle` if no walk may begin at this place, `OutOfMemory` only if one may
 abbrev pub MayRefuseWalk : List ℕ → ℕ → WalkFault → Type 0
 MayRefuseWalk text start NotBundle = ¬ IsWalkStart text start
 MayRefuseWalk text start OutOfMemory = IsWalkStart text start

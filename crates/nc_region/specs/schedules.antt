@@ -1,4 +1,4 @@
--- Schedules: what may happen while threads run, one event at a time. Nothing here knows of chunks.
+-- Schedules: what can happen while threads run, one event at a time. Nothing here refers to chunks.
 pub mod Spans
 pub mod Views
 pub mod World

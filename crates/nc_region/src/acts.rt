@@ -1,4 +1,4 @@
-//! The text and the generations behind a region, by its acts.
+//! The acts through which a region uses its text and its generations.
 
 ghost use Rattle.std.specs.Prelude.{◌≡◌, ◌+◌, ◌%◌, ◌^◌, ◌<◌, ◌≤◌, ◌↔◌, ℕ, List, [], ◌∷◌, Option, length, take, All, IsOk, IfOk, IfErr};
 ghost use Rattle.std.specs.Prelude.{IsTrue, OnOk, OnErr, Bool, false};
@@ -26,13 +26,13 @@ use nc_text::TextFault;
 /// One atomic change that a region makes, or one look at its generations.
 #[derive(Clone, Copy, Debug, PartialEq, Eq)]
 pub enum Act {
-    /// At this address this byte was put.
+    /// This byte was put at this address.
     Put(u32, u8),
-    /// A span of this many places was marked, from this address on.
+    /// The span of this many places from this address on was marked.
     MarkSpan(u32, u32),
-    /// A span of this many places was unmarked, from this address on.
+    /// The span of this many places from this address on was unmarked.
     UnmarkSpan(u32, u32),
-    /// The generation grew by one.
+    /// The generation was raised by one.
     Bump,
     /// The seats' words were loaded.
     Look,
@@ -47,11 +47,12 @@ pub enum Entry {
     Settled,
 }
 
-/// What a region does its work by: a text, changed one act at a time, and the keeper of a table of generations.
+/// The operations that a region is built on: those of a text, changed one act at a time, and of the keeper of a table of
+/// generations.
 ///
-/// Conditions and promises are those of `nc_text::Text` and `nc_gens::Gens`; an act on the text leaves the keeper as it is,
-/// and the other way round. A value may tell its puts, spans marked and unmarked, bumps and looks; each adds itself at the
-/// end. One that tells nothing says `None`, for good. Beside them it may log the same acts with the settlings among them.
+/// The contracts are those of `nc_text::Text` and `nc_gens::Gens`; an act on the text leaves the keeper unchanged, and vice
+/// versa. A value may tell its puts, spans marked and unmarked, bumps and looks: each is appended to the list. A value that
+/// tells nothing says `None`, for good. Separately, it may log the same acts with the settlings among them.
 pub trait Acts {
     /// Bytes and marks.
     ghost marked: { Self → MarkedText };
@@ -68,7 +69,7 @@ pub trait Acts {
     /// The acts so far with the settlings among them, while they are logged.
     ghost logged: { Self → Option (List Entry) };
 
-    /// Makes the pages of a span. It is no act that is told.
+    /// Makes the pages of a span. This isn't an act and isn't told.
     fn ready(&mut self, at: u32, len: u32) -> Result<(), TextFault>
         requires inside { SpanInRegion (marked self.old).bytes at len }
         ensures ready { IfOk result (λ _. AreReady (made self.new) at len) }
@@ -97,11 +98,11 @@ pub trait Acts {
         ensures told { Tells (told self.old) (told self.new) (Act.Put at byte ∷ []) }
         ensures logged { Logs (logged self.old) (logged self.new) (Entry.Did (Act.Put at byte) ∷ []) };
 
-    /// Puts bytes from an address on, ascending, in one bundle: each of them is a put of its own, told and logged as one. The
-    /// text is closed after each of them. An empty run names no place, wherever `at` is, and changes nothing.
+    /// Puts bytes from an address on, in ascending order, in one bundle: each byte is a put of its own, and is told and logged
+    /// as one. The text is closed after each put. An empty run changes nothing, wherever `at` is.
     ///
-    /// As it stands here, it calls `put` for each byte. Whoever finds the place of a bundle once for all of them may be faster,
-    /// and stores the bytes singly and in that order all the same.
+    /// This default calls `put` for each byte. An implementation that looks the bundle up only once may be faster; it must
+    /// still store the bytes one at a time and in this order.
     fn put_run(&mut self, at: u32, bytes: &[u8])
         requires inside { SpanInRegion (marked self.old).bytes at (length bytes.now) }
         requires one_bundle { at % 32 + length bytes.now ≤ 32 }
@@ -115,15 +116,15 @@ pub trait Acts {
         ensures told { Tells (told self.old) (told self.new) (puts_where any_place at bytes.now) }
         ensures logged { Logs (logged self.old) (logged self.new) (unsettled (puts_where any_place at bytes.now)) }
     {
-        // Called for what it ensures.
+        // Called for its postconditions.
         let _facts = self.limit();
         for i in 0..bytes.len() {
             self.put(at + i as u32, bytes[i]);
         }
     }
 
-    /// Makes every processor fetch anew: once it has returned, no byte is executed that was overwritten before the call.
-    /// It changes no byte, no mark and no number, and is no act that is told.
+    /// Makes every processor fetch anew: once it has returned, no byte is executed that was overwritten before the call. It
+    /// changes no byte, no mark and no number. It is logged, but isn't an act and isn't told.
     fn settle(&mut self)
         ensures logged { Logs (logged self.old) (logged self.new) (Entry.Settled ∷ []) }
         ensures marked { marked self.new ≡ marked self.old }
@@ -146,10 +147,10 @@ pub trait Acts {
         ensures told { Tells (told self.old) (told self.new) (Act.MarkSpan at (length marks.now) ∷ []) }
         ensures logged { Logs (logged self.old) (logged self.new) (Entry.Did (Act.MarkSpan at (length marks.now)) ∷ []) };
 
-    /// Sets the marks of a chunk's span by the bits of its bundles and answers true, or does nothing and answers false: then
-    /// `mark_span` sets them by a list. It is told and logged as `mark_span` is.
+    /// Sets the marks of a chunk's span from the bits of its bundles and returns true, or does nothing and returns false; then
+    /// `mark_span` sets them from a list. It is told and logged as `mark_span` is.
     ///
-    /// As it stands here, it does nothing. Whoever keeps marks as bits is faster with it.
+    /// This default does nothing. An implementation that keeps marks as bits is faster if it overrides it.
     fn mark_bundles(&mut self, at: u32, code: &[u8], bundles: &[Bundle]) -> bool
         requires inside { SpanInRegion (marked self.old).bytes at (length code.now) }
         requires start { IsBundleStart at }
@@ -169,12 +170,12 @@ pub trait Acts {
         ensures whole { IsText (marked self.new) }
         ensures keeper { keeper self.new ≡ keeper self.old }
     {
-        // Called for what it ensures.
+        // Called for its postconditions.
         let _facts = self.limit();
         false
     }
 
-    /// Takes the marks of a span back, except for its bundle starts.
+    /// Unmarks a span, except for its bundle starts.
     fn unmark_span(&mut self, at: u32, len: u32)
         requires inside { SpanInRegion (marked self.old).bytes at len }
         requires stops { AreStops (marked self.old).bytes at len }
@@ -201,15 +202,15 @@ pub trait Acts {
         requires { InRegion (marked self.now).bytes at }
         ensures { result ≡ mark_at (marked self.now).marks at };
 
-    /// Which of the 32 places of a bundle are marked: a bit for each of them, the lowest for the bundle start.
+    /// The marked places of a bundle: a bit for each of its 32 places, the lowest for the bundle start.
     ///
-    /// As it stands here, it asks for each mark. Whoever has them at hand as bits may answer faster.
+    /// This default reads each mark. An implementation that keeps marks as bits may be faster.
     fn marked_places(&self, at: u32) -> u32
         requires inside { InRegion (marked self.now).bytes at }
         requires start { IsBundleStart at }
         ensures { (k : ℕ) → k < 32 → bit_at result k ≡ mark_bit (mark_at (marked self.now).marks (at + k)) }
     {
-        // Called for what it ensures.
+        // Called for its postconditions.
         let _facts = self.limit();
         let mut places = 0;
         for n in 0..32 {
@@ -218,7 +219,7 @@ pub trait Acts {
         places
     }
 
-    /// Adds one to the generation, and answers the new one.
+    /// Adds one to the generation and returns the new one.
     fn bump(&mut self) -> Result<u64, GensFull>
         ensures room { IsOk result ↔ ((keeper self.old).numbers.generation < 2 ^ 62) }
         ensures stamp { IfOk result (λ n. n ≡ (keeper self.old).numbers.generation + 1) }
@@ -232,7 +233,7 @@ pub trait Acts {
         ensures silent { OnErr result (told self.new ≡ told self.old) }
         ensures unlogged { OnErr result (logged self.new ≡ logged self.old) };
 
-    /// Loads each seat's word, and answers the keeper's least number.
+    /// Loads each seat's word and returns the keeper's least number.
     fn look(&mut self) -> u64
         ensures looked { HasLooked (keeper self.old) (keeper self.new) }
         ensures least { result ≡ least_number (keeper self.new).numbers }
@@ -241,7 +242,8 @@ pub trait Acts {
         ensures told { Tells (told self.old) (told self.new) (Act.Look ∷ []) }
         ensures logged { Logs (logged self.old) (logged self.new) (Entry.Did Act.Look ∷ []) };
 
-    /// A pass and the keeper learn where the other stands. It is no act that is told.
+    /// A pass and the keeper meet: the pass sees the generation, and the keeper the pass's word. This isn't an act and isn't
+    /// told.
     fn meet(&mut self, pass: &mut Pass)
         requires { pass.old.table ≡ (keeper self.old).table }
         ensures met { HasMet pass.old (keeper self.old) pass.new (keeper self.new) }

@@ -3,10 +3,10 @@
 /// Whether threads may enter a chunk.
 #[derive(Clone, Copy, Debug, Drop, PartialEq, Eq)]
 pub enum ChunkState {
-    /// Its code stands in the text.
+    /// Its code is in the text.
     Live,
-    /// Its bytes are stops, and its span waits for threads that may still stand between its bundle starts. The number is
-    /// the generation with which it was retired.
+    /// Its bytes are stops, and its span waits for threads that may still be between its bundle starts. The number is its
+    /// stamp, the generation with which it was retired.
     Retired(u64),
 }
 
@@ -15,7 +15,7 @@ pub enum ChunkState {
 pub struct Chunk {
     /// The address of its first byte, which is a bundle start.
     pub base: u32,
-    /// Its bytes, whole bundles.
+    /// The number of its bytes, which are whole bundles.
     pub length: u32,
     pub state: ChunkState,
 }

@@ -1,4 +1,4 @@
-//! A chunk put into a text that threads are running.
+//! Putting a chunk into a text while threads run in it.
 
 ghost use Rattle.std.specs.Prelude.{◌≡◌, ◌≢◌, ◌+◌, ◌-◌, ◌<◌, ◌≤◌, ◌^◌, ℕ, List, [], ◌∷◌, ◌++◌, length, vec_capacity, All, IsTrue, false};
 ghost use Rattle.std.specs.Prelude.{IfOk, IfErr};
@@ -25,8 +25,8 @@ use nc_decode::Mark;
 use nc_vet::Vetted;
 use std::collections::VecDeque;
 
-/// What has to be there before a chunk is created: where it goes in the list, with room in the list for one more; room for a
-/// list of its marks; and every place of its span made ready.
+/// Prepares the creation of a chunk: finds its index in the list, reserves room for one more chunk there, allocates room for
+/// a list of its marks, and makes every place of its span ready.
 pub(crate) fn make_room<A: Acts>(
     acts: &mut A,
     chunks: &mut VecDeque<Chunk>,
@@ -39,7 +39,7 @@ pub(crate) fn make_room<A: Acts>(
     ensures only { GetsReady (A.made acts.old) (A.made acts.new) vetted.now.base (length vetted.now.code) }
     ensures others { (chunks.new.items ≡ chunks.old.items) × (A.marked acts.new ≡ A.marked acts.old)
         × (A.keeper acts.new ≡ A.keeper acts.old) × (A.told acts.new ≡ A.told acts.old) × (A.logged acts.new ≡ A.logged acts.old) }
-    // A refusal that isn't for want of memory leaves the pages too.
+    // A refusal other than `OutOfMemory` leaves the pages unchanged too.
     ensures made { IfErr result (λ fault. fault ≢ CreateFault.OutOfMemory → A.made acts.new ≡ A.made acts.old) }
     ensures refused { IfErr result (λ fault. MayRefuse
         (record {
@@ -71,7 +71,7 @@ pub(crate) fn make_room<A: Acts>(
     Ok((k, room))
 }
 
-/// The chunk as the list has it.
+/// The list's entry for a vetted chunk.
 pub(crate) fn live_chunk(vetted: &Vetted) -> Chunk
     ensures { result ≡ live_chunk vetted.now }
 {
@@ -109,7 +109,7 @@ pub(crate) fn put_chunk<A: Acts>(
     put_starts(acts, base, code);
 }
 
-/// Sets the marks of a chunk's span: by bits, where both sides keep them, and else by a list, for which there is room.
+/// Sets the marks of a chunk's span: from bits if both sides keep them, otherwise from a list, for which there is room.
 fn mark_chunk<A: Acts>(acts: &mut A, base: u32, vetted: &Vetted, room: Vec<Mark>)
     requires room { (room.items ≡ []) × (length vetted.now.code ≤ vec_capacity room) }
     requires whole { IsText (A.marked acts.old) }
@@ -133,7 +133,7 @@ fn mark_chunk<A: Acts>(acts: &mut A, base: u32, vetted: &Vetted, room: Vec<Mark>
     acts.mark_span(base, &marks);
 }
 
-/// Sets the marks of a chunk's span by bits, where both sides keep them, and answers whether they do.
+/// Sets the marks of a chunk's span from bits if both sides keep them, and returns whether they do.
 fn marked_by_bits<A: Acts>(acts: &mut A, base: u32, vetted: &Vetted) -> bool
     requires placed { HasGoodSpan base (limit_of (A.marked acts.old).bytes) (length vetted.now.code) }
     requires whole { IsText (A.marked acts.old) }
@@ -170,7 +170,7 @@ fn listed(vetted: &Vetted, room: Vec<Mark>) -> Vec<Mark>
     marks
 }
 
-/// Puts the bytes that aren't bundle starts, rising, and settles. Those of one bundle are one run.
+/// Puts the bytes that aren't at bundle starts, in ascending order, one run for each bundle; then settles.
 fn put_inside<A: Acts>(acts: &mut A, base: u32, code: &[u8])
     requires whole { IsText (A.marked acts.old) }
     requires placed { HasGoodSpan base (limit_of (A.marked acts.old).bytes) (length code.now) }
@@ -192,7 +192,7 @@ fn put_inside<A: Acts>(acts: &mut A, base: u32, code: &[u8])
     acts.settle();
 }
 
-/// Puts the bundle starts, rising.
+/// Puts the bytes at bundle starts, in ascending order.
 fn put_starts<A: Acts>(acts: &mut A, base: u32, code: &[u8])
     requires whole { IsText (A.marked acts.old) }
     requires placed { HasGoodSpan base (limit_of (A.marked acts.old).bytes) (length code.now) }

@@ -1,4 +1,4 @@
-//! A chunk of a text that threads are running turned into stops.
+//! Turning a chunk into stops while threads run in its text.
 
 ghost use Rattle.std.specs.Prelude.{◌≡◌, ◌+◌, ◌-◌, ◌<◌, ◌≤◌, ◌^◌, ℕ, List, [], ◌∷◌, ◌++◌, length, replicate, true};
 ghost use Rattle.nc_text.specs.Marks.{IsClosed};
@@ -41,7 +41,7 @@ pub(crate) fn put_stops<A: Acts>(acts: &mut A, base: u32, len: u32) -> u64
     }
 }
 
-/// Puts stops at the marked places, rising, and settles.
+/// Puts stops at the marked places, in ascending order, and settles.
 fn stop_marked<A: Acts>(acts: &mut A, base: u32, len: u32)
     requires whole { IsText (A.marked acts.old) }
     requires placed { HasGoodSpan base (limit_of (A.marked acts.old).bytes) len }
@@ -65,7 +65,7 @@ fn stop_marked<A: Acts>(acts: &mut A, base: u32, len: u32)
     acts.settle();
 }
 
-/// Puts stops at the other places, rising.
+/// Puts stops at the unmarked places, in ascending order.
 fn stop_others<A: Acts>(acts: &mut A, base: u32, len: u32)
     requires whole { IsText (A.marked acts.old) }
     requires placed { HasGoodSpan base (limit_of (A.marked acts.old).bytes) len }
@@ -90,8 +90,8 @@ fn stop_others<A: Acts>(acts: &mut A, base: u32, len: u32)
     }
 }
 
-/// Puts stops at the places of a bundle whose bits are set, rising. A test of each place instead would be a branch that real code
-/// makes hard to predict.
+/// Puts stops at the places of a bundle whose bits are set, in ascending order. Testing each place instead would take a
+/// branch that is hard to predict for real code.
 fn stop_places<A: Acts>(acts: &mut A, at: u32, places: u32)
     requires whole { IsText (A.marked acts.old) }
     requires low { 0x10000 ≤ at }

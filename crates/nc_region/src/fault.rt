@@ -5,21 +5,21 @@ use thiserror::Error;
 /// Why no region is made.
 #[derive(Clone, Copy, Debug, PartialEq, Eq, Error)]
 pub enum RegionFault {
-    /// The number of bundles isn't that of a lawful limit.
+    /// The number of bundles doesn't give a lawful limit.
     #[error("bad size")]
     BadSize,
-    /// No memory for the table of pages. No page is made yet.
+    /// No memory for the table of pages. No page has been made yet.
     #[error("out of memory")]
     OutOfMemory,
 }
 
-/// Why a chunk isn't created. The first that holds is given, in this order.
+/// Why a chunk isn't created: the first of these that applies, in this order.
 #[derive(Clone, Copy, Debug, PartialEq, Eq, Error)]
 pub enum CreateFault {
-    /// The chunk was vetted for another limit than the region's.
+    /// The chunk was vetted for a limit other than the region's.
     #[error("wrong limit")]
     WrongLimit,
-    /// The chunk's span meets a chunk of the region.
+    /// The chunk's span overlaps a chunk of the region.
     #[error("occupied")]
     Occupied,
     /// No memory for the list of chunks, for the chunk's marks or for the pages of its span. Some of these pages may have
@@ -39,7 +39,7 @@ pub enum WalkFault {
     OutOfMemory,
 }
 
-/// Why a patch isn't made. The first that holds is given, in this order.
+/// Why a patch isn't made: the first of these that applies, in this order.
 #[derive(Clone, Copy, Debug, PartialEq, Eq, Error)]
 pub enum ModifyFault {
     /// There are no new bytes, or they don't lie in one bundle.
@@ -48,28 +48,28 @@ pub enum ModifyFault {
     /// The bundle isn't part of a live chunk.
     #[error("not live")]
     NotLive,
-    /// The new bytes aren't whole permitted instructions, one after the other.
+    /// The new bytes aren't a sequence of whole permitted instructions.
     #[error("not permitted")]
     NotPermitted,
     /// The new bytes don't take the place of whole instructions of the chunk, each as long as the new one.
     #[error("other boundaries")]
     Boundaries,
-    /// The mask of a pair would get other bytes, or an indirect transfer would come or go. Only a masked jump may become a
-    /// masked call on its register, and a masked call a masked jump.
+    /// The mask of a pair would get other bytes, or an indirect transfer would be added, removed, or given another
+    /// register. Only a masked jump may become a masked call on its register, and vice versa.
     #[error("a pair would be touched")]
     PairTouched,
-    /// A direct transfer would go where none of the chunk may.
+    /// A direct transfer would go to an address that no direct transfer of the chunk may go to.
     #[error("bad target")]
     BadTarget,
 }
 
-/// Why a chunk isn't deleted. The first that holds is given, in this order.
+/// Why a chunk isn't deleted: the first of these that applies, in this order.
 #[derive(Clone, Copy, Debug, PartialEq, Eq, Error)]
 pub enum DeleteFault {
     /// No live chunk has this base.
     #[error("no chunk")]
     NoChunk,
-    /// The last generation is reached, so there is no stamp.
+    /// The last generation has been reached, so no stamp can be drawn.
     #[error("the last generation is reached")]
     GensFull,
 }

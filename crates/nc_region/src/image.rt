@@ -1,7 +1,7 @@
-//! Acts of a host's own, as an example: each byte that a region puts also goes into memory of the host.
+//! An example of a host's own acts: each byte that a region puts is also stored in the host's memory.
 //!
-//! It shows what an implementation of [`Acts`] by a host looks like, and what can be proved of it: after every act the
-//! memory holds the bytes of the region.
+//! It shows what a host's implementation of [`Acts`] looks like, and what can be proved about it: after every act the memory
+//! holds the bytes of the region.
 
 ghost use Rattle.std.specs.Prelude.{◌≡◌, ◌+◌, ◌*◌, ◌↔◌, None, OnOk, IfOk, IfErr};
 ghost use Rattle.nc_decode.specs.Bundles.{IsLawfulLimit};
@@ -18,10 +18,10 @@ use std::alloc::Global;
 /// The instruction hlt.
 const STOP: u8 = 0xF4;
 
-/// A text, and the memory of a host that holds the same bytes after every act.
+/// A text, and a host's memory, which holds the same bytes after every act.
 ///
-/// Here the memory is a list of bytes. In a real host it is what the threads run: pages mapped twice, writable through an
-/// address that only the host has, and executable for the untrusted code.
+/// Here the memory is a list of bytes. In a real host it is the memory that the threads execute: pages mapped twice, writable
+/// through an address that only the host has, and executable for the untrusted code.
 #[derive(Drop)]
 pub struct Image<'g> {
     plain: Plain<'g>,
@@ -30,7 +30,7 @@ pub struct Image<'g> {
 }
 
 impl<'g> Image<'g> {
-    /// Memory of stops, as a new text is.
+    /// A new text, and memory that like it holds only stops.
     pub fn new(
         alloc: Global,
         bundles: u32,
@@ -40,7 +40,7 @@ impl<'g> Image<'g> {
         requires { keeper.table ≡ gens.now }
         ensures made { IfOk result (λ i. i.plain.marked ≡ unused_text (0x10000 + 32 * bundles)) }
         ensures keeper { IfOk result (λ i. i.plain.keeper ≡ keeper) }
-        // The wrong size is found exactly where it is one.
+        // The size is refused exactly if it is unlawful.
         ensures lawful { OnOk result (IsLawfulLimit (0x10000 + 32 * bundles)) }
         ensures size { IfErr result (λ e. (e ≡ RegionFault.BadSize) ↔ ¬ IsLawfulLimit (0x10000 + 32 * bundles)) }
     {
@@ -58,7 +58,7 @@ impl<'g> Image<'g> {
         })
     }
 
-    /// The host's memory. It holds the bytes of the region, whatever the region has done.
+    /// The host's memory. It always holds the bytes of the region.
     pub fn memory(&self) -> &[u8]
         ensures { result.now ≡ self.now.plain.marked.bytes }
     {
@@ -85,13 +85,13 @@ impl<'g> Acts for Image<'g> {
         self.plain.is_ready(at, len)
     }
 
-    // The host's own store stands here. This one is a plain store into a list, since nothing runs what stands there.
+    // A host has its own byte store here. This one is a plain store into a list, since nothing executes these bytes.
     fn put(&mut self, at: u32, byte: u8) {
         self.memory[(at - START) as usize] = byte;
         self.plain.put(at, byte);
     }
 
-    // The host's own means: every processor that runs one of its threads serializes before it returns.
+    // A host has its own means here: every processor that runs one of its threads must serialize before this returns.
     fn settle(&mut self) {
         self.plain.settle();
     }

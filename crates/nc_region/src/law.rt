@@ -1,4 +1,4 @@
-//! What a valid chunk is worth in a text, what a log says of acts, and what every schedule keeps.
+//! Laws: a valid chunk is closed by itself, a log has the acts of its call, and every schedule is safe.
 
 ghost use Rattle.std.specs.Prelude.{◌≡◌, ◌≢◌, ◌⊎◌, ℕ, length, List, [], ◌∷◌, ◌++◌};
 ghost use Rattle.nc_decode.specs.Bundles.{IsLawfulLimit};
@@ -13,39 +13,37 @@ ghost use Rattle.nc_region.specs.schedules.Spans.{RetiredSpan};
 ghost use Rattle.nc_region.specs.schedules.World.{World, first_world, IsViewOf, IsUsable, AllStandSafe, NoneIsWithin};
 ghost use Rattle.nc_region.specs.schedules.Events.{Event, after, world_after, AreAllowed, AllMove, ChangesBytes};
 
-/// A valid chunk is closed by itself: with its marks, in a text that is otherwise unused. It does nothing when it is
+/// A valid chunk is closed by itself: with its marks, in a text that is otherwise unused. The function does nothing when
 /// called.
 pub fn law_of_chunks()
     ensures { (v : MarkedChunk) → IsValid v → IsClosedChunk v.base v.limit v.code v.marks }
 {}
 
-/// The log of a creation, a deletion or a patch has the acts of that call in their order, and settlings among them. It does
-/// nothing when it is called.
+/// The log of a creation, a deletion or a patch has the acts of that call in their order, with settlings among them. The
+/// function does nothing when called.
 pub fn law_of_logs()
     ensures create { (base : ℕ) (code : List ℕ) → acts_in (log_of_create base code) ≡ acts_of_create base code }
     ensures delete { (marks : List Mark) (base len : ℕ) → acts_in (log_of_delete marks base len) ≡ acts_of_delete marks base len }
     ensures modify { (text : List ℕ) (at : ℕ) (news : List Piece) → acts_in (log_of_modify text at news) ≡ acts_of_modify text at news }
 {}
 
-/// For every lawful limit, every number of seats and every list of events that are allowed where they stand, in whatever
-/// order threads and writer take turns: after every event each thread inside stands on a state that is safe in every view, and
-/// whenever a retired span is freed, no thread stands at a place of it that isn't a bundle start. It does nothing when it is
-/// called.
+/// For every lawful limit, every number of seats and every list of events that are each allowed where they happen, however
+/// threads and writer are interleaved: after every event each thread inside is in a state that is safe in every view, and
+/// when a retired span is freed, no thread is in it except possibly at a bundle start. The function does nothing when called.
 ///
-/// A view is what a thread may read: each byte as it stood at any moment since the last settling, in any mixture. A safe
-/// state is a permitted instruction wholly inside its bundle, an indirect transfer only with its register just masked, or
-/// a bundle start below 00010000. There are as many threads as seats, or fewer.
+/// A view is a text that a thread may read: each byte as it was at any moment since the last settling, in any mixture. A
+/// safe state is at a permitted instruction wholly inside its bundle (at an indirect transfer only with its register just
+/// masked), or at a bundle start below 00010000. There are at most as many threads as seats.
 ///
-/// And each event does what it is for and no more: a span that is freed is whole bundles of the region, and no span that
-/// stays retired has a place of it, so it may be used again; a thread that is inside moves only as the machine does by some
-/// view, and comes in only at a bundle start; and a byte changes only where it is put.
+/// Each event also does no more than it is meant to: a freed span consists of whole bundles of the region and overlaps no
+/// span that stays retired, so it may be used again; a thread that is inside moves only as the machine does in some view,
+/// and enters only at a bundle start; and a byte changes only where one is put.
 ///
-/// The text as it stands is always a view, and right after a settling the only one. A view stays one through every event but a
-/// settling, and each mixture of two views is a view. So a processor that fetches each instruction whole, as the bytes stand,
-/// is one of those of which the law speaks, and so is one that reads each byte as it stood at any moment since the last
-/// settling.
+/// The current text is always a view, and right after a settling the only one. A view remains one through every event but a
+/// settling, and each mixture of two views is a view. The law therefore covers a processor that fetches each instruction
+/// whole from the current bytes, and one that reads each byte as it was at any moment since the last settling.
 ///
-/// Not promised: that a span is ever freed, and anything of time.
+/// Not promised: that a span is ever freed, or anything about time.
 pub fn law_of_schedules()
     ensures safe { (limit seats : ℕ) (events later : List Event) → IsLawfulLimit limit
         → AreAllowed (first_world limit seats) (events ++ later) → AllStandSafe (world_after (first_world limit seats) events) }

@@ -1,33 +1,33 @@
 //! A region of code: chunks created, patched, deleted and reclaimed while threads may be running in it.
 //!
-//! A host adds untrusted code to a region and takes it away again without stopping the threads that run there. Two things
-//! must never happen: that a thread leaves the paths of vetted code, and that a span gets other code while a thread may
-//! still stand between the bundle starts of it.
+//! A host adds untrusted code to a region and removes it again without stopping the threads that run there. Two things must
+//! never happen: a thread leaves the paths of vetted code, or a span gets other code while a thread may still be in it
+//! anywhere but at a bundle start.
 //!
 //! A *chunk* is whole bundles of vetted code (`nc_vet`). While it is *live* threads may enter it. A deleted chunk is
-//! *retired*: its bytes are stops, and it carries a *stamp*, the generation that was drawn after its last byte. Each thread
-//! holds a pass of the table of generations (`nc_gens`) and checks in while it is outside the region; once every seat has
-//! checked in since the stamp, or has left, the chunk is *reclaimed* and its span may be used again. A region keeps its text
-//! closed (`nc_text`), and so confined, between any two bytes that it changes.
+//! *retired*: its bytes are stops, and it carries a *stamp*, the generation that was drawn after its last byte was put. Each
+//! thread holds a pass of the table of generations (`nc_gens`) and checks in while it is outside the region; once every seat
+//! has checked in since the stamp was drawn, or has left, the chunk can be *reclaimed*, and its span used again. A region
+//! keeps its text closed (`nc_text`), and so confined, between any two bytes that it changes.
 //!
 //! [`Region::new`](RegionOf::new) makes a region, [`create`](RegionOf::create) adds a vetted chunk,
-//! [`modify`](RegionOf::modify) replaces instructions of a live one by others of the same lengths,
-//! [`delete`](RegionOf::delete) retires one, [`reclaim`](RegionOf::reclaim) frees what is due, and
-//! [`walk`](RegionOf::walk) shows where a path goes. [`Shared`] is a region behind a lock, with check-in beside the lock.
-//! [`RegionOf`] is a region over any [`Acts`], for example over a [`Recorder`], which writes each act down, or over an
-//! [`Image`], which puts each byte into memory of the host too. [`SharedOf`] is one behind a lock.
+//! [`modify`](RegionOf::modify) replaces instructions of a live one with others of the same lengths,
+//! [`delete`](RegionOf::delete) retires one, [`reclaim`](RegionOf::reclaim) frees the chunks that are due, and
+//! [`walk`](RegionOf::walk) shows where a path goes. [`Shared`] is a region behind a lock; check-in doesn't take the lock.
+//! [`RegionOf`] is a region over any [`Acts`], for example a [`Recorder`], which records each act, or an [`Image`], which
+//! also stores each byte in the host's memory. [`SharedOf`] is a `RegionOf` behind a lock.
 //!
-//! That all this is safe while threads run can't be seen at a single call: a thread may stand anywhere between any two bytes
-//! that are put. `specs/schedules` has the world in which that is said. A *world* (`World`) holds a text with its marks, the
-//! retired spans with their stamps, the keeper of the generations, and for each seat where its thread stands and the numbers
-//! of its pass. It also holds the bytes that stood before each put since the last settling, since a processor may still
-//! execute them: a thread reads a *view* (`Views`), at each place one of the bytes seen there, in any mixture. An *event*
-//! (`Events`) is one step of one thread, one byte put, one settling, one atomic step on the table of generations.
-//! `IsAllowed` says when an event may happen; `after` is the world that it leaves, by the very definitions that the
-//! contracts of `nc_text` and `nc_gens` cite for the same changes. [`law_of_schedules`] says that no list of allowed events,
-//! however the threads and the writer take turns, brings a thread to a state that isn't safe, and that no thread stands in a
-//! span that is freed except at a bundle start: bundle starts may be entered and jumped to at any time, and a thread that
-//! does so waits on the stop there.
+//! The contract of a single call can't express that all this is safe while threads run: a thread may be anywhere between any
+//! two puts. `specs/schedules` defines a *world* (`World`) for this. It holds a text with its marks, the retired spans with
+//! their stamps, the keeper of the generations, and for each seat the state of its thread and the numbers of its pass. It
+//! also holds the bytes as they were before each put since the last settling, because a processor may still execute them: a
+//! thread reads a *view* (`Views`), which has at each place one of the bytes that were there since that settling, in any
+//! mixture. An *event* (`Events`) is one step of one thread, one byte put, one settling, or one atomic step on the table of
+//! generations. `IsAllowed` says when an event may happen; `after` is the world that it leaves, by the same definitions that
+//! the contracts of `nc_text` and `nc_gens` cite for these changes. [`law_of_schedules`] says that no list of allowed events,
+//! however the threads and the writer are interleaved, brings a thread to a state that isn't safe, and that when a span is
+//! freed no thread is in it except possibly at a bundle start. Bundle starts may be entered and jumped to at any time; a
+//! thread that does so goes no further than the stop there.
 //!
 //! ```text
 //! let (gens, keeper, mut passes) = Gens::new(alloc, 1)?;
@@ -39,7 +39,7 @@
 //! region.reclaim();                       // 1
 //! ```
 //!
-//! The order of puts and the generations are those of Ansel et al. 2011, "Language-independent sandboxing of just-in-time
+//! The order of puts and the use of generations follow Ansel et al. 2011, "Language-independent sandboxing of just-in-time
 //! compilation and self-modifying code".
 #![tactic(auto)]
 

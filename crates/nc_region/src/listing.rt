@@ -1,4 +1,4 @@
-//! The list of chunks, by rising base.
+//! The list of chunks, by ascending base.
 
 ghost use Rattle.std.specs.Prelude.{◌≡◌, ◌+◌, ◌-◌, ◌<◌, ◌≤◌, ◌^◌, ℕ, false, length, take, drop, slice_index_or, slice_get, slice_set};
 ghost use Rattle.std.specs.Prelude.{Some, IsTrue, IfSome, IfNone};
@@ -14,7 +14,7 @@ ghost use Rattle.nc_region.specs.Patch.{IsHeldBy, IsHeld};
 use crate::chunk::{Chunk, ChunkState};
 use std::collections::VecDeque;
 
-/// The index of the first chunk whose base isn't below this one, by binary search.
+/// The index of the first chunk whose base isn't below this address, by binary search.
 fn first_from(chunks: &VecDeque<Chunk>, base: u32) -> usize
     requires { IsRising 0x10000 chunks.now.items }
     ensures bound { result ≤ length chunks.now.items }
@@ -56,7 +56,7 @@ fn begins_above(chunks: &VecDeque<Chunk>, k: usize, base: u32, len: u32) -> bool
     base + len <= chunks[k].base
 }
 
-/// Where a chunk of this span goes in the list, if it meets none.
+/// The index at which a chunk with this span can be inserted, if it overlaps no chunk.
 pub(crate) fn room_for(chunks: &VecDeque<Chunk>, base: u32, len: u32) -> Option<usize>
     requires some { 0 < len }
     requires fits { base + len < 2 ^ 32 }
@@ -135,7 +135,7 @@ fn is_live_from(chunk: Chunk, base: u32) -> bool
     chunk.state == ChunkState::Live && chunk.base == base
 }
 
-/// Puts a chunk in place of another.
+/// Replaces the chunk at an index.
 pub(crate) fn set_chunk(chunks: &mut VecDeque<Chunk>, k: usize, chunk: Chunk)
     requires { k < length chunks.old.items }
     ensures { chunks.new.items ≡ slice_set chunks.old.items k chunk }
@@ -149,6 +149,6 @@ pub(crate) fn insert_chunk(chunks: &mut VecDeque<Chunk>, k: usize, chunk: Chunk)
     requires room { deque_len chunks.old < deque_capacity chunks.old }
     ensures { chunks.new.items ≡ insert chunks.old.items k chunk }
 {
-    // There is room, so it isn't refused.
+    // There is room, so this can't fail.
     let _ = chunks.insert(k, chunk);
 }

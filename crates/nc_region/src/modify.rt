@@ -1,4 +1,4 @@
-//! Instructions of a chunk replaced in a text that threads are running.
+//! Replacing instructions of a chunk while threads run in its text.
 
 ghost use Rattle.std.specs.Prelude.{◌≡◌, ◌≢◌, ◌+◌, ◌-◌, ◌<◌, ◌≤◌, ◌↔◌, ◌^◌, ◌%◌, ℕ, Bool, false, List, [], ◌∷◌, ◌++◌, length, IsTrue};
 ghost use Rattle.std.specs.Prelude.{IsFalse, if◌then◌else◌};
@@ -47,14 +47,14 @@ fn is_after(mark: Mark) -> bool
     matches!(mark, Mark::After(_))
 }
 
-/// `len` bytes from this address on, at least one, lie in one bundle.
+/// There is at least one byte, and the `len` bytes from this address on lie in one bundle.
 pub(crate) fn is_patch_span(at: u32, len: usize) -> bool
     ensures { IsTrue result ↔ IsPatchSpan at len }
 {
     0 < len && len <= (BUNDLE - at % BUNDLE) as usize
 }
 
-/// The bytes are whole instructions, one after the other.
+/// The bytes are a sequence of whole permitted instructions.
 pub(crate) fn are_instructions(bytes: &[u8]) -> bool
     ensures { IsTrue result ↔ AreInstructions bytes.now }
 {
@@ -67,7 +67,8 @@ pub(crate) fn are_instructions(bytes: &[u8]) -> bool
     are_instructions(&bytes[instr.len as usize..])
 }
 
-/// As long instructions stand from the place on as the new ones are. An instruction of the chunk begins there.
+/// The chunk's instructions from this address on are, one for one, as long as the new ones. An instruction of the chunk
+/// begins at the address, or the chunk ends there.
 fn fits_from<A: Acts>(acts: &A, chunk: Chunk, at: u32, new: &[u8]) -> bool
     requires whole { IsText (A.marked acts.now) }
     requires begins { Begins (A.marked acts.now) chunk at }
@@ -104,7 +105,8 @@ pub(crate) fn fits<A: Acts>(acts: &A, chunk: Chunk, at: u32, new: &[u8]) -> bool
     fits_from(acts, chunk, at, new)
 }
 
-/// An indirect transfer takes the place of one on the same register, and of nothing else. The old one is told by its mark.
+/// The new instruction is an indirect transfer exactly if the old one is, and on the same register. The mark is that of the
+/// old one.
 fn keeps_transfer(mark: Mark, instr: Instr) -> bool
     ensures exact { (old : Instr) → mark ≡ mark_of old → IsTrue result ↔ KeepsTransfer old instr }
 {
@@ -115,7 +117,7 @@ fn keeps_transfer(mark: Mark, instr: Instr) -> bool
     }
 }
 
-/// The new instruction leaves the pairs of the chunk alone, where an instruction of the chunk stands that is as long.
+/// The new instruction leaves the pairs of the chunk alone. It is as long as the instruction of the chunk that it replaces.
 fn spares_pair<A: Acts>(acts: &A, chunk: Chunk, at: u32, instr: Instr, bytes: &[u8]) -> bool
     requires whole { IsText (A.marked acts.now) }
     requires begins { Begins (A.marked acts.now) chunk at }
@@ -135,8 +137,8 @@ fn spares_pair<A: Acts>(acts: &A, chunk: Chunk, at: u32, instr: Instr, bytes: &[
     stands_there(acts, at, bytes)
 }
 
-/// Each new instruction leaves the pairs of the chunk alone: the mask of a pair keeps its bytes, and an indirect transfer
-/// takes the place of one on the same register, and of nothing else.
+/// Each new instruction leaves the pairs of the chunk alone: the mask of a pair keeps its bytes, and a new instruction is an
+/// indirect transfer exactly if the old one is, and on the same register.
 pub(crate) fn leaves_pairs<A: Acts>(acts: &A, chunk: Chunk, at: u32, new: &[u8]) -> bool
     requires whole { IsText (A.marked acts.now) }
     requires along { Along (A.marked acts.now) chunk at new.now }
@@ -171,7 +173,7 @@ fn is_good<A: Acts>(acts: &A, chunk: Chunk, to: u32) -> bool
     }
 }
 
-/// The instruction is no direct transfer, or goes where one of the chunk may.
+/// The instruction isn't a direct transfer, or its target is one that a direct transfer of the chunk may have.
 fn goes_well<A: Acts>(acts: &A, chunk: Chunk, instr: Instr, at: u32) -> bool
     requires whole { IsText (A.marked acts.now) }
     requires holds { HoldsValid (A.marked acts.now) chunk }
@@ -185,7 +187,7 @@ fn goes_well<A: Acts>(acts: &A, chunk: Chunk, instr: Instr, at: u32) -> bool
     is_good(acts, chunk, instr.target(at))
 }
 
-/// Each direct transfer of these instructions goes where one of the chunk may.
+/// Each direct transfer among these instructions has a target that a direct transfer of the chunk may have.
 pub(crate) fn keeps_targets<A: Acts>(acts: &A, chunk: Chunk, at: u32, new: &[u8]) -> bool
     requires whole { IsText (A.marked acts.now) }
     requires holds { HoldsValid (A.marked acts.now) chunk }
@@ -206,7 +208,7 @@ pub(crate) fn keeps_targets<A: Acts>(acts: &A, chunk: Chunk, at: u32, new: &[u8]
     keeps_targets(acts, chunk, at + u32::from(len), &new[len as usize..])
 }
 
-/// These bytes stand there already.
+/// The text already has these bytes from this address on.
 fn stands_there<A: Acts>(acts: &A, at: u32, bytes: &[u8]) -> bool
     requires whole { IsText (A.marked acts.now) }
     requires low { 0x10000 ≤ at }
@@ -219,7 +221,8 @@ fn stands_there<A: Acts>(acts: &A, at: u32, bytes: &[u8]) -> bool
     acts.byte(at) == bytes[0] && stands_there(acts, at + 1, &bytes[1..])
 }
 
-/// Replaces the instructions from an address on, rising, by others that are as long. One whose bytes stay gets no put.
+/// Replaces the instructions from an address on, in ascending order, with others of the same lengths. An instruction whose
+/// bytes stay the same gets no put.
 pub(crate) fn put_patch<A: Acts>(acts: &mut A, chunk: Chunk, at: u32, new: &[u8])
     requires whole { IsText (A.marked acts.old) }
     requires patch { CanPatch (A.marked acts.old) chunk at new.now }
@@ -248,7 +251,7 @@ pub(crate) fn put_patch<A: Acts>(acts: &mut A, chunk: Chunk, at: u32, new: &[u8]
     put_patch(acts, chunk, at + u32::from(len), &new[len as usize..]);
 }
 
-/// Replaces an instruction by one that is as long, unless its bytes stand there already.
+/// Replaces an instruction with one of the same length, unless its bytes are there already.
 fn put_where_new<A: Acts>(acts: &mut A, at: u32, bytes: &[u8])
     requires whole { IsText (A.marked acts.old) }
     requires ready { AreReady (A.made acts.old) at (length bytes.now) }
@@ -269,7 +272,7 @@ fn put_where_new<A: Acts>(acts: &mut A, at: u32, bytes: &[u8])
     put_instruction(acts, at, bytes);
 }
 
-/// Replaces an instruction by one that is as long.
+/// Replaces an instruction with one of the same length.
 fn put_instruction<A: Acts>(acts: &mut A, at: u32, bytes: &[u8])
     requires whole { IsText (A.marked acts.old) }
     requires ready { AreReady (A.made acts.old) at (length bytes.now) }
@@ -291,7 +294,7 @@ fn put_instruction<A: Acts>(acts: &mut A, at: u32, bytes: &[u8])
     put_longer(acts, at, first, rest);
 }
 
-/// Replaces an instruction of more than one byte: a stop at its first byte, then its further bytes, then its first.
+/// Replaces an instruction of more than one byte: puts a stop at its first byte, then its further bytes, then its first byte.
 fn put_longer<A: Acts>(acts: &mut A, at: u32, first: u8, rest: &[u8])
     requires whole { IsText (A.marked acts.old) }
     requires some { 0 < length rest.now }
@@ -312,7 +315,7 @@ fn put_longer<A: Acts>(acts: &mut A, at: u32, first: u8, rest: &[u8])
     acts.put(at, first);
 }
 
-/// Puts all bytes but the first, rising, while a stop stands at the first. It settles before them and after them.
+/// Puts all bytes but the first, in ascending order, while the first is a stop. It settles before and after them.
 fn put_rest<A: Acts>(acts: &mut A, at: u32, rest: &[u8])
     requires whole { IsText (A.marked acts.old) }
     requires low { 0x10000 ≤ at }

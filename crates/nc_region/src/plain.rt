@@ -8,7 +8,7 @@ use nc_gens::{Gens, GensFull, Keeper, Pass};
 use nc_text::{Text, TextFault};
 use std::marker::Model;
 
-/// A text beside a table of generations and its keeper. It tells nothing of its acts.
+/// A text beside a table of generations and its keeper. It doesn't tell its acts.
 #[derive(Drop)]
 pub struct Plain<'g> {
     text: Text,
@@ -72,7 +72,7 @@ impl<'g> Acts for Plain<'g> {
     }
 
     fn settle(&mut self) {
-        // Called for what it ensures.
+        // Called for its postconditions.
         let _facts = self.text.limit();
     }
 

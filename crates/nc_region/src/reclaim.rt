@@ -1,4 +1,4 @@
-//! Retired chunks taken out of the marks and out of the list.
+//! Unmarking retired chunks and removing them from the list.
 
 ghost use Rattle.std.specs.Prelude.{◌≡◌, ◌+◌, ◌<◌, ◌^◌, ℕ, length};
 ghost use Rattle.nc_text.specs.MarkedText.{IsText};
@@ -12,7 +12,7 @@ use crate::acts::Acts;
 use crate::chunk::{Chunk, ChunkState};
 use std::collections::VecDeque;
 
-/// A retired chunk with a stamp of at most this number.
+/// The chunk is retired with a stamp of at most this number.
 fn is_due(chunk: Chunk, least: u64) -> bool
     ensures { result ≡ is_due least chunk.state }
 {
@@ -22,7 +22,7 @@ fn is_due(chunk: Chunk, least: u64) -> bool
     }
 }
 
-/// Unmarks the span of each retired chunk with a stamp of at most this number, rising.
+/// Unmarks the span of each retired chunk with a stamp of at most this number, in ascending order.
 pub(crate) fn unmark_due<A: Acts>(acts: &mut A, chunks: &VecDeque<Chunk>, least: u64)
     requires region { IsRegion (A.marked acts.old) chunks.now.items }
     ensures region { IsRegion (A.marked acts.new) (kept least chunks.now.items) }
@@ -40,7 +40,7 @@ pub(crate) fn unmark_due<A: Acts>(acts: &mut A, chunks: &VecDeque<Chunk>, least:
     }
 }
 
-/// Takes these chunks out of the list, in one pass over it, and answers how many there were.
+/// Removes each retired chunk with a stamp of at most this number from the list, in one traversal, and returns their number.
 pub(crate) fn remove_due(chunks: &mut VecDeque<Chunk>, least: u64) -> u32
     requires { length chunks.old.items < 2 ^ 32 }
     ensures chunks { chunks.new.items ≡ kept least chunks.old.items }

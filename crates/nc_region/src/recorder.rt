@@ -1,4 +1,4 @@
-//! A recorder of acts, for tests and for whoever wants to see the order of single bytes.
+//! A recorder of acts, for tests and for observing the order of single puts.
 
 ghost use Rattle.std.specs.Prelude.{◌≡◌, ◌↔◌, ◌+◌, ◌*◌, ◌%◌, ◌<◌, ◌≤◌, [], ◌∷◌, Some, None, IfOk, IsOk, OnOk, OnErr, ◌^◌, length, All};
 ghost use Rattle.std.specs.Prelude.{IsTrue, if◌then◌else◌, false};
@@ -23,10 +23,10 @@ use nc_gens::{GensFull, Pass};
 use nc_text::TextFault;
 use std::alloc::{AllocError, Global};
 
-/// Acts that are recorded, each at the end of a log as it is done.
+/// Acts that are recorded: each is appended to a log as it is done.
 ///
-/// The log takes its room when it is made. From the first act on for which there is no room it tells nothing, for
-/// good; the acts themselves are done all the same. Each of its acts says so (`goes_on`).
+/// The log's room is allocated when the recorder is made. From the first act for which there is no room, the recorder tells
+/// nothing, for good; the acts themselves are still done. The clause `goes_on` of each act says this.
 ///
 /// A second log, with room of its own, has the same acts with the settlings among them (`logs_on`).
 #[derive(Drop)]
@@ -39,7 +39,7 @@ pub struct Recorder<A: Acts + Drop> {
 }
 
 impl<A: Acts + Drop> Recorder<A> {
-    /// Records the next acts, with room for this many, and in the second log for as many settlings more.
+    /// A recorder with room for this number of acts, and in the second log also for the same number of settlings.
     pub fn new(alloc: Global, acts: A, room: usize) -> Result<Recorder<A>, AllocError>
         ensures acts { IfOk result (λ r. r.acts ≡ acts) }
         ensures told { IfOk result (λ r. (r.log.items ≡ []) × (r.full ≡ false)) }
@@ -83,7 +83,7 @@ impl<A: Acts + Drop> Recorder<A> {
 
     fn record(&mut self, act: Act)
         ensures acts { self.new.acts ≡ self.old.acts }
-        // It goes on telling exactly where it told and there was room.
+        // It still tells exactly if it told before and there was room.
         ensures goes_on { (self.new.full ≡ false) ↔ ((self.old.full ≡ false) × (vec_len self.old.log < vec_capacity self.old.log)) }
         ensures told { Tells (if self.old.full then None else Some self.old.log.items)
             (if self.new.full then None else Some self.new.log.items) (act ∷ []) }

@@ -1,4 +1,4 @@
-//! A region: a text by its acts, and the list of its chunks.
+//! A region: a text, changed by acts, and the list of its chunks.
 
 ghost use Rattle.std.specs.Prelude.{◌≡◌, ◌+◌, ◌*◌, ◌↔◌, List, length, [], None, OnOk, OnErr, IfOk, IfErr, IfSome, IsNone, Contains, slice_get};
 ghost use Rattle.nc_text.specs.Machine.{IsConfined};
@@ -40,14 +40,14 @@ use std::alloc::{AllocError, Global};
 use std::collections::VecDeque;
 use std::marker::Model;
 
-/// A region over a text that tells nothing of its acts.
+/// A region that doesn't tell its acts.
 pub type Region<'g> = RegionOf<Plain<'g>>;
 
 /// A region of code from 00010000 to its limit, reached only through `A`.
 ///
-/// Every value of the type is confined: each path through its text that begins at a bundle start stands only on
-/// safe states. A live chunk's bytes and marks are those of a valid chunk; all other bytes are F4, and outside chunks only
-/// bundle starts are marked. Chunks are listed by rising base and never overlap.
+/// Every value of the type is confined: each path through its text that begins at a bundle start has only safe states. A
+/// live chunk's bytes and marks are those of a valid chunk; all other bytes are F4, and outside chunks only bundle starts
+/// are marked. Chunks are listed by ascending base and never overlap.
 #[derive(Drop)]
 pub struct RegionOf<A: Acts + Drop> {
     acts: A,
@@ -72,8 +72,8 @@ impl<A: Acts + Drop> Model for RegionOf<A> {
 }
 
 impl<'g> RegionOf<Plain<'g>> {
-    /// A region of this many bundles over a table of generations, without a chunk. Its last bundle is the guard, in which no
-    /// chunk stands. A refusal gives the keeper back.
+    /// A region of this many bundles over a table of generations, without a chunk. Its last bundle is the guard, which no chunk
+    /// may use. A refusal gives the keeper back.
     pub fn new(
         alloc: Global,
         bundles: u32,
@@ -81,7 +81,7 @@ impl<'g> RegionOf<Plain<'g>> {
         keeper: Keeper,
     ) -> Result<Region<'g>, (Keeper, RegionFault)>
         requires { keeper.table ≡ gens.now }
-        // The wrong size is found exactly where it is one.
+        // The size is refused exactly if it is unlawful.
         ensures lawful { OnOk result (IsLawfulLimit (0x10000 + 32 * bundles)) }
         ensures size { IfErr result (λ e. (e.1 ≡ RegionFault.BadSize) ↔ ¬ IsLawfulLimit (0x10000 + 32 * bundles)) }
         ensures given_back { IfErr result (λ e. e.0 ≡ keeper) }
@@ -113,7 +113,7 @@ impl<'g> RegionOf<Plain<'g>> {
 }
 
 impl<A: Acts + Drop> RegionOf<A> {
-    /// A region over a new text, without a chunk. It takes no memory.
+    /// A region over a new text, without a chunk. No memory is allocated.
     pub fn over(alloc: Global, acts: A) -> RegionOf<A>
         requires { IsNew (A.marked acts) }
         ensures { result ≡ record {
@@ -166,8 +166,8 @@ impl<A: Acts + Drop> RegionOf<A> {
         self.acts.mark(at)
     }
 
-    /// How many chunks there are, live and retired. Every path through the text is safe, and every retired span is quiet:
-    /// its bytes are stops, and no thread outside it can come into it but at a bundle start. Every place of a chunk is ready.
+    /// The number of chunks, live and retired. Every path through the text is safe, and every retired span is quiet: its bytes
+    /// are stops, and no thread outside can enter it except at a bundle start. Every place of a chunk is ready.
     pub fn chunk_count(&self) -> usize
         ensures count { result ≡ length self.now.chunks }
         ensures confined { IsConfined self.now.marked.bytes }
@@ -189,7 +189,7 @@ impl<A: Acts + Drop> RegionOf<A> {
     pub fn live_at(&self, base: u32) -> Option<Chunk>
         ensures found { IfSome result (λ c. Contains self.now.chunks c × (c.state ≡ ChunkState.Live) × (c.base ≡ base)) }
         ensures none { IsNone result → ¬ HasLive self.now.chunks base }
-        // It is a span of whole bundles of the region.
+        // The chunk's span is whole bundles of the region.
         ensures placed { IfSome result (λ c. HasGoodSpan c.base (limit_of self.now.marked.bytes) c.length) }
     {
         // Names a field, so that the first return is checked against the fields and not the whole.
@@ -200,22 +200,22 @@ impl<A: Acts + Drop> RegionOf<A> {
         Some(self.chunks[k])
     }
 
-    /// Creates a chunk while threads may be running: its bytes that aren't bundle starts are put, then the region settles,
-    /// then its marks are set, then its bundle starts are put. The pages of its span are made before. A refusal gives the
-    /// chunk back and leaves the region as it was; only where memory was refused, some of these pages may have been made.
+    /// Creates a chunk while threads may be running: makes the pages of its span, puts its bytes that aren't at bundle starts,
+    /// settles, sets its marks, then puts its bytes at bundle starts. A refusal gives the chunk back and leaves the region as
+    /// it was, except that if memory ran out some of these pages may have been made.
     pub fn create(&mut self, vetted: Vetted) -> Result<(), (Vetted, CreateFault)>
         // The span holds the chunk's code and marks, and the chunk is in the list; all else is as before.
         ensures created { OnOk result (IsCreated self.old self.new vetted) }
-        // Exactly the acts of a creation were done, where they are told.
+        // Exactly the acts of a creation were done, if acts are told.
         ensures acts { OnOk result (Tells self.old.told self.new.told (acts_of_create vetted.base vetted.code)) }
         // The region settled once, before the marks were set.
         ensures log { OnOk result (Logs self.old.logged self.new.logged (log_of_create vetted.base vetted.code)) }
-        // It is created only for this region's limit, where no chunk stands.
+        // The chunk was vetted for this region's limit, and no chunk was in its span.
         ensures free { OnOk result ((vetted.limit ≡ limit_of self.old.marked.bytes)
             × ¬ Meets vetted.base (length vetted.code) self.old.chunks) }
-        // Text, marks, chunks and acts are as before, and the chunk comes back.
+        // Text, marks, chunks and acts are as before, and the chunk is given back.
         ensures unchanged { IfErr result (λ e. (e.0 ≡ vetted) × IsRefused self.old self.new vetted e.1) }
-        // Each refusal comes where it is due.
+        // Each refusal is returned only if it applies.
         ensures refused { IfErr result (λ e. MayRefuse self.old vetted e.1) }
         ensures confined { IsConfined self.new.marked.bytes }
     {
@@ -228,19 +228,18 @@ impl<A: Acts + Drop> RegionOf<A> {
         Ok(())
     }
 
-    /// Replaces instructions of a live chunk by others of the same lengths, while threads may be running: one after the
-    /// other, rising. One whose bytes stay gets no put; one of a single byte gets one put; of a longer one the first byte
-    /// becomes a stop, then its further bytes are put, then its first byte, and the region settles before the further bytes
-    /// and after them. A refusal changes nothing. It takes no memory.
+    /// Replaces instructions of a live chunk with others of the same lengths while threads may be running, one after the other
+    /// in ascending order. An instruction whose bytes stay the same gets no put, and one of a single byte gets one. For a
+    /// longer one a stop is put at its first byte, then its further bytes are put, then its first byte; the region settles
+    /// before and after the further bytes. A refusal changes nothing. No memory is allocated.
     ///
-    /// The new bytes are instructions that lie in one bundle, each takes the place of one that is as long, and direct
-    /// transfers keep the rule of a valid chunk. The mask of an indirect transfer keeps its bytes, and an indirect transfer
-    /// takes the place of one on the same register, and of nothing else: a masked jump may become a masked call, and a
-    /// masked call a masked jump.
+    /// The new bytes must be instructions in one bundle, each as long as the one it replaces, and their direct transfers must
+    /// follow the rule of a valid chunk. The mask of an indirect transfer keeps its bytes, and a new instruction is an indirect
+    /// transfer exactly if the old one is, and on the same register: a masked jump may become a masked call, and vice versa.
     pub fn modify(&mut self, at: u32, new: &[u8]) -> Result<(), ModifyFault>
-        // The new bytes stand there; all else is as before.
+        // The new bytes are in their place; all else is as before.
         ensures modified { OnOk result (IsModified self.old self.new at new.now) }
-        // Exactly the acts of a patch were done, where they are told.
+        // Exactly the acts of a patch were done, if acts are told.
         ensures acts { OnOk result ((news : List Piece) → AreBytesOf new.now news
             → Tells self.old.told self.new.told (acts_of_modify self.old.marked.bytes at news)) }
         // The region settled twice for each instruction of more than one byte that was replaced.
@@ -250,7 +249,7 @@ impl<A: Acts + Drop> RegionOf<A> {
         ensures lawful { OnOk result (IsPatch self.old at new.now) }
         // Text, marks, chunks and acts are as before.
         ensures unchanged { IfErr result (λ e. self.new ≡ self.old) }
-        // Each refusal comes exactly where it is due.
+        // Each refusal is returned exactly if it applies.
         ensures refused { IfErr result (MayRefusePatch self.old at new.now) }
         ensures confined { IsConfined self.new.marked.bytes }
     {
@@ -278,16 +277,17 @@ impl<A: Acts + Drop> RegionOf<A> {
         Ok(())
     }
 
-    /// Deletes the live chunk of this base: puts stops at its marked places, rising; settles; puts stops at its other places,
-    /// rising; then draws a stamp, and answers it. The chunk stays in the list, retired with that stamp, and its marks stay,
-    /// until every seat has checked in since or has left (`reclaim`). A refusal changes nothing. It takes no memory.
+    /// Deletes the live chunk with this base: puts stops at its marked places, settles, puts stops at its other places, each in
+    /// ascending order, then draws a stamp and returns it. The chunk stays in the list, retired with that stamp, and keeps its
+    /// marks until `reclaim` frees it, which needs every seat to have checked in since or left. A refusal changes nothing. No
+    /// memory is allocated.
     pub fn delete(&mut self, base: u32) -> Result<u64, DeleteFault>
-        // The chunk's bytes are stops, and it is retired with the answer as its stamp; all else is as before. Exactly the
-        // acts of a deletion were done, where they are told.
+        // The chunk's bytes are stops, and it is retired with the returned stamp; all else is as before. Exactly the acts of a
+        // deletion were done, if acts are told.
         ensures deleted { IfOk result (IsDeleted self.old self.new base) }
         // Text, marks, chunks, keeper and acts are as before.
         ensures unchanged { OnErr result (self.new ≡ self.old) }
-        // Each refusal comes exactly where it is due.
+        // Each refusal is returned exactly if it applies.
         ensures refused { IfErr result (MayRefuseDelete self.old base) }
         ensures confined { IsConfined self.new.marked.bytes }
     {
@@ -308,13 +308,14 @@ impl<A: Acts + Drop> RegionOf<A> {
         Ok(stamp)
     }
 
-    /// Looks how far the seats have come; unmarks and takes out of the list every retired chunk with a stamp of at most the
-    /// answer, rising; and answers how many these were. Their spans may be used again. It takes no memory and has no refusal.
+    /// Looks at the seats' words; unmarks every retired chunk with a stamp of at most the keeper's least number, in ascending
+    /// order, and removes it from the list; returns the number of these chunks. Their spans may be used again. No memory is
+    /// allocated, and the call can't fail.
     ///
-    /// Not promised: that any chunk is ever freed. A seat that neither checks in nor leaves holds back each later stamp.
+    /// Not promised: that any chunk is ever freed. A seat that neither checks in nor leaves holds back every later stamp.
     pub fn reclaim(&mut self) -> u32
-        // Exactly the chunks that are due are gone; the keeper has looked, and all else is as before. Exactly the acts of a
-        // reclaiming were done, where they are told.
+        // Exactly the chunks that are due have been removed; the keeper has looked, and all else is as before. Exactly the acts
+        // of a reclaim were done, if acts are told.
         ensures reclaimed { IsReclaimed self.old self.new result }
         ensures confined { IsConfined self.new.marked.bytes }
     {
@@ -323,8 +324,8 @@ impl<A: Acts + Drop> RegionOf<A> {
         remove_due(&mut self.chunks, least)
     }
 
-    /// A pass and the region's keeper learn where the other stands, as by `Gens::meet`. It takes no memory, and changes
-    /// nothing else.
+    /// A pass and the region's keeper meet, as by `Gens::meet`: the pass sees the generation, and the keeper the pass's word.
+    /// No memory is allocated, and nothing else changes.
     pub fn meet(&mut self, pass: &mut Pass)
         requires { pass.old.table ≡ self.old.keeper.table }
         ensures met { HasMet pass.old self.old.keeper pass.new self.new.keeper }
@@ -333,24 +334,24 @@ impl<A: Acts + Drop> RegionOf<A> {
         self.acts.meet(pass);
     }
 
-    /// A walk from a bundle start of the region, as these choices pick its steps: the places over which it goes, and how
-    /// it ends.
+    /// A walk from a bundle start of the region, with its steps picked by these choices: the places that it visits, and how it
+    /// ends.
     ///
-    /// At a branch the choice 0 falls through, and every other one goes to the target. An indirect transfer goes to the
-    /// choice with its low five bits cleared, if that is below the limit. Each other step uses up a choice too. The
-    /// walk ends below the region, at a stop, where no choice is left, or by an indirect transfer to the limit or above
-    /// it; choices that are left then are ignored. Only its places take memory, and the region stays as it is.
+    /// At a branch the choice 0 falls through, and any other goes to the target. An indirect transfer goes to the choice with
+    /// its low five bits cleared, if that is below the limit. Every other step uses up a choice too. The walk ends below the
+    /// region, at an instruction that goes nowhere, when no choice is left, or by an indirect transfer to the limit or above
+    /// it; remaining choices are ignored. Memory is allocated only for the places, and the region is unchanged.
     ///
-    /// Nothing is executed: the choices stand for what data and flags would decide. `NotBundle` is answered without memory.
+    /// Nothing is executed: the choices stand in for data and flags. `NotBundle` is returned without allocating memory.
     pub fn walk(&self, start: u32, choices: &[u32]) -> Result<Trace, WalkFault>
-        // Its places are those of a walk of the machine, and its end is the first that comes.
+        // The places are those of a walk of the machine, and the end is the first that applies.
         ensures trace { IfOk result (λ t. IsTrace self.now.marked.bytes start choices.now t.places.items t.end) }
-        // The start and the choices determine them.
+        // The start and the choices determine places and end.
         ensures only { IfOk result (λ t. IsOnlyTrace self.now.marked.bytes start choices.now t.places.items t.end) }
-        // The machine stands only on safe states.
+        // Each state of the walk is safe.
         ensures safe { IfOk result (λ t. IsSafeWalk self.now.marked.bytes start choices.now t.end) }
         ensures begins { OnOk result (IsWalkStart self.now.marked.bytes start) }
-        // Each refusal comes where it is due.
+        // Each refusal is returned only if it applies.
         ensures refused { IfErr result (MayRefuseWalk self.now.marked.bytes start) }
     {
         if start < START || start >= self.acts.limit() || start % BUNDLE != 0 {

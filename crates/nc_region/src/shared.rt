@@ -1,4 +1,4 @@
-//! A region behind its lock, which threads share.
+//! A region behind a lock, shared by threads.
 
 ghost use Rattle.std.specs.Prelude.{◌≡◌, ◌+◌, ◌≤◌, ℕ, List, IfOk, IfErr, OnOk};
 ghost use Rattle.nc_gens.specs.Rule.{generation_taken, since_stored};
@@ -21,17 +21,17 @@ use nc_vet::Vetted;
 use std::marker::Model;
 use std::sync::{Mutex, Wait};
 
-/// A region over a text that tells nothing of its acts, shared by threads.
+/// A region that doesn't tell its acts, shared by threads.
 pub type Shared<'g> = SharedOf<'g, Plain<'g>>;
 
 /// A region that threads share by reference, behind a lock.
 ///
-/// Whenever the lock is free the region is confined, since every value of `RegionOf` is. Each call takes the lock and
-/// runs the call of `RegionOf` with its name; it may wait for the lock, and nothing is promised of who comes first. What
-/// a call finds under the lock and leaves there is what the call of `RegionOf` promises of it. No clause can name the region
-/// at the moment when the lock is held, so those of these calls say that some region was found from which the answer comes.
+/// Whenever the lock is free the region is confined, since every value of `RegionOf` is. Each call takes the lock and runs
+/// the call of `RegionOf` with the same name; it may wait for the lock, and no order of waiting threads is promised. The
+/// region is changed under the lock as the contract of that call says. No clause can name the region at the moment when the
+/// lock is held, so the clauses here say that there was some region to which the result belongs.
 ///
-/// Threads can share it if its acts may go to another thread.
+/// Threads can share it if its acts can be sent to another thread.
 #[derive(Drop)]
 pub struct SharedOf<'g, A: Acts + Drop> {
     gens: &'g Gens,
@@ -73,8 +73,8 @@ impl<'g, A: Acts + Drop> SharedOf<'g, A> {
 
     /// `Gens::check_in`, without the lock: it never waits, whatever other threads do or hold.
     ///
-    /// To be called while the seat's thread is outside the region: that can be seen in no contract here, and reclaiming
-    /// rests on it.
+    /// Call it only while the seat's thread is outside the region: no contract here can express this, and reclaiming relies
+    /// on it.
     pub fn check_in(&self, pass: &mut Pass)
         requires { pass.old.table ≡ self.now }
         ensures same { (pass.new.table ≡ pass.old.table) × (pass.new.seat ≡ pass.old.seat) }
@@ -89,7 +89,7 @@ impl<'g, A: Acts + Drop> SharedOf<'g, A> {
         self.gens.check_in(pass);
     }
 
-    /// `Gens::leave`, without the lock: it never waits. To be called while the seat's thread is outside the region, for good.
+    /// `Gens::leave`, without the lock: it never waits. Call it only while the seat's thread is outside the region, for good.
     pub fn leave(&self, pass: Pass)
         requires { pass.table ≡ self.now }
     {
@@ -98,10 +98,10 @@ impl<'g, A: Acts + Drop> SharedOf<'g, A> {
 
     /// `Region::delete` under the lock.
     pub fn delete(&self, rt: &impl Wait, base: u32) -> Result<u64, DeleteFault>
-        // Whatever region was found under the lock, a live chunk of this base was deleted there, with this stamp.
+        // The live chunk with this base was deleted in the region found under the lock, with this stamp.
         ensures deleted { IfOk result (λ stamp. (old new : spec.Region) × IsRegion old.marked old.chunks
             × IsDeleted old new base stamp) }
-        // A refusal is one that a region gives.
+        // The refusal is one that some region may return.
         ensures refused { IfErr result (λ fault. (r : spec.Region) × IsRegion r.marked r.chunks × MayRefuseDelete r base fault) }
     {
         delete_in(&mut self.region.lock(rt), base)
@@ -120,9 +120,9 @@ impl<'g, A: Acts + Drop> SharedOf<'g, A> {
     /// `Region::create` under the lock. A refusal gives the chunk back.
     pub fn create(&self, rt: &impl Wait, vetted: Vetted) -> Result<(), (Vetted, CreateFault)>
         ensures given_back { IfErr result (λ e. e.0 ≡ vetted) }
-        // Whatever region was found under the lock, the chunk was created there.
+        // The chunk was created in the region found under the lock.
         ensures created { OnOk result ((old new : spec.Region) × IsRegion old.marked old.chunks × IsCreated old new vetted) }
-        // A refusal is one that a region gives.
+        // The refusal is one that some region may return.
         ensures refused { IfErr result (λ e. (r : spec.Region) × IsRegion r.marked r.chunks × MayRefuse r vetted e.1) }
     {
         create_in(&mut self.region.lock(rt), vetted)
@@ -130,28 +130,28 @@ impl<'g, A: Acts + Drop> SharedOf<'g, A> {
 
     /// `Region::modify` under the lock.
     pub fn modify(&self, rt: &impl Wait, at: u32, new: &[u8]) -> Result<(), ModifyFault>
-        // Whatever region was found under the lock, the patch is a lawful one of it.
+        // The patch is a lawful one of the region found under the lock.
         ensures lawful { OnOk result ((r : spec.Region) × IsRegion r.marked r.chunks × IsPatch r at new.now) }
-        // A refusal is one that a region gives.
+        // The refusal is one that some region may return.
         ensures refused { IfErr result (λ fault. (r : spec.Region) × IsRegion r.marked r.chunks × MayRefusePatch r at new.now fault) }
     {
         modify_in(&mut self.region.lock(rt), at, new)
     }
 
-    /// `Region::walk` under the lock: the trace through the text that stood there at that moment. By contract some confined
-    /// text has this trace.
+    /// `Region::walk` under the lock: the trace through the text at that moment. The contract says that some confined text has
+    /// this trace.
     pub fn walk(&self, rt: &impl Wait, start: u32, choices: &[u32]) -> Result<Trace, WalkFault>
-        // Whatever text was found under the lock, it is confined, and this is a walk through it from a bundle start of it.
+        // The text found under the lock is confined, and this is a walk through it from one of its bundle starts.
         ensures trace { IfOk result (λ t. (text : List ℕ) × IsConfined text × IsWalkStart text start
             × IsTrace text start choices.now t.places.items t.end) }
-        // A refusal is one that a text of a lawful size gives.
+        // The refusal is one that some text of a lawful size may return.
         ensures refused { IfErr result (λ e. (text : List ℕ) × IsLawfulLimit (limit_of text) × MayRefuseWalk text start e) }
     {
         walk_confined(&self.region.lock(rt), start, choices)
     }
 }
 
-/// A chunk created in a region.
+/// Creates a chunk in a region.
 fn create_in<A: Acts + Drop>(
     region: &mut RegionOf<A>,
     vetted: Vetted,
@@ -160,12 +160,12 @@ fn create_in<A: Acts + Drop>(
     ensures created { OnOk result ((old new : spec.Region) × IsRegion old.marked old.chunks × IsCreated old new vetted) }
     ensures refused { IfErr result (λ e. (r : spec.Region) × IsRegion r.marked r.chunks × MayRefuse r vetted e.1) }
 {
-    // Called for what it ensures.
+    // Called for its postconditions.
     let _facts = region.limit();
     region.create(vetted)
 }
 
-/// A patch of a region.
+/// Patches a region.
 fn modify_in<A: Acts + Drop>(
     region: &mut RegionOf<A>,
     at: u32,
@@ -174,18 +174,18 @@ fn modify_in<A: Acts + Drop>(
     ensures lawful { OnOk result ((r : spec.Region) × IsRegion r.marked r.chunks × IsPatch r at new.now) }
     ensures refused { IfErr result (λ fault. (r : spec.Region) × IsRegion r.marked r.chunks × MayRefusePatch r at new.now fault) }
 {
-    // Called for what it ensures.
+    // Called for its postconditions.
     let _facts = region.limit();
     region.modify(at, new)
 }
 
-/// A chunk of a region deleted.
+/// Deletes a chunk of a region.
 fn delete_in<A: Acts + Drop>(region: &mut RegionOf<A>, base: u32) -> Result<u64, DeleteFault>
     ensures deleted { IfOk result (λ stamp. (old new : spec.Region) × IsRegion old.marked old.chunks
         × IsDeleted old new base stamp) }
     ensures refused { IfErr result (λ fault. (r : spec.Region) × IsRegion r.marked r.chunks × MayRefuseDelete r base fault) }
 {
-    // Called for what it ensures.
+    // Called for its postconditions.
     let _facts = region.limit();
     region.delete(base)
 }
@@ -200,7 +200,7 @@ fn walk_confined<A: Acts + Drop>(
         × IsTrace text start choices.now t.places.items t.end) }
     ensures refused { IfErr result (λ e. (text : List ℕ) × IsLawfulLimit (limit_of text) × MayRefuseWalk text start e) }
 {
-    // Called for what it ensures.
+    // Called for its postconditions.
     let _facts = region.chunk_count();
     region.walk(start, choices)
 }

@@ -1,4 +1,4 @@
-//! Walks through a text: one state after the other, each transfer as a choice picks it.
+//! Walks through a text: one state after the other, with each step picked by a choice.
 
 ghost use Rattle.std.specs.Prelude.{◌≡◌, ◌≢◌, ℕ, ◌+◌, ◌-◌, ◌%◌, ◌^◌, ◌<◌, ◌≤◌, List, ◌∷◌, Some, IsTrue, IsSomeAnd, IfOk, IfErr, IfSome};
 ghost use Rattle.std.specs.Prelude.{IfNone, slice_index};
@@ -14,10 +14,10 @@ use crate::trace::{End, Trace};
 use nc_decode::{BUNDLE, Flow, Instr, START, decode};
 use std::alloc::{AllocError, Global};
 
-/// How many bytes of an instruction are read first.
+/// The number of bytes that are read first for an instruction.
 const FEW: u32 = 6;
 
-/// Where a thread stands, and the register that the instruction just executed has masked.
+/// The place of a thread, and the register that the instruction just executed has masked.
 #[derive(Clone, Copy, Drop)]
 struct State {
     place: u32,
@@ -25,7 +25,7 @@ struct State {
 }
 
 impl State {
-    /// The state of a thread that comes to a place by a transfer, which masks nothing.
+    /// The state of a thread that reaches a place by a transfer, which masks nothing.
     fn at(place: u32) -> State
         ensures { result ≡ record { place = place; masked = None } }
     {
@@ -36,7 +36,7 @@ impl State {
     }
 }
 
-/// The trace of a walk from a bundle start of the region. Only its places take memory.
+/// The trace of a walk from a bundle start of the region. Memory is allocated only for its places.
 pub(crate) fn walk_from<A: Acts>(
     alloc: Global,
     acts: &A,
@@ -81,7 +81,7 @@ fn step<A: Acts>(acts: &A, now: State, choice: u32) -> Result<State, End>
     next(instr, now, choice, acts.limit()).ok_or(End::Beyond)
 }
 
-/// The instruction that leads on from a safe state, or how the walk ends there whatever the choices are.
+/// The instruction that continues the walk from a safe state, or how the walk ends there for any choices.
 fn instruction_or_end<A: Acts>(acts: &A, now: State) -> Result<Instr, End>
     requires whole { IsText (A.marked acts.now) }
     requires safe { IsSafe (A.marked acts.now).bytes (state now.place now.masked) }
@@ -100,8 +100,7 @@ fn instruction_or_end<A: Acts>(acts: &A, now: State) -> Result<Instr, End>
     Ok(instr)
 }
 
-/// The instruction that stands at a place, wholly inside its bundle. Few instructions are longer than six bytes, so these
-/// are read first.
+/// The instruction at a place, wholly inside its bundle. Few instructions are longer than six bytes, so six are read first.
 pub(crate) fn instruction<A: Acts>(acts: &A, at: u32) -> Instr
     requires whole { IsText (A.marked acts.now) }
     requires inside { InRegion (A.marked acts.now).bytes at }
@@ -122,7 +121,7 @@ pub(crate) fn instruction<A: Acts>(acts: &A, at: u32) -> Instr
     instr
 }
 
-/// `len` bytes from an address on, in its bundle, and zeros after them.
+/// The `len` bytes from an address on, in its bundle, followed by zeros.
 fn read<A: Acts>(acts: &A, at: u32, len: u32) -> [u8; 32]
     requires whole { IsText (A.marked acts.now) }
     requires inside { InRegion (A.marked acts.now).bytes at }
@@ -136,7 +135,7 @@ fn read<A: Acts>(acts: &A, at: u32, len: u32) -> [u8; 32]
     bytes
 }
 
-/// The state to which a choice leads by an instruction, if that isn't at the limit or above it.
+/// The state to which a choice leads from an instruction, unless that is at the limit or above it.
 fn next(instr: Instr, now: State, choice: u32, limit: u32) -> Option<State>
     requires goes { instr.flow ≢ Flow.Stop }
     requires masked { IsMaskedFor instr.flow instr.reg now.masked }
@@ -158,8 +157,7 @@ fn next(instr: Instr, now: State, choice: u32, limit: u32) -> Option<State>
     }
 }
 
-/// Where an indirect transfer goes on this choice: to the choice with its low five bits cleared, if that is below the
-/// limit.
+/// The target of an indirect transfer on this choice: the choice with its low five bits cleared, if that is below the limit.
 fn masked_target(choice: u32, limit: u32) -> Option<State>
     ensures below { IfSome result (λ next. (next.place ≡ bundle_of choice) × (next.masked ≡ None) × IsBundleStart next.place
         × (next.place < limit)) }

@@ -1,4 +1,4 @@
--- What the program has done.
+-- The effects of the program.
 use Rattle.std.specs.Prelude.{◌≢◌, ◌⊎◌, ℕ, List, Option, Result, Ok, Err, OnOk, IfErr, IfSome, IsErrOf, ⊤}
 use Rattle.std.specs.Io.KnownBytes.{Consumes, IsAtEnd}
 use Rattle.nc_gens.specs.Seen.{AreSeats}
@@ -14,20 +14,20 @@ use Rattle.nc_script.specs.Answers.{AnswersOnly, new_script}
 use Rattle.nc_script.specs.Run.{HasAnswered}
 use Rattle.nc_lines.specs.Vetting.{HasVetted, HasBegunVetted}
 
--- what holds where the program stopped at its command line
+-- `P` holds if the program stopped at its command line
 abbrev pub IfWords : {T : Type 0} → Result T Halt → Type 0 → Type 0
 IfWords (Ok x) P = ⊤
 IfWords (Err (Words error)) P = P
 IfWords (Err (Fault fault)) P = ⊤
 
--- what holds of the outcome where the program went on after its command line
+-- `P` holds for the outcome if the program continued after its command line
 abbrev pub IfRun : {T : Type 0} → Result T Halt → (Result T ReplayFault → Type 0) → Type 0
 IfRun (Ok x) P = P (Ok x)
 IfRun (Err (Words error)) P = ⊤
 IfRun (Err (Fault fault)) P = P (Err fault)
 
--- a script was run with numbers in range, with this outcome and these bytes read and written: what `run` of nc_script
--- ensures
+-- a script was run with numbers in range, with this outcome and these bytes read and written: the contract of `run` of
+-- nc_script
 pub record HasReplayed {T : Type 0} (untouched : Type 0) (input left before after : Option (List ℕ))
     (outcome : Result T ReplayFault) : Type 0 where
   pub bundles : ℕ
@@ -43,8 +43,8 @@ pub record HasReplayed {T : Type 0} (untouched : Type 0) (input left before afte
   pub out_of_memory : IsErrOf outcome OutOfMemory → untouched
       ⊎ IfSome input (λ bytes. IsCutShort AnswersOnly (new_script bundles seats) before after (lines_of bytes))
 
--- lines of chunks were vetted with numbers in range, with this outcome and these bytes read and written: what
--- `vet_lines` of nc_lines ensures
+-- lines of chunks were vetted with numbers in range, with this outcome and these bytes read and written: the contract of
+-- `vet_lines` of nc_lines
 pub record HasVettedLines {T : Type 0} (unwritten : Type 0) (input left before after : Option (List ℕ))
     (outcome : Result T ReplayFault) : Type 0 where
   pub bundles : ℕ

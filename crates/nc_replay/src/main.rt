@@ -1,8 +1,8 @@
 //! The program `nc_replay`: scripts for a code region, and chunks to be vetted, from standard input to standard output.
 //!
 //! It has two subcommands. `replay` runs a script: it creates, patches, deletes and reclaims chunks in a code region, walks
-//! through them and shows them. `vet` only vets chunks, several at a time. `ask` of `nc_command` reads the command line, and
-//! `start` does what it asks for over any reader and writer, by the calls of `nc_script`.
+//! through them and shows them. `vet` only vets chunks, several at a time. `ask` of `nc_command` parses the command line, and
+//! `start` carries it out over any reader and writer, by the calls of `nc_script` and `nc_lines`.
 #![tactic(auto)]
 
 ghost use Rattle.std.specs.Prelude.{◌≡◌, ◌⊎◌};
@@ -21,7 +21,7 @@ use std::rt::Env;
 use std::sync::Wait;
 use std::thread::Threads;
 
-/// Does what the command line asks for, and writes to this writer.
+/// Carries out the command line, and writes to this writer.
 fn run_words<R: Threads + Wait + Sync + Env + AllocGlobal + Input, W: Write>(
     rt: &R,
     writer: &mut W,
@@ -42,19 +42,19 @@ fn run_words<R: Threads + Wait + Sync + Env + AllocGlobal + Input, W: Write>(
     }
 }
 
-/// Prints a fault as one line on standard error. Where that can't be done nothing else is left to do.
+/// Prints a fault as one line on standard error. If that fails, nothing else is left to do.
 fn say<R: Eprint>(rt: &R, fault: ReplayFault) {
     let _ = eprintln!(rt; "nc_replay: {fault}");
 }
 
-/// Prints a failed write, unless nobody reads what is written.
+/// Prints that a write failed, unless the reader of the output is gone.
 fn say_unwritten<R: Eprint>(rt: &R, is_closed: bool) {
     if !is_closed {
         say(rt, ReplayFault::WriteFailed);
     }
 }
 
-/// Prints why the program stops, and gives the status to end with: 1 also where help can't be printed.
+/// Prints why the program stops, and returns the exit status, which is 1 also if help can't be printed.
 fn stop<R: Print + Eprint>(rt: &R, halt: &Halt, is_closed: bool) -> u8
     ensures { (result ≡ status_of halt.now) ⊎ ((status_of halt.now ≡ 0) × (result ≡ 1)) }
 {

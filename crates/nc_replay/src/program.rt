@@ -1,4 +1,4 @@
-//! The program over any words, reader and writer.
+//! The program, over any words, reader and writer.
 
 ghost use Rattle.std.specs.Prelude.{◌≡◌, ◌⊎◌};
 ghost use Rattle.nc_replay.specs.Start.{IfWords, IfRun, HasReplayed, HasVettedLines};
@@ -17,15 +17,14 @@ use std::thread::Threads;
 /// Why the program stops before its work is done.
 #[derive(Debug, Drop)]
 pub enum Halt {
-    /// The words of the command line ask for nothing that can be done, or for help.
+    /// The words of the command line can't be carried out, or ask for help.
     Words(clap::Error),
-    /// A script or the lines of chunks could not be answered whole.
+    /// A script or the lines of chunks could not be answered completely.
     Fault(ReplayFault),
 }
 
 impl Halt {
-    /// The status that the program ends with: 0 after help, 2 for a fault of the command line, and 1 for any other fault,
-    /// also for lack of memory.
+    /// The exit status: 0 after help, 2 for a fault of the command line, and 1 for any other fault, also for lack of memory.
     pub fn status(&self) -> u8
         ensures { result ≡ status_of self.now }
     {
@@ -40,8 +39,8 @@ impl Halt {
     }
 }
 
-/// Does what the words of a command line ask for, without the program's own name: runs a script, or vets lines of
-/// chunks by workers.
+/// Carries out the words of a command line, given without the program's own name: runs a script, or vets lines of chunks by
+/// workers.
 pub fn start<'a, T: Threads + Wait + Sync, R: Read, W: Write>(
     rt: &T,
     alloc: Global,

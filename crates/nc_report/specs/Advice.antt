@@ -21,7 +21,7 @@ use Rattle.nc_report.specs.declared.words.TheConstants.{ENTRY_MARK, PAUSE, TRAIL
 use Rattle.nc_report.specs.declared.words.TheConstants.{SEGMENT_REGISTER, ADDRESS_SIZE, POP_MEMORY, FRAME, FLAGS, ALL_REGISTERS}
 use Rattle.nc_report.specs.declared.words.TheConstants.{TABLE_BYTE, LOCK, REPEAT, OPERAND_SIZE}
 
--- the words on a kind of instruction: what it is, and how code is built without it
+-- the words about a kind of instruction: what it is, and how to build code without it
 abbrev pub words_on : Kind → List ℕ
 words_on General = GENERAL.now
 words_on Return = RETURN.now
@@ -56,11 +56,11 @@ words_on Lock = LOCK.now
 words_on Repeat = REPEAT.now
 words_on OperandSize = OPERAND_SIZE.now
 
--- the first three bytes as one number, of which the first has the highest bits; 0 stands for bytes that aren't there
+-- the first three bytes as one big-endian number; a missing byte counts as 0
 abbrev pub key_of : List ℕ → ℕ
 key_of bytes = (slice_index bytes 0 * 256 + slice_index bytes 1) * 256 + slice_index bytes 2
 
--- the kind in the first row whose key these bytes have where its mask has bits; without one nothing more is known
+-- the kind in the first row such that `key` masked with the row's mask is the row's key; `General` if there is none
 abbrev pub kind_in : List Row → ℕ → Kind
 kind_in [] key = General
 kind_in (row ∷ rows) key = if bit_and key row.mask == row.key then row.kind else kind_in rows key
@@ -69,7 +69,7 @@ kind_in (row ∷ rows) key = if bit_and key row.mask == row.key then row.kind el
 abbrev pub is_cut_prefix : ℕ → ℕ → Bool
 is_cut_prefix at byte = at % 32 == 31 && (byte == 0xF0 || byte == 0xF2 || byte == 0xF3)
 
--- what a fault means; the bytes are those from its place on, or all of the code where it has none
+-- what a fault means; the bytes are those from its place on, or all of the code if it has no place
 abbrev pub meaning_of : VetFault → List ℕ → List ℕ
 meaning_of BadBase bytes = BAD_BASE.now
 meaning_of BadLength bytes = if length bytes == 0 then EMPTY_FILE.now else BAD_LENGTH.now
@@ -80,11 +80,11 @@ meaning_of (Bare at) bytes = BARE.now
 meaning_of (BadTarget at) bytes = BAD_TARGET.now
 meaning_of OutOfMemory bytes = NO_MEMORY.now
 
--- the first four bytes of an ELF file: 7F, and its name
+-- the bytes begin as an ELF file does: 7F, then `ELF`
 abbrev pub is_elf : List ℕ → Bool
 is_elf code = key_of code == 0x7F454C && slice_index code 3 == 0x46
 
--- how an archive of objects begins, as `ar` makes it
+-- the bytes begin as an archive made by `ar` does
 abbrev pub is_archive : List ℕ → Bool
 is_archive code = starts_with nat_eq code (codes "!<arch>\n")
 
@@ -92,11 +92,11 @@ is_archive code = starts_with nat_eq code (codes "!<arch>\n")
 abbrev pub is_of_text : ℕ → Bool
 is_of_text byte = (nat_le 0x20 byte && nat_lt byte 0x7F) || byte == 0x09 || byte == 0x0A || byte == 0x0D
 
--- a text: the bytes that would be the first bundle, or all if there are fewer, are characters, and there is one
+-- the bytes begin as text does: the first 32, or all if there are fewer, are characters, and there is at least one
 abbrev pub is_text : List ℕ → Bool
 is_text code = nat_lt 0 (length code) && list_all is_of_text (take 32 code)
 
--- what is said of a fault at a place of some code, 0 where it has none: of an ELF file, an archive and a text, that it is one
+-- the words about a fault at a place of the code, 0 if it has none: for an ELF file, an archive or text, that it is one
 abbrev pub words_about : List ℕ → VetFault → ℕ → List ℕ
 words_about code fault place =
     if is_elf code then ELF_FILE.now

@@ -1,4 +1,4 @@
--- How long an instruction is, whether or not it is permitted (Intel SDM volume 2, chapter 2 and appendix A).
+-- The length of an instruction, whether or not it is permitted (Intel SDM volume 2, chapter 2 and appendix A).
 use Rattle.std.specs.Prelude.{ℕ, ◌+◌, ◌%◌, Bool, List, [], ◌∷◌, length, take, drop, get_or, slice_index, Option, Some, None}
 use Rattle.std.specs.Prelude.{◌==◌, ◌&&◌, ◌||◌, nat_le, nat_lt, if◌then◌else◌}
 use Rattle.std.specs.List.{list_any, prefix_len}
@@ -12,7 +12,7 @@ use Rattle.nc_report.specs.declared.lengths.Form.TheVariants.{Unknown, Alone, Op
 use Rattle.nc_report.specs.declared.lengths.Head.{Head}
 use Rattle.nc_report.specs.declared.lengths.TheConstants.{ONE_BYTE, TWO_BYTE}
 
--- the most bytes that an instruction has, 15
+-- the greatest length of an instruction, in bytes
 abbrev pub longest : ℕ
 longest = 15
 
@@ -20,11 +20,11 @@ longest = 15
 abbrev pub has : ℕ → List ℕ → Bool
 has byte before = list_any (λ b. b == byte) before
 
--- the bytes of a number whose size the prefix 66 chooses
+-- the length of a number whose size depends on the prefix 66
 abbrev pub sized : List ℕ → ℕ
 sized before = if has 0x66 before then 2 else 4
 
--- the bytes of a number after these prefixes, and after this ModRM if there is one
+-- the length of a number after these prefixes, and after this ModRM if there is one
 abbrev pub number_size : Number → List ℕ → ℕ → ℕ
 number_size Absent before modrm = 0
 number_size Byte before modrm = 1
@@ -37,18 +37,18 @@ number_size TestByte before modrm = if nat_lt (reg_of modrm) 2 then 1 else 0
 number_size TestSized before modrm = if nat_lt (reg_of modrm) 2 then sized before else 0
 number_size Field before modrm = if has 0x66 before || has 0xF2 before then 2 else 0
 
--- the bytes of ModRM and its tail where addresses have 16 bits
+-- the length of ModRM and its displacement with 16-bit addresses
 abbrev pub short_operand_len : ℕ → ℕ
 short_operand_len modrm =
     if mod_of modrm == 1 then 2
     else (if mod_of modrm == 2 then 3
     else (if mod_of modrm == 0 && rm_of modrm == 6 then 3 else 1))
 
--- the bytes of ModRM and its tail after these prefixes
+-- the length of ModRM, SIB and displacement after these prefixes
 abbrev pub operand_size : List ℕ → ℕ → ℕ → ℕ
 operand_size before modrm sib = if has 0x67 before then short_operand_len modrm else operand_len modrm sib
 
--- the bytes after an opcode of this form, if it is known, of which the first two are these
+-- the number of bytes after an opcode of this form, if it is known; the first two of them are `modrm` and `sib`
 abbrev pub tail_len : Form → List ℕ → ℕ → ℕ → Option ℕ
 tail_len Unknown before modrm sib = None
 tail_len (Alone number) before modrm sib = Some (number_size number before modrm)
@@ -59,25 +59,25 @@ tail_len Registers before modrm sib = Some 1
 abbrev pub vector_with_byte : List ℕ
 vector_with_byte = 0x70 ∷ 0x71 ∷ 0x72 ∷ 0x73 ∷ 0xC2 ∷ 0xC4 ∷ 0xC5 ∷ 0xC6 ∷ []
 
--- the form of an opcode after VEX, by its map: 1 stands for 0F, 2 for 0F 38, 3 for 0F 3A
+-- the form of an opcode after VEX, by its map: 1 is 0F, 2 is 0F 38, 3 is 0F 3A
 abbrev pub vector_form : ℕ → ℕ → Form
 vector_form map opcode =
     if map == 1 then (if opcode == 0x77 then Alone Absent else (if among vector_with_byte opcode then Operand Byte else Operand Absent))
     else (if map == 2 then Operand Absent
     else (if map == 3 then Operand Byte else Unknown))
 
--- the form of an opcode after EVEX, which has the maps 5 and 6 too
+-- the form of an opcode after EVEX, which also has maps 5 and 6
 abbrev pub evex_form : ℕ → ℕ → Form
 evex_form map opcode = if map == 5 || map == 6 then Operand Absent else vector_form map opcode
 
--- the form of the opcodes of XOP, by their map
+-- the form of an XOP opcode, by its map
 abbrev pub xop_form : ℕ → Form
 xop_form map =
     if map == 8 then Operand Byte
     else (if map == 9 then Operand Absent
     else (if map == 10 then Operand Sized else Unknown))
 
--- the bytes up to the opcode's last one, and the form of the opcode
+-- the number of bytes up to the last one of the opcode, and the opcode's form
 abbrev pub to_opcode : ℕ → Form → Head
 to_opcode len form = record { len = len; form = form }
 
@@ -88,8 +88,8 @@ escaped second =
     else (if second == 0x3A then to_opcode 3 (Operand Byte)
     else to_opcode 2 (get_or TWO_BYTE second Unknown))
 
--- the head of an instruction without prefixes. C4, C5 and 62 before a byte of which both highest bits are set are VEX
--- and EVEX, and 8F before a map of at least 8 is XOP. A byte that isn't there counts as 0.
+-- The head of an instruction without prefixes. C4, C5 and 62 are VEX and EVEX if the two highest bits of the next byte are
+-- set, and 8F is XOP if the map after it is at least 8. A missing byte counts as 0.
 abbrev pub head_of : List ℕ → Head
 head_of bytes =
     let first = slice_index bytes 0 in
@@ -105,18 +105,18 @@ head_of bytes =
 abbrev pub at_most : ℕ → ℕ → Option ℕ
 at_most room whole = if nat_le whole room then Some whole else None
 
--- the length of `head` bytes and a tail, if there is one, and if it is at most `room`
+-- the length of `head` bytes and a tail, if there is a tail and the length is at most `room`
 abbrev pub with_tail : ℕ → ℕ → Option ℕ → Option ℕ
 with_tail room head None = None
 with_tail room head (Some tail) = at_most room (head + tail)
 
--- the length of an instruction, with these prefixes before it, if it is at most `room`
+-- the length of an instruction, counting these prefixes before it, if it is at most `room`
 abbrev pub length_after : ℕ → List ℕ → List ℕ → Option ℕ
 length_after room before rest =
     let h = head_of rest in
     with_tail room (length before + h.len) (tail_len h.form before (slice_index rest h.len) (slice_index rest (h.len + 1)))
 
--- the length of the instruction at the front, in these bytes
+-- the length of the instruction at the front of these bytes, if it is known and ends within them
 abbrev pub length_in : List ℕ → Option ℕ
 length_in room =
     let prefixes = prefix_len (among leading) room in

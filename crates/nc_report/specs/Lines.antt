@@ -1,4 +1,4 @@
--- Lines of details: none has an end inside, so each stands after its two spaces.
+-- Lines of details: none contains a line end, so each begins with its two spaces.
 use Rattle.std.specs.Prelude.{◌≢◌, ◌⊎◌, ℕ, List, [], ◌∷◌, ⊤}
 use Rattle.nc_vet.specs.declared.fault.VetFault.{VetFault}
 use Rattle.nc_output.specs.declared.detail.Detail.{Detail}
@@ -15,7 +15,7 @@ abbrev pub AreOneLine : List (List ℕ) → Type 0
 AreOneLine [] = ⊤
 AreOneLine (line ∷ lines) = IsOneLine line × AreOneLine lines
 
--- no line of details, all or some first ones, has a byte 0A in it, whatever bytes the names of labels have
+-- no line of details, complete or cut short, contains a byte 0A, whatever bytes the names of labels contain
 abbrev pub KeepsLines : Type 0
 KeepsLines = (limit base : ℕ) (detail : Detail) (code : List ℕ) (labels : List Label) (fault : VetFault) (lines : List (List ℕ))
     → AreDetails limit base detail code labels fault lines ⊎ AreFirstDetails limit base detail code labels fault lines

@@ -1,20 +1,20 @@
--- A bundle in hexadecimal, with the instructions before a place of it set apart.
+-- A bundle in hexadecimal, with a bar after each instruction before a place of it.
 use Rattle.std.specs.Prelude.{◌≡◌, ℕ, ◌+◌, ◌-◌, ◌%◌, List, [], ◌∷◌, ◌++◌, codes, slice_range}
 use Rattle.std.specs.List.{flat_map}
 use Rattle.hex.specs.Hex.{encode_lower}
 use Rattle.nc_vet.specs.Chunk.{Piece, code_of, place, AreSpelled}
 use Rattle.nc_output.specs.Verdicts.{address_digits}
 
--- bytes, each after a space
+-- bytes in hexadecimal, each after a space
 abbrev pub spaced : List ℕ → List ℕ
 spaced bytes = flat_map (λ byte. 32 ∷ encode_lower (byte ∷ [])) bytes
 
--- instructions, each with a bar after it
+-- instructions in hexadecimal, each followed by a bar
 abbrev pub barred : List Piece → List ℕ
 barred pieces = flat_map (λ p. spaced p.bytes ++ codes " |") pieces
 
--- The line of a bundle whose first byte has this address: the address, the instructions that begin before a place of it,
--- each with a bar after it, and then the other bytes.
+-- The line that shows the bundle at this address: the address, the instructions before a place of the bundle, each followed
+-- by a bar, and then the other bytes.
 pub record ShowsBundle (address : ℕ) (bundle : List ℕ) (before : ℕ) (line : List ℕ) : Type 0 where
   pub pieces : List Piece
   pub rest : List ℕ
@@ -23,7 +23,7 @@ pub record ShowsBundle (address : ℕ) (bundle : List ℕ) (before : ℕ) (line 
   pub stands : place pieces ≡ before
   pub written : line ≡ address_digits address ++ (codes ":" ++ (barred pieces ++ (codes " >" ++ spaced rest)))
 
--- the line of the bundle in which an address of the code lies
+-- the line that shows the bundle containing an address of the code
 abbrev pub ShowsPlace : ℕ → List ℕ → ℕ → List ℕ → Type 0
 ShowsPlace base code at line =
     let before = (at - base) % 32 in

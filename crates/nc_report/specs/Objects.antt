@@ -1,4 +1,4 @@
--- Verdicts as objects of JSON (RFC 8259), each in a line of its own.
+-- Verdicts as JSON objects (RFC 8259), each on a line of its own.
 use Rattle.std.specs.Prelude.{ℕ, ◌-◌, List, [], ◌∷◌, ◌++◌, ◌==◌, ◌||◌, if◌then◌else◌, nat_le, nat_lt, codes, Option, Some, None}
 use Rattle.std.specs.List.{flat_map}
 use Rattle.std.specs.Fmt.{decimal}
@@ -9,21 +9,22 @@ use Rattle.nc_report.specs.declared.labels.Label.{Label}
 use Rattle.nc_report.specs.Labels.{label_at, offset_words}
 use Rattle.nc_report.specs.Advice.{words_about}
 
--- a byte in a string: after a backslash if it is a quotation mark or a backslash; by its number from 0 to 1F and from 7F on
+-- a byte in a string: after a backslash if it is a quotation mark or a backslash; as `\u00` and two digits if it is below 20
+-- or at least 7F
 abbrev pub escaped : ℕ → List ℕ
 escaped byte =
     if byte == 0x22 || byte == 0x5C then 0x5C ∷ byte ∷ []
     else (if nat_lt byte 0x20 || nat_le 0x7F byte then codes "\\u00" ++ encode_lower (byte ∷ []) else byte ∷ [])
 
--- bytes as a string
+-- bytes as a JSON string
 abbrev pub string_of : List ℕ → List ℕ
 string_of bytes = 0x22 ∷ (flat_map escaped bytes ++ 0x22 ∷ [])
 
--- the member that comes first, the name of a file
+-- the first member: the name of a file
 abbrev pub file_member : List ℕ → List ℕ
 file_member name = codes "{\"file\":" ++ string_of name
 
--- a later member whose value is a string, or a number
+-- a later member whose value is a string; the value of a `number_member` is a number
 abbrev pub string_member : List ℕ → List ℕ → List ℕ
 string_member name value = codes "," ++ (string_of name ++ (codes ":" ++ string_of value))
 
@@ -35,26 +36,26 @@ abbrev pub symbol_member : Option Label → ℕ → List ℕ
 symbol_member None at = []
 symbol_member (Some label) at = string_member (codes "symbol") (label.name.items ++ offset_words (at - label.address))
 
--- the members on a fault's address, if it has one, on the name of that, if it has a label, and on what the fault means
+-- the members for a fault's address, if it has one, the name of the address, if that has a label, and what the fault means
 abbrev pub place_members : ℕ → List ℕ → List Label → VetFault → Option ℕ → List ℕ
 place_members base code labels fault None = string_member (codes "meaning") (words_about code fault 0)
 place_members base code labels fault (Some at) =
     string_member (codes "at") (address_digits at) ++ (symbol_member (label_at labels at) at
     ++ string_member (codes "meaning") (words_about code fault (at - base)))
 
--- a source that is accepted
+-- the object for a source that is accepted
 abbrev pub accepted_object : ℕ → List ℕ → ℕ → ℕ → List ℕ
 accepted_object base name bytes instructions =
     file_member name ++ (string_member (codes "address") (address_digits base) ++ (string_member (codes "verdict") (codes "ok")
     ++ (number_member (codes "bytes") bytes ++ (number_member (codes "instructions") instructions ++ codes "}"))))
 
--- one that is refused, for a fault that has this address or none
+-- the object for a source that is refused, for a fault that has this address or none
 abbrev pub refused_object : ℕ → List ℕ → List ℕ → List Label → VetFault → Option ℕ → List ℕ
 refused_object base name code labels fault at =
     file_member name ++ (string_member (codes "address") (address_digits base) ++ (string_member (codes "verdict") (codes "refused")
     ++ (string_member (codes "fault") (fault_name fault) ++ (place_members base code labels fault at ++ codes "}"))))
 
--- the object of JSON for a file that is refused before any of it is judged: its name, the fault and what that means
+-- the object for a file that is refused before any of it is judged: its name, the fault, and what the fault means
 abbrev pub file_object : List ℕ → List ℕ → List ℕ → List ℕ
 file_object name fault meaning =
     file_member name ++ (string_member (codes "verdict") (codes "refused")

@@ -1,4 +1,4 @@
--- The addresses outside of a chunk that its direct transfers go to, and how many go to each.
+-- The addresses outside a chunk that its direct transfers target, and the number of transfers to each.
 use Rattle.std.specs.Prelude.{◌≡◌, ℕ, ◌+◌, ◌<◌, ◌≤◌, Bool, List, [], ◌∷◌, ◌++◌, ◌==◌, ◌&&◌, ◌||◌, if◌then◌else◌, nat_le, nat_lt}
 use Rattle.std.specs.Prelude.{length, map, replicate, codes, ⊤}
 use Rattle.std.specs.List.{flat_map}
@@ -13,37 +13,37 @@ use Rattle.nc_output.specs.Verdicts.{address_digits}
 abbrev pub is_outside : ℕ → ℕ → ℕ → Bool
 is_outside base len to = nat_lt to base || nat_le (base + len) to
 
--- the address outside that an instruction at this address transfers to, if it is a direct transfer to one
+-- the target of the instruction at this address, if it is a direct transfer to an address outside
 abbrev pub sent_outside : ℕ → ℕ → Instr → ℕ → List ℕ
 sent_outside base len i at = if is_direct i.flow && is_outside base len (target i at) then target i at ∷ [] else []
 
--- those of some instructions, of which the first is at this address, in their order
+-- the addresses outside that these instructions target, in order; the first instruction is at this address
 abbrev pub all_sent : ℕ → ℕ → ℕ → List Piece → List ℕ
 all_sent base len at [] = []
 all_sent base len at (p ∷ pieces) = sent_outside base len p.instr at ++ all_sent base len (at + length p.bytes) pieces
 
--- an address outside, and how many transfers go to it
+-- an address outside, and the number of transfers to it
 pub record OutsideRow : Type 0 where
   pub to : ℕ
   pub times : ℕ
 
--- each row has a transfer, and the addresses ascend from one on
+-- each row has at least one transfer, and the addresses ascend strictly, from `least` on
 abbrev pub AscendFrom : ℕ → List OutsideRow → Type 0
 AscendFrom least [] = ⊤
 AscendFrom least (row ∷ rows) = (0 < row.times) × (least ≤ row.to) × AscendFrom (row.to + 1) rows
 
--- The rows count these addresses: each stands in one row, with the number of its occurrences.
+-- The rows count these addresses: each distinct address has one row, with the number of its occurrences.
 pub record Counts (sent : List ℕ) (rows : List OutsideRow) : Type 0 where
   pub ascend : AscendFrom 0 rows
   pub same : IsPermutation sent (flat_map (λ row. replicate row.times row.to) rows)
 
--- how a row is written
+-- a row as text
 abbrev pub row_words : OutsideRow → List ℕ
 row_words row =
     codes "-> " ++ (address_digits row.to ++ (codes ": " ++ (decimal row.times
     ++ (if row.times == 1 then codes " transfer" else codes " transfers"))))
 
--- the lines on the addresses outside of a chunk that its direct transfers go to
+-- the lines about the addresses outside a chunk that its direct transfers target
 pub record ListsOutside (base : ℕ) (pieces : List Piece) (lines : List (List ℕ)) : Type 0 where
   pub rows : List OutsideRow
   pub counts : Counts (all_sent base (place pieces) base pieces) rows

@@ -1,4 +1,4 @@
--- The reading of a refused chunk from its first byte to its last: one step after the other, also past faults.
+-- The reading of a refused chunk from its first byte to its last, step by step and past its faults.
 use Rattle.std.specs.Prelude.{◌≡◌, ◌≢◌, ℕ, ◌+◌, ◌-◌, ◌/◌, ◌%◌, Bool, true, false, ◌==◌, List, [], ◌∷◌, drop, take, replicate}
 use Rattle.std.specs.Prelude.{Option, Some, None, MatchOption, if◌then◌else◌}
 use Rattle.std.specs.List.{flat_map}
@@ -14,15 +14,15 @@ use Rattle.nc_report.specs.declared.steps.Found.TheVariants.{Sound, Bare, Crosse
 use Rattle.nc_report.specs.declared.steps.Step.{Step}
 use Rattle.nc_report.specs.Lengths.{known_length}
 
--- What stands at the front of the bytes up to the end of a bundle, where this register, if any, was masked directly
--- before: a permitted instruction, which as an indirect transfer needs its mask; only the beginning of one; or neither.
+-- The finding at the front of the bytes up to the end of a bundle, if this register, or none, was masked directly before: a
+-- permitted instruction (bare if it is an indirect transfer without its mask), only the beginning of one, or neither.
 abbrev pub Finds : List ℕ → Option ℕ → Found → Type 0
 Finds window masked (Sound i) = IsAtFront window i × (is_indirect i.flow ≡ true → masked ≡ Some i.reg)
 Finds window masked Bare = (i : Instr) × IsAtFront window i × (is_indirect i.flow ≡ true) × (masked ≢ Some i.reg)
 Finds window masked Crosses = IsProperFront window
 Finds window masked NotPermitted = ((i : Instr) → ¬ IsAtFront window i) × ¬ IsProperFront window
 
--- a permitted instruction's length, or else the length that is known of one that isn't permitted
+-- the length of a permitted instruction, or else the known length, if any, of one that is not permitted
 abbrev pub extent_by : Option Instr → Option ℕ → Option ℕ
 extent_by (Some i) known = Some i.len
 extent_by None known = known
@@ -31,13 +31,13 @@ extent_by None known = known
 abbrev pub extent : List ℕ → Option ℕ
 extent rest = extent_by (first_instruction rest) (known_length rest)
 
--- A step at the front of these bytes, of which the first `room` are in its bundle: it ends where the instruction does,
--- or, where that isn't known, with the bundle.
+-- A step at the front of these bytes, of which the first `room` are in its bundle: it ends with the instruction, or, if the
+-- instruction's length isn't known, with the bundle.
 pub record IsStep (room : ℕ) (masked : Option ℕ) (rest : List ℕ) (s : Step) : Type 0 where
   pub finds : Finds (take room rest) masked s.found
   pub goes : MatchOption (extent rest) ((s.whole ≡ false) × (s.len ≡ room)) (λ n. (s.whole ≡ true) × (s.len ≡ n))
 
--- the register that a step at this place masks for the one after it, which has to begin in the same bundle
+-- the register that a step masks for the next one, which must begin in the same bundle
 abbrev pub masked_in : Found → Bool → Option ℕ
 masked_in (Sound i) same = if same then i.masks else None
 masked_in _ same = None
@@ -45,8 +45,8 @@ masked_in _ same = None
 abbrev pub masked_by : ℕ → Step → Option ℕ
 masked_by at s = masked_in s.found (at / 32 == (at + s.len) / 32)
 
--- These bytes, which begin at this place, where this register, if any, was masked directly before, are read by these steps:
--- as long as bytes are left there is a step.
+-- These steps read these bytes, which begin at this place, if this register, or none, was masked directly before: there is a
+-- step as long as bytes are left.
 abbrev pub ReadsFrom : ℕ → Option ℕ → List ℕ → List Step → Type 0
 ReadsFrom at masked rest [] = rest ≡ []
 ReadsFrom at masked rest (s ∷ steps) =
@@ -56,25 +56,25 @@ ReadsFrom at masked rest (s ∷ steps) =
 abbrev pub IsReading : List ℕ → List Step → Type 0
 IsReading code steps = ReadsFrom 0 None code steps
 
--- code is read in one way only
+-- code has only one reading
 abbrev pub IsReadOneWay : Type 0
 IsReadOneWay = (code : List ℕ) (steps others : List Step) → IsReading code steps → IsReading code others → steps ≡ others
 
--- what is found where a step begins
+-- the spot of the first byte of a step
 abbrev pub spot_of : Found → Spot
 spot_of (Sound i) = if is_indirect i.flow then Second else Entry
 spot_of Bare = spot.Bare
 spot_of Crosses = spot.Crosses
 spot_of NotPermitted = spot.NotPermitted
 
--- what is found at the other bytes of a step
+-- the spot of each other byte of a step
 abbrev pub later_spot : Bool → Spot
 later_spot whole = if whole then Inside else Skipped
 
--- what is found at each byte of a step
+-- the spots of the bytes of a step
 abbrev pub step_spots : Step → List Spot
 step_spots s = spot_of s.found ∷ replicate (s.len - 1) (later_spot s.whole)
 
--- what is found at each byte of the code
+-- the spots of all bytes that these steps read
 abbrev pub spots_of : List Step → List Spot
 spots_of steps = flat_map step_spots steps

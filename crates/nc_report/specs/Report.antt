@@ -25,16 +25,16 @@ use Rattle.nc_report.specs.Reading.{IsReading, spots_of}
 use Rattle.nc_report.specs.Further.{lines_to}
 use Rattle.nc_report.specs.Totals.{last_lines}
 
--- what is said of a source of this name
+-- words about a source, after its name
 abbrev pub said_of : List ℕ → List ℕ → List ℕ
 said_of name words = name ++ (codes ": " ++ words)
 
--- a valid chunk's numbers of bytes and of instructions
+-- `ok`, and a valid chunk's numbers of bytes and of instructions
 abbrev pub accepted_words : ℕ → ℕ → List ℕ
 accepted_words bytes instructions =
     codes "ok, " ++ (decimal bytes ++ (codes " bytes, " ++ (decimal instructions ++ codes " instructions")))
 
--- what is written of an accepted source
+-- the text written for an accepted source, without the lines of details
 abbrev pub accepted_text : Detail → ℕ → List ℕ → ℕ → ℕ → List ℕ
 accepted_text Brief base name bytes instructions = []
 accepted_text Object base name bytes instructions = with_line_end (accepted_object base name bytes instructions)
@@ -44,12 +44,13 @@ accepted_text _ base name bytes instructions = said_of name (with_line_end (acce
 abbrev pub detail_line : List ℕ → List ℕ
 detail_line line = codes "  " ++ with_line_end line
 
--- the lines on an accepted source of these instructions: where they are asked for, those on its transfers that go outside
+-- the lines of details for an accepted source with these instructions: those about its transfers to addresses outside, if
+-- they are asked for
 abbrev pub AreCalls : Detail → ℕ → List Piece → List (List ℕ) → Type 0
 AreCalls Calls base pieces lines = ListsOutside base pieces lines
 AreCalls _ base pieces lines = lines ≡ []
 
--- the code is a valid chunk, and this is written of it, with the number of its instructions
+-- the code is a valid chunk, and this is the text written for it, with the number of its instructions
 pub record TellsAccepted (limit base : ℕ) (detail : Detail) (name code text : List ℕ) : Type 0 where
   pub valid : IsValidAt base limit code
   pub pieces : List Piece
@@ -59,40 +60,40 @@ pub record TellsAccepted (limit base : ℕ) (detail : Detail) (name code text : 
   pub calls : AreCalls detail base pieces lines
   pub written : text ≡ accepted_text detail base name (length code) (length pieces) ++ flat_map detail_line lines
 
--- the line on where a refused direct transfer goes; on other faults there is none
+-- the line about the target of a refused direct transfer; none for any other fault
 abbrev pub AddsTarget : ℕ → ℕ → List ℕ → VetFault → List (List ℕ) → Type 0
 AddsTarget limit base code (BadTarget at) lines = (line : List ℕ) × NamesTarget limit base code at line × (lines ≡ line ∷ [])
 AddsTarget limit base code _ lines = lines ≡ []
 
--- the lines on a fault: if it has an address, the name of that, if it has a label, and its bundle; where a refused direct transfer
--- goes; and what the fault means
+-- the lines about a fault: if it has an address, the name of the address, if that has a label, and its bundle; the target of
+-- a refused direct transfer; and what the fault means
 abbrev pub Explains : ℕ → ℕ → List ℕ → List Label → VetFault → List (List ℕ) → Type 0
 Explains limit base code labels fault lines =
     MatchOption (place_of fault) (lines ≡ words_about code fault 0 ∷ [])
     (λ at. (line : List ℕ) × ShowsPlace base code at line × ((goes : List (List ℕ)) × AddsTarget limit base code fault goes
     × (lines ≡ label_lines labels at ++ line ∷ (goes ++ words_about code fault (at - base) ∷ []))))
 
--- The lines on the faults at the first `count` places of a refused chunk, but for that at `own`, by the reading of it.
+-- The lines about the faults that reading a refused chunk finds at its first `count` places, except the fault at `own`.
 pub record ReportsFirst (limit base : ℕ) (code : List ℕ) (labels : List Label) (own count : ℕ) (lines : List (List ℕ)) : Type 0 where
   pub steps : List Step
   pub reading : IsReading code steps
   pub within : count ≤ length code
   pub is : lines ≡ lines_to base limit code labels (spots_of steps) own count
 
--- The lines on all faults of a refused chunk, but for that at one place, and then the last lines.
+-- The lines about all faults that reading a refused chunk finds, except the fault at `own`, and then the last lines.
 pub record ReportsOthers (limit base : ℕ) (code : List ℕ) (labels : List Label) (own : ℕ) (lines : List (List ℕ)) : Type 0 where
   pub steps : List Step
   pub reading : IsReading code steps
   pub is :
       lines ≡ lines_to base limit code labels (spots_of steps) own (length code) ++ last_lines base limit code (spots_of steps)
 
--- of these lines none, those on the first places up to one, or all
+-- no lines about the other faults, those about the faults at some first places, or all of them and the last lines
 abbrev pub ReportsSome : ℕ → ℕ → List ℕ → List Label → ℕ → List (List ℕ) → Type 0
 ReportsSome limit base code labels own lines =
     (lines ≡ []) ⊎ ((count : ℕ) × ReportsFirst limit base code labels own count lines) ⊎ ReportsOthers limit base code labels own lines
 
--- The lines on a refused source: none, those on its fault, or also the others, of which this holds with the place of the fault,
--- if it has one.
+-- The lines about a refused source: none; those about its fault; or also the others, which satisfy `Others` for the place of
+-- the fault, if it has one.
 abbrev pub AreDetailsBy : (ℕ → List (List ℕ) → Type 0) → ℕ → ℕ → Detail → List ℕ → List Label → VetFault → List (List ℕ) → Type 0
 AreDetailsBy Others limit base Brief code labels fault lines = lines ≡ []
 AreDetailsBy Others limit base Object code labels fault lines = lines ≡ []
@@ -102,23 +103,23 @@ AreDetailsBy Others limit base detail.All code labels fault lines =
     (usual others : List (List ℕ)) × (lines ≡ usual ++ others) × Explains limit base code labels fault usual
     × MatchOption (place_of fault) (others ≡ []) (λ at. Others (at - base) others)
 
--- all lines on a refused source
+-- all lines about a refused source
 abbrev pub AreDetails : ℕ → ℕ → Detail → List ℕ → List Label → VetFault → List (List ℕ) → Type 0
 AreDetails limit base detail code labels fault lines =
     AreDetailsBy (ReportsOthers limit base code labels) limit base detail code labels fault lines
 
--- some first ones of them
+-- the lines about a refused source, of which the last ones about its other faults may be missing
 abbrev pub AreFirstDetails : ℕ → ℕ → Detail → List ℕ → List Label → VetFault → List (List ℕ) → Type 0
 AreFirstDetails limit base detail code labels fault lines =
     AreDetailsBy (ReportsSome limit base code labels) limit base detail code labels fault lines
 
--- what is written of a source that has this fault, with these lines of details
+-- the text written for a source that has this fault, with these lines of details
 abbrev pub refused_text : Detail → ℕ → List ℕ → List ℕ → List Label → VetFault → List (List ℕ) → List ℕ
 refused_text Object base name code labels fault lines = with_line_end (refused_object base name code labels fault (place_of fault))
 refused_text _ base name code labels fault lines =
     said_of name (with_line_end (refused_words (fault_words fault))) ++ flat_map detail_line lines
 
--- the code has a fault, and this is written of it, with details of which this holds
+-- the code has a fault, and this is the text written for it, with lines of details that satisfy `Details`
 pub record IsRefusedBy (limit base : ℕ) (detail : Detail) (Details : VetFault → List (List ℕ) → Type 0) (name code : List ℕ)
     (labels : List Label) (text : List ℕ) : Type 0 where
   pub fault : VetFault
@@ -128,48 +129,48 @@ pub record IsRefusedBy (limit base : ℕ) (detail : Detail) (Details : VetFault 
   pub details : Details fault lines
   pub written : text ≡ refused_text detail base name code labels fault lines
 
--- and this is all of it
+-- the code has a fault, and this is the whole text written for it
 abbrev pub TellsRefused : ℕ → ℕ → Detail → List ℕ → List ℕ → List Label → List ℕ → Type 0
 TellsRefused limit base detail name code labels text =
     IsRefusedBy limit base detail (AreDetails limit base detail code labels) name code labels text
 
--- what is written of a source, and whether it is refused
+-- the text written for a source, and whether the source is refused
 pub record Told : Type 0 where
   pub refused : Bool
   pub text : List ℕ
 
--- a source is accepted or refused, and this is written of it
+-- a source is accepted or refused, and this is the text written for it
 abbrev pub TellsSource : ℕ → ℕ → Detail → List ℕ → List ℕ → List Label → Told → Type 0
 TellsSource limit base detail name code labels told =
     ((told.refused ≡ false) × TellsAccepted limit base detail name code told.text)
     ⊎ ((told.refused ≡ true) × TellsRefused limit base detail name code labels told.text)
 
--- exactly what is to be written of these sources was written, in their order, and this is how many are refused
+-- exactly the texts for these sources were written, in order, and `count` of the sources are refused
 pub record HasReported (limit base : ℕ) (detail : Detail) (before after : Option (List ℕ)) (sources : List Source) (count : ℕ) : Type 0 where
   pub each : List Told
   pub tells : AllZip (λ source told. TellsSource limit base detail source.name.items source.code.items source.labels told) sources each
   pub refused : count ≡ count_by (λ told. told.refused) each
   pub written : Appends before after (flat_map (λ told. told.text) each)
 
--- what may be written of a source before the last byte of it is
+-- the text for a source, of which the last lines of details may be missing
 abbrev pub BeginsToTell : ℕ → ℕ → Detail → List ℕ → List ℕ → List Label → List ℕ → Type 0
 BeginsToTell limit base detail name code labels text =
     TellsAccepted limit base detail name code text
     ⊎ IsRefusedBy limit base detail (AreFirstDetails limit base detail code labels) name code labels text
 
--- a beginning of what is to be written of a source, or nothing
+-- a prefix of the text for a source, or nothing
 abbrev pub IsBeginning : ℕ → ℕ → Detail → List ℕ → List ℕ → List Label → List ℕ → Type 0
 IsBeginning limit base detail name code labels part =
     (part ≡ []) ⊎ ((text : List ℕ) × (count : ℕ) × BeginsToTell limit base detail name code labels text × (part ≡ take count text))
 
--- of the next source, if there is one, a beginning may have been written
+-- a prefix of the text for the next source, or nothing; nothing if there is no next source
 abbrev pub IsBeginningOfNext : ℕ → ℕ → Detail → List Source → List ℕ → Type 0
 IsBeginningOfNext limit base detail [] part = part ≡ []
 IsBeginningOfNext limit base detail (source ∷ others) part =
     IsBeginning limit base detail source.name.items source.code.items source.labels part
 
--- all that is to be written of some first sources was written, and of the next one, if there is one, nothing or a
--- beginning
+-- the whole texts for some sources, from the first one on, were written, and nothing or a prefix of the text for the next
+-- source, if there is one
 pub record HasBegunReport (limit base : ℕ) (detail : Detail) (before after : Option (List ℕ)) (sources : List Source) : Type 0 where
   pub first : List Source
   pub others : List Source

@@ -1,4 +1,4 @@
--- Where a refused direct transfer goes, and why it may not.
+-- The target of a refused direct transfer, and why it is not allowed.
 use Rattle.std.specs.Prelude.{◌≡◌, ℕ, ◌+◌, ◌<◌, ◌≤◌, ◌⊎◌, List, ◌∷◌, ◌++◌, length, codes, IsTrue, nat_le, nat_lt, if◌then◌else◌, Some}
 use Rattle.nc_decode.specs.declared.bundles.TheConstants.{START}
 use Rattle.nc_decode.specs.Transfers.{is_direct, is_indirect, target}
@@ -6,7 +6,7 @@ use Rattle.nc_output.specs.Verdicts.{address_digits}
 use Rattle.nc_vet.specs.Chunk.{Piece, code_of, place, AreSound}
 use Rattle.nc_report.specs.declared.words.TheConstants.{BEYOND_REGION, IN_ZONE, OUTSIDE_CODE, INSIDE, SECOND_HALF}
 
--- An instruction of the list covers a place: it begins at or before it, and ends behind it.
+-- An instruction of the list covers a place: it begins at or before the place, and ends after it.
 pub record Covers (pieces : List Piece) (at : ℕ) : Type 0 where
   pub before : List Piece
   pub piece : Piece
@@ -33,18 +33,18 @@ pub record IsSecondHalf (base : ℕ) (pieces : List Piece) (at : ℕ) (words : L
   pub masks : mask.instr.masks ≡ Some piece.instr.reg
   pub written : words ≡ SECOND_HALF.now ++ address_digits (base + place before)
 
--- the words on an address outside the code to which no transfer may go: it lies at the region's end or beyond; or it is
--- no bundle start, in the zone below the region or elsewhere
+-- the words about an address outside the code that no direct transfer may target: it is at the region's end or beyond; or it
+-- is not a bundle start, in the zone below the region or elsewhere
 abbrev pub why_outside : ℕ → ℕ → List ℕ
 why_outside limit to = if nat_le limit to then BEYOND_REGION.now else (if nat_lt to START then IN_ZONE.now else OUTSIDE_CODE.now)
 
--- the words say why a direct transfer of these instructions may not go to an address
+-- the words say why a direct transfer of these instructions may not target an address
 abbrev pub SaysWhy : ℕ → ℕ → List Piece → ℕ → List ℕ → Type 0
 SaysWhy limit base pieces to words =
     (((to < base) ⊎ (base + place pieces ≤ to)) × (words ≡ why_outside limit to))
     ⊎ ((at : ℕ) × (to ≡ base + at) × (at < place pieces) × (IsInside base pieces at words ⊎ IsSecondHalf base pieces at words))
 
--- The line on the direct transfer at an address of sound code: its target, and why it may not go there.
+-- The line about the direct transfer at an address of sound code: its target, and why it may not go there.
 pub record NamesTarget (limit base : ℕ) (code : List ℕ) (at : ℕ) (line : List ℕ) : Type 0 where
   pub before : List Piece
   pub piece : Piece

@@ -1,5 +1,5 @@
--- What is said at the end of the faults that the reading of a refused chunk finds: how many there are of each kind, and whether
--- the code is in bundles at all.
+-- The last lines about a refused chunk: the number of faults of each kind that its reading finds, and whether the code is in
+-- bundles at all.
 use Rattle.std.specs.Prelude.{ℕ, ◌+◌, ◌*◌, ◌/◌, Bool, true, false, not, ◌==◌, nat_lt, List, [], ◌∷◌, ◌++◌, length, codes, get_or}
 use Rattle.std.specs.Prelude.{Option, Some, if◌then◌else◌}
 use Rattle.std.specs.List.{count_by, range_with_len}
@@ -29,7 +29,7 @@ abbrev pub is_mistargeted : Option VetFault → Bool
 is_mistargeted (Some (BadTarget at)) = true
 is_mistargeted _ = false
 
--- the number of the first `count` places that have a fault passing a test
+-- the number of places among the first `count` whose fault passes a test
 abbrev pub count_of : (Option VetFault → Bool) → ℕ → ℕ → List ℕ → List Spot → ℕ → ℕ
 count_of test base limit code spots count = count_by (λ k. test (fault_at base limit code spots k)) (range_with_len 0 count)
 
@@ -42,14 +42,14 @@ counts_to base limit code spots count = record {
   bad_target = count_of is_mistargeted base limit code spots count;
 }
 
--- kinds with their numbers, each number that isn't 0 with its kind's name, and a comma before each but the first
+-- the kinds whose number isn't 0, each with its number and name, and a comma before each but the first
 abbrev pub kinds_from : Bool → List (ℕ × List ℕ) → List ℕ
 kinds_from begun [] = []
 kinds_from begun ((n, name) ∷ kinds) =
     if n == 0 then kinds_from begun kinds
     else ((if begun then codes ", " else []) ++ (decimal n ++ (codes " " ++ (name ++ kinds_from true kinds))))
 
--- how many faults there are
+-- the number of faults
 abbrev pub total : Counts → ℕ
 total counts = counts.crosses + counts.not_permitted + counts.bare + counts.bad_target
 
@@ -60,18 +60,18 @@ totals_line counts =
     ++ kinds_from false ((counts.crosses, codes "Crosses") ∷ (counts.not_permitted, codes "NotPermitted")
     ∷ (counts.bare, codes "Bare") ∷ (counts.bad_target, codes "BadTarget") ∷ []))
 
--- the number of the first `count` bundles that begin inside an instruction
+-- the number of bundles among the first `count` that begin inside an instruction
 abbrev pub starts_inside : List Spot → ℕ → ℕ
 starts_inside spots count = count_by (λ n. not (is_begun (get_or spots (32 * n) Inside))) (range_with_len 0 count)
 
--- the line on code of which more than half of the bundles do
+-- the line that says that the code isn't in bundles, if more than half of them begin inside an instruction
 abbrev pub adrift_lines : ℕ → ℕ → List (List ℕ)
 adrift_lines inside bundles =
     if nat_lt bundles (2 * inside) then
     (codes "the code isn't in bundles: " ++ (decimal inside ++ (codes " of " ++ (decimal bundles ++ NOT_IN_BUNDLES.now)))) ∷ []
     else []
 
--- the last lines
+-- the last lines about a refused chunk: its totals, and whether the code is in bundles
 abbrev pub last_lines : ℕ → ℕ → List ℕ → List Spot → List (List ℕ)
 last_lines base limit code spots =
     totals_line (counts_to base limit code spots (length code))

@@ -1,4 +1,4 @@
--- Machinery of the proofs, cited by no public contract: what is found before it is written, and what of it was written.
+-- Machinery of the proofs, cited by no public contract: findings before they are written, and how much of them was written.
 pub mod Found
 pub mod Counts
 pub mod Aims

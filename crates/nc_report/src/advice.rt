@@ -1,4 +1,4 @@
-//! Which refused bytes are of which kind, and what a fault means.
+//! The kinds of refused bytes, and what a fault means.
 
 ghost use Rattle.std.specs.Prelude.{◌≡◌, ◌≤◌, length, slice_index, take, nat_le, nat_lt, ◌==◌, ◌&&◌, ◌||◌};
 ghost use Rattle.std.specs.List.{list_all};
@@ -9,8 +9,7 @@ use crate::words::*;
 use nc_decode::BUNDLE;
 use nc_vet::VetFault;
 
-/// The kind of bytes whose first three, as one number of 24 bits of which the first byte has the highest, are `key`
-/// where `mask` has its bits.
+/// The kind of bytes whose first three, as one big-endian number of 24 bits, masked with `mask` are `key`.
 #[derive(Clone, Copy)]
 pub(crate) struct Row {
     pub mask: u32,
@@ -18,7 +17,7 @@ pub(crate) struct Row {
     pub kind: Kind,
 }
 
-/// The kinds of bytes that are no permitted instruction. Of the rows that fit, the first is meant.
+/// The kinds of bytes that are not a permitted instruction. The first row that matches decides.
 #[rattlefmt::skip]
 pub(crate) static ROWS: [Row; 124] = [
     // Returns and far transfers.
@@ -29,7 +28,7 @@ pub(crate) static ROWS: [Row; 124] = [
     Row { mask: 0xFF_00_00, key: 0xCF_00_00, kind: Kind::Far },
     Row { mask: 0xFF_00_00, key: 0x9A_00_00, kind: Kind::Far },
     Row { mask: 0xFF_00_00, key: 0xEA_00_00, kind: Kind::Far },
-    // Group 5: with a register, what isn't a near transfer is nothing; in memory, far and near transfers.
+    // Group 5: a far transfer with a register operand is undefined; with a memory operand, far and near transfers.
     Row { mask: 0xFF_C0_00, key: 0xFF_C0_00, kind: Kind::General },
     Row { mask: 0xFF_38_00, key: 0xFF_18_00, kind: Kind::Far },
     Row { mask: 0xFF_38_00, key: 0xFF_28_00, kind: Kind::Far },
@@ -39,14 +38,14 @@ pub(crate) static ROWS: [Row; 124] = [
     Row { mask: 0xF8_00_00, key: 0xD8_00_00, kind: Kind::FloatingPoint },
     Row { mask: 0xFF_00_00, key: 0x9B_00_00, kind: Kind::FloatingPoint },
     Row { mask: 0xFE_00_00, key: 0x9E_00_00, kind: Kind::FloatingPoint },
-    // Entries and jumps, hints and counting of bits, by the prefixes F3 and 3E.
+    // With the prefixes F3 and 3E: marks of entries and jumps, hints, and counts of bits.
     Row { mask: 0xFF_FF_FF, key: 0xF3_0F_1E, kind: Kind::EntryMark },
     Row { mask: 0xFF_FF_38, key: 0x3E_FF_10, kind: Kind::EntryMark },
     Row { mask: 0xFF_FF_38, key: 0x3E_FF_20, kind: Kind::EntryMark },
     Row { mask: 0xFF_FF_00, key: 0xF3_90_00, kind: Kind::Pause },
     Row { mask: 0xFF_FF_FE, key: 0xF3_0F_BC, kind: Kind::TrailingZeros },
     Row { mask: 0xFF_FF_FF, key: 0xF3_0F_B8, kind: Kind::Population },
-    // The system, after 0F: SYSCALL and SYSRET, SYSENTER and SYSEXIT, and what only the system may do.
+    // The system, after 0F: SYSCALL and SYSRET, SYSENTER and SYSEXIT, clocks, and privileged instructions.
     Row { mask: 0xFF_FD_00, key: 0x0F_05_00, kind: Kind::SystemCall },
     Row { mask: 0xFF_FE_00, key: 0x0F_34_00, kind: Kind::SystemCall },
     Row { mask: 0xFF_FF_FF, key: 0x0F_01_F9, kind: Kind::Clock },
@@ -72,7 +71,7 @@ pub(crate) static ROWS: [Row; 124] = [
     Row { mask: 0xFF_FF_20, key: 0x0F_18_00, kind: Kind::Prefetch },
     Row { mask: 0xFF_FE_00, key: 0x0F_1A_00, kind: Kind::General },
     Row { mask: 0xFF_F8_00, key: 0x0F_18_00, kind: Kind::Padding },
-    // Groups 15 and 9: fences with a register, state in memory.
+    // Groups 15 and 9: fences with a register operand, state with a memory operand.
     Row { mask: 0xFF_FF_F8, key: 0x0F_AE_E8, kind: Kind::Fence },
     Row { mask: 0xFF_FF_F0, key: 0x0F_AE_F0, kind: Kind::Fence },
     Row { mask: 0xFF_FF_C0, key: 0x0F_AE_C0, kind: Kind::General },
@@ -123,13 +122,13 @@ pub(crate) static ROWS: [Row; 124] = [
     Row { mask: 0xFF_00_00, key: 0xCE_00_00, kind: Kind::SystemCall },
     Row { mask: 0xFF_C0_00, key: 0x62_C0_00, kind: Kind::Avx },
     Row { mask: 0xFF_00_00, key: 0x62_00_00, kind: Kind::SystemCall },
-    // AVX with a register, where without one it is LES or LDS; XOP where it isn't POP.
+    // C4 and C5: AVX with a register operand, else LES or LDS. 8F: POP, else XOP.
     Row { mask: 0xFE_C0_00, key: 0xC4_C0_00, kind: Kind::Avx },
     Row { mask: 0xFE_00_00, key: 0xC4_00_00, kind: Kind::SegmentRegister },
     Row { mask: 0xFF_38_00, key: 0x8F_00_00, kind: Kind::PopMemory },
     Row { mask: 0xFF_08_00, key: 0x8F_08_00, kind: Kind::Avx },
     Row { mask: 0xFF_10_00, key: 0x8F_10_00, kind: Kind::Avx },
-    // Padding: 66 before another prefix, and segments before a long nop or LEA.
+    // Padding: 66 before another prefix, and segment prefixes before a long nop or LEA.
     Row { mask: 0xFF_FF_FF, key: 0x66_66_90, kind: Kind::Padding },
     Row { mask: 0xFF_FF_FF, key: 0x66_66_66, kind: Kind::Padding },
     Row { mask: 0xFF_FF_E7, key: 0x66_66_26, kind: Kind::Padding },
@@ -158,7 +157,7 @@ pub(crate) static ROWS: [Row; 124] = [
     Row { mask: 0xFE_00_00, key: 0x9C_00_00, kind: Kind::Flags },
     Row { mask: 0xFE_00_00, key: 0x60_00_00, kind: Kind::AllRegisters },
     Row { mask: 0xFF_00_00, key: 0xD7_00_00, kind: Kind::TableByte },
-    // Prefixes before what they don't fit.
+    // Prefixes before instructions that don't permit them.
     Row { mask: 0xFF_00_00, key: 0xF0_00_00, kind: Kind::Lock },
     Row { mask: 0xFF_FF_00, key: 0x66_F0_00, kind: Kind::Lock },
     Row { mask: 0xFE_FF_00, key: 0xF2_F0_00, kind: Kind::Lock },
@@ -167,14 +166,14 @@ pub(crate) static ROWS: [Row; 124] = [
     Row { mask: 0xFF_00_00, key: 0x66_00_00, kind: Kind::OperandSize },
 ];
 
-/// A byte, or 0 after the last.
+/// The byte at `k`, or 0 after the last.
 fn byte_at(bytes: &[u8], k: usize) -> u8
     ensures { result ≡ slice_index bytes.now k }
 {
     if k < bytes.len() { bytes[k] } else { 0 }
 }
 
-/// The first three bytes as one number; 0 stands for bytes that aren't there.
+/// The first three bytes as one big-endian number; a missing byte counts as 0.
 fn key_of(bytes: &[u8]) -> u32
     ensures { result ≡ key_of bytes.now }
 {
@@ -194,14 +193,14 @@ fn kind_in(rows: &[Row], key: u32) -> Kind
     Kind::General
 }
 
-/// A prefix stands in the last byte of its bundle, away from its instruction.
+/// A prefix is the last byte of its bundle, cut off from its instruction.
 fn is_cut_prefix(at: u32, byte: u8) -> bool
     ensures { result ≡ is_cut_prefix at byte }
 {
     at % BUNDLE == 31 && (byte == 0xF0 || byte == 0xF2 || byte == 0xF3)
 }
 
-/// What a fault means; the bytes are those from its place on, or all of the code where it has none.
+/// What a fault means; the bytes are those from its place on, or all of the code if it has no place.
 fn meaning(fault: VetFault, bytes: &[u8]) -> &'static [u8]
     ensures { result.now ≡ meaning_of fault bytes.now }
 {
@@ -226,7 +225,7 @@ fn is_elf(code: &[u8]) -> bool
     key_of(code) == 0x7F_45_4C && byte_at(code, 3) == 0x46
 }
 
-/// The code begins as an archive does, as `ar` makes it.
+/// The code begins as an archive made by `ar` does.
 fn is_archive(code: &[u8]) -> bool
     ensures { result ≡ is_archive code.now }
 {
@@ -254,14 +253,14 @@ fn is_of_text(byte: u8) -> bool
     is_printable(byte) || is_blank(byte)
 }
 
-/// Each of these bytes is one of text.
+/// Each of these bytes is a byte of text.
 fn are_of_text(bytes: &[u8]) -> bool
     ensures { result ≡ list_all is_of_text bytes.now }
 {
     bytes.iter().all(|byte| is_of_text(*byte))
 }
 
-/// The bytes that would be the first bundle, or all if there are fewer.
+/// The first 32 bytes, or all if there are fewer.
 fn first_bundle(code: &[u8]) -> &[u8]
     ensures { result.now ≡ take 32 code.now }
 {
@@ -271,14 +270,14 @@ fn first_bundle(code: &[u8]) -> &[u8]
     &code[..BUNDLE as usize]
 }
 
-/// The bytes that would be the first bundle are text.
+/// There is code, and its first 32 bytes, or all if there are fewer, are text.
 fn is_text(code: &[u8]) -> bool
     ensures { result ≡ is_text code.now }
 {
     code.len() > 0 && are_of_text(first_bundle(code))
 }
 
-/// What is said of a fault at a place of some code, 0 where it has none.
+/// The words about a fault at a place of the code, 0 if it has none.
 pub(crate) fn words_about(code: &[u8], fault: VetFault, place: usize) -> &'static [u8]
     requires { place ≤ length code.now }
     ensures { result.now ≡ words_about code.now fault place }

@@ -1,4 +1,4 @@
-//! Where a further direct transfer goes that goes where it may not.
+//! The target of a further refused direct transfer, and why it is not allowed.
 
 ghost use Rattle.std.specs.Prelude.{◌≡◌, ◌≤◌, ◌<◌, ◌+◌, ◌^◌, ◌++◌, length, OnOk};
 ghost use Rattle.std.specs.List.{flat_map};
@@ -15,10 +15,10 @@ use nc_decode::decode;
 use nc_output::push_address;
 use std::alloc::AllocError;
 
-/// The bytes of a mask.
+/// The length of a mask, in bytes.
 const MASK: u32 = 3;
 
-/// The last place, at this one or before it, where an instruction begins.
+/// The last place, at or before this one, where an instruction begins.
 fn begun_before(spots: &[Spot], k: usize) -> usize
     ensures value { result ≡ begun_before spots.now k }
     ensures within { result ≤ k }
@@ -30,7 +30,7 @@ fn begun_before(spots: &[Spot], k: usize) -> usize
     at
 }
 
-/// Adds why a direct transfer may not go to this place of the code.
+/// Adds why a direct transfer may not target this place of the code.
 fn push_here(out: &mut Vec<u8>, base: u32, spots: &[Spot], place: usize) -> Result<(), AllocError>
     requires span { base + length spots.now < 2 ^ 32 }
     requires within { place < length spots.now }
@@ -45,7 +45,7 @@ fn push_here(out: &mut Vec<u8>, base: u32, spots: &[Spot], place: usize) -> Resu
     }
 }
 
-/// Adds why a direct transfer may not go to an address.
+/// Adds why a direct transfer may not target an address.
 fn push_why(
     out: &mut Vec<u8>,
     base: u32,
@@ -63,7 +63,8 @@ fn push_why(
     }
 }
 
-/// Adds the line on where the instruction at the front of these bytes goes, which begin at this address, and why it may not.
+/// Adds the line about the target of the instruction at the front of these bytes, which begin at this address, and why it is
+/// not allowed.
 pub(crate) fn push_aim(
     out: &mut Vec<u8>,
     base: u32,

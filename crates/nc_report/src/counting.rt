@@ -1,4 +1,4 @@
-//! The number of instructions of a valid chunk.
+//! The number of instructions in a valid chunk.
 
 ghost use Rattle.std.specs.Prelude.{◌≡◌, ◌<◌, ◌≤◌, ◌^◌, length};
 ghost use Rattle.std.specs.List.{sum_by};
@@ -29,7 +29,7 @@ fn count_bits(bundles: &[Bundle]) -> usize
     count
 }
 
-/// One for a mark, and none for a place without one.
+/// 1 for a marked place, and 0 for an unmarked one.
 fn one(mark: Mark) -> usize
     ensures value { result ≡ one mark }
     ensures small { result ≤ 1 }
@@ -41,7 +41,7 @@ fn one(mark: Mark) -> usize
     }
 }
 
-/// The number of places of a chunk that are marked.
+/// The number of marked places of a chunk.
 fn count_marks(chunk: &Vetted) -> usize
     ensures { result ≡ sum_by one chunk.now.marks }
 {
@@ -53,7 +53,7 @@ fn count_marks(chunk: &Vetted) -> usize
     count
 }
 
-/// The number of instructions of a chunk.
+/// The number of instructions in a chunk.
 pub(crate) fn count_instructions(chunk: &Vetted) -> usize
     ensures { HasInstructions chunk.now.code result }
 {

@@ -1,4 +1,4 @@
-//! The lines on a fault: the name of its address, its bundle, where a refused transfer goes, and what the fault means.
+//! The lines about a fault: the name of its address, its bundle, the target of a refused transfer, and what the fault means.
 
 ghost use Rattle.std.specs.Prelude.{◌≡◌, ◌++◌, OnOk};
 ghost use Rattle.nc_output.specs.Verdicts.{place_of};
@@ -25,7 +25,7 @@ pub(crate) fn push_words(out: &mut Vec<u8>, words: &[u8]) -> Result<(), AllocErr
     push_text(out, b"\n")
 }
 
-/// Adds where a refused direct transfer goes, and why it may not. For any other fault it adds nothing.
+/// Adds the line about the target of a refused direct transfer; adds nothing for any other fault.
 fn push_more(
     out: &mut Vec<u8>,
     limit: u32,
@@ -42,8 +42,8 @@ fn push_more(
     }
 }
 
-/// Adds the name of a fault's address and its bundle, if it has an address, where a refused direct transfer goes, and what the
-/// fault means.
+/// Adds the lines about a fault: the name of its address and its bundle, if it has an address, the target of a refused direct
+/// transfer, and what the fault means.
 pub(crate) fn push_explained(
     alloc: Global,
     out: &mut Vec<u8>,

@@ -8,10 +8,10 @@ pub enum SourceFault {
     /// The reader failed.
     #[error("read failed")]
     ReadFailed,
-    /// More bytes came than the largest region has.
+    /// The reader gave more bytes than the largest region has.
     #[error("too long")]
     TooLong,
-    /// Memory for the bytes wasn't there.
+    /// There was no memory for the bytes.
     #[error("out of memory")]
     OutOfMemory,
 }
@@ -19,16 +19,16 @@ pub enum SourceFault {
 /// Why a report isn't finished.
 #[derive(Clone, Copy, Debug, Drop, PartialEq, Eq, Error)]
 pub enum ReportFault {
-    /// The number of bundles isn't that of a region.
+    /// No region can have this number of bundles.
     #[error("bad size")]
     BadSize,
     /// The number of workers isn't in 1 to 16.
     #[error("bad workers")]
     BadWorkers,
-    /// Memory for vetting or for the text wasn't there.
+    /// There was no memory for vetting or for the text.
     #[error("out of memory")]
     OutOfMemory,
-    /// The writer failed, or took no byte of some.
+    /// The writer failed, or accepted none of the bytes offered.
     #[error("write failed")]
     WriteFailed,
 }

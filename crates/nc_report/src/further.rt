@@ -8,21 +8,21 @@ use crate::spot::{Spot, spot_at};
 use nc_decode::{decode, is_bundle_start};
 use nc_vet::VetFault;
 
-/// A direct transfer may go where this is found. What lies in skipped bytes isn't known.
+/// A direct transfer may target this spot. Skipped bytes pass, because nothing is known about them.
 fn is_open(spot: Spot) -> bool
     ensures { result ≡ is_open spot }
 {
     !matches!(spot, Spot::Inside | Spot::Second)
 }
 
-/// An instruction, or the bytes that are skipped after one, end before this byte.
+/// A step of the reading begins at this byte: an instruction, or the bytes that are skipped after one, end before it.
 pub(crate) fn is_begun(spot: Spot) -> bool
     ensures { result ≡ is_begun spot }
 {
     !matches!(spot, Spot::Inside | Spot::Skipped)
 }
 
-/// A direct transfer may go to this address.
+/// A direct transfer may target this address.
 fn may_go(base: u32, limit: u32, spots: &[Spot], to: u32) -> bool
     requires { base + length spots.now < 2 ^ 32 }
     ensures { result ≡ may_go base limit spots.now to }
@@ -34,7 +34,8 @@ fn may_go(base: u32, limit: u32, spots: &[Spot], to: u32) -> bool
     }
 }
 
-/// The instruction at the front of these bytes, which begin at this address, is a direct transfer that goes where it may not.
+/// The instruction at the front of these bytes, which begin at this address, is a direct transfer to an address that it may
+/// not target.
 fn goes_astray(base: u32, limit: u32, spots: &[Spot], rest: &[u8], at: u32) -> bool
     requires span { base + length spots.now < 2 ^ 32 }
     requires fits { at + length rest.now < 2 ^ 32 }
@@ -46,7 +47,7 @@ fn goes_astray(base: u32, limit: u32, spots: &[Spot], rest: &[u8], at: u32) -> b
     instr.flow.is_direct() && !may_go(base, limit, spots, instr.target(at))
 }
 
-/// The fault at an address, by what is found there.
+/// The fault at an address, by the spot there.
 fn fault_by(spot: Spot, astray: bool, at: u32) -> Option<VetFault>
     ensures { result ≡ fault_by spot astray at }
 {

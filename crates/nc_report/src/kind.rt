@@ -1,4 +1,4 @@
-//! Kinds of instructions that are refused, and the words on each.
+//! The kinds of refused instructions, and the words about each.
 
 ghost use Rattle.std.specs.Prelude.{◌≡◌};
 ghost use Rattle.nc_report.specs.Advice.{words_on};
@@ -24,7 +24,7 @@ pub(crate) enum Kind {
     Vector,
     /// AVX, AVX-512 or XOP.
     Avx,
-    /// FXSAVE, FXRSTOR, LDMXCSR, STMXCSR, XSAVE and its neighbours, CLFLUSH.
+    /// FXSAVE, FXRSTOR, LDMXCSR, STMXCSR, XSAVE and related instructions, CLFLUSH.
     State,
     /// A prefetch.
     Prefetch,
@@ -36,7 +36,7 @@ pub(crate) enum Kind {
     Trap,
     /// RDTSC, RDTSCP, RDPMC, RDRAND, RDSEED.
     Clock,
-    /// IN, OUT, and what only the operating system may do or has a use for.
+    /// IN, OUT, and instructions that only the operating system may execute or has a use for.
     Privileged,
     /// ENDBR32 or ENDBR64, or an indirect transfer with the prefix NOTRACK.
     EntryMark,
@@ -75,7 +75,7 @@ pub(crate) enum Kind {
 }
 
 impl Kind {
-    /// What it is, and how code is built without it.
+    /// The words about this kind: what it is, and how to build code without it.
     pub fn words(self) -> &'static [u8]
         ensures { result.now ≡ words_on self }
     {

@@ -15,7 +15,7 @@ pub struct Label {
     pub name: Vec<u8>,
 }
 
-/// Labels by ascending address. An address between two of them belongs to the first.
+/// Labels in ascending order of their addresses. An address between two labels belongs to the lower one.
 #[derive(Drop)]
 pub struct Labels {
     list: Vec<Label>,
@@ -43,7 +43,7 @@ impl Labels {
         }
     }
 
-    /// These labels, if their addresses ascend. Several may have one address: the last one is that address's.
+    /// These labels, if they are in ascending order of their addresses. Of several with one address, the last names it.
     pub fn new(list: Vec<Label>) -> Option<Labels>
         ensures some { IfSome result (λ labels. labels ≡ list.items) }
         ensures none { IfNone result (¬ LabelsAscend list.items) }

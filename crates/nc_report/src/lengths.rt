@@ -1,4 +1,4 @@
-//! How long an instruction is, whether or not it is permitted: for a listing that goes on after a refused one.
+//! The length of an instruction, whether or not it is permitted: for a reading that continues after a refused one.
 //!
 //! Lengths are those of the Intel 64 and IA-32 Architectures Software Developer's Manual (SDM), volume 2, chapter 2 and
 //! appendix A, and for 3DNow, SSE4a and XOP those of AMD's manual, volumes 3 to 5.
@@ -10,7 +10,7 @@ ghost use Rattle.nc_decode.specs.Spelling.{operand_len};
 ghost use Rattle.nc_report.specs.declared.lengths.Form.TheVariants.{Unknown};
 ghost use Rattle.nc_report.specs.Lengths.{longest, has, sized, number_size, short_operand_len, operand_size, tail_len, vector_form, evex_form, xop_form, escaped, head_of, at_most, known_length};
 
-/// The bytes of the longest instruction.
+/// The greatest length of an instruction, in bytes.
 const LONGEST: usize = 15;
 
 /// The number after an opcode and its operand: an immediate, a displacement or an address.
@@ -22,7 +22,7 @@ pub(crate) enum Number {
     Byte,
     /// Two bytes.
     Word,
-    /// Two bytes and one: the size of a frame, and its level.
+    /// Three bytes: two for the size of a frame, and one for its nesting level.
     Frame,
     /// Four bytes, or two after the prefix 66.
     Sized,
@@ -41,24 +41,24 @@ pub(crate) enum Number {
 /// What follows an opcode.
 #[derive(Clone, Copy)]
 pub(crate) enum Form {
-    /// Nothing is known of it.
+    /// The opcode is not known.
     Unknown,
     /// A number.
     Alone(Number),
-    /// ModRM and what its operand needs, and a number.
+    /// ModRM with its SIB and displacement, and a number.
     Operand(Number),
     /// ModRM, which names registers whatever its mod field is.
     Registers,
 }
 
-/// The bytes up to the opcode's last one, and what follows them.
+/// The number of bytes up to the last one of the opcode, and the form of what follows.
 #[derive(Clone, Copy)]
 pub(crate) struct Head {
     pub len: usize,
     pub form: Form,
 }
 
-// The names of the tables: nothing known, the opcode by itself, the kinds of numbers, and after ModRM.
+// Short names for the tables: an unknown opcode, an opcode by itself, an opcode with a number, and an opcode with ModRM.
 const NO: Form = Form::Unknown;
 
 const OP: Form = Form::Alone(Number::Absent);
@@ -89,8 +89,8 @@ const MF: Form = Form::Operand(Number::Field);
 
 const RR: Form = Form::Registers;
 
-/// The opcodes of one byte. Nothing is known of prefixes, and of the byte 0F before an opcode of two bytes; of C4, C5, 62
-/// and 8F it is the form that they have outside AVX and XOP.
+/// The one-byte opcodes. Prefixes, and the byte 0F of a two-byte opcode, are `NO`; C4, C5, 62 and 8F have the form that they
+/// have outside AVX and XOP.
 #[rattlefmt::skip]
 pub(crate) static ONE_BYTE: [Form; 256] = [
     //      0   1   2   3   4   5   6   7   8   9   A   B   C   D   E   F
@@ -112,7 +112,7 @@ pub(crate) static ONE_BYTE: [Form; 256] = [
     /* F */ NO, OP, NO, NO, OP, OP, TB, TZ, OP, OP, OP, OP, OP, OP, RM, RM,
 ];
 
-/// The opcodes after the byte 0F. Of 38 and 3A, before an opcode of three bytes, nothing is known.
+/// The opcodes after the byte 0F. 38 and 3A, which begin three-byte opcodes, are `NO`.
 #[rattlefmt::skip]
 pub(crate) static TWO_BYTE: [Form; 256] = [
     //      0   1   2   3   4   5   6   7   8   9   A   B   C   D   E   F
@@ -134,14 +134,14 @@ pub(crate) static TWO_BYTE: [Form; 256] = [
     /* F */ RM, RM, RM, RM, RM, RM, RM, RM, RM, RM, RM, RM, RM, RM, RM, RM,
 ];
 
-/// A byte, or 0 after the last.
+/// The byte at `k`, or 0 after the last.
 fn byte_at(bytes: &[u8], k: usize) -> u8
     ensures { result ≡ slice_index bytes.now k }
 {
     if k < bytes.len() { bytes[k] } else { 0 }
 }
 
-/// The bytes that an instruction at the front of these may have.
+/// The first 15 bytes, or all if there are fewer: an instruction at the front has no others.
 fn front(bytes: &[u8]) -> &[u8]
     ensures value { result.now ≡ take longest bytes.now }
     ensures small { length result.now ≤ longest }
@@ -153,7 +153,7 @@ fn front(bytes: &[u8]) -> &[u8]
     &bytes[..LONGEST]
 }
 
-/// A prefix of whatever kind.
+/// Any prefix, permitted or not.
 fn is_prefix(byte: u8) -> bool
     ensures { result ≡ among leading byte }
 {
@@ -163,7 +163,7 @@ fn is_prefix(byte: u8) -> bool
     )
 }
 
-/// How many prefixes stand at the front.
+/// The number of prefixes at the front.
 fn count_prefixes(bytes: &[u8]) -> usize
     ensures value { result ≡ prefix_len (among leading) bytes.now }
     ensures within { result ≤ length bytes.now }
@@ -178,7 +178,7 @@ fn has(before: &[u8], byte: u8) -> bool
     before.contains(&byte)
 }
 
-/// The bytes of a number whose size the prefix 66 chooses.
+/// The length of a number whose size depends on the prefix 66.
 fn sized(before: &[u8]) -> usize
     ensures value { result ≡ sized before.now }
     ensures small { result ≤ 4 }
@@ -186,7 +186,7 @@ fn sized(before: &[u8]) -> usize
     if has(before, 0x66) { 2 } else { 4 }
 }
 
-/// The bytes of a number after these prefixes, and after this ModRM if there is one.
+/// The length of a number after these prefixes, and after this ModRM if there is one.
 fn number_len(number: Number, before: &[u8], modrm: u8) -> usize
     ensures value { result ≡ number_size number before.now modrm }
     ensures small { result ≤ 6 }
@@ -209,7 +209,7 @@ fn number_len(number: Number, before: &[u8], modrm: u8) -> usize
     }
 }
 
-/// The bytes of ModRM and its tail where addresses have 32 bits.
+/// The length of ModRM, SIB and displacement with 32-bit addresses.
 fn operand_len(modrm: u8, sib: u8) -> usize
     ensures value { result ≡ operand_len modrm sib }
     ensures small { result ≤ 6 }
@@ -229,7 +229,7 @@ fn operand_len(modrm: u8, sib: u8) -> usize
     with_sib + displacement
 }
 
-/// The bytes of ModRM and its tail where addresses have 16 bits.
+/// The length of ModRM and its displacement with 16-bit addresses.
 fn short_operand_len(modrm: u8) -> usize
     ensures value { result ≡ short_operand_len modrm }
     ensures small { result ≤ 3 }
@@ -242,7 +242,7 @@ fn short_operand_len(modrm: u8) -> usize
     }
 }
 
-/// The bytes of ModRM and its tail after these prefixes.
+/// The length of ModRM, SIB and displacement after these prefixes.
 fn operand_size(before: &[u8], modrm: u8, sib: u8) -> usize
     ensures value { result ≡ operand_size before.now modrm sib }
     ensures small { result ≤ 6 }
@@ -253,7 +253,7 @@ fn operand_size(before: &[u8], modrm: u8, sib: u8) -> usize
     operand_len(modrm, sib)
 }
 
-/// The bytes after an opcode of this form, of which the first two are these.
+/// The number of bytes after an opcode of this form, if it is known; the first two of them are `modrm` and `sib`.
 fn tail_len(form: Form, before: &[u8], modrm: u8, sib: u8) -> Option<usize>
     ensures value { result ≡ tail_len form before.now modrm sib }
     ensures small { IfSome result (λ n. n ≤ 12) }
@@ -268,7 +268,7 @@ fn tail_len(form: Form, before: &[u8], modrm: u8, sib: u8) -> Option<usize>
     }
 }
 
-/// The form of an opcode by a table.
+/// The form of an opcode in a table.
 fn form_in(table: &[Form], opcode: u8) -> Form
     ensures { result ≡ get_or table.now opcode Unknown }
 {
@@ -280,7 +280,7 @@ fn form_in(table: &[Form], opcode: u8) -> Form
     }
 }
 
-/// The form of an opcode of AVX after VEX or EVEX, by the number of its map.
+/// The form of an AVX opcode after VEX or EVEX, by the number of its map.
 fn vector_form(map: u8, opcode: u8) -> Form
     ensures { result ≡ vector_form map opcode }
 {
@@ -297,7 +297,7 @@ fn vector_form(map: u8, opcode: u8) -> Form
     }
 }
 
-/// The form of an opcode after EVEX, whose maps 5 and 6 VEX doesn't have.
+/// The form of an opcode after EVEX, which has maps 5 and 6 besides those of VEX.
 fn evex_form(map: u8, opcode: u8) -> Form
     ensures { result ≡ evex_form map opcode }
 {
@@ -307,7 +307,7 @@ fn evex_form(map: u8, opcode: u8) -> Form
     vector_form(map, opcode)
 }
 
-/// The form of the opcodes of XOP, by the number of their map.
+/// The form of an XOP opcode, by the number of its map.
 fn xop_form(map: u8) -> Form
     ensures { result ≡ xop_form map }
 {
@@ -376,11 +376,11 @@ fn at_most(room: usize, whole: usize) -> Option<usize>
     if whole <= room { Some(whole) } else { None }
 }
 
-/// The length of the instruction at the front of these bytes, whether or not it is permitted, as far as it is known.
+/// The length of the instruction at the front of these bytes, whether or not it is permitted, if it is known.
 ///
-/// There is none where the bytes end before the instruction does, where the instruction would have more than 15 bytes, or
-/// where its opcode isn't one that the manual's maps have. It says nothing on whether a processor executes the instruction:
-/// an opcode that exists has a length with any operand and any prefixes.
+/// It isn't known if the bytes end before the instruction does, if the instruction would have more than 15 bytes, or if its
+/// opcode isn't in the manual's maps. A length does not mean that a processor executes the instruction: an existing opcode
+/// has a length with any operand and any prefixes.
 pub(crate) fn known_len(bytes: &[u8]) -> Option<usize>
     ensures value { result ≡ known_length bytes.now }
     ensures within { IfSome result (λ n. (1 ≤ n) × (n ≤ longest) × (n ≤ length bytes.now)) }

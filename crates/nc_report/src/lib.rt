@@ -1,19 +1,19 @@
-//! What is written of raw code and of segments of linked files: their verdicts, and for whoever builds code what a refusal means.
+//! Reports on raw code and on segments of linked files: their verdicts, and what a refusal means for whoever builds the code.
 //!
-//! [`read_source`] reads a file's bytes, and [`report`] vets such sources by workers and writes what was found, in their
-//! order. Both stand over any reader and writer, so that their contracts can name the bytes. In text the first line of what is
-//! written of a source is its verdict, and lines after it begin with two spaces; `objects` writes JSON instead, and `outside`
-//! lists the addresses outside of accepted code that its direct transfers go to.
+//! [`read_source`] reads a file's bytes, and [`report`] vets such sources by workers and writes a report on each, in order.
+//! Both are generic over the reader or the writer, so that their contracts can name the bytes. In text, the first line of a
+//! report is the verdict, and the lines after it begin with two spaces; `objects` writes JSON instead, and `outside` lists
+//! the addresses outside accepted code that its direct transfers target.
 //!
-//! `telling` writes what is said of one source, `explaining` what is said of a fault, `listing` shows a bundle, `targets` says
-//! where a refused direct transfer goes, `advice` knows what a refused instruction is, and `counting` counts the instructions of
-//! a valid chunk.
+//! `telling` writes the report on one source, `explaining` the lines about a fault, `listing` shows a bundle, `targets` names
+//! the target of a refused direct transfer, `advice` says what a refused instruction is, and `counting` counts the
+//! instructions in a valid chunk.
 //!
-//! All faults of a refused chunk are found by one reading of it: `steps` reads it past its faults, with the lengths that
-//! `lengths` knows, and gives a `spot` for each byte; `further` finds the faults by the spots, `aim` says where
-//! a bad transfer goes, `others` writes the lines on each fault, and `totals` counts them.
+//! All faults of a refused chunk are found by one reading of it: `steps` reads it past its faults, with the lengths from
+//! `lengths`, and gives a `spot` for each byte; `further` finds the faults by the spots, `aim` names the target of a refused
+//! transfer, `others` writes the lines about each fault, and `totals` counts the faults.
 //!
-//! A source may have [`Labels`], names for addresses of its code: `labels` finds the nearest one at an address or below it, and
+//! A source may have [`Labels`], names for addresses of its code: `labels` finds the nearest one at or below an address, and
 //! `naming` writes it with the address of a fault.
 #![tactic(auto)]
 

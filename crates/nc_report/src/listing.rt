@@ -9,7 +9,7 @@ use nc_decode::{BUNDLE, decode};
 use nc_output::push_address;
 use std::alloc::{AllocError, Global};
 
-/// Adds the instructions at the front of these bytes, each with a bar after it, and gives how many bytes they have.
+/// Adds the instructions at the front of these bytes, each followed by a bar, and returns the number of their bytes.
 fn push_read(out: &mut Vec<u8>, bytes: &[u8]) -> Result<usize, AllocError>
     ensures lists { IfOk result (λ read. ListsFront out.old.items out.new.items bytes.now read) }
     ensures within { IfOk result (λ read. read ≤ length bytes.now) }
@@ -28,8 +28,8 @@ fn push_read(out: &mut Vec<u8>, bytes: &[u8]) -> Result<usize, AllocError>
     Ok(at)
 }
 
-/// Adds the line of a bundle whose first byte has this address: its address, the instructions before a place of it, each
-/// with a bar after it, and then the other bytes.
+/// Adds the line that shows the bundle at this address: the address, the instructions before a place of the bundle, each
+/// followed by a bar, and then the other bytes.
 pub(crate) fn push_bundle(
     out: &mut Vec<u8>,
     address: u32,

@@ -1,4 +1,4 @@
-//! How the address of a fault is named by a label.
+//! The line that names the address of a fault by a label.
 
 ghost use Rattle.std.specs.Prelude.{◌≡◌, ◌-◌, ◌≤◌, ◌++◌, IfOk, OnOk};
 ghost use Rattle.std.specs.List.{flat_map};
@@ -10,7 +10,7 @@ use crate::numbers::push_text;
 use nc_output::push_address;
 use std::alloc::{AllocError, Global};
 
-/// A byte of a name as text shows it: a control byte could end the line, or be a terminal's command.
+/// A byte of a name as shown in text, without control bytes: one could end the line, or be a command to a terminal.
 fn shown_byte(byte: u8) -> u8
     ensures { result ≡ shown_byte byte }
 {
@@ -21,7 +21,7 @@ fn shown_byte(byte: u8) -> u8
     }
 }
 
-/// Adds a name as text shows it.
+/// Adds a name as shown in text.
 fn push_shown(out: &mut Vec<u8>, name: &[u8]) -> Result<(), AllocError>
     ensures { OnOk result (out.new.items ≡ out.old.items ++ shown_name name.now) }
 {
@@ -42,7 +42,7 @@ fn push_offset(alloc: Global, out: &mut Vec<u8>, offset: u32) -> Result<(), Allo
     out.extend_from_slice(words.as_bytes())
 }
 
-/// A label's name with the offset of an address from it.
+/// A label's name, followed by the offset of an address from it.
 pub(crate) fn symbol_words(alloc: Global, label: &Label, at: u32) -> Result<Vec<u8>, AllocError>
     requires { label.now.address ≤ at }
     ensures { IfOk result (λ words. words.items ≡ label.now.name.items ++ offset_words (at - label.now.address)) }

@@ -1,4 +1,4 @@
-//! How texts, numbers and bytes are written.
+//! Adding text, numbers and bytes to the output.
 
 ghost use Rattle.std.specs.Prelude.{◌≡◌, ◌++◌, OnOk};
 ghost use Rattle.std.specs.Fmt.{decimal};
@@ -7,7 +7,7 @@ ghost use Rattle.nc_report.specs.Listing.{spaced};
 use nc_output::push_byte;
 use std::alloc::{AllocError, Global};
 
-/// Adds a text.
+/// Adds text.
 pub(crate) fn push_text(out: &mut Vec<u8>, text: &[u8]) -> Result<(), AllocError>
     ensures { OnOk result (out.new.items ≡ out.old.items ++ text.now) }
 {
@@ -22,7 +22,7 @@ pub(crate) fn push_number(alloc: Global, out: &mut Vec<u8>, number: usize) -> Re
     out.extend_from_slice(digits.as_bytes())
 }
 
-/// Adds bytes, each after a space.
+/// Adds bytes in hexadecimal, each after a space.
 pub(crate) fn push_bytes(out: &mut Vec<u8>, bytes: &[u8]) -> Result<(), AllocError>
     ensures { OnOk result (out.new.items ≡ out.old.items ++ spaced bytes.now) }
 {

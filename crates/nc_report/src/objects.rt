@@ -1,4 +1,4 @@
-//! Verdicts as objects of JSON, each in a line of its own.
+//! Verdicts as JSON objects, each on a line of its own.
 
 ghost use Rattle.std.specs.Prelude.{◌≡◌, ◌≢◌, ◌++◌, codes, IfOk, OnOk};
 ghost use Rattle.std.specs.List.{flat_map};
@@ -17,7 +17,7 @@ use nc_output::{fault_name, place_of, push_address, push_byte};
 use nc_vet::VetFault;
 use std::alloc::{AllocError, Global};
 
-/// Adds a byte of a string.
+/// Adds a byte of a string, escaped where necessary.
 fn push_escaped(out: &mut Vec<u8>, byte: u8) -> Result<(), AllocError>
     ensures { OnOk result (out.new.items ≡ out.old.items ++ escaped byte) }
 {
@@ -31,7 +31,7 @@ fn push_escaped(out: &mut Vec<u8>, byte: u8) -> Result<(), AllocError>
     }
 }
 
-/// Adds the bytes of a string.
+/// Adds the bytes of a string, without the quotation marks.
 fn push_inner(out: &mut Vec<u8>, bytes: &[u8]) -> Result<(), AllocError>
     ensures { OnOk result (out.new.items ≡ out.old.items ++ flat_map escaped bytes.now) }
 {
@@ -50,7 +50,7 @@ fn push_string(out: &mut Vec<u8>, bytes: &[u8]) -> Result<(), AllocError>
     push_text(out, b"\"")
 }
 
-/// Adds the first member, a file's name.
+/// Adds the first member: a file's name.
 fn push_file(out: &mut Vec<u8>, name: &[u8]) -> Result<(), AllocError>
     ensures { OnOk result (out.new.items ≡ out.old.items ++ file_member name.now) }
 {
@@ -110,7 +110,8 @@ fn push_symbol(alloc: Global, out: &mut Vec<u8>, labels: &Labels, at: u32) -> Re
     push_member(out, b"symbol", &words)
 }
 
-/// Adds the members on a fault's address, if it has one, on the name of that, and on what the fault means.
+/// Adds the members for a fault's address, if it has one, the name of the address, if that has a label, and what the fault
+/// means.
 fn push_places(
     alloc: Global,
     out: &mut Vec<u8>,
@@ -134,7 +135,7 @@ fn push_places(
     )
 }
 
-/// Adds the members that the object of a source begins with: its name, its address and its verdict.
+/// Adds the first members of the object for a source: its name, its address and its verdict.
 fn push_head(
     alloc: Global,
     out: &mut Vec<u8>,
@@ -150,7 +151,7 @@ fn push_head(
     push_member(out, b"verdict", verdict)
 }
 
-/// Adds the object of a source that is accepted, and the end of its line.
+/// Adds the object for an accepted source, and its line end.
 pub(crate) fn push_accepted_object(
     alloc: Global,
     out: &mut Vec<u8>,
@@ -167,7 +168,7 @@ pub(crate) fn push_accepted_object(
     push_end(out)
 }
 
-/// Adds the object of a source that is refused, and the end of its line. Lack of memory is no verdict.
+/// Adds the object for a refused source, and its line end. Lack of memory is not a verdict: it is returned as an error.
 pub(crate) fn push_refused_object(
     alloc: Global,
     out: &mut Vec<u8>,
@@ -187,8 +188,8 @@ pub(crate) fn push_refused_object(
     push_end(out)
 }
 
-/// Adds the object of a file that is refused before any of it is judged, for a fault with this name and this meaning, and the
-/// end of its line.
+/// Adds the object for a file that is refused before any of it is judged, for a fault with this name and this meaning, and its
+/// line end.
 pub fn push_file_object(
     out: &mut Vec<u8>,
     name: &[u8],

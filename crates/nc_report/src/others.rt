@@ -1,4 +1,4 @@
-//! The other faults of a refused chunk, by one reading of all of it.
+//! The other faults of a refused chunk, found by one reading of all of it.
 
 ghost use Rattle.std.specs.Prelude.{◌≡◌, ◌++◌, ◌∷◌, [], ◌+◌, ◌-◌, ◌%◌, ◌<◌, ◌≤◌, ◌^◌, ℕ, Bool, List, length, take, codes, if◌then◌else◌, Some, IfErr, OnOk, OnErr};
 ghost use Rattle.std.specs.List.{flat_map};
@@ -30,7 +30,7 @@ use std::io::Write;
 /// Text is written once it has at least this many bytes.
 const PIECE: usize = 65536;
 
-/// Adds a byte after a space, and perhaps a bar after it.
+/// Adds a space and a byte in hexadecimal, and then a bar if `barred`.
 fn push_barred(out: &mut Vec<u8>, byte: u8, barred: bool) -> Result<(), AllocError>
     ensures { OnOk result (out.new.items ≡ out.old.items ++ (spaced (byte ∷ []) ++ (if barred then codes " |" else []))) }
 {
@@ -60,7 +60,7 @@ fn push_parted(
     Ok(())
 }
 
-/// Adds the line of the bundle of a fault at this place.
+/// Adds the line that shows the bundle of a fault at this place.
 fn push_listing(
     out: &mut Vec<u8>,
     base: u32,
@@ -85,7 +85,7 @@ fn push_listing(
     push_text(out, b"\n")
 }
 
-/// Adds where a direct transfer goes that goes where it may not. Of other faults it adds nothing.
+/// Adds the line about the target of a refused direct transfer; adds nothing for any other fault.
 fn push_goes(
     out: &mut Vec<u8>,
     base: u32,
@@ -122,7 +122,7 @@ fn push_heading(out: &mut Vec<u8>, fault: VetFault) -> Result<(), AllocError>
     push_text(out, b"\n")
 }
 
-/// Adds the lines on a fault at this place.
+/// Adds the lines about a fault at this place.
 fn push_also(
     alloc: Global,
     out: &mut Vec<u8>,
@@ -148,7 +148,7 @@ fn push_also(
     push_words(out, words_about(code, fault, k))
 }
 
-/// Adds the lines on a place of the code, if there is a fault that isn't the chunk's own.
+/// Adds the lines about a place of the code, if it has a fault other than the chunk's own.
 fn push_place(
     alloc: Global,
     out: &mut Vec<u8>,
@@ -175,7 +175,7 @@ fn push_place(
     }
 }
 
-/// Writes what is kept where it is much. What isn't written is kept.
+/// Writes all text in `out` and clears it, once there is at least a piece of it.
 fn write_much<W: Write>(out: &mut Vec<u8>, writer: &mut W) -> Result<(), ReportFault>
     ensures ok { OnOk result ((part : List ℕ) × Appends (W.contents writer.old) (W.contents writer.new) part
         × (part ++ out.new.items ≡ out.old.items)) }
@@ -194,7 +194,7 @@ fn write_much<W: Write>(out: &mut Vec<u8>, writer: &mut W) -> Result<(), ReportF
     Ok(())
 }
 
-/// Writes the lines on all places of the code. What isn't written is kept.
+/// Writes the lines about all places of the code. Text that isn't written yet is kept in `out`.
 fn write_places<W: Write>(
     alloc: Global,
     out: &mut Vec<u8>,
@@ -228,8 +228,8 @@ fn write_places<W: Write>(
     Ok(())
 }
 
-/// Reads all of the code once, past its faults, and writes what is said of each fault but the one at this place, and at the
-/// end how many there are. What isn't written is kept.
+/// Reads all of the code once, past its faults, and writes the lines about each fault except the one at `own`, and then the
+/// last lines. Text that isn't written yet is kept in `out`.
 pub(crate) fn write_others<W: Write>(
     alloc: Global,
     out: &mut Vec<u8>,

@@ -1,4 +1,4 @@
-//! The addresses outside of a chunk that its direct transfers go to.
+//! The addresses outside a chunk that its direct transfers target.
 
 ghost use Rattle.std.specs.Prelude.{◌≡◌, ◌++◌, ◌+◌, ◌<◌, ◌^◌, ◌==◌, if◌then◌else◌, List, length, codes, IfOk, OnOk};
 ghost use Rattle.std.specs.List.Sorted.{IsNonDecreasing};
@@ -13,7 +13,7 @@ use nc_decode::{Instr, decode};
 use nc_output::push_address;
 use std::alloc::{AllocError, Global};
 
-/// Adds the address outside of the code that an instruction at this address transfers to, if it is a direct transfer to one.
+/// Adds the target of the instruction at this address, if it is a direct transfer to an address outside the code.
 fn push_sent(
     sent: &mut Vec<u32>,
     base: u32,
@@ -34,7 +34,7 @@ fn push_sent(
     Ok(())
 }
 
-/// The addresses outside of the code to which its direct transfers go, in the order of the instructions.
+/// The addresses outside the code that its direct transfers target, in the order of the instructions.
 fn all_sent(alloc: Global, base: u32, code: &[u8]) -> Result<Vec<u32>, AllocError>
     requires { base + length code.now < 2 ^ 32 }
     ensures { IfOk result (λ sent. IsSent base code.now sent.items) }
@@ -51,7 +51,7 @@ fn all_sent(alloc: Global, base: u32, code: &[u8]) -> Result<Vec<u32>, AllocErro
     Ok(sent)
 }
 
-/// How many numbers at the front are the same.
+/// The length of the run of equal numbers at the front.
 fn run_of(numbers: &[u32]) -> usize
     requires { 0 < length numbers.now }
     ensures { BeginsWithRun numbers.now result }
@@ -63,7 +63,7 @@ fn run_of(numbers: &[u32]) -> usize
     count
 }
 
-/// The word after a number of transfers, and the space before it.
+/// The word after a number of transfers, with the space before it.
 fn transfers(times: usize) -> &'static [u8]
     ensures { result.now ≡ (if times == 1 then codes " transfer" else codes " transfers") }
 {
@@ -74,7 +74,7 @@ fn transfers(times: usize) -> &'static [u8]
     }
 }
 
-/// Adds the line on an address and the number of transfers that go there.
+/// Adds the line about an address and the number of transfers to it.
 fn push_row(alloc: Global, out: &mut Vec<u8>, to: u32, times: usize) -> Result<(), AllocError>
     ensures { OnOk result (out.new.items ≡ out.old.items ++ detail_line (row_words (record { to = to; times = times }))) }
 {
@@ -86,7 +86,7 @@ fn push_row(alloc: Global, out: &mut Vec<u8>, to: u32, times: usize) -> Result<(
     push_text(out, b"\n")
 }
 
-/// Adds a line for each of these numbers, which ascend, with how often it occurs.
+/// Adds a line for each distinct one of these numbers, which are in ascending order, with the number of its occurrences.
 fn push_counts(alloc: Global, out: &mut Vec<u8>, numbers: &[u32]) -> Result<(), AllocError>
     requires { IsNonDecreasing numbers.now }
     ensures { OnOk result (AddsCounts numbers.now out.old.items out.new.items) }
@@ -100,7 +100,7 @@ fn push_counts(alloc: Global, out: &mut Vec<u8>, numbers: &[u32]) -> Result<(), 
     Ok(())
 }
 
-/// Adds the lines on the addresses outside of some code that its direct transfers go to.
+/// Adds the lines about the addresses outside some code that its direct transfers target.
 pub(crate) fn push_outside(
     alloc: Global,
     out: &mut Vec<u8>,

@@ -1,4 +1,4 @@
-//! Vetting of sources, and the report of what was found.
+//! Vetting sources, and reporting on them.
 
 ghost use Rattle.std.specs.Prelude.{◌≡◌, ◌↔◌, ◌++◌, ◌∷◌, [], All, map, length, IfOk, IfErr, OnOk, OnErr, IsErrOf};
 ghost use Rattle.nc_decode.specs.Bundles.{IsRegionSize, limit_after};
@@ -45,7 +45,7 @@ fn push_parted(parted: &mut Parted, source: Source, base: u32, limit: u32) -> Re
     Ok(())
 }
 
-/// Parts sources into titles and jobs.
+/// Splits sources into titles and jobs.
 fn part(alloc: Global, sources: Vec<Source>, base: u32, limit: u32) -> Result<Parted, AllocError>
     ensures titles { IfOk result (λ p. p.titles.items ≡ map title_of sources.items) }
     ensures jobs { IfOk result (λ p. p.jobs.items ≡ map (job_of base limit) sources.items) }
@@ -57,7 +57,7 @@ fn part(alloc: Global, sources: Vec<Source>, base: u32, limit: u32) -> Result<Pa
     Ok(parted)
 }
 
-/// Writes what is said of each source, and gives how many are refused.
+/// Writes the report on each source, and returns the number of refused ones.
 fn tell_all<W: Write>(
     alloc: Global,
     titles: Vec<Title>,
@@ -90,7 +90,7 @@ fn tell_all<W: Write>(
     Ok(refused)
 }
 
-/// Vets sources in a region of this limit, and writes in their order what was found. It gives the number of refused ones.
+/// Vets sources for a region of this limit, and writes the reports on them, in order. Returns the number of refused ones.
 fn vet_and_tell<W: Write, T: Threads + Wait + Sync>(
     rt: &T,
     alloc: Global,
@@ -121,17 +121,17 @@ fn vet_and_tell<W: Write, T: Threads + Wait + Sync>(
     }
 }
 
-/// Vets sources, each as a chunk at this base in a region of `bundles` bundles, by `workers` workers, and writes in their
-/// order what was found. It gives the number of refused ones.
+/// Vets sources, each as a chunk at this base in a region of `bundles` bundles, by `workers` workers, and writes the reports
+/// on them, in order. Returns the number of refused ones.
 ///
-/// As text, an accepted source has a line with its name, `ok`, and the numbers of its bytes and of its instructions; with
-/// `Brief` it has none. A refused one has first a line with its name and what `vet_lines` replies to a chunk with its
-/// fault. Lines after these begin with two spaces, and `detail` says which they are. The names of sources are written as
-/// they are; those of labels without control bytes. With `Object` each source has instead one object of JSON in a line of
-/// its own, in which names are escaped.
+/// In text, an accepted source has a line with its name, `ok`, and the numbers of its bytes and of its instructions; with
+/// `Brief` it has none. A refused source first has a line with its name and the reply of `vet_lines` to a chunk with its
+/// fault. Further lines begin with two spaces, and `detail` says which they are. Names of sources are written unchanged, names
+/// of labels without control bytes. With `Object` each source has instead one JSON object on a line of its own, in which
+/// names are escaped.
 ///
-/// All sources are vetted before a byte is written. What is promised of bytes holds of a writer that tells its own;
-/// nothing is promised of when a device fails.
+/// All sources are vetted before any byte is written. The promises about bytes hold for a writer whose bytes are known;
+/// nothing is promised about when a device fails.
 pub fn report<W: Write, T: Threads + Wait + Sync>(
     rt: &T,
     alloc: Global,
@@ -142,16 +142,17 @@ pub fn report<W: Write, T: Threads + Wait + Sync>(
     detail: Detail,
     writer: &mut W,
 ) -> Result<usize, ReportFault>
-    // The two numbers are tested first, in this order, before anything is written.
+    // The two numbers are checked first, in this order, before anything is written.
     ensures bad_size { IsErrOf result ReportFault.BadSize ↔ ¬ IsRegionSize bundles }
     ensures bad_workers { IsErrOf result ReportFault.BadWorkers ↔ (IsRegionSize bundles × ¬ AreWorkers workers) }
     ensures untouched { ¬ (IsRegionSize bundles × AreWorkers workers) → writer.new ≡ writer.old }
 
-    // Exactly what is to be written of these sources was written, and the result is how many are refused.
+    // Exactly the reports on these sources were written, and the result is the number of refused ones.
     ensures ok { IfOk result (HasReported (limit_after bundles) base detail (W.contents writer.old) (W.contents writer.new)
         sources.items) }
 
-    // On a fault of the writer or of memory, all of some first sources was written, and perhaps a beginning of the next.
+    // If the writer fails or memory runs out, the whole reports on some first sources were written, and perhaps a prefix of
+    // the next one.
     ensures write_failed { IsErrOf result ReportFault.WriteFailed →
         HasBegunReport (limit_after bundles) base detail (W.contents writer.old) (W.contents writer.new) sources.items }
     ensures out_of_memory { IsErrOf result ReportFault.OutOfMemory →

@@ -1,4 +1,4 @@
-//! The reading of a source.
+//! Reading a source.
 
 ghost use Rattle.std.specs.Prelude.{◌≡◌, ◌≤◌, ◌<◌, ℕ, List, [], length, vec_len, Err, IfOk, OnOk, IfSome, IsErrOf};
 ghost use Rattle.std.specs.Io.KnownBytes.{Consumes, IsAtEnd};
@@ -8,7 +8,7 @@ use crate::labels::Labels;
 use std::alloc::Global;
 use std::io::Read;
 
-/// The most bytes of a source: as many as the largest region has.
+/// The most bytes that a source may have: the size of the largest region.
 pub const MOST_BYTES: usize = 67_108_864;
 
 /// Bytes that were read from one file, and the file's name as it is printed.
@@ -16,39 +16,39 @@ pub const MOST_BYTES: usize = 67_108_864;
 pub struct Source {
     pub name: Vec<u8>,
     pub code: Vec<u8>,
-    /// Names for addresses of the code, where these are known.
+    /// Names for addresses of the code, if known.
     pub labels: Labels,
 }
 
-/// What is said of a source besides its code.
+/// The name and the labels of a source, without its code.
 #[derive(Drop)]
 pub(crate) struct Title {
     pub name: Vec<u8>,
     pub labels: Labels,
 }
 
-/// Reads a source to its end. Room for `expected` bytes is made before; it is only a guess.
+/// Reads a source to its end. Memory for `expected` bytes is allocated first; that number is only a guess.
 ///
-/// A reader that gives more than [`MOST_BYTES`] bytes isn't read further, so a device without end is refused after so
-/// many. Nothing is promised of when a reader fails.
+/// A reader that gives more than [`MOST_BYTES`] bytes isn't read further, so an endless device is refused at that point.
+/// Nothing is promised about when a reader fails.
 pub fn read_source<R: Read>(
     alloc: Global,
     name: Vec<u8>,
     reader: &mut R,
     expected: usize,
 ) -> Result<Source, SourceFault>
-    // All bytes that the reader had, the name as it was, and no labels.
+    // The source has all bytes that the reader had, this name, and no labels.
     ensures name { IfOk result (λ source. source.name ≡ name) }
     ensures code { IfOk result (λ source. IfSome (R.remaining reader.old) (λ input. source.code.items ≡ input)) }
     ensures labels { IfOk result (λ source. source.labels ≡ []) }
     ensures read { OnOk result (IsAtEnd (R.remaining reader.new)) }
     ensures fits { IfOk result (λ source. vec_len source.code ≤ MOST_BYTES) }
 
-    // More bytes came than a source may have.
+    // The reader gave more bytes than a source may have.
     ensures too_long { IsErrOf result SourceFault.TooLong → (front : List ℕ)
         × Consumes (R.remaining reader.old) (R.remaining reader.new) front × (MOST_BYTES < length front) }
 
-    // No more bytes came than that, and the reader failed, or there was no memory.
+    // The reader gave no more than `MOST_BYTES` bytes, and it failed, or there was no memory.
     ensures read_failed { IsErrOf result SourceFault.ReadFailed → (front : List ℕ)
         × Consumes (R.remaining reader.old) (R.remaining reader.new) front × (length front ≤ MOST_BYTES) }
     ensures out_of_memory { IsErrOf result SourceFault.OutOfMemory → (front : List ℕ)
@@ -65,7 +65,7 @@ pub fn read_source<R: Read>(
     Ok(Source { name, code, labels })
 }
 
-/// Reads what a reader has into an empty list.
+/// Reads all bytes of a reader into an empty vector.
 fn read_pieces<R: Read>(code: &mut Vec<u8>, reader: &mut R) -> Result<(), SourceFault>
     requires { code.old.items ≡ [] }
     ensures code { OnOk result (IfSome (R.remaining reader.old) (λ input. code.new.items ≡ input)) }
@@ -79,7 +79,7 @@ fn read_pieces<R: Read>(code: &mut Vec<u8>, reader: &mut R) -> Result<(), Source
         × Consumes (R.remaining reader.old) (R.remaining reader.new) front × (length front ≤ MOST_BYTES) }
 {
     let mut piece = [0u8; 32768];
-    // Each read but the last gives a byte.
+    // Each read but the last gives at least one byte.
     for _ in 0..=MOST_BYTES {
         let count = match reader.read(&mut piece) {
             Ok(count) => count,

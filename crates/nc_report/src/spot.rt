@@ -5,11 +5,11 @@ ghost use Rattle.std.specs.Prelude.{◌≡◌, get_or};
 /// What the reading of a refused chunk finds at a byte.
 #[derive(Clone, Copy, PartialEq, Eq)]
 pub(crate) enum Spot {
-    /// No first byte of an instruction.
+    /// A later byte of an instruction.
     Inside,
     /// A byte that is skipped, because the length of the instruction before it isn't known.
     Skipped,
-    /// An instruction that may stand there begins, and it is no second half of a pair.
+    /// An instruction that is allowed here begins, and it is not the second half of a pair.
     Entry,
     /// The second half of a pair begins.
     Second,
@@ -21,7 +21,7 @@ pub(crate) enum Spot {
     Bare,
 }
 
-/// What is found at a byte; after the last one, nothing begins.
+/// The spot of a byte; after the last byte, `Inside`.
 pub(crate) fn spot_at(spots: &[Spot], k: usize) -> Spot
     ensures { result ≡ get_or spots.now k Spot.Inside }
 {

@@ -1,4 +1,4 @@
-//! The reading of a refused chunk: one instruction after the other, also past faults.
+//! The reading of a refused chunk, one instruction after another and past its faults.
 
 ghost use Rattle.std.specs.Prelude.{◌≡◌, ◌≤◌, ◌<◌, ◌+◌, ◌%◌, ◌^◌, ◌++◌, length, IfOk, IfSome, OnOk, vec_len};
 ghost use Rattle.nc_report.specs.Reading.{extent, masked_by, spot_of, later_spot, step_spots, Finds, IsStep};
@@ -9,10 +9,10 @@ use crate::spot::Spot;
 use nc_decode::{BUNDLE, DecodeFault, Instr, decode};
 use std::alloc::{AllocError, Global};
 
-/// What stands at a place.
+/// What the reading finds at a place.
 #[derive(Clone, Copy)]
 pub(crate) enum Found {
-    /// An instruction that may stand there.
+    /// An instruction that is allowed there.
     Sound(Instr),
     /// An indirect transfer without its mask.
     Bare,
@@ -25,15 +25,15 @@ pub(crate) enum Found {
 /// One step of the reading.
 #[derive(Clone, Copy)]
 pub(crate) struct Step {
-    /// What stands where it begins.
+    /// The finding where it begins.
     pub found: Found,
-    /// The number of bytes after which the reading goes on.
+    /// The number of bytes after which the next step begins.
     pub len: usize,
-    /// These are the bytes of one instruction. Else its length isn't known, and they are the rest of the bundle.
+    /// Whether these bytes are one instruction. If not, its length isn't known, and they are the rest of the bundle.
     pub whole: bool,
 }
 
-/// What stands at the front of the bytes up to the end of a bundle. The register, if any, was masked directly before.
+/// The finding at the front of the bytes up to the end of a bundle. The register, if any, was masked directly before.
 fn found_in(window: &[u8], masked: Option<u8>) -> Found
     ensures { Finds window.now masked result }
 {
@@ -85,7 +85,7 @@ fn step_at(rest: &[u8], room: usize, masked: Option<u8>) -> Step
     }
 }
 
-/// The register that is masked directly before the place after a step.
+/// The register that a step at this place masks for the next one, if both begin in the same bundle.
 fn masked_by(step: Step, at: usize) -> Option<u8>
     requires { at + step.len < 2 ^ 64 }
     ensures { result ≡ masked_by at step }
@@ -97,7 +97,7 @@ fn masked_by(step: Step, at: usize) -> Option<u8>
     }
 }
 
-/// What is found where a step begins.
+/// The spot of the first byte of a step.
 fn spot_of(found: Found) -> Spot
     ensures { result ≡ spot_of found }
 {
@@ -110,14 +110,14 @@ fn spot_of(found: Found) -> Spot
     }
 }
 
-/// What is found at the other bytes of a step.
+/// The spot of each other byte of a step.
 fn later_spot(whole: bool) -> Spot
     ensures { result ≡ later_spot whole }
 {
     if whole { Spot::Inside } else { Spot::Skipped }
 }
 
-/// Adds what is found at the bytes of a step.
+/// Adds the spots of the bytes of a step.
 fn push_spots(spots: &mut Vec<Spot>, step: Step) -> Result<(), AllocError>
     requires some { 1 ≤ step.len }
     requires fits { vec_len spots.old + step.len < 2 ^ 63 }
@@ -128,7 +128,7 @@ fn push_spots(spots: &mut Vec<Spot>, step: Step) -> Result<(), AllocError>
     spots.resize(end, later_spot(step.whole))
 }
 
-/// What is found at each byte of the code.
+/// The spots of all bytes of the code.
 pub(crate) fn read_spots(alloc: Global, code: &[u8]) -> Result<Vec<Spot>, AllocError>
     requires { length code.now % 32 ≡ 0 }
     ensures { IfOk result (λ spots. HasSpots code.now spots.items) }

@@ -1,4 +1,4 @@
-//! Where a refused direct transfer goes, and why it may not.
+//! The target of a refused direct transfer, and why it is not allowed.
 
 ghost use Rattle.std.specs.Prelude.{◌≡◌, ◌<◌, ◌++◌, length, OnOk};
 ghost use Rattle.nc_vet.specs.Faults.{HasFault};
@@ -12,7 +12,7 @@ use nc_decode::{BUNDLE, START, decode};
 use nc_output::push_address;
 use std::alloc::AllocError;
 
-/// The bytes of a mask.
+/// The length of a mask, in bytes.
 const MASK: u32 = 3;
 
 /// The place after the instruction that begins at a place of sound code.
@@ -27,7 +27,7 @@ fn after(code: &[u8], at: usize) -> usize
     }
 }
 
-/// Where the instruction begins that covers a place of sound code. At each bundle start one begins.
+/// The first place of the instruction that covers a place of sound code. At each bundle start an instruction begins.
 fn covering(code: &[u8], place: usize) -> usize
     requires parted { IsReadTo code.now 0 }
     requires within { place < length code.now }
@@ -44,7 +44,7 @@ fn covering(code: &[u8], place: usize) -> usize
     at
 }
 
-/// Why a direct transfer may not go to an address outside the code.
+/// Why a direct transfer may not target an address outside the code.
 pub(crate) fn why_outside(limit: u32, to: u32) -> &'static [u8]
     ensures { result.now ≡ why_outside limit to }
 {
@@ -57,7 +57,7 @@ pub(crate) fn why_outside(limit: u32, to: u32) -> &'static [u8]
     }
 }
 
-/// Adds why a direct transfer of sound code may not go to an address.
+/// Adds why a direct transfer of sound code may not target an address.
 fn push_why(
     out: &mut Vec<u8>,
     limit: u32,
@@ -77,12 +77,12 @@ fn push_why(
         push_text(out, INSIDE)?;
         return push_address(out, base + start as u32);
     }
-    // What begins there is the second half of a pair.
+    // The second half of a pair begins there.
     push_text(out, SECOND_HALF)?;
     push_address(out, to - MASK)
 }
 
-/// Adds the line on where the transfer at this address goes, and why it may not.
+/// Adds the line about the target of the transfer at this address, and why it is not allowed.
 pub(crate) fn push_target(
     out: &mut Vec<u8>,
     limit: u32,

@@ -1,4 +1,4 @@
-//! What is written of one source.
+//! The report on one source.
 
 ghost use Rattle.std.specs.Prelude.{◌≡◌, ◌≢◌, ◌++◌, ℕ, List, IfOk, IfErr, OnOk, OnErr};
 ghost use Rattle.std.specs.Io.KnownBytes.{Appends};
@@ -24,7 +24,7 @@ use nc_work::Verdict;
 use std::alloc::{AllocError, Global};
 use std::io::Write;
 
-/// Adds the verdict on a source that is accepted.
+/// Adds the verdict on an accepted source.
 fn push_ok(
     alloc: Global,
     out: &mut Vec<u8>,
@@ -42,7 +42,7 @@ fn push_ok(
     push_text(out, b" instructions\n")
 }
 
-/// Adds the verdict on a source that is accepted, and the addresses outside of it that its direct transfers go to.
+/// Adds the verdict on an accepted source, and the addresses outside it that its direct transfers target.
 fn push_calls(
     alloc: Global,
     out: &mut Vec<u8>,
@@ -56,7 +56,7 @@ fn push_calls(
     push_outside(alloc, out, chunk.base(), code)
 }
 
-/// Adds what is said of a source that is accepted.
+/// Adds the report on an accepted source.
 fn push_accepted(
     alloc: Global,
     out: &mut Vec<u8>,
@@ -79,7 +79,7 @@ fn push_accepted(
     }
 }
 
-/// Writes what is said of a source that is accepted.
+/// Writes the report on an accepted source.
 fn tell_accepted<W: Write>(
     alloc: Global,
     title: &Title,
@@ -107,7 +107,7 @@ fn tell_accepted<W: Write>(
     }
 }
 
-/// Adds the verdict on a source that is refused. Lack of memory is no verdict.
+/// Adds the verdict on a refused source. Lack of memory is not a verdict: it is returned as an error.
 fn push_refusal(out: &mut Vec<u8>, name: &[u8], fault: VetFault) -> Result<(), AllocError>
     ensures { OnOk result ((fault ≢ OutOfMemory)
         × (out.new.items ≡ out.old.items ++ said_of name.now (with_line_end (refused_words (fault_words fault))))) }
@@ -117,7 +117,8 @@ fn push_refusal(out: &mut Vec<u8>, name: &[u8], fault: VetFault) -> Result<(), A
     push_fault(out, fault)
 }
 
-/// Adds the verdict on a source that is refused, and what is said of its fault. Lack of memory is no verdict.
+/// Adds the verdict on a refused source, and the lines about its fault. Lack of memory is not a verdict: it is returned as an
+/// error.
 fn push_refused(
     alloc: Global,
     out: &mut Vec<u8>,
@@ -143,7 +144,8 @@ fn push_refused(
     }
 }
 
-/// Writes what is said of the other faults of a refused source, where it is asked for. What isn't written is kept.
+/// Writes the lines about the other faults of a refused source, if they are asked for. Text that isn't written yet is kept
+/// in `out`.
 fn write_more<W: Write>(
     alloc: Global,
     out: &mut Vec<u8>,
@@ -176,7 +178,7 @@ fn write_more<W: Write>(
     write_others(alloc, out, base, limit, code, labels, own, writer)
 }
 
-/// Writes what is said of a source that is refused.
+/// Writes the report on a refused source.
 fn tell_refused<W: Write>(
     alloc: Global,
     title: &Title,
@@ -215,7 +217,7 @@ fn tell_refused<W: Write>(
     }
 }
 
-/// Writes what is said of a source with this verdict, and gives how many are refused: one or none.
+/// Writes the report on a source with this verdict, and returns 1 if the source is refused, otherwise 0.
 pub(crate) fn tell<W: Write>(
     alloc: Global,
     title: Title,

@@ -1,4 +1,4 @@
-//! What is said at the end of the faults of a refused chunk.
+//! The last lines about a refused chunk: the number of its faults, and whether the code is in bundles.
 
 ghost use Rattle.std.specs.Prelude.{◌≡◌, ◌<◌, ◌≤◌, ◌+◌, ◌/◌, ◌^◌, ◌++◌, Bool, if◌then◌else◌, codes, length, not, ◌==◌, ◌||◌, OnOk, IfOk};
 ghost use Rattle.std.specs.Fmt.{decimal};
@@ -15,7 +15,7 @@ use nc_decode::BUNDLE;
 use nc_vet::VetFault;
 use std::alloc::{AllocError, Global};
 
-/// How many faults of each kind there are.
+/// The number of faults of each kind.
 #[derive(Clone, Copy)]
 pub(crate) struct Counts {
     pub crosses: usize,
@@ -24,7 +24,7 @@ pub(crate) struct Counts {
     pub bad_target: usize,
 }
 
-/// One more where there is a fault, by its kind.
+/// The counts with one more for the kind of this fault, if there is one.
 fn counted(counts: Counts, found: Option<VetFault>) -> Counts
     requires crosses { counts.crosses < 2 ^ 63 }
     requires not_permitted { counts.not_permitted < 2 ^ 63 }
@@ -43,7 +43,7 @@ fn counted(counts: Counts, found: Option<VetFault>) -> Counts
     counts
 }
 
-/// How many faults of each kind the code has.
+/// The number of faults of each kind that the code has.
 fn count_faults(base: u32, limit: u32, code: &[u8], spots: &[Spot]) -> Counts
     requires span { base + length code.now < 2 ^ 32 }
     requires each { length spots.now ≡ length code.now }
@@ -61,7 +61,7 @@ fn count_faults(base: u32, limit: u32, code: &[u8], spots: &[Spot]) -> Counts
     counts
 }
 
-/// One for a test that holds.
+/// 1 for a test that holds, otherwise 0.
 fn one(holds: bool) -> usize
     ensures value { result ≡ (if holds then 1 else 0) }
     ensures small { result ≤ 1 }
@@ -69,7 +69,7 @@ fn one(holds: bool) -> usize
     if holds { 1 } else { 0 }
 }
 
-/// How many bundles begin inside an instruction.
+/// The number of bundles that begin inside an instruction.
 fn count_inside(spots: &[Spot]) -> usize
     ensures value { result ≡ starts_inside spots.now (length spots.now / 32) }
     ensures within { result ≤ length spots.now / 32 }
@@ -81,7 +81,7 @@ fn count_inside(spots: &[Spot]) -> usize
     inside
 }
 
-/// Adds a number of faults with the name of their kind, if it isn't 0, and tells whether a kind has been written.
+/// Adds a number of faults with the name of their kind, if it isn't 0, and returns whether a kind has been written.
 fn push_kind(
     alloc: Global,
     out: &mut Vec<u8>,
@@ -104,7 +104,7 @@ fn push_kind(
     Ok(true)
 }
 
-/// Adds how many faults there are in all.
+/// Adds the number of all faults.
 fn push_total(alloc: Global, out: &mut Vec<u8>, n: usize) -> Result<(), AllocError>
     ensures { OnOk result (out.new.items ≡ (out.old.items ++ decimal n) ++ (if n == 1 then codes " fault: " else codes " faults: ")) }
 {
@@ -152,7 +152,7 @@ fn push_adrift(
     push_text(out, b"\n")
 }
 
-/// Adds what is said at the end.
+/// Adds the last lines: the totals, and whether the code is in bundles.
 pub(crate) fn push_last(
     alloc: Global,
     out: &mut Vec<u8>,

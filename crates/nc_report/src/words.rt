@@ -1,6 +1,6 @@
-//! What a refusal means, in plain words, and how code is built without it. `docs/GUIDE.md` says more of each.
+//! What each refusal means, in plain words, and how to build code without it. `docs/GUIDE.md` says more about each.
 
-/// No permitted instruction that the table of advice knows.
+/// Bytes that are not a permitted instruction, and not in the table of advice either.
 pub(crate) const GENERAL: &[u8] =
     b"no permitted instruction begins here: see the table in docs/GUIDE.md; if these bytes are data, keep them out of the code";
 
@@ -22,7 +22,7 @@ pub(crate) const BAD_BASE: &[u8] =
 /// The length is refused.
 pub(crate) const BAD_LENGTH: &[u8] =
     b"the code is not whole bundles of 32 bytes: link it with nc-cc or chunk.ld, or fill the last bundle with 90 (nop)";
-/// The code doesn't fit.
+/// The code doesn't fit into the region.
 pub(crate) const OUT_OF_RANGE: &[u8] =
     b"the code reaches the region's last bundle, the guard: link it lower (nc-cc --base), or give --bundles of at least (base + length - 0x10000) / 32 + 1, at most 2097152";
 /// An instruction is cut by the end of its bundle.
@@ -34,20 +34,20 @@ pub(crate) const CUT_PREFIX: &[u8] =
 /// An indirect transfer without its mask.
 pub(crate) const BARE: &[u8] =
     b"an indirect jump or call without its mask: compile with nc-cc, or put andl $-32 on its register directly before it, in its bundle: see docs/GUIDE.md";
-/// A direct transfer that goes nowhere allowed.
+/// A direct transfer whose target is not allowed.
 pub(crate) const BAD_TARGET: &[u8] =
     b"a direct jump or call must go to the start of an instruction that is no second half of a pair, or out of the code to a bundle start below the region's end; a wrong --base shows as this fault too";
 /// A target at the end of the region or beyond it.
 pub(crate) const BEYOND_REGION: &[u8] = b"beyond the end of the region";
-/// A target in the trampoline zone, below the region, that is no bundle start.
+/// A target in the trampoline zone, below the region, that is not a bundle start.
 pub(crate) const IN_ZONE: &[u8] = b"in the trampoline zone, not at a bundle start";
-/// A target in the region and outside the code that is no bundle start.
+/// A target in the region and outside the code that is not a bundle start.
 pub(crate) const OUTSIDE_CODE: &[u8] = b"outside the code, not at a bundle start";
 /// A target that is a later byte of an instruction, whose address follows these words.
 pub(crate) const INSIDE: &[u8] = b"inside the instruction at ";
 /// A target that is a masked transfer. The address of its mask follows these words.
 pub(crate) const SECOND_HALF: &[u8] = b"the second half of the pair whose mask begins at ";
-/// What is said after the numbers of bundles that begin inside an instruction and of all.
+/// The words after the number of bundles that begin inside an instruction and the number of all bundles.
 pub(crate) const NOT_IN_BUNDLES: &[u8] =
     b" bundle starts lie inside an instruction; compile with nc-cc, or assemble with .bundle_align_mode 5: see docs/GUIDE.md";
 /// There was no memory.

@@ -1,4 +1,4 @@
--- What a script answers to a line, and its state afterwards.
+-- The answer of a script to a line, and the state after it.
 use Rattle.std.specs.Prelude.{◌≡◌, ◌≢◌, ℕ, ◌*◌, ◌+◌, ◌^◌, ◌<◌, ◌⊎◌, List, [], length, map, replicate, MatchOption, Some, codes, slice_get}
 use Rattle.std.specs.Prelude.{slice_set}
 use Rattle.nc_vet.specs.Faults.{HasFault}
@@ -19,7 +19,7 @@ use Rattle.nc_script.specs.Queries.{reply_to}
 use Rattle.nc_script.specs.Replies.{walk_reply, patch_words, deletion_words}
 use Rattle.nc_script.specs.Replies.{stamp_reply, freed_reply}
 
--- a valid chunk that meets no other is put into the list
+-- a valid chunk that overlaps no other is put into the list
 pub record IsAdded (base : ℕ) (bytes : List ℕ) (old : Script) (reply : List ℕ) (new : Script) : Type 0 where
   pub valid : IsValidAt base old.limit bytes
   pub free : ¬ IsOccupied base (length bytes) old.chunks
@@ -35,7 +35,7 @@ pub record IsFaulted (base : ℕ) (bytes : List ℕ) (old : Script) (reply : Lis
   pub reply_is : reply ≡ with_line_end (refused_words (fault_words fault))
   pub same : new ≡ old
 
--- a valid chunk that meets another is refused
+-- a valid chunk that overlaps another is refused
 pub record IsCrowdedOut (base : ℕ) (bytes : List ℕ) (old : Script) (reply : List ℕ) (new : Script) : Type 0 where
   pub valid : IsValidAt base old.limit bytes
   pub taken : IsOccupied base (length bytes) old.chunks
@@ -51,19 +51,19 @@ pub record IsWalked (start : ℕ) (choices : List ℕ) (old : Script) (reply : L
   pub reply_is : reply ≡ with_line_end (walk_reply places end)
   pub same : new ≡ old
 
--- a walk from any other place is refused
+-- a walk that doesn't begin at a bundle start of the region is refused
 pub record IsNoStart (start : ℕ) (old : Script) (reply : List ℕ) (new : Script) : Type 0 where
   pub begins_not : ¬ IsWalkStart (script_text old) start
   pub reply_is : reply ≡ with_line_end (refused_words (codes "NotBundle"))
   pub same : new ≡ old
 
--- a lawful patch is made: the new bytes stand in the chunk
+-- a lawful patch is made: the chunk has the new bytes
 pub record IsPatched (at : ℕ) (bytes : List ℕ) (old : Script) (reply : List ℕ) (new : Script) : Type 0 where
   pub lawful : IsLawfulPatch old at bytes
   pub reply_is : reply ≡ with_line_end (codes "ok")
   pub new_is : new ≡ record old { chunks = map (patched_at at bytes) old.chunks }
 
--- any other patch is refused
+-- a patch that isn't lawful is refused
 pub record IsNotPatched (at : ℕ) (bytes : List ℕ) (old : Script) (reply : List ℕ) (new : Script) : Type 0 where
   pub fault : ModifyFault
   pub due : IsRefusedPatch old at bytes fault
@@ -77,40 +77,40 @@ pub record IsRetired (base : ℕ) (old : Script) (reply : List ℕ) (new : Scrip
   pub reply_is : reply ≡ with_line_end (stamp_reply (old.generation + 1))
   pub new_is : new ≡ record old { chunks = map (retired_at base (old.generation + 1)) old.chunks; generation = old.generation + 1 }
 
--- any other deletion is refused
+-- a deletion is refused: no live chunk has this base, or the generation is the last one
 pub record IsNotDeleted (base : ℕ) (old : Script) (reply : List ℕ) (new : Script) : Type 0 where
   pub fault : DeleteFault
   pub due : IsRefusedDeletion old base fault
   pub reply_is : reply ≡ with_line_end (refused_words (deletion_words fault))
   pub same : new ≡ old
 
--- a seat that is there checks in: its number is the generation
+-- a seat that hasn't left checks in: its number becomes the generation
 pub record IsCheckedIn (seat : ℕ) (old : Script) (reply : List ℕ) (new : Script) : Type 0 where
   pub there : IsThere old.seats seat
   pub reply_is : reply ≡ with_line_end (codes "ok")
   pub new_is : new ≡ record old { seats = slice_set old.seats seat (Staying old.generation) }
 
--- a seat that is there leaves, and keeps its number
+-- a seat that hasn't left leaves, and keeps its number
 pub record HasLeft (seat : ℕ) (old : Script) (reply : List ℕ) (new : Script) : Type 0 where
   pub number : ℕ
   pub there : slice_get old.seats seat ≡ Some (Staying number)
   pub reply_is : reply ≡ with_line_end (codes "ok")
   pub new_is : new ≡ record old { seats = slice_set old.seats seat (Left number) }
 
--- there is no such seat, or it has left
+-- a check-in or a leave is refused: there is no such seat, or it has left
 pub record IsNoSeat (seat : ℕ) (old : Script) (reply : List ℕ) (new : Script) : Type 0 where
   pub none : ¬ IsThere old.seats seat
   pub reply_is : reply ≡ with_line_end (refused_words (codes "NoSeat"))
   pub same : new ≡ old
 
--- exactly the retired chunks with a stamp of at most the number are freed
+-- exactly the retired chunks with a stamp of at most the freeing number are freed
 pub record IsFreed (old : Script) (reply : List ℕ) (new : Script) : Type 0 where
   pub a : ℕ
   pub number : IsFreeingNumber old a
   pub reply_is : reply ≡ with_line_end (freed_reply (length (freed_by a old.chunks)))
   pub new_is : new ≡ record old { chunks = kept_by a old.chunks; freed = a }
 
--- From old, this is an answer to the request, and new is the state after it.
+-- From the old state this is an answer to the request, and `new` is the state after it.
 abbrev pub Serves : Request → Script → List ℕ → Script → Type 0
 Serves (Create base bytes) old reply new =
     IsAdded base bytes old reply new ⊎ (IsFaulted base bytes old reply new ⊎ IsCrowdedOut base bytes old reply new)
@@ -122,7 +122,8 @@ Serves Reclaim old reply new = IsFreed old reply new
 Serves (Walk start choices) old reply new = IsWalked start choices old reply new ⊎ IsNoStart start old reply new
 Serves (Ask query) old reply new = (reply ≡ with_line_end (reply_to query old)) × (new ≡ old)
 
--- The same for a line. A line that asks for nothing is a bad line, and nothing changes.
+-- From the old state this is an answer to the line, and `new` is the state after it. A line that makes no request is a bad
+-- line, and changes nothing.
 abbrev pub ServesLine : Script → List ℕ → List ℕ → Script → Type 0
 ServesLine old line reply new =
     MatchOption (request_in line) ((reply ≡ bad_line) × (new ≡ old)) (λ request. Serves request old reply new)
@@ -131,18 +132,18 @@ ServesLine old line reply new =
 abbrev pub IsOnly : Request → Script → List ℕ → Script → Type 0
 IsOnly request old reply new = (other : List ℕ) (next : Script) → Serves request old other next → (other ≡ reply) × (next ≡ new)
 
--- The line leaves nothing open: it is no reclaim, or no seat has left. (Once a seat has left, the number by which a reclaim
--- frees depends on when the keeper sees that.)
+-- The answer to the line is settled: the line isn't a reclaim, or no seat has left. (Once a seat has left, the number by which
+-- a reclaim frees depends on when the keeper sees that.)
 abbrev pub IsSettled : Script → List ℕ → Type 0
 IsSettled old line = (request_in line ≢ Some Reclaim) ⊎ AllStay old
 
--- From the old state this is an answer to the line, which leads to the new state. There is no other if the line is no
--- reclaim, or if no seat has left.
+-- From the old state this is an answer to the line, which leads to the new state. There is no other answer if the line isn't
+-- a reclaim, or if no seat has left.
 pub record AnswersOnly (old : Script) (line reply : List ℕ) (new : Script) : Type 0 where
   pub serves : ServesLine old line reply new
   pub only : IsSettled old line → (other : List ℕ) (next : Script) → ServesLine old line other next → (other ≡ reply) × (next ≡ new)
 
--- the first state: no chunk, each seat is there, and all numbers are 0
+-- the initial state: there is no chunk, no seat has left, and all numbers are 0
 abbrev pub new_script : ℕ → ℕ → Script
 new_script bundles seats = record {
   limit = 0x10000 + 32 * bundles;

@@ -1,4 +1,4 @@
--- Lines have no other replies than those that a run wrote, as long as no seat leaves.
+-- As long as no seat leaves, lines have no other replies than those that a run wrote.
 use Rattle.std.specs.Prelude.{◌≡◌, ◌≢◌, ◌++◌, ℕ, ◌≤◌, List, [], ◌∷◌, Option, Some, All, Any}
 use Rattle.std.specs.Io.KnownBytes.{Appends}
 use Rattle.nc_lines.specs.Answering.{AnswersLines, IsBegun}
@@ -9,23 +9,23 @@ use Rattle.nc_script.specs.Requests.{Leave, Reclaim, request_in}
 use Rattle.nc_script.specs.Reuse.{number_of, IsFreeingNumber, AllStay}
 use Rattle.nc_script.specs.Script.{Script, Retired, Staying, Left}
 
--- the line asks for no leave
+-- the line doesn't ask for a leave
 abbrev pub IsNoLeave : List ℕ → Type 0
 IsNoLeave line = (seat : ℕ) → request_in line ≢ Some (Leave seat)
 
--- what was written is a beginning of whatever answers all of these lines
+-- the reply that was written is a prefix of any answers to all of these lines
 pub record BeginsAnswers (old : Script) (before after : Option (List ℕ)) (lines : List (List ℕ)) : Type 0 where
   pub reply : List ℕ
   pub written : Appends before after reply
   pub begins : (all : List ℕ) (last : Script) → AnswersLines ServesLine old lines all last → (rest : List ℕ) × (all ≡ reply ++ rest)
 
--- where no seat has left and no line asks for a leave, lines have no other answers and lead to no other state
+-- if no seat has left and no line asks for a leave, lines have only one reply and lead to only one state
 abbrev pub HasOneReply : Type 0
 HasOneReply = (old : Script) (lines : List (List ℕ)) (reply other : List ℕ) (new next : Script) → AllStay old → All IsNoLeave lines
     → AnswersLines AnswersOnly old lines reply new → AnswersLines ServesLine old lines other next → (other ≡ reply) × (next ≡ new)
 
--- where no seat has left and no line asks for a leave, what was written of the answers to some first lines is a
--- beginning of the answers to all
+-- if no seat has left and no line asks for a leave, the part written of the answers to some first lines is a prefix of the
+-- answers to all lines
 abbrev pub BeginsAll : Type 0
 BeginsAll = (old : Script) (before after : Option (List ℕ)) (lines : List (List ℕ)) → AllStay old → All IsNoLeave lines
     → IsBegun AnswersOnly old before after lines
@@ -36,7 +36,7 @@ abbrev pub FreesByLeast : Type 0
 FreesByLeast = (old : Script) (a : ℕ) → AllStay old → IsFreeingNumber old a
     → All (λ seat. a ≤ number_of seat) old.seats × Any (λ seat. number_of seat ≡ a) old.seats
 
--- two seats: after a chunk was deleted the first has checked in, and the second has left without that
+-- two seats after the deletion of a chunk: the first has checked in since, and the second has left without checking in
 abbrev pub one_left : Script
 one_left = record {
   limit = 0x10080;
@@ -46,7 +46,7 @@ one_left = record {
   freed = 0;
 }
 
--- where one of two seats has checked in since a deletion and the other has left without that, a reclaim may free the
+-- if one of two seats has checked in since a deletion and the other has left without checking in, a reclaim can free the
 -- chunk or not
 abbrev pub LeavesOpen : Type 0
 LeavesOpen =

@@ -7,7 +7,7 @@ use Rattle.nc_region.specs.Patch.{IsPatchSpan, IsRunOf, LeavesPairs, KeepsTarget
 use Rattle.nc_region.specs.declared.fault.ModifyFault.{ModifyFault}
 use Rattle.nc_script.specs.Script.{Script, ScriptChunk, ScriptChunkState, Live, Retired, covers}
 
--- a live chunk of the list, of this base and with these bytes, has the place
+-- a live chunk of the list, with this base and these bytes, contains the place
 pub record HoldsPlace (chunks : List ScriptChunk) (at base : ℕ) (bytes : List ℕ) : Type 0 where
   pub listed : Contains chunks (record { base = base; state = Live bytes })
   pub from : base ≤ at
@@ -17,7 +17,7 @@ pub record HoldsPlace (chunks : List ScriptChunk) (at base : ℕ) (bytes : List 
 abbrev pub LiesInLive : List ScriptChunk → ℕ → Type 0
 LiesInLive chunks at = (base : ℕ) × (bytes : List ℕ) × HoldsPlace chunks at base bytes
 
--- the new bytes take the place of whole instructions of a live chunk
+-- the new bytes replace whole instructions of a live chunk
 pub record Replaces (script : Script) (at : ℕ) (new : List ℕ) : Type 0 where
   pub base : ℕ
   pub bytes : List ℕ
@@ -26,27 +26,27 @@ pub record Replaces (script : Script) (at : ℕ) (new : List ℕ) : Type 0 where
   pub valid : IsValid (record { base = base; limit = script.limit; code = bytes; marks = marks })
   pub run : IsRunOf valid.pieces base at new
 
--- the new bytes replace instructions, and leave pairs alone
+-- the new bytes replace whole instructions of a live chunk, and leave pairs alone
 abbrev pub ReplacesBesidePairs : Script → ℕ → List ℕ → Type 0
 ReplacesBesidePairs script at new = (r : Replaces script at new) × LeavesPairs r.run
 
--- A lawful patch of a script's chunk: the new bytes lie in one bundle and take the place of whole instructions of a
--- live chunk, each as long. Pairs are left alone, and direct transfers go where those of a valid chunk may.
+-- A lawful patch of a script's chunk: the new bytes are in one bundle and replace whole instructions of a live chunk, each by
+-- one of the same length. Pairs are left alone, and direct transfers target only what those of a valid chunk may.
 abbrev pub IsLawfulPatch : Script → ℕ → List ℕ → Type 0
 IsLawfulPatch script at new =
     IsPatchSpan at (length new) × ((r : Replaces script at new) × LeavesPairs r.run × KeepsTargets script.limit r.run)
 
--- the fault by which a patch of a script's chunk is refused
+-- the fault with which a patch of a script's chunk is refused
 abbrev pub IsRefusedPatch : Script → ℕ → List ℕ → ModifyFault → Type 0
 IsRefusedPatch script at new fault =
     IsRefusalBy (LiesInLive script.chunks at) (Replaces script at new) (ReplacesBesidePairs script at new) (IsLawfulPatch script at new)
     at new fault
 
--- a live chunk with these bytes from this place of it on
+-- a live chunk with these bytes from this place of it on; a retired one is unchanged
 abbrev pub patched_state : ℕ → List ℕ → ScriptChunkState → ScriptChunkState
 patched_state start new (Live bytes) = Live (with_span bytes start new)
 patched_state start new (Retired length stamp) = Retired length stamp
 
--- the chunk that has the address, with these bytes from there on; any other one as it is
+-- the chunk that contains the address, with these bytes from there on; any other chunk is unchanged
 abbrev pub patched_at : ℕ → List ℕ → ScriptChunk → ScriptChunk
 patched_at at new c = if covers c at then record c { state = patched_state (at - c.base) new c.state } else c

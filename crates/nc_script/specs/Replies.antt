@@ -1,4 +1,4 @@
--- How a script's replies are written: single spaces, decimal numbers, lower-case digits. Their ends are added elsewhere.
+-- The text of a script's replies: single spaces, decimal numbers, lower-case hexadecimal digits. Line ends are added elsewhere.
 use Rattle.std.specs.Prelude.{ℕ, List, ◌∷◌, ◌++◌, codes}
 use Rattle.std.specs.List.{flat_map}
 use Rattle.std.specs.Fmt.{decimal}
@@ -30,7 +30,7 @@ dump_reply chunks = codes "dump" ++ flat_map chunk_words chunks
 abbrev pub places_words : List ℕ → List ℕ
 places_words places = flat_map (λ place. 32 ∷ address_digits place) places
 
--- the name of a patch's refusal
+-- the name of the fault with which a patch is refused
 abbrev pub patch_words : ModifyFault → List ℕ
 patch_words BadSpan = codes "BadSpan"
 patch_words NotLive = codes "NotLive"
@@ -39,7 +39,7 @@ patch_words Boundaries = codes "Boundaries"
 patch_words PairTouched = codes "PairTouched"
 patch_words patch.BadTarget = codes "BadTarget"
 
--- the name of a deletion's refusal
+-- the name of the fault with which a deletion is refused
 abbrev pub deletion_words : DeleteFault → List ℕ
 deletion_words NoChunk = codes "NoChunk"
 deletion_words GensFull = codes "GensFull"
@@ -48,17 +48,17 @@ deletion_words GensFull = codes "GensFull"
 abbrev pub stamp_reply : ℕ → List ℕ
 stamp_reply stamp = codes "stamp " ++ decimal stamp
 
--- how many chunks were freed
+-- the number of chunks that were freed
 abbrev pub freed_reply : ℕ → List ℕ
 freed_reply count = codes "freed " ++ decimal count
 
--- how a walk ended
+-- the word for the end of a walk
 abbrev pub end_word : End → List ℕ
 end_word Stop = codes " stop"
 end_word Trampoline = codes " trampoline"
 end_word Beyond = codes " beyond"
 end_word More = codes " more"
 
--- the places of a walk, and how it ended
+-- the places of a walk, and the word for its end
 abbrev pub walk_reply : List ℕ → End → List ℕ
 walk_reply places end = codes "walk" ++ (places_words places ++ end_word end)

@@ -3,24 +3,24 @@ use Rattle.std.specs.Prelude.{◌≡◌, ℕ, ◌+◌, ◌-◌, ◌<◌, Bool, �
 use Rattle.std.specs.Prelude.{replicate, slice_index, All, Any}
 use Rattle.std.specs.List.{range_with_len}
 
--- a live chunk has its bytes; a retired one was deleted and waits for the seats to check in
+-- a live chunk has its bytes; a retired one was deleted, and waits for the seats to check in
 pub data ScriptChunkState : Type 0 where
   Live : (bytes : List ℕ) → ScriptChunkState
   Retired : (length stamp : ℕ) → ScriptChunkState
 
--- a chunk of a script: where it stands, and its state
+-- a chunk of a script: its base and its state
 pub record ScriptChunk : Type 0 where
   pub base : ℕ
   pub state : ScriptChunkState
 
--- A seat that is there, or that has left, with its number: the generation that stood at its last check-in, 0 if it has
--- none.
+-- A seat that stays, or one that has left, with its number: the generation at its last check-in, or 0 if it has never
+-- checked in.
 pub data ScriptSeat : Type 0 where
   Staying : (number : ℕ) → ScriptSeat
   Left : (number : ℕ) → ScriptSeat
 
--- What answers depend on. The chunks stand by rising base; `freed` is the number by which the last reclaim freed chunks,
--- at first 0.
+-- The state that answers depend on. The chunks are in ascending order of their bases; `freed` is the number by which the last
+-- reclaim freed chunks, initially 0.
 pub record Script : Type 0 where
   pub limit : ℕ
   pub chunks : List ScriptChunk
@@ -28,16 +28,16 @@ pub record Script : Type 0 where
   pub seats : List ScriptSeat
   pub freed : ℕ
 
--- the bytes that stand in a chunk's span
+-- the bytes in a chunk's span
 abbrev pub standing_bytes : ScriptChunkState → List ℕ
 standing_bytes (Live bytes) = bytes
 standing_bytes (Retired length stamp) = replicate length 0xF4
 
--- the address lies in the chunk's span
+-- the address is in the chunk's span
 abbrev pub covers : ScriptChunk → ℕ → Bool
 covers c at = nat_le c.base at && nat_lt at (c.base + length (standing_bytes c.state))
 
--- the byte at an address: that of the chunk which covers it, and a stop where none does
+-- the byte at an address: that of the chunk that covers it, or a stop if none does
 abbrev pub byte_in : List ScriptChunk → ℕ → ℕ
 byte_in [] at = 0xF4
 byte_in (c ∷ chunks) at = if covers c at then slice_index (standing_bytes c.state) (at - c.base) else byte_in chunks at
@@ -46,15 +46,15 @@ byte_in (c ∷ chunks) at = if covers c at then slice_index (standing_bytes c.st
 abbrev pub script_text : Script → List ℕ
 script_text script = map (byte_in script.chunks) (range_with_len 0x10000 (script.limit - 0x10000))
 
--- the chunk, live or retired, meets the span
+-- the chunk, live or retired, overlaps the span
 abbrev pub MeetsSpan : ℕ → ℕ → ScriptChunk → Type 0
 MeetsSpan base len c = (base < c.base + length (standing_bytes c.state)) × (c.base < base + len)
 
--- some chunk, live or retired, meets the span
+-- some chunk, live or retired, overlaps the span
 abbrev pub IsOccupied : ℕ → ℕ → List ScriptChunk → Type 0
 IsOccupied base len chunks = Any (MeetsSpan base len) chunks
 
--- the chunk is put into the list, between those of lower and those of higher bases
+-- the chunk is put into the list, between the chunks with lower and those with higher bases
 pub record IsPutBetween (chunk : ScriptChunk) (old new : List ScriptChunk) : Type 0 where
   pub before : List ScriptChunk
   pub after : List ScriptChunk

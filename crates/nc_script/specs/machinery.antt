@@ -1,4 +1,4 @@
--- Machinery of the proofs, cited by no public contract: what a session and its values stand for.
+-- Machinery of the proofs, cited by no public contract: the states and values that a session represents.
 pub mod Session
 pub mod Seats
 pub mod Shown

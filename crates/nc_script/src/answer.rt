@@ -1,4 +1,4 @@
-//! How replies are written: single spaces, decimal numbers, addresses and bytes in lower-case hexadecimal.
+//! The text of replies: single spaces, decimal numbers, addresses and bytes in lower-case hexadecimal.
 
 ghost use Rattle.std.specs.Prelude.{◌≡◌, ◌++◌, ◌∷◌, [], ◌+◌, ◌<◌, ◌≤◌, ◌^◌, OnOk, codes};
 ghost use Rattle.std.specs.Fmt.{decimal};
@@ -32,7 +32,7 @@ pub(crate) fn push_places(out: &mut Vec<u8>, places: &[u32]) -> Result<(), Alloc
     Ok(())
 }
 
-/// Adds the answer to a creation that is refused, where it isn't memory that was missing.
+/// Adds the answer to a refused creation. Lack of memory is not a refusal: it is returned as an error.
 pub(crate) fn push_create_fault(out: &mut Vec<u8>, fault: CreateFault) -> Result<(), AllocError>
     ensures { OnOk result ((fault ≡ CreateFault.Occupied)
         × (out.new.items ≡ out.old.items ++ with_line_end (refused_words (codes "Occupied")))) }
@@ -40,12 +40,12 @@ pub(crate) fn push_create_fault(out: &mut Vec<u8>, fault: CreateFault) -> Result
     match fault {
         CreateFault::Occupied => out.extend_from_slice(b"refused Occupied\n"),
         CreateFault::OutOfMemory => Err(AllocError),
-        // this doesn't come: the chunk was vetted for the region's own limit
+        // this can't happen: the chunk was vetted for the region's own limit
         CreateFault::WrongLimit => Err(AllocError),
     }
 }
 
-/// Adds the answer to a patch that is refused.
+/// Adds the answer to a refused patch.
 pub(crate) fn push_patch_fault(out: &mut Vec<u8>, fault: ModifyFault) -> Result<(), AllocError>
     ensures { OnOk result (out.new.items ≡ out.old.items ++ with_line_end (refused_words (patch_words fault))) }
 {
@@ -59,7 +59,7 @@ pub(crate) fn push_patch_fault(out: &mut Vec<u8>, fault: ModifyFault) -> Result<
     }
 }
 
-/// Adds the answer to a deletion that is refused.
+/// Adds the answer to a refused deletion.
 pub(crate) fn push_delete_fault(out: &mut Vec<u8>, fault: DeleteFault) -> Result<(), AllocError>
     ensures { OnOk result (out.new.items ≡ out.old.items ++ with_line_end (refused_words (deletion_words fault))) }
 {
@@ -69,7 +69,7 @@ pub(crate) fn push_delete_fault(out: &mut Vec<u8>, fault: DeleteFault) -> Result
     }
 }
 
-/// Adds the stamp of a chunk that was deleted.
+/// Adds the answer to a deletion: the chunk's stamp.
 pub(crate) fn push_stamp(alloc: Global, out: &mut Vec<u8>, stamp: u64) -> Result<(), AllocError>
     ensures { OnOk result (out.new.items ≡ out.old.items ++ with_line_end (stamp_reply stamp)) }
 {
@@ -79,7 +79,7 @@ pub(crate) fn push_stamp(alloc: Global, out: &mut Vec<u8>, stamp: u64) -> Result
     Ok(())
 }
 
-/// Adds how many chunks were freed.
+/// Adds the answer to a reclaim: the number of chunks that were freed.
 pub(crate) fn push_freed(alloc: Global, out: &mut Vec<u8>, count: u32) -> Result<(), AllocError>
     ensures { OnOk result (out.new.items ≡ out.old.items ++ with_line_end (freed_reply count)) }
 {
@@ -89,7 +89,7 @@ pub(crate) fn push_freed(alloc: Global, out: &mut Vec<u8>, count: u32) -> Result
     Ok(())
 }
 
-/// Adds the end of a walk.
+/// Adds the word for the end of a walk.
 fn push_end(out: &mut Vec<u8>, end: End) -> Result<(), AllocError>
     ensures { OnOk result (out.new.items ≡ out.old.items ++ end_word end) }
 {

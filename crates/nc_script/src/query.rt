@@ -11,14 +11,14 @@ use crate::answer::push_chunk;
 use nc_region::Region;
 use std::alloc::{AllocError, Global};
 
-/// What a line of one word asks for.
+/// A query: a request that changes nothing.
 #[derive(Clone, Copy)]
 pub(crate) enum Query {
     /// The list of all chunks.
     Dump,
 }
 
-/// The query whose word this is.
+/// The query with this word, if there is one.
 pub(crate) fn query_of(word: &[u8]) -> Option<Query>
     ensures { result ≡ query_in word.now }
 {

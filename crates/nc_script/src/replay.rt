@@ -1,4 +1,4 @@
-//! A script from a reader's bytes to a writer's.
+//! Running a script from a reader to a writer.
 
 ghost use Rattle.std.specs.Prelude.{◌≡◌, ◌++◌, ◌⊎◌, ◌↔◌, ◌≢◌, ℕ, List, OnOk, IfErr, IfSome, IsErrOf};
 ghost use Rattle.std.specs.Io.KnownBytes.{Consumes, IsAtEnd};
@@ -17,15 +17,15 @@ use nc_lines::{ReplayFault, answer_all};
 use std::alloc::Global;
 use std::io::{Read, Write};
 
-/// Runs a script on a new region of this many bundles, for threads of this many seats: reads its lines, and writes the
-/// answer to each as soon as its end was read.
+/// Runs a script on a new region of `bundles` bundles, for threads with `seats` seats: reads its lines, and writes the answer
+/// to each as soon as its line end has been read.
 ///
 /// A line ends at a byte 0A or at the end of the input. `create` with an address and bytes vets a chunk and creates it,
 /// `modify` with an address and bytes replaces instructions of a chunk, `delete` with an address retires a chunk, `checkin`
-/// and `leave` with a seat are what the seat's thread does, `reclaim` frees each retired chunk for which every seat
-/// has checked in since its deletion or has left, `walk` with an address and choices shows the places of a walk and its
-/// end, and `dump` shows every chunk. Every other line, and each of more than 1,048,576 bytes, is answered as a bad line.
-/// What is promised of bytes holds of a reader and a writer that tell theirs; nothing is promised of when a device fails.
+/// and `leave` with a seat act for the seat's thread, `reclaim` frees each retired chunk for which every seat has checked in
+/// since its deletion or has left, `walk` with an address and choices shows the places of a walk and its end, and `dump` shows
+/// every chunk. Any other line, and any line of more than 1,048,576 bytes, is answered as a bad line. The promises about bytes
+/// hold for a reader and a writer whose bytes are known; nothing is promised about when a device fails.
 pub fn run<R: Read, W: Write>(
     alloc: Global,
     reader: &mut R,
@@ -33,27 +33,28 @@ pub fn run<R: Read, W: Write>(
     bundles: u32,
     seats: u32,
 ) -> Result<(), ReplayFault>
-    // The two numbers are tested first, in this order, before anything is read or written.
+    // The two numbers are checked first, in this order, before anything is read or written.
     ensures bad_size { IsErrOf result ReplayFault.BadSize ↔ ¬ IsRegionSize bundles }
     ensures bad_seats { IsErrOf result ReplayFault.BadSeats ↔ (IsRegionSize bundles × ¬ AreSeats seats) }
     ensures no_workers { IfErr result (λ fault. fault ≢ ReplayFault.BadWorkers) }
     ensures untouched { ¬ (IsRegionSize bundles × AreSeats seats) → (reader.new ≡ reader.old) × (writer.new ≡ writer.old) }
 
-    // The whole input was read, and exactly its answers were written.
+    // The whole input was read, and exactly the answers to its lines were written.
     ensures ok { OnOk result (IfSome (R.remaining reader.old) (λ input.
         HasAnswered bundles seats (W.contents writer.old) (W.contents writer.new) (lines_of input))) }
     ensures read { OnOk result (IsAtEnd (R.remaining reader.new)) }
 
-    // A beginning of the answers was written.
+    // A prefix of the answers was written.
     ensures write_failed { IsErrOf result ReplayFault.WriteFailed → IfSome (R.remaining reader.old) (λ input.
         IsBegun AnswersOnly (new_script bundles seats) (W.contents writer.old) (W.contents writer.new) (lines_of input)) }
 
-    // The answers to all lines whose end was read were written.
+    // Exactly the answers to the lines whose line end was read were written.
     ensures read_failed { IsErrOf result ReplayFault.ReadFailed → (front : List ℕ)
         × Consumes (R.remaining reader.old) (R.remaining reader.new) front
         × HasAnswered bundles seats (W.contents writer.old) (W.contents writer.new) (ended_lines front) }
 
-    // The answers to all lines before the one that failed were written, or there was no memory for the region.
+    // Exactly the answers to the lines before the one that failed were written, or there was no memory for the region, and
+    // nothing was read or written.
     ensures out_of_memory { IsErrOf result ReplayFault.OutOfMemory
         → ((reader.new ≡ reader.old) × (writer.new ≡ writer.old)) ⊎ IfSome (R.remaining reader.old) (λ input.
         IsCutShort AnswersOnly (new_script bundles seats) (W.contents writer.old) (W.contents writer.new) (lines_of input)) }
@@ -100,14 +101,14 @@ fn run_new<R: Read, W: Write>(
     }
 }
 
-/// What makes the answers of a run the script's own, as long as no seat leaves: lines have no other answers than those
-/// that a run wrote, and what it wrote of some is a beginning of the answers to all; and a reclaim frees by the least
-/// number of all seats. It does nothing when it is called.
+/// As long as no seat leaves, the answers of a run depend on the script alone: lines have no other answers than those that a
+/// run wrote, a part that it wrote is a prefix of the answers to all lines, and a reclaim frees by the least number of all
+/// seats. A call does nothing.
 pub fn law_of_answers()
     ensures one_text { HasOneReply }
     ensures begins_all { BeginsAll }
     ensures least { FreesByLeast }
 
-    // Once a seat has left, a reclaim may have two answers.
+    // Once a seat has left, a reclaim can have two answers.
     ensures leaves_open { LeavesOpen }
 {}

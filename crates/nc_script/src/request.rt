@@ -1,4 +1,4 @@
-//! What a line asks for.
+//! The request that a line makes.
 
 ghost use Rattle.std.specs.Prelude.{◌≡◌, ℕ, IfOk, map, Some, None, ◌∷◌};
 ghost use Rattle.std.specs.Option.{option_map};
@@ -12,28 +12,28 @@ use crate::words::seat_of;
 use nc_lines::{LINE_LIMIT, address_of, placed_of, words_of};
 use std::alloc::{AllocError, Global};
 
-/// What a line asks for.
+/// A request that a line makes.
 #[derive(Drop)]
 pub(crate) enum Request {
-    /// A chunk of these bytes at this address.
+    /// Creates a chunk of these bytes at this address.
     Create { at: u32, bytes: Vec<u8> },
-    /// Instructions of these bytes in the place of those at this address.
+    /// Replaces instructions at this address by those of these bytes.
     Modify { at: u32, bytes: Vec<u8> },
-    /// The deletion of the chunk of this base.
+    /// Deletes the chunk at this base.
     Delete { base: u32 },
-    /// A check-in of this seat's thread.
+    /// Checks in this seat's thread.
     CheckIn { seat: u32 },
-    /// That this seat's thread leaves for good.
+    /// Lets this seat's thread leave for good.
     Leave { seat: u32 },
-    /// The spans of deleted chunks, as far as every seat has checked in since.
+    /// Frees the spans of deleted chunks, as far as every seat has checked in since or has left.
     Reclaim,
-    /// A walk from this address, which uses up one choice at each instruction.
+    /// Walks from this address, using up one choice at each instruction.
     Walk { start: u32, choices: Vec<u32> },
-    /// Something that changes nothing.
+    /// Asks a query, which changes nothing.
     Ask { query: Query },
 }
 
-/// What follows the word `create`.
+/// The request made by the words after `create`.
 fn create_of(alloc: Global, words: &[&[u8]]) -> Result<Option<Request>, AllocError>
     ensures { IfOk result (λ found. option_map shown found ≡ create_in (map (λ word. word.now) words.now)) }
 {
@@ -43,7 +43,7 @@ fn create_of(alloc: Global, words: &[&[u8]]) -> Result<Option<Request>, AllocErr
     }
 }
 
-/// What follows the word `modify`.
+/// The request made by the words after `modify`.
 fn modify_of(alloc: Global, words: &[&[u8]]) -> Result<Option<Request>, AllocError>
     ensures { IfOk result (λ found. option_map shown found ≡ modify_in (map (λ word. word.now) words.now)) }
 {
@@ -53,7 +53,7 @@ fn modify_of(alloc: Global, words: &[&[u8]]) -> Result<Option<Request>, AllocErr
     }
 }
 
-/// What follows the word `delete`.
+/// The request made by the words after `delete`.
 fn delete_of(words: &[&[u8]]) -> Option<Request>
     ensures { option_map shown result ≡ delete_in (map (λ word. word.now) words.now) }
 {
@@ -66,7 +66,7 @@ fn delete_of(words: &[&[u8]]) -> Option<Request>
     }
 }
 
-/// What follows the word `checkin`.
+/// The request made by the words after `checkin`.
 fn check_in_of(words: &[&[u8]]) -> Option<Request>
     ensures { option_map shown result ≡ of_seat_in spec.CheckIn (map (λ word. word.now) words.now) }
 {
@@ -79,7 +79,7 @@ fn check_in_of(words: &[&[u8]]) -> Option<Request>
     }
 }
 
-/// What follows the word `leave`.
+/// The request made by the words after `leave`.
 fn leave_of(words: &[&[u8]]) -> Option<Request>
     ensures { option_map shown result ≡ of_seat_in spec.Leave (map (λ word. word.now) words.now) }
 {
@@ -92,7 +92,7 @@ fn leave_of(words: &[&[u8]]) -> Option<Request>
     }
 }
 
-/// A request whose word nothing follows.
+/// This request, if no words follow its own.
 fn single_of(request: Request, words: &[&[u8]]) -> Option<Request>
     ensures { option_map shown result ≡ single_in (shown request) (map (λ word. word.now) words.now) }
 {
@@ -103,7 +103,7 @@ fn single_of(request: Request, words: &[&[u8]]) -> Option<Request>
     }
 }
 
-/// What the word of a query asks for, where nothing follows it.
+/// The request made by the word of a query, if no words follow it.
 fn ask_of(word: &[u8], words: &[&[u8]]) -> Option<Request>
     ensures { option_map shown result ≡ ask_in word.now (map (λ word. word.now) words.now) }
 {
@@ -113,7 +113,7 @@ fn ask_of(word: &[u8], words: &[&[u8]]) -> Option<Request>
     }
 }
 
-/// Words that are addresses, all of them.
+/// The addresses that these words denote, if each denotes one.
 fn addresses_of(alloc: Global, words: &[&[u8]]) -> Result<Option<Vec<u32>>, AllocError>
     ensures { IfOk result (λ found. option_map (λ choices. choices.items) found ≡ addresses_in (map (λ word. word.now) words.now)) }
 {
@@ -127,7 +127,7 @@ fn addresses_of(alloc: Global, words: &[&[u8]]) -> Result<Option<Vec<u32>>, Allo
     Ok(Some(choices))
 }
 
-/// What follows the word `walk`.
+/// The request made by the words after `walk`.
 fn walk_of(alloc: Global, words: &[&[u8]]) -> Result<Option<Request>, AllocError>
     ensures { IfOk result (λ found. option_map shown found ≡ walk_in (map (λ word. word.now) words.now)) }
 {
@@ -143,7 +143,7 @@ fn walk_of(alloc: Global, words: &[&[u8]]) -> Result<Option<Request>, AllocError
     }
 }
 
-/// What a line asks for, or nothing where it is a bad line.
+/// The request made by a line, or nothing if it is a bad line.
 pub(crate) fn request_of(alloc: Global, line: &[u8]) -> Result<Option<Request>, AllocError>
     ensures { IfOk result (λ found. option_map shown found ≡ request_in line.now) }
 {
@@ -154,7 +154,7 @@ pub(crate) fn request_of(alloc: Global, line: &[u8]) -> Result<Option<Request>, 
     asked_by(alloc, words.as_slice())
 }
 
-/// What the words of a line ask for, or nothing where they have no such form.
+/// The request made by the words of a line, or nothing if they make none.
 fn asked_by(alloc: Global, words: &[&[u8]]) -> Result<Option<Request>, AllocError>
     ensures { IfOk result (λ found. option_map shown found ≡ spec.request_of (map (λ word. word.now) words.now)) }
 {

@@ -27,7 +27,8 @@ impl<'g> Model for Seats<'g> {
     ghost invariant = { λ s. AreSeated s.gens.now s.passes.items };
 }
 
-/// A pass checks in. The region's keeper meets it before and after, so that each knows where the other stands.
+/// A pass checks in. The region's keeper meets it before and after, so that the pass's own word and the keeper's bound for it
+/// are known.
 fn check_in_pass(gens: &Gens, region: &mut Region<'_>, pass: &mut Pass)
     requires table { pass.old.table ≡ gens.now }
     requires keeper { region.old.keeper.table ≡ gens.now }
@@ -39,7 +40,7 @@ fn check_in_pass(gens: &Gens, region: &mut Region<'_>, pass: &mut Pass)
     region.meet(pass);
 }
 
-/// The pass of a seat checks in, if it is there.
+/// The pass of a seat checks in, if it is there; returns whether it is.
 fn check_in_at(
     gens: &Gens,
     region: &mut Region<'_>,
@@ -61,7 +62,7 @@ fn check_in_at(
     false
 }
 
-/// Takes the pass of a seat away, if it is there.
+/// Takes away and returns the pass of a seat, if it is there.
 fn take_pass(passes: &mut [Option<Pass>], seat: usize) -> Option<Pass>
     ensures { MatchOption result (HasNoPass passes.old seat × (passes.new ≡ passes.old)) (IsTaken seat passes.old passes.new) }
 {
@@ -96,7 +97,7 @@ fn meet_each(region: &mut Region<'_>, passes: &mut [Option<Pass>])
     }
 }
 
-/// Places for passes, in their order.
+/// Slots that hold these passes, in order.
 fn hold_passes(alloc: Global, passes: Vec<Pass>) -> Result<Vec<Option<Pass>>, AllocError>
     ensures { IfOk result (λ held. held.items ≡ map Some passes.items) }
 {
@@ -108,7 +109,7 @@ fn hold_passes(alloc: Global, passes: Vec<Pass>) -> Result<Vec<Option<Pass>>, Al
 }
 
 impl<'g> Seats<'g> {
-    /// A seat for each pass, in their order.
+    /// A seat for each pass, in order.
     pub fn new(alloc: Global, gens: &'g Gens, passes: Vec<Pass>) -> Result<Seats<'g>, AllocError>
         requires { passes.items ≡ new_passes gens.now (length passes.items) }
         ensures { IfOk result (λ s. s ≡ record { table = gens.now; passes = map Some passes.items }) }
@@ -117,7 +118,7 @@ impl<'g> Seats<'g> {
         Ok(Seats { gens, passes })
     }
 
-    /// The thread of a seat checks in, if there is such a seat that hasn't left.
+    /// The thread of a seat checks in, if there is such a seat and it hasn't left; returns whether it did.
     pub fn check_in(&mut self, region: &mut Region<'_>, seat: usize) -> bool
         requires { region.old.keeper.table ≡ self.old.table }
         ensures checks { ChecksIn result seat self.old.passes region.old self.new.passes region.new }
@@ -126,7 +127,7 @@ impl<'g> Seats<'g> {
         check_in_at(self.gens, region, self.passes.as_mut_slice(), seat)
     }
 
-    /// The thread of a seat leaves for good, if there is such a seat that hasn't left.
+    /// The thread of a seat leaves for good, if there is such a seat and it hasn't left; returns whether it did.
     pub fn leave(&mut self, seat: usize) -> bool
         ensures leaves { Leaves result seat self.old.passes self.new.passes }
         ensures table { self.new.table ≡ self.old.table }

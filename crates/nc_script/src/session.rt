@@ -1,4 +1,4 @@
-//! Answers to a script's lines by the calls of a region.
+//! Answering a script's lines by the calls of a region.
 
 ghost use Rattle.std.specs.Prelude.{◌≡◌, ◌++◌, List, ℕ, OnOk, IfOk, ◌<◌, replicate, length};
 ghost use Rattle.nc_gens.specs.Seen.{AreSeats, first_keeper, new_passes};
@@ -23,7 +23,7 @@ use nc_vet::vet;
 use std::alloc::{AllocError, Global};
 use std::marker::Model;
 
-/// A region and its threads' seats, and what answers a script's lines by their calls.
+/// A region and its threads' seats, whose calls answer a script's lines.
 #[derive(Drop)]
 pub struct Session<'g> {
     alloc: Global,
@@ -43,7 +43,7 @@ impl<'g> Model for Session<'g> {
 }
 
 impl<'g> Session<'g> {
-    /// A script over a new region of this many bundles, whose deletions draw their stamps from this table, and whose threads
+    /// A session over a new region of `bundles` bundles, whose deletions draw their stamps from this table, and whose threads
     /// hold these passes.
     pub fn new(
         alloc: Global,
@@ -75,7 +75,7 @@ impl<'g> Responder for Session<'g> {
     ghost answers = { FollowsLine };
 
     fn answer(&mut self, kept: &[u8], out: &mut Vec<u8>) -> Result<(), AllocError> {
-        // Called for what it ensures.
+        // Called for its contract only.
         let _facts = self.region.limit();
         match request_of(self.alloc, kept)? {
             Some(request) => serve(self.alloc, &mut self.region, &mut self.seats, request, out),
@@ -208,8 +208,8 @@ fn answer_leave(
     }
 }
 
-/// Frees the spans of deleted chunks, as far as the seats let it. The keeper meets every seat afterwards, which shows by
-/// which number it freed.
+/// Frees the spans of deleted chunks, as far as the seats allow. The keeper meets every seat afterwards, which shows the
+/// number by which it freed.
 fn answer_reclaim(
     alloc: Global,
     region: &mut Region,

@@ -1,4 +1,4 @@
-//! The word of a seat, and what it spells.
+//! The word of a seat, and its value.
 
 ghost use Rattle.std.specs.Prelude.{◌≡◌, ◌*◌, ◌<◌, ℕ, IfSome};
 ghost use Rattle.nc_script.specs.Requests.{digit_in, next_digit, seat_in};
@@ -15,7 +15,7 @@ fn digit_of(byte: u8) -> Option<u32>
     }
 }
 
-/// A digit after others, whose value is given.
+/// The value of decimal digits, from the value of all but the last one, and the last one.
 fn next_digit(value: Option<u32>, byte: u8) -> Option<u32>
     requires { IfSome value (λ high. high < 100) }
     ensures value { result ≡ next_digit value byte }
@@ -26,7 +26,7 @@ fn next_digit(value: Option<u32>, byte: u8) -> Option<u32>
     Some(10 * high + low)
 }
 
-/// A seat of one to three decimal digits.
+/// The seat that a word denotes: one to three decimal digits.
 pub(crate) fn seat_of(word: &[u8]) -> Option<u32>
     ensures { result ≡ seat_in word.now }
 {

@@ -1,4 +1,5 @@
-//! Tests of `nc_region`: the acts that a `Recorder` tells and logs, marks that are set by a list, and regions that threads share.
+//! Tests of `nc_region`: the acts that a `Recorder` tells and logs, marks that are set from a list, and regions that threads
+//! share.
 
 mod acts;
 mod calls;

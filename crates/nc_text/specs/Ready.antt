@@ -1,9 +1,9 @@
--- The pages of a text that are made, and the places that are ready with them.
+-- The pages of a text that are made (allocated), and the places that are ready because of them.
 use Rattle.std.specs.Prelude.{◌≡◌, ℕ, ◌+◌, ◌-◌, ◌/◌, ◌<◌, ◌⊎◌, Bool, true, false, List, slice_index_or, replicate}
 use Rattle.nc_text.specs.MarkedText.{MarkedText}
 
--- what contracts see of a text: its bytes and marks, and for each page of 4096 places, from 00010000 on, whether it is
--- made
+-- a text as contracts see it: its bytes and marks, and for each page of 4096 places from 00010000 on, whether it is made
+-- (allocated)
 pub record TextState : Type 0 where
   pub marked : MarkedText
   pub made : List Bool
@@ -16,7 +16,7 @@ IsReady made at = slice_index_or made ((at - 0x10000) / 4096) false ≡ true
 abbrev pub AreReady : List Bool → ℕ → ℕ → Type 0
 AreReady made at len = (k : ℕ) → k < len → IsReady made (at + k)
 
--- the pages of a text up to this limit, their number rounded up, none of them made
+-- the pages of a text up to this limit, their number rounded up, before any is made
 abbrev pub unmade_pages : ℕ → List Bool
 unmade_pages limit = replicate ((limit - 0x10000 + 4095) / 4096) false
 
@@ -26,7 +26,7 @@ pub record SharesPage (at len place : ℕ) : Type 0 where
   pub within : offset < len
   pub same_page : (at + offset - 0x10000) / 4096 ≡ (place - 0x10000) / 4096
 
--- Pages of the span may have been made, and no others. A page that was made stays.
+-- Each newly made page overlaps the span. A page that was made stays made.
 pub record GetsReady (old new : List Bool) (at len : ℕ) : Type 0 where
   pub kept : (place : ℕ) → IsReady old place → IsReady new place
   pub needed : (place : ℕ) → IsReady new place → IsReady old place ⊎ SharesPage at len place

@@ -1,4 +1,4 @@
-//! What closed text and marks are worth.
+//! The laws of closed and of confined texts.
 
 ghost use Rattle.std.specs.Prelude.{◌≡◌, ℕ, ◌+◌, ◌%◌, ◌<◌, ◌≤◌, List, [], ◌∷◌, ◌++◌, length, None};
 ghost use Rattle.nc_decode.specs.declared.instruction.Mark.{Mark};
@@ -7,18 +7,18 @@ ghost use Rattle.nc_text.specs.Machine.{IsConfined, IsPath, State, Step, state};
 ghost use Rattle.nc_text.specs.Marks.{IsClosed};
 
 /// A text that is closed under some marks is confined: every state of every path that begins at a bundle start of the
-/// region with nothing masked is safe. It stands on a permitted instruction wholly inside its bundle, on an indirect
-/// transfer only with that register just masked, or on a bundle start below 00010000. It does nothing when it is called.
+/// region with nothing masked is safe. Its place has a permitted instruction wholly inside its bundle, with its register
+/// just masked if it is an indirect transfer, or is a bundle start below 00010000. Calling this law does nothing.
 pub fn law_of_closed()
     ensures { (text : List ℕ) (marks : List Mark) → IsClosed text marks → IsConfined text }
 {}
 
-/// What confined is worth, and which paths there are. It does nothing when it is called.
+/// The consequence of confinement in the words of the headline, and the paths that there are. Calling this law does nothing.
 ///
-/// A path may begin at each bundle start of the region with nothing masked, and goes on by each step. In a confined text
-/// each state of it stands on a permitted instruction wholly inside its bundle, which is not barred (no return, no
-/// interrupt, no segment override), on an indirect transfer only with that register just masked, or on a bundle start
-/// below 00010000.
+/// A path may begin at any bundle start of the region with nothing masked, and may continue by any step. In a confined text
+/// the place of each of its states has a permitted instruction wholly inside its bundle, which is not barred (no return, no
+/// interrupt, no segment override), with its register just masked if it is an indirect transfer, or is a bundle start below
+/// 00010000.
 pub fn law_of_paths()
     ensures stands { (text : List ℕ) (before after : List State) (now : State) → IsConfined text
         → IsPath text (before ++ now ∷ after) → Stands text now }

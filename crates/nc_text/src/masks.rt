@@ -9,18 +9,18 @@ ghost use Rattle.nc_text.specs.machinery.Masks.{plain_bit, second_bit};
 use crate::places::lowest_place;
 use nc_decode::{Bundle, Mark};
 
-/// The marks of the 32 places of a bundle, a bit for each place in each mask.
+/// The marks of the 32 places of a bundle, one bit for each place in each mask.
 #[derive(Clone, Copy)]
 pub(crate) struct Masks {
-    /// Where an instruction starts that may be entered with anything masked: `Plain`.
+    /// The starts of instructions that may be entered whatever was masked: `Plain`.
     pub(crate) starts: u32,
-    /// Where the second half of a pair starts: `After`.
+    /// The starts of the second halves of pairs: `After`.
     pub(crate) seconds: u32,
     /// The lowest bit of the register of each second half.
     pub(crate) low: u32,
-    /// The middle bit.
+    /// The middle bit of the register of each second half.
     pub(crate) middle: u32,
-    /// The highest bit.
+    /// The highest bit of the register of each second half.
     pub(crate) high: u32,
 }
 
@@ -61,7 +61,7 @@ impl Masks {
         }
     }
 
-    /// The marked places, a bit for each.
+    /// The marked places, one bit for each.
     pub(crate) fn marked(&self) -> u32
         ensures { (k : ℕ) → k < 32 → bit_at result k ≡ mark_bit (mark_in self.now k) }
     {
@@ -109,14 +109,14 @@ impl Masks {
         masks
     }
 
-    /// The marks of a bundle by the bits of its instructions. The bundle begins at the place `start` of its chunk's code, and the
-    /// byte after the first of a second half names its register.
+    /// The marks of a bundle by the bits of its instructions. The bundle begins at offset `start` of its chunk's code, and the
+    /// second byte of a second half names its register.
     pub(crate) fn of_bits(bundle: Bundle, code: &[u8], start: usize) -> Self
         requires { start + 32 < 2 ^ 63 }
         ensures { (k : ℕ) → k < 32 → mark_in result k ≡ bit_mark bundle k (slice_index code.now (start + k + 1)) }
     {
         let mut masks = Masks {
-            // An instruction begins at the first place, and behind each end but that of the whole bundle.
+            // An instruction begins at the first place, and after each end except one at the end of the bundle.
             starts: 2 * (bundle.ends % 0x8000_0000) + 1,
             seconds: 0,
             low: 0,
@@ -133,7 +133,7 @@ impl Masks {
         masks
     }
 
-    /// Sets the marks of the places from one on.
+    /// Sets the marks of the places from `from` on.
     pub(crate) fn set_from(&mut self, from: u32, marks: &[Mark])
         requires inside { from + length marks.now ≤ 32 }
         requires registers { All NamesRegister marks.now }
@@ -180,8 +180,9 @@ fn unused_mark(at: u32) -> Mark
     }
 }
 
-/// The places of a bundle that are `Plain`, and those that are `After`, from one pass over its marks. Doubling the bits so far and
-/// adding the next mark's is cheaper than setting a bit at its place, and has no branch that real code would make hard to predict.
+/// The places of a bundle that are `Plain`, and those that are `After`, from one pass over its marks. Doubling the bits so
+/// far and adding those of the next mark is cheaper than setting a bit at its place, and has no branch that real code would
+/// make hard to predict.
 fn starts_and_seconds(marks: &[Mark]) -> (u32, u32)
     requires { length marks.now ≡ 32 }
     ensures starts { (k : ℕ) → k < 32 → bit_at result.0 k ≡ plain_bit (slice_index_or marks.now k Mark.Unmarked) }
@@ -194,7 +195,7 @@ fn starts_and_seconds(marks: &[Mark]) -> (u32, u32)
     ((both % 0x1_0000_0000) as u32, (both / 0x1_0000_0000) as u32)
 }
 
-/// A bit for `Plain`, and one 32 places above it for `After`.
+/// Bit 0 for `Plain`, and bit 32 for `After`.
 fn both_bits(mark: Mark) -> u64
     ensures { result ≡ plain_bit mark + 2 ^ 32 * second_bit mark }
 {
@@ -205,7 +206,7 @@ fn both_bits(mark: Mark) -> u64
     }
 }
 
-/// A byte of the code, or 0 after the last.
+/// Byte `k` of the code, or 0 after the last.
 fn byte_or_zero(code: &[u8], k: usize) -> u8
     ensures { result ≡ slice_index code.now k }
 {

@@ -8,10 +8,10 @@ use nc_decode::Mark;
 /// The byte of the instruction hlt, with which all unused text is filled.
 const STOP: u8 = 0xF4;
 
-/// The places of one page.
+/// The number of places on a page.
 pub(crate) const PAGE: usize = 4096;
 
-/// The bundles of one page.
+/// The number of bundles on a page.
 const BUNDLES: usize = 128;
 
 /// 4096 bytes of a text and the marks of their 128 bundles.
@@ -30,7 +30,7 @@ impl Page {
     ghost use Rattle.nc_text.specs.machinery.Masks.{mark_in};
     ghost use Rattle.nc_text.specs.MarkedText.{unused_mark, NamesRegister};
 
-    /// A page of stops, of which only bundle starts are marked.
+    /// A page of stops with only bundle starts marked.
     pub(crate) fn new() -> Self
         ensures bytes { (k : ℕ) → k < 4096 → byte_on result k ≡ 0xF4 }
         ensures marks { (k : ℕ) → k < 4096 → mark_on result k ≡ unused_mark k }
@@ -57,7 +57,7 @@ impl Page {
         self.masks[at / 32].mark((at % 32) as u32)
     }
 
-    /// The marked places of the bundle that starts at a place, a bit for each.
+    /// The marked places of the bundle that starts at `at`, one bit for each.
     pub(crate) fn marked(&self, at: usize) -> u32
         requires inside { at < 4096 }
         requires start { at % 32 ≡ 0 }
@@ -76,7 +76,7 @@ impl Page {
         self.bytes[at] = byte;
     }
 
-    /// Puts bytes from a place on, one after the other.
+    /// Puts bytes from `at` on, one after the other.
     pub(crate) fn put_run(&mut self, at: usize, bytes: &[u8])
         requires { at + length bytes.now ≤ 4096 }
         ensures within { (k : ℕ) → k < length bytes.now → byte_on self.new (at + k) ≡ slice_index bytes.now k }
@@ -88,7 +88,7 @@ impl Page {
         }
     }
 
-    /// Sets the marks of a span that lies in one bundle.
+    /// Sets the marks of a span inside one bundle.
     pub(crate) fn set_marks(&mut self, at: usize, marks: &[Mark])
         requires inside { at < 4096 }
         requires one_bundle { at % 32 + length marks.now ≤ 32 }
@@ -100,7 +100,7 @@ impl Page {
         self.masks[at / 32].set_from((at % 32) as u32, marks);
     }
 
-    /// Sets the marks of the bundle that starts at a place.
+    /// Sets the marks of the bundle that starts at `at`.
     pub(crate) fn set_bundle(&mut self, at: usize, masks: Masks)
         requires inside { at < 4096 }
         requires start { at % 32 ≡ 0 }
@@ -111,7 +111,7 @@ impl Page {
         self.masks[at / 32] = masks;
     }
 
-    /// Leaves only bundle starts marked in a span that lies in one bundle.
+    /// Leaves only bundle starts marked in a span inside one bundle.
     pub(crate) fn unmark(&mut self, at: usize, len: usize)
         requires inside { at < 4096 }
         requires one_bundle { at % 32 + len ≤ 32 }

@@ -3,7 +3,7 @@
 ghost use Rattle.std.specs.Prelude.{◌≡◌, ◌≢◌, ℕ, ◌<◌};
 ghost use Rattle.std.specs.Int.{bit_at};
 
-/// The lowest place of some, given as bits, and the bits of the others: a step of a loop over `marked_places`.
+/// The lowest of some places, given as bits, and the bits of the others: one step of a loop over `marked_places`.
 #[inline(always)]
 pub fn lowest_place(places: u32) -> (u32, u32)
     requires { 0 < places }

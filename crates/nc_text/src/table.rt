@@ -1,4 +1,4 @@
-//! A table of pages: bytes and marks by their numbers from the region's first place on.
+//! A table of pages: bytes and marks by place, counted from the region's first place.
 
 ghost use Rattle.std.specs.Prelude.{◌≡◌, ◌≢◌, ℕ, ◌+◌, ◌/◌, ◌%◌, ◌<◌, ◌≤◌, ◌⊎◌, ◌↔◌, IsTrue, All, length, map, true, None, IfOk};
 ghost use Rattle.std.specs.Prelude.{slice_index, slice_index_or, replicate, ◌^◌};
@@ -15,16 +15,16 @@ use crate::page::{PAGE, Page};
 use nc_decode::{Bundle, Mark, bundle_at};
 use std::alloc::{AllocError, Global};
 
-/// The places of one bundle.
+/// The number of places in a bundle.
 const BUNDLE: usize = 32;
 
-/// What the byte of a page that isn't made reads as: the instruction hlt.
+/// The value of every byte of a page that isn't allocated: the instruction hlt.
 const STOP: u8 = 0xF4;
 
-/// The marked places of a bundle on a page that isn't made: its start alone.
+/// The marked places of a bundle on a page that isn't allocated: only its start.
 const UNUSED: u32 = 1;
 
-/// A table of n pages, none of which is made.
+/// A table of n pages, none of them allocated yet.
 pub(crate) fn empty(alloc: Global, n: usize) -> Result<Vec<Option<Box<Page>>>, AllocError>
     ensures { IfOk result (λ v. v.items ≡ replicate n None) }
 {
@@ -57,7 +57,7 @@ pub(crate) fn mark(pages: &[Option<Box<Page>>], at: usize) -> Mark
     }
 }
 
-/// The marked places of the bundle that starts at a place, a bit for each.
+/// The marked places of the bundle that starts at `at`, one bit for each.
 pub(crate) fn marked(pages: &[Option<Box<Page>>], at: usize) -> u32
     requires inside { at / 4096 < length pages.now }
     requires start { at % 32 ≡ 0 }
@@ -69,7 +69,7 @@ pub(crate) fn marked(pages: &[Option<Box<Page>>], at: usize) -> u32
     }
 }
 
-/// The mark at a place where no chunk uses it.
+/// The mark at a place that no chunk uses.
 fn unused_mark(at: usize) -> Mark
     ensures { result ≡ unused_mark at }
 {
@@ -80,7 +80,7 @@ fn unused_mark(at: usize) -> Mark
     }
 }
 
-/// Puts one byte on a page that is made.
+/// Puts one byte on an allocated page.
 pub(crate) fn put(pages: &mut [Option<Box<Page>>], at: usize, byte: u8)
     requires ready { is_some (page_of pages.old at) ≡ true }
     ensures same { byte_of pages.new at ≡ byte }
@@ -93,7 +93,7 @@ pub(crate) fn put(pages: &mut [Option<Box<Page>>], at: usize, byte: u8)
     }
 }
 
-/// Puts bytes from a place on, in one bundle of a page that is made.
+/// Puts bytes from `at` on, in one bundle of an allocated page.
 pub(crate) fn put_run(pages: &mut [Option<Box<Page>>], at: usize, bytes: &[u8])
     requires ready { is_some (page_of pages.old at) ≡ true }
     requires one_bundle { at % 32 + length bytes.now ≤ 32 }
@@ -107,7 +107,7 @@ pub(crate) fn put_run(pages: &mut [Option<Box<Page>>], at: usize, bytes: &[u8])
     }
 }
 
-/// Sets the marks of a span that lies in one bundle, on a page that is made.
+/// Sets the marks of a span inside one bundle, on an allocated page.
 fn set_part(pages: &mut [Option<Box<Page>>], at: usize, marks: &[Mark])
     requires ready { is_some (page_of pages.old at) ≡ true }
     requires one_bundle { at % 32 + length marks.now ≤ 32 }
@@ -122,7 +122,7 @@ fn set_part(pages: &mut [Option<Box<Page>>], at: usize, marks: &[Mark])
     }
 }
 
-/// Sets the marks of a span on pages that are made, a bundle at a time.
+/// Sets the marks of a span on allocated pages, a bundle at a time.
 pub(crate) fn set_span(pages: &mut [Option<Box<Page>>], start: usize, marks: &[Mark])
     requires ready { (k : ℕ) → k < length marks.now → is_some (page_of pages.old (start + k)) ≡ true }
     requires registers { All NamesRegister marks.now }
@@ -142,8 +142,8 @@ pub(crate) fn set_span(pages: &mut [Option<Box<Page>>], start: usize, marks: &[M
     }
 }
 
-/// Sets the marks of a bundle on a page that is made, by the bits of its instructions. It begins at the place `start` of its
-/// chunk's code.
+/// Sets the marks of a bundle on an allocated page, by the bits of its instructions. The bundle begins at offset `start` of
+/// its chunk's code.
 fn set_bundle(pages: &mut [Option<Box<Page>>], at: usize, bundle: Bundle, code: &[u8], start: usize)
     requires ready { is_some (page_of pages.old at) ≡ true }
     requires whole { at % 32 ≡ 0 }
@@ -158,7 +158,7 @@ fn set_bundle(pages: &mut [Option<Box<Page>>], at: usize, bundle: Bundle, code: 
     }
 }
 
-/// Sets the marks of a chunk's code, by the bits of its bundles, on pages that are made.
+/// Sets the marks of a chunk's code, by the bits of its bundles, on allocated pages.
 pub(crate) fn set_bundles(
     pages: &mut [Option<Box<Page>>],
     base: usize,
@@ -186,7 +186,7 @@ pub(crate) fn set_bundles(
     }
 }
 
-/// Leaves only bundle starts marked in a span that lies in one bundle. Where its page isn't made, it is so already.
+/// Leaves only bundle starts marked in a span inside one bundle. On a page that isn't allocated, nothing has to be done.
 fn unmark_part(pages: &mut [Option<Box<Page>>], at: usize, len: usize)
     requires inside { at / 4096 < length pages.old }
     requires one_bundle { at % 32 + len ≤ 32 }
@@ -219,7 +219,7 @@ pub(crate) fn unmark(pages: &mut [Option<Box<Page>>], start: usize, len: usize)
     }
 }
 
-/// A page of stops, of which only bundle starts are marked.
+/// A page of stops with only bundle starts marked.
 fn boxed_page(alloc: Global) -> Result<Box<Page>, AllocError>
     ensures bytes { IfOk result (λ page. (k : ℕ) → k < 4096 → byte_on page.value k ≡ 0xF4) }
     ensures marks { IfOk result (λ page. (k : ℕ) → k < 4096 → mark_on page.value k ≡ unused_mark k) }
@@ -227,7 +227,7 @@ fn boxed_page(alloc: Global) -> Result<Box<Page>, AllocError>
     Ok(Box::new(alloc, Page::new())?)
 }
 
-/// Makes the pages from the first up to, and without, the last.
+/// Allocates the pages from `first` up to but excluding `last`, unless they are allocated already.
 pub(crate) fn make(
     alloc: Global,
     pages: &mut [Option<Box<Page>>],
@@ -255,7 +255,7 @@ pub(crate) fn make(
     Ok(())
 }
 
-/// Whether the pages from the first up to, and without, the last are made.
+/// Whether the pages from `first` up to but excluding `last` are all allocated.
 pub(crate) fn are_made(pages: &[Option<Box<Page>>], first: usize, last: usize) -> bool
     requires { last ≤ length pages.now }
     ensures { IsTrue result ↔ ((i : ℕ) → first ≤ i → i < last → is_some (slice_index_or pages.now i None) ≡ true) }

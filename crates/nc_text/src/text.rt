@@ -17,31 +17,31 @@ use std::alloc::Global;
 use std::marker::Model;
 use thiserror::Error;
 
-/// Why no text is made.
+/// Why no text was created, or pages weren't allocated.
 #[derive(Clone, Copy, Debug, PartialEq, Eq, Error)]
 pub enum TextFault {
-    /// The number of bundles isn't that of a lawful limit.
+    /// The number of bundles doesn't give a lawful limit.
     #[error("bad size")]
     BadSize,
-    /// A growth was refused.
+    /// An allocation was refused.
     #[error("out of memory")]
     OutOfMemory,
 }
 
 /// The bytes of a code region, from 00010000 to its limit, and a mark for each of them.
 ///
-/// A mark stands for states of a thread: `Plain` for standing there whatever was masked before, `After(r)` for standing
-/// there with r just masked. A text is *closed* when every bundle start is `Plain`, every state that a mark stands for is
-/// safe, and each step from it leads to a state that a mark stands for or to a bundle start below 00010000. A `Text` is
-/// closed at every moment, also between two calls: the contract of each call that changes it demands that the result is
-/// closed. So a thread that stands on a marked state meets only permitted instructions, and leaves the region only to a
-/// bundle start below 00010000 (`law_of_closed`). That is the order of puts of Ansel et al. 2011, "Language-independent
-/// sandboxing of just-in-time compilation and self-modifying code", as one condition on each put.
+/// A mark admits states of a thread at its place: `Plain` any, whatever was masked before, `After(r)` only those with r just
+/// masked, `Unmarked` none. A text is *closed* if every bundle start is `Plain`, every state that a mark admits is safe, and
+/// each step from such a state leads again to such a state or to a bundle start below 00010000. A `Text` is closed at every
+/// moment, also between two calls: the contract of each call that changes it requires that the result is closed. Therefore a
+/// thread in a state that a mark admits executes only permitted instructions, and leaves the region only to a bundle start
+/// below 00010000 (`law_of_closed`). This is the order of puts of Ansel et al. 2011, "Language-independent sandboxing of
+/// just-in-time compilation and self-modifying code", as one condition on each put.
 ///
-/// A text stands in pages of 4096 places. A page is made on first need, by `ready`, and stays; a place is *ready* if its page
-/// is made. A page that isn't made reads as F4, with only its bundle starts marked.
+/// A text consists of pages of 4096 places. A page is allocated on first need, by `ready`, and stays; a place is *ready* if
+/// its page is allocated. A page that isn't allocated reads as F4, with only its bundle starts marked.
 ///
-/// It promises nothing of threads that stand elsewhere, and executes nothing.
+/// Nothing is promised about threads in other states, and a `Text` executes nothing.
 #[derive(Drop)]
 pub struct Text {
     alloc: Global,
@@ -63,12 +63,12 @@ impl Model for Text {
 }
 
 impl Text {
-    /// A text of this many bundles of 32 bytes: all F4, with exactly the bundle starts `Plain`. Its limit is 00010000 plus
-    /// 32 times `bundles`. No page is made. Only `ready` takes memory besides this.
+    /// A text of `bundles` bundles of 32 bytes: all F4, with exactly the bundle starts `Plain`. Its limit is 00010000 plus
+    /// 32 times `bundles`. No page is allocated. Besides this call, only `ready` allocates memory.
     ///
     /// # Errors
     ///
-    /// `BadSize` exactly where that is no lawful limit, before any growth, and `OutOfMemory` only where a growth was refused.
+    /// `BadSize` exactly if that limit isn't lawful, before any allocation; `OutOfMemory` only if an allocation was refused.
     pub fn new(alloc: Global, bundles: u32) -> Result<Self, TextFault>
         ensures size { (result ≡ Err TextFault.BadSize) ↔ ¬ IsLawfulLimit (0x10000 + 32 * bundles) }
         ensures marked { IfOk result (λ t. t.marked ≡ unused_text (0x10000 + 32 * bundles)) }
@@ -85,12 +85,12 @@ impl Text {
         Ok(Text { alloc, size, pages })
     }
 
-    /// Makes every page that meets the span of `len` places from `at` on and isn't made. No byte and no mark changes, no page
-    /// is lost, and no other page is made. An empty span meets no page, wherever `at` is.
+    /// Allocates every page that overlaps the span of `len` places from `at` on and isn't allocated. No byte and no mark
+    /// changes, no page is lost, and no other page is allocated. An empty span overlaps no page, wherever `at` is.
     ///
     /// # Errors
     ///
-    /// `OutOfMemory` only where a growth was refused. Some of the pages may then be made.
+    /// `OutOfMemory` only if an allocation was refused. Some of the pages may then be allocated.
     pub fn ready(&mut self, at: u32, len: u32) -> Result<(), TextFault>
         requires inside { SpanInRegion self.old.marked.bytes at len }
         ensures ready { IfOk result (λ _. AreReady self.new.made at len) }
@@ -112,7 +112,7 @@ impl Text {
         Ok(())
     }
 
-    /// Whether every place of the span of `len` places from `at` on is ready. An empty span is. It takes no memory.
+    /// Whether every place of the span of `len` places from `at` on is ready. An empty span always is. Allocates nothing.
     pub fn is_ready(&self, at: u32, len: u32) -> bool
         requires inside { SpanInRegion self.now.marked.bytes at len }
         ensures { IsTrue result ↔ AreReady self.now.made at len }
@@ -158,10 +158,10 @@ impl Text {
         table::marked(&self.pages, (at - START) as usize)
     }
 
-    /// Puts one byte at an address of the region. No mark changes, and no other byte.
+    /// Puts one byte at an address of the region. No mark and no other byte changes.
     ///
-    /// The conditions are that the place is ready, and that the text with that byte is closed under the same marks. A byte may
-    /// be put that is there already.
+    /// The conditions are that the place is ready, and that the text with that byte is closed under the same marks. The byte
+    /// may equal the one already there.
     pub fn put(&mut self, at: u32, byte: u8)
         requires inside { InRegion self.old.marked.bytes at }
         requires ready { IsReady self.old.made at }
@@ -173,11 +173,11 @@ impl Text {
         table::put(&mut self.pages, (at - START) as usize, byte);
     }
 
-    /// Puts bytes from an address of the region on, ascending, in one bundle. No mark changes, and no other byte. An empty run
-    /// names no place, wherever `at` is, and changes nothing.
+    /// Puts bytes from an address of the region on, in ascending order, in one bundle. No mark and no other byte changes. An
+    /// empty run changes nothing, wherever `at` is.
     ///
-    /// It does what a `put` of each byte does, and finds the page once. The conditions are that the run lies in the region and
-    /// in one bundle, that its places are ready, and that the text is closed under the same marks after each of its bytes.
+    /// It has the effect of a `put` of each byte, but finds the page only once. The conditions are that the run is in the
+    /// region and in one bundle, that its places are ready, and that the text is closed under the same marks after each byte.
     pub fn put_run(&mut self, at: u32, bytes: &[u8])
         requires inside { SpanInRegion self.old.marked.bytes at (length bytes.now) }
         requires one_bundle { at % 32 + length bytes.now ≤ 32 }
@@ -196,12 +196,12 @@ impl Text {
         table::put_run(&mut self.pages, (at - START) as usize, bytes);
     }
 
-    /// Sets the marks of the span that begins at `at` and is as long as `marks`. No byte changes, and no mark outside. An
-    /// empty span names no place, wherever `at` is, and changes nothing.
+    /// Sets the marks of the span that begins at `at` and is as long as `marks`. No byte changes, and no mark outside the
+    /// span. An empty span changes nothing, wherever `at` is.
     ///
-    /// The conditions are that the span lies in the region, that its places are ready, that the registers given are 0 to 7,
-    /// that each place that is marked keeps its mark or becomes `Plain`, so that no thread loses its place, and that the
-    /// result is closed.
+    /// The conditions are that the span is in the region, that its places are ready, that the registers given are 0 to 7,
+    /// that each marked place keeps its mark or becomes `Plain`, so that the state of every thread stays admitted, and that
+    /// the result is closed.
     pub fn mark_span(&mut self, at: u32, marks: &[Mark])
         requires inside { SpanInRegion self.old.marked.bytes at (length marks.now) }
         requires ready { AreReady self.old.made at (length marks.now) }
@@ -221,8 +221,8 @@ impl Text {
     }
 
     /// Sets the marks of the span that begins at `at` and is as long as `code`, by the bits of its bundles, as vetting finds
-    /// them. It does what `mark_span` does with the list of these marks, under the same conditions, but needs no list. The span
-    /// is whole bundles from a bundle start on; a bundle for which there are no bits has only its start marked.
+    /// them. It has the effect of `mark_span` with the list of these marks, under the same conditions, but needs no list. The
+    /// span consists of whole bundles from a bundle start on; a bundle without bits has only its start marked.
     pub fn mark_bundles(&mut self, at: u32, code: &[u8], bundles: &[Bundle])
         requires inside { SpanInRegion self.old.marked.bytes at (length code.now) }
         requires start { IsBundleStart at }
@@ -242,11 +242,11 @@ impl Text {
         table::set_bundles(&mut self.pages, (at - START) as usize, code, bundles);
     }
 
-    /// Makes every place of the span of `len` bytes from `at` on `Unmarked` that isn't a bundle start. No byte changes, and no
-    /// mark outside. An empty span names no place, wherever `at` is, and changes nothing.
+    /// Makes every place except bundle starts `Unmarked` in the span of `len` bytes from `at` on. No byte changes, and no mark
+    /// outside the span. An empty span changes nothing, wherever `at` is.
     ///
-    /// The conditions are that the span lies in the region, that every byte of it is F4, and that the result is closed. That
-    /// no thread stands there isn't one of them: whoever calls has to know it.
+    /// The conditions are that the span is in the region, that every byte of it is F4, and that the result is closed. They
+    /// don't include that no thread is in the span: the caller has to know that.
     pub fn unmark_span(&mut self, at: u32, len: u32)
         requires inside { SpanInRegion self.old.marked.bytes at len }
         requires stops { AreStops self.old.marked.bytes at len }

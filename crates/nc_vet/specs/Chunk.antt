@@ -1,5 +1,5 @@
--- Valid chunks: lists of whole instructions, one after the other, that keep four rules. Places are counted from the
--- chunk's base. A valid chunk's base is a bundle start, so a place lies in its bundle as its address does.
+-- Valid chunks: lists of consecutive whole instructions that obey four rules. A place is an offset from the chunk's base.
+-- The base of a valid chunk is a bundle start, so a place has the same position in its bundle as its address.
 use Rattle.std.specs.Prelude.{◌≡◌, ℕ, ◌+◌, ◌-◌, ◌/◌, ◌%◌, ◌<◌, ◌≤◌, ◌⊎◌, false, List, [], ◌∷◌, ◌++◌, length, replicate, Some, IsTrue}
 use Rattle.std.specs.Prelude.{if◌then◌else◌}
 use Rattle.std.specs.List.{flat_map}
@@ -11,20 +11,20 @@ use Rattle.nc_decode.specs.Profiles.{Profile, profile}
 use Rattle.nc_decode.specs.Spelling.{SpellsBy}
 use Rattle.nc_decode.specs.Transfers.{is_direct, is_indirect, target}
 
--- one instruction of a chunk: its bytes, and what they say about control
+-- one instruction of a chunk: its bytes, and what they mean for control
 pub record Piece : Type 0 where
   pub bytes : List ℕ
   pub instr : Instr
 
--- the bytes of some pieces, one after the other
+-- the bytes of some pieces, concatenated
 abbrev pub code_of : List Piece → List ℕ
 code_of pieces = flat_map (λ p. p.bytes) pieces
 
--- the place after some pieces, counted from the chunk's base: the number of their bytes
+-- the place after some pieces, as an offset from the chunk's base: the number of their bytes
 abbrev pub place : List Piece → ℕ
 place before = length (code_of before)
 
--- the last of these pieces is the mask of the register, and begins in the same bundle as what follows it
+-- the last of these pieces is the mask of the register, and begins in the same bundle as the place after it
 pub record FollowsMask (before : List Piece) (reg : ℕ) : Type 0 where
   pub earlier : List Piece
   pub mask : Piece
@@ -36,7 +36,7 @@ pub record FollowsMask (before : List Piece) (reg : ℕ) : Type 0 where
 abbrev pub AreSpelledBy : Profile → List Piece → Type 0
 AreSpelledBy v pieces = (before after : List Piece) (p : Piece) → pieces ≡ before ++ p ∷ after → SpellsBy v p.bytes p.instr
 
--- each piece is a whole instruction that is permitted now
+-- each piece is a whole instruction of the current profile
 abbrev pub AreSpelled : List Piece → Type 0
 AreSpelled pieces = AreSpelledBy profile pieces
 
@@ -48,11 +48,11 @@ pub record AreSoundBy (v : Profile) (pieces : List Piece) : Type 0 where
   pub paired : (before after : List Piece) (p : Piece) → pieces ≡ before ++ p ∷ after → IsTrue (is_indirect p.instr.flow)
       → FollowsMask before p.instr.reg
 
--- `AreSoundBy` the profile that holds now
+-- `AreSoundBy` the current profile
 abbrev pub AreSound : List Piece → Type 0
 AreSound pieces = AreSoundBy profile pieces
 
--- A piece that is no indirect transfer begins at the place. In sound code the indirect transfers are the second halves
+-- A piece that isn't an indirect transfer begins at the place. In sound code the indirect transfers are the second halves
 -- of pairs.
 pub record IsEntry (pieces : List Piece) (at : ℕ) : Type 0 where
   pub before : List Piece
@@ -62,9 +62,9 @@ pub record IsEntry (pieces : List Piece) (at : ℕ) : Type 0 where
   pub here : place before ≡ at
   pub first : is_indirect piece.instr.flow ≡ false
 
--- the address lies in the chunk, where an instruction begins that is no indirect transfer (in sound code, no second
--- half of a pair); or it lies outside and is a bundle start below the limit (Yee et al. 2009, C7; Ansel et al. 2011,
--- section 3)
+-- the address is in the chunk, at the start of an instruction that isn't an indirect transfer (in sound code, not the
+-- second half of a pair); or it is outside the chunk and a bundle start below the limit (Yee et al. 2009, C7; Ansel et al.
+-- 2011, section 3)
 abbrev pub IsTarget : ℕ → ℕ → List Piece → ℕ → Type 0
 IsTarget base limit pieces to =
     ((at : ℕ) × (to ≡ base + at) × (at < place pieces) × IsEntry pieces at)
@@ -76,19 +76,19 @@ AreTargets base limit pieces =
     (before after : List Piece) (p : Piece) → pieces ≡ before ++ p ∷ after → IsTrue (is_direct p.instr.flow)
     → IsTarget base limit pieces (target p.instr (base + place before))
 
--- the mark where an instruction begins
+-- the mark at the start of an instruction
 abbrev pub mark_of : Instr → Mark
 mark_of i = if is_indirect i.flow then After i.reg else Plain
 
--- the marks of an instruction's places
+-- the marks of an instruction, one for each byte
 abbrev pub instr_marks : Instr → List Mark
 instr_marks i = mark_of i ∷ replicate (i.len - 1) Unmarked
 
--- the marks of some instructions, one after the other
+-- the marks of some instructions, concatenated
 abbrev pub marks_of : List Piece → List Mark
 marks_of pieces = flat_map (λ p. instr_marks p.instr) pieces
 
--- the base is a bundle start from 00010000 on
+-- the base is a bundle start, and at least 00010000
 abbrev pub IsBase : ℕ → Type 0
 IsBase base = IsBundleStart base × (0x10000 ≤ base)
 
@@ -105,16 +105,16 @@ IsInRangeBy v base limit len = IsLimitUpTo v.most_bundles limit × (base + len +
 abbrev pub IsInRange : ℕ → ℕ → ℕ → Type 0
 IsInRange base limit len = IsInRangeBy profile base limit len
 
--- what contracts see of a vetted chunk: base, limit, code and marks
+-- a vetted chunk as contracts see it: base, limit, code and marks
 pub record MarkedChunk : Type 0 where
   pub base : ℕ
   pub limit : ℕ
   pub code : List ℕ
   pub marks : List Mark
 
--- Base, length and range are good, and the code is that of sound instructions of a profile (`AreSoundBy`) whose direct
--- transfers go to targets. The marks are `After r` where an indirect transfer on register r begins, `Plain` where
--- another instruction does, and `Unmarked` elsewhere (Yee et al. 2009, C1 to C7).
+-- Base, length and range are good, and the code consists of sound instructions of a profile (`AreSoundBy`) whose direct
+-- transfers go to targets. The mark is `After r` at the start of an indirect transfer on register r, `Plain` at the start
+-- of any other instruction, and `Unmarked` elsewhere (Yee et al. 2009, C1 to C7).
 pub record IsValidBy (v : Profile) (c : MarkedChunk) : Type 0 where
   pub base_is : IsBase c.base
   pub length_is : IsLength (length c.code)
@@ -125,6 +125,6 @@ pub record IsValidBy (v : Profile) (c : MarkedChunk) : Type 0 where
   pub targets : AreTargets c.base c.limit pieces
   pub marks_are : c.marks ≡ marks_of pieces
 
--- the chunk is valid by the profile that holds now
+-- the chunk is valid by the current profile
 abbrev pub IsValid : MarkedChunk → Type 0
 IsValid c = IsValidBy profile c

@@ -14,16 +14,16 @@ pub record IsSoundFront (code rest : List ℕ) (front : List Piece) : Type 0 whe
   pub parts : code ≡ code_of front ++ rest
   pub sound : AreSound front
 
--- no other sound instructions at the beginning of the code are longer
+-- no other sound instructions at the beginning of the code have more bytes
 abbrev pub IsLongest : List ℕ → List Piece → Type 0
 IsLongest code front = (other : List Piece) (rest : List ℕ) → IsSoundFront code rest other → place other ≤ place front
 
--- the bytes up to the end of the bundle, where the rest of the code begins at this place
+-- the bytes of the rest of the code, which begins at place `at`, up to the end of the bundle
 abbrev pub bundle_rest : ℕ → List ℕ → List ℕ
 bundle_rest at rest = take (32 - at % 32) rest
 
--- After sound instructions, up to the end of the bundle, comes a whole instruction (`Bare`: where those are the
--- longest, it is an indirect transfer without its mask), only the beginning of one (`Crosses`), or neither
+-- The bytes after the sound instructions, up to the end of the bundle, begin with a whole instruction (`Bare`: if `front`
+-- is the longest, it is an indirect transfer without its mask), are only the beginning of one (`Crosses`), or neither
 -- (`NotPermitted`). The fault has the address of that place.
 abbrev pub StandsAfter : ℕ → List Piece → List ℕ → VetFault → Type 0
 StandsAfter base front rest (Bare at) = (at ≡ base + place front) × ((i : Instr) × IsAtFront (bundle_rest (place front) rest) i)
@@ -33,7 +33,7 @@ StandsAfter base front rest (NotPermitted at) =
     × ¬ IsProperFront (bundle_rest (place front) rest)
 StandsAfter base front rest _ = ⊥
 
--- the longest sound beginning isn't all of the code, and the fault says what comes after it
+-- the longest sound beginning isn't all of the code, and the fault is about the bytes after it
 pub record IsStuck (base : ℕ) (code : List ℕ) (fault : VetFault) : Type 0 where
   pub front : List Piece
   pub rest : List ℕ
@@ -42,8 +42,8 @@ pub record IsStuck (base : ℕ) (code : List ℕ) (fault : VetFault) : Type 0 wh
   pub some : rest ≢ []
   pub why : StandsAfter base front rest fault
 
--- All of the code is sound. The direct transfer at the address goes to no target, and each one before it goes to a
--- target.
+-- All of the code is sound. The direct transfer at the address doesn't go to a target, and each direct transfer before it
+-- does.
 pub record IsMistargeted (base limit : ℕ) (code : List ℕ) (at : ℕ) : Type 0 where
   pub before : List Piece
   pub piece : Piece
@@ -56,8 +56,8 @@ pub record IsMistargeted (base limit : ℕ) (code : List ℕ) (at : ℕ) : Type 
   pub least : (b a : List Piece) (p : Piece) → before ≡ b ++ p ∷ a → IsTrue (is_direct p.instr.flow)
       → IsTarget base limit (before ++ piece ∷ after) (target p.instr (base + place b))
 
--- base, length and limit show no fault: the chunk is at least one whole bundle, from 00010000 on and below the guard,
--- under a lawful limit (Yee et al. 2009, C4)
+-- base, length and limit have no fault: the chunk consists of at least one whole bundle, at 00010000 or above and below
+-- the guard, and the limit is lawful (Yee et al. 2009, C4)
 pub record HasGoodSpan (base limit len : ℕ) : Type 0 where
   pub lawful : IsLawfulLimit limit
   pub start : IsBundleStart base
@@ -66,19 +66,17 @@ pub record HasGoodSpan (base limit len : ℕ) : Type 0 where
   pub low : 0x10000 ≤ base
   pub high : base + len + 32 ≤ limit
 
--- the first of the faults that base, length and limit show by themselves, in the order `BadBase`, `BadLength`,
--- `OutOfRange`
+-- the first fault of base, length and limit by themselves, in the order `BadBase`, `BadLength`, `OutOfRange`
 abbrev pub HasSpanFault : ℕ → ℕ → ℕ → VetFault → Type 0
 HasSpanFault base limit len BadBase = ¬ IsBase base
 HasSpanFault base limit len BadLength = IsBase base × ¬ IsLength len
 HasSpanFault base limit len OutOfRange = IsBase base × IsLength len × ¬ IsInRange base limit len
 HasSpanFault base limit len _ = ⊥
 
--- The fault of a chunk. It is the first that base, length and limit show, in the order `BadBase`, `BadLength`,
--- `OutOfRange`; else what comes after the longest sound beginning, up to the end of the bundle: a whole instruction
--- (`Bare`), only the beginning of one (`Crosses`) or neither (`NotPermitted`); else the first direct transfer that goes
--- to no target (`BadTarget`). Lack of memory says nothing of the code; it comes only where base, length and limit show
--- no fault.
+-- The fault of a chunk. It is the first fault of base, length and limit, in the order `BadBase`, `BadLength`, `OutOfRange`;
+-- else that of the bytes after the longest sound beginning, up to the end of the bundle: a whole instruction (`Bare`), only
+-- the beginning of one (`Crosses`) or neither (`NotPermitted`); else the first direct transfer that doesn't go to a target
+-- (`BadTarget`). Lack of memory says nothing about the code; it is reported only if base, length and limit have no fault.
 abbrev pub HasFault : ℕ → ℕ → List ℕ → VetFault → Type 0
 HasFault base limit code (NotPermitted at) = HasGoodSpan base limit (length code) × IsStuck base code (NotPermitted at)
 HasFault base limit code (Crosses at) = HasGoodSpan base limit (length code) × IsStuck base code (Crosses at)

@@ -1,4 +1,4 @@
--- A chunk has one verdict, code consists of instructions in at most one way, and a chunk that was valid stays valid.
+-- A chunk has one verdict, code splits into instructions in at most one way, and a chunk that was valid stays valid.
 use Rattle.std.specs.Prelude.{◌≡◌, ◌≢◌, ℕ, List}
 use Rattle.nc_vet.specs.declared.fault.VetFault.{VetFault}
 use Rattle.nc_vet.specs.declared.fault.VetFault.TheVariants.{OutOfMemory}

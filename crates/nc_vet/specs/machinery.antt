@@ -1,4 +1,4 @@
--- Machinery of the proofs, cited by no public contract: what a run over bundles tells, and one step of reading and of judging.
+-- Machinery of the proofs, cited by no public contract: a run over bundles, and one step of reading and of judging.
 pub mod Running
 pub mod Scans
 pub mod Judged

@@ -1,4 +1,4 @@
-//! The run of the automaton over one bundle.
+//! Runs the automaton over one bundle.
 
 ghost use Rattle.std.specs.Prelude.{◌≡◌, ◌<◌, ◌≤◌, ℕ, ◌==◌, length, nat_le, slice_index, slice_set, replicate};
 ghost use Rattle.std.specs.Int.{bit_at};
@@ -8,7 +8,7 @@ ghost use Rattle.nc_vet.specs.machinery.Running.{TellsStates};
 use nc_decode::{AFTER_NEAR, AFTER_PAIR, AFTER_SHORT, Bundle, END, STATES, advance};
 use std::simd::prelude::*;
 
-/// The states after the first bytes of a bundle, and the last of them.
+/// The states after each of the first bytes of a bundle, and the last of these states.
 #[derive(Clone, Copy, Drop)]
 pub(crate) struct Lane {
     pub(crate) state: usize,
@@ -16,7 +16,7 @@ pub(crate) struct Lane {
 }
 
 impl Lane {
-    /// Before the first byte: each bundle begins as after an instruction that masks nothing.
+    /// Before the first byte: each bundle begins in the state after an instruction that masks nothing.
     #[inline(always)]
     pub(crate) fn new() -> Lane
         ensures { result ≡ record { state = END; states = replicate 32 0 } }
@@ -27,7 +27,7 @@ impl Lane {
         }
     }
 
-    /// One more byte, which stands at this place of the bundle.
+    /// Reads one more byte, byte `i` of the bundle.
     #[inline(always)]
     pub(crate) fn step(&mut self, i: usize, byte: u8)
         requires place { i < 32 }
@@ -51,7 +51,7 @@ fn bits(mask: u64) -> u32
     mask as u32
 }
 
-/// Bit k says that lane k is this state.
+/// Bit k says whether lane k is this state.
 #[inline(always)]
 fn equal(states: u8x32, state: u8) -> u32
     ensures { (k : ℕ) → k < 32 → (bit_at result k == 1) ≡ (slice_index states k == state) }
@@ -59,7 +59,7 @@ fn equal(states: u8x32, state: u8) -> u32
     bits(states.simd_eq(u8x32::splat(state)).to_bitmask())
 }
 
-/// Bit k says that lane k is a state after an instruction.
+/// Bit k says whether lane k is a state after an instruction.
 #[inline(always)]
 fn ended(states: u8x32) -> u32
     ensures { (k : ℕ) → k < 32 → (bit_at result k == 1) ≡ nat_le END (slice_index states k) }
@@ -67,7 +67,7 @@ fn ended(states: u8x32) -> u32
     bits(states.simd_ge(u8x32::splat(END)).to_bitmask())
 }
 
-/// What the states after a bundle's bytes tell.
+/// The bits of a bundle, by the states after its bytes.
 #[inline(always)]
 pub(crate) fn told(lane: &Lane) -> Bundle
     ensures { TellsStates lane.now.states result }

@@ -1,4 +1,4 @@
-//! The reading of bundles: the automaton runs over several of them in lock step.
+//! Reads bundles: the automaton runs over several of them in lock step.
 
 ghost use Rattle.std.specs.Prelude.{◌≡◌, ◌≢◌, ◌<◌, ◌≤◌, ◌+◌, ◌-◌, ◌*◌, ◌%◌, ◌^◌, ℕ, length, get_or, slice_index, IfSome};
 ghost use Rattle.std.specs.Int.{bit_at};
@@ -9,28 +9,28 @@ use crate::lane::{Lane, told};
 use nc_decode::Bundle;
 use std::alloc::Global;
 
-/// The bundles that are read in lock step: no instruction crosses the end of one, so each can be read for itself.
+/// The number of bundles read in lock step: no instruction crosses the end of a bundle, so each is read independently.
 const LANES: usize = 8;
 
-/// The bundles that are read in lock step where fewer than eight are left.
+/// The number of bundles read in lock step when fewer than eight are left.
 const FEW_LANES: usize = 4;
 
-/// The last byte of a bundle.
+/// The offset of the last byte in a bundle.
 const LAST: u32 = 31;
 
 /// The last byte of each mask.
 const MASK_END: u8 = 0xE0;
 
-/// The front of a chunk that was read by bundles.
+/// The beginning of a chunk, as far as it was read by bundles.
 #[derive(Drop)]
 pub(crate) struct Front {
-    /// The bits of its bundles, with each of which an instruction ends.
+    /// The bits of its bundles; an instruction ends at the end of each.
     pub(crate) bundles: Vec<Bundle>,
-    /// Where reading goes on: an instruction ends there too, and masks nothing.
+    /// The place at which reading continues: an instruction that masks nothing ends there too.
     pub(crate) end: usize,
 }
 
-/// The bits of the eight bundles from a place on.
+/// The bits of the eight bundles from place `at` on.
 #[inline(always)]
 fn eight(code: &[u8], at: usize) -> [Bundle; LANES]
     requires start { at % 32 ≡ 0 }
@@ -67,7 +67,7 @@ fn eight(code: &[u8], at: usize) -> [Bundle; LANES]
     ]
 }
 
-/// The bits of the four bundles from a place on. A lane whose bundle would lie after the end of the code reads the last
+/// The bits of the four bundles from place `at` on. A lane whose bundle would be after the end of the code reads the last
 /// bundle instead.
 #[inline(always)]
 fn four(code: &[u8], at: usize) -> [Bundle; FEW_LANES]
@@ -93,7 +93,7 @@ fn four(code: &[u8], at: usize) -> [Bundle; FEW_LANES]
     [told(&a), told(&b), told(&c), told(&d)]
 }
 
-/// How many bundles at the front an instruction ends with.
+/// The number of bundles at the front such that an instruction ends at the end of each.
 #[inline(always)]
 fn whole_front(bundles: &[Bundle]) -> usize
     ensures within { result ≤ length bundles.now }
@@ -106,8 +106,8 @@ fn whole_front(bundles: &[Bundle]) -> usize
     n
 }
 
-/// Where reading may go on in a bundle that begins here and has these ends: after the last instruction that ends in it, or
-/// at its start, if none does or that may be a mask by its last byte.
+/// The place at which reading may continue in a bundle that begins at `start` and has these ends: after the last instruction
+/// that ends in it, or at its start if none does or if that instruction, by its last byte, may be a mask.
 fn last_end(code: &[u8], start: usize, ends: u32) -> usize
     requires start { start % 32 ≡ 0 }
     requires room { start + 32 ≤ length code.now }
@@ -127,7 +127,7 @@ fn last_end(code: &[u8], start: usize, ends: u32) -> usize
     end
 }
 
-/// Reads the bundles of the code, if there is memory for their bits, up to the first bundle that no instruction ends with.
+/// Reads the bundles of the code, if there is memory for their bits, up to the first at whose end no instruction ends.
 #[inline(never)]
 pub(crate) fn read_bundles(alloc: Global, code: &[u8]) -> Option<Front>
     requires bundles { length code.now % 32 ≡ 0 }
@@ -145,7 +145,7 @@ pub(crate) fn read_bundles(alloc: Global, code: &[u8]) -> Option<Front>
             let end = last_end(code, 32 * bundles.len(), more[whole].ends);
             return Some(Front { bundles, end });
         }
-        // All eight, whose number is known here, are copied without a call.
+        // All eight are copied without a call, since their number is known here.
         bundles.extend_from_slice(&more).ok()?;
     }
     while bundles.len() < count {

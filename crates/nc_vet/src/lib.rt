@@ -1,21 +1,21 @@
-//! Vetting of a chunk of untrusted x86-32 code, by the rules of Native Client's inner sandbox.
+//! Vets chunks of untrusted x86-32 code by the rules of Native Client's inner sandbox.
 //!
-//! Code that isn't trusted may run in a region only if it can't leave it: control must stand only at instructions that were
-//! read beforehand, and none of them may be a forbidden one. x86 instructions have many lengths, so a jump into the middle of one
-//! would run instructions that nobody has read. Vetting looks at one chunk of such code before it is put into the region, and says yes
-//! only where that can't happen.
+//! Untrusted code may run in a region only if it can't leave it: control must only ever reach instructions that were read
+//! beforehand, and none of them may be a forbidden one. The lengths of x86 instructions vary, so a jump into the middle of
+//! one would run instructions that nobody has read. Vetting examines one chunk of such code before it is put into the
+//! region, and accepts it only if that can't happen.
 //!
-//! - A *chunk* is some bundles of 32 bytes from a base on, below the *guard*, which is the region's last bundle.
-//! - A *pair* is a mask of a register (`and r, -32`) with the indirect jump or call on that register directly after it. The mask
-//!   makes the register point to the start of a bundle.
-//! - A chunk is *valid* if it is a list of permitted instructions, of which none crosses the end of a bundle, each indirect
-//!   transfer is the second half of a pair, and each direct one goes to a place where control may stand: [`vet`] has the rules.
-//! - The *marks* of a valid chunk say of each of its bytes whether control may stand there.
+//! - A *chunk* is one or more bundles of 32 bytes from a base on, below the *guard*, which is the region's last bundle.
+//! - A *pair* is a mask of a register (`and r, -32`) with the indirect jump or call on that register directly after it. The
+//!   mask makes the register point to the start of a bundle.
+//! - A chunk is *valid* if it is a list of permitted instructions, none of which crosses the end of a bundle, each indirect
+//!   transfer is the second half of a pair, and each direct transfer goes to a permitted target: [`vet`] has the rules.
+//! - The *marks* of a valid chunk say for each of its bytes whether control may be there.
 //!
-//! Which call to use: [`vet`] takes a chunk and gives a [`Vetted`], which is valid and stays so, or its [`VetFault`] and the chunk.
-//! [`judge`] does the same where the bytes lie, for callers that keep them. `law_of_verdicts` does nothing; its contract says that
-//! a chunk has one verdict, and that its code parts into instructions in at most one way. `law_of_profiles` does nothing either; by
-//! it a chunk that was valid once, before instructions were added, is valid still.
+//! Which call to use: [`vet`] takes a chunk and returns a [`Vetted`], which is valid and stays so, or the chunk and its
+//! [`VetFault`]. [`judge`] does the same in place, for callers that keep the bytes. `law_of_verdicts` does nothing; its
+//! contract says that a chunk has one verdict, and that code splits into instructions in at most one way. `law_of_profiles`
+//! does nothing either; its contract says that a chunk that was valid before instructions were added is still valid.
 //!
 //! ```
 //! // One bundle of nops in a region that ends at 00010040.

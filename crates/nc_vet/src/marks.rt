@@ -9,13 +9,13 @@ use nc_decode::{Bundle, Mark, bundle_at};
 /// The marks of a chunk. They mean nothing without its code.
 #[derive(Drop)]
 pub enum Marks {
-    /// By the bits of its bundles, from which a mark is made when it is asked for.
+    /// The bits of its bundles, from which a mark is computed on request.
     Bits(Vec<Bundle>),
-    /// One for each byte: where there was no memory for bits.
+    /// One mark for each byte, if there was no memory for bits.
     Each(Vec<Mark>),
 }
 
-/// The mark at a byte of a bundle; the next byte names the register of an indirect transfer.
+/// The mark at byte `k` of a bundle; `next`, the byte after it, names the register of an indirect transfer.
 #[inline(always)]
 fn bit_mark(bundle: Bundle, k: usize, next: u8) -> Mark
     requires { k < 32 }
@@ -30,7 +30,7 @@ fn bit_mark(bundle: Bundle, k: usize, next: u8) -> Mark
     }
 }
 
-/// A byte, or 0 after the last.
+/// The byte at `k`, or 0 after the last.
 #[inline(always)]
 fn byte_at(code: &[u8], k: usize) -> u8
     ensures { result ≡ slice_index code.now k }
@@ -38,7 +38,7 @@ fn byte_at(code: &[u8], k: usize) -> u8
     if k < code.len() { code[k] } else { 0 }
 }
 
-/// The mark of a place, by the bits of the bundles.
+/// The mark of place `k`, by the bits of the bundles.
 #[inline(always)]
 fn mark_at(code: &[u8], bundles: &[Bundle], k: usize) -> Mark
     requires { k < length code.now }
@@ -48,7 +48,7 @@ fn mark_at(code: &[u8], bundles: &[Bundle], k: usize) -> Mark
 }
 
 impl Marks {
-    /// The mark of a place of the code.
+    /// The mark of place `k` of the code.
     #[inline(always)]
     pub fn at(&self, code: &[u8], k: usize) -> Mark
         requires place { k < length code.now }

@@ -1,4 +1,4 @@
-//! The reading of a chunk: one instruction after the other, from the base.
+//! Reads a chunk from its base, instruction by instruction.
 
 ghost use Rattle.std.specs.Prelude.{◌≡◌, ◌≤◌, take, ◌<◌, ◌+◌, ◌%◌, ◌^◌, length, replicate, None, IfOk, IfErr, IfSome};
 ghost use Rattle.nc_decode.specs.Spelling.{IsAtFront, IsProperFront};
@@ -13,7 +13,7 @@ use crate::marks::Marks;
 use nc_decode::{BUNDLE, DecodeFault, Instr, Mark, bundle_rest, decode};
 use std::alloc::{AllocError, Global};
 
-/// The mark where an instruction begins.
+/// The mark at the start of an instruction.
 fn mark_of(instr: Instr) -> Mark
     ensures { result ≡ mark_of instr }
 {
@@ -24,7 +24,7 @@ fn mark_of(instr: Instr) -> Mark
     }
 }
 
-/// The register that an instruction has masked for the place after it.
+/// The register masked at the place after an instruction: none at a bundle start.
 fn masked_after(instr: Instr, place: usize) -> Option<u8>
     ensures { result ≡ masked_after instr place }
 {
@@ -35,7 +35,7 @@ fn masked_after(instr: Instr, place: usize) -> Option<u8>
     }
 }
 
-/// The instruction at the front of a window of few bytes.
+/// The instruction at the front of a short window of bytes.
 #[inline(never)]
 fn decode_window(window: &[u8]) -> Result<Instr, DecodeFault>
     ensures found { IfOk result (λ i. IsAtFront window.now i × (0 < i.len) × (i.len ≤ length window.now)) }
@@ -56,10 +56,10 @@ fn decode_within(rest: &[u8], room: usize) -> Result<Instr, DecodeFault>
     ensures refused { result ≡ Err DecodeFault.NotPermitted
         → ((i : Instr) → ¬ IsAtFront (take room rest.now) i) × ¬ IsProperFront (take room rest.now) }
 {
-    // Decoding is fast where more bytes are there than it needs, and nearly always what it finds lies in the room.
+    // Decoding is fast if there are more bytes than it needs, and the instruction found nearly always fits in the room.
     match decode(rest) {
         Ok(instr) if usize::from(instr.len) <= room => Ok(instr),
-        // Taken apart and put together again, so that what was found before stays in registers.
+        // Unwrapped and wrapped again, so that the earlier result stays in registers.
         _ => match decode_window(&rest[..room]) {
             Ok(instr) => Ok(instr),
             Err(fault) => Err(fault),
@@ -67,8 +67,8 @@ fn decode_within(rest: &[u8], room: usize) -> Result<Instr, DecodeFault>
     }
 }
 
-/// The instruction at the front of the rest of a bundle, which is the first `room` bytes and begins at this address. The
-/// register, if any, was masked directly before.
+/// The instruction at the front of the rest of a bundle: the first `room` bytes, beginning at address `at`. `masked` is the
+/// register masked directly before, if any.
 fn next(rest: &[u8], room: usize, masked: Option<u8>, at: u32) -> Result<Instr, VetFault>
     requires { room ≤ length rest.now }
     ensures found { IfOk result (MayFollow (take room rest.now) masked) }
@@ -87,7 +87,7 @@ fn next(rest: &[u8], room: usize, masked: Option<u8>, at: u32) -> Result<Instr, 
     }
 }
 
-/// Marks for `n` places, all unmarked.
+/// `n` marks, all `Unmarked`.
 fn unmarked(alloc: Global, n: usize) -> Result<Vec<Mark>, AllocError>
     ensures { IfOk result (λ marks. marks.items ≡ replicate n Mark.Unmarked) }
 {
@@ -96,7 +96,7 @@ fn unmarked(alloc: Global, n: usize) -> Result<Vec<Mark>, AllocError>
     Ok(marks)
 }
 
-/// The marks of all of the code, instruction by instruction.
+/// The marks of all of the code, found instruction by instruction.
 pub(crate) fn read_exactly(alloc: Global, base: u32, code: &[u8]) -> Result<Vec<Mark>, VetFault>
     requires bundles { length code.now % 32 ≡ 0 }
     requires fits { base + length code.now < 2 ^ 32 }
@@ -118,7 +118,7 @@ pub(crate) fn read_exactly(alloc: Global, base: u32, code: &[u8]) -> Result<Vec<
     Ok(marks)
 }
 
-/// The fault of the first instruction that may not stand where it does, if there is one. All before the start has been read.
+/// The first fault at or after `start`, if there is one. All code before `start` has been read.
 #[inline(never)]
 fn stuck_from(base: u32, code: &[u8], start: usize) -> Option<VetFault>
     requires bundles { length code.now % 32 ≡ 0 }
@@ -141,8 +141,8 @@ fn stuck_from(base: u32, code: &[u8], start: usize) -> Option<VetFault>
     None
 }
 
-/// Reads all of the code, and gives its marks: bundle by bundle, and from the first one on in which that finds no end,
-/// instruction by instruction. What the first way accepts is proved; why it finds no end is the second way's to say.
+/// Reads all of the code, and returns its marks: bundle by bundle, and from the first bundle at whose end no instruction
+/// ends, instruction by instruction. Code that the first way accepts is proved sound; only the second way reports faults.
 pub(crate) fn read(alloc: Global, base: u32, code: &[u8]) -> Result<Marks, VetFault>
     requires bundles { length code.now % 32 ≡ 0 }
     requires fits { base + length code.now < 2 ^ 32 }

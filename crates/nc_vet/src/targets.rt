@@ -13,14 +13,14 @@ use crate::marks::Marks;
 use crate::transfers::judged_bundles;
 use nc_decode::{BUNDLE, Instr, Mark, bundle_rest, decode, is_bundle_start, may_transfer};
 
-/// An instruction begins there that is no second half of a pair.
+/// Whether the mark is that of an instruction other than the second half of a pair.
 fn is_plain(mark: Mark) -> bool
     ensures { IsTrue result ↔ (mark ≡ Mark.Plain) }
 {
     matches!(mark, Mark::Plain)
 }
 
-/// A direct transfer may go to this address.
+/// Whether a direct transfer may go to this address.
 fn is_good(base: u32, limit: u32, code: &[u8], marks: &Marks, to: u32) -> bool
     requires each { length (listed code.now marks.now) ≡ length code.now }
     ensures exact { (pieces : List Piece) → listed code.now marks.now ≡ marks_of pieces → AreSpelled pieces
@@ -33,7 +33,7 @@ fn is_good(base: u32, limit: u32, code: &[u8], marks: &Marks, to: u32) -> bool
     }
 }
 
-/// The instruction at this address is a direct transfer that goes where it may not.
+/// Whether the instruction at this address is a direct transfer with a target that isn't permitted.
 fn is_misdirected(base: u32, limit: u32, code: &[u8], marks: &Marks, instr: Instr, at: u32) -> bool
     requires fits { at + instr.len < 2 ^ 32 }
     requires each { length (listed code.now marks.now) ≡ length code.now }
@@ -48,7 +48,7 @@ fn is_misdirected(base: u32, limit: u32, code: &[u8], marks: &Marks, instr: Inst
     !is_good(base, limit, code, marks, instr.target(at))
 }
 
-/// A direct transfer begins at this place, and goes where it may not.
+/// Whether a direct transfer with a target that isn't permitted begins at this place.
 fn goes_astray(base: u32, limit: u32, code: &[u8], marks: &Marks, at: usize) -> bool
     requires place { at < length code.now }
     requires each { length (listed code.now marks.now) ≡ length code.now }
@@ -59,7 +59,7 @@ fn goes_astray(base: u32, limit: u32, code: &[u8], marks: &Marks, at: usize) -> 
     ensures good { (r : HasReadAll code.now (listed code.now marks.now)) → IsFalse result
         → GoesWellAt base limit r.pieces at }
 {
-    // The byte comes first: few are such bytes, while the marks are hard to foresee for the processor.
+    // The byte is tested first: few bytes pass, while the marks are hard to predict.
     if !may_transfer(code[at]) {
         return false;
     }
@@ -67,15 +67,15 @@ fn goes_astray(base: u32, limit: u32, code: &[u8], marks: &Marks, at: usize) -> 
         return false;
     }
     let end = at + bundle_rest(at as u32) as usize;
-    // Where the mark is plain an instruction has been read, so this one is read again.
+    // An instruction has been read where the mark is plain, so decoding it again succeeds.
     let Ok(instr) = decode(&code[at..end]) else {
         return false;
     };
     is_misdirected(base, limit, code, marks, instr, base + at as u32)
 }
 
-/// A place before which each direct transfer goes where it may: where marks are bits, all of the code is judged by them, up
-/// to two bundles of which one has a transfer that goes elsewhere.
+/// A place before which all direct transfers have permitted targets. If the marks are kept as bits, the code is judged by
+/// them, up to the first two bundles with a bad target.
 fn judged_front(base: u32, limit: u32, code: &[u8], marks: &Marks) -> usize
     requires read { HasReadAll code.now (listed code.now marks.now) }
     requires told { AreBitsTold code.now marks.now }
@@ -88,8 +88,8 @@ fn judged_front(base: u32, limit: u32, code: &[u8], marks: &Marks) -> usize
     }
 }
 
-/// The address of the first direct transfer that goes where it may not. Only what may be a direct transfer by its first
-/// byte is decoded a second time.
+/// The address of the first direct transfer whose target isn't permitted. Only instructions that may be direct transfers by
+/// their first byte are decoded a second time.
 pub(crate) fn bad_target(base: u32, limit: u32, code: &[u8], marks: &Marks) -> Option<u32>
     requires read { HasReadAll code.now (listed code.now marks.now) }
     requires told { AreBitsTold code.now marks.now }

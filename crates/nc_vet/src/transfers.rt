@@ -8,7 +8,7 @@ ghost use Rattle.nc_vet.specs.machinery.Judged.{short_to, near_to, IsGood, AreGo
 use byteorder::{ByteOrder, LittleEndian};
 use nc_decode::{BUNDLE, Bundle, bundle_at, is_bundle_start};
 
-/// An instruction begins at this byte of a bundle, and is no second half of a pair.
+/// Whether an instruction that isn't the second half of a pair begins at byte `k` of a bundle.
 #[inline(always)]
 fn is_plain(bundle: Bundle, k: u32) -> bool
     requires { k < 32 }
@@ -19,7 +19,7 @@ fn is_plain(bundle: Bundle, k: u32) -> bool
     starts >> k & 1 == 1 && (bundle.pairs / 2) >> k & 1 == 0
 }
 
-/// A direct transfer may go to this address.
+/// Whether a direct transfer may go to this address.
 #[inline(always)]
 fn is_good(base: u32, limit: u32, code: &[u8], bundles: &[Bundle], to: u32) -> bool
     requires each { length code.now ≡ 32 * length bundles.now }
@@ -34,7 +34,7 @@ fn is_good(base: u32, limit: u32, code: &[u8], bundles: &[Bundle], to: u32) -> b
     }
 }
 
-/// The place of the lowest bit, and the other bits.
+/// The index of the lowest set bit, and the other bits.
 #[inline(always)]
 fn lowest(bits: u64) -> (u32, u64)
     requires { 0 < bits }
@@ -47,8 +47,7 @@ fn lowest(bits: u64) -> (u32, u64)
     (place, bits & !(1 << place))
 }
 
-/// The bits of two neighbours. A loop over them ends half as often as two loops, and its end is hard to foresee for the
-/// processor.
+/// The bits of two neighbouring bundles. One loop over both ends half as often as two loops, and each end is hard to predict.
 #[inline(always)]
 fn both(first: u32, second: u32) -> u64
     ensures first { (k : ℕ) → k < 32 → bit_at result k ≡ bit_at first k }
@@ -57,7 +56,7 @@ fn both(first: u32, second: u32) -> u64
     u64::from(second) * 0x1_0000_0000 + u64::from(first)
 }
 
-/// Where a transfer goes whose displacement is this byte.
+/// The target of a transfer whose displacement is the byte at `at`.
 #[inline(always)]
 fn short_target(base: u32, code: &[u8], at: usize) -> u32
     requires place { at < length code.now }
@@ -67,7 +66,7 @@ fn short_target(base: u32, code: &[u8], at: usize) -> u32
     (base + at as u32 + 1).wrapping_add_signed(i32::from(code[at].cast_signed()))
 }
 
-/// Where a transfer goes whose displacement ends with this byte.
+/// The target of a transfer whose displacement is the four bytes that end with the byte at `at`.
 #[inline(always)]
 fn near_target(base: u32, code: &[u8], at: usize) -> u32
     requires four { 3 ≤ at }
@@ -78,8 +77,7 @@ fn near_target(base: u32, code: &[u8], at: usize) -> u32
     (base + at as u32 + 1).wrapping_add_signed(LittleEndian::read_i32(&code[at - 3..]))
 }
 
-/// The transfers may go where they go whose displacement is one byte, and of which these are the last bytes, counted from
-/// this place on.
+/// Whether the transfers with one-byte displacements and these last bytes, counted from `start`, have permitted targets.
 #[inline(always)]
 fn shorts_good(
     base: u32,
@@ -110,7 +108,7 @@ fn shorts_good(
     true
 }
 
-/// The direct transfers may go where they go that end at these places and whose displacement is four bytes.
+/// Whether the transfers with four-byte displacements and these last bytes, counted from `start`, have permitted targets.
 #[inline(always)]
 fn nears_good(
     base: u32,
@@ -141,8 +139,8 @@ fn nears_good(
     true
 }
 
-/// The number of bundles at the front whose direct transfers may all go where they go. Bundles are judged two by two, and the
-/// count ends where a transfer may not.
+/// The number of bundles at the front whose direct transfers all have permitted targets. Bundles are judged two at a
+/// time, and the count ends before the first two with a bad target.
 #[inline(never)]
 pub(crate) fn judged_bundles(base: u32, limit: u32, code: &[u8], bundles: &[Bundle]) -> usize
     requires each { length code.now ≡ 32 * length bundles.now }

@@ -7,9 +7,9 @@ use crate::marks::Marks;
 use nc_decode::{Bundle, Mark};
 use std::marker::Model;
 
-/// A valid chunk, with its base, the limit that it was vetted for, and its marks.
+/// A valid chunk, with its base, the limit for which it was vetted, and its marks.
 ///
-/// Only a chunk that is known to be valid becomes one, and nothing changes it.
+/// It can be made only from a chunk that is known to be valid, and it never changes.
 #[derive(Drop)]
 pub struct Vetted {
     base: u32,
@@ -34,7 +34,7 @@ impl Vetted {
     ghost use Rattle.nc_vet.specs.Chunk.{IsValid};
     ghost use Rattle.nc_vet.specs.Listed.{listed};
 
-    /// A chunk that is known to be valid.
+    /// Makes a `Vetted` of a chunk that is known to be valid.
     pub fn new(base: u32, limit: u32, code: Vec<u8>, marks: Marks) -> Vetted
         requires { IsValid (record { base = base; limit = limit; code = code.items; marks = listed code.items marks }) }
         ensures { result ≡ record { base = base; limit = limit; code = code.items; marks = listed code.items marks } }
@@ -54,7 +54,7 @@ impl Vetted {
         self.base
     }
 
-    /// The end of the region that the chunk was vetted for.
+    /// The end of the region for which the chunk was vetted.
     pub fn limit(&self) -> u32
         ensures value { result ≡ self.now.limit }
     {
@@ -69,7 +69,7 @@ impl Vetted {
         &self.code
     }
 
-    /// The mark of the place `i` bytes after the base: `After(r)` for an indirect transfer on register r, `Plain` for the
+    /// The mark of the byte at offset `i` from the base: `After(r)` for an indirect transfer on register r, `Plain` for the
     /// start of any other instruction, `Unmarked` elsewhere.
     pub fn mark(&self, i: usize) -> Mark
         requires { i < length self.now.code }
@@ -78,7 +78,7 @@ impl Vetted {
         self.marks.at(&self.code, i)
     }
 
-    /// The bits of the chunk's bundles, if its marks are kept so: they are, where there was memory for them.
+    /// The bits of the chunk's bundles, if its marks are kept as bits, which they are unless memory was short.
     pub fn bundles(&self) -> Option<&[Bundle]>
         ensures marks { IfSome result (λ b. self.now.marks ≡ marks_in self.now.code b.now) }
     {

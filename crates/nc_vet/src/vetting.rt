@@ -15,7 +15,7 @@ use crate::vetted::Vetted;
 use nc_decode::{BUNDLE, START, is_bundle_start, is_lawful_limit};
 use std::alloc::Global;
 
-/// The first of the faults that base, length and limit show by themselves.
+/// The first fault of base, length and limit by themselves, if there is one.
 fn check_span(base: u32, limit: u32, len: usize) -> Result<(), VetFault>
     requires { len < 2 ^ 63 }
     ensures fine { OnOk result (HasGoodSpan base limit len) }
@@ -34,7 +34,7 @@ fn check_span(base: u32, limit: u32, len: usize) -> Result<(), VetFault>
     Ok(())
 }
 
-/// Judges a chunk where it lies: the marks of a valid chunk, or its fault. `vet` answers by it, and says what is judged.
+/// Judges a chunk in place: returns the marks of a valid chunk, or the chunk's fault. The rules are those of `vet`.
 pub fn judge(alloc: Global, base: u32, limit: u32, code: &[u8]) -> Result<Marks, VetFault>
     ensures valid { IfOk result (λ marks.
         IsValid (record { base = base; limit = limit; code = code.now; marks = listed code.now marks })) }
@@ -48,39 +48,39 @@ pub fn judge(alloc: Global, base: u32, limit: u32, code: &[u8]) -> Result<Marks,
     }
 }
 
-/// Vets a chunk: finds its instructions from its base on, and judges where its jumps, branches and calls go.
+/// Vets a chunk: finds its instructions from its base on, and judges the targets of its jumps, branches and calls.
 ///
-/// A chunk is valid where it lies between the region's first byte and the guard, which is the last bundle below the
-/// limit, and is a list of permitted instructions such that
+/// A chunk is valid if it lies between the region's first byte and the guard, which is the last bundle below the limit,
+/// and is a list of permitted instructions such that
 /// - none crosses the end of a 32-byte bundle;
 /// - each indirect jump or call directly follows the mask of its register in the same bundle;
-/// - each direct transfer into the chunk goes to the start of an instruction that is no such jump or call;
+/// - each direct transfer into the chunk goes to the start of an instruction that isn't an indirect jump or call;
 /// - each direct transfer out of the chunk goes to a bundle start below the limit.
 ///
-/// The first three faults (`BadBase`, `BadLength`, `OutOfRange`) are tested in their order, before anything is allocated.
-/// Of `NotPermitted`, `Crosses` and `Bare` the one at the least address is given. Targets are judged only where there is
-/// none of these, and the first bad one is given. No other code of the region is looked at: any bundle start outside the
-/// chunk may be a target.
+/// The first three faults (`BadBase`, `BadLength`, `OutOfRange`) are tested in this order, before anything is allocated.
+/// Among `NotPermitted`, `Crosses` and `Bare`, the fault at the lowest address is reported. Targets are judged only if
+/// there is none of these, and the first bad one is reported. No other code in the region is examined: any bundle start
+/// outside the chunk is a permitted target.
 ///
-/// The chunk is first read quickly: several bundles side by side, by an automaton. What this reading accepts is valid.
-/// Where it doesn't, the chunk is read once more, instruction by instruction, and this reading decides and names the fault.
+/// The chunk is first read quickly, several bundles at once, by an automaton. Code that this reading accepts is valid. Code
+/// that it doesn't accept is read once more, instruction by instruction; the second reading decides and names the fault.
 ///
-/// Not promised: anything of what the code does with data, and that memory is there; a valid chunk is refused only for want
-/// of it. On each refusal the code comes back.
+/// Nothing is promised about what the code does with data, or that memory is available; a valid chunk is refused only for
+/// lack of memory. Every refusal gives the code back.
 ///
 /// The rules are C3 and C5 to C7 of table 1 of Yee et al., "Native Client: A Sandbox for Portable, Untrusted x86
 /// Native Code" (2009).
 pub fn vet(base: u32, limit: u32, code: Vec<u8>) -> Result<Vetted, (Vec<u8>, VetFault)>
-    // One word for both cases, which vetting of many chunks has too.
+    // Both cases as one definition, which the vetting of many chunks uses too.
     ensures verdict { IsVerdict base limit code result }
-    // What is vetted is the code that was given, for that base and limit, and it is valid.
+    // The vetted chunk has the given code, base and limit, and is valid.
     ensures vetted { IfOk result (λ v.
         (v.base ≡ base) × (v.limit ≡ limit) × (v.code ≡ code.items) × IsValid v) }
-    // A refusal names the chunk's fault; lack of memory comes only where none of the first three holds.
+    // A refusal reports the chunk's fault; lack of memory is reported only if none of the first three holds.
     ensures fault { IfErr result (λ e. HasFault base limit code.items e.1) }
-    // The code comes back as it was.
+    // A refusal gives the code back unchanged.
     ensures given_back { IfErr result (λ e. e.0 ≡ code) }
-    // The first three faults are given exactly when they are due, in this order.
+    // Each of the first three faults is reported exactly if it holds and none before it does.
     ensures bad_base { (result ≡ Err (code, VetFault.BadBase)) ↔ ¬ IsBase base }
     ensures bad_length { (result ≡ Err (code, VetFault.BadLength))
         ↔ (IsBase base × ¬ IsLength (vec_len code)) }

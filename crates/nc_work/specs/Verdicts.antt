@@ -1,4 +1,4 @@
--- What the verdicts on jobs are.
+-- The verdicts on jobs.
 use Rattle.std.specs.Prelude.{ℕ, ◌≤◌, Result}
 use Rattle.std.specs.Global.{Vec}
 use Rattle.nc_vet.specs.declared.fault.VetFault.{VetFault}
@@ -6,7 +6,7 @@ use Rattle.nc_vet.specs.Chunk.{MarkedChunk}
 use Rattle.nc_vet.specs.Verdict.{IsVerdict}
 use Rattle.nc_work.specs.declared.job.Job.{Job}
 
--- the verdict is what vetting answers for the job's chunk (`IsVerdict` of nc_vet)
+-- the verdict is a permitted result of vetting the job's chunk (`IsVerdict` of nc_vet)
 abbrev pub IsVerdictOn : Job → Result MarkedChunk (Vec ℕ × VetFault) → Type 0
 IsVerdictOn job verdict = IsVerdict job.base job.limit job.code verdict
 

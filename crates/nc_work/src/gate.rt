@@ -1,11 +1,11 @@
-//! What a worker passes before and after each job.
+//! Gates, which workers call before and after each job.
 
-/// What a worker passes before and after each job, by the job's number. Its calls must return.
+/// Called by a worker before and after each job, with the job's number. The calls must return.
 pub trait Gate: Sync {
     /// Called by the worker that vets the job, before anything else is done for it.
     fn before(&self, job: usize);
 
-    /// Called by the same worker when the job is vetted.
+    /// Called by the same worker when the job has been vetted.
     fn after(&self, job: usize);
 }
 

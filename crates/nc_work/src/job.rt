@@ -10,5 +10,5 @@ pub struct Job {
     pub code: Vec<u8>,
 }
 
-/// What `vet` answers for a job.
+/// The result of `vet` for a job.
 pub type Verdict = Result<Vetted, (Vec<u8>, VetFault)>;

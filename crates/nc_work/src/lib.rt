@@ -1,11 +1,11 @@
-//! Vetting of many chunks by several threads.
+//! Vets many chunks on several threads.
 //!
 //! Vetting a chunk needs nothing but its bytes, so it is done before a region's lock is taken, and several chunks can be
-//! vetted at a time. A **job** is a chunk with its base and limit; a **worker** is a thread that takes the next job when
-//! it is done with one; a **verdict** is what `nc_vet::vet` answers for a job. A **gate** is told before and after each
-//! job, by its number; `Open` is the one that does nothing.
+//! vetted at once. A **job** is a chunk with its base and limit; a **worker** is a thread that takes the next job when it
+//! has finished one; a **verdict** is the result of `nc_vet::vet` for a job. A **gate** is called before and after each
+//! job, with the job's number; `Open` is the gate that does nothing.
 //!
-//! `vet_all` is the one call: jobs in, verdicts out in the jobs' order, the same for every number of workers.
+//! `vet_all` is the only call: it takes jobs and returns verdicts in the jobs' order, the same for any number of workers.
 #![tactic(auto)]
 
 mod fault;

@@ -1,4 +1,4 @@
-//! The room that vetting needs, made before it begins.
+//! The memory that vetting needs, allocated before it begins.
 
 ghost use Rattle.std.specs.Prelude.{◌≡◌, All, [], None, IfOk, vec_len, vec_capacity};
 
@@ -6,7 +6,7 @@ use crate::job::Verdict;
 use crate::work::{Answer, Done};
 use std::alloc::{AllocError, Global};
 
-/// Room for what each worker answers, for the answers in the jobs' order, and for the verdicts.
+/// Room for the answers of each worker, for the answers in the jobs' order, and for the verdicts.
 #[derive(Drop)]
 pub struct Room {
     pub lists: Vec<Vec<Done>>,
@@ -14,8 +14,8 @@ pub struct Room {
     pub verdicts: Vec<Verdict>,
 }
 
-/// A list for each worker. A worker's share is the jobs split evenly; it may do twice as many, and all others together
-/// can then do the rest.
+/// A list for each worker, with room for twice an even share of the jobs (at most for all); the other lists together have
+/// room for the rest.
 fn make_lists(alloc: Global, jobs: usize, workers: usize) -> Result<Vec<Vec<Done>>, AllocError>
     ensures { IfOk result (λ v. All (λ list. list.items ≡ []) v.items) }
 {
@@ -41,7 +41,7 @@ fn make_answers(alloc: Global, jobs: usize) -> Result<Vec<Option<Answer>>, Alloc
 }
 
 impl Room {
-    /// Room for this many jobs and workers.
+    /// Room for these numbers of jobs and workers.
     pub fn new(alloc: Global, jobs: usize, workers: usize) -> Result<Room, AllocError>
         ensures lists { IfOk result (λ r. All (λ list. list.items ≡ []) r.lists.items) }
         ensures answers { IfOk result (λ r. (vec_len r.answers ≡ jobs) × All (λ a. a ≡ None) r.answers.items) }

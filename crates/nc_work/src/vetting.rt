@@ -1,4 +1,4 @@
-//! Vetting of all jobs.
+//! Vets all jobs.
 
 ghost use Rattle.std.specs.Prelude.{◌≡◌, ◌↔◌, [], All, Some, length, vec_len, vec_capacity, IfOk, IfErr, Err};
 ghost use Rattle.std.specs.List.{AllZip};
@@ -16,10 +16,10 @@ use std::sync::Wait;
 use std::sync::atomic::AtomicUsize;
 use std::thread::{Threads, for_each_mut};
 
-/// The most workers.
+/// The largest number of workers.
 const MOST: u32 = 16;
 
-/// Judges jobs by as many workers as there are lists. Each worker begins with the job of its own number.
+/// Judges jobs with one worker for each list. Each worker begins with the job of its own number.
 fn work_all<G: Gate, T: Threads + Sync>(rt: &T, jobs: &[Job], lists: &mut [Vec<Done>], gate: &G)
     requires { All (λ list. AreDone jobs.now list.items) lists.old }
     ensures { All (λ list. AreDone jobs.now list.items) lists.new }
@@ -50,7 +50,7 @@ fn put(jobs: &[Job], done: Done, answers: &mut [Option<Answer>])
     }
 }
 
-/// Puts what one worker answered into its places.
+/// Puts the answers of one worker into their places.
 fn put_all(jobs: &[Job], done: Vec<Done>, answers: &mut [Option<Answer>])
     requires done { AreDone jobs.now done.items }
     requires answers { AreAnswers jobs.now answers.old }
@@ -62,7 +62,7 @@ fn put_all(jobs: &[Job], done: Vec<Done>, answers: &mut [Option<Answer>])
     }
 }
 
-/// Puts what all workers answered into its places.
+/// Puts the answers of all workers into their places.
 fn gather(jobs: &[Job], lists: Vec<Vec<Done>>, answers: &mut [Option<Answer>])
     requires lists { All (λ list. AreDone jobs.now list.items) lists.items }
     requires answers { AreAnswers jobs.now answers.old }
@@ -85,7 +85,7 @@ fn verdict(job: Job, answer: Answer) -> Verdict
     }
 }
 
-/// The answer that was found, or the job is judged here.
+/// The answer that was found; if there is none, judges the job.
 fn answer_of<G: Gate>(number: usize, job: &Job, found: Option<Answer>, gate: &G) -> Answer
     requires { ForSome found (AnswersJob job.now) }
     ensures { AnswersJob job.now result }
@@ -116,14 +116,14 @@ fn conclude<G: Gate>(
     verdicts
 }
 
-/// Vets all jobs by several workers, of which the caller is one.
+/// Vets all jobs with several workers, one of which is the caller.
 ///
-/// Each verdict is what `vet` answers for that job, in the jobs' order, however many workers there are. A worker takes
-/// the next job when it is done with one, so a long job doesn't hold others up; with at least as many workers as jobs
+/// Each verdict is the result of `vet` for that job, in the jobs' order, whatever the number of workers. A worker takes
+/// the next job when it has finished one, so a long job doesn't hold up others; with at least as many workers as jobs,
 /// each job has a worker of its own. A job whose worker can't be started is vetted by another.
 ///
-/// All room is made before a worker starts, but for the marks of each chunk; where there is none for those, that job's
-/// verdict says so. On a refusal the jobs come back as they were.
+/// All memory is allocated before a worker starts, except for the marks of each chunk; if there is none for those, that
+/// job's verdict says so. A refusal gives the jobs back unchanged.
 pub fn vet_all<G: Gate, T: Threads + Wait + Sync>(
     rt: &T,
     jobs: Vec<Job>,

@@ -1,4 +1,4 @@
-//! What one worker does.
+//! The work of one worker.
 
 ghost use Rattle.nc_work.specs.Answers.{AnswersJob, AreDone};
 
@@ -10,14 +10,14 @@ use std::sync::atomic::{AtomicUsize, Ordering};
 /// The marks of a valid chunk, or a chunk's fault.
 pub type Answer = Result<Marks, VetFault>;
 
-/// A job's number, and the answer.
+/// A job's number, and the answer on it.
 #[derive(Drop)]
 pub struct Done {
     pub job: usize,
     pub answer: Answer,
 }
 
-/// Judges a job's chunk where it lies, between the gate's calls.
+/// Judges a job's chunk in place, between the gate's two calls.
 pub fn judge_job<G: Gate>(number: usize, job: &Job, gate: &G) -> Answer
     ensures { AnswersJob job.now result }
 {
@@ -36,8 +36,8 @@ fn draw(turn: usize, own: usize, next: &AtomicUsize) -> usize {
     }
 }
 
-/// What a worker does: it judges the job with its own number, and then the next one that nobody has taken, until none is
-/// left or its list is full. What it answers lands in its list.
+/// Runs a worker: it judges the job with its own number, and then the next ones that nobody has taken, until none is left
+/// or its list is full. Its answers are added to its list.
 pub fn work<G: Gate>(jobs: &[Job], own: usize, next: &AtomicUsize, gate: &G, done: &mut Vec<Done>)
     requires { AreDone jobs.now done.old.items }
     ensures { AreDone jobs.now done.new.items }

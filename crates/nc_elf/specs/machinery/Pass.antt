@@ -1,4 +1,4 @@
--- What a pass over the program headers, or over the entries of a table of symbols, knows of the first of them.
+-- What a pass over program headers, or over the entries of a symbol table, knows after the first i of them.
 use Rattle.std.specs.Prelude.{ℕ, ◌≤◌, ◌^◌, ◌↔◌, List, map, filter}
 use Rattle.std.specs.List.{range_with_len}
 use Rattle.nc_elf.specs.declared.segment.Segment.{Segment}
@@ -7,7 +7,7 @@ use Rattle.nc_elf.specs.declared.symbols.Symbol.{Symbol}
 use Rattle.nc_elf.specs.Segments.{program_header, is_code, segment_of, EndBy}
 use Rattle.nc_elf.specs.Symbols.{symbol_entry, is_listed, symbol_of}
 
--- the least address by which the loaded segments of the first i program headers end
+-- the lowest address such that the loaded segments of the first i program headers end at it or before
 pub record IsFloor (file : List ℕ) (i : ℕ) (floor : ℕ) : Type 0 where
   pub least : (at : ℕ) → EndBy file i at ↔ (floor ≤ at)
   pub bound : floor ≤ 2 ^ 32

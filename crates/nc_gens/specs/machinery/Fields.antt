@@ -1,16 +1,16 @@
--- What the fields of a pass and of the keeper keep.
+-- The invariants of the fields of a pass and of the keeper.
 use Rattle.std.specs.Prelude.{◌≡◌, ◌≢◌, ℕ, ◌+◌, ◌-◌, ◌<◌, ◌≤◌, true, false, [], length, slice_index}
 use Rattle.nc_gens.specs.declared.table.Pass.TheInside as pass
 use Rattle.nc_gens.specs.declared.table.Keeper.TheInside as keeper
 use Rattle.nc_gens.specs.Rule.{left_word, last_generation}
 use Rattle.nc_gens.specs.Seen.{AreSeats, PassState, KeeperState}
 
--- what callers see of a pass
+-- a pass as callers see it
 abbrev pub pass_state : pass.Inside → PassState
 pass_state a = record { table = a.token.table_id; seat = a.seat; numbers = a.token.me.0.pass }
 
--- the fields of a pass are what the table knows of it: its seat, and its `since`, at least its own word and at most the
--- last generation it saw
+-- the fields of a pass agree with its token: its seat, and its `since`, at least its own word and at most the last
+-- generation that it saw
 pub record IsPass (a : pass.Inside) : Type 0 where
   pub no_slots : a.token.me.1 ≡ []
   pub is_pass : a.token.me.0.is_pass ≡ true
@@ -23,12 +23,12 @@ pub record IsPass (a : pass.Inside) : Type 0 where
   pub saw : a.since ≤ a.token.me.0.pass.seen
   pub in_range : a.token.me.0.pass.seen ≤ last_generation
 
--- what callers see of the keeper
+-- the keeper as callers see it
 abbrev pub keeper_state : keeper.Inside → KeeperState
 keeper_state a = record { table = a.token.table_id; numbers = a.token.me.0.keeper }
 
--- the fields of the keeper are what the table knows of it: the generation, at most 2^62, and for each of 1 to 256 seats
--- a bound, at most the generation unless it is "left"
+-- the fields of the keeper agree with its token: the generation, at most 2^62, and for each of 1 to 256 seats a bound, at
+-- most the generation unless it is "left"
 pub record IsKeeper (a : keeper.Inside) : Type 0 where
   pub no_slots : a.token.me.1 ≡ []
   pub is_keeper : a.token.me.0.is_keeper ≡ true

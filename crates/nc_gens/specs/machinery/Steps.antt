@@ -1,12 +1,12 @@
--- The five kinds of step on the words. Each says which word `st.word` is stepped on, by whom, and of the token before (m) and
--- after (m') and the number n that it found, or stored, what is known.
+-- The five kinds of step on the words. Each definition says which word (`st.word`) the step is on, who takes it, and what
+-- is known about the token before (m) and after (m') and about the number n that it found or stored.
 use Rattle.std.specs.Prelude.{◌≡◌, ◌≢◌, ℕ, ◌+◌, ◌-◌, ◌<◌, ◌≤◌, true, slice_index}
 use Rattle.atomic_table.specs.Table.{Me, Step}
 use Rattle.nc_gens.specs.declared.view.View.{View}
 use Rattle.nc_gens.specs.Rule.{left_word, last_generation, generation_taken, generation_seen, since_stored, left_stored}
 use Rattle.nc_gens.specs.Rule.{generation_raised, word_taken}
 
--- what a token knows: its view (and slots, which this table has none of)
+-- what a token knows: its view (and its slots, of which this table has none)
 abbrev pub Known : Type 0
 Known = Me (Unit {0}) View
 
@@ -18,7 +18,7 @@ pub record TakesGeneration (st : Step (Unit {0})) (m : Known) (n : ℕ) (m' : Kn
   pub rises : m.0.pass.seen ≤ n
   pub in_range : n ≤ last_generation
 
--- 1 again, where only `seen` moves
+-- 1 again: a pass loads the generation, and only `seen` (and the count of loads) changes
 pub record SeesGeneration (st : Step (Unit {0})) (m : Known) (n : ℕ) (m' : Known) : Type 0 where
   pub after : m' ≡ (record m.0 { pass = generation_seen n m.0.pass }, m.1)
   pub by_pass : m.0.is_pass ≡ true

@@ -1,4 +1,4 @@
--- How views begin, how one is cut in two, and how two are joined.
+-- The initial views, and the views that splits and joins make.
 use Rattle.std.specs.Prelude.{ℕ, ◌+◌, true, false}
 use Rattle.nc_gens.specs.declared.view.View.{View}
 use Rattle.nc_gens.specs.Rule.{first_pass_numbers, first_keeper_numbers}
@@ -14,15 +14,15 @@ giving_view seats i = record {
   given = i;
 }
 
--- the first view: nothing is given out yet
+-- the first view: no pass is given out yet
 abbrev pub first_view : ℕ → View
 first_view seats = giving_view seats 0
 
--- the keeper, after it has given out the next pass
+-- the keeper's view after it has given out the next pass
 abbrev pub given_one_more : View → View
 given_one_more v = record v { given = v.given + 1 }
 
--- that pass
+-- the view of the pass that the keeper gives out next
 abbrev pub new_pass_view : View → View
 new_pass_view v = record {
   is_pass = true;
@@ -33,18 +33,18 @@ new_pass_view v = record {
   given = v.given;
 }
 
--- the pass goes elsewhere
+-- the view without its pass
 abbrev pub without_pass : View → View
 without_pass v = record v { is_pass = false }
 
--- only the pass stays
+-- the view without the keeper
 abbrev pub without_keeper : View → View
 without_keeper v = record v { is_keeper = false }
 
--- the other's pass comes in
+-- the view with the pass of the other view
 abbrev pub with_pass_of : View → View → View
 with_pass_of v other = record v { is_pass = other.is_pass; seat = other.seat; pass = other.pass }
 
--- neither pass nor keeper
+-- the view with neither pass nor keeper
 abbrev pub spent_view : View
 spent_view = record (giving_view 0 0) { is_keeper = false }

@@ -1,4 +1,4 @@
--- Lists of acts in which one act stands for the puts of a bundle.
+-- Lists of acts in which one act can stand for the puts of a bundle.
 use Rattle.std.specs.Prelude.{◌≡◌, ℕ, zero, suc, ◌+◌, ◌*◌, ◌-◌, ◌/◌, ◌%◌, ◌==◌, Bool, if◌then◌else◌, List, [], ◌∷◌, ◌++◌, length, map, take}
 use Rattle.std.specs.Prelude.{drop, replicate}
 use Rattle.nc_decode.specs.declared.instruction.Mark.{Mark}
@@ -11,8 +11,8 @@ use Rattle.nc_region.specs.Log.{unsettled}
 use Rattle.nc_handle.specs.declared.acts.act.NcAct.{NcAct}
 use Rattle.nc_handle.specs.acts.Shown.{entry_of, over}
 
--- One act of such a list: an act or a settling by itself; puts of the chunk's bytes, or of stops, at those of 32 places from an address
--- on whose bits are set. The lowest bit is the first place's.
+-- A run: a single act or settling; or puts of the chunk's bytes, or of stops, at those of the 32 places from an address on
+-- whose bits are set. The lowest bit is the first place's.
 pub data Run : Type 0 where
   Single : Entry → Run
   PutRun : (at : ℕ) → (bits : ℕ) → Run
@@ -31,33 +31,33 @@ puts_by_bits at bits [] = []
 puts_by_bits at bits (byte ∷ rest) =
     if bits % 2 == 1 then Put at byte ∷ puts_by_bits (at + 1) (bits / 2) rest else puts_by_bits (at + 1) (bits / 2) rest
 
--- what a run stands for, of a chunk of this code at this base
+-- the entries that a run stands for, for a chunk of this code at this base
 abbrev pub entries_of : ℕ → List ℕ → Run → List Entry
 entries_of base code (Single entry) = entry ∷ []
 entries_of base code (PutRun at bits) = unsettled (puts_by_bits at bits (take 32 (drop (at - base) code)))
 entries_of base code (StopRun at bits) = unsettled (puts_by_bits at bits (replicate 32 0xF4))
 
--- what some runs stand for, one after the other
+-- the entries that these runs stand for, concatenated
 abbrev pub entries_in : ℕ → List ℕ → List Run → List Entry
 entries_in base code [] = []
 entries_in base code (run ∷ rest) = entries_of base code run ++ entries_in base code rest
 
--- the number whose bits say which of some places, from this one on, pass the test; the lowest bit is the first place's
+-- the number whose bits say which of n places, from this one on, pass the test; the lowest bit is the first place's
 abbrev pub bits_where : (ℕ → Bool) → ℕ → ℕ → ℕ
 bits_where chosen at zero = 0
 bits_where chosen at (suc n) = (if chosen at then 1 else 0) + 2 * bits_where chosen (at + 1) n
 
--- the number for the 32 places from this one on
+-- the number whose bits say which of the 32 places from this one on pass the test
 unfoldable pub bits_at : (ℕ → Bool) → ℕ → ℕ
 bits_at chosen at = bits_where chosen at 32
 
--- one run for each of some bundles, from this address on and rising: its places are those that pass the test
+-- one run for each of n bundles, from this address on in ascending order: its places are those that pass the test
 abbrev pub runs_where : (ℕ → ℕ → Run) → (ℕ → Bool) → ℕ → ℕ → List Run
 runs_where run chosen at zero = []
 runs_where run chosen at (suc n) = run at (bits_at chosen at) ∷ runs_where run chosen (at + 32) n
 
--- the runs of a creation: for each bundle its bytes inside, then the settling and the marks, then for each bundle its
--- first byte
+-- the runs of a creation: for each bundle its bytes after the first, then the settling and the marks, then for each
+-- bundle its first byte
 abbrev pub runs_of_create : ℕ → List ℕ → List Run
 runs_of_create base code =
     runs_where PutRun is_inside base (length code / 32)
@@ -70,9 +70,9 @@ runs_of_delete marks base len =
     runs_where StopRun (is_marked_at marks) base (len / 32)
     ++ (Single Settled ∷ (runs_where StopRun (is_unmarked_at marks) base (len / 32) ++ Single (Did Bump) ∷ []))
 
--- The buffer has these runs at its front now, with their number, and after them what it had; they stand for exactly
--- this log of a chunk. A run is an entry; or 7 (the chunk's bytes) or 8 (F4), an address, and a number whose bits
--- choose among the 32 places from there on, the lowest bit the first.
+-- The buffer now begins with these runs, followed by its old contents; the count is their number, and they stand for
+-- exactly this log of a chunk. A run is an entry; or it is 7 (the chunk's bytes) or 8 (F4), an address, and a number
+-- whose bits select among the 32 places from that address on, the lowest bit the first.
 pub record HasRuns (start now : List NcAct) (count base : ℕ) (code : List ℕ) (runs : List Run) (log : List Entry) : Type 0 where
   pub buffer : now ≡ over (map run_of runs) start
   pub counted : count ≡ length runs

@@ -1,4 +1,4 @@
--- What a host reads of a log: numbers for acts and settlings.
+-- A log as a host reads it: numbers for acts and settlings.
 use Rattle.std.specs.Prelude.{List, ◌++◌, length, drop}
 use Rattle.nc_region.specs.declared.acts.Act.{Act}
 use Rattle.nc_region.specs.declared.acts.Act.TheVariants.{Put, MarkSpan, UnmarkSpan, Bump, Look}
@@ -6,7 +6,7 @@ use Rattle.nc_region.specs.declared.acts.Entry.{Entry}
 use Rattle.nc_region.specs.declared.acts.Entry.TheVariants.{Did, Settled}
 use Rattle.nc_handle.specs.declared.acts.act.NcAct.{NcAct}
 
--- an act as three numbers: its kind, 1 to 5; its address; and its byte or length; 0 for what it doesn't have
+-- an act as three numbers: its kind, 1 to 5; its address; and its byte or length; 0 for each that it doesn't have
 abbrev pub act_of : Act → NcAct
 act_of (Put at byte) = record { kind = 1; at = at; value = byte }
 act_of (MarkSpan at len) = record { kind = 2; at = at; value = len }
@@ -20,6 +20,6 @@ abbrev pub entry_of : Entry → NcAct
 entry_of (Did act) = act_of act
 entry_of Settled = record { kind = 6; at = 0; value = 0 }
 
--- a buffer with these elements at its front, and after them what it had there before
+-- a buffer with its first elements replaced by these
 abbrev pub over : {X : Type 0} → List X → List X → List X
 over front old = front ++ drop (length front) old

@@ -6,7 +6,7 @@ use Rattle.nc_gens.specs.Seen.{PassState, Raised}
 use Rattle.nc_region.specs.Region.{Region}
 use Rattle.nc_handle.specs.Held.{IsIn}
 
--- The first of the passes have checked in, and the keeper has met them.
+-- The first `count` of the passes have checked in, and the keeper has met them.
 pub record HasAttended (gens : TableId) (old : Region) (before : List PassState) (new : Region) (now : List PassState) (count : ℕ) : Type 0 where
   pub others : new ≡ record old { keeper = new.keeper }
   pub table : new.keeper.table ≡ gens

@@ -7,7 +7,7 @@ use base.Fml.{Fml, feq}
 use denote.RattleType.{RattleType}
 use denote.RawPtr.{Ptr, null_ptr}
 
--- at null nothing, and else what a box with this pointer owns, of a value of this type
+-- nothing if the pointer is null, else what a box with this pointer owns, for a value of this type
 abbrev pub handle_owns : (held : RattleType) → Global → Ptr → Option held.Denot → Fml
 handle_owns held alloc at None = feq Ptr at null_ptr
 handle_owns held alloc at (Some value) = box_owns (ghosts.dealloc_token alloc) held at value

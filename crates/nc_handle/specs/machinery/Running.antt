@@ -10,14 +10,14 @@ use Rattle.nc_handle.specs.declared.acts.runs.Places.TheVariants.{Inside, Starts
 use Rattle.nc_handle.specs.acts.Runs.{Run, PutRun, StopRun, runs_where, HasRuns}
 use Rattle.nc_handle.specs.machinery.Writing.{marked_if}
 
--- whether a run of these places has this one, of a chunk with these marks at this base
+-- whether a run of these places includes this one, in a chunk with these marks at this base
 abbrev pub picks : Places → (ℕ → Mark) → ℕ → ℕ → Bool
 picks Inside marks base at = is_inside at
 picks Starts marks base at = is_start at
 picks Marked marks base at = marked_if true marks base at
 picks Unmarked marks base at = marked_if false marks base at
 
--- what runs of these places put: the chunk's bytes, or stops
+-- the bytes that runs of these places put: the chunk's, or stops
 abbrev pub bytes_for : Places → List ℕ → List ℕ
 bytes_for Inside code = code
 bytes_for Starts code = code
@@ -40,13 +40,13 @@ AreBits chosen at (suc n) bits = ((bits % 2 == 1) ≡ chosen at) × AreBits chos
 pub record HasBits (chosen : ℕ → Bool) (at n bits : ℕ) : Type 0 where
   pub are : AreBits chosen at n bits
 
--- these runs, which stand for these entries, have come to those that stood in the buffer
+-- these runs, which stand for these entries, have been appended to those in the buffer
 abbrev pub AddsRuns : ℕ → List ℕ → List NcAct → ℕ → List NcAct → ℕ → List Run → List Entry → Type 0
 AddsRuns base code initial from acts count runs added =
     (start : List NcAct) (before : List Run) (log : List Entry) → HasRuns start initial from base code before log
     → HasRuns start acts count base code (before ++ runs) (log ++ added)
 
--- The runs of some first bundles stand in the buffer after what stood there at first.
+-- The runs of the first n bundles follow the runs that the buffer had at first.
 pub record HasRunUpTo (places : Places) (marks : ℕ → Mark) (base : ℕ) (code : List ℕ) (initial : List NcAct) (from n : ℕ)
     (acts : List NcAct) (count : ℕ) : Type 0 where
   pub len : length acts ≡ length initial

@@ -8,7 +8,7 @@ use denote.RawPtr.{Ptr}
 use Rattle.nc_handle.specs.contracts.kept.Kept.{the_row}
 use Rattle.nc_handle.specs.machinery.Handle.{handle_owns}
 
--- what a handle to a vetted chunk owns: nothing at a null pointer, else what a box there owns
+-- what a handle to a vetted chunk owns: nothing if its pointer is null, else what a box with that pointer owns
 abbrev pub may_own : Global → Ptr → Option the_row.Denot → Fml
 may_own = handle_owns the_row
 

@@ -7,8 +7,8 @@ use Rattle.nc_region.specs.Log.{unsettled}
 use Rattle.nc_handle.specs.declared.acts.act.NcAct.{NcAct}
 use Rattle.nc_handle.specs.acts.Written.{HasWritten}
 
--- Of these bytes the first n have been looked at, and the puts of those at places that pass the test stand in the buffer after
--- the entries that stood there at first.
+-- The first n of these bytes have been examined, and the puts of those at places that pass the test follow the entries that
+-- the buffer had at first.
 pub record HasPutUpTo (chosen : ℕ → Bool) (at : ℕ) (bytes : List ℕ) (initial : List NcAct) (from n : ℕ) (acts : List NcAct) (count : ℕ)
     : Type 0 where
   pub len : length acts ≡ length initial
@@ -21,7 +21,7 @@ abbrev pub starts_if : Bool → ℕ → Bool
 starts_if true = is_start
 starts_if false = is_inside
 
--- a mark that stands for some state, or one that stands for none
+-- a mark that stands for a state, or one that stands for none
 abbrev pub mark_if : Bool → Mark → Bool
 mark_if true mark = is_mark mark
 mark_if false mark = not (is_mark mark)

@@ -8,6 +8,6 @@ pub struct NcAct {
     pub kind: u32,
     /// The address of its first place, or 0 for an act that has none.
     pub at: u32,
-    /// The byte that is put, or how many places are marked.
+    /// The byte that is put, or the number of places that are marked.
     pub value: u32,
 }

@@ -1,4 +1,4 @@
-//! Single entries, and one more written into a buffer.
+//! Single entries, and how to append one to a buffer.
 
 ghost use Rattle.std.specs.Prelude.{◌≡◌, ◌+◌, ◌<◌, length, slice_set};
 ghost use Rattle.nc_region.specs.declared.acts.Act.{Act};
@@ -10,7 +10,7 @@ use crate::acts::act::NcAct;
 /// The byte of the instruction hlt.
 pub(crate) const STOP: u8 = 0xF4;
 
-/// At this address this byte is put.
+/// A put of this byte at this address.
 pub(crate) fn put(at: u32, byte: u8) -> NcAct
     ensures { result ≡ act_of (Act.Put at byte) }
 {
@@ -21,7 +21,7 @@ pub(crate) fn put(at: u32, byte: u8) -> NcAct
     }
 }
 
-/// A span of this many places is marked, from this address on.
+/// The marking of this many places, from this address on.
 pub(crate) fn mark_span(at: u32, len: u32) -> NcAct
     ensures { result ≡ act_of (Act.MarkSpan at len) }
 {
@@ -32,7 +32,7 @@ pub(crate) fn mark_span(at: u32, len: u32) -> NcAct
     }
 }
 
-/// A stamp is drawn.
+/// The drawing of a stamp.
 pub(crate) fn bump() -> NcAct
     ensures { result ≡ act_of Act.Bump }
 {
@@ -43,7 +43,7 @@ pub(crate) fn bump() -> NcAct
     }
 }
 
-/// The host settles.
+/// A settling of the host.
 pub(crate) fn settle() -> NcAct
     ensures { result ≡ entry_of Entry.Settled }
 {
@@ -54,7 +54,7 @@ pub(crate) fn settle() -> NcAct
     }
 }
 
-/// Writes one more act. It answers how many there are then.
+/// Writes one more act. Returns the new number of acts.
 pub(crate) fn write(acts: &mut [NcAct], count: usize, act: NcAct) -> usize
     requires { count < length acts.old }
     ensures acts { acts.new ≡ slice_set acts.old count act }

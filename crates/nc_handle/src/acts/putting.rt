@@ -13,7 +13,7 @@ use crate::acts::entries::{STOP, bump, mark_span, put, settle, write};
 use crate::acts::reading::ReadChunk;
 use nc_decode::{BUNDLE, Mark};
 
-/// The place is a bundle start, or it is none.
+/// Whether the place is a bundle start, or, with `starts` false, whether it isn't one.
 pub(crate) fn is_chosen(at: u32, starts: bool) -> bool
     ensures { result ≡ starts_if starts at }
 {
@@ -24,7 +24,7 @@ pub(crate) fn is_chosen(at: u32, starts: bool) -> bool
     }
 }
 
-/// The mark stands for some state, or it stands for none.
+/// Whether the mark stands for a state, or, with `marked` false, whether it stands for none.
 pub(crate) fn is_as(mark: Mark, marked: bool) -> bool
     ensures { result ≡ mark_if marked mark }
 {
@@ -34,7 +34,7 @@ pub(crate) fn is_as(mark: Mark, marked: bool) -> bool
     }
 }
 
-/// Writes the puts of a chunk's bundle starts, or of its other bytes, rising. It answers how many acts there are then.
+/// Writes the puts of a chunk's bundle starts, or of its other bytes, in ascending order. Returns the new number of acts.
 fn write_code<C: ReadChunk>(
     acts: &mut [NcAct],
     from: usize,
@@ -56,7 +56,7 @@ fn write_code<C: ReadChunk>(
     count
 }
 
-/// Writes stops at a chunk's marked places, or at its others, rising. It answers how many acts there are then.
+/// Writes stops at a chunk's marked places, or at its others, in ascending order. Returns the new number of acts.
 fn write_stops<C: ReadChunk>(
     acts: &mut [NcAct],
     from: usize,
@@ -95,7 +95,7 @@ pub fn write_creation<C: ReadChunk>(acts: &mut [NcAct], base: u32, chunk: &C)
 pub fn write_deletion<C: ReadChunk>(acts: &mut [NcAct], base: u32, chunk: &C)
     requires high { base + length (C.code chunk.now) < 2 ^ 32 }
     requires room { length (C.code chunk.now) + 2 ≤ length acts.old }
-    // For any text in which the chunk's marks stand there.
+    // For any text that has the chunk's marks from this base on.
     ensures { (text : List Mark) → AreMarksAt text base (length (C.code chunk.now)) (C.marks chunk.now)
         → HasWritten acts.old acts.new (length (C.code chunk.now) + 2) (log_of_delete text base (length (C.code chunk.now))) }
 {

@@ -5,7 +5,7 @@ ghost use Rattle.nc_decode.specs.declared.instruction.Mark.{Mark};
 
 use nc_decode::Mark;
 
-/// A chunk, wherever it stands, read place by place. A place is an index into its code.
+/// A chunk, wherever it is stored, read place by place. A place is an index into its code.
 pub trait ReadChunk {
     /// Its code.
     ghost code: { Self → List ℕ };
@@ -13,7 +13,7 @@ pub trait ReadChunk {
     /// The mark of each of its places.
     ghost marks: { Self → ℕ → Mark };
 
-    /// How many bytes it has.
+    /// The number of its bytes.
     fn len(&self) -> usize
         ensures { result ≡ length (code self.now) };
 

@@ -11,7 +11,7 @@ use crate::acts::act::NcAct;
 use crate::acts::entries::{STOP, put, settle, write};
 use nc_decode::decode;
 
-/// These bytes stand in the code from this place on.
+/// Whether the code has these bytes from this place on.
 fn stands(code: &[u8], from: usize, bytes: &[u8]) -> bool
     requires ends { from + length bytes.now ≤ length code.now }
     ensures { (text : List ℕ) (base : ℕ) → AreBytesAt text base code.now → result ≡ stands_there text (base + from) bytes.now }
@@ -22,7 +22,7 @@ fn stands(code: &[u8], from: usize, bytes: &[u8]) -> bool
     code[from] == bytes[0] && stands(code, from + 1, &bytes[1..])
 }
 
-/// Writes the puts of all these bytes, rising. It answers how many acts there are then.
+/// Writes the puts of all these bytes, in ascending order. Returns the new number of acts.
 fn write_all(acts: &mut [NcAct], from: usize, at: u32, bytes: &[u8]) -> usize
     requires high { at + length bytes.now < 2 ^ 32 }
     requires room { from + length bytes.now ≤ length acts.old }
@@ -35,8 +35,8 @@ fn write_all(acts: &mut [NcAct], from: usize, at: u32, bytes: &[u8]) -> usize
     count
 }
 
-/// Writes the acts by which an instruction is replaced by one that is as long, with their settlings. It answers how many acts
-/// there are then.
+/// Writes the acts that replace an instruction by one of the same length, with their settlings. Returns the new number of
+/// acts.
 fn write_instruction(acts: &mut [NcAct], from: usize, at: u32, bytes: &[u8]) -> usize
     requires some { 0 < length bytes.now }
     requires high { at + length bytes.now < 2 ^ 32 }
@@ -56,7 +56,7 @@ fn write_instruction(acts: &mut [NcAct], from: usize, at: u32, bytes: &[u8]) -> 
     write(acts, settled, put(at, first))
 }
 
-/// Writes the acts that replace one instruction, or none if its bytes stand there already.
+/// Writes the acts that replace one instruction, or none if its bytes are there already.
 fn write_where_new(
     acts: &mut [NcAct],
     count: usize,
@@ -80,8 +80,8 @@ fn write_where_new(
     write_instruction(acts, count, base + from as u32, bytes)
 }
 
-/// Writes the acts by which instructions of a chunk, from a place on, are replaced by others that are as long. It answers how
-/// many acts there are then.
+/// Writes the acts that replace instructions of a chunk, from a place on, by others of the same lengths. Returns the new number
+/// of acts.
 pub fn write_patch(
     acts: &mut [NcAct],
     count: usize,

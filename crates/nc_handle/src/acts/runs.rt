@@ -13,7 +13,7 @@ use crate::acts::entries::{bump, mark_span, settle, write};
 use crate::acts::putting::{is_as, is_chosen};
 use crate::acts::reading::ReadChunk;
 
-/// Which places of a bundle a run has.
+/// The places of a bundle that a run may include.
 #[derive(Clone, Copy, Drop)]
 enum Places {
     /// Those inside: all but its start.
@@ -26,7 +26,7 @@ enum Places {
     Unmarked,
 }
 
-/// Whether a run of these places has the one at an index of the chunk's code.
+/// Whether a run of these places includes the one at an index of the chunk's code.
 fn is_picked<C: ReadChunk>(chunk: &C, base: u32, i: usize, places: Places) -> bool
     requires within { i < length (C.code chunk.now) }
     requires high { base + length (C.code chunk.now) < 2 ^ 32 }
@@ -40,7 +40,7 @@ fn is_picked<C: ReadChunk>(chunk: &C, base: u32, i: usize, places: Places) -> bo
     }
 }
 
-/// The bits of the places of a bundle that a run has, which begins at this index of the chunk's code.
+/// The bits of a run's places in the bundle that begins at this index of the chunk's code.
 fn bits_of<C: ReadChunk>(chunk: &C, base: u32, from: usize, places: Places) -> u32
     requires within { from + 32 ≤ length (C.code chunk.now) }
     requires high { base + length (C.code chunk.now) < 2 ^ 32 }
@@ -68,7 +68,7 @@ fn run(places: Places, at: u32, bits: u32) -> NcAct
     }
 }
 
-/// Writes a run for each bundle of a chunk. It answers how many acts there are then.
+/// Writes a run for each bundle of a chunk. Returns the new number of acts.
 fn write_runs<C: ReadChunk>(
     acts: &mut [NcAct],
     from: usize,
@@ -98,7 +98,7 @@ pub(crate) fn write_creation_runs<C: ReadChunk>(acts: &mut [NcAct], base: u32, c
     requires high { base + length (C.code chunk.now) < 2 ^ 32 }
     requires whole { length (C.code chunk.now) % 32 ≡ 0 }
     requires room { 2 * (length (C.code chunk.now) / 32) + 2 ≤ length acts.old }
-    // These very runs, and they stand for this log.
+    // Exactly these runs, and they stand for this log.
     ensures { HasRuns acts.old acts.new (2 * (length (C.code chunk.now) / 32) + 2) base (C.code chunk.now)
         (runs_of_create base (C.code chunk.now)) (log_of_create base (C.code chunk.now)) }
 {
@@ -113,7 +113,7 @@ pub(crate) fn write_deletion_runs<C: ReadChunk>(acts: &mut [NcAct], base: u32, c
     requires high { base + length (C.code chunk.now) < 2 ^ 32 }
     requires whole { length (C.code chunk.now) % 32 ≡ 0 }
     requires room { 2 * (length (C.code chunk.now) / 32) + 2 ≤ length acts.old }
-    // For any text in which the chunk's marks stand there.
+    // For any text that has the chunk's marks from this base on.
     ensures { (text : List Mark) → AreMarksAt text base (length (C.code chunk.now)) (C.marks chunk.now)
         → HasRuns acts.old acts.new (2 * (length (C.code chunk.now) / 32) + 2) base (C.code chunk.now)
         (runs_of_delete text base (length (C.code chunk.now))) (log_of_delete text base (length (C.code chunk.now))) }

@@ -1,4 +1,4 @@
--- Machinery of the proofs, cited by no public contract: how far a run has come.
+-- Machinery of the proofs, cited by no public contract: the progress of a run.
 use Rattle.std.specs.Prelude.{◌≡◌, ◌≢◌, ◌++◌, ℕ, List, [], ◌∷◌, Option, Result, Ok, Err, take, ⊤}
 use Rattle.std.specs.List.{flat_map}
 use Rattle.std.specs.Io.KnownBytes.{Appends}
@@ -7,21 +7,22 @@ use Rattle.nc_lines.specs.declared.fault.ReplayFault.TheVariants.{ReadFailed, Wr
 use Rattle.nc_lines.specs.Lines.{kept_of, lines_of}
 use Rattle.nc_lines.specs.Answering.{IsAnswered, IsBegun, IsCutShort}
 
--- no byte ends a line
+-- no byte is a line end, 0A
 abbrev pub IsOpen : List ℕ → Type 0
 IsOpen [] = ⊤
 IsOpen (b ∷ bytes) = (b ≢ 10) × IsOpen bytes
 
--- none of the lines has a byte that ends a line
+-- no line contains a line end
 abbrev pub AreOpen : List (List ℕ) → Type 0
 AreOpen [] = ⊤
 AreOpen (line ∷ lines) = IsOpen line × AreOpen lines
 
--- a line with its end
+-- a line with its line end
 abbrev pub ended : List ℕ → List ℕ
 ended line = line ++ 10 ∷ []
 
--- One line was answered, of which a part was kept.
+-- The result of answering one line, of which a part was kept: its reply was written and nothing is kept any more; on a
+-- failure, a prefix of a reply, or nothing, was written.
 abbrev pub AnswersKept : {S T : Type 0} → (S → List ℕ → List ℕ → S → Type 0) → S → S → Option (List ℕ) → Option (List ℕ) → List ℕ → List ℕ
     → Result T ReplayFault → Type 0
 AnswersKept answers old new before after left line (Ok _) =
@@ -34,7 +35,7 @@ AnswersKept answers old new before after left line (Err BadSize) = ⊥
 AnswersKept answers old new before after left line (Err BadSeats) = ⊥
 AnswersKept answers old new before after left line (Err BadWorkers) = ⊥
 
--- After these bytes: the lines that have ended are answered, and what is to be kept of the last one is kept.
+-- After these bytes, the lines that have ended are answered, and the part of the last line that is to be kept is kept.
 pub record KeepsUp {S : Type 0} (answers : S → List ℕ → List ℕ → S → Type 0) (start : S) (before : Option (List ℕ)) (bytes : List ℕ)
     (now : S) (after : Option (List ℕ)) (kept : List ℕ) : Type 0 where
   pub lines : List (List ℕ)
@@ -45,7 +46,7 @@ pub record KeepsUp {S : Type 0} (answers : S → List ℕ → List ℕ → S →
   pub is_kept : kept ≡ kept_of part
   pub answered : IsAnswered answers start now before after lines
 
--- The same after a call that may fail; on a failure, whatever bytes are still to come.
+-- `KeepsUp` after a call that may fail. On a failure, `IsBegun` or `IsCutShort` holds whatever bytes would have followed.
 abbrev pub Feeds : {S T : Type 0} → (S → List ℕ → List ℕ → S → Type 0) → S → Option (List ℕ) → List ℕ → S → Option (List ℕ) → List ℕ
     → Result T ReplayFault → Type 0
 Feeds answers start before bytes now after kept (Ok _) = KeepsUp answers start before bytes now after kept
@@ -58,14 +59,14 @@ Feeds answers start before bytes now after kept (Err BadSize) = ⊥
 Feeds answers start before bytes now after kept (Err BadSeats) = ⊥
 Feeds answers start before bytes now after kept (Err BadWorkers) = ⊥
 
--- The same after a call that takes some of the bytes, and says how many; on a failure, whatever bytes are still to come.
+-- `Feeds` after a call that takes some of the bytes and returns their number.
 abbrev pub FeedsPart : {S : Type 0} → (S → List ℕ → List ℕ → S → Type 0) → S → Option (List ℕ) → List ℕ → List ℕ → S → Option (List ℕ)
     → List ℕ → Result ℕ ReplayFault → Type 0
 FeedsPart answers start before bytes rest now after kept (Ok count) = KeepsUp answers start before (bytes ++ take count rest) now after kept
 FeedsPart answers start before bytes rest now after kept (Err fault) =
     Feeds {T = Unit {0}} answers start before (bytes ++ rest) now after kept (Err fault)
 
--- At the end of the bytes: all lines are answered.
+-- After the last byte all lines are answered; on a failure `IsBegun` or `IsCutShort` holds.
 abbrev pub Finishes : {S T : Type 0} → (S → List ℕ → List ℕ → S → Type 0) → S → Option (List ℕ) → List ℕ → S → Option (List ℕ)
     → Result T ReplayFault → Type 0
 Finishes answers start before bytes now after (Ok _) = IsAnswered answers start now before after (lines_of bytes)

@@ -10,12 +10,12 @@ use Rattle.nc_vet.specs.Chunk.{MarkedChunk, IsValid}
 use Rattle.nc_region.specs.declared.chunk.Chunk.{Chunk}
 use Rattle.nc_region.specs.Region.{FitsAt}
 
--- the span is unused: stops, with only bundle starts marked
+-- the span is unused: all F4, with only bundle starts marked
 pub record IsUnused (marked : MarkedText) (base length : ℕ) : Type 0 where
   pub stops : (at : ℕ) → base ≤ at → at < base + length → byte_at marked.bytes at ≡ 0xF4
   pub unused : (at : ℕ) → base ≤ at → at < base + length → mark_at marked.marks at ≡ unused_mark at
 
--- The first bytes of the list are put at the chosen places from base on, and nothing else is changed.
+-- The first `count` bytes of the list are put at the chosen places from `base` on, and nothing else is changed.
 pub record HasPut (chosen : ℕ → Bool) (base : ℕ) (bytes : List ℕ) (count : ℕ) (old new : List ℕ) : Type 0 where
   pub as_long : length new ≡ length old
   pub put : (at : ℕ) → base ≤ at → at < base + count → chosen at ≡ true → byte_at new at ≡ slice_index bytes (at - base)
@@ -23,11 +23,11 @@ pub record HasPut (chosen : ℕ → Bool) (base : ℕ) (bytes : List ℕ) (count
   pub below : (at : ℕ) → 0x10000 ≤ at → at < base → byte_at new at ≡ byte_at old at
   pub above : (at : ℕ) → base + count ≤ at → byte_at new at ≡ byte_at old at
 
--- the bit of the place is set, where the lowest bit is that of `base`
+-- the bit of the place is set; the lowest bit is that of `base`
 abbrev pub is_set : ℕ → ℕ → ℕ → Bool
 is_set places base at = bit_at places (at - base) == 1
 
--- The text is the final one, except that stops stand at the bundle starts from the one address to below the other.
+-- The text is the final one, except that the bundle starts from `from` to below `to` hold F4.
 pub record IsFinalBut (final now : List ℕ) (from to : ℕ) : Type 0 where
   pub as_long : length now ≡ length final
   pub stops : (at : ℕ) → from ≤ at → at < to → IsBundleStart at → byte_at now at ≡ 0xF4

@@ -22,13 +22,13 @@ pub record Begins (marked : MarkedText) (c : Chunk) (at : ℕ) : Type 0 where
   pub parts : holds.valid.pieces ≡ before ++ rest
   pub here : c.base + place before ≡ at
 
--- the first of these instructions are each as long as the new ones
+-- the list begins with instructions that are, one for one, as long as the new ones
 abbrev pub RunsAlong : List Piece → List Piece → Type 0
 RunsAlong rest [] = ⊤
 RunsAlong [] (n ∷ news) = ⊥
 RunsAlong (p ∷ rest) (n ∷ news) = (length p.bytes ≡ length n.bytes) × RunsAlong rest news
 
--- the new bytes are instructions that run along those of the chunk
+-- the new bytes are instructions that are, one for one, as long as those of the chunk from this address on
 pub record Along (marked : MarkedText) (c : Chunk) (at : ℕ) (new : List ℕ) : Type 0 where
   pub begins : Begins marked c at
   pub news : List Piece
@@ -41,7 +41,7 @@ is_after Unmarked = false
 is_after Plain = false
 is_after (After register) = true
 
--- an indirect transfer takes the place of one on the same register, and of nothing else
+-- the new instruction is an indirect transfer exactly if the old one is, and on the same register
 abbrev pub KeepsTransfer : (old new : Instr) → Type 0
 KeepsTransfer old new =
     (is_indirect new.flow ≡ is_indirect old.flow) × (IsTrue (is_indirect old.flow) → new.reg ≡ old.reg)
@@ -53,8 +53,8 @@ pub record CanPatch (marked : MarkedText) (c : Chunk) (at : ℕ) (new : List ℕ
   pub pairs : LeavesPairs run
   pub targets : KeepsTargets (limit_of marked.bytes) run
 
--- An instruction is to be replaced by these bytes: afterwards the text is closed, and no other marked state's
--- instruction has a byte of the span.
+-- An instruction is to be replaced with these bytes: afterwards the text is closed, and no instruction of a marked state
+-- at another place overlaps the span.
 pub record IsReplacing (marked : MarkedText) (at : ℕ) (new : List ℕ) : Type 0 where
   pub some : 0 < length new
   pub low : 0x10000 ≤ at
@@ -64,7 +64,7 @@ pub record IsReplacing (marked : MarkedText) (at : ℕ) (new : List ℕ) : Type 
       → instruction_at (with_span marked.bytes (at - 0x10000) new) now.place ≡ Some i
       → (now.place + i.len ≤ at) ⊎ (at + length new ≤ now.place)
 
--- the text while an instruction is replaced: a stop at its start, and outside it the final bytes
+-- the text while an instruction is replaced: F4 at its first byte, and the final bytes outside it
 pub record IsInterim (final now : List ℕ) (at len : ℕ) : Type 0 where
   pub as_long : length now ≡ length final
   pub stop : byte_at now at ≡ 0xF4

@@ -1,4 +1,4 @@
--- All that may happen in a world, one event at a time, and when each event is allowed.
+-- All events that can happen in a world, one at a time, and when each is allowed.
 use Rattle.std.specs.Prelude.{◌≡◌, ◌≢◌, ℕ, ◌+◌, ◌<◌, ◌⊎◌, ⊤, Option, None, true, false, not, List, [], ◌∷◌, All, Contains, filter, length, Some, None, slice_set}
 use Rattle.nc_decode.specs.declared.instruction.Mark.{Mark}
 use Rattle.nc_decode.specs.Bundles.{IsBundleStart}
@@ -9,10 +9,10 @@ use Rattle.nc_gens.specs.Rule.{generation_taken, generation_seen, since_stored, 
 use Rattle.nc_region.specs.schedules.Spans.{RetiredSpan, IsShut}
 use Rattle.nc_region.specs.schedules.World.{Seat, World, seat_at, IsViewOf, IsSteady, IsWhole, AreApart, is_same_span, HasPassed}
 
--- What a thread does, by the number of its seat: it `Steps`, `Enters` at a bundle start, `Exits`; its pass `Takes` the
--- generation as its `since`, `Sees` it, `Stores` its `since` in its word, `Leaves`. What the writer does: it `Puts` a
--- byte, `Settles`, `Marks` a span, `Bumps` the generation, `Retires` a span with the next generation as its stamp,
--- `Frees` it, `Looks` at a seat's word.
+-- Events of a thread, named by the number of its seat: it `Steps`, `Enters` at a bundle start, or `Exits`; its pass
+-- `Takes` the generation as its `since`, `Sees` it, `Stores` its `since` in its word, or `Leaves`. Events of the writer:
+-- it `Puts` a byte, `Settles`, `Marks` a span, `Bumps` the generation, `Retires` a span with the next generation as its
+-- stamp, `Frees` it, or `Looks` at a seat's word.
 pub data Event : Type 0 where
   Steps : (seat : ℕ) → (next : State) → Event
   Enters : (seat : ℕ) → (at : ℕ) → Event
@@ -29,7 +29,7 @@ pub data Event : Type 0 where
   Frees : (span : RetiredSpan) → Event
   Looks : (seat : ℕ) → Event
 
--- the span that is retired now, with the next generation as its stamp
+-- the retired span that `Retires` adds, with the next generation as its stamp
 abbrev pub new_span : World → ℕ → ℕ → RetiredSpan
 new_span w base len = record { base = base; length = len; stamp = w.keeper.generation + 1 }
 
@@ -37,7 +37,8 @@ new_span w base len = record { base = base; length = len; stamp = w.keeper.gener
 abbrev pub with_seat : World → ℕ → Seat → World
 with_seat w k seat = record w { seats = slice_set w.seats k seat }
 
--- The world after an event. A put adds the bytes before it to the earlier ones, and a settling drops all of those.
+-- The world after an event. A put adds the bytes as they were before it to the earlier texts, and a settling drops all of
+-- these.
 abbrev pub after : World → Event → World
 after w (Steps k next) = with_seat w k (record (seat_at w k) { inside = Some next })
 after w (Enters k at) = with_seat w k (record (seat_at w k) { inside = Some (state at None) })
@@ -57,10 +58,10 @@ after w (Looks k) =
     let looked = with_seat w k (record (seat_at w k) { found_left = (seat_at w k).has_left }) in
     record looked { keeper = word_taken k (seat_at w k).pass.word w.keeper }
 
--- Inside, a thread steps as the machine does by some view. Outside, it enters at a bundle start of the region if its
--- seat hasn't left, takes the generation, or leaves. It may see the generation and go outside at any time, and store if
--- its seat hasn't left. An event of a number that no seat has changes no seat; of the writer's events nothing is said
--- (Ansel et al. 2011).
+-- What a thread may do. Inside, it may step as the machine does in some view. Outside, it may enter at a bundle start of
+-- the region if its seat hasn't left, take the generation, or leave. At any time it may see the generation or exit, and
+-- store if its seat hasn't left. An event of a seat that doesn't exist changes no seat. Nothing is required of the writer's
+-- events (Ansel et al. 2011).
 abbrev pub ThreadMay : World → Event → Type 0
 ThreadMay w (Steps k next) =
     (now : State) × ((seat_at w k).inside ≡ Some now) × ((view : List ℕ) × IsViewOf w view × Step view now next)
@@ -71,10 +72,10 @@ ThreadMay w (Stores k) = (seat_at w k).has_left ≡ false
 ThreadMay w (Leaves k) = (seat_at w k).inside ≡ None
 ThreadMay w _ = ⊤
 
--- When an event may happen. A put or a marking is in the region and leaves the world steady, and a marking keeps the
--- marks that are there. A span is retired if it is whole bundles, apart from the retired spans, and shut in every view;
--- a retired span is freed if no seat holds its stamp back. A thread does what it may; other events of the writer are
--- always allowed (Ansel et al. 2011).
+-- When an event may happen. A put or a marking must lie in the region and leave the world steady, and a marking must keep
+-- the marks that are there (`KeepsMarks`). A span may be retired if it consists of whole bundles of the region, overlaps
+-- no retired span, and is shut in every view. A retired span may be freed if no seat holds its stamp back (`HasPassed`). A
+-- thread may do what `ThreadMay` says; other events of the writer are always allowed (Ansel et al. 2011).
 abbrev pub IsAllowed : World → Event → Type 0
 IsAllowed w (Puts at byte) = InRegion w.marked.bytes at × IsSteady (after w (Puts at byte))
 IsAllowed w (Marks at marks) =
@@ -86,30 +87,30 @@ IsAllowed w (Retires base len) =
 IsAllowed w (Frees span) = Contains w.retired span × HasPassed w span.stamp
 IsAllowed w event = ThreadMay w event
 
--- the world after some events
+-- the world after these events
 abbrev pub world_after : World → List Event → World
 world_after w [] = w
 world_after w (event ∷ events) = world_after (after w event) events
 
--- each of these events is allowed in the world that those before it leave
+-- each of these events is allowed in the world that the events before it leave
 abbrev pub AreAllowed : World → List Event → Type 0
 AreAllowed w [] = ⊤
 AreAllowed w (event ∷ events) = IsAllowed w event × AreAllowed (after w event) events
 
--- how a thread may move in one event: it stays, takes a step of the machine by some view, comes in at a bundle start of
--- the region with no register masked, or is outside afterwards
+-- how a thread may move in one event: it stays, takes a step of the machine in some view, enters at a bundle start of the
+-- region with no register masked, or is outside afterwards
 abbrev pub IsMove : World → Option State → Option State → Type 0
 IsMove w now None = ⊤
 IsMove w None (Some next) = InRegion w.marked.bytes next.place × IsBundleStart next.place × (next.masked ≡ None)
 IsMove w (Some now) (Some next) = (next ≡ now) ⊎ ((view : List ℕ) × IsViewOf w view × Step view now next)
 
--- the thread of each seat stays, takes a step of the machine by some view, comes in at a bundle start of the region
--- with no register masked, or is outside afterwards
+-- the thread of each seat stays, takes a step of the machine in some view, enters at a bundle start of the region with no
+-- register masked, or is outside afterwards
 abbrev pub AllMove : World → World → Type 0
 AllMove before w = (k : ℕ) → k < length before.seats → IsMove before (seat_at before k).inside (seat_at w k).inside
 
--- what an event does to the bytes: a put gives its place the byte and leaves every other place of the region as it was;
--- no other event changes a byte
+-- the effect of an event on the bytes: a put stores its byte at its place and leaves every other place of the region as it
+-- was; no other event changes a byte
 abbrev pub ChangesBytes : List ℕ → Event → List ℕ → Type 0
 ChangesBytes old (Puts at byte) new =
     (byte_at new at ≡ byte) × ((place : ℕ) → InRegion old place → place ≢ at → byte_at new place ≡ byte_at old place)

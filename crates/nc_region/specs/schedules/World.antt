@@ -1,4 +1,4 @@
--- The world of a schedule: what the threads, the keeper of the generations and the writer of the text share.
+-- The world of a schedule: the state that the threads, the keeper of the generations and the writer of the text share.
 use Rattle.std.specs.Prelude.{◌≡◌, ℕ, ◌+◌, ◌%◌, ◌<◌, ◌≤◌, ◌⊎◌, Bool, true, false, ◌==◌, ◌&&◌, List, [], All, length, replicate, Option}
 use Rattle.std.specs.Prelude.{None, IfSome}
 use Rattle.std.specs.Prelude.{slice_index, slice_index_or}
@@ -13,17 +13,17 @@ use Rattle.nc_gens.specs.Rule.{first_pass_numbers, first_keeper_numbers}
 use Rattle.nc_region.specs.schedules.Spans.{RetiredSpan, IsWithin, IsShut}
 use Rattle.nc_region.specs.schedules.Views.{IsView}
 
--- What a world holds of one seat: where its thread is, if it is inside the region; the numbers of its pass; whether it
--- has left, and whether the keeper has found that. These two are flags, since the generations of a world have no bound
--- and no number could stand for "left".
+-- A seat of a world: the state of its thread, if that is inside the region; the numbers of its pass; whether the seat has
+-- left, and whether the keeper has found that it has. The last two are flags because the generations of a world are
+-- unbounded, so no number could stand for "left".
 pub record Seat : Type 0 where
   pub inside : Option State
   pub pass : PassNumbers
   pub has_left : Bool
   pub found_left : Bool
 
--- the text with its marks, the bytes before each put since the last settling, the retired spans, the keeper's numbers
--- (the generation, and a bound for each seat), and the seats
+-- the text with its marks, its bytes as they were before each put since the last settling, the retired spans, the
+-- keeper's numbers (the generation, and a bound for each seat), and the seats
 pub record World : Type 0 where
   pub marked : MarkedText
   pub earlier : List (List ℕ)
@@ -31,12 +31,12 @@ pub record World : Type 0 where
   pub keeper : KeeperNumbers
   pub seats : List Seat
 
--- a seat at first: its thread is outside, and all numbers are 0
+-- the initial seat: its thread is outside, all numbers are 0, and it hasn't left
 abbrev pub first_seat : Seat
 first_seat = record { inside = None; pass = first_pass_numbers; has_left = false; found_left = false }
 
--- the first world, up to a limit and with this number of seats: all threads are outside, all numbers are 0, the text is
--- unused, nothing was put, no span is retired
+-- the initial world, up to a limit and with this number of seats: all threads are outside, all numbers are 0, the text is
+-- unused, no byte was put, no span is retired
 abbrev pub first_world : ℕ → ℕ → World
 first_world limit seats =
     record {
@@ -47,11 +47,11 @@ first_world limit seats =
       seats = replicate seats first_seat;
     }
 
--- the seat of a number
+-- the seat with this number, or `first_seat` if there is none
 abbrev pub seat_at : World → ℕ → Seat
 seat_at w k = slice_index_or w.seats k first_seat
 
--- what a thread may read in the world: a view of its text and the earlier ones
+-- the bytes that a thread may read in the world: a view of its text and the earlier ones
 abbrev pub IsViewOf : World → List ℕ → Type 0
 IsViewOf w view = IsView w.marked.bytes w.earlier view
 
@@ -59,27 +59,27 @@ IsViewOf w view = IsView w.marked.bytes w.earlier view
 abbrev pub IsSteady : World → Type 0
 IsSteady w = (view : List ℕ) → IsViewOf w view → IsClosed view w.marked.marks × All (IsShut view w.marked.marks) w.retired
 
--- the span is whole bundles of the region
+-- the span consists of whole bundles of the region
 pub record IsWhole (text : List ℕ) (span : RetiredSpan) : Type 0 where
   pub start : IsBundleStart span.base
   pub bundles : span.length % 32 ≡ 0
   pub low : 0x10000 ≤ span.base
   pub high : span.base + span.length ≤ limit_of text
 
--- the two spans have no place in common
+-- the spans don't overlap: one ends at or before the start of the other
 abbrev pub AreApart : RetiredSpan → RetiredSpan → Type 0
 AreApart one other = (one.base + one.length ≤ other.base) ⊎ (other.base + other.length ≤ one.base)
 
--- the span may be used again: it is whole bundles of the region, apart from the retired spans
+-- the span may be used again: it consists of whole bundles of the region and overlaps no retired span
 abbrev pub IsUsable : World → RetiredSpan → Type 0
 IsUsable w span = IsWhole w.marked.bytes span × All (AreApart span) w.retired
 
--- two spans are the same, as a test
+-- whether two spans are equal in base, length and stamp
 abbrev pub is_same_span : RetiredSpan → RetiredSpan → Bool
 is_same_span one other = (one.base == other.base) && (one.length == other.length) && (one.stamp == other.stamp)
 
--- no seat holds the stamp back: the keeper's bound of each is at least the stamp, or the keeper has found that the seat
--- has left (Ansel et al. 2011)
+-- no seat holds the stamp back: for each seat the keeper's bound is at least the stamp, or the keeper has found that the
+-- seat has left (Ansel et al. 2011)
 abbrev pub HasPassed : World → ℕ → Type 0
 HasPassed w stamp = (k : ℕ) → k < length w.seats → (stamp ≤ slice_index w.keeper.bounds k) ⊎ ((seat_at w k).found_left ≡ true)
 
@@ -87,6 +87,6 @@ HasPassed w stamp = (k : ℕ) → k < length w.seats → (stamp ≤ slice_index 
 abbrev pub AllStandSafe : World → Type 0
 AllStandSafe w = All (λ (seat : Seat). IfSome seat.inside (λ now. (view : List ℕ) → IsViewOf w view → IsSafe view now)) w.seats
 
--- no thread is at a place of the span that is no bundle start
+-- no thread is in the span, except possibly at a bundle start
 abbrev pub NoneIsWithin : World → RetiredSpan → Type 0
 NoneIsWithin w span = All (λ (seat : Seat). IfSome seat.inside (λ now. ¬ IsWithin span now.place)) w.seats

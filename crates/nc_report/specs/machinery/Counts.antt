@@ -6,7 +6,7 @@ use Rattle.nc_decode.specs.declared.instruction.Mark.TheVariants.{Unmarked, Plai
 use Rattle.nc_decode.specs.declared.bundle.Bundle.{Bundle}
 use Rattle.nc_decode.specs.Bits.{starts_instruction, is_second}
 
--- one for a mark, and none for a place without one
+-- 1 for a marked place, and 0 for an unmarked one
 abbrev pub one : Mark → ℕ
 one Unmarked = 0
 one Plain = 1

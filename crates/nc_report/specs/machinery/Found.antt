@@ -35,27 +35,27 @@ abbrev pub code_of_verdict : Result MarkedChunk (Vec ℕ × VetFault) → List �
 code_of_verdict (Ok v) = v.code
 code_of_verdict (Err e) = e.0.items
 
--- a source without where its bytes lie in memory
+-- a source without the location of its bytes in memory
 pub record SourceValue : Type 0 where
   pub name : List ℕ
   pub code : List ℕ
   pub labels : List Label
 
--- the source of a title with the code of a verdict
+-- the source with this title and the code in this verdict
 abbrev pub value_in : Title → Result MarkedChunk (Vec ℕ × VetFault) → SourceValue
 value_in title verdict = record { name = title.name.items; code = code_of_verdict verdict; labels = title.labels }
 
--- those of titles with verdicts, as long as there are both
+-- the sources with these titles and the code in these verdicts, as long as there are both
 abbrev pub values_in : List Title → List (Result MarkedChunk (Vec ℕ × VetFault)) → List SourceValue
 values_in [] verdicts = []
 values_in (title ∷ titles) [] = []
 values_in (title ∷ titles) (verdict ∷ verdicts) = value_in title verdict ∷ values_in titles verdicts
 
--- what is told of a source
+-- this is the report on a source
 abbrev pub TellsValue : ℕ → ℕ → Detail → SourceValue → Told → Type 0
 TellsValue limit base detail value told = TellsSource limit base detail value.name value.code value.labels told
 
--- Instructions inside their bundles end where the address is, and the code, which is whole bundles, goes on there.
+-- Instructions that are each in one bundle end at the address, and the code, which is whole bundles, continues there.
 pub record GoesOnAt (base : ℕ) (code : List ℕ) (at : ℕ) : Type 0 where
   pub front : List Piece
   pub rest : List ℕ
@@ -66,11 +66,11 @@ pub record GoesOnAt (base : ℕ) (code : List ℕ) (at : ℕ) : Type 0 where
   pub some : 0 < length rest
   pub whole : length code % 32 ≡ 0
 
--- the address of the fault, if it has one, is such a place
+-- instructions end at the address of the fault, if it has one, and the code continues there
 abbrev pub HasFaultPlace : ℕ → List ℕ → VetFault → Type 0
 HasFaultPlace base code fault = MatchOption (place_of fault) ⊤ (λ at. GoesOnAt base code at)
 
--- lines were added
+-- lines that satisfy `Says` were added
 pub record AddsLines (old new : List ℕ) (Says : List (List ℕ) → Type 0) : Type 0 where
   pub lines : List (List ℕ)
   pub says : Says lines
@@ -82,7 +82,7 @@ pub record AreWholeInstructions (bytes : List ℕ) : Type 0 where
   pub spelled : AreSpelled pieces
   pub parts : bytes ≡ code_of pieces
 
--- instructions at the front of some bytes, of `read` bytes together, were listed
+-- the instructions in the first `read` of some bytes were listed
 pub record ListsFront (old new bytes : List ℕ) (read : ℕ) : Type 0 where
   pub pieces : List Piece
   pub rest : List ℕ
@@ -104,7 +104,7 @@ pub record HasInstructions (code : List ℕ) (count : ℕ) : Type 0 where
   pub parts : code ≡ code_of pieces
   pub counted : count ≡ length pieces
 
--- what is said of a valid chunk was added
+-- the report on a valid chunk was added
 pub record AddsAccepted (old new : List ℕ) (detail : Detail) (name : List ℕ) (chunk : MarkedChunk) : Type 0 where
   pub valid : IsValid chunk
   pub count : ℕ
@@ -113,7 +113,7 @@ pub record AddsAccepted (old new : List ℕ) (detail : Detail) (name : List ℕ)
   pub calls : AreCalls detail chunk.base has.pieces lines
   pub added : new ≡ old ++ (accepted_text detail chunk.base name (length chunk.code) count ++ flat_map detail_line lines)
 
--- what is to be written of a source was written, and `count` is 1 if it is refused, otherwise 0
+-- the text for a source was written, and `count` is 1 if it is refused, otherwise 0
 pub record TellsOne (limit base : ℕ) (detail : Detail) (name code : List ℕ) (labels : List Label) (before after : Option (List ℕ))
     (count : ℕ) : Type 0 where
   pub told : Told
@@ -121,40 +121,40 @@ pub record TellsOne (limit base : ℕ) (detail : Detail) (name code : List ℕ) 
   pub counted : count ≡ (if told.refused then 1 else 0)
   pub written : Appends before after told.text
 
--- a refused direct transfer really is one: the code has this fault; of others nothing is asked
+-- a bad target really is a fault of the code; nothing is required of any other fault
 abbrev pub IsRealTarget : ℕ → ℕ → List ℕ → VetFault → Type 0
 IsRealTarget limit base code (BadTarget at) = HasFault base limit code (BadTarget at)
 IsRealTarget limit base code _ = ⊤
 
--- the lines on a fault, where they are asked for
+-- the lines about a fault, if they are asked for
 abbrev pub AreFirst : Detail → ℕ → ℕ → List ℕ → List Label → VetFault → List (List ℕ) → Type 0
 AreFirst Brief limit base code labels fault lines = lines ≡ []
 AreFirst Object limit base code labels fault lines = lines ≡ []
 AreFirst _ limit base code labels fault lines = Explains limit base code labels fault lines
 
--- the other lines, of which this holds with the place of the fault, where they are asked for
+-- the lines about other faults, which satisfy `Others` for the place of the fault, if they are asked for
 abbrev pub AreMoreBy : (ℕ → List (List ℕ) → Type 0) → Detail → ℕ → VetFault → List (List ℕ) → Type 0
 AreMoreBy Others detail.All base fault lines = MatchOption (place_of fault) (lines ≡ []) (λ at. Others (at - base) lines)
 AreMoreBy Others _ base fault lines = lines ≡ []
 
--- all of them
+-- all lines about the other faults, if they are asked for
 abbrev pub AreMore : Detail → ℕ → ℕ → List ℕ → List Label → VetFault → List (List ℕ) → Type 0
 AreMore detail limit base code labels fault lines = AreMoreBy (ReportsOthers limit base code labels) detail base fault lines
 
--- some first ones
+-- all or some first lines about the other faults, if they are asked for
 abbrev pub AreSomeMore : Detail → ℕ → ℕ → List ℕ → List Label → VetFault → List (List ℕ) → Type 0
 AreSomeMore detail limit base code labels fault lines = AreMoreBy (ReportsSome limit base code labels) detail base fault lines
 
--- the lines on the first `count` places, by what is found there
+-- the lines about the first `count` places, by their spots
 abbrev pub AreLinesTo : ℕ → ℕ → List ℕ → List Label → List Spot → ℕ → ℕ → List (List ℕ) → Type 0
 AreLinesTo base limit code labels spots own count lines = lines ≡ lines_to base limit code labels spots own count
 
--- the lines on some first places
+-- the lines about some first places
 abbrev pub AreSomeLines : ℕ → ℕ → List ℕ → List Label → List Spot → ℕ → List (List ℕ) → Type 0
 AreSomeLines base limit code labels spots own lines =
     (count : ℕ) × (count ≤ length code) × AreLinesTo base limit code labels spots own count lines
 
--- what is said of a refused chunk was added, but for its other faults
+-- the report on a refused chunk was added, except for its other faults
 pub record AddsRefused (old new : List ℕ) (detail : Detail) (name : List ℕ) (limit base : ℕ) (code : List ℕ) (labels : List Label)
     (fault : VetFault) : Type 0 where
   pub real : fault ≢ OutOfMemory
@@ -162,7 +162,7 @@ pub record AddsRefused (old new : List ℕ) (detail : Detail) (name : List ℕ) 
   pub first : AreFirst detail limit base code labels fault lines
   pub added : new ≡ old ++ refused_text detail base name code labels fault lines
 
--- of a text that goes on by lines a front was written, and the rest is kept
+-- lines that satisfy `Says` were added to a text; a prefix of it was written, and the rest is kept
 pub record WritesLines (before after : Option (List ℕ)) (old new : List ℕ) (Says : List (List ℕ) → Type 0) : Type 0 where
   pub lines : List (List ℕ)
   pub says : Says lines
@@ -170,24 +170,24 @@ pub record WritesLines (before after : Option (List ℕ)) (old new : List ℕ) (
   pub written : Appends before after part
   pub kept : part ++ new ≡ old ++ flat_map detail_line lines
 
--- of a text that goes on by lines a front was written
+-- lines that satisfy `Says` follow a text, and a prefix of it all was written
 pub record CutsLines (before after : Option (List ℕ)) (old : List ℕ) (Says : List (List ℕ) → Type 0) : Type 0 where
   pub lines : List (List ℕ)
   pub says : Says lines
   pub count : ℕ
   pub written : Appends before after (take count (old ++ flat_map detail_line lines))
 
--- memory for the text wasn't there, or the writer failed
+-- there was no memory for the text, or the writer failed
 abbrev pub IsOfWriting : ReportFault → Type 0
 IsOfWriting fault = (fault ≡ report.OutOfMemory) ⊎ (fault ≡ WriteFailed)
 
--- a beginning of what is to be written of a source was written
+-- a prefix of the text for a source was written
 pub record IsCutOff (limit base : ℕ) (detail : Detail) (name code : List ℕ) (labels : List Label) (before after : Option (List ℕ)) : Type 0 where
   pub part : List ℕ
   pub begins : IsBeginning limit base detail name code labels part
   pub written : Appends before after part
 
--- how far the telling has come: some sources are told, and the titles and verdicts that are left are of the others
+-- the progress of a report: it covers some sources, and the titles and verdicts that are left belong to the others
 pub record HasToldSome (limit base : ℕ) (detail : Detail) (values : List SourceValue) (titles : List Title)
     (verdicts : List (Result MarkedChunk (Vec ℕ × VetFault))) (before after : Option (List ℕ)) (count : ℕ) : Type 0 where
   pub done : List SourceValue
@@ -199,14 +199,14 @@ pub record HasToldSome (limit base : ℕ) (detail : Detail) (values : List Sourc
   pub refused : count ≡ count_by (λ told. told.refused) each
   pub written : Appends before after (flat_map (λ told. told.text) each)
 
--- all sources are told
+-- the report covers all sources
 pub record HasToldAll (limit base : ℕ) (detail : Detail) (values : List SourceValue) (before after : Option (List ℕ)) (count : ℕ) : Type 0 where
   pub each : List Told
   pub tells : AllZip (TellsValue limit base detail) values each
   pub refused : count ≡ count_by (λ told. told.refused) each
   pub written : Appends before after (flat_map (λ told. told.text) each)
 
--- the first sources are told, and perhaps a beginning of the next
+-- the report covers some first sources, and perhaps a prefix of the text for the next one
 pub record HasToldFirst (limit base : ℕ) (detail : Detail) (values : List SourceValue) (before after : Option (List ℕ)) : Type 0 where
   pub first : List SourceValue
   pub value : SourceValue
@@ -218,10 +218,10 @@ pub record HasToldFirst (limit base : ℕ) (detail : Detail) (values : List Sour
   pub next : IsBeginning limit base detail value.name value.code value.labels part
   pub written : Appends before after (flat_map (λ told. told.text) each ++ part)
 
--- a source and the title that it has
+-- the title of a source
 abbrev pub title_of : Source → Title
 title_of source = record { name = source.name; labels = source.labels }
 
--- a source and the job that it becomes
+-- the job of vetting a source
 abbrev pub job_of : ℕ → ℕ → Source → Job
 job_of base limit source = record { base = base; limit = limit; code = source.code }

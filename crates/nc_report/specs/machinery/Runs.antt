@@ -6,7 +6,7 @@ use Rattle.nc_vet.specs.Chunk.{Piece, code_of, place, AreSpelled}
 use Rattle.nc_report.specs.Outside.{OutsideRow, AscendFrom, all_sent, row_words}
 use Rattle.nc_report.specs.Report.{detail_line}
 
--- of these instructions those before a place are read, and what they send outside is known
+-- the instructions before a place have been read, and their targets outside are known
 pub record KnowsSent (base len : ℕ) (pieces : List Piece) (at : ℕ) (sent : List ℕ) : Type 0 where
   pub before : List Piece
   pub after : List Piece
@@ -14,28 +14,28 @@ pub record KnowsSent (base len : ℕ) (pieces : List Piece) (at : ℕ) (sent : L
   pub here : place before ≡ at
   pub known : sent ≡ all_sent base len base before
 
--- whatever instructions the code has
+-- whatever instructions the code has, those before a place have been read, and their targets outside are known
 abbrev pub HasReadCode : ℕ → List ℕ → ℕ → List ℕ → Type 0
 HasReadCode base code at sent =
     (pieces : List Piece) → AreSpelled pieces → code ≡ code_of pieces → KnowsSent base (length code) pieces at sent
 
--- this is all that the code sends outside, whatever instructions it has
+-- whatever instructions the code has, these are all their targets outside
 abbrev pub IsSent : ℕ → List ℕ → List ℕ → Type 0
 IsSent base code sent =
     (pieces : List Piece) → AreSpelled pieces → code ≡ code_of pieces → sent ≡ all_sent base (length code) base pieces
 
--- the first `count` numbers are the same, and the next one, if there is one, is another
+-- the first `count` numbers are equal, and the next one, if there is one, differs
 pub record BeginsWithRun (numbers : List ℕ) (count : ℕ) : Type 0 where
   pub some : 0 < count
   pub within : count ≤ length numbers
   pub same : take count numbers ≡ replicate count (slice_index numbers 0)
   pub ends : count < length numbers → slice_index numbers count ≢ slice_index numbers 0
 
--- the numbers that some rows stand for
+-- the numbers that these rows count
 abbrev pub numbers_of : List OutsideRow → List ℕ
 numbers_of rows = flat_map (λ row. replicate row.times row.to) rows
 
--- a front of ascending numbers was written as rows, and the rest is left
+-- a prefix of ascending numbers was written as rows, and the rest is left
 pub record HasCounted (numbers : List ℕ) (old new rest : List ℕ) : Type 0 where
   pub rows : List OutsideRow
   pub least : ℕ

@@ -1,4 +1,4 @@
--- Machinery of the proofs, cited by no public contract: what is found at each byte, by some reading.
+-- Machinery of the proofs, cited by no public contract: the spots of the bytes in some reading.
 use Rattle.std.specs.Prelude.{◌≡◌, ℕ, ◌+◌, Bool, ◌==◌, List, [], ◌++◌, length, drop, codes, Option, Some, if◌then◌else◌}
 use Rattle.std.specs.Fmt.{decimal}
 use Rattle.nc_vet.specs.declared.fault.VetFault.{VetFault}
@@ -8,21 +8,21 @@ use Rattle.nc_report.specs.declared.spot.Spot.{Spot}
 use Rattle.nc_report.specs.declared.steps.Step.{Step}
 use Rattle.nc_report.specs.Reading.{ReadsFrom, IsReading, spots_of}
 
--- the code is read by some steps, and this is what is found at each byte of it
+-- some steps read the code, and these are the spots of its bytes
 pub record HasSpots (code : List ℕ) (spots : List Spot) : Type 0 where
   pub steps : List Step
   pub reading : IsReading code steps
   pub is : spots ≡ spots_of steps
   pub each : length spots ≡ length code
 
--- the code up to this place is read by some steps, whatever steps read the rest, and this is what is found at each byte so far
+-- some steps read the code up to this place, whatever steps read the rest, and these are the spots of the bytes so far
 pub record HasSeenTo (code : List ℕ) (at : ℕ) (masked : Option ℕ) (spots : List Spot) : Type 0 where
   pub steps : List Step
   pub goes_on : (more : List Step) → ReadsFrom at masked (drop at code) more → IsReading code (steps ++ more)
   pub is : spots ≡ spots_of steps
   pub each : length spots ≡ at
 
--- one more where there is a fault, by its kind
+-- the counts with one more for the kind of this fault, if there is one
 abbrev pub counted : Counts → Option VetFault → Counts
 counted counts (Some (Crosses at)) = record counts { crosses = counts.crosses + 1 }
 counted counts (Some (NotPermitted at)) = record counts { not_permitted = counts.not_permitted + 1 }
@@ -30,6 +30,6 @@ counted counts (Some (Bare at)) = record counts { bare = counts.bare + 1 }
 counted counts (Some (BadTarget at)) = record counts { bad_target = counts.bad_target + 1 }
 counted counts _ = counts
 
--- one kind with its number, if that isn't 0
+-- a kind with its number, after a comma unless it is the first; nothing if the number is 0
 abbrev pub kind_words : Bool → ℕ → List ℕ → List ℕ
 kind_words begun n name = if n == 0 then [] else ((if begun then codes ", " else []) ++ (decimal n ++ (codes " " ++ name)))

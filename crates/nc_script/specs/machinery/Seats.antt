@@ -1,11 +1,11 @@
--- Machinery of the proofs, cited by no public contract: what the calls on seats leave.
+-- Machinery of the proofs, cited by no public contract: the effects of the calls on seats.
 use Rattle.std.specs.Prelude.{◌≡◌, ◌≢◌, ℕ, ◌<◌, ◌≤◌, Bool, true, false, List, length, slice_get, slice_set, slice_index, slice_index_or}
 use Rattle.std.specs.Prelude.{Option, Some, None}
 use Rattle.nc_gens.specs.Seen.{PassState, KeeperState}
 use Rattle.nc_region.specs.Region.{Region}
 
 -- A pass checked in, and met the keeper before and after: its own word is the generation, and so is the keeper's bound for
--- it. No other bound and no generation changed.
+-- it. The other bounds and the generation are unchanged.
 pub record HasChecked (old : PassState) (before : KeeperState) (new : PassState) (after : KeeperState) : Type 0 where
   pub table : new.table ≡ old.table
   pub seat : new.seat ≡ old.seat
@@ -15,13 +15,13 @@ pub record HasChecked (old : PassState) (before : KeeperState) (new : PassState)
   pub generation : after.numbers.generation ≡ before.numbers.generation
   pub keeper : after.table ≡ before.table
 
--- of a region only the keeper changed, which has the same table and generation
+-- only the region's keeper changed, and its table and generation are the same
 pub record IsOnlyKeeper (old new : Region) : Type 0 where
   pub others : new ≡ record old { keeper = new.keeper }
   pub table : new.keeper.table ≡ old.keeper.table
   pub generation : new.keeper.numbers.generation ≡ old.keeper.numbers.generation
 
--- the pass of a seat that is there
+-- this is the pass of a seat that hasn't left
 abbrev pub HasPass : List (Option PassState) → ℕ → PassState → Type 0
 HasPass passes seat p = slice_get passes seat ≡ Some (Some p)
 
@@ -40,7 +40,7 @@ pub record HasCheckedAt (seat : ℕ) (old : List (Option PassState)) (before : R
   pub checked : HasChecked pass before.keeper now after.keeper
   pub others : after ≡ record before { keeper = after.keeper }
 
--- what a check-in answers, and what it leaves: nothing changes where there is no such seat, or it has left
+-- the result and the effect of a check-in: nothing changes if there is no such seat, or it has left
 abbrev pub ChecksIn : Bool → ℕ → List (Option PassState) → Region → List (Option PassState) → Region → Type 0
 ChecksIn true seat old before new after = HasCheckedAt seat old before new after
 ChecksIn false seat old before new after = HasNoPass old seat × (new ≡ old) × (after ≡ before)
@@ -49,13 +49,13 @@ ChecksIn false seat old before new after = HasNoPass old seat × (new ≡ old) �
 abbrev pub IsTaken : ℕ → List (Option PassState) → List (Option PassState) → PassState → Type 0
 IsTaken seat old new p = HasPass old seat p × (new ≡ slice_set old seat None)
 
--- what a leave answers, and what it leaves
+-- the result and the effect of a leave: nothing changes if there is no such seat, or it has left
 abbrev pub Leaves : Bool → ℕ → List (Option PassState) → List (Option PassState) → Type 0
 Leaves true seat old new = (p : PassState) × IsTaken seat old new p
 Leaves false seat old new = HasNoPass old seat × (new ≡ old)
 
--- A pass and the keeper's bound for its seat, before they met and after: the bound wasn't above the pass's own word, and is
--- that word now. Where there is no pass, the bound stays.
+-- A pass and the keeper's bound for its seat, before and after they met: the bound wasn't above the pass's own word, and is
+-- that word now. If there is no pass, the bound is unchanged.
 abbrev pub HasMetAt : Option PassState → ℕ → Option PassState → ℕ → Type 0
 HasMetAt None before None after = after ≡ before
 HasMetAt (Some p) before (Some q) after = (before ≤ p.numbers.word) × (after ≡ p.numbers.word) × (q.numbers.word ≡ p.numbers.word)
@@ -80,7 +80,7 @@ pub record HaveMetBelow (seat : ℕ) (old : List (Option PassState)) (before : L
   pub passes : (i : ℕ) → seat ≤ i → slice_index_or new i None ≡ slice_index_or old i None
   pub bounds : (i : ℕ) → seat ≤ i → slice_index after i ≡ slice_index before i
 
--- each of them did
+-- the passes of all seats met the keeper
 pub record HaveMet (old : List (Option PassState)) (before : List ℕ) (new : List (Option PassState)) (after : List ℕ) : Type 0 where
   pub passes_long : length new ≡ length old
   pub bounds_long : length after ≡ length before

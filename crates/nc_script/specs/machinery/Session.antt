@@ -1,5 +1,5 @@
--- Machinery of the proofs, cited by no public contract: the states of a script that a session stands for. The number by
--- which the last reclaim freed is kept nowhere, so there may be several.
+-- Machinery of the proofs, cited by no public contract: the states of a script that a session represents. The number by which
+-- the last reclaim freed isn't stored, so there may be several.
 use Rattle.std.specs.Prelude.{◌≡◌, ℕ, ◌-◌, ◌<◌, ◌≤◌, ◌^◌, ⊤, List, map, take, drop, length, slice_get, slice_index, slice_index_or}
 use Rattle.std.specs.Prelude.{Option, Some, None}
 use Rattle.nc_gens.specs.Seen.{PassState}
@@ -23,11 +23,11 @@ abbrev pub state_in : List ℕ → ℕ → ℕ → ChunkState → ScriptChunkSta
 state_in bytes base length chunk.Live = Live (bytes_at bytes base length)
 state_in bytes base length (chunk.Retired stamp) = Retired length stamp
 
--- a chunk of the region, as the script has it
+-- a chunk of the region, as a chunk of the script
 abbrev pub script_chunk : List ℕ → Chunk → ScriptChunk
 script_chunk bytes c = record { base = c.base; state = state_in bytes c.base c.length c.state }
 
--- the script's state by a region, its seats, and the number by which the last reclaim freed
+-- the script's state, given a region, its seats, and the number by which the last reclaim freed
 abbrev pub script_of : Region → List ScriptSeat → ℕ → Script
 script_of region seats freed = record {
   limit = limit_of region.marked.bytes;
@@ -37,23 +37,23 @@ script_of region seats freed = record {
   freed = freed;
 }
 
--- what contracts see of the seats of a session: the passes of those that haven't left, and of which table they are
+-- the seats of a session, as contracts see them: the passes of those that haven't left, and the table of these passes
 pub record SeatsState : Type 0 where
   pub table : TableId
   pub passes : List (Option PassState)
 
--- what contracts see of a session
+-- a session, as contracts see it
 pub record SessionState : Type 0 where
   pub region : Region
   pub seats : SeatsState
 
--- each pass is of this table, and of the seat at whose place it stands
+-- each pass belongs to this table, and to the seat whose number is the pass's index
 abbrev pub AreSeated : TableId → List (Option PassState) → Type 0
 AreSeated table passes = (i : ℕ) (p : PassState) → slice_get passes i ≡ Some (Some p) → (p.table ≡ table) × (p.seat ≡ i)
 
--- A seat of the script, by its pass, if it hasn't left, and by the keeper's bound for it: the pass's own word is the seat's
--- number, and so is the bound; for a seat that has left the bound isn't lower than its number. No bound is lower than the
--- number by which the last reclaim freed.
+-- A seat of the script fits its pass, if it hasn't left, and the keeper's bound for it: the pass's own word is the seat's
+-- number, and so is the bound; for a seat that has left, the bound is at least its number. Each bound is at least the number
+-- by which the last reclaim freed.
 abbrev pub SeatFits : (generation freed : ℕ) → Option PassState → ℕ → ScriptSeat → Type 0
 SeatFits generation freed (Some p) bound (Staying n) = (p.numbers.word ≡ n) × (bound ≡ n) × (n ≤ generation) × (freed ≤ n)
 SeatFits generation freed None bound (Left n) = (n ≤ bound) × (n ≤ generation) × (freed ≤ bound)
@@ -72,26 +72,26 @@ abbrev pub IsStamped : ℕ → ChunkState → Type 0
 IsStamped generation chunk.Live = ⊤
 IsStamped generation (chunk.Retired stamp) = stamp ≤ generation
 
--- the seats and the number fit the session: with its region they are a state that it stands for
+-- the seats and the number fit the session: with its region they are a state that it represents
 pub record FitsSession (session : SessionState) (seats : List ScriptSeat) (freed : ℕ) : Type 0 where
   pub in_range : session.region.keeper.numbers.generation ≤ 2 ^ 62
   pub current : freed ≤ session.region.keeper.numbers.generation
   pub stamps : Each (λ (c : Chunk). IsStamped session.region.keeper.numbers.generation c.state) session.region.chunks
   pub seats_fit : SeatsFit session.region.keeper.numbers.generation freed session.seats.passes session.region.keeper.numbers.bounds seats
 
--- whatever state the session stood for, this answers the request, and leads to a state for which it stands now
+-- whatever state the session represented, this answers the request, and leads to a state that it represents now
 abbrev pub Follows : Request → SessionState → List ℕ → SessionState → Type 0
 Follows request old reply new = (seats : List ScriptSeat) (freed : ℕ) → FitsSession old seats freed
     → (next : List ScriptSeat) × (number : ℕ) × Serves request (script_of old.region seats freed) reply (script_of new.region next number)
     × FitsSession new next number
 
--- whatever state the session stood for, this answers the line, and leads to a state for which it stands now
+-- whatever state the session represented, this answers the line, and leads to a state that it represents now
 abbrev pub FollowsLine : SessionState → List ℕ → List ℕ → SessionState → Type 0
 FollowsLine old line reply new = (seats : List ScriptSeat) (freed : ℕ) → FitsSession old seats freed
     → (next : List ScriptSeat) × (number : ℕ) × AnswersOnly (script_of old.region seats freed) line reply (script_of new.region next number)
     × FitsSession new next number
 
--- whatever state the region and any seats stood for, this answers the request, and leads to a state for which they stand now
+-- whatever state the region and any seats represented, this answers the request, and leads to a state that they represent now
 abbrev pub FollowsIn : Request → Region → List ℕ → Region → Type 0
 FollowsIn request old reply new = (seats : SeatsState)
     → Follows request (record { region = old; seats = seats }) reply (record { region = new; seats = seats })

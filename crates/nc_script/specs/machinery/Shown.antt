@@ -1,9 +1,9 @@
--- Machinery of the proofs, cited by no public contract: values without where their bytes lie in memory.
+-- Machinery of the proofs, cited by no public contract: values without the location of their bytes in memory.
 use Rattle.nc_script.specs.Requests as spec
 use Rattle.nc_script.specs.declared.request.Request.{Request}
 use Rattle.nc_script.specs.declared.request.Request.TheVariants.{Create, Modify, Delete, CheckIn, Leave, Reclaim, Walk, Ask}
 
--- a request, without where its bytes lie in memory
+-- a request, without the location of its bytes in memory
 abbrev pub shown : Request → spec.Request
 shown (Create at bytes) = spec.Create at bytes.items
 shown (Modify at bytes) = spec.Modify at bytes.items

@@ -1,9 +1,9 @@
-//! A reader and writers that do what no system has them do.
+//! A reader and writers that behave as real ones never do.
 
 use std::alloc::Global;
 use std::io::{Error, ErrorKind, Read, Result, Write};
 
-/// Each call fails, by an error of this kind.
+/// Each call fails with an error of this kind.
 #[derive(Drop)]
 pub struct Failing {
     pub kind: ErrorKind,
@@ -25,7 +25,7 @@ impl Write for Failing {
     }
 }
 
-/// Takes at most `size` bytes in a write; a flush is counted, and fails where flushes do.
+/// Takes at most `size` bytes in a write. Flushes are counted, and fail unless `flushes` is set.
 #[derive(Drop)]
 pub struct Slow {
     pub out: Vec<u8>,
@@ -35,7 +35,7 @@ pub struct Slow {
 }
 
 impl Slow {
-    /// Takes at most `size` bytes in a write, and never fails but in a flush, if that does.
+    /// Takes at most `size` bytes in a write, and fails only in a flush, unless `flushes` is set.
     pub fn new(alloc: Global, size: usize, flushes: bool) -> Slow {
         Slow {
             out: Vec::new(alloc),

@@ -1,4 +1,4 @@
-//! Numbers of seats for which there is no table, and calls that never wait.
+//! Numbers of seats that are refused, and calls that never wait.
 ghost use Rattle.std.specs.Prelude.{◌≡◌};
 
 use crate::lower::rows::right;
@@ -7,7 +7,7 @@ use std::alloc::Global;
 use std::test::Fail;
 use std::thread::Threads;
 
-/// There is no table of this many seats.
+/// A table with this number of seats is refused.
 fn is_refused(alloc: Global, seats: u32) -> bool {
     matches!(Gens::new(alloc, seats), Err(GensFault::BadSeats))
 }
@@ -20,9 +20,8 @@ fn bad_seats_are_refused(rt: HostRuntime) -> Result<(), Fail> {
     Ok(())
 }
 
-/// It is allowed to start threads and not to wait, so nothing that it calls waits. It answers the
-/// first stamp, `since` after a meeting and after a check-in, and a look once the seat has left
-/// without taking the second stamp.
+/// The function may start threads but not wait, so nothing that it calls waits. It returns the first stamp, `since` after a
+/// meeting and after a check-in, and the result of a look once the seat has left without taking the second stamp.
 fn all_calls<T: Threads>(_rt: &T, gens: &Gens, keeper: &mut Keeper, mut pass: Pass) -> [u64; 4]
     requires { (keeper.old.table ≡ gens.now) × (pass.table ≡ gens.now) }
 {

@@ -1,5 +1,5 @@
-//! What no system shows of scripts and of lines of chunks: how often a writer is flushed, a flush that fails, errors of kinds that
-//! no device gives, and numbers that no command line lets through.
+//! Scripts and lines of chunks in cases that no real system shows: how often a writer is flushed, a flush that fails, errors
+//! of kinds that no device returns, and numbers that no command line lets through.
 
 use crate::lower::devices::{Failing, Slow};
 use crate::lower::rows::right;
@@ -13,8 +13,8 @@ use std::sync::Wait;
 use std::test::Fail;
 use std::thread::Threads;
 
-/// Runs a script for a region of `bundles` bundles with this number of seats. It has no clause, so that no proof above goes
-/// through what the contract says.
+/// Runs a script for a region of `bundles` bundles with this number of seats. The function has no clause, so that proofs of
+/// its callers don't deal with the contract of `run`.
 fn replay<R: Read, W: Write>(
     alloc: Global,
     reader: &mut R,
@@ -25,8 +25,8 @@ fn replay<R: Read, W: Write>(
     run(alloc, reader, writer, bundles, seats)
 }
 
-/// Vets lines of chunks for a region of `bundles` bundles, by this number of workers. It has no clause, so that
-/// no proof above goes through what the contract says.
+/// Vets lines of chunks for a region of `bundles` bundles, by this number of workers. The function has no clause, so that
+/// proofs of its callers don't deal with the contract of `vet_lines`.
 fn vet<T: Threads + Wait + Sync, R: Read, W: Write>(
     rt: &T,
     alloc: Global,
@@ -38,7 +38,8 @@ fn vet<T: Threads + Wait + Sync, R: Read, W: Write>(
     vet_lines(rt, alloc, reader, writer, bundles, workers, &Open)
 }
 
-/// A call ended so, has written what is owed, and has flushed once if it has written; otherwise all of it is in the failure.
+/// Checks that a call ended as expected, wrote the expected bytes, and flushed once if it wrote any. The failure shows the
+/// result and the output.
 fn ended(
     answer: Result<(), ReplayFault>,
     due: Result<(), ReplayFault>,
@@ -61,14 +62,14 @@ const CHUNKS: &[u8] = b"00010000 -\n00010001 -\n00010000\n";
 
 const VERDICTS: &[u8] = b"refused BadLength\nrefused BadBase\nbad line\n";
 
-/// Sizes of writes, whether a flush succeeds, and how a call ends.
+/// Sizes of writes, whether a flush succeeds, and how the call ends.
 static FLUSHES: [(usize, bool, Result<(), ReplayFault>); 3] = [
     (1, true, Ok(())),
     (7, true, Ok(())),
     (1, false, Err(ReplayFault::WriteFailed)),
 ];
 
-/// Replies and verdicts in pieces of this size.
+/// Writes replies and verdicts in pieces of this size.
 fn try_flush<T: Threads + Wait + Sync>(
     rt: &T,
     alloc: Global,
@@ -86,7 +87,7 @@ fn try_flush<T: Threads + Wait + Sync>(
     ended(answer, due, &writer, VERDICTS)
 }
 
-/// All is flushed once, after it was written, whatever the sizes of writes; a flush that fails is a failed write.
+/// The output is flushed once, after all of it was written, whatever the sizes of writes; a flush that fails is a failed write.
 #[test]
 fn flushed(rt: HostRuntime) -> Result<(), Fail> {
     for (size, flushes, due) in &FLUSHES {
@@ -95,8 +96,8 @@ fn flushed(rt: HostRuntime) -> Result<(), Fail> {
     Ok(())
 }
 
-/// A read that fails by an error which elsewhere means that all was read, and a write by one which elsewhere means that nothing
-/// was taken.
+/// A read that fails with an error which elsewhere means the end of the input, and a write that fails with one which elsewhere
+/// means that nothing was taken.
 #[test]
 fn other_errors(rt: HostRuntime) -> Result<(), Fail> {
     let mut reader = Failing {
@@ -113,7 +114,7 @@ fn other_errors(rt: HostRuntime) -> Result<(), Fail> {
     right(answer == Err(ReplayFault::WriteFailed), 2)
 }
 
-/// A call ended so on a line that is no line of its kind: where numbers are out of range nothing was read or written.
+/// Checks that a call on a bad line ended as expected: if the numbers are out of range, nothing was read or written.
 fn ended_by_numbers(
     answer: Result<(), ReplayFault>,
     due: Result<(), ReplayFault>,
@@ -179,13 +180,13 @@ fn workers(rt: HostRuntime) -> Result<(), Fail> {
     Ok(())
 }
 
-/// Whether a flush that fails in this way tells that the pipe is closed.
+/// Whether a flush that fails with an error of this kind reports that the pipe is closed.
 fn is_closed_by(kind: ErrorKind) -> bool {
     let mut writer = Piped::new(Failing { kind });
     writer.flush().is_err() && writer.is_closed()
 }
 
-/// Only the error of a closed pipe tells that it is closed.
+/// Only the error of a closed pipe reports that it is closed.
 #[test]
 fn closed(rt: HostRuntime) {
     for (kind, owed) in [

@@ -1,4 +1,4 @@
-//! Sources and reports, as far as the built program doesn't show them: names and labels that no file has, guesses of a length,
+//! Sources and reports in cases that the built program doesn't show: names and labels that no file has, guesses of a length,
 //! numbers out of range, and a flush that fails.
 
 use crate::lower::devices::Slow;
@@ -21,7 +21,7 @@ const RETURN: &[u8] =
 /// Nops.
 const NOPS: &[u8] = &[0x90; 64];
 
-/// A source's name, its code at 00010000, its labels, how much is written, how many are refused, and what is written.
+/// A source's name, its code at 00010000, its labels, the level of detail, the number of refused sources, and the output.
 type Row = (
     &'static [u8],
     &'static [u8],
@@ -44,7 +44,7 @@ static ROWS: [Row; 7] = [
         \x20 00010000 <zero+0x10000>\n\
         \x20 00010000: > c3 90 90 90 90 90 90 90 90 90 90 90 90 90 90 90 90 90 90 90 90 90 90 90 90 90 90 90 90 90 90 90\n\
         \x20 a return (ret): compile with nc-cc, or pop the address into a register, mask it, and jump through it: see docs/GUIDE.md\n"),
-    // Bytes that would end the line, or command a terminal; a space, and bytes of UTF-8; no byte at all.
+    // Bytes that would end the line, or control a terminal; a space, and bytes of UTF-8; an empty name.
     (b"a", RETURN, &[(0x1_0000, b"\x00a\nb\x1b[1m\x1f \x7e\x7f\x80\xc3\xa9\xff")], Detail::Usual, 1,
         b"a: refused NotPermitted 00010000\n\
         \x20 00010000 <?a?b?[1m? ~?\x80\xc3\xa9\xff>\n\
@@ -59,7 +59,7 @@ static ROWS: [Row; 7] = [
         b"{\"file\":\"a\",\"address\":\"00010000\",\"verdict\":\"refused\",\"fault\":\"NotPermitted\",\"at\":\"00010000\",\
         \"symbol\":\"\\\"\\\\\\u000a\\u007f\\u00c3\\u00a9+0x1\",\"meaning\":\
         \"a return (ret): compile with nc-cc, or pop the address into a register, mask it, and jump through it: see docs/GUIDE.md\"}\n"),
-    // A name with each byte that JSON wants to have escaped, and one without a byte.
+    // A name with each byte that JSON requires to be escaped, and an empty name.
     (b"a\"b\\c/\x00\x0a\x1f ~\x7f\x80\xc3\xa9\xff", NOPS, &[], Detail::Object, 0,
         b"{\"file\":\"a\\\"b\\\\c/\\u0000\\u000a\\u001f ~\\u007f\\u0080\\u00c3\\u00a9\\u00ff\",\"address\":\"00010000\",\
         \"verdict\":\"ok\",\"bytes\":64,\"instructions\":64}\n"),
@@ -74,7 +74,7 @@ fn copied(alloc: Global, bytes: &[u8]) -> Result<Vec<u8>, AllocError> {
     Ok(copy)
 }
 
-/// Labels of these addresses and names.
+/// Labels with these addresses and names.
 fn list(alloc: Global, rows: &[Named]) -> Result<Vec<Label>, AllocError> {
     let mut list = Vec::new(alloc);
     for (address, name) in rows {
@@ -99,8 +99,8 @@ fn only(alloc: Global, name: &[u8], code: &[u8], named: &[Named]) -> Result<Vec<
     Ok(sources)
 }
 
-/// What is written of sources in a region of five bundles, by one worker. It has no clause, so that no proof above goes through
-/// what the contract says.
+/// Writes the report on sources in a region of five bundles, by one worker. The function has no clause, so that proofs of its
+/// callers don't deal with the contract of `report`.
 fn told<T: Threads + Wait + Sync, W: Write>(
     rt: &T,
     alloc: Global,
@@ -111,7 +111,7 @@ fn told<T: Threads + Wait + Sync, W: Write>(
     report(rt, alloc, sources, 0x10000, 5, 1, detail, writer)
 }
 
-/// Tries each row. What is written is flushed once.
+/// Tries each row. The output is flushed once.
 fn try_rows<T: Threads + Wait + Sync>(rt: &T, alloc: Global, rows: &[Row]) -> Result<(), Fail> {
     for (name, code, named, detail, refused, owed) in rows {
         let sources = only(alloc, name, code, named)?;
@@ -129,7 +129,7 @@ fn reports(rt: HostRuntime) -> Result<(), Fail> {
     try_rows(&rt, rt.alloc(), &ROWS)
 }
 
-/// Addresses and names, and whether they are labels.
+/// Addresses and names, and whether they are accepted as labels.
 static ASCENDING: [(&[Named], bool); 4] = [
     (&[(2, b"a"), (1, b"b")], false),
     (&[(1, b"a"), (1, b"b"), (0, b"c")], false),
@@ -137,7 +137,7 @@ static ASCENDING: [(&[Named], bool); 4] = [
     (&[(1, b"a"), (1, b"b"), (2, b"c")], true),
 ];
 
-/// Each list is one of labels, or not.
+/// Each list is accepted as labels exactly if its row says so.
 fn try_ascending(alloc: Global, rows: &[(&'static [Named], bool)]) -> Result<(), Fail> {
     let mut row = 0u32;
     for (named, wanted) in rows {
@@ -148,13 +148,13 @@ fn try_ascending(alloc: Global, rows: &[(&'static [Named], bool)]) -> Result<(),
     Ok(())
 }
 
-/// Addresses that don't ascend are no labels, wherever it is that they fall.
+/// Addresses that don't ascend aren't accepted as labels, wherever the descent is.
 #[test]
 fn descending(rt: HostRuntime) -> Result<(), Fail> {
     try_ascending(rt.alloc(), &ASCENDING)
 }
 
-/// How much is written of nops, and what.
+/// Levels of detail, and the output for nops.
 #[rattlefmt::skip]
 static ACCEPTED: [(Detail, &[u8]); 3] = [
     (Detail::Usual, b"a: ok, 64 bytes, 64 instructions\n"),
@@ -182,7 +182,7 @@ fn try_flushes<T: Threads + Wait + Sync>(
     Ok(())
 }
 
-/// A flush that fails after all was taken is a failed write.
+/// A flush that fails after everything was taken is a failed write.
 #[test]
 fn flush_fails(rt: HostRuntime) -> Result<(), Fail> {
     try_flushes(&rt, rt.alloc(), &ACCEPTED)
@@ -245,7 +245,7 @@ fn is_read(alloc: Global, name: Vec<u8>, expected: usize) -> bool {
     }
 }
 
-/// Whatever the room that is guessed, all bytes are read.
+/// All bytes are read, whatever length is guessed.
 #[test]
 fn whole(rt: HostRuntime) -> Result<(), Fail> {
     for expected in [0usize, 7, 100_000, usize::MAX] {

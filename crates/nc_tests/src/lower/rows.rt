@@ -1,9 +1,9 @@
-//! Tables of which each row is right or wrong.
+//! Tables whose rows are each right or wrong.
 
 use std::test::Fail;
 
-/// A failure that names the row of this number, where it isn't right. All tests compare by it, since a loop over `assert_eq!`
-/// takes several times as long to prove.
+/// Fails with the number of the row unless that is right. Tests compare by this function, since a loop over `assert_eq!` takes
+/// several times as long to prove.
 pub fn right(is_right: bool, row: u32) -> Result<(), Fail> {
     if is_right {
         return Ok(());

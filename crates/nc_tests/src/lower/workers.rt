@@ -16,7 +16,7 @@ const BASE: u32 = 0x10000;
 
 const LIMIT: u32 = 0x10080;
 
-/// Holds the one job until the other one is done, for a limited number of turns.
+/// Holds one job until the other one is done, for a limited number of turns.
 #[derive(Drop)]
 struct Until {
     held: usize,
@@ -46,7 +46,7 @@ impl Gate for Until {
     }
 }
 
-/// A job of nops, the first byte apart.
+/// A job of nops, except for the first byte.
 fn job(alloc: Global, first: u8) -> Result<Job, AllocError> {
     let mut code = Vec::new(alloc);
     code.resize(32, 0x90)?;
@@ -60,7 +60,7 @@ fn job(alloc: Global, first: u8) -> Result<Job, AllocError> {
     })
 }
 
-/// One chunk that isn't permitted, and one that is valid.
+/// One chunk with an instruction that isn't permitted, and one that is valid.
 fn bad_and_good(alloc: Global) -> Result<Vec<Job>, AllocError> {
     let mut jobs = Vec::new(alloc);
     jobs.push(job(alloc, 0xC3)?)?;
@@ -76,7 +76,8 @@ fn are_due(verdicts: &[Verdict]) -> bool {
     }
 }
 
-/// Whether two workers have the verdicts that are due. It has no clause, so what the verdicts promise isn't known above.
+/// Whether two workers return the expected verdicts. The function has no clause, so that proofs of its callers don't deal with
+/// the contract of `vet_all`.
 fn judge<G: Gate, R: Threads + Wait + Sync>(rt: &R, jobs: Vec<Job>, gate: &G) -> bool {
     match vet_all(rt, jobs, 2, gate) {
         Ok(verdicts) => are_due(verdicts.as_slice()),
@@ -84,7 +85,7 @@ fn judge<G: Gate, R: Threads + Wait + Sync>(rt: &R, jobs: Vec<Job>, gate: &G) ->
     }
 }
 
-/// Each job of two held until the other is done: whether neither was held too long, and both have their verdicts.
+/// Holds one of two jobs until the other is done: whether it wasn't held too long, and both jobs get the expected verdicts.
 fn are_at_once<R: Threads + Wait + Sync + AllocGlobal>(rt: &R, held: usize) -> Result<bool, Fail> {
     let jobs = bad_and_good(rt.alloc())?;
     let gate = Until {
@@ -102,7 +103,7 @@ fn two_at_once(rt: HostRuntime) -> Result<(), Fail> {
     right(are_at_once(&rt, 1)?, 2)
 }
 
-/// For this number of workers two jobs come back.
+/// This number of workers is refused, and both jobs are given back.
 fn come_back<R: Threads + Wait + Sync + AllocGlobal>(rt: &R, workers: u32) -> Result<bool, Fail> {
     match vet_all(rt, bad_and_good(rt.alloc())?, workers, &Open) {
         Ok(_) => Ok(false),

@@ -1,4 +1,4 @@
-//! Which acts a region tells, in which order, and where it settles among them.
+//! The acts that a region tells, their order, and the settlings among them.
 ghost use Rattle.std.specs.Prelude.{◌≡◌};
 
 use crate::region::calls::{Calls, is_created};
@@ -14,22 +14,22 @@ use std::test::Fail;
 /// The address of the chunk.
 const BASE: u32 = 0x10020;
 
-/// How the chunk begins: a stop, a jump of two bytes, an instruction of five; nops follow.
+/// The first bytes of the chunk: a stop, a jump of two bytes, an instruction of five; nops follow.
 #[rattlefmt::skip]
 static FRONT: [u8; 8] = [0xF4, 0xEB, 0xFE, 0xB8, 1, 0, 0, 0];
 
 /// The limit of the region, which has 8 bundles.
 const LIMIT: u32 = 0x10100;
 
-/// The places of the chunk that aren't marked: all but the first of each instruction.
+/// The unmarked places of the chunk: all but the first byte of each instruction.
 static UNMARKED: [u32; 5] = [0x10022, 0x10024, 0x10025, 0x10026, 0x10027];
 
-/// The patch: a nop for the stop, another target, another number, and a nop for a nop.
+/// The patch: a nop for the stop, another target, another immediate, and a nop for a nop.
 #[rattlefmt::skip]
 const PATCH: &[u8] = &[0x90, 0xEB, 0x1D, 0xB8, 2, 0, 0, 0, 0x90];
 
-/// What the patch owes: a put; a stop, a settling, a further byte, a settling, the first byte; and the same with four
-/// further bytes.
+/// The expected entries of the patch: a put; a stop, a settling, a further byte, a settling, the first byte; and the same
+/// with four further bytes.
 #[rattlefmt::skip]
 static PATCH_OWES: [Entry; 14] = [
     Entry::Did(Act::Put(0x10020, 0x90)),
@@ -60,7 +60,8 @@ fn owe_puts(entries: &mut Vec<Entry>, code: &[u8], at_starts: bool) -> Result<()
     Ok(())
 }
 
-/// What a creation of this code owes: the puts that aren't bundle starts, a settling, the marks, the bundle starts.
+/// The expected entries of a creation of this code: the puts that aren't at bundle starts, a settling, the marks, the puts at
+/// bundle starts.
 fn owe_create(entries: &mut Vec<Entry>, code: &[u8], len: u32) -> Result<(), Fail> {
     owe_puts(entries, code, false)?;
     entries.push(Entry::Settled)?;
@@ -78,7 +79,7 @@ fn owe_stops(entries: &mut Vec<Entry>, len: u32) -> Result<(), Fail> {
     Ok(())
 }
 
-/// What a deletion owes then, and a look in vain, and one that frees.
+/// The remaining expected entries of a deletion, a look that frees nothing, and one that frees the chunk.
 #[rattlefmt::skip]
 static THEN_OWES: [Entry; 9] = [
     Entry::Settled,
@@ -92,7 +93,7 @@ static THEN_OWES: [Entry; 9] = [
     Entry::Did(Act::Look),
 ];
 
-/// What the whole life of a chunk owes.
+/// The expected entries of the whole life of a chunk.
 fn owed(alloc: Global, code: &[u8], len: u32) -> Result<Vec<Entry>, Fail> {
     let mut owed = Vec::new(alloc);
     owe_create(&mut owed, code, len)?;
@@ -104,8 +105,8 @@ fn owed(alloc: Global, code: &[u8], len: u32) -> Result<Vec<Entry>, Fail> {
     Ok(owed)
 }
 
-/// After the creation: the patch, a patch and a deletion that are refused, the deletion, and a look in vain; and a look once the
-/// seat has checked in.
+/// After the creation: the patch, a patch and a deletion that are refused, the deletion, and a reclaim that frees nothing; then
+/// a reclaim once the seat has checked in.
 static LIFE: Steps<'static> = Steps {
     before: &[
         Step::Modify(BASE, PATCH, Ok(())),
@@ -136,7 +137,7 @@ fn has_logged<A: Telling>(alloc: Global, acts: &A, owed: &[Entry]) -> Result<(),
     Err(Fail::new(format_args!("{:?} and not {owed:?}", acts.logged())))
 }
 
-/// Creates the chunk, and answers what its whole life owes.
+/// Creates the chunk, and returns the expected entries of its whole life.
 fn create<C: Calls>(
     alloc: Global,
     region: &mut C,
@@ -173,10 +174,10 @@ impl Trial for Life {
     }
 }
 
-/// How many bundles the chunk has, and its length.
+/// The number of bundles of the chunk, and its length.
 static SIZES: [(usize, u32); 3] = [(1, 32), (2, 64), (3, 96)];
 
-/// Lives of chunks of these sizes.
+/// Tries the lives of chunks of these sizes.
 fn try_lives(alloc: Global, rows: &[(usize, u32)]) -> Result<(), Fail> {
     for (bundles, len) in rows {
         let life = Life {
@@ -189,7 +190,7 @@ fn try_lives(alloc: Global, rows: &[(usize, u32)]) -> Result<(), Fail> {
     Ok(())
 }
 
-/// The laws on such acts are called too: they require nothing, and do nothing.
+/// The laws about these acts are called too: they require nothing, and do nothing.
 #[test]
 fn order_of_acts(rt: HostRuntime) -> Result<(), Fail> {
     law_of_schedules();
@@ -197,15 +198,15 @@ fn order_of_acts(rt: HostRuntime) -> Result<(), Fail> {
     try_lives(rt.alloc(), &SIZES)
 }
 
-/// The bases of chunks of one bundle, each with whether the region still tells after it, and whether it still logs. There is room for 34
-/// acts and for 68 entries; each creation takes 33 acts and 34 entries.
+/// The bases of chunks of one bundle, and whether the region still tells and still logs after each. There is room for 34 acts
+/// and for 68 entries; each creation takes 33 acts and 34 entries.
 static UNTIL_FULL: [(u32, bool, bool); 3] = [
     (0x10000, true, true),
     (0x10020, false, true),
     (0x10040, false, false),
 ];
 
-/// Creates a chunk of one bundle at this base: whether the region then tells and logs as is due.
+/// Creates a chunk of one bundle at this base: whether the region then tells and logs as expected.
 fn fills<A: Acts + Telling + Drop>(
     alloc: Global,
     region: &mut RegionOf<A>,
@@ -218,7 +219,7 @@ fn fills<A: Acts + Telling + Drop>(
     Ok(created && acts.told().is_some() == tells && acts.logged().is_some() == logs)
 }
 
-/// After each of these creations the region tells and logs as is due.
+/// After each of these creations the region tells and logs as expected.
 fn fill<A: Acts + Telling + Drop>(
     alloc: Global,
     region: &mut RegionOf<A>,
@@ -232,7 +233,7 @@ fn fill<A: Acts + Telling + Drop>(
     Ok(())
 }
 
-/// Chunks created in turn, until the region neither tells nor logs.
+/// Chunks created one after the other, until the region neither tells nor logs.
 #[derive(Drop)]
 struct Filling {
     alloc: Global,

@@ -1,7 +1,7 @@
-//! The calls of a region, without what they promise.
+//! The calls of a region, without their contracts.
 //!
-//! What a call ensures is known at each later line of a function that makes it, and each proof there has to look at it. The
-//! tests compare answers and need none of that, so they make the calls through these methods, which say nothing.
+//! The postconditions of a call are known at each later line of the function that makes it, and each proof there has to
+//! consider them. The tests only compare results, so they make the calls through these methods, which have no contract.
 
 use nc_region::{
     Acts, CreateFault, DeleteFault, ModifyFault, RegionOf, SharedOf, Trace, WalkFault,
@@ -9,24 +9,24 @@ use nc_region::{
 use nc_vet::Vetted;
 use std::sync::Wait;
 
-/// The answers of a region's calls, whether it is called directly or under its lock.
+/// The results of a region's calls, whether it is called directly or under its lock.
 pub(crate) trait Calls {
-    /// The answer of `create`.
+    /// The result of `create`.
     fn created(&mut self, vetted: Vetted) -> Result<(), (Vetted, CreateFault)>;
 
-    /// The answer of `modify`.
+    /// The result of `modify`.
     fn modified(&mut self, at: u32, new: &[u8]) -> Result<(), ModifyFault>;
 
-    /// The answer of `delete`.
+    /// The result of `delete`.
     fn deleted(&mut self, base: u32) -> Result<u64, DeleteFault>;
 
-    /// The answer of `reclaim`.
+    /// The result of `reclaim`.
     fn reclaimed(&mut self) -> u32;
 
-    /// The answer of `walk`.
+    /// The result of `walk`.
     fn walked(&self, start: u32, choices: &[u32]) -> Result<Trace, WalkFault>;
 
-    /// The answer of `chunk_count`.
+    /// The result of `chunk_count`.
     fn counted(&self) -> usize;
 }
 
@@ -91,7 +91,7 @@ impl<R: Wait, A: Acts + Drop> Calls for Locked<'_, '_, R, A> {
     }
 }
 
-/// Creates a chunk, and says whether that was done.
+/// Creates a chunk, and returns whether that succeeded.
 pub(crate) fn is_created<C: Calls>(region: &mut C, vetted: Vetted) -> bool {
     region.created(vetted).is_ok()
 }

@@ -1,4 +1,4 @@
-//! Check-in beside the lock, while a writer works.
+//! Check-in without the lock, while a writer works.
 ghost use Rattle.std.specs.Prelude.{◌≡◌, All};
 ghost use Rattle.std.specs.Thread.{IsSync};
 
@@ -12,7 +12,7 @@ use std::sync::Wait;
 use std::test::Fail;
 use std::thread::{Threads, for_each_mut, join_mut};
 
-/// Checks in several times, beside the lock.
+/// Checks in several times, without the lock.
 fn check_in_often<A: Acts + Drop>(shared: &SharedOf<'_, A>, pass: &mut Pass, times: usize)
     requires { pass.old.table ≡ shared.now }
     ensures { pass.new.table ≡ pass.old.table }
@@ -22,7 +22,7 @@ fn check_in_often<A: Acts + Drop>(shared: &SharedOf<'_, A>, pass: &mut Pass, tim
     }
 }
 
-/// Each pass in a thread of its own.
+/// Checks each pass in several times, each in a thread of its own.
 fn all_check_in<R: Threads + Sync, A: Acts + Drop + Send>(
     rt: &R,
     shared: &SharedOf<'_, A>,
@@ -40,7 +40,7 @@ fn all_check_in<R: Threads + Sync, A: Acts + Drop + Send>(
     );
 }
 
-/// Creates 32 nops, deletes them and reclaims; the stamp has to be one more than the index. Answers how many were freed.
+/// Creates 32 nops, deletes them and reclaims; the stamp must be one more than the index. Returns the number of freed chunks.
 fn write_one<C: Calls>(alloc: Global, region: &mut C, i: u32) -> Result<u32, Fail> {
     let base = 0x10000u32.wrapping_add(i.wrapping_mul(32));
     let created = is_created(region, chunk(alloc, base, 0x11000, 1, &[])?);
@@ -51,7 +51,7 @@ fn write_one<C: Calls>(alloc: Global, region: &mut C, i: u32) -> Result<u32, Fai
     Err(Fail::new("not created, or another stamp"))
 }
 
-/// A hundred times.
+/// Creates, deletes and reclaims a hundred times (`write_one`).
 fn write_all<C: Calls>(alloc: Global, region: &mut C) -> Result<u32, Fail> {
     let mut freed = 0u32;
     for i in 0..100 {
@@ -81,7 +81,7 @@ fn check_in_beside<R: Threads + Wait + Sync, A: Acts + Drop + Send>(
     wrote
 }
 
-/// All passes but the last check in once more, and the last one leaves. It is allowed to start threads and not to wait, so
+/// All passes but the last check in once more, and the last one leaves. The function may start threads but not wait, so
 /// neither call waits.
 fn last_leaves<R: Threads + Sync, A: Acts + Drop + Send>(
     rt: &R,
@@ -103,7 +103,7 @@ static LAST: [Step<'static>; 2] = [
     Step::Delete(0x10C80, Ok(101)),
 ];
 
-/// A last chunk is created and deleted, and a chunk is there then.
+/// A last chunk is created and deleted; afterwards at least one chunk is listed.
 fn retire_last<R: Wait, A: Acts + Drop>(
     rt: &R,
     alloc: Global,
@@ -116,7 +116,7 @@ fn retire_last<R: Wait, A: Acts + Drop>(
     Err(Fail::new("no chunk is there"))
 }
 
-/// Passes that check in beside a writer, and once more when a last chunk is retired: all chunks are freed.
+/// Passes check in beside a writer, and once more or leave after a last chunk is retired: all chunks are freed.
 fn check_in_and_leave<R: Threads + Wait + Sync, A: Acts + Drop + Send>(
     rt: &R,
     alloc: Global,

@@ -1,4 +1,4 @@
-//! What the tests are made of.
+//! Building blocks of the tests.
 ghost use Rattle.std.specs.Prelude.{◌≡◌, IfOk};
 ghost use Rattle.nc_region.specs.Region.{IsNew};
 
@@ -29,7 +29,7 @@ pub(crate) fn chunk(
     }
 }
 
-/// A region of this size that tells nothing.
+/// A region of this size that doesn't tell its acts.
 pub(crate) fn region<'g>(
     alloc: Global,
     bundles: u32,
@@ -45,7 +45,7 @@ pub(crate) fn region<'g>(
     }
 }
 
-/// A region of this size that tells nothing, for threads to share.
+/// A region of this size that doesn't tell its acts, for threads to share.
 pub(crate) fn shared<'g>(
     alloc: Global,
     bundles: u32,
@@ -58,7 +58,7 @@ pub(crate) fn shared<'g>(
     Ok(Shared::new(region(alloc, bundles, gens, keeper)?))
 }
 
-/// Acts for a new region of this size, which tell nothing.
+/// Acts for a new region of this size, which aren't told.
 pub(crate) fn plain<'g>(
     alloc: Global,
     bundles: u32,

@@ -1,4 +1,4 @@
-//! Marks that are set by a list, where the acts of a region take no bits.
+//! Marks that are set from a list, because the acts of the region take no bits.
 ghost use Rattle.std.specs.Prelude.{◌≡◌};
 ghost use Rattle.nc_region.specs.Region.{IsNew};
 
@@ -11,7 +11,7 @@ use nc_text::TextFault;
 use std::alloc::Global;
 use std::test::Fail;
 
-/// The acts of another value, with what the trait itself does where it does anything: runs byte by byte, and no marks by bits.
+/// The acts of another value, with the defaults of the trait's own methods: runs byte by byte, and no marks from bits.
 #[derive(Drop)]
 struct Listed<A: Acts + Drop> {
     acts: A,
@@ -81,7 +81,7 @@ impl<A: Acts + Drop> Acts for Listed<A> {
     }
 }
 
-/// `and eax, -32` and `jmp eax`, of three bytes and of two, are created; nops follow.
+/// Creates a chunk of `and eax, -32` (three bytes), `jmp eax` (two bytes), and nops.
 static CREATE: [Step<'static>; 1] = [Step::Create(
     0x10000,
     1,
@@ -99,7 +99,7 @@ static MARKS: [Mark; 6] = [
     Mark::Plain,
 ];
 
-/// The chunk is deleted, and a stop is left.
+/// Deletes the chunk; a stop is left.
 static DELETE: [Step<'static>; 2] = [
     Step::Delete(0x10000, Ok(1)),
     Step::Walk(0x10000, &[0], &[0x10000], End::Stop),
@@ -117,7 +117,7 @@ fn has_marks<A: Acts + Drop>(region: &RegionOf<A>, marks: &[Mark]) -> bool {
     true
 }
 
-/// The chunk is created with its marks, and deleted.
+/// Creates the chunk, checks its marks, and deletes it.
 fn try_chunk<A: Acts + Drop>(alloc: Global, region: &mut RegionOf<A>) -> Result<(), Fail> {
     take_steps(alloc, region, LIMIT, &CREATE)?;
     if !has_marks(region, &MARKS) {

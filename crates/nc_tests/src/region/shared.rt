@@ -1,4 +1,4 @@
-//! A region that threads share: what its calls do under the lock.
+//! A region that threads share, and its calls under the lock.
 ghost use Rattle.std.specs.Prelude.{◌≡◌};
 ghost use Rattle.nc_region.specs.Region.{IsNew};
 
@@ -24,7 +24,8 @@ fn create_and_walk<C: Calls + Drop>(mut region: C, base: u32, vetted: Vetted) ->
     region.walked(base, &[0, 0, 0]).ok()
 }
 
-/// Two threads create and walk, each its own chunk. They share a region over any acts that may go to another thread.
+/// Two threads each create a chunk of their own and walk from it. They share a region over any acts that can be sent to another
+/// thread.
 fn run_two<R: Threads + Wait + Sync, A: Acts + Drop + Send>(
     rt: &R,
     shared: &SharedOf<'_, A>,
@@ -38,12 +39,12 @@ fn run_two<R: Threads + Wait + Sync, A: Acts + Drop + Send>(
     )
 }
 
-/// The places of both chunks, from the first one on and from the second one on.
+/// The places of walks over both chunks, from the first one and from the second one.
 const FORTH: &[u32] = &[0x10000, 0x10020, 0x10000, 0x10020];
 
 const BACK: &[u32] = &[0x10020, 0x10000, 0x10020, 0x10000];
 
-/// Whether a trace goes over all of these places; otherwise it has to be the first two, at a stop.
+/// Whether a trace has all of these places; otherwise it must have the first two and end at a stop.
 fn is_long(trace: Option<&Trace>, places: &[u32]) -> Result<bool, Fail> {
     let Some(trace) = trace else {
         return Err(Fail::new("a thread has no trace"));
@@ -80,7 +81,7 @@ fn traces<R: Threads + Wait + Sync, A: Acts + Drop + Send>(
     Ok(run_two(rt, shared, one, other))
 }
 
-/// After both threads: a walk, and another one once the first jump is turned to 00010040.
+/// After both threads: a walk, and another one once the first jump is patched to go to 00010040.
 static JOINED: [Step<'static>; 4] = [
     Step::Walk(0x10000, &[0, 0, 0], FORTH, End::More),
     Step::Count(2),
@@ -122,7 +123,7 @@ fn take_both_shared<R: Wait, A: Acts + Drop>(
     take_both(alloc, &mut Locked { rt, shared }, limit, gens, pass, steps)
 }
 
-/// The second chunk deleted, and reclaimed only after a check-in.
+/// The second chunk is deleted, and reclaimed only after a check-in.
 static FREE: Steps<'static> = Steps {
     before: &[Step::Delete(0x10020, Ok(1)), Step::Reclaim(0)],
     after: &[
@@ -132,7 +133,7 @@ static FREE: Steps<'static> = Steps {
     ],
 };
 
-/// Two threads in a new region over these acts, and then the calls that free the second chunk.
+/// Runs two threads in a new region over these acts, and then makes the calls that free the second chunk.
 fn try_two_over<R: Threads + Wait + Sync, A: Acts + Drop + Send>(
     rt: &R,
     alloc: Global,
@@ -156,7 +157,8 @@ fn two_threads_over_a_recorder(rt: HostRuntime) -> Result<(), Fail> {
     try_two_over(&rt, alloc, acts, &gens, &mut pass)
 }
 
-/// A chunk of two bundles with a jump to 00010020, and then one there; the jump turned to 00010040, and a return put after it.
+/// Creates a chunk of two bundles with a jump to 00010020, and tries one at 00010020; patches the jump to go to 00010040, and
+/// tries a return after it; walks, deletes and reclaims.
 static CALLS: Steps<'static> = Steps {
     before: &[
         Step::Create(0x10000, 2, &[0xEB, 0x1E], Ok(())),
@@ -172,7 +174,7 @@ static CALLS: Steps<'static> = Steps {
     after: &[Step::Reclaim(1), Step::Count(0)],
 };
 
-/// Makes the calls under the lock, with a check-in between that is beside it.
+/// Makes the calls under the lock, with a check-in without the lock in between.
 fn take_steps_beside<C: Calls, A: Acts + Drop>(
     alloc: Global,
     region: &mut C,
@@ -188,7 +190,7 @@ fn take_steps_beside<C: Calls, A: Acts + Drop>(
     take_steps(alloc, region, LIMIT, steps.after)
 }
 
-/// The calls under the lock, with a check-in beside it; the seat leaves afterwards.
+/// Makes the calls under the lock, with a check-in without the lock in between; the seat leaves afterwards.
 fn try_calls<R: Wait, A: Acts + Drop>(
     rt: &R,
     alloc: Global,
@@ -214,8 +216,8 @@ fn shared_calls(rt: HostRuntime) -> Result<(), Fail> {
 /// The limit of a region of 6 bundles.
 const LIMIT_OF_6: u32 = 0x100C0;
 
-/// How it is used before it is shared: of four jumps to the next bundle the first is patched to jump to the third, the second
-/// is retired and the seat checks in, and then the fourth is retired.
+/// The use of the region before it is shared: there are four jumps, each to the next bundle; the first is patched to jump to
+/// the third bundle, the second is retired, the seat checks in, and then the fourth is retired.
 static USED: Steps<'static> = Steps {
     before: &[
         Step::Create(0x10000, 1, &[0xEB, 0x1E], Ok(())),
@@ -228,7 +230,7 @@ static USED: Steps<'static> = Steps {
     after: &[Step::Delete(0x10060, Ok(2))],
 };
 
-/// What is there once it is shared: in each of the four places a chunk is refused, since one stands there.
+/// The calls once the region is shared: at each of the four bases a chunk is refused, since the span is occupied.
 static AFTER_USE: Steps<'static> = Steps {
     before: &[
         Step::Count(4),

@@ -1,4 +1,4 @@
-//! Sizes for which there is neither a text nor a region. The library for C tests the number before it makes either.
+//! Sizes for which both a text and a region are refused. The library for C tests the number before it makes either.
 ghost use Rattle.std.specs.Prelude.{◌≡◌};
 
 use nc_gens::Gens;
@@ -7,7 +7,7 @@ use nc_text::{Text, TextFault};
 use std::alloc::Global;
 use std::test::Fail;
 
-/// What a region of this size is refused for, if the keeper comes back.
+/// Why a region of this size is refused, provided the keeper is given back.
 fn refusal(alloc: Global, bundles: u32) -> Result<Option<RegionFault>, Fail> {
     let (gens, keeper, _passes) = Gens::new(alloc, 1)?;
     let refused = Region::new(alloc, bundles, &gens, keeper);
@@ -20,7 +20,7 @@ fn refusal(alloc: Global, bundles: u32) -> Result<Option<RegionFault>, Fail> {
     Ok(Some(fault))
 }
 
-/// There is no text of this size.
+/// A text of this size is refused.
 fn has_no_text(alloc: Global, bundles: u32) -> bool {
     matches!(Text::new(alloc, bundles), Err(TextFault::BadSize))
 }

@@ -1,4 +1,4 @@
-//! Calls of a region in tables, each with the answer that is due.
+//! Tables of calls of a region, each with its expected result.
 ghost use Rattle.std.specs.Prelude.{◌≡◌};
 
 use crate::region::calls::Calls;
@@ -8,23 +8,23 @@ use nc_region::{CreateFault, DeleteFault, End, ModifyFault};
 use std::alloc::Global;
 use std::test::Fail;
 
-/// A call, with its answer last.
+/// A call, with its expected result last.
 pub(crate) enum Step<'s> {
-    /// Creates a chunk: its base, how many bundles it has, and the bytes with which it begins. Nops follow.
+    /// Creates a chunk: its base, its number of bundles, and its first bytes. Nops follow.
     Create(u32, usize, &'s [u8], Result<(), CreateFault>),
     /// Modifies: the address, and the new bytes.
     Modify(u32, &'s [u8], Result<(), ModifyFault>),
-    /// Deletes the chunk of this base.
+    /// Deletes the chunk with this base.
     Delete(u32, Result<u64, DeleteFault>),
     /// Walks: the start, the choices, and the places and the end of the trace.
     Walk(u32, &'s [u32], &'s [u32], End),
-    /// Reclaims: how many chunks are freed.
+    /// Reclaims: the number of freed chunks.
     Reclaim(u32),
-    /// How many chunks there are.
+    /// Counts the chunks.
     Count(usize),
 }
 
-/// A chunk that begins with these bytes, for a region of this limit: whether its creation has this answer.
+/// Whether creating a chunk that begins with these bytes, for a region with this limit, has this result.
 pub(crate) fn creates<C: Calls>(
     alloc: Global,
     region: &mut C,
@@ -49,7 +49,7 @@ fn walks<C: Calls>(region: &C, start: u32, choices: &[u32], places: &[u32], end:
     }
 }
 
-/// Whether a call has the answer that is due.
+/// Whether a call has its expected result.
 fn answers<C: Calls>(alloc: Global, region: &mut C, limit: u32, step: &Step) -> Result<bool, Fail> {
     match step {
         Step::Create(base, bundles, front, due) => {
@@ -65,7 +65,7 @@ fn answers<C: Calls>(alloc: Global, region: &mut C, limit: u32, step: &Step) -> 
     }
 }
 
-/// Makes these calls in turn on a region of this limit. Each of them has its answer.
+/// Makes these calls in turn on a region with this limit, and checks that each has its expected result.
 pub(crate) fn take_steps<C: Calls>(
     alloc: Global,
     region: &mut C,
@@ -82,13 +82,13 @@ pub(crate) fn take_steps<C: Calls>(
 
 /// Calls before a check-in and after it.
 pub(crate) struct Steps<'s> {
-    /// Those before it.
+    /// The calls before the check-in.
     pub(crate) before: &'s [Step<'s>],
-    /// Those after it.
+    /// The calls after the check-in.
     pub(crate) after: &'s [Step<'s>],
 }
 
-/// Makes the calls of a region of this limit, with a check-in between.
+/// Makes the calls on a region with this limit, with a check-in in between.
 pub(crate) fn take_both<C: Calls>(
     alloc: Global,
     region: &mut C,

@@ -8,7 +8,7 @@ use nc_region::{Act, Acts, Entry, Plain, Recorder, RegionOf};
 use std::alloc::Global;
 use std::test::Fail;
 
-/// Acts that say which of them were done.
+/// Acts that report which of them were done.
 pub(crate) trait Telling {
     /// The acts, first to last, while they are told.
     fn told(&self) -> Option<&[Act]>;
@@ -27,11 +27,11 @@ impl<A: Acts + Drop> Telling for Recorder<A> {
     }
 }
 
-/// What is tried in a region.
+/// A trial in a region.
 ///
 /// It is generic over the acts, since a proof over a region whose acts are a recorder takes several times as long.
 pub(crate) trait Trial: Drop {
-    /// Tries it in a new region with one seat.
+    /// Makes the trial in a new region with one seat.
     fn run<A: Acts + Telling + Drop>(
         self,
         region: &mut RegionOf<A>,
@@ -57,7 +57,7 @@ pub(crate) fn recorder<'g>(
     Ok(Recorder::new(alloc, plain, room)?)
 }
 
-/// Tries this in a new region over these acts.
+/// Makes a trial in a new region over these acts.
 fn try_over<A: Acts + Telling + Drop, T: Trial>(
     alloc: Global,
     acts: A,
@@ -71,7 +71,7 @@ fn try_over<A: Acts + Telling + Drop, T: Trial>(
     trial.run(&mut region, gens, pass)
 }
 
-/// Tries this in a new region of this size that tells at most `room` acts.
+/// Makes a trial in a new region of this size that tells at most `room` acts.
 pub(crate) fn try_in_region<T: Trial>(
     alloc: Global,
     bundles: u32,

@@ -1,15 +1,15 @@
--- The targets of direct transfers, by the bits of bundles: machinery of the proofs, cited by no public contract.
+-- The targets of direct transfers, by the bits of bundles; machinery of the proofs, cited by no public contract.
 use Rattle.std.specs.Prelude.{◌≡◌, ℕ, ◌+◌, ◌-◌, ◌*◌, ◌%◌, ◌^◌, ◌<◌, ◌≤◌, List, length, drop, get_or, slice_index}
 use Rattle.std.specs.Int.{bit_at, w8, w32, cast_signed, cast_unsigned, from_le_bytes}
 use Rattle.nc_decode.specs.declared.instruction.Mark.TheVariants.{Plain}
 use Rattle.nc_decode.specs.declared.bundle.Bundle.{Bundle}
 use Rattle.nc_decode.specs.Bits.{no_bits, mark_by_bits}
 
--- where a transfer goes whose displacement is the byte at a place
+-- the target of a transfer whose displacement is the byte at place k
 abbrev pub short_to : ℕ → List ℕ → ℕ → ℕ
 short_to base code k = (base + k + 1 + cast_unsigned w32 (cast_signed w8 (slice_index code k))) % 2 ^ 32
 
--- where one goes whose displacement is the four bytes that end with that at a place
+-- the target of a transfer whose displacement is the four bytes that end with the byte at place k
 abbrev pub near_to : ℕ → List ℕ → ℕ → ℕ
 near_to base code k = (base + k + 1 + cast_unsigned w32 (cast_signed w32 (from_le_bytes w32 (drop (k - 3) code)))) % 2 ^ 32
 
@@ -18,23 +18,23 @@ pub record IsGood (base limit : ℕ) (code : List ℕ) (bundles : List Bundle) (
   pub inside : base ≤ to → to - base < length code → mark_by_bits code bundles (to - base) ≡ Plain
   pub outside : (base ≤ to → to - base < length code → ⊥) → (to % 32 ≡ 0) × (to < limit)
 
--- the transfers may go where they go whose displacement is one byte, and of which these are the last bytes, counted from a place
+-- the transfers with one-byte displacements and these last bytes, counted from `start`, have permitted targets
 abbrev pub AreGoodShorts : ℕ → ℕ → List ℕ → List Bundle → ℕ → ℕ → Type 0
 AreGoodShorts base limit code bundles start ends = (k : ℕ) → k < 64 → bit_at ends k ≡ 1
     → IsGood base limit code bundles (short_to base code (start + k))
 
--- the transfers may go where they go whose displacement is four bytes, and of which these are the last bytes, counted from a place
+-- the transfers with four-byte displacements and these last bytes, counted from `start`, have permitted targets
 abbrev pub AreGoodNears : ℕ → ℕ → List ℕ → List Bundle → ℕ → ℕ → Type 0
 AreGoodNears base limit code bundles start ends = (k : ℕ) → k < 64 → bit_at ends k ≡ 1
     → IsGood base limit code bundles (near_to base code (start + k))
 
--- all direct transfers of a bundle may go where they go
+-- all direct transfers of bundle n have permitted targets
 pub record IsJudged (base limit : ℕ) (code : List ℕ) (bundles : List Bundle) (n : ℕ) : Type 0 where
   pub shorts : (k : ℕ) → k < 32 → bit_at (get_or bundles n no_bits).shorts k ≡ 1
       → IsGood base limit code bundles (short_to base code (32 * n + k))
   pub nears : (k : ℕ) → k < 32 → bit_at (get_or bundles n no_bits).nears k ≡ 1
       → IsGood base limit code bundles (near_to base code (32 * n + k))
 
--- all direct transfers of the first bundles may go where they go
+-- all direct transfers of the first `count` bundles have permitted targets
 abbrev pub AreJudged : ℕ → ℕ → List ℕ → List Bundle → ℕ → Type 0
 AreJudged base limit code bundles count = (n : ℕ) → n < count → IsJudged base limit code bundles n

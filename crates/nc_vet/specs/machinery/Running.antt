@@ -1,4 +1,4 @@
--- Running the automaton over bundles: machinery of the proofs, cited by no public contract.
+-- Running the automaton over bundles; machinery of the proofs, cited by no public contract.
 use Rattle.std.specs.Prelude.{◌≡◌, ◌≢◌, ℕ, ◌+◌, ◌-◌, ◌*◌, ◌%◌, ◌^◌, ◌<◌, ◌≤◌, List, [], ◌∷◌, length, take, drop, get_or, slice_index}
 use Rattle.std.specs.Prelude.{◌==◌, nat_le, if◌then◌else◌, ⊤}
 use Rattle.std.specs.Int.{bit_at}
@@ -9,20 +9,20 @@ use Rattle.nc_vet.specs.declared.marks.Marks.{Marks}
 use Rattle.nc_vet.specs.declared.marks.Marks.TheVariants.{Bits, Each}
 use Rattle.nc_decode.specs.Bits.{no_bits}
 
--- the state after some bytes
+-- the state after some bytes, from state s
 abbrev pub run : ℕ → List ℕ → ℕ
 run s [] = s
 run s (b ∷ bs) = run (next_state s b) bs
 
--- the state after the byte at a place, where each bundle is begun anew
+-- the state after the byte at place k, if each bundle begins in `END`
 unfoldable pub state_after : List ℕ → ℕ → ℕ
 state_after code k = run END (take (k % 32 + 1) (drop (k - k % 32) code))
 
--- the state before a place, by those after the places
+-- the state before the byte at place k, given the states S after each byte
 abbrev pub state_before : (ℕ → ℕ) → ℕ → ℕ
 state_before S k = if k % 32 == 0 then END else S (k - 1)
 
--- bits tell the states after a bundle's bytes
+-- the bits of the bundle agree with the states after its 32 bytes
 pub record TellsStates (states : List ℕ) (w : Bundle) : Type 0 where
   pub ends : (k : ℕ) → k < 32 → (bit_at w.ends k == 1) ≡ nat_le END (get_or states k 0)
   pub pairs : (k : ℕ) → k < 32 → (bit_at w.pairs k == 1) ≡ (get_or states k 0 == AFTER_PAIR)
@@ -30,18 +30,18 @@ pub record TellsStates (states : List ℕ) (w : Bundle) : Type 0 where
   pub nears : (k : ℕ) → k < 32 → (bit_at w.nears k == 1) ≡ (get_or states k 0 == AFTER_NEAR)
   pub small : w.pairs < 2 ^ 32
 
--- the state after the first i bytes of the bundle that begins at a place
+-- the state after the first i bytes of the bundle that begins at place `at`
 abbrev pub entered : List ℕ → ℕ → ℕ → ℕ
 entered code at i = if i == 0 then END else state_after code (at + i - 1)
 
--- the states after the first i bytes of that bundle
+-- `state` and `states` are those after the first i bytes of the bundle that begins at place `at`
 pub record HasRun (code : List ℕ) (at i state : ℕ) (states : List ℕ) : Type 0 where
   pub now : state ≡ entered code at i
   pub each : (k : ℕ) → k < i → get_or states k 0 ≡ state_after code (at + k)
   pub long : length states ≡ 32
   pub small : state < STATES
 
--- the bits tell the states after the bytes of the bundle that begins at this place
+-- the bits agree with the states after the bytes of the bundle that begins at place `at`
 pub record TellsBundle (code : List ℕ) (at : ℕ) (w : Bundle) : Type 0 where
   pub ends : (k : ℕ) → k < 32 → (bit_at w.ends k == 1) ≡ nat_le END (state_after code (at + k))
   pub pairs : (k : ℕ) → k < 32 → (bit_at w.pairs k == 1) ≡ (state_after code (at + k) == AFTER_PAIR)
@@ -49,13 +49,13 @@ pub record TellsBundle (code : List ℕ) (at : ℕ) (w : Bundle) : Type 0 where
   pub nears : (k : ℕ) → k < 32 → (bit_at w.nears k == 1) ≡ (state_after code (at + k) == AFTER_NEAR)
   pub small : w.pairs < 2 ^ 32
 
--- the bits tell the states after the bytes of each of these bundles, and an instruction ends with each
+-- the bits of each bundle agree with the states after its bytes, and an instruction ends at the end of each
 abbrev pub AreTold : List ℕ → List Bundle → Type 0
 AreTold code bundles = (n : ℕ) → n < length bundles → TellsBundle code (32 * n) (get_or bundles n no_bits)
     × (END ≤ state_after code (32 * n + 31))
 
--- Bundles of the code are told, and reading may go on at a place: after them, or where an instruction ends in the next one that
--- is no mask, by its last byte.
+-- The bits of the first bundles of the code are right (`AreTold`), and reading may continue at a place: directly after
+-- them, or in the next bundle after the end of an instruction that, by its last byte, isn't a mask.
 pub record EndsFront (code : List ℕ) (bundles : List Bundle) (at : ℕ) : Type 0 where
   pub told : AreTold code bundles
   pub low : 32 * length bundles ≤ at
@@ -63,7 +63,7 @@ pub record EndsFront (code : List ℕ) (bundles : List Bundle) (at : ℕ) : Type
   pub high : at ≤ length code
   pub ended : 32 * length bundles < at → (END ≤ state_after code (at - 1)) × (slice_index code (at - 1) ≢ 0xE0)
 
--- where the marks are bits, they tell the states after the bytes of all bundles of the code
+-- if the marks are kept as bits, the bits agree with the states after the bytes of all bundles of the code
 abbrev pub AreBitsTold : List ℕ → Marks → Type 0
 AreBitsTold code (Bits bundles) = AreTold code bundles.items × (length code ≡ 32 * length bundles.items)
 AreBitsTold code (Each marks) = ⊤
