@@ -102,10 +102,10 @@ extern "C" {
  * The faults.
  *
  *  0 to 10  For a chunk the first fault is returned: 1 to 3 in this order, then the one of 4 to 6 with the lowest address, then 7 with the
- *           lowest address. 8 says nothing about the code, except that 1 to 3 don't hold. 9 from a call without a handle says that the
- *           chunk is valid, or the patch lawful; from a call on a handle it precedes the faults of a patch and follows those of a
- *           chunk. 10 is returned only by nc_host_decode. docs/GUIDE.md says what a compiler may emit; specs/Rows of nc_decode is the
- *           table of permitted instructions.
+ *           lowest address. 8 says nothing about the code, except that 1 to 3 don't hold. NC_NO_ROOM (9) is the last fault of a call
+ *           without a handle: the chunk is valid, or the patch lawful. On a handle it comes before the faults of a patch and after
+ *           those of a chunk. 10 is returned only by nc_host_decode. docs/GUIDE.md says what a compiler may emit; specs/Rows of nc_decode
+ *           is the table of permitted instructions.
  * 16 to 21  For a patch the first of these is returned, in this order. None has an address.
  * 32 to 44  From calls on handles, beside those above.
  */
@@ -278,7 +278,7 @@ typedef struct NcChunk {
 typedef struct NcPlace {
     uint32_t fault;  /* if it isn't NC_OK, all other fields are 0 */
     uint32_t byte;
-    uint32_t mark;   /* as nc_host_marks writes it */
+    uint32_t mark;   /* NC_UNMARKED, NC_PLAIN or NC_MASKED(reg) */
 } NcPlace;
 
 typedef struct NcWalk {
@@ -318,8 +318,8 @@ NcVerdict nc_host_marks(uint32_t base, uint32_t limit, const uint8_t *code, size
 
 /*
  * Vets a chunk, and writes the acts of its creation, which put it into a span of the text that holds only stops.
- * Promised: for NC_OK exactly the `len` + 2 acts of a creation (log_of_create): the first `len` - `len` / 32 put the bytes that aren't at
- * bundle starts, the next is NC_SETTLE, the next marks the span, and the others put the bytes at bundle starts. NC_NO_ROOM if the chunk is
+ * Promised: for NC_OK exactly the `len` + 2 elements of a creation (log_of_create): the first `len` - `len` / 32 put the bytes that aren't
+ * at bundle starts, the next is NC_SETTLE, the next marks the span, and the others put the bytes at bundle starts. NC_NO_ROOM if the chunk is
  * valid and the buffer has room for fewer acts. That every path is confined between any two of these acts is proved for a region's
  * creation, which makes them in an unused span.
  * Not promised: that the span is unused; the host knows its chunks.
@@ -381,8 +381,8 @@ uint32_t nc_host_version(void);
 
 /*
  * Makes a region of `bundles` bundles, all stops, with no chunk and `seats` seats (IsFirst), in an empty handle.
- * Promised: NC_HANDLE_TAKEN for a handle that isn't empty; else NC_BAD_SEATS and NC_BAD_SIZE exactly where they apply, in this order;
- * else no fault except NC_OUT_OF_MEMORY.
+ * Promised: NC_HANDLE_TAKEN for a handle that isn't empty; else NC_BAD_SEATS unless `seats` is 1 to 256; else NC_BAD_SIZE unless `bundles`
+ * is NC_MIN_BUNDLES to NC_MAX_BUNDLES; else no fault except NC_OUT_OF_MEMORY.
  * Cost: memory for a table of the text's pages, and 8 bytes and more for each seat.
  */
 uint32_t nc_region_new(uint32_t bundles, uint32_t seats, NcRegion *region);
@@ -431,8 +431,9 @@ NcChange nc_region_load(NcRegion *region, NcVetted *vetted, NcAct *acts, size_t 
 
 /*
  * Patches a chunk (IsPatch, IsModified), and writes the acts as nc_host_patch does.
- * Promised: a refusal is NC_NO_HANDLE; else the first of NC_UNDER_WAY, NC_NO_ROOM (for at most 32 bytes; more are a fault of the patch) and
- * the faults of a patch that holds. A buffer of 3 * `len` acts is enough; an `acts_len` of 0 makes the change without telling its acts.
+ * Promised: a refusal is NC_NO_HANDLE; else the first of NC_UNDER_WAY, NC_NO_ROOM (not returned for more than 32 bytes, which are
+ * NC_PATCH_BAD_SPAN) and the faults of a patch that holds. A buffer of 3 * `len` acts is enough; an `acts_len` of 0 makes the change
+ * without telling its acts.
  * The bytes must be whole instructions, even where only an immediate or a displacement in one changes. Acts are written for the
  * instructions that differ, so `count` may be 0. The host must make the acts after the call, before the next change.
  * Cost: that of the patch and of its targets' bundles, whatever the chunk; no memory is allocated.
@@ -440,7 +441,8 @@ NcChange nc_region_load(NcRegion *region, NcVetted *vetted, NcAct *acts, size_t 
 NcChange nc_region_patch(NcRegion *region, uint32_t at, const uint8_t *bytes, size_t len, NcAct *acts, size_t acts_len);
 
 /*
- * The first step of a deletion: writes its acts as nc_host_delete does; the region still has the chunk (HasBegun). Until the last step,
+ * The first step of a deletion: writes its acts as nc_host_delete does; the region still has the chunk (HasBegun), so nc_region_place and
+ * nc_region_walk show its bytes, while the host's memory gets stops. Until the last step,
  * which can't be left out, each call that changes the region is refused with NC_UNDER_WAY; calls that only read, and nc_region_seat,
  * are not.
  * Promised: a refusal is NC_NO_HANDLE; else the first of NC_UNDER_WAY, NC_NO_CHUNK, NC_FULL and NC_NO_ROOM that holds. A buffer for two
@@ -491,7 +493,8 @@ NcCount nc_region_reclaim(NcRegion *region);
    the same at each index. */
 NcChunk nc_region_chunk(NcRegion *region, size_t index);
 
-/* Returns the byte and the mark at an address of the region. It changes nothing. */
+/* Returns the byte and the mark at an address of the region; else NC_NO_HANDLE, or NC_NO_PLACE exactly below NC_START and from the limit
+   on. It changes nothing. */
 NcPlace nc_region_place(NcRegion *region, uint32_t at);
 
 /*

@@ -5,8 +5,9 @@ import re
 import sys
 
 STANDS_FOR = {("nc_decode", "specs/machinery/Reading.antt", "reading"): ("nc_decode", "specs/Front.antt", "IsExact")}
-# A definition that is only a premise, with the file whose public functions are each proved to meet it.
-MET_BY = {("nc_calls", "specs/Histories.antt", "IsCall"): ("nc_calls", "src/calls.rt")}
+# A definition that is only a premise, with the file whose public functions are each proved to meet it, and the clauses that say so. (The
+# other clauses of these functions say what their bodies, of one line each, do.)
+MET_BY = {("nc_calls", "specs/Histories.antt", "IsCall"): ("nc_calls", "src/calls.rt", ("call", "refused", "logged"))}
 
 IMPORT = re.compile(r"^\s*(?:ghost |pub )*use Rattle\.(nc_\w+)\.specs\.([\w.]+?)(?:\.\{([^}]*)\}| as (\w+));?", re.M)
 START = re.compile(r"^(?:(?:abbrev|unfoldable) )?(?:pub )?(?:(record|data) )?([A-Za-z_][\w']*)(?: |$)")
@@ -144,11 +145,13 @@ class Definitions(Files):
                 cited = self.clauses(*MET_BY[key]) if key in MET_BY else file.names(file.parts[name], {name})
                 todo += [(other, name) for other in cited]
 
-    def clauses(self, crate, path):
-        """The definitions that the clauses of a file's public functions name."""
+    def clauses(self, crate, path, names):
+        """The definitions that the clauses of these names, the conditions and the types of a file's public functions name."""
         text = pathlib.Path("crates", crate, path).read_text(encoding="utf-8")
         found = re.findall(r"^pub fn .*?^{", text, re.M | re.S)
-        return self.file(crate, path).names(counted("".join(found).split("\n")))
+        parts = [part for function in found for part in re.split(r"^(?=    ensures )", function, flags=re.M)]
+        kept = [part for part in parts if not part.startswith("    ensures ") or part.split()[1] in names]
+        return self.file(crate, path).names(counted("".join(kept).split("\n")))
 
     def law(self, name):
         """The definitions that the clauses of a public function name, or None if there is no such function."""

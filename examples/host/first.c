@@ -10,7 +10,7 @@
 #include <string.h>
 
 #define BUNDLES 4u
-#define ROOM (NC_BUNDLE + 2) /* places that are enough for the acts of any change of a chunk of one bundle but a long patch's */
+#define ROOM (NC_BUNDLE + 2) /* enough to create or delete a chunk of one bundle, or to patch up to 11 bytes */
 
 static uint8_t memory[BUNDLES * NC_BUNDLE]; /* what threads would execute */
 static NcAct acts[ROOM];

@@ -235,8 +235,10 @@ static void obey(void) {
         printf("freed %u\n", (unsigned)nc_region_reclaim(&region).count);
     } else if (strcmp(name, "walk") == 0) {
         walk(at);
-    } else {
+    } else if (strcmp(name, "dump") == 0) {
         dump();
+    } else {
+        puts("bad line");
     }
 }
 

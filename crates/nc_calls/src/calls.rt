@@ -2,9 +2,13 @@
 //!
 //! [`law_of_histories`](crate::law_of_histories) is about lists of calls, and `IsCall` says what a call is. That `IsCall`
 //! describes what a region does needn't be taken on trust: each function here makes one call of a region, and its contract
-//! says that this is one by `IsCall`.
+//! says what that call did, and that its log is a call by `IsCall`.
 
-ghost use Rattle.std.specs.Prelude.{◌≡◌, ℕ, List, [], ◌∷◌, Contains, OnOk, OnErr};
+ghost use Rattle.std.specs.Prelude.{◌≡◌, ℕ, List, [], ◌∷◌, Contains, IfOk, IfErr, OnOk, OnErr};
+ghost use Rattle.nc_gens.specs.Seen.{HasMet};
+ghost use Rattle.nc_region.specs.Region.{IsCreated, IsRefused, MayRefuse};
+ghost use Rattle.nc_region.specs.Patch.{IsModified, MayRefusePatch};
+ghost use Rattle.nc_region.specs.Deletion.{IsDeleted, MayRefuseDelete, IsReclaimed};
 ghost use Rattle.nc_region.specs.schedules.Events.{Event};
 ghost use Rattle.nc_region.specs.declared.chunk.Chunk.{Chunk};
 ghost use Rattle.nc_region.specs.Quiet.{retired_spans};
@@ -20,6 +24,10 @@ pub fn create<A: Acts + Drop>(
     region: &mut RegionOf<A>,
     vetted: Vetted,
 ) -> Result<(), (Vetted, CreateFault)>
+    // As `RegionOf::create` ensures it.
+    ensures created { OnOk result (IsCreated region.old region.new vetted) }
+    ensures unchanged { IfErr result (λ e. (e.0 ≡ vetted) × IsRefused region.old region.new vetted e.1) }
+    ensures due { IfErr result (λ e. MayRefuse region.old vetted e.1) }
     ensures call { (seats : ℕ) → OnOk result (LogsCall seats (record no_details { marks = vetted.marks }) region.old region.new) }
     ensures refused { (seats : ℕ) → OnErr result (LogsCall seats no_details region.old region.new) }
 {
@@ -34,6 +42,9 @@ pub fn modify<A: Acts + Drop>(
     at: u32,
     new: &[u8],
 ) -> Result<(), ModifyFault>
+    // As `RegionOf::modify` ensures it.
+    ensures modified { OnOk result (IsModified region.old region.new at new.now) }
+    ensures due { IfErr result (MayRefusePatch region.old at new.now) }
     ensures call { (seats : ℕ) → LogsCall seats no_details region.old region.new }
 {
     region.modify(at, new)
@@ -41,6 +52,9 @@ pub fn modify<A: Acts + Drop>(
 
 /// [`RegionOf::delete`]. Its log is a call of a history, in which the span of the deleted chunk is retired.
 pub fn delete<A: Acts + Drop>(region: &mut RegionOf<A>, base: u32) -> Result<u64, DeleteFault>
+    // As `RegionOf::delete` ensures it.
+    ensures deleted { IfOk result (IsDeleted region.old region.new base) }
+    ensures due { IfErr result (MayRefuseDelete region.old base) }
     ensures call { (seats : ℕ) → OnOk result ((c : Chunk) × Contains region.old.chunks c × (c.base ≡ base)
         × LogsCall seats (record no_details { base = base; len = c.length }) region.old region.new) }
     ensures refused { (seats : ℕ) → OnErr result (LogsCall seats no_details region.old region.new) }
@@ -50,6 +64,8 @@ pub fn delete<A: Acts + Drop>(region: &mut RegionOf<A>, base: u32) -> Result<u64
 
 /// [`RegionOf::reclaim`]. Its log is a call of a history: it looks at each seat, and frees spans of retired chunks.
 pub fn reclaim<A: Acts + Drop>(region: &mut RegionOf<A>) -> u32
+    // As `RegionOf::reclaim` ensures it.
+    ensures reclaimed { IsReclaimed region.old region.new result }
     ensures call { (seats : ℕ)
         → LogsCall seats (record no_details { seats = seats; spans = retired_spans region.old.chunks }) region.old region.new }
 {
@@ -59,6 +75,8 @@ pub fn reclaim<A: Acts + Drop>(region: &mut RegionOf<A>) -> u32
 /// [`RegionOf::meet`]. It is a call of a history, in which the keeper looks at the pass's seat; it logs nothing.
 pub fn meet<A: Acts + Drop>(region: &mut RegionOf<A>, pass: &mut Pass)
     requires { pass.old.table ≡ region.old.keeper.table }
+    // As `RegionOf::meet` ensures it.
+    ensures met { HasMet pass.old region.old.keeper pass.new region.new.keeper }
     ensures call { (seats : ℕ) → IsCall seats region.old region.new (Event.Looks pass.old.seat ∷ []) }
     ensures logged { region.new.logged ≡ region.old.logged }
 {

@@ -9,7 +9,7 @@ use std::io::{ErrorKind, Input};
 use std::rt::Files;
 
 /// Why a file isn't judged.
-#[derive(Clone, Copy, Debug, Drop, PartialEq, Eq)]
+#[derive(Clone, Copy, Drop)]
 pub enum Unread {
     /// No file has this name.
     Missing,

@@ -7,7 +7,7 @@ use clap::error::ErrorKind;
 use std::io::ErrorKind as IoKind;
 
 /// Why the program stops before it has been through its files.
-#[derive(Debug, Drop)]
+#[derive(Drop)]
 pub enum Halt {
     /// The words of the command line can't be carried out, or ask for help.
     Words(clap::Error),
@@ -62,7 +62,7 @@ impl Halt {
 }
 
 /// The findings about the files so far.
-#[derive(Clone, Copy, Debug, Drop, PartialEq, Eq)]
+#[derive(Clone, Copy, Drop)]
 pub struct Outcome {
     /// A file couldn't be read, or was too long.
     pub is_faulty: bool,

@@ -28,7 +28,7 @@ pub fn law_of_fronts()
     ensures exact_masks { MasksExactly }
     // An instruction with a prefix has the flow `Next` and masks nothing.
     ensures prefixes { GoesOnAfterPrefix }
-    // No permitted instruction is barred: none is a return, a far transfer, a software interrupt, SYSCALL or SYSENTER, and
+    // No permitted instruction is barred: none is RET, IRET, a far transfer, INT3, INT n, INTO, SYSCALL or SYSENTER, and
     // none has a segment override.
     ensures allowed { NeverBarred }
     // The instruction at the front of some bytes isn't barred.

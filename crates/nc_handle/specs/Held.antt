@@ -117,17 +117,17 @@ pub record HasEnded (old new : HeldState) (stamp : ℕ) : Type 0 where
   pub deleted : IsDeleted old.region new.region chunk.base stamp
   pub others : new ≡ record old { region = new.region; begun = None }
 
--- The last of the passes not given out yet has been given to a seat. All else is as before.
+-- the last of the passes not given out yet has been given out; all else is as before
 pub record HasGiven (old new : HeldState) (guest : PassState) : Type 0 where
   pub passes : old.passes ≡ new.passes ++ guest ∷ []
   pub others : new ≡ record old { passes = new.passes }
 
--- the pass has a seat of the region's table, and the keeper's bound for it is at least this number
+-- the keeper has a bound for the pass's seat number, and it is at least this number
 abbrev pub IsIn : Region → ℕ → PassState → Type 0
 IsIn r number p = (p.seat < length r.keeper.numbers.bounds) × (number ≤ slice_index r.keeper.numbers.bounds p.seat)
 
--- No deletion was under way. The passes not given out yet checked in, the keeper met them, and this many retired chunks
--- were reclaimed (`IsReclaimed` of nc_region). These passes keep their seats, and the keeper's bounds for them are at
+-- No deletion was under way. The keeper's bounds may have risen, and then this many retired chunks were reclaimed
+-- (`IsReclaimed` of nc_region). The passes not given out keep their seat numbers, and the keeper's bounds for these are at
 -- least the generation. All else is as before.
 pub record HasReclaimed (old new : HeldState) (count : ℕ) : Type 0 where
   pub none : old.begun ≡ None

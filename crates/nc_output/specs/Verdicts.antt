@@ -16,7 +16,7 @@ IsValidAt base limit bytes = (marks : List Mark) × IsValid (record { base = bas
 abbrev pub with_line_end : List ℕ → List ℕ
 with_line_end line = line ++ 10 ∷ []
 
--- `refused` and a name
+-- `refused`, a space, and these words
 abbrev pub refused_words : List ℕ → List ℕ
 refused_words name = codes "refused " ++ name
 

@@ -1,6 +1,6 @@
 //! The verdict on a chunk that has a fault, as text.
 
-ghost use Rattle.std.specs.Prelude.{◌≡◌, ◌≢◌, ◌++◌, ◌∷◌, [], IfOk, OnOk};
+ghost use Rattle.std.specs.Prelude.{◌≡◌, ◌≢◌, ◌++◌, ◌∷◌, [], IfOk, OnOk, OnErr};
 ghost use Rattle.hex.specs.Hex.{encode_lower};
 ghost use Rattle.nc_vet.specs.declared.fault.VetFault.TheVariants as vet;
 ghost use Rattle.nc_output.specs.Verdicts.{address_digits, fault_name, place_of, address_after, fault_words, refused_words};
@@ -29,7 +29,8 @@ pub fn push_address(out: &mut Vec<u8>, at: u32) -> Result<(), AllocError>
 
 /// A fault's name. Lack of memory is not a verdict: it is returned as an error.
 pub fn fault_name(fault: VetFault) -> Result<&'static [u8], AllocError>
-    ensures { IfOk result (λ name. (fault ≢ vet.OutOfMemory) × (name.now ≡ fault_name fault)) }
+    ensures named { IfOk result (λ name. (fault ≢ vet.OutOfMemory) × (name.now ≡ fault_name fault)) }
+    ensures unnamed { OnErr result (fault ≡ vet.OutOfMemory) }
 {
     match fault {
         VetFault::BadBase => Ok(b"BadBase"),

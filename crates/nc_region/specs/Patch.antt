@@ -42,8 +42,8 @@ AreInstructions bytes = (pieces : List Piece) × AreBytesOf bytes pieces
 abbrev pub lengths : List Piece → List ℕ
 lengths pieces = map (λ p. length p.bytes) pieces
 
--- The new bytes are whole instructions that fit in the place of consecutive pieces from `at` on, one for one, each piece
--- as long as the new instruction. The first piece is at the base.
+-- The pieces begin at `base`. The new bytes are whole permitted instructions that fit in the place of consecutive pieces
+-- from `at` on, one for one, each as long as the piece.
 pub record IsRunOf (pieces : List Piece) (base at : ℕ) (new : List ℕ) : Type 0 where
   pub before : List Piece
   pub old : List Piece
@@ -73,7 +73,7 @@ pub record SparesPair (old : Piece) (rest : List Piece) (new : Piece) : Type 0 w
   pub transfer : is_indirect new.instr.flow ≡ is_indirect old.instr.flow
   pub register : IsTrue (is_indirect old.instr.flow) → new.instr.reg ≡ old.instr.reg
 
--- each new instruction, compared with the old one at its place, leaves pairs intact (`SparesPair`)
+-- each new instruction leaves pairs intact in the place of the old one of the same index (`SparesPair`)
 abbrev pub SparesPairs : (old news : List Piece) → Type 0
 SparesPairs old [] = ⊤
 SparesPairs [] (n ∷ news) = ⊤
@@ -84,11 +84,11 @@ abbrev pub GoWell : (ℕ → Type 0) → ℕ → List Piece → Type 0
 GoWell good at [] = ⊤
 GoWell good at (p ∷ rest) = (IsTrue (is_direct p.instr.flow) → good (target p.instr at)) × GoWell good (at + length p.bytes) rest
 
--- the new instructions leave the pairs of the old ones intact
+-- the new instructions leave the pairs that they touch intact
 abbrev pub LeavesPairs : {pieces : List Piece} {base at : ℕ} {new : List ℕ} → IsRunOf pieces base at new → Type 0
 LeavesPairs run = SparesPairs (run.old ++ run.after) run.news
 
--- each direct transfer of the new instructions goes to a target that the old pieces allow for this limit (`IsTarget`)
+-- each direct transfer of the new instructions goes to a target that all of the pieces allow for this limit (`IsTarget`)
 abbrev pub KeepsTargets : {pieces : List Piece} {base at : ℕ} {new : List ℕ} → ℕ → IsRunOf pieces base at new → Type 0
 KeepsTargets {pieces} {base} {at} limit run = GoWell (IsTarget base limit pieces) at run.news
 
@@ -101,18 +101,18 @@ Fits r at new = (c : Chunk) × IsHeldBy r.chunks at c × IsRun r.marked c at new
 abbrev pub FitsBesidePairs : Region → ℕ → List ℕ → Type 0
 FitsBesidePairs r at new = (c : Chunk) × IsHeldBy r.chunks at c × ((is : IsRun r.marked c at new) × LeavesPairs is.run)
 
--- A lawful patch: the new bytes lie in one bundle and take the place of whole instructions of a live chunk, each as long
--- as the new one. They leave its pairs alone (`SparesPair`), and their direct transfers go where those of a valid chunk
--- may (Yee et al. 2009, C7).
+-- A lawful patch: the new bytes, at least one, lie in one bundle and take the place of whole instructions of a live chunk,
+-- each as long as the new one. They leave its pairs alone (`SparesPair`), and their direct transfers go where those of a
+-- valid chunk may (Yee et al. 2009, C7).
 abbrev pub IsPatch : Region → ℕ → List ℕ → Type 0
 IsPatch r at new =
     IsPatchSpan at (length new)
     × ((c : Chunk) × IsHeldBy r.chunks at c
     × ((is : IsRun r.marked c at new) × LeavesPairs is.run × KeepsTargets (limit_of r.marked.bytes) is.run))
 
--- A patch is refused for the first of these conditions that doesn't hold: the bytes lie in one bundle; they begin in a
--- live chunk (`Held`); they are whole instructions; they fit in the place of instructions of the chunk (`Fit`); they leave
--- pairs alone (`Beside`); their targets are good (`Lawful`).
+-- A patch is refused for the first of these conditions that doesn't hold: there is at least one byte, and all are in one
+-- bundle; they begin in a live chunk (`Held`); they are whole permitted instructions; they fit in the place of instructions
+-- of the chunk (`Fit`); they also leave pairs alone (`Beside`); their targets, too, are good (`Lawful`).
 abbrev pub IsRefusalBy : (Held Fit Beside Lawful : Type 0) → ℕ → List ℕ → ModifyFault → Type 0
 IsRefusalBy Held Fit Beside Lawful at new BadSpan = ¬ IsPatchSpan at (length new)
 IsRefusalBy Held Fit Beside Lawful at new NotLive = IsPatchSpan at (length new) × ¬ Held
@@ -121,10 +121,10 @@ IsRefusalBy Held Fit Beside Lawful at new Boundaries = IsPatchSpan at (length ne
 IsRefusalBy Held Fit Beside Lawful at new PairTouched = IsPatchSpan at (length new) × Fit × ¬ Beside
 IsRefusalBy Held Fit Beside Lawful at new BadTarget = IsPatchSpan at (length new) × Beside × ¬ Lawful
 
--- When `modify` may return each fault: it names the first of these conditions that doesn't hold. The bytes lie in one
--- bundle (`BadSpan`); they begin in a live chunk (`NotLive`); they are whole instructions (`NotPermitted`); they fit in the
--- place of instructions of the chunk (`Boundaries`); they leave pairs alone (`PairTouched`); their targets are good
--- (`BadTarget`).
+-- When `modify` may return each fault: it names the first of these conditions that doesn't hold. There is at least one
+-- byte, and all are in one bundle (`BadSpan`); they begin in a live chunk (`NotLive`); they are whole permitted instructions
+-- (`NotPermitted`); they fit in the place of instructions of the chunk (`Boundaries`); they leave pairs alone
+-- (`PairTouched`); their targets are good (`BadTarget`).
 abbrev pub MayRefusePatch : Region → ℕ → List ℕ → ModifyFault → Type 0
 MayRefusePatch r at new fault = IsRefusalBy (IsHeld r.chunks at) (Fits r at new) (FitsBesidePairs r at new) (IsPatch r at new) at new fault
 

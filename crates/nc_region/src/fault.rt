@@ -45,7 +45,7 @@ pub enum ModifyFault {
     /// There are no new bytes, or they don't lie in one bundle.
     #[error("bad span")]
     BadSpan,
-    /// The bundle isn't part of a live chunk.
+    /// The bytes don't begin in a live chunk.
     #[error("not live")]
     NotLive,
     /// The new bytes aren't a sequence of whole permitted instructions.

@@ -17,7 +17,7 @@ pub record HoldsPlace (chunks : List ScriptChunk) (at base : ℕ) (bytes : List 
 abbrev pub LiesInLive : List ScriptChunk → ℕ → Type 0
 LiesInLive chunks at = (base : ℕ) × (bytes : List ℕ) × HoldsPlace chunks at base bytes
 
--- the new bytes replace whole instructions of a live chunk
+-- the new bytes fit in the place of whole instructions of a live chunk, which is valid for the script's limit
 pub record Replaces (script : Script) (at : ℕ) (new : List ℕ) : Type 0 where
   pub base : ℕ
   pub bytes : List ℕ
@@ -26,12 +26,13 @@ pub record Replaces (script : Script) (at : ℕ) (new : List ℕ) : Type 0 where
   pub valid : IsValid (record { base = base; limit = script.limit; code = bytes; marks = marks })
   pub run : IsRunOf valid.pieces base at new
 
--- the new bytes replace whole instructions of a live chunk, and leave pairs alone
+-- the new bytes fit in the place of whole instructions of a live chunk, and leave pairs alone
 abbrev pub ReplacesBesidePairs : Script → ℕ → List ℕ → Type 0
 ReplacesBesidePairs script at new = (r : Replaces script at new) × LeavesPairs r.run
 
--- A lawful patch of a script's chunk: the new bytes are in one bundle and replace whole instructions of a live chunk, each by
--- one of the same length. Pairs are left alone, and direct transfers target only what those of a valid chunk may.
+-- A lawful patch of a script's chunk: the new bytes, at least one, are in one bundle and fit in the place of whole
+-- instructions of a live chunk, one for one. They leave pairs alone, and their direct transfers go where those of a valid
+-- chunk may.
 abbrev pub IsLawfulPatch : Script → ℕ → List ℕ → Type 0
 IsLawfulPatch script at new =
     IsPatchSpan at (length new) × ((r : Replaces script at new) × LeavesPairs r.run × KeepsTargets script.limit r.run)

@@ -70,7 +70,7 @@ runs_of_delete marks base len =
     runs_where StopRun (is_marked_at marks) base (len / 32)
     ++ (Single Settled ∷ (runs_where StopRun (is_unmarked_at marks) base (len / 32) ++ Single (Did Bump) ∷ []))
 
--- The buffer now begins with these runs, followed by its old contents; the count is their number, and they stand for
+-- The buffer now begins with these runs, and is as before beyond them; the count is their number, and they stand for
 -- exactly this log of a chunk. A run is an entry; or it is 7 (the chunk's bytes) or 8 (F4), an address, and a number
 -- whose bits select among the 32 places from that address on, the lowest bit the first.
 pub record HasRuns (start now : List NcAct) (count base : ℕ) (code : List ℕ) (runs : List Run) (log : List Entry) : Type 0 where

@@ -4,7 +4,7 @@ use Rattle.nc_region.specs.declared.acts.Entry.{Entry}
 use Rattle.nc_handle.specs.declared.acts.act.NcAct.{NcAct}
 use Rattle.nc_handle.specs.acts.Shown.{entry_of, over}
 
--- the buffer now begins with exactly this log's entries, followed by its old contents; the count is their number
+-- the buffer now begins with exactly this log's entries, and is as before beyond them; the count is their number
 pub record HasWritten (start now : List NcAct) (count : ℕ) (log : List Entry) : Type 0 where
   pub buffer : now ≡ over (map entry_of log) start
   pub counted : count ≡ length log

@@ -8,7 +8,7 @@ use Rattle.nc_report.proofs.objects.push_refused_object.Goals as goal
 
 pub returns : goal.returns
 returns c =
-    let (real, named) = c.in_ok-fault_name.ensures in
+    let (real, named) = c.in_ok-fault_name.ensures.named in
     let head = c.push_head.new.out.items in
     on_ok_weaker c.push_end.result
     (λ e. (
