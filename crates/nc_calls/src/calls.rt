@@ -4,10 +4,11 @@
 //! describes what a region does needn't be taken on trust: each function here makes one call of a region, and its contract
 //! says what that call did, and that its log is a call by `IsCall`.
 
-ghost use Rattle.std.specs.Prelude.{◌≡◌, ℕ, List, [], ◌∷◌, Contains, IfOk, IfErr, OnOk, OnErr};
+ghost use Rattle.std.specs.Prelude.{◌≡◌, ℕ, List, [], ◌∷◌, length, Contains, IfOk, IfErr, OnOk, OnErr};
+ghost use Rattle.nc_text.specs.Places.{limit_of};
 ghost use Rattle.nc_gens.specs.Seen.{HasMet};
-ghost use Rattle.nc_region.specs.Region.{IsCreated, IsRefused, MayRefuse};
-ghost use Rattle.nc_region.specs.Patch.{IsModified, MayRefusePatch};
+ghost use Rattle.nc_region.specs.Region.{IsCreated, IsRefused, MayRefuse, Meets};
+ghost use Rattle.nc_region.specs.Patch.{IsPatch, IsModified, MayRefusePatch};
 ghost use Rattle.nc_region.specs.Deletion.{IsDeleted, MayRefuseDelete, IsReclaimed};
 ghost use Rattle.nc_region.specs.schedules.Events.{Event};
 ghost use Rattle.nc_region.specs.declared.chunk.Chunk.{Chunk};
@@ -26,6 +27,8 @@ pub fn create<A: Acts + Drop>(
 ) -> Result<(), (Vetted, CreateFault)>
     // As `RegionOf::create` ensures it.
     ensures created { OnOk result (IsCreated region.old region.new vetted) }
+    ensures free { OnOk result ((vetted.limit ≡ limit_of region.old.marked.bytes)
+        × ¬ Meets vetted.base (length vetted.code) region.old.chunks) }
     ensures unchanged { IfErr result (λ e. (e.0 ≡ vetted) × IsRefused region.old region.new vetted e.1) }
     ensures due { IfErr result (λ e. MayRefuse region.old vetted e.1) }
     ensures call { (seats : ℕ) → OnOk result (LogsCall seats (record no_details { marks = vetted.marks }) region.old region.new) }
@@ -44,6 +47,8 @@ pub fn modify<A: Acts + Drop>(
 ) -> Result<(), ModifyFault>
     // As `RegionOf::modify` ensures it.
     ensures modified { OnOk result (IsModified region.old region.new at new.now) }
+    ensures lawful { OnOk result (IsPatch region.old at new.now) }
+    ensures unchanged { IfErr result (λ e. region.new ≡ region.old) }
     ensures due { IfErr result (MayRefusePatch region.old at new.now) }
     ensures call { (seats : ℕ) → LogsCall seats no_details region.old region.new }
 {
@@ -54,6 +59,7 @@ pub fn modify<A: Acts + Drop>(
 pub fn delete<A: Acts + Drop>(region: &mut RegionOf<A>, base: u32) -> Result<u64, DeleteFault>
     // As `RegionOf::delete` ensures it.
     ensures deleted { IfOk result (IsDeleted region.old region.new base) }
+    ensures unchanged { OnErr result (region.new ≡ region.old) }
     ensures due { IfErr result (MayRefuseDelete region.old base) }
     ensures call { (seats : ℕ) → OnOk result ((c : Chunk) × Contains region.old.chunks c × (c.base ≡ base)
         × LogsCall seats (record no_details { base = base; len = c.length }) region.old region.new) }
@@ -77,6 +83,7 @@ pub fn meet<A: Acts + Drop>(region: &mut RegionOf<A>, pass: &mut Pass)
     requires { pass.old.table ≡ region.old.keeper.table }
     // As `RegionOf::meet` ensures it.
     ensures met { HasMet pass.old region.old.keeper pass.new region.new.keeper }
+    ensures others { region.new ≡ record region.old { keeper = region.new.keeper } }
     ensures call { (seats : ℕ) → IsCall seats region.old region.new (Event.Looks pass.old.seat ∷ []) }
     ensures logged { region.new.logged ≡ region.old.logged }
 {

@@ -1,5 +1,5 @@
 -- The function that finds the instruction at the front of some bytes, and its properties. `law_of_fronts` ties it to the
--- relation of `Spelling`; the crates above cite only these definitions.
+-- relation of `Spelling`; the crates above reason by these definitions.
 use Rattle.std.specs.Prelude.{◌≡◌, ◌≢◌, ◌↔◌, ℕ, ◌<◌, ◌≤◌, List, [], ◌∷◌, ◌++◌, length, take, Option, Some, None, nat_lt, if◌then◌else◌}
 use Rattle.std.specs.Prelude.{pos, IfSome, IsTrue}
 use Rattle.std.specs.Result.{result_ok}

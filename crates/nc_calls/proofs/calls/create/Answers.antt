@@ -8,3 +8,15 @@ returns-clause-call g c = λ seats.
 
 pub returns-clause-refused : goal.returns-clause-refused
 returns-clause-refused g c = λ seats. refuses c.create.result seats _ _ c.args.vetted c.create.ensures.unchanged
+
+pub returns-clause-created : goal.returns-clause-created
+returns-clause-created g c = c.create.ensures.created
+
+pub returns-clause-free : goal.returns-clause-free
+returns-clause-free g c = c.create.ensures.free
+
+pub returns-clause-unchanged : goal.returns-clause-unchanged
+returns-clause-unchanged g c = c.create.ensures.unchanged
+
+pub returns-clause-due : goal.returns-clause-due
+returns-clause-due g c = c.create.ensures.refused

@@ -6,3 +6,12 @@ returns-clause-call g c = λ seats. deletes c.delete.result seats _ _ c.args.bas
 
 pub returns-clause-refused : goal.returns-clause-refused
 returns-clause-refused g c = λ seats. deletes_nothing c.delete.result seats _ _ c.delete.ensures.unchanged
+
+pub returns-clause-deleted : goal.returns-clause-deleted
+returns-clause-deleted g c = c.delete.ensures.deleted
+
+pub returns-clause-unchanged : goal.returns-clause-unchanged
+returns-clause-unchanged g c = c.delete.ensures.unchanged
+
+pub returns-clause-due : goal.returns-clause-due
+returns-clause-due g c = c.delete.ensures.refused
