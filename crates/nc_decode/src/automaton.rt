@@ -29,72 +29,82 @@ pub const AFTER_NEAR: u8 = State::AfterNear as u8;
 /// After an indirect transfer with its mask.
 pub const AFTER_PAIR: u8 = State::AfterPair as u8;
 
-/// The states after an opcode with this entry: with no prefix, and after 66, F3, F2 and F0.
+/// The state after an opcode with this entry, with no prefix (0) or after 66 (1), F3 (2), F2 (3) or F0 (4).
 #[rattlefmt::skip]
 macro_rules! kind {
-    //           none         66           F3    F2    F0
+    //                                     none         66           F3    F2    F0
     // No opcode, and opcodes with nothing after them.
-    (NO)   => { [Dead,        Dead,        Dead, Dead, Dead] };
-    (OP)   => { [End,         Dead,        Dead, Dead, Dead] };
-    (STOP) => { [End,         Dead,        Dead, Dead, Dead] };
-    (OPV)  => { [End,         End,         Dead, Dead, Dead] };
-    (STR)  => { [End,         Dead,        End,  Dead, Dead] };
-    (STRV) => { [End,         End,         End,  Dead, Dead] };
-    (SCN)  => { [End,         Dead,        End,  End,  Dead] };
-    (SCNV) => { [End,         End,         End,  End,  Dead] };
+    (NO $prefix:tt)   => { column!($prefix Dead,        Dead,        Dead, Dead, Dead) };
+    (OP $prefix:tt)   => { column!($prefix End,         Dead,        Dead, Dead, Dead) };
+    (STOP $prefix:tt) => { column!($prefix End,         Dead,        Dead, Dead, Dead) };
+    (OPV $prefix:tt)  => { column!($prefix End,         End,         Dead, Dead, Dead) };
+    (STR $prefix:tt)  => { column!($prefix End,         Dead,        End,  Dead, Dead) };
+    (STRV $prefix:tt) => { column!($prefix End,         End,         End,  Dead, Dead) };
+    (SCN $prefix:tt)  => { column!($prefix End,         Dead,        End,  End,  Dead) };
+    (SCNV $prefix:tt) => { column!($prefix End,         End,         End,  End,  Dead) };
     // Prefixes, and 0F.
-    (P66)  => { [After66,     Dead,        Dead, Dead, Dead] };
-    (PF3)  => { [AfterF3,     Dead,        Dead, Dead, Dead] };
-    (PF2)  => { [AfterF2,     Dead,        Dead, Dead, Dead] };
-    (PF0)  => { [AfterF0,     Dead,        Dead, Dead, Dead] };
-    (ESC)  => { [After0F,     After66_0F,  Dead, Dead, AfterF0_0F] };
+    (P66 $prefix:tt)  => { column!($prefix After66,     Dead,        Dead, Dead, Dead) };
+    (PF3 $prefix:tt)  => { column!($prefix AfterF3,     Dead,        Dead, Dead, Dead) };
+    (PF2 $prefix:tt)  => { column!($prefix AfterF2,     Dead,        Dead, Dead, Dead) };
+    (PF0 $prefix:tt)  => { column!($prefix AfterF0,     Dead,        Dead, Dead, Dead) };
+    (ESC $prefix:tt)  => { column!($prefix After0F,     After66_0F,  Dead, Dead, AfterF0_0F) };
     // A number directly after the opcode.
-    (IB)   => { [Left1,       Dead,        Dead, Dead, Dead] };
-    (IBV)  => { [Left1,       Left1,       Dead, Dead, Dead] };
-    (IZV)  => { [Left4,       Left2,       Dead, Dead, Dead] };
-    (OFF)  => { [Left4,       Dead,        Dead, Dead, Dead] };
-    (OFFV) => { [Left4,       Left4,       Dead, Dead, Dead] };
-    (JCCB) => { [Short,       Dead,        Dead, Dead, Dead] };
-    (JMPB) => { [Short,       Dead,        Dead, Dead, Dead] };
-    (JCCZ) => { [Near4,       Dead,        Dead, Dead, Dead] };
-    (JMPZ) => { [Near4,       Dead,        Dead, Dead, Dead] };
-    (CALL) => { [Near4,       Dead,        Dead, Dead, Dead] };
+    (IB $prefix:tt)   => { column!($prefix Left1,       Dead,        Dead, Dead, Dead) };
+    (IBV $prefix:tt)  => { column!($prefix Left1,       Left1,       Dead, Dead, Dead) };
+    (IZV $prefix:tt)  => { column!($prefix Left4,       Left2,       Dead, Dead, Dead) };
+    (OFF $prefix:tt)  => { column!($prefix Left4,       Dead,        Dead, Dead, Dead) };
+    (OFFV $prefix:tt) => { column!($prefix Left4,       Left4,       Dead, Dead, Dead) };
+    (JCCB $prefix:tt) => { column!($prefix Short,       Dead,        Dead, Dead, Dead) };
+    (JMPB $prefix:tt) => { column!($prefix Short,       Dead,        Dead, Dead, Dead) };
+    (JCCZ $prefix:tt) => { column!($prefix Near4,       Dead,        Dead, Dead, Dead) };
+    (JMPZ $prefix:tt) => { column!($prefix Near4,       Dead,        Dead, Dead, Dead) };
+    (CALL $prefix:tt) => { column!($prefix Near4,       Dead,        Dead, Dead, Dead) };
     // ModRM.
-    (M)    => { [Any,         Dead,        Dead, Dead, Dead] };
-    (MV)   => { [Any,         Any,         Dead, Dead, Dead] };
-    (ML)   => { [Any,         Dead,        Dead, Dead, Memory] };
-    (MVL)  => { [Any,         Any,         Dead, Dead, Memory] };
-    (MIBV) => { [AnyByte,     AnyByte,     Dead, Dead, Dead] };
-    (MIZV) => { [AnyLong,     AnyWord,     Dead, Dead, Dead] };
-    (LEA)  => { [Memory,      Memory,      Dead, Dead, Dead] };
-    (NOPV) => { [Nop,         Nop,         Dead, Dead, Dead] };
-    (G1)   => { [AnyByte,     Dead,        Dead, Dead, Group1LockedByte] };
-    (G1Z)  => { [AnyLong,     AnyWord,     Dead, Dead, Group1LockedLong] };
-    (G1V)  => { [After83,     AnyByte,     Dead, Dead, Group1LockedByte] };
-    (G2)   => { [Group2,      Dead,        Dead, Dead, Dead] };
-    (G2V)  => { [Group2,      Group2,      Dead, Dead, Dead] };
-    (G2I)  => { [Group2Byte,  Dead,        Dead, Dead, Dead] };
-    (G2IV) => { [Group2Byte,  Group2Byte,  Dead, Dead, Dead] };
-    (G3)   => { [Group3Byte,  Dead,        Dead, Dead, Group3LockedByte] };
-    (G3V)  => { [Group3Long,  Group3Word,  Dead, Dead, Group3LockedLong] };
-    (G4)   => { [Group4,      Dead,        Dead, Dead, Group4Locked] };
-    (G5)   => { [Group5,      Group5,      Dead, Dead, Group4Locked] };
-    (G8)   => { [Group8Byte,  Group8Byte,  Dead, Dead, Group8LockedByte] };
-    (G9)   => { [Group9,      Dead,        Dead, Dead, Group9] };
-    (G11)  => { [Group11Byte, Dead,        Dead, Dead, Dead] };
-    (G11V) => { [Group11Long, Group11Word, Dead, Dead, Dead] };
+    (M $prefix:tt)    => { column!($prefix Any,         Dead,        Dead, Dead, Dead) };
+    (MV $prefix:tt)   => { column!($prefix Any,         Any,         Dead, Dead, Dead) };
+    (ML $prefix:tt)   => { column!($prefix Any,         Dead,        Dead, Dead, Memory) };
+    (MVL $prefix:tt)  => { column!($prefix Any,         Any,         Dead, Dead, Memory) };
+    (MIBV $prefix:tt) => { column!($prefix AnyByte,     AnyByte,     Dead, Dead, Dead) };
+    (MIZV $prefix:tt) => { column!($prefix AnyLong,     AnyWord,     Dead, Dead, Dead) };
+    (LEA $prefix:tt)  => { column!($prefix Memory,      Memory,      Dead, Dead, Dead) };
+    (NOPV $prefix:tt) => { column!($prefix Nop,         Nop,         Dead, Dead, Dead) };
+    (G1 $prefix:tt)   => { column!($prefix AnyByte,     Dead,        Dead, Dead, Group1LockedByte) };
+    (G1Z $prefix:tt)  => { column!($prefix AnyLong,     AnyWord,     Dead, Dead, Group1LockedLong) };
+    (G1V $prefix:tt)  => { column!($prefix After83,     AnyByte,     Dead, Dead, Group1LockedByte) };
+    (G2 $prefix:tt)   => { column!($prefix Group2,      Dead,        Dead, Dead, Dead) };
+    (G2V $prefix:tt)  => { column!($prefix Group2,      Group2,      Dead, Dead, Dead) };
+    (G2I $prefix:tt)  => { column!($prefix Group2Byte,  Dead,        Dead, Dead, Dead) };
+    (G2IV $prefix:tt) => { column!($prefix Group2Byte,  Group2Byte,  Dead, Dead, Dead) };
+    (G3 $prefix:tt)   => { column!($prefix Group3Byte,  Dead,        Dead, Dead, Group3LockedByte) };
+    (G3V $prefix:tt)  => { column!($prefix Group3Long,  Group3Word,  Dead, Dead, Group3LockedLong) };
+    (G4 $prefix:tt)   => { column!($prefix Group4,      Dead,        Dead, Dead, Group4Locked) };
+    (G5 $prefix:tt)   => { column!($prefix Group5,      Group5,      Dead, Dead, Group4Locked) };
+    (G8 $prefix:tt)   => { column!($prefix Group8Byte,  Group8Byte,  Dead, Dead, Group8LockedByte) };
+    (G9 $prefix:tt)   => { column!($prefix Group9,      Dead,        Dead, Dead, Group9) };
+    (G11 $prefix:tt)  => { column!($prefix Group11Byte, Dead,        Dead, Dead, Dead) };
+    (G11V $prefix:tt) => { column!($prefix Group11Long, Group11Word, Dead, Dead, Dead) };
 }
 
-/// The states after each opcode of a map, with the prefix of this index.
+/// The state in the column of this number.
+#[rattlefmt::skip]
+macro_rules! column {
+    (0 $state:ident, $b:ident, $c:ident, $d:ident, $e:ident) => { $state as u8 };
+    (1 $a:ident, $state:ident, $c:ident, $d:ident, $e:ident) => { $state as u8 };
+    (2 $a:ident, $b:ident, $state:ident, $d:ident, $e:ident) => { $state as u8 };
+    (3 $a:ident, $b:ident, $c:ident, $state:ident, $e:ident) => { $state as u8 };
+    (4 $a:ident, $b:ident, $c:ident, $d:ident, $state:ident) => { $state as u8 };
+}
+
+/// The states after each opcode of a map, with the prefix of this number.
 macro_rules! opcodes {
-    (($prefix:tt) $($entry:ident,)*) => { [$(kind!($entry)[$prefix] as u8),*] };
+    (($prefix:tt) $($entry:ident,)*) => { [$(kind!($entry $prefix)),*] };
 }
 
 /// The states after each opcode of a map with no prefix, except that FF leads to this state.
 macro_rules! after_mask {
     (($transfer:tt) $($entry:ident,)*) => { [$(after_mask!($entry $transfer)),*] };
     (G5 $transfer:tt) => { $transfer as u8 };
-    ($entry:ident $transfer:tt) => { kind!($entry)[0] as u8 };
+    ($entry:ident $transfer:tt) => { kind!($entry 0) };
 }
 
 /// The state by the form of ModRM: not permitted (O), permitted (X), permitted with no number (N), or by rm.
