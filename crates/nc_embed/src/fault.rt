@@ -1,10 +1,8 @@
-//! Why the host gives up.
+//! Why code isn't loaded, and why the host gives up.
 
 use nc_gens::GensFault;
 use nc_region::{CreateFault, DeleteFault, ModifyFault, RegionFault, WalkFault};
 use nc_vet::VetFault;
-use std::alloc::AllocError;
-use std::io;
 use thiserror::Error;
 
 /// Why code isn't loaded.
@@ -19,7 +17,7 @@ pub enum LoadFault {
 }
 
 /// Why the host gives up: a fault of a call, or one that only a host has.
-#[derive(Debug, Drop, Error)]
+#[derive(Clone, Copy, Debug, Drop, Error)]
 pub enum HostFault {
     #[error("no table of generations: {0}")]
     Gens(#[from] GensFault),
@@ -35,8 +33,6 @@ pub enum HostFault {
     Walk(#[from] WalkFault),
     #[error("no thread was started")]
     NoThread,
-    #[error(transparent)]
-    Memory(#[from(alloc)] AllocError),
-    #[error(transparent)]
-    Write(#[from] io::Error),
+    #[error("nothing was printed")]
+    NotPrinted,
 }

@@ -3,44 +3,35 @@
 ghost use Rattle.std.specs.Prelude.{◌≡◌};
 
 use crate::code::{BASE, FIRST_SERVICE, SECOND_SERVICE};
-use crate::fault::HostFault;
 use crate::turns::{DELETED, OTHER_MAY_GO, PATCHED, RELOADED, Turns};
 use nc_gens::Pass;
-use nc_region::{End, Shared};
+use nc_region::{Acts, End, SharedOf, WalkFault};
 use std::sync::Wait;
-
-/// A thread's observations: the number of its walks that ended where none may, how its last walk in the deleted code ended,
-/// and how its walk in the new code ended.
-#[derive(Clone, Copy, Debug, Drop)]
-pub struct Seen {
-    pub astray: u64,
-    pub in_deleted: End,
-    pub in_new: Option<End>,
-}
 
 /// One run inside, from a bundle start of the region. It returns the last place of the thread, and how the run ended.
 ///
 /// In place of the walk, a real host saves its own stack and registers, loads those of the untrusted code and jumps there,
 /// without the lock. Control returns at a bundle start of the trampoline zone, or by the signal of a stop. The host then
 /// first clears the direction flag and switches to its own stack, and trusts no register.
-fn run_inside(
+fn run_inside<A: Acts + Drop>(
     rt: &impl Wait,
-    shared: &Shared<'_>,
+    shared: &SharedOf<'_, A>,
     start: u32,
     choices: &[u32],
-) -> Result<(u32, End), HostFault> {
+) -> Result<(u32, End), WalkFault> {
     let trace = shared.walk(rt, start, choices)?;
     let last = trace.places.last().copied().unwrap_or(start);
     Ok((last, trace.end))
 }
 
-/// Runs the code repeatedly until it is patched. Between two runs the thread is outside, and only there does it check in.
-fn serve(
+/// Runs the code repeatedly until it is patched, and counts the runs that ended elsewhere than at a service. Between two runs
+/// the thread is outside, and only there does it check in.
+fn serve<A: Acts + Drop>(
     rt: &impl Wait,
-    shared: &Shared<'_>,
+    shared: &SharedOf<'_, A>,
     turns: &Turns,
     pass: &mut Pass,
-) -> Result<u64, HostFault>
+) -> Result<u64, WalkFault>
     requires { pass.old.table ≡ shared.now }
     ensures { pass.new.table ≡ pass.old.table }
 {
@@ -61,83 +52,78 @@ fn serve(
     Ok(astray)
 }
 
-/// Enters, stays inside at the start of the third bundle while the host deletes the code, and then continues from there.
-fn stand_inside(
+/// Enters, stays inside at the start of the third bundle while the host deletes the code, and then continues from there. It
+/// counts whether that ended elsewhere than at a stop.
+fn stand_inside<A: Acts + Drop>(
     rt: &impl Wait,
-    shared: &Shared<'_>,
+    shared: &SharedOf<'_, A>,
     turns: &Turns,
     until: u32,
-) -> Result<End, HostFault> {
+) -> Result<u64, WalkFault> {
     let (place, _) = run_inside(rt, shared, BASE, &[0])?;
     turns.pass_on(rt);
     turns.wait_for(rt, until);
     let (_, end) = run_inside(rt, shared, place, &[0])?;
-    Ok(end)
+    Ok(u64::from(end != End::Stop))
 }
 
-/// The first thread's time with its pass. Once it is outside it checks in, so it may enter again when other code is loaded.
-fn stay(
+/// Once the thread is outside it checks in, so it may enter again when other code is loaded.
+fn enter_again<A: Acts + Drop>(
     rt: &impl Wait,
-    shared: &Shared<'_>,
+    shared: &SharedOf<'_, A>,
     turns: &Turns,
     pass: &mut Pass,
-) -> Result<Seen, HostFault>
+) -> Result<u64, WalkFault>
     requires { pass.old.table ≡ shared.now }
     ensures { pass.new.table ≡ pass.old.table }
 {
-    let astray = serve(rt, shared, turns, pass)?;
-    let in_deleted = stand_inside(rt, shared, turns, DELETED)?;
     shared.check_in(pass);
     turns.pass_on(rt);
     turns.wait_for(rt, RELOADED);
     let (_, end) = run_inside(rt, shared, BASE, &[0, FIRST_SERVICE])?;
-    Ok(Seen {
-        astray,
-        in_deleted,
-        in_new: Some(end),
-    })
+    Ok(u64::from(end != End::Trampoline))
 }
 
-/// The second thread's time with its pass: it is inside for longer than the first.
-fn go(
+/// A thread's time with its pass. The one that stays is inside for a shorter time than the other, and enters again.
+fn visit<A: Acts + Drop>(
     rt: &impl Wait,
-    shared: &Shared<'_>,
+    shared: &SharedOf<'_, A>,
     turns: &Turns,
     pass: &mut Pass,
-) -> Result<Seen, HostFault>
+    stays: bool,
+) -> Result<u64, WalkFault>
     requires { pass.old.table ≡ shared.now }
     ensures { pass.new.table ≡ pass.old.table }
 {
-    let astray = serve(rt, shared, turns, pass)?;
-    let in_deleted = stand_inside(rt, shared, turns, OTHER_MAY_GO)?;
-    Ok(Seen {
-        astray,
-        in_deleted,
-        in_new: None,
-    })
+    let served = serve(rt, shared, turns, pass)?;
+    let until = if stays { DELETED } else { OTHER_MAY_GO };
+    let stood = stand_inside(rt, shared, turns, until)?;
+    let entered = if stays {
+        enter_again(rt, shared, turns, pass)?
+    } else {
+        0
+    };
+    Ok(served.saturating_add(stood).saturating_add(entered))
 }
 
-/// A thread's whole life. Even if it failed, it leaves at the end, outside and for good: a pass that is only dropped holds
-/// back every later stamp.
-pub fn live(
+/// A thread's whole life: the number of its runs that ended where none may. Even if it failed, it leaves at the end, outside
+/// and for good: a pass that is only dropped holds back every later stamp.
+pub fn live<A: Acts + Drop>(
     rt: &impl Wait,
-    shared: &Shared<'_>,
+    shared: &SharedOf<'_, A>,
     turns: &Turns,
     pass: Pass,
     stays: bool,
-) -> Result<Seen, HostFault>
+) -> Result<u64, WalkFault>
     requires { pass.table ≡ shared.now }
 {
     let mut pass = pass;
-    let seen = if stays {
-        stay(rt, shared, turns, &mut pass)
-    } else {
-        go(rt, shared, turns, &mut pass)
-    };
+    let astray = visit(rt, shared, turns, &mut pass, stays);
     shared.leave(pass);
-    match seen {
-        Ok(_) => turns.pass_on(rt),
-        Err(_) => turns.give_up(rt),
+    if astray.is_ok() {
+        turns.pass_on(rt);
+    } else {
+        turns.give_up(rt);
     }
-    seen
+    astray
 }

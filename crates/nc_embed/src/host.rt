@@ -2,21 +2,30 @@
 
 ghost use Rattle.std.specs.Prelude.{◌≡◌};
 
-use crate::admitting::admit;
-use crate::code::{BARE, BASE, BUNDLES, LIMIT, MASKED, SWITCH, SWITCHED, bundles};
+use crate::code::{BARE, BASE, LIMIT, MASKED, SWITCHED};
 use crate::fault::{HostFault, LoadFault};
-use crate::guest::{Seen, live};
+use crate::guest::live;
+use crate::loading::admit;
+use crate::printing::say;
 use crate::turns::{BOTH_INSIDE, BOTH_RAN, ONE_CHECKED_IN, OTHER_LEFT, Turns};
-use nc_gens::{Gens, Pass};
-use nc_region::{Region, Shared};
+use nc_gens::Pass;
+use nc_region::{Acts, CreateFault, SharedOf, WalkFault};
 use std::alloc::Global;
 use std::sync::Wait;
 use std::thread;
-use std::thread::Threads;
+use std::thread::{JoinHandle, Threads};
 
-/// Vets code first, however long that takes, and takes the lock only for a valid chunk.
-fn load(rt: &impl Wait, shared: &Shared<'_>, base: u32, code: Vec<u8>) -> Result<(), LoadFault> {
-    let vetted = match admit(base, LIMIT, code) {
+/// Vets a copy of code first, however long that takes, and takes the lock only for a valid chunk.
+fn load<A: Acts + Drop>(
+    rt: &impl Wait,
+    alloc: Global,
+    shared: &SharedOf<'_, A>,
+    code: &[u8],
+) -> Result<(), LoadFault> {
+    let Ok(code) = code.to_vec(alloc) else {
+        return Err(LoadFault::NotCreated(CreateFault::OutOfMemory));
+    };
+    let vetted = match admit(BASE, LIMIT, code) {
         Ok(vetted) => vetted,
         Err(fault) => return Err(LoadFault::NotAdmitted(fault)),
     };
@@ -26,73 +35,149 @@ fn load(rt: &impl Wait, shared: &Shared<'_>, base: u32, code: Vec<u8>) -> Result
     }
 }
 
-/// Before any thread runs: tries code that is refused before the lock is taken, and loads other code.
-fn open<R: Wait + Print>(rt: &R, alloc: Global, shared: &Shared<'_>) -> Result<(), HostFault> {
-    if let Err(fault) = load(rt, shared, BASE, bundles(alloc, &BARE)?) {
-        println!(rt; "a bare jump: {fault}")?;
-    }
-    load(rt, shared, BASE, bundles(alloc, &SWITCH)?)?;
-    println!(rt; "loaded at {BASE:08x}")?;
-    Ok(())
-}
-
-/// While both threads run the code: patches it, and deletes it. No thread is stopped for either.
-fn change<R: Wait + Print>(rt: &R, shared: &Shared<'_>, turns: &Turns) -> Result<(), HostFault> {
-    turns.wait_for(rt, BOTH_RAN);
-    shared.modify(rt, BASE, &SWITCHED)?;
-    println!(rt; "patched while both ran")?;
-    turns.pass_on(rt);
-    turns.wait_for(rt, BOTH_INSIDE);
-    let stamp = shared.delete(rt, BASE)?;
-    let freed = shared.reclaim(rt);
-    println!(rt; "deleted with stamp {stamp} while both stood inside: {freed} freed")?;
-    turns.pass_on(rt);
-    Ok(())
-}
-
-/// Loads other code into the span. That is refused until each seat has checked in since the deletion, or has left.
-fn load_again<R: Wait + Print>(
+/// Tries to load code, and prints whether it was loaded.
+fn try_load<R: Wait + Print, A: Acts + Drop>(
     rt: &R,
     alloc: Global,
-    shared: &Shared<'_>,
+    shared: &SharedOf<'_, A>,
+    what: &str,
+    code: &[u8],
+) -> Result<(), HostFault> {
+    match load(rt, alloc, shared, code) {
+        Ok(()) => say(rt, what, "loaded"),
+        Err(fault) => say(rt, what, fault),
+    }
+}
+
+/// Reclaims, and prints how many chunks were freed.
+fn reclaim<R: Wait + Print, A: Acts + Drop>(
+    rt: &R,
+    shared: &SharedOf<'_, A>,
+    when: &str,
+) -> Result<(), HostFault> {
+    say(rt, when, shared.reclaim(rt))
+}
+
+/// While both threads run the code: tries code that is refused before the lock is taken, and patches the code. No thread is
+/// stopped for it.
+fn patch<R: Wait + Print, A: Acts + Drop>(
+    rt: &R,
+    alloc: Global,
+    shared: &SharedOf<'_, A>,
     turns: &Turns,
 ) -> Result<(), HostFault> {
-    turns.wait_for(rt, ONE_CHECKED_IN);
-    let freed = shared.reclaim(rt);
-    println!(rt; "one has checked in: {freed} freed")?;
-    if let Err(fault) = load(rt, shared, BASE, bundles(alloc, &MASKED)?) {
-        println!(rt; "other code there: {fault}")?;
-    }
+    turns.wait_for(rt, BOTH_RAN);
+    try_load(rt, alloc, shared, "a bare jump", &BARE)?;
+    shared.modify(rt, BASE, &SWITCHED)?;
     turns.pass_on(rt);
-    turns.wait_for(rt, OTHER_LEFT);
-    let freed = shared.reclaim(rt);
-    println!(rt; "the other has left: {freed} freed")?;
-    load(rt, shared, BASE, bundles(alloc, &MASKED)?)?;
-    println!(rt; "other code there: loaded")?;
+    say(rt, "while both ran", "patched")
+}
+
+/// While both threads stand inside: deletes the code, which nothing can free yet.
+fn delete<R: Wait + Print, A: Acts + Drop>(
+    rt: &R,
+    shared: &SharedOf<'_, A>,
+    turns: &Turns,
+) -> Result<(), HostFault> {
+    turns.wait_for(rt, BOTH_INSIDE);
+    let stamp = shared.delete(rt, BASE)?;
+    say(rt, "while both stood inside, deleted with stamp", stamp)?;
+    reclaim(rt, shared, "freed")?;
+    turns.pass_on(rt);
+    Ok(())
+}
+
+/// Once a turn has come: reclaims, and tries to load other code into the span. That is refused until each seat has checked in
+/// since the deletion, or has left.
+fn reuse<R: Wait + Print, A: Acts + Drop>(
+    rt: &R,
+    alloc: Global,
+    shared: &SharedOf<'_, A>,
+    turns: &Turns,
+    turn: u32,
+    when: &str,
+) -> Result<(), HostFault> {
+    turns.wait_for(rt, turn);
+    reclaim(rt, shared, when)?;
+    try_load(rt, alloc, shared, "other code there", &MASKED)?;
     turns.pass_on(rt);
     Ok(())
 }
 
 /// The host's work while the threads run.
-fn work<R: Wait + Print>(
+fn work<R: Wait + Print, A: Acts + Drop>(
     rt: &R,
     alloc: Global,
-    shared: &Shared<'_>,
+    shared: &SharedOf<'_, A>,
     turns: &Turns,
 ) -> Result<(), HostFault> {
-    change(rt, shared, turns)?;
-    load_again(rt, alloc, shared, turns)
+    patch(rt, alloc, shared, turns)?;
+    delete(rt, shared, turns)?;
+    let (one, other) = (ONE_CHECKED_IN, OTHER_LEFT);
+    reuse(
+        rt,
+        alloc,
+        shared,
+        turns,
+        one,
+        "freed once one had checked in",
+    )?;
+    reuse(
+        rt,
+        alloc,
+        shared,
+        turns,
+        other,
+        "freed once the other had left",
+    )
 }
 
-/// Runs two threads, each with a pass of its own, and the host beside them. If one of the three fails, the others don't wait
-/// for it.
-fn run_both<R: Threads + Wait + Print + Sync>(
+/// A thread that counts, if it could be started.
+type Started = Option<JoinHandle<Result<u64, WalkFault>>>;
+
+/// What a thread counted, once it has ended.
+fn counted<R: Threads>(rt: &R, thread: Started) -> Result<u64, HostFault> {
+    match thread {
+        Some(thread) => match thread.join(rt) {
+            Ok(astray) => Ok(astray),
+            Err(fault) => Err(HostFault::Walk(fault)),
+        },
+        None => Err(HostFault::NoThread),
+    }
+}
+
+/// The host's work beside the threads, if both were started, and what each of them counted. If the host fails, the threads
+/// don't wait for it.
+fn finish<R: Threads + Wait + Print, A: Acts + Drop>(
     rt: &R,
     alloc: Global,
-    shared: &Shared<'_>,
+    shared: &SharedOf<'_, A>,
+    turns: &Turns,
+    first: Started,
+    second: Started,
+) -> Result<(u64, u64), HostFault> {
+    let worked = if first.is_some() && second.is_some() {
+        work(rt, alloc, shared, turns)
+    } else {
+        Err(HostFault::NoThread)
+    };
+    if worked.is_err() {
+        turns.give_up(rt);
+    }
+    let first = counted(rt, first);
+    let second = counted(rt, second);
+    worked?;
+    Ok((first?, second?))
+}
+
+/// Runs two threads, each with a pass of its own, and the host beside them.
+fn run_both<R: Threads + Wait + Print + Sync, A: Acts + Drop + Send>(
+    rt: &R,
+    alloc: Global,
+    shared: &SharedOf<'_, A>,
     one: Pass,
     other: Pass,
-) -> Result<(Seen, Seen), HostFault>
+) -> Result<(u64, u64), HostFault>
     requires { (one.table ≡ shared.now) × (other.table ≡ shared.now) }
 {
     let turns = Turns::new();
@@ -109,63 +194,26 @@ fn run_both<R: Threads + Wait + Print + Sync>(
             let goes = move ||
                 requires { other.table ≡ shared.now }
             { live(rt, shared, turns, other, false) };
-            let Ok(first) = scope.spawn(stays) else {
-                return Err(HostFault::NoThread);
-            };
-            let Ok(second) = scope.spawn(goes) else {
-                turns.give_up(rt);
-                return Err(HostFault::NoThread);
-            };
-            let worked = work(rt, alloc, shared, turns);
-            if worked.is_err() {
-                turns.give_up(rt);
-            }
-            let seen = (first.join(rt)?, second.join(rt)?);
-            worked?;
-            Ok(seen)
+            let first = scope.spawn(stays).ok();
+            let second = scope.spawn(goes).ok();
+            finish(rt, alloc, shared, turns, first, second)
         },
     )
 }
 
-/// Prints a thread's observations.
-fn show<R: Print>(rt: &R, who: &str, seen: Seen) -> Result<(), HostFault> {
-    println!(rt;
-        "{who}: {} astray, {:?} in the deleted code",
-        seen.astray, seen.in_deleted
-    )?;
-    if let Some(end) = seen.in_new {
-        println!(rt; "{who}: {end:?} in the new code")?;
-    }
-    Ok(())
-}
-
-/// The whole example, from the first load until the last thread has left.
-fn tell<R: Threads + Wait + Print + Sync>(
+/// The life of the code in a region, until the last thread has left.
+pub fn run<R: Threads + Wait + Print + Sync, A: Acts + Drop + Send>(
     rt: &R,
     alloc: Global,
-    shared: &Shared<'_>,
+    shared: &SharedOf<'_, A>,
     one: Pass,
     other: Pass,
 ) -> Result<(), HostFault>
     requires { (one.table ≡ shared.now) × (other.table ≡ shared.now) }
 {
-    open(rt, alloc, shared)?;
     let (first, second) = run_both(rt, alloc, shared, one, other)?;
-    show(rt, "the first thread", first)?;
-    show(rt, "the second thread", second)?;
+    say(rt, "the first thread's runs that went astray", first)?;
+    say(rt, "the second thread's runs that went astray", second)?;
     shared.delete(rt, BASE)?;
-    let freed = shared.reclaim(rt);
-    println!(rt; "all have left: {freed} freed")?;
-    Ok(())
-}
-
-/// Makes the seats and the region, and runs the example.
-pub fn run<R: Threads + Wait + Print + Sync>(rt: &R, alloc: Global) -> Result<(), HostFault> {
-    let (gens, keeper, mut passes) = Gens::new(alloc, 2)?;
-    let one = passes.remove(0);
-    let other = passes.remove(0);
-    match Region::new(alloc, BUNDLES, &gens, keeper) {
-        Ok(region) => tell(rt, alloc, &Shared::new(region), one, other),
-        Err((_keeper, fault)) => Err(HostFault::Region(fault)),
-    }
+    reclaim(rt, shared, "freed once all had left")
 }

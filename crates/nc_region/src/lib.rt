@@ -14,8 +14,8 @@
 //! [`modify`](RegionOf::modify) replaces instructions of a live one with others of the same lengths,
 //! [`delete`](RegionOf::delete) retires one, [`reclaim`](RegionOf::reclaim) frees the chunks that are due, and
 //! [`walk`](RegionOf::walk) shows where a path goes. [`Shared`] is a region behind a lock; check-in doesn't take the lock.
-//! [`RegionOf`] is a region over any [`Acts`], for example a [`Recorder`], which records each act, or an [`Image`], which
-//! also stores each byte in the host's memory. [`SharedOf`] is a `RegionOf` behind a lock.
+//! [`RegionOf`] is a region over any [`Acts`], for example a [`Recorder`], which records each act, or acts of a host's own
+//! (`nc_embed`). [`SharedOf`] is a `RegionOf` behind a lock.
 //!
 //! The contract of a single call can't express that all this is safe while threads run: a thread may be anywhere between any
 //! two puts. `specs/schedules` defines a *world* (`World`) for this. It holds a text with its marks, the retired spans with
@@ -48,7 +48,6 @@ mod chunk;
 mod create;
 mod delete;
 mod fault;
-mod image;
 mod law;
 mod listing;
 mod modify;
@@ -63,7 +62,6 @@ mod walk;
 pub use acts::{Act, Acts, Entry};
 pub use chunk::{Chunk, ChunkState};
 pub use fault::{CreateFault, DeleteFault, ModifyFault, RegionFault, WalkFault};
-pub use image::Image;
 pub use law::{law_of_chunks, law_of_logs, law_of_schedules};
 pub use plain::Plain;
 pub use recorder::Recorder;

@@ -14,14 +14,14 @@ ghost use Rattle.nc_region.specs.Patch.{IsHeldBy, IsHeld};
 use crate::chunk::{Chunk, ChunkState};
 use std::collections::VecDeque;
 
-/// The index of the first chunk whose base isn't below this address, by binary search.
-fn first_from(chunks: &VecDeque<Chunk>, base: u32) -> usize
+/// The number of chunks whose base is at most this address, by binary search.
+fn count_to(chunks: &VecDeque<Chunk>, at: u32) -> usize
     requires { IsRising 0x10000 chunks.now.items }
     ensures bound { result ≤ length chunks.now.items }
-    ensures below { (i : ℕ) (d : Chunk) → i < result → (slice_index_or chunks.now.items i d).base < base }
-    ensures above { (i : ℕ) (d : Chunk) → result ≤ i → i < length chunks.now.items → base ≤ (slice_index_or chunks.now.items i d).base }
+    ensures below { (i : ℕ) (d : Chunk) → i < result → (slice_index_or chunks.now.items i d).base ≤ at }
+    ensures above { (i : ℕ) (d : Chunk) → result ≤ i → i < length chunks.now.items → at < (slice_index_or chunks.now.items i d).base }
 {
-    chunks.partition_point(|c| c.base < base)
+    chunks.partition_point(|c| c.base <= at)
 }
 
 /// The first k chunks end at or below the base of a span.
@@ -29,7 +29,7 @@ fn ends_below(chunks: &VecDeque<Chunk>, k: usize, base: u32) -> bool
     requires inside { k ≤ length chunks.now.items }
     requires rising { IsRising 0x10000 chunks.now.items }
     requires ends { Each (λ (d : Chunk). (0 < d.length) × (d.base + d.length < 2 ^ 32)) chunks.now.items }
-    requires below { (i : ℕ) (d : Chunk) → i < k → (slice_index_or chunks.now.items i d).base < base }
+    requires below { (i : ℕ) (d : Chunk) → i < k → (slice_index_or chunks.now.items i d).base ≤ base }
     ensures clear { IsTrue result → IsAboveAll base (take k chunks.now.items) }
     ensures meets { (len : ℕ) → 0 < len → result ≡ false → Meets base len chunks.now.items }
 {
@@ -45,7 +45,7 @@ fn begins_above(chunks: &VecDeque<Chunk>, k: usize, base: u32, len: u32) -> bool
     requires inside { k ≤ length chunks.now.items }
     requires rising { IsRising 0x10000 chunks.now.items }
     requires ends { Each (λ (d : Chunk). (0 < d.length) × (d.base + d.length < 2 ^ 32)) chunks.now.items }
-    requires above { (i : ℕ) (d : Chunk) → k ≤ i → i < length chunks.now.items → base ≤ (slice_index_or chunks.now.items i d).base }
+    requires above { (i : ℕ) (d : Chunk) → k ≤ i → i < length chunks.now.items → base < (slice_index_or chunks.now.items i d).base }
     requires fits { base + len < 2 ^ 32 }
     ensures clear { IsTrue result → IsBelowAll (base + len) (drop k chunks.now.items) }
     ensures meets { result ≡ false → Meets base len chunks.now.items }
@@ -65,7 +65,7 @@ pub(crate) fn room_for(chunks: &VecDeque<Chunk>, base: u32, len: u32) -> Option<
     ensures some { IfSome result (FitsAt base len chunks.now.items) }
     ensures none { IfNone result (Meets base len chunks.now.items) }
 {
-    let k = first_from(chunks, base);
+    let k = count_to(chunks, base);
     if !ends_below(chunks, k, base) {
         return None;
     }
@@ -73,16 +73,6 @@ pub(crate) fn room_for(chunks: &VecDeque<Chunk>, base: u32, len: u32) -> Option<
         return None;
     }
     Some(k)
-}
-
-/// The number of chunks whose base is at most this address, by binary search.
-fn count_to(chunks: &VecDeque<Chunk>, at: u32) -> usize
-    requires { IsRising 0x10000 chunks.now.items }
-    ensures bound { result ≤ length chunks.now.items }
-    ensures below { (i : ℕ) (d : Chunk) → i < result → (slice_index_or chunks.now.items i d).base ≤ at }
-    ensures above { (i : ℕ) (d : Chunk) → result ≤ i → i < length chunks.now.items → at < (slice_index_or chunks.now.items i d).base }
-{
-    chunks.partition_point(|c| c.base <= at)
 }
 
 /// The live chunk in which the place lies, by binary search.

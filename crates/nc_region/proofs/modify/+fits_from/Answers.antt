@@ -1,5 +1,6 @@
-use Rattle.std.proofs.Common.{◌≡◌, ◌+◌, length, None, eqb-true, refl, sym, ◌∙◌, ap, arith, rules}
+use Rattle.std.proofs.Common.{◌≡◌, ℕ, ◌+◌, ◌-◌, ◌≤◌, length, take, drop, None, eqb-true, refl, sym, ◌∙◌, ap, arith, rules}
 use Rattle.std.proofs.lemmas.Bool.{eqb-false}
+use Rattle.std.proofs.lemmas.List.{length-take, length-drop}
 use Rattle.std.specs.Result.{result_ok}
 use Rattle.nc_decode.specs.declared.instruction.Instr.{Instr}
 use Rattle.nc_decode.specs.Front.{first_instruction}
@@ -55,11 +56,13 @@ fits_from-requires g t c =
     let b = c.requires.begins in
     let s = standing marked c.args.chunk c.args.at c.requires.whole b (omega (arith, some, c.requires.ends)) in
     let same : c.instruction.result ≡ s.piece.instr = some_same _ _ _ c.instruction.ensures s.instr in
-    let sized = c.decode.ensures.sized in
     let nb : Begins (g.A.Acts.marked c.args.acts.now) c.args.chunk (c.args.at + c.from.result) =
     next_begins marked c.args.chunk c.args.at b s c.from.result (c.from.ensures
     ∙ (sym c.if-instruction-instr.false ∙ ap (λ (i : Instr). i.len) same)) in
-    search rules
+    let ends : c.args.at + c.from.result + length (take (length c.args.new.now - c.in-Ok.instr.len) (drop c.in-Ok.instr.len c.args.new.now))
+    ≤ c.args.chunk.base + c.args.chunk.length =
+    omega (arith, c.requires.ends, c.from.ensures, c.in-Ok.ensures.sized, length-take {A = ℕ}, length-drop {A = ℕ}) in
+    λ κs lives. (search rules, (search rules, (c.requires.whole, (nb, ends))))
 
 pub returns : goal.returns
 returns g t c = record {

@@ -1,6 +1,7 @@
-use Rattle.std.proofs.Common.{◌≡◌, ℕ, ◌+◌, ◌-◌, true, false, List, length, take, drop, None, eqb-true, sym, subst}
+use Rattle.std.proofs.Common.{◌≡◌, ℕ, ◌+◌, ◌-◌, ◌≤◌, true, false, List, length, take, drop, None, eqb-true, sym, subst}
 use Rattle.std.proofs.Common.{◌∙◌, ap, arith, rules, refl}
 use Rattle.std.proofs.lemmas.Bool.{eqb-false}
+use Rattle.std.proofs.lemmas.List.{length-take, length-drop}
 use Rattle.std.specs.Result.{result_ok}
 use Rattle.nc_decode.specs.Front.{first_instruction}
 use Rattle.nc_region.specs.Patch.{SparesPair}
@@ -66,7 +67,6 @@ leaves_pairs-requires g t c =
     let a = c.requires.along in
     let some = eqb-false (length c.args.new.now) 0 (sym c.is_empty.ensures ∙ c.if-is_empty.false) in
     let is = sym c.decode.ensures.first ∙ ap result_ok c.in-Ok.is in
-    let sized = c.decode.ensures.sized in
     let p = parted c.args.new.now a.news c.in-Ok.instr a.bytes is in
     let s = standing marked c.args.chunk c.args.at c.requires.whole a.begins (omega (arith, some, c.requires.ends)) in
     let r = runs_to a.begins.rest a.news s.piece p.first s.rest p.rest s.is p.is a.runs in
@@ -79,7 +79,10 @@ leaves_pairs-requires g t c =
       bytes = p.behind;
       runs = r.1;
     } in
-    search rules
+    let ends : c.args.at + c.from.result + length (take (length c.args.new.now - c.in-Ok.instr.len) (drop c.in-Ok.instr.len c.args.new.now))
+    ≤ c.args.chunk.base + c.args.chunk.length =
+    omega (arith, c.requires.ends, c.from.ensures, p.len, p.long, length-take {A = ℕ}, length-drop {A = ℕ}) in
+    λ κs lives. (search rules, (search rules, (c.requires.whole, (next, ends))))
 
 pub returns : goal.returns
 returns g t c = record {

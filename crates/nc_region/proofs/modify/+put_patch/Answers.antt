@@ -1,15 +1,17 @@
-use Rattle.std.proofs.Common.{◌≡◌, ℕ, ◌+◌, ◌-◌, ◌≤◌, cond, List, [], ◌++◌, length, take, drop, None, eqb-true}
+use Rattle.std.proofs.Common.{◌≡◌, ℕ, ◌+◌, ◌-◌, ◌≤◌, cond, List, [], ◌++◌, length, take, drop, None, Some, eqb-true}
 use Rattle.std.proofs.Common.{sym, subst, ◌∙◌, ap, arith, rules}
 use Rattle.std.proofs.lemmas.Bool.{eqb-false}
 use Rattle.std.proofs.lemmas.List.{length-take, length-drop}
 use Rattle.std.specs.Result.{result_ok}
+use Rattle.nc_decode.specs.declared.instruction.Instr.{Instr}
 use Rattle.nc_decode.specs.Front.{first_instruction}
 use Rattle.nc_vet.specs.Chunk.{Piece}
 use Rattle.nc_text.specs.Places.{limit_of, byte_at}
-use Rattle.nc_text.specs.MarkedText.{MarkedText, with_span}
+use Rattle.nc_text.specs.MarkedText.{MarkedText, IsText, with_span}
 use Rattle.nc_text.specs.Ready.{AreReady}
 use Rattle.nc_region.specs.declared.acts.Act.{Act}
 use Rattle.nc_region.specs.declared.acts.Entry.{Entry}
+use Rattle.nc_region.specs.declared.chunk.Chunk.{Chunk}
 use Rattle.nc_region.specs.Acts.{Tells}
 use Rattle.nc_region.specs.Log.{Logs}
 use Rattle.nc_region.specs.Patch.{stands_there, acts_of_instruction, acts_of_modify, log_of_instruction, log_of_modify}
@@ -24,6 +26,17 @@ use Rattle.nc_region.proofs.chunks.ReadyPlaces.{ready_part}
 use Rattle.nc_region.proofs.patching.Exchanged.{changed, changes_replace}
 use Rattle.nc_region.proofs.patching.Turns.{turn, next_patch, spans_join, same_acts, same_log}
 use Rattle.nc_region.proofs.modify.+put_patch.Goals as goal
+
+-- behind the first new instruction no byte changes
+same_behind : (marked : MarkedText) (chunk : Chunk) (at : ℕ) (new : List ℕ) (i : Instr) (patch : CanPatch marked chunk at new)
+    → IsText marked → first_instruction new ≡ Some i → (now : List ℕ) → now ≡ with_span marked.bytes (at - 65536) (take i.len new)
+    → (k : ℕ) → at + i.len ≤ k → byte_at now k ≡ byte_at marked.bytes k
+same_behind marked chunk at new i patch whole is now put k le =
+    let p = parted new patch.run.news i patch.run.bytes is in
+    let w = turn marked chunk at new patch p.first p.rest whole p.is in
+    let r = changes_replace marked chunk at patch.run.before (w.os ++ patch.run.after) w.o p.first w.change in
+    ap (λ (z : List ℕ). byte_at z k) (put ∙ ap (λ (z : List ℕ). with_span marked.bytes (at - 65536) z) p.front)
+    ∙ span_behind marked.bytes at p.first.bytes k 0 r.low r.high (omega (arith, le, p.len))
 
 pub returns-then-is_empty-clause-told : goal.returns-then-is_empty-clause-told
 returns-then-is_empty-clause-told g t c = λ news b.
@@ -130,13 +143,9 @@ returns-clause-bytes g t c =
 pub returns-clause-told : goal.returns-clause-told
 returns-clause-told g t c = λ news b.
     let marked = g.A.Acts.marked c.args.acts.now in
-    let mid = g.A.Acts.marked c.put_where_new.new.acts in
     let is = sym c.decode.ensures.first ∙ ap result_ok c.in-Ok.is in
     let q = parted c.args.new.now news c.in-Ok.instr b is in
     let patch = c.requires.patch in
-    let p = parted c.args.new.now patch.run.news c.in-Ok.instr patch.run.bytes is in
-    let w = turn marked c.args.chunk c.args.at c.args.new.now patch p.first p.rest c.requires.whole p.is in
-    let r = changes_replace marked c.args.chunk c.args.at patch.run.before (w.os ++ patch.run.after) w.o p.first w.change in
     let one : Tells (g.A.Acts.told c.args.acts.now) (g.A.Acts.told c.put_where_new.new.acts)
     (cond (stands_there (g.A.Acts.marked c.args.acts.now).bytes c.args.at q.first.bytes) []
     (acts_of_instruction c.args.at q.first.bytes)) =
@@ -146,9 +155,8 @@ returns-clause-told g t c = λ news b.
     let len : c.from.result ≡ length q.first.bytes = c.from.ensures ∙ q.len in
     let agree : (k : ℕ) → c.args.at + length q.first.bytes ≤ k
     → byte_at (g.A.Acts.marked c.put_where_new.new.acts).bytes k ≡ byte_at (g.A.Acts.marked c.args.acts.now).bytes k = λ k le.
-    (ap (λ (z : List ℕ). byte_at z k) (c.put_where_new.ensures.bytes
-    ∙ ap (λ (z : List ℕ). with_span (g.A.Acts.marked c.args.acts.now).bytes (c.args.at - 65536) z) p.front)
-    ∙ span_behind (g.A.Acts.marked c.args.acts.now).bytes c.args.at p.first.bytes k 0 r.low r.high (omega (arith, le, p.len, q.len))) in
+    same_behind marked c.args.chunk c.args.at c.args.new.now c.in-Ok.instr patch c.requires.whole is _
+    c.put_where_new.ensures.bytes k (omega (arith, le, q.len)) in
     let two : Tells (g.A.Acts.told c.put_where_new.new.acts) (g.A.Acts.told c.put_patch.new.acts)
     (acts_of_modify (g.A.Acts.marked c.args.acts.now).bytes (c.args.at + length q.first.bytes) q.rest) =
     subst (λ (z : List Act). Tells (g.A.Acts.told c.put_where_new.new.acts) (g.A.Acts.told c.put_patch.new.acts) z)
@@ -164,13 +172,9 @@ returns-clause-told g t c = λ news b.
 pub returns-clause-log : goal.returns-clause-log
 returns-clause-log g t c = λ news b.
     let marked = g.A.Acts.marked c.args.acts.now in
-    let mid = g.A.Acts.marked c.put_where_new.new.acts in
     let is = sym c.decode.ensures.first ∙ ap result_ok c.in-Ok.is in
     let q = parted c.args.new.now news c.in-Ok.instr b is in
     let patch = c.requires.patch in
-    let p = parted c.args.new.now patch.run.news c.in-Ok.instr patch.run.bytes is in
-    let w = turn marked c.args.chunk c.args.at c.args.new.now patch p.first p.rest c.requires.whole p.is in
-    let r = changes_replace marked c.args.chunk c.args.at patch.run.before (w.os ++ patch.run.after) w.o p.first w.change in
     let one : Logs (g.A.Acts.logged c.args.acts.now) (g.A.Acts.logged c.put_where_new.new.acts)
     (cond (stands_there (g.A.Acts.marked c.args.acts.now).bytes c.args.at q.first.bytes) []
     (log_of_instruction c.args.at q.first.bytes)) =
@@ -180,9 +184,8 @@ returns-clause-log g t c = λ news b.
     let len : c.from.result ≡ length q.first.bytes = c.from.ensures ∙ q.len in
     let agree : (k : ℕ) → c.args.at + length q.first.bytes ≤ k
     → byte_at (g.A.Acts.marked c.put_where_new.new.acts).bytes k ≡ byte_at (g.A.Acts.marked c.args.acts.now).bytes k = λ k le.
-    (ap (λ (z : List ℕ). byte_at z k) (c.put_where_new.ensures.bytes
-    ∙ ap (λ (z : List ℕ). with_span (g.A.Acts.marked c.args.acts.now).bytes (c.args.at - 65536) z) p.front)
-    ∙ span_behind (g.A.Acts.marked c.args.acts.now).bytes c.args.at p.first.bytes k 0 r.low r.high (omega (arith, le, p.len, q.len))) in
+    same_behind marked c.args.chunk c.args.at c.args.new.now c.in-Ok.instr patch c.requires.whole is _
+    c.put_where_new.ensures.bytes k (omega (arith, le, q.len)) in
     let two : Logs (g.A.Acts.logged c.put_where_new.new.acts) (g.A.Acts.logged c.put_patch.new.acts)
     (log_of_modify (g.A.Acts.marked c.args.acts.now).bytes (c.args.at + length q.first.bytes) q.rest) =
     subst (λ (z : List Entry). Logs (g.A.Acts.logged c.put_where_new.new.acts) (g.A.Acts.logged c.put_patch.new.acts) z)

@@ -19,20 +19,30 @@ returns-then-stands_there-clause-told g c =
     (cond z [] (acts_of_instruction c.args.at c.args.bytes.now))) (sym (sym c.stands_there.ensures ∙ c.if-stands_there.true))
     (tells_none (g.A.Acts.told c.args.acts.now))
 
-pub returns-clause-told : goal.returns-clause-told
-returns-clause-told g c =
-    subst (λ (z : Bool). Tells (g.A.Acts.told c.args.acts.now) (g.A.Acts.told c.put_instruction.new.acts)
-    (cond z [] (acts_of_instruction c.args.at c.args.bytes.now)))
-    (sym (sym c.stands_there.ensures ∙ c.if-stands_there.false)) c.put_instruction.ensures.told
-
 pub returns-then-stands_there-clause-log : goal.returns-then-stands_there-clause-log
 returns-then-stands_there-clause-log g c =
     subst (λ (z : Bool). Logs (g.A.Acts.logged c.args.acts.now) (g.A.Acts.logged c.args.acts.now)
     (cond z [] (log_of_instruction c.args.at c.args.bytes.now))) (sym (sym c.stands_there.ensures ∙ c.if-stands_there.true))
     (logs_none (g.A.Acts.logged c.args.acts.now))
 
-pub returns-clause-log : goal.returns-clause-log
-returns-clause-log g c =
-    subst (λ (z : Bool). Logs (g.A.Acts.logged c.args.acts.now) (g.A.Acts.logged c.put_instruction.new.acts)
-    (cond z [] (log_of_instruction c.args.at c.args.bytes.now)))
-    (sym (sym c.stands_there.ensures ∙ c.if-stands_there.false)) c.put_instruction.ensures.log
+pub put_instruction-requires : goal.put_instruction-requires
+put_instruction-requires g c = record {
+  whole = c.requires.whole;
+  ready = c.requires.ready;
+  replacing = c.requires.replacing;
+}
+
+pub returns : goal.returns
+returns g c = record {
+  bytes = c.put_instruction.ensures.bytes;
+  marks = c.put_instruction.ensures.marks;
+  whole = c.put_instruction.ensures.whole;
+  made = c.put_instruction.ensures.made;
+  keeper = c.put_instruction.ensures.keeper;
+  told = subst (λ (z : Bool). Tells (g.A.Acts.told c.args.acts.now) (g.A.Acts.told c.put_instruction.new.acts)
+      (cond z [] (acts_of_instruction c.args.at c.args.bytes.now)))
+      (sym (sym c.stands_there.ensures ∙ c.if-stands_there.false)) c.put_instruction.ensures.told;
+  log = subst (λ (z : Bool). Logs (g.A.Acts.logged c.args.acts.now) (g.A.Acts.logged c.put_instruction.new.acts)
+      (cond z [] (log_of_instruction c.args.at c.args.bytes.now)))
+      (sym (sym c.stands_there.ensures ∙ c.if-stands_there.false)) c.put_instruction.ensures.log;
+}

@@ -7,13 +7,12 @@ ghost use Rattle.std.specs.Prelude.{◌≡◌, ◌+◌, ◌*◌, ◌↔◌, None
 ghost use Rattle.nc_decode.specs.Bundles.{IsLawfulLimit};
 ghost use Rattle.nc_text.specs.MarkedText.{unused_text};
 
-use crate::acts::Acts;
-use crate::fault::RegionFault;
-use crate::plain::Plain;
-use nc_decode::{BUNDLE, Bundle, Mark, START};
+use nc_decode::{BUNDLE, Mark, START};
 use nc_gens::{Gens, GensFull, Keeper, Pass};
+use nc_region::{Acts, Plain, RegionFault};
 use nc_text::{Text, TextFault};
 use std::alloc::Global;
+use std::fmt;
 
 /// The instruction hlt.
 const STOP: u8 = 0xF4;
@@ -44,18 +43,23 @@ impl<'g> Image<'g> {
         ensures lawful { OnOk result (IsLawfulLimit (0x10000 + 32 * bundles)) }
         ensures size { IfErr result (λ e. (e ≡ RegionFault.BadSize) ↔ ¬ IsLawfulLimit (0x10000 + 32 * bundles)) }
     {
-        let text = match Text::new(alloc, bundles) {
-            Ok(text) => text,
-            Err(TextFault::BadSize) => return Err(RegionFault::BadSize),
-            Err(TextFault::OutOfMemory) => return Err(RegionFault::OutOfMemory),
-        };
-        let Ok(memory) = Vec::from_elem(alloc, STOP, bundles as usize * BUNDLE as usize) else {
-            return Err(RegionFault::OutOfMemory);
-        };
-        Ok(Image {
-            plain: Plain::new(text, gens, keeper),
-            memory,
-        })
+        match Text::new(alloc, bundles) {
+            Ok(text) => Image::over(alloc, bundles, Plain::new(text, gens, keeper)),
+            Err(TextFault::BadSize) => Err(RegionFault::BadSize),
+            Err(TextFault::OutOfMemory) => Err(RegionFault::OutOfMemory),
+        }
+    }
+
+    /// A new text, and memory of this many bundles.
+    fn over(alloc: Global, bundles: u32, plain: Plain<'g>) -> Result<Image<'g>, RegionFault>
+        requires { plain.marked ≡ unused_text (0x10000 + 32 * bundles) }
+        ensures plain { IfOk result (λ i. i.plain ≡ plain.entry) }
+        ensures fault { IfErr result (λ e. e ≡ RegionFault.OutOfMemory) }
+    {
+        match Vec::from_elem(alloc, STOP, bundles as usize * BUNDLE as usize) {
+            Ok(memory) => Ok(Image { plain, memory }),
+            Err(_) => Err(RegionFault::OutOfMemory),
+        }
     }
 
     /// The host's memory. It always holds the bytes of the region.
@@ -63,6 +67,16 @@ impl<'g> Image<'g> {
         ensures { result.now ≡ self.now.plain.marked.bytes }
     {
         &self.memory
+    }
+}
+
+/// Shows the first two bytes of the memory.
+impl<'g> fmt::Display for Image<'g> {
+    fn fmt<W: fmt::Write>(&self, f: &mut fmt::Formatter<W>) -> fmt::Result {
+        match self.memory() {
+            [first, second, ..] => write!(f, "{first:02x} {second:02x}"),
+            _ => Ok(()),
+        }
     }
 }
 
@@ -96,12 +110,9 @@ impl<'g> Acts for Image<'g> {
         self.plain.settle();
     }
 
+    // It takes no bits, so a creation's marks come as a list: `mark_bundles` is the trait's.
     fn mark_span(&mut self, at: u32, marks: &[Mark]) {
         self.plain.mark_span(at, marks);
-    }
-
-    fn mark_bundles(&mut self, at: u32, code: &[u8], bundles: &[Bundle]) -> bool {
-        self.plain.mark_bundles(at, code, bundles)
     }
 
     fn unmark_span(&mut self, at: u32, len: u32) {
