@@ -1,6 +1,6 @@
 //! Queries of a region that owns everything it needs.
 
-ghost use Rattle.std.specs.Prelude.{◌≡◌, ◌+◌, ◌*◌, ◌↔◌, ◌≤◌, ◌^◌, IfOk, IfErr, IfSome, IsNone, OnOk, length, slice_get};
+ghost use Rattle.std.specs.Prelude.{◌≡◌, ◌+◌, ◌*◌, ◌↔◌, ◌≤◌, ◌^◌, IfOk, IfErr, IfSome, IsNone, IsTrue, OnOk, length, slice_get};
 ghost use Rattle.nc_text.specs.Machine.{IsConfined};
 ghost use Rattle.nc_text.specs.Marks.{mark_at};
 ghost use Rattle.nc_text.specs.Places.{InRegion, byte_at, limit_of};
@@ -28,12 +28,19 @@ impl Held {
         self.region.acts().generation()
     }
 
+    /// Whether an address is one of the region.
+    fn holds(&self, at: u32) -> bool
+        ensures { IsTrue result ↔ InRegion self.now.region.marked.bytes at }
+    {
+        START <= at && at < self.region.limit()
+    }
+
     /// The byte at an address, if it is one of the region.
     pub fn byte(&self, at: u32) -> Option<u8>
         ensures byte { IfSome result (λ b. b ≡ byte_at self.now.region.marked.bytes at) }
         ensures outside { IsNone result ↔ ¬ InRegion self.now.region.marked.bytes at }
     {
-        if at < START || at >= self.region.limit() {
+        if !self.holds(at) {
             return None;
         }
         Some(self.region.byte(at))
@@ -44,7 +51,7 @@ impl Held {
         ensures mark { IfSome result (λ m. m ≡ mark_at self.now.region.marked.marks at) }
         ensures outside { IsNone result ↔ ¬ InRegion self.now.region.marked.bytes at }
     {
-        if at < START || at >= self.region.limit() {
+        if !self.holds(at) {
             return None;
         }
         Some(self.region.mark(at))

@@ -1,10 +1,11 @@
 -- What a host reads of an instruction tells which it is.
-use Rattle.std.proofs.Common.{◌≡◌, ℕ, ◌-◌, ◌<◌, Option, Some, None, Result, Ok, refl, ap, sym, ◌∙◌, arith}
+use Rattle.std.proofs.Common.{◌≡◌, ℕ, ◌-◌, ◌<◌, Option, Some, None, Result, Ok, Err, refl, ap, sym, ◌∙◌, arith}
 use Rattle.std.specs.Prelude.{◌==◌, if◌then◌else◌}
 use Rattle.nc_decode.specs.declared.instruction.Flow.{Flow}
 use Rattle.nc_decode.specs.declared.instruction.Flow.TheVariants.{Next, Branch, Jump, Call, IndirectJump, IndirectCall, Stop}
 use Rattle.nc_decode.specs.declared.instruction.Instr.{Instr}
 use Rattle.nc_decode.specs.declared.instruction.DecodeFault.{DecodeFault}
+use Rattle.nc_decode.specs.declared.instruction.DecodeFault.TheVariants.{Truncated, NotPermitted}
 use Rattle.nc_host.specs.declared.answers.NcInstruction.{NcInstruction}
 use Rattle.nc_host.specs.Shown.{flow_number, register_number, instruction_of, no_instruction}
 
@@ -45,6 +46,17 @@ same_instr i j e = sym (instr_back i) ∙ (ap instr_of e ∙ instr_back j)
 -- the same answer
 pub same_ok : (i j : Instr) → ◌≡◌ {A = Result Instr DecodeFault} (Ok i) (Ok j) → i ≡ j
 same_ok i j e = cc
+
+-- there is an instruction or a fault, and one fault
+pub not_both : (r : Result Instr DecodeFault) (f : DecodeFault) (i : Instr) → r ≡ Err f → r ≡ Ok i → ⊥
+not_both r f i a b = cc
+
+pub one_fault : (r : Result Instr DecodeFault) → r ≡ Err Truncated → r ≡ Err NotPermitted → ⊥
+one_fault r a b = cc
+
+-- none for one fault isn't none for another
+pub one_number : (a b : ℕ) → no_instruction a ≡ no_instruction b → a ≡ b
+one_number a b e = ap (λ (n : NcInstruction). n.fault) e
 
 -- no instruction is read as none
 pub none_read : (fault : ℕ) (i : Instr) → 0 < fault → no_instruction fault ≡ instruction_of i → ⊥

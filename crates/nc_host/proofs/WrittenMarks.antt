@@ -1,4 +1,4 @@
--- Marks written into the front of a buffer, one after the other.
+-- Marks, or places, written into the front of a buffer, one after the other.
 use Rattle.std.proofs.Common.{◌≡◌, ℕ, ◌+◌, ◌<◌, List, [], ◌∷◌, ◌++◌, length, get_or, set, take, Some, ap, arith, sym, subst, ◌∙◌}
 use Rattle.std.specs.Prelude.{map, slice_get}
 use Rattle.std.proofs.lemmas.List.{length-map, map-append, length-take-le, take_more}
@@ -23,3 +23,14 @@ write_mark marks old now i m here lt is fits =
     ∙ (ap (λ (k : ℕ). set (over xs old) k (mark_number m)) (sym long)
     ∙ (over_more xs old (mark_number m) (subst (λ (z : List ℕ). length xs < length z) is (omega (arith, fits, long)))
     ∙ ap (λ (z : List ℕ). over z old) (sym more)))
+
+-- one more place
+pub write_place : (places old now : List ℕ) (i : ℕ) → i < length places → now ≡ over (take i places) old → i < length now
+    → set now i (get_or places i 0) ≡ over (take (i + 1) places) old
+write_place places old now i lt is fits =
+    let xs : List ℕ = take i places in
+    let long : length xs ≡ i = length-take-le i places (omega (arith, lt)) in
+    ap (λ (z : List ℕ). set z i (get_or places i 0)) is
+    ∙ (ap (λ (k : ℕ). set (over xs old) k (get_or places i 0)) (sym long)
+    ∙ (over_more xs old (get_or places i 0) (subst (λ (z : List ℕ). length xs < length z) is (omega (arith, fits, long)))
+    ∙ ap (λ (z : List ℕ). over z old) (sym (take_more places i 0 lt))))

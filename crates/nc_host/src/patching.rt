@@ -18,9 +18,8 @@ use crate::acting::refused;
 use crate::answers::{NO_MEMORY, NO_ROOM, NcActs};
 use crate::vetting::admit;
 use nc_decode::{BUNDLE, START};
-use nc_gens::Gens;
-use nc_handle::{NcAct, write_patch};
-use nc_region::{Acts, ModifyFault, Region, RegionOf};
+use nc_handle::{Held, NcAct, PatchFault, write_patch};
+use nc_region::ModifyFault;
 use nc_vet::{Marks, Vetted};
 use std::alloc::{AllocError, Global};
 
@@ -39,24 +38,26 @@ pub(crate) fn patch_number(fault: ModifyFault) -> u32
 }
 
 /// Creates a valid chunk in a region without chunks, and returns the region's answer to a patch of it.
-fn answer_in<A: Acts + Drop>(
-    region: &mut RegionOf<A>,
+fn answer_in(
+    held: &mut Held,
     vetted: Vetted,
     at: u32,
     new: &[u8],
 ) -> Result<Option<ModifyFault>, AllocError>
     requires valid { IsValid vetted }
-    requires text { region.old.marked ≡ unused_text vetted.limit }
-    requires chunks { region.old.chunks ≡ [] }
+    requires text { held.old.region.marked ≡ unused_text vetted.limit }
+    requires chunks { held.old.region.chunks ≡ [] }
+    requires begun { held.old.begun ≡ None }
     ensures answer { IfOk result (λ a. IsAnsweredFor vetted.base vetted.limit vetted.code at new.now a) }
     ensures within { IfOk result (λ a. a ≡ None → LiesWithin vetted.base vetted.code at new.now) }
 {
-    let Ok(()) = region.create(vetted) else {
+    let Ok(_) = held.create(vetted, &mut []) else {
         return Err(AllocError);
     };
-    match region.modify(at, new) {
-        Ok(()) => Ok(None),
-        Err(fault) => Ok(Some(fault)),
+    match held.modify(at, new, &mut []) {
+        Ok(_) => Ok(None),
+        Err(PatchFault::Refused(fault)) => Ok(Some(fault)),
+        Err(PatchFault::Underway | PatchFault::NoRoom(_)) => unreachable!(),
     }
 }
 
@@ -71,12 +72,9 @@ fn answer(
     ensures answer { IfOk result (λ a. IsAnsweredFor vetted.base vetted.limit vetted.code at new.now a) }
     ensures within { IfOk result (λ a. a ≡ None → LiesWithin vetted.base vetted.code at new.now) }
 {
-    let Ok((gens, keeper, _passes)) = Gens::new(alloc, 1) else {
-        return Err(AllocError);
-    };
     let bundles = (vetted.limit() - START) / BUNDLE;
-    match Region::new(alloc, bundles, &gens, keeper) {
-        Ok(mut region) => answer_in(&mut region, vetted, at, new),
+    match Held::new(alloc, bundles, 1) {
+        Ok(mut held) => answer_in(&mut held, vetted, at, new),
         Err(_) => Err(AllocError),
     }
 }

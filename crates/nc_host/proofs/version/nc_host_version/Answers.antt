@@ -1,5 +1,5 @@
-use Rattle.std.proofs.Common.{rules}
+use Rattle.std.proofs.Common.{refl}
 use Rattle.nc_host.proofs.version.nc_host_version.Goals as goal
 
 pub returns : goal.returns
-returns c = search rules
+returns c = refl
