@@ -85,20 +85,18 @@ pub fn matches<'a>(
     }
 }
 
-/// A fault of a command line, if there is memory for it.
-fn made_fault(
-    alloc: Global,
-    program: &Program,
-    kind: ErrorKind,
-    message: &str,
-) -> Result<Error, AllocError> {
-    command(alloc, program)?.error(kind, message)
+/// A fault of words for this command line, or lack of memory if there is none for the fault.
+fn fault_by(command: &mut Command<'_>, kind: ErrorKind, message: &str) -> Error {
+    match command.error(kind, message) {
+        Ok(error) => error,
+        Err(error) => Error::from(error),
+    }
 }
 
 /// A fault of a command line.
 pub(crate) fn fault(alloc: Global, program: &Program, kind: ErrorKind, message: &str) -> Error {
-    match made_fault(alloc, program, kind, message) {
-        Ok(error) => error,
+    match command(alloc, program) {
+        Ok(mut command) => fault_by(&mut command, kind, message),
         Err(error) => Error::from(error),
     }
 }

@@ -77,6 +77,11 @@ static CHECK: Program = Program {
     subcommands: &[],
 };
 
+/// The program. Only this function names its table, so the proofs of its callers don't go through the table.
+fn program() -> &'static Program {
+    &CHECK
+}
+
 /// A text without the prefix `0x` or `0X`, if it has one.
 fn without_prefix(text: &str) -> &str
     ensures is { EndsInDigits text.now result.now }
@@ -102,7 +107,7 @@ fn base_of(text: &str) -> Option<u32>
 
 /// A fault of the words that the parser doesn't find.
 fn refusal(alloc: Global, message: &str) -> Error {
-    fault(alloc, &CHECK, ErrorKind::InvalidValue, message)
+    fault(alloc, program(), ErrorKind::InvalidValue, message)
 }
 
 /// The fault with this message, or lack of memory if there was none for the message.
@@ -186,7 +191,7 @@ pub fn ask_check<'a>(alloc: Global, words: &'a [&'a str]) -> Result<CheckAsk<'a>
     // The numbers are in the ranges of the options, and there is a file.
     ensures { IfOk result IsCheckInRange }
 {
-    let found = matches(alloc, &CHECK, words)?;
+    let found = matches(alloc, program(), words)?;
     let asked = asked(alloc, &found);
     drop(found);
     asked
@@ -195,5 +200,5 @@ pub fn ask_check<'a>(alloc: Global, words: &'a [&'a str]) -> Result<CheckAsk<'a>
 /// The words of the command line of `nc_check`, the program's own name first. If there is no memory for them, the fault has
 /// the kind `OutOfMemory`.
 pub fn check_words<R: Env + AllocGlobal>(rt: &R) -> Result<Vec<String>, Error> {
-    command_words(rt, &CHECK)
+    command_words(rt, program())
 }

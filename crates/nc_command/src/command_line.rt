@@ -66,6 +66,11 @@ pub(crate) fn number(found: &ArgMatches<'_>, name: &str, least: u32, most: u32) 
         .clamp(least, most)
 }
 
+/// The program. Only this function names its table, so the proofs of its callers don't go through the table.
+fn program() -> &'static Program {
+    &REPLAY
+}
+
 /// The request that a subcommand makes.
 fn asked(found: &ArgMatches<'_>) -> Option<Ask>
     ensures { IfSome result AsksInRange }
@@ -88,7 +93,7 @@ pub fn ask<'a>(alloc: Global, words: &'a [&'a str]) -> Result<Ask, Error>
     // The numbers are in the ranges of the options.
     ensures { IfOk result AsksInRange }
 {
-    let found = matches(alloc, &REPLAY, words)?;
+    let found = matches(alloc, program(), words)?;
     let asked = asked(&found);
     drop(found);
     match asked {
@@ -96,7 +101,7 @@ pub fn ask<'a>(alloc: Global, words: &'a [&'a str]) -> Result<Ask, Error>
         // this can't happen: the parser requires a subcommand
         None => Err(fault(
             alloc,
-            &REPLAY,
+            program(),
             ErrorKind::MissingSubcommand,
             "a subcommand is missing",
         )),
@@ -106,5 +111,5 @@ pub fn ask<'a>(alloc: Global, words: &'a [&'a str]) -> Result<Ask, Error>
 /// The words of the command line of `nc_replay`, the program's own name first. If there is no memory for them, the fault has
 /// the kind `OutOfMemory`.
 pub fn replay_words<R: Env + AllocGlobal>(rt: &R) -> Result<Vec<String>, Error> {
-    command_words(rt, &REPLAY)
+    command_words(rt, program())
 }

@@ -15,7 +15,7 @@ use std::sync::Wait;
 use std::thread::Threads;
 
 /// Why the program stops before its work is done.
-#[derive(Debug, Drop)]
+#[derive(Drop)]
 pub enum Halt {
     /// The words of the command line can't be carried out, or ask for help.
     Words(clap::Error),
