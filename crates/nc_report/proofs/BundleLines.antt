@@ -15,16 +15,16 @@ none_in [] e = refl
 none_in (x ∷ xs) e = absurd (omega arith)
 
 -- the parts of the line, one after the other
-joined : (old digits bars rest : List ℕ)
-    → ((((((old ++ codes "  ") ++ digits) ++ codes ":") ++ bars) ++ codes " >") ++ rest) ++ 10 ∷ []
+pub joined : (old digits bars rest : List ℕ)
+    → ((old ++ (codes "  " ++ (digits ++ codes ":"))) ++ bars) ++ (codes " >" ++ (rest ++ codes "\n"))
     ≡ old ++ detail_line (digits ++ (codes ":" ++ (bars ++ (codes " >" ++ rest))))
 joined old digits bars rest = simp append_assoc
 
 -- the line was added
 pub bundle_added : (old start listed new bundle : List ℕ) (address before read : ℕ) → ListsFront start listed (take before bundle) read
     → read ≡ length (take before bundle) → before ≤ length bundle
-    → start ≡ ((old ++ codes "  ") ++ address_digits address) ++ codes ":"
-    → new ≡ ((listed ++ codes " >") ++ spaced (drop read bundle)) ++ 10 ∷ []
+    → start ≡ old ++ (codes "  " ++ (address_digits address ++ codes ":"))
+    → new ≡ listed ++ (codes " >" ++ (spaced (drop read bundle) ++ codes "\n"))
     → AddsBundle old new address bundle before
 bundle_added old start listed new bundle address before read l all le first last =
     let is : read ≡ before = all ∙ length-take-le before bundle le in
@@ -44,7 +44,7 @@ bundle_added old start listed new bundle address before read l all le first last
         written = refl;
       };
       added = last
-          ∙ ap (λ (z : List ℕ). ((z ++ codes " >") ++ spaced (drop read bundle)) ++ 10 ∷ [])
+          ∙ ap (λ (z : List ℕ). z ++ (codes " >" ++ (spaced (drop read bundle) ++ codes "\n")))
           (l.added ∙ ap (λ (z : List ℕ). z ++ barred l.pieces) first)
           ∙ joined old (address_digits address) (barred l.pieces) (spaced (drop read bundle));
     }

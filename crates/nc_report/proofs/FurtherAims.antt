@@ -11,7 +11,6 @@ use Rattle.nc_report.specs.declared.spot.Spot.{Spot}
 use Rattle.nc_report.specs.declared.spot.Spot.TheVariants.{Inside}
 use Rattle.nc_report.specs.Further.{is_begun, begun_before, why_not, aim_lines}
 use Rattle.nc_report.specs.Report.{detail_line}
-use Rattle.nc_report.proofs.Appended.{five_added}
 
 -- where none begins, it is one before
 pub begun_earlier : (spots : List Spot) (k : ℕ) → 0 < k → is_begun (get_or spots k Inside) ≡ false
@@ -52,19 +51,17 @@ also_added old a n b c d also bundle words label goes e l f g h =
     (sym (flat_map-append detail_line goes (words ∷ [])))
     ∙ ap (λ (z : List ℕ). old ++ (detail_line also ++ z)) (sym (flat_map-append detail_line label (bundle ∷ (goes ++ words ∷ []))))
 
--- the parts of the line on where a transfer goes, one after the other
-aim_parts : (old digits why : List ℕ) → old ++ (codes "  -> " ++ (digits ++ (codes ": " ++ (why ++ 10 ∷ []))))
-    ≡ old ++ flat_map detail_line ((codes "-> " ++ (digits ++ (codes ": " ++ why))) ∷ [])
-aim_parts old digits why = simp (append_assoc, append-nil)
-
 -- the line on where an instruction goes was added
-pub aim_added : (old t1 t2 t3 t4 t5 : List ℕ) (base limit : ℕ) (spots : List Spot) (at to : ℕ) (i : Instr) (found : Option Instr)
-    → found ≡ Some i → to ≡ target i at → t1 ≡ old ++ codes "  -> " → t2 ≡ t1 ++ address_digits to → t3 ≡ t2 ++ codes ": "
-    → t4 ≡ t3 ++ why_not base limit spots to → t5 ≡ t4 ++ 10 ∷ [] → t5 ≡ old ++ flat_map detail_line (aim_lines base limit spots at found)
-aim_added old t1 t2 t3 t4 t5 base limit spots at to i found is goes e1 e2 e3 e4 e5 =
-    five_added old (codes "  -> ") (address_digits to) (codes ": ") (why_not base limit spots to) (10 ∷ []) t1 t2 t3 t4 t5 e1 e2 e3 e4 e5
-    ∙ aim_parts old (address_digits to) (why_not base limit spots to)
-    ∙ ap (λ (n : ℕ). old ++ flat_map detail_line ((codes "-> " ++ (address_digits n ++ (codes ": " ++ why_not base limit spots n))) ∷ [])) goes
+pub aim_added : (old new : List ℕ) (base limit : ℕ) (spots : List Spot) (at to : ℕ) (i : Instr) (found : Option Instr) (words : List ℕ)
+    → found ≡ Some i → to ≡ target i at → words ≡ why_not base limit spots to
+    → new ≡ old ++ detail_line (codes "-> " ++ (address_digits to ++ (codes ": " ++ words)))
+    → new ≡ old ++ flat_map detail_line (aim_lines base limit spots at found)
+aim_added old new base limit spots at to i found words is goes says e =
+    let line : ℕ → List ℕ = λ n. detail_line (codes "-> " ++ (address_digits n ++ (codes ": " ++ why_not base limit spots n))) in
+    e
+    ∙ ap (λ (z : List ℕ). old ++ detail_line (codes "-> " ++ (address_digits to ++ (codes ": " ++ z)))) says
+    ∙ ap (λ (n : ℕ). old ++ line n) goes
+    ∙ ap (λ (z : List ℕ). old ++ z) (sym (append-nil (line (target i at))))
     ∙ ap (λ (o : Option Instr). old ++ flat_map detail_line (aim_lines base limit spots at o)) (sym is)
 
 -- without an instruction there is none

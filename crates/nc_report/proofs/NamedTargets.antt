@@ -16,7 +16,7 @@ use Rattle.nc_vet.proofs.Offered.{same_pieces, place-push}
 use Rattle.nc_report.specs.declared.words.TheConstants.{INSIDE, SECOND_HALF}
 use Rattle.nc_report.specs.Report.{detail_line, AddsTarget}
 use Rattle.nc_report.specs.Targets.{SaysWhy, NamesTarget}
-use Rattle.nc_report.specs.machinery.Aims.{IsReadTo, CoversPlace, IsNoTarget, AddsWhy, AddsAim}
+use Rattle.nc_report.specs.machinery.Aims.{IsReadTo, CoversPlace, IsNoTarget, IsWhy, AddsAim}
 use Rattle.nc_report.specs.machinery.Found.{AddsLines}
 use Rattle.nc_report.proofs.Covered.{front_of}
 use Rattle.nc_vet.proofs.Offered.{one_at_front}
@@ -26,36 +26,31 @@ pub read_none : (limit base : ℕ) (code : List ℕ) (to : ℕ) → IsNoTarget l
 read_none limit base code to n = record { before = []; after = n.pieces; parts = n.parts; sound = n.sound; here = refl }
 
 -- an instruction begins before it
-pub why_inside : (old new : List ℕ) (limit base : ℕ) (code : List ℕ) (to start : ℕ) → base ≤ to → to - base < length code
-    → CoversPlace code (to - base) start → start < to - base → new ≡ (old ++ INSIDE.now) ++ address_digits (base + start)
-    → AddsWhy old new limit base code to
-why_inside old new limit base code to start low high c lt e =
-    let words = INSIDE.now ++ address_digits (base + place c.before) in
-    record {
-      pieces = c.before ++ c.piece ∷ c.after;
-      parts = c.parts;
-      sound = c.sound;
-      words = words;
-      says = inr (
-        to - base,
-        omega arith,
-        omega (arith, ap (λ (z : List ℕ). length z) c.parts),
-        inl (record {
-          covers = record {
-            before = c.before;
-            piece = c.piece;
-            after = c.after;
-            parts = refl;
-            low = omega (arith, c.here, c.low);
-            high = omega (arith, c.here, c.high);
-          };
-          earlier = omega (arith, c.here);
-          written = refl;
-        }),
-      );
-      added = e ∙ ap (λ (k : ℕ). (old ++ INSIDE.now) ++ address_digits (base + k)) (sym c.here)
-          ∙ append_assoc old INSIDE.now (address_digits (base + place c.before));
-    }
+pub why_inside : (limit base : ℕ) (code : List ℕ) (to start : ℕ) (words : List ℕ) → base ≤ to → to - base < length code
+    → CoversPlace code (to - base) start → start < to - base → words ≡ INSIDE.now ++ address_digits (base + start)
+    → IsWhy limit base code to words
+why_inside limit base code to start words low high c lt e = record {
+  pieces = c.before ++ c.piece ∷ c.after;
+  parts = c.parts;
+  sound = c.sound;
+  says = inr (
+    to - base,
+    omega arith,
+    omega (arith, ap (λ (z : List ℕ). length z) c.parts),
+    inl (record {
+      covers = record {
+        before = c.before;
+        piece = c.piece;
+        after = c.after;
+        parts = refl;
+        low = omega (arith, c.here, c.low);
+        high = omega (arith, c.here, c.high);
+      };
+      earlier = omega (arith, c.here);
+      written = e ∙ ap (λ (k : ℕ). INSIDE.now ++ address_digits (base + k)) (sym c.here);
+    }),
+  );
+}
 
 -- a mask has three bytes
 mask_long : (p : Piece) (r : ℕ) → Spells p.bytes p.instr → p.instr.masks ≡ Some r → length p.bytes ≡ 3
@@ -109,10 +104,10 @@ mask_room limit base code to start low high n c not =
     omega (arith, m.1)
 
 -- the second half of a pair begins there
-pub why_second : (old new : List ℕ) (limit base : ℕ) (code : List ℕ) (to start : ℕ) → base ≤ to → to - base < length code
+pub why_second : (limit base : ℕ) (code : List ℕ) (to start : ℕ) (words : List ℕ) → base ≤ to → to - base < length code
     → IsNoTarget limit base code to → CoversPlace code (to - base) start → ¬ (start < to - base)
-    → new ≡ (old ++ SECOND_HALF.now) ++ address_digits (to - 3) → AddsWhy old new limit base code to
-why_second old new limit base code to start low high n cover not e =
+    → words ≡ SECOND_HALF.now ++ address_digits (to - 3) → IsWhy limit base code to words
+why_second limit base code to start words low high n cover not e =
     let is : start ≡ to - base = omega (arith, cover.low, not) in
     let c = subst (λ (k : ℕ). CoversPlace code (to - base) k) is cover in
     let second = second_there limit base code to c low high n in
@@ -123,7 +118,6 @@ why_second old new limit base code to start low high n cover not e =
       pieces = c.before ++ c.piece ∷ c.after;
       parts = c.parts;
       sound = c.sound;
-      words = SECOND_HALF.now ++ address_digits (base + place f.earlier);
       says = inr (
         to - base,
         omega arith,
@@ -137,11 +131,9 @@ why_second old new limit base code to start low high n cover not e =
           here = omega (arith, m.0, m.1);
           second = second;
           masks = f.masks;
-          written = refl;
+          written = e ∙ ap (λ (k : ℕ). SECOND_HALF.now ++ address_digits k) from;
         }),
       );
-      added = e ∙ ap (λ (k : ℕ). (old ++ SECOND_HALF.now) ++ address_digits k) from
-          ∙ append_assoc old SECOND_HALF.now (address_digits (base + place f.earlier));
     }
 
 -- ---- the line
@@ -174,23 +166,17 @@ goes_astray limit base code at i (g, m) f =
       bad = subst (λ (k : ℕ). ¬ IsTarget base limit pieces k) (sym (same_aim limit base code at i m f)) m.bad;
     }
 
--- the parts of the line, one after the other
-joined : (old digits words : List ℕ)
-    → ((((old ++ codes "  -> ") ++ digits) ++ codes ": ") ++ words) ++ 10 ∷ []
-    ≡ old ++ detail_line (codes "-> " ++ (digits ++ (codes ": " ++ words)))
-joined old digits words = simp append_assoc
-
 -- the line was added
-pub target_named : (old mid said new : List ℕ) (limit base : ℕ) (code : List ℕ) (at : ℕ) (i : Instr)
-    → HasFault base limit code (BadTarget at) → IsAtFront (drop (at - base) code) i
-    → mid ≡ ((old ++ codes "  -> ") ++ address_digits (target i at)) ++ codes ": " → AddsWhy mid said limit base code (target i at)
-    → new ≡ said ++ 10 ∷ [] → AddsAim old new (NamesTarget limit base code at)
-target_named old mid said new limit base code at i (g, m) f first w last =
+pub target_named : (old new : List ℕ) (limit base : ℕ) (code : List ℕ) (at : ℕ) (i : Instr) (words : List ℕ)
+    → HasFault base limit code (BadTarget at) → IsAtFront (drop (at - base) code) i → IsWhy limit base code (target i at) words
+    → new ≡ old ++ detail_line (codes "-> " ++ (address_digits (target i at) ++ (codes ": " ++ words)))
+    → AddsAim old new (NamesTarget limit base code at)
+target_named old new limit base code at i words (g, m) f w e =
     let pieces = m.before ++ m.piece ∷ m.after in
     let to = same_aim limit base code at i m f in
     let list : w.pieces ≡ pieces = same_pieces w.pieces pieces w.sound.spelled m.sound.spelled (sym w.parts ∙ m.parts) in
     record {
-      line = codes "-> " ++ (address_digits (target m.piece.instr (base + place m.before)) ++ (codes ": " ++ w.words));
+      line = codes "-> " ++ (address_digits (target m.piece.instr (base + place m.before)) ++ (codes ": " ++ words));
       names = record {
         before = m.before;
         piece = m.piece;
@@ -199,14 +185,12 @@ target_named old mid said new limit base code at i (g, m) f first w last =
         sound = m.sound;
         here = m.here;
         direct = m.direct;
-        why = w.words;
-        says = subst (λ (k : ℕ). SaysWhy limit base pieces k w.words) to
-            (subst (λ (z : List Piece). SaysWhy limit base z (target i at) w.words) list w.says);
+        why = words;
+        says = subst (λ (k : ℕ). SaysWhy limit base pieces k words) to
+            (subst (λ (z : List Piece). SaysWhy limit base z (target i at) words) list w.says);
         written = refl;
       };
-      added = last ∙ ap (λ (z : List ℕ). z ++ 10 ∷ []) (w.added ∙ ap (λ (z : List ℕ). z ++ w.words) first)
-          ∙ joined old (address_digits (target i at)) w.words
-          ∙ ap (λ (k : ℕ). old ++ detail_line (codes "-> " ++ (address_digits k ++ (codes ": " ++ w.words)))) to;
+      added = e ∙ ap (λ (k : ℕ). old ++ detail_line (codes "-> " ++ (address_digits k ++ (codes ": " ++ words)))) to;
     }
 
 -- it is the line on the fault

@@ -1,7 +1,7 @@
 -- Sources that are told one after the other.
 use Rattle.std.proofs.Common.{◌≡◌, ℕ, zero, suc, ◌+◌, ◌<◌, ◌≤◌, Bool, true, false, List, [], ◌∷◌, ◌++◌, length, map, cond, refl, sym, subst, ◌∙◌, ap, inl, inr}
 use Rattle.std.proofs.Common.{arith, append_assoc, append-nil, get_or, Option, Result, Ok, Err}
-use Rattle.std.specs.Prelude.{All}
+use Rattle.std.specs.Prelude.{All, IfOk, OnErr}
 use Rattle.std.specs.List.{AllZip, flat_map, count_by}
 use Rattle.std.specs.Global.{Vec}
 use Rattle.std.specs.Io.KnownBytes.{Appends, Keeps}
@@ -18,6 +18,7 @@ use Rattle.nc_output.specs.declared.detail.Detail.TheVariants.{Brief, Calls, Obj
 use Rattle.nc_output.specs.Verdicts.{with_line_end}
 use Rattle.nc_report.specs.Outside.{ListsOutside}
 use Rattle.nc_report.specs.Objects.{accepted_object}
+use Rattle.nc_report.specs.declared.fault.ReportFault.{ReportFault}
 use Rattle.nc_report.specs.declared.labels.Label.{Label}
 use Rattle.nc_report.specs.declared.source.Source.{Source}
 use Rattle.nc_report.specs.declared.source.Title.{Title}
@@ -339,27 +340,35 @@ adds_object chunk d name old new count has v is e =
     }
 
 -- an accepted source is told, and not counted
-pub tells_accepted : (base limit : ℕ) (chunk : MarkedChunk) (d : Detail) (name : List ℕ) (labels : List Label) (before after : Option (List ℕ))
-    → IsFinding base limit (Ok chunk) → ((text : List ℕ) × TellsAccepted chunk.limit chunk.base d name chunk.code text × Appends before after text)
-    → TellsOne limit base d name chunk.code labels before after 0
-tells_accepted base limit chunk d name labels before after f (text, is, appended) = record {
+pub tells_accepted : (chunk : MarkedChunk) (d : Detail) (name : List ℕ) (labels : List Label) (before after : Option (List ℕ))
+    → ((text : List ℕ) × TellsAccepted chunk.limit chunk.base d name chunk.code text × Appends before after text)
+    → TellsOne chunk.limit chunk.base d name chunk.code labels before after 0
+tells_accepted chunk d name labels before after (text, is, appended) = record {
   told = record { refused = false; text = text };
-  tells = inl (
-    refl,
-    subst (λ (b : ℕ). TellsAccepted limit b d name chunk.code text) f.0
-        (subst (λ (l : ℕ). TellsAccepted l chunk.base d name chunk.code text) f.1 is),
-  );
+  tells = inl (refl, is);
   counted = refl;
   written = appended;
 }
 
 -- its limit and base are those of the report
-pub cut_accepted : (base limit : ℕ) (chunk : MarkedChunk) (d : Detail) (name : List ℕ) (labels : List Label) (before after : Option (List ℕ))
-    → IsFinding base limit (Ok chunk) → IsCutOff chunk.limit chunk.base d name chunk.code labels before after
-    → IsCutOff limit base d name chunk.code labels before after
-cut_accepted base limit chunk d name labels before after f h =
-    subst (λ (b : ℕ). IsCutOff limit b d name chunk.code labels before after) f.0
-    (subst (λ (l : ℕ). IsCutOff l chunk.base d name chunk.code labels before after) f.1 h)
+pub tells_verdict : (base limit : ℕ) (chunk : MarkedChunk) (d : Detail) (name : List ℕ) (labels : List Label) (before after : Option (List ℕ))
+    (verdict : AVerdict) (result : Result ℕ ReportFault) → IsFinding base limit (Ok chunk) → verdict ≡ Ok chunk
+    → IfOk result (TellsOne chunk.limit chunk.base d name chunk.code labels before after)
+    → IfOk result (TellsOne limit base d name (code_of_verdict verdict) labels before after)
+tells_verdict base limit chunk d name labels before after verdict result f is told =
+    subst (λ (v : AVerdict). IfOk result (TellsOne limit base d name (code_of_verdict v) labels before after)) (sym is)
+    (subst (λ (b : ℕ). IfOk result (TellsOne limit b d name chunk.code labels before after)) f.0
+    (subst (λ (l : ℕ). IfOk result (TellsOne l chunk.base d name chunk.code labels before after)) f.1 told))
+
+-- and so they are where the report is cut off
+pub cut_verdict : (base limit : ℕ) (chunk : MarkedChunk) (d : Detail) (name : List ℕ) (labels : List Label) (before after : Option (List ℕ))
+    (verdict : AVerdict) (result : Result ℕ ReportFault) → IsFinding base limit (Ok chunk) → verdict ≡ Ok chunk
+    → OnErr result (IsCutOff chunk.limit chunk.base d name chunk.code labels before after)
+    → OnErr result (IsCutOff limit base d name (code_of_verdict verdict) labels before after)
+cut_verdict base limit chunk d name labels before after verdict result f is cut =
+    subst (λ (v : AVerdict). OnErr result (IsCutOff limit base d name (code_of_verdict v) labels before after)) (sym is)
+    (subst (λ (b : ℕ). OnErr result (IsCutOff limit b d name chunk.code labels before after)) f.0
+    (subst (λ (l : ℕ). OnErr result (IsCutOff l chunk.base d name chunk.code labels before after)) f.1 cut))
 
 -- a refused source is told, and counted
 pub tells_refused : (base limit : ℕ) (code : List ℕ) (d : Detail) (name : List ℕ) (labels : List Label) (before after : Option (List ℕ))

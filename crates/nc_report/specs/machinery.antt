@@ -4,3 +4,4 @@ pub mod Counts
 pub mod Aims
 pub mod Runs
 pub mod Seen
+pub mod Texts

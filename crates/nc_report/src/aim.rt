@@ -5,14 +5,13 @@ ghost use Rattle.std.specs.List.{flat_map};
 ghost use Rattle.nc_decode.specs.Front.{first_instruction};
 ghost use Rattle.nc_report.specs.Further.{begun_before, why_here, why_not, aim_lines};
 ghost use Rattle.nc_report.specs.Report.{detail_line};
+ghost use Rattle.nc_report.specs.machinery.Texts.{reason_text};
 
 use crate::further::is_begun;
-use crate::numbers::push_text;
 use crate::spot::{Spot, spot_at};
-use crate::targets::why_outside;
+use crate::targets::{Reason, push_line, why_outside};
 use crate::words::{INSIDE, SECOND_HALF};
 use nc_decode::decode;
-use nc_output::push_address;
 use std::alloc::AllocError;
 
 /// The length of a mask, in bytes.
@@ -30,36 +29,37 @@ fn begun_before(spots: &[Spot], k: usize) -> usize
     at
 }
 
-/// Adds why a direct transfer may not target this place of the code.
-fn push_here(out: &mut Vec<u8>, base: u32, spots: &[Spot], place: usize) -> Result<(), AllocError>
+/// Why a direct transfer may not target this place of the code.
+fn why_here(base: u32, spots: &[Spot], place: usize) -> Reason
     requires span { base + length spots.now < 2 ^ 32 }
     requires within { place < length spots.now }
-    ensures { OnOk result (out.new.items ≡ out.old.items ++ why_here base spots.now place) }
+    ensures { reason_text result ≡ why_here base spots.now place }
 {
     if is_begun(spot_at(spots, place)) {
-        push_text(out, SECOND_HALF)?;
-        push_address(out, (base + place as u32).saturating_sub(MASK))
+        Reason {
+            words: SECOND_HALF,
+            named: Some((base + place as u32).saturating_sub(MASK)),
+        }
     } else {
-        push_text(out, INSIDE)?;
-        push_address(out, base + begun_before(spots, place) as u32)
+        Reason {
+            words: INSIDE,
+            named: Some(base + begun_before(spots, place) as u32),
+        }
     }
 }
 
-/// Adds why a direct transfer may not target an address.
-fn push_why(
-    out: &mut Vec<u8>,
-    base: u32,
-    limit: u32,
-    spots: &[Spot],
-    to: u32,
-) -> Result<(), AllocError>
+/// Why a direct transfer may not target an address.
+fn why_not(base: u32, limit: u32, spots: &[Spot], to: u32) -> Reason
     requires { base + length spots.now < 2 ^ 32 }
-    ensures { OnOk result (out.new.items ≡ out.old.items ++ why_not base limit spots.now to) }
+    ensures { reason_text result ≡ why_not base limit spots.now to }
 {
     if base <= to && to < base + spots.len() as u32 {
-        push_here(out, base, spots, (to - base) as usize)
+        why_here(base, spots, (to - base) as usize)
     } else {
-        push_text(out, why_outside(limit, to))
+        Reason {
+            words: why_outside(limit, to),
+            named: None,
+        }
     }
 }
 
@@ -82,9 +82,5 @@ pub(crate) fn push_aim(
         return Ok(());
     };
     let to = instr.target(at);
-    push_text(out, b"  -> ")?;
-    push_address(out, to)?;
-    push_text(out, b": ")?;
-    push_why(out, base, limit, spots, to)?;
-    push_text(out, b"\n")
+    push_line(out, to, why_not(base, limit, spots, to))
 }

@@ -9,7 +9,7 @@ use crate::advice::words_about;
 use crate::labels::Labels;
 use crate::listing::push_bundle;
 use crate::naming::push_label;
-use crate::numbers::push_text;
+use crate::numbers::push_all;
 use crate::targets::push_target;
 use nc_decode::BUNDLE;
 use nc_output::place_of;
@@ -20,9 +20,7 @@ use std::alloc::{AllocError, Global};
 pub(crate) fn push_words(out: &mut Vec<u8>, words: &[u8]) -> Result<(), AllocError>
     ensures { OnOk result (out.new.items ≡ out.old.items ++ detail_line words.now) }
 {
-    push_text(out, b"  ")?;
-    push_text(out, words)?;
-    push_text(out, b"\n")
+    push_all(out, &[b"  ", words, b"\n"])
 }
 
 /// Adds the line about the target of a refused direct transfer; adds nothing for any other fault.

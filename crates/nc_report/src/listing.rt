@@ -1,12 +1,12 @@
 //! The bundle of an address, in hexadecimal.
 
-ghost use Rattle.std.specs.Prelude.{◌≡◌, ◌≤◌, List, length, take, IfOk, OnOk};
+ghost use Rattle.std.specs.Prelude.{◌≡◌, ◌≤◌, ◌++◌, List, length, take, codes, IfOk, OnOk};
 ghost use Rattle.nc_vet.specs.Chunk.{Piece, code_of, AreSpelled};
+ghost use Rattle.nc_report.specs.Listing.{spaced};
 ghost use Rattle.nc_report.specs.machinery.Found.{AreWholeInstructions, ListsFront, AddsBundle};
 
-use crate::numbers::{push_bytes, push_text};
+use crate::numbers::{address_digits, push_all, push_bytes, push_text};
 use nc_decode::{BUNDLE, decode};
-use nc_output::push_address;
 use std::alloc::{AllocError, Global};
 
 /// Adds the instructions at the front of these bytes, each followed by a bar, and returns the number of their bytes.
@@ -28,6 +28,15 @@ fn push_read(out: &mut Vec<u8>, bytes: &[u8]) -> Result<usize, AllocError>
     Ok(at)
 }
 
+/// Adds the bytes of a bundle from the place of a fault on, and the end of the line.
+pub(crate) fn push_rest(out: &mut Vec<u8>, bytes: &[u8]) -> Result<(), AllocError>
+    ensures { OnOk result (out.new.items ≡ out.old.items ++ (codes " >" ++ (spaced bytes.now ++ codes "\n"))) }
+{
+    push_text(out, b" >")?;
+    push_bytes(out, bytes)?;
+    push_text(out, b"\n")
+}
+
 /// Adds the line that shows the bundle at this address: the address, the instructions before a place of the bundle, each
 /// followed by a bar, and then the other bytes.
 pub(crate) fn push_bundle(
@@ -40,11 +49,7 @@ pub(crate) fn push_bundle(
     requires read { AreWholeInstructions (take before bundle.now) }
     ensures { OnOk result (AddsBundle out.old.items out.new.items address bundle.now before) }
 {
-    push_text(out, b"  ")?;
-    push_address(out, address)?;
-    push_text(out, b":")?;
+    push_all(out, &[b"  ", &address_digits(address), b":"])?;
     let read = push_read(out, &bundle[..before])?;
-    push_text(out, b" >")?;
-    push_bytes(out, &bundle[read..])?;
-    push_text(out, b"\n")
+    push_rest(out, &bundle[read..])
 }

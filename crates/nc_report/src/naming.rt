@@ -1,13 +1,12 @@
 //! The line that names the address of a fault by a label.
 
-ghost use Rattle.std.specs.Prelude.{◌≡◌, ◌-◌, ◌≤◌, ◌++◌, IfOk, OnOk};
+ghost use Rattle.std.specs.Prelude.{◌≡◌, ◌-◌, ◌≤◌, ◌++◌, string_bytes, IfOk, OnOk};
 ghost use Rattle.std.specs.List.{flat_map};
 ghost use Rattle.nc_report.specs.Labels.{shown_byte, shown_name, offset_words, label_line, label_lines};
 ghost use Rattle.nc_report.specs.Report.{detail_line};
 
 use crate::labels::{Label, Labels};
-use crate::numbers::push_text;
-use nc_output::push_address;
+use crate::numbers::{address_digits, push_all};
 use std::alloc::{AllocError, Global};
 
 /// A byte of a name as shown in text, without control bytes: one could end the line, or be a command to a terminal.
@@ -31,15 +30,14 @@ fn push_shown(out: &mut Vec<u8>, name: &[u8]) -> Result<(), AllocError>
     Ok(())
 }
 
-/// Adds the offset of an address from its label.
-fn push_offset(alloc: Global, out: &mut Vec<u8>, offset: u32) -> Result<(), AllocError>
-    ensures { OnOk result (out.new.items ≡ out.old.items ++ offset_words offset) }
+/// The offset of an address from its label, as text.
+fn offset_words(alloc: Global, offset: u32) -> Result<String, AllocError>
+    ensures { IfOk result (λ words. string_bytes words ≡ offset_words offset) }
 {
     if offset == 0 {
-        return Ok(());
+        return Ok(String::new(alloc));
     }
-    let words = format!(in alloc; "+0x{offset:x}")?;
-    out.extend_from_slice(words.as_bytes())
+    format!(in alloc; "+0x{offset:x}")
 }
 
 /// A label's name, followed by the offset of an address from it.
@@ -47,9 +45,9 @@ pub(crate) fn symbol_words(alloc: Global, label: &Label, at: u32) -> Result<Vec<
     requires { label.now.address ≤ at }
     ensures { IfOk result (λ words. words.items ≡ label.now.name.items ++ offset_words (at - label.now.address)) }
 {
+    let offset = offset_words(alloc, at - label.address)?;
     let mut words = Vec::new(alloc);
-    words.extend_from_slice(&label.name)?;
-    push_offset(alloc, &mut words, at - label.address)?;
+    push_all(&mut words, &[&label.name, offset.as_bytes()])?;
     Ok(words)
 }
 
@@ -58,12 +56,10 @@ fn push_line(alloc: Global, out: &mut Vec<u8>, label: &Label, at: u32) -> Result
     requires { label.now.address ≤ at }
     ensures { OnOk result (out.new.items ≡ out.old.items ++ detail_line (label_line label.now at)) }
 {
-    push_text(out, b"  ")?;
-    push_address(out, at)?;
-    push_text(out, b" <")?;
+    let offset = offset_words(alloc, at - label.address)?;
+    push_all(out, &[b"  ", &address_digits(at), b" <"])?;
     push_shown(out, &label.name)?;
-    push_offset(alloc, out, at - label.address)?;
-    push_text(out, b">\n")
+    push_all(out, &[offset.as_bytes(), b">\n"])
 }
 
 /// Adds the line that names an address, if it has a label.

@@ -1,11 +1,12 @@
-//! Adding text, numbers and bytes to the output.
+//! Adding text, and numbers and bytes as text.
 
-ghost use Rattle.std.specs.Prelude.{◌≡◌, ◌++◌, OnOk};
-ghost use Rattle.std.specs.Fmt.{decimal};
+ghost use Rattle.std.specs.Prelude.{◌≡◌, ◌++◌, ◌∷◌, [], if◌then◌else◌, OnOk};
+ghost use Rattle.hex.specs.Hex.{encode_lower};
+ghost use Rattle.nc_output.specs.Verdicts.{address_digits};
 ghost use Rattle.nc_report.specs.Listing.{spaced};
+ghost use Rattle.nc_report.specs.machinery.Texts.{all_of};
 
-use nc_output::push_byte;
-use std::alloc::{AllocError, Global};
+use std::alloc::AllocError;
 
 /// Adds text.
 pub(crate) fn push_text(out: &mut Vec<u8>, text: &[u8]) -> Result<(), AllocError>
@@ -14,12 +15,39 @@ pub(crate) fn push_text(out: &mut Vec<u8>, text: &[u8]) -> Result<(), AllocError
     out.extend_from_slice(text)
 }
 
-/// Adds a decimal number.
-pub(crate) fn push_number(alloc: Global, out: &mut Vec<u8>, number: usize) -> Result<(), AllocError>
-    ensures { OnOk result (out.new.items ≡ out.old.items ++ decimal number) }
+/// Adds texts, one after the other.
+pub(crate) fn push_all(out: &mut Vec<u8>, texts: &[&[u8]]) -> Result<(), AllocError>
+    ensures { OnOk result (out.new.items ≡ out.old.items ++ all_of texts.now) }
 {
-    let digits = number.to_string(alloc)?;
-    out.extend_from_slice(digits.as_bytes())
+    for text in texts {
+        out.extend_from_slice(text)?;
+    }
+    Ok(())
+}
+
+/// One of two texts: the first if the test holds.
+pub(crate) fn choose(holds: bool, yes: &'static [u8], no: &'static [u8]) -> &'static [u8]
+    ensures { result.now ≡ (if holds then yes.now else no.now) }
+{
+    if holds { yes } else { no }
+}
+
+/// A byte as two hexadecimal digits.
+pub(crate) fn byte_digits(byte: u8) -> [u8; 2]
+    ensures { result ≡ encode_lower (byte ∷ []) }
+{
+    let mut digits = [0u8; 2];
+    hex::encode_to_slice([byte], &mut digits).unwrap();
+    digits
+}
+
+/// An address as eight hexadecimal digits.
+pub(crate) fn address_digits(at: u32) -> [u8; 8]
+    ensures { result ≡ address_digits at }
+{
+    let mut digits = [0u8; 8];
+    hex::encode_to_slice(at.to_be_bytes(), &mut digits).unwrap();
+    digits
 }
 
 /// Adds bytes in hexadecimal, each after a space.
@@ -27,8 +55,7 @@ pub(crate) fn push_bytes(out: &mut Vec<u8>, bytes: &[u8]) -> Result<(), AllocErr
     ensures { OnOk result (out.new.items ≡ out.old.items ++ spaced bytes.now) }
 {
     for byte in bytes {
-        push_text(out, b" ")?;
-        push_byte(out, *byte)?;
+        push_all(out, &[b" ", &byte_digits(*byte)])?;
     }
     Ok(())
 }

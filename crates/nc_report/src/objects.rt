@@ -1,10 +1,10 @@
 //! Verdicts as JSON objects, each on a line of its own.
 
-ghost use Rattle.std.specs.Prelude.{◌≡◌, ◌≢◌, ◌++◌, codes, IfOk, OnOk};
+ghost use Rattle.std.specs.Prelude.{◌≡◌, ◌≢◌, ◌++◌, codes, OnOk};
 ghost use Rattle.std.specs.List.{flat_map};
 ghost use Rattle.nc_vet.specs.declared.fault.VetFault.TheVariants as vet;
 ghost use Rattle.nc_output.specs.Verdicts.{with_line_end, address_digits, place_of};
-ghost use Rattle.nc_report.specs.Objects.{escaped, string_of, file_member, string_member, number_member};
+ghost use Rattle.nc_report.specs.Objects.{escaped, file_member, string_member};
 ghost use Rattle.nc_report.specs.Labels.{label_at};
 ghost use Rattle.nc_report.specs.Objects.{symbol_member, place_members, accepted_object, refused_object, file_object};
 ghost use Rattle.nc_report.specs.machinery.Found.{HasFaultPlace};
@@ -12,8 +12,8 @@ ghost use Rattle.nc_report.specs.machinery.Found.{HasFaultPlace};
 use crate::advice::words_about;
 use crate::labels::Labels;
 use crate::naming::symbol_words;
-use crate::numbers::{push_number, push_text};
-use nc_output::{fault_name, place_of, push_address, push_byte};
+use crate::numbers::{address_digits, byte_digits, push_all, push_text};
+use nc_output::{fault_name, place_of};
 use nc_vet::VetFault;
 use std::alloc::{AllocError, Global};
 
@@ -24,8 +24,7 @@ fn push_escaped(out: &mut Vec<u8>, byte: u8) -> Result<(), AllocError>
     if byte == b'"' || byte == b'\\' {
         push_text(out, &[b'\\', byte])
     } else if byte < 0x20 || byte >= 0x7f {
-        push_text(out, b"\\u00")?;
-        push_byte(out, byte)
+        push_all(out, &[b"\\u00", &byte_digits(byte)])
     } else {
         push_text(out, &[byte])
     }
@@ -41,62 +40,27 @@ fn push_inner(out: &mut Vec<u8>, bytes: &[u8]) -> Result<(), AllocError>
     Ok(())
 }
 
-/// Adds a string.
-fn push_string(out: &mut Vec<u8>, bytes: &[u8]) -> Result<(), AllocError>
-    ensures { OnOk result (out.new.items ≡ out.old.items ++ string_of bytes.now) }
+/// Adds the bytes of a string, escaped, between two texts.
+fn push_between(
+    out: &mut Vec<u8>,
+    before: &[u8],
+    bytes: &[u8],
+    after: &[u8],
+) -> Result<(), AllocError>
+    ensures { OnOk result (out.new.items ≡ out.old.items ++ (before.now ++ (flat_map escaped bytes.now ++ after.now))) }
 {
-    push_text(out, b"\"")?;
+    push_text(out, before)?;
     push_inner(out, bytes)?;
-    push_text(out, b"\"")
+    push_text(out, after)
 }
 
-/// Adds the first member: a file's name.
-fn push_file(out: &mut Vec<u8>, name: &[u8]) -> Result<(), AllocError>
-    ensures { OnOk result (out.new.items ≡ out.old.items ++ file_member name.now) }
+/// Adds the first two members of the object for a source: its name and its address.
+fn push_front(out: &mut Vec<u8>, name: &[u8], base: u32) -> Result<(), AllocError>
+    ensures { OnOk result (out.new.items
+        ≡ out.old.items ++ (file_member name.now ++ string_member (codes "address") (address_digits base))) }
 {
-    push_text(out, b"{\"file\":")?;
-    push_string(out, name)
-}
-
-/// Adds a member's name, with the comma before it and the colon after it.
-fn push_name_of(out: &mut Vec<u8>, name: &[u8]) -> Result<(), AllocError>
-    ensures { OnOk result (out.new.items ≡ out.old.items ++ (codes "," ++ (string_of name.now ++ codes ":"))) }
-{
-    push_text(out, b",")?;
-    push_string(out, name)?;
-    push_text(out, b":")
-}
-
-/// Adds a member whose value is a string.
-fn push_member(out: &mut Vec<u8>, name: &[u8], value: &[u8]) -> Result<(), AllocError>
-    ensures { OnOk result (out.new.items ≡ out.old.items ++ string_member name.now value.now) }
-{
-    push_name_of(out, name)?;
-    push_string(out, value)
-}
-
-/// Adds a member whose value is a number.
-fn push_count(alloc: Global, out: &mut Vec<u8>, name: &[u8], value: usize) -> Result<(), AllocError>
-    ensures { OnOk result (out.new.items ≡ out.old.items ++ number_member name.now value) }
-{
-    push_name_of(out, name)?;
-    push_number(alloc, out, value)
-}
-
-/// Adds a member whose value is an address.
-fn push_place(alloc: Global, out: &mut Vec<u8>, name: &[u8], at: u32) -> Result<(), AllocError>
-    ensures { OnOk result (out.new.items ≡ out.old.items ++ string_member name.now (address_digits at)) }
-{
-    let mut digits = Vec::new(alloc);
-    push_address(&mut digits, at)?;
-    push_member(out, name, &digits)
-}
-
-/// Adds the end of an object and of its line.
-fn push_end(out: &mut Vec<u8>) -> Result<(), AllocError>
-    ensures { OnOk result (out.new.items ≡ out.old.items ++ codes "}\n") }
-{
-    push_text(out, b"}\n")
+    push_between(out, b"{\"file\":\"", name, b"\",\"address\":\"")?;
+    push_between(out, b"", &address_digits(base), b"\"")
 }
 
 /// Adds the member that names an address, if it has a label.
@@ -107,11 +71,18 @@ fn push_symbol(alloc: Global, out: &mut Vec<u8>, labels: &Labels, at: u32) -> Re
         return Ok(());
     };
     let words = symbol_words(alloc, label, at)?;
-    push_member(out, b"symbol", &words)
+    push_between(out, b",\"symbol\":\"", &words, b"\"")
+}
+
+/// Adds the last member, which says what a fault means, and the end of the object and of its line.
+fn push_meaning(out: &mut Vec<u8>, words: &[u8]) -> Result<(), AllocError>
+    ensures { OnOk result (out.new.items ≡ out.old.items ++ (string_member (codes "meaning") words.now ++ codes "}\n")) }
+{
+    push_between(out, b",\"meaning\":\"", words, b"\"}\n")
 }
 
 /// Adds the members for a fault's address, if it has one, the name of the address, if that has a label, and what the fault
-/// means.
+/// means, and the end of the object and of its line.
 fn push_places(
     alloc: Global,
     out: &mut Vec<u8>,
@@ -121,34 +92,15 @@ fn push_places(
     fault: VetFault,
 ) -> Result<(), AllocError>
     requires { HasFaultPlace base code.now fault }
-    ensures { OnOk result (out.new.items ≡ out.old.items ++ place_members base code.now labels.now fault (place_of fault)) }
+    ensures { OnOk result (out.new.items
+        ≡ out.old.items ++ (place_members base code.now labels.now fault (place_of fault) ++ codes "}\n")) }
 {
     let Some(at) = place_of(fault) else {
-        return push_member(out, b"meaning", words_about(code, fault, 0));
+        return push_meaning(out, words_about(code, fault, 0));
     };
-    push_place(alloc, out, b"at", at)?;
+    push_between(out, b",\"at\":\"", &address_digits(at), b"\"")?;
     push_symbol(alloc, out, labels, at)?;
-    push_member(
-        out,
-        b"meaning",
-        words_about(code, fault, (at - base) as usize),
-    )
-}
-
-/// Adds the first members of the object for a source: its name, its address and its verdict.
-fn push_head(
-    alloc: Global,
-    out: &mut Vec<u8>,
-    name: &[u8],
-    base: u32,
-    verdict: &[u8],
-) -> Result<(), AllocError>
-    ensures { OnOk result (out.new.items ≡ out.old.items ++ (file_member name.now
-        ++ (string_member (codes "address") (address_digits base) ++ string_member (codes "verdict") verdict.now))) }
-{
-    push_file(out, name)?;
-    push_place(alloc, out, b"address", base)?;
-    push_member(out, b"verdict", verdict)
+    push_meaning(out, words_about(code, fault, (at - base) as usize))
 }
 
 /// Adds the object for an accepted source, and its line end.
@@ -162,10 +114,9 @@ pub(crate) fn push_accepted_object(
 ) -> Result<(), AllocError>
     ensures { OnOk result (out.new.items ≡ out.old.items ++ with_line_end (accepted_object base name.now bytes instructions)) }
 {
-    push_head(alloc, out, name, base, b"ok")?;
-    push_count(alloc, out, b"bytes", bytes)?;
-    push_count(alloc, out, b"instructions", instructions)?;
-    push_end(out)
+    let counts = format!(in alloc; "{bytes},\"instructions\":{instructions}}}\n")?;
+    push_front(out, name, base)?;
+    push_all(out, &[b",\"verdict\":\"ok\",\"bytes\":", counts.as_bytes()])
 }
 
 /// Adds the object for a refused source, and its line end. Lack of memory is not a verdict: it is returned as an error.
@@ -182,10 +133,10 @@ pub(crate) fn push_refused_object(
     ensures { OnOk result ((fault ≢ vet.OutOfMemory) × (out.new.items ≡ out.old.items
         ++ with_line_end (refused_object base name.now code.now labels.now fault (place_of fault)))) }
 {
-    push_head(alloc, out, name, base, b"refused")?;
-    push_member(out, b"fault", fault_name(fault)?)?;
-    push_places(alloc, out, base, code, labels, fault)?;
-    push_end(out)
+    let named = fault_name(fault)?;
+    push_front(out, name, base)?;
+    push_between(out, b",\"verdict\":\"refused\",\"fault\":\"", named, b"\"")?;
+    push_places(alloc, out, base, code, labels, fault)
 }
 
 /// Adds the object for a file that is refused before any of it is judged, for a fault with this name and this meaning, and its
@@ -198,9 +149,12 @@ pub fn push_file_object(
 ) -> Result<(), AllocError>
     ensures { OnOk result (out.new.items ≡ out.old.items ++ with_line_end (file_object name.now fault.now meaning.now)) }
 {
-    push_file(out, name)?;
-    push_member(out, b"verdict", b"refused")?;
-    push_member(out, b"fault", fault)?;
-    push_member(out, b"meaning", meaning)?;
-    push_end(out)
+    push_between(
+        out,
+        b"{\"file\":\"",
+        name,
+        b"\",\"verdict\":\"refused\",\"fault\":\"",
+    )?;
+    push_between(out, b"", fault, b"\"")?;
+    push_meaning(out, meaning)
 }

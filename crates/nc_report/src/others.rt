@@ -16,13 +16,14 @@ use crate::explaining::push_words;
 use crate::fault::ReportFault;
 use crate::further::{fault_at, is_begun};
 use crate::labels::Labels;
+use crate::listing::push_rest;
 use crate::naming::push_label;
-use crate::numbers::{push_bytes, push_text};
+use crate::numbers::{address_digits, byte_digits, choose, push_all, push_text};
 use crate::spot::{Spot, spot_at};
 use crate::steps::read_spots;
 use crate::totals::push_last;
 use nc_decode::BUNDLE;
-use nc_output::{push_address, push_byte, push_name, write_out};
+use nc_output::{push_name, write_out};
 use nc_vet::VetFault;
 use std::alloc::{AllocError, Global};
 use std::io::Write;
@@ -34,12 +35,7 @@ const PIECE: usize = 65536;
 fn push_barred(out: &mut Vec<u8>, byte: u8, barred: bool) -> Result<(), AllocError>
     ensures { OnOk result (out.new.items ≡ out.old.items ++ (spaced (byte ∷ []) ++ (if barred then codes " |" else []))) }
 {
-    push_text(out, b" ")?;
-    push_byte(out, byte)?;
-    if barred {
-        return push_text(out, b" |");
-    }
-    Ok(())
+    push_all(out, &[b" ", &byte_digits(byte), choose(barred, b" |", b"")])
 }
 
 /// Adds `count` bytes from a place on, with a bar before each instruction but the first.
@@ -76,13 +72,9 @@ fn push_listing(
     let size = BUNDLE as usize;
     let before = k % size;
     let start = k - before;
-    push_text(out, b"  ")?;
-    push_address(out, base + start as u32)?;
-    push_text(out, b":")?;
+    push_all(out, &[b"  ", &address_digits(base + start as u32), b":"])?;
     push_parted(out, code, spots, start, before)?;
-    push_text(out, b" >")?;
-    push_bytes(out, &code[k..start + size])?;
-    push_text(out, b"\n")
+    push_rest(out, &code[k..start + size])
 }
 
 /// Adds the line about the target of a refused direct transfer; adds nothing for any other fault.

@@ -1,6 +1,6 @@
 //! The addresses outside a chunk that its direct transfers target.
 
-ghost use Rattle.std.specs.Prelude.{◌≡◌, ◌++◌, ◌+◌, ◌<◌, ◌^◌, ◌==◌, if◌then◌else◌, List, length, codes, IfOk, OnOk};
+ghost use Rattle.std.specs.Prelude.{◌≡◌, ◌++◌, ◌+◌, ◌<◌, ◌^◌, List, length, IfOk, OnOk};
 ghost use Rattle.std.specs.List.Sorted.{IsNonDecreasing};
 ghost use Rattle.nc_vet.specs.Chunk.{Piece, code_of, AreSpelled};
 ghost use Rattle.nc_report.specs.Outside.{sent_outside, row_words, ListsOutside};
@@ -8,9 +8,8 @@ ghost use Rattle.nc_report.specs.Report.{detail_line};
 ghost use Rattle.nc_report.specs.machinery.Found.{AddsLines};
 ghost use Rattle.nc_report.specs.machinery.Runs.{IsSent, BeginsWithRun, AddsCounts};
 
-use crate::numbers::{push_number, push_text};
+use crate::numbers::{address_digits, choose, push_all};
 use nc_decode::{Instr, decode};
-use nc_output::push_address;
 use std::alloc::{AllocError, Global};
 
 /// Adds the target of the instruction at this address, if it is a direct transfer to an address outside the code.
@@ -63,27 +62,22 @@ fn run_of(numbers: &[u32]) -> usize
     count
 }
 
-/// The word after a number of transfers, with the space before it.
-fn transfers(times: usize) -> &'static [u8]
-    ensures { result.now ≡ (if times == 1 then codes " transfer" else codes " transfers") }
-{
-    if times == 1 {
-        b" transfer"
-    } else {
-        b" transfers"
-    }
-}
-
 /// Adds the line about an address and the number of transfers to it.
 fn push_row(alloc: Global, out: &mut Vec<u8>, to: u32, times: usize) -> Result<(), AllocError>
     ensures { OnOk result (out.new.items ≡ out.old.items ++ detail_line (row_words (record { to = to; times = times }))) }
 {
-    push_text(out, b"  -> ")?;
-    push_address(out, to)?;
-    push_text(out, b": ")?;
-    push_number(alloc, out, times)?;
-    push_text(out, transfers(times))?;
-    push_text(out, b"\n")
+    let count = times.to_string(alloc)?;
+    push_all(
+        out,
+        &[
+            b"  -> ",
+            &address_digits(to),
+            b": ",
+            count.as_bytes(),
+            choose(times == 1, b" transfer", b" transfers"),
+            b"\n",
+        ],
+    )
 }
 
 /// Adds a line for each distinct one of these numbers, which are in ascending order, with the number of its occurrences.

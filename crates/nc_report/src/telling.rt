@@ -1,11 +1,10 @@
 //! The report on one source.
 
-ghost use Rattle.std.specs.Prelude.{◌≡◌, ◌≢◌, ◌++◌, ℕ, List, IfOk, IfErr, OnOk, OnErr};
-ghost use Rattle.std.specs.Io.KnownBytes.{Appends};
+ghost use Rattle.std.specs.Prelude.{◌≡◌, ◌≢◌, ◌++◌, IfOk, IfErr, OnOk, OnErr};
 ghost use Rattle.nc_vet.specs.Faults.{HasFault};
 ghost use Rattle.nc_vet.specs.declared.fault.VetFault.TheVariants.{OutOfMemory};
 ghost use Rattle.nc_output.specs.Verdicts.{with_line_end, refused_words, fault_words};
-ghost use Rattle.nc_report.specs.Report.{said_of, accepted_words, TellsAccepted, TellsRefused};
+ghost use Rattle.nc_report.specs.Report.{said_of, accepted_words};
 ghost use Rattle.nc_report.specs.machinery.Found.{IsFinding, code_of_verdict, HasFaultPlace, IsRealTarget, AddsAccepted, AddsRefused, TellsOne};
 ghost use Rattle.nc_report.specs.machinery.Found.{IsOfWriting, IsCutOff, WritesLines, CutsLines, AreMore, AreSomeMore};
 
@@ -13,7 +12,7 @@ use crate::counting::count_instructions;
 use crate::explaining::push_explained;
 use crate::fault::ReportFault;
 use crate::labels::Labels;
-use crate::numbers::{push_number, push_text};
+use crate::numbers::push_all;
 use crate::objects::{push_accepted_object, push_refused_object};
 use crate::others::write_others;
 use crate::outside::push_outside;
@@ -34,12 +33,8 @@ fn push_ok(
 ) -> Result<(), AllocError>
     ensures { OnOk result (out.new.items ≡ out.old.items ++ said_of name.now (with_line_end (accepted_words bytes instructions))) }
 {
-    push_text(out, name)?;
-    push_text(out, b": ok, ")?;
-    push_number(alloc, out, bytes)?;
-    push_text(out, b" bytes, ")?;
-    push_number(alloc, out, instructions)?;
-    push_text(out, b" instructions\n")
+    let words = format!(in alloc; ": ok, {bytes} bytes, {instructions} instructions\n")?;
+    push_all(out, &[name, words.as_bytes()])
 }
 
 /// Adds the verdict on an accepted source, and the addresses outside it that its direct transfers target.
@@ -79,17 +74,16 @@ fn push_accepted(
     }
 }
 
-/// Writes the report on an accepted source.
+/// Writes the report on an accepted source, and returns that no source is refused: 0.
 fn tell_accepted<W: Write>(
     alloc: Global,
     title: &Title,
     chunk: &Vetted,
     detail: Detail,
     writer: &mut W,
-) -> Result<(), ReportFault>
-    ensures ok { OnOk result ((text : List ℕ)
-        × TellsAccepted chunk.now.limit chunk.now.base detail title.now.name.items chunk.now.code text
-        × Appends (W.contents writer.old) (W.contents writer.new) text) }
+) -> Result<usize, ReportFault>
+    ensures ok { IfOk result (TellsOne chunk.now.limit chunk.now.base detail title.now.name.items chunk.now.code title.now.labels
+        (W.contents writer.old) (W.contents writer.new)) }
     ensures cut { OnErr result
         (IsCutOff chunk.now.limit chunk.now.base detail title.now.name.items chunk.now.code title.now.labels
         (W.contents writer.old) (W.contents writer.new)) }
@@ -102,7 +96,7 @@ fn tell_accepted<W: Write>(
         Err(_) => return Err(ReportFault::OutOfMemory),
     }
     match write_out(writer, &out) {
-        Ok(()) => Ok(()),
+        Ok(()) => Ok(0),
         Err(_) => Err(ReportFault::WriteFailed),
     }
 }
@@ -112,8 +106,7 @@ fn push_refusal(out: &mut Vec<u8>, name: &[u8], fault: VetFault) -> Result<(), A
     ensures { OnOk result ((fault ≢ OutOfMemory)
         × (out.new.items ≡ out.old.items ++ said_of name.now (with_line_end (refused_words (fault_words fault))))) }
 {
-    push_text(out, name)?;
-    push_text(out, b": ")?;
+    push_all(out, &[name, b": "])?;
     push_fault(out, fault)
 }
 
@@ -178,7 +171,7 @@ fn write_more<W: Write>(
     write_others(alloc, out, base, limit, code, labels, own, writer)
 }
 
-/// Writes the report on a refused source.
+/// Writes the report on a refused source, and returns that one source is refused: 1.
 fn tell_refused<W: Write>(
     alloc: Global,
     title: &Title,
@@ -188,10 +181,10 @@ fn tell_refused<W: Write>(
     fault: VetFault,
     detail: Detail,
     writer: &mut W,
-) -> Result<(), ReportFault>
+) -> Result<usize, ReportFault>
     requires { HasFault base limit code.now fault }
-    ensures ok { OnOk result ((text : List ℕ) × TellsRefused limit base detail title.now.name.items code.now title.now.labels text
-        × Appends (W.contents writer.old) (W.contents writer.new) text) }
+    ensures ok { IfOk result (TellsOne limit base detail title.now.name.items code.now title.now.labels
+        (W.contents writer.old) (W.contents writer.new)) }
     ensures cut { OnErr result (IsCutOff limit base detail title.now.name.items code.now title.now.labels
         (W.contents writer.old) (W.contents writer.new)) }
     ensures faults { IfErr result IsOfWriting }
@@ -212,7 +205,7 @@ fn tell_refused<W: Write>(
         Err(fault) => return Err(fault),
     }
     match write_out(writer, &out) {
-        Ok(()) => Ok(()),
+        Ok(()) => Ok(1),
         Err(_) => Err(ReportFault::WriteFailed),
     }
 }
@@ -235,15 +228,9 @@ pub(crate) fn tell<W: Write>(
     ensures faults { IfErr result IsOfWriting }
 {
     match verdict {
-        Ok(chunk) => match tell_accepted(alloc, &title, &chunk, detail, writer) {
-            Ok(()) => Ok(0),
-            Err(fault) => Err(fault),
-        },
+        Ok(chunk) => tell_accepted(alloc, &title, &chunk, detail, writer),
         Err((code, fault)) => {
-            match tell_refused(alloc, &title, base, limit, &code, fault, detail, writer) {
-                Ok(()) => Ok(1),
-                Err(fault) => Err(fault),
-            }
+            tell_refused(alloc, &title, base, limit, &code, fault, detail, writer)
         }
     }
 }

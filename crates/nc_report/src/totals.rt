@@ -1,14 +1,14 @@
 //! The last lines about a refused chunk: the number of its faults, and whether the code is in bundles.
 
-ghost use Rattle.std.specs.Prelude.{◌≡◌, ◌<◌, ◌≤◌, ◌+◌, ◌/◌, ◌^◌, ◌++◌, Bool, if◌then◌else◌, codes, length, not, ◌==◌, ◌||◌, OnOk, IfOk};
+ghost use Rattle.std.specs.Prelude.{false, ◌≡◌, ◌<◌, ◌≤◌, ◌+◌, ◌/◌, ◌^◌, ◌++◌, Bool, if◌then◌else◌, ◌==◌, codes, length, map, OnOk};
 ghost use Rattle.std.specs.Fmt.{decimal};
 ghost use Rattle.std.specs.List.{flat_map};
 ghost use Rattle.nc_report.specs.Report.{detail_line};
-ghost use Rattle.nc_report.specs.Totals.{counts_to, total, totals_line, starts_inside, adrift_lines, last_lines};
+ghost use Rattle.nc_report.specs.Totals.{counts_to, total, kinds_from, totals_line, starts_inside, adrift_lines, last_lines};
 ghost use Rattle.nc_report.specs.machinery.Seen.{counted, kind_words};
 
 use crate::further::{fault_at, is_begun};
-use crate::numbers::{push_number, push_text};
+use crate::numbers::{choose, push_all, push_text};
 use crate::spot::{Spot, spot_at};
 use crate::words::NOT_IN_BUNDLES;
 use nc_decode::BUNDLE;
@@ -81,39 +81,50 @@ fn count_inside(spots: &[Spot]) -> usize
     inside
 }
 
-/// Adds a number of faults with the name of their kind, if it isn't 0, and returns whether a kind has been written.
+/// Adds a number of faults with the name of their kind, if it isn't 0, after a comma if a kind has been written.
 fn push_kind(
     alloc: Global,
     out: &mut Vec<u8>,
     begun: bool,
     n: usize,
-    name: &[u8],
-) -> Result<bool, AllocError>
-    ensures added { OnOk result (out.new.items ≡ out.old.items ++ kind_words begun n name.now) }
-    ensures begun { IfOk result (λ b. b ≡ (begun || not (n == 0))) }
+    name: &'static [u8],
+) -> Result<(), AllocError>
+    ensures { OnOk result (out.new.items ≡ out.old.items ++ kind_words begun n name.now) }
 {
     if n == 0 {
-        return Ok(begun);
+        return Ok(());
     }
-    if begun {
-        push_text(out, b", ")?;
+    let count = n.to_string(alloc)?;
+    push_all(
+        out,
+        &[choose(begun, b", ", b""), count.as_bytes(), b" ", name],
+    )
+}
+
+/// Adds the kinds whose number isn't 0, with a comma before each but the first.
+fn push_kinds(
+    alloc: Global,
+    out: &mut Vec<u8>,
+    kinds: &[(usize, &'static [u8])],
+) -> Result<(), AllocError>
+    ensures { OnOk result (out.new.items ≡ out.old.items ++ kinds_from false (map (λ kind. (kind.0, kind.1.now)) kinds.now)) }
+{
+    let mut begun = false;
+    for (n, name) in kinds {
+        push_kind(alloc, out, begun, *n, name)?;
+        begun |= *n != 0;
     }
-    push_number(alloc, out, n)?;
-    push_text(out, b" ")?;
-    push_text(out, name)?;
-    Ok(true)
+    Ok(())
 }
 
 /// Adds the number of all faults.
 fn push_total(alloc: Global, out: &mut Vec<u8>, n: usize) -> Result<(), AllocError>
-    ensures { OnOk result (out.new.items ≡ (out.old.items ++ decimal n) ++ (if n == 1 then codes " fault: " else codes " faults: ")) }
+    ensures { OnOk result (out.new.items
+        ≡ out.old.items ++ (codes "  " ++ (decimal n ++ (if n == 1 then codes " fault: " else codes " faults: ")))) }
 {
-    push_number(alloc, out, n)?;
-    if n == 1 {
-        out.extend_from_slice(b" fault: ")
-    } else {
-        out.extend_from_slice(b" faults: ")
-    }
+    let total = n.to_string(alloc)?;
+    let faults = choose(n == 1, b" fault: ", b" faults: ");
+    push_all(out, &[b"  ", total.as_bytes(), faults])
 }
 
 /// Adds the line of totals.
@@ -122,12 +133,17 @@ fn push_totals(alloc: Global, out: &mut Vec<u8>, counts: Counts) -> Result<(), A
     ensures { OnOk result (out.new.items ≡ out.old.items ++ detail_line (totals_line counts)) }
 {
     let n = counts.crosses + counts.not_permitted + counts.bare + counts.bad_target;
-    push_text(out, b"  ")?;
     push_total(alloc, out, n)?;
-    let begun = push_kind(alloc, out, false, counts.crosses, b"Crosses")?;
-    let begun = push_kind(alloc, out, begun, counts.not_permitted, b"NotPermitted")?;
-    let begun = push_kind(alloc, out, begun, counts.bare, b"Bare")?;
-    let _begun = push_kind(alloc, out, begun, counts.bad_target, b"BadTarget")?;
+    push_kinds(
+        alloc,
+        out,
+        &[
+            (counts.crosses, b"Crosses"),
+            (counts.not_permitted, b"NotPermitted"),
+            (counts.bare, b"Bare"),
+            (counts.bad_target, b"BadTarget"),
+        ],
+    )?;
     push_text(out, b"\n")
 }
 
@@ -144,12 +160,8 @@ fn push_adrift(
     if 2 * inside <= bundles {
         return Ok(());
     }
-    push_text(out, b"  the code isn't in bundles: ")?;
-    push_number(alloc, out, inside)?;
-    push_text(out, b" of ")?;
-    push_number(alloc, out, bundles)?;
-    push_text(out, NOT_IN_BUNDLES)?;
-    push_text(out, b"\n")
+    let share = format!(in alloc; "  the code isn't in bundles: {inside} of {bundles}")?;
+    push_all(out, &[share.as_bytes(), NOT_IN_BUNDLES, b"\n"])
 }
 
 /// Adds the last lines: the totals, and whether the code is in bundles.

@@ -41,14 +41,12 @@ pub record IsNoTarget (limit base : ℕ) (code : List ℕ) (to : ℕ) : Type 0 w
   pub sound : AreSound pieces
   pub bad : ¬ IsTarget base limit pieces to
 
--- words were added that say why no direct transfer of this code may target this address
-pub record AddsWhy (old new : List ℕ) (limit base : ℕ) (code : List ℕ) (to : ℕ) : Type 0 where
+-- the words say why no direct transfer of this code may target this address
+pub record IsWhy (limit base : ℕ) (code : List ℕ) (to : ℕ) (words : List ℕ) : Type 0 where
   pub pieces : List Piece
   pub parts : code ≡ code_of pieces
   pub sound : AreSound pieces
-  pub words : List ℕ
   pub says : SaysWhy limit base pieces to words
-  pub added : new ≡ old ++ words
 
 -- a line that satisfies `Names` was added
 pub record AddsAim (old new : List ℕ) (Names : List ℕ → Type 0) : Type 0 where

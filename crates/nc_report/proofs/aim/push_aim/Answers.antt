@@ -8,12 +8,10 @@ use Rattle.nc_report.proofs.aim.push_aim.Goals as goal
 pub returns : goal.returns
 returns c =
     let first : first_instruction c.args.rest.now ≡ Some c.in-Ok.instr = sym c.decode.ensures.first ∙ ap result_ok c.in-Ok.is in
-    on_ok_weaker c.push_text-3.result
-    (λ e. aim_added c.args.out.now.items c.push_text.new.out.items c.push_address.new.out.items c.push_text-2.new.out.items c.push_why.new.out.items
-    c.push_text-3.new.out.items c.args.base c.args.limit c.args.spots.now c.args.at c.target-to.result c.in-Ok.instr
-    (first_instruction c.args.rest.now) first c.target-to.ensures c.in_ok-push_text.ensures c.in_ok-push_address.ensures
-    c.in_ok-push_text-2.ensures c.in_ok-push_why.ensures e)
-    c.push_text-3.ensures
+    on_ok_weaker c.push_line.result
+    (λ e. aim_added c.args.out.now.items c.push_line.new.out.items c.args.base c.args.limit c.args.spots.now c.args.at c.target-to.result
+    c.in-Ok.instr (first_instruction c.args.rest.now) _ first c.target-to.ensures c.why_not.ensures e)
+    c.push_line.ensures
 
 pub returns-in_default : goal.returns-in_default
 returns-in_default c =

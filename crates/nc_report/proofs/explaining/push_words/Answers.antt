@@ -1,10 +1,4 @@
-use Rattle.std.proofs.lemmas.Result.{on_ok_weaker}
-use Rattle.nc_report.proofs.Appended.{three_added}
 use Rattle.nc_report.proofs.explaining.push_words.Goals as goal
 
 pub returns : goal.returns
-returns c =
-    on_ok_weaker c.push_text-3.result
-    (λ e. three_added c.args.out.now.items _ c.args.words.now _ _ _ c.push_text-3.new.out.items c.in_ok-push_text.ensures
-    c.in_ok-push_text-2.ensures e)
-    c.push_text-3.ensures
+returns c = c.push_all.ensures

@@ -1,10 +1,16 @@
+use Rattle.std.proofs.Common.{◌++◌, ℕ, List, ap, ◌∙◌}
+use Rattle.std.specs.Prelude.{codes}
 use Rattle.std.proofs.lemmas.Result.{on_ok_weaker}
-use Rattle.nc_report.proofs.ObjectTexts.{four_members}
+use Rattle.nc_report.specs.Objects.{string_member}
+use Rattle.nc_report.proofs.ObjectTexts.{inner, file_parts}
 use Rattle.nc_report.proofs.objects.push_file_object.Goals as goal
 
 pub returns : goal.returns
 returns c =
-    on_ok_weaker c.push_end.result
-    (λ e. four_members c.args.out.now.items _ _ _ _ _ _ _ _ c.push_end.new.out.items c.in_ok-push_file.ensures
-    c.in_ok-push_member.ensures c.in_ok-push_member-2.ensures c.in_ok-push_member-3.ensures e)
-    c.push_end.ensures
+    let meaning = string_member (codes "meaning") c.args.meaning.now ++ codes "}\n" in
+    on_ok_weaker c.push_meaning.result
+    (λ e. e
+    ∙ ap (λ (z : List ℕ). z ++ meaning)
+    (c.in_ok-push_between-2.ensures ∙ ap (λ (z : List ℕ). z ++ (inner c.args.fault.now ++ codes "\"")) c.in_ok-push_between.ensures)
+    ∙ file_parts c.args.out.now.items c.args.name.now c.args.fault.now c.args.meaning.now)
+    c.push_meaning.ensures

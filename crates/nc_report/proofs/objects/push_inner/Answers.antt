@@ -8,7 +8,7 @@ loop-byte-init c = sym (append-nil _)
 
 pub loop-byte-preserved : goal.loop-byte-preserved
 loop-byte-preserved c =
-    one_written escaped c.args.bytes.now _ _ _ c.loop-byte.byte-index c.loop-byte-test.true c.loop-byte.invariant c.in_ok-push_escaped.ensures
+    one_written escaped c.args.bytes.now _ _ _ c.loop-byte.byte-index 0 c.loop-byte-test.true c.loop-byte.invariant c.in_ok-push_escaped.ensures
 
 pub returns : goal.returns
 returns c = all_written escaped c.args.bytes.now _ _ c.loop-byte.byte-index c.loop-byte-test.false c.loop-byte.invariant

@@ -1,13 +1,14 @@
 use Rattle.std.proofs.Common.{ℕ, List, subst, take, refl, inl, inr}
 use Rattle.std.specs.Io.KnownBytes.{Appends}
 use Rattle.nc_report.specs.Report.{TellsAccepted}
-use Rattle.nc_report.proofs.ToldSources.{accepted}
+use Rattle.nc_report.proofs.ToldSources.{accepted, tells_accepted}
 use Rattle.nc_report.proofs.telling.tell_accepted.Goals as goal
 
 pub returns-in-Ok-write_out-clause-ok : goal.returns-in-Ok-write_out-clause-ok
 returns-in-Ok-write_out-clause-ok g c =
     let chunk = c.args.chunk.now in
-    let out = c.push_accepted.new.out.items in (
+    let out = c.push_accepted.new.out.items in
+    tells_accepted chunk c.args.detail c.args.title.now.name.items c.args.title.now.labels _ _ (
       out,
       subst (λ (z : List ℕ). TellsAccepted chunk.limit chunk.base c.args.detail z chunk.code out) c.as_slice-name.ensures.value
           (accepted chunk c.args.detail c.as_slice-name.result.now _ out c.in-Ok.ensures c.new-out.ensures.items),
