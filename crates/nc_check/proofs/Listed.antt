@@ -17,3 +17,8 @@ made_more f g whole made new y before after x is next pushed same =
 pub all_after : {X : Type 0} (P : X → Type 0) (before after : List X) (x : X) → All P before → before ≡ x ∷ after → All P after
 all_after P before after x all next = λ k d lt.
     subst (λ z. P (get_or z (suc k) d)) next (all (suc k) d (omega (arith, lt, ap (λ z. length z) next)))
+
+-- what holds of all items holds of the first
+pub all_first : {X : Type 0} (P : X → Type 0) (before after : List X) (x : X) → All P before → before ≡ x ∷ after → P x
+all_first P before after x all next =
+    subst (λ z. P (get_or z 0 x)) next (all 0 x (omega (arith, ap (λ z. length z) next)))

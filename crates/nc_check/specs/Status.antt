@@ -4,7 +4,7 @@ use Rattle.clap.specs.Values.{kind_of}
 use Rattle.clap.specs.declared.error.kind.ErrorKind.{ErrorKind}
 use Rattle.clap.specs.declared.error.kind.ErrorKind.TheVariants.{DisplayHelp, DisplayVersion}
 use Rattle.nc_check.specs.declared.outcome.Halt.{Halt}
-use Rattle.nc_check.specs.declared.outcome.Halt.TheVariants.{Words, OutOfMemory, WriteFailed, OutputClosed}
+use Rattle.nc_check.specs.declared.outcome.Halt.TheVariants.{Words, Files}
 
 -- the exit status for the words of the command line: 0 if they ask for help or the version, else 2
 abbrev pub words_status : ErrorKind → ℕ
@@ -15,6 +15,4 @@ words_status _ = 2
 -- the exit status if the program stops: 0 after help or the version, else 2
 abbrev pub halt_status : Halt → ℕ
 halt_status (Words error) = words_status (kind_of error)
-halt_status OutOfMemory = 2
-halt_status WriteFailed = 2
-halt_status OutputClosed = 2
+halt_status (Files failure) = 2

@@ -2,7 +2,7 @@
 
 use crate::files::Unread;
 use crate::judging::{Unjudged, judge_file};
-use crate::outcome::{Halt, Outcome};
+use crate::outcome::{Failure, Outcome};
 use crate::progress::Progress;
 use crate::working::{Told, judge_files};
 use nc_command::CheckAsk;
@@ -45,7 +45,7 @@ fn judge_alone<R: Threads + Wait + Sync + AllocGlobal + Input + Files + Print + 
     ask: &CheckAsk<'_>,
     state: &mut State,
     file: &str,
-) -> Result<(), Halt> {
+) -> Result<(), Failure> {
     state.progress.yield_output(rt);
     let mut writer = Piped::new(io::writer(rt));
     match judge_file(rt, ask, file, &mut writer) {
@@ -59,43 +59,79 @@ fn judge_alone<R: Threads + Wait + Sync + AllocGlobal + Input + Files + Print + 
             state.outcome.is_faulty = true;
             Ok(())
         }
-        Err(Unjudged::OutOfMemory) => Err(Halt::OutOfMemory),
-        Err(Unjudged::WriteFailed) => Err(Halt::of_writing(writer.is_closed())),
+        Err(Unjudged::OutOfMemory) => Err(Failure::OutOfMemory),
+        Err(Unjudged::WriteFailed) => Err(Failure::of_writing(writer.is_closed())),
     }
 }
 
 /// Prints the report that a worker has made.
-fn print<R: Print + Eprint>(rt: &R, state: &mut State, told: &Told) -> Result<(), Halt> {
+fn print<R: Print + Eprint>(rt: &R, state: &mut State, told: &Told) -> Result<(), Failure> {
     state.progress.yield_output(rt);
     state.outcome.is_refused |= told.is_refused;
     let mut writer = Piped::new(io::writer(rt));
     match write_out(&mut writer, &told.text) {
         Ok(()) => Ok(()),
-        Err(_) => Err(Halt::of_writing(writer.is_closed())),
+        Err(_) => Err(Failure::of_writing(writer.is_closed())),
     }
 }
 
-/// Judges the files of a round by several workers, and prints the reports in the order of the files.
+/// Prints the reports on the files of a round, in the order of the files. A file that no worker has judged is judged here.
+fn print_round<R: Threads + Wait + Sync + AllocGlobal + Input + Files + Print + Eprint>(
+    rt: &R,
+    ask: &CheckAsk<'_>,
+    state: &mut State,
+    files: &[&str],
+    places: &[Option<Told>],
+) -> Result<(), Failure> {
+    for number in 0..files.len() {
+        match places.get(number) {
+            Some(Some(told)) => print(rt, state, told)?,
+            _ => judge_alone(rt, ask, state, files[number])?,
+        }
+    }
+    Ok(())
+}
+
+/// Judges the files of a round, by several workers if there are several files, and prints the reports on them.
 fn judge_round<R: Threads + Wait + Sync + AllocGlobal + Input + Files + Print + Eprint>(
     rt: &R,
     ask: &CheckAsk<'_>,
     state: &mut State,
     files: &[&str],
-) -> Result<(), Halt>
+) -> Result<(), Failure>
 where
     R::File: Send + Sync,
     R::Dir: Send + Sync,
     R::Reader: Send + Sync,
 {
-    let Ok(places) = judge_files(rt, ask, files) else {
-        return Err(Halt::OutOfMemory);
-    };
-    for (file, place) in files.iter().zip(places) {
-        match place {
-            Some(told) => print(rt, state, &told)?,
-            None => judge_alone(rt, ask, state, file)?,
-        }
+    if files.len() == 1 {
+        return judge_alone(rt, ask, state, files[0]);
     }
+    match judge_files(rt, ask, files) {
+        Ok(places) => print_round(rt, ask, state, files, places.as_slice()),
+        Err(_) => Err(Failure::OutOfMemory),
+    }
+}
+
+/// Judges the files that are asked for, one round after another.
+fn judge_all<R: Threads + Wait + Sync + AllocGlobal + Input + Files + Print + Eprint>(
+    rt: &R,
+    ask: &CheckAsk<'_>,
+    state: &mut State,
+) -> Result<(), Failure>
+where
+    R::File: Send + Sync,
+    R::Dir: Send + Sync,
+    R::Reader: Send + Sync,
+{
+    let round = if ask.workers > 1 { ROUND } else { 1 };
+    let mut done: usize = 0;
+    for files in ask.files.chunks(round) {
+        judge_round(rt, ask, state, files)?;
+        done = files.len().saturating_add(done);
+        state.progress.show(rt, done);
+    }
+    state.progress.wipe(rt);
     Ok(())
 }
 
@@ -104,7 +140,7 @@ pub fn check_files<R: Threads + Wait + Sync + AllocGlobal + Input + Files + Prin
     rt: &R,
     ask: &CheckAsk<'_>,
     progress: Progress,
-) -> Result<u8, Halt>
+) -> Result<u8, Failure>
 where
     R::File: Send + Sync,
     R::Dir: Send + Sync,
@@ -118,17 +154,8 @@ where
         },
         progress,
     };
-    let round = if ask.workers > 1 { ROUND } else { 1 };
-    let mut done: usize = 0;
-    for files in ask.files.chunks(round) {
-        if files.len() == 1 {
-            judge_alone(rt, ask, &mut state, files[0])?;
-        } else {
-            judge_round(rt, ask, &mut state, files)?;
-        }
-        done = files.len().saturating_add(done);
-        state.progress.show(rt, done);
+    match judge_all(rt, ask, &mut state) {
+        Ok(()) => Ok(state.outcome.status()),
+        Err(failure) => Err(failure),
     }
-    state.progress.wipe(rt);
-    Ok(state.outcome.status())
 }

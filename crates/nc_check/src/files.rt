@@ -3,9 +3,10 @@
 ghost use Rattle.std.specs.Prelude.{◌≡◌, [], IfOk};
 
 use nc_report::{Source, SourceFault, read_source};
+use std::alloc::Global;
 use std::fs;
 use std::fs::{File, OpenFile};
-use std::io::{ErrorKind, Input};
+use std::io::{ErrorKind, Input, Read};
 use std::rt::Files;
 
 /// Why a file isn't judged.
@@ -58,6 +59,30 @@ fn not_read(fault: SourceFault) -> Unread {
     }
 }
 
+/// The length that a file has before it is read, or 0 if the system doesn't say; a directory isn't read.
+fn len_of<F: OpenFile>(opened: &F) -> Result<usize, Unread> {
+    match opened.metadata() {
+        Ok(metadata) if metadata.is_dir() => Err(Unread::Directory),
+        Ok(metadata) => Ok(metadata.len() as usize),
+        Err(_) => Ok(0),
+    }
+}
+
+/// Reads a file that has been opened.
+fn read_opened<F: OpenFile + Read + Drop>(
+    alloc: Global,
+    name: Vec<u8>,
+    mut opened: F,
+) -> Result<Source, Unread>
+    ensures name { IfOk result (λ source. source.name ≡ name) }
+    ensures labels { IfOk result (λ source. source.labels ≡ []) }
+{
+    match len_of(&opened) {
+        Ok(expected) => read_source(alloc, name, &mut opened, expected).map_err(not_read),
+        Err(unread) => Err(unread),
+    }
+}
+
 /// Reads a file, or standard input if its name is `-`.
 pub fn read_file<R: Files + Input + AllocGlobal>(rt: &R, file: &str) -> Result<Source, Unread>
     ensures name { IfOk result (λ source. source.name.items ≡ file.now) }
@@ -69,14 +94,8 @@ pub fn read_file<R: Files + Input + AllocGlobal>(rt: &R, file: &str) -> Result<S
     if file == "-" {
         return read_source(rt.alloc(), name, &mut rt.reader(), 0).map_err(not_read);
     }
-    let mut opened = match File::open(rt, file) {
-        Ok(opened) => opened,
-        Err(error) => return Err(not_opened(error.kind())),
-    };
-    let expected = match opened.metadata() {
-        Ok(metadata) if metadata.is_dir() => return Err(Unread::Directory),
-        Ok(metadata) => metadata.len() as usize,
-        Err(_) => 0,
-    };
-    read_source(rt.alloc(), name, &mut opened, expected).map_err(not_read)
+    match File::open(rt, file) {
+        Ok(opened) => read_opened(rt.alloc(), name, opened),
+        Err(error) => Err(not_opened(error.kind())),
+    }
 }

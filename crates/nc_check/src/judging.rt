@@ -5,9 +5,8 @@ use crate::parts::{Part, parts_of};
 use nc_command::CheckAsk;
 use nc_elf::{ElfFault, is_elf};
 use nc_output::{Detail, write_out};
-use nc_report::{ReportFault, push_file_object, report};
-use std::alloc::Global;
-use std::io;
+use nc_report::{ReportFault, Source, push_file_object, report};
+use std::alloc::{AllocError, Global};
 use std::io::{Input, Write};
 use std::rt::Files;
 use std::sync::Wait;
@@ -71,23 +70,37 @@ fn judge_parts<R: Threads + Wait + Sync + AllocGlobal, W: Write>(
     Ok(is_refused)
 }
 
-/// The text written for an ELF file that is refused as a whole.
-fn refusal(alloc: Global, detail: Detail, file: &str, fault: ElfFault) -> io::Result<Vec<u8>> {
-    let mut text = Vec::new(alloc);
-    match detail {
-        Detail::Object => {
-            let meaning = fault.to_string(alloc)?;
-            push_file_object(&mut text, file.as_bytes(), b"BadElf", meaning.as_bytes())?;
-        }
-        Detail::Brief => {
-            let line = format!(in alloc; "{file}: refused BadElf\n")?;
-            text.extend_from_slice(line.as_bytes())?;
-        }
-        _ => {
-            let lines = format!(in alloc; "{file}: refused BadElf\n  {fault}\n")?;
-            text.extend_from_slice(lines.as_bytes())?;
-        }
+/// Adds the text written for an ELF file that is refused as a whole, for a fault of this meaning.
+fn push_refusal(
+    text: &mut Vec<u8>,
+    detail: Detail,
+    file: &[u8],
+    meaning: &[u8],
+) -> Result<(), AllocError> {
+    if detail == Detail::Object {
+        return push_file_object(text, file, b"BadElf", meaning);
     }
+    text.extend_from_slice(file)?;
+    text.extend_from_slice(b": refused BadElf\n")?;
+    if detail == Detail::Brief {
+        return Ok(());
+    }
+    text.extend_from_slice(b"  ")?;
+    text.extend_from_slice(meaning)?;
+    text.push(b'\n')?;
+    Ok(())
+}
+
+/// The text written for an ELF file that is refused as a whole.
+fn refusal(
+    alloc: Global,
+    detail: Detail,
+    file: &str,
+    fault: ElfFault,
+) -> Result<Vec<u8>, AllocError> {
+    let meaning = fault.to_string(alloc)?;
+    let mut text = Vec::new(alloc);
+    push_refusal(&mut text, detail, file.as_bytes(), meaning.as_bytes())?;
     Ok(text)
 }
 
@@ -108,6 +121,37 @@ fn refuse<W: Write>(
     }
 }
 
+/// Judges the code of an ELF file, and writes the report on it. Returns whether any of it was refused.
+fn judge_elf<R: Threads + Wait + Sync + AllocGlobal, W: Write>(
+    rt: &R,
+    ask: &CheckAsk<'_>,
+    file: &str,
+    source: &Source,
+    writer: &mut W,
+) -> Result<bool, Unjudged> {
+    match parts_of(rt.alloc(), source, ask.detail) {
+        Ok(parts) => judge_parts(rt, ask, parts, writer),
+        Err(ElfFault::OutOfMemory) => Err(Unjudged::OutOfMemory),
+        Err(fault) => refuse(rt.alloc(), ask, file, fault, writer),
+    }
+}
+
+/// Judges the code of a file, and writes the report on it. Returns whether any of it was refused.
+fn judge_source<R: Threads + Wait + Sync + AllocGlobal, W: Write>(
+    rt: &R,
+    ask: &CheckAsk<'_>,
+    file: &str,
+    source: Source,
+    writer: &mut W,
+) -> Result<bool, Unjudged> {
+    if ask.raw || !is_elf(source.code.as_slice()) {
+        let base = ask.base;
+        judge_part(rt, ask, Part { base, source }, writer)
+    } else {
+        judge_elf(rt, ask, file, &source, writer)
+    }
+}
+
 /// Reads a file, judges its code, and writes the report on it. Returns whether any of it was refused.
 pub fn judge_file<R: Threads + Wait + Sync + AllocGlobal + Input + Files, W: Write>(
     rt: &R,
@@ -115,18 +159,9 @@ pub fn judge_file<R: Threads + Wait + Sync + AllocGlobal + Input + Files, W: Wri
     file: &str,
     writer: &mut W,
 ) -> Result<bool, Unjudged> {
-    let source = match read_file(rt, file) {
-        Ok(source) => source,
-        Err(Unread::OutOfMemory) => return Err(Unjudged::OutOfMemory),
-        Err(unread) => return Err(Unjudged::Unread(unread)),
-    };
-    if ask.raw || !is_elf(source.code.as_slice()) {
-        let base = ask.base;
-        return judge_part(rt, ask, Part { base, source }, writer);
-    }
-    match parts_of(rt.alloc(), &source, ask.detail) {
-        Ok(parts) => judge_parts(rt, ask, parts, writer),
-        Err(ElfFault::OutOfMemory) => Err(Unjudged::OutOfMemory),
-        Err(fault) => refuse(rt.alloc(), ask, file, fault, writer),
+    match read_file(rt, file) {
+        Ok(source) => judge_source(rt, ask, file, source, writer),
+        Err(Unread::OutOfMemory) => Err(Unjudged::OutOfMemory),
+        Err(unread) => Err(Unjudged::Unread(unread)),
     }
 }

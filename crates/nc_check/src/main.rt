@@ -22,13 +22,39 @@ mod working;
 use checking::check_files;
 use clap::error::ErrorKind as ClapKind;
 use nc_command::{CheckAsk, arguments, ask_check, check_words};
-use outcome::Halt;
+use outcome::{Failure, Halt};
 use progress::Progress;
 use std::io::{ErrorKind, Input, IsTerminal};
 use std::process::ExitCode;
 use std::rt::{Env, Files};
 use std::sync::Wait;
 use std::thread::Threads;
+
+/// Carries out the words of the command line, the program's own name first, and returns the exit status.
+fn run_words<R: Threads + Wait + Sync + AllocGlobal + Input + Files + Print + Eprint>(
+    rt: &R,
+    words: &[String],
+    is_terminal: bool,
+    is_shared: bool,
+) -> Result<u8, Halt>
+where
+    R::File: Send + Sync,
+    R::Dir: Send + Sync,
+    R::Reader: Send + Sync,
+{
+    let Ok(arguments) = arguments(rt.alloc(), words) else {
+        return Err(Halt::Files(Failure::OutOfMemory));
+    };
+    let ask: CheckAsk<'_> = match ask_check(rt.alloc(), arguments.as_slice()) {
+        Ok(ask) => ask,
+        Err(error) => return Err(Halt::Words(error)),
+    };
+    let progress = Progress::new(ask.files.len(), is_terminal, is_shared);
+    match check_files(rt, &ask, progress) {
+        Ok(status) => Ok(status),
+        Err(failure) => Err(Halt::Files(failure)),
+    }
+}
 
 /// Carries out the command line, and returns the exit status.
 fn run<R: Threads + Wait + Sync + Env + AllocGlobal + Input + Files + Print + Eprint>(
@@ -41,46 +67,40 @@ where
     R::Dir: Send + Sync,
     R::Reader: Send + Sync,
 {
-    let words = match check_words(rt) {
-        Ok(words) => words,
-        Err(error) => return Err(Halt::Words(error)),
-    };
-    let arguments = match arguments(rt.alloc(), words.as_slice()) {
-        Ok(arguments) => arguments,
-        Err(_) => return Err(Halt::OutOfMemory),
-    };
-    let ask: CheckAsk<'_> = match ask_check(rt.alloc(), arguments.as_slice()) {
-        Ok(ask) => ask,
-        Err(error) => return Err(Halt::Words(error)),
-    };
-    let progress = Progress::new(ask.files.len(), is_terminal, is_shared);
-    check_files(rt, &ask, progress)
+    match check_words(rt) {
+        Ok(words) => run_words(rt, words.as_slice(), is_terminal, is_shared),
+        Err(error) => Err(Halt::Words(error)),
+    }
+}
+
+/// Prints a fault as one line on standard error, if it has a text. If printing fails, nothing else is left to do.
+fn say<R: Eprint>(rt: &R, failure: Failure) {
+    if let Some(text) = failure.text() {
+        let _ = eprintln!(rt; "nc_check: {text}");
+    }
 }
 
 /// Prints why the program stops, and returns the exit status, which is 2 also if help can't be printed.
 fn stop<R: Print + Eprint>(rt: &R, halt: &Halt) -> u8
     ensures { (result ≡ halt_status halt.now) ⊎ ((halt_status halt.now ≡ 0) × (result ≡ 2)) }
 {
-    if let Halt::Words(error) = halt {
-        if error.kind() != ClapKind::OutOfMemory {
-            return match error.print(rt) {
-                Err(fault) if !error.use_stderr() => {
-                    stop_by(rt, &Halt::of_writing(fault.kind() == ErrorKind::BrokenPipe))
+    match halt {
+        Halt::Files(failure) => say(rt, *failure),
+        Halt::Words(error) if error.kind() == ClapKind::OutOfMemory => say(
+            rt,
+            Failure::OutOfMemory,
+        ),
+        Halt::Words(error) => {
+            if let Err(fault) = error.print(rt) {
+                if !error.use_stderr() {
+                    say(
+                        rt,
+                        Failure::of_writing(fault.kind() == ErrorKind::BrokenPipe),
+                    );
+                    return 2;
                 }
-                _ => halt.status(),
-            };
+            }
         }
-    }
-    stop_by(rt, halt)
-}
-
-/// Prints a fault as one line on standard error, if it has a text, and returns the exit status. If printing fails, nothing
-/// else is left to do.
-fn stop_by<R: Eprint>(rt: &R, halt: &Halt) -> u8
-    ensures { result ≡ halt_status halt.now }
-{
-    if let Some(text) = halt.text() {
-        let _ = eprintln!(rt; "nc_check: {text}");
     }
     halt.status()
 }

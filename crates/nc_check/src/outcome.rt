@@ -4,19 +4,45 @@ ghost use Rattle.std.specs.Prelude.{◌≡◌, ◌<◌, ◌↔◌, true, false};
 ghost use Rattle.nc_check.specs.Status.{halt_status};
 
 use clap::error::ErrorKind;
-use std::io::ErrorKind as IoKind;
 
-/// Why the program stops before it has been through its files.
-#[derive(Drop)]
-pub enum Halt {
-    /// The words of the command line can't be carried out, or ask for help.
-    Words(clap::Error),
+/// Why the files are not all judged.
+#[derive(Clone, Copy, Drop)]
+pub enum Failure {
     /// There is no memory.
     OutOfMemory,
     /// A report can't be written.
     WriteFailed,
     /// The reader of the output is gone, as with a closed pipe: a write failed, and nothing is printed about it.
     OutputClosed,
+}
+
+impl Failure {
+    /// A write failed, perhaps because the reader of the output is gone.
+    pub fn of_writing(is_closed: bool) -> Failure {
+        if is_closed {
+            Failure::OutputClosed
+        } else {
+            Failure::WriteFailed
+        }
+    }
+
+    /// The reason in words, if anything is printed about it.
+    pub fn text(self) -> Option<&'static str> {
+        match self {
+            Failure::OutOfMemory => Some("out of memory"),
+            Failure::WriteFailed => Some("write failed"),
+            Failure::OutputClosed => None,
+        }
+    }
+}
+
+/// Why the program stops before it has been through its files.
+#[derive(Drop)]
+pub enum Halt {
+    /// The words of the command line can't be carried out, or ask for help.
+    Words(clap::Error),
+    /// The files are not all judged.
+    Files(Failure),
 }
 
 impl Halt {
@@ -29,34 +55,7 @@ impl Halt {
                 ErrorKind::DisplayHelp | ErrorKind::DisplayVersion => 0,
                 _ => 2,
             },
-            _ => 2,
-        }
-    }
-
-    /// A write failed, perhaps because the reader of the output is gone.
-    pub fn of_writing(is_closed: bool) -> Halt {
-        if is_closed {
-            Halt::OutputClosed
-        } else {
-            Halt::WriteFailed
-        }
-    }
-
-    /// Output failed with an error of this kind.
-    pub fn of_output(kind: IoKind) -> Halt {
-        match kind {
-            IoKind::OutOfMemory => Halt::OutOfMemory,
-            _ => Halt::of_writing(kind == IoKind::BrokenPipe),
-        }
-    }
-
-    /// The fault in words, if anything is printed about it; a fault of the command line has a text of its own, unless there was
-    /// no memory for that.
-    pub fn text(&self) -> Option<&'static str> {
-        match self {
-            Halt::OutputClosed => None,
-            Halt::WriteFailed => Some("write failed"),
-            _ => Some("out of memory"),
+            Halt::Files(_) => 2,
         }
     }
 }

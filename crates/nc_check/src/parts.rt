@@ -1,9 +1,9 @@
 //! The segments of code of an ELF file, each as a source of its own.
 
 ghost use Rattle.std.specs.Prelude.{◌≡◌, ◌+◌, ◌≤◌, All, IfOk, length, map};
-ghost use Rattle.nc_elf.specs.Segments.{bytes_of, segments_of};
+ghost use Rattle.nc_elf.specs.Segments.{IsPlaced, bytes_of, segments_of};
 ghost use Rattle.nc_elf.specs.Symbols.{AreAscending, IsNamed};
-ghost use Rattle.nc_check.specs.Parts.{code_in, bases_in, codes_in, named, labels_of, AreLabelled};
+ghost use Rattle.nc_check.specs.Parts.{code_in, bases_in, codes_in, labels_in, named, labels_of, AreLabelled};
 
 use crate::labelling::{labels_of, names_by};
 use nc_elf::{ElfFault, Segment, Symbol, code_segments};
@@ -58,6 +58,28 @@ fn part_of(
     })
 }
 
+/// The parts that consist of these segments of a file, in order.
+fn list_parts(
+    alloc: Global,
+    file: &Source,
+    symbols: &[Symbol],
+    segments: Vec<Segment>,
+    detail: Detail,
+) -> Result<Vec<Part>, AllocError>
+    requires in_file { All (IsPlaced file.now.code.items) segments.items }
+    requires named { All (IsNamed file.now.code.items) symbols.now }
+    requires ascending { AreAscending symbols.now }
+    ensures bases { IfOk result (λ parts. bases_in parts.items ≡ map (λ s. s.address) segments.items) }
+    ensures codes { IfOk result (λ parts. codes_in parts.items ≡ map (bytes_of file.now.code.items) segments.items) }
+    ensures labels { IfOk result (λ parts. labels_in parts.items ≡ map (labels_of file.now.code.items symbols.now) segments.items) }
+{
+    let mut parts = Vec::new(alloc);
+    for segment in segments {
+        parts.push(part_of(alloc, file, symbols, segment, detail)?)?;
+    }
+    Ok(parts)
+}
+
 /// The parts of an ELF file, for this amount of detail: its segments of code, in the order of its program headers. Each has the
 /// file's name, with its address unless that is written separately.
 pub fn parts_of(alloc: Global, file: &Source, detail: Detail) -> Result<Vec<Part>, ElfFault>
@@ -72,15 +94,8 @@ pub fn parts_of(alloc: Global, file: &Source, detail: Detail) -> Result<Vec<Part
     let Ok(symbols) = names_by(alloc, file.code.as_slice(), detail) else {
         return Err(ElfFault::OutOfMemory);
     };
-    let mut parts = Vec::new(alloc);
-    for segment in segments {
-        let Ok(part) = part_of(alloc, file, symbols.as_slice(), segment, detail) else {
-            return Err(ElfFault::OutOfMemory);
-        };
-        match parts.push(part) {
-            Ok(()) => {}
-            Err(_) => return Err(ElfFault::OutOfMemory),
-        }
+    match list_parts(alloc, file, symbols.as_slice(), segments, detail) {
+        Ok(parts) => Ok(parts),
+        Err(_) => Err(ElfFault::OutOfMemory),
     }
-    Ok(parts)
 }

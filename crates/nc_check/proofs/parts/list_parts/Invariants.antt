@@ -3,7 +3,7 @@ use Rattle.std.proofs.Common.{◌≡◌, ◌++◌, All, map}
 use Rattle.std.specs.Vec.Iter.{into_iter_items}
 use Rattle.nc_elf.specs.Segments.{IsPlaced, bytes_of}
 use Rattle.nc_check.specs.Parts.{bases_in, codes_in, labels_in, labels_of}
-use Rattle.nc_check.proofs.parts.parts_of.Given as goal
+use Rattle.nc_check.proofs.parts.list_parts.Given as goal
 
 abbrev pub invariant-loop-segment : goal.invariant-loop-segment
 invariant-loop-segment l =
@@ -11,6 +11,6 @@ invariant-loop-segment l =
     ≡ bases_in l.parts.items ++ map (λ s. s.address) (into_iter_items l.segment-iterator))
     × (map (bytes_of l.file.code.items) (into_iter_items l.initial.segment-iterator)
     ≡ codes_in l.parts.items ++ map (bytes_of l.file.code.items) (into_iter_items l.segment-iterator))
-    × (map (labels_of l.file.code.items l.symbols.items) (into_iter_items l.initial.segment-iterator)
-    ≡ labels_in l.parts.items ++ map (labels_of l.file.code.items l.symbols.items) (into_iter_items l.segment-iterator))
+    × (map (labels_of l.file.code.items l.symbols) (into_iter_items l.initial.segment-iterator)
+    ≡ labels_in l.parts.items ++ map (labels_of l.file.code.items l.symbols) (into_iter_items l.segment-iterator))
     × All (IsPlaced l.file.code.items) (into_iter_items l.segment-iterator)
