@@ -2,16 +2,17 @@
 
 ghost use Rattle.std.specs.Prelude.{◌≡◌};
 
-use crate::report::report;
+use crate::timing::{now, report, since};
 use nc_gens::{Gens, Keeper, Pass};
-use nc_region::{Region, Shared};
+use nc_region::{Acts, Region, RegionOf, SharedOf};
+use std::alloc::Global;
 use std::io;
 use std::sync::atomic::{AtomicU64, Ordering};
-use std::time::{Clock, Duration, Instant};
+use std::time::{Clock, Duration};
 
 /// Checks in `times` times.
 #[inline(never)]
-fn check_in_times(shared: &Shared<'_>, pass: &mut Pass, times: u32)
+fn check_in_times<A: Acts + Drop>(shared: &SharedOf<'_, A>, pass: &mut Pass, times: u32)
     requires { pass.old.table ≡ shared.now }
     ensures { pass.new.table ≡ pass.old.table }
 {
@@ -35,57 +36,55 @@ fn bare_times(generation: &AtomicU64, word: &AtomicU64, times: u32) {
     }
 }
 
-/// The time of the bare steps, on adjacent words on the heap.
-fn bare_once<R: Clock + AllocGlobal>(rt: &R, times: u32) -> io::Result<Duration> {
-    let mut words = Vec::new(rt.alloc());
-    words.push(AtomicU64::new(0))?;
-    words.push(AtomicU64::new(0))?;
-    let [generation, word] = words.as_slice() else {
-        return Ok(Duration::MAX);
-    };
-    let start = Instant::now(rt)?;
-    bare_times(generation, word, times);
-    start.elapsed(rt)
+/// The time of the bare steps, on adjacent words.
+fn bare_once<R: Clock>(rt: &R, times: u32) -> Duration {
+    let words = [AtomicU64::new(0), AtomicU64::new(0)];
+    let start = now(rt);
+    bare_times(&words[0], &words[1], times);
+    since(rt, start)
 }
 
-/// The time of the check-ins.
-fn check_in_timed<R: Clock>(
+/// The time of the check-ins in this region over this table of generations.
+fn check_in_timed<R: Clock, A: Acts + Drop>(
     rt: &R,
-    shared: &Shared<'_>,
+    region: RegionOf<A>,
+    gens: &Gens,
     pass: &mut Pass,
     times: u32,
-) -> io::Result<Duration>
-    requires { pass.old.table ≡ shared.now }
+) -> Duration
+    requires { (region.keeper.table ≡ gens.now) × (pass.old.table ≡ gens.now) }
 {
-    let start = Instant::now(rt)?;
-    check_in_times(shared, pass, times);
-    start.elapsed(rt)
+    let shared = SharedOf::over(region, gens);
+    let start = now(rt);
+    check_in_times(&shared, pass, times);
+    since(rt, start)
 }
 
 /// The time of the check-ins in a new region over this table of generations, or the maximum if there is no memory for it.
-fn check_in_over<R: Clock + AllocGlobal>(
+fn check_in_over<R: Clock>(
     rt: &R,
+    alloc: Global,
     gens: &Gens,
     keeper: Keeper,
     pass: &mut Pass,
     times: u32,
-) -> io::Result<Duration>
+) -> Duration
     requires { (keeper.table ≡ gens.now) × (pass.old.table ≡ gens.now) }
 {
-    match Region::new(rt.alloc(), 2, gens, keeper) {
-        Ok(region) => check_in_timed(rt, &Shared::new(region), pass, times),
-        Err(_refused) => Ok(Duration::MAX),
+    match Region::new(alloc, 2, gens, keeper) {
+        Ok(region) => check_in_timed(rt, region, gens, pass, times),
+        Err(_refused) => Duration::MAX,
     }
 }
 
 /// The time of the check-ins in a new region over a new table of generations, or the maximum if there is no memory for both.
-fn check_in_once<R: Clock + AllocGlobal>(rt: &R, times: u32) -> io::Result<Duration> {
-    match Gens::new(rt.alloc(), 1) {
+fn check_in_once<R: Clock>(rt: &R, alloc: Global, times: u32) -> Duration {
+    match Gens::new(alloc, 1) {
         Ok((gens, keeper, mut passes)) => {
             let mut pass = passes.remove(0);
-            check_in_over(rt, &gens, keeper, &mut pass, times)
+            check_in_over(rt, alloc, &gens, keeper, &mut pass, times)
         }
-        Err(_refused) => Ok(Duration::MAX),
+        Err(_refused) => Duration::MAX,
     }
 }
 
@@ -98,8 +97,8 @@ pub fn measure_check_in<R: Clock + Print + AllocGlobal>(
     let mut check_in = Duration::MAX;
     let mut bare = Duration::MAX;
     for _ in 0..rounds {
-        check_in = check_in.min(check_in_once(rt, times)?);
-        bare = bare.min(bare_once(rt, times)?);
+        check_in = check_in.min(check_in_once(rt, rt.alloc(), times));
+        bare = bare.min(bare_once(rt, times));
     }
     report(rt, times, "check-ins", check_in)?;
     report(rt, times, "bare loads and stores", bare)

@@ -4,44 +4,40 @@ ghost use Rattle.std.specs.Prelude.{◌≡◌};
 
 use crate::load::{Load, create_all};
 use crate::ordinary::{PATCH, PATCH_AT};
-use crate::report::report;
+use crate::timing::{now, report, since};
 use nc_gens::{Gens, Keeper, Pass};
 use nc_region::{Acts, Region, RegionOf};
 use nc_vet::Vetted;
+use std::alloc::Global;
 use std::io;
-use std::time::{Clock, Duration, Instant};
+use std::time::{Clock, Duration};
 
-/// The time of each part, and the numbers of chunks that were created, patched, deleted and reclaimed.
+/// The names of the parts of a round.
+static PARTS: [&str; 4] = ["created", "patched", "deleted", "reclaimed"];
+
+/// The number of chunks that were created, patched, deleted and reclaimed, and the time of each of these parts.
 #[derive(Clone, Copy, Drop)]
 struct Times {
-    create: Duration,
-    patch: Duration,
-    delete: Duration,
-    reclaim: Duration,
     done: [u32; 4],
+    took: [Duration; 4],
 }
 
 impl Times {
     /// Times that are worse than any others.
     fn worst() -> Times {
         Times {
-            create: Duration::MAX,
-            patch: Duration::MAX,
-            delete: Duration::MAX,
-            reclaim: Duration::MAX,
             done: [0; 4],
+            took: [Duration::MAX; 4],
         }
     }
 
     /// The better time of each part, and the counts of the later round.
     fn best(self, later: Times) -> Times {
-        Times {
-            create: self.create.min(later.create),
-            patch: self.patch.min(later.patch),
-            delete: self.delete.min(later.delete),
-            reclaim: self.reclaim.min(later.reclaim),
-            ..later
+        let mut best = later;
+        for i in 0..4 {
+            best.took[i] = self.took[i].min(later.took[i]);
         }
+        best
     }
 }
 
@@ -69,70 +65,71 @@ fn delete_all<A: Acts + Drop>(region: &mut RegionOf<A>, load: Load) -> u32 {
 }
 
 /// Creates all chunks in a region without a chunk, then patches, deletes and reclaims them.
-fn live_in<R: Clock + AllocGlobal, A: Acts + Drop>(
+fn live_in<R: Clock, A: Acts + Drop>(
     rt: &R,
     load: Load,
+    all: Vec<Vetted>,
     region: &mut RegionOf<A>,
     gens: &Gens,
     pass: &mut Pass,
-) -> io::Result<Times>
+) -> Times
     requires { pass.old.table ≡ gens.now }
 {
-    let all = load.chunks(rt.alloc())?;
-    let begun = Instant::now(rt)?;
+    let start = now(rt);
     let created = create_all(region, all);
-    let at_create = Instant::now(rt)?;
+    let create = since(rt, start);
+    let start = now(rt);
     let patched = patch_all(region, load);
-    let at_patch = Instant::now(rt)?;
+    let patch = since(rt, start);
+    let start = now(rt);
     let deleted = delete_all(region, load);
-    let at_delete = Instant::now(rt)?;
+    let delete = since(rt, start);
     gens.check_in(pass);
-    let at_check_in = Instant::now(rt)?;
+    let start = now(rt);
     let reclaimed = region.reclaim();
-    let at_reclaim = Instant::now(rt)?;
-    Ok(Times {
-        create: at_create.duration_since(begun),
-        patch: at_patch.duration_since(at_create),
-        delete: at_delete.duration_since(at_patch),
-        reclaim: at_reclaim.duration_since(at_check_in),
+    let reclaim = since(rt, start);
+    Times {
         done: [created, patched, deleted, reclaimed],
-    })
-}
-
-/// The life of all chunks in a new region over this table of generations, or the worst times if there is no memory for it.
-fn live_over<R: Clock + AllocGlobal>(
-    rt: &R,
-    load: Load,
-    gens: &Gens,
-    keeper: Keeper,
-    pass: &mut Pass,
-) -> io::Result<Times>
-    requires { (keeper.table ≡ gens.now) × (pass.old.table ≡ gens.now) }
-{
-    match Region::new(rt.alloc(), load.region(), gens, keeper) {
-        Ok(mut region) => live_in(rt, load, &mut region, gens, pass),
-        Err(_refused) => Ok(Times::worst()),
+        took: [create, patch, delete, reclaim],
     }
 }
 
-/// The life of all chunks in a new region over a new table of generations, or the worst times if there is no memory for both.
-fn live_once<R: Clock + AllocGlobal>(rt: &R, load: Load) -> io::Result<Times> {
-    match Gens::new(rt.alloc(), 1) {
+/// The life of these chunks in a new region over this table of generations, or the worst times if there is no memory for it.
+fn live_over<R: Clock>(
+    rt: &R,
+    load: Load,
+    all: Vec<Vetted>,
+    gens: &Gens,
+    keeper: Keeper,
+    pass: &mut Pass,
+) -> Times
+    requires { (keeper.table ≡ gens.now) × (pass.old.table ≡ gens.now) }
+{
+    match Region::new(*all.allocator(), load.region(), gens, keeper) {
+        Ok(mut region) => live_in(rt, load, all, &mut region, gens, pass),
+        Err(_refused) => Times::worst(),
+    }
+}
+
+/// The life of these chunks in a new region over a new table of generations, or the worst times if there is no memory for
+/// both.
+fn live_once<R: Clock>(rt: &R, load: Load, all: Vec<Vetted>) -> Times {
+    match Gens::new(*all.allocator(), 1) {
         Ok((gens, keeper, mut passes)) => {
             let mut pass = passes.remove(0);
-            live_over(rt, load, &gens, keeper, &mut pass)
+            live_over(rt, load, all, &gens, keeper, &mut pass)
         }
-        Err(_refused) => Ok(Times::worst()),
+        Err(_refused) => Times::worst(),
     }
 }
 
 /// The best times of these rounds.
-fn live<R: Clock + AllocGlobal>(rt: &R, load: Load, rounds: u32) -> io::Result<Times> {
+fn live<R: Clock>(rt: &R, alloc: Global, load: Load, rounds: u32) -> Times {
     let mut best = Times::worst();
     for _ in 0..rounds {
-        best = best.best(live_once(rt, load)?);
+        best = best.best(live_once(rt, load, load.chunks(alloc)));
     }
-    Ok(best)
+    best
 }
 
 /// Times the chunks in rounds, and prints the best times and the counts of the last round.
@@ -141,10 +138,9 @@ pub fn measure_chunks<R: Clock + Print + AllocGlobal>(
     load: Load,
     rounds: u32,
 ) -> io::Result<()> {
-    let best = live(rt, load, rounds)?;
-    let [created, patched, deleted, reclaimed] = best.done;
-    report(rt, created, "created", best.create)?;
-    report(rt, patched, "patched", best.patch)?;
-    report(rt, deleted, "deleted", best.delete)?;
-    report(rt, reclaimed, "reclaimed", best.reclaim)
+    let best = live(rt, rt.alloc(), load, rounds);
+    for i in 0..4 {
+        report(rt, best.done[i], PARTS[i], best.took[i])?;
+    }
+    Ok(())
 }

@@ -2,7 +2,6 @@
 
 use nc_vet::{VetFault, vet};
 use std::alloc::{AllocError, Global};
-use std::io::Read;
 use std::rt::Files;
 use std::{fs, io};
 
@@ -15,11 +14,17 @@ const NOP: u8 = 0x90;
 /// The number of bytes of a bundle.
 const BUNDLE: usize = 32;
 
-/// The last bytes of a stuck chunk: the second is a return, which is not permitted.
-const STUCK: [u8; 2] = [NOP, 0xC3];
+/// The last bundle of a stuck chunk: nops, and a return, which is not permitted.
+static STUCK: [u8; BUNDLE] = [
+    0x90, 0x90, 0x90, 0x90, 0x90, 0x90, 0x90, 0x90, 0x90, 0x90, 0x90, 0x90, 0x90, 0x90, 0x90, 0x90,
+    0x90, 0x90, 0x90, 0x90, 0x90, 0x90, 0x90, 0x90, 0x90, 0x90, 0x90, 0x90, 0x90, 0x90, 0x90, 0xC3,
+];
 
-/// The last bytes of a chunk that goes astray: a jump into itself.
-const ASTRAY: [u8; 2] = [0xEB, 0xFF];
+/// The last bundle of a chunk that goes astray: nops, and a jump into itself.
+static ASTRAY: [u8; BUNDLE] = [
+    0x90, 0x90, 0x90, 0x90, 0x90, 0x90, 0x90, 0x90, 0x90, 0x90, 0x90, 0x90, 0x90, 0x90, 0x90, 0x90,
+    0x90, 0x90, 0x90, 0x90, 0x90, 0x90, 0x90, 0x90, 0x90, 0x90, 0x90, 0x90, 0x90, 0x90, 0xEB, 0xFF,
+];
 
 /// The verdict that the code is prepared for.
 #[derive(Clone, Copy, Drop)]
@@ -41,75 +46,67 @@ pub struct Source<'a> {
     pub bundles: Option<u32>,
 }
 
-/// The length of a direct transfer that begins with this byte.
-fn transfer_len(byte: u8) -> usize {
+/// Nops in place of a direct transfer that begins with this byte.
+fn nops(byte: u8) -> &'static [u8] {
     match byte {
-        0x0F => 6,
-        0xE8 | 0xE9 => 5,
-        _ => 2,
+        0x0F => &[NOP; 6],
+        0xE8 | 0xE9 => &[NOP; 5],
+        _ => &[NOP; 2],
     }
 }
 
-/// A copy of the code.
-pub fn copy(alloc: Global, code: &[u8]) -> Result<Vec<u8>, AllocError> {
-    let mut copied = Vec::new(alloc);
-    copied.extend_from_slice(code)?;
-    Ok(copied)
-}
-
-/// Writes `len` nops from a place on.
-fn clear(code: &mut [u8], start: usize, len: usize) {
-    for i in start..start.saturating_add(len) {
-        if let Some(byte) = code.get_mut(i) {
-            *byte = NOP;
-        }
-    }
-}
-
-/// Writes nops over each direct transfer to a bad target. Code that is refused for another reason stays as it is.
-fn settle(alloc: Global, code: Vec<u8>, base: u32) -> Result<Vec<u8>, AllocError> {
-    let mut code = code;
-    for _ in 0..code.len() {
-        let refusal = match vet(base, LIMIT, code) {
-            Ok(vetted) => return copy(alloc, vetted.code()),
-            Err(refusal) => refusal,
-        };
-        code = refusal.0;
-        let VetFault::BadTarget { at } = refusal.1 else {
-            break;
-        };
-        let start = at.saturating_sub(base) as usize;
-        let first = code.get(start).copied().unwrap_or(NOP);
-        clear(&mut code, start, transfer_len(first));
-    }
-    Ok(code)
-}
-
-/// Makes the last bundle nops that end with these two bytes.
-fn end_with(code: &mut [u8], last: [u8; 2]) {
-    let len = code.len();
-    clear(code, len.saturating_sub(BUNDLE), BUNDLE);
-    for (i, byte) in last.iter().enumerate() {
-        if let Some(place) = code.get_mut(len.saturating_sub(2).saturating_add(i)) {
+/// Writes bytes over the code from a place on, as far as it goes.
+fn overwrite(code: &mut [u8], start: usize, bytes: &[u8]) {
+    for (i, byte) in bytes.iter().enumerate() {
+        if let Some(place) = code.get_mut(start.saturating_add(i)) {
             *place = *byte;
         }
     }
 }
 
+/// The place of the direct transfer to a bad target for which the code is refused, if it is refused for one.
+fn bad_target(base: u32, code: Vec<u8>) -> Option<u32> {
+    match vet(base, LIMIT, code) {
+        Err((_, VetFault::BadTarget { at })) => Some(at),
+        _ => None,
+    }
+}
+
+/// Writes nops over each direct transfer to a bad target, until the code is accepted or refused for another reason.
+fn settle(alloc: Global, code: &mut [u8], base: u32) -> Result<(), AllocError> {
+    for _ in 0..code.len() {
+        let copied = Vec::from_slice(alloc, code)?;
+        let Some(at) = bad_target(base, copied) else {
+            break;
+        };
+        let start = at.saturating_sub(base) as usize;
+        let first = code.get(start).copied().unwrap_or(NOP);
+        overwrite(code, start, nops(first));
+    }
+    Ok(())
+}
+
+/// Prepares code as a source's kind says.
+fn prepare(alloc: Global, source: &Source<'_>, code: &mut [u8]) -> Result<(), AllocError> {
+    settle(alloc, code, source.base)?;
+    let last = code.len().saturating_sub(BUNDLE);
+    match source.kind {
+        Kind::Accepted => {}
+        Kind::Stuck => overwrite(code, last, &STUCK),
+        Kind::Astray => overwrite(code, last, &ASTRAY),
+    }
+    Ok(())
+}
+
 /// The code of a source, prepared as its kind says.
 pub fn read_code<R: Files + AllocGlobal>(rt: &R, source: &Source<'_>) -> io::Result<Vec<u8>> {
-    let mut code = Vec::new(rt.alloc());
-    let mut file = fs::open(rt, source.path)?;
-    file.read_to_end(&mut code)?;
+    let mut code = fs::read(rt, source.path)?;
     let bundles = source
         .bundles
         .map_or(code.len() / BUNDLE, |bundles| bundles as usize);
     code.truncate(bundles.saturating_mul(BUNDLE));
-    let mut code = settle(rt.alloc(), code, source.base)?;
-    match source.kind {
-        Kind::Accepted => {}
-        Kind::Stuck => end_with(&mut code, STUCK),
-        Kind::Astray => end_with(&mut code, ASTRAY),
+    match prepare(rt.alloc(), source, &mut code) {
+        Ok(()) => Ok(code),
+        Err(error) => Err(io::Error::from(error)),
     }
-    Ok(code)
 }

@@ -6,8 +6,21 @@ use crate::workers::Jobs;
 use clap::ArgMatches;
 use std::io;
 
+/// The measurement that is asked for.
+#[derive(Clone, Copy, Drop)]
+pub enum Ask<'a> {
+    /// Vetting by one thread.
+    Vet(Source<'a>),
+    /// Vetting by this number of workers, or by several numbers of them in turn.
+    Workers(Jobs, Option<u32>),
+    /// The calls of a region.
+    Chunks(Load),
+    /// This number of check-ins.
+    CheckIn(u32),
+}
+
 /// The number that a word gives, or 1 if the word isn't there.
-pub fn number(found: &ArgMatches<'_>, name: &str) -> u32 {
+fn number(found: &ArgMatches<'_>, name: &str) -> u32 {
     found.get_one::<u32>(name).unwrap_or(1)
 }
 
@@ -26,7 +39,7 @@ fn kind(found: &ArgMatches<'_>) -> Kind {
 }
 
 /// The code that is asked for.
-pub fn source<'a>(found: &ArgMatches<'a>) -> io::Result<Source<'a>> {
+fn source<'a>(found: &ArgMatches<'a>) -> io::Result<Source<'a>> {
     let Ok(base) = u32::from_str_radix(text(found, "ADDRESS"), 16) else {
         return Err(io::Error::from(io::ErrorKind::InvalidInput));
     };
@@ -48,7 +61,7 @@ fn order(found: &ArgMatches<'_>) -> Order {
 }
 
 /// The chunks that are asked for; each number that no word gives is 1.
-pub fn load(found: &ArgMatches<'_>) -> Load {
+fn load(found: &ArgMatches<'_>) -> Load {
     Load {
         count: number(found, "COUNT"),
         bundles: number(found, "BUNDLES"),
@@ -57,9 +70,27 @@ pub fn load(found: &ArgMatches<'_>) -> Load {
 }
 
 /// The jobs that are asked for.
-pub fn jobs(found: &ArgMatches<'_>) -> Jobs {
+fn jobs(found: &ArgMatches<'_>) -> Jobs {
     Jobs {
         count: number(found, "JOBS"),
         bundles: number(found, "BUNDLES"),
+    }
+}
+
+/// The measurement of this name that is asked for.
+fn named<'a>(name: &str, found: &ArgMatches<'a>) -> io::Result<Ask<'a>> {
+    match name {
+        "vet" => Ok(Ask::Vet(source(found)?)),
+        "workers" => Ok(Ask::Workers(jobs(found), found.get_one("WORKERS"))),
+        "chunks" => Ok(Ask::Chunks(load(found))),
+        _ => Ok(Ask::CheckIn(number(found, "TIMES"))),
+    }
+}
+
+/// The measurement that is asked for, and its number of rounds. The parser requires that there is one.
+pub fn asked<'a>(found: &ArgMatches<'a>) -> io::Result<(Ask<'a>, u32)> {
+    match found.subcommand() {
+        Some((name, found)) => Ok((named(name, found)?, number(found, "ROUNDS"))),
+        None => Err(io::Error::from(io::ErrorKind::InvalidInput)),
     }
 }

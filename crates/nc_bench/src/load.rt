@@ -4,7 +4,7 @@ use crate::ordinary::ordinary_code;
 use nc_decode::{BUNDLE, START};
 use nc_region::{Acts, RegionOf};
 use nc_vet::{Vetted, vet};
-use std::alloc::{AllocError, Global};
+use std::alloc::Global;
 
 /// The order of their bases in which chunks are created.
 #[derive(Clone, Copy, Drop)]
@@ -56,17 +56,24 @@ impl Load {
         START.saturating_add(self.region().saturating_mul(BUNDLE))
     }
 
-    /// All chunks, vetted for their places, in the order in which they are created.
-    pub fn chunks(self, alloc: Global) -> Result<Vec<Vetted>, AllocError> {
+    /// The chunk that is created as the `i`th, vetted for its place, if there is memory for it.
+    fn chunk(self, alloc: Global, i: u32) -> Option<Vetted> {
+        let base = self.base(self.order.pick(i, self.count));
+        match ordinary_code(alloc, self.bundles) {
+            Ok(code) => vet(base, self.limit(), code).ok(),
+            Err(_) => None,
+        }
+    }
+
+    /// All chunks in the order in which they are created, as many as there is memory for.
+    pub fn chunks(self, alloc: Global) -> Vec<Vetted> {
         let mut all = Vec::new(alloc);
         for i in 0..self.count {
-            let code = ordinary_code(alloc, self.bundles)?;
-            let base = self.base(self.order.pick(i, self.count));
-            if let Ok(vetted) = vet(base, self.limit(), code) {
-                all.push(vetted)?;
+            if let Some(vetted) = self.chunk(alloc, i) {
+                let _pushed = all.push(vetted);
             }
         }
-        Ok(all)
+        all
     }
 }
 

@@ -18,18 +18,18 @@ mod command_line;
 mod load;
 mod measurements;
 mod ordinary;
-mod report;
+mod timing;
 mod vetting;
 mod workers;
 
 use check_in::measure_check_in;
 use chunks::measure_chunks;
-use clap::{ArgMatches, Error};
-use command_line::{jobs, load, number, source};
+use clap::Error;
+use command_line::{Ask, asked};
 use measurements::matches;
-use std::alloc::{AllocError, Global};
+use nc_command::arguments;
 use std::process::ExitCode;
-use std::rt::Files;
+use std::rt::{Env, Files};
 use std::sync::Wait;
 use std::thread::Threads;
 use std::time::Clock;
@@ -37,30 +37,18 @@ use std::{env, io};
 use vetting::measure_vet;
 use workers::measure_workers;
 
-/// Makes the measurement of this name.
+/// Makes the measurement that is asked for.
 fn measure<R: Threads + Wait + Sync + Clock + Files + Print + AllocGlobal>(
     rt: &R,
-    name: &str,
-    found: &ArgMatches<'_>,
+    ask: Ask<'_>,
+    rounds: u32,
 ) -> io::Result<()> {
-    let rounds = number(found, "ROUNDS");
-    match name {
-        "vet" => measure_vet(rt, &source(found)?, rounds),
-        "workers" => measure_workers(rt, jobs(found), rounds, found.get_one("WORKERS")),
-        "chunks" => measure_chunks(rt, load(found), rounds),
-        _ => measure_check_in(rt, number(found, "TIMES"), rounds),
+    match ask {
+        Ask::Vet(source) => measure_vet(rt, &source, rounds),
+        Ask::Workers(jobs, workers) => measure_workers(rt, jobs, rounds, workers),
+        Ask::Chunks(load) => measure_chunks(rt, load, rounds),
+        Ask::CheckIn(times) => measure_check_in(rt, times, rounds),
     }
-}
-
-/// Makes the measurement that a command line names.
-fn measure_named<R: Threads + Wait + Sync + Clock + Files + Print + AllocGlobal>(
-    rt: &R,
-    found: &ArgMatches<'_>,
-) -> io::Result<ExitCode> {
-    if let Some((name, found)) = found.subcommand() {
-        measure(rt, name, found)?;
-    }
-    Ok(ExitCode::SUCCESS)
 }
 
 /// Prints a fault of the command line, or help, and returns the exit status.
@@ -74,23 +62,22 @@ fn run<R: Threads + Wait + Sync + Clock + Files + Print + Eprint + AllocGlobal>(
     rt: &R,
     words: &[&str],
 ) -> io::Result<ExitCode> {
-    match matches(rt.alloc(), words) {
-        Ok(found) => measure_named(rt, &found),
-        Err(error) => report_fault(rt, &error),
-    }
+    let asked = match matches(rt.alloc(), words) {
+        Ok(found) => asked(&found),
+        Err(error) => return report_fault(rt, &error),
+    };
+    let (ask, rounds) = asked?;
+    measure(rt, ask, rounds)?;
+    Ok(ExitCode::SUCCESS)
 }
 
-/// The words after the program's own name.
-fn after_name(alloc: Global, words: &[String]) -> Result<Vec<&str>, AllocError> {
-    let mut arguments = Vec::new(alloc);
-    for word in words.iter().skip(1) {
-        arguments.push(word.as_str())?;
-    }
-    Ok(arguments)
+/// The words of the command line, the program's own name first.
+fn words<R: Env + AllocGlobal>(rt: &R) -> io::Result<Vec<String>> {
+    Ok(env::args(rt)?.collect(rt.alloc())?)
 }
 
 fn main(rt: HostRuntime) -> io::Result<ExitCode> {
-    let words: Vec<String> = env::args(&rt)?.collect(rt.alloc())?;
-    let arguments = after_name(rt.alloc(), &words)?;
+    let words = words(&rt)?;
+    let arguments = arguments(rt.alloc(), &words)?;
     run(&rt, arguments.as_slice())
 }

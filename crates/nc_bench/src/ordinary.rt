@@ -12,18 +12,9 @@ static BUNDLE: [u8; 32] = [
 pub const PATCH_AT: u32 = 14;
 
 /// The new instruction: `mov eax, 2`.
-pub const PATCH: [u8; 5] = [0xB8, 0x02, 0x00, 0x00, 0x00];
-
-/// The code, `count` times in a row.
-fn repeated(alloc: Global, code: &[u8], count: u32) -> Result<Vec<u8>, AllocError> {
-    let mut repeated = Vec::new(alloc);
-    for _ in 0..count {
-        repeated.extend_from_slice(code)?;
-    }
-    Ok(repeated)
-}
+pub static PATCH: [u8; 5] = [0xB8, 0x02, 0x00, 0x00, 0x00];
 
 /// Ordinary code of this many bundles.
 pub fn ordinary_code(alloc: Global, bundles: u32) -> Result<Vec<u8>, AllocError> {
-    repeated(alloc, &BUNDLE, bundles)
+    BUNDLE.repeat(alloc, bundles as usize)
 }

@@ -1,36 +1,26 @@
 //! The vetting speed of one thread.
 
-use crate::code::{LIMIT, Source, copy, read_code};
+use crate::code::{LIMIT, Source, read_code};
+use crate::timing::{now, since};
 use nc_vet::vet;
 use nc_work::Verdict;
-use std::alloc::{AllocError, Global};
+use std::alloc::Global;
 use std::io;
 use std::rt::Files;
-use std::time::{Clock, Duration, Instant};
+use std::time::{Clock, Duration};
 
 /// The number of bytes that are vetted in a round, unless one chunk has more.
 const ROUND: usize = 65_536;
 
-/// Copies of the code, for one round.
-fn chunks(alloc: Global, code: &[u8]) -> Result<Vec<Vec<u8>>, AllocError> {
-    let count = (ROUND / code.len().max(1)).max(1);
-    let mut chunks = Vec::with_capacity(alloc, count)?;
-    for _ in 0..count {
-        chunks.push(copy(alloc, code)?)?;
+/// Copies of the code for one round, as many of them as there is memory for.
+fn chunks(alloc: Global, code: &[u8]) -> Vec<Vec<u8>> {
+    let mut chunks = Vec::new(alloc);
+    for _ in 0..(ROUND / code.len().max(1)).max(1) {
+        if let Ok(copied) = Vec::from_slice(alloc, code) {
+            let _pushed = chunks.push(copied);
+        }
     }
-    Ok(chunks)
-}
-
-/// Vets each chunk, and keeps the verdicts, for which there is room.
-fn vet_each(
-    base: u32,
-    chunks: Vec<Vec<u8>>,
-    verdicts: &mut Vec<Verdict>,
-) -> Result<(), AllocError> {
-    for code in chunks {
-        verdicts.push(vet(base, LIMIT, code))?;
-    }
-    Ok(())
+    chunks
 }
 
 /// The number of accepted chunks.
@@ -44,20 +34,32 @@ pub fn count_accepted(verdicts: &[Verdict]) -> usize {
     accepted
 }
 
-/// Vets copies of the code, and times only the vetting: the time for a chunk, and the number of accepted chunks.
-fn vet_round<R: Clock + AllocGlobal>(
+/// Vets the chunks, and times only the vetting: the time for a chunk, and the number of accepted chunks. The verdicts are kept,
+/// in a list with room for them.
+fn vet_timed<R: Clock>(
     rt: &R,
     base: u32,
-    code: &[u8],
-) -> io::Result<(Duration, usize)> {
-    let chunks = chunks(rt.alloc(), code)?;
-    let count = chunks.len();
-    let mut verdicts = Vec::with_capacity(rt.alloc(), count)?;
-    let start = Instant::now(rt)?;
-    vet_each(base, chunks, &mut verdicts)?;
-    let took = start.elapsed(rt)?;
-    let each = took / u32::try_from(count).unwrap_or(1).max(1);
-    Ok((each, count_accepted(&verdicts)))
+    chunks: Vec<Vec<u8>>,
+    room: Vec<Verdict>,
+) -> (Duration, usize) {
+    let mut verdicts = room;
+    let count = u32::try_from(chunks.len()).unwrap_or(u32::MAX);
+    let start = now(rt);
+    for code in chunks {
+        let _pushed = verdicts.push(vet(base, LIMIT, code));
+    }
+    let took = since(rt, start);
+    let each = took.checked_div(count).unwrap_or(Duration::MAX);
+    (each, count_accepted(&verdicts))
+}
+
+/// Vets copies of the code. The time is the maximum if there is no memory for them.
+fn vet_round<R: Clock>(rt: &R, alloc: Global, base: u32, code: &[u8]) -> (Duration, usize) {
+    let chunks = chunks(alloc, code);
+    match Vec::with_capacity(alloc, chunks.len()) {
+        Ok(room) => vet_timed(rt, base, chunks, room),
+        Err(_) => (Duration::MAX, 0),
+    }
 }
 
 /// Prints the time for one chunk in the best round. A megabyte is a million bytes.
@@ -78,7 +80,7 @@ pub fn measure_vet<R: Files + Clock + Print + AllocGlobal>(
     let mut best = Duration::MAX;
     let mut accepted = 0;
     for _ in 0..rounds {
-        let (took, valid) = vet_round(rt, source.base, &code)?;
+        let (took, valid) = vet_round(rt, rt.alloc(), source.base, &code);
         best = best.min(took);
         accepted = valid;
     }

@@ -2,14 +2,15 @@
 
 use crate::code::LIMIT;
 use crate::ordinary::ordinary_code;
+use crate::timing::{now, since};
 use crate::vetting::count_accepted;
 use nc_decode::START;
 use nc_work::{Job, Open, vet_all};
-use std::alloc::{AllocError, Global};
+use std::alloc::Global;
 use std::io;
 use std::sync::Wait;
 use std::thread::Threads;
-use std::time::{Clock, Duration, Instant};
+use std::time::{Clock, Duration};
 
 /// The numbers of workers that are timed if none is given.
 const WORKERS: [u32; 6] = [1, 2, 3, 4, 8, 16];
@@ -21,8 +22,8 @@ pub struct Jobs {
     pub bundles: u32,
 }
 
-/// Jobs of pseudo-random sizes.
-fn draw_jobs(alloc: Global, jobs: Jobs) -> Result<Vec<Job>, AllocError> {
+/// Jobs of pseudo-random sizes, as many of them as there is memory for.
+fn draw_jobs(alloc: Global, jobs: Jobs) -> Vec<Job> {
     let mut all = Vec::new(alloc);
     let mut drawn = 12345u64;
     for _ in 0..jobs.count {
@@ -30,13 +31,15 @@ fn draw_jobs(alloc: Global, jobs: Jobs) -> Result<Vec<Job>, AllocError> {
             .wrapping_mul(6_364_136_223_846_793_005)
             .wrapping_add(1_442_695_040_888_963_407);
         let bundles = ((drawn >> 33) as u32 % jobs.bundles.max(1)).saturating_add(1);
-        all.push(Job {
-            base: START,
-            limit: LIMIT,
-            code: ordinary_code(alloc, bundles)?,
-        })?;
+        if let Ok(code) = ordinary_code(alloc, bundles) {
+            let _pushed = all.push(Job {
+                base: START,
+                limit: LIMIT,
+                code,
+            });
+        }
     }
-    Ok(all)
+    all
 }
 
 /// The time of one call, and the number of valid chunks.
@@ -44,13 +47,13 @@ fn vet_once<R: Threads + Wait + Sync + Clock>(
     rt: &R,
     jobs: Vec<Job>,
     workers: u32,
-) -> io::Result<(Duration, usize)> {
-    let start = Instant::now(rt)?;
+) -> (Duration, usize) {
+    let start = now(rt);
     let verdicts = vet_all(rt, jobs, workers, &Open);
-    let took = start.elapsed(rt)?;
+    let took = since(rt, start);
     match verdicts {
-        Ok(verdicts) => Ok((took, count_accepted(&verdicts))),
-        Err(_refused) => Ok((took, 0)),
+        Ok(verdicts) => (took, count_accepted(&verdicts)),
+        Err(_refused) => (took, 0),
     }
 }
 
@@ -64,7 +67,7 @@ fn measure_number<R: Threads + Wait + Sync + Clock + Print + AllocGlobal>(
     let mut best = Duration::MAX;
     let mut good = 0;
     for _ in 0..rounds {
-        let (took, valid) = vet_once(rt, draw_jobs(rt.alloc(), jobs)?, workers)?;
+        let (took, valid) = vet_once(rt, draw_jobs(rt.alloc(), jobs), workers);
         best = best.min(took);
         good = valid;
     }
