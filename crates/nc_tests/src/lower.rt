@@ -4,5 +4,5 @@ mod devices;
 mod generations;
 mod lines;
 mod reports;
-mod rows;
+pub mod rows;
 mod workers;

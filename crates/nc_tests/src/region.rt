@@ -1,12 +1,9 @@
-//! Tests of `nc_region`: the acts that a `Recorder` tells and logs, marks that are set from a list, and regions that threads
-//! share.
+//! Tests of `nc_region`: the acts that a `Recorder` tells and logs, and regions that threads share.
 
 mod acts;
 mod calls;
 mod check_in;
-mod fixtures;
-mod listed;
+pub mod fixtures;
 mod shared;
-mod sizes;
 mod steps;
-mod trial;
+mod telling;

@@ -1,9 +1,9 @@
-//! A reader and writers that behave as real ones never do.
+//! A reader and a writer that behave as real ones never do.
 
 use std::alloc::Global;
 use std::io::{Error, ErrorKind, Read, Result, Write};
 
-/// Each call fails with an error of this kind.
+/// Each read fails with an error of this kind.
 #[derive(Drop)]
 pub struct Failing {
     pub kind: ErrorKind,
@@ -15,39 +15,44 @@ impl Read for Failing {
     }
 }
 
-impl Write for Failing {
-    fn write(&mut self, _buf: &[u8]) -> Result<usize> {
-        Err(Error::from(self.kind))
-    }
-
-    fn flush(&mut self) -> Result<()> {
-        Err(Error::from(self.kind))
-    }
-}
-
-/// Takes at most `size` bytes in a write. Flushes are counted, and fail unless `flushes` is set.
+/// Takes at most `size` bytes in a write, or nothing where writes have an error; flushes may have one too, and are counted.
 #[derive(Drop)]
 pub struct Slow {
     pub out: Vec<u8>,
     pub size: usize,
-    pub flushes: bool,
+    pub write_error: Option<ErrorKind>,
+    pub flush_error: Option<ErrorKind>,
     pub flushed: usize,
 }
 
 impl Slow {
-    /// Takes at most `size` bytes in a write, and fails only in a flush, unless `flushes` is set.
-    pub fn new(alloc: Global, size: usize, flushes: bool) -> Slow {
+    /// Takes at most `size` bytes in a write. Each write and each flush has the error that is given for it.
+    pub fn new(
+        alloc: Global,
+        size: usize,
+        write_error: Option<ErrorKind>,
+        flush_error: Option<ErrorKind>,
+    ) -> Slow {
         Slow {
             out: Vec::new(alloc),
             size,
-            flushes,
+            write_error,
+            flush_error,
             flushed: 0,
         }
+    }
+
+    /// Whether these bytes were written, and the output was flushed once if it has any.
+    pub fn has(&self, owed: &[u8]) -> bool {
+        self.out.as_slice() == owed && self.flushed == usize::from(!owed.is_empty())
     }
 }
 
 impl Write for Slow {
     fn write(&mut self, buf: &[u8]) -> Result<usize> {
+        if let Some(kind) = self.write_error {
+            return Err(Error::from(kind));
+        }
         let count = buf.len().min(self.size);
         self.out.extend_from_slice(&buf[..count])?;
         Ok(count)
@@ -55,10 +60,9 @@ impl Write for Slow {
 
     fn flush(&mut self) -> Result<()> {
         self.flushed = self.flushed.wrapping_add(1);
-        if self.flushes {
-            Ok(())
-        } else {
-            Err(Error::from(ErrorKind::Other))
+        match self.flush_error {
+            Some(kind) => Err(Error::from(kind)),
+            None => Ok(()),
         }
     }
 }

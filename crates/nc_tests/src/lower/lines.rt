@@ -38,21 +38,6 @@ fn vet<T: Threads + Wait + Sync, R: Read, W: Write>(
     vet_lines(rt, alloc, reader, writer, bundles, workers, &Open)
 }
 
-/// Checks that a call ended as expected, wrote the expected bytes, and flushed once if it wrote any. The failure shows the
-/// result and the output.
-fn ended(
-    answer: Result<(), ReplayFault>,
-    due: Result<(), ReplayFault>,
-    writer: &Slow,
-    owed: &[u8],
-) -> Result<(), Fail> {
-    let flushed = usize::from(!owed.is_empty());
-    if answer == due && writer.out.as_slice() == owed && writer.flushed == flushed {
-        return Ok(());
-    }
-    Err(Fail::new(format_args!("{answer:?}: {:?}", writer.out)))
-}
-
 /// A script and its replies, and lines of chunks and their verdicts.
 const SCRIPT: &[u8] = b"dump\n\ndump";
 
@@ -62,139 +47,162 @@ const CHUNKS: &[u8] = b"00010000 -\n00010001 -\n00010000\n";
 
 const VERDICTS: &[u8] = b"refused BadLength\nrefused BadBase\nbad line\n";
 
-/// Sizes of writes, whether a flush succeeds, and how the call ends.
-static FLUSHES: [(usize, bool, Result<(), ReplayFault>); 3] = [
-    (1, true, Ok(())),
-    (7, true, Ok(())),
-    (1, false, Err(ReplayFault::WriteFailed)),
+/// How a run ends.
+type End = Result<(), ReplayFault>;
+
+/// A run over these lines: the number of bundles, and that of seats or workers; how it ends, the number of bytes that are then
+/// unread, and the output.
+#[derive(Drop)]
+struct Run {
+    lines: &'static [u8],
+    bundles: u32,
+    number: u32,
+    due: End,
+    unread: usize,
+    output: &'static [u8],
+}
+
+impl Run {
+    /// Whether the run ended as it should.
+    fn is_due(&self, end: End, rest: &[u8], writer: &Slow) -> bool {
+        end == self.due && rest.len() == self.unread && writer.has(self.output)
+    }
+
+    /// Whether the lines are answered as a script.
+    fn is_replayed(&self, alloc: Global, mut writer: Slow) -> bool {
+        let mut rest = self.lines;
+        let end = replay(alloc, &mut rest, &mut writer, self.bundles, self.number);
+        self.is_due(end, rest, &writer)
+    }
+
+    /// Whether the lines are vetted as chunks.
+    fn is_vetted<T: Threads + Wait + Sync>(&self, rt: &T, alloc: Global, mut writer: Slow) -> bool {
+        let mut rest = self.lines;
+        let end = vet(rt, alloc, &mut rest, &mut writer, self.bundles, self.number);
+        self.is_due(end, rest, &writer)
+    }
+}
+
+/// How a writer behaves: the size of writes, the errors of a write and of a flush; how a run then ends, and whether it writes all
+/// of the output.
+type Flush = (usize, Option<ErrorKind>, Option<ErrorKind>, End, bool);
+
+#[rattlefmt::skip]
+static FLUSHES: [Flush; 4] = [
+    (1, None, None, Ok(()), true),
+    (7, None, None, Ok(()), true),
+    (1, None, Some(ErrorKind::Other), Err(ReplayFault::WriteFailed), true),
+    // elsewhere this error means that nothing was taken
+    (9, Some(ErrorKind::WriteZero), None, Err(ReplayFault::WriteFailed), false),
 ];
 
-/// Writes replies and verdicts in pieces of this size.
-fn try_flush<T: Threads + Wait + Sync>(
-    rt: &T,
-    alloc: Global,
-    size: usize,
-    flushes: bool,
-    due: Result<(), ReplayFault>,
-) -> Result<(), Fail> {
-    let mut reader = SCRIPT;
-    let mut writer = Slow::new(alloc, size, flushes);
-    let answer = replay(alloc, &mut reader, &mut writer, 4, 1);
-    ended(answer, due, &writer, REPLIES)?;
-    let mut reader = CHUNKS;
-    let mut writer = Slow::new(alloc, size, flushes);
-    let answer = vet(rt, alloc, &mut reader, &mut writer, 4, 2);
-    ended(answer, due, &writer, VERDICTS)
+/// A run over all of these lines, by two seats or workers, that ends so with this output.
+fn whole_run(lines: &'static [u8], due: End, output: &'static [u8]) -> Run {
+    Run {
+        lines,
+        bundles: 4,
+        number: 2,
+        due,
+        unread: 0,
+        output,
+    }
+}
+
+/// A script and lines of chunks end as they should with such a writer.
+fn are_flushed<T: Threads + Wait + Sync>(rt: &T, alloc: Global, row: &Flush) -> bool {
+    let (size, write_error, flush_error, due, all) = *row;
+    let replayed = whole_run(SCRIPT, due, if all { REPLIES } else { b"" });
+    let vetted = whole_run(CHUNKS, due, if all { VERDICTS } else { b"" });
+    replayed.is_replayed(alloc, Slow::new(alloc, size, write_error, flush_error))
+        && vetted.is_vetted(rt, alloc, Slow::new(alloc, size, write_error, flush_error))
 }
 
 /// The output is flushed once, after all of it was written, whatever the sizes of writes; a flush that fails is a failed write.
 #[test]
 fn flushed(rt: HostRuntime) -> Result<(), Fail> {
-    for (size, flushes, due) in &FLUSHES {
-        try_flush(&rt, rt.alloc(), *size, *flushes, *due)?;
+    let mut row = 0u32;
+    for flush in &FLUSHES {
+        row = row.wrapping_add(1);
+        right(are_flushed(&rt, rt.alloc(), flush), row)?;
     }
     Ok(())
 }
 
-/// A read that fails with an error which elsewhere means the end of the input, and a write that fails with one which elsewhere
-/// means that nothing was taken.
-#[test]
-fn other_errors(rt: HostRuntime) -> Result<(), Fail> {
+/// A read that fails with an error which elsewhere means the end of the input.
+fn is_read_failed(alloc: Global) -> bool {
     let mut reader = Failing {
         kind: ErrorKind::UnexpectedEof,
     };
-    let mut writer = Slow::new(rt.alloc(), 9, true);
-    let answer = replay(rt.alloc(), &mut reader, &mut writer, 4, 1);
-    ended(answer, Err(ReplayFault::ReadFailed), &writer, b"")?;
-    let mut reader = SCRIPT;
-    let mut writer = Failing {
-        kind: ErrorKind::WriteZero,
-    };
-    let answer = replay(rt.alloc(), &mut reader, &mut writer, 4, 1);
-    right(answer == Err(ReplayFault::WriteFailed), 2)
+    let mut writer = Slow::new(alloc, 9, None, None);
+    let end = replay(alloc, &mut reader, &mut writer, 4, 1);
+    end == Err(ReplayFault::ReadFailed) && writer.has(b"")
 }
 
-/// Checks that a call on a bad line ended as expected: if the numbers are out of range, nothing was read or written.
-fn ended_by_numbers(
-    answer: Result<(), ReplayFault>,
-    due: Result<(), ReplayFault>,
-    writer: &Slow,
-    rest: &[u8],
-) -> Result<(), Fail> {
-    let owed: &[u8] = if due.is_ok() { b"bad line\n" } else { b"" };
-    ended(answer, due, writer, owed)?;
-    right(rest.is_empty() == due.is_ok(), 1)
+#[test]
+fn read_fails(rt: HostRuntime) -> Result<(), Fail> {
+    right(is_read_failed(rt.alloc()), 1)
 }
 
-/// Numbers of bundles and of seats, and how a script ends.
-static SEATS: [(u32, u32, Result<(), ReplayFault>); 8] = [
-    (0, 1, Err(ReplayFault::BadSize)),
-    (1, 0, Err(ReplayFault::BadSize)),
-    (2_097_153, 257, Err(ReplayFault::BadSize)),
-    (2, 0, Err(ReplayFault::BadSeats)),
-    (2_097_152, 257, Err(ReplayFault::BadSeats)),
-    (2, 1, Ok(())),
-    (524_288, 64, Ok(())),
-    (2_097_152, 256, Ok(())),
+/// The number of bundles; the number of seats, and how a script ends; the number of workers, and how vetting ends.
+type Numbers = (u32, u32, End, u32, End);
+
+#[rattlefmt::skip]
+static NUMBERS: [Numbers; 8] = [
+    (0, 1, Err(ReplayFault::BadSize), 1, Err(ReplayFault::BadSize)),
+    (1, 0, Err(ReplayFault::BadSize), 0, Err(ReplayFault::BadSize)),
+    (2_097_153, 257, Err(ReplayFault::BadSize), 17, Err(ReplayFault::BadSize)),
+    (2, 0, Err(ReplayFault::BadSeats), 0, Err(ReplayFault::BadWorkers)),
+    (2_097_152, 257, Err(ReplayFault::BadSeats), 17, Err(ReplayFault::BadWorkers)),
+    (2, 1, Ok(()), 1, Ok(())),
+    (524_288, 64, Ok(()), 4, Ok(())),
+    (2_097_152, 256, Ok(()), 16, Ok(())),
 ];
 
-/// The number of bundles is tested before that of seats, and both before anything is read.
-#[test]
-fn seats(rt: HostRuntime) -> Result<(), Fail> {
-    for (bundles, seats, due) in &SEATS {
-        let mut reader = b"bad".as_slice();
-        let mut writer = Slow::new(rt.alloc(), 9, true);
-        let answer = replay(rt.alloc(), &mut reader, &mut writer, *bundles, *seats);
-        ended_by_numbers(answer, *due, &writer, reader)?;
+/// A run on a bad line that ends so: if a number is out of range, nothing is read or written.
+fn run_of_numbers(bundles: u32, number: u32, due: End) -> Run {
+    Run {
+        lines: b"bad",
+        bundles,
+        number,
+        due,
+        unread: if due.is_ok() { 0 } else { 3 },
+        output: if due.is_ok() { b"bad line\n" } else { b"" },
     }
-    Ok(())
 }
 
-/// Numbers of bundles and of workers, and how vetting ends.
-static WORKERS: [(u32, u32, Result<(), ReplayFault>); 7] = [
-    (0, 1, Err(ReplayFault::BadSize)),
-    (1, 0, Err(ReplayFault::BadSize)),
-    (2_097_153, 17, Err(ReplayFault::BadSize)),
-    (2, 0, Err(ReplayFault::BadWorkers)),
-    (2_097_152, 17, Err(ReplayFault::BadWorkers)),
-    (2, 1, Ok(())),
-    (2_097_152, 16, Ok(())),
-];
+/// A script and lines of chunks end as they should with such numbers.
+fn are_ended<T: Threads + Wait + Sync>(rt: &T, alloc: Global, row: &Numbers) -> bool {
+    let (bundles, seats, replay_due, workers, vet_due) = *row;
+    let replayed = run_of_numbers(bundles, seats, replay_due);
+    let vetted = run_of_numbers(bundles, workers, vet_due);
+    replayed.is_replayed(alloc, Slow::new(alloc, 9, None, None))
+        && vetted.is_vetted(rt, alloc, Slow::new(alloc, 9, None, None))
+}
 
-/// The number of bundles is tested before that of workers, and both before anything is read.
+/// The number of bundles is tested before that of seats or of workers, and both before anything is read.
 #[test]
-fn workers(rt: HostRuntime) -> Result<(), Fail> {
-    for (bundles, workers, due) in &WORKERS {
-        let mut reader = b"bad".as_slice();
-        let mut writer = Slow::new(rt.alloc(), 9, true);
-        let answer = vet(
-            &rt,
-            rt.alloc(),
-            &mut reader,
-            &mut writer,
-            *bundles,
-            *workers,
-        );
-        ended_by_numbers(answer, *due, &writer, reader)?;
+fn numbers(rt: HostRuntime) -> Result<(), Fail> {
+    let mut row = 0u32;
+    for numbers in &NUMBERS {
+        row = row.wrapping_add(1);
+        right(are_ended(&rt, rt.alloc(), numbers), row)?;
     }
     Ok(())
 }
 
 /// Whether a flush that fails with an error of this kind reports that the pipe is closed.
-fn is_closed_by(kind: ErrorKind) -> bool {
-    let mut writer = Piped::new(Failing { kind });
+fn is_closed_by(alloc: Global, kind: ErrorKind) -> bool {
+    let mut writer = Piped::new(Slow::new(alloc, 9, None, Some(kind)));
     writer.flush().is_err() && writer.is_closed()
 }
 
 /// Only the error of a closed pipe reports that it is closed.
 #[test]
-fn closed(rt: HostRuntime) {
-    for (kind, owed) in [
-        (ErrorKind::BrokenPipe, true),
-        (ErrorKind::StorageFull, false),
-        (ErrorKind::Interrupted, false),
-        (ErrorKind::Other, false),
-    ] {
-        assert!(rt; is_closed_by(kind) == owed);
-    }
+fn closed(rt: HostRuntime) -> Result<(), Fail> {
+    let alloc = rt.alloc();
+    let is_right = is_closed_by(alloc, ErrorKind::BrokenPipe)
+        && !is_closed_by(alloc, ErrorKind::StorageFull)
+        && !is_closed_by(alloc, ErrorKind::Interrupted)
+        && !is_closed_by(alloc, ErrorKind::Other);
+    right(is_right, 1)
 }

@@ -1,9 +1,9 @@
-//! Two workers at once, and numbers of workers that are refused.
+//! Two workers at once.
 
 use crate::lower::rows::right;
 use nc_vet::VetFault;
-use nc_work::{Gate, Job, Open, Verdict, WorkFault, vet_all};
-use std::alloc::{AllocError, Global};
+use nc_work::{Gate, Job, Verdict, vet_all};
+use std::alloc::Global;
 use std::sync::Wait;
 use std::sync::atomic::{AtomicBool, Ordering};
 use std::test::Fail;
@@ -46,26 +46,23 @@ impl Gate for Until {
     }
 }
 
-/// A job of nops, except for the first byte.
-fn job(alloc: Global, first: u8) -> Result<Job, AllocError> {
+/// A job of 32 times this byte. Where there is no memory for it, it is empty, and the test fails by the verdict.
+fn job(alloc: Global, byte: u8) -> Job {
     let mut code = Vec::new(alloc);
-    code.resize(32, 0x90)?;
-    if let Some(place) = code.get_mut(0) {
-        *place = first;
-    }
-    Ok(Job {
+    let _is_whole = code.resize(32, byte);
+    Job {
         base: BASE,
         limit: LIMIT,
         code,
-    })
+    }
 }
 
-/// One chunk with an instruction that isn't permitted, and one that is valid.
-fn bad_and_good(alloc: Global) -> Result<Vec<Job>, AllocError> {
+/// Jobs of returns, which aren't permitted, and of nops.
+fn bad_and_good(alloc: Global) -> Vec<Job> {
     let mut jobs = Vec::new(alloc);
-    jobs.push(job(alloc, 0xC3)?)?;
-    jobs.push(job(alloc, 0x90)?)?;
-    Ok(jobs)
+    let _is_bad = jobs.push(job(alloc, 0xC3));
+    let _is_good = jobs.push(job(alloc, 0x90));
+    jobs
 }
 
 /// The first chunk is refused at its base, and the second one is valid.
@@ -86,34 +83,18 @@ fn judge<G: Gate, R: Threads + Wait + Sync>(rt: &R, jobs: Vec<Job>, gate: &G) ->
 }
 
 /// Holds one of two jobs until the other is done: whether it wasn't held too long, and both jobs get the expected verdicts.
-fn are_at_once<R: Threads + Wait + Sync + AllocGlobal>(rt: &R, held: usize) -> Result<bool, Fail> {
-    let jobs = bad_and_good(rt.alloc())?;
+fn are_at_once<R: Threads + Wait + Sync>(rt: &R, alloc: Global, held: usize) -> bool {
     let gate = Until {
         held,
         other: 1usize.saturating_sub(held),
         done: AtomicBool::new(false),
         late: AtomicBool::new(false),
     };
-    Ok(judge(rt, jobs, &gate) && !gate.late.load(Ordering::SeqCst))
+    judge(rt, bad_and_good(alloc), &gate) && !gate.late.load(Ordering::SeqCst)
 }
 
 #[test]
 fn two_at_once(rt: HostRuntime) -> Result<(), Fail> {
-    right(are_at_once(&rt, 0)?, 1)?;
-    right(are_at_once(&rt, 1)?, 2)
-}
-
-/// This number of workers is refused, and both jobs are given back.
-fn come_back<R: Threads + Wait + Sync + AllocGlobal>(rt: &R, workers: u32) -> Result<bool, Fail> {
-    match vet_all(rt, bad_and_good(rt.alloc())?, workers, &Open) {
-        Ok(_) => Ok(false),
-        Err((jobs, fault)) => Ok(fault == WorkFault::BadWorkers && jobs.len() == 2),
-    }
-}
-
-#[test]
-fn bad_workers(rt: HostRuntime) -> Result<(), Fail> {
-    right(come_back(&rt, 0)?, 0)?;
-    right(come_back(&rt, 17)?, 17)?;
-    right(come_back(&rt, u32::MAX)?, u32::MAX)
+    let alloc = rt.alloc();
+    right(are_at_once(&rt, alloc, 0) && are_at_once(&rt, alloc, 1), 1)
 }

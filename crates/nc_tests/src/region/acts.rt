@@ -1,25 +1,28 @@
 //! The acts that a region tells, their order, and the settlings among them.
 ghost use Rattle.std.specs.Prelude.{◌≡◌};
+ghost use Rattle.nc_region.specs.Region.{IsNew};
 
-use crate::region::calls::{Calls, is_created};
-use crate::region::fixtures::chunk;
-use crate::region::steps::{Step, Steps, creates, take_both};
-use crate::region::trial::{Telling, Trial, try_in_region};
+use crate::lower::rows::right;
+use crate::region::calls::Calls;
+use crate::region::fixtures::one_seat;
+use crate::region::steps::{Step, creates, take_steps};
+use crate::region::telling::{Telling, plain};
 use nc_calls::law_of_calls;
 use nc_gens::{Gens, Pass};
-use nc_region::{Act, Acts, DeleteFault, Entry, ModifyFault, RegionOf, law_of_schedules};
+use nc_region::{Act, Acts, DeleteFault, Entry, ModifyFault, Recorder, RegionOf, law_of_schedules};
 use std::alloc::Global;
+use std::slice::Iter;
 use std::test::Fail;
 
 /// The address of the chunk.
 const BASE: u32 = 0x10020;
 
+/// The limit of the region, which has 8 bundles.
+const LIMIT: u32 = 0x10100;
+
 /// The first bytes of the chunk: a stop, a jump of two bytes, an instruction of five; nops follow.
 #[rattlefmt::skip]
 static FRONT: [u8; 8] = [0xF4, 0xEB, 0xFE, 0xB8, 1, 0, 0, 0];
-
-/// The limit of the region, which has 8 bundles.
-const LIMIT: u32 = 0x10100;
 
 /// The unmarked places of the chunk: all but the first byte of each instruction.
 static UNMARKED: [u32; 5] = [0x10022, 0x10024, 0x10025, 0x10026, 0x10027];
@@ -48,37 +51,6 @@ static PATCH_OWES: [Entry; 14] = [
     Entry::Did(Act::Put(0x10023, 0xB8)),
 ];
 
-/// The puts of this code's bytes at bundle starts, or of its other bytes.
-fn owe_puts(entries: &mut Vec<Entry>, code: &[u8], at_starts: bool) -> Result<(), Fail> {
-    let mut at = BASE;
-    for byte in code {
-        if (at % 32 == 0) == at_starts {
-            entries.push(Entry::Did(Act::Put(at, *byte)))?;
-        }
-        at = at.wrapping_add(1);
-    }
-    Ok(())
-}
-
-/// The expected entries of a creation of this code: the puts that aren't at bundle starts, a settling, the marks, the puts at
-/// bundle starts.
-fn owe_create(entries: &mut Vec<Entry>, code: &[u8], len: u32) -> Result<(), Fail> {
-    owe_puts(entries, code, false)?;
-    entries.push(Entry::Settled)?;
-    entries.push(Entry::Did(Act::MarkSpan(BASE, len)))?;
-    owe_puts(entries, code, true)
-}
-
-/// The stops of a deletion at the marked places.
-fn owe_stops(entries: &mut Vec<Entry>, len: u32) -> Result<(), Fail> {
-    for at in BASE..BASE.saturating_add(len) {
-        if !UNMARKED.contains(&at) {
-            entries.push(Entry::Did(Act::Put(at, 0xF4)))?;
-        }
-    }
-    Ok(())
-}
-
 /// The remaining expected entries of a deletion, a look that frees nothing, and one that frees the chunk.
 #[rattlefmt::skip]
 static THEN_OWES: [Entry; 9] = [
@@ -93,99 +65,197 @@ static THEN_OWES: [Entry; 9] = [
     Entry::Did(Act::Look),
 ];
 
-/// The expected entries of the whole life of a chunk.
-fn owed(alloc: Global, code: &[u8], len: u32) -> Result<Vec<Entry>, Fail> {
-    let mut owed = Vec::new(alloc);
-    owe_create(&mut owed, code, len)?;
-    owed.extend_from_slice(&PATCH_OWES)?;
-    // stops at the marked places, a settling, stops at the others, the stamp
-    owe_stops(&mut owed, len)?;
-    owed.extend_from_slice(&THEN_OWES)?;
-    owed.push(Entry::Did(Act::UnmarkSpan(BASE, len)))?;
-    Ok(owed)
+/// After the creation: the patch, a patch and a deletion that are refused, the deletion, and a reclaim that frees nothing.
+static UNTIL_RETIRED: [Step<'static>; 5] = [
+    Step::Modify(BASE, PATCH, Ok(())),
+    Step::Modify(BASE, &[0xC3], Err(ModifyFault::NotPermitted)),
+    Step::Delete(0x10000, Err(DeleteFault::NoChunk)),
+    Step::Delete(BASE, Ok(1)),
+    Step::Reclaim(0),
+];
+
+/// Once the seat has checked in: a reclaim.
+static UNTIL_FREE: [Step<'static>; 1] = [Step::Reclaim(1)];
+
+/// The next entry of a log is this one.
+fn is_next(log: &mut Iter<'_, Entry>, owed: Entry) -> bool {
+    log.next() == Some(&owed)
 }
 
-/// After the creation: the patch, a patch and a deletion that are refused, the deletion, and a reclaim that frees nothing; then
-/// a reclaim once the seat has checked in.
-static LIFE: Steps<'static> = Steps {
-    before: &[
-        Step::Modify(BASE, PATCH, Ok(())),
-        Step::Modify(BASE, &[0xC3], Err(ModifyFault::NotPermitted)),
-        Step::Delete(0x10000, Err(DeleteFault::NoChunk)),
-        Step::Delete(BASE, Ok(1)),
-        Step::Reclaim(0),
-    ],
-    after: &[Step::Reclaim(1)],
-};
-
-/// The acts told are those of the log, in its order.
-fn tells_as_logged<A: Telling>(alloc: Global, acts: &A) -> Result<bool, Fail> {
-    let mut logged = Vec::new(alloc);
-    for entry in acts.logged().unwrap_or(&[]) {
-        if let Entry::Did(act) = entry {
-            logged.push(*act)?;
+/// The next entries of a log are these.
+fn are_next(log: &mut Iter<'_, Entry>, owed: &[Entry]) -> bool {
+    for entry in owed {
+        if !is_next(log, *entry) {
+            return false;
         }
     }
-    Ok(acts.told() == Some(logged.as_slice()))
+    true
 }
 
-/// These entries are logged, and the acts among them told.
-fn has_logged<A: Telling>(alloc: Global, acts: &A, owed: &[Entry]) -> Result<(), Fail> {
-    if acts.logged() == Some(owed) && tells_as_logged(alloc, acts)? {
-        return Ok(());
+/// The next entries are the puts of the chunk's bytes at bundle starts, or of its other bytes.
+fn are_puts(log: &mut Iter<'_, Entry>, len: usize, at_starts: bool) -> bool {
+    let mut at = BASE;
+    for i in 0..len {
+        let byte = *FRONT.get(i).unwrap_or(&0x90);
+        if (at % 32 == 0) == at_starts && !is_next(log, Entry::Did(Act::Put(at, byte))) {
+            return false;
+        }
+        at = at.wrapping_add(1);
     }
-    Err(Fail::new(format_args!("{:?} and not {owed:?}", acts.logged())))
+    true
 }
 
-/// Creates the chunk, and returns the expected entries of its whole life.
-fn create<C: Calls>(
-    alloc: Global,
-    region: &mut C,
-    bundles: usize,
-    len: u32,
-) -> Result<Vec<Entry>, Fail> {
-    let vetted = chunk(alloc, BASE, LIMIT, bundles, &FRONT)?;
-    let owed = owed(alloc, vetted.code(), len)?;
-    if is_created(region, vetted) {
-        return Ok(owed);
+/// The next entries are those of the chunk's creation: the puts that aren't at bundle starts, a settling, the marks, the puts
+/// at bundle starts.
+fn are_of_creation(log: &mut Iter<'_, Entry>, len: u32) -> bool {
+    are_puts(log, len as usize, false)
+        && is_next(log, Entry::Settled)
+        && is_next(log, Entry::Did(Act::MarkSpan(BASE, len)))
+        && are_puts(log, len as usize, true)
+}
+
+/// The next entries are the stops of a deletion at the marked places.
+fn are_stops(log: &mut Iter<'_, Entry>, len: u32) -> bool {
+    for at in BASE..BASE.saturating_add(len) {
+        if !UNMARKED.contains(&at) && !is_next(log, Entry::Did(Act::Put(at, 0xF4))) {
+            return false;
+        }
     }
-    Err(Fail::new("not created"))
+    true
 }
 
-/// A chunk's life, until its span is free.
-#[derive(Drop)]
+/// The entries are those of the whole life of a chunk: creation, patch, deletion (stops at the marked places, a settling, stops
+/// at the others, the stamp), and two reclaims.
+fn are_of_life(entries: &[Entry], len: u32) -> bool {
+    let mut log = entries.iter();
+    let created = are_of_creation(&mut log, len);
+    let patched = are_next(&mut log, &PATCH_OWES);
+    let stopped = are_stops(&mut log, len);
+    let freed = are_next(&mut log, &THEN_OWES);
+    let unmarked = is_next(&mut log, Entry::Did(Act::UnmarkSpan(BASE, len)));
+    created && patched && stopped && freed && unmarked && log.next().is_none()
+}
+
+/// An entry of a log is a settling, or the next act told.
+fn is_told(acts: &mut Iter<'_, Act>, entry: &Entry) -> bool {
+    match entry {
+        Entry::Did(act) => acts.next() == Some(act),
+        Entry::Settled => true,
+    }
+}
+
+/// The next acts told are those among these entries, in their order.
+fn are_next_told(acts: &mut Iter<'_, Act>, entries: &[Entry]) -> bool {
+    for entry in entries {
+        if !is_told(acts, entry) {
+            return false;
+        }
+    }
+    true
+}
+
+/// The acts told are those of the log, in its order.
+fn are_told(told: &[Act], entries: &[Entry]) -> bool {
+    let mut acts = told.iter();
+    are_next_told(&mut acts, entries) && acts.next().is_none()
+}
+
+/// A chunk's life, until its span is free: the number of bundles of the chunk and its length, the number of acts for which there
+/// is room, and whether all are told and logged.
 struct Life {
-    alloc: Global,
     bundles: usize,
     len: u32,
+    room: usize,
+    is_told: bool,
+    is_logged: bool,
 }
 
-impl Trial for Life {
-    fn run<A: Acts + Telling + Drop>(
-        self,
-        region: &mut RegionOf<A>,
+impl Life {
+    /// What is told and logged is all of the life, or nothing where there wasn't room for all.
+    fn is_owed(&self, told: Option<&[Act]>, logged: Option<&[Entry]>) -> bool {
+        let Some(entries) = logged else {
+            return told.is_none() && !self.is_logged;
+        };
+        let tells = match told {
+            Some(acts) => self.is_told && are_told(acts, entries),
+            None => !self.is_told,
+        };
+        tells && self.is_logged && are_of_life(entries, self.len)
+    }
+
+    /// Creates, patches, deletes and reclaims the chunk.
+    fn run<C: Calls>(&self, alloc: Global, region: &mut C, gens: &Gens, pass: &mut Pass) -> bool
+        requires { pass.old.table ≡ gens.now }
+    {
+        let created = creates(alloc, region, LIMIT, BASE, self.bundles, &FRONT, Ok(()));
+        let retired = take_steps(alloc, region, LIMIT, &UNTIL_RETIRED);
+        gens.check_in(pass);
+        let freed = take_steps(alloc, region, LIMIT, &UNTIL_FREE);
+        created && retired && freed
+    }
+
+    /// Runs in a new region over these acts, which then are as owed.
+    fn is_as_owed<A: Acts + Telling + Drop>(
+        &self,
+        alloc: Global,
+        acts: A,
         gens: &Gens,
-        pass: Pass,
-    ) -> Result<(), Fail> {
-        let mut pass = pass;
-        let owed = create(self.alloc, region, self.bundles, self.len)?;
-        take_both(self.alloc, region, LIMIT, gens, &mut pass, &LIFE)?;
-        has_logged(self.alloc, region.acts(), &owed)
+        pass: &mut Pass,
+    ) -> bool
+        requires { IsNew (A.marked acts) × (pass.old.table ≡ gens.now) }
+    {
+        let mut region = RegionOf::over(alloc, acts);
+        let has_run = self.run(alloc, &mut region, gens, pass);
+        let acts = region.acts();
+        has_run && self.is_owed(acts.told(), acts.logged())
+    }
+
+    /// Runs in a new region over these acts, which are recorded.
+    fn is_recorded_over<A: Acts + Drop>(
+        &self,
+        alloc: Global,
+        acts: A,
+        gens: &Gens,
+        pass: &mut Pass,
+    ) -> bool
+        requires { IsNew (A.marked acts) × (pass.old.table ≡ gens.now) }
+    {
+        match Recorder::new(alloc, acts, self.room) {
+            Ok(acts) => self.is_as_owed(alloc, acts, gens, pass),
+            Err(_) => false,
+        }
+    }
+
+    /// Runs in a new region that is recorded.
+    fn is_recorded(&self, alloc: Global) -> bool {
+        let Ok((gens, keeper, mut pass)) = one_seat(alloc) else {
+            return false;
+        };
+        match plain(alloc, 8, &gens, keeper) {
+            Some(acts) => self.is_recorded_over(alloc, acts, &gens, &mut pass),
+            None => false,
+        }
     }
 }
 
-/// The number of bundles of the chunk, and its length.
-static SIZES: [(usize, u32); 3] = [(1, 32), (2, 64), (3, 96)];
+/// The life of a chunk of one bundle has 79 acts and 85 entries, for twice as many of which there is room as for acts.
+#[rattlefmt::skip]
+static LIVES: [Life; 7] = [
+    Life { bundles: 1, len: 32, room: 300, is_told: true, is_logged: true },
+    Life { bundles: 2, len: 64, room: 300, is_told: true, is_logged: true },
+    Life { bundles: 3, len: 96, room: 300, is_told: true, is_logged: true },
+    Life { bundles: 1, len: 32, room: 79, is_told: true, is_logged: true },
+    Life { bundles: 1, len: 32, room: 78, is_told: false, is_logged: true },
+    Life { bundles: 1, len: 32, room: 43, is_told: false, is_logged: true },
+    Life { bundles: 1, len: 32, room: 42, is_told: false, is_logged: false },
+];
 
-/// Tries the lives of chunks of these sizes.
-fn try_lives(alloc: Global, rows: &[(usize, u32)]) -> Result<(), Fail> {
-    for (bundles, len) in rows {
-        let life = Life {
-            alloc,
-            bundles: *bundles,
-            len: *len,
-        };
-        try_in_region(alloc, 8, 300, life)?;
+/// Tries each life.
+fn try_lives(alloc: Global, lives: &[Life]) -> Result<(), Fail> {
+    let mut row = 0u32;
+    for life in lives {
+        row = row.wrapping_add(1);
+        right(life.is_recorded(alloc), row)?;
     }
     Ok(())
 }
@@ -195,63 +265,5 @@ fn try_lives(alloc: Global, rows: &[(usize, u32)]) -> Result<(), Fail> {
 fn order_of_acts(rt: HostRuntime) -> Result<(), Fail> {
     law_of_schedules();
     law_of_calls();
-    try_lives(rt.alloc(), &SIZES)
-}
-
-/// The bases of chunks of one bundle, and whether the region still tells and still logs after each. There is room for 34 acts
-/// and for 68 entries; each creation takes 33 acts and 34 entries.
-static UNTIL_FULL: [(u32, bool, bool); 3] = [
-    (0x10000, true, true),
-    (0x10020, false, true),
-    (0x10040, false, false),
-];
-
-/// Creates a chunk of one bundle at this base: whether the region then tells and logs as expected.
-fn fills<A: Acts + Telling + Drop>(
-    alloc: Global,
-    region: &mut RegionOf<A>,
-    base: u32,
-    tells: bool,
-    logs: bool,
-) -> Result<bool, Fail> {
-    let created = creates(alloc, region, LIMIT, base, 1, &[], Ok(()))?;
-    let acts = region.acts();
-    Ok(created && acts.told().is_some() == tells && acts.logged().is_some() == logs)
-}
-
-/// After each of these creations the region tells and logs as expected.
-fn fill<A: Acts + Telling + Drop>(
-    alloc: Global,
-    region: &mut RegionOf<A>,
-    rows: &[(u32, bool, bool)],
-) -> Result<(), Fail> {
-    for (base, tells, logs) in rows {
-        if !fills(alloc, region, *base, *tells, *logs)? {
-            return Err(Fail::new(format_args!("at {base:x} not {tells} and {logs}")));
-        }
-    }
-    Ok(())
-}
-
-/// Chunks created one after the other, until the region neither tells nor logs.
-#[derive(Drop)]
-struct Filling {
-    alloc: Global,
-}
-
-impl Trial for Filling {
-    fn run<A: Acts + Telling + Drop>(
-        self,
-        region: &mut RegionOf<A>,
-        _gens: &Gens,
-        _pass: Pass,
-    ) -> Result<(), Fail> {
-        fill(self.alloc, region, &UNTIL_FULL)
-    }
-}
-
-#[test]
-fn full_recorder(rt: HostRuntime) -> Result<(), Fail> {
-    let alloc = rt.alloc();
-    try_in_region(alloc, 8, 34, Filling { alloc })
+    try_lives(rt.alloc(), &LIVES)
 }

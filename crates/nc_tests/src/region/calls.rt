@@ -90,8 +90,3 @@ impl<R: Wait, A: Acts + Drop> Calls for Locked<'_, '_, R, A> {
         self.shared.chunk_count(self.rt)
     }
 }
-
-/// Creates a chunk, and returns whether that succeeded.
-pub(crate) fn is_created<C: Calls>(region: &mut C, vetted: Vetted) -> bool {
-    region.created(vetted).is_ok()
-}

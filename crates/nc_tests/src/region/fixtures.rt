@@ -1,76 +1,74 @@
 //! Building blocks of the tests.
-ghost use Rattle.std.specs.Prelude.{◌≡◌, IfOk};
-ghost use Rattle.nc_region.specs.Region.{IsNew};
+ghost use Rattle.std.specs.Prelude.{◌≡◌, IfOk, IfSome, IsTrue};
 
-use nc_gens::{Gens, Keeper};
-use nc_region::{Plain, Region, Shared};
-use nc_text::Text;
+use nc_gens::{Gens, GensFault, Keeper, Pass};
+use nc_region::{Acts, Region, RegionOf, Shared};
 use nc_vet::{Vetted, vet};
 use std::alloc::Global;
-use std::test::Fail;
 
-/// The limit of a region of 4 bundles.
-pub(crate) const LIMIT: u32 = 0x10080;
+/// A table of one seat, with its keeper and its pass.
+pub(crate) fn one_seat(alloc: Global) -> Result<(Gens, Keeper, Pass), GensFault>
+    ensures { IfOk result (λ r. (r.1.table ≡ r.0) × (r.2.table ≡ r.0)) }
+{
+    let (gens, keeper, mut passes) = Gens::new(alloc, 1)?;
+    let pass = passes.remove(0);
+    Ok((gens, keeper, pass))
+}
 
-/// A vetted chunk that begins with these bytes and is filled with nops.
+/// These bytes, filled up to this length with nops. Where there is no memory for them, it is shorter, and refused as a chunk.
+fn filled(alloc: Global, len: usize, front: &[u8]) -> Vec<u8> {
+    let mut code = Vec::new(alloc);
+    let _is_begun = code.extend_from_slice(front);
+    let _is_whole = code.resize(len, 0x90);
+    code
+}
+
+/// A vetted chunk that begins with these bytes and is filled with nops; nothing if it is refused.
 pub(crate) fn chunk(
     alloc: Global,
     base: u32,
     limit: u32,
     bundles: usize,
     front: &[u8],
-) -> Result<Vetted, Fail> {
-    let mut code = Vec::new(alloc);
-    code.extend_from_slice(front)?;
-    code.resize(bundles.saturating_mul(32), 0x90)?;
-    match vet(base, limit, code) {
-        Ok(vetted) => Ok(vetted),
-        Err((_, fault)) => Err(Fail::new(format_args!("{fault:?}"))),
-    }
+) -> Option<Vetted> {
+    let code = filled(alloc, bundles.saturating_mul(32), front);
+    vet(base, limit, code).ok()
 }
 
-/// A region of this size that doesn't tell its acts.
-pub(crate) fn region<'g>(
-    alloc: Global,
-    bundles: u32,
-    gens: &'g Gens,
-    keeper: Keeper,
-) -> Result<Region<'g>, Fail>
-    requires { keeper.table ≡ gens.now }
-    ensures { IfOk result (λ r. r.keeper.table ≡ gens.now) }
+/// Creates a chunk, and returns whether that succeeded.
+fn is_created<A: Acts + Drop>(region: &mut RegionOf<A>, vetted: Vetted) -> bool
+    ensures { IsTrue result → region.new.keeper ≡ region.old.keeper }
 {
-    match Region::new(alloc, bundles, gens, keeper) {
-        Ok(region) => Ok(region),
-        Err((_, fault)) => Err(Fail::new(format_args!("{fault:?}"))),
-    }
+    region.create(vetted).is_ok()
 }
 
-/// A region of this size that doesn't tell its acts, for threads to share.
+/// A region for threads to share, once this chunk is created in it.
+fn share<'g>(region: Region<'g>, vetted: Vetted) -> Option<Shared<'g>>
+    ensures { IfSome result (λ s. s ≡ region.entry.keeper.table) }
+{
+    let mut region = region;
+    if is_created(&mut region, vetted) {
+        return Some(Shared::new(region));
+    }
+    None
+}
+
+/// A region of this size for threads to share, in which a chunk of one bundle was created at this base before: a jump to itself,
+/// and nops.
 pub(crate) fn shared<'g>(
     alloc: Global,
     bundles: u32,
+    base: u32,
     gens: &'g Gens,
     keeper: Keeper,
-) -> Result<Shared<'g>, Fail>
+) -> Option<Shared<'g>>
     requires { keeper.table ≡ gens.now }
-    ensures { IfOk result (λ s. s ≡ gens.now) }
+    ensures { IfSome result (λ s. s ≡ gens.now) }
 {
-    Ok(Shared::new(region(alloc, bundles, gens, keeper)?))
-}
-
-/// Acts for a new region of this size, which aren't told.
-pub(crate) fn plain<'g>(
-    alloc: Global,
-    bundles: u32,
-    gens: &'g Gens,
-    keeper: Keeper,
-) -> Result<Plain<'g>, Fail>
-    requires { keeper.table ≡ gens.now }
-    ensures new { IfOk result (λ p. IsNew p.marked) }
-    ensures table { IfOk result (λ p. p.keeper.table ≡ gens.now) }
-{
-    match Text::new(alloc, bundles) {
-        Ok(text) => Ok(Plain::new(text, gens, keeper)),
-        Err(fault) => Err(Fail::new(format_args!("{fault:?}"))),
+    let limit = 0x10000u32.wrapping_add(bundles.wrapping_mul(32));
+    let vetted = chunk(alloc, base, limit, 1, &[0xEB, 0xFE])?;
+    match Region::new(alloc, bundles, gens, keeper) {
+        Ok(region) => share(region, vetted),
+        Err(_) => None,
     }
 }

@@ -1,12 +1,10 @@
 //! Tables of calls of a region, each with its expected result.
-ghost use Rattle.std.specs.Prelude.{◌≡◌};
 
 use crate::region::calls::Calls;
 use crate::region::fixtures::chunk;
-use nc_gens::{Gens, Pass};
 use nc_region::{CreateFault, DeleteFault, End, ModifyFault};
+use nc_vet::Vetted;
 use std::alloc::Global;
-use std::test::Fail;
 
 /// A call, with its expected result last.
 pub(crate) enum Step<'s> {
@@ -24,6 +22,14 @@ pub(crate) enum Step<'s> {
     Count(usize),
 }
 
+/// Whether the creation of a chunk has this result.
+fn is_answer<C: Calls>(region: &mut C, vetted: Vetted, due: Result<(), CreateFault>) -> bool {
+    match region.created(vetted) {
+        Ok(()) => due == Ok(()),
+        Err((_, fault)) => due == Err(fault),
+    }
+}
+
 /// Whether creating a chunk that begins with these bytes, for a region with this limit, has this result.
 pub(crate) fn creates<C: Calls>(
     alloc: Global,
@@ -33,11 +39,10 @@ pub(crate) fn creates<C: Calls>(
     bundles: usize,
     front: &[u8],
     due: Result<(), CreateFault>,
-) -> Result<bool, Fail> {
-    let vetted = chunk(alloc, base, limit, bundles, front)?;
-    match region.created(vetted) {
-        Ok(()) => Ok(due == Ok(())),
-        Err((_, fault)) => Ok(due == Err(fault)),
+) -> bool {
+    match chunk(alloc, base, limit, bundles, front) {
+        Some(vetted) => is_answer(region, vetted, due),
+        None => false,
     }
 }
 
@@ -50,57 +55,31 @@ fn walks<C: Calls>(region: &C, start: u32, choices: &[u32], places: &[u32], end:
 }
 
 /// Whether a call has its expected result.
-fn answers<C: Calls>(alloc: Global, region: &mut C, limit: u32, step: &Step) -> Result<bool, Fail> {
+fn answers<C: Calls>(alloc: Global, region: &mut C, limit: u32, step: &Step<'_>) -> bool {
     match step {
         Step::Create(base, bundles, front, due) => {
             creates(alloc, region, limit, *base, *bundles, front, *due)
         }
-        Step::Modify(at, new, due) => Ok(region.modified(*at, new) == *due),
-        Step::Delete(base, due) => Ok(region.deleted(*base) == *due),
-        Step::Walk(start, choices, places, end) => {
-            Ok(walks(region, *start, choices, places, *end))
-        }
-        Step::Reclaim(due) => Ok(region.reclaimed() == *due),
-        Step::Count(due) => Ok(region.counted() == *due),
+        Step::Modify(at, new, due) => region.modified(*at, new) == *due,
+        Step::Delete(base, due) => region.deleted(*base) == *due,
+        Step::Walk(start, choices, places, end) => walks(region, *start, choices, places, *end),
+        Step::Reclaim(due) => region.reclaimed() == *due,
+        Step::Count(due) => region.counted() == *due,
     }
 }
 
-/// Makes these calls in turn on a region with this limit, and checks that each has its expected result.
+/// Makes these calls in turn on a region with this limit, up to the first one that hasn't its expected result. Returns whether
+/// all have.
 pub(crate) fn take_steps<C: Calls>(
     alloc: Global,
     region: &mut C,
     limit: u32,
     steps: &[Step<'_>],
-) -> Result<(), Fail> {
-    for (i, step) in steps.iter().enumerate() {
-        if !answers(alloc, region, limit, step)? {
-            return Err(Fail::new(format_args!("call {i} of {} has another answer", steps.len())));
+) -> bool {
+    for step in steps {
+        if !answers(alloc, region, limit, step) {
+            return false;
         }
     }
-    Ok(())
-}
-
-/// Calls before a check-in and after it.
-pub(crate) struct Steps<'s> {
-    /// The calls before the check-in.
-    pub(crate) before: &'s [Step<'s>],
-    /// The calls after the check-in.
-    pub(crate) after: &'s [Step<'s>],
-}
-
-/// Makes the calls on a region with this limit, with a check-in in between.
-pub(crate) fn take_both<C: Calls>(
-    alloc: Global,
-    region: &mut C,
-    limit: u32,
-    gens: &Gens,
-    pass: &mut Pass,
-    steps: &Steps<'_>,
-) -> Result<(), Fail>
-    requires { pass.old.table ≡ gens.now }
-    ensures { pass.new.table ≡ gens.now }
-{
-    take_steps(alloc, region, limit, steps.before)?;
-    gens.check_in(pass);
-    take_steps(alloc, region, limit, steps.after)
+    true
 }
