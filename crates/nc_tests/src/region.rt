@@ -5,5 +5,6 @@ mod calls;
 mod check_in;
 pub mod fixtures;
 mod shared;
+mod sizes;
 mod steps;
 mod telling;

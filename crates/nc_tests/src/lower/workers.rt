@@ -1,8 +1,8 @@
-//! Two workers at once.
+//! Two workers at once, and numbers of workers that are refused.
 
 use crate::lower::rows::right;
 use nc_vet::VetFault;
-use nc_work::{Gate, Job, Verdict, vet_all};
+use nc_work::{Gate, Job, Open, Verdict, WorkFault, vet_all};
 use std::alloc::Global;
 use std::sync::Wait;
 use std::sync::atomic::{AtomicBool, Ordering};
@@ -97,4 +97,20 @@ fn are_at_once<R: Threads + Wait + Sync>(rt: &R, alloc: Global, held: usize) -> 
 fn two_at_once(rt: HostRuntime) -> Result<(), Fail> {
     let alloc = rt.alloc();
     right(are_at_once(&rt, alloc, 0) && are_at_once(&rt, alloc, 1), 1)
+}
+
+/// This number of workers is refused, and both jobs are given back.
+fn are_given_back<R: Threads + Wait + Sync>(rt: &R, alloc: Global, workers: u32) -> bool {
+    match vet_all(rt, bad_and_good(alloc), workers, &Open) {
+        Ok(_) => false,
+        Err((jobs, fault)) => fault == WorkFault::BadWorkers && jobs.len() == 2,
+    }
+}
+
+#[test]
+fn bad_workers(rt: HostRuntime) -> Result<(), Fail> {
+    for workers in [0, 17, u32::MAX] {
+        right(are_given_back(&rt, rt.alloc(), workers), workers)?;
+    }
+    Ok(())
 }

@@ -53,6 +53,22 @@ fn share<'g>(region: Region<'g>, vetted: Vetted) -> Option<Shared<'g>>
     None
 }
 
+/// A region of this size for threads to share, without chunks.
+pub(crate) fn shared_anew<'g>(
+    alloc: Global,
+    bundles: u32,
+    gens: &'g Gens,
+    keeper: Keeper,
+) -> Option<Shared<'g>>
+    requires { keeper.table ≡ gens.now }
+    ensures { IfSome result (λ s. s ≡ gens.now) }
+{
+    match Region::new(alloc, bundles, gens, keeper) {
+        Ok(region) => Some(Shared::new(region)),
+        Err(_) => None,
+    }
+}
+
 /// A region of this size for threads to share, in which a chunk of one bundle was created at this base before: a jump to itself,
 /// and nops.
 pub(crate) fn shared<'g>(

@@ -13,4 +13,4 @@ pub last_leaves-requires-after_bounds : goal.last_leaves-requires-after_bounds
 last_leaves-requires-after_bounds g c κs _ =
     let P : Pass → Type 0 = λ p. p.table ≡ c.args.shared.now in
     let before : All P c.args.passes.items = c.requires in
-    kept_back P c.args.passes.items c.check_in_beside.new.passes c.args.passes.len before c.check_in_beside.ensures
+    kept_back P c.args.passes.items c.check_in_beside-freed.new.passes c.args.passes.len before c.check_in_beside-freed.ensures
