@@ -1,0 +1,114 @@
+//! The program `nc_jobs`: jobs that users of this software wait for, on inputs that a seed makes, and a digest of all results.
+//!
+//! `bench/run` times it in two checkouts. `words` reads the command line, `pieces` the file of compiled code that inputs are
+//! made of, and `plan` follows a host's use of a region. Each job is in a file of its own:
+//!
+//! | Job | File |
+//! |---|---|
+//! | `jit` | `jit` |
+//! | `load` | `modules` |
+//! | `judge`, `faults` | `files` |
+//! | `lines`, `replay` | `texts` |
+#![tactic(auto)]
+
+mod digest;
+mod files;
+mod jit;
+mod modules;
+mod pieces;
+mod plan;
+mod random;
+mod texts;
+mod words;
+
+use clap::Error;
+use digest::Digest;
+use nc_command::arguments;
+use pieces::Pieces;
+use std::alloc::AllocError;
+use std::process::ExitCode;
+use std::rt::{Env, Files};
+use std::sync::Wait;
+use std::thread::Threads;
+use std::{env, fs, io};
+use words::{Ask, Job, asked};
+
+/// Does a job.
+fn do_job<R: Threads + Wait + Sync + AllocGlobal>(
+    rt: &R,
+    digest: &mut Digest,
+    pieces: &Pieces,
+    job: Job,
+    seed: u32,
+    count: u32,
+) -> Result<(), AllocError> {
+    let alloc = rt.alloc();
+    match job {
+        Job::Jit => jit::run_jit(alloc, digest, pieces, seed, count),
+        Job::Load => modules::run_load(alloc, digest, pieces, seed, count),
+        Job::Judge => files::run_judge(rt, alloc, digest, pieces, seed, count),
+        Job::Faults => files::run_faults(rt, alloc, digest, pieces, seed, count),
+        Job::Lines => texts::run_lines(rt, alloc, digest, pieces, seed, count),
+        Job::Replay => texts::run_replay(alloc, digest, pieces, seed, count),
+    }
+}
+
+/// Does a job, and prints the digest of its results.
+fn print_job<R: Threads + Wait + Sync + AllocGlobal + Print>(
+    rt: &R,
+    pieces: &Pieces,
+    job: Job,
+    ask: &Ask<'_>,
+) -> io::Result<()> {
+    let mut digest = Digest::new();
+    do_job(rt, &mut digest, pieces, job, ask.seed, ask.count)?;
+    let value = digest.value();
+    let name = job.name();
+    println!(rt; "{name} {value:016x}")
+}
+
+/// Does the job that is asked for, or each job.
+fn do_asked<R: Threads + Wait + Sync + AllocGlobal + Print + Files>(
+    rt: &R,
+    ask: &Ask<'_>,
+) -> io::Result<()> {
+    let file = fs::read(rt, ask.file)?;
+    let pieces = Pieces::new(rt.alloc(), file)?;
+    if let Some(job) = ask.job {
+        return print_job(rt, &pieces, job, ask);
+    }
+    for job in words::JOBS {
+        print_job(rt, &pieces, job, ask)?;
+    }
+    Ok(())
+}
+
+/// Prints a fault of the command line, or help, and returns the exit status.
+fn report_fault<R: Print + Eprint>(rt: &R, error: &Error) -> io::Result<ExitCode> {
+    error.print(rt)?;
+    Ok(ExitCode::from(if error.use_stderr() { 2 } else { 0 }))
+}
+
+/// Does what these words ask for.
+fn run_words<R: Threads + Wait + Sync + Files + Print + Eprint + AllocGlobal>(
+    rt: &R,
+    words: &[&str],
+) -> io::Result<ExitCode> {
+    let ask = match words::matches(rt.alloc(), words) {
+        Ok(found) => asked(&found),
+        Err(error) => return report_fault(rt, &error),
+    };
+    do_asked(rt, &ask)?;
+    Ok(ExitCode::SUCCESS)
+}
+
+/// The words of the command line, the program's own name first.
+fn all_words<R: Env + AllocGlobal>(rt: &R) -> io::Result<Vec<String>> {
+    Ok(env::args(rt)?.collect(rt.alloc())?)
+}
+
+fn main(rt: HostRuntime) -> io::Result<ExitCode> {
+    let words = all_words(&rt)?;
+    let arguments = arguments(rt.alloc(), &words)?;
+    run_words(&rt, arguments.as_slice())
+}
