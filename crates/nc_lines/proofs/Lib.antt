@@ -1,4 +1,5 @@
 pub mod Offered
+pub mod DigitValues
 pub mod Cuts
 pub mod Answered
 pub mod Steps

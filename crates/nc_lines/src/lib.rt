@@ -6,6 +6,7 @@
 #![tactic(auto)]
 
 mod batch;
+mod digits;
 mod fault;
 mod lines;
 mod responder;

@@ -5,8 +5,8 @@ ghost use Rattle.std.specs.Option.{option_map};
 ghost use Rattle.nc_lines.specs.Lines.{words_in};
 ghost use Rattle.nc_lines.specs.Words.{address_in, bytes_in, chunk_in, placed_in, address_and_bytes};
 
+use crate::digits::decode;
 use crate::lines::LINE_LIMIT;
-use hex::FromHexError;
 use std::alloc::{AllocError, Global};
 
 /// The words of a line, separated by single spaces; two adjacent spaces have an empty word between them.
@@ -37,10 +37,14 @@ fn bytes_of(alloc: Global, word: &[u8]) -> Result<Option<Vec<u8>>, AllocError>
     if word.len() == 1 && word[0] == b'-' {
         return Ok(Some(Vec::new(alloc)));
     }
-    match hex::decode(alloc, word) {
-        Ok(bytes) => Ok(Some(bytes)),
-        Err(FromHexError::OutOfMemory) => Err(AllocError),
-        Err(_) => Ok(None),
+    if word.len() % 2 != 0 {
+        return Ok(None);
+    }
+    let mut bytes = vec![in alloc; 0u8; word.len() / 2]?;
+    if decode(word, bytes.as_mut_slice()) {
+        Ok(Some(bytes))
+    } else {
+        Ok(None)
     }
 }
 
