@@ -1,5 +1,5 @@
 -- Lines of bytes that are cut at their ends, and what is kept of a line.
-use Rattle.std.proofs.Common.{◌≡◌, ◌≢◌, ◌++◌, ◌+◌, ◌<◌, ◌≤◌, ◌-◌, min, ℕ, Bool, true, false, eqb, cond, List, [], ◌∷◌, length, take, refl}
+use Rattle.std.proofs.Common.{◌≡◌, ◌≢◌, ◌++◌, ◌+◌, ◌<◌, ◌≤◌, ◌-◌, min, ℕ, zero, suc, slice_index, Bool, true, false, eqb, cond, List, [], ◌∷◌, length, take, refl}
 use Rattle.std.proofs.Common.{sym, ap, ◌∙◌, append_assoc, append-nil, arith}
 use Rattle.std.proofs.Common.{⊎_elim}
 use Rattle.std.proofs.Math.Seq.{take-append-add}
@@ -93,6 +93,12 @@ ended_lines-cut (line ∷ lines) part h o =
 pub IsOpen-push : (part : List ℕ) (b : ℕ) → IsOpen part → b ≢ 10 → IsOpen (part ++ b ∷ [])
 IsOpen-push [] b h ne = (ne, tt)
 IsOpen-push (c ∷ part) b h ne = (h.0, IsOpen-push part b h.1 ne)
+
+-- the front of some bytes is a part where none of its bytes is an end
+pub IsOpen-before : (bytes : List ℕ) (n : ℕ) → ((k : ℕ) → k < n → slice_index bytes k ≢ 10) → IsOpen (take n bytes)
+IsOpen-before bytes zero none = tt
+IsOpen-before [] (suc n) none = tt
+IsOpen-before (b ∷ bytes) (suc n) none = (none 0 (omega arith), IsOpen-before bytes n (λ k below. none (suc k) (omega arith)))
 
 -- a part goes on by bytes of which none is an end
 pub IsOpen-append : (part more : List ℕ) → IsOpen part → IsOpen more → IsOpen (part ++ more)

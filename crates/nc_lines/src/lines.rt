@@ -6,6 +6,7 @@ ghost use Rattle.nc_lines.specs.machinery.Progress.{AnswersKept, IsOpen, KeepsUp
 
 use crate::fault::ReplayFault;
 use crate::responder::Responder;
+use memchr::memchr;
 use nc_output::write_out;
 use std::alloc::{AllocError, Global};
 use std::io::Write;
@@ -42,12 +43,10 @@ fn first_end(bytes: &[u8]) -> usize
     ensures open { IsOpen (take result bytes.now) }
     ensures end { result < length bytes.now → slice_index bytes.now result ≡ 10 }
 {
-    for i in 0..bytes.len() {
-        if bytes[i] == b'\n' {
-            return i;
-        }
+    match memchr(b'\n', bytes) {
+        Some(end) => end,
+        None => bytes.len(),
     }
-    bytes.len()
 }
 
 /// Adds more bytes of a line, as far as they are to be kept.

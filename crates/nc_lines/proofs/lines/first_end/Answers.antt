@@ -1,11 +1,19 @@
-use Rattle.std.proofs.Common.{take, sym, subst, arith}
-use Rattle.std.proofs.lemmas.List.{take_more}
-use Rattle.nc_lines.specs.machinery.Progress.{IsOpen}
-use Rattle.nc_lines.proofs.Cuts.{IsOpen-push}
+use Rattle.std.proofs.Common.{arith, eqb-true, eq-eqb, length}
+use Rattle.nc_lines.proofs.Cuts.{IsOpen-before}
 use Rattle.nc_lines.proofs.lines.first_end.Goals as goal
 
-pub loop-i-preserved : goal.loop-i-preserved
-loop-i-preserved c =
-    let bytes = c.args.bytes.now in
-    subst IsOpen (sym (take_more bytes c.loop-i.i 0 (omega arith)))
-    (IsOpen-push (take c.loop-i.i bytes) _ c.loop-i.invariant c.if-bytes-i-eq10.false)
+pub returns-in-Some : goal.returns-in-Some
+returns-in-Some c = record {
+  within = omega (arith, c.in-Some.ensures.0.high);
+  «open» = IsOpen-before c.args.bytes.now c.in-Some.end
+      (λ k below is. c.in-Some.ensures.0.before k (omega arith) below (eq-eqb _ 10 is));
+  end = λ _. eqb-true _ 10 c.in-Some.ensures.1;
+}
+
+pub returns-in-None : goal.returns-in-None
+returns-in-None c = record {
+  within = omega arith;
+  «open» = IsOpen-before c.args.bytes.now (length c.args.bytes.now)
+      (λ k below is. c.in-None.ensures k (omega arith) below (eq-eqb _ 10 is));
+  end = λ below. absurd (omega arith);
+}
