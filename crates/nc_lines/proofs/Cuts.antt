@@ -89,11 +89,6 @@ ended_lines-cut (line ∷ lines) part h o =
     ∙ ended_lines-ended line (flat_map ended lines ++ part) h.0
     ∙ ap (λ (ls : List (List ℕ)). line ∷ ls) (ended_lines-cut lines part h.1 o)
 
--- a part goes on by a byte that is no end
-pub IsOpen-push : (part : List ℕ) (b : ℕ) → IsOpen part → b ≢ 10 → IsOpen (part ++ b ∷ [])
-IsOpen-push [] b h ne = (ne, tt)
-IsOpen-push (c ∷ part) b h ne = (h.0, IsOpen-push part b h.1 ne)
-
 -- the front of some bytes is a part where none of its bytes is an end
 pub IsOpen-before : (bytes : List ℕ) (n : ℕ) → ((k : ℕ) → k < n → slice_index bytes k ≢ 10) → IsOpen (take n bytes)
 IsOpen-before bytes zero none = tt

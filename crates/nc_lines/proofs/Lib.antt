@@ -2,6 +2,7 @@ pub mod Offered
 pub mod DigitValues
 pub mod Cuts
 pub mod Answered
+pub mod HoldingBack
 pub mod Steps
 pub mod WholeInput
 pub mod Kept

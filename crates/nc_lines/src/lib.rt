@@ -1,6 +1,7 @@
 //! Lines in, one reply line out for each; and lines of chunks that are only vetted.
 //!
-//! [`answer_all`] reads lines of any length in pieces, and hands each line to a [`Responder`], which replies to it.
+//! [`answer_all`] reads lines of any length in pieces, and hands each line to a [`Responder`], which replies to it; `replies` holds
+//! the replies back until more is to be read.
 //! [`vet_lines`] vets the chunks that lines name, several at a time: `batch` gathers the lines, and `verdicts` writes the
 //! verdicts. [`words_of`], [`address_of`] and [`placed_of`] parse the words of a line.
 #![tactic(auto)]
@@ -9,6 +10,7 @@ mod batch;
 mod digits;
 mod fault;
 mod lines;
+mod replies;
 mod responder;
 mod stream;
 mod verdicts;

@@ -1,40 +1,39 @@
 //! Bytes gathered into lines, each answered as soon as it ends. A line is kept up to the first byte beyond the limit.
 
-ghost use Rattle.std.specs.Prelude.{◌≡◌, ◌++◌, ◌<◌, ◌≤◌, ℕ, List, Option, OnOk, IfOk, length, take, slice_index};
+ghost use Rattle.std.specs.Prelude.{◌≡◌, ◌++◌, ◌<◌, ◌≤◌, [], ℕ, List, Option, OnOk, IfOk, length, take, slice_index};
 ghost use Rattle.nc_lines.specs.Lines.{kept_of};
 ghost use Rattle.nc_lines.specs.machinery.Progress.{AnswersKept, IsOpen, KeepsUp, FeedsPart, Feeds};
 
 use crate::fault::ReplayFault;
+use crate::replies::{Replies, end_early, hold, write_held};
 use crate::responder::Responder;
 use memchr::memchr;
-use nc_output::write_out;
-use std::alloc::{AllocError, Global};
+use std::alloc::AllocError;
 use std::io::Write;
 
 /// The most bytes that a line may have, without its line end.
 pub const LINE_LIMIT: usize = 1_048_576;
 
-/// Answers a line, whose kept part is in `line`, and then clears `line`.
+/// Answers a line, given its kept part, and holds back the answer.
 pub(crate) fn answer_line<S: Responder, W: Write>(
-    alloc: Global,
     responder: &mut S,
     writer: &mut W,
-    line: &mut Vec<u8>,
+    replies: &mut Replies,
+    kept: &[u8],
 ) -> Result<(), ReplayFault>
-    ensures { (part : List ℕ) → line.old.items ≡ kept_of part →
-        AnswersKept S.answers responder.old responder.new (W.contents writer.old) (W.contents writer.new) line.new.items part result }
+    ensures { (part : List ℕ) → kept.now ≡ kept_of part →
+        AnswersKept S.answers responder.old responder.new (W.contents writer.old) (W.contents writer.new)
+        replies.old.held.items replies.new.held.items part result }
 {
-    let mut out = Vec::new(alloc);
-    match responder.answer(line.as_slice(), &mut out) {
+    replies.clear_answer();
+    match responder.answer(kept, &mut replies.answer) {
         Ok(()) => {}
-        Err(_) => return Err(ReplayFault::OutOfMemory),
+        Err(_) => return Err(end_early(writer, &mut replies.held)),
     }
-    match write_out(writer, out.as_slice()) {
-        Ok(()) => {}
-        Err(_) => return Err(ReplayFault::WriteFailed),
+    match hold(writer, &mut replies.held, replies.answer.as_slice()) {
+        Ok(()) => Ok(()),
+        Err(_) => Err(ReplayFault::WriteFailed),
     }
-    line.clear();
-    Ok(())
 }
 
 /// The position of the first line end, or the number of bytes if there is none.
@@ -58,53 +57,108 @@ fn keep(line: &mut Vec<u8>, part: &[u8]) -> Result<(), AllocError>
     line.extend_from_slice(&part[..count])
 }
 
+/// Answers a line of which all but these last bytes have been read. If no others have, it is answered from where it stands.
+fn answer_last<S: Responder, W: Write>(
+    responder: &mut S,
+    writer: &mut W,
+    replies: &mut Replies,
+    line: &mut Vec<u8>,
+    last: &[u8],
+) -> Result<(), ReplayFault>
+    ensures answers { (part : List ℕ) → line.old.items ≡ kept_of part →
+        AnswersKept S.answers responder.old responder.new (W.contents writer.old) (W.contents writer.new)
+        replies.old.held.items replies.new.held.items (part ++ last.now) result }
+    ensures none { OnOk result (line.new.items ≡ []) }
+{
+    if line.is_empty() {
+        let count = last.len().min(LINE_LIMIT + 1);
+        return answer_line(responder, writer, replies, &last[..count]);
+    }
+    match keep(line, last) {
+        Ok(()) => {}
+        Err(_) => return Err(end_early(writer, &mut replies.held)),
+    }
+    match answer_line(responder, writer, replies, line.as_slice()) {
+        Ok(()) => {
+            line.clear();
+            Ok(())
+        }
+        Err(fault) => Err(fault),
+    }
+}
+
 /// Takes the next bytes up to the first line end, or all of them, and answers the line if it has ended. Returns the number
 /// of bytes taken.
 fn feed_part<S: Responder, W: Write>(
-    alloc: Global,
     responder: &mut S,
     writer: &mut W,
+    replies: &mut Replies,
     line: &mut Vec<u8>,
     rest: &[u8],
 ) -> Result<usize, ReplayFault>
     requires { 0 < length rest.now }
     ensures count { IfOk result (λ count. (0 < count) × (count ≤ length rest.now)) }
     ensures feeds { (start : S) (before : Option (List ℕ)) (bytes : List ℕ)
-        → KeepsUp S.answers start before bytes responder.old (W.contents writer.old) line.old.items
-        → FeedsPart S.answers start before bytes rest.now responder.new (W.contents writer.new) line.new.items result }
+        → KeepsUp S.answers start before bytes responder.old (W.contents writer.old) replies.old.held.items line.old.items
+        → FeedsPart S.answers start before bytes rest.now responder.new (W.contents writer.new) replies.new.held.items line.new.items
+        result }
 {
     let end = first_end(rest);
-    match keep(line, &rest[..end]) {
-        Ok(()) => {}
-        Err(_) => return Err(ReplayFault::OutOfMemory),
-    }
     if end == rest.len() {
-        return Ok(end);
+        return match keep(line, rest) {
+            Ok(()) => Ok(end),
+            Err(_) => Err(end_early(writer, &mut replies.held)),
+        };
     }
-    match answer_line(alloc, responder, writer, line) {
+    match answer_last(responder, writer, replies, line, &rest[..end]) {
         Ok(()) => Ok(end + 1),
         Err(fault) => Err(fault),
     }
 }
 
 /// Takes the next bytes, and answers each line as soon as it ends.
-pub(crate) fn feed<S: Responder, W: Write>(
-    alloc: Global,
+fn feed_parts<S: Responder, W: Write>(
     responder: &mut S,
     writer: &mut W,
+    replies: &mut Replies,
     line: &mut Vec<u8>,
     piece: &[u8],
 ) -> Result<(), ReplayFault>
     ensures { (start : S) (before : Option (List ℕ)) (bytes : List ℕ)
-        → KeepsUp S.answers start before bytes responder.old (W.contents writer.old) line.old.items
-        → Feeds S.answers start before (bytes ++ piece.now) responder.new (W.contents writer.new) line.new.items result }
+        → KeepsUp S.answers start before bytes responder.old (W.contents writer.old) replies.old.held.items line.old.items
+        → Feeds S.answers start before (bytes ++ piece.now) responder.new (W.contents writer.new) replies.new.held.items line.new.items
+        result }
 {
     let mut rest = piece;
     while !rest.is_empty() {
-        match feed_part(alloc, responder, writer, line, rest) {
+        match feed_part(responder, writer, replies, line, rest) {
             Ok(count) => rest = &rest[count..],
             Err(fault) => return Err(fault),
         }
     }
     Ok(())
+}
+
+/// Takes the next bytes, answers each line as soon as it ends, and then writes the answers that were held back.
+pub(crate) fn feed<S: Responder, W: Write>(
+    responder: &mut S,
+    writer: &mut W,
+    replies: &mut Replies,
+    line: &mut Vec<u8>,
+    piece: &[u8],
+) -> Result<(), ReplayFault>
+    ensures feeds { (start : S) (before : Option (List ℕ)) (bytes : List ℕ)
+        → KeepsUp S.answers start before bytes responder.old (W.contents writer.old) replies.old.held.items line.old.items
+        → Feeds S.answers start before (bytes ++ piece.now) responder.new (W.contents writer.new) replies.new.held.items line.new.items
+        result }
+    ensures written { OnOk result (replies.new.held.items ≡ []) }
+{
+    match feed_parts(responder, writer, replies, line, piece) {
+        Ok(()) => {}
+        Err(fault) => return Err(fault),
+    }
+    match write_held(writer, &mut replies.held) {
+        Ok(()) => Ok(()),
+        Err(_) => Err(ReplayFault::WriteFailed),
+    }
 }

@@ -1,6 +1,6 @@
 //! The lines of a reader, answered one after another.
 
-ghost use Rattle.std.specs.Prelude.{◌≡◌, ◌≢◌, ◌++◌, ℕ, List, Option, OnOk, IfErr, IfSome, IsErrOf};
+ghost use Rattle.std.specs.Prelude.{◌≡◌, ◌≢◌, ◌++◌, [], ℕ, List, Option, OnOk, IfErr, IfSome, IsErrOf};
 ghost use Rattle.std.specs.Io.KnownBytes.{Consumes, IsAtEnd};
 ghost use Rattle.nc_lines.specs.Lines.{lines_of, ended_lines};
 ghost use Rattle.nc_lines.specs.Answering.{IsAnswered, IsBegun, IsCutShort};
@@ -8,39 +8,49 @@ ghost use Rattle.nc_lines.specs.machinery.Progress.{KeepsUp, Finishes};
 
 use crate::fault::ReplayFault;
 use crate::lines::{answer_line, feed};
+use crate::replies::{Replies, write_held};
 use crate::responder::Responder;
 use std::alloc::Global;
 use std::io::{Read, Write};
 
 /// Answers the last line, if it has no line end.
 fn answer_rest<S: Responder, W: Write>(
-    alloc: Global,
     responder: &mut S,
     writer: &mut W,
-    line: &mut Vec<u8>,
+    replies: &mut Replies,
+    line: &[u8],
 ) -> Result<(), ReplayFault>
+    requires { replies.old.held.items ≡ [] }
     ensures { (start : S) (before : Option (List ℕ)) (bytes : List ℕ)
-        → KeepsUp S.answers start before bytes responder.old (W.contents writer.old) line.old.items
+        → KeepsUp S.answers start before bytes responder.old (W.contents writer.old) replies.old.held.items line.now
         → Finishes S.answers start before bytes responder.new (W.contents writer.new) result }
 {
     if line.is_empty() {
         return Ok(());
     }
-    answer_line(alloc, responder, writer, line)
+    match answer_line(responder, writer, replies, line) {
+        Ok(()) => {}
+        Err(fault) => return Err(fault),
+    }
+    match write_held(writer, &mut replies.held) {
+        Ok(()) => Ok(()),
+        Err(_) => Err(ReplayFault::WriteFailed),
+    }
 }
 
 /// Answers the last line, if it has no line end, and flushes.
 fn finish<S: Responder, W: Write>(
-    alloc: Global,
     responder: &mut S,
     writer: &mut W,
-    line: &mut Vec<u8>,
+    replies: &mut Replies,
+    line: &[u8],
 ) -> Result<(), ReplayFault>
+    requires { replies.old.held.items ≡ [] }
     ensures { (start : S) (before : Option (List ℕ)) (bytes : List ℕ)
-        → KeepsUp S.answers start before bytes responder.old (W.contents writer.old) line.old.items
+        → KeepsUp S.answers start before bytes responder.old (W.contents writer.old) replies.old.held.items line.now
         → Finishes S.answers start before bytes responder.new (W.contents writer.new) result }
 {
-    match answer_rest(alloc, responder, writer, line) {
+    match answer_rest(responder, writer, replies, line) {
         Ok(()) => {}
         Err(fault) => return Err(fault),
     }
@@ -50,7 +60,7 @@ fn finish<S: Responder, W: Write>(
     }
 }
 
-/// Reads all lines and answers each as soon as its line end has been read.
+/// Reads all lines and answers each. Before more is read, the answers to all lines whose line end has been read are written.
 pub fn answer_all<S: Responder, R: Read, W: Write>(
     alloc: Global,
     responder: &mut S,
@@ -80,6 +90,7 @@ pub fn answer_all<S: Responder, R: Read, W: Write>(
         × (fault ≢ ReplayFault.BadWorkers)) }
 {
     let mut line = Vec::new(alloc);
+    let mut replies = Replies::new(alloc);
     let mut piece = [0u8; 4096];
     for _ in 0..u64::MAX {
         let count = match reader.read(&mut piece) {
@@ -87,9 +98,9 @@ pub fn answer_all<S: Responder, R: Read, W: Write>(
             Err(_) => return Err(ReplayFault::ReadFailed),
         };
         if count == 0 {
-            return finish(alloc, responder, writer, &mut line);
+            return finish(responder, writer, &mut replies, line.as_slice());
         }
-        match feed(alloc, responder, writer, &mut line, &piece[..count]) {
+        match feed(responder, writer, &mut replies, &mut line, &piece[..count]) {
             Ok(()) => {}
             Err(fault) => return Err(fault),
         }

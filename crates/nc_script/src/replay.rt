@@ -18,7 +18,7 @@ use std::alloc::Global;
 use std::io::{Read, Write};
 
 /// Runs a script on a new region of `bundles` bundles, for threads with `seats` seats: reads its lines, and writes the answer
-/// to each as soon as its line end has been read.
+/// to each. Before more is read, the answers to all lines whose line end has been read are written.
 ///
 /// A line ends at a byte 0A or at the end of the input. `create` with an address and bytes vets a chunk and creates it,
 /// `modify` with an address and bytes replaces instructions of a chunk, `delete` with an address retires a chunk, `checkin`

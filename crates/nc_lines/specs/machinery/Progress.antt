@@ -1,11 +1,11 @@
 -- Machinery of the proofs, cited by no public contract: the progress of a run.
-use Rattle.std.specs.Prelude.{◌≡◌, ◌≢◌, ◌++◌, ℕ, List, [], ◌∷◌, Option, Result, Ok, Err, take, ⊤}
+use Rattle.std.specs.Prelude.{◌≡◌, ◌≢◌, ◌++◌, ◌⊎◌, ℕ, List, [], ◌∷◌, Option, Result, Ok, Err, take, ⊤}
 use Rattle.std.specs.List.{flat_map}
 use Rattle.std.specs.Io.KnownBytes.{Appends}
 use Rattle.nc_lines.specs.declared.fault.ReplayFault.{ReplayFault}
 use Rattle.nc_lines.specs.declared.fault.ReplayFault.TheVariants.{ReadFailed, WriteFailed, OutOfMemory, BadSize, BadSeats, BadWorkers}
 use Rattle.nc_lines.specs.Lines.{kept_of, lines_of}
-use Rattle.nc_lines.specs.Answering.{IsAnswered, IsBegun, IsCutShort}
+use Rattle.nc_lines.specs.Answering.{AnswersLines, IsAnswered, IsBegun, IsCutShort}
 
 -- no byte is a line end, 0A
 abbrev pub IsOpen : List ℕ → Type 0
@@ -21,50 +21,75 @@ AreOpen (line ∷ lines) = IsOpen line × AreOpen lines
 abbrev pub ended : List ℕ → List ℕ
 ended line = line ++ 10 ∷ []
 
--- The result of answering one line, of which a part was kept: its reply was written and nothing is kept any more; on a
--- failure, a prefix of a reply, or nothing, was written.
+-- a prefix of some bytes was written
+abbrev pub WritesFront : Option (List ℕ) → Option (List ℕ) → List ℕ → Type 0
+WritesFront before after bytes = (n : ℕ) × Appends before after (take n bytes)
+
+-- a prefix of some bytes was written, and the others are held back
+abbrev pub HoldsRest : Option (List ℕ) → Option (List ℕ) → List ℕ → List ℕ → Type 0
+HoldsRest before after bytes held = (front : List ℕ) × Appends before after front × (bytes ≡ front ++ held)
+
+-- why a run ends that lacks memory: what was held back was written, or a prefix of it was and the writer failed
+abbrev pub EndsEarly : Option (List ℕ) → Option (List ℕ) → List ℕ → ReplayFault → Type 0
+EndsEarly before after held OutOfMemory = Appends before after held
+EndsEarly before after held WriteFailed = WritesFront before after held
+EndsEarly before after held ReadFailed = ⊥
+EndsEarly before after held BadSize = ⊥
+EndsEarly before after held BadSeats = ⊥
+EndsEarly before after held BadWorkers = ⊥
+
+-- The result of answering one line, given what was held back before it: its answer follows that, and some of it may have been
+-- written. On a failure, what was held back before was written, or a prefix of it or of the answer after it.
 abbrev pub AnswersKept : {S T : Type 0} → (S → List ℕ → List ℕ → S → Type 0) → S → S → Option (List ℕ) → Option (List ℕ) → List ℕ → List ℕ
-    → Result T ReplayFault → Type 0
-AnswersKept answers old new before after left line (Ok _) =
-    (left ≡ []) × (reply : List ℕ) × answers old line reply new × Appends before after reply
-AnswersKept {S} answers old new before after left line (Err WriteFailed) =
-    (reply : List ℕ) × (n : ℕ) × (mid : S) × answers old line reply mid × Appends before after (take n reply)
-AnswersKept answers old new before after left line (Err OutOfMemory) = after ≡ before
-AnswersKept answers old new before after left line (Err ReadFailed) = ⊥
-AnswersKept answers old new before after left line (Err BadSize) = ⊥
-AnswersKept answers old new before after left line (Err BadSeats) = ⊥
-AnswersKept answers old new before after left line (Err BadWorkers) = ⊥
+    → List ℕ → Result T ReplayFault → Type 0
+AnswersKept answers old new before after held left line (Ok _) =
+    (reply : List ℕ) × answers old line reply new × HoldsRest before after (held ++ reply) left
+AnswersKept {S} answers old new before after held left line (Err WriteFailed) =
+    WritesFront before after held ⊎ ((reply : List ℕ) × (mid : S) × answers old line reply mid × WritesFront before after (held ++ reply))
+AnswersKept answers old new before after held left line (Err OutOfMemory) = Appends before after held
+AnswersKept answers old new before after held left line (Err ReadFailed) = ⊥
+AnswersKept answers old new before after held left line (Err BadSize) = ⊥
+AnswersKept answers old new before after held left line (Err BadSeats) = ⊥
+AnswersKept answers old new before after held left line (Err BadWorkers) = ⊥
+
+-- exactly the answers to these lines were given, in order, and written but for their last bytes, which are held back
+pub record IsHeld {S : Type 0} (answers : S → List ℕ → List ℕ → S → Type 0) (old new : S) (before after : Option (List ℕ))
+    (held : List ℕ) (lines : List (List ℕ)) : Type 0 where
+  pub reply : List ℕ
+  pub runs : AnswersLines answers old lines (reply ++ held) new
+  pub written : Appends before after reply
 
 -- After these bytes, the lines that have ended are answered, and the part of the last line that is to be kept is kept.
 pub record KeepsUp {S : Type 0} (answers : S → List ℕ → List ℕ → S → Type 0) (start : S) (before : Option (List ℕ)) (bytes : List ℕ)
-    (now : S) (after : Option (List ℕ)) (kept : List ℕ) : Type 0 where
+    (now : S) (after : Option (List ℕ)) (held kept : List ℕ) : Type 0 where
   pub lines : List (List ℕ)
   pub part : List ℕ
   pub split : bytes ≡ flat_map ended lines ++ part
   pub closed : AreOpen lines
   pub open_part : IsOpen part
   pub is_kept : kept ≡ kept_of part
-  pub answered : IsAnswered answers start now before after lines
+  pub answered : IsHeld answers start now before after held lines
 
 -- `KeepsUp` after a call that may fail. On a failure, `IsBegun` or `IsCutShort` holds whatever bytes would have followed.
 abbrev pub Feeds : {S T : Type 0} → (S → List ℕ → List ℕ → S → Type 0) → S → Option (List ℕ) → List ℕ → S → Option (List ℕ) → List ℕ
-    → Result T ReplayFault → Type 0
-Feeds answers start before bytes now after kept (Ok _) = KeepsUp answers start before bytes now after kept
-Feeds answers start before bytes now after kept (Err WriteFailed) =
+    → List ℕ → Result T ReplayFault → Type 0
+Feeds answers start before bytes now after held kept (Ok _) = KeepsUp answers start before bytes now after held kept
+Feeds answers start before bytes now after held kept (Err WriteFailed) =
     (more : List ℕ) → IsBegun answers start before after (lines_of (bytes ++ more))
-Feeds answers start before bytes now after kept (Err OutOfMemory) =
+Feeds answers start before bytes now after held kept (Err OutOfMemory) =
     (more : List ℕ) → IsCutShort answers start before after (lines_of (bytes ++ more))
-Feeds answers start before bytes now after kept (Err ReadFailed) = ⊥
-Feeds answers start before bytes now after kept (Err BadSize) = ⊥
-Feeds answers start before bytes now after kept (Err BadSeats) = ⊥
-Feeds answers start before bytes now after kept (Err BadWorkers) = ⊥
+Feeds answers start before bytes now after held kept (Err ReadFailed) = ⊥
+Feeds answers start before bytes now after held kept (Err BadSize) = ⊥
+Feeds answers start before bytes now after held kept (Err BadSeats) = ⊥
+Feeds answers start before bytes now after held kept (Err BadWorkers) = ⊥
 
 -- `Feeds` after a call that takes some of the bytes and returns their number.
 abbrev pub FeedsPart : {S : Type 0} → (S → List ℕ → List ℕ → S → Type 0) → S → Option (List ℕ) → List ℕ → List ℕ → S → Option (List ℕ)
-    → List ℕ → Result ℕ ReplayFault → Type 0
-FeedsPart answers start before bytes rest now after kept (Ok count) = KeepsUp answers start before (bytes ++ take count rest) now after kept
-FeedsPart answers start before bytes rest now after kept (Err fault) =
-    Feeds {T = Unit {0}} answers start before (bytes ++ rest) now after kept (Err fault)
+    → List ℕ → List ℕ → Result ℕ ReplayFault → Type 0
+FeedsPart answers start before bytes rest now after held kept (Ok count) =
+    KeepsUp answers start before (bytes ++ take count rest) now after held kept
+FeedsPart answers start before bytes rest now after held kept (Err fault) =
+    Feeds {T = Unit {0}} answers start before (bytes ++ rest) now after held kept (Err fault)
 
 -- After the last byte all lines are answered; on a failure `IsBegun` or `IsCutShort` holds.
 abbrev pub Finishes : {S T : Type 0} → (S → List ℕ → List ℕ → S → Type 0) → S → Option (List ℕ) → List ℕ → S → Option (List ℕ)

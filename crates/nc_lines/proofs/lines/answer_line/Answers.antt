@@ -1,16 +1,28 @@
-use Rattle.std.proofs.Common.{◌≡◌, ◌++◌, ℕ, List, take, ap, ◌∙◌, subst}
-use Rattle.std.specs.Io.KnownBytes.{Appends}
+use Rattle.std.proofs.Common.{◌≡◌, ◌++◌, ℕ, List, ap, ◌∙◌, subst, inr}
+use Rattle.std.specs.Global.{Vec}
+use Rattle.nc_lines.specs.machinery.Progress.{HoldsRest, WritesFront}
 use Rattle.nc_lines.proofs.lines.answer_line.Goals as goal
 
-pub returns-in-Err-write_out : goal.returns-in-Err-write_out
-returns-in-Err-write_out g c = λ part e.
-    let h = c.in-Ok.ensures part (c.as_slice.ensures.value ∙ e) in
-    let same : c.answer.new.out.items ≡ h.0 = h.1 ∙ ap (λ (l : List ℕ). l ++ h.0) c.new-out.ensures.items in
-    let front = c.in-Err-write_out.ensures.front in
-    (h.0, front.0, c.answer.new.self, h.2, subst (Appends _ _) (ap (take front.0) (c.as_slice-2.ensures.value ∙ same)) front.1)
+pub returns-in-Ok-hold : goal.returns-in-Ok-hold
+returns-in-Ok-hold g c = λ part e.
+    let h = c.in-Ok.ensures part e in
+    let given : c.as_slice.result.now ≡ h.0 =
+    c.as_slice.ensures.value ∙ h.1 ∙ ap (λ (l : List ℕ). l ++ h.0) c.clear_answer.ensures.answer in
+    let all : c.clear_answer.new.self.held.items ++ c.as_slice.result.now ≡ c.args.replies.now.held.items ++ h.0 =
+    ap (λ (l : List ℕ). c.clear_answer.new.self.held.items ++ l) given
+    ∙ ap (λ (v : Vec ℕ). v.items ++ h.0) c.clear_answer.ensures.held in (
+      h.0,
+      h.2,
+      subst (λ (xs : List ℕ). HoldsRest (g.W.Write.contents c.args.writer.now) (g.W.Write.contents c.hold.new.writer) xs
+          c.hold.new.held.items) all c.in-Ok-hold.ensures.ok,
+    )
 
-pub returns : goal.returns
-returns g c = λ part e.
-    let h = c.in-Ok.ensures part (c.as_slice.ensures.value ∙ e) in
-    let same : c.answer.new.out.items ≡ h.0 = h.1 ∙ ap (λ (l : List ℕ). l ++ h.0) c.new-out.ensures.items in
-    (c.clear.ensures.items, h.0, h.2, subst (Appends _ _) (c.as_slice-2.ensures.value ∙ same) c.in-Ok-write_out.ensures.all)
+pub returns-in-Err-hold : goal.returns-in-Err-hold
+returns-in-Err-hold g c = λ part e.
+    let h = c.in-Ok.ensures part e in
+    let given : c.as_slice.result.now ≡ h.0 =
+    c.as_slice.ensures.value ∙ h.1 ∙ ap (λ (l : List ℕ). l ++ h.0) c.clear_answer.ensures.answer in
+    let all : c.clear_answer.new.self.held.items ++ c.as_slice.result.now ≡ c.args.replies.now.held.items ++ h.0 =
+    ap (λ (l : List ℕ). c.clear_answer.new.self.held.items ++ l) given
+    ∙ ap (λ (v : Vec ℕ). v.items ++ h.0) c.clear_answer.ensures.held in
+    inr (h.0, c.answer.new.self, h.2, subst (WritesFront (g.W.Write.contents c.args.writer.now) (g.W.Write.contents c.hold.new.writer)) all c.in-Err-hold.ensures.front)

@@ -1,5 +1,5 @@
 -- How far the run has come, by the bytes that were read.
-use Rattle.std.proofs.Common.{◌≡◌, ℕ, List, length}
+use Rattle.std.proofs.Common.{◌≡◌, ℕ, List, [], length}
 use Rattle.std.specs.Io.KnownBytes.{Consumes}
 use Rattle.nc_lines.specs.machinery.Progress.{KeepsUp}
 use Rattle.nc_lines.proofs.stream.answer_all.Given as goal
@@ -8,5 +8,5 @@ abbrev pub invariant-loop : goal.invariant-loop
 invariant-loop g l =
     (front : List ℕ) × Consumes (g.R.Read.remaining l.initial.reader) (g.R.Read.remaining l.reader) front
     × KeepsUp g.S.Responder.answers l.initial.responder (g.W.Write.contents l.initial.writer) front l.responder
-    (g.W.Write.contents l.writer) l.line.items
-    × (length l.piece ≡ 4096)
+    (g.W.Write.contents l.writer) l.replies.held.items l.line.items
+    × (l.replies.held.items ≡ []) × (length l.piece ≡ 4096)

@@ -1,22 +1,47 @@
-use Rattle.std.proofs.Common.{◌≡◌, ◌<◌, [], length, ◌∙◌, sym, arith, rules, vec_len}
+use Rattle.std.proofs.Common.{◌≡◌, ◌<◌, [], length, ◌∙◌, sym, append-nil, arith, rules}
 use Rattle.std.proofs.lemmas.Bool.{eqb-false}
 use Rattle.std.proofs.lemmas.List.{drop_all}
-use Rattle.nc_lines.specs.Lines.{line_limit}
+use Rattle.nc_lines.specs.Lines.{line_limit, lines_of}
 use Rattle.nc_lines.proofs.Cuts.{kept_is_all, kept_some}
-use Rattle.nc_lines.proofs.Steps.{finish_none, finishes_line}
+use Rattle.nc_lines.proofs.Steps.{finish_none, finish_line, finishes_failed, held_written, held_begun}
 use Rattle.nc_lines.proofs.stream.answer_rest.Goals as goal
 
 pub returns-then-is_empty : goal.returns-then-is_empty
 returns-then-is_empty g c = λ start before bytes s.
-    let none : length c.args.line.now.items ≡ 0 = search rules in
-    let empty : c.args.line.now.items ≡ [] = drop_all 0 c.args.line.now.items (omega arith) in
-    finish_none g.S.Responder.answers start before bytes _ _ c.args.line.now.items s
-    (sym (kept_is_all line_limit c.args.line.now.items s.part s.is_kept (omega arith)) ∙ empty)
+    let line = c.args.line.now in
+    let none : length line ≡ 0 = search rules in
+    let empty : line ≡ [] = drop_all 0 line (omega arith) in
+    finish_none g.S.Responder.answers start before bytes _ _ c.args.replies.now.held.items line s c.requires
+    (sym (kept_is_all line_limit line s.part s.is_kept (omega arith)) ∙ empty)
 
-pub returns : goal.returns
-returns g c = λ start before bytes s.
-    let apart : vec_len c.args.line.now ≡ 0 → ⊥ = eqb-false (vec_len c.args.line.now) 0 (sym c.is_empty.ensures ∙ c.if-is_empty.false) in
-    let some : 0 < length c.args.line.now.items = omega (arith, c.args.line.now.ok.0) in
-    finishes_line _ g.S.Responder.answers start before bytes _ _ c.args.line.now.items _ _ _ s
-    (kept_some line_limit c.args.line.now.items s.part s.is_kept some) c.answer_line.result
-    (c.answer_line.ensures s.part s.is_kept)
+pub returns-in-Err : goal.returns-in-Err
+returns-in-Err g c = λ start before bytes s.
+    let line = c.args.line.now in
+    let apart : length line ≡ 0 → ⊥ = eqb-false (length line) 0 (sym c.is_empty.ensures ∙ c.if-is_empty.false) in
+    let some : 0 < length line = omega arith in
+    finishes_failed (Unit {0}) g.S.Responder.answers start before bytes _ _ c.args.replies.now.held.items line c.answer_line.new.responder _
+    c.answer_line.new.replies.held.items s (kept_some line_limit line s.part s.is_kept some) c.in-Err.fault
+    (c.in-Err.ensures s.part s.is_kept)
+
+pub returns-in-Ok-write_held : goal.returns-in-Ok-write_held
+returns-in-Ok-write_held g c = λ start before bytes s.
+    let line = c.args.line.now in
+    let apart : length line ≡ 0 → ⊥ = eqb-false (length line) 0 (sym c.is_empty.ensures ∙ c.if-is_empty.false) in
+    let some : 0 < length line = omega arith in
+    let h = c.in-Ok.ensures s.part s.is_kept in
+    held_written g.S.Responder.answers start before c.answer_line.new.responder _ c.answer_line.new.replies.held.items (lines_of bytes) _
+    (finish_line g.S.Responder.answers start before bytes _ _ c.args.replies.now.held.items line h.0 c.answer_line.new.responder _
+    c.answer_line.new.replies.held.items s (kept_some line_limit line s.part s.is_kept some) h.1 h.2)
+    c.in-Ok-write_held.ensures.all
+
+pub returns-in-Err-write_held : goal.returns-in-Err-write_held
+returns-in-Err-write_held g c = λ start before bytes s.
+    let line = c.args.line.now in
+    let apart : length line ≡ 0 → ⊥ = eqb-false (length line) 0 (sym c.is_empty.ensures ∙ c.if-is_empty.false) in
+    let some : 0 < length line = omega arith in
+    let h = c.in-Ok.ensures s.part s.is_kept in
+    held_begun g.S.Responder.answers start before c.answer_line.new.responder _ c.answer_line.new.replies.held.items
+    (lines_of bytes) [] (lines_of bytes) _
+    (finish_line g.S.Responder.answers start before bytes _ _ c.args.replies.now.held.items line h.0 c.answer_line.new.responder _
+    c.answer_line.new.replies.held.items s (kept_some line_limit line s.part s.is_kept some) h.1 h.2)
+    c.in-Err-write_held.ensures.front (sym (append-nil (lines_of bytes)))

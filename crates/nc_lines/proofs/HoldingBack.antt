@@ -1,0 +1,30 @@
+-- Answers that are held back, written with others or before them.
+use Rattle.std.proofs.Common.{◌≡◌, ◌++◌, ◌+◌, ℕ, List, [], Option, Result, Ok, Err, OnOk, OnErr, length, take, sym, ap, ◌∙◌, subst}
+use Rattle.std.proofs.Common.{Bool, false, cond, append-nil}
+use Rattle.std.specs.Io.KnownBytes.{Appends}
+use Rattle.std.proofs.KnownBytes.{Appends-trans}
+use Rattle.std.proofs.Math.Seq.{take-append-add}
+use Rattle.nc_lines.specs.machinery.Progress.{HoldsRest, WritesFront}
+
+-- what was held back is written, and then the answer
+pub holds_none : {T E : Type 0} (r : Result T E) (before mid after : Option (List ℕ)) (held answer left : List ℕ)
+    → Appends before mid held → left ≡ [] → OnOk r (Appends mid after answer) → OnOk r (HoldsRest before after (held ++ answer) left)
+holds_none (Ok x) before mid after held answer left h none a = (
+  held ++ answer,
+  Appends-trans before mid after held answer h a,
+  sym (append-nil (held ++ answer)) ∙ ap (λ (t : List ℕ). (held ++ answer) ++ t) (sym none),
+)
+holds_none (Err e) before mid after held answer left h none a = tt
+
+-- what was held back is written, and then a prefix of the answer
+pub writes_more : {T E : Type 0} (r : Result T E) (before mid after : Option (List ℕ)) (held answer : List ℕ)
+    → Appends before mid held → OnErr r (WritesFront mid after answer) → OnErr r (WritesFront before after (held ++ answer))
+writes_more (Ok x) before mid after held answer h a = tt
+writes_more (Err e) before mid after held answer h a = (
+  length held + a.0,
+  subst (Appends before after) (sym (take-append-add held answer a.0)) (Appends-trans before mid after held (take a.0 answer) h a.1),
+)
+
+-- where it was not held back, what was held back before still is
+pub held_still : (is_held : Bool) (new all old : List ℕ) → new ≡ cond is_held all old → is_held ≡ false → new ≡ old
+held_still is_held new all old e unheld = e ∙ ap (λ (b : Bool). cond b all old) unheld
