@@ -15,5 +15,6 @@ pub fn lowest_place(places: u32) -> (u32, u32)
     ensures fewer { result.1 < places }
 {
     let place = places.trailing_zeros();
-    (place, places & !(1 << place))
+    // Does not wait for the place, so that the next step can begin before it is known.
+    (place, places & (places - 1))
 }
