@@ -33,9 +33,10 @@ patch_lies r at new region patch =
     }
 
 -- the bytes that were read are those of the text
-pub window_stands : (text : List ℕ) (at len : ℕ) (bytes : List ℕ) → LiesIn text at len → HoldsText text at bytes 32 → AreBytesAt text at (take len bytes)
-window_stands text at len bytes lies h = λ k lt.
+pub window_stands : (text : List ℕ) (at len count : ℕ) (bytes : List ℕ) → LiesIn text at len → count ≡ len → HoldsText text at bytes count
+    → AreBytesAt text at (take len bytes)
+window_stands text at len count bytes lies all h = λ k lt.
     let long : length (take len bytes) ≡ len = length-take-le len bytes (omega (arith, lies.short, h.long)) in
     let here : k < len = omega (arith, lt, long) in
     sym (get_or-take len bytes k 0 here
-    ∙ h.read k (omega (arith, here, lies.short)) lies.low (omega (arith, here, lies.short, lies.high)))
+    ∙ h.read k (omega (arith, here, all)) lies.low (omega (arith, here, lies.short, lies.high)))

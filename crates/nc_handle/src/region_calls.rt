@@ -35,12 +35,25 @@ fn is_short_for_patch(room: usize, len: usize) -> bool
     len <= 32 && is_short(room, 3 * len)
 }
 
-/// Writes the acts of a patch if a buffer is lent. Returns the number written.
+/// How many bytes of the text a patch of this many bytes has to know from before it: all if a buffer is lent for its acts,
+/// otherwise none.
+fn bytes_before(acts: &[NcAct], len: usize) -> u32
+    ensures most { result ≤ 32 }
+    ensures lent { 0 < length acts.now → len ≤ 32 → result ≡ len }
+{
+    if acts.is_empty() || len > 32 {
+        0
+    } else {
+        len as u32
+    }
+}
+
+/// Writes the acts of a patch if a buffer is lent; the bytes from before matter only then. Returns the number written.
 fn tell_patch(acts: &mut [NcAct], at: u32, before: &[u8], new: &[u8]) -> usize
     requires long { length new.now ≤ length before.now }
     requires high { at + length before.now < 2 ^ 32 }
     requires room { ¬ IsShort (length acts.old) (3 * length new.now) }
-    ensures { (text : List ℕ) (news : List Piece) → AreBytesAt text at before.now → AreBytesOf new.now news
+    ensures { (text : List ℕ) (news : List Piece) → (0 < length acts.old → AreBytesAt text at before.now) → AreBytesOf new.now news
         → IsTold acts.old acts.new result (log_of_modify text at news) }
 {
     if acts.is_empty() {
@@ -198,7 +211,7 @@ impl Held {
         if let Err(fault) = self.check_patch(new, acts.len()) {
             return Err(fault);
         }
-        let before = read_window(&self.region, at);
+        let before = read_window(&self.region, at, bytes_before(acts, new.len()));
         match self.region.modify(at, new) {
             Ok(()) => Ok(tell_patch(acts, at, &before[..new.len()], new)),
             Err(fault) => Err(PatchFault::Refused(fault)),

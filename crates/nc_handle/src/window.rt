@@ -1,6 +1,6 @@
 //! The bytes of a region from an address on.
 
-ghost use Rattle.std.specs.Prelude.{◌≡◌, ◌+◌, ◌<◌, ℕ, length, slice_index};
+ghost use Rattle.std.specs.Prelude.{◌≡◌, ◌+◌, ◌<◌, ◌≤◌, ℕ, length, slice_index};
 ghost use Rattle.nc_region.specs.Region.{IsRegion};
 ghost use Rattle.nc_handle.specs.machinery.Window.{HoldsText};
 
@@ -8,9 +8,11 @@ use crate::owned::Owned;
 use nc_decode::START;
 use nc_region::RegionOf;
 
-/// The region's 32 bytes from an address on: 0 after its end, and all 0 where the address is outside.
-pub(crate) fn read_window(region: &RegionOf<Owned>, at: u32) -> [u8; 32]
-    ensures read { HoldsText region.now.marked.bytes at result 32 }
+/// The region's first `count` bytes from an address on, and then 0; also 0 after its end, and all 0 where the address is
+/// outside.
+pub(crate) fn read_window(region: &RegionOf<Owned>, at: u32, count: u32) -> [u8; 32]
+    requires { count ≤ 32 }
+    ensures read { HoldsText region.now.marked.bytes at result count }
     ensures region { IsRegion region.now.marked region.now.chunks }
 {
     let mut bytes = [0; 32];
@@ -18,7 +20,7 @@ pub(crate) fn read_window(region: &RegionOf<Owned>, at: u32) -> [u8; 32]
     if at < START || at >= limit {
         return bytes;
     }
-    for i in 0..32 {
+    for i in 0..count {
         if i < limit - at {
             bytes[i as usize] = region.byte(at + i);
         }

@@ -20,7 +20,7 @@ pub loop-i-preserved : goal.loop-i-preserved
 loop-i-preserved c =
     elim c.if-i-limit.branch [
       | then-i-limit w ↦ rw w.bytes-is (read_next c.args.region.now.marked.bytes c.args.at c.loop-i.bytes c.loop-i.i w.byte.result
-          c.loop-i.invariant c.loop-i-test.true w.byte.ensures)
+          c.loop-i.invariant (omega (arith, c.loop-i-test.true, c.requires)) w.byte.ensures)
       | else-i-limit w ↦ rw w.bytes-is (record {
         long = c.loop-i.invariant.long;
         read = λ k lt low high. c.loop-i.invariant.read k

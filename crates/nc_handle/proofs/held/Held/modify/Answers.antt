@@ -56,9 +56,10 @@ returns-clause-told c =
     elim c.match-modify.branch [
       | in-Ok w ↦
           let lies = patch_lies c.self.inside.region c.args.at c.args.new.now c.read_window-before.ensures.region w.in-Ok.ensures.lawful in
-          let stand = window_stands c.self.inside.region.marked.bytes c.args.at (length c.args.new.now) c.read_window-before.result lies
-          c.read_window-before.ensures.read in
-          rw (w.result-is, w.acts-is, ← c.self.view_is) (λ news are. w.tell_patch.ensures c.self.inside.region.marked.bytes news stand are)
+          rw (w.result-is, w.acts-is, ← c.self.view_is) (λ news are.
+          w.tell_patch.ensures c.self.inside.region.marked.bytes news (λ some.
+          window_stands c.self.inside.region.marked.bytes c.args.at (length c.args.new.now) c.bytes_before.result c.read_window-before.result lies
+          (c.bytes_before.ensures.lent some lies.short) c.read_window-before.ensures.read) are)
       | in-Err-modify w ↦ rw w.result-is tt
     ]
 
