@@ -6,5 +6,6 @@ pub mod MarkReads
 pub mod WholeLists
 pub mod Replacements
 pub mod RunLists
+pub mod StopPlaces
 pub mod RunSteps
 pub mod RunWhole

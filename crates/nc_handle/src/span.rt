@@ -6,7 +6,7 @@ ghost use Rattle.nc_vet.specs.Faults.{HasGoodSpan};
 use crate::acts::ReadChunk;
 use crate::owned::Owned;
 use nc_decode::Mark;
-use nc_region::RegionOf;
+use nc_region::{Acts, RegionOf};
 
 /// A span of a region that holds a chunk.
 #[derive(Drop)]
@@ -36,5 +36,9 @@ impl<'a> ReadChunk for Span<'a> {
 
     fn mark(&self, i: usize) -> Mark {
         self.region.mark(self.base + i as u32)
+    }
+
+    fn marked_places(&self, i: usize) -> u32 {
+        self.region.acts().marked_places(self.base + i as u32)
     }
 }

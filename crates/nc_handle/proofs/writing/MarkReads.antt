@@ -1,7 +1,13 @@
--- What is read at a place: a mark, a stop.
-use Rattle.std.proofs.Common.{◌≡◌, ℕ, ◌+◌, ◌-◌, ◌<◌, Bool, length, replicate, get_or, ap, arith}
+-- What is read at a place: whether a bundle begins, a mark, a bit, a stop.
+use Rattle.std.proofs.Common.{◌≡◌, ℕ, zero, suc, ◌+◌, ◌-◌, ◌%◌, ◌==◌, ◌<◌, ◌^◌, Bool, true, false, not, length, replicate, get_or, ap, arith, refl, sym, ◌∙◌, w32}
+use Rattle.std.specs.Int.{bit_at, bit_not}
+use Rattle.std.proofs.lemmas.Nat.Bits.{bit_at_not, bit_at_lowest, bit_at-suc, bit_at-zero, bit_at-lt}
+use Rattle.nc_decode.specs.declared.instruction.Mark.TheVariants.{Unmarked, Plain, After}
+use Rattle.nc_text.specs.Marks.{mark_bit}
+use Rattle.nc_region.specs.Acts.{is_start, is_inside, is_mark}
 use Rattle.std.proofs.lemmas.List.{length-replicate, get_or-replicate}
 use Rattle.nc_decode.specs.declared.instruction.Mark.{Mark}
+use Rattle.nc_region.proofs.Offered.{is_start_false}
 use Rattle.nc_handle.specs.machinery.Writing.{mark_if, marked_if}
 
 -- whether a place is marked, by its mark
@@ -16,3 +22,49 @@ within_stops n i lt = omega (arith, lt, length-replicate {A = ℕ} n 244)
 -- a stop among as many as there are places
 pub stop_read : (n i : ℕ) → i < n → get_or (replicate {A = ℕ} n 244) i 0 ≡ 244
 stop_read n i lt = get_or-replicate n i 244 0 lt
+
+-- the bit of a mark is one bit
+pub small_mark_bit : (mark : Mark) → mark_bit mark < 2
+small_mark_bit Unmarked = omega arith
+small_mark_bit Plain = omega arith
+small_mark_bit (After register) = omega arith
+
+-- it is set where the mark stands for a state
+pub bit_is_mark : (mark : Mark) → (mark_bit mark == 1) ≡ is_mark mark
+bit_is_mark Unmarked = refl
+bit_is_mark Plain = refl
+bit_is_mark (After register) = refl
+
+-- and its opposite where it stands for none
+pub bit_is_none : (mark : Mark) → (1 - mark_bit mark == 1) ≡ not (is_mark mark)
+bit_is_none Unmarked = refl
+bit_is_none Plain = refl
+bit_is_none (After register) = refl
+
+-- a marked place, by its bit
+pub marked_bit : (places k : ℕ) (mark : Mark) → bit_at places k ≡ mark_bit mark → (bit_at places k == 1) ≡ mark_if true mark
+marked_bit places k mark is = ap (λ (b : ℕ). b == 1) is ∙ bit_is_mark mark
+
+-- another, by the opposite bit
+pub unmarked_bit : (places k : ℕ) (mark : Mark) → places < 2 ^ 32 → k < 32 → bit_at places k ≡ mark_bit mark
+    → (bit_at (bit_not w32 places) k == 1) ≡ mark_if false mark
+unmarked_bit places k mark fits lt is =
+    ap (λ (b : ℕ). b == 1) (bit_at_not w32 places k fits lt ∙ ap (λ (b : ℕ). 1 - b) is) ∙ bit_is_none mark
+
+-- the start of a bundle is its lowest place
+pub start_bit : (at k : ℕ) → at % 32 ≡ 0 → k < 32 → (bit_at 1 k == 1) ≡ is_start (at + k)
+start_bit at zero start lt =
+    let here : (at + zero) % 32 ≡ 0 = omega (arith, start) in
+    ap (λ (b : ℕ). b == 1) (bit_at_lowest 1) ∙ sym (ap (λ (n : ℕ). n == 0) here)
+start_bit at (suc k) start lt =
+    ap (λ (b : ℕ). b == 1) (bit_at-suc 1 k ∙ bit_at-zero k) ∙ sym (is_start_false (at + suc k) (λ e. omega (arith, start, lt, e)))
+
+-- and the others are inside
+pub inside_bit : (at k : ℕ) → at % 32 ≡ 0 → k < 32 → (bit_at 4294967294 k == 1) ≡ is_inside (at + k)
+inside_bit at k start lt =
+    ap (λ (b : ℕ). b == 1) (bit_at_not w32 1 k (omega arith) lt) ∙ (opposite (bit_at 1 k) (bit_at-lt 1 k) ∙ ap not (start_bit at k start lt))
+  where
+    opposite : (b : ℕ) → b < 2 → (1 - b == 1) ≡ not (b == 1)
+    opposite zero small = refl
+    opposite (suc zero) small = refl
+    opposite (suc (suc b)) small = absurd (omega (arith, small))

@@ -1,9 +1,12 @@
 -- Puts by bits, the runs of some bundles, and what runs stand for.
-use Rattle.std.proofs.Common.{◌≡◌, ℕ, zero, suc, ◌+◌, ◌*◌, ◌-◌, ◌/◌, ◌%◌, ◌<◌, ◌≤◌, Bool, true, false, cond, List, [], ◌∷◌, ◌++◌, length, replicate, take}
+use Rattle.std.proofs.Common.{◌≡◌, ℕ, zero, suc, ◌+◌, ◌*◌, ◌-◌, ◌/◌, ◌%◌, ◌<◌, ◌≤◌, ◌^◌, Bool, true, false, cond, List, [], ◌∷◌, ◌++◌, length, replicate, take}
 use Rattle.std.proofs.Common.{drop, refl, ap, arith, sym, subst, ◌∙◌, append_assoc, eqb-true}
 use Rattle.std.specs.Prelude.{◌==◌}
+use Rattle.std.specs.Int.{bit_at}
+use Rattle.std.proofs.lemmas.Nat.Bits.{bit_at-suc, bit_at_lowest}
 use Rattle.std.proofs.lemmas.Bool.{eqb-false}
 use Rattle.std.proofs.lemmas.List.{length-take-le, length-drop, length-replicate, drop-replicate, take-replicate}
+use Rattle.std.proofs.Math.Nat.{pow-succ'}
 use Rattle.std.proofs.Math.Seq.{take-add}
 use Rattle.nc_decode.specs.declared.instruction.Mark.{Mark}
 use Rattle.nc_region.specs.declared.acts.Act.{Act}
@@ -56,7 +59,7 @@ put_entries chosen base code i bits le h =
     (by_bits chosen (base + 32 * i) 32 bits (take 32 (drop (32 * i) code)) h (bundle_long i code le))
 
 -- a bundle of stops
-stops_there : (n i : ℕ) → 32 * i + 32 ≤ n → take 32 (drop (32 * i) (replicate {A = ℕ} n 244)) ≡ replicate {A = ℕ} 32 244
+pub stops_there : (n i : ℕ) → 32 * i + 32 ≤ n → take 32 (drop (32 * i) (replicate {A = ℕ} n 244)) ≡ replicate {A = ℕ} 32 244
 stops_there n i le =
     ap (λ (z : List ℕ). take 32 z) (drop-replicate (32 * i) n 244) ∙ take-replicate 32 (n - 32 * i) 244 (omega (arith, le))
 
@@ -110,6 +113,16 @@ bits_are chosen at (suc n) bits (here, more) =
 pub bits_bundle : (chosen : ℕ → Bool) (at bits : ℕ) → HasBits chosen at 32 bits → bits ≡ bits_at chosen at
 unfolding bits_at
 bits_bundle chosen at bits h = bits_are chosen at 32 bits h.are
+
+-- a number whose bits say which places pass the test
+pub bits_by_places : (chosen : ℕ → Bool) (at n bits : ℕ) → bits < 2 ^ n → ((k : ℕ) → k < n → (bit_at bits k == 1) ≡ chosen (at + k))
+    → AreBits chosen at n bits
+bits_by_places chosen at zero bits fits h = omega (arith, fits)
+bits_by_places chosen at (suc n) bits fits h = (
+  ap (λ (b : ℕ). b == 1) (sym (bit_at_lowest bits)) ∙ (h 0 (omega arith) ∙ ap chosen {x = at + 0} {y = at} (omega arith)),
+  bits_by_places chosen (at + 1) n (bits / 2) (omega (arith, fits, pow-succ' 2 n)) (λ k lt.
+      ap (λ (b : ℕ). b == 1) (sym (bit_at-suc bits k)) ∙ (h (suc k) (omega (arith, lt)) ∙ ap chosen {x = at + suc k} {y = at + 1 + k} (omega arith))),
+)
 
 -- the run of one more bundle
 pub runs_more : (run : ℕ → ℕ → Run) (chosen : ℕ → Bool) (at n : ℕ)

@@ -1,5 +1,6 @@
 -- Puts written into a buffer, one after the other.
-use Rattle.std.specs.Prelude.{◌≡◌, ℕ, ◌+◌, ◌-◌, Bool, true, false, not, List, ◌++◌, take, length}
+use Rattle.std.specs.Prelude.{◌≡◌, ℕ, ◌+◌, ◌-◌, ◌==◌, Bool, true, false, not, List, ◌++◌, take, length}
+use Rattle.std.specs.Int.{bit_at}
 use Rattle.nc_decode.specs.declared.instruction.Mark.{Mark}
 use Rattle.nc_region.specs.declared.acts.Entry.{Entry}
 use Rattle.nc_region.specs.Acts.{puts_where, is_start, is_inside, is_mark}
@@ -29,3 +30,7 @@ mark_if false mark = not (is_mark mark)
 -- marked places, or the others, by the marks of a chunk at this base
 abbrev pub marked_if : Bool → (ℕ → Mark) → ℕ → ℕ → Bool
 marked_if marked marks base at = mark_if marked (marks (at - base))
+
+-- the place's bit is set, in a number with a bit for each place from this address on; the lowest bit is the first place's
+abbrev pub is_among : ℕ → ℕ → ℕ → Bool
+is_among places at place = bit_at places (place - at) == 1

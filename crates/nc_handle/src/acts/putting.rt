@@ -1,17 +1,19 @@
 //! The acts of a creation and of a deletion with their settlings, written into a host's buffer.
 
-ghost use Rattle.std.specs.Prelude.{◌≡◌, ◌+◌, ◌<◌, ◌≤◌, ◌^◌, List, length, replicate};
+ghost use Rattle.std.specs.Prelude.{◌≡◌, ◌+◌, ◌%◌, ◌==◌, ◌<◌, ◌≤◌, ◌^◌, ℕ, List, length, replicate};
+ghost use Rattle.std.specs.Int.{bit_at};
 ghost use Rattle.nc_decode.specs.declared.instruction.Mark.{Mark};
 ghost use Rattle.nc_region.specs.Acts.{puts_where};
 ghost use Rattle.nc_region.specs.Log.{log_of_create, log_of_delete};
 ghost use Rattle.nc_handle.specs.acts.Standing.{AreMarksAt};
 ghost use Rattle.nc_handle.specs.acts.Written.{HasWritten};
-ghost use Rattle.nc_handle.specs.machinery.Writing.{HasPutUpTo, starts_if, mark_if, marked_if};
+ghost use Rattle.nc_handle.specs.machinery.Writing.{HasPutUpTo, starts_if, mark_if, marked_if, is_among};
 
 use crate::acts::act::NcAct;
 use crate::acts::entries::{STOP, bump, mark_span, put, settle, write};
 use crate::acts::reading::ReadChunk;
 use nc_decode::{BUNDLE, Mark};
+use nc_text::lowest_place;
 
 /// Whether the place is a bundle start, or, with `starts` false, whether it isn't one.
 pub(crate) fn is_chosen(at: u32, starts: bool) -> bool
@@ -56,6 +58,33 @@ fn write_code<C: ReadChunk>(
     count
 }
 
+/// Writes stops at the places whose bits are set among the 32 from this address on, in ascending order. Returns the new number
+/// of acts.
+fn write_places(acts: &mut [NcAct], from: usize, at: u32, places: u32) -> usize
+    requires high { at + 32 ≤ 2 ^ 32 }
+    requires room { from + length (puts_where (is_among places at) at (replicate 32 0xF4)) ≤ length acts.old }
+    ensures { HasPutUpTo (is_among places at) at (replicate 32 0xF4) acts.old from 32 acts.new result }
+{
+    let mut count = from;
+    let mut left = places;
+    while left != 0 {
+        let (k, others) = lowest_place(left);
+        count = write(acts, count, put(at + k, STOP));
+        left = others;
+    }
+    count
+}
+
+/// The marked places of 32 of a chunk that begin at a multiple of 32, or, with `marked` false, its others, as bits.
+fn places_of<C: ReadChunk>(chunk: &C, i: usize, marked: bool) -> u32
+    requires start { i % 32 ≡ 0 }
+    requires within { i + 32 ≤ length (C.code chunk.now) }
+    ensures { (k : ℕ) → k < 32 → (bit_at result k == 1) ≡ mark_if marked (C.marks chunk.now (i + k)) }
+{
+    let places = chunk.marked_places(i);
+    if marked { places } else { !places }
+}
+
 /// Writes stops at a chunk's marked places, or at its others, in ascending order. Returns the new number of acts.
 fn write_stops<C: ReadChunk>(
     acts: &mut [NcAct],
@@ -71,7 +100,12 @@ fn write_stops<C: ReadChunk>(
         (length (C.code chunk.now)) acts.new result }
 {
     let mut count = from;
-    for i in 0..chunk.len() {
+    for n in 0..chunk.len() / 32 {
+        let places = places_of(chunk, 32 * n, marked);
+        count = write_places(acts, count, base + 32 * n as u32, places);
+    }
+    // The places after the last whole 32.
+    for i in 32 * (chunk.len() / 32)..chunk.len() {
         if is_as(chunk.mark(i), marked) {
             count = write(acts, count, put(base + i as u32, STOP));
         }

@@ -1,7 +1,9 @@
 //! A chunk that is read place by place.
 
-ghost use Rattle.std.specs.Prelude.{◌≡◌, ◌<◌, ℕ, List, length, slice_index};
+ghost use Rattle.std.specs.Prelude.{◌≡◌, ◌+◌, ◌%◌, ◌<◌, ◌≤◌, ℕ, List, length, slice_index};
+ghost use Rattle.std.specs.Int.{bit_at};
 ghost use Rattle.nc_decode.specs.declared.instruction.Mark.{Mark};
+ghost use Rattle.nc_text.specs.Marks.{mark_bit};
 
 use nc_decode::Mark;
 
@@ -26,4 +28,29 @@ pub trait ReadChunk {
     fn mark(&self, i: usize) -> Mark
         requires { i < length (code self.now) }
         ensures { result ≡ marks self.now i };
+
+    /// The marked places of 32 that begin at a multiple of 32: a bit for each, the lowest for the first.
+    ///
+    /// This default reads each mark. An implementation that keeps marks as bits may be faster.
+    fn marked_places(&self, i: usize) -> u32
+        requires start { i % 32 ≡ 0 }
+        requires within { i + 32 ≤ length (code self.now) }
+        ensures { (k : ℕ) → k < 32 → bit_at result k ≡ mark_bit (marks self.now (i + k)) }
+    {
+        let mut places = 0;
+        for n in 0..32 {
+            places = 2 * places + mark_bit(self.mark(i + (31 - n)));
+        }
+        places
+    }
+}
+
+/// 1 for a mark that stands for some state, otherwise 0.
+fn mark_bit(mark: Mark) -> u32
+    ensures { result ≡ mark_bit mark }
+{
+    match mark {
+        Mark::Unmarked => 0,
+        Mark::Plain | Mark::After(_) => 1,
+    }
 }

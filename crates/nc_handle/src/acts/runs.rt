@@ -1,6 +1,6 @@
 //! The acts of a creation and of a deletion as runs, one for each bundle and each kind of place.
 
-ghost use Rattle.std.specs.Prelude.{◌≡◌, ◌+◌, ◌*◌, ◌/◌, ◌%◌, ◌<◌, ◌≤◌, ◌^◌, List, length};
+ghost use Rattle.std.specs.Prelude.{◌≡◌, ◌+◌, ◌*◌, ◌/◌, ◌%◌, ◌<◌, ◌≤◌, ◌^◌, ℕ, List, length};
 ghost use Rattle.nc_decode.specs.declared.instruction.Mark.{Mark};
 ghost use Rattle.nc_region.specs.Acts.{puts_where};
 ghost use Rattle.nc_region.specs.Log.{log_of_create, log_of_delete, unsettled};
@@ -10,7 +10,6 @@ ghost use Rattle.nc_handle.specs.machinery.Running.{AddsRuns, HasBits, bytes_for
 
 use crate::acts::act::NcAct;
 use crate::acts::entries::{bump, mark_span, settle, write};
-use crate::acts::putting::{is_as, is_chosen};
 use crate::acts::reading::ReadChunk;
 
 /// The places of a bundle that a run may include.
@@ -26,31 +25,18 @@ enum Places {
     Unmarked,
 }
 
-/// Whether a run of these places includes the one at an index of the chunk's code.
-fn is_picked<C: ReadChunk>(chunk: &C, base: u32, i: usize, places: Places) -> bool
-    requires within { i < length (C.code chunk.now) }
-    requires high { base + length (C.code chunk.now) < 2 ^ 32 }
-    ensures { result ≡ picks places (C.marks chunk.now) base (base + i) }
+/// The bits of a run's places in the bundle that begins at this index of a chunk's code.
+fn bits_of<C: ReadChunk>(chunk: &C, from: usize, places: Places) -> u32
+    requires start { from % 32 ≡ 0 }
+    requires within { from + 32 ≤ length (C.code chunk.now) }
+    ensures { (base : ℕ) → base % 32 ≡ 0 → HasBits (picks places (C.marks chunk.now) base) (base + from) 32 result }
 {
     match places {
-        Places::Inside => is_chosen(base + i as u32, false),
-        Places::Starts => is_chosen(base + i as u32, true),
-        Places::Marked => is_as(chunk.mark(i), true),
-        Places::Unmarked => is_as(chunk.mark(i), false),
+        Places::Inside => !1,
+        Places::Starts => 1,
+        Places::Marked => chunk.marked_places(from),
+        Places::Unmarked => !chunk.marked_places(from),
     }
-}
-
-/// The bits of a run's places in the bundle that begins at this index of the chunk's code.
-fn bits_of<C: ReadChunk>(chunk: &C, base: u32, from: usize, places: Places) -> u32
-    requires within { from + 32 ≤ length (C.code chunk.now) }
-    requires high { base + length (C.code chunk.now) < 2 ^ 32 }
-    ensures { HasBits (picks places (C.marks chunk.now) base) (base + from) 32 result }
-{
-    let mut bits = 0;
-    for k in 0..32 {
-        bits = 2 * bits + u32::from(is_picked(chunk, base, from + 31 - k, places));
-    }
-    bits
 }
 
 /// A run at this address.
@@ -76,6 +62,7 @@ fn write_runs<C: ReadChunk>(
     chunk: &C,
     places: Places,
 ) -> usize
+    requires start { base % 32 ≡ 0 }
     requires high { base + length (C.code chunk.now) < 2 ^ 32 }
     requires whole { length (C.code chunk.now) % 32 ≡ 0 }
     requires room { from + length (C.code chunk.now) / 32 ≤ length acts.old }
@@ -87,7 +74,7 @@ fn write_runs<C: ReadChunk>(
 {
     let mut count = from;
     for i in 0..chunk.len() / 32 {
-        let bits = bits_of(chunk, base, 32 * i, places);
+        let bits = bits_of(chunk, 32 * i, places);
         count = write(acts, count, run(places, base + 32 * i as u32, bits));
     }
     count
@@ -95,6 +82,7 @@ fn write_runs<C: ReadChunk>(
 
 /// Writes the acts of a creation, with its settling, as runs: two for each bundle of the chunk, and two more.
 pub(crate) fn write_creation_runs<C: ReadChunk>(acts: &mut [NcAct], base: u32, chunk: &C)
+    requires start { base % 32 ≡ 0 }
     requires high { base + length (C.code chunk.now) < 2 ^ 32 }
     requires whole { length (C.code chunk.now) % 32 ≡ 0 }
     requires room { 2 * (length (C.code chunk.now) / 32) + 2 ≤ length acts.old }
@@ -110,6 +98,7 @@ pub(crate) fn write_creation_runs<C: ReadChunk>(acts: &mut [NcAct], base: u32, c
 
 /// Writes the acts of a deletion, with its settling, as runs: two for each bundle of the chunk, and two more.
 pub(crate) fn write_deletion_runs<C: ReadChunk>(acts: &mut [NcAct], base: u32, chunk: &C)
+    requires start { base % 32 ≡ 0 }
     requires high { base + length (C.code chunk.now) < 2 ^ 32 }
     requires whole { length (C.code chunk.now) % 32 ≡ 0 }
     requires room { 2 * (length (C.code chunk.now) / 32) + 2 ≤ length acts.old }

@@ -1,10 +1,12 @@
-use Rattle.std.proofs.Common.{◌+◌, ◌<◌, ℕ, List, length, replicate, set, sym, subst, ap, arith, ◌∙◌}
+use Rattle.std.proofs.Common.{◌≡◌, ◌+◌, ◌*◌, ◌==◌, ◌<◌, ◌≤◌, ℕ, List, length, replicate, set, sym, subst, ap, arith, ◌∙◌}
+use Rattle.std.specs.Int.{bit_at}
 use Rattle.nc_decode.specs.declared.instruction.Mark.{Mark}
 use Rattle.nc_region.specs.declared.acts.Act.TheVariants.{Put}
 use Rattle.nc_handle.specs.acts.Shown.{act_of}
 use Rattle.nc_handle.specs.machinery.Writing.{HasPutUpTo, mark_if, marked_if}
 use Rattle.nc_handle.proofs.writing.WriteSteps.{next_fits, put_next, pass_next}
 use Rattle.nc_handle.proofs.writing.MarkReads.{mark_read, stop_read, within_stops}
+use Rattle.nc_handle.proofs.writing.StopPlaces.{bundle_fits, bundle_next}
 use Rattle.nc_handle.proofs.acts.putting.write_stops.Goals.{then-is_as, else-is_as}
 use Rattle.nc_handle.proofs.acts.putting.write_stops.Goals as goal
 
@@ -43,3 +45,35 @@ loop-i-preserved g c =
           (pass_next f c.args.base bytes start c.args.from c.loop-i.i c.loop-i.acts c.loop-i.count c.loop-i.invariant lt
           (read ∙ (sym c.is_as.ensures ∙ w.if-is_as.false)))
     ]
+
+pub write_places-count-requires-clause-room : goal.write_places-count-requires-clause-room
+write_places-count-requires-clause-room g c =
+    let marks = g.C.ReadChunk.marks c.args.chunk.now in
+    let many = length (g.C.ReadChunk.code c.args.chunk.now) in
+    let n = c.loop-n.n in
+    let fits : 32 * n + 32 ≤ many = omega (arith, c.loop-n-test.true, c.len-n-end.ensures) in
+    let agree : (k : ℕ) → k < 32
+    → (bit_at c.places_of-places.result k == 1) ≡ marked_if c.args.marked marks c.args.base (c.args.base + (32 * n + k)) =
+    λ k lt. c.places_of-places.ensures k lt ∙ sym (mark_read c.args.marked marks c.args.base (32 * n + k)) in
+    bundle_fits (marked_if c.args.marked marks c.args.base) c.places_of-places.result c.args.base n many c.args.acts.now c.args.from c.loop-n.acts
+    c.loop-n.count fits agree c.loop-n.invariant c.requires.room
+
+pub loop-n-preserved : goal.loop-n-preserved
+loop-n-preserved g c =
+    let marks = g.C.ReadChunk.marks c.args.chunk.now in
+    let many = length (g.C.ReadChunk.code c.args.chunk.now) in
+    let n = c.loop-n.n in
+    let fits : 32 * n + 32 ≤ many = omega (arith, c.loop-n-test.true, c.len-n-end.ensures) in
+    let agree : (k : ℕ) → k < 32
+    → (bit_at c.places_of-places.result k == 1) ≡ marked_if c.args.marked marks c.args.base (c.args.base + (32 * n + k)) =
+    λ k lt. c.places_of-places.ensures k lt ∙ sym (mark_read c.args.marked marks c.args.base (32 * n + k)) in
+    bundle_next (marked_if c.args.marked marks c.args.base) c.places_of-places.result c.args.base n many c.args.acts.now c.args.from c.loop-n.acts
+    c.write_places-count.new.acts c.loop-n.count c.write_places-count.result fits agree c.loop-n.invariant c.write_places-count.ensures
+
+pub returns : goal.returns
+returns g c =
+    let marks = g.C.ReadChunk.marks c.args.chunk.now in
+    let many = length (g.C.ReadChunk.code c.args.chunk.now) in
+    subst (λ (n : ℕ). HasPutUpTo (marked_if c.args.marked marks c.args.base) c.args.base (replicate many 244) c.args.acts.now c.args.from n
+    c.loop-i.acts c.loop-i.count) {x = c.loop-i.i} {y = many}
+    (omega (arith, c.loop-i-test.false, c.loop-i.auto.i-end, c.len-i-end.ensures)) c.loop-i.invariant

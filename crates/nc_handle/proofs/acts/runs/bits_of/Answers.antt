@@ -1,11 +1,44 @@
-use Rattle.std.proofs.Common.{◌≡◌, ◌+◌, ◌-◌, ℕ, arith, subst}
-use Rattle.nc_handle.specs.machinery.Running.{HasBits, picks}
+use Rattle.std.proofs.Common.{◌≡◌, ◌+◌, ◌==◌, ◌<◌, ℕ, true, false, arith, sym, ◌∙◌, ap, w32}
+use Rattle.std.specs.Int.{bit_at, bit_not}
+use Rattle.nc_handle.specs.machinery.Writing.{marked_if}
+use Rattle.nc_region.specs.Acts.{is_start, is_inside}
+use Rattle.nc_handle.proofs.writing.MarkReads.{start_bit, inside_bit, mark_read, marked_bit, unmarked_bit}
+use Rattle.nc_handle.proofs.writing.RunLists.{bits_by_places}
 use Rattle.nc_handle.proofs.acts.runs.bits_of.Goals as goal
 
-pub returns : goal.returns
-returns g c =
-    let chosen = picks c.args.places (g.C.ReadChunk.marks c.args.chunk.now) c.args.base in
-    let is : c.loop-k.k ≡ 32 = omega (arith, c.loop-k-test.false, c.loop-k.auto.k-end) in
-    let here : c.args.base + (c.args.from + (32 - c.loop-k.k)) ≡ c.args.base + c.args.from = omega (arith, is) in
-    subst (λ (n : ℕ). HasBits chosen (c.args.base + c.args.from) n c.loop-k.bits) is
-    (subst (λ (n : ℕ). HasBits chosen n c.loop-k.k c.loop-k.bits) here c.loop-k.invariant.0)
+pub returns-in-Marked : goal.returns-in-Marked
+returns-in-Marked g c = λ base start.
+    let marks = g.C.ReadChunk.marks c.args.chunk.now in
+    let bits = c.marked_places.result in
+    let is : (k : ℕ) → k < 32 → (bit_at bits k == 1) ≡ marked_if true marks base (base + c.args.from + k) =
+    λ k lt. marked_bit bits k (marks (c.args.from + k)) (c.marked_places.ensures k lt)
+    ∙ (sym (mark_read true marks base (c.args.from + k)) ∙ ap (marked_if true marks base) (omega arith)) in
+    rw c.in-Marked.is (record {
+      are = bits_by_places (marked_if true marks base) (base + c.args.from) 32 bits (omega (arith, c.marked_places.type_inv)) is;
+    })
+
+pub returns-in-Unmarked : goal.returns-in-Unmarked
+returns-in-Unmarked g c = λ base start.
+    let marks = g.C.ReadChunk.marks c.args.chunk.now in
+    let bits = c.marked_places-in-Unmarked.result in
+    let is : (k : ℕ) → k < 32 → (bit_at (bit_not w32 bits) k == 1) ≡ marked_if false marks base (base + c.args.from + k) =
+    λ k lt. unmarked_bit bits k (marks (c.args.from + k)) (omega (arith, c.marked_places-in-Unmarked.type_inv)) lt
+    (c.marked_places-in-Unmarked.ensures k lt)
+    ∙ (sym (mark_read false marks base (c.args.from + k)) ∙ ap (marked_if false marks base) (omega arith)) in
+    rw c.in-Unmarked.is (record {
+      are = bits_by_places (marked_if false marks base) (base + c.args.from) 32 (bit_not w32 bits) (omega arith) is;
+    })
+
+pub returns-in-Inside : goal.returns-in-Inside
+returns-in-Inside g c = λ base start.
+    let at = base + c.args.from in
+    rw c.in-Inside.is (record {
+      are = bits_by_places is_inside at 32 4294967294 (omega arith) (λ k lt. inside_bit at k (omega (arith, start, c.requires.start)) lt);
+    })
+
+pub returns-in-Starts : goal.returns-in-Starts
+returns-in-Starts g c = λ base start.
+    let at = base + c.args.from in
+    rw c.in-Starts.is (record {
+      are = bits_by_places is_start at 32 1 (omega arith) (λ k lt. start_bit at k (omega (arith, start, c.requires.start)) lt);
+    })

@@ -11,7 +11,7 @@ loop-i-preserved g c =
     omega (arith, lt, c.loop-i.invariant.counted, c.loop-i.invariant.len, c.requires.room) in
     rw (c.write-count.ensures.acts, c.write-count.ensures.count, c.run.ensures)
     (run_next c.args.places (g.C.ReadChunk.marks c.args.chunk.now) c.args.base code c.args.acts.now c.args.from c.loop-i.i c.loop-i.acts
-    c.loop-i.count c.bits_of-bits.result c.loop-i.invariant le c.bits_of-bits.ensures fits)
+    c.loop-i.count c.bits_of-bits.result c.loop-i.invariant le (c.bits_of-bits.ensures c.args.base c.requires.start) fits)
 
 pub returns-clause-added : goal.returns-clause-added
 returns-clause-added g c =

@@ -1,0 +1,21 @@
+use Rattle.std.proofs.Common.{arith}
+use Rattle.nc_handle.proofs.writing.StopPlaces.{stop_fits, stopping_none, stopping_next, stopping_all}
+use Rattle.nc_handle.proofs.acts.putting.write_places.Goals as goal
+
+pub loop-left-init : goal.loop-left-init
+loop-left-init c = stopping_none c.args.places c.args.at c.args.acts.now c.args.from
+
+pub write-count-requires : goal.write-count-requires
+write-count-requires c =
+    let low = c.lowest_place-k.ensures in
+    stop_fits _ _ _ _ _ _ _ c.loop-left.invariant c.lowest_place-k.result.0 low.place low.set low.below c.requires.room
+
+pub loop-left-preserved : goal.loop-left-preserved
+loop-left-preserved c =
+    let low = c.lowest_place-k.ensures in
+    rw (c.write-count.ensures.acts, c.write-count.ensures.count, c.put.ensures)
+    (stopping_next _ _ _ _ _ _ _ c.loop-left.invariant c.lowest_place-k.result.0 low.place low.set low.below c.requires.room
+    _ low.cleared low.others)
+
+pub returns : goal.returns
+returns c = stopping_all _ _ _ _ _ _ _ (omega (arith, c.loop-left-test.false)) c.loop-left.invariant

@@ -1,0 +1,28 @@
+use Rattle.std.proofs.Common.{ℕ, ◌+◌, arith, ap, ◌∙◌}
+use Rattle.nc_text.specs.Marks.{mark_at, mark_bit}
+use Rattle.nc_text.specs.MarkedText.{MarkedText}
+use Rattle.nc_handle.proofs.SpanReads.{span_long}
+use Rattle.nc_handle.proofs.span.SpanReadChunk.marked_places.Goals as goal
+
+pub overflow_add-self : goal.overflow_add-self
+overflow_add-self c =
+    let span = c.args.self.now in
+    let placed = span.placed in
+    omega (arith, c.requires.within, span_long span.region.now.marked.bytes span.base span.length placed, placed.high, placed.lawful.2)
+
+pub marked_places-requires-clause-inside : goal.marked_places-requires-clause-inside
+marked_places-requires-clause-inside c =
+    let span = c.args.self.now in
+    let placed = span.placed in
+    let within = span_long span.region.now.marked.bytes span.base span.length placed in
+    rw c.acts.ensures.marked (omega (arith, placed.low), omega (arith, c.requires.within, within, placed.high))
+
+pub marked_places-requires-clause-start : goal.marked_places-requires-clause-start
+marked_places-requires-clause-start c = omega (arith, c.args.self.now.placed.start, c.requires.start)
+
+pub returns : goal.returns
+returns c = λ k lt.
+    let span = c.args.self.now in
+    c.marked_places.ensures k lt
+    ∙ (ap (λ (m : MarkedText). mark_bit (mark_at m.marks (span.base + c.args.i + k))) c.acts.ensures.marked
+    ∙ ap (λ (n : ℕ). mark_bit (mark_at span.region.now.marked.marks n)) {x = span.base + c.args.i + k} {y = span.base + (c.args.i + k)} (omega arith))
