@@ -7,4 +7,6 @@ pub mod Exchanged
 pub mod Turns
 pub mod Sparing
 pub mod Runs
+pub mod Lengths
+pub mod OneInstruction
 pub mod Patched

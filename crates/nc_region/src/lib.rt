@@ -51,6 +51,7 @@ mod fault;
 mod law;
 mod listing;
 mod modify;
+mod patch;
 mod plain;
 mod reclaim;
 mod recorder;

@@ -1,13 +1,15 @@
 //! Replacing instructions of a chunk while threads run in its text.
 
 ghost use Rattle.std.specs.Prelude.{◌≡◌, ◌≢◌, ◌+◌, ◌-◌, ◌<◌, ◌≤◌, ◌↔◌, ◌^◌, ◌%◌, ℕ, Bool, false, List, [], ◌∷◌, ◌++◌, length, IsTrue};
-ghost use Rattle.std.specs.Prelude.{IsFalse, if◌then◌else◌};
+ghost use Rattle.std.specs.Prelude.{IsFalse, OnOk, IfErr, Some, if◌then◌else◌};
+ghost use Rattle.std.specs.Int.{bit_at};
+ghost use Rattle.nc_decode.specs.declared.instruction.Instr.{Instr};
 ghost use Rattle.nc_decode.specs.declared.instruction.Mark.{Mark};
 ghost use Rattle.nc_decode.specs.Bundles.{IsInOneBundle};
 ghost use Rattle.nc_decode.specs.Transfers.{is_direct, target};
 ghost use Rattle.nc_vet.specs.Chunk.{Piece, IsTarget, mark_of};
 ghost use Rattle.nc_text.specs.Marks.{IsClosed};
-ghost use Rattle.nc_text.specs.Places.{byte_at, limit_of};
+ghost use Rattle.nc_text.specs.Places.{byte_at, instruction_at, limit_of};
 ghost use Rattle.nc_text.specs.Ready.{AreReady};
 ghost use Rattle.nc_text.specs.MarkedText.{MarkedText, IsText, with_span};
 ghost use Rattle.nc_region.specs.declared.chunk.Chunk.{Chunk};
@@ -20,15 +22,17 @@ ghost use Rattle.nc_region.specs.Region.{HoldsValid, IsInChunk};
 ghost use Rattle.nc_region.specs.Patch.{IsPatchSpan, AreBytesOf, AreInstructions, IsRun, SparesPair, SparesPairs, GoWell};
 ghost use Rattle.nc_region.specs.Patch.{stands_there, any_place};
 ghost use Rattle.nc_region.specs.Patch.{acts_of_instruction, acts_of_modify, log_of_instruction, log_of_modify};
-ghost use Rattle.nc_region.specs.machinery.PatchSteps.{IsReplacing, IsInterim, Begins, Along, RunsAlong, is_after, KeepsTransfer, CanPatch};
+ghost use Rattle.nc_region.specs.machinery.PatchSteps.{IsReplacing, IsInterim, Begins, Along, RunsAlong, is_after, KeepsTransfer, CanPatch, MayRefuseIn};
 
 use crate::acts::Acts;
 use crate::chunk::Chunk;
 use crate::delete::STOP;
-use crate::walk::instruction;
+use crate::fault::ModifyFault;
 use nc_decode::{BUNDLE, Instr, Mark, decode};
+use nc_text::lowest_place;
 
-fn is_marked(mark: Mark) -> bool
+/// The mark stands for some state.
+pub(crate) fn is_marked(mark: Mark) -> bool
     ensures { IsTrue result ↔ (mark ≢ Mark.Unmarked) }
 {
     !matches!(mark, Mark::Unmarked)
@@ -55,7 +59,7 @@ pub(crate) fn is_patch_span(at: u32, len: usize) -> bool
 }
 
 /// The bytes are a sequence of whole permitted instructions.
-pub(crate) fn are_instructions(bytes: &[u8]) -> bool
+fn are_instructions(bytes: &[u8]) -> bool
     ensures { IsTrue result ↔ AreInstructions bytes.now }
 {
     if bytes.is_empty() {
@@ -65,6 +69,34 @@ pub(crate) fn are_instructions(bytes: &[u8]) -> bool
         return false;
     };
     are_instructions(&bytes[instr.len as usize..])
+}
+
+/// The number of places from one of a bundle's places to the next that is set, or to the end of the bundle.
+fn steps_to_next(places: u32, from: u32) -> u32
+    requires { from < 32 }
+    ensures some { 0 < result }
+    ensures inside { from + result ≤ 32 }
+    ensures between { (k : ℕ) → 0 < k → k < result → bit_at places (from + k) ≡ 0 }
+    ensures next { from + result < 32 → bit_at places (from + result) ≡ 1 }
+{
+    let behind = places >> from >> 1;
+    if behind == 0 {
+        return BUNDLE - from;
+    }
+    let (steps, _others) = lowest_place(behind);
+    steps + 1
+}
+
+/// The length of the chunk's instruction that begins at this address. It ends at the next marked place of its bundle, or else
+/// at the end of the bundle, so no byte is read.
+pub(crate) fn length_at<A: Acts>(acts: &A, chunk: Chunk, at: u32) -> u32
+    requires whole { IsText (A.marked acts.now) }
+    requires begins { Begins (A.marked acts.now) chunk at }
+    requires inside { at < chunk.base + chunk.length }
+    ensures { (i : Instr) → instruction_at (A.marked acts.now).bytes at ≡ Some i → result ≡ i.len }
+{
+    let from = at % BUNDLE;
+    steps_to_next(acts.marked_places(at - from), from)
 }
 
 /// The chunk's instructions from this address on are, one for one, as long as the new ones. An instruction of the chunk
@@ -82,15 +114,15 @@ fn fits_from<A: Acts>(acts: &A, chunk: Chunk, at: u32, new: &[u8]) -> bool
     let Ok(instr) = decode(new) else {
         return false;
     };
-    if instruction(acts, at).len != instr.len {
+    let len = u32::from(instr.len);
+    if length_at(acts, chunk, at) != len {
         return false;
     }
-    let len = instr.len;
-    fits_from(acts, chunk, at + u32::from(len), &new[len as usize..])
+    fits_from(acts, chunk, at + len, &new[instr.len as usize..])
 }
 
 /// The new bytes take the place of whole instructions of the chunk, each as long as the new one.
-pub(crate) fn fits<A: Acts>(acts: &A, chunk: Chunk, at: u32, new: &[u8]) -> bool
+fn fits<A: Acts>(acts: &A, chunk: Chunk, at: u32, new: &[u8]) -> bool
     requires whole { IsText (A.marked acts.now) }
     requires holds { HoldsValid (A.marked acts.now) chunk }
     requires from { IsInChunk chunk at }
@@ -118,7 +150,13 @@ fn keeps_transfer(mark: Mark, instr: Instr) -> bool
 }
 
 /// The new instruction leaves the pairs of the chunk alone. It is as long as the instruction of the chunk that it replaces.
-fn spares_pair<A: Acts>(acts: &A, chunk: Chunk, at: u32, instr: Instr, bytes: &[u8]) -> bool
+pub(crate) fn spares_pair<A: Acts>(
+    acts: &A,
+    chunk: Chunk,
+    at: u32,
+    instr: Instr,
+    bytes: &[u8],
+) -> bool
     requires whole { IsText (A.marked acts.now) }
     requires begins { Begins (A.marked acts.now) chunk at }
     requires some { 0 < length bytes.now }
@@ -139,7 +177,7 @@ fn spares_pair<A: Acts>(acts: &A, chunk: Chunk, at: u32, instr: Instr, bytes: &[
 
 /// Each new instruction leaves the pairs of the chunk alone: the mask of a pair keeps its bytes, and a new instruction is an
 /// indirect transfer exactly if the old one is, and on the same register.
-pub(crate) fn leaves_pairs<A: Acts>(acts: &A, chunk: Chunk, at: u32, new: &[u8]) -> bool
+fn leaves_pairs<A: Acts>(acts: &A, chunk: Chunk, at: u32, new: &[u8]) -> bool
     requires whole { IsText (A.marked acts.now) }
     requires along { Along (A.marked acts.now) chunk at new.now }
     requires ends { at + length new.now ≤ chunk.base + chunk.length }
@@ -174,7 +212,7 @@ fn is_good<A: Acts>(acts: &A, chunk: Chunk, to: u32) -> bool
 }
 
 /// The instruction isn't a direct transfer, or its target is one that a direct transfer of the chunk may have.
-fn goes_well<A: Acts>(acts: &A, chunk: Chunk, instr: Instr, at: u32) -> bool
+pub(crate) fn goes_well<A: Acts>(acts: &A, chunk: Chunk, instr: Instr, at: u32) -> bool
     requires whole { IsText (A.marked acts.now) }
     requires holds { HoldsValid (A.marked acts.now) chunk }
     requires fits { at + instr.len < 2 ^ 32 }
@@ -188,7 +226,7 @@ fn goes_well<A: Acts>(acts: &A, chunk: Chunk, instr: Instr, at: u32) -> bool
 }
 
 /// Each direct transfer among these instructions has a target that a direct transfer of the chunk may have.
-pub(crate) fn keeps_targets<A: Acts>(acts: &A, chunk: Chunk, at: u32, new: &[u8]) -> bool
+fn keeps_targets<A: Acts>(acts: &A, chunk: Chunk, at: u32, new: &[u8]) -> bool
     requires whole { IsText (A.marked acts.now) }
     requires holds { HoldsValid (A.marked acts.now) chunk }
     requires ends { at + length new.now ≤ chunk.base + chunk.length }
@@ -206,6 +244,30 @@ pub(crate) fn keeps_targets<A: Acts>(acts: &A, chunk: Chunk, at: u32, new: &[u8]
     }
     let len = instr.len;
     keeps_targets(acts, chunk, at + u32::from(len), &new[len as usize..])
+}
+
+/// Whether these instructions may come in the place of some of the chunk: the first reason why not.
+pub(crate) fn judge<A: Acts>(acts: &A, chunk: Chunk, at: u32, new: &[u8]) -> Result<(), ModifyFault>
+    requires whole { IsText (A.marked acts.now) }
+    requires holds { HoldsValid (A.marked acts.now) chunk }
+    requires from { IsInChunk chunk at }
+    requires ends { at + length new.now ≤ chunk.base + chunk.length }
+    ensures can { OnOk result (CanPatch (A.marked acts.now) chunk at new.now) }
+    ensures refused { IfErr result (MayRefuseIn (A.marked acts.now) chunk at new.now) }
+{
+    if !are_instructions(new) {
+        return Err(ModifyFault::NotPermitted);
+    }
+    if !fits(acts, chunk, at, new) {
+        return Err(ModifyFault::Boundaries);
+    }
+    if !leaves_pairs(acts, chunk, at, new) {
+        return Err(ModifyFault::PairTouched);
+    }
+    if !keeps_targets(acts, chunk, at, new) {
+        return Err(ModifyFault::BadTarget);
+    }
+    Ok(())
 }
 
 /// The text already has these bytes from this address on.
@@ -252,7 +314,7 @@ pub(crate) fn put_patch<A: Acts>(acts: &mut A, chunk: Chunk, at: u32, new: &[u8]
 }
 
 /// Replaces an instruction with one of the same length, unless its bytes are there already.
-fn put_where_new<A: Acts>(acts: &mut A, at: u32, bytes: &[u8])
+pub(crate) fn put_where_new<A: Acts>(acts: &mut A, at: u32, bytes: &[u8])
     requires whole { IsText (A.marked acts.old) }
     requires ready { AreReady (A.made acts.old) at (length bytes.now) }
     requires replacing { IsReplacing (A.marked acts.old) at bytes.now }

@@ -25,9 +25,8 @@ use crate::create::{live_chunk, make_room, put_chunk};
 use crate::delete::put_stops;
 use crate::fault::{CreateFault, DeleteFault, ModifyFault, RegionFault, WalkFault};
 use crate::listing::{holder, insert_chunk, live_at, set_chunk};
-use crate::modify::{
-    are_instructions, fits, is_patch_span, keeps_targets, leaves_pairs, put_patch,
-};
+use crate::modify::is_patch_span;
+use crate::patch::patch;
 use crate::plain::Plain;
 use crate::reclaim::{remove_due, unmark_due};
 use crate::trace::Trace;
@@ -261,19 +260,9 @@ impl<A: Acts + Drop> RegionOf<A> {
         let Some(chunk) = holder(&self.chunks, at) else {
             return Err(ModifyFault::NotLive);
         };
-        if !are_instructions(new) {
-            return Err(ModifyFault::NotPermitted);
+        if let Err(fault) = patch(&mut self.acts, chunk, at, new) {
+            return Err(fault);
         }
-        if !fits(&self.acts, chunk, at, new) {
-            return Err(ModifyFault::Boundaries);
-        }
-        if !leaves_pairs(&self.acts, chunk, at, new) {
-            return Err(ModifyFault::PairTouched);
-        }
-        if !keeps_targets(&self.acts, chunk, at, new) {
-            return Err(ModifyFault::BadTarget);
-        }
-        put_patch(&mut self.acts, chunk, at, new);
         Ok(())
     }
 

@@ -101,7 +101,7 @@ fn instruction_or_end<A: Acts>(acts: &A, now: State) -> Result<Instr, End>
 }
 
 /// The instruction at a place, wholly inside its bundle. Few instructions are longer than six bytes, so six are read first.
-pub(crate) fn instruction<A: Acts>(acts: &A, at: u32) -> Instr
+fn instruction<A: Acts>(acts: &A, at: u32) -> Instr
     requires whole { IsText (A.marked acts.now) }
     requires inside { InRegion (A.marked acts.now).bytes at }
     requires stands { IsSomeAnd (instruction_at (A.marked acts.now).bytes at) (λ i. IsInOneBundle at i.len) }

@@ -100,7 +100,7 @@ not_found bytes some none (p ∷ rest) b = let f = found_first bytes p rest b in
     differ o i e f = cc
 
 -- one more spelled piece
-spelled_cons : (p : Piece) (rest : List Piece) → Spells p.bytes p.instr → AreSpelled rest → AreSpelled (p ∷ rest)
+pub spelled_cons : (p : Piece) (rest : List Piece) → Spells p.bytes p.instr → AreSpelled rest → AreSpelled (p ∷ rest)
 spelled_cons p rest one others [] after q e = let h : p ≡ q = cc in subst (λ (x : Piece). Spells x.bytes x.instr) h one
 spelled_cons p rest one others (b ∷ before) after q e = others before after q (cc)
 

@@ -2,7 +2,7 @@
 use Rattle.std.proofs.Common.{◌≡◌, ℕ, ◌+◌, ◌-◌, ◌<◌, ◌≤◌, ◌⊎◌, List, length, get_or, inl, inr, arith, ◌∙◌, sym, ap}
 use Rattle.std.proofs.Common.{subst, ⊎_elim}
 use Rattle.std.proofs.lemmas.Bool.{cases_lt}
-use Rattle.nc_text.specs.Places.{byte_at}
+use Rattle.nc_text.specs.Places.{byte_at, limit_of}
 use Rattle.nc_text.specs.Marks.{mark_at}
 use Rattle.nc_text.specs.MarkedText.{MarkedText, IsText, with_span}
 use Rattle.nc_text.proofs.Offered.{length-with_span}
@@ -10,11 +10,14 @@ use Rattle.nc_decode.specs.declared.instruction.Mark.{Mark}
 use Rattle.nc_region.specs.declared.chunk.Chunk.{Chunk}
 use Rattle.nc_region.specs.Chunks.{HasGoodSpan}
 use Rattle.nc_region.specs.Each.{Each}
-use Rattle.nc_region.specs.Region.{IsLive, IsInChunk, HoldsValid, IsRegion}
-use Rattle.nc_region.specs.Patch.{IsHeldBy}
+use Rattle.nc_region.specs.Region.{Region, IsLive, IsInChunk, IsRising, HoldsValid, IsRegion}
+use Rattle.nc_region.specs.Patch.{IsHeldBy, IsPatchSpan, IsPatch, IsRun, LeavesPairs, KeepsTargets, MayRefusePatch}
+use Rattle.nc_region.specs.machinery.PatchSteps.{CanPatch, MayRefuseIn}
+use Rattle.nc_region.specs.declared.fault.ModifyFault.{ModifyFault}
+use Rattle.nc_region.specs.declared.fault.ModifyFault.TheVariants.{BadSpan, NotLive, NotPermitted, Boundaries, PairTouched, BadTarget}
 use Rattle.nc_region.proofs.EachMember.{each_get, each_from}
 use Rattle.nc_region.proofs.SpanPlaces.{span_before, span_behind}
-use Rattle.nc_region.proofs.patching.Runs.{apart_by_index}
+use Rattle.nc_region.proofs.patching.Runs.{apart_by_index, held_same}
 
 -- a chunk of the list is patched
 pub record Patches (old new : MarkedText) (chunks : List Chunk) (c : Chunk) (at : ℕ) (bytes : List ℕ) : Type 0 where
@@ -107,3 +110,41 @@ region_patched old new chunks c at bytes p =
       unused = λ k inside free. ap (λ (z : List Mark). mark_at z k) p.marks_are
           ∙ p.region.unused k (inside.0, omega (arith, inside.1, long)) free;
     }
+
+-- ---- what is said of a chunk that holds the place, said of the region
+
+-- a live chunk that holds a place has the code of a valid one
+pub held_holds : (marked : MarkedText) (chunks : List Chunk) (at : ℕ) (c : Chunk) → IsRegion marked chunks → IsHeldBy chunks at c
+    → HoldsValid marked c
+held_holds marked chunks at c r held =
+    subst (λ (d : Chunk). IsLive d.state → HoldsValid marked d) held.0.2
+    (each_get (λ (d : Chunk). IsLive d.state → HoldsValid marked d) chunks held.0.0 c held.0.1 r.live) held.1
+
+-- what can be done to the chunk is lawful
+pub patch_lawful : (r : Region) (at : ℕ) (new : List ℕ) (c : Chunk) → IsPatchSpan at (length new) → IsHeldBy r.chunks at c
+    → CanPatch r.marked c at new → IsPatch r at new
+patch_lawful r at new c span held p = (span, (c, held, (record { holds = p.holds; run = p.run }, p.pairs, p.targets)))
+
+-- what refuses the chunk's patch refuses that of the region
+pub refused_in : (r : Region) (at : ℕ) (new : List ℕ) (c : Chunk) (fault : ModifyFault) → IsRising 65536 r.chunks
+    → IsPatchSpan at (length new) → IsHeldBy r.chunks at c → MayRefuseIn r.marked c at new fault → MayRefusePatch r at new fault
+refused_in r at new c BadSpan rising span held by = absurd by
+refused_in r at new c NotLive rising span held by = absurd by
+refused_in r at new c NotPermitted rising span held by = (span, (c, held), by)
+refused_in r at new c Boundaries rising span held by = (
+  span,
+  (c, held),
+  by.0,
+  λ f. by.1 (subst (λ (d : Chunk). IsRun r.marked d at new) (held_same r.chunks at c f.0 rising held f.1) f.2),
+)
+refused_in r at new c PairTouched rising span held by = (
+  span,
+  (c, held, by.0),
+  λ f. by.1 (subst (λ (d : Chunk). (is : IsRun r.marked d at new) × LeavesPairs is.run) (held_same r.chunks at c f.0 rising held f.1) f.2),
+)
+refused_in r at new c BadTarget rising span held by = (
+  span,
+  (c, held, by.0),
+  λ p. by.1 (subst (λ (d : Chunk). (is : IsRun r.marked d at new) × LeavesPairs is.run × KeepsTargets (limit_of r.marked.bytes) is.run)
+      (held_same r.chunks at c p.1.0 rising held p.1.1) p.1.2),
+)

@@ -107,7 +107,7 @@ run_along marked c at new r = record {
 }
 
 -- a mark of an instruction is a mark
-some_mark : (b : Bool) (r : ℕ) → cond b (After r) Plain ≡ Unmarked → ⊥
+pub some_mark : (b : Bool) (r : ℕ) → cond b (After r) Plain ≡ Unmarked → ⊥
 some_mark true r e = cc
 some_mark false r e = cc
 

@@ -12,7 +12,9 @@ use Rattle.nc_text.specs.Marks.{IsMarked, IsClosed}
 use Rattle.nc_text.specs.MarkedText.{MarkedText, with_span}
 use Rattle.nc_region.specs.declared.chunk.Chunk.{Chunk}
 use Rattle.nc_region.specs.Region.{HoldsValid}
-use Rattle.nc_region.specs.Patch.{AreBytesOf, IsRunOf, LeavesPairs, KeepsTargets}
+use Rattle.nc_region.specs.declared.fault.ModifyFault.{ModifyFault}
+use Rattle.nc_region.specs.declared.fault.ModifyFault.TheVariants.{BadSpan, NotLive, NotPermitted, Boundaries, PairTouched, BadTarget}
+use Rattle.nc_region.specs.Patch.{AreBytesOf, AreInstructions, IsRunOf, IsRun, LeavesPairs, KeepsTargets}
 
 -- an instruction of the chunk begins at the address, or the chunk ends there
 pub record Begins (marked : MarkedText) (c : Chunk) (at : ℕ) : Type 0 where
@@ -52,6 +54,19 @@ pub record CanPatch (marked : MarkedText) (c : Chunk) (at : ℕ) (new : List ℕ
   pub run : IsRunOf holds.valid.pieces c.base at new
   pub pairs : LeavesPairs run
   pub targets : KeepsTargets (limit_of marked.bytes) run
+
+-- When a patch of a live chunk is refused with each fault: the first of these conditions that doesn't hold. The new bytes
+-- are whole permitted instructions; they fit in the place of instructions of the chunk; they leave its pairs alone; their
+-- targets are good.
+abbrev pub MayRefuseIn : MarkedText → Chunk → ℕ → List ℕ → ModifyFault → Type 0
+MayRefuseIn marked c at new BadSpan = ⊥
+MayRefuseIn marked c at new NotLive = ⊥
+MayRefuseIn marked c at new NotPermitted = ¬ AreInstructions new
+MayRefuseIn marked c at new Boundaries = AreInstructions new × ¬ IsRun marked c at new
+MayRefuseIn marked c at new PairTouched = IsRun marked c at new × ¬ ((is : IsRun marked c at new) × LeavesPairs is.run)
+MayRefuseIn marked c at new BadTarget =
+    ((is : IsRun marked c at new) × LeavesPairs is.run)
+    × ¬ ((is : IsRun marked c at new) × LeavesPairs is.run × KeepsTargets (limit_of marked.bytes) is.run)
 
 -- An instruction is to be replaced with these bytes: afterwards the text is closed, and no instruction of a marked state
 -- at another place overlaps the span.

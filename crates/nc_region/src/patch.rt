@@ -1,0 +1,132 @@
+//! A patch of a live chunk: judged first, then made.
+
+ghost use Rattle.std.specs.Prelude.{◌≡◌, ◌+◌, ◌-◌, ◌≤◌, ◌<◌, List, length, Some, IfSome, OnOk, OnErr, IfErr, IsTrue, IsFalse};
+ghost use Rattle.nc_decode.specs.declared.instruction.Instr.{Instr};
+ghost use Rattle.nc_decode.specs.Front.{first_instruction};
+ghost use Rattle.nc_vet.specs.Chunk.{Piece};
+ghost use Rattle.nc_text.specs.Ready.{AreReady};
+ghost use Rattle.nc_text.specs.MarkedText.{MarkedText, IsText, with_span};
+ghost use Rattle.nc_region.specs.declared.chunk.Chunk.{Chunk};
+ghost use Rattle.nc_region.specs.Acts.{Tells};
+ghost use Rattle.nc_region.specs.Log.{Logs};
+ghost use Rattle.nc_region.specs.Region.{HoldsValid, IsInChunk};
+ghost use Rattle.nc_region.specs.Patch.{AreBytesOf, IsRun, acts_of_modify, log_of_modify};
+ghost use Rattle.nc_region.specs.machinery.PatchSteps.{CanPatch, MayRefuseIn};
+
+use crate::acts::Acts;
+use crate::chunk::Chunk;
+use crate::fault::ModifyFault;
+use crate::modify::{
+    goes_well, is_marked, judge, length_at, put_patch, put_where_new, spares_pair,
+};
+use nc_decode::{Instr, decode};
+
+/// Replaces instructions of a live chunk, or refuses to and changes nothing. Nearly all patches are of a single instruction,
+/// so that one is decoded only once.
+pub(crate) fn patch<A: Acts>(
+    acts: &mut A,
+    chunk: Chunk,
+    at: u32,
+    new: &[u8],
+) -> Result<(), ModifyFault>
+    requires whole { IsText (A.marked acts.old) }
+    requires holds { HoldsValid (A.marked acts.old) chunk }
+    requires from { IsInChunk chunk at }
+    requires ends { at + length new.now ≤ chunk.base + chunk.length }
+    requires ready { AreReady (A.made acts.old) at (length new.now) }
+    ensures can { OnOk result (CanPatch (A.marked acts.old) chunk at new.now) }
+    ensures bytes { OnOk result ((A.marked acts.new).bytes ≡ with_span (A.marked acts.old).bytes (at - 0x10000) new.now) }
+    ensures holds { OnOk result (HoldsValid (A.marked acts.new) chunk) }
+    ensures told { OnOk result ((news : List Piece) → AreBytesOf new.now news
+        → Tells (A.told acts.old) (A.told acts.new) (acts_of_modify (A.marked acts.old).bytes at news)) }
+    ensures log { OnOk result ((news : List Piece) → AreBytesOf new.now news
+        → Logs (A.logged acts.old) (A.logged acts.new) (log_of_modify (A.marked acts.old).bytes at news)) }
+    ensures marks { (A.marked acts.new).marks ≡ (A.marked acts.old).marks }
+    ensures whole { IsText (A.marked acts.new) }
+    ensures made { A.made acts.new ≡ A.made acts.old }
+    ensures keeper { A.keeper acts.new ≡ A.keeper acts.old }
+    ensures unchanged { OnErr result ((A.marked acts.new ≡ A.marked acts.old) × (A.told acts.new ≡ A.told acts.old)
+        × (A.logged acts.new ≡ A.logged acts.old)) }
+    ensures refused { IfErr result (MayRefuseIn (A.marked acts.old) chunk at new.now) }
+{
+    if let Some(instr) = single(new) {
+        judge_single(acts, chunk, at, instr, new)?;
+        put_single(acts, chunk, at, new);
+        return Ok(());
+    }
+    judge(acts, chunk, at, new)?;
+    put_patch(acts, chunk, at, new);
+    Ok(())
+}
+
+/// The instruction that is all of the bytes, if they are one.
+fn single(bytes: &[u8]) -> Option<Instr>
+    ensures { IfSome result (λ i. (first_instruction bytes.now ≡ Some i) × (i.len ≡ length bytes.now)) }
+{
+    match decode(bytes) {
+        Ok(instr) if instr.len as usize == bytes.len() => Some(instr),
+        _ => None,
+    }
+}
+
+/// Whether a single instruction may come in the place of one of the chunk: the first reason why not.
+fn judge_single<A: Acts>(
+    acts: &A,
+    chunk: Chunk,
+    at: u32,
+    instr: Instr,
+    new: &[u8],
+) -> Result<(), ModifyFault>
+    requires whole { IsText (A.marked acts.now) }
+    requires holds { HoldsValid (A.marked acts.now) chunk }
+    requires from { IsInChunk chunk at }
+    requires ends { at + length new.now ≤ chunk.base + chunk.length }
+    requires first { first_instruction new.now ≡ Some instr }
+    requires only { instr.len ≡ length new.now }
+    ensures can { OnOk result (CanPatch (A.marked acts.now) chunk at new.now) }
+    ensures refused { IfErr result (MayRefuseIn (A.marked acts.now) chunk at new.now) }
+{
+    if !fits_single(acts, chunk, at, instr, new) {
+        return Err(ModifyFault::Boundaries);
+    }
+    if !spares_pair(acts, chunk, at, instr, new) {
+        return Err(ModifyFault::PairTouched);
+    }
+    if !goes_well(acts, chunk, instr, at) {
+        return Err(ModifyFault::BadTarget);
+    }
+    Ok(())
+}
+
+/// An instruction of the chunk begins at the address, and is as long as the new one.
+fn fits_single<A: Acts>(acts: &A, chunk: Chunk, at: u32, instr: Instr, new: &[u8]) -> bool
+    requires whole { IsText (A.marked acts.now) }
+    requires holds { HoldsValid (A.marked acts.now) chunk }
+    requires from { IsInChunk chunk at }
+    requires first { first_instruction new.now ≡ Some instr }
+    requires only { instr.len ≡ length new.now }
+    ensures run { IsTrue result → IsRun (A.marked acts.now) chunk at new.now }
+    ensures none { IsFalse result → ¬ IsRun (A.marked acts.now) chunk at new.now }
+{
+    is_marked(acts.mark(at)) && length_at(acts, chunk, at) == u32::from(instr.len)
+}
+
+/// Replaces a single instruction, unless its bytes are there already.
+fn put_single<A: Acts>(acts: &mut A, chunk: Chunk, at: u32, new: &[u8])
+    requires whole { IsText (A.marked acts.old) }
+    requires patch { CanPatch (A.marked acts.old) chunk at new.now }
+    requires ready { AreReady (A.made acts.old) at (length new.now) }
+    requires only { (i : Instr) × (first_instruction new.now ≡ Some i) × (i.len ≡ length new.now) }
+    ensures bytes { (A.marked acts.new).bytes ≡ with_span (A.marked acts.old).bytes (at - 0x10000) new.now }
+    ensures marks { (A.marked acts.new).marks ≡ (A.marked acts.old).marks }
+    ensures whole { IsText (A.marked acts.new) }
+    ensures made { A.made acts.new ≡ A.made acts.old }
+    ensures keeper { A.keeper acts.new ≡ A.keeper acts.old }
+    ensures holds { HoldsValid (A.marked acts.new) chunk }
+    ensures told { (news : List Piece) → AreBytesOf new.now news
+        → Tells (A.told acts.old) (A.told acts.new) (acts_of_modify (A.marked acts.old).bytes at news) }
+    ensures log { (news : List Piece) → AreBytesOf new.now news
+        → Logs (A.logged acts.old) (A.logged acts.new) (log_of_modify (A.marked acts.old).bytes at news) }
+{
+    put_where_new(acts, at, new);
+}
