@@ -19,3 +19,4 @@ mod OneWay
 mod CountedFaults
 mod TotalWords
 mod FurtherAims
+mod QuietPlaces

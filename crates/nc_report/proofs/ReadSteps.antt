@@ -1,13 +1,19 @@
 -- Code that is read step by step.
-use Rattle.std.proofs.Common.{◌≡◌, ◌≢◌, ℕ, ◌+◌, ◌-◌, ◌%◌, ◌<◌, ◌≤◌, List, [], ◌∷◌, ◌++◌, length, drop, refl, sym, subst, ◌∙◌, ap, arith}
+use Rattle.std.proofs.Common.{◌≡◌, ◌≢◌, ℕ, suc, ◌+◌, ◌-◌, ◌%◌, ◌<◌, ◌≤◌, List, [], ◌∷◌, ◌++◌, length, take, drop, refl, sym, subst, ◌∙◌, ap, arith}
 use Rattle.std.proofs.Common.{append_assoc, append-nil, Option, None, Some, true, false}
-use Rattle.std.specs.Prelude.{MatchOption}
-use Rattle.std.proofs.lemmas.List.{length-append, length-replicate, drop-drop, length-drop}
+use Rattle.std.specs.Prelude.{MatchOption, replicate, slice_set}
+use Rattle.std.proofs.lemmas.List.{length-append, length-replicate, drop-drop, length-drop, set_at, replicate_more}
+use Rattle.std.proofs.lemmas.List.{replicate-append-replicate}
+use Rattle.std.proofs.Math.Seq.{take-append-add}
+use Rattle.nc_decode.specs.declared.instruction.Instr.{Instr}
+use Rattle.nc_decode.specs.Spelling.{IsAtFront}
+use Rattle.nc_decode.proofs.Offered.{spells_some}
 use Rattle.nc_vet.proofs.Offered.{flat_map-append}
 use Rattle.nc_report.specs.declared.spot.Spot.{Spot}
+use Rattle.nc_report.specs.declared.spot.Spot.TheVariants.{Inside, Skipped}
 use Rattle.nc_report.specs.declared.steps.Step.{Step}
 use Rattle.nc_report.specs.Reading.{ReadsFrom, IsReading, IsStep, masked_by, step_spots, spots_of, later_spot}
-use Rattle.nc_report.specs.machinery.Seen.{HasSpots, HasSeenTo}
+use Rattle.nc_report.specs.machinery.Seen.{HasSpots, HasSeenTo, HasFilled}
 
 -- a step over an instruction whose length is known
 pub known_step : (known : Option ℕ) (room len : ℕ) → known ≡ Some len
@@ -77,3 +83,74 @@ all_read code at masked spots h e = record {
   is = h.is;
   each = h.each ∙ e;
 }
+
+-- an instruction at the front of some bytes is at the front of the first of them that it fits in
+pub front_cut : (bytes : List ℕ) (i : Instr) (w : ℕ) → IsAtFront bytes i → i.len ≤ w → IsAtFront (take w bytes) i
+front_cut bytes i w f long =
+    let len = (spells_some f.front i f.spells).0 in
+    record {
+      front = f.front;
+      rest = take (w - length f.front) f.rest;
+      parts = ap (take w) f.parts
+          ∙ ap (λ (n : ℕ). take n (f.front ++ f.rest)) {x = w} {y = length f.front + (w - length f.front)} (omega (arith, len, long))
+          ∙ take-append-add f.front f.rest (w - length f.front);
+      spells = f.spells;
+    }
+
+-- one more spot of skipped bytes is written
+pub one_skipped : (before after spots : List Spot) (from k count : ℕ) → length before ≡ from → k < count
+    → spots ≡ before ++ (replicate k Skipped ++ (replicate (count - k) Inside ++ after))
+    → slice_set spots (from + k) Skipped ≡ before ++ (replicate (k + 1) Skipped ++ (replicate (count - (k + 1)) Inside ++ after))
+one_skipped before after spots from k count n lt e =
+    let rest = replicate (count - (k + 1)) Inside ++ after in
+    let front = before ++ replicate k Skipped in
+    let len : length front ≡ from + k = omega (arith, n, length-append before (replicate k Skipped), length-replicate k Skipped) in
+    ap (λ (z : List Spot). slice_set z (from + k) Skipped)
+    (e ∙ ap (λ (m : ℕ). before ++ (replicate k Skipped ++ (replicate m Inside ++ after))) {x = count - k} {y = suc (count - (k + 1))} (omega (arith, lt))
+    ∙ sym (append_assoc before (replicate k Skipped) (Inside ∷ rest)))
+    ∙ set_at front Inside rest Skipped (from + k) len
+    ∙ append_assoc before (replicate k Skipped) (Skipped ∷ rest)
+    ∙ ap (λ (z : List Spot). before ++ z)
+    (sym (append_assoc (replicate k Skipped) (Skipped ∷ []) rest)
+    ∙ ap (λ (z : List Spot). z ++ rest) (replicate_more k Skipped))
+
+-- before the first step all spots are `Inside`
+pub none_filled_yet : (code : List ℕ) (spots : List Spot) → spots ≡ replicate (length code) Inside → HasFilled code 0 None spots
+none_filled_yet code spots e = record {
+  done = [];
+  seen = none_read_yet code [] refl;
+  is = e ∙ ap (λ (n : ℕ). replicate n Inside) {x = length code} {y = length code - 0} (omega arith);
+}
+
+-- the spots of one step more are written
+pub one_filled : (code : List ℕ) (at next room : ℕ) (masked after : Option ℕ) (spots new : List Spot) (s : Step) → HasFilled code at masked spots
+    → drop at code ≢ [] → IsStep room masked (drop at code) s → room ≡ 32 - at % 32 → 1 ≤ s.len → at + s.len ≤ length code
+    → ((before : List Spot) (more : ℕ) → length before ≡ at → spots ≡ before ++ replicate (s.len + more) Inside
+    → new ≡ before ++ (step_spots s ++ replicate more Inside))
+    → after ≡ masked_by at s → next ≡ at + s.len → HasFilled code next after new
+one_filled code at next room masked after spots new s h left step is_room some within put m to =
+    let more = length code - next in record {
+      done = h.done ++ step_spots s;
+      seen = one_step code at next room masked after h.done (h.done ++ step_spots s) s h.seen left step is_room some refl m to;
+      is = put h.done more h.seen.each
+          (h.is ∙ ap (λ (n : ℕ). h.done ++ replicate n Inside) {x = length code - at} {y = s.len + more} (omega (arith, within, to)))
+          ∙ sym (append_assoc h.done (step_spots s) (replicate more Inside));
+    }
+
+-- all spots are written
+pub all_filled : (code : List ℕ) (at : ℕ) (masked : Option ℕ) (spots : List Spot) → HasFilled code at masked spots → at ≡ length code
+    → HasSpots code spots
+all_filled code at masked spots h e =
+    subst (HasSpots code)
+    (sym (h.is ∙ ap (λ (n : ℕ). h.done ++ replicate n Inside) {x = length code - at} {y = 0} (omega (arith, e)) ∙ append-nil h.done))
+    (all_read code at masked h.done h.seen e)
+
+-- the spot of a step's first byte is written, and the others are `Inside`
+pub first_put : (spots before : List Spot) (at n more : ℕ) (first : Spot) → length before ≡ at → 1 ≤ n
+    → spots ≡ before ++ replicate (n + more) Inside
+    → slice_set spots at first ≡ before ++ first ∷ (replicate (n - 1) Inside ++ replicate more Inside)
+first_put spots before at n more first len some e =
+    ap (λ (z : List Spot). slice_set z at first)
+    (e ∙ ap (λ (m : ℕ). before ++ replicate m Inside) {x = n + more} {y = suc ((n - 1) + more)} (omega (arith, some)))
+    ∙ set_at before Inside (replicate ((n - 1) + more) Inside) first at len
+    ∙ ap (λ (z : List Spot). before ++ first ∷ z) (sym (replicate-append-replicate (n - 1) more Inside))

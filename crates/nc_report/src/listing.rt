@@ -11,6 +11,7 @@ use std::alloc::{AllocError, Global};
 
 /// Adds the instructions at the front of these bytes, each followed by a bar, and returns the number of their bytes.
 fn push_read(out: &mut Vec<u8>, bytes: &[u8]) -> Result<usize, AllocError>
+    requires { length bytes.now ≤ 32 }
     ensures lists { IfOk result (λ read. ListsFront out.old.items out.new.items bytes.now read) }
     ensures within { IfOk result (λ read. read ≤ length bytes.now) }
     ensures whole { AreWholeInstructions bytes.now → IfOk result (λ read. read ≡ length bytes.now) }
@@ -30,6 +31,7 @@ fn push_read(out: &mut Vec<u8>, bytes: &[u8]) -> Result<usize, AllocError>
 
 /// Adds the bytes of a bundle from the place of a fault on, and the end of the line.
 pub(crate) fn push_rest(out: &mut Vec<u8>, bytes: &[u8]) -> Result<(), AllocError>
+    requires { length bytes.now ≤ 32 }
     ensures { OnOk result (out.new.items ≡ out.old.items ++ (codes " >" ++ (spaced bytes.now ++ codes "\n"))) }
 {
     push_text(out, b" >")?;
@@ -45,6 +47,7 @@ pub(crate) fn push_bundle(
     bundle: &[u8],
     before: usize,
 ) -> Result<(), AllocError>
+    requires small { length bundle.now ≤ 32 }
     requires within { before ≤ length bundle.now }
     requires read { AreWholeInstructions (take before bundle.now) }
     ensures { OnOk result (AddsBundle out.old.items out.new.items address bundle.now before) }

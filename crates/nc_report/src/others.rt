@@ -1,12 +1,12 @@
 //! The other faults of a refused chunk, found by one reading of all of it.
 
-ghost use Rattle.std.specs.Prelude.{◌≡◌, ◌++◌, ◌∷◌, [], ◌+◌, ◌-◌, ◌%◌, ◌<◌, ◌≤◌, ◌^◌, ℕ, Bool, List, length, take, codes, if◌then◌else◌, Some, IfErr, OnOk, OnErr};
+ghost use Rattle.std.specs.Prelude.{◌≡◌, ◌++◌, ◌+◌, ◌-◌, ◌%◌, ◌<◌, ◌≤◌, ◌^◌, ℕ, List, length, take, codes, Some, IfOk, IfErr, OnOk, OnErr};
 ghost use Rattle.std.specs.List.{flat_map};
 ghost use Rattle.std.specs.Io.KnownBytes.{Appends};
 ghost use Rattle.nc_vet.specs.Faults.{HasGoodSpan};
 ghost use Rattle.nc_output.specs.Verdicts.{fault_words};
-ghost use Rattle.nc_report.specs.Listing.{spaced};
-ghost use Rattle.nc_report.specs.Further.{parted, listing, goes_lines, lines_on, lines_at};
+ghost use Rattle.nc_report.specs.Further.{parted, listing, goes_lines, fault_at, lines_on, lines_at};
+ghost use Rattle.nc_report.specs.Totals.{counts_to};
 ghost use Rattle.nc_report.specs.Report.{detail_line, ReportsOthers, ReportsSome};
 ghost use Rattle.nc_report.specs.machinery.Found.{IsOfWriting, WritesLines, CutsLines, AreLinesTo, AreSomeLines};
 
@@ -14,14 +14,14 @@ use crate::advice::words_about;
 use crate::aim::push_aim;
 use crate::explaining::push_words;
 use crate::fault::ReportFault;
-use crate::further::{fault_at, is_begun};
+use crate::further::{fault_at, is_begun, next_suspect};
 use crate::labels::Labels;
 use crate::listing::push_rest;
 use crate::naming::push_label;
-use crate::numbers::{address_digits, byte_digits, choose, push_all, push_text};
+use crate::numbers::{address_digits, push_all, push_text, put_barred};
 use crate::spot::{Spot, spot_at};
 use crate::steps::read_spots;
-use crate::totals::push_last;
+use crate::totals::{Counts, NO_FAULTS, counted, push_last};
 use nc_decode::BUNDLE;
 use nc_output::{push_name, write_out};
 use nc_vet::VetFault;
@@ -31,14 +31,7 @@ use std::io::Write;
 /// Text is written once it has at least this many bytes.
 const PIECE: usize = 65536;
 
-/// Adds a space and a byte in hexadecimal, and then a bar if `barred`.
-fn push_barred(out: &mut Vec<u8>, byte: u8, barred: bool) -> Result<(), AllocError>
-    ensures { OnOk result (out.new.items ≡ out.old.items ++ (spaced (byte ∷ []) ++ (if barred then codes " |" else []))) }
-{
-    push_all(out, &[b" ", &byte_digits(byte), choose(barred, b" |", b"")])
-}
-
-/// Adds `count` bytes from a place on, with a bar before each instruction but the first.
+/// Adds at most 32 bytes from a place on, with a bar before each instruction but the first.
 fn push_parted(
     out: &mut Vec<u8>,
     code: &[u8],
@@ -46,14 +39,18 @@ fn push_parted(
     start: usize,
     count: usize,
 ) -> Result<(), AllocError>
-    requires { start + count ≤ length code.now }
+    requires within { start + count ≤ length code.now }
+    requires few { count ≤ 32 }
     ensures { OnOk result (out.new.items ≡ out.old.items ++ parted code.now spots.now start count) }
 {
+    let mut text = [0u8; 160];
+    let mut len = 0;
     for n in 0..count {
         let k = start + n;
-        push_barred(out, code[k], is_begun(spot_at(spots, k + 1)))?;
+        let barred = is_begun(spot_at(spots, k + 1));
+        len = put_barred(&mut text, len, code[k], barred);
     }
-    Ok(())
+    push_text(out, &text[..len])
 }
 
 /// Adds the line that shows the bundle of a fault at this place.
@@ -140,7 +137,7 @@ fn push_also(
     push_words(out, words_about(code, fault, k))
 }
 
-/// Adds the lines about a place of the code, if it has a fault other than the chunk's own.
+/// Adds the lines about a place of the code by the fault there, if it has one other than the chunk's own.
 fn push_place(
     alloc: Global,
     out: &mut Vec<u8>,
@@ -151,17 +148,19 @@ fn push_place(
     spots: &[Spot],
     own: usize,
     k: usize,
+    found: Option<VetFault>,
 ) -> Result<(), AllocError>
     requires span { base + length code.now < 2 ^ 32 }
     requires whole { length code.now % 32 ≡ 0 }
     requires each { length spots.now ≡ length code.now }
     requires within { k < length code.now }
+    requires found { found ≡ fault_at base limit code.now spots.now k }
     ensures { OnOk result (out.new.items ≡ out.old.items ++ flat_map detail_line (lines_at base limit code.now labels.now spots.now own k)) }
 {
     if k == own {
         return Ok(());
     }
-    match fault_at(base, limit, code, spots, k) {
+    match found {
         Some(fault) => push_also(alloc, out, base, limit, code, labels, spots, k, fault),
         None => Ok(()),
     }
@@ -186,7 +185,8 @@ fn write_much<W: Write>(out: &mut Vec<u8>, writer: &mut W) -> Result<(), ReportF
     Ok(())
 }
 
-/// Writes the lines about all places of the code. Text that isn't written yet is kept in `out`.
+/// Writes the lines about all places of the code, and returns the number of its faults of each kind. Text that isn't written
+/// yet is kept in `out`.
 fn write_places<W: Write>(
     alloc: Global,
     out: &mut Vec<u8>,
@@ -197,18 +197,22 @@ fn write_places<W: Write>(
     spots: &[Spot],
     own: usize,
     writer: &mut W,
-) -> Result<(), ReportFault>
+) -> Result<Counts, ReportFault>
     requires span { base + length code.now < 2 ^ 32 }
     requires whole { length code.now % 32 ≡ 0 }
     requires each { length spots.now ≡ length code.now }
     ensures ok { OnOk result (WritesLines (W.contents writer.old) (W.contents writer.new) out.old.items out.new.items
         (AreLinesTo base limit code.now labels.now spots.now own (length code.now))) }
+    ensures counts { IfOk result (λ counts. counts ≡ counts_to base limit code.now spots.now (length code.now)) }
     ensures cut { OnErr result (CutsLines (W.contents writer.old) (W.contents writer.new) out.old.items
         (AreSomeLines base limit code.now labels.now spots.now own)) }
     ensures faults { IfErr result IsOfWriting }
 {
-    for k in 0..code.len() {
-        match push_place(alloc, out, base, limit, code, labels, spots, own, k) {
+    let mut counts = NO_FAULTS;
+    let mut k = 0;
+    while k < code.len() {
+        let found = fault_at(base, limit, code, spots, k);
+        match push_place(alloc, out, base, limit, code, labels, spots, own, k, found) {
             Ok(()) => {}
             Err(_) => return Err(ReportFault::OutOfMemory),
         }
@@ -216,8 +220,10 @@ fn write_places<W: Write>(
             Ok(()) => {}
             Err(fault) => return Err(fault),
         }
+        counts = counted(counts, found);
+        k = next_suspect(code, spots, k + 1);
     }
-    Ok(())
+    Ok(counts)
 }
 
 /// Reads all of the code once, past its faults, and writes the lines about each fault except the one at `own`, and then the
@@ -242,11 +248,11 @@ pub(crate) fn write_others<W: Write>(
     let Ok(spots) = read_spots(alloc, code) else {
         return Err(ReportFault::OutOfMemory);
     };
-    match write_places(alloc, out, base, limit, code, labels, &spots, own, writer) {
-        Ok(()) => {}
+    let counts = match write_places(alloc, out, base, limit, code, labels, &spots, own, writer) {
+        Ok(counts) => counts,
         Err(fault) => return Err(fault),
-    }
-    match push_last(alloc, out, base, limit, code, &spots) {
+    };
+    match push_last(alloc, out, counts, &spots) {
         Ok(()) => Ok(()),
         Err(_) => Err(ReportFault::OutOfMemory),
     }

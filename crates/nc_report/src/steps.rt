@@ -1,6 +1,8 @@
 //! The reading of a refused chunk, one instruction after another and past its faults.
 
-ghost use Rattle.std.specs.Prelude.{◌≡◌, ◌≤◌, ◌<◌, ◌+◌, ◌%◌, ◌^◌, ◌++◌, length, IfOk, IfSome, OnOk, vec_len};
+ghost use Rattle.std.specs.Prelude.{◌≡◌, ◌≤◌, ◌<◌, ◌+◌, ◌-◌, ◌%◌, ◌^◌, ◌++◌, ℕ, List, length, replicate, IfOk, IfSome};
+ghost use Rattle.nc_decode.specs.Spelling.{IsAtFront};
+ghost use Rattle.nc_report.specs.declared.spot.Spot.{Spot};
 ghost use Rattle.nc_report.specs.Reading.{extent, masked_by, spot_of, later_spot, step_spots, Finds, IsStep};
 ghost use Rattle.nc_report.specs.machinery.Seen.{HasSpots};
 
@@ -33,18 +35,24 @@ pub(crate) struct Step {
     pub whole: bool,
 }
 
+/// The finding at an instruction that ends in its bundle. The register, if any, was masked directly before.
+#[inline(always)]
+fn found_at(instr: Instr, masked: Option<u8>) -> Found
+    ensures { (window : List ℕ) → IsAtFront window instr → Finds window masked result }
+{
+    if instr.flow.is_indirect() && masked != Some(instr.reg) {
+        Found::Bare
+    } else {
+        Found::Sound(instr)
+    }
+}
+
 /// The finding at the front of the bytes up to the end of a bundle. The register, if any, was masked directly before.
 fn found_in(window: &[u8], masked: Option<u8>) -> Found
     ensures { Finds window.now masked result }
 {
     match decode(window) {
-        Ok(instr) => {
-            if instr.flow.is_indirect() && masked != Some(instr.reg) {
-                Found::Bare
-            } else {
-                Found::Sound(instr)
-            }
-        }
+        Ok(instr) => found_at(instr, masked),
         Err(DecodeFault::Truncated) => Found::Crosses,
         Err(DecodeFault::NotPermitted) => Found::NotPermitted,
     }
@@ -61,9 +69,10 @@ fn extent(rest: &[u8]) -> Option<usize>
     }
 }
 
-/// The step at the front of these bytes, of which the first `room` are in its bundle. The register, if any, was masked
-/// directly before.
-fn step_at(rest: &[u8], room: usize, masked: Option<u8>) -> Step
+/// The step at the front of these bytes, of which the first `room` are in its bundle, whatever begins there. The register, if
+/// any, was masked directly before.
+#[inline(never)]
+fn any_step(rest: &[u8], room: usize, masked: Option<u8>) -> Step
     requires some { 1 ≤ room }
     requires within { room ≤ length rest.now }
     ensures step { IsStep room masked rest.now result }
@@ -85,7 +94,28 @@ fn step_at(rest: &[u8], room: usize, masked: Option<u8>) -> Step
     }
 }
 
+/// The step at the front of these bytes, of which the first `room` are in its bundle. The register, if any, was masked
+/// directly before. An instruction that ends in its bundle, as nearly all do, is decoded once.
+#[inline(always)]
+fn step_at(rest: &[u8], room: usize, masked: Option<u8>) -> Step
+    requires some { 1 ≤ room }
+    requires within { room ≤ length rest.now }
+    ensures step { IsStep room masked rest.now result }
+    ensures some { 1 ≤ result.len }
+    ensures within { result.len ≤ length rest.now }
+{
+    match decode(rest) {
+        Ok(instr) if usize::from(instr.len) <= room => Step {
+            found: found_at(instr, masked),
+            len: usize::from(instr.len),
+            whole: true,
+        },
+        _ => any_step(rest, room, masked),
+    }
+}
+
 /// The register that a step at this place masks for the next one, if both begin in the same bundle.
+#[inline(always)]
 fn masked_by(step: Step, at: usize) -> Option<u8>
     requires { at + step.len < 2 ^ 64 }
     ensures { result ≡ masked_by at step }
@@ -98,6 +128,7 @@ fn masked_by(step: Step, at: usize) -> Option<u8>
 }
 
 /// The spot of the first byte of a step.
+#[inline(always)]
 fn spot_of(found: Found) -> Spot
     ensures { result ≡ spot_of found }
 {
@@ -110,22 +141,47 @@ fn spot_of(found: Found) -> Spot
     }
 }
 
-/// The spot of each other byte of a step.
-fn later_spot(whole: bool) -> Spot
-    ensures { result ≡ later_spot whole }
+/// Writes the spots of the later bytes of a step that isn't whole.
+#[inline(never)]
+fn put_skipped(spots: &mut [Spot], from: usize, count: usize)
+    requires { from + count ≤ length spots.old }
+    ensures { (before after : List Spot) → length before ≡ from → spots.old ≡ before ++ (replicate count Spot.Inside ++ after)
+        → spots.new ≡ before ++ (replicate count Spot.Skipped ++ after) }
 {
-    if whole { Spot::Inside } else { Spot::Skipped }
+    for k in 0..count {
+        spots[from + k] = Spot::Skipped;
+    }
 }
 
-/// Adds the spots of the bytes of a step.
-fn push_spots(spots: &mut Vec<Spot>, step: Step) -> Result<(), AllocError>
+/// Writes the spots of the bytes of a step at a place. All spots from there on are `Inside` before.
+#[inline(always)]
+fn put_spots(spots: &mut [Spot], at: usize, step: Step)
     requires some { 1 ≤ step.len }
-    requires fits { vec_len spots.old + step.len < 2 ^ 63 }
-    ensures { OnOk result (spots.new.items ≡ spots.old.items ++ step_spots step) }
+    requires within { at + step.len ≤ length spots.old }
+    ensures { (before : List Spot) (more : ℕ) → length before ≡ at → spots.old ≡ before ++ replicate (step.len + more) Spot.Inside
+        → spots.new ≡ before ++ (step_spots step ++ replicate more Spot.Inside) }
 {
-    let end = spots.len() + step.len;
-    spots.push(spot_of(step.found))?;
-    spots.resize(end, later_spot(step.whole))
+    spots[at] = spot_of(step.found);
+    if !step.whole {
+        put_skipped(spots, at + 1, step.len - 1);
+    }
+}
+
+/// Reads the code, and writes the spots of all its bytes over as many that are `Inside`.
+fn fill_spots(spots: &mut [Spot], code: &[u8])
+    requires bundles { length code.now % 32 ≡ 0 }
+    requires clear { spots.old ≡ replicate (length code.now) Spot.Inside }
+    ensures { HasSpots code.now spots.new }
+{
+    let mut at = 0usize;
+    let mut masked = None;
+    while at < code.len() {
+        let room = BUNDLE as usize - at % BUNDLE as usize;
+        let step = step_at(&code[at..], room, masked);
+        put_spots(spots, at, step);
+        masked = masked_by(step, at);
+        at += step.len;
+    }
 }
 
 /// The spots of all bytes of the code.
@@ -134,14 +190,7 @@ pub(crate) fn read_spots(alloc: Global, code: &[u8]) -> Result<Vec<Spot>, AllocE
     ensures { IfOk result (λ spots. HasSpots code.now spots.items) }
 {
     let mut spots = Vec::with_capacity(alloc, code.len())?;
-    let mut at = 0usize;
-    let mut masked = None;
-    while at < code.len() {
-        let room = BUNDLE as usize - at % BUNDLE as usize;
-        let step = step_at(&code[at..], room, masked);
-        push_spots(&mut spots, step)?;
-        masked = masked_by(step, at);
-        at += step.len;
-    }
+    spots.resize(code.len(), Spot::Inside)?;
+    fill_spots(spots.as_mut_slice(), code);
     Ok(spots)
 }

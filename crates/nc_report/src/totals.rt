@@ -1,13 +1,13 @@
 //! The last lines about a refused chunk: the number of its faults, and whether the code is in bundles.
 
-ghost use Rattle.std.specs.Prelude.{false, ◌≡◌, ◌<◌, ◌≤◌, ◌+◌, ◌/◌, ◌^◌, ◌++◌, Bool, if◌then◌else◌, ◌==◌, codes, length, map, OnOk};
+ghost use Rattle.std.specs.Prelude.{false, ◌≡◌, ◌<◌, ◌≤◌, ◌+◌, ◌/◌, ◌^◌, ◌++◌, ◌∷◌, Bool, if◌then◌else◌, ◌==◌, codes, length, map, OnOk};
 ghost use Rattle.std.specs.Fmt.{decimal};
 ghost use Rattle.std.specs.List.{flat_map};
 ghost use Rattle.nc_report.specs.Report.{detail_line};
-ghost use Rattle.nc_report.specs.Totals.{counts_to, total, kinds_from, totals_line, starts_inside, adrift_lines, last_lines};
+ghost use Rattle.nc_report.specs.Totals.{total, kinds_from, totals_line, starts_inside, adrift_lines};
 ghost use Rattle.nc_report.specs.machinery.Seen.{counted, kind_words};
 
-use crate::further::{fault_at, is_begun};
+use crate::further::is_begun;
 use crate::numbers::{choose, push_all, push_text};
 use crate::spot::{Spot, spot_at};
 use crate::words::NOT_IN_BUNDLES;
@@ -24,8 +24,16 @@ pub(crate) struct Counts {
     pub bad_target: usize,
 }
 
+/// No faults.
+pub(crate) const NO_FAULTS: Counts = Counts {
+    crosses: 0,
+    not_permitted: 0,
+    bare: 0,
+    bad_target: 0,
+};
+
 /// The counts with one more for the kind of this fault, if there is one.
-fn counted(counts: Counts, found: Option<VetFault>) -> Counts
+pub(crate) fn counted(counts: Counts, found: Option<VetFault>) -> Counts
     requires crosses { counts.crosses < 2 ^ 63 }
     requires not_permitted { counts.not_permitted < 2 ^ 63 }
     requires bare { counts.bare < 2 ^ 63 }
@@ -39,24 +47,6 @@ fn counted(counts: Counts, found: Option<VetFault>) -> Counts
         Some(VetFault::Bare { .. }) => counts.bare += 1,
         Some(VetFault::BadTarget { .. }) => counts.bad_target += 1,
         _ => {}
-    }
-    counts
-}
-
-/// The number of faults of each kind that the code has.
-fn count_faults(base: u32, limit: u32, code: &[u8], spots: &[Spot]) -> Counts
-    requires span { base + length code.now < 2 ^ 32 }
-    requires each { length spots.now ≡ length code.now }
-    ensures { result ≡ counts_to base limit code.now spots.now (length code.now) }
-{
-    let mut counts = Counts {
-        crosses: 0,
-        not_permitted: 0,
-        bare: 0,
-        bad_target: 0,
-    };
-    for k in 0..code.len() {
-        counts = counted(counts, fault_at(base, limit, code, spots, k));
     }
     counts
 }
@@ -168,16 +158,14 @@ fn push_adrift(
 pub(crate) fn push_last(
     alloc: Global,
     out: &mut Vec<u8>,
-    base: u32,
-    limit: u32,
-    code: &[u8],
+    counts: Counts,
     spots: &[Spot],
 ) -> Result<(), AllocError>
-    requires span { base + length code.now < 2 ^ 32 }
-    requires each { length spots.now ≡ length code.now }
-    ensures { OnOk result (out.new.items ≡ out.old.items ++ flat_map detail_line (last_lines base limit code.now spots.now)) }
+    requires { total counts < 2 ^ 63 }
+    ensures { OnOk result (out.new.items ≡ out.old.items ++ flat_map detail_line (totals_line counts
+        ∷ adrift_lines (starts_inside spots.now (length spots.now / 32)) (length spots.now / 32))) }
 {
-    push_totals(alloc, out, count_faults(base, limit, code, spots))?;
+    push_totals(alloc, out, counts)?;
     push_adrift(
         alloc,
         out,

@@ -1,21 +1,25 @@
-use Rattle.std.proofs.Common.{◌++◌, ◌∷◌, [], ℕ, List, get_or, sym, ap, ◌∙◌, append-nil}
+use Rattle.std.proofs.Common.{◌+◌, ◌*◌, ◌++◌, ◌∷◌, [], ℕ, List, get_or, take, ap, ◌∙◌, append-nil, arith}
+use Rattle.std.proofs.lemmas.Result.{on_ok_weaker}
 use Rattle.hex.specs.Hex.{encode_lower}
-use Rattle.nc_report.proofs.Appended.{one_written, all_written}
+use Rattle.nc_report.proofs.Appended.{one_written, all_written, text_added}
 use Rattle.nc_report.proofs.numbers.push_bytes.Goals as goal
 
-pub loop-byte-init : goal.loop-byte-init
-loop-byte-init c = sym (append-nil _)
-
-pub loop-byte-preserved : goal.loop-byte-preserved
-loop-byte-preserved c =
+pub loop-n-preserved : goal.loop-n-preserved
+loop-n-preserved c =
     let bytes = c.args.bytes.now in
-    let i = c.loop-byte.byte-index in
-    let now = c.loop-byte.out.items in
-    one_written (λ byte. 32 ∷ encode_lower (byte ∷ [])) bytes _ now _ i 0 c.loop-byte-test.true c.loop-byte.invariant
-    (c.in_ok-push_all.ensures ∙ ap (λ (z : List ℕ). now ++ 32 ∷ (z ++ [])) c.byte_digits.ensures
-    ∙ ap (λ (z : List ℕ). now ++ 32 ∷ z) (append-nil (encode_lower (get_or bytes i 0 ∷ []))))
+    let i = c.loop-n.n in
+    let now = take (3 * i) c.loop-n.text in
+    let shown : ℕ → List ℕ = λ byte. 32 ∷ encode_lower (byte ∷ []) in
+    record {
+      put = ap (λ (m : ℕ). take m c.put_byte.new.text) {x = 3 * (i + 1)} {y = 3 * i + 3} (omega arith)
+          ∙ one_written shown bytes [] now (take (3 * i + 3) c.put_byte.new.text) i 0 c.loop-n-test.true c.loop-n.invariant.put
+          (c.put_byte.ensures.value ∙ ap (λ (z : List ℕ). now ++ z) (append-nil (shown (get_or bytes i 0))));
+      long = c.put_byte.ensures.long ∙ c.loop-n.invariant.long;
+    }
 
 pub returns : goal.returns
 returns c =
-    all_written (λ byte. 32 ∷ encode_lower (byte ∷ [])) c.args.bytes.now _ _ c.loop-byte.byte-index c.loop-byte-test.false
-    c.loop-byte.invariant
+    let all = all_written (λ byte. 32 ∷ encode_lower (byte ∷ [])) c.args.bytes.now [] _ c.loop-n.n c.loop-n-test.false c.loop-n.invariant.put in
+    on_ok_weaker c.push_text.result
+    (λ e. text_added _ _ c.loop-n.text _ _ (3 * c.loop-n.n) all (omega arith) e)
+    c.push_text.ensures

@@ -1,7 +1,10 @@
-use Rattle.std.proofs.Common.{◌≡◌, ◌++◌, take}
+-- The bytes so far are put.
+use Rattle.std.proofs.Common.{◌≡◌, ◌*◌, take, length}
 use Rattle.nc_report.specs.Listing.{spaced}
 use Rattle.nc_report.proofs.numbers.push_bytes.Given as goal
 
--- the bytes so far are written
-abbrev pub invariant-loop-byte : goal.invariant-loop-byte
-invariant-loop-byte l = l.out.items ≡ l.initial.out.items ++ spaced (take l.byte-index l.bytes)
+abbrev pub invariant-loop-n : goal.invariant-loop-n
+invariant-loop-n l = record {
+  put : take (3 * l.n) l.text ≡ spaced (take l.n l.bytes);
+  long : length l.text ≡ 96;
+}

@@ -15,7 +15,7 @@ returns-in-Some c =
     on_ok_weaker c.push_also.result
     (λ e. e ∙ ap (λ (z : List (List ℕ)). c.args.out.now.items ++ flat_map detail_line z)
     (lines_elsewhere c.args.base c.args.limit c.args.code.now c.args.labels.now c.args.spots.now c.args.own c.args.k
-    (Some c.in-Some.fault) c.if-k-own.false (sym c.in-Some.is ∙ c.fault_at.ensures)))
+    (Some c.in-Some.fault) c.if-k-own.false (sym c.in-Some.is ∙ c.requires.found)))
     c.push_also.ensures
 
 pub returns-in-None : goal.returns-in-None
@@ -23,4 +23,4 @@ returns-in-None c =
     sym (append-nil c.args.out.now.items)
     ∙ ap (λ (z : List (List ℕ)). c.args.out.now.items ++ flat_map detail_line z)
     (lines_elsewhere c.args.base c.args.limit c.args.code.now c.args.labels.now c.args.spots.now c.args.own c.args.k
-    None c.if-k-own.false (sym c.in-None.is ∙ c.fault_at.ensures))
+    None c.if-k-own.false (sym c.in-None.is ∙ c.requires.found))

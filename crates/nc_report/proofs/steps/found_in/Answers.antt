@@ -1,8 +1,8 @@
-use Rattle.std.proofs.Common.{rules, refl, sym, ap, Err}
+use Rattle.std.proofs.Common.{refl, ap, Err}
 use Rattle.nc_report.proofs.steps.found_in.Goals as goal
 
-pub returns-then-ne : goal.returns-then-ne
-returns-then-ne c = (c.in-Ok.instr, (c.in-Ok.ensures.found c.in-Ok.instr).0 refl, sym c.if-is_indirect.ensures, search rules)
+pub returns-in-Ok : goal.returns-in-Ok
+returns-in-Ok c = c.found_at.ensures c.args.window.now ((c.in-Ok.ensures.found c.in-Ok.instr).0 refl)
 
 pub returns-in-Err-Truncated : goal.returns-in-Err-Truncated
 returns-in-Err-Truncated c = c.in-Err-Truncated.ensures.truncated.0 (ap (λ e. Err e) c.in-Err-Truncated.field-0-is)

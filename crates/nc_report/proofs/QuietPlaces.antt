@@ -1,0 +1,123 @@
+-- Places that have no fault, by their spot and their byte alone.
+use Rattle.std.proofs.Common.{◌≡◌, ℕ, zero, suc, ◌+◌, ◌-◌, ◌<◌, ◌≤◌, Bool, true, false, List, [], ◌∷◌, ◌++◌, length, drop, get_or, cond, refl, sym, subst, ◌∙◌, ap}
+use Rattle.std.proofs.Common.{append-nil, Option, Some, None, arith, inl, inr}
+use Rattle.std.specs.Prelude.{slice_index, not, ◌&&◌, ◌==◌}
+use Rattle.std.proofs.lemmas.List.{get_or-drop}
+use Rattle.nc_decode.specs.declared.instruction.Instr.{Instr}
+use Rattle.nc_decode.specs.Spelling.{Spells, IsAtFront}
+use Rattle.nc_decode.specs.Front.{first_instruction}
+use Rattle.nc_decode.specs.Transfers.{is_direct, may_transfer, target}
+use Rattle.nc_decode.proofs.Offered.{exact, direct_begins, spells_some, true_or_false}
+use Rattle.nc_vet.specs.declared.fault.VetFault.{VetFault}
+use Rattle.nc_vet.specs.declared.fault.VetFault.TheVariants as vet
+use Rattle.nc_report.specs.declared.labels.Label.{Label}
+use Rattle.nc_report.specs.declared.spot.Spot.{Spot}
+use Rattle.nc_report.specs.declared.spot.Spot.TheVariants.{Inside, Skipped, Entry, Second, NotPermitted, Crosses, Bare}
+use Rattle.nc_report.specs.Further.{may_go, goes_astray, fault_by, fault_at, lines_on, lines_at, lines_to}
+use Rattle.nc_report.specs.Totals.{counts_to}
+use Rattle.nc_report.specs.machinery.Seen.{is_quiet, counted}
+use Rattle.nc_report.proofs.CountedFaults.{counts_more}
+use Rattle.nc_report.proofs.FurtherLines.{lines_more}
+
+-- what fails
+not_true : (b : Bool) → not b ≡ true → b ≡ false
+not_true true e = absurd cc
+not_true false e = refl
+
+-- a direct transfer begins with one of its bytes
+first_byte : (bytes : List ℕ) (i : Instr) → IsAtFront bytes i → is_direct i.flow ≡ true → may_transfer (get_or bytes 0 0) ≡ true
+first_byte bytes i f direct = go f.front refl
+  where
+    go : (front : List ℕ) → f.front ≡ front → may_transfer (get_or bytes 0 0) ≡ true
+    go [] e = absurd (let some = spells_some f.front i f.spells in omega (arith, some.0, some.1, ap (λ (z : List ℕ). length z) e))
+    go (b ∷ more) e =
+        subst (λ (z : List ℕ). may_transfer (get_or z 0 0) ≡ true) (sym (f.parts ∙ ap (λ (z : List ℕ). z ++ f.rest) e))
+        (direct_begins b more i (subst (λ (z : List ℕ). Spells z i) e f.spells) direct)
+
+-- the test of a direct transfer fails where it fails on the flow
+astray_by : (direct goes : Bool) → direct ≡ false → direct && not goes ≡ false
+astray_by true goes e = absurd cc
+astray_by false goes e = refl
+
+-- where no direct transfer begins with the byte, none goes astray
+none_astray : (base limit : ℕ) (spots : List Spot) (at : ℕ) (bytes : List ℕ) (found : Option Instr) → first_instruction bytes ≡ found
+    → may_transfer (get_or bytes 0 0) ≡ false → goes_astray base limit spots at found ≡ false
+none_astray base limit spots at bytes None is other = refl
+none_astray base limit spots at bytes (Some i) is other =
+    elim (true_or_false (is_direct i.flow)) [
+      | inl direct ↦ absurd (let f : true ≡ false = sym (first_byte bytes i ((exact bytes i).0 is) direct) ∙ other in cc)
+      | inr indirect ↦ astray_by (is_direct i.flow) (may_go base limit spots (target i at)) indirect
+    ]
+
+-- no fault by a quiet spot and byte
+quiet_by : (spot : Spot) (byte : ℕ) (astray : Bool) (at : ℕ) → is_quiet spot byte ≡ true → (may_transfer byte ≡ false → astray ≡ false)
+    → fault_by spot astray at ≡ None
+quiet_by Inside byte astray at q f = refl
+quiet_by Skipped byte astray at q f = refl
+quiet_by Second byte astray at q f = refl
+quiet_by Entry byte astray at q f = ap (λ (b : Bool). cond b (Some (vet.BadTarget at)) None) (f (not_true (may_transfer byte) q))
+quiet_by NotPermitted byte astray at q f = absurd cc
+quiet_by Crosses byte astray at q f = absurd cc
+quiet_by Bare byte astray at q f = absurd cc
+
+-- a quiet place has no fault
+pub quiet_none : (base limit : ℕ) (code : List ℕ) (spots : List Spot) (k : ℕ)
+    → is_quiet (get_or spots k Inside) (slice_index code k) ≡ true → fault_at base limit code spots k ≡ None
+quiet_none base limit code spots k q =
+    quiet_by (get_or spots k Inside) (slice_index code k)
+    (goes_astray base limit spots (base + k) (first_instruction (drop k code))) (base + k) q
+    (λ other. none_astray base limit spots (base + k) (drop k code) (first_instruction (drop k code)) refl
+    (ap may_transfer (get_or-drop k code 0 0 ∙ ap (λ (n : ℕ). get_or code n 0) (let e : k + 0 ≡ k = omega arith in e)) ∙ other))
+
+-- no place from `k` on and before `next` has a fault
+abbrev pub AreFaultless : ℕ → ℕ → List ℕ → List Spot → ℕ → ℕ → Type 0
+AreFaultless base limit code spots k next = (j : ℕ) → k ≤ j → j < next → fault_at base limit code spots j ≡ None
+
+-- no lines, whatever the test says
+no_lines : (b : Bool) → cond {A = List (List ℕ)} b [] [] ≡ []
+no_lines true = refl
+no_lines false = refl
+
+-- a place without a fault has no lines
+none_at : (base limit : ℕ) (code : List ℕ) (labels : List Label) (spots : List Spot) (own k : ℕ) → fault_at base limit code spots k ≡ None
+    → lines_at base limit code labels spots own k ≡ []
+none_at base limit code labels spots own k e =
+    ap (λ (x : Option VetFault). cond (k == own) [] (lines_on base limit code labels spots k x)) e ∙ no_lines (k == own)
+
+-- the lines to a place, over `n` places without a fault
+lines_on_over : (base limit : ℕ) (code : List ℕ) (labels : List Label) (spots : List Spot) (own k n : ℕ)
+    → AreFaultless base limit code spots k (k + n)
+    → lines_to base limit code labels spots own (k + n) ≡ lines_to base limit code labels spots own k
+lines_on_over base limit code labels spots own k zero none = ap (lines_to base limit code labels spots own) {x = k + 0} {y = k} (omega arith)
+lines_on_over base limit code labels spots own k (suc n) none =
+    ap (lines_to base limit code labels spots own) {x = k + suc n} {y = (k + n) + 1} (omega arith)
+    ∙ lines_more base limit code labels spots own (k + n)
+    ∙ ap (λ (z : List (List ℕ)). lines_to base limit code labels spots own (k + n) ++ z)
+    (none_at base limit code labels spots own (k + n) (none (k + n) (omega arith) (omega arith)))
+    ∙ append-nil (lines_to base limit code labels spots own (k + n))
+    ∙ lines_on_over base limit code labels spots own k n (λ j low high. none j low (omega (arith, high)))
+
+-- places without a fault add no lines
+pub lines_over : (base limit : ℕ) (code : List ℕ) (labels : List Label) (spots : List Spot) (own k next : ℕ) → k ≤ next
+    → AreFaultless base limit code spots k next
+    → lines_to base limit code labels spots own next ≡ lines_to base limit code labels spots own k
+lines_over base limit code labels spots own k next low none =
+    ap (lines_to base limit code labels spots own) {x = next} {y = k + (next - k)} (omega arith)
+    ∙ lines_on_over base limit code labels spots own k (next - k) (λ j a b. none j a (omega (arith, b, low)))
+
+-- the counts to a place, over `n` places without a fault
+counts_on_over : (base limit : ℕ) (code : List ℕ) (spots : List Spot) (k n : ℕ) → AreFaultless base limit code spots k (k + n)
+    → counts_to base limit code spots (k + n) ≡ counts_to base limit code spots k
+counts_on_over base limit code spots k zero none = ap (counts_to base limit code spots) {x = k + 0} {y = k} (omega arith)
+counts_on_over base limit code spots k (suc n) none =
+    ap (counts_to base limit code spots) {x = k + suc n} {y = (k + n) + 1} (omega arith)
+    ∙ sym (counts_more base limit code spots (k + n))
+    ∙ ap (counted (counts_to base limit code spots (k + n))) (none (k + n) (omega arith) (omega arith))
+    ∙ counts_on_over base limit code spots k n (λ j low high. none j low (omega (arith, high)))
+
+-- places without a fault aren't counted
+pub counts_over : (base limit : ℕ) (code : List ℕ) (spots : List Spot) (k next : ℕ) → k ≤ next → AreFaultless base limit code spots k next
+    → counts_to base limit code spots next ≡ counts_to base limit code spots k
+counts_over base limit code spots k next low none =
+    ap (counts_to base limit code spots) {x = next} {y = k + (next - k)} (omega arith)
+    ∙ counts_on_over base limit code spots k (next - k) (λ j a b. none j a (omega (arith, b, low)))

@@ -1,0 +1,25 @@
+use Rattle.std.proofs.Common.{ℕ, List, ◌≤◌, ◌+◌, ◌%◌, ◌-◌, length, refl, subst, ap, arith}
+use Rattle.std.proofs.lemmas.List.{take_rest, length-drop}
+use Rattle.nc_report.specs.Reading.{IsStep}
+use Rattle.nc_report.proofs.ReadSteps.{none_filled_yet, one_filled, some_after, all_filled}
+use Rattle.nc_report.proofs.steps.fill_spots.Goals as goal
+
+pub loop-at-init : goal.loop-at-init
+loop-at-init c = record { in_code = omega arith; so_far = none_filled_yet _ _ c.requires.clear }
+
+pub loop-at-preserved : goal.loop-at-preserved
+loop-at-preserved c =
+    let code = c.args.code.now in
+    let at = c.loop-at.at in
+    let rest = take_rest code at in
+    let step = subst (λ (z : List ℕ). IsStep (32 - at % 32) c.loop-at.masked z c.step_at-step.result) rest c.step_at-step.ensures.step in
+    let within : at + c.step_at-step.result.len ≤ length code
+    = omega (arith, c.step_at-step.ensures.within, length-drop at code, ap (λ (z : List ℕ). length z) rest, c.loop-at.invariant.in_code) in
+    record {
+      in_code = within;
+      so_far = one_filled _ _ _ _ _ _ _ _ _ c.loop-at.invariant.so_far (some_after code at c.loop-at-test.true) step refl c.step_at-step.ensures.some
+          within c.put_spots.ensures c.masked_by-masked.ensures refl;
+    }
+
+pub returns : goal.returns
+returns c = all_filled _ _ _ _ c.loop-at.invariant.so_far (omega (arith, c.loop-at.invariant.in_code))

@@ -1,0 +1,17 @@
+use Rattle.std.proofs.Common.{◌-◌, ◌++◌, ℕ, ap, ◌∙◌, arith}
+use Rattle.std.specs.Prelude.{replicate}
+use Rattle.nc_report.specs.declared.spot.Spot.TheVariants.{Inside, Skipped}
+use Rattle.nc_report.proofs.ReadSteps.{one_skipped}
+use Rattle.nc_report.proofs.steps.put_skipped.Goals as goal
+
+pub loop-k-init : goal.loop-k-init
+loop-k-init c = λ before after n e. e ∙ ap (λ (m : ℕ). before ++ (replicate m Inside ++ after)) {x = c.args.count} {y = c.args.count - 0} (omega arith)
+
+pub loop-k-preserved : goal.loop-k-preserved
+loop-k-preserved c = λ before after n e.
+    one_skipped before after _ c.args.from c.loop-k.k c.args.count n (omega arith) (c.loop-k.invariant before after n e)
+
+pub returns : goal.returns
+returns c = λ before after n e. c.loop-k.invariant before after n e
+    ∙ ap (λ (m : ℕ). before ++ (replicate m Skipped ++ (replicate (c.args.count - m) Inside ++ after))) {x = c.loop-k.k} {y = c.args.count} (omega arith)
+    ∙ ap (λ (m : ℕ). before ++ (replicate c.args.count Skipped ++ (replicate m Inside ++ after))) {x = c.args.count - c.args.count} {y = 0} (omega arith)
