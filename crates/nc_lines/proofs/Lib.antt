@@ -6,5 +6,6 @@ pub mod HoldingBack
 pub mod Steps
 pub mod WholeInput
 pub mod Kept
+pub mod FirstWords
 pub mod Gathering
 pub mod VetReplies

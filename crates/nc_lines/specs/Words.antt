@@ -23,6 +23,16 @@ abbrev pub placed_in : List (List ℕ) → Option (ℕ × List ℕ)
 placed_in (at ∷ bytes ∷ []) = option_and_then (λ a. option_map (λ found. (a, found)) (bytes_in bytes)) (address_in at)
 placed_in _ = None
 
+-- the address that the first of these words denotes, and the words after it
+abbrev pub first_address_in : List (List ℕ) → Option (ℕ × List (List ℕ))
+first_address_in [] = None
+first_address_in (word ∷ words) = option_map (λ a. (a, words)) (address_in word)
+
+-- the words of a text, if there is one
+abbrev pub words_after : Option (List ℕ) → List (List ℕ)
+words_after None = []
+words_after (Some text) = words_in text
+
 -- the chunk that a line names to be vetted only: an address and bytes; any other line is a bad line
 abbrev pub chunk_in : List ℕ → Option (ℕ × List ℕ)
 chunk_in line = if is_long line then None else placed_in (words_in line)

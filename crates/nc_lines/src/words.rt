@@ -1,9 +1,9 @@
 //! The words of a line: addresses and bytes in hexadecimal.
 
-ghost use Rattle.std.specs.Prelude.{◌≡◌, IfOk, map};
-ghost use Rattle.std.specs.Option.{option_map};
+ghost use Rattle.std.specs.Prelude.{◌≡◌, ◌<◌, IfOk, IfSome, length, map};
+ghost use Rattle.std.specs.Option.{option_copied, option_map};
 ghost use Rattle.nc_lines.specs.Lines.{words_in};
-ghost use Rattle.nc_lines.specs.Words.{address_in, bytes_in, chunk_in, placed_in, address_and_bytes};
+ghost use Rattle.nc_lines.specs.Words.{address_in, bytes_in, chunk_in, placed_in, address_and_bytes, first_address_in, words_after};
 
 use crate::digits::decode;
 use crate::lines::LINE_LIMIT;
@@ -24,6 +24,27 @@ pub fn address_of(word: &[u8]) -> Option<u32>
     match hex::decode_to_slice(word, &mut bytes) {
         Ok(()) => Some(u32::from_be_bytes(bytes)),
         Err(_) => None,
+    }
+}
+
+/// The address that a text's first word denotes, and the text after the space that follows it, if there is one.
+pub fn first_address_of(text: &[u8]) -> Option<(u32, Option<&[u8]>)>
+    ensures value { option_map (λ found. (found.0, words_after (option_copied found.1))) result ≡ first_address_in (words_in text.now) }
+    ensures shorter { IfSome result (λ found. IfSome found.1 (λ rest. length rest.now < length text.now)) }
+{
+    // an address has eight digits
+    if text.len() <= 8 {
+        return match address_of(text) {
+            Some(at) => Some((at, None)),
+            None => None,
+        };
+    }
+    if text[8] != b' ' {
+        return None;
+    }
+    match address_of(&text[..8]) {
+        Some(at) => Some((at, Some(&text[9..]))),
+        None => None,
     }
 }
 
@@ -66,6 +87,19 @@ pub fn placed_of(alloc: Global, words: &[&[u8]]) -> Result<Option<(u32, Vec<u8>)
     }
 }
 
+/// The address and the bytes that the two words of a text denote.
+pub fn placed_at(alloc: Global, text: &[u8]) -> Result<Option<(u32, Vec<u8>)>, AllocError>
+    ensures { IfOk result (λ found. option_map address_and_bytes found ≡ placed_in (words_in text.now)) }
+{
+    match first_address_of(text) {
+        Some((at, Some(rest))) => match bytes_of(alloc, rest)? {
+            Some(code) => Ok(Some((at, code))),
+            None => Ok(None),
+        },
+        _ => Ok(None),
+    }
+}
+
 /// The address and bytes of a line that names a chunk to be vetted, or nothing if it is a bad line.
 pub(crate) fn placed_in_line(
     alloc: Global,
@@ -76,6 +110,5 @@ pub(crate) fn placed_in_line(
     if line.len() > LINE_LIMIT {
         return Ok(None);
     }
-    let words = words_of(alloc, line)?;
-    placed_of(alloc, words.as_slice())
+    placed_at(alloc, line)
 }
