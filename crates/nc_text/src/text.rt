@@ -1,6 +1,6 @@
 //! A text: the bytes of a region and their marks.
 
-ghost use Rattle.std.specs.Prelude.{◌≡◌, ◌+◌, ◌%◌, ◌-◌, ◌*◌, ◌≤◌, ◌<◌, ℕ, List, length, take, IfOk, IfErr, IsTrue, All, ◌↔◌, ◌⊎◌};
+ghost use Rattle.std.specs.Prelude.{◌≡◌, ◌+◌, ◌%◌, ◌-◌, ◌*◌, ◌≤◌, ◌<◌, ℕ, List, length, slice_index, take, IfOk, IfErr, IsTrue, All, ◌↔◌, ◌⊎◌};
 ghost use Rattle.std.specs.Int.{bit_at};
 ghost use Rattle.nc_decode.specs.Bundles.{IsBundleStart, IsLawfulLimit};
 ghost use Rattle.nc_decode.specs.Bits.{marks_in};
@@ -139,6 +139,16 @@ impl Text {
         ensures { result ≡ byte_at self.now.marked.bytes at }
     {
         table::byte(&self.pages, (at - START) as usize)
+    }
+
+    /// The 32 bytes of a bundle. Its page is looked up once.
+    pub fn bundle(&self, at: u32) -> [u8; 32]
+        requires inside { InRegion self.now.marked.bytes at }
+        requires start { IsBundleStart at }
+        ensures long { length result ≡ 32 }
+        ensures bytes { (k : ℕ) → k < 32 → slice_index result k ≡ byte_at self.now.marked.bytes (at + k) }
+    {
+        table::bundle(&self.pages, (at - START) as usize)
     }
 
     /// The mark at an address of the region.
