@@ -6,6 +6,7 @@ pub mod MarkReads
 pub mod WholeLists
 pub mod Replacements
 pub mod RunLists
+pub mod Bundles
 pub mod StopPlaces
 pub mod RunSteps
 pub mod RunWhole

@@ -38,6 +38,10 @@ impl<'a> ReadChunk for Span<'a> {
         self.region.mark(self.base + i as u32)
     }
 
+    fn bytes(&self, i: usize) -> [u8; 32] {
+        self.region.acts().bundle(self.base + i as u32)
+    }
+
     fn marked_places(&self, i: usize) -> u32 {
         self.region.acts().marked_places(self.base + i as u32)
     }

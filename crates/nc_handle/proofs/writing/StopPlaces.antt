@@ -1,23 +1,20 @@
 -- Stops written for the places of a bundle whose bits are set, and for one bundle after others.
-use Rattle.std.proofs.Common.{◌≡◌, ◌≢◌, ℕ, zero, suc, ◌+◌, ◌*◌, ◌-◌, ◌==◌, ◌<◌, ◌≤◌, Bool, true, false, List, ◌++◌, length, set, take}
+use Rattle.std.proofs.Common.{◌≡◌, ◌≢◌, ℕ, ◌+◌, ◌*◌, ◌-◌, ◌==◌, ◌<◌, ◌≤◌, Bool, true, List, ◌++◌, length, set, take}
 use Rattle.std.proofs.Common.{replicate, inl, inr, refl, ap, arith, sym, subst, ◌∙◌}
 use Rattle.std.specs.Int.{bit_at}
 use Rattle.std.proofs.lemmas.Bool.{cases_lt, cases_eq}
-use Rattle.std.proofs.lemmas.List.{get_or-replicate, length-replicate, length-append, map-append}
+use Rattle.std.proofs.lemmas.List.{get_or-replicate, length-replicate}
 use Rattle.std.proofs.lemmas.Nat.Bits.{bit_at-zero}
 use Rattle.nc_region.specs.declared.acts.Act.{Act}
 use Rattle.nc_region.specs.declared.acts.Act.TheVariants.{Put}
-use Rattle.nc_region.specs.declared.acts.Entry.{Entry}
-use Rattle.nc_region.specs.declared.acts.Entry.TheVariants.{Did}
 use Rattle.nc_region.specs.Acts.{puts_where}
-use Rattle.nc_region.specs.Log.{unsettled}
 use Rattle.nc_handle.specs.declared.acts.act.NcAct.{NcAct}
 use Rattle.nc_handle.specs.acts.Shown.{act_of}
-use Rattle.nc_handle.specs.acts.Written.{Adds}
 use Rattle.nc_handle.specs.machinery.Writing.{HasPutUpTo, is_among}
-use Rattle.nc_handle.proofs.writing.PutLists.{puts_same, puts_within}
-use Rattle.nc_handle.proofs.writing.WriteSteps.{put_none, put_next, pass_next, put_all, next_fits, adds_both}
+use Rattle.nc_handle.proofs.writing.PutLists.{puts_same}
+use Rattle.nc_handle.proofs.writing.WriteSteps.{put_none, put_next, next_fits}
 use Rattle.nc_handle.proofs.writing.RunLists.{bundle_more, stops_there}
+use Rattle.nc_handle.proofs.writing.Bundles.{passed_all, part_fits, part_next}
 
 -- the stops of a bundle
 abbrev pub stops : List ℕ
@@ -25,18 +22,6 @@ stops = replicate 32 244
 
 long : length stops ≡ 32
 long = length-replicate {A = ℕ} 32 244
-
--- places that don't pass are passed over
-passed_all : (chosen : ℕ → Bool) (at : ℕ) (bytes : List ℕ) (initial : List NcAct) (from n j : ℕ) (acts : List NcAct) (count : ℕ)
-    → n + j ≤ length bytes → ((i : ℕ) → i < j → chosen (at + (n + i)) ≡ false)
-    → HasPutUpTo chosen at bytes initial from n acts count → HasPutUpTo chosen at bytes initial from (n + j) acts count
-passed_all chosen at bytes initial from n zero acts count fits none h =
-    subst (λ (k : ℕ). HasPutUpTo chosen at bytes initial from k acts count) {x = n} {y = n + zero} (omega arith) h
-passed_all chosen at bytes initial from n (suc j) acts count fits none h =
-    subst (λ (k : ℕ). HasPutUpTo chosen at bytes initial from k acts count) {x = n + j + 1} {y = n + suc j} (omega arith)
-    (pass_next chosen at bytes initial from (n + j) acts count
-    (passed_all chosen at bytes initial from n j acts count (omega (arith, fits)) (λ i lt. none i (omega (arith, lt))) h)
-    (omega (arith, fits)) (none j (omega arith)))
 
 -- a place by its number
 among_at : (places at k : ℕ) (b : ℕ) → bit_at places k ≡ b → is_among places at (at + k) ≡ (b == 1)
@@ -161,17 +146,9 @@ pub bundle_fits : (chosen : ℕ → Bool) (places base n len : ℕ) (initial : L
     → HasPutUpTo chosen base (replicate len 244) initial from (32 * n) acts count
     → from + length (puts_where chosen base (replicate len 244)) ≤ length initial
     → count + length (puts_where (is_among places (base + 32 * n)) (base + 32 * n) stops) ≤ length acts
-bundle_fits chosen places base n len initial from acts count fits agree h room =
-    omega (
-      arith,
-      h.len,
-      h.counted,
-      room,
-      puts_within chosen base (replicate len 244) (32 * (n + 1)),
-      ap (λ (z : List Act). length z) (bundle_puts chosen places base n len fits agree),
-      length-append (puts_where chosen base (take (32 * n) (replicate len 244)))
-          (puts_where (is_among places (base + 32 * n)) (base + 32 * n) stops),
-    )
+bundle_fits chosen places base n len initial from acts count fits agree =
+    part_fits chosen (is_among places (base + 32 * n)) base (base + 32 * n) n (replicate len 244) stops initial from acts count
+    (bundle_puts chosen places base n len fits agree)
 
 -- they follow those of the bundles before
 pub bundle_next : (chosen : ℕ → Bool) (places base n len : ℕ) (initial : List NcAct) (from : ℕ) (acts now : List NcAct) (count m : ℕ)
@@ -179,18 +156,6 @@ pub bundle_next : (chosen : ℕ → Bool) (places base n len : ℕ) (initial : L
     → HasPutUpTo chosen base (replicate len 244) initial from (32 * n) acts count
     → HasPutUpTo (is_among places (base + 32 * n)) (base + 32 * n) stops acts count 32 now m
     → HasPutUpTo chosen base (replicate len 244) initial from (32 * (n + 1)) now m
-bundle_next chosen places base n len initial from acts now count m fits agree h more =
-    let at = base + 32 * n in
-    let all = put_all (is_among places at) at stops acts count 32 now m (sym long) more in
-    let first : List Act = puts_where chosen base (take (32 * n) (replicate len 244)) in
-    let last : List Act = puts_where (is_among places at) at stops in
-    let both = bundle_puts chosen places base n len fits agree in
-    let added : Adds initial from now m (unsettled first ++ unsettled last) =
-    adds_both initial acts now from count m (unsettled first) (unsettled last) h.written all.written in
-    let entries : unsettled (puts_where chosen base (take (32 * (n + 1)) (replicate len 244))) ≡ unsettled first ++ unsettled last =
-    ap (λ (z : List Act). unsettled z) both ∙ map-append Did first last in
-    record {
-      len = all.len ∙ h.len;
-      counted = omega (arith, all.counted, h.counted, ap (λ (z : List Act). length z) both, length-append first last);
-      written = subst (λ (z : List Entry). Adds initial from now m z) (sym entries) added;
-    }
+bundle_next chosen places base n len initial from acts now count m fits agree =
+    part_next chosen (is_among places (base + 32 * n)) base (base + 32 * n) n (replicate len 244) stops initial from acts now count m long
+    (bundle_puts chosen places base n len fits agree)

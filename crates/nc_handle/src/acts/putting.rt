@@ -1,6 +1,6 @@
 //! The acts of a creation and of a deletion with their settlings, written into a host's buffer.
 
-ghost use Rattle.std.specs.Prelude.{◌≡◌, ◌+◌, ◌%◌, ◌==◌, ◌<◌, ◌≤◌, ◌^◌, ℕ, List, length, replicate};
+ghost use Rattle.std.specs.Prelude.{◌≡◌, ◌+◌, ◌*◌, ◌%◌, ◌==◌, ◌<◌, ◌≤◌, ◌^◌, ℕ, List, length, replicate};
 ghost use Rattle.std.specs.Int.{bit_at};
 ghost use Rattle.nc_decode.specs.declared.instruction.Mark.{Mark};
 ghost use Rattle.nc_region.specs.Acts.{puts_where};
@@ -36,6 +36,33 @@ pub(crate) fn is_as(mark: Mark, marked: bool) -> bool
     }
 }
 
+/// The number of a chunk's whole bundles, or 0 if the chunk doesn't begin at a bundle start.
+fn whole_bundles(base: u32, len: usize) -> usize
+    ensures within { 32 * result ≤ len }
+    ensures start { 0 < result → base % 32 ≡ 0 }
+{
+    if base % BUNDLE == 0 { len / 32 } else { 0 }
+}
+
+/// Writes the put of a bundle's first byte, or, with `starts` false, those of its other bytes, in ascending order. Returns the
+/// new number of acts.
+fn write_bundle(acts: &mut [NcAct], from: usize, at: u32, bytes: &[u8], starts: bool) -> usize
+    requires start { at % 32 ≡ 0 }
+    requires long { length bytes.now ≡ 32 }
+    requires high { at + 32 ≤ 2 ^ 32 }
+    requires room { from + length (puts_where (starts_if starts) at bytes.now) ≤ length acts.old }
+    ensures { HasPutUpTo (starts_if starts) at bytes.now acts.old from 32 acts.new result }
+{
+    if starts {
+        return write(acts, from, put(at, bytes[0]));
+    }
+    let mut count = from;
+    for k in 1..32 {
+        count = write(acts, count, put(at + k as u32, bytes[k]));
+    }
+    count
+}
+
 /// Writes the puts of a chunk's bundle starts, or of its other bytes, in ascending order. Returns the new number of acts.
 fn write_code<C: ReadChunk>(
     acts: &mut [NcAct],
@@ -48,8 +75,13 @@ fn write_code<C: ReadChunk>(
     requires room { from + length (puts_where (starts_if starts) base (C.code chunk.now)) ≤ length acts.old }
     ensures { HasPutUpTo (starts_if starts) base (C.code chunk.now) acts.old from (length (C.code chunk.now)) acts.new result }
 {
+    let whole = whole_bundles(base, chunk.len());
     let mut count = from;
-    for i in 0..chunk.len() {
+    for n in 0..whole {
+        let bytes = chunk.bytes(32 * n);
+        count = write_bundle(acts, count, base + 32 * n as u32, &bytes, starts);
+    }
+    for i in 32 * whole..chunk.len() {
         let at = base + i as u32;
         if is_chosen(at, starts) {
             count = write(acts, count, put(at, chunk.byte(i)));

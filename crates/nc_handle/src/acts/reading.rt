@@ -29,6 +29,22 @@ pub trait ReadChunk {
         requires { i < length (code self.now) }
         ensures { result ≡ marks self.now i };
 
+    /// The 32 bytes that begin at a multiple of 32.
+    ///
+    /// This default reads each byte. An implementation that keeps bytes in a row may be faster.
+    fn bytes(&self, i: usize) -> [u8; 32]
+        requires start { i % 32 ≡ 0 }
+        requires within { i + 32 ≤ length (code self.now) }
+        ensures long { length result ≡ 32 }
+        ensures bytes { (k : ℕ) → k < 32 → slice_index result k ≡ slice_index (code self.now) (i + k) }
+    {
+        let mut bytes = [0; 32];
+        for k in 0..32 {
+            bytes[k] = self.byte(i + k);
+        }
+        bytes
+    }
+
     /// The marked places of 32 that begin at a multiple of 32: a bit for each, the lowest for the first.
     ///
     /// This default reads each mark. An implementation that keeps marks as bits may be faster.

@@ -1,7 +1,8 @@
-use Rattle.std.proofs.Common.{◌+◌, ◌<◌, ℕ, length, set, sym, subst, arith, ◌∙◌}
+use Rattle.std.proofs.Common.{◌+◌, ◌*◌, ◌<◌, ◌≤◌, ℕ, length, set, sym, subst, arith, ◌∙◌}
 use Rattle.nc_region.specs.declared.acts.Act.TheVariants.{Put}
 use Rattle.nc_handle.specs.acts.Shown.{act_of}
 use Rattle.nc_handle.specs.machinery.Writing.{HasPutUpTo, starts_if}
+use Rattle.nc_handle.proofs.writing.Bundles.{code_puts, part_fits, part_next}
 use Rattle.nc_handle.proofs.writing.WriteSteps.{next_fits, put_next, pass_next}
 use Rattle.nc_handle.proofs.acts.putting.write_code.Goals.{then-is_chosen, else-is_chosen}
 use Rattle.nc_handle.proofs.acts.putting.write_code.Goals as goal
@@ -31,3 +32,35 @@ loop-i-preserved g c =
           (pass_next f c.args.base code start c.args.from c.loop-i.i c.loop-i.acts c.loop-i.count c.loop-i.invariant lt
           (sym c.is_chosen.ensures ∙ w.if-is_chosen.false))
     ]
+
+pub write_bundle-count-requires-clause-start : goal.write_bundle-count-requires-clause-start
+write_bundle-count-requires-clause-start g c =
+    omega (arith, c.whole_bundles-whole.ensures.start (omega (arith, c.loop-n-test.true)))
+
+pub write_bundle-count-requires-clause-room : goal.write_bundle-count-requires-clause-room
+write_bundle-count-requires-clause-room g c =
+    let code = g.C.ReadChunk.code c.args.chunk.now in
+    let n = c.loop-n.n in
+    let bytes = c.bytes-bytes.result in
+    let fits : 32 * n + 32 ≤ length code = omega (arith, c.loop-n-test.true, c.whole_bundles-whole.ensures.within, c.len.ensures) in
+    let f = starts_if c.args.starts in
+    part_fits f f c.args.base (c.args.base + 32 * n) n code bytes c.args.acts.now c.args.from c.loop-n.acts c.loop-n.count
+    (code_puts f c.args.base n code bytes fits c.bytes-bytes.ensures.long c.bytes-bytes.ensures.bytes) c.loop-n.invariant c.requires.room
+
+pub loop-n-preserved : goal.loop-n-preserved
+loop-n-preserved g c =
+    let code = g.C.ReadChunk.code c.args.chunk.now in
+    let n = c.loop-n.n in
+    let bytes = c.bytes-bytes.result in
+    let fits : 32 * n + 32 ≤ length code = omega (arith, c.loop-n-test.true, c.whole_bundles-whole.ensures.within, c.len.ensures) in
+    let f = starts_if c.args.starts in
+    part_next f f c.args.base (c.args.base + 32 * n) n code bytes c.args.acts.now c.args.from c.loop-n.acts
+    c.write_bundle-count.new.acts c.loop-n.count c.write_bundle-count.result c.bytes-bytes.ensures.long
+    (code_puts f c.args.base n code bytes fits c.bytes-bytes.ensures.long c.bytes-bytes.ensures.bytes) c.loop-n.invariant
+    c.write_bundle-count.ensures
+
+pub returns : goal.returns
+returns g c =
+    let code = g.C.ReadChunk.code c.args.chunk.now in
+    subst (λ (n : ℕ). HasPutUpTo (starts_if c.args.starts) c.args.base code c.args.acts.now c.args.from n c.loop-i.acts c.loop-i.count)
+    {x = c.loop-i.i} {y = length code} (omega (arith, c.loop-i-test.false, c.loop-i.auto.i-end, c.len-i-end.ensures)) c.loop-i.invariant
