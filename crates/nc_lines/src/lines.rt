@@ -30,7 +30,8 @@ pub(crate) fn answer_line<S: Responder, W: Write>(
         Ok(()) => {}
         Err(_) => return Err(end_early(writer, &mut replies.held)),
     }
-    match hold(writer, &mut replies.held, replies.answer.as_slice()) {
+    let answer = replies.answer.as_slice();
+    match hold(writer, &mut replies.held, answer) {
         Ok(()) => Ok(()),
         Err(_) => Err(ReplayFault::WriteFailed),
     }

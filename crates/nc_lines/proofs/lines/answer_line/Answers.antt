@@ -6,9 +6,9 @@ use Rattle.nc_lines.proofs.lines.answer_line.Goals as goal
 pub returns-in-Ok-hold : goal.returns-in-Ok-hold
 returns-in-Ok-hold g c = λ part e.
     let h = c.in-Ok.ensures part e in
-    let given : c.as_slice.result.now ≡ h.0 =
-    c.as_slice.ensures.value ∙ h.1 ∙ ap (λ (l : List ℕ). l ++ h.0) c.clear_answer.ensures.answer in
-    let all : c.clear_answer.new.self.held.items ++ c.as_slice.result.now ≡ c.args.replies.now.held.items ++ h.0 =
+    let given : c.as_slice-answer.result.now ≡ h.0 =
+    c.as_slice-answer.ensures.value ∙ h.1 ∙ ap (λ (l : List ℕ). l ++ h.0) c.clear_answer.ensures.answer in
+    let all : c.clear_answer.new.self.held.items ++ c.as_slice-answer.result.now ≡ c.args.replies.now.held.items ++ h.0 =
     ap (λ (l : List ℕ). c.clear_answer.new.self.held.items ++ l) given
     ∙ ap (λ (v : Vec ℕ). v.items ++ h.0) c.clear_answer.ensures.held in (
       h.0,
@@ -20,9 +20,9 @@ returns-in-Ok-hold g c = λ part e.
 pub returns-in-Err-hold : goal.returns-in-Err-hold
 returns-in-Err-hold g c = λ part e.
     let h = c.in-Ok.ensures part e in
-    let given : c.as_slice.result.now ≡ h.0 =
-    c.as_slice.ensures.value ∙ h.1 ∙ ap (λ (l : List ℕ). l ++ h.0) c.clear_answer.ensures.answer in
-    let all : c.clear_answer.new.self.held.items ++ c.as_slice.result.now ≡ c.args.replies.now.held.items ++ h.0 =
+    let given : c.as_slice-answer.result.now ≡ h.0 =
+    c.as_slice-answer.ensures.value ∙ h.1 ∙ ap (λ (l : List ℕ). l ++ h.0) c.clear_answer.ensures.answer in
+    let all : c.clear_answer.new.self.held.items ++ c.as_slice-answer.result.now ≡ c.args.replies.now.held.items ++ h.0 =
     ap (λ (l : List ℕ). c.clear_answer.new.self.held.items ++ l) given
     ∙ ap (λ (v : Vec ℕ). v.items ++ h.0) c.clear_answer.ensures.held in
     inr (h.0, c.answer.new.self, h.2, subst (WritesFront (g.W.Write.contents c.args.writer.now) (g.W.Write.contents c.hold.new.writer)) all c.in-Err-hold.ensures.front)
