@@ -3,7 +3,8 @@
 //! [`answer_all`] reads lines of any length in pieces, and hands each line to a [`Responder`], which replies to it; `replies` holds
 //! the replies back until more is to be read.
 //! [`vet_lines`] vets the chunks that lines name, several at a time: `batch` gathers the lines, and `verdicts` writes the
-//! verdicts. [`words_of`], [`address_of`] and [`placed_of`] parse the words of a line.
+//! verdicts. [`words_of`], [`address_of`] and [`placed_of`] parse the words of a line; [`first_address_of`] and [`placed_at`] parse
+//! a text without a list of its words.
 #![tactic(auto)]
 
 mod batch;
@@ -22,4 +23,4 @@ pub use lines::LINE_LIMIT;
 pub use responder::Responder;
 pub use stream::answer_all;
 pub use vetting::vet_lines;
-pub use words::{address_of, placed_of, words_of};
+pub use words::{address_of, first_address_of, placed_at, placed_of, words_of};

@@ -6,5 +6,5 @@ pub mod LineAnswers
 pub mod OneAnswer
 pub mod OneReply
 pub mod Kept
-pub mod ChoiceWords
+pub mod RequestWords
 pub mod Carried

@@ -1,7 +1,8 @@
 //! The request that a line makes.
 
-ghost use Rattle.std.specs.Prelude.{◌≡◌, ℕ, IfOk, map, Some, None, ◌∷◌};
-ghost use Rattle.std.specs.Option.{option_map};
+ghost use Rattle.std.specs.Prelude.{◌≡◌, IfOk, ◌∷◌};
+ghost use Rattle.std.specs.Option.{option_copied, option_map};
+ghost use Rattle.nc_lines.specs.Words.{words_after};
 ghost use Rattle.nc_script.specs.Requests.{request_in, create_in, modify_in, delete_in, of_seat_in, walk_in};
 ghost use Rattle.nc_script.specs.Requests.{addresses_in, ask_in, single_in};
 ghost use Rattle.nc_script.specs.Requests as spec;
@@ -9,7 +10,8 @@ ghost use Rattle.nc_script.specs.machinery.Shown.{shown};
 
 use crate::query::{Query, query_of};
 use crate::words::seat_of;
-use nc_lines::{LINE_LIMIT, address_of, placed_of, words_of};
+use memchr::memchr;
+use nc_lines::{LINE_LIMIT, address_of, first_address_of, placed_at};
 use std::alloc::{AllocError, Global};
 
 /// A request that a line makes.
@@ -34,93 +36,102 @@ pub(crate) enum Request {
 }
 
 /// The request made by the words after `create`.
-fn create_of(alloc: Global, words: &[&[u8]]) -> Result<Option<Request>, AllocError>
-    ensures { IfOk result (λ found. option_map shown found ≡ create_in (map (λ word. word.now) words.now)) }
+fn create_of(alloc: Global, rest: Option<&[u8]>) -> Result<Option<Request>, AllocError>
+    ensures { IfOk result (λ found. option_map shown found ≡ create_in (words_after (option_copied rest.entry))) }
 {
-    match placed_of(alloc, words)? {
+    let Some(text) = rest else {
+        return Ok(None);
+    };
+    match placed_at(alloc, text)? {
         Some((at, bytes)) => Ok(Some(Request::Create { at, bytes })),
         None => Ok(None),
     }
 }
 
 /// The request made by the words after `modify`.
-fn modify_of(alloc: Global, words: &[&[u8]]) -> Result<Option<Request>, AllocError>
-    ensures { IfOk result (λ found. option_map shown found ≡ modify_in (map (λ word. word.now) words.now)) }
+fn modify_of(alloc: Global, rest: Option<&[u8]>) -> Result<Option<Request>, AllocError>
+    ensures { IfOk result (λ found. option_map shown found ≡ modify_in (words_after (option_copied rest.entry))) }
 {
-    match placed_of(alloc, words)? {
+    let Some(text) = rest else {
+        return Ok(None);
+    };
+    match placed_at(alloc, text)? {
         Some((at, bytes)) => Ok(Some(Request::Modify { at, bytes })),
         None => Ok(None),
     }
 }
 
 /// The request made by the words after `delete`.
-fn delete_of(words: &[&[u8]]) -> Option<Request>
-    ensures { option_map shown result ≡ delete_in (map (λ word. word.now) words.now) }
+fn delete_of(rest: Option<&[u8]>) -> Option<Request>
+    ensures { option_map shown result ≡ delete_in (words_after (option_copied rest.entry)) }
 {
-    match words {
-        [base] => match address_of(base) {
-            Some(base) => Some(Request::Delete { base }),
-            None => None,
-        },
-        _ => None,
-    }
-}
-
-/// The request made by the words after `checkin`.
-fn check_in_of(words: &[&[u8]]) -> Option<Request>
-    ensures { option_map shown result ≡ of_seat_in spec.CheckIn (map (λ word. word.now) words.now) }
-{
-    match words {
-        [seat] => match seat_of(seat) {
-            Some(seat) => Some(Request::CheckIn { seat }),
-            None => None,
-        },
-        _ => None,
-    }
-}
-
-/// The request made by the words after `leave`.
-fn leave_of(words: &[&[u8]]) -> Option<Request>
-    ensures { option_map shown result ≡ of_seat_in spec.Leave (map (λ word. word.now) words.now) }
-{
-    match words {
-        [seat] => match seat_of(seat) {
-            Some(seat) => Some(Request::Leave { seat }),
-            None => None,
-        },
-        _ => None,
-    }
-}
-
-/// This request, if no words follow its own.
-fn single_of(request: Request, words: &[&[u8]]) -> Option<Request>
-    ensures { option_map shown result ≡ single_in (shown request) (map (λ word. word.now) words.now) }
-{
-    if words.is_empty() {
-        Some(request)
-    } else {
-        None
-    }
-}
-
-/// The request made by the word of a query, if no words follow it.
-fn ask_of(word: &[u8], words: &[&[u8]]) -> Option<Request>
-    ensures { option_map shown result ≡ ask_in word.now (map (λ word. word.now) words.now) }
-{
-    match query_of(word) {
-        Some(query) => single_of(Request::Ask { query }, words),
+    let Some(text) = rest else {
+        return None;
+    };
+    match address_of(text) {
+        Some(base) => Some(Request::Delete { base }),
         None => None,
     }
 }
 
-/// The addresses that these words denote, if each denotes one.
-fn addresses_of(alloc: Global, words: &[&[u8]]) -> Result<Option<Vec<u32>>, AllocError>
-    ensures { IfOk result (λ found. option_map (λ choices. choices.items) found ≡ addresses_in (map (λ word. word.now) words.now)) }
+/// The request made by the words after `checkin`.
+fn check_in_of(rest: Option<&[u8]>) -> Option<Request>
+    ensures { option_map shown result ≡ of_seat_in spec.CheckIn (words_after (option_copied rest.entry)) }
+{
+    let Some(text) = rest else {
+        return None;
+    };
+    match seat_of(text) {
+        Some(seat) => Some(Request::CheckIn { seat }),
+        None => None,
+    }
+}
+
+/// The request made by the words after `leave`.
+fn leave_of(rest: Option<&[u8]>) -> Option<Request>
+    ensures { option_map shown result ≡ of_seat_in spec.Leave (words_after (option_copied rest.entry)) }
+{
+    let Some(text) = rest else {
+        return None;
+    };
+    match seat_of(text) {
+        Some(seat) => Some(Request::Leave { seat }),
+        None => None,
+    }
+}
+
+/// This request, if no words follow its own.
+fn single_of(request: Request, rest: Option<&[u8]>) -> Option<Request>
+    ensures { option_map shown result ≡ single_in (shown request) (words_after (option_copied rest.entry)) }
+{
+    match rest {
+        None => Some(request),
+        Some(_) => None,
+    }
+}
+
+/// The request made by the word of a query, if no words follow it.
+fn ask_of(word: &[u8], rest: Option<&[u8]>) -> Option<Request>
+    ensures { option_map shown result ≡ ask_in word.now (words_after (option_copied rest.entry)) }
+{
+    match query_of(word) {
+        Some(query) => single_of(Request::Ask { query }, rest),
+        None => None,
+    }
+}
+
+/// The addresses that the words of a text denote, if each denotes one.
+fn addresses_of(alloc: Global, rest: Option<&[u8]>) -> Result<Option<Vec<u32>>, AllocError>
+    ensures { IfOk result (λ found. option_map (λ choices. choices.items) found ≡ addresses_in (words_after (option_copied rest.entry))) }
 {
     let mut choices = Vec::new(alloc);
-    for word in words {
-        match address_of(word) {
-            Some(choice) => choices.push(choice)?,
+    let mut left = rest;
+    while let Some(text) = left {
+        match first_address_of(text) {
+            Some((choice, after)) => {
+                choices.push(choice)?;
+                left = after;
+            }
             None => return Ok(None),
         }
     }
@@ -128,13 +139,13 @@ fn addresses_of(alloc: Global, words: &[&[u8]]) -> Result<Option<Vec<u32>>, Allo
 }
 
 /// The request made by the words after `walk`.
-fn walk_of(alloc: Global, words: &[&[u8]]) -> Result<Option<Request>, AllocError>
-    ensures { IfOk result (λ found. option_map shown found ≡ walk_in (map (λ word. word.now) words.now)) }
+fn walk_of(alloc: Global, rest: Option<&[u8]>) -> Result<Option<Request>, AllocError>
+    ensures { IfOk result (λ found. option_map shown found ≡ walk_in (words_after (option_copied rest.entry))) }
 {
-    let Some((start, choices)) = words.split_first() else {
+    let Some(text) = rest else {
         return Ok(None);
     };
-    let Some(start) = address_of(start) else {
+    let Some((start, choices)) = first_address_of(text) else {
         return Ok(None);
     };
     match addresses_of(alloc, choices)? {
@@ -150,36 +161,35 @@ pub(crate) fn request_of(alloc: Global, line: &[u8]) -> Result<Option<Request>, 
     if line.len() > LINE_LIMIT {
         return Ok(None);
     }
-    let words = words_of(alloc, line)?;
-    asked_by(alloc, words.as_slice())
+    match memchr(b' ', line) {
+        Some(end) => asked_by(alloc, &line[..end], Some(&line[end + 1..])),
+        None => asked_by(alloc, line, None),
+    }
 }
 
-/// The request made by the words of a line, or nothing if they make none.
-fn asked_by(alloc: Global, words: &[&[u8]]) -> Result<Option<Request>, AllocError>
-    ensures { IfOk result (λ found. option_map shown found ≡ spec.request_of (map (λ word. word.now) words.now)) }
+/// The request made by the first word of a line and the text after it, or nothing if they make none.
+fn asked_by(alloc: Global, key: &[u8], rest: Option<&[u8]>) -> Result<Option<Request>, AllocError>
+    ensures { IfOk result (λ found. option_map shown found ≡ spec.request_of (key.now ∷ words_after (option_copied rest.entry))) }
 {
-    let Some((key, rest)) = words.split_first() else {
-        return Ok(None);
-    };
-    if *key == b"create".as_slice() {
+    if key == b"create".as_slice() {
         return create_of(alloc, rest);
     }
-    if *key == b"modify".as_slice() {
+    if key == b"modify".as_slice() {
         return modify_of(alloc, rest);
     }
-    if *key == b"delete".as_slice() {
+    if key == b"delete".as_slice() {
         return Ok(delete_of(rest));
     }
-    if *key == b"checkin".as_slice() {
+    if key == b"checkin".as_slice() {
         return Ok(check_in_of(rest));
     }
-    if *key == b"leave".as_slice() {
+    if key == b"leave".as_slice() {
         return Ok(leave_of(rest));
     }
-    if *key == b"reclaim".as_slice() {
+    if key == b"reclaim".as_slice() {
         return Ok(single_of(Request::Reclaim, rest));
     }
-    if *key == b"walk".as_slice() {
+    if key == b"walk".as_slice() {
         return walk_of(alloc, rest);
     }
     Ok(ask_of(key, rest))
