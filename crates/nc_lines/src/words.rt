@@ -20,10 +20,14 @@ pub fn words_of(alloc: Global, line: &[u8]) -> Result<Vec<&[u8]>, AllocError>
 pub fn address_of(word: &[u8]) -> Option<u32>
     ensures { result ≡ address_in word.now }
 {
+    if word.len() != 8 {
+        return None;
+    }
     let mut bytes = [0u8; 4];
-    match hex::decode_to_slice(word, &mut bytes) {
-        Ok(()) => Some(u32::from_be_bytes(bytes)),
-        Err(_) => None,
+    if decode(word, &mut bytes) {
+        Some(u32::from_be_bytes(bytes))
+    } else {
+        None
     }
 }
 
