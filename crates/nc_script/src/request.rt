@@ -120,11 +120,22 @@ fn ask_of(word: &[u8], rest: Option<&[u8]>) -> Option<Request>
     }
 }
 
+/// The most addresses for which room is made before any is read.
+const FIRST_ROOM: usize = 64;
+
+/// The number of addresses for which room is made: as many as the text may hold, each with a space after it, or the most.
+fn first_room(rest: Option<&[u8]>) -> usize {
+    match rest {
+        Some(text) => (text.len() / 9 + 1).min(FIRST_ROOM),
+        None => 0,
+    }
+}
+
 /// The addresses that the words of a text denote, if each denotes one.
 fn addresses_of(alloc: Global, rest: Option<&[u8]>) -> Result<Option<Vec<u32>>, AllocError>
     ensures { IfOk result (λ found. option_map (λ choices. choices.items) found ≡ addresses_in (words_after (option_copied rest.entry))) }
 {
-    let mut choices = Vec::new(alloc);
+    let mut choices = Vec::with_capacity(alloc, first_room(rest))?;
     let mut left = rest;
     while let Some(text) = left {
         match first_address_of(text) {
