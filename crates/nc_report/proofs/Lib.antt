@@ -20,3 +20,4 @@ mod CountedFaults
 mod TotalWords
 mod FurtherAims
 mod QuietPlaces
+mod QuickReading

@@ -5,3 +5,4 @@ pub mod Aims
 pub mod Runs
 pub mod Seen
 pub mod Texts
+pub mod Quick

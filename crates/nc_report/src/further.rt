@@ -87,14 +87,14 @@ pub(crate) fn fault_at(
 fn is_quiet(spot: Spot, byte: u8) -> bool
     ensures { result ≡ is_quiet spot byte }
 {
-    match spot {
-        Spot::Inside | Spot::Skipped | Spot::Second => true,
-        Spot::Entry => !may_transfer(byte),
-        Spot::NotPermitted | Spot::Crosses | Spot::Bare => false,
-    }
+    // No branches: which spot is next is hard to predict.
+    let may_go = matches!(spot, Spot::Entry) & may_transfer(byte);
+    let is_fault = matches!(spot, Spot::NotPermitted | Spot::Crosses | Spot::Bare);
+    !(may_go | is_fault)
 }
 
 /// The first place at or after this one that may have a fault, by its spot and its byte, or the end of the code.
+#[inline(never)]
 pub(crate) fn next_suspect(code: &[u8], spots: &[Spot], from: usize) -> usize
     requires each { length spots.now ≡ length code.now }
     requires within { from ≤ length code.now }

@@ -138,6 +138,7 @@ fn push_also(
 }
 
 /// Adds the lines about a place of the code by the fault there, if it has one other than the chunk's own.
+#[inline(always)]
 fn push_place(
     alloc: Global,
     out: &mut Vec<u8>,

@@ -7,6 +7,7 @@ ghost use Rattle.nc_report.specs.Reading.{extent, masked_by, spot_of, later_spot
 ghost use Rattle.nc_report.specs.machinery.Seen.{HasSpots};
 
 use crate::lengths::known_len;
+use crate::quick::read_bundle;
 use crate::spot::Spot;
 use nc_decode::{BUNDLE, DecodeFault, Instr, decode};
 use std::alloc::{AllocError, Global};
@@ -176,6 +177,11 @@ fn fill_spots(spots: &mut [Spot], code: &[u8])
     let mut at = 0usize;
     let mut masked = None;
     while at < code.len() {
+        if read_bundle(spots, code, at) {
+            masked = None;
+            at += BUNDLE as usize;
+            continue;
+        }
         let room = BUNDLE as usize - at % BUNDLE as usize;
         let step = step_at(&code[at..], room, masked);
         put_spots(spots, at, step);

@@ -1,11 +1,18 @@
-use Rattle.std.proofs.Common.{ℕ, List, ◌≤◌, ◌+◌, ◌%◌, ◌-◌, length, refl, subst, ap, arith}
+use Rattle.std.proofs.Common.{ℕ, List, ◌≤◌, ◌+◌, ◌%◌, ◌-◌, length, refl, sym, subst, ap, arith}
 use Rattle.std.proofs.lemmas.List.{take_rest, length-drop}
 use Rattle.nc_report.specs.Reading.{IsStep}
+use Rattle.nc_report.specs.machinery.Seen.{HasFilled}
 use Rattle.nc_report.proofs.ReadSteps.{none_filled_yet, one_filled, some_after, all_filled}
 use Rattle.nc_report.proofs.steps.fill_spots.Goals as goal
 
 pub loop-at-init : goal.loop-at-init
 loop-at-init c = record { in_code = omega arith; so_far = none_filled_yet _ _ c.requires.clear }
+
+pub loop-at-preserved-then-read_bundle : goal.loop-at-preserved-then-read_bundle
+loop-at-preserved-then-read_bundle c = record {
+  in_code = c.read_bundle.ensures.room c.if-read_bundle.true;
+  so_far = c.read_bundle.ensures.read c.loop-at.masked c.if-read_bundle.true c.loop-at.invariant.so_far;
+}
 
 pub loop-at-preserved : goal.loop-at-preserved
 loop-at-preserved c =
@@ -17,7 +24,7 @@ loop-at-preserved c =
     = omega (arith, c.step_at-step.ensures.within, length-drop at code, ap (λ (z : List ℕ). length z) rest, c.loop-at.invariant.in_code) in
     record {
       in_code = within;
-      so_far = one_filled _ _ _ _ _ _ _ _ _ c.loop-at.invariant.so_far (some_after code at c.loop-at-test.true) step refl c.step_at-step.ensures.some
+      so_far = one_filled _ _ _ _ _ _ _ _ _ (subst (HasFilled code at c.loop-at.masked) (sym (c.read_bundle.ensures.same c.if-read_bundle.false)) c.loop-at.invariant.so_far) (some_after code at c.loop-at-test.true) step refl c.step_at-step.ensures.some
           within c.put_spots.ensures c.masked_by-masked.ensures refl;
     }
 

@@ -1,0 +1,322 @@
+-- A bundle that the automaton reads to its end is read by the same steps.
+use Rattle.std.proofs.Common.{◌≡◌, ◌≢◌, ℕ, zero, suc, ◌+◌, ◌-◌, ◌/◌, ◌%◌, ◌<◌, ◌≤◌, Bool, true, false, List, [], ◌∷◌, ◌++◌, length, take, drop, get_or, set}
+use Rattle.std.proofs.Common.{refl, sym, subst, ◌∙◌, ap, arith, inl, inr, append_assoc, append-nil, Option, Some, None, ◌==◌, cond, All, eqb-true, ne_eqb, eq-eqb}
+use Rattle.std.specs.Prelude.{slice_index, replicate, nat_lt}
+use Rattle.std.proofs.lemmas.Bool.{cases_lt, le-ltb, lt-ltb}
+use Rattle.std.proofs.lemmas.List.{length-append, length-drop, length-take-le, drop-drop, drop_at, drop_more, set_at, get_or_default, get_or_append_left}
+use Rattle.std.proofs.lemmas.List.{get_or-append-add, get_or-take, get_or-drop, take-append-drop}
+use Rattle.std.proofs.lemmas.List.{nil_from_length, take_more_set, replicate-append-replicate}
+use Rattle.std.proofs.Common.{Fits, w8}
+use Rattle.nc_decode.specs.declared.automaton.TheConstants.{STATES, END, AFTER_PAIR}
+use Rattle.nc_decode.specs.declared.instruction.Instr.{Instr}
+use Rattle.nc_decode.specs.Automaton.{next_state, masked_at, LeadsToEnd, Ends}
+use Rattle.nc_decode.specs.Spelling.{IsAtFront}
+use Rattle.nc_decode.specs.Transfers.{is_indirect}
+use Rattle.nc_decode.proofs.Offered.{exact, spells_some, reads_by_states, none_is_paired, next_small, cond_is_true, cond_is_false}
+use Rattle.nc_report.specs.declared.spot.Spot.{Spot}
+use Rattle.nc_report.specs.declared.spot.Spot.TheVariants.{Inside, Entry, Second}
+use Rattle.nc_report.specs.declared.steps.Found.TheVariants.{Sound}
+use Rattle.nc_report.specs.declared.steps.Step.{Step}
+use Rattle.nc_report.specs.Lengths.{known_length}
+use Rattle.nc_report.specs.Reading.{IsStep, extent, extent_by, spot_of, step_spots, masked_by}
+use Rattle.nc_report.specs.machinery.Seen.{HasSeenTo, HasFilled}
+use Rattle.nc_report.specs.machinery.Quick.{states_after, spot_by, spots_by}
+use Rattle.nc_report.proofs.ReadSteps.{known_step, front_cut, one_step, some_after}
+
+-- the state after all of some bytes
+abbrev pub last_state : ℕ → List ℕ → ℕ
+last_state s [] = s
+last_state s (b ∷ bs) = last_state (next_state s b) bs
+
+-- it is the last of the states
+pub last_of : (s : ℕ) (bs : List ℕ) (k : ℕ) → k + 1 ≡ length bs → get_or (states_after s bs) k 0 ≡ last_state s bs
+last_of s [] k e = absurd (omega (arith, e))
+last_of s (b ∷ []) zero e = refl
+last_of s (b ∷ []) (suc k) e = absurd (omega (arith, e))
+last_of s (b ∷ c ∷ bs) zero e = absurd (omega (arith, e))
+last_of s (b ∷ c ∷ bs) (suc k) e = last_of (next_state s b) (c ∷ bs) k (omega (arith, e))
+
+-- numbers that are bytes
+abbrev pub AreBytes : List ℕ → Type 0
+AreBytes bs = (k : ℕ) → k < length bs → get_or bs k 0 < 256
+
+-- ---- one instruction
+
+-- the first bytes that lead from a state to one after an instruction
+record FirstEnd (m : ℕ) (bs : List ℕ) : Type 0 where
+  byte : ℕ
+  more : List ℕ
+  back : List ℕ
+  end : ℕ
+  parts : bs ≡ byte ∷ (more ++ back)
+  leads : LeadsToEnd m (byte ∷ more) end
+  last : last_state end back ≡ last_state m bs
+  ended : END ≤ end
+  small : end < STATES
+
+first_end : (m : ℕ) (bs : List ℕ) → 0 < length bs → END ≤ last_state m bs → FirstEnd m bs
+first_end m [] some e = absurd (omega (arith, some))
+first_end m (b ∷ []) some e = record {
+  byte = b;
+  more = [];
+  back = [];
+  end = next_state m b;
+  parts = refl;
+  leads = (refl, e);
+  last = refl;
+  ended = e;
+  small = next_small m b;
+}
+first_end m (b ∷ c ∷ bs) some e = elim (cases_lt (next_state m b) END) [
+  | inl inside ↦
+      (let r = first_end (next_state m b) (c ∷ bs) (omega arith) e in
+      record {
+        byte = b;
+        more = r.byte ∷ r.more;
+        back = r.back;
+        end = r.end;
+        parts = ap (λ (z : List ℕ). b ∷ z) r.parts;
+        leads = (inside, r.leads);
+        last = r.last;
+        ended = r.ended;
+        small = r.small;
+      })
+  | inr ended ↦ record {
+    byte = b;
+    more = [];
+    back = c ∷ bs;
+    end = next_state m b;
+    parts = refl;
+    leads = (refl, ended);
+    last = refl;
+    ended = ended;
+    small = next_small m b;
+  }
+]
+
+-- the spot of a byte inside an instruction
+inside_by : (s n : ℕ) → s < END → spot_by s n ≡ Inside
+inside_by s n lt = cond_is_true (nat_lt s END) Inside (cond (n == AFTER_PAIR) Second Entry) (lt-ltb s END lt)
+
+-- the spots of an instruction's later bytes
+inside_spots : (s e : ℕ) (front back : List ℕ) → s < END → LeadsToEnd s front e
+    → spots_by s (states_after s (front ++ back)) ≡ replicate (length front) Inside ++ spots_by e (states_after e back)
+inside_spots s e [] back lt l = absurd l
+inside_spots s e (b ∷ []) back lt l =
+    ap (λ (x : Spot). x ∷ spots_by (next_state s b) (states_after (next_state s b) back))
+    (inside_by s (slice_index (states_after (next_state s b) back) 0) lt)
+    ∙ ap (λ (n : ℕ). Inside ∷ spots_by n (states_after n back)) (sym l.0)
+inside_spots s e (b ∷ c ∷ bs) back lt l =
+    ap (λ (x : Spot). x ∷ spots_by (next_state s b) (states_after (next_state s b) (c ∷ (bs ++ back))))
+    (inside_by s (slice_index (states_after (next_state s b) (c ∷ (bs ++ back))) 0) lt)
+    ∙ ap (λ (z : List Spot). Inside ∷ z) (inside_spots (next_state s b) e (c ∷ bs) back l.0 l.1)
+
+-- no indirect transfer ends with the byte after an instruction
+never_paired : (s : ℕ) (bs : List ℕ) → END ≤ s → s < STATES → AreBytes bs → (slice_index (states_after s bs) 0 == AFTER_PAIR) ≡ false
+never_paired s [] low small bytes = refl
+never_paired s (c ∷ bs) low small bytes = ne_eqb (next_state s c) AFTER_PAIR (none_is_paired s c low small (bytes 0 (omega arith)))
+
+-- an instruction is an indirect transfer if the state after its second byte says so
+pair_test : (m e b : ℕ) (front back : List ℕ) (i : Instr) → END ≤ m → m < STATES → AreBytes (b ∷ (front ++ back))
+    → LeadsToEnd m (b ∷ front) e → Ends m e (b ∷ front) i
+    → (slice_index (states_after (next_state m b) (front ++ back)) 0 == AFTER_PAIR) ≡ is_indirect i.flow
+pair_test m e b [] back i low small bytes l ends =
+    never_paired (next_state m b) back (omega (arith, l.0, l.1)) (next_small m b) (λ k lt. bytes (suc k) (omega (arith, lt)))
+    ∙ sym (ends.indirect ∙ ne_eqb e AFTER_PAIR (λ h. none_is_paired m b low small (bytes 0 (omega arith)) (sym l.0 ∙ h)))
+pair_test m e b (c ∷ []) back i low small bytes l ends = ap (λ (n : ℕ). n == AFTER_PAIR) (sym l.1.0) ∙ sym ends.indirect
+pair_test m e b (c ∷ d ∷ front) back i low small bytes l ends =
+    ne_eqb (next_state (next_state m b) c) AFTER_PAIR (λ h. omega (arith, h, l.1.0))
+    ∙ sym (ends.indirect ∙ ne_eqb e AFTER_PAIR (λ h. omega (arith, (ends.paired h).1)))
+
+-- the spots of an instruction
+first_spots : (m e b : ℕ) (front back : List ℕ) (i : Instr) → END ≤ m → m < STATES → AreBytes (b ∷ (front ++ back))
+    → LeadsToEnd m (b ∷ front) e → Ends m e (b ∷ front) i
+    → spots_by m (states_after m (b ∷ (front ++ back)))
+    ≡ spot_of (Sound i) ∷ (replicate (length front) Inside ++ spots_by e (states_after e back))
+first_spots m e b front back i low small bytes l ends =
+    let s = next_state m b in
+    let n = slice_index (states_after s (front ++ back)) 0 in
+    ap (λ (x : Spot). x ∷ spots_by s (states_after s (front ++ back)))
+    (cond_is_false (nat_lt m END) Inside (cond (n == AFTER_PAIR) Second Entry) (le-ltb m END low)
+    ∙ ap (λ (t : Bool). cond t Second Entry) (pair_test m e b front back i low small bytes l ends))
+    ∙ ap (λ (z : List Spot). spot_of (Sound i) ∷ z) (later front l)
+  where
+    later : (xs : List ℕ) → LeadsToEnd m (b ∷ xs) e
+        → spots_by (next_state m b) (states_after (next_state m b) (xs ++ back)) ≡ replicate (length xs) Inside ++ spots_by e (states_after e back)
+    later [] h = ap (λ (k : ℕ). spots_by k (states_after k back)) (sym h.0)
+    later (c ∷ xs) h = inside_spots (next_state m b) e (c ∷ xs) back h.0 h.1
+
+-- ---- all instructions of a bundle
+
+-- the extent of bytes with an instruction at their front
+extent_of : (rest : List ℕ) (i : Instr) (n : ℕ) → IsAtFront rest i → n ≡ i.len → extent rest ≡ Some n
+extent_of rest i n f e =
+    ap (λ (o : Option Instr). extent_by o (known_length rest)) ((exact rest i).1 f) ∙ ap (λ (m : ℕ). Some m) (sym e)
+
+-- the step over an instruction
+abbrev over : Instr → ℕ → Step
+over i n = record { found = Sound i; len = n; whole = true }
+
+-- what the register masked next is, in the same bundle and in another
+masked_here : (i : Instr) (n at : ℕ) → at / 32 ≡ (at + n) / 32 → masked_by at (over i n) ≡ i.masks
+masked_here i n at e = cond_is_true (at / 32 == (at + n) / 32) i.masks None (eq-eqb (at / 32) ((at + n) / 32) e)
+
+masked_there : (i : Instr) (n at : ℕ) → at / 32 ≢ (at + n) / 32 → masked_by at (over i n) ≡ None
+masked_there i n at e = cond_is_false (at / 32 == (at + n) / 32) i.masks None (ne_eqb (at / 32) ((at + n) / 32) e)
+
+-- the rest of a bundle is read, from an instruction's first byte on
+reads : (fuel : ℕ) (code : List ℕ) (at m : ℕ) (masked : Option ℕ) (done : List Spot) (bs rest : List ℕ) → length bs ≤ fuel → 0 < length bs
+    → drop at code ≡ bs ++ rest → at % 32 + length bs ≡ 32 → END ≤ m → m < STATES → END ≤ last_state m bs
+    → ((r : ℕ) → masked_at m ≡ Some r → masked ≡ Some r) → AreBytes bs → drop at code ≢ [] → HasSeenTo code at masked done
+    → HasSeenTo code (at + length bs) None (done ++ spots_by m (states_after m bs))
+reads zero code at m masked done bs rest few some here whole low small last masks bytes left seen = absurd (omega (arith, few, some))
+reads (suc fuel) code at m masked done bs rest few some here whole low small last masks bytes left seen =
+    let w = first_end m bs some last in
+    let front : List ℕ = w.byte ∷ w.more in
+    let n : ℕ = length front in
+    let size : length bs ≡ n + length w.back = ap (λ (z : List ℕ). length z) w.parts ∙ length-append front w.back in
+    let are : AreBytes (w.byte ∷ (w.more ++ w.back)) = subst AreBytes w.parts bytes in
+    let fits : All (λ x. x < 256) front = λ k d lt.
+    (let is : get_or front k d ≡ get_or (front ++ w.back) k 0
+    = get_or_default front k d 0 lt ∙ sym (get_or_append_left front w.back 0 k lt) in
+    omega (arith, is, are k (omega (arith, lt, length-append front w.back)))) in
+    let r = reads_by_states m w.end front low small fits w.leads in
+    let i : Instr = r.0 in
+    let len : i.len ≡ n = (spells_some front i r.1.spells).0 in
+    let f : IsAtFront (drop at code) i = record {
+      front = front;
+      rest = w.back ++ rest;
+      parts = here ∙ ap (λ (z : List ℕ). z ++ rest) w.parts ∙ append_assoc front w.back rest;
+      spells = r.1.spells;
+    } in
+    let step : IsStep (32 - at % 32) masked (drop at code) (over i n) = record {
+      finds = (
+        front_cut (drop at code) i (32 - at % 32) f (omega (arith, len, size, whole)),
+        λ indirect. masks i.reg (r.1.paired (eqb-true w.end AFTER_PAIR (sym r.1.indirect ∙ indirect))).0,
+      );
+      goes = known_step (extent (drop at code)) (32 - at % 32) n (extent_of (drop at code) i n f (sym len));
+    } in
+    let now : HasSeenTo code (at + n) (masked_by at (over i n)) (done ++ step_spots (over i n))
+    = one_step code at (at + n) (32 - at % 32) masked (masked_by at (over i n)) done (done ++ step_spots (over i n)) (over i n) seen left step refl
+    (omega arith) refl refl refl in
+    let spots : spots_by m (states_after m bs) ≡ step_spots (over i n) ++ spots_by w.end (states_after w.end w.back)
+    = ap (λ (z : List ℕ). spots_by m (states_after m z)) w.parts
+    ∙ first_spots m w.end w.byte w.more w.back i low small are w.leads r.1
+    ∙ ap (λ (k : ℕ). spot_of (Sound i) ∷ (replicate k Inside ++ spots_by w.end (states_after w.end w.back))) {x = length w.more} {y = n - 1}
+    (omega arith) in
+    let there : drop (at + n) code ≡ w.back ++ rest
+    = sym (drop-drop n at code) ∙ ap (λ (z : List ℕ). drop n z) f.parts ∙ drop_at front (w.back ++ rest) n refl in
+    let joined : done ++ (step_spots (over i n) ++ spots_by w.end (states_after w.end w.back)) ≡ done ++ spots_by m (states_after m bs)
+    = ap (λ (z : List Spot). done ++ z) (sym spots) in
+    elim (cases_lt 0 (length w.back)) [
+      | inl more ↦
+          (let next = reads fuel code (at + n) w.end (masked_by at (over i n)) (done ++ step_spots (over i n)) w.back rest
+          (omega (arith, few, size)) more there (omega (arith, whole, size, more)) w.ended w.small
+          (subst (λ (k : ℕ). END ≤ k) (sym w.last) last)
+          (λ reg h. masked_here i n at (omega (arith, whole, size, more)) ∙ r.1.masks reg h)
+          (λ k lt. omega (arith, get_or-append-add front w.back k 0, are (n + k) (omega (arith, lt, length-append front w.back))))
+          (λ e. omega (arith, more, length-append w.back rest, ap (λ (z : List ℕ). length z) (sym there ∙ e)))
+          now in
+          subst (λ (k : ℕ). HasSeenTo code k None (done ++ spots_by m (states_after m bs))) {x = (at + n) + length w.back} (omega (arith, size))
+          (subst (HasSeenTo code ((at + n) + length w.back) None)
+          (append_assoc done (step_spots (over i n)) (spots_by w.end (states_after w.end w.back)) ∙ joined) next))
+      | inr none ↦
+          (let nothing : spots_by w.end (states_after w.end w.back) ≡ []
+          = ap (λ (z : List ℕ). spots_by w.end (states_after w.end z)) (nil_from_length w.back (omega (arith, none))) in
+          subst (λ (k : ℕ). HasSeenTo code k None (done ++ spots_by m (states_after m bs))) {x = at + n} (omega (arith, size, none))
+          (subst (λ (o : Option ℕ). HasSeenTo code (at + n) o (done ++ spots_by m (states_after m bs)))
+          (masked_there i n at (λ e. omega (arith, e, whole, size, none)))
+          (subst (HasSeenTo code (at + n) (masked_by at (over i n)))
+          (ap (λ (z : List Spot). done ++ z) (sym (append-nil (step_spots (over i n))) ∙ ap (λ (z : List Spot). step_spots (over i n) ++ z) (sym nothing))
+          ∙ joined) now)))
+    ]
+
+-- a bundle is read by the automaton to its end
+pub bundle_read : (code : List ℕ) (at : ℕ) (masked : Option ℕ) (done : List Spot) → at % 32 ≡ 0 → at + 32 ≤ length code
+    → ((k : ℕ) → Fits w8 (get_or code k 0)) → END ≤ last_state END (take 32 (drop at code)) → HasSeenTo code at masked done
+    → HasSeenTo code (at + 32) None (done ++ spots_by END (states_after END (take 32 (drop at code))))
+bundle_read code at masked done start room fits last seen =
+    let bs = take 32 (drop at code) in
+    let long : length bs ≡ 32 = length-take-le 32 (drop at code) (omega (arith, room, length-drop at code)) in
+    subst (λ (k : ℕ). HasSeenTo code k None (done ++ spots_by END (states_after END bs))) {x = at + length bs} (omega (arith, long))
+    (reads 32 code at END masked done bs (drop 32 (drop at code)) (omega (arith, long)) (omega (arith, long)) (sym (take-append-drop 32 (drop at code)))
+    (omega (arith, long, start)) (omega arith) (omega arith) last (λ r h. absurd cc)
+    (λ k lt. omega (arith, get_or-take 32 (drop at code) k 0 (omega (arith, lt, long)), get_or-drop at code k 0, fits (at + k)))
+    (some_after code at (omega (arith, room))) seen)
+
+-- its spots are written
+pub bundle_filled : (code : List ℕ) (at : ℕ) (masked : Option ℕ) (spots new : List Spot) → at % 32 ≡ 0 → at + 32 ≤ length code
+    → ((k : ℕ) → Fits w8 (get_or code k 0)) → END ≤ last_state END (take 32 (drop at code))
+    → ((front after : List Spot) → length front ≡ at → spots ≡ front ++ (replicate 32 Inside ++ after)
+    → new ≡ front ++ (spots_by END (states_after END (take 32 (drop at code))) ++ after))
+    → HasFilled code at masked spots → HasFilled code (at + 32) None new
+bundle_filled code at masked spots new start room fits last put h =
+    let more = length code - (at + 32) in
+    let own = spots_by END (states_after END (take 32 (drop at code))) in
+    record {
+      done = h.done ++ own;
+      seen = bundle_read code at masked h.done start room fits last h.seen;
+      is = put h.done (replicate more Inside) h.seen.each
+          (h.is ∙ ap (λ (k : ℕ). h.done ++ replicate k Inside) {x = length code - at} {y = 32 + more} (omega (arith, room))
+          ∙ ap (λ (z : List Spot). h.done ++ z) (sym (replicate-append-replicate 32 more Inside)))
+          ∙ sym (append_assoc h.done own (replicate more Inside));
+    }
+
+-- ---- the states, and the spots by them, one after the other
+
+-- one state more
+pub state_more : (code states : List ℕ) (at i s y : ℕ) → i < 32 → length states ≡ 32 → at + 32 ≤ length code → y ≡ next_state s (get_or code (at + i) 0)
+    → take (i + 1) (set states i y) ++ states_after y (take (32 - (i + 1)) (drop (at + (i + 1)) code))
+    ≡ take i states ++ states_after s (take (32 - i) (drop (at + i) code))
+state_more code states at i s y lt long room is =
+    let b = get_or code (at + i) 0 in
+    let rest = take (32 - (i + 1)) (drop (at + (i + 1)) code) in
+    let here : take (32 - i) (drop (at + i) code) ≡ b ∷ rest
+    = ap (λ (k : ℕ). take k (drop (at + i) code)) {x = 32 - i} {y = suc (32 - (i + 1))} (omega (arith, lt))
+    ∙ ap (λ (z : List ℕ). take (suc (32 - (i + 1))) z) (drop_more code (at + i) 0 (omega (arith, lt, room)))
+    ∙ ap (λ (k : ℕ). b ∷ take (32 - (i + 1)) (drop k code)) {x = (at + i) + 1} {y = at + (i + 1)} (omega arith) in
+    ap (λ (z : List ℕ). z ++ states_after y rest) (take_more_set states i y (omega (arith, lt, long)))
+    ∙ append_assoc (take i states) (y ∷ []) (states_after y rest)
+    ∙ ap (λ (k : ℕ). take i states ++ (k ∷ states_after k rest)) is
+    ∙ ap (λ (z : List ℕ). take i states ++ states_after s z) (sym here)
+
+-- there are as many spots as states
+pub length-spots_by : (s : ℕ) (states : List ℕ) → length (spots_by s states) ≡ length states
+length-spots_by s [] = refl
+length-spots_by s (t ∷ states) = ap (λ (n : ℕ). suc n) (length-spots_by t states)
+
+-- a list goes on by its next element
+next_element : {X : Type 0} (xs : List X) (k : ℕ) (v : X) (rest : List X) → drop k xs ≡ v ∷ rest
+    → (take (suc k) xs ≡ take k xs ++ v ∷ []) × (drop (suc k) xs ≡ rest)
+next_element [] zero v rest e = absurd cc
+next_element [] (suc k) v rest e = absurd cc
+next_element (x ∷ xs) zero v rest e = (let f : x ≡ v = cc in ap (λ y. y ∷ []) f, let f : xs ≡ rest = cc in f)
+next_element (x ∷ xs) (suc k) v rest e = (let r = next_element xs k v rest e in (ap (λ z. x ∷ z) r.0, r.1))
+
+-- one spot more
+pub spot_more : (states : List ℕ) (all : List Spot) (k before next : ℕ) → k < length states → drop k all ≡ spots_by before (drop k states)
+    → next ≡ slice_index states (k + 1)
+    → (take (k + 1) all ≡ take k all ++ spot_by before next ∷ []) × (drop (k + 1) all ≡ spots_by (get_or states k 0) (drop (k + 1) states))
+spot_more states all k before next lt left is =
+    let rest = drop (k + 1) states in
+    let first : slice_index rest 0 ≡ next
+    = get_or-drop (k + 1) states 0 0 ∙ ap (λ (n : ℕ). get_or states n 0) {x = (k + 1) + 0} {y = k + 1} (omega arith) ∙ sym is in
+    let here : drop k all ≡ spot_by before next ∷ spots_by (get_or states k 0) rest
+    = left ∙ ap (spots_by before) (drop_more states k 0 lt)
+    ∙ ap (λ (n : ℕ). spot_by before n ∷ spots_by (get_or states k 0) rest) first in
+    let r = next_element all k (spot_by before next) (spots_by (get_or states k 0) rest) here in
+    (ap (λ (n : ℕ). take n all) {x = k + 1} {y = suc k} (omega arith) ∙ r.0, ap (λ (n : ℕ). drop n all) {x = k + 1} {y = suc k} (omega arith) ∙ r.1)
+
+-- one spot more is written
+pub one_put : (front put after spots : List Spot) (at k : ℕ) (v : Spot) → length front ≡ at → length put ≡ k → k < 32
+    → spots ≡ front ++ (put ++ (replicate (32 - k) Inside ++ after))
+    → set spots (at + k) v ≡ front ++ ((put ++ v ∷ []) ++ (replicate (32 - (k + 1)) Inside ++ after))
+one_put front put after spots at k v n len lt e =
+    let rest = replicate (32 - (k + 1)) Inside ++ after in
+    let long : length (front ++ put) ≡ at + k = omega (arith, n, len, length-append front put) in
+    ap (λ (z : List Spot). set z (at + k) v)
+    (e ∙ ap (λ (m : ℕ). front ++ (put ++ (replicate m Inside ++ after))) {x = 32 - k} {y = suc (32 - (k + 1))} (omega (arith, lt))
+    ∙ sym (append_assoc front put (Inside ∷ rest)))
+    ∙ set_at (front ++ put) Inside rest v (at + k) long
+    ∙ append_assoc front put (v ∷ rest)
+    ∙ ap (λ (z : List Spot). front ++ z) (sym (append_assoc put (v ∷ []) rest))

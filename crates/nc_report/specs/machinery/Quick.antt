@@ -1,0 +1,20 @@
+-- Machinery of the proofs, cited by no public contract: the spots of a bundle by the states of the automaton.
+use Rattle.std.specs.Prelude.{ℕ, List, [], ◌∷◌, ◌==◌, nat_lt, slice_index, if◌then◌else◌}
+use Rattle.nc_decode.specs.declared.automaton.TheConstants.{END, AFTER_PAIR}
+use Rattle.nc_decode.specs.Automaton.{next_state}
+use Rattle.nc_report.specs.declared.spot.Spot.{Spot}
+use Rattle.nc_report.specs.declared.spot.Spot.TheVariants.{Inside, Entry, Second}
+
+-- the state after each of some bytes, from a state on
+abbrev pub states_after : ℕ → List ℕ → List ℕ
+states_after s [] = []
+states_after s (b ∷ bs) = next_state s b ∷ states_after (next_state s b) bs
+
+-- the spot of a byte, by the state before it and the state after the byte that follows it
+abbrev pub spot_by : ℕ → ℕ → Spot
+spot_by before next = if nat_lt before END then Inside else (if next == AFTER_PAIR then Second else Entry)
+
+-- the spots of some bytes, by the state before the first and the states after each; 0 stands for a state after the last
+abbrev pub spots_by : ℕ → List ℕ → List Spot
+spots_by before [] = []
+spots_by before (s ∷ states) = spot_by before (slice_index states 0) ∷ spots_by s states
