@@ -7,3 +7,4 @@ pub mod patching
 pub mod deleting
 pub mod walking
 pub mod Offered
+pub mod tiers

@@ -1,8 +1,7 @@
 //! Putting a chunk into a text while threads run in it.
 
-ghost use Rattle.std.specs.Prelude.{◌≡◌, ◌≢◌, ◌+◌, ◌-◌, ◌<◌, ◌≤◌, ◌^◌, ℕ, List, [], ◌∷◌, ◌++◌, length, vec_capacity, All, IsTrue, false};
-ghost use Rattle.std.specs.Prelude.{IfOk, IfErr};
-ghost use Rattle.std.specs.VecDeque.{deque_len, deque_capacity};
+ghost use Rattle.std.specs.Prelude.{◌≡◌, ◌≢◌, ◌+◌, ◌-◌, ◌<◌, ◌≤◌, ◌^◌, ℕ, List, [], ◌∷◌, ◌++◌, length, vec_capacity, All, IsTrue, true, false};
+ghost use Rattle.std.specs.Prelude.{IfOk, IfErr, OnOk};
 ghost use Rattle.nc_decode.specs.declared.instruction.Mark.{Mark};
 ghost use Rattle.nc_text.specs.Marks.{IsClosed};
 ghost use Rattle.nc_text.specs.Places.{limit_of};
@@ -20,22 +19,22 @@ ghost use Rattle.nc_region.specs.machinery.Between.{HasRoom, IsUnused, HasPut, I
 use crate::acts::Acts;
 use crate::chunk::{Chunk, ChunkState};
 use crate::fault::CreateFault;
+use crate::list::ChunkList;
 use crate::listing::room_for;
 use nc_decode::Mark;
 use nc_vet::Vetted;
-use std::collections::VecDeque;
 
 /// Prepares the creation of a chunk: finds its index in the list, reserves room for one more chunk there, allocates room for
 /// a list of its marks, and makes every place of its span ready.
 pub(crate) fn make_room<A: Acts>(
     acts: &mut A,
-    chunks: &mut VecDeque<Chunk>,
+    chunks: &mut ChunkList,
     vetted: &Vetted,
 ) -> Result<(usize, Vec<Mark>), CreateFault>
     requires region { IsRegion (A.marked acts.old) chunks.old.items }
     ensures found { IfOk result (λ r. HasRoom (A.marked acts.old) (A.made acts.new) chunks.old.items vetted.now r.0) }
     ensures marks { IfOk result (λ r. (r.1.items ≡ []) × (length vetted.now.code ≤ vec_capacity r.1)) }
-    ensures place { IfOk result (λ r. (r.0 ≤ deque_len chunks.new) × (deque_len chunks.new < deque_capacity chunks.new)) }
+    ensures place { OnOk result (chunks.new.roomy ≡ true) }
     ensures only { GetsReady (A.made acts.old) (A.made acts.new) vetted.now.base (length vetted.now.code) }
     ensures others { (chunks.new.items ≡ chunks.old.items) × (A.marked acts.new ≡ A.marked acts.old)
         × (A.keeper acts.new ≡ A.keeper acts.old) × (A.told acts.new ≡ A.told acts.old) × (A.logged acts.new ≡ A.logged acts.old) }
@@ -59,10 +58,10 @@ pub(crate) fn make_room<A: Acts>(
     let Some(k) = room_for(chunks, base, length) else {
         return Err(CreateFault::Occupied);
     };
-    if chunks.reserve(1).is_err() {
+    if chunks.reserve().is_err() {
         return Err(CreateFault::OutOfMemory);
     }
-    let Ok(room) = Vec::with_capacity(*chunks.allocator(), length as usize) else {
+    let Ok(room) = Vec::with_capacity(chunks.allocator(), length as usize) else {
         return Err(CreateFault::OutOfMemory);
     };
     if acts.ready(base, length).is_err() {

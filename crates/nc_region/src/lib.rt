@@ -44,11 +44,14 @@
 #![tactic(auto)]
 
 mod acts;
+mod block;
+mod blocks;
 mod chunk;
 mod create;
 mod delete;
 mod fault;
 mod law;
+mod list;
 mod listing;
 mod modify;
 mod patch;

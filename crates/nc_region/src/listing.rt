@@ -1,9 +1,7 @@
-//! The list of chunks, by ascending base.
+//! Searches of the list of chunks, which are in it by ascending base.
 
-ghost use Rattle.std.specs.Prelude.{◌≡◌, ◌+◌, ◌-◌, ◌<◌, ◌≤◌, ◌^◌, ℕ, false, length, take, drop, slice_index_or, slice_get, slice_set};
+ghost use Rattle.std.specs.Prelude.{◌≡◌, ◌+◌, ◌-◌, ◌<◌, ◌≤◌, ◌^◌, ℕ, false, length, take, drop, slice_index_or, slice_get};
 ghost use Rattle.std.specs.Prelude.{Some, IsTrue, IfSome, IfNone};
-ghost use Rattle.std.specs.VecDeque.{deque_len, deque_capacity};
-ghost use Rattle.std.specs.List.{insert};
 ghost use Rattle.nc_region.specs.Each.{Each};
 ghost use Rattle.nc_region.specs.declared.chunk.Chunk.{Chunk};
 ghost use Rattle.nc_region.specs.declared.chunk.ChunkState.{ChunkState};
@@ -12,20 +10,10 @@ ghost use Rattle.nc_region.specs.Region.{IsRising, IsLive, IsInChunk, IsAboveAll
 ghost use Rattle.nc_region.specs.Patch.{IsHeldBy, IsHeld};
 
 use crate::chunk::{Chunk, ChunkState};
-use std::collections::VecDeque;
-
-/// The number of chunks whose base is at most this address, by binary search.
-fn count_to(chunks: &VecDeque<Chunk>, at: u32) -> usize
-    requires { IsRising 0x10000 chunks.now.items }
-    ensures bound { result ≤ length chunks.now.items }
-    ensures below { (i : ℕ) (d : Chunk) → i < result → (slice_index_or chunks.now.items i d).base ≤ at }
-    ensures above { (i : ℕ) (d : Chunk) → result ≤ i → i < length chunks.now.items → at < (slice_index_or chunks.now.items i d).base }
-{
-    chunks.partition_point(|c| c.base <= at)
-}
+use crate::list::ChunkList;
 
 /// The first k chunks end at or below the base of a span.
-fn ends_below(chunks: &VecDeque<Chunk>, k: usize, base: u32) -> bool
+fn ends_below(chunks: &ChunkList, k: usize, base: u32) -> bool
     requires inside { k ≤ length chunks.now.items }
     requires rising { IsRising 0x10000 chunks.now.items }
     requires ends { Each (λ (d : Chunk). (0 < d.length) × (d.base + d.length < 2 ^ 32)) chunks.now.items }
@@ -36,12 +24,12 @@ fn ends_below(chunks: &VecDeque<Chunk>, k: usize, base: u32) -> bool
     if k == 0 {
         return true;
     }
-    let last = chunks[k - 1];
+    let last = chunks.at(k - 1);
     last.base + last.length <= base
 }
 
 /// All but the first k chunks begin at or after the end of a span.
-fn begins_above(chunks: &VecDeque<Chunk>, k: usize, base: u32, len: u32) -> bool
+fn begins_above(chunks: &ChunkList, k: usize, base: u32, len: u32) -> bool
     requires inside { k ≤ length chunks.now.items }
     requires rising { IsRising 0x10000 chunks.now.items }
     requires ends { Each (λ (d : Chunk). (0 < d.length) × (d.base + d.length < 2 ^ 32)) chunks.now.items }
@@ -53,11 +41,11 @@ fn begins_above(chunks: &VecDeque<Chunk>, k: usize, base: u32, len: u32) -> bool
     if k == chunks.len() {
         return true;
     }
-    base + len <= chunks[k].base
+    base + len <= chunks.at(k).base
 }
 
 /// The index at which a chunk with this span can be inserted, if it overlaps no chunk.
-pub(crate) fn room_for(chunks: &VecDeque<Chunk>, base: u32, len: u32) -> Option<usize>
+pub(crate) fn room_for(chunks: &ChunkList, base: u32, len: u32) -> Option<usize>
     requires some { 0 < len }
     requires fits { base + len < 2 ^ 32 }
     requires rising { IsRising 0x10000 chunks.now.items }
@@ -65,7 +53,7 @@ pub(crate) fn room_for(chunks: &VecDeque<Chunk>, base: u32, len: u32) -> Option<
     ensures some { IfSome result (FitsAt base len chunks.now.items) }
     ensures none { IfNone result (Meets base len chunks.now.items) }
 {
-    let k = count_to(chunks, base);
+    let k = chunks.count_to(base);
     if !ends_below(chunks, k, base) {
         return None;
     }
@@ -76,16 +64,16 @@ pub(crate) fn room_for(chunks: &VecDeque<Chunk>, base: u32, len: u32) -> Option<
 }
 
 /// The live chunk in which the place lies, by binary search.
-pub(crate) fn holder(chunks: &VecDeque<Chunk>, at: u32) -> Option<Chunk>
+pub(crate) fn holder(chunks: &ChunkList, at: u32) -> Option<Chunk>
     requires rising { IsRising 0x10000 chunks.now.items }
     ensures some { IfSome result (IsHeldBy chunks.now.items at) }
     ensures none { IfNone result (¬ IsHeld chunks.now.items at) }
 {
-    let k = count_to(chunks, at);
+    let k = chunks.count_to(at);
     if k == 0 {
         return None;
     }
-    let chunk = chunks[k - 1];
+    let chunk = chunks.at(k - 1);
     if !is_held_by(chunk, at) {
         return None;
     }
@@ -101,17 +89,17 @@ fn is_held_by(chunk: Chunk, at: u32) -> bool
 }
 
 /// The index of the live chunk with this base, by binary search.
-pub(crate) fn live_at(chunks: &VecDeque<Chunk>, base: u32) -> Option<usize>
+pub(crate) fn live_at(chunks: &ChunkList, base: u32) -> Option<usize>
     requires rising { IsRising 0x10000 chunks.now.items }
     requires some { Each (λ (d : Chunk). 0 < d.length) chunks.now.items }
     ensures some { IfSome result (λ k. (c : Chunk) × (slice_get chunks.now.items k ≡ Some c) × (c.state ≡ ChunkState.Live) × (c.base ≡ base)) }
     ensures none { IfNone result (¬ HasLive chunks.now.items base) }
 {
-    let k = count_to(chunks, base);
+    let k = chunks.count_to(base);
     if k == 0 {
         return None;
     }
-    if !is_live_from(chunks[k - 1], base) {
+    if !is_live_from(chunks.at(k - 1), base) {
         return None;
     }
     Some(k - 1)
@@ -123,22 +111,4 @@ fn is_live_from(chunk: Chunk, base: u32) -> bool
     ensures not { result ≡ false → IsLive chunk.state × (chunk.base ≡ base) → ⊥ }
 {
     chunk.state == ChunkState::Live && chunk.base == base
-}
-
-/// Replaces the chunk at an index.
-pub(crate) fn set_chunk(chunks: &mut VecDeque<Chunk>, k: usize, chunk: Chunk)
-    requires { k < length chunks.old.items }
-    ensures { chunks.new.items ≡ slice_set chunks.old.items k chunk }
-{
-    chunks[k] = chunk;
-}
-
-/// Inserts a chunk, for which there is room.
-pub(crate) fn insert_chunk(chunks: &mut VecDeque<Chunk>, k: usize, chunk: Chunk)
-    requires inside { k ≤ deque_len chunks.old }
-    requires room { deque_len chunks.old < deque_capacity chunks.old }
-    ensures { chunks.new.items ≡ insert chunks.old.items k chunk }
-{
-    // There is room, so this can't fail.
-    let _ = chunks.insert(k, chunk);
 }

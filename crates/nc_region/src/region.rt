@@ -24,7 +24,8 @@ use crate::chunk::{Chunk, ChunkState};
 use crate::create::{live_chunk, make_room, put_chunk};
 use crate::delete::put_stops;
 use crate::fault::{CreateFault, DeleteFault, ModifyFault, RegionFault, WalkFault};
-use crate::listing::{holder, insert_chunk, live_at, set_chunk};
+use crate::list::ChunkList;
+use crate::listing::{holder, live_at};
 use crate::modify::is_patch_span;
 use crate::patch::patch;
 use crate::plain::Plain;
@@ -36,7 +37,6 @@ use nc_gens::{Gens, Keeper, LAST_GENERATION, Pass};
 use nc_text::{Text, TextFault};
 use nc_vet::Vetted;
 use std::alloc::{AllocError, Global};
-use std::collections::VecDeque;
 use std::marker::Model;
 
 /// A region that doesn't tell its acts.
@@ -50,7 +50,7 @@ pub type Region<'g> = RegionOf<Plain<'g>>;
 #[derive(Drop)]
 pub struct RegionOf<A: Acts + Drop> {
     acts: A,
-    chunks: VecDeque<Chunk>,
+    chunks: ChunkList,
 }
 
 impl<A: Acts + Drop> Model for RegionOf<A> {
@@ -126,7 +126,7 @@ impl<A: Acts + Drop> RegionOf<A> {
     {
         RegionOf {
             acts,
-            chunks: VecDeque::new(alloc),
+            chunks: ChunkList::new(alloc),
         }
     }
 
@@ -181,7 +181,7 @@ impl<A: Acts + Drop> RegionOf<A> {
     pub fn chunk(&self, i: usize) -> Option<Chunk>
         ensures { result ≡ slice_get self.now.chunks i }
     {
-        self.chunks.get(i).copied()
+        self.chunks.get(i)
     }
 
     /// The live chunk of this base, if there is one, by binary search.
@@ -196,7 +196,7 @@ impl<A: Acts + Drop> RegionOf<A> {
         let Some(k) = live_at(&self.chunks, base) else {
             return None;
         };
-        Some(self.chunks[k])
+        Some(self.chunks.at(k))
     }
 
     /// Creates a chunk while threads may be running: makes the pages of its span, puts its bytes that aren't at bundle starts,
@@ -223,7 +223,7 @@ impl<A: Acts + Drop> RegionOf<A> {
             Err(fault) => return Err((vetted, fault)),
         };
         put_chunk(&mut self.acts, vetted.base(), vetted.code(), &vetted, room);
-        insert_chunk(&mut self.chunks, k, live_chunk(&vetted));
+        self.chunks.insert(k, live_chunk(&vetted));
         Ok(())
     }
 
@@ -286,14 +286,14 @@ impl<A: Acts + Drop> RegionOf<A> {
         if self.acts.generation() >= LAST_GENERATION {
             return Err(DeleteFault::GensFull);
         }
-        let length = self.chunks[k].length;
+        let length = self.chunks.at(k).length;
         let stamp = put_stops(&mut self.acts, base, length);
         let retired = Chunk {
             base,
             length,
             state: ChunkState::Retired(stamp),
         };
-        set_chunk(&mut self.chunks, k, retired);
+        self.chunks.set(k, retired);
         Ok(stamp)
     }
 
@@ -346,7 +346,7 @@ impl<A: Acts + Drop> RegionOf<A> {
         if start < START || start >= self.acts.limit() || start % BUNDLE != 0 {
             return Err(WalkFault::NotBundle);
         }
-        match walk_from(*self.chunks.allocator(), &self.acts, start, choices) {
+        match walk_from(self.chunks.allocator(), &self.acts, start, choices) {
             Ok(trace) => Ok(trace),
             Err(AllocError) => Err(WalkFault::OutOfMemory),
         }

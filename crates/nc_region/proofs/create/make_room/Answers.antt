@@ -1,4 +1,4 @@
-use Rattle.std.proofs.Common.{◌≡◌, ◌+◌, ◌<◌, ◌^◌, length, arith, rules, sym, ◌∙◌, refl, Result, Ok, Err, IfOk, true, false}
+use Rattle.std.proofs.Common.{◌≡◌, ◌+◌, ◌<◌, ◌^◌, length, arith, sym, ◌∙◌, refl, Result, Ok, Err, IfOk, true, false}
 use Rattle.std.specs.Result.{is_err}
 use Rattle.nc_text.specs.Places.{limit_of}
 use Rattle.nc_text.specs.Ready.{AreReady}
@@ -118,7 +118,7 @@ returns g c =
         ready = here;
       };
       marks = (c.in-Ok.ensures.items, rw (← c.code.ensures.value) c.in-Ok.ensures.capacity);
-      place = search rules;
+      place = at_ok c.reserve.result _ (sym c.is_err.ensures.value ∙ c.if-is_err.false) c.reserve.ensures.ok;
       only = rw (← c.base-base.ensures.value, ← c.code.ensures.value) c.ready.ensures.only;
       others = (c.reserve.ensures.items, c.ready.ensures.marked, c.ready.ensures.keeper, c.ready.ensures.told, c.ready.ensures.logged);
       made = tt;

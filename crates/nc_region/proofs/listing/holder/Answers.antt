@@ -14,8 +14,8 @@ returns-then-k-eq0-clause-none c = λ h.
 
 pub returns-then-not-is_held_by-clause-none : goal.returns-then-not-is_held_by-clause-none
 returns-then-not-is_held_by-clause-none c = λ h.
-    let found : Chunk = c.index-chunk.result.now in
+    let found : Chunk = c.at-chunk.result in
     let last = held_last c.args.chunks.now.items c.count_to-k.result c.args.at found c.requires.rising c.count_to-k.ensures.bound
     c.count_to-k.ensures.below c.count_to-k.ensures.above h in
     c.is_held_by.ensures.not c.if-not-is_held_by.true
-    (subst (λ (d : Chunk). IsLive d.state × IsInChunk d c.args.at) (sym (c.index-chunk.ensures ∙ last.1)) (h.1.1, h.1.2))
+    (subst (λ (d : Chunk). IsLive d.state × IsInChunk d c.args.at) (sym (c.at-chunk.ensures ∙ last.1)) (h.1.1, h.1.2))

@@ -1,4 +1,4 @@
-use Rattle.std.proofs.Common.{◌≡◌, ◌≢◌, ℕ, Bool, List, length, subst, ap, ◌∙◌, refl}
+use Rattle.std.proofs.Common.{◌≡◌, ◌≢◌, ℕ, Bool, List, length, subst, ap, ◌∙◌, refl, arith}
 use Rattle.std.specs.List.{insert}
 use Rattle.nc_text.specs.Places.{limit_of}
 use Rattle.nc_text.specs.MarkedText.{MarkedText, IsText}
@@ -13,6 +13,7 @@ use Rattle.nc_region.proofs.chunks.Inserting.{unused_if_apart, region_with_chunk
 use Rattle.nc_region.proofs.chunks.Pieces.{valid_chunk_is_closed, chunk_names_registers}
 use Rattle.nc_region.proofs.chunks.ReadyPlaces.{chunks_stay_ready, ready_inserted}
 use Rattle.nc_region.proofs.chunks.Rising.{fits_meets}
+use Rattle.nc_region.proofs.deleting.Due.{few}
 use Rattle.nc_region.proofs.region.RegionOf.create.Goals as goal
 
 -- only a want of memory may have made pages
@@ -92,11 +93,17 @@ put_chunk-requires g c =
       ready = rw (c.base.ensures.value, c.code.ensures.value) found.ready;
     }
 
-pub insert_chunk-requires-clause-inside : goal.insert_chunk-requires-clause-inside
-insert_chunk-requires-clause-inside g c = c.in-Ok.ensures.place.0
+pub insert-requires-clause-inside : goal.insert-requires-clause-inside
+insert-requires-clause-inside g c = rw c.make_room.ensures.others.0 c.in-Ok.ensures.found.fits.0
 
-pub insert_chunk-requires-clause-room : goal.insert_chunk-requires-clause-room
-insert_chunk-requires-clause-room g c = c.in-Ok.ensures.place.1
+pub insert-requires-clause-few : goal.insert-requires-clause-few
+insert-requires-clause-few g c =
+    let n = few (limit_of (g.A.Acts.marked c.self.inside.acts).bytes) 65536 c.self.inside.chunks.items c.self.invariant.0.rising
+    c.self.invariant.0.placed (omega (arith, c.self.invariant.0.whole.lawful.1)) in
+    rw c.make_room.ensures.others.0 (omega (arith, n, c.self.invariant.0.whole.lawful.2))
+
+pub insert-requires-clause-room : goal.insert-requires-clause-room
+insert-requires-clause-room g c = c.in-Ok.ensures.place
 
 pub invariant_of-self-2 : goal.invariant_of-self-2
 invariant_of-self-2 g c =
@@ -110,8 +117,8 @@ invariant_of-self-2 g c =
     subst (λ (l : ℕ). IsClosedChunk v.base l v.code v.marks) found.limit (valid_chunk_is_closed v found.valid) in
     let put : g.A.Acts.marked c.put_chunk.new.acts ≡ with_chunk marked v.base v.code v.marks = c.put_chunk.ensures.marked
     ∙ rw (others.1, c.base.ensures.value, c.code.ensures.value) refl in
-    let list : c.insert_chunk.new.chunks.items ≡ insert chunks k (live_chunk v) =
-    c.insert_chunk.ensures ∙ rw (others.0, c.live_chunk.ensures) refl in
+    let list : c.insert.new.self.items ≡ insert chunks k (live_chunk v) =
+    c.insert.ensures ∙ rw (others.0, c.live_chunk.ensures) refl in
     let region = region_with_chunk marked chunks k (live_chunk v) v.code v.marks
     (record {
       region = c.self.invariant.0;
@@ -139,8 +146,8 @@ returns g c =
     let found = c.in-Ok.ensures.found in
     let put : g.A.Acts.marked c.put_chunk.new.acts ≡ with_chunk marked v.base v.code v.marks = c.put_chunk.ensures.marked
     ∙ rw (others.1, c.base.ensures.value, c.code.ensures.value) refl in
-    let list : c.insert_chunk.new.chunks.items ≡ insert chunks c.in-Ok.found.0 (live_chunk v) =
-    c.insert_chunk.ensures ∙ rw (others.0, c.live_chunk.ensures) refl in
+    let list : c.insert.new.self.items ≡ insert chunks c.in-Ok.found.0 (live_chunk v) =
+    c.insert.ensures ∙ rw (others.0, c.live_chunk.ensures) refl in
     record {
       created = rw (← c.self.view_is) (record {
         bytes = ap (λ (m : MarkedText). m.bytes) put;

@@ -30,20 +30,20 @@ returns-then-generation-ge-LAST_GENERATION-clause-refused g c =
       omega (arith, c.generation.ensures.generation, c.generation.ensures.in_range, c.if-generation-ge-LAST_GENERATION.true),
     )
 
-pub index-requires : goal.index-requires
-index-requires g c =
+pub at-length-requires : goal.at-length-requires
+at-length-requires g c =
     let f : (x : Chunk) × (slice_get c.self.inside.chunks.items c.in-Some.k ≡ Some x) × (x.state ≡ Live) × (x.base ≡ c.args.base) =
     c.in-Some.ensures.some in
     let there = listed_there c.self.inside.chunks.items c.in-Some.k f.0 f.1 in
-    omega (arith, there.0, c.self.inside.chunks.ok.0)
+    there.0
 
 pub put_stops-stamp-requires-clause-placed : goal.put_stops-stamp-requires-clause-placed
 put_stops-stamp-requires-clause-placed g c =
     let f : (x : Chunk) × (slice_get c.self.inside.chunks.items c.in-Some.k ≡ Some x) × (x.state ≡ Live) × (x.base ≡ c.args.base) =
     c.in-Some.ensures.some in
     let there = listed_there c.self.inside.chunks.items c.in-Some.k f.0 f.1 in
-    let is_chunk : c.index.result.now ≡ f.0 = c.index.ensures
-    ∙ get_or_from_slice_get c.self.inside.chunks.items c.in-Some.k f.0 c.index.result.now f.1 in
+    let is_chunk : c.at-length.result ≡ f.0 = c.at-length.ensures
+    ∙ get_or_from_slice_get c.self.inside.chunks.items c.in-Some.k f.0 c.at-length.result f.1 in
     let p = each_get (λ (d : Chunk). HasGoodSpan d.base
     (limit_of (g.A.Acts.marked c.self.inside.acts).bytes) d.length) c.self.inside.chunks.items c.in-Some.k f.0 there.0
     c.self.invariant.0.placed in
@@ -56,13 +56,13 @@ put_stops-stamp-requires-clause-ready g c =
     let f : (x : Chunk) × (slice_get c.self.inside.chunks.items c.in-Some.k ≡ Some x) × (x.state ≡ Live) × (x.base ≡ c.args.base) =
     c.in-Some.ensures.some in
     let there = listed_there c.self.inside.chunks.items c.in-Some.k f.0 f.1 in
-    let is_chunk : c.index.result.now ≡ f.0 = c.index.ensures
-    ∙ get_or_from_slice_get c.self.inside.chunks.items c.in-Some.k f.0 c.index.result.now f.1 in
+    let is_chunk : c.at-length.result ≡ f.0 = c.at-length.ensures
+    ∙ get_or_from_slice_get c.self.inside.chunks.items c.in-Some.k f.0 c.at-length.result f.1 in
     rw (is_chunk, ← f.3)
     (ready_listed (g.A.Acts.made c.self.inside.acts) c.self.inside.chunks.items c.in-Some.k f.0 c.self.invariant.1 there.0 f.0 there.1)
 
-pub set_chunk-requires : goal.set_chunk-requires
-set_chunk-requires g c =
+pub set-requires : goal.set-requires
+set-requires g c =
     let f : (x : Chunk) × (slice_get c.self.inside.chunks.items c.in-Some.k ≡ Some x) × (x.state ≡ Live) × (x.base ≡ c.args.base) =
     c.in-Some.ensures.some in
     let there = listed_there c.self.inside.chunks.items c.in-Some.k f.0 f.1 in
@@ -73,11 +73,11 @@ invariant_of-self g c =
     let f : (x : Chunk) × (slice_get c.self.inside.chunks.items c.in-Some.k ≡ Some x) × (x.state ≡ Live) × (x.base ≡ c.args.base) =
     c.in-Some.ensures.some in
     let there = listed_there c.self.inside.chunks.items c.in-Some.k f.0 f.1 in
-    let is_chunk : c.index.result.now ≡ f.0 = c.index.ensures
-    ∙ get_or_from_slice_get c.self.inside.chunks.items c.in-Some.k f.0 c.index.result.now f.1 in
+    let is_chunk : c.at-length.result ≡ f.0 = c.at-length.ensures
+    ∙ get_or_from_slice_get c.self.inside.chunks.items c.in-Some.k f.0 c.at-length.result f.1 in
     let old = g.A.Acts.marked c.self.inside.acts in
-    let list = c.set_chunk.ensures ∙ ap (λ (d : Chunk). set c.self.inside.chunks.items c.in-Some.k d)
-    (retired_is f.0 c.args.base c.index.result.now.length c.put_stops-stamp.result f.3 (ap (λ (x : Chunk). x.length) is_chunk)) in
+    let list = c.set.ensures ∙ ap (λ (d : Chunk). set c.self.inside.chunks.items c.in-Some.k d)
+    (retired_is f.0 c.args.base c.at-length.result.length c.put_stops-stamp.result f.3 (ap (λ (x : Chunk). x.length) is_chunk)) in
     let region = subst (IsRegion (g.A.Acts.marked c.put_stops-stamp.new.acts)) (sym list)
     (region_deleted (g.A.Acts.marked c.self.inside.acts)
     (g.A.Acts.marked c.put_stops-stamp.new.acts) c.self.inside.chunks.items c.in-Some.k f.0 c.put_stops-stamp.result
@@ -89,7 +89,7 @@ invariant_of-self g c =
       whole = c.put_stops-stamp.ensures.whole;
       bytes_are =
           c.put_stops-stamp.ensures.bytes
-          ∙ (ap (λ (b : ℕ). with_span (g.A.Acts.marked c.self.inside.acts).bytes (b - 65536) (replicate c.index.result.now.length 244))
+          ∙ (ap (λ (b : ℕ). with_span (g.A.Acts.marked c.self.inside.acts).bytes (b - 65536) (replicate c.at-length.result.length 244))
           (sym f.3)
           ∙ ap (λ (x : Chunk). with_span (g.A.Acts.marked c.self.inside.acts).bytes (f.0.base - 65536) (replicate x.length 244)) is_chunk);
       marks_are = c.put_stops-stamp.ensures.marks;
@@ -97,7 +97,7 @@ invariant_of-self g c =
     let ready = ready_listed (g.A.Acts.made c.self.inside.acts) c.self.inside.chunks.items c.in-Some.k f.0 c.self.invariant.1 there.0
     f.0 there.1 in (
       region,
-      rw (c.set_chunk.ensures, c.put_stops-stamp.ensures.made)
+      rw (c.set.ensures, c.put_stops-stamp.ensures.made)
           (ready_set (g.A.Acts.made c.self.inside.acts) c.self.inside.chunks.items c.in-Some.k _ c.self.invariant.1
           (rw (is_chunk, ← f.3) ready)),
     )
@@ -107,8 +107,8 @@ returns-clause-deleted g c =
     let f : (x : Chunk) × (slice_get c.self.inside.chunks.items c.in-Some.k ≡ Some x) × (x.state ≡ Live) × (x.base ≡ c.args.base) =
     c.in-Some.ensures.some in
     let there = listed_there c.self.inside.chunks.items c.in-Some.k f.0 f.1 in
-    let is_chunk : c.index.result.now ≡ f.0 = c.index.ensures
-    ∙ get_or_from_slice_get c.self.inside.chunks.items c.in-Some.k f.0 c.index.result.now f.1 in
+    let is_chunk : c.at-length.result ≡ f.0 = c.at-length.ensures
+    ∙ get_or_from_slice_get c.self.inside.chunks.items c.in-Some.k f.0 c.at-length.result f.1 in
     let old : Region = record {
       marked = g.A.Acts.marked c.self.inside.acts;
       made = g.A.Acts.made c.self.inside.acts;
@@ -121,18 +121,18 @@ returns-clause-deleted g c =
     let new : Region = record {
       marked = g.A.Acts.marked c.put_stops-stamp.new.acts;
       made = g.A.Acts.made c.put_stops-stamp.new.acts;
-      chunks = c.set_chunk.new.chunks.items;
+      chunks = c.set.new.self.items;
       keeper =
           g.A.Acts.keeper c.put_stops-stamp.new.acts;
       told = g.A.Acts.told c.put_stops-stamp.new.acts;
       logged = g.A.Acts.logged c.put_stops-stamp.new.acts;
     } in
     rw (← c.self.view_is)
-    (deleted_is old new c.in-Some.k c.args.base c.index.result.now.length c.put_stops-stamp.result f.0 f.1 f.2 f.3
+    (deleted_is old new c.in-Some.k c.args.base c.at-length.result.length c.put_stops-stamp.result f.0 f.1 f.2 f.3
     (ap (λ (x : Chunk). x.length) is_chunk)
     (omega (arith, c.generation.ensures.generation, c.if-generation-ge-LAST_GENERATION.false))
     c.put_stops-stamp.ensures.stamp c.put_stops-stamp.ensures.bytes c.put_stops-stamp.ensures.marks
-    c.put_stops-stamp.ensures.made c.set_chunk.ensures
+    c.put_stops-stamp.ensures.made c.set.ensures
     c.put_stops-stamp.ensures.keeper c.put_stops-stamp.ensures.told c.put_stops-stamp.ensures.log)
 
 pub returns-clause-confined : goal.returns-clause-confined

@@ -1,14 +1,16 @@
-use Rattle.std.proofs.Common.{◌≡◌, ◌++◌, take, drop}
+use Rattle.std.proofs.Common.{◌≡◌, ◌+◌, ◌++◌, take, drop}
 use Rattle.nc_region.specs.Acts.{Tells}
 use Rattle.nc_region.specs.Log.{Logs, unsettled}
 use Rattle.nc_region.specs.Region.{IsRegion}
 use Rattle.nc_region.specs.Deletion.{freed, kept, unmarked, unmarkings}
-use Rattle.nc_region.proofs.reclaim.unmark_due.Given as goal
+use Rattle.nc_region.specs.machinery.Blocks.{chunks_of, start_of}
+use Rattle.nc_region.proofs.reclaim.unmark_block.Given as goal
 
 abbrev pub invariant-loop-i : goal.invariant-loop-i
 invariant-loop-i g l =
     record {
-      region : IsRegion (g.A.Acts.marked l.acts) (kept l.least (take l.i l.chunks.items) ++ drop l.i l.chunks.items);
+      region : IsRegion (g.A.Acts.marked l.acts) (kept l.least (take (start_of l.blocks.items l.block + l.i) (chunks_of l.blocks.items))
+          ++ drop (start_of l.blocks.items l.block + l.i) (chunks_of l.blocks.items));
       marked : g.A.Acts.marked l.acts ≡ unmarked (g.A.Acts.marked l.initial.acts) (freed l.least (take l.i l.chunks.items));
       made : g.A.Acts.made l.acts ≡ g.A.Acts.made l.initial.acts;
       keeper : g.A.Acts.keeper l.acts ≡ g.A.Acts.keeper l.initial.acts;

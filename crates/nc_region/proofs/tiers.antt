@@ -1,0 +1,7 @@
+-- The blocks of the list of chunks.
+pub mod Stamps
+pub mod Standing
+pub mod Shape
+pub mod Closing
+pub mod Searching
+pub mod Freeing

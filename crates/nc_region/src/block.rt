@@ -1,0 +1,217 @@
+//! One block of the list of chunks.
+
+ghost use Rattle.std.specs.Prelude.{◌≡◌, ◌+◌, ◌-◌, ◌<◌, ◌≤◌, [], ◌∷◌, ◌++◌, length, slice_set, OnOk};
+ghost use Rattle.std.specs.VecDeque.{deque_capacity};
+ghost use Rattle.std.specs.List.{insert};
+ghost use Rattle.nc_region.specs.Deletion.{is_due, kept};
+ghost use Rattle.nc_region.specs.machinery.Blocks.{IsSince, AreSince, IsBlock, IsRoomy};
+
+use crate::chunk::{Chunk, ChunkState};
+use std::alloc::{AllocError, Global};
+use std::collections::VecDeque;
+
+/// The number of chunks in a full block.
+pub(crate) const FULL: usize = 256;
+
+/// Up to `FULL` consecutive chunks of the list.
+#[derive(Drop)]
+pub(crate) struct Block {
+    pub(crate) chunks: VecDeque<Chunk>,
+    /// No chunk of the block is retired with a lower stamp.
+    pub(crate) oldest: u64,
+}
+
+/// The stamp of a retired chunk, and the greatest number for a live one.
+fn stamp_of(chunk: Chunk) -> u64
+    ensures { IsSince result chunk.state }
+{
+    match chunk.state {
+        ChunkState::Live => u64::MAX,
+        ChunkState::Retired(stamp) => stamp,
+    }
+}
+
+/// The least stamp of these chunks.
+fn oldest_of(chunks: &VecDeque<Chunk>) -> u64
+    ensures { AreSince result chunks.now.items }
+{
+    let mut oldest = u64::MAX;
+    for i in 0..chunks.len() {
+        oldest = oldest.min(stamp_of(chunks[i]));
+    }
+    oldest
+}
+
+/// The chunk is retired with a stamp of at most this number.
+pub(crate) fn is_due(chunk: Chunk, least: u64) -> bool
+    ensures { result ≡ is_due least chunk.state }
+{
+    match chunk.state {
+        ChunkState::Live => false,
+        ChunkState::Retired(stamp) => stamp <= least,
+    }
+}
+
+impl Block {
+    /// A block without a chunk. No memory is allocated.
+    pub(crate) fn new(alloc: Global) -> Block
+        ensures empty { result.chunks.items ≡ [] }
+        ensures block { IsBlock result }
+    {
+        Block {
+            chunks: VecDeque::new(alloc),
+            oldest: u64::MAX,
+        }
+    }
+
+    /// Makes room for one more chunk.
+    pub(crate) fn reserve(&mut self) -> Result<(), AllocError>
+        requires short { length self.old.chunks.items < 256 }
+        requires block { IsBlock self.old }
+        ensures items { self.new.chunks.items ≡ self.old.chunks.items }
+        ensures block { IsBlock self.new }
+        ensures room { OnOk result (IsRoomy self.new) }
+    {
+        self.chunks.reserve(1)
+    }
+
+    /// Puts a chunk before the others.
+    pub(crate) fn put_first(&mut self, chunk: Chunk)
+        requires room { IsRoomy self.old }
+        requires block { IsBlock self.old }
+        ensures items { self.new.chunks.items ≡ chunk ∷ self.old.chunks.items }
+        ensures block { IsBlock self.new }
+    {
+        self.oldest = self.oldest.min(stamp_of(chunk));
+        self.chunks.push_front_reserved(chunk);
+    }
+
+    /// Puts a chunk after the others.
+    pub(crate) fn put_last(&mut self, chunk: Chunk)
+        requires room { IsRoomy self.old }
+        requires block { IsBlock self.old }
+        ensures items { self.new.chunks.items ≡ self.old.chunks.items ++ chunk ∷ [] }
+        ensures block { IsBlock self.new }
+        ensures capacity { deque_capacity self.new.chunks ≡ deque_capacity self.old.chunks }
+    {
+        self.oldest = self.oldest.min(stamp_of(chunk));
+        self.chunks.push_back_reserved(chunk);
+    }
+
+    /// Takes the first chunk out.
+    pub(crate) fn take_first(&mut self) -> Chunk
+        requires some { 0 < length self.old.chunks.items }
+        requires block { IsBlock self.old }
+        ensures items { self.old.chunks.items ≡ result ∷ self.new.chunks.items }
+        ensures block { IsBlock self.new }
+        ensures capacity { deque_capacity self.new.chunks ≡ deque_capacity self.old.chunks }
+    {
+        self.chunks.pop_front().unwrap()
+    }
+
+    /// Takes the last chunk out.
+    pub(crate) fn take_last(&mut self) -> Chunk
+        requires some { 0 < length self.old.chunks.items }
+        requires block { IsBlock self.old }
+        ensures items { self.old.chunks.items ≡ self.new.chunks.items ++ result ∷ [] }
+        ensures block { IsBlock self.new }
+        ensures capacity { deque_capacity self.new.chunks ≡ deque_capacity self.old.chunks }
+    {
+        self.chunks.pop_back().unwrap()
+    }
+
+    /// Inserts a chunk at an index.
+    pub(crate) fn insert(&mut self, i: usize, chunk: Chunk)
+        requires inside { i ≤ length self.old.chunks.items }
+        requires room { IsRoomy self.old }
+        requires block { IsBlock self.old }
+        ensures items { self.new.chunks.items ≡ insert self.old.chunks.items i chunk }
+        ensures block { IsBlock self.new }
+    {
+        self.oldest = self.oldest.min(stamp_of(chunk));
+        // There is room, so this can't fail.
+        let _ = self.chunks.insert(i, chunk);
+    }
+
+    /// Replaces the chunk at an index.
+    pub(crate) fn set(&mut self, i: usize, chunk: Chunk)
+        requires inside { i < length self.old.chunks.items }
+        requires block { IsBlock self.old }
+        ensures items { self.new.chunks.items ≡ slice_set self.old.chunks.items i chunk }
+        ensures block { IsBlock self.new }
+    {
+        self.oldest = self.oldest.min(stamp_of(chunk));
+        self.chunks[i] = chunk;
+    }
+
+    /// Puts a chunk before those of a full block, and takes the last one out.
+    pub(crate) fn turn_up(&mut self, chunk: Chunk) -> Chunk
+        requires full { length self.old.chunks.items ≡ 256 }
+        requires block { IsBlock self.old }
+        ensures items { self.new.chunks.items ++ result ∷ [] ≡ chunk ∷ self.old.chunks.items }
+        ensures full { length self.new.chunks.items ≡ 256 }
+        ensures block { IsBlock self.new }
+    {
+        let last = self.take_last();
+        self.put_first(chunk);
+        last
+    }
+
+    /// Puts a chunk after those of a full block, and takes the first one out.
+    pub(crate) fn turn_down(&mut self, chunk: Chunk) -> Chunk
+        requires full { length self.old.chunks.items ≡ 256 }
+        requires block { IsBlock self.old }
+        ensures items { result ∷ self.new.chunks.items ≡ self.old.chunks.items ++ chunk ∷ [] }
+        ensures full { length self.new.chunks.items ≡ 256 }
+        ensures block { IsBlock self.new }
+    {
+        let first = self.take_first();
+        self.put_last(chunk);
+        first
+    }
+
+    /// Inserts a chunk at an index of a full block, and takes the last one out.
+    pub(crate) fn push_up(&mut self, i: usize, chunk: Chunk) -> Chunk
+        requires inside { i < 256 }
+        requires full { length self.old.chunks.items ≡ 256 }
+        requires block { IsBlock self.old }
+        ensures items { self.new.chunks.items ++ result ∷ [] ≡ insert self.old.chunks.items i chunk }
+        ensures full { length self.new.chunks.items ≡ 256 }
+        ensures block { IsBlock self.new }
+    {
+        let last = self.take_last();
+        self.insert(i, chunk);
+        last
+    }
+
+    /// Inserts a chunk at an index of a full block, and takes the first one out.
+    pub(crate) fn push_down(&mut self, i: usize, chunk: Chunk) -> Chunk
+        requires inside { (0 < i) × (i ≤ 256) }
+        requires full { length self.old.chunks.items ≡ 256 }
+        requires block { IsBlock self.old }
+        ensures items { result ∷ self.new.chunks.items ≡ insert self.old.chunks.items i chunk }
+        ensures full { length self.new.chunks.items ≡ 256 }
+        ensures block { IsBlock self.new }
+    {
+        let first = self.take_first();
+        self.insert(i - 1, chunk);
+        first
+    }
+
+    /// Removes each retired chunk with a stamp of at most this number, and returns their number.
+    pub(crate) fn remove_due(&mut self, least: u64) -> usize
+        requires block { IsBlock self.old }
+        ensures items { self.new.chunks.items ≡ kept least self.old.chunks.items }
+        ensures count { result + length self.new.chunks.items ≡ length self.old.chunks.items }
+        ensures block { IsBlock self.new }
+        ensures capacity { deque_capacity self.new.chunks ≡ deque_capacity self.old.chunks }
+    {
+        if least < self.oldest {
+            return 0;
+        }
+        let before = self.chunks.len();
+        self.chunks.retain(|chunk| !is_due(*chunk, least));
+        self.oldest = oldest_of(&self.chunks);
+        before - self.chunks.len()
+    }
+}
