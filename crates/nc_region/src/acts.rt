@@ -1,6 +1,6 @@
 //! The acts through which a region uses its text and its generations.
 
-ghost use Rattle.std.specs.Prelude.{◌≡◌, ◌+◌, ◌%◌, ◌^◌, ◌<◌, ◌≤◌, ◌↔◌, ℕ, List, [], ◌∷◌, Option, length, take, All, IsOk, IfOk, IfErr};
+ghost use Rattle.std.specs.Prelude.{◌≡◌, ◌+◌, ◌%◌, ◌^◌, ◌<◌, ◌≤◌, ◌↔◌, ℕ, List, [], ◌∷◌, Option, length, take, replicate, slice_index, All, IsOk, IfOk, IfErr};
 ghost use Rattle.std.specs.Prelude.{IsTrue, OnOk, OnErr, Bool, false};
 ghost use Rattle.std.specs.Int.{bit_at};
 ghost use Rattle.nc_decode.specs.declared.instruction.Mark.{Mark};
@@ -10,6 +10,7 @@ ghost use Rattle.nc_text.specs.Marks.{IsClosed, mark_at, mark_bit};
 ghost use Rattle.nc_text.specs.Places.{InRegion, SpanInRegion, byte_at, limit_of};
 ghost use Rattle.nc_text.specs.MarkedText.{MarkedText, IsText, with_byte, with_bytes, with_marks, without_marks, NamesRegister};
 ghost use Rattle.nc_text.specs.MarkedText.{KeepsMarks, AreStops};
+ghost use Rattle.nc_text.specs.Puts.{HasPut, is_set};
 ghost use Rattle.nc_text.specs.Ready.{IsReady, AreReady, GetsReady};
 ghost use Rattle.nc_gens.specs.Rule.{generation_raised};
 ghost use Rattle.nc_gens.specs.Seen.{KeeperState, HasLooked, HasMet, least_number};
@@ -19,9 +20,10 @@ ghost use Rattle.nc_region.specs.Acts.{Tells, puts_where};
 ghost use Rattle.nc_region.specs.Log.{Logs, unsettled};
 ghost use Rattle.nc_region.specs.Patch.{any_place};
 
+use crate::delete::STOP;
 use nc_decode::{Bundle, Mark};
 use nc_gens::{GensFull, Pass};
-use nc_text::TextFault;
+use nc_text::{TextFault, lowest_place};
 
 /// One atomic change that a region makes, or one look at its generations.
 #[derive(Clone, Copy, Debug, PartialEq, Eq)]
@@ -123,6 +125,36 @@ pub trait Acts {
         }
     }
 
+    /// Puts F4 at the places of a bundle whose bits are set, in ascending order: each is a put of its own, and is told and logged
+    /// as one. The lowest bit is that of the bundle start, at the address `at`. The text is closed after each put.
+    ///
+    /// This default calls `put` for each place. An implementation that looks the bundle up only once may be faster.
+    fn stop_places(&mut self, at: u32, places: u32)
+        requires inside { InRegion (marked self.old).bytes at }
+        requires start { IsBundleStart at }
+        requires ready { AreReady (made self.old) at 32 }
+        requires closed { (count : ℕ) (now : List ℕ) → count ≤ 32
+            → HasPut (is_set places at) at (replicate 32 0xF4) count (marked self.old).bytes now
+            → IsClosed now (marked self.old).marks }
+        ensures bytes { HasPut (is_set places at) at (replicate 32 0xF4) 32 (marked self.old).bytes (marked self.new).bytes }
+        ensures marks { (marked self.new).marks ≡ (marked self.old).marks }
+        ensures made { made self.new ≡ made self.old }
+        ensures whole { IsText (marked self.new) }
+        ensures keeper { keeper self.new ≡ keeper self.old }
+        ensures told { Tells (told self.old) (told self.new) (puts_where (is_set places at) at (replicate 32 0xF4)) }
+        ensures logged { Logs (logged self.old) (logged self.new)
+            (unsettled (puts_where (is_set places at) at (replicate 32 0xF4))) }
+    {
+        // Called for its postconditions.
+        let _facts = self.limit();
+        let mut left = places;
+        while left != 0 {
+            let (k, others) = lowest_place(left);
+            self.put(at + k, STOP);
+            left = others;
+        }
+    }
+
     /// Makes every processor fetch anew: once it has returned, no byte is executed that was overwritten before the call. It
     /// changes no byte, no mark and no number. It is logged, but isn't an act and isn't told.
     fn settle(&mut self)
@@ -191,6 +223,23 @@ pub trait Acts {
     fn byte(&self, at: u32) -> u8
         requires { InRegion (marked self.now).bytes at }
         ensures { result ≡ byte_at (marked self.now).bytes at };
+
+    /// Bytes from an address on, in one bundle: the first `len` of the result.
+    ///
+    /// This default reads each byte. An implementation that looks the bundle up only once may be faster.
+    fn read_run(&self, at: u32, len: u32) -> [u8; 32]
+        requires inside { InRegion (marked self.now).bytes at }
+        requires one_bundle { at % 32 + len ≤ 32 }
+        ensures { (k : ℕ) → k < len → slice_index result k ≡ byte_at (marked self.now).bytes (at + k) }
+    {
+        // Called for its postconditions.
+        let _facts = self.limit();
+        let mut bytes = [0; 32];
+        for k in 0..len {
+            bytes[k as usize] = self.byte(at + k);
+        }
+        bytes
+    }
 
     /// The address after the last byte.
     fn limit(&self) -> u32

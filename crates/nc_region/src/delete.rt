@@ -10,10 +10,9 @@ ghost use Rattle.nc_region.specs.declared.acts.Entry.{Entry};
 ghost use Rattle.nc_region.specs.Acts.{Tells, puts_where, is_marked_at, is_unmarked_at, acts_of_delete};
 ghost use Rattle.nc_region.specs.Log.{Logs, unsettled, log_of_delete};
 ghost use Rattle.nc_region.specs.Chunks.{HasGoodSpan};
-ghost use Rattle.nc_region.specs.machinery.Between.{HasPut, is_set};
+ghost use Rattle.nc_region.specs.machinery.Between.{HasPut};
 
 use crate::acts::Acts;
-use nc_text::lowest_place;
 
 /// The byte of the instruction hlt.
 pub(crate) const STOP: u8 = 0xF4;
@@ -60,7 +59,7 @@ fn stop_marked<A: Acts>(acts: &mut A, base: u32, len: u32)
     for bundle in 0..len / 32 {
         let at = base + 32 * bundle;
         let marked = acts.marked_places(at);
-        stop_places(acts, at, marked);
+        acts.stop_places(at, marked);
     }
     acts.settle();
 }
@@ -86,31 +85,6 @@ fn stop_others<A: Acts>(acts: &mut A, base: u32, len: u32)
     for bundle in 0..len / 32 {
         let at = base + 32 * bundle;
         let marked = acts.marked_places(at);
-        stop_places(acts, at, !marked);
-    }
-}
-
-/// Puts stops at the places of a bundle whose bits are set, in ascending order. Testing each place instead would take a
-/// branch that is hard to predict for real code.
-fn stop_places<A: Acts>(acts: &mut A, at: u32, places: u32)
-    requires whole { IsText (A.marked acts.old) }
-    requires low { 0x10000 ≤ at }
-    requires high { at + 32 ≤ limit_of (A.marked acts.old).bytes }
-    requires ready { AreReady (A.made acts.old) at 32 }
-    requires closed { (count : ℕ) (now : List ℕ) → count ≤ 32
-        → HasPut (is_set places at) at (replicate 32 0xF4) count (A.marked acts.old).bytes now → IsClosed now (A.marked acts.old).marks }
-    ensures bytes { HasPut (is_set places at) at (replicate 32 0xF4) 32 (A.marked acts.old).bytes (A.marked acts.new).bytes }
-    ensures marks { (A.marked acts.new).marks ≡ (A.marked acts.old).marks }
-    ensures whole { IsText (A.marked acts.new) }
-    ensures made { A.made acts.new ≡ A.made acts.old }
-    ensures keeper { A.keeper acts.new ≡ A.keeper acts.old }
-    ensures told { Tells (A.told acts.old) (A.told acts.new) (puts_where (is_set places at) at (replicate 32 0xF4)) }
-    ensures log { Logs (A.logged acts.old) (A.logged acts.new) (unsettled (puts_where (is_set places at) at (replicate 32 0xF4))) }
-{
-    let mut left = places;
-    while left != 0 {
-        let (k, others) = lowest_place(left);
-        acts.put(at + k, STOP);
-        left = others;
+        acts.stop_places(at, !marked);
     }
 }

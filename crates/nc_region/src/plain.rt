@@ -71,6 +71,10 @@ impl<'g> Acts for Plain<'g> {
         self.text.put_run(at, bytes);
     }
 
+    fn stop_places(&mut self, at: u32, places: u32) {
+        self.text.stop_places(at, places);
+    }
+
     fn settle(&mut self) {
         // Called for its postconditions.
         let _facts = self.text.limit();
@@ -91,6 +95,10 @@ impl<'g> Acts for Plain<'g> {
 
     fn byte(&self, at: u32) -> u8 {
         self.text.byte(at)
+    }
+
+    fn read_run(&self, at: u32, len: u32) -> [u8; 32] {
+        self.text.read_run(at, len)
     }
 
     fn limit(&self) -> u32 {

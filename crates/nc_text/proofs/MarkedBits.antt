@@ -8,7 +8,7 @@ use Rattle.std.proofs.lemmas.Nat.Bits.{bit_at-pow_other}
 use Rattle.nc_decode.specs.declared.instruction.Mark.TheVariants.{Unmarked, Plain, After}
 use Rattle.nc_text.specs.Marks.{mark_bit}
 use Rattle.nc_text.specs.MarkedText.{unused_mark}
-use Rattle.nc_text.specs.machinery.Pages.{Slot, mark_if_made, mark_in_pages}
+use Rattle.nc_text.specs.machinery.Pages.{Slot, byte_if_made, byte_of, mark_if_made, mark_in_pages}
 
 -- a place is marked if it is plain or a second half
 pub either_bit : (start second register : ℕ) → start < 2 → second < 2
@@ -43,3 +43,12 @@ mark_from pages at k start lt =
     let place : (at + k) % 4096 ≡ at % 4096 + k = omega (arith, start, lt) in
     ap (λ (j : ℕ). mark_if_made (get_or pages j None) ((at + k) % 4096)) page
     ∙ ap (λ (j : ℕ). mark_if_made (get_or pages (at / 4096) None) j) place
+
+-- so are their bytes
+pub byte_from : (pages : List Slot) (at k : ℕ) → at % 32 + k < 32
+    → byte_of pages (at + k) ≡ byte_if_made (get_or pages (at / 4096) None) (at % 4096 + k)
+byte_from pages at k small =
+    let page : (at + k) / 4096 ≡ at / 4096 = omega (arith, small) in
+    let place : (at + k) % 4096 ≡ at % 4096 + k = omega (arith, small) in
+    ap (λ (j : ℕ). byte_if_made (get_or pages j None) ((at + k) % 4096)) page
+    ∙ ap (λ (j : ℕ). byte_if_made (get_or pages (at / 4096) None) j) place

@@ -11,7 +11,7 @@ use Rattle.nc_decode.specs.Bundles.{IsLawfulLimit}
 use Rattle.nc_decode.specs.declared.instruction.Mark.{Mark}
 use Rattle.nc_decode.specs.declared.instruction.Mark.TheVariants.{Unmarked}
 use Rattle.nc_text.specs.machinery.Pages.{Slot, byte_if_made, mark_if_made, byte_of, mark_in_pages, text_of}
-use Rattle.nc_text.specs.Places.{InRegion}
+use Rattle.nc_text.specs.Places.{InRegion, byte_at}
 use Rattle.nc_text.specs.Marks.{IsClosed}
 use Rattle.nc_text.specs.MarkedText.{MarkedText, IsText, with_byte, with_bytes, with_marks, with_span, unused_mark, unused_text}
 use Rattle.nc_text.specs.Ready.{TextState, IsReady, AreReady, GetsReady, SharesPage, unmade_pages}
@@ -39,6 +39,21 @@ byte_seen pages size k inside = get_or-map-range_with_len (byte_of pages) 0 size
 -- the mark there
 pub mark_seen : (pages : List Slot) (size k : ℕ) → k < size → get_or (text_of pages size).marked.marks k Unmarked ≡ mark_in_pages pages k
 mark_seen pages size k inside = get_or-map-range_with_len (mark_in_pages pages) 0 size k k Unmarked inside (omega arith)
+
+-- a byte of a run, read from a table that was lent
+pub run_read : (old lent : List Slot) (size at k : ℕ) (now : TextState) → lent ≡ old → text_of old size ≡ now
+    → IsText (text_of old size).marked → InRegion now.marked.bytes at → at % 32 + k < 32
+    → byte_of lent (at - 65536 + k) ≡ byte_at now.marked.bytes (at + k)
+run_read old lent size at k now loan view whole inside small =
+    let long = bytes_long old size in
+    let same = ap (λ (t : TextState). length t.marked.bytes) view in
+    let whole_bundles : size % 32 ≡ 0 = omega (arith, long, whole.lawful.0) in
+    let within : at - 65536 + k < size = omega (arith, long, same, whole_bundles, small, inside.0, inside.1) in
+    let moved : at - 65536 + k ≡ at + k - 65536 = omega (arith, inside.0) in
+    ap (λ (ps : List Slot). byte_of ps (at - 65536 + k)) loan
+    ∙ (sym (byte_seen old size (at - 65536 + k) within)
+    ∙ (ap (λ (t : TextState). get_or t.marked.bytes (at - 65536 + k) 0) view
+    ∙ ap (λ (j : ℕ). get_or now.marked.bytes j 0) moved))
 
 -- what is seen of a text, by its parts
 abbrev pub state : MarkedText → List Bool → TextState

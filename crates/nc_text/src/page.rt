@@ -6,7 +6,7 @@ use crate::masks::Masks;
 use nc_decode::Mark;
 
 /// The byte of the instruction hlt, with which all unused text is filled.
-const STOP: u8 = 0xF4;
+pub(crate) const STOP: u8 = 0xF4;
 
 /// The number of places on a page.
 pub(crate) const PAGE: usize = 4096;
@@ -81,6 +81,20 @@ impl Page {
         ensures { (k : ℕ) → k < 32 → bit_at result k ≡ mark_bit (mark_on self.now (at + k)) }
     {
         self.masks[at / 32].marked()
+    }
+
+    /// Bytes from `at` on: the first `len` of the result.
+    #[inline(always)]
+    pub(crate) fn read_run(&self, at: usize, len: usize) -> [u8; 32]
+        requires inside { at + len ≤ 4096 }
+        requires few { len ≤ 32 }
+        ensures { (k : ℕ) → k < len → slice_index result k ≡ byte_on self.now (at + k) }
+    {
+        let mut bytes = [0; 32];
+        for k in 0..len {
+            bytes[k] = self.bytes[at + k];
+        }
+        bytes
     }
 
     /// Puts one byte.

@@ -1,7 +1,9 @@
 //! Places of a bundle as bits.
 
-ghost use Rattle.std.specs.Prelude.{◌≡◌, ◌≢◌, ℕ, ◌<◌};
+ghost use Rattle.std.specs.Prelude.{◌≡◌, ◌≢◌, ℕ, ◌<◌, ◌==◌, if◌then◌else◌, slice_index};
 ghost use Rattle.std.specs.Int.{bit_at};
+
+use crate::page::STOP;
 
 /// The lowest of some places, given as bits, and the bits of the others: one step of a loop over `marked_places`.
 #[inline(always)]
@@ -17,4 +19,23 @@ pub fn lowest_place(places: u32) -> (u32, u32)
     let place = places.trailing_zeros();
     // Does not wait for the place, so that the next step can begin before it is known.
     (place, places & (places - 1))
+}
+
+/// The bytes of a bundle with stops at some places, given as bits. No branch depends on a bit.
+pub(crate) fn with_stops(bytes: [u8; 32], places: u32) -> [u8; 32]
+    ensures { (k : ℕ) → k < 32
+        → slice_index result k ≡ (if bit_at places k == 1 then 0xF4 else slice_index bytes k) }
+{
+    let mut stopped = [0; 32];
+    for k in 0..32 {
+        stopped[k] = stop_if((places >> k) & 1 == 1, bytes[k]);
+    }
+    stopped
+}
+
+/// A stop if `stops`, otherwise the byte.
+fn stop_if(stops: bool, byte: u8) -> u8
+    ensures { result ≡ (if stops then 0xF4 else byte) }
+{
+    if stops { STOP } else { byte }
 }

@@ -11,12 +11,9 @@ ghost use Rattle.nc_text.specs.machinery.Pages.{byte_on, mark_on, byte_of, mark_
 ghost use Rattle.nc_text.specs.MarkedText.{unused_mark, NamesRegister};
 
 use crate::masks::Masks;
-use crate::page::{BUNDLE, PAGE, Page};
+use crate::page::{BUNDLE, PAGE, Page, STOP};
 use nc_decode::{Bundle, Mark, bundle_at};
 use std::alloc::{AllocError, Global};
-
-/// The value of every byte of a page that isn't allocated: the instruction hlt.
-const STOP: u8 = 0xF4;
 
 /// The marked places of a bundle on a page that isn't allocated: only its start.
 const UNUSED: u32 = 1;
@@ -53,6 +50,19 @@ pub(crate) fn bundle(pages: &[Option<Box<Page>>], at: usize) -> [u8; BUNDLE]
     match &pages[at / PAGE] {
         None => [STOP; BUNDLE],
         Some(page) => page.bundle(at % PAGE),
+    }
+}
+
+/// Bytes from `at` on, in one bundle: the first `len` of the result.
+#[inline(always)]
+pub(crate) fn read_run(pages: &[Option<Box<Page>>], at: usize, len: usize) -> [u8; 32]
+    requires inside { at / 4096 < length pages.now }
+    requires one_bundle { at % 32 + len ≤ 32 }
+    ensures { (k : ℕ) → k < len → slice_index result k ≡ byte_of pages.now (at + k) }
+{
+    match &pages[at / PAGE] {
+        None => [STOP; 32],
+        Some(page) => page.read_run(at % PAGE, len),
     }
 }
 
@@ -104,6 +114,7 @@ pub(crate) fn put(pages: &mut [Option<Box<Page>>], at: usize, byte: u8)
 }
 
 /// Puts bytes from `at` on, in one bundle of an allocated page.
+#[inline(always)]
 pub(crate) fn put_run(pages: &mut [Option<Box<Page>>], at: usize, bytes: &[u8])
     requires ready { is_some (page_of pages.old at) ≡ true }
     requires one_bundle { at % 32 + length bytes.now ≤ 32 }

@@ -1,6 +1,6 @@
 //! A text: the bytes of a region and their marks.
 
-ghost use Rattle.std.specs.Prelude.{◌≡◌, ◌+◌, ◌%◌, ◌-◌, ◌*◌, ◌≤◌, ◌<◌, ℕ, List, length, slice_index, take, IfOk, IfErr, IsTrue, All, ◌↔◌, ◌⊎◌};
+ghost use Rattle.std.specs.Prelude.{◌≡◌, ◌+◌, ◌%◌, ◌-◌, ◌*◌, ◌≤◌, ◌<◌, ℕ, List, length, take, replicate, slice_index, IfOk, IfErr, IsTrue, All, ◌↔◌, ◌⊎◌};
 ghost use Rattle.std.specs.Int.{bit_at};
 ghost use Rattle.nc_decode.specs.Bundles.{IsBundleStart, IsLawfulLimit};
 ghost use Rattle.nc_decode.specs.Bits.{marks_in};
@@ -8,9 +8,11 @@ ghost use Rattle.nc_text.specs.Marks.{IsClosed, mark_at, mark_bit};
 ghost use Rattle.nc_text.specs.Places.{InRegion, SpanInRegion, byte_at, limit_of};
 ghost use Rattle.nc_text.specs.MarkedText.{MarkedText, IsText, with_byte, with_bytes, with_marks, without_marks, unused_text, NamesRegister};
 ghost use Rattle.nc_text.specs.MarkedText.{KeepsMarks, AreStops};
+ghost use Rattle.nc_text.specs.Puts.{HasPut, is_set};
 ghost use Rattle.nc_text.specs.Ready.{TextState, IsReady, AreReady, GetsReady, unmade_pages};
 
 use crate::page::{PAGE, Page};
+use crate::places::with_stops;
 use crate::table;
 use nc_decode::{Bundle, MAX_BUNDLES, Mark, START};
 use std::alloc::Global;
@@ -52,6 +54,7 @@ pub struct Text {
 impl Model for Text {
     ghost use Rattle.std.specs.Prelude.{◌≡◌, ◌+◌, ◌/◌, length};
     ghost use Rattle.nc_text.specs.MarkedText.{IsText};
+    ghost use Rattle.nc_text.specs.Puts.{HasPut, is_set};
     ghost use Rattle.nc_text.specs.Ready.{TextState};
     ghost use Rattle.nc_text.specs.machinery.Pages.{text_of};
 
@@ -151,6 +154,16 @@ impl Text {
         table::bundle(&self.pages, (at - START) as usize)
     }
 
+    /// Bytes from an address of the region on, in one bundle: the first `len` of the result.
+    #[inline(always)]
+    pub fn read_run(&self, at: u32, len: u32) -> [u8; 32]
+        requires inside { InRegion self.now.marked.bytes at }
+        requires one_bundle { at % 32 + len ≤ 32 }
+        ensures { (k : ℕ) → k < len → slice_index result k ≡ byte_at self.now.marked.bytes (at + k) }
+    {
+        table::read_run(&self.pages, (at - START) as usize, len as usize)
+    }
+
     /// The mark at an address of the region.
     pub fn mark(&self, at: u32) -> Mark
         requires { InRegion self.now.marked.bytes at }
@@ -204,6 +217,27 @@ impl Text {
             return;
         }
         table::put_run(&mut self.pages, (at - START) as usize, bytes);
+    }
+
+    /// Puts F4 at the places of a bundle whose bits are set, in ascending order. The lowest bit is that of the bundle start, which
+    /// is at the address `at`. No mark and no other byte changes.
+    ///
+    /// It has the effect of a `put` at each of these places, but finds the page only once. The conditions are that the bundle is
+    /// in the region, that its places are ready, and that the text is closed under the same marks after each byte.
+    pub fn stop_places(&mut self, at: u32, places: u32)
+        requires inside { InRegion self.old.marked.bytes at }
+        requires start { IsBundleStart at }
+        requires ready { AreReady self.old.made at 32 }
+        requires closed { (count : ℕ) (now : List ℕ) → count ≤ 32
+            → HasPut (is_set places at) at (replicate 32 0xF4) count self.old.marked.bytes now → IsClosed now self.old.marked.marks }
+        ensures bytes { HasPut (is_set places at) at (replicate 32 0xF4) 32 self.old.marked.bytes self.new.marked.bytes }
+        ensures marks { self.new.marked.marks ≡ self.old.marked.marks }
+        ensures made { self.new.made ≡ self.old.made }
+        ensures whole { IsText self.new.marked }
+    {
+        let start = (at - START) as usize;
+        let stopped = with_stops(table::read_run(&self.pages, start, 32), places);
+        table::put_run(&mut self.pages, start, &stopped);
     }
 
     /// Sets the marks of the span that begins at `at` and is as long as `marks`. No byte changes, and no mark outside the

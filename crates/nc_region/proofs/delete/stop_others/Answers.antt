@@ -20,8 +20,12 @@ marked_places-marked-requires-clause-inside g c =
 pub marked_places-marked-requires-clause-start : goal.marked_places-marked-requires-clause-start
 marked_places-marked-requires-clause-start g c = omega (arith, c.requires.placed.start)
 
-pub stop_places-requires-clause-high : goal.stop_places-requires-clause-high
-stop_places-requires-clause-high g c = omega (arith, c.loop-bundle.invariant.bytes.as_long, c.requires.placed.high)
+pub stop_places-requires-clause-inside : goal.stop_places-requires-clause-inside
+stop_places-requires-clause-inside g c =
+    (omega (arith, c.requires.placed.low), omega (arith, c.loop-bundle.invariant.bytes.as_long, c.requires.placed.high))
+
+pub stop_places-requires-clause-start : goal.stop_places-requires-clause-start
+stop_places-requires-clause-start g c = omega (arith, c.requires.placed.start)
 
 pub stop_places-requires-clause-ready : goal.stop_places-requires-clause-ready
 stop_places-requires-clause-ready g c = λ k lt.
@@ -54,7 +58,7 @@ loop-bundle-preserved g c =
     let so = c.loop-bundle.invariant in
     let old = g.A.Acts.marked c.args.acts.now in
     let mid = g.A.Acts.marked c.loop-bundle.acts in
-    let now = g.A.Acts.marked c.stop_places.new.acts in
+    let now = g.A.Acts.marked c.stop_places.new.self in
     let chosen = is_unmarked_at old.marks in
     let fits : i + 32 ≤ len = omega arith in
     let more : i + 32 ≡ 32 * (c.loop-bundle.bundle + 1) = omega arith in
@@ -70,12 +74,12 @@ loop-bundle-preserved g c =
       whole = c.stop_places.ensures.whole;
       made = c.stop_places.ensures.made ∙ so.made;
       keeper = c.stop_places.ensures.keeper ∙ so.keeper;
-      told = subst (λ (n : ℕ). Tells (g.A.Acts.told c.args.acts.now) (g.A.Acts.told c.stop_places.new.acts)
+      told = subst (λ (n : ℕ). Tells (g.A.Acts.told c.args.acts.now) (g.A.Acts.told c.stop_places.new.self)
           (puts_where chosen base (take n (replicate len 244)))) more
           (bundle_told chosen (bit_not w32 c.marked_places-marked.result) base i len _ _ _ fits agree so.told c.stop_places.ensures.told);
-      log = subst (λ (n : ℕ). Logs (g.A.Acts.logged c.args.acts.now) (g.A.Acts.logged c.stop_places.new.acts)
+      log = subst (λ (n : ℕ). Logs (g.A.Acts.logged c.args.acts.now) (g.A.Acts.logged c.stop_places.new.self)
           (unsettled (puts_where chosen base (take n (replicate len 244))))) more
-          (bundle_log chosen (bit_not w32 c.marked_places-marked.result) base i len _ _ _ fits agree so.log c.stop_places.ensures.log);
+          (bundle_log chosen (bit_not w32 c.marked_places-marked.result) base i len _ _ _ fits agree so.log c.stop_places.ensures.logged);
     }
 
 pub returns-clause-bytes : goal.returns-clause-bytes

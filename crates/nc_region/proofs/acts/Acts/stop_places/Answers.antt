@@ -3,13 +3,13 @@ use Rattle.nc_decode.specs.declared.instruction.Mark.{Mark}
 use Rattle.nc_text.specs.Marks.{IsClosed}
 use Rattle.nc_text.specs.Ready.{IsReady}
 use Rattle.nc_region.proofs.deleting.Stopping.{Stopping, stopping_next, next_bytes, stopping_all}
-use Rattle.nc_region.proofs.delete.stop_places.Goals as goal
+use Rattle.nc_region.proofs.acts.Acts.stop_places.Goals as goal
 
 pub put-requires-clause-inside : goal.put-requires-clause-inside
 put-requires-clause-inside g c =
     let long = c.loop-left.invariant.stopping.bytes.as_long in (
-      omega (arith, c.requires.low),
-      omega (arith, long, c.requires.high, c.lowest_place-k.ensures.place),
+      omega (arith, c.requires.inside.0),
+      omega (arith, long, c.requires.inside.1, c.requires.start, c.limit-facts.ensures.whole.lawful.0, c.lowest_place-k.ensures.place),
     )
 
 pub put-requires-clause-ready : goal.put-requires-clause-ready
@@ -20,11 +20,11 @@ put-requires-clause-ready g c =
 pub put-requires-clause-closed : goal.put-requires-clause-closed
 put-requires-clause-closed g c =
     let k = c.lowest_place-k.result.0 in
-    let now = g.A.Acts.marked c.loop-left.acts in
+    let now = g.Self.Acts.marked c.loop-left.self in
     subst (λ (marks : List Mark). IsClosed (set now.bytes (c.args.at + k - 65536) 244) marks) (sym c.loop-left.invariant.marks)
     (c.requires.closed (k + 1) (set now.bytes (c.args.at + k - 65536) 244) (omega (arith, c.lowest_place-k.ensures.place))
     (next_bytes _ _ _ _ _ _ _ _ _ c.loop-left.invariant.stopping k c.lowest_place-k.ensures.place c.lowest_place-k.ensures.set
-    c.lowest_place-k.ensures.below c.requires.low c.requires.high))
+    c.lowest_place-k.ensures.below c.requires.inside.0 (omega (arith, c.requires.inside.1, c.requires.start, c.limit-facts.ensures.whole.lawful.0))))
 
 pub loop-left-preserved : goal.loop-left-preserved
 loop-left-preserved g c =
@@ -32,7 +32,7 @@ loop-left-preserved g c =
     let e = c.put.ensures.marked in
     record {
       stopping = rw e (stopping_next _ _ _ _ _ _ _ _ _ c.loop-left.invariant.stopping k c.lowest_place-k.ensures.place
-          c.lowest_place-k.ensures.set c.lowest_place-k.ensures.below c.requires.low c.requires.high _ c.lowest_place-k.ensures.cleared
+          c.lowest_place-k.ensures.set c.lowest_place-k.ensures.below c.requires.inside.0 (omega (arith, c.requires.inside.1, c.requires.start, c.limit-facts.ensures.whole.lawful.0)) _ c.lowest_place-k.ensures.cleared
           c.lowest_place-k.ensures.others _ _ c.put.ensures.told c.put.ensures.logged);
       marks = rw e c.loop-left.invariant.marks;
       whole = c.put.ensures.whole;
@@ -43,23 +43,23 @@ loop-left-preserved g c =
 pub returns-clause-bytes : goal.returns-clause-bytes
 returns-clause-bytes g c =
     let none : c.loop-left.left ≡ 0 = omega arith in
-    let all = subst (λ (left : ℕ). Stopping c.args.places left c.args.at (g.A.Acts.marked c.args.acts.now).bytes
-    (g.A.Acts.marked c.loop-left.acts).bytes (g.A.Acts.told c.args.acts.now) (g.A.Acts.told c.loop-left.acts)
-    (g.A.Acts.logged c.args.acts.now) (g.A.Acts.logged c.loop-left.acts)) none c.loop-left.invariant.stopping in
+    let all = subst (λ (left : ℕ). Stopping c.args.places left c.args.at (g.Self.Acts.marked c.args.self.now).bytes
+    (g.Self.Acts.marked c.loop-left.self).bytes (g.Self.Acts.told c.args.self.now) (g.Self.Acts.told c.loop-left.self)
+    (g.Self.Acts.logged c.args.self.now) (g.Self.Acts.logged c.loop-left.self)) none c.loop-left.invariant.stopping in
     (stopping_all _ _ _ _ _ _ _ _ all).0
 
 pub returns-clause-told : goal.returns-clause-told
 returns-clause-told g c =
     let none : c.loop-left.left ≡ 0 = omega arith in
-    let all = subst (λ (left : ℕ). Stopping c.args.places left c.args.at (g.A.Acts.marked c.args.acts.now).bytes
-    (g.A.Acts.marked c.loop-left.acts).bytes (g.A.Acts.told c.args.acts.now) (g.A.Acts.told c.loop-left.acts)
-    (g.A.Acts.logged c.args.acts.now) (g.A.Acts.logged c.loop-left.acts)) none c.loop-left.invariant.stopping in
+    let all = subst (λ (left : ℕ). Stopping c.args.places left c.args.at (g.Self.Acts.marked c.args.self.now).bytes
+    (g.Self.Acts.marked c.loop-left.self).bytes (g.Self.Acts.told c.args.self.now) (g.Self.Acts.told c.loop-left.self)
+    (g.Self.Acts.logged c.args.self.now) (g.Self.Acts.logged c.loop-left.self)) none c.loop-left.invariant.stopping in
     (stopping_all _ _ _ _ _ _ _ _ all).1
 
-pub returns-clause-log : goal.returns-clause-log
-returns-clause-log g c =
+pub returns-clause-logged : goal.returns-clause-logged
+returns-clause-logged g c =
     let none : c.loop-left.left ≡ 0 = omega arith in
-    let all = subst (λ (left : ℕ). Stopping c.args.places left c.args.at (g.A.Acts.marked c.args.acts.now).bytes
-    (g.A.Acts.marked c.loop-left.acts).bytes (g.A.Acts.told c.args.acts.now) (g.A.Acts.told c.loop-left.acts)
-    (g.A.Acts.logged c.args.acts.now) (g.A.Acts.logged c.loop-left.acts)) none c.loop-left.invariant.stopping in
+    let all = subst (λ (left : ℕ). Stopping c.args.places left c.args.at (g.Self.Acts.marked c.args.self.now).bytes
+    (g.Self.Acts.marked c.loop-left.self).bytes (g.Self.Acts.told c.args.self.now) (g.Self.Acts.told c.loop-left.self)
+    (g.Self.Acts.logged c.args.self.now) (g.Self.Acts.logged c.loop-left.self)) none c.loop-left.invariant.stopping in
     (stopping_all _ _ _ _ _ _ _ _ all).2

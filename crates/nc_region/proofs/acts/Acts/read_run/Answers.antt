@@ -1,11 +1,11 @@
 use Rattle.std.proofs.Common.{◌≡◌, ℕ, ◌+◌, ◌<◌, length, get_or, set, arith, ◌∙◌, below_more}
 use Rattle.std.proofs.lemmas.List.{get_or-set_same, get_or-set_other, length-set}
 use Rattle.nc_text.specs.Places.{byte_at}
-use Rattle.nc_region.proofs.walk.read.Goals as goal
+use Rattle.nc_region.proofs.acts.Acts.read_run.Goals as goal
 
 pub loop-k-preserved : goal.loop-k-preserved
 loop-k-preserved g c =
-    let text = (g.A.Acts.marked c.args.acts.now).bytes in
+    let text = (g.Self.Acts.marked c.args.self.now).bytes in
     let k = c.loop-k.k in
     let at = c.args.at in
     let short : k < length c.loop-k.bytes = omega (arith, c.loop-k.invariant.as_long) in
