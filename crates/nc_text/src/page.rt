@@ -1,6 +1,6 @@
 //! One page of a text.
 
-ghost use Rattle.std.specs.Prelude.{◌≡◌};
+ghost use Rattle.std.specs.Prelude.{◌≡◌, ℕ, ◌<◌, ◌≤◌, length, slice_index};
 
 use crate::masks::Masks;
 use nc_decode::Mark;
@@ -107,15 +107,19 @@ impl Page {
         self.bytes[at] = byte;
     }
 
-    /// Puts bytes from `at` on, one after the other.
+    /// Puts bytes from `at` on, one after the other. They are read before the first is put: the compiler doesn't know that they
+    /// are on no page, and would move byte by byte.
+    #[inline(always)]
     pub(crate) fn put_run(&mut self, at: usize, bytes: &[u8])
-        requires { at + length bytes.now ≤ 4096 }
+        requires inside { at + length bytes.now ≤ 4096 }
+        requires few { length bytes.now ≤ 32 }
         ensures within { (k : ℕ) → k < length bytes.now → byte_on self.new (at + k) ≡ slice_index bytes.now k }
         ensures others { (k : ℕ) → (k < at) ⊎ (at + length bytes.now ≤ k) → byte_on self.new k ≡ byte_on self.old k }
         ensures marks { (k : ℕ) → mark_on self.new k ≡ mark_on self.old k }
     {
+        let copy = copy_of(bytes);
         for k in 0..bytes.len() {
-            self.bytes[at + k] = bytes[k];
+            self.bytes[at + k] = copy[k];
         }
     }
 
@@ -152,4 +156,17 @@ impl Page {
     {
         self.masks[at / 32].unmark((at % 32) as u32, len as u32);
     }
+}
+
+/// A copy of at most 32 bytes: the first bytes of the result.
+#[inline(always)]
+fn copy_of(bytes: &[u8]) -> [u8; 32]
+    requires { length bytes.now ≤ 32 }
+    ensures { (k : ℕ) → k < length bytes.now → slice_index result k ≡ slice_index bytes.now k }
+{
+    let mut copy = [0; 32];
+    for k in 0..bytes.len() {
+        copy[k] = bytes[k];
+    }
+    copy
 }

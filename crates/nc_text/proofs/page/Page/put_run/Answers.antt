@@ -9,12 +9,12 @@ loop-k-preserved c =
     let at = c.args.at in
     let k = c.loop-k.k in
     let now = c.loop-k.self.bytes in
-    let byte = get_or c.args.bytes.now k 0 in
+    let byte = get_or c.copy_of-copy.result k 0 in
     record {
       long = length-set now (at + k) byte ∙ so.long;
       within = λ j lt. elim (cases_eq j k) [
         | inl e ↦ ap (λ (n : ℕ). get_or (set now (at + k) byte) (at + n) 0) e
-            ∙ (get_or-set_same now (at + k) byte 0 (omega (arith, so.long)) ∙ ap (λ (n : ℕ). get_or c.args.bytes.now n 0) (sym e))
+            ∙ (get_or-set_same now (at + k) byte 0 (omega (arith, so.long)) ∙ (c.copy_of-copy.ensures k (omega arith) ∙ ap (λ (n : ℕ). get_or c.args.bytes.now n 0) (sym e)))
         | inr ne ↦ get_or-set_other now (at + k) (at + j) byte 0 (λ b. ne (omega (arith, b))) ∙ so.within j (omega arith)
       ];
       others = λ j out. elim out [
