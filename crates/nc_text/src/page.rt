@@ -59,11 +59,7 @@ impl Page {
         ensures long { length result ≡ 32 }
         ensures bytes { (k : ℕ) → k < 32 → slice_index result k ≡ byte_on self.now (at + k) }
     {
-        let mut bytes = [0; BUNDLE];
-        for k in 0..BUNDLE {
-            bytes[k] = self.bytes[at + k];
-        }
-        bytes
+        self.read_run(at, BUNDLE)
     }
 
     /// The mark at a place.
