@@ -194,6 +194,33 @@ told_more code bundles more items count t is le f whole = (
           (tells, whole_told code (32 * n) (get_or more (n - length bundles) no_bits) tells (whole (n - length bundles) m-lt)))
     ]
 
+-- one more bundle after those that were read, which is whole
+pub told_next : (code : List ℕ) (bundles items : List Bundle) (w : Bundle) → AreTold code bundles → items ≡ bundles ++ w ∷ []
+    → TellsBundle code (32 * length bundles) w → bit_at w.ends 31 ≡ 1 → AreTold code items × (length items ≡ length bundles + 1)
+told_next code bundles items w t is tells last = told_more code bundles (w ∷ []) items 1 t is (omega arith) told whole
+  where
+    told : (n : ℕ) → n < 1 → TellsBundle code (32 * length bundles + 32 * n) (get_or (w ∷ []) n no_bits)
+    told zero lt = moved code (32 * length bundles) (32 * length bundles + 32 * zero) w (omega arith) tells
+    told (suc n) lt = absurd (omega (arith, lt))
+
+    whole : (n : ℕ) → n < 1 → bit_at (get_or (w ∷ []) n no_bits).ends 31 ≡ 1
+    whole zero lt = last
+    whole (suc n) lt = absurd (omega (arith, lt))
+
+-- where it is the last of the code, all has been read
+pub told_last : (code : List ℕ) (bundles items : List Bundle) (w : Bundle) → AreTold code bundles → items ≡ bundles ++ w ∷ []
+    → TellsBundle code (32 * length bundles) w → bit_at w.ends 31 ≡ 1 → 32 * length bundles + 32 ≡ length code
+    → EndsFront code items (length code)
+told_last code bundles items w t is tells last len =
+    let all = told_next code bundles items w t is tells last in
+    record {
+      told = all.0;
+      low = omega (arith, all.1, len);
+      near = omega (arith, all.1, len);
+      high = omega arith;
+      ended = λ later. absurd (omega (arith, later, all.1, len));
+    }
+
 -- where reading stops in a bundle
 pub stopped : (code : List ℕ) (bundles : List Bundle) (w : Bundle) (at end : ℕ) → AreTold code bundles → at ≡ 32 * length bundles
     → at + 32 ≤ length code → TellsBundle code at w → at ≤ end → end ≤ at + 32

@@ -1,9 +1,9 @@
 //! Reads bundles: the automaton runs over several of them in lock step.
 
-ghost use Rattle.std.specs.Prelude.{◌≡◌, ◌≢◌, ◌<◌, ◌≤◌, ◌+◌, ◌-◌, ◌*◌, ◌%◌, ◌^◌, ℕ, length, get_or, slice_index, IfSome};
+ghost use Rattle.std.specs.Prelude.{◌≡◌, ◌≢◌, ◌<◌, ◌≤◌, ◌+◌, ◌-◌, ◌*◌, ◌%◌, ◌^◌, ℕ, length, vec_len, get_or, slice_index, IfSome};
 ghost use Rattle.std.specs.Int.{bit_at};
 ghost use Rattle.nc_decode.specs.Bits.{no_bits};
-ghost use Rattle.nc_vet.specs.machinery.Running.{TellsBundle, EndsFront};
+ghost use Rattle.nc_vet.specs.machinery.Running.{TellsBundle, AreTold, EndsFront};
 
 use crate::lane::{Lane, told};
 use nc_decode::Bundle;
@@ -67,6 +67,37 @@ fn eight(code: &[u8], at: usize) -> [Bundle; LANES]
     ]
 }
 
+/// The bits of the bundle at place `at`, read by itself.
+#[inline(always)]
+fn one(code: &[u8], at: usize) -> Bundle
+    requires start { at % 32 ≡ 0 }
+    requires room { at + 32 ≤ length code.now }
+    ensures { TellsBundle code.now at result }
+{
+    let mut a = Lane::new();
+    for i in 0..32 {
+        a.step(i, code[at + i]);
+    }
+    told(&a)
+}
+
+/// The bits of the two bundles from place `at` on.
+#[inline(always)]
+fn two(code: &[u8], at: usize) -> (Bundle, Bundle)
+    requires start { at % 32 ≡ 0 }
+    requires room { at + 64 ≤ length code.now }
+    ensures first { TellsBundle code.now at result.0 }
+    ensures second { TellsBundle code.now (at + 32) result.1 }
+{
+    let mut a = Lane::new();
+    let mut b = Lane::new();
+    for i in 0..32 {
+        a.step(i, code[at + i]);
+        b.step(i, code[at + 32 + i]);
+    }
+    (told(&a), told(&b))
+}
+
 /// The bits of the four bundles from place `at` on. A lane whose bundle would be after the end of the code reads the last
 /// bundle instead.
 #[inline(always)]
@@ -127,6 +158,53 @@ fn last_end(code: &[u8], start: usize, ends: u32) -> usize
     end
 }
 
+/// The beginning of the code up to the end of its last bundle, or to where reading continues in that bundle, which has these
+/// bits.
+#[inline(always)]
+fn with_last(mut bundles: Vec<Bundle>, code: &[u8], last: Bundle) -> Option<Front>
+    requires place { 32 * vec_len bundles + 32 ≡ length code.now }
+    requires told { AreTold code.now bundles.items }
+    requires last { TellsBundle code.now (32 * vec_len bundles) last }
+    ensures { IfSome result (λ front. EndsFront code.now front.bundles.items front.end) }
+{
+    if last.ends >> LAST & 1 == 0 {
+        let end = last_end(code, code.len() - 32, last.ends);
+        return Some(Front { bundles, end });
+    }
+    bundles.push(last).ok()?;
+    let end = code.len();
+    Some(Front { bundles, end })
+}
+
+/// Reads the last bundle of the code. One lane takes no longer than four, but leaves the processor time for what comes before
+/// and after it.
+#[inline(never)]
+fn read_last(bundles: Vec<Bundle>, code: &[u8]) -> Option<Front>
+    requires place { 32 * vec_len bundles + 32 ≡ length code.now }
+    requires told { AreTold code.now bundles.items }
+    ensures { IfSome result (λ front. EndsFront code.now front.bundles.items front.end) }
+{
+    let last = one(code, code.len() - 32);
+    with_last(bundles, code, last)
+}
+
+/// Reads the last two bundles of the code.
+#[inline(never)]
+fn read_last_two(mut bundles: Vec<Bundle>, code: &[u8]) -> Option<Front>
+    requires place { 32 * vec_len bundles + 64 ≡ length code.now }
+    requires told { AreTold code.now bundles.items }
+    ensures { IfSome result (λ front. EndsFront code.now front.bundles.items front.end) }
+{
+    let start = code.len() - 64;
+    let (first, last) = two(code, start);
+    if first.ends >> LAST & 1 == 0 {
+        let end = last_end(code, start, first.ends);
+        return Some(Front { bundles, end });
+    }
+    bundles.push(first).ok()?;
+    with_last(bundles, code, last)
+}
+
 /// Reads the bundles of the code, if there is memory for their bits, up to the first at whose end no instruction ends.
 #[inline(never)]
 pub(crate) fn read_bundles(alloc: Global, code: &[u8]) -> Option<Front>
@@ -147,6 +225,11 @@ pub(crate) fn read_bundles(alloc: Global, code: &[u8]) -> Option<Front>
         }
         // All eight are copied without a call, since their number is known here.
         bundles.extend_from_slice(&more).ok()?;
+    }
+    match count - bundles.len() {
+        1 => return read_last(bundles, code),
+        2 => return read_last_two(bundles, code),
+        _ => {}
     }
     while bundles.len() < count {
         let more = four(code, 32 * bundles.len());
