@@ -21,3 +21,4 @@ mod TotalWords
 mod FurtherAims
 mod QuietPlaces
 mod QuickReading
+mod MarkBits

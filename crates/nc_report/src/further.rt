@@ -1,12 +1,11 @@
 //! The faults that the reading of a refused chunk finds.
 
-ghost use Rattle.std.specs.Prelude.{◌≡◌, ◌≤◌, ◌<◌, ◌+◌, ◌^◌, ℕ, true, length, get_or, slice_index};
+ghost use Rattle.std.specs.Prelude.{◌≡◌, ◌<◌, ◌+◌, ◌^◌, length};
 ghost use Rattle.nc_decode.specs.Front.{first_instruction};
 ghost use Rattle.nc_report.specs.Further.{is_open, is_begun, may_go, goes_astray, fault_by, fault_at};
-ghost use Rattle.nc_report.specs.machinery.Seen.{is_quiet};
 
 use crate::spot::{Spot, spot_at};
-use nc_decode::{decode, is_bundle_start, may_transfer};
+use nc_decode::{decode, is_bundle_start};
 use nc_vet::VetFault;
 
 /// A direct transfer may target this spot. Skipped bytes pass, because nothing is known about them.
@@ -79,33 +78,4 @@ pub(crate) fn fault_at(
     let spot = spot_at(spots, k);
     let astray = spot == Spot::Entry && goes_astray(base, limit, spots, &code[k..], at);
     fault_by(spot, astray, at)
-}
-
-/// A place with this spot and this byte has no fault, whatever the targets of transfers: either no fault can begin at the spot,
-/// or it is an entry, and no direct transfer begins with the byte.
-#[inline(always)]
-fn is_quiet(spot: Spot, byte: u8) -> bool
-    ensures { result ≡ is_quiet spot byte }
-{
-    // No branches: which spot is next is hard to predict.
-    let may_go = matches!(spot, Spot::Entry) & may_transfer(byte);
-    let is_fault = matches!(spot, Spot::NotPermitted | Spot::Crosses | Spot::Bare);
-    !(may_go | is_fault)
-}
-
-/// The first place at or after this one that may have a fault, by its spot and its byte, or the end of the code.
-#[inline(never)]
-pub(crate) fn next_suspect(code: &[u8], spots: &[Spot], from: usize) -> usize
-    requires each { length spots.now ≡ length code.now }
-    requires within { from ≤ length code.now }
-    ensures low { from ≤ result }
-    ensures within { result ≤ length code.now }
-    ensures quiet { (k : ℕ) → from ≤ k → k < result
-        → is_quiet (get_or spots.now k Spot.Inside) (slice_index code.now k) ≡ true }
-{
-    let mut at = from;
-    while at < code.len() && is_quiet(spots[at], code[at]) {
-        at += 1;
-    }
-    at
 }
