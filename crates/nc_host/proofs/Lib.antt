@@ -1,4 +1,5 @@
 mod WrittenMarks
+mod MarkedBundles
 mod Reading
 mod Refusals
 mod Accepted

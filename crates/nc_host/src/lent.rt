@@ -1,9 +1,13 @@
 //! A chunk's code that a host lends, with the marks that vetting found.
 
-ghost use Rattle.std.specs.Prelude.{◌≡◌, length};
+ghost use Rattle.std.specs.Prelude.{◌≡◌, ◌+◌, ◌<◌, ◌≤◌, ℕ, length, slice_index_or};
+ghost use Rattle.std.specs.Int.{bit_at};
+ghost use Rattle.nc_decode.specs.Bits.{bit_mark};
+ghost use Rattle.nc_decode.specs.declared.instruction.Mark.{Mark};
+ghost use Rattle.nc_text.specs.Marks.{mark_bit};
 ghost use Rattle.nc_vet.specs.Listed.{listed};
 
-use nc_decode::Mark;
+use nc_decode::{Bundle, Mark, bundle_at};
 use nc_handle::ReadChunk;
 use nc_vet::Marks;
 
@@ -34,5 +38,42 @@ impl<'a> ReadChunk for Lent<'a> {
 
     fn mark(&self, i: usize) -> Mark {
         self.marks.at(self.code, i)
+    }
+
+    fn marked_places(&self, i: usize) -> u32 {
+        match self.marks {
+            Marks::Bits(bundles) => marked_in(bundle_at(bundles, i / 32)),
+            Marks::Each(marks) => marked_among(marks, i),
+        }
+    }
+}
+
+/// The marked places of a bundle, by the bits of its instructions: its start, and each place after an end; and its second
+/// halves.
+fn marked_in(bundle: Bundle) -> u32
+    ensures { (k next : ℕ) → k < 32 → bit_at result k ≡ mark_bit (bit_mark bundle k next) }
+{
+    2 * (bundle.ends % 0x8000_0000) + 1 | bundle.pairs / 2
+}
+
+/// The marked places of 32 in a list of marks.
+fn marked_among(marks: &[Mark], i: usize) -> u32
+    requires { i + 32 ≤ length marks.now }
+    ensures { (k : ℕ) → k < 32 → bit_at result k ≡ mark_bit (slice_index_or marks.now (i + k) Mark.Unmarked) }
+{
+    let mut places = 0;
+    for n in 0..32 {
+        places = 2 * places + mark_bit(marks[i + (31 - n)]);
+    }
+    places
+}
+
+/// 1 for a mark that stands for some state, otherwise 0.
+fn mark_bit(mark: Mark) -> u32
+    ensures { result ≡ mark_bit mark }
+{
+    match mark {
+        Mark::Unmarked => 0,
+        Mark::Plain | Mark::After(_) => 1,
     }
 }
