@@ -31,7 +31,7 @@ pub(crate) fn answer_line<S: Responder, W: Write>(
         Err(_) => return Err(end_early(writer, &mut replies.held)),
     }
     let answer = replies.answer.as_slice();
-    match hold(writer, &mut replies.held, answer) {
+    match hold(writer, &mut replies.held, replies.most, answer) {
         Ok(()) => Ok(()),
         Err(_) => Err(ReplayFault::WriteFailed),
     }

@@ -9,26 +9,29 @@ use nc_output::{WriteFailed, write_out};
 use std::alloc::Global;
 use std::io::Write;
 
-/// The most bytes that are held back. An answer with which there would be more is written at once.
-const MOST_HELD: usize = 65_536;
+/// The most bytes that are held back until more is to be read.
+pub(crate) const MOST_HELD: usize = 65_536;
 
-/// The answer to the line at hand, and those before it that are held back.
+/// The answer to the line at hand, and those before it that are held back: at most `most` bytes. An answer with which there
+/// would be more is written at once.
 #[derive(Drop)]
 pub(crate) struct Replies {
     alloc: Global,
     pub answer: Vec<u8>,
     pub held: Vec<u8>,
+    pub most: usize,
 }
 
 impl Replies {
-    /// No answers.
-    pub fn new(alloc: Global) -> Replies
+    /// No answers, of which at most this many bytes are to be held back.
+    pub fn new(alloc: Global, most: usize) -> Replies
         ensures { result.held.items ≡ [] }
     {
         Replies {
             alloc,
             answer: Vec::new(alloc),
             held: Vec::new(alloc),
+            most,
         }
     }
 
@@ -61,22 +64,23 @@ pub(crate) fn write_held<W: Write>(writer: &mut W, held: &mut Vec<u8>) -> Result
 }
 
 /// Holds back an answer if there are not too many bytes and there is memory for them; returns whether it did.
-fn has_held(held: &mut Vec<u8>, answer: &[u8]) -> bool
+fn has_held(held: &mut Vec<u8>, most: usize, answer: &[u8]) -> bool
     ensures { held.new.items ≡ (if result then held.old.items ++ answer.now else held.old.items) }
 {
-    answer.len() <= MOST_HELD.saturating_sub(held.len()) && held.extend_from_slice(answer).is_ok()
+    answer.len() <= most.saturating_sub(held.len()) && held.extend_from_slice(answer).is_ok()
 }
 
-/// Holds back an answer. If there would be too many bytes, or there is no memory for them, all are written instead.
+/// Holds back an answer. If there would be more than `most` bytes, or there is no memory for them, all are written instead.
 pub(crate) fn hold<W: Write>(
     writer: &mut W,
     held: &mut Vec<u8>,
+    most: usize,
     answer: &[u8],
 ) -> Result<(), WriteFailed>
     ensures ok { OnOk result (HoldsRest (W.contents writer.old) (W.contents writer.new) (held.old.items ++ answer.now) held.new.items) }
     ensures front { OnErr result (WritesFront (W.contents writer.old) (W.contents writer.new) (held.old.items ++ answer.now)) }
 {
-    if has_held(held, answer) {
+    if has_held(held, most, answer) {
         return Ok(());
     }
     match write_held(writer, held) {

@@ -128,7 +128,8 @@ pub trait Acts {
     /// Puts F4 at the places of a bundle whose bits are set, in ascending order: each is a put of its own, and is told and logged
     /// as one. The lowest bit is that of the bundle start, at the address `at`. The text is closed after each put.
     ///
-    /// This default calls `put` for each place. An implementation that looks the bundle up only once may be faster.
+    /// This default calls `put` for each place. An implementation that looks the bundle up only once may be faster; in memory
+    /// that threads execute it must still store the stops one at a time and in this order, and nothing else.
     fn stop_places(&mut self, at: u32, places: u32)
         requires inside { InRegion (marked self.old).bytes at }
         requires start { IsBundleStart at }

@@ -214,8 +214,8 @@ fn pour(blocks: &mut VecDeque<Block>, from: usize, to: usize)
     }
 }
 
-/// Closes the gap before one more block: moves its chunks to the block up to which gaps are closed, and to the one after
-/// that, and returns up to which block they are closed then.
+/// Closes the gap before one more block: moves its chunks to the last block before the gap, and to the one after that. Returns
+/// the last block before the next gap.
 fn close_gap(blocks: &mut VecDeque<Block>, from: usize, to: usize) -> usize
     requires closing { IsClosing blocks.old.items from to }
     requires inside { from < length blocks.old.items }

@@ -13,7 +13,7 @@ ghost use Rattle.nc_script.specs.Run.{HasAnswered};
 use crate::session::Session;
 use nc_decode::is_region_size;
 use nc_gens::{Gens, MOST_SEATS};
-use nc_lines::{ReplayFault, answer_all};
+use nc_lines::{ReplayFault, answer_gathered};
 use std::alloc::Global;
 use std::io::{Read, Write};
 
@@ -96,7 +96,7 @@ fn run_new<R: Read, W: Write>(
         return Err(ReplayFault::OutOfMemory);
     };
     match Session::new(alloc, bundles, &gens, keeper, passes) {
-        Ok(mut session) => answer_all(alloc, &mut session, reader, writer),
+        Ok(mut session) => answer_gathered(alloc, &mut session, reader, writer),
         Err(_) => Err(ReplayFault::OutOfMemory),
     }
 }
