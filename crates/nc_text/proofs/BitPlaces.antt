@@ -1,9 +1,8 @@
 -- The bits of a word, from the lowest on.
-use Rattle.std.proofs.Common.{◌≡◌, ◌≢◌, ℕ, zero, suc, ◌+◌, ◌-◌, ◌*◌, ◌/◌, ◌%◌, ◌^◌, ◌<◌, inl, inr, arith, sym, ◌∙◌, ap, w32, bit_and}
-use Rattle.std.specs.Int.{bit_at, trailing_zeros}
-use Rattle.std.proofs.lemmas.Bool.{cases_lt}
-use Rattle.std.proofs.lemmas.Nat.{and_le_r}
-use Rattle.std.proofs.lemmas.Nat.Bits.{bit_at-suc, bit_at_lowest, bit_at-trailing_zeros, bit_at_and}
+use Rattle.std.proofs.Common.{◌≡◌, ◌≢◌, ℕ, suc, ◌+◌, ◌*◌, ◌/◌, ◌%◌, ◌^◌, ◌<◌, ◌≤◌, arith, sym, ◌∙◌, ap, w32, bit_and}
+use Rattle.std.specs.Int.{bit_at, trailing_zeros, bit_not}
+use Rattle.std.proofs.lemmas.Nat.{and_le_l}
+use Rattle.std.proofs.lemmas.Nat.Bits.{bit_at-suc, bit_at_lowest, bit_at-trailing_zeros, bit_at_clear_same, bit_at_clear_other}
 
 -- twice a number and one bit: the bit, and then those of the number
 pub doubled_low : (n b : ℕ) → b < 2 → bit_at (2 * n + b) 0 ≡ b
@@ -24,51 +23,26 @@ lowest_set n some fits = (bit_at-trailing_zeros w32 n some fits).1
 pub none_lower : (n : ℕ) → 0 < n → n < 2 ^ 32 → (i : ℕ) → i < trailing_zeros w32 n → bit_at n i ≡ 0
 none_lower n some fits = (bit_at-trailing_zeros w32 n some fits).2
 
--- one less has no bit where the number has its lowest, and the same bits above
-one_less : (z n : ℕ) → ((i : ℕ) → i < z → bit_at n i ≡ 0) → bit_at n z ≡ 1
-    → (bit_at (n - 1) z ≡ 0) × ((i : ℕ) → z < i → bit_at (n - 1) i ≡ bit_at n i)
-one_less zero n none is =
-    let odd : n % 2 ≡ 1 = sym (bit_at_lowest n) ∙ is in
-    let half : (n - 1) / 2 ≡ n / 2 = omega (arith, odd) in (
-      bit_at_lowest (n - 1) ∙ omega (arith, odd),
-      λ i above. first_above n half i above,
-    )
-  where
-    first_above : (n : ℕ) → (n - 1) / 2 ≡ n / 2 → (i : ℕ) → 0 < i → bit_at (n - 1) i ≡ bit_at n i
-    first_above n half zero above = absurd (omega (arith, above))
-    first_above n half (suc i) above = bit_at-suc (n - 1) i ∙ (ap (λ (m : ℕ). bit_at m i) half ∙ sym (bit_at-suc n i))
-one_less (suc z) n none is =
-    let even : n % 2 ≡ 0 = sym (bit_at_lowest n) ∙ none 0 (omega arith) in
-    let half : (n - 1) / 2 ≡ n / 2 - 1 = omega (arith, even) in
-    let less = one_less z (n / 2) (λ i lt. sym (bit_at-suc n i) ∙ none (suc i) (omega (arith, lt))) (sym (bit_at-suc n z) ∙ is) in (
-      bit_at-suc (n - 1) z ∙ (ap (λ (m : ℕ). bit_at m z) half ∙ less.0),
-      λ i above. next_above z n half less.1 i above,
-    )
-  where
-    next_above : (z n : ℕ) → (n - 1) / 2 ≡ n / 2 - 1 → ((i : ℕ) → z < i → bit_at (n / 2 - 1) i ≡ bit_at (n / 2) i)
-        → (i : ℕ) → suc z < i → bit_at (n - 1) i ≡ bit_at n i
-    next_above z n half less zero above = absurd (omega (arith, above))
-    next_above z n half less (suc i) above =
-        bit_at-suc (n - 1) i ∙ (ap (λ (m : ℕ). bit_at m i) half ∙ (less i (omega (arith, above)) ∙ sym (bit_at-suc n i)))
-
--- without its lowest bit, it has no bit there
-pub lowest_cleared : (n : ℕ) → 0 < n → n < 2 ^ 32 → bit_at (bit_and n (n - 1)) (trailing_zeros w32 n) ≡ 0
-lowest_cleared n some fits =
-    let z = trailing_zeros w32 n in
-    let clear = (one_less z n (none_lower n some fits) (lowest_set n some fits)).0 in
-    bit_at_and n (n - 1) z ∙ omega (arith, clear)
+-- cleared, it isn't set
+pub lowest_cleared : (n : ℕ) → 0 < n → n < 2 ^ 32
+    → bit_at (bit_and n (bit_not w32 (1 * 2 ^ trailing_zeros w32 n % 2 ^ 32))) (trailing_zeros w32 n) ≡ 0
+lowest_cleared n some fits = bit_at_clear_same w32 n (trailing_zeros w32 n) (lowest_place n some fits)
 
 -- and the others stay
 pub others_left : (n : ℕ) → 0 < n → n < 2 ^ 32 → (i : ℕ) → i < 32 → i ≢ trailing_zeros w32 n
-    → bit_at (bit_and n (n - 1)) i ≡ bit_at n i
-others_left n some fits i lt ne =
-    let z = trailing_zeros w32 n in
-    let less = one_less z n (none_lower n some fits) (lowest_set n some fits) in
-    elim (cases_lt i z) [
-      | inl below ↦ bit_at_and n (n - 1) i ∙ omega (arith, none_lower n some fits i below)
-      | inr from ↦ bit_at_and n (n - 1) i ∙ omega (arith, less.1 i (omega (arith, from, ne)))
-    ]
+    → bit_at (bit_and n (bit_not w32 (1 * 2 ^ trailing_zeros w32 n % 2 ^ 32))) i ≡ bit_at n i
+others_left n some fits i lt ne = bit_at_clear_other w32 n (trailing_zeros w32 n) (lowest_place n some fits) i lt ne
 
 -- so the number is smaller
-pub fewer_left : (n : ℕ) → 0 < n → bit_and n (n - 1) < n
-fewer_left n some = omega (arith, some, and_le_r n (n - 1))
+pub fewer_left : (n : ℕ) → 0 < n → n < 2 ^ 32 → bit_and n (bit_not w32 (1 * 2 ^ trailing_zeros w32 n % 2 ^ 32)) < n
+fewer_left n some fits =
+    let other : bit_and n (bit_not w32 (1 * 2 ^ trailing_zeros w32 n % 2 ^ 32)) ≢ n = λ same. (
+    let zero_bit : bit_at n (trailing_zeros w32 n) ≡ 0 = ap (λ (m : ℕ). bit_at m (trailing_zeros w32 n)) (sym same)
+    ∙ lowest_cleared n some fits in
+    let one_bit = lowest_set n some fits in
+    let f : 0 ≡ 1 = sym zero_bit ∙ one_bit in omega (arith, f)) in
+    below (bit_and n (bit_not w32 (1 * 2 ^ trailing_zeros w32 n % 2 ^ 32))) n
+    (and_le_l n (bit_not w32 (1 * 2 ^ trailing_zeros w32 n % 2 ^ 32))) other
+  where
+    below : (a b : ℕ) → a ≤ b → a ≢ b → a < b
+    below a b le ne = omega (arith, le, ne)

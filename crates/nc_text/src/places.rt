@@ -17,8 +17,7 @@ pub fn lowest_place(places: u32) -> (u32, u32)
     ensures fewer { result.1 < places }
 {
     let place = places.trailing_zeros();
-    // Does not wait for the place, so that the next step can begin before it is known.
-    (place, places & (places - 1))
+    (place, places & !(1 << place))
 }
 
 /// The bytes of a bundle with stops at some places, given as bits. No branch depends on a bit.

@@ -15,4 +15,4 @@ pub returns-clause-others : goal.returns-clause-others
 returns-clause-others c = others_left c.args.places c.requires (omega (arith, c.ranges.places))
 
 pub returns-clause-fewer : goal.returns-clause-fewer
-returns-clause-fewer c = fewer_left c.args.places c.requires
+returns-clause-fewer c = fewer_left c.args.places c.requires (omega (arith, c.ranges.places))
