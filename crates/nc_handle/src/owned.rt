@@ -1,9 +1,7 @@
 //! The acts of a region that owns its text and a share of its table of generations.
 
-ghost use Rattle.std.specs.Prelude.{◌≡◌, ◌+◌, ◌<◌, ℕ, None, length, slice_index};
+ghost use Rattle.std.specs.Prelude.{◌≡◌, None};
 ghost use Rattle.std.specs.Arc.{arc_value};
-ghost use Rattle.nc_decode.specs.Bundles.{IsBundleStart};
-ghost use Rattle.nc_text.specs.Places.{InRegion, byte_at};
 
 use nc_decode::{Bundle, Mark};
 use nc_gens::{Gens, GensFull, Keeper, Pass};
@@ -40,16 +38,6 @@ impl Owned {
         ensures { result ≡ record { marked = text.marked; made = text.made; keeper = keeper } }
     {
         Owned { text, gens, keeper }
-    }
-
-    /// The 32 bytes of a bundle.
-    pub(crate) fn bundle(&self, at: u32) -> [u8; 32]
-        requires inside { InRegion self.now.marked.bytes at }
-        requires start { IsBundleStart at }
-        ensures long { length result ≡ 32 }
-        ensures bytes { (k : ℕ) → k < 32 → slice_index result k ≡ byte_at self.now.marked.bytes (at + k) }
-    {
-        self.text.bundle(at)
     }
 }
 

@@ -39,7 +39,7 @@ impl<'a> ReadChunk for Span<'a> {
     }
 
     fn bytes(&self, i: usize) -> [u8; 32] {
-        self.region.acts().bundle(self.base + i as u32)
+        self.region.acts().read_run(self.base + i as u32, 32)
     }
 
     fn marked_places(&self, i: usize) -> u32 {

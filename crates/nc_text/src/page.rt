@@ -11,9 +11,6 @@ pub(crate) const STOP: u8 = 0xF4;
 /// The number of places on a page.
 pub(crate) const PAGE: usize = 4096;
 
-/// The number of places in a bundle.
-pub(crate) const BUNDLE: usize = 32;
-
 /// The number of bundles on a page.
 const BUNDLES: usize = 128;
 
@@ -50,16 +47,6 @@ impl Page {
         ensures { result ≡ byte_on self.now at }
     {
         self.bytes[at]
-    }
-
-    /// The bytes of the bundle that starts at `at`.
-    pub(crate) fn bundle(&self, at: usize) -> [u8; BUNDLE]
-        requires inside { at < 4096 }
-        requires start { at % 32 ≡ 0 }
-        ensures long { length result ≡ 32 }
-        ensures bytes { (k : ℕ) → k < 32 → slice_index result k ≡ byte_on self.now (at + k) }
-    {
-        self.read_run(at, BUNDLE)
     }
 
     /// The mark at a place.

@@ -11,9 +11,12 @@ ghost use Rattle.nc_text.specs.machinery.Pages.{byte_on, mark_on, byte_of, mark_
 ghost use Rattle.nc_text.specs.MarkedText.{unused_mark, NamesRegister};
 
 use crate::masks::Masks;
-use crate::page::{BUNDLE, PAGE, Page, STOP};
+use crate::page::{PAGE, Page, STOP};
 use nc_decode::{Bundle, Mark, bundle_at};
 use std::alloc::{AllocError, Global};
+
+/// The number of places in a bundle.
+const BUNDLE: usize = 32;
 
 /// The marked places of a bundle on a page that isn't allocated: only its start.
 const UNUSED: u32 = 1;
@@ -37,19 +40,6 @@ pub(crate) fn byte(pages: &[Option<Box<Page>>], at: usize) -> u8
     match &pages[at / PAGE] {
         None => STOP,
         Some(page) => page.byte(at % PAGE),
-    }
-}
-
-/// The bytes of the bundle that starts at `at`.
-pub(crate) fn bundle(pages: &[Option<Box<Page>>], at: usize) -> [u8; BUNDLE]
-    requires inside { at / 4096 < length pages.now }
-    requires start { at % 32 ≡ 0 }
-    ensures long { length result ≡ 32 }
-    ensures bytes { (k : ℕ) → k < 32 → slice_index result k ≡ byte_of pages.now (at + k) }
-{
-    match &pages[at / PAGE] {
-        None => [STOP; BUNDLE],
-        Some(page) => page.bundle(at % PAGE),
     }
 }
 

@@ -144,16 +144,6 @@ impl Text {
         table::byte(&self.pages, (at - START) as usize)
     }
 
-    /// The 32 bytes of a bundle. Its page is looked up once.
-    pub fn bundle(&self, at: u32) -> [u8; 32]
-        requires inside { InRegion self.now.marked.bytes at }
-        requires start { IsBundleStart at }
-        ensures long { length result ≡ 32 }
-        ensures bytes { (k : ℕ) → k < 32 → slice_index result k ≡ byte_at self.now.marked.bytes (at + k) }
-    {
-        table::bundle(&self.pages, (at - START) as usize)
-    }
-
     /// Bytes from an address of the region on, in one bundle: the first `len` of the result.
     #[inline(always)]
     pub fn read_run(&self, at: u32, len: u32) -> [u8; 32]

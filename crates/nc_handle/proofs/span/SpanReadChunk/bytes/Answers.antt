@@ -10,22 +10,22 @@ overflow_add-self c =
     let placed = span.placed in
     omega (arith, c.requires.within, span_long span.region.now.marked.bytes span.base span.length placed, placed.high, placed.lawful.2)
 
-pub bundle-requires-clause-inside : goal.bundle-requires-clause-inside
-bundle-requires-clause-inside c =
+pub read_run-requires-clause-inside : goal.read_run-requires-clause-inside
+read_run-requires-clause-inside c =
     let span = c.args.self.now in
     let placed = span.placed in
     let within = span_long span.region.now.marked.bytes span.base span.length placed in
     rw c.acts.ensures.marked (omega (arith, placed.low), omega (arith, c.requires.within, within, placed.high))
 
-pub bundle-requires-clause-start : goal.bundle-requires-clause-start
-bundle-requires-clause-start c = omega (arith, c.args.self.now.placed.start, c.requires.start)
+pub read_run-requires-clause-one_bundle : goal.read_run-requires-clause-one_bundle
+read_run-requires-clause-one_bundle c = omega (arith, c.args.self.now.placed.start, c.requires.start)
 
 pub returns-clause-bytes : goal.returns-clause-bytes
 returns-clause-bytes c = λ k lt.
     let span = c.args.self.now in
     let text = span.region.now.marked.bytes in
     let within = span_long text span.base span.length span.placed in
-    c.bundle.ensures.bytes k lt
+    c.read_run.ensures k lt
     ∙ (ap (λ (m : MarkedText). byte_at m.bytes (span.base + c.args.i + k)) c.acts.ensures.marked
     ∙ (ap (λ (n : ℕ). byte_at text n) {x = span.base + c.args.i + k} {y = span.base + (c.args.i + k)} (omega arith)
     ∙ span_byte text span.base span.length (c.args.i + k) span.placed (omega (arith, c.requires.within, within, lt))))
