@@ -9,6 +9,7 @@ ghost use Rattle.nc_vet.specs.Listed.{listed};
 
 use nc_decode::{Bundle, Mark, bundle_at};
 use nc_handle::ReadChunk;
+use nc_region::mark_bit;
 use nc_vet::Marks;
 
 /// Code with its marks.
@@ -53,7 +54,7 @@ impl<'a> ReadChunk for Lent<'a> {
 fn marked_in(bundle: Bundle) -> u32
     ensures { (k next : ℕ) → k < 32 → bit_at result k ≡ mark_bit (bit_mark bundle k next) }
 {
-    2 * (bundle.ends % 0x8000_0000) + 1 | bundle.pairs / 2
+    (2 * (bundle.ends % 0x8000_0000) + 1) | (bundle.pairs / 2)
 }
 
 /// The marked places of 32 in a list of marks.
@@ -66,14 +67,4 @@ fn marked_among(marks: &[Mark], i: usize) -> u32
         places = 2 * places + mark_bit(marks[i + (31 - n)]);
     }
     places
-}
-
-/// 1 for a mark that stands for some state, otherwise 0.
-fn mark_bit(mark: Mark) -> u32
-    ensures { result ≡ mark_bit mark }
-{
-    match mark {
-        Mark::Unmarked => 0,
-        Mark::Plain | Mark::After(_) => 1,
-    }
 }

@@ -308,8 +308,8 @@ pub trait Acts {
         ensures in_range { result ≤ 2 ^ 62 };
 }
 
-/// 1 for a mark that stands for some state, otherwise 0.
-fn mark_bit(mark: Mark) -> u32
+/// The bit of a mark among those of marked places: 1 for a mark that stands for some state, otherwise 0.
+pub fn mark_bit(mark: Mark) -> u32
     ensures { result ≡ mark_bit mark }
 {
     match mark {

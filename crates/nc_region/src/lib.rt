@@ -63,7 +63,7 @@ mod shared;
 mod trace;
 mod walk;
 
-pub use acts::{Act, Acts, Entry};
+pub use acts::{Act, Acts, Entry, mark_bit};
 pub use chunk::{Chunk, ChunkState};
 pub use fault::{CreateFault, DeleteFault, ModifyFault, RegionFault, WalkFault};
 pub use law::{law_of_chunks, law_of_logs, law_of_schedules};

@@ -6,6 +6,7 @@ ghost use Rattle.nc_decode.specs.declared.instruction.Mark.{Mark};
 ghost use Rattle.nc_text.specs.Marks.{mark_bit};
 
 use nc_decode::Mark;
+use nc_region::mark_bit;
 
 /// A chunk, wherever it is stored, read place by place. A place is an index into its code.
 pub trait ReadChunk {
@@ -58,15 +59,5 @@ pub trait ReadChunk {
             places = 2 * places + mark_bit(self.mark(i + (31 - n)));
         }
         places
-    }
-}
-
-/// 1 for a mark that stands for some state, otherwise 0.
-fn mark_bit(mark: Mark) -> u32
-    ensures { result ≡ mark_bit mark }
-{
-    match mark {
-        Mark::Unmarked => 0,
-        Mark::Plain | Mark::After(_) => 1,
     }
 }
