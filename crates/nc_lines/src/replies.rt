@@ -9,8 +9,8 @@ use nc_output::{WriteFailed, write_out};
 use std::alloc::Global;
 use std::io::Write;
 
-/// The most bytes that are held back until more is to be read.
-pub(crate) const MOST_HELD: usize = 65_536;
+/// The most bytes of memory that are kept for the answer to the next line.
+const KEPT_ROOM: usize = 65_536;
 
 /// The answer to the line at hand, and those before it that are held back: at most `most` bytes. An answer with which there
 /// would be more is written at once.
@@ -40,7 +40,7 @@ impl Replies {
         ensures answer { self.new.answer.items ≡ [] }
         ensures held { self.new.held ≡ self.old.held }
     {
-        if self.answer.capacity() > MOST_HELD {
+        if self.answer.capacity() > KEPT_ROOM {
             self.answer = Vec::new(self.alloc);
         } else {
             self.answer.clear();

@@ -8,7 +8,7 @@ ghost use Rattle.nc_lines.specs.machinery.Progress.{KeepsUp, Finishes};
 
 use crate::fault::ReplayFault;
 use crate::lines::{answer_line, feed};
-use crate::replies::{MOST_HELD, Replies, write_held};
+use crate::replies::{Replies, write_held};
 use crate::responder::Responder;
 use std::alloc::Global;
 use std::io::{Read, Write};
@@ -60,8 +60,41 @@ fn finish<S: Responder, W: Write>(
     }
 }
 
-/// Reads all lines and answers each. At most `most` bytes of answers are held back until more is to be read.
-fn answer_holding<S: Responder, R: Read, W: Write>(
+/// Reads all lines and answers each as soon as its line end has been read.
+pub fn answer_all<S: Responder, R: Read, W: Write>(
+    alloc: Global,
+    responder: &mut S,
+    reader: &mut R,
+    writer: &mut W,
+) -> Result<(), ReplayFault>
+    // The whole input was read, and exactly the answers to its lines were written.
+    ensures ok { OnOk result (IfSome (R.remaining reader.old) (λ input.
+        IsAnswered S.answers responder.old responder.new (W.contents writer.old) (W.contents writer.new) (lines_of input))) }
+    ensures read { OnOk result (IsAtEnd (R.remaining reader.new)) }
+
+    // A prefix of the answers was written.
+    ensures write_failed { IsErrOf result ReplayFault.WriteFailed → IfSome (R.remaining reader.old) (λ input.
+        IsBegun S.answers responder.old (W.contents writer.old) (W.contents writer.new) (lines_of input)) }
+
+    // Exactly the answers to the lines whose line end was read were written.
+    ensures read_failed { IsErrOf result ReplayFault.ReadFailed → (front : List ℕ)
+        × Consumes (R.remaining reader.old) (R.remaining reader.new) front
+        × IsAnswered S.answers responder.old responder.new (W.contents writer.old) (W.contents writer.new) (ended_lines front) }
+
+    // Exactly the answers to the lines before the one that failed were written.
+    ensures out_of_memory { IsErrOf result ReplayFault.OutOfMemory → IfSome (R.remaining reader.old) (λ input.
+        IsCutShort S.answers responder.old (W.contents writer.old) (W.contents writer.new) (lines_of input)) }
+
+    // No other fault is returned.
+    ensures faults { IfErr result (λ fault. (fault ≢ ReplayFault.BadSize) × (fault ≢ ReplayFault.BadSeats)
+        × (fault ≢ ReplayFault.BadWorkers)) }
+{
+    answer_gathered(alloc, responder, reader, writer, 0)
+}
+
+/// Reads all lines and answers each, as [`answer_all`], but holds back at most `most` bytes of answers until more is to be read,
+/// or the call returns. It is for a responder that neither waits nor writes elsewhere.
+pub fn answer_gathered<S: Responder, R: Read, W: Write>(
     alloc: Global,
     responder: &mut S,
     reader: &mut R,
@@ -107,69 +140,4 @@ fn answer_holding<S: Responder, R: Read, W: Write>(
         }
     }
     Err(ReplayFault::ReadFailed)
-}
-
-/// Reads all lines and answers each as soon as its line end has been read.
-pub fn answer_all<S: Responder, R: Read, W: Write>(
-    alloc: Global,
-    responder: &mut S,
-    reader: &mut R,
-    writer: &mut W,
-) -> Result<(), ReplayFault>
-    // The whole input was read, and exactly the answers to its lines were written.
-    ensures ok { OnOk result (IfSome (R.remaining reader.old) (λ input.
-        IsAnswered S.answers responder.old responder.new (W.contents writer.old) (W.contents writer.new) (lines_of input))) }
-    ensures read { OnOk result (IsAtEnd (R.remaining reader.new)) }
-
-    // A prefix of the answers was written.
-    ensures write_failed { IsErrOf result ReplayFault.WriteFailed → IfSome (R.remaining reader.old) (λ input.
-        IsBegun S.answers responder.old (W.contents writer.old) (W.contents writer.new) (lines_of input)) }
-
-    // Exactly the answers to the lines whose line end was read were written.
-    ensures read_failed { IsErrOf result ReplayFault.ReadFailed → (front : List ℕ)
-        × Consumes (R.remaining reader.old) (R.remaining reader.new) front
-        × IsAnswered S.answers responder.old responder.new (W.contents writer.old) (W.contents writer.new) (ended_lines front) }
-
-    // Exactly the answers to the lines before the one that failed were written.
-    ensures out_of_memory { IsErrOf result ReplayFault.OutOfMemory → IfSome (R.remaining reader.old) (λ input.
-        IsCutShort S.answers responder.old (W.contents writer.old) (W.contents writer.new) (lines_of input)) }
-
-    // No other fault is returned.
-    ensures faults { IfErr result (λ fault. (fault ≢ ReplayFault.BadSize) × (fault ≢ ReplayFault.BadSeats)
-        × (fault ≢ ReplayFault.BadWorkers)) }
-{
-    answer_holding(alloc, responder, reader, writer, 0)
-}
-
-/// Reads all lines and answers each, as [`answer_all`], but writes the answers to the lines of one read together: before more is
-/// read, and before the call returns. It is for a responder that neither waits nor writes elsewhere.
-pub fn answer_gathered<S: Responder, R: Read, W: Write>(
-    alloc: Global,
-    responder: &mut S,
-    reader: &mut R,
-    writer: &mut W,
-) -> Result<(), ReplayFault>
-    // The whole input was read, and exactly the answers to its lines were written.
-    ensures ok { OnOk result (IfSome (R.remaining reader.old) (λ input.
-        IsAnswered S.answers responder.old responder.new (W.contents writer.old) (W.contents writer.new) (lines_of input))) }
-    ensures read { OnOk result (IsAtEnd (R.remaining reader.new)) }
-
-    // A prefix of the answers was written.
-    ensures write_failed { IsErrOf result ReplayFault.WriteFailed → IfSome (R.remaining reader.old) (λ input.
-        IsBegun S.answers responder.old (W.contents writer.old) (W.contents writer.new) (lines_of input)) }
-
-    // Exactly the answers to the lines whose line end was read were written.
-    ensures read_failed { IsErrOf result ReplayFault.ReadFailed → (front : List ℕ)
-        × Consumes (R.remaining reader.old) (R.remaining reader.new) front
-        × IsAnswered S.answers responder.old responder.new (W.contents writer.old) (W.contents writer.new) (ended_lines front) }
-
-    // Exactly the answers to the lines before the one that failed were written.
-    ensures out_of_memory { IsErrOf result ReplayFault.OutOfMemory → IfSome (R.remaining reader.old) (λ input.
-        IsCutShort S.answers responder.old (W.contents writer.old) (W.contents writer.new) (lines_of input)) }
-
-    // No other fault is returned.
-    ensures faults { IfErr result (λ fault. (fault ≢ ReplayFault.BadSize) × (fault ≢ ReplayFault.BadSeats)
-        × (fault ≢ ReplayFault.BadWorkers)) }
-{
-    answer_holding(alloc, responder, reader, writer, MOST_HELD)
 }

@@ -94,7 +94,7 @@ impl ChunkList {
         count_in(&self.blocks, at)
     }
 
-    /// Replaces the chunk at an index.
+    /// Replaces the chunk at an index. Room must be made anew before the next insertion.
     pub(crate) fn set(&mut self, i: usize, chunk: Chunk)
         requires { i < length self.old.items }
         ensures { self.new.items ≡ slice_set self.old.items i chunk }

@@ -17,6 +17,9 @@ use nc_lines::{ReplayFault, answer_gathered};
 use std::alloc::Global;
 use std::io::{Read, Write};
 
+/// The most bytes of answers that are held back until more is read.
+const MOST_HELD: usize = 65_536;
+
 /// Runs a script on a new region of `bundles` bundles, for threads with `seats` seats: reads its lines, and writes the answer
 /// to each. Before more is read, the answers to all lines whose line end has been read are written.
 ///
@@ -96,7 +99,7 @@ fn run_new<R: Read, W: Write>(
         return Err(ReplayFault::OutOfMemory);
     };
     match Session::new(alloc, bundles, &gens, keeper, passes) {
-        Ok(mut session) => answer_gathered(alloc, &mut session, reader, writer),
+        Ok(mut session) => answer_gathered(alloc, &mut session, reader, writer, MOST_HELD),
         Err(_) => Err(ReplayFault::OutOfMemory),
     }
 }

@@ -7,7 +7,7 @@ use Rattle.nc_lines.specs.declared.fault.ReplayFault.TheVariants.{ReadFailed, Wr
 use Rattle.nc_lines.specs.machinery.Progress.{KeepsUp}
 use Rattle.nc_lines.proofs.Steps.{stands_start, stands_ended, fed_write_failed, fed_out_of_memory, fed_read_failed, fed_no_size}
 use Rattle.nc_lines.proofs.WholeInput.{known_more, finished_no_size, whole_ok, whole_write_failed, whole_out_of_memory, whole_read_failed}
-use Rattle.nc_lines.proofs.stream.answer_holding.Goals as goal
+use Rattle.nc_lines.proofs.stream.answer_gathered.Goals as goal
 
 pub returns-in-Err-clause-read_failed : goal.returns-in-Err-clause-read_failed
 returns-in-Err-clause-read_failed g c = λ _.

@@ -2,7 +2,7 @@
 use Rattle.std.proofs.Common.{◌≡◌, ℕ, List, [], length}
 use Rattle.std.specs.Io.KnownBytes.{Consumes}
 use Rattle.nc_lines.specs.machinery.Progress.{KeepsUp}
-use Rattle.nc_lines.proofs.stream.answer_holding.Given as goal
+use Rattle.nc_lines.proofs.stream.answer_gathered.Given as goal
 
 abbrev pub invariant-loop : goal.invariant-loop
 invariant-loop g l =
