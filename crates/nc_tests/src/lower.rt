@@ -6,3 +6,4 @@ mod lines;
 mod reports;
 pub mod rows;
 mod workers;
+mod writes;
