@@ -50,7 +50,7 @@ state_next code k lt =
 -- ---- a lane
 
 -- the state that a lane has is the one before its next byte
-entered_before : (code : List ℕ) (at i : ℕ) → at % 32 ≡ 0 → i < 32 → entered code at i ≡ state_before (state_after code) (at + i)
+pub entered_before : (code : List ℕ) (at i : ℕ) → at % 32 ≡ 0 → i < 32 → entered code at i ≡ state_before (state_after code) (at + i)
 entered_before code at i start lt = elim (true_or_false (i == 0)) [
   | inl first ↦
       (let is : (at + i) % 32 ≡ 0 = omega (arith, start, eqb-true i 0 first) in
@@ -67,6 +67,13 @@ entered_before code at i start lt = elim (true_or_false (i == 0)) [
         go : (b : Bool) → (n == 0) ≡ b → b ≡ false
         go true e = absurd (h (eqb-true n 0 e))
         go false e = refl
+
+-- the state after a byte is the one that a lane has then
+pub entered_some : (code : List ℕ) (at i : ℕ) → 0 < i → entered code at i ≡ state_after code (at + i - 1)
+entered_some code at i some = elim (true_or_false (i == 0)) [
+  | inl none ↦ absurd (omega (arith, some, eqb-true i 0 none))
+  | inr other ↦ rw other refl
+]
 
 -- one more byte
 pub run_on : (code : List ℕ) (at i state byte : ℕ) (states : List ℕ) → at % 32 ≡ 0 → i < 32 → at + i < length code
@@ -90,12 +97,6 @@ run_on code at i state byte states start lt in_code h is small =
       long = length-set states i (next_state state byte) ∙ h.long;
       small = small;
     }
-  where
-    entered_some : (c : List ℕ) (a j : ℕ) → 0 < j → entered c a j ≡ state_after c (a + j - 1)
-    entered_some c a j some = elim (true_or_false (j == 0)) [
-      | inl none ↦ absurd (omega (arith, some, eqb-true j 0 none))
-      | inr other ↦ rw other refl
-    ]
 
 -- the same of what a step has left
 pub run_stepped : (code : List ℕ) (at i state byte after : ℕ) (states more : List ℕ) → at % 32 ≡ 0 → i < 32 → at + i < length code
@@ -121,26 +122,6 @@ run_told code at i state states w end h t = record {
 -- the same place
 pub moved : (code : List ℕ) (j k : ℕ) (w : Bundle) → j ≡ k → TellsBundle code j w → TellsBundle code k w
 moved code j k w e i = subst (λ (m : ℕ). TellsBundle code m w) e i
-
--- eight bundles
-pub eight_told : (code : List ℕ) (at : ℕ) (a b c d e f g h : Bundle) → TellsBundle code at a → TellsBundle code (at + 32) b → TellsBundle code (at + 64) c
-    → TellsBundle code (at + 96) d
-    → TellsBundle code (at + 128) e → TellsBundle code (at + 160) f → TellsBundle code (at + 192) g → TellsBundle code (at + 224) h
-    → (n : ℕ) → n < 8 → TellsBundle code (at + 32 * n) (get_or (a ∷ b ∷ c ∷ d ∷ e ∷ f ∷ g ∷ h ∷ []) n no_bits)
-eight_told code at a b c d e f g h p q r s t u v w zero lt = moved code at (at + 32 * zero) a (omega arith) p
-eight_told code at a b c d e f g h p q r s t u v w (suc zero) lt = moved code (at + 32) (at + 32 * suc zero) b (omega arith) q
-eight_told code at a b c d e f g h p q r s t u v w (suc (suc zero)) lt = moved code (at + 64) (at + 32 * suc (suc zero)) c (omega arith) r
-eight_told code at a b c d e f g h p q r s t u v w (suc (suc (suc zero))) lt = moved code (at + 96) (at + 32 * suc (suc (suc zero))) d
-    (omega arith) s
-eight_told code at a b c d e f g h p q r s t u v w (suc (suc (suc (suc zero)))) lt = moved code (at + 128)
-    (at + 32 * suc (suc (suc (suc zero)))) e (omega arith) t
-eight_told code at a b c d e f g h p q r s t u v w (suc (suc (suc (suc (suc zero))))) lt = moved code (at + 160)
-    (at + 32 * suc (suc (suc (suc (suc zero))))) f (omega arith) u
-eight_told code at a b c d e f g h p q r s t u v w (suc (suc (suc (suc (suc (suc zero)))))) lt = moved code (at + 192)
-    (at + 32 * suc (suc (suc (suc (suc (suc zero)))))) g (omega arith) v
-eight_told code at a b c d e f g h p q r s t u v w (suc (suc (suc (suc (suc (suc (suc zero))))))) lt = moved code (at + 224)
-    (at + 32 * suc (suc (suc (suc (suc (suc (suc zero))))))) h (omega arith) w
-eight_told code at a b c d e f g h p q r s t u v w (suc (suc (suc (suc (suc (suc (suc (suc n)))))))) lt = absurd (omega (arith, lt))
 
 -- four bundles, of which those in the code are looked at
 pub four_told : (code : List ℕ) (at : ℕ) (v w x y : Bundle) → TellsBundle code at v

@@ -42,6 +42,20 @@ impl Lane {
     }
 }
 
+/// Reads one more byte in a state; returns the state after it, which is stored at a place.
+#[inline(always)]
+pub(crate) fn step_at(states: &mut [u8; 256], place: usize, state: usize, byte: u8) -> usize
+    requires place { place < 256 }
+    requires state { state < STATES }
+    ensures state { result ≡ next_state state byte }
+    ensures states { states.new ≡ slice_set states.old place (next_state state byte) }
+    ensures small { result < STATES }
+{
+    let next = advance(state, byte);
+    states[place] = next;
+    usize::from(next)
+}
+
 /// The bits of a mask of 32 lanes.
 #[inline(always)]
 fn bits(mask: u64) -> u32
@@ -67,12 +81,21 @@ fn ended(states: u8x32) -> u32
     bits(states.simd_ge(u8x32::splat(END)).to_bitmask())
 }
 
-/// The bits of a bundle, by the states after its bytes.
+/// The bits of a bundle that one lane has read.
 #[inline(always)]
 pub(crate) fn told(lane: &Lane) -> Bundle
     ensures { TellsStates lane.now.states result }
 {
-    let states = u8x32::from_slice(&lane.states);
+    told_by(&lane.states)
+}
+
+/// The bits of a bundle, by the states after its bytes, which are the first of these.
+#[inline(always)]
+pub(crate) fn told_by(states: &[u8]) -> Bundle
+    requires { 32 ≤ length states.now }
+    ensures { TellsStates states.now result }
+{
+    let states = u8x32::from_slice(states);
     Bundle {
         ends: ended(states),
         pairs: equal(states, AFTER_PAIR),

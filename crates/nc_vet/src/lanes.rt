@@ -1,12 +1,12 @@
 //! Reads bundles: the automaton runs over several of them in lock step.
 
-ghost use Rattle.std.specs.Prelude.{◌≡◌, ◌≢◌, ◌<◌, ◌≤◌, ◌+◌, ◌-◌, ◌*◌, ◌%◌, ◌^◌, ℕ, length, vec_len, get_or, slice_index, IfSome};
+ghost use Rattle.std.specs.Prelude.{◌≡◌, ◌≢◌, ◌<◌, ◌≤◌, ◌+◌, ◌-◌, ◌*◌, ◌%◌, ◌^◌, ℕ, length, vec_len, vec_capacity, get_or, slice_index, IfNone, IfSome};
 ghost use Rattle.std.specs.Int.{bit_at};
 ghost use Rattle.nc_decode.specs.Bits.{no_bits};
-ghost use Rattle.nc_vet.specs.machinery.Running.{TellsBundle, AreTold, EndsFront};
+ghost use Rattle.nc_vet.specs.machinery.Running.{TellsBundle, AreEightRuns, AreTold, EndsFront};
 
-use crate::lane::{Lane, told};
-use nc_decode::Bundle;
+use crate::lane::{Lane, step_at, told, told_by};
+use nc_decode::{Bundle, END};
 use std::alloc::Global;
 
 /// The number of bundles read in lock step: no instruction crosses the end of a bundle, so each is read independently.
@@ -30,41 +30,61 @@ pub(crate) struct Front {
     pub(crate) end: usize,
 }
 
-/// The bits of the eight bundles from place `at` on.
-#[inline(always)]
-fn eight(code: &[u8], at: usize) -> [Bundle; LANES]
+/// Runs the automaton over the eight bundles from place `at` on, and leaves the states after each of their bytes.
+///
+/// The places at which states are stored are counted by `stride`, which is 1. LLVM doesn't know its value, and so keeps one
+/// pointer for all stores. If it counted places and bytes together, it would give each store an index, and a store with an index waits
+/// for one of the two ports that also serve loads, on Intel's processors before Ice Lake. Apart from its caller the loop has a
+/// register for each lane.
+#[inline(never)]
+fn run_eight(code: &[u8], at: usize, stride: usize, states: &mut [u8; 256])
     requires start { at % 32 ≡ 0 }
     requires room { at + 256 ≤ length code.now }
-    ensures { (n : ℕ) → n < 8 → TellsBundle code.now (at + 32 * n) (get_or result n no_bits) }
+    requires stride { stride ≡ 1 }
+    ensures { AreEightRuns code.now at states.new }
 {
-    let mut a = Lane::new();
-    let mut b = Lane::new();
-    let mut c = Lane::new();
-    let mut d = Lane::new();
-    let mut e = Lane::new();
-    let mut f = Lane::new();
-    let mut g = Lane::new();
-    let mut h = Lane::new();
+    let mut a = END as usize;
+    let mut b = END as usize;
+    let mut c = END as usize;
+    let mut d = END as usize;
+    let mut e = END as usize;
+    let mut f = END as usize;
+    let mut g = END as usize;
+    let mut h = END as usize;
+    let mut place = 0;
     for i in 0..32 {
-        a.step(i, code[at + i]);
-        b.step(i, code[at + 32 + i]);
-        c.step(i, code[at + 64 + i]);
-        d.step(i, code[at + 96 + i]);
-        e.step(i, code[at + 128 + i]);
-        f.step(i, code[at + 160 + i]);
-        g.step(i, code[at + 192 + i]);
-        h.step(i, code[at + 224 + i]);
+        a = step_at(states, place, a, code[at + i]);
+        b = step_at(states, place + 32, b, code[at + 32 + i]);
+        c = step_at(states, place + 64, c, code[at + 64 + i]);
+        d = step_at(states, place + 96, d, code[at + 96 + i]);
+        e = step_at(states, place + 128, e, code[at + 128 + i]);
+        f = step_at(states, place + 160, f, code[at + 160 + i]);
+        g = step_at(states, place + 192, g, code[at + 192 + i]);
+        h = step_at(states, place + 224, h, code[at + 224 + i]);
+        place += stride;
     }
-    [
-        told(&a),
-        told(&b),
-        told(&c),
-        told(&d),
-        told(&e),
-        told(&f),
-        told(&g),
-        told(&h),
-    ]
+}
+
+/// Adds the bits of eight bundles, up to the first at whose end no instruction ends, of which it returns the bits.
+#[inline(always)]
+fn push_whole(bundles: &mut Vec<Bundle>, code: &[u8], states: &[u8; 256]) -> Option<Bundle>
+    requires told { AreTold code.now bundles.old.items }
+    requires states { AreEightRuns code.now (32 * vec_len bundles.old) states.now }
+    requires room { vec_len bundles.old + 8 ≤ vec_capacity bundles.old }
+    ensures told { AreTold code.now bundles.new.items }
+    ensures all { IfNone result (vec_len bundles.new ≡ vec_len bundles.old + 8) }
+    ensures stop { IfSome result (λ last. TellsBundle code.now (32 * vec_len bundles.new) last) }
+    ensures within { IfSome result (λ _. vec_len bundles.new < vec_len bundles.old + 8) }
+    ensures room { vec_capacity bundles.new ≡ vec_capacity bundles.old }
+{
+    for n in 0..LANES {
+        let bundle = told_by(&states[32 * n..]);
+        if bundle.ends >> LAST & 1 == 0 {
+            return Some(bundle);
+        }
+        bundles.push_reserved(bundle);
+    }
+    None
 }
 
 /// The bits of the bundle at place `at`, read by itself.
@@ -205,6 +225,35 @@ fn read_last_two(mut bundles: Vec<Bundle>, code: &[u8]) -> Option<Front>
     with_last(bundles, code, last)
 }
 
+/// Reads eight bundles at a time while there are as many, up to the first at whose end no instruction ends, of which it returns
+/// the bits.
+fn read_eights(bundles: &mut Vec<Bundle>, code: &[u8]) -> Option<Bundle>
+    requires bundles { length code.now % 32 ≡ 0 }
+    requires fits { length code.now < 2 ^ 32 }
+    requires told { AreTold code.now bundles.old.items }
+    requires within { 32 * vec_len bundles.old ≤ length code.now }
+    requires room { length code.now ≤ 32 * vec_capacity bundles.old }
+    ensures told { AreTold code.now bundles.new.items }
+    ensures within { 32 * vec_len bundles.new ≤ length code.now }
+    ensures stop { IfSome result (λ last. TellsBundle code.now (32 * vec_len bundles.new) last) }
+    ensures inside { IfSome result (λ _. 32 * vec_len bundles.new + 32 ≤ length code.now) }
+{
+    let count = code.len() / 32;
+    if count < LANES {
+        return None;
+    }
+    // One: the code consists of whole bundles.
+    let stride = usize::from(code.len() % 32 == 0);
+    let mut states = [0; 256];
+    while bundles.len() + LANES <= count {
+        run_eight(code, 32 * bundles.len(), stride, &mut states);
+        if let Some(last) = push_whole(bundles, code, &states) {
+            return Some(last);
+        }
+    }
+    None
+}
+
 /// Reads the bundles of the code, if there is memory for their bits, up to the first at whose end no instruction ends.
 #[inline(never)]
 pub(crate) fn read_bundles(alloc: Global, code: &[u8]) -> Option<Front>
@@ -214,17 +263,12 @@ pub(crate) fn read_bundles(alloc: Global, code: &[u8]) -> Option<Front>
 {
     let count = code.len() / 32;
     let mut bundles = Vec::new(alloc);
-    bundles.reserve(count).ok()?;
-    while bundles.len() + LANES <= count {
-        let more = eight(code, 32 * bundles.len());
-        let whole = whole_front(&more);
-        if whole < LANES {
-            bundles.extend_from_slice(&more[..whole]).ok()?;
-            let end = last_end(code, 32 * bundles.len(), more[whole].ends);
-            return Some(Front { bundles, end });
-        }
-        // All eight are copied without a call, since their number is known here.
-        bundles.extend_from_slice(&more).ok()?;
+    if bundles.reserve(count).is_err() {
+        return None;
+    }
+    if let Some(last) = read_eights(&mut bundles, code) {
+        let end = last_end(code, 32 * bundles.len(), last.ends);
+        return Some(Front { bundles, end });
     }
     match count - bundles.len() {
         1 => return read_last(bundles, code),

@@ -41,6 +41,17 @@ pub record HasRun (code : List ℕ) (at i state : ℕ) (states : List ℕ) : Typ
   pub long : length states ≡ 32
   pub small : state < STATES
 
+-- `last` are the states of eight bundles, the first of which begins at place `at`, after the first i bytes of each, and `states`
+-- those after each of these bytes, 32 for each bundle
+pub record HaveRun (code : List ℕ) (at i : ℕ) (last states : List ℕ) : Type 0 where
+  pub now : (n : ℕ) → n < 8 → get_or last n 0 ≡ entered code (at + 32 * n) i
+  pub each : (n k : ℕ) → n < 8 → k < i → get_or states (32 * n + k) 0 ≡ state_after code (at + 32 * n + k)
+  pub long : length states ≡ 256
+
+-- the states after the bytes of eight bundles, the first of which begins at place `at`
+abbrev pub AreEightRuns : List ℕ → ℕ → List ℕ → Type 0
+AreEightRuns code at states = (n k : ℕ) → n < 8 → k < 32 → get_or states (32 * n + k) 0 ≡ state_after code (at + 32 * n + k)
+
 -- the bits agree with the states after the bytes of the bundle that begins at place `at`
 pub record TellsBundle (code : List ℕ) (at : ℕ) (w : Bundle) : Type 0 where
   pub ends : (k : ℕ) → k < 32 → (bit_at w.ends k == 1) ≡ nat_le END (state_after code (at + k))

@@ -7,9 +7,3 @@ invariant-loop-bundles l = record { within : vec_len l.bundles ≤ l.count; told
 
 abbrev pub decreases-loop-bundles : goal.decreases-loop-bundles
 decreases-loop-bundles l = l.count - vec_len l.bundles
-
-abbrev pub invariant-loop-bundles-2 : goal.invariant-loop-bundles-2
-invariant-loop-bundles-2 l = record { within : vec_len l.bundles ≤ l.count; told : AreTold l.code l.bundles.items }
-
-abbrev pub decreases-loop-bundles-2 : goal.decreases-loop-bundles-2
-decreases-loop-bundles-2 l = l.count - vec_len l.bundles
