@@ -7,31 +7,34 @@ use Rattle.hex.specs.declared.error.FromHexError.{FromHexError}
 use Rattle.nc_lines.specs.machinery.Digits.{entry_of, AreDigitValues}
 use Rattle.nc_lines.specs.declared.digits.TheConstants.{VALUES}
 
--- the test of the first n entries, which computes
-abbrev are_entered : List ℕ → ℕ → Bool
-are_entered values zero = true
-are_entered values (suc n) = (slice_index values n == entry_of (hex_digit_value n)) && are_entered values n
+-- the test of the numbers below n, which computes
+abbrev pub all_pass : (ℕ → Bool) → ℕ → Bool
+all_pass test zero = true
+all_pass test (suc n) = test n && all_pass test n
 
--- an entry below n passed the test
-entered_at : (values : List ℕ) (n c : ℕ) → are_entered values n ≡ true → c < n → slice_index values c ≡ entry_of (hex_digit_value c)
-entered_at values zero c h below = absurd (omega arith)
-entered_at values (suc n) c h below =
-    let parts = and_parts (slice_index values n == entry_of (hex_digit_value n)) (are_entered values n) h in
+-- a number below n passed the test
+pub passed_at : (test : ℕ → Bool) (n c : ℕ) → all_pass test n ≡ true → c < n → test c ≡ true
+passed_at test zero c h below = absurd (omega arith)
+passed_at test (suc n) c h below =
+    let parts = and_parts (test n) (all_pass test n) h in
     elim (cases_lt c n) [
-      | inl before ↦ entered_at values n c parts.1 before
+      | inl before ↦ passed_at test n c parts.1 before
       | inr last ↦
           let same : c ≡ n = omega arith in
-          subst (λ (k : ℕ). slice_index values k ≡ entry_of (hex_digit_value k)) (sym same)
-          (eqb-true (slice_index values n) (entry_of (hex_digit_value n)) parts.0)
+          subst (λ (k : ℕ). test k ≡ true) (sym same) parts.0
     ]
 
+-- the test of an entry of the table
+abbrev is_entered : ℕ → Bool
+is_entered c = slice_index VALUES c == entry_of (hex_digit_value c)
+
 -- all entries of the table pass it
-all_entered : are_entered VALUES 256 ≡ true
+all_entered : all_pass is_entered 256 ≡ true
 all_entered = refl
 
 -- the table has the values of digits
 pub values_are : AreDigitValues VALUES
-values_are c below = entered_at VALUES 256 c all_entered below
+values_are c below = eqb-true (slice_index VALUES c) (entry_of (hex_digit_value c)) (passed_at is_entered 256 c all_entered below)
 
 -- a digit's value is below 16
 digit_small : (c v : ℕ) → hex_digit_value c ≡ Some v → v < 16
@@ -48,7 +51,7 @@ entries_most values c are below =
     subst (λ (n : ℕ). n ≤ 256) (sym (are c below)) (entry_most (hex_digit_value c) (digit_small c))
 
 -- two digits, of whose values neither is missing, are the byte
-read_pair : (high low i byte : ℕ) (a b : Option ℕ) → byte ≡ entry_of a * 16 + entry_of b → byte ≤ 255
+pub read_pair : (high low i byte : ℕ) (a b : Option ℕ) → byte ≡ entry_of a * 16 + entry_of b → byte ≤ 255
     → (digit_or_error high i a >>= (λ h. digit_or_error low (i + 1) b >>= (λ l. Ok (h * 16 + l)))) ≡ Ok byte
 read_pair high low i byte (Some h) (Some l) e small = ap Ok (sym e)
 read_pair high low i byte (Some h) None e small = absurd (omega arith)

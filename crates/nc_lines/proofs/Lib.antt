@@ -9,3 +9,5 @@ pub mod Kept
 pub mod FirstWords
 pub mod Gathering
 pub mod VetReplies
+pub mod DigitLanes
+pub mod DigitRuns

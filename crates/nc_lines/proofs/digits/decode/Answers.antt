@@ -1,5 +1,5 @@
 use Rattle.nc_lines.proofs.DigitValues.{values_are}
 use Rattle.nc_lines.proofs.digits.decode.Goals as goal
 
-pub decode_by-requires-clause-values : goal.decode_by-requires-clause-values
-decode_by-requires-clause-values c = values_are
+pub decode_rest-requires-clause-values : goal.decode_rest-requires-clause-values
+decode_rest-requires-clause-values c = values_are

@@ -3,7 +3,7 @@ use Rattle.std.specs.Result.{result_ok}
 use Rattle.hex.proofs.HexLemmas.{decode_of-even}
 use Rattle.hex.proofs.Pairs.{decode_step, decode_done, decode_err}
 use Rattle.nc_lines.proofs.DigitValues.{pair_read, pair_refused}
-use Rattle.nc_lines.proofs.digits.decode_by.Goals as goal
+use Rattle.nc_lines.proofs.digits.decode_rest.Goals as goal
 
 pub returns-then-byte-gt255 : goal.returns-then-byte-gt255
 returns-then-byte-gt255 c =
