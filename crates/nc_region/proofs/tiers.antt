@@ -4,4 +4,5 @@ pub mod Standing
 pub mod Shape
 pub mod Closing
 pub mod Searching
+pub mod Passing
 pub mod Freeing

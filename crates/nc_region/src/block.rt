@@ -3,8 +3,8 @@
 ghost use Rattle.std.specs.Prelude.{◌≡◌, ◌+◌, ◌-◌, ◌<◌, ◌≤◌, [], ◌∷◌, ◌++◌, length, slice_set, OnOk};
 ghost use Rattle.std.specs.VecDeque.{deque_capacity};
 ghost use Rattle.std.specs.List.{insert};
-ghost use Rattle.nc_region.specs.Deletion.{is_due, kept};
-ghost use Rattle.nc_region.specs.machinery.Blocks.{IsSince, AreSince, IsBlock, IsRoomy};
+ghost use Rattle.nc_region.specs.Deletion.{is_due};
+ghost use Rattle.nc_region.specs.machinery.Blocks.{IsSince, IsNextDue, IsBlock, IsRoomy};
 
 use crate::chunk::{Chunk, ChunkState};
 use std::alloc::{AllocError, Global};
@@ -22,24 +22,13 @@ pub(crate) struct Block {
 }
 
 /// The stamp of a retired chunk, and the greatest number for a live one.
-fn stamp_of(chunk: Chunk) -> u64
+pub(crate) fn stamp_of(chunk: Chunk) -> u64
     ensures { IsSince result chunk.state }
 {
     match chunk.state {
         ChunkState::Live => u64::MAX,
         ChunkState::Retired(stamp) => stamp,
     }
-}
-
-/// The least stamp of these chunks.
-fn oldest_of(chunks: &VecDeque<Chunk>) -> u64
-    ensures { AreSince result chunks.now.items }
-{
-    let mut oldest = u64::MAX;
-    for i in 0..chunks.len() {
-        oldest = oldest.min(stamp_of(chunks[i]));
-    }
-    oldest
 }
 
 /// The chunk is retired with a stamp of at most this number.
@@ -50,6 +39,40 @@ pub(crate) fn is_due(chunk: Chunk, least: u64) -> bool
         ChunkState::Live => false,
         ChunkState::Retired(stamp) => stamp <= least,
     }
+}
+
+/// The index of the first chunk of a run, from an index on, that is retired with a stamp of at most this number, or the length
+/// of the run, and a lower bound of `high` and the stamps of those before it.
+fn next_due_in(run: &[Chunk], from: usize, least: u64, high: u64) -> (usize, u64)
+    requires { from ≤ length run.now }
+    ensures { IsNextDue run.now from least high result.0 result.1 }
+{
+    let mut low = high;
+    for i in from..run.len() {
+        // A match of its own, in which a live chunk is passed by one test.
+        if let ChunkState::Retired(stamp) = run[i].state {
+            if stamp <= least {
+                return (i, low);
+            }
+            low = low.min(stamp);
+        }
+    }
+    (run.len(), low)
+}
+
+/// The same of the chunks of a block, which are two runs in memory.
+pub(crate) fn next_due(chunks: &VecDeque<Chunk>, from: usize, least: u64, high: u64) -> (usize, u64)
+    requires { from ≤ length chunks.now.items }
+    ensures { IsNextDue chunks.now.items from least high result.0 result.1 }
+{
+    let (first, second) = chunks.as_slices();
+    let turn = first.len();
+    let (index, middle) = next_due_in(first, from.min(turn), least, high);
+    if index < turn {
+        return (index, middle);
+    }
+    let (more, low) = next_due_in(second, from.saturating_sub(turn), least, middle);
+    (turn + more, low)
 }
 
 impl Block {
@@ -196,22 +219,5 @@ impl Block {
         let first = self.take_first();
         self.insert(i - 1, chunk);
         first
-    }
-
-    /// Removes each retired chunk with a stamp of at most this number, and returns their number.
-    pub(crate) fn remove_due(&mut self, least: u64) -> usize
-        requires block { IsBlock self.old }
-        ensures items { self.new.chunks.items ≡ kept least self.old.chunks.items }
-        ensures count { result + length self.new.chunks.items ≡ length self.old.chunks.items }
-        ensures block { IsBlock self.new }
-        ensures capacity { deque_capacity self.new.chunks ≡ deque_capacity self.old.chunks }
-    {
-        if least < self.oldest {
-            return 0;
-        }
-        let before = self.chunks.len();
-        self.chunks.retain(|chunk| !is_due(*chunk, least));
-        self.oldest = oldest_of(&self.chunks);
-        before - self.chunks.len()
     }
 }

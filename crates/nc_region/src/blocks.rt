@@ -6,7 +6,6 @@ ghost use Rattle.std.specs.List.{insert};
 ghost use Rattle.nc_region.specs.Each.{Each};
 ghost use Rattle.nc_region.specs.declared.block.Block.{Block};
 ghost use Rattle.nc_region.specs.declared.chunk.Chunk.{Chunk};
-ghost use Rattle.nc_region.specs.Deletion.{kept};
 ghost use Rattle.nc_region.specs.Region.{IsRising};
 ghost use Rattle.nc_region.specs.machinery.Blocks.{IsBlock, IsRoomy, AreBlocks, AreRoomy, IsPoured, IsClosing, IsBelow, IsAbove, RisesByIndex, chunks_of, start_of};
 
@@ -235,7 +234,7 @@ fn close_gap(blocks: &mut VecDeque<Block>, from: usize, to: usize) -> usize
 }
 
 /// Moves chunks to earlier blocks until all but the first and the last are full, and removes the blocks behind these.
-fn close_gaps(blocks: &mut VecDeque<Block>)
+pub(crate) fn close_gaps(blocks: &mut VecDeque<Block>)
     requires each { Each IsBlock blocks.old.items }
     requires room { (k : ℕ) (d : Block) → 0 < k → k + 1 < length blocks.old.items
         → 256 ≤ deque_capacity (slice_index_or blocks.old.items k d).chunks }
@@ -247,41 +246,6 @@ fn close_gaps(blocks: &mut VecDeque<Block>)
         to = close_gap(blocks, from, to);
     }
     blocks.truncate(to + 1);
-}
-
-/// Removes each retired chunk with a stamp of at most this number from its block, and returns their number.
-fn remove_due_in(blocks: &mut VecDeque<Block>, least: u64) -> usize
-    requires each { Each IsBlock blocks.old.items }
-    requires few { length (chunks_of blocks.old.items) < 2 ^ 64 }
-    ensures items { chunks_of blocks.new.items ≡ kept least (chunks_of blocks.old.items) }
-    ensures count { result + length (chunks_of blocks.new.items) ≡ length (chunks_of blocks.old.items) }
-    ensures each { Each IsBlock blocks.new.items }
-    ensures long { length blocks.new.items ≡ length blocks.old.items }
-    ensures capacity { (k : ℕ) (d : Block) → deque_capacity (slice_index_or blocks.new.items k d).chunks
-        ≡ deque_capacity (slice_index_or blocks.old.items k d).chunks }
-    ensures none { result ≡ 0 → (k : ℕ) (d : Block) → length (slice_index_or blocks.new.items k d).chunks.items
-        ≡ length (slice_index_or blocks.old.items k d).chunks.items }
-{
-    let mut removed = 0;
-    for k in 0..blocks.len() {
-        removed += blocks[k].remove_due(least);
-    }
-    removed
-}
-
-/// Removes each retired chunk with a stamp of at most this number, and returns their number.
-pub(crate) fn remove_due_from(blocks: &mut VecDeque<Block>, least: u64) -> usize
-    requires blocks { AreBlocks blocks.old.items }
-    requires few { length (chunks_of blocks.old.items) < 2 ^ 64 }
-    ensures items { chunks_of blocks.new.items ≡ kept least (chunks_of blocks.old.items) }
-    ensures count { result + length (chunks_of blocks.new.items) ≡ length (chunks_of blocks.old.items) }
-    ensures blocks { AreBlocks blocks.new.items }
-{
-    let removed = remove_due_in(blocks, least);
-    if removed != 0 {
-        close_gaps(blocks);
-    }
-    removed
 }
 
 /// Puts a block without a chunk before the others if the first is full, or if there is none.

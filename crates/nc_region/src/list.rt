@@ -2,13 +2,16 @@
 
 ghost use Rattle.std.specs.Prelude.{◌≡◌, ◌+◌, ◌<◌, ◌≤◌, ◌^◌, [], true, length, slice_index_or, slice_get, slice_set, OnOk};
 ghost use Rattle.std.specs.List.{insert};
-ghost use Rattle.nc_region.specs.Deletion.{kept};
-ghost use Rattle.nc_region.specs.Region.{IsRising};
+ghost use Rattle.nc_region.specs.Deletion.{freed, kept};
+ghost use Rattle.nc_region.specs.Region.{IsRising, IsRegion};
 ghost use Rattle.nc_region.specs.machinery.Blocks.{IsBelow, IsAbove};
+ghost use Rattle.nc_region.specs.machinery.Freeing.{AreUnmarked};
 
+use crate::acts::Acts;
 use crate::block::Block;
-use crate::blocks::{chunk_at, count_in, insert_at, make_ends, remove_due_from, set_chunk_at};
+use crate::blocks::{chunk_at, count_in, insert_at, make_ends, set_chunk_at};
 use crate::chunk::Chunk;
+use crate::reclaim::free_due_in;
 use std::alloc::{AllocError, Global};
 use std::collections::VecDeque;
 use std::marker::Model;
@@ -126,13 +129,20 @@ impl ChunkList {
         self.roomy = false;
     }
 
-    /// Removes each retired chunk with a stamp of at most this number, and returns their number.
-    pub(crate) fn remove_due(&mut self, least: u64) -> usize
+    /// Unmarks the span of each retired chunk with a stamp of at most this number, in ascending order, removes these chunks, and
+    /// returns their number.
+    pub(crate) fn free_due<A: Acts>(&mut self, acts: &mut A, least: u64) -> usize
+        requires { IsRegion (A.marked acts.old) self.old.items }
         ensures items { self.new.items ≡ kept least self.old.items }
         ensures count { result + length self.new.items ≡ length self.old.items }
+        ensures region { IsRegion (A.marked acts.new) self.new.items }
+        ensures unmarks { AreUnmarked (freed least self.old.items) (A.marked acts.old) (A.marked acts.new) (A.told acts.old) (A.told acts.new)
+            (A.logged acts.old) (A.logged acts.new) }
+        ensures made { A.made acts.new ≡ A.made acts.old }
+        ensures keeper { A.keeper acts.new ≡ A.keeper acts.old }
     {
         self.roomy = false;
-        let removed = remove_due_from(&mut self.blocks, least);
+        let removed = free_due_in(acts, &mut self.blocks, least);
         self.count -= removed;
         removed
     }

@@ -29,7 +29,7 @@ use crate::listing::{holder, live_at};
 use crate::modify::is_patch_span;
 use crate::patch::patch;
 use crate::plain::Plain;
-use crate::reclaim::{remove_due, unmark_due};
+use crate::reclaim::free_due;
 use crate::trace::Trace;
 use crate::walk::walk_from;
 use nc_decode::{BUNDLE, Mark, START};
@@ -309,8 +309,7 @@ impl<A: Acts + Drop> RegionOf<A> {
         ensures confined { IsConfined self.new.marked.bytes }
     {
         let least = self.acts.look();
-        unmark_due(&mut self.acts, &self.chunks, least);
-        remove_due(&mut self.chunks, least)
+        free_due(&mut self.acts, &mut self.chunks, least)
     }
 
     /// A pass and the region's keeper meet, as by `Gens::meet`: the pass sees the generation, and the keeper the pass's word.

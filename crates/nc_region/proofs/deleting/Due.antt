@@ -1,12 +1,12 @@
 -- The chunks that are due, one after the other: what is left of the list and of the marks.
 use Rattle.std.proofs.Common.{◌≡◌, ℕ, suc, ◌+◌, ◌<◌, ◌≤◌, Bool, true, false, not, cond, List, [], ◌∷◌, ◌++◌, length, filter}
 use Rattle.std.proofs.Common.{take, drop, get_or, Option, arith, refl, ◌∙◌, sym, ap, subst, append_assoc, append-nil}
-use Rattle.std.proofs.lemmas.List.{map-append}
+use Rattle.std.proofs.lemmas.List.{take_all, drop_all}
 use Rattle.std.proofs.lemmas.List.Elements.{filter-append}
 use Rattle.std.proofs.Math.Seq.{take-suc, drop-cons}
 use Rattle.nc_text.specs.MarkedText.{MarkedText, without_marks}
 use Rattle.nc_region.specs.declared.acts.Act.{Act}
-use Rattle.nc_region.specs.declared.acts.Act.TheVariants.{UnmarkSpan, Look}
+use Rattle.nc_region.specs.declared.acts.Act.TheVariants.{Look}
 use Rattle.nc_region.specs.declared.acts.Entry.{Entry}
 use Rattle.nc_region.specs.declared.acts.Entry.TheVariants.{Did}
 use Rattle.nc_region.specs.declared.chunk.Chunk.{Chunk}
@@ -61,25 +61,29 @@ pub kept_other : (least : ℕ) (done : List Chunk) (c : Chunk) → is_due least 
 kept_other least done c is = filter-append (λ (x : Chunk). not (is_due least x.state)) done (c ∷ [])
     ∙ ap (λ (z : List Chunk). kept least done ++ z) (one (λ (x : Chunk). not (is_due least x.state)) c true (ap not is))
 
--- one more span unmarked
-pub unmarked_more : (marked : MarkedText) (done : List Chunk) (c : Chunk)
-    → unmarked marked (done ++ c ∷ []) ≡ without_marks (unmarked marked done) c.base c.length
-unmarked_more marked [] c = refl
-unmarked_more marked (d ∷ done) c = unmarked_more (without_marks marked d.base d.length) done c
-
 -- no byte is changed
 pub unmarked_bytes : (marked : MarkedText) (done : List Chunk) → (unmarked marked done).bytes ≡ marked.bytes
 unmarked_bytes marked [] = refl
 unmarked_bytes marked (d ∷ done) = unmarked_bytes (without_marks marked d.base d.length) done
 
--- one more act
-pub unmarkings_more : (done : List Chunk) (c : Chunk) → unmarkings (done ++ c ∷ []) ≡ unmarkings done ++ UnmarkSpan c.base c.length ∷ []
-unmarkings_more done c = map-append (λ (x : Chunk). UnmarkSpan x.base x.length) done (c ∷ [])
+-- A run of chunks stands between others. This is the list that is left once those of its first i chunks that are due have been
+-- freed.
+abbrev pub left_in : ℕ → List Chunk → List Chunk → List Chunk → ℕ → List Chunk
+left_in least before run after i = before ++ (kept least (take i run) ++ (drop i run ++ after))
 
--- the list that is left, with the next chunk at the seam
-at_seam : (least : ℕ) (chunks : List Chunk) (i : ℕ) (d : Chunk) → i < length chunks
-    → kept least (take i chunks) ++ drop i chunks ≡ kept least (take i chunks) ++ get_or chunks i d ∷ drop (suc i) chunks
-at_seam least chunks i d lt = ap (λ (z : List Chunk). kept least (take i chunks) ++ z) (drop-cons chunks i d lt)
+-- the same, with the next chunk at the seam
+at_seam : (least : ℕ) (before run after : List Chunk) (i : ℕ) (d : Chunk) → i < length run
+    → left_in least before run after i ≡ (before ++ kept least (take i run)) ++ get_or run i d ∷ (drop (suc i) run ++ after)
+at_seam least before run after i d lt =
+    ap (λ (z : List Chunk). before ++ (kept least (take i run) ++ (z ++ after))) (drop-cons run i d lt)
+    ∙ sym (append_assoc before (kept least (take i run)) (get_or run i d ∷ (drop (suc i) run ++ after)))
+
+-- the whole run is freed
+pub left_all : (least : ℕ) (before run after : List Chunk) (i : ℕ) → length run ≤ i
+    → left_in least before run after i ≡ before ++ (kept least run ++ after)
+left_all least before run after i le =
+    ap (λ (z : List Chunk). before ++ (kept least z ++ (drop i run ++ after))) (take_all i run le)
+    ∙ ap (λ (z : List Chunk). before ++ (kept least run ++ (z ++ after))) (drop_all i run le)
 
 -- the list up to the next index
 pub take_more : (chunks : List Chunk) (i : ℕ) (d : Chunk) → i < length chunks
@@ -88,49 +92,50 @@ take_more chunks i d lt = let next : suc i ≡ i + 1 = omega arith in
     subst (λ (k : ℕ). take k chunks ≡ take i chunks ++ get_or chunks i d ∷ []) next (take-suc chunks i d lt)
 
 -- the next chunk's span may be freed, if it is due
-pub next_frees : (marked : MarkedText) (least : ℕ) (chunks : List Chunk) (i : ℕ) (d : Chunk) → i < length chunks
-    → is_due least (get_or chunks i d).state ≡ true → IsRegion marked (kept least (take i chunks) ++ drop i chunks)
-    → MayFree marked (span_of (get_or chunks i d))
-next_frees marked least chunks i d lt is region =
-    frees marked (kept least (take i chunks)) (drop (suc i) chunks) (get_or chunks i d)
-    (subst (IsRegion marked) (at_seam least chunks i d lt) region) (due_dead least (get_or chunks i d).state is)
+pub next_frees : (marked : MarkedText) (least : ℕ) (before run after : List Chunk) (i : ℕ) (d : Chunk) → i < length run
+    → is_due least (get_or run i d).state ≡ true → IsRegion marked (left_in least before run after i)
+    → MayFree marked (span_of (get_or run i d))
+next_frees marked least before run after i d lt is region =
+    frees marked (before ++ kept least (take i run)) (drop (suc i) run ++ after) (get_or run i d)
+    (subst (IsRegion marked) (at_seam least before run after i d lt) region) (due_dead least (get_or run i d).state is)
 
 -- it is quiet
-pub next_quiet : (marked : MarkedText) (least : ℕ) (chunks : List Chunk) (i : ℕ) (d : Chunk) → i < length chunks
-    → is_due least (get_or chunks i d).state ≡ true → IsRegion marked (kept least (take i chunks) ++ drop i chunks)
-    → IsQuiet marked.bytes marked.marks (span_of (get_or chunks i d))
-next_quiet marked least chunks i d lt is region =
-    dead_is_quiet marked (kept least (take i chunks)) (drop (suc i) chunks) (get_or chunks i d)
-    (subst (IsRegion marked) (at_seam least chunks i d lt) region) (due_dead least (get_or chunks i d).state is)
+pub next_quiet : (marked : MarkedText) (least : ℕ) (before run after : List Chunk) (i : ℕ) (d : Chunk) → i < length run
+    → is_due least (get_or run i d).state ≡ true → IsRegion marked (left_in least before run after i)
+    → IsQuiet marked.bytes marked.marks (span_of (get_or run i d))
+next_quiet marked least before run after i d lt is region =
+    dead_is_quiet marked (before ++ kept least (take i run)) (drop (suc i) run ++ after) (get_or run i d)
+    (subst (IsRegion marked) (at_seam least before run after i d lt) region) (due_dead least (get_or run i d).state is)
 
 -- the region once it is freed
-pub next_freed : (marked : MarkedText) (least : ℕ) (chunks : List Chunk) (i : ℕ) (d : Chunk) → i < length chunks
-    → is_due least (get_or chunks i d).state ≡ true → IsRegion marked (kept least (take i chunks) ++ drop i chunks)
-    → IsRegion (without_marks marked (get_or chunks i d).base (get_or chunks i d).length)
-    (kept least (take (i + 1) chunks) ++ drop (i + 1) chunks)
-next_freed marked least chunks i d lt is region =
+pub next_freed : (marked : MarkedText) (least : ℕ) (before run after : List Chunk) (i : ℕ) (d : Chunk) → i < length run
+    → is_due least (get_or run i d).state ≡ true → IsRegion marked (left_in least before run after i)
+    → IsRegion (without_marks marked (get_or run i d).base (get_or run i d).length) (left_in least before run after (i + 1))
+next_freed marked least before run after i d lt is region =
     let next : suc i ≡ i + 1 = omega arith in
-    subst (λ (k : ℕ). IsRegion (without_marks marked (get_or chunks i d).base (get_or chunks i d).length)
-    (kept least (take k chunks) ++ drop k chunks)) next
-    (subst (λ (z : List Chunk). IsRegion (without_marks marked (get_or chunks i d).base (get_or chunks i d).length)
-    (z ++ drop (suc i) chunks))
-    (sym (ap (λ (z : List Chunk). kept least z) (take-suc chunks i d lt) ∙ kept_due least (take i chunks) (get_or chunks i d) is))
-    (region_freed marked (kept least (take i chunks)) (drop (suc i) chunks) (get_or chunks i d)
-    (subst (IsRegion marked) (at_seam least chunks i d lt) region) (due_dead least (get_or chunks i d).state is)))
+    let rest = drop (suc i) run ++ after in
+    subst (IsRegion (without_marks marked (get_or run i d).base (get_or run i d).length))
+    (append_assoc before (kept least (take i run)) rest
+    ∙ (ap (λ (z : List Chunk). before ++ (z ++ rest))
+    (sym (ap (λ (z : List Chunk). kept least z) (take-suc run i d lt) ∙ kept_due least (take i run) (get_or run i d) is))
+    ∙ ap (λ (k : ℕ). left_in least before run after k) next))
+    (region_freed marked (before ++ kept least (take i run)) rest (get_or run i d)
+    (subst (IsRegion marked) (at_seam least before run after i d lt) region) (due_dead least (get_or run i d).state is))
 
 -- a chunk that isn't due stays
-pub next_kept : (marked : MarkedText) (least : ℕ) (chunks : List Chunk) (i : ℕ) (d : Chunk) → i < length chunks
-    → is_due least (get_or chunks i d).state ≡ false → IsRegion marked (kept least (take i chunks) ++ drop i chunks)
-    → IsRegion marked (kept least (take (i + 1) chunks) ++ drop (i + 1) chunks)
-next_kept marked least chunks i d lt is region =
+pub next_kept : (marked : MarkedText) (least : ℕ) (before run after : List Chunk) (i : ℕ) (d : Chunk) → i < length run
+    → is_due least (get_or run i d).state ≡ false → IsRegion marked (left_in least before run after i)
+    → IsRegion marked (left_in least before run after (i + 1))
+next_kept marked least before run after i d lt is region =
     let next : suc i ≡ i + 1 = omega arith in
-    subst (λ (k : ℕ). IsRegion marked (kept least (take k chunks) ++ drop k chunks)) next
-    (subst (IsRegion marked)
-    (at_seam least chunks i d lt
-    ∙ (sym (append_assoc (kept least (take i chunks)) (get_or chunks i d ∷ []) (drop (suc i) chunks))
-    ∙ ap (λ (z : List Chunk). z ++ drop (suc i) chunks)
-    (sym (ap (λ (z : List Chunk). kept least z) (take-suc chunks i d lt) ∙ kept_other least (take i chunks) (get_or chunks i d) is))))
-    region)
+    let rest = drop (suc i) run ++ after in
+    subst (IsRegion marked)
+    (ap (λ (z : List Chunk). before ++ (kept least (take i run) ++ (z ++ after))) (drop-cons run i d lt)
+    ∙ (ap (λ (z : List Chunk). before ++ z) (sym (append_assoc (kept least (take i run)) (get_or run i d ∷ []) rest))
+    ∙ (ap (λ (z : List Chunk). before ++ (z ++ rest))
+    (sym (ap (λ (z : List Chunk). kept least z) (take-suc run i d lt) ∙ kept_other least (take i run) (get_or run i d) is))
+    ∙ ap (λ (k : ℕ). left_in least before run after k) next)))
+    region
 
 -- one more chunk is one or the other
 one_more : (least : ℕ) (c : Chunk) (rest : List Chunk) (b : Bool) → is_due least c.state ≡ b

@@ -1,9 +1,8 @@
 -- A bound on the stamps of chunks.
-use Rattle.std.proofs.Common.{◌≡◌, ℕ, ◌+◌, ◌<◌, ◌≤◌, false, List, [], ◌∷◌, ◌++◌, length, get_or, take, drop, set, refl, sym, ap}
-use Rattle.std.proofs.Common.{subst, arith}
+use Rattle.std.proofs.Common.{◌≡◌, ℕ, ◌<◌, ◌≤◌, false, List, [], ◌∷◌, ◌++◌, take, drop, set, refl, ap}
+use Rattle.std.proofs.Common.{arith}
 use Rattle.std.specs.List.{insert}
 use Rattle.std.proofs.lemmas.Bool.{lt-leb}
-use Rattle.std.proofs.lemmas.List.{take_more}
 use Rattle.nc_region.specs.declared.chunk.Chunk.{Chunk}
 use Rattle.nc_region.specs.declared.chunk.ChunkState.{ChunkState}
 use Rattle.nc_region.specs.declared.chunk.ChunkState.TheVariants.{Live, Retired}
@@ -50,13 +49,6 @@ since_set low high other c chunks i le also is all =
 pub since_front : (low : ℕ) (c : Chunk) (chunks : List Chunk) → AreSince low (chunks ++ c ∷ []) → AreSince low chunks
 since_front low c [] all = tt
 since_front low c (d ∷ chunks) all = (all.0, since_front low c chunks all.1)
-
--- one more of a list
-pub since_more : (low high other : ℕ) (chunks : List Chunk) (i : ℕ) (d : Chunk) → i < length chunks → low ≤ high → low ≤ other
-    → IsSince other (get_or chunks i d).state → AreSince high (take i chunks) → AreSince low (take (i + 1) chunks)
-since_more low high other chunks i d lt le also is all =
-    subst (λ (z : List Chunk). AreSince low z) (sym (take_more chunks i d lt))
-    (since_last low high other (get_or chunks i d) (take i chunks) le also is all)
 
 -- a chunk with a later stamp isn't due
 pub not_due : (least low : ℕ) (s : ChunkState) → least < low → IsSince low s → is_due least s ≡ false

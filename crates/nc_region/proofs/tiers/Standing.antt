@@ -314,15 +314,15 @@ fewer bs j r b d lt is =
     )
 
 -- lists that are the same from an index on, from the next one on
-pub rest_same : (xs ys : List Block) (k : ℕ) → drop k xs ≡ drop k ys → drop (k + 1) xs ≡ drop (k + 1) ys
-rest_same xs ys k same = sym (drop-drop 1 k xs) ∙ (ap (λ (z : List Block). drop 1 z) same ∙ drop-drop 1 k ys)
+pub rest_same : {X : Type 0} (xs ys : List X) (k : ℕ) → drop k xs ≡ drop k ys → drop (k + 1) xs ≡ drop (k + 1) ys
+rest_same {X} xs ys k same = sym (drop-drop 1 k xs) ∙ (ap (λ (z : List X). drop 1 z) same ∙ drop-drop 1 k ys)
 
 -- and at that index
-pub here_same : (xs ys : List Block) (k : ℕ) (d : Block) → drop k xs ≡ drop k ys → get_or xs k d ≡ get_or ys k d
-here_same xs ys k d same =
+pub here_same : {X : Type 0} (xs ys : List X) (k : ℕ) (d : X) → drop k xs ≡ drop k ys → get_or xs k d ≡ get_or ys k d
+here_same {X} xs ys k d same =
     let none : k + 0 ≡ k = omega arith in
     ap (λ (n : ℕ). get_or xs n d) (sym none)
-    ∙ (sym (get_or-drop k xs 0 d) ∙ (ap (λ (z : List Block). get_or z 0 d) same ∙ (get_or-drop k ys 0 d ∙ ap (λ (n : ℕ). get_or ys n d) none)))
+    ∙ (sym (get_or-drop k xs 0 d) ∙ (ap (λ (z : List X). get_or z 0 d) same ∙ (get_or-drop k ys 0 d ∙ ap (λ (n : ℕ). get_or ys n d) none)))
 
 -- the chunks kept up to the next block
 pub kept_more : (least : ℕ) (bs olds : List Block) (k : ℕ) (b d : Block) → k < length bs → k < length olds → drop k bs ≡ drop k olds

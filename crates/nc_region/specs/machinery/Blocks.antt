@@ -1,11 +1,12 @@
 -- The list of chunks as blocks of at most 256 chunks.
-use Rattle.std.specs.Prelude.{◌≡◌, ◌≢◌, ℕ, ◌+◌, ◌<◌, ◌≤◌, ⊤, Bool, List, [], length, take, drop, slice_index_or}
+use Rattle.std.specs.Prelude.{◌≡◌, ◌≢◌, ℕ, ◌+◌, ◌<◌, ◌≤◌, ⊤, Bool, true, false, List, [], length, take, slice_index_or}
 use Rattle.std.specs.List.{flat_map}
 use Rattle.std.specs.VecDeque.{deque_len, deque_capacity}
 use Rattle.nc_region.specs.declared.block.Block.{Block}
 use Rattle.nc_region.specs.declared.chunk.Chunk.{Chunk}
 use Rattle.nc_region.specs.declared.chunk.ChunkState.{ChunkState}
 use Rattle.nc_region.specs.declared.chunk.ChunkState.TheVariants.{Live, Retired}
+use Rattle.nc_region.specs.Deletion.{is_due}
 use Rattle.nc_region.specs.Each.{Each}
 
 -- what contracts see of a `ChunkList`: its chunks, and whether an insertion finds room
@@ -16,10 +17,6 @@ pub record Listing : Type 0 where
 -- the chunks of the blocks, in order
 abbrev pub chunks_of : List Block → List Chunk
 chunks_of blocks = flat_map (λ (b : Block). b.chunks.items) blocks
-
--- the chunks of the k-th block
-abbrev pub chunks_in : List Block → ℕ → List Chunk
-chunks_in blocks k = chunks_of (take 1 (drop k blocks))
 
 -- the number of chunks before the k-th block, which is the index of its first chunk
 abbrev pub start_of : List Block → ℕ → ℕ
@@ -33,6 +30,18 @@ IsSince oldest (Retired stamp) = oldest ≤ stamp
 -- each of these chunks is
 abbrev pub AreSince : ℕ → List Chunk → Type 0
 AreSince oldest chunks = Each (λ (c : Chunk). IsSince oldest c.state) chunks
+
+-- not due, and live or retired with a stamp of at least a number
+abbrev pub IsPassed : ℕ → ℕ → ChunkState → Type 0
+IsPassed least low state = (is_due least state ≡ false) × IsSince low state
+
+-- The first chunk from the index `from` on that is due has the index `to`, which is the number of chunks if there is none. The
+-- stamps of those passed are at least `low`, which is at most `high`.
+pub record IsNextDue (chunks : List Chunk) (from least high to low : ℕ) : Type 0 where
+  pub order : (from ≤ to) × (to ≤ length chunks)
+  pub lower : low ≤ high
+  pub passed : (k : ℕ) (d : Chunk) → from ≤ k → k < to → IsPassed least low (slice_index_or chunks k d).state
+  pub due : (d : Chunk) → to < length chunks → is_due least (slice_index_or chunks to d).state ≡ true
 
 -- a block has at most 256 chunks, and none is retired with a stamp below the block's bound
 abbrev pub IsBlock : Block → Type 0

@@ -11,14 +11,13 @@ use Rattle.nc_region.proofs.region.RegionOf.reclaim.Goals as goal
 
 pub invariant_of-self : goal.invariant_of-self
 invariant_of-self g c =
-    let made = c.unmark_due.ensures.made ∙ c.look-least.ensures.made in
-    rw (c.remove_due.ensures.chunks) (
-      c.unmark_due.ensures.region,
-      rw made (ready_kept (g.A.Acts.made c.self.inside.acts) c.look-least.result c.self.inside.chunks.items c.self.invariant.1),
+    let made = c.free_due.ensures.made ∙ c.look-least.ensures.made in (
+      c.free_due.ensures.region,
+      rw (c.free_due.ensures.chunks, made) (ready_kept (g.A.Acts.made c.self.inside.acts) c.look-least.result c.self.inside.chunks.items c.self.invariant.1),
     )
 
-pub remove_due-requires : goal.remove_due-requires
-remove_due-requires g c =
+pub free_due-requires-clause-few : goal.free_due-requires-clause-few
+free_due-requires-clause-few g c =
     let n = few (limit_of (g.A.Acts.marked c.self.inside.acts).bytes) 65536 c.self.inside.chunks.items c.self.invariant.0.rising
     c.self.invariant.0.placed (omega (arith, c.self.invariant.0.whole.lawful.1)) in
     omega (arith, n, c.self.invariant.0.whole.lawful.2)
@@ -35,27 +34,27 @@ returns-clause-reclaimed g c =
       logged = g.A.Acts.logged c.self.inside.acts;
     } in
     let new : Region = record {
-      marked = g.A.Acts.marked c.unmark_due.new.acts;
-      made = g.A.Acts.made c.unmark_due.new.acts;
-      chunks = c.remove_due.new.chunks.items;
+      marked = g.A.Acts.marked c.free_due.new.acts;
+      made = g.A.Acts.made c.free_due.new.acts;
+      chunks = c.free_due.new.chunks.items;
       keeper =
-          g.A.Acts.keeper c.unmark_due.new.acts;
-      told = g.A.Acts.told c.unmark_due.new.acts;
-      logged = g.A.Acts.logged c.unmark_due.new.acts;
+          g.A.Acts.keeper c.free_due.new.acts;
+      told = g.A.Acts.told c.free_due.new.acts;
+      logged = g.A.Acts.logged c.free_due.new.acts;
     } in
     rw (← c.self.view_is)
-    (reclaimed_is old new (g.A.Acts.told c.look-least.new.self) (g.A.Acts.logged c.look-least.new.self) c.remove_due.result c.look-least.result
-    (subst (HasLooked (g.A.Acts.keeper c.self.inside.acts)) (sym c.unmark_due.ensures.keeper) c.look-least.ensures.looked)
-    (c.look-least.ensures.least ∙ ap (λ (k : KeeperState). least_number k.numbers) (sym c.unmark_due.ensures.keeper))
-    c.remove_due.ensures.chunks
-    c.remove_due.ensures.count
-    (c.unmark_due.ensures.marked ∙ ap (λ (m : MarkedText). unmarked m
+    (reclaimed_is old new (g.A.Acts.told c.look-least.new.self) (g.A.Acts.logged c.look-least.new.self) c.free_due.result c.look-least.result
+    (subst (HasLooked (g.A.Acts.keeper c.self.inside.acts)) (sym c.free_due.ensures.keeper) c.look-least.ensures.looked)
+    (c.look-least.ensures.least ∙ ap (λ (k : KeeperState). least_number k.numbers) (sym c.free_due.ensures.keeper))
+    c.free_due.ensures.chunks
+    c.free_due.ensures.count
+    (c.free_due.ensures.unmarks.marked ∙ ap (λ (m : MarkedText). unmarked m
     (freed c.look-least.result c.self.inside.chunks.items)) c.look-least.ensures.marked)
-    (c.unmark_due.ensures.made ∙ c.look-least.ensures.made)
+    (c.free_due.ensures.made ∙ c.look-least.ensures.made)
     c.look-least.ensures.told
-    c.unmark_due.ensures.told
+    c.free_due.ensures.unmarks.tells
     c.look-least.ensures.logged
-    c.unmark_due.ensures.log)
+    c.free_due.ensures.unmarks.logs)
 
 pub returns-clause-confined : goal.returns-clause-confined
-returns-clause-confined g c = confined_if_closed _ _ c.unmark_due.ensures.region.whole.closed
+returns-clause-confined g c = confined_if_closed _ _ c.free_due.ensures.region.whole.closed
