@@ -1,5 +1,6 @@
 -- The blocks of the list of chunks.
 pub mod Stamps
+pub mod First
 pub mod Standing
 pub mod Shape
 pub mod Closing

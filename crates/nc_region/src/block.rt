@@ -1,10 +1,11 @@
 //! One block of the list of chunks.
 
-ghost use Rattle.std.specs.Prelude.{◌≡◌, ◌+◌, ◌-◌, ◌<◌, ◌≤◌, [], ◌∷◌, ◌++◌, length, slice_set, OnOk};
+ghost use Rattle.std.specs.Prelude.{◌≡◌, ◌+◌, ◌-◌, ◌<◌, ◌≤◌, [], ◌∷◌, ◌++◌, List, length, slice_set, OnOk};
 ghost use Rattle.std.specs.VecDeque.{deque_capacity};
 ghost use Rattle.std.specs.List.{insert};
+ghost use Rattle.nc_region.specs.declared.chunk.Chunk.{Chunk};
 ghost use Rattle.nc_region.specs.Deletion.{is_due};
-ghost use Rattle.nc_region.specs.machinery.Blocks.{IsSince, IsNextDue, IsBlock, IsRoomy};
+ghost use Rattle.nc_region.specs.machinery.Blocks.{IsSince, IsNextDue, BeginsAt, IsBlock, IsRoomy};
 
 use crate::chunk::{Chunk, ChunkState};
 use std::alloc::{AllocError, Global};
@@ -19,6 +20,8 @@ pub(crate) struct Block {
     pub(crate) chunks: VecDeque<Chunk>,
     /// No chunk of the block is retired with a lower stamp.
     pub(crate) oldest: u64,
+    /// The base of the first chunk, if there is one. A search among blocks reads no chunk.
+    pub(crate) first: u32,
 }
 
 /// The stamp of a retired chunk, and the greatest number for a live one.
@@ -75,6 +78,27 @@ pub(crate) fn next_due(chunks: &VecDeque<Chunk>, from: usize, least: u64, high: 
     (turn + more, low)
 }
 
+/// The base of the first of these chunks, or 0 if there is none.
+pub(crate) fn first_base(chunks: &VecDeque<Chunk>) -> u32
+    ensures { BeginsAt result chunks.now.items }
+{
+    if chunks.is_empty() {
+        return 0;
+    }
+    chunks[0].base
+}
+
+/// The base of the first chunk after this chunk has been put at an index, before others or in place of one.
+fn first_with(first: u32, i: usize, chunk: Chunk) -> u32
+    ensures inserted { (cs : List Chunk) → BeginsAt first cs → i ≤ length cs → BeginsAt result (insert cs i chunk) }
+    ensures set { (cs : List Chunk) → BeginsAt first cs → i < length cs → BeginsAt result (slice_set cs i chunk) }
+{
+    if i == 0 {
+        return chunk.base;
+    }
+    first
+}
+
 impl Block {
     /// A block without a chunk. No memory is allocated.
     pub(crate) fn new(alloc: Global) -> Block
@@ -84,6 +108,7 @@ impl Block {
         Block {
             chunks: VecDeque::new(alloc),
             oldest: u64::MAX,
+            first: 0,
         }
     }
 
@@ -106,6 +131,7 @@ impl Block {
         ensures block { IsBlock self.new }
     {
         self.oldest = self.oldest.min(stamp_of(chunk));
+        self.first = chunk.base;
         self.chunks.push_front_reserved(chunk);
     }
 
@@ -118,6 +144,9 @@ impl Block {
         ensures capacity { deque_capacity self.new.chunks ≡ deque_capacity self.old.chunks }
     {
         self.oldest = self.oldest.min(stamp_of(chunk));
+        if self.chunks.is_empty() {
+            self.first = chunk.base;
+        }
         self.chunks.push_back_reserved(chunk);
     }
 
@@ -129,7 +158,9 @@ impl Block {
         ensures block { IsBlock self.new }
         ensures capacity { deque_capacity self.new.chunks ≡ deque_capacity self.old.chunks }
     {
-        self.chunks.pop_front().unwrap()
+        let chunk = self.chunks.pop_front().unwrap();
+        self.first = first_base(&self.chunks);
+        chunk
     }
 
     /// Takes the last chunk out.
@@ -152,6 +183,7 @@ impl Block {
         ensures block { IsBlock self.new }
     {
         self.oldest = self.oldest.min(stamp_of(chunk));
+        self.first = first_with(self.first, i, chunk);
         // There is room, so this can't fail.
         let _ = self.chunks.insert(i, chunk);
     }
@@ -164,6 +196,7 @@ impl Block {
         ensures block { IsBlock self.new }
     {
         self.oldest = self.oldest.min(stamp_of(chunk));
+        self.first = first_with(self.first, i, chunk);
         self.chunks[i] = chunk;
     }
 

@@ -53,11 +53,12 @@ pub(crate) fn chunk_at(blocks: &VecDeque<Block>, i: usize) -> Chunk
 
 /// The block has a chunk, and the base of its first one is at most this address.
 fn begins_to(block: &Block, at: u32) -> bool
+    requires { IsBlock block.now }
     ensures begins { IsTrue result → (d : Chunk) → (0 < length block.now.chunks.items)
         × ((slice_index_or block.now.chunks.items 0 d).base ≤ at) }
     ensures not { result ≡ false → 0 < length block.now.chunks.items → (d : Chunk) → at < (slice_index_or block.now.chunks.items 0 d).base }
 {
-    !block.chunks.is_empty() && block.chunks[0].base <= at
+    !block.chunks.is_empty() && block.first <= at
 }
 
 /// The block in which the last chunk is whose base is at most this address, or the first block, by binary search.

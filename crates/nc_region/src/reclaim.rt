@@ -11,7 +11,7 @@ ghost use Rattle.nc_region.specs.machinery.Blocks.{AreSince, IsPassed, IsBlock, 
 ghost use Rattle.nc_region.specs.machinery.Freeing.{StandsIn, StaysRegion, AreUnmarked, AreTakenOut};
 
 use crate::acts::Acts;
-use crate::block::{Block, is_due, next_due, stamp_of};
+use crate::block::{Block, first_base, is_due, next_due, stamp_of};
 use crate::blocks::close_gaps;
 use crate::chunk::Chunk;
 use crate::list::ChunkList;
@@ -112,6 +112,7 @@ fn free_block<A: Acts>(acts: &mut A, block: &mut Block, least: u64) -> usize
     }
     let before = block.chunks.len();
     block.oldest = free_among(acts, &mut block.chunks, least);
+    block.first = first_base(&block.chunks);
     before - block.chunks.len()
 }
 

@@ -1,5 +1,5 @@
 -- The list of chunks as blocks of at most 256 chunks.
-use Rattle.std.specs.Prelude.{◌≡◌, ◌≢◌, ℕ, ◌+◌, ◌<◌, ◌≤◌, ⊤, Bool, true, false, List, [], length, take, slice_index_or}
+use Rattle.std.specs.Prelude.{◌≡◌, ◌≢◌, ℕ, ◌+◌, ◌<◌, ◌≤◌, ⊤, Bool, true, false, List, [], ◌∷◌, length, take, slice_index_or}
 use Rattle.std.specs.List.{flat_map}
 use Rattle.std.specs.VecDeque.{deque_len, deque_capacity}
 use Rattle.nc_region.specs.declared.block.Block.{Block}
@@ -43,9 +43,14 @@ pub record IsNextDue (chunks : List Chunk) (from least high to low : ℕ) : Type
   pub passed : (k : ℕ) (d : Chunk) → from ≤ k → k < to → IsPassed least low (slice_index_or chunks k d).state
   pub due : (d : Chunk) → to < length chunks → is_due least (slice_index_or chunks to d).state ≡ true
 
--- a block has at most 256 chunks, and none is retired with a stamp below the block's bound
+-- the first of these chunks, if there is one, begins at this address
+abbrev pub BeginsAt : ℕ → List Chunk → Type 0
+BeginsAt first [] = ⊤
+BeginsAt first (c ∷ cs) = first ≡ c.base
+
+-- a block has at most 256 chunks, none is retired with a stamp below the block's bound, and the block knows its first base
 abbrev pub IsBlock : Block → Type 0
-IsBlock b = (length b.chunks.items ≤ 256) × AreSince b.oldest b.chunks.items
+IsBlock b = (length b.chunks.items ≤ 256) × AreSince b.oldest b.chunks.items × BeginsAt b.first b.chunks.items
 
 -- one more chunk may be put into the block, and has room there
 abbrev pub IsRoomy : Block → Type 0

@@ -50,4 +50,5 @@ returns-clause-block g c = (
     c.requires.block.0,
   ),
   c.free_among-block.ensures.since,
+  c.first_base-block.ensures,
 )
