@@ -1,6 +1,6 @@
 //! Putting a chunk into a text while threads run in it.
 
-ghost use Rattle.std.specs.Prelude.{◌≡◌, ◌≢◌, ◌+◌, ◌-◌, ◌<◌, ◌≤◌, ◌^◌, ℕ, List, [], ◌∷◌, ◌++◌, length, vec_capacity, All, IsTrue, true, false};
+ghost use Rattle.std.specs.Prelude.{◌≡◌, ◌≢◌, ◌+◌, ◌-◌, ◌<◌, ◌≤◌, ◌^◌, ℕ, List, [], ◌∷◌, ◌++◌, length, take, vec_capacity, All, IsTrue, true, false};
 ghost use Rattle.std.specs.Prelude.{IfOk, IfErr, OnOk};
 ghost use Rattle.nc_decode.specs.declared.instruction.Mark.{Mark};
 ghost use Rattle.nc_text.specs.Marks.{IsClosed};
@@ -23,9 +23,13 @@ use crate::list::ChunkList;
 use crate::listing::room_for;
 use nc_decode::Mark;
 use nc_vet::Vetted;
+use std::alloc::{AllocError, Global};
+
+/// The longest code, in bytes, whose marks are listed in an array and not on the heap.
+const FEW: usize = 512;
 
 /// Prepares the creation of a chunk: finds its index in the list, reserves room for one more chunk there, allocates room for
-/// a list of its marks, and makes every place of its span ready.
+/// a list of its marks if they are more than `FEW`, and makes every place of its span ready.
 pub(crate) fn make_room<A: Acts>(
     acts: &mut A,
     chunks: &mut ChunkList,
@@ -33,7 +37,7 @@ pub(crate) fn make_room<A: Acts>(
 ) -> Result<(usize, Vec<Mark>), CreateFault>
     requires region { IsRegion (A.marked acts.old) chunks.old.items }
     ensures found { IfOk result (λ r. HasRoom (A.marked acts.old) (A.made acts.new) chunks.old.items vetted.now r.0) }
-    ensures marks { IfOk result (λ r. (r.1.items ≡ []) × (length vetted.now.code ≤ vec_capacity r.1)) }
+    ensures marks { IfOk result (λ r. (r.1.items ≡ []) × (512 < length vetted.now.code → length vetted.now.code ≤ vec_capacity r.1)) }
     ensures place { OnOk result (chunks.new.roomy ≡ true) }
     ensures only { GetsReady (A.made acts.old) (A.made acts.new) vetted.now.base (length vetted.now.code) }
     ensures others { (chunks.new.items ≡ chunks.old.items) × (A.marked acts.new ≡ A.marked acts.old)
@@ -61,13 +65,23 @@ pub(crate) fn make_room<A: Acts>(
     if chunks.reserve().is_err() {
         return Err(CreateFault::OutOfMemory);
     }
-    let Ok(room) = Vec::with_capacity(chunks.allocator(), length as usize) else {
+    let Ok(room) = list_room(chunks.allocator(), length as usize) else {
         return Err(CreateFault::OutOfMemory);
     };
     if acts.ready(base, length).is_err() {
         return Err(CreateFault::OutOfMemory);
     }
     Ok((k, room))
+}
+
+/// Room for a list of this many marks, or none if they are at most `FEW`.
+fn list_room(alloc: Global, length: usize) -> Result<Vec<Mark>, AllocError>
+    ensures { IfOk result (λ room. (room.items ≡ []) × (512 < length → length ≤ vec_capacity room)) }
+{
+    if length <= FEW {
+        return Ok(Vec::new(alloc));
+    }
+    Vec::with_capacity(alloc, length)
 }
 
 /// The list's entry for a vetted chunk.
@@ -81,7 +95,8 @@ pub(crate) fn live_chunk(vetted: &Vetted) -> Chunk
     }
 }
 
-/// Creates a chunk that is closed by itself in an unused span. `room` is for a list of its marks, if `acts` takes no bits.
+/// Creates a chunk that is closed by itself in an unused span. `room` is for a list of more than `FEW` marks, if `acts` takes
+/// no bits.
 pub(crate) fn put_chunk<A: Acts>(
     acts: &mut A,
     base: u32,
@@ -91,7 +106,7 @@ pub(crate) fn put_chunk<A: Acts>(
 )
     requires whole { IsText (A.marked acts.old) }
     requires code { code.now ≡ vetted.now.code }
-    requires room { (room.items ≡ []) × (length code.now ≤ vec_capacity room) }
+    requires room { (room.items ≡ []) × (512 < length code.now → length code.now ≤ vec_capacity room) }
     requires chunk { IsClosedChunk base (limit_of (A.marked acts.old).bytes) code.now vetted.now.marks }
     requires registers { All NamesRegister vetted.now.marks }
     requires unused { IsUnused (A.marked acts.old) base (length code.now) }
@@ -108,9 +123,9 @@ pub(crate) fn put_chunk<A: Acts>(
     put_starts(acts, base, code);
 }
 
-/// Sets the marks of a chunk's span: from bits if both sides keep them, otherwise from a list, for which there is room.
+/// Sets the marks of a chunk's span: from bits if both sides keep them, otherwise from a list.
 fn mark_chunk<A: Acts>(acts: &mut A, base: u32, vetted: &Vetted, room: Vec<Mark>)
-    requires room { (room.items ≡ []) × (length vetted.now.code ≤ vec_capacity room) }
+    requires room { (room.items ≡ []) × (512 < length vetted.now.code → length vetted.now.code ≤ vec_capacity room) }
     requires whole { IsText (A.marked acts.old) }
     requires placed { HasGoodSpan base (limit_of (A.marked acts.old).bytes) (length vetted.now.code) }
     requires as_long { length vetted.now.marks ≡ length vetted.now.code }
@@ -128,8 +143,7 @@ fn mark_chunk<A: Acts>(acts: &mut A, base: u32, vetted: &Vetted, room: Vec<Mark>
     if marked_by_bits(acts, base, vetted) {
         return;
     }
-    let marks = listed(vetted, room);
-    acts.mark_span(base, &marks);
+    mark_listed(acts, base, vetted, room);
 }
 
 /// Sets the marks of a chunk's span from bits if both sides keep them, and returns whether they do.
@@ -153,6 +167,48 @@ fn marked_by_bits<A: Acts>(acts: &mut A, base: u32, vetted: &Vetted) -> bool
     match vetted.bundles() {
         Some(bundles) => acts.mark_bundles(base, vetted.code(), bundles),
         None => false,
+    }
+}
+
+/// Sets the marks of a chunk's span from a list: in an array if they are at most `FEW`, otherwise in the room for them. It isn't
+/// inlined, so that the array costs nothing where marks are set from bits.
+#[inline(never)]
+fn mark_listed<A: Acts>(acts: &mut A, base: u32, vetted: &Vetted, room: Vec<Mark>)
+    requires room { (room.items ≡ []) × (512 < length vetted.now.code → length vetted.now.code ≤ vec_capacity room) }
+    requires whole { IsText (A.marked acts.old) }
+    requires placed { HasGoodSpan base (limit_of (A.marked acts.old).bytes) (length vetted.now.code) }
+    requires as_long { length vetted.now.marks ≡ length vetted.now.code }
+    requires ready { AreReady (A.made acts.old) base (length vetted.now.code) }
+    requires registers { All NamesRegister vetted.now.marks }
+    requires keeps { KeepsMarks (A.marked acts.old).marks (with_marks (A.marked acts.old) base vetted.now.marks).marks }
+    requires closed { IsClosed (A.marked acts.old).bytes (with_marks (A.marked acts.old) base vetted.now.marks).marks }
+    ensures marked { A.marked acts.new ≡ with_marks (A.marked acts.old) base vetted.now.marks }
+    ensures made { A.made acts.new ≡ A.made acts.old }
+    ensures whole { IsText (A.marked acts.new) }
+    ensures keeper { A.keeper acts.new ≡ A.keeper acts.old }
+    ensures told { Tells (A.told acts.old) (A.told acts.new) (Act.MarkSpan base (length vetted.now.code) ∷ []) }
+    ensures logged { Logs (A.logged acts.old) (A.logged acts.new) (Entry.Did (Act.MarkSpan base (length vetted.now.code)) ∷ []) }
+{
+    let length = vetted.code().len();
+    if length <= FEW {
+        let mut marks = [Mark::Unmarked; FEW];
+        list_into(&mut marks, vetted);
+        acts.mark_span(base, &marks[..length]);
+        return;
+    }
+    let marks = listed(vetted, room);
+    acts.mark_span(base, &marks);
+}
+
+/// Writes the marks of a chunk over the first elements of a slice that is no shorter.
+fn list_into(marks: &mut [Mark], vetted: &Vetted)
+    requires fits { length vetted.now.code ≤ length marks.old }
+    requires as_long { length vetted.now.marks ≡ length vetted.now.code }
+    ensures listed { take (length vetted.now.code) marks.new ≡ vetted.now.marks }
+    ensures as_long { length marks.new ≡ length marks.old }
+{
+    for i in 0..vetted.code().len() {
+        marks[i] = vetted.mark(i);
     }
 }
 

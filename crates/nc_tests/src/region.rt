@@ -4,6 +4,7 @@ mod acts;
 mod calls;
 mod check_in;
 pub mod fixtures;
+mod listed;
 mod shared;
 mod sizes;
 mod steps;

@@ -66,8 +66,8 @@ returns-then-is_err g c =
       );
     }
 
-pub returns-in_default-with_capacity : goal.returns-in_default-with_capacity
-returns-in_default-with_capacity g c =
+pub returns-in_default-list_room : goal.returns-in_default-list_room
+returns-in_default-list_room g c =
     let v = c.args.vetted.now in
     let fit : FitsAt v.base (length v.code) c.args.chunks.now.items c.in-Some.k =
     rw (← c.base-base.ensures.value, ← c.code.ensures.value) c.in-Some.ensures.some in
@@ -117,7 +117,7 @@ returns g c =
         fits = fit;
         ready = here;
       };
-      marks = (c.in-Ok.ensures.items, rw (← c.code.ensures.value) c.in-Ok.ensures.capacity);
+      marks = rw (← c.code.ensures.value) c.in-Ok.ensures;
       place = at_ok c.reserve.result _ (sym c.is_err.ensures.value ∙ c.if-is_err.false) c.reserve.ensures.ok;
       only = rw (← c.base-base.ensures.value, ← c.code.ensures.value) c.ready.ensures.only;
       others = (c.reserve.ensures.items, c.ready.ensures.marked, c.ready.ensures.keeper, c.ready.ensures.told, c.ready.ensures.logged);
