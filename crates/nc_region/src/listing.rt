@@ -8,6 +8,7 @@ ghost use Rattle.nc_region.specs.declared.chunk.ChunkState.{ChunkState};
 ghost use Rattle.nc_region.specs.Deletion.{HasLive};
 ghost use Rattle.nc_region.specs.Region.{IsRising, IsLive, IsInChunk, IsAboveAll, IsBelowAll, FitsAt, Meets};
 ghost use Rattle.nc_region.specs.Patch.{IsHeldBy, IsHeld};
+ghost use Rattle.nc_region.specs.machinery.Blocks.{IsBelow};
 
 use crate::chunk::{Chunk, ChunkState};
 use crate::list::ChunkList;
@@ -17,9 +18,8 @@ fn ends_below(chunks: &ChunkList, k: usize, base: u32) -> bool
     requires inside { k ≤ length chunks.now.items }
     requires rising { IsRising 0x10000 chunks.now.items }
     requires ends { Each (λ (d : Chunk). (0 < d.length) × (d.base + d.length < 2 ^ 32)) chunks.now.items }
-    requires below { (i : ℕ) (d : Chunk) → i < k → (slice_index_or chunks.now.items i d).base ≤ base }
     ensures clear { IsTrue result → IsAboveAll base (take k chunks.now.items) }
-    ensures meets { (len : ℕ) → 0 < len → result ≡ false → Meets base len chunks.now.items }
+    ensures meets { (len : ℕ) → 0 < len → IsBelow chunks.now.items k base → result ≡ false → Meets base len chunks.now.items }
 {
     if k == 0 {
         return true;
@@ -44,7 +44,8 @@ fn begins_above(chunks: &ChunkList, k: usize, base: u32, len: u32) -> bool
     base + len <= chunks.at(k).base
 }
 
-/// The index at which a chunk with this span can be inserted, if it overlaps no chunk.
+/// The index at which a chunk with this span can be inserted, if it overlaps no chunk. The end of the list is tried before it is
+/// searched, since new chunks often lie behind all others.
 pub(crate) fn room_for(chunks: &ChunkList, base: u32, len: u32) -> Option<usize>
     requires some { 0 < len }
     requires fits { base + len < 2 ^ 32 }
@@ -53,6 +54,10 @@ pub(crate) fn room_for(chunks: &ChunkList, base: u32, len: u32) -> Option<usize>
     ensures some { IfSome result (FitsAt base len chunks.now.items) }
     ensures none { IfNone result (Meets base len chunks.now.items) }
 {
+    let count = chunks.len();
+    if ends_below(chunks, count, base) {
+        return Some(count);
+    }
     let k = chunks.count_to(base);
     if !ends_below(chunks, k, base) {
         return None;

@@ -13,8 +13,8 @@ returns-clause-clear c = λ ends.
     (omega (arith, c.requires.inside, c.if-k-eq0.false)) (subst (λ (d : Chunk). d.base + d.length ≤ c.args.base) c.at-last.ensures (leb-true _ _ ends)))
 
 pub returns-clause-meets : goal.returns-clause-meets
-returns-clause-meets c = λ len some meets.
+returns-clause-meets c = λ len some bases meets.
     let found : Chunk = c.at-last.result in
-    let below = c.requires.below (c.args.k - 1) found (omega (arith, c.if-k-eq0.false)) in
+    let below = bases (c.args.k - 1) found (omega (arith, c.if-k-eq0.false)) in
     meets_at c.args.chunks.now.items (c.args.k - 1) c.args.base len found (omega (arith, c.requires.inside, c.if-k-eq0.false))
     (subst (λ (d : Chunk). c.args.base < d.base + d.length) c.at-last.ensures (leb-false _ _ meets)) (omega (arith, below, some))
