@@ -93,21 +93,23 @@ fn is_held_by(chunk: Chunk, at: u32) -> bool
     chunk.state == ChunkState::Live && chunk.base <= at && at - chunk.base < chunk.length
 }
 
-/// The index of the live chunk with this base, by binary search.
-pub(crate) fn live_at(chunks: &ChunkList, base: u32) -> Option<usize>
+/// The live chunk with this base, behind its index, by binary search.
+pub(crate) fn live_at(chunks: &ChunkList, base: u32) -> Option<(usize, Chunk)>
     requires rising { IsRising 0x10000 chunks.now.items }
     requires some { Each (λ (d : Chunk). 0 < d.length) chunks.now.items }
-    ensures some { IfSome result (λ k. (c : Chunk) × (slice_get chunks.now.items k ≡ Some c) × (c.state ≡ ChunkState.Live) × (c.base ≡ base)) }
+    ensures some { IfSome result (λ found. (slice_get chunks.now.items found.0 ≡ Some found.1) × (found.1.state ≡ ChunkState.Live)
+        × (found.1.base ≡ base)) }
     ensures none { IfNone result (¬ HasLive chunks.now.items base) }
 {
     let k = chunks.count_to(base);
     if k == 0 {
         return None;
     }
-    if !is_live_from(chunks.at(k - 1), base) {
+    let chunk = chunks.at(k - 1);
+    if !is_live_from(chunk, base) {
         return None;
     }
-    Some(k - 1)
+    Some((k - 1, chunk))
 }
 
 /// The chunk is live, and this is its base.

@@ -193,10 +193,10 @@ impl<A: Acts + Drop> RegionOf<A> {
     {
         // Names a field, so that the first return is checked against the fields and not the whole.
         let _open = &self.acts;
-        let Some(k) = live_at(&self.chunks, base) else {
+        let Some((_k, found)) = live_at(&self.chunks, base) else {
             return None;
         };
-        Some(self.chunks.at(k))
+        Some(found)
     }
 
     /// Creates a chunk while threads may be running: makes the pages of its span, puts its bytes that aren't at bundle starts,
@@ -280,13 +280,13 @@ impl<A: Acts + Drop> RegionOf<A> {
         ensures refused { IfErr result (MayRefuseDelete self.old base) }
         ensures confined { IsConfined self.new.marked.bytes }
     {
-        let Some(k) = live_at(&self.chunks, base) else {
+        let Some((k, chunk)) = live_at(&self.chunks, base) else {
             return Err(DeleteFault::NoChunk);
         };
         if self.acts.generation() >= LAST_GENERATION {
             return Err(DeleteFault::GensFull);
         }
-        let length = self.chunks.at(k).length;
+        let length = chunk.length;
         let stamp = put_stops(&mut self.acts, base, length);
         let retired = Chunk {
             base,

@@ -1,11 +1,8 @@
-use Rattle.std.specs.List.{slice_get}
-use Rattle.std.proofs.lemmas.Option.{get_or_from_slice_get}
-use Rattle.std.proofs.Common.{◌≡◌, ℕ, ◌-◌, set, replicate, Some, sym, subst, ap, ◌∙◌, refl, arith}
+use Rattle.std.proofs.Common.{ℕ, ◌-◌, set, replicate, sym, subst, ap, ◌∙◌, refl, arith}
 use Rattle.nc_text.specs.Places.{limit_of}
 use Rattle.nc_text.proofs.Offered.{confined_if_closed}
 use Rattle.nc_text.specs.MarkedText.{with_span}
 use Rattle.nc_region.specs.declared.chunk.Chunk.{Chunk}
-use Rattle.nc_region.specs.declared.chunk.ChunkState.TheVariants.{Live}
 use Rattle.nc_region.specs.Region.{Region, IsLive, IsRegion}
 use Rattle.nc_region.specs.Chunks.{HasGoodSpan}
 use Rattle.nc_region.proofs.EachMember.{each_get}
@@ -22,93 +19,76 @@ returns-then-generation-ge-LAST_GENERATION-clause-confined g c =
 
 pub returns-then-generation-ge-LAST_GENERATION-clause-refused : goal.returns-then-generation-ge-LAST_GENERATION-clause-refused
 returns-then-generation-ge-LAST_GENERATION-clause-refused g c =
-    let f : (x : Chunk) × (slice_get c.self.inside.chunks.items c.in-Some.k ≡ Some x) × (x.state ≡ Live) × (x.base ≡ c.args.base) =
-    c.in-Some.ensures.some in
-    let there = listed_there c.self.inside.chunks.items c.in-Some.k f.0 f.1 in
+    let chunk : Chunk = c.in-Some.chunk in
+    let f = c.in-Some.ensures.some in
+    let there = listed_there c.self.inside.chunks.items c.in-Some.k chunk f.0 in
     rw (← c.self.view_is) (
-      (f.0, (c.in-Some.k, there.0, there.1), subst IsLive (sym f.2) tt, f.3),
+      (chunk, (c.in-Some.k, there.0, there.1), subst IsLive (sym f.1) tt, f.2),
       omega (arith, c.generation.ensures.generation, c.generation.ensures.in_range, c.if-generation-ge-LAST_GENERATION.true),
     )
 
-pub at-length-requires : goal.at-length-requires
-at-length-requires g c =
-    let f : (x : Chunk) × (slice_get c.self.inside.chunks.items c.in-Some.k ≡ Some x) × (x.state ≡ Live) × (x.base ≡ c.args.base) =
-    c.in-Some.ensures.some in
-    let there = listed_there c.self.inside.chunks.items c.in-Some.k f.0 f.1 in
-    there.0
-
 pub put_stops-stamp-requires-clause-placed : goal.put_stops-stamp-requires-clause-placed
 put_stops-stamp-requires-clause-placed g c =
-    let f : (x : Chunk) × (slice_get c.self.inside.chunks.items c.in-Some.k ≡ Some x) × (x.state ≡ Live) × (x.base ≡ c.args.base) =
-    c.in-Some.ensures.some in
-    let there = listed_there c.self.inside.chunks.items c.in-Some.k f.0 f.1 in
-    let is_chunk : c.at-length.result ≡ f.0 = c.at-length.ensures
-    ∙ get_or_from_slice_get c.self.inside.chunks.items c.in-Some.k f.0 c.at-length.result f.1 in
+    let chunk : Chunk = c.in-Some.chunk in
+    let f = c.in-Some.ensures.some in
+    let there = listed_there c.self.inside.chunks.items c.in-Some.k chunk f.0 in
     let p = each_get (λ (d : Chunk). HasGoodSpan d.base
-    (limit_of (g.A.Acts.marked c.self.inside.acts).bytes) d.length) c.self.inside.chunks.items c.in-Some.k f.0 there.0
+    (limit_of (g.A.Acts.marked c.self.inside.acts).bytes) d.length) c.self.inside.chunks.items c.in-Some.k chunk there.0
     c.self.invariant.0.placed in
-    subst (λ (d : Chunk). HasGoodSpan c.args.base (limit_of (g.A.Acts.marked c.self.inside.acts).bytes) d.length) (sym is_chunk)
-    (subst (λ (b : ℕ). HasGoodSpan b (limit_of (g.A.Acts.marked c.self.inside.acts).bytes) f.0.length) f.3
-    (subst (λ (d : Chunk). HasGoodSpan d.base (limit_of (g.A.Acts.marked c.self.inside.acts).bytes) d.length) there.1 p))
+    subst (λ (b : ℕ). HasGoodSpan b (limit_of (g.A.Acts.marked c.self.inside.acts).bytes) chunk.length) f.2
+    (subst (λ (d : Chunk). HasGoodSpan d.base (limit_of (g.A.Acts.marked c.self.inside.acts).bytes) d.length) there.1 p)
 
 pub put_stops-stamp-requires-clause-ready : goal.put_stops-stamp-requires-clause-ready
 put_stops-stamp-requires-clause-ready g c =
-    let f : (x : Chunk) × (slice_get c.self.inside.chunks.items c.in-Some.k ≡ Some x) × (x.state ≡ Live) × (x.base ≡ c.args.base) =
-    c.in-Some.ensures.some in
-    let there = listed_there c.self.inside.chunks.items c.in-Some.k f.0 f.1 in
-    let is_chunk : c.at-length.result ≡ f.0 = c.at-length.ensures
-    ∙ get_or_from_slice_get c.self.inside.chunks.items c.in-Some.k f.0 c.at-length.result f.1 in
-    rw (is_chunk, ← f.3)
-    (ready_listed (g.A.Acts.made c.self.inside.acts) c.self.inside.chunks.items c.in-Some.k f.0 c.self.invariant.1 there.0 f.0 there.1)
+    let chunk : Chunk = c.in-Some.chunk in
+    let f = c.in-Some.ensures.some in
+    let there = listed_there c.self.inside.chunks.items c.in-Some.k chunk f.0 in
+    rw (← f.2)
+    (ready_listed (g.A.Acts.made c.self.inside.acts) c.self.inside.chunks.items c.in-Some.k chunk c.self.invariant.1 there.0 chunk there.1)
 
 pub set-requires : goal.set-requires
 set-requires g c =
-    let f : (x : Chunk) × (slice_get c.self.inside.chunks.items c.in-Some.k ≡ Some x) × (x.state ≡ Live) × (x.base ≡ c.args.base) =
-    c.in-Some.ensures.some in
-    let there = listed_there c.self.inside.chunks.items c.in-Some.k f.0 f.1 in
+    let chunk : Chunk = c.in-Some.chunk in
+    let f = c.in-Some.ensures.some in
+    let there = listed_there c.self.inside.chunks.items c.in-Some.k chunk f.0 in
     there.0
 
 pub invariant_of-self : goal.invariant_of-self
 invariant_of-self g c =
-    let f : (x : Chunk) × (slice_get c.self.inside.chunks.items c.in-Some.k ≡ Some x) × (x.state ≡ Live) × (x.base ≡ c.args.base) =
-    c.in-Some.ensures.some in
-    let there = listed_there c.self.inside.chunks.items c.in-Some.k f.0 f.1 in
-    let is_chunk : c.at-length.result ≡ f.0 = c.at-length.ensures
-    ∙ get_or_from_slice_get c.self.inside.chunks.items c.in-Some.k f.0 c.at-length.result f.1 in
+    let chunk : Chunk = c.in-Some.chunk in
+    let f = c.in-Some.ensures.some in
+    let there = listed_there c.self.inside.chunks.items c.in-Some.k chunk f.0 in
     let old = g.A.Acts.marked c.self.inside.acts in
     let list = c.set.ensures ∙ ap (λ (d : Chunk). set c.self.inside.chunks.items c.in-Some.k d)
-    (retired_is f.0 c.args.base c.at-length.result.length c.put_stops-stamp.result f.3 (ap (λ (x : Chunk). x.length) is_chunk)) in
+    (retired_is chunk c.args.base chunk.length c.put_stops-stamp.result f.2 refl) in
     let region = subst (IsRegion (g.A.Acts.marked c.put_stops-stamp.new.acts)) (sym list)
     (region_deleted (g.A.Acts.marked c.self.inside.acts)
-    (g.A.Acts.marked c.put_stops-stamp.new.acts) c.self.inside.chunks.items c.in-Some.k f.0 c.put_stops-stamp.result
+    (g.A.Acts.marked c.put_stops-stamp.new.acts) c.self.inside.chunks.items c.in-Some.k chunk c.put_stops-stamp.result
     (record {
       region = c.self.invariant.0;
       inside = there.0;
       here = there.1;
-      live = subst IsLive (sym f.2) tt;
+      live = subst IsLive (sym f.1) tt;
       whole = c.put_stops-stamp.ensures.whole;
       bytes_are =
           c.put_stops-stamp.ensures.bytes
-          ∙ (ap (λ (b : ℕ). with_span (g.A.Acts.marked c.self.inside.acts).bytes (b - 65536) (replicate c.at-length.result.length 244))
-          (sym f.3)
-          ∙ ap (λ (x : Chunk). with_span (g.A.Acts.marked c.self.inside.acts).bytes (f.0.base - 65536) (replicate x.length 244)) is_chunk);
+          ∙ ap (λ (b : ℕ). with_span (g.A.Acts.marked c.self.inside.acts).bytes (b - 65536) (replicate chunk.length 244))
+          (sym f.2);
       marks_are = c.put_stops-stamp.ensures.marks;
     })) in
-    let ready = ready_listed (g.A.Acts.made c.self.inside.acts) c.self.inside.chunks.items c.in-Some.k f.0 c.self.invariant.1 there.0
-    f.0 there.1 in (
+    let ready = ready_listed (g.A.Acts.made c.self.inside.acts) c.self.inside.chunks.items c.in-Some.k chunk c.self.invariant.1 there.0
+    chunk there.1 in (
       region,
       rw (c.set.ensures, c.put_stops-stamp.ensures.made)
           (ready_set (g.A.Acts.made c.self.inside.acts) c.self.inside.chunks.items c.in-Some.k _ c.self.invariant.1
-          (rw (is_chunk, ← f.3) ready)),
+          (rw (← f.2) ready)),
     )
 
 pub returns-clause-deleted : goal.returns-clause-deleted
 returns-clause-deleted g c =
-    let f : (x : Chunk) × (slice_get c.self.inside.chunks.items c.in-Some.k ≡ Some x) × (x.state ≡ Live) × (x.base ≡ c.args.base) =
-    c.in-Some.ensures.some in
-    let there = listed_there c.self.inside.chunks.items c.in-Some.k f.0 f.1 in
-    let is_chunk : c.at-length.result ≡ f.0 = c.at-length.ensures
-    ∙ get_or_from_slice_get c.self.inside.chunks.items c.in-Some.k f.0 c.at-length.result f.1 in
+    let chunk : Chunk = c.in-Some.chunk in
+    let f = c.in-Some.ensures.some in
+    let there = listed_there c.self.inside.chunks.items c.in-Some.k chunk f.0 in
     let old : Region = record {
       marked = g.A.Acts.marked c.self.inside.acts;
       made = g.A.Acts.made c.self.inside.acts;
@@ -128,8 +108,8 @@ returns-clause-deleted g c =
       logged = g.A.Acts.logged c.put_stops-stamp.new.acts;
     } in
     rw (← c.self.view_is)
-    (deleted_is old new c.in-Some.k c.args.base c.at-length.result.length c.put_stops-stamp.result f.0 f.1 f.2 f.3
-    (ap (λ (x : Chunk). x.length) is_chunk)
+    (deleted_is old new c.in-Some.k c.args.base chunk.length c.put_stops-stamp.result chunk f.0 f.1 f.2
+    refl
     (omega (arith, c.generation.ensures.generation, c.if-generation-ge-LAST_GENERATION.false))
     c.put_stops-stamp.ensures.stamp c.put_stops-stamp.ensures.bytes c.put_stops-stamp.ensures.marks
     c.put_stops-stamp.ensures.made c.set.ensures
