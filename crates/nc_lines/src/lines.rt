@@ -32,9 +32,12 @@ pub(crate) fn answer_line<S: Responder, W: Write>(
     }
     let answer = replies.answer.as_slice();
     match hold(writer, &mut replies.held, replies.most, answer) {
-        Ok(()) => Ok(()),
-        Err(_) => Err(ReplayFault::WriteFailed),
+        Ok(()) => {}
+        Err(_) => return Err(ReplayFault::WriteFailed),
     }
+    // The memory of a long answer isn't kept while more is read.
+    replies.clear_answer();
+    Ok(())
 }
 
 /// The position of the first line end, or the number of bytes if there is none.

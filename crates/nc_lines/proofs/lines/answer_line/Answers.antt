@@ -1,10 +1,10 @@
-use Rattle.std.proofs.Common.{◌≡◌, ◌++◌, ℕ, List, ap, ◌∙◌, subst, inr}
+use Rattle.std.proofs.Common.{◌≡◌, ◌++◌, ℕ, List, ap, sym, ◌∙◌, subst, inr}
 use Rattle.std.specs.Global.{Vec}
 use Rattle.nc_lines.specs.machinery.Progress.{HoldsRest, WritesFront}
 use Rattle.nc_lines.proofs.lines.answer_line.Goals as goal
 
-pub returns-in-Ok-hold : goal.returns-in-Ok-hold
-returns-in-Ok-hold g c = λ part e.
+pub returns : goal.returns
+returns g c = λ part e.
     let h = c.in-Ok.ensures part e in
     let given : c.as_slice-answer.result.now ≡ h.0 =
     c.as_slice-answer.ensures.value ∙ h.1 ∙ ap (λ (l : List ℕ). l ++ h.0) c.clear_answer.ensures.answer in
@@ -13,8 +13,10 @@ returns-in-Ok-hold g c = λ part e.
     ∙ ap (λ (v : Vec ℕ). v.items ++ h.0) c.clear_answer.ensures.held in (
       h.0,
       h.2,
-      subst (λ (xs : List ℕ). HoldsRest (g.W.Write.contents c.args.writer.now) (g.W.Write.contents c.hold.new.writer) xs
-          c.hold.new.held.items) all c.in-Ok-hold.ensures.ok,
+      subst (λ (v : Vec ℕ). HoldsRest (g.W.Write.contents c.args.writer.now) (g.W.Write.contents c.hold.new.writer)
+          (c.args.replies.now.held.items ++ h.0) v.items) (sym c.clear_answer-2.ensures.held)
+          (subst (λ (xs : List ℕ). HoldsRest (g.W.Write.contents c.args.writer.now) (g.W.Write.contents c.hold.new.writer) xs
+          c.hold.new.held.items) all c.in-Ok-hold.ensures.ok),
     )
 
 pub returns-in-Err-hold : goal.returns-in-Err-hold
