@@ -25,11 +25,11 @@ use nc_decode::Mark;
 use nc_vet::Vetted;
 use std::alloc::{AllocError, Global};
 
-/// The longest code, in bytes, whose marks are listed in an array and not on the heap.
-const FEW: usize = 512;
+/// The length in bytes up to which a chunk is small: its marks are listed in an array, not on the heap.
+const SMALL: usize = 512;
 
 /// Prepares the creation of a chunk: finds its index in the list, reserves room for one more chunk there, allocates room for
-/// a list of its marks if they are more than `FEW`, and makes every place of its span ready.
+/// a list of its marks if they are more than `SMALL`, and makes every place of its span ready.
 pub(crate) fn make_room<A: Acts>(
     acts: &mut A,
     chunks: &mut ChunkList,
@@ -74,11 +74,11 @@ pub(crate) fn make_room<A: Acts>(
     Ok((k, room))
 }
 
-/// Room for a list of this many marks, or none if they are at most `FEW`.
+/// Room for a list of this many marks, or none if they are at most `SMALL`.
 fn list_room(alloc: Global, length: usize) -> Result<Vec<Mark>, AllocError>
     ensures { IfOk result (λ room. (room.items ≡ []) × (512 < length → length ≤ vec_capacity room)) }
 {
-    if length <= FEW {
+    if length <= SMALL {
         return Ok(Vec::new(alloc));
     }
     Vec::with_capacity(alloc, length)
@@ -95,7 +95,7 @@ pub(crate) fn live_chunk(vetted: &Vetted) -> Chunk
     }
 }
 
-/// Creates a chunk that is closed by itself in an unused span. `room` is for a list of more than `FEW` marks, if `acts` takes
+/// Creates a chunk that is closed by itself in an unused span. `room` is for a list of more than `SMALL` marks, if `acts` takes
 /// no bits.
 pub(crate) fn put_chunk<A: Acts>(
     acts: &mut A,
@@ -170,7 +170,7 @@ fn marked_by_bits<A: Acts>(acts: &mut A, base: u32, vetted: &Vetted) -> bool
     }
 }
 
-/// Sets the marks of a chunk's span from a list: in an array if they are at most `FEW`, otherwise in the room for them. It isn't
+/// Sets the marks of a chunk's span from a list: in an array if they are at most `SMALL`, otherwise in the room for them. It isn't
 /// inlined, so that the array costs nothing where marks are set from bits.
 #[inline(never)]
 fn mark_listed<A: Acts>(acts: &mut A, base: u32, vetted: &Vetted, room: Vec<Mark>)
@@ -190,8 +190,8 @@ fn mark_listed<A: Acts>(acts: &mut A, base: u32, vetted: &Vetted, room: Vec<Mark
     ensures logged { Logs (A.logged acts.old) (A.logged acts.new) (Entry.Did (Act.MarkSpan base (length vetted.now.code)) ∷ []) }
 {
     let length = vetted.code().len();
-    if length <= FEW {
-        let mut marks = [Mark::Unmarked; FEW];
+    if length <= SMALL {
+        let mut marks = [Mark::Unmarked; SMALL];
         list_into(&mut marks, vetted);
         acts.mark_span(base, &marks[..length]);
         return;

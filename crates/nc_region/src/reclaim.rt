@@ -21,7 +21,7 @@ use std::collections::VecDeque;
 const FEW: usize = 4;
 
 /// Unmarks up to `FEW` chunks that are retired with a stamp of at most this number and takes them out, one by one. Returns a
-/// lower bound of the stamps of the other chunks if none of them is.
+/// lower bound of the stamps of the others once it has seen that none of these is due, or `None` after `FEW` chunks.
 fn free_few<A: Acts>(acts: &mut A, chunks: &mut VecDeque<Chunk>, least: u64) -> Option<u64>
     requires { StandsIn (A.marked acts.old) chunks.old.items }
     ensures out { AreTakenOut least chunks.old.items chunks.new.items (A.marked acts.old) (A.marked acts.new) (A.told acts.old) (A.told acts.new)
