@@ -109,16 +109,30 @@ fn instruction<A: Acts>(acts: &A, at: u32) -> Instr
 {
     let rest = BUNDLE - at % BUNDLE;
     if rest > FEW {
-        let few = acts.read_run(at, FEW);
+        let few = read(acts, at, FEW);
         if let Ok(instr) = decode(&few[..FEW as usize]) {
             return instr;
         }
     }
-    let bytes = acts.read_run(at, rest);
+    let bytes = read(acts, at, rest);
     let Ok(instr) = decode(&bytes[..rest as usize]) else {
         unreachable!()
     };
     instr
+}
+
+/// The `len` bytes from an address on, in its bundle, followed by zeros.
+fn read<A: Acts>(acts: &A, at: u32, len: u32) -> [u8; 32]
+    requires whole { IsText (A.marked acts.now) }
+    requires inside { InRegion (A.marked acts.now).bytes at }
+    requires one_bundle { at % 32 + len ≤ 32 }
+    ensures { (k : ℕ) → k < len → slice_index result k ≡ byte_at (A.marked acts.now).bytes (at + k) }
+{
+    let mut bytes = [0; 32];
+    for k in 0..len {
+        bytes[k as usize] = acts.byte(at + k);
+    }
+    bytes
 }
 
 /// The state to which a choice leads from an instruction, unless that is at the limit or above it.
