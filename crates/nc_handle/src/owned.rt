@@ -1,7 +1,8 @@
 //! The acts of a region that owns its text and a share of its table of generations.
 
-ghost use Rattle.std.specs.Prelude.{◌≡◌, None};
+ghost use Rattle.std.specs.Prelude.{◌≡◌, ◌+◌, ◌%◌, ◌<◌, ◌≤◌, ℕ, None, slice_index};
 ghost use Rattle.std.specs.Arc.{arc_value};
+ghost use Rattle.nc_text.specs.Places.{InRegion, byte_at};
 
 use nc_decode::{Bundle, Mark};
 use nc_gens::{Gens, GensFull, Keeper, Pass};
@@ -38,6 +39,15 @@ impl Owned {
         ensures { result ≡ record { marked = text.marked; made = text.made; keeper = keeper } }
     {
         Owned { text, gens, keeper }
+    }
+
+    /// Bytes of the text from an address on, in one bundle: the first `len` of the result.
+    pub(crate) fn read_run(&self, at: u32, len: u32) -> [u8; 32]
+        requires inside { InRegion self.now.marked.bytes at }
+        requires one_bundle { at % 32 + len ≤ 32 }
+        ensures { (k : ℕ) → k < len → slice_index result k ≡ byte_at self.now.marked.bytes (at + k) }
+    {
+        self.text.read_run(at, len)
     }
 }
 
@@ -92,10 +102,6 @@ impl Acts for Owned {
 
     fn byte(&self, at: u32) -> u8 {
         self.text.byte(at)
-    }
-
-    fn read_run(&self, at: u32, len: u32) -> [u8; 32] {
-        self.text.read_run(at, len)
     }
 
     fn limit(&self) -> u32 {

@@ -1,6 +1,6 @@
 //! The acts through which a region uses its text and its generations.
 
-ghost use Rattle.std.specs.Prelude.{◌≡◌, ◌+◌, ◌%◌, ◌^◌, ◌<◌, ◌≤◌, ◌↔◌, ℕ, List, [], ◌∷◌, Option, length, take, replicate, slice_index, All, IsOk, IfOk, IfErr};
+ghost use Rattle.std.specs.Prelude.{◌≡◌, ◌+◌, ◌%◌, ◌^◌, ◌<◌, ◌≤◌, ◌↔◌, ℕ, List, [], ◌∷◌, Option, length, take, replicate, All, IsOk, IfOk, IfErr};
 ghost use Rattle.std.specs.Prelude.{IsTrue, OnOk, OnErr, Bool, false};
 ghost use Rattle.std.specs.Int.{bit_at};
 ghost use Rattle.nc_decode.specs.declared.instruction.Mark.{Mark};
@@ -224,23 +224,6 @@ pub trait Acts {
     fn byte(&self, at: u32) -> u8
         requires { InRegion (marked self.now).bytes at }
         ensures { result ≡ byte_at (marked self.now).bytes at };
-
-    /// Bytes from an address on, in one bundle: the first `len` of the result.
-    ///
-    /// This default reads each byte. An implementation that looks the bundle up only once may be faster.
-    fn read_run(&self, at: u32, len: u32) -> [u8; 32]
-        requires inside { InRegion (marked self.now).bytes at }
-        requires one_bundle { at % 32 + len ≤ 32 }
-        ensures { (k : ℕ) → k < len → slice_index result k ≡ byte_at (marked self.now).bytes (at + k) }
-    {
-        // Called for its postconditions.
-        let _facts = self.limit();
-        let mut bytes = [0; 32];
-        for k in 0..len {
-            bytes[k as usize] = self.byte(at + k);
-        }
-        bytes
-    }
 
     /// The address after the last byte.
     fn limit(&self) -> u32

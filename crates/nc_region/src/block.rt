@@ -63,7 +63,8 @@ fn next_due_in(run: &[Chunk], from: usize, least: u64, high: u64) -> (usize, u64
     (run.len(), low)
 }
 
-/// The same of the chunks of a block, which are two runs in memory.
+/// The index of the first chunk of a block, from an index on, that is retired with a stamp of at most this number, or the number
+/// of chunks, and a lower bound of `high` and the stamps of those before it. The chunks are two runs in memory.
 pub(crate) fn next_due(chunks: &VecDeque<Chunk>, from: usize, least: u64, high: u64) -> (usize, u64)
     requires { from ≤ length chunks.now.items }
     ensures { IsNextDue chunks.now.items from least high result.0 result.1 }

@@ -97,10 +97,6 @@ impl<'g> Acts for Plain<'g> {
         self.text.byte(at)
     }
 
-    fn read_run(&self, at: u32, len: u32) -> [u8; 32] {
-        self.text.read_run(at, len)
-    }
-
     fn limit(&self) -> u32 {
         self.text.limit()
     }

@@ -75,7 +75,9 @@ fn free_many<A: Acts>(acts: &mut A, chunks: &mut VecDeque<Chunk>, least: u64) ->
     low
 }
 
-/// The same, where a few chunks are taken out one by one, which moves up to half of the block for each.
+/// Unmarks each chunk that is retired with a stamp of at most this number, in ascending order, takes these chunks out, and
+/// returns a lower bound of the stamps of the others. Up to `FEW` chunks are taken out one by one, and each of these moves up to
+/// half of the block; one pass takes out the rest.
 fn free_among<A: Acts>(acts: &mut A, chunks: &mut VecDeque<Chunk>, least: u64) -> u64
     requires { StandsIn (A.marked acts.old) chunks.old.items }
     ensures items { chunks.new.items ≡ kept least chunks.old.items }
@@ -93,7 +95,8 @@ fn free_among<A: Acts>(acts: &mut A, chunks: &mut VecDeque<Chunk>, least: u64) -
     }
 }
 
-/// The same of a block, where it returns the number of chunks that were taken out.
+/// Unmarks each chunk of a block that is retired with a stamp of at most this number, in ascending order, removes these chunks,
+/// and returns their number.
 fn free_block<A: Acts>(acts: &mut A, block: &mut Block, least: u64) -> usize
     requires region { StandsIn (A.marked acts.old) block.old.chunks.items }
     requires block { IsBlock block.old }
@@ -116,7 +119,8 @@ fn free_block<A: Acts>(acts: &mut A, block: &mut Block, least: u64) -> usize
     before - block.chunks.len()
 }
 
-/// The same of each block, in ascending order.
+/// Unmarks each chunk, in all blocks, that is retired with a stamp of at most this number, in ascending order, removes these
+/// chunks, and returns their number.
 fn free_blocks<A: Acts>(acts: &mut A, blocks: &mut VecDeque<Block>, least: u64) -> usize
     requires region { IsRegion (A.marked acts.old) (chunks_of blocks.old.items) }
     requires each { Each IsBlock blocks.old.items }

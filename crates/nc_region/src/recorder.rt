@@ -254,10 +254,6 @@ impl<A: Acts + Drop> Acts for Recorder<A> {
         self.acts.byte(at)
     }
 
-    fn read_run(&self, at: u32, len: u32) -> [u8; 32] {
-        self.acts.read_run(at, len)
-    }
-
     fn limit(&self) -> u32 {
         self.acts.limit()
     }
