@@ -1,11 +1,11 @@
 -- A bundle that the automaton reads to its end is read by the same steps.
 use Rattle.std.proofs.Common.{◌≡◌, ◌≢◌, ℕ, zero, suc, ◌+◌, ◌-◌, ◌/◌, ◌%◌, ◌<◌, ◌≤◌, Bool, true, false, List, [], ◌∷◌, ◌++◌, length, take, drop, get_or, set}
 use Rattle.std.proofs.Common.{refl, sym, subst, ◌∙◌, ap, arith, inl, inr, append_assoc, append-nil, Option, Some, None, ◌==◌, cond, All, eqb-true, ne_eqb, eq-eqb}
-use Rattle.std.specs.Prelude.{slice_index, replicate, nat_lt}
+use Rattle.std.specs.Prelude.{slice_index, replicate, nat_lt, IsTrue}
 use Rattle.std.proofs.lemmas.Bool.{cases_lt, le-ltb, lt-ltb}
-use Rattle.std.proofs.lemmas.List.{length-append, length-drop, length-take-le, drop-drop, drop_at, drop_more, set_at, get_or_default, get_or_append_left}
+use Rattle.std.proofs.lemmas.List.{length-append, length-drop, length-take-le, drop-drop, drop_at, set_at, get_or_default, get_or_append_left}
 use Rattle.std.proofs.lemmas.List.{get_or-append-add, get_or-take, get_or-drop, take-append-drop}
-use Rattle.std.proofs.lemmas.List.{nil_from_length, take_more_set, replicate-append-replicate}
+use Rattle.std.proofs.lemmas.List.{nil_from_length, take_more, replicate-append-replicate, get_or_past, drop_all}
 use Rattle.std.proofs.Common.{Fits, w8}
 use Rattle.nc_decode.specs.declared.automaton.TheConstants.{STATES, END, AFTER_PAIR}
 use Rattle.nc_decode.specs.declared.instruction.Instr.{Instr}
@@ -20,16 +20,16 @@ use Rattle.nc_report.specs.declared.steps.Step.{Step}
 use Rattle.nc_report.specs.Lengths.{known_length}
 use Rattle.nc_report.specs.Reading.{IsStep, extent, extent_by, spot_of, step_spots, masked_by}
 use Rattle.nc_report.specs.machinery.Seen.{HasSeenTo, HasFilled}
-use Rattle.nc_report.specs.machinery.Quick.{states_after, spot_by, spots_by}
+use Rattle.nc_report.specs.machinery.Quick.{states_after, spot_by, spots_by, HasRead}
 use Rattle.nc_report.proofs.ReadSteps.{known_step, front_cut, one_step, some_after}
 
 -- the state after all of some bytes
-abbrev pub last_state : ℕ → List ℕ → ℕ
+abbrev last_state : ℕ → List ℕ → ℕ
 last_state s [] = s
 last_state s (b ∷ bs) = last_state (next_state s b) bs
 
 -- it is the last of the states
-pub last_of : (s : ℕ) (bs : List ℕ) (k : ℕ) → k + 1 ≡ length bs → get_or (states_after s bs) k 0 ≡ last_state s bs
+last_of : (s : ℕ) (bs : List ℕ) (k : ℕ) → k + 1 ≡ length bs → get_or (states_after s bs) k 0 ≡ last_state s bs
 last_of s [] k e = absurd (omega (arith, e))
 last_of s (b ∷ []) zero e = refl
 last_of s (b ∷ []) (suc k) e = absurd (omega (arith, e))
@@ -244,68 +244,92 @@ bundle_read code at masked done start room fits last seen =
     (λ k lt. omega (arith, get_or-take 32 (drop at code) k 0 (omega (arith, lt, long)), get_or-drop at code k 0, fits (at + k)))
     (some_after code at (omega (arith, room))) seen)
 
--- its spots are written
+-- the size of a bundle
+pub bundle_size : (code : List ℕ) (at : ℕ) → at + 32 ≤ length code → length (take 32 (drop at code)) ≡ 32
+bundle_size code at room = length-take-le 32 (drop at code) (omega (arith, room, length-drop at code))
+
+-- a byte of a bundle
+pub bundle_byte : (code : List ℕ) (at i : ℕ) → i < 32 → get_or (take 32 (drop at code)) i 0 ≡ get_or code (at + i) 0
+bundle_byte code at i lt = get_or-take 32 (drop at code) i 0 lt ∙ get_or-drop at code i 0
+
+-- the spots of a bundle that is read to its end are written
 pub bundle_filled : (code : List ℕ) (at : ℕ) (masked : Option ℕ) (spots new : List Spot) → at % 32 ≡ 0 → at + 32 ≤ length code
-    → ((k : ℕ) → Fits w8 (get_or code k 0)) → END ≤ last_state END (take 32 (drop at code))
+    → ((k : ℕ) → Fits w8 (get_or code k 0)) → END ≤ get_or (states_after END (take 32 (drop at code))) 31 0
     → ((front after : List Spot) → length front ≡ at → spots ≡ front ++ (replicate 32 Inside ++ after)
     → new ≡ front ++ (spots_by END (states_after END (take 32 (drop at code))) ++ after))
     → HasFilled code at masked spots → HasFilled code (at + 32) None new
 bundle_filled code at masked spots new start room fits last put h =
     let more = length code - (at + 32) in
-    let own = spots_by END (states_after END (take 32 (drop at code))) in
+    let bs = take 32 (drop at code) in
+    let own = spots_by END (states_after END bs) in
+    let ended : END ≤ last_state END bs
+    = subst (λ (s : ℕ). END ≤ s) (last_of END bs 31 (omega (arith, bundle_size code at room))) last in
     record {
       done = h.done ++ own;
-      seen = bundle_read code at masked h.done start room fits last h.seen;
+      seen = bundle_read code at masked h.done start room fits ended h.seen;
       is = put h.done (replicate more Inside) h.seen.each
           (h.is ∙ ap (λ (k : ℕ). h.done ++ replicate k Inside) {x = length code - at} {y = 32 + more} (omega (arith, room))
           ∙ ap (λ (z : List Spot). h.done ++ z) (sym (replicate-append-replicate 32 more Inside)))
           ∙ sym (append_assoc h.done own (replicate more Inside));
     }
 
--- ---- the states, and the spots by them, one after the other
+-- ---- a lane
 
--- one state more
-pub state_more : (code states : List ℕ) (at i s y : ℕ) → i < 32 → length states ≡ 32 → at + 32 ≤ length code → y ≡ next_state s (get_or code (at + i) 0)
-    → take (i + 1) (set states i y) ++ states_after y (take (32 - (i + 1)) (drop (at + (i + 1)) code))
-    ≡ take i states ++ states_after s (take (32 - i) (drop (at + i) code))
-state_more code states at i s y lt long room is =
-    let b = get_or code (at + i) 0 in
-    let rest = take (32 - (i + 1)) (drop (at + (i + 1)) code) in
-    let here : take (32 - i) (drop (at + i) code) ≡ b ∷ rest
-    = ap (λ (k : ℕ). take k (drop (at + i) code)) {x = 32 - i} {y = suc (32 - (i + 1))} (omega (arith, lt))
-    ∙ ap (λ (z : List ℕ). take (suc (32 - (i + 1))) z) (drop_more code (at + i) 0 (omega (arith, lt, room)))
-    ∙ ap (λ (k : ℕ). b ∷ take (32 - (i + 1)) (drop k code)) {x = (at + i) + 1} {y = at + (i + 1)} (omega arith) in
-    ap (λ (z : List ℕ). z ++ states_after y rest) (take_more_set states i y (omega (arith, lt, long)))
-    ∙ append_assoc (take i states) (y ∷ []) (states_after y rest)
-    ∙ ap (λ (k : ℕ). take i states ++ (k ∷ states_after k rest)) is
-    ∙ ap (λ (z : List ℕ). take i states ++ states_after s z) (sym here)
+-- there are as many states as bytes
+length-states_after : (s : ℕ) (bs : List ℕ) → length (states_after s bs) ≡ length bs
+length-states_after s [] = refl
+length-states_after s (b ∷ bs) = ap (λ (n : ℕ). suc n) (length-states_after (next_state s b) bs)
 
 -- there are as many spots as states
-pub length-spots_by : (s : ℕ) (states : List ℕ) → length (spots_by s states) ≡ length states
+length-spots_by : (s : ℕ) (states : List ℕ) → length (spots_by s states) ≡ length states
 length-spots_by s [] = refl
 length-spots_by s (t ∷ states) = ap (λ (n : ℕ). suc n) (length-spots_by t states)
 
--- a list goes on by its next element
-next_element : {X : Type 0} (xs : List X) (k : ℕ) (v : X) (rest : List X) → drop k xs ≡ v ∷ rest
-    → (take (suc k) xs ≡ take k xs ++ v ∷ []) × (drop (suc k) xs ≡ rest)
-next_element [] zero v rest e = absurd cc
-next_element [] (suc k) v rest e = absurd cc
-next_element (x ∷ xs) zero v rest e = (let f : x ≡ v = cc in ap (λ y. y ∷ []) f, let f : xs ≡ rest = cc in f)
-next_element (x ∷ xs) (suc k) v rest e = (let r = next_element xs k v rest e in (ap (λ z. x ∷ z) r.0, r.1))
+-- there are as many spots as bytes
+pub length-spots : (bs : List ℕ) → length (spots_by END (states_after END bs)) ≡ length bs
+length-spots bs = length-spots_by END (states_after END bs) ∙ length-states_after END bs
+
+-- what a lane has at the end of a bundle
+pub lane_at : (bytes states : List ℕ) (state k : ℕ) → length bytes ≡ 32 → HasRead bytes 32 state states
+    → get_or states k 0 ≡ get_or (END ∷ states_after END bytes) k 0
+lane_at bytes states state k size h = elim (cases_lt k 33) [
+  | inl lt ↦ sym (get_or-take 33 states k 0 lt) ∙ ap (λ (z : List ℕ). get_or z k 0) first
+  | inr le ↦
+      past le
+      ∙ sym (get_or_past (END ∷ states_after END bytes) k 0 (omega (arith, le, length-states_after END bytes, size)))
+]
+  where
+    first : take 33 states ≡ END ∷ states_after END bytes
+    first =
+        sym (append-nil (take 33 states))
+        ∙ ap (λ (z : List ℕ). take 33 states ++ states_after state z) (sym (drop_all 32 bytes (omega (arith, size))))
+        ∙ h.so_far
+
+    past : 33 ≤ k → get_or states k 0 ≡ 0
+    past from = elim (cases_lt 33 k) [
+      | inl lt ↦ get_or_past states k 0 (omega (arith, lt, h.long))
+      | inr le ↦ ap (λ (n : ℕ). get_or states n 0) {x = k} {y = 33} (omega (arith, le, from)) ∙ h.end
+    ]
+
+-- the spot of a byte, by what stands beside it
+spot_at : (s : ℕ) (states : List ℕ) (k : ℕ) → k < length states
+    → get_or (spots_by s states) k Inside ≡ spot_by (get_or (s ∷ states) k 0) (get_or (s ∷ states) (k + 2) 0)
+spot_at s [] k lt = absurd (omega (arith, lt))
+spot_at s (t ∷ states) zero lt = refl
+spot_at s (t ∷ states) (suc k) lt =
+    spot_at t states k (omega (arith, lt))
+    ∙ ap (λ (n : ℕ). spot_by (get_or (t ∷ states) k 0) (get_or (s ∷ t ∷ states) n 0)) {x = suc (k + 2)} {y = suc k + 2} (omega arith)
 
 -- one spot more
-pub spot_more : (states : List ℕ) (all : List Spot) (k before next : ℕ) → k < length states → drop k all ≡ spots_by before (drop k states)
-    → next ≡ slice_index states (k + 1)
-    → (take (k + 1) all ≡ take k all ++ spot_by before next ∷ []) × (drop (k + 1) all ≡ spots_by (get_or states k 0) (drop (k + 1) states))
-spot_more states all k before next lt left is =
-    let rest = drop (k + 1) states in
-    let first : slice_index rest 0 ≡ next
-    = get_or-drop (k + 1) states 0 0 ∙ ap (λ (n : ℕ). get_or states n 0) {x = (k + 1) + 0} {y = k + 1} (omega arith) ∙ sym is in
-    let here : drop k all ≡ spot_by before next ∷ spots_by (get_or states k 0) rest
-    = left ∙ ap (spots_by before) (drop_more states k 0 lt)
-    ∙ ap (λ (n : ℕ). spot_by before n ∷ spots_by (get_or states k 0) rest) first in
-    let r = next_element all k (spot_by before next) (spots_by (get_or states k 0) rest) here in
-    (ap (λ (n : ℕ). take n all) {x = k + 1} {y = suc k} (omega arith) ∙ r.0, ap (λ (n : ℕ). drop n all) {x = k + 1} {y = suc k} (omega arith) ∙ r.1)
+pub spot_more : (bytes states : List ℕ) (state k before next : ℕ) → length bytes ≡ 32 → HasRead bytes 32 state states → k < 32
+    → before ≡ get_or states k 0 → next ≡ get_or states (k + 2) 0
+    → take k (spots_by END (states_after END bytes)) ++ spot_by before next ∷ [] ≡ take (k + 1) (spots_by END (states_after END bytes))
+spot_more bytes states state k before next size h lt b n =
+    let all = spots_by END (states_after END bytes) in
+    ap (λ (p : ℕ). take k all ++ spot_by p next ∷ []) (b ∙ lane_at bytes states state k size h)
+    ∙ ap (λ (q : ℕ). take k all ++ spot_by (get_or (END ∷ states_after END bytes) k 0) q ∷ []) (n ∙ lane_at bytes states state (k + 2) size h)
+    ∙ ap (λ (v : Spot). take k all ++ v ∷ []) (sym (spot_at END (states_after END bytes) k (omega (arith, lt, size, length-states_after END bytes))))
+    ∙ sym (take_more all k Inside (omega (arith, lt, size, length-spots bytes)))
 
 -- one spot more is written
 pub one_put : (front put after spots : List Spot) (at k : ℕ) (v : Spot) → length front ≡ at → length put ≡ k → k < 32
@@ -320,3 +344,18 @@ one_put front put after spots at k v n len lt e =
     ∙ set_at (front ++ put) Inside rest v (at + k) long
     ∙ append_assoc front put (v ∷ rest)
     ∙ ap (λ (z : List Spot). front ++ z) (sym (append_assoc put (v ∷ []) rest))
+
+-- ---- a lane's bundle is written
+
+pub bundle_put : (code : List ℕ) (at to i state : ℕ) (states : List ℕ) (masked : Option ℕ) (spots new : List Spot) (put : Bool) → at % 32 ≡ 0
+    → at + 32 ≤ length code → to ≡ at + 32 → ((k : ℕ) → Fits w8 (get_or code k 0)) → i ≡ 32 → HasRead (take 32 (drop at code)) i state states
+    → ((bytes : List ℕ) → IsTrue put → length bytes ≡ 32 → HasRead bytes 32 state states → END ≤ get_or (states_after END bytes) 31 0)
+    → ((bytes : List ℕ) (front after : List Spot) → IsTrue put → length bytes ≡ 32 → HasRead bytes 32 state states → length front ≡ at
+    → spots ≡ front ++ (replicate 32 Inside ++ after) → new ≡ front ++ (spots_by END (states_after END bytes) ++ after))
+    → IsTrue put → HasFilled code at masked spots → HasFilled code to None new
+bundle_put code at to i state states masked spots new put start room goes fits end h whole puts is filled =
+    let bs = take 32 (drop at code) in
+    let size = bundle_size code at room in
+    let all : HasRead bs 32 state states = subst (λ (n : ℕ). HasRead bs n state states) end h in
+    subst (λ (n : ℕ). HasFilled code n None new) (sym goes)
+    (bundle_filled code at masked spots new start room fits (whole bs is size all) (λ front after n e. puts bs front after is size all n e) filled)

@@ -10,7 +10,7 @@
 //! instructions in a valid chunk.
 //!
 //! All faults of a refused chunk are found by one reading of it: `steps` reads it past its faults, with the lengths from
-//! `lengths`, and gives a `spot` for each byte; `quick` reads a bundle without a fault at once. `suspects` finds the places that
+//! `lengths`, and gives a `spot` for each byte; `quick` reads bundles without a fault, four at a time. `suspects` finds the places that
 //! may have a fault, `further` the faults by the spots, `aim` names the target of a refused transfer, `others` writes the lines
 //! about each fault, and `totals` those about their numbers.
 //!

@@ -1,38 +1,74 @@
-//! The quick reading of a bundle of a refused chunk, by the automaton.
+//! The quick reading of bundles of a refused chunk, by the automaton.
 
-ghost use Rattle.std.specs.Prelude.{◌≡◌, ◌≤◌, ◌<◌, ◌+◌, ◌%◌, ◌++◌, ℕ, List, Option, None, IsTrue, IsFalse, length, take, drop, replicate, slice_index};
-ghost use Rattle.nc_decode.specs.declared.automaton.TheConstants.{END};
+ghost use Rattle.std.specs.Prelude.{◌≡◌, ◌≤◌, ◌<◌, ◌+◌, ◌%◌, ◌++◌, ◌==◌, ℕ, List, Option, None, IsTrue, IsFalse, length, replicate, get_or, if◌then◌else◌};
+ghost use Rattle.nc_decode.specs.declared.automaton.TheConstants.{STATES, END};
 ghost use Rattle.nc_report.specs.declared.spot.Spot.{Spot};
-ghost use Rattle.nc_report.specs.machinery.Quick.{states_after, spot_by, spots_by};
+ghost use Rattle.nc_report.specs.machinery.Quick.{states_after, spot_by, spots_by, HasRead};
 ghost use Rattle.nc_report.specs.machinery.Seen.{HasFilled};
 
 use crate::spot::Spot;
 use nc_decode::{AFTER_PAIR, BUNDLE, END, advance};
 
-/// The offset of the last byte in a bundle.
-const LAST: usize = 31;
+/// The number of bytes of four bundles.
+const FOUR: usize = 128;
 
-/// The states of the automaton after each byte of the bundle at a place.
-#[inline(always)]
-fn states_of(code: &[u8], at: usize) -> [u8; 32]
-    requires { at + 32 ≤ length code.now }
-    ensures { result ≡ states_after END (take 32 (drop at code.now)) }
-{
-    let mut states = [0u8; 32];
-    let mut state = END;
-    for i in 0..32 {
-        state = advance(usize::from(state), code[at + i]);
-        states[i] = state;
-    }
-    states
+/// The automaton over one bundle.
+#[derive(Drop)]
+struct Lane {
+    /// The state after the last byte that is read.
+    state: usize,
+    /// The state before the first byte, the state after each byte that is read, and 0 at the end. The spot of byte `k` follows
+    /// from the elements `k` and `k + 2`, that of the last byte too, so LLVM computes spots by vectors.
+    states: [u8; 34],
 }
 
-/// The state at `k`, or 0 after the last.
-#[inline(always)]
-fn state_at(states: &[u8], k: usize) -> u8
-    ensures { result ≡ slice_index states.now k }
-{
-    if k < states.len() { states[k] } else { 0 }
+impl Lane {
+    /// A lane before its first byte.
+    #[inline(always)]
+    fn new() -> Lane
+        ensures { (bytes : List ℕ) → HasRead bytes 0 result.state result.states }
+    {
+        let mut states = [0; 34];
+        states[0] = END;
+        Lane {
+            state: END as usize,
+            states,
+        }
+    }
+
+    /// Reads byte `i` of the bundle.
+    #[inline(always)]
+    fn step(&mut self, i: usize, byte: u8)
+        requires place { i < 32 }
+        requires state { self.old.state < STATES }
+        ensures { (bytes : List ℕ) → length bytes ≡ 32 → byte ≡ get_or bytes i 0 → HasRead bytes i self.old.state self.old.states
+            → HasRead bytes (i + 1) self.new.state self.new.states }
+    {
+        let next = advance(self.state, byte);
+        self.states[i + 1] = next;
+        self.state = usize::from(next);
+    }
+
+    /// Writes the spots of the bundle's bytes over as many that are `Inside`, if an instruction ends at the end of the bundle,
+    /// whose instructions are then all allowed. Otherwise nothing is written, and the answer is false.
+    #[inline(always)]
+    fn put(&self, spots: &mut [Spot], at: usize) -> bool
+        requires within { at + 32 ≤ length spots.old }
+        ensures whole { (bytes : List ℕ) → IsTrue result → length bytes ≡ 32 → HasRead bytes 32 self.now.state self.now.states
+            → END ≤ get_or (states_after END bytes) 31 0 }
+        ensures put { (bytes : List ℕ) (front after : List Spot) → IsTrue result → length bytes ≡ 32
+            → HasRead bytes 32 self.now.state self.now.states
+            → length front ≡ at → spots.old ≡ front ++ (replicate 32 Spot.Inside ++ after)
+            → spots.new ≡ front ++ (spots_by END (states_after END bytes) ++ after) }
+        ensures same { IsFalse result → spots.new ≡ spots.old }
+        ensures long { length spots.new ≡ length spots.old }
+    {
+        if self.states[32] < END {
+            return false;
+        }
+        put_bundle(spots, at, &self.states);
+        true
+    }
 }
 
 /// The spot of a byte, by the state before it and the state after the byte that follows it.
@@ -49,40 +85,98 @@ fn spot_by(before: u8, next: u8) -> Spot
     }
 }
 
-/// Writes the spots of the bytes of a bundle, by the states after each of them, over as many that are `Inside`.
+/// Writes the spots of the bytes of a bundle, by the states that a lane has at its end.
 #[inline(always)]
-fn put_bundle(spots: &mut [Spot], at: usize, states: &[u8])
-    requires long { length states.now ≡ 32 }
+fn put_bundle(spots: &mut [Spot], at: usize, states: &[u8; 34])
     requires within { at + 32 ≤ length spots.old }
-    ensures { (front after : List Spot) → length front ≡ at → spots.old ≡ front ++ (replicate 32 Spot.Inside ++ after)
-        → spots.new ≡ front ++ (spots_by END states.now ++ after) }
+    ensures put { (bytes : List ℕ) (state : ℕ) (front after : List Spot) → length bytes ≡ 32 → HasRead bytes 32 state states.now
+        → length front ≡ at → spots.old ≡ front ++ (replicate 32 Spot.Inside ++ after)
+        → spots.new ≡ front ++ (spots_by END (states_after END bytes) ++ after) }
+    ensures long { length spots.new ≡ length spots.old }
 {
-    let mut before = END;
     for k in 0..32 {
-        spots[at + k] = spot_by(before, state_at(states, k + 1));
-        before = states[k];
+        spots[at + k] = spot_by(states[k], states[k + 2]);
     }
 }
 
-/// Writes the spots of the bundle at a place over as many that are `Inside`, if a bundle begins there and the automaton reads
-/// it to its end: it is then instructions that are all allowed. Otherwise nothing is written, and the answer is false.
-pub(crate) fn read_bundle(spots: &mut [Spot], code: &[u8], at: usize) -> bool
+/// Reads the bundle at a place, and writes its spots if an instruction ends at its end. Returns the number of spots that are
+/// written.
+#[inline(always)]
+fn read_one(spots: &mut [Spot], code: &[u8], at: usize) -> usize
+    requires start { at % 32 ≡ 0 }
+    requires room { at + 32 ≤ length code.now }
+    requires each { length spots.old ≡ length code.now }
+    ensures read { (masked : Option ℕ) → HasFilled code.now at masked spots.old
+        → HasFilled code.now (at + result) (if result == 0 then masked else None) spots.new }
+    ensures room { at + result ≤ length code.now }
+    ensures same { result ≡ 0 → spots.new ≡ spots.old }
+    ensures long { length spots.new ≡ length spots.old }
+{
+    let mut a = Lane::new();
+    for i in 0..32 {
+        a.step(i, code[at + i]);
+    }
+    if a.put(spots, at) { 32 } else { 0 }
+}
+
+/// Reads the four bundles at a place in lock step, and writes the spots of those before the first at whose end no instruction
+/// ends. Returns the number of spots that are written. Each state of a lane depends on the one before, so a lane mostly waits,
+/// and four of them take little longer than one.
+#[inline(never)]
+fn read_four(spots: &mut [Spot], code: &[u8], at: usize) -> usize
+    requires start { at % 32 ≡ 0 }
+    requires room { at + 128 ≤ length code.now }
+    requires each { length spots.old ≡ length code.now }
+    ensures read { (masked : Option ℕ) → HasFilled code.now at masked spots.old
+        → HasFilled code.now (at + result) (if result == 0 then masked else None) spots.new }
+    ensures room { at + result ≤ length code.now }
+    ensures same { result ≡ 0 → spots.new ≡ spots.old }
+    ensures long { length spots.new ≡ length spots.old }
+{
+    let mut a = Lane::new();
+    let mut b = Lane::new();
+    let mut c = Lane::new();
+    let mut d = Lane::new();
+    for i in 0..32 {
+        a.step(i, code[at + i]);
+        b.step(i, code[at + 32 + i]);
+        c.step(i, code[at + 64 + i]);
+        d.step(i, code[at + 96 + i]);
+    }
+    if !a.put(spots, at) {
+        return 0;
+    }
+    if !b.put(spots, at + 32) {
+        return 32;
+    }
+    if !c.put(spots, at + 64) {
+        return 64;
+    }
+    if !d.put(spots, at + 96) {
+        return 96;
+    }
+    FOUR
+}
+
+/// If a bundle begins at a place, reads four from there, or one where fewer are left. The spots of those before the first at
+/// whose end no instruction ends are written over as many that are `Inside`: their instructions are all allowed. Returns the
+/// number of spots that are written.
+#[inline(always)]
+pub(crate) fn read_bundles(spots: &mut [Spot], code: &[u8], at: usize) -> usize
     requires bundles { length code.now % 32 ≡ 0 }
     requires within { at < length code.now }
     requires each { length spots.old ≡ length code.now }
-    ensures read { (masked : Option ℕ) → IsTrue result → HasFilled code.now at masked spots.old
-        → HasFilled code.now (at + 32) None spots.new }
-    ensures same { IsFalse result → spots.new ≡ spots.old }
-    ensures room { IsTrue result → at + 32 ≤ length code.now }
+    ensures read { (masked : Option ℕ) → HasFilled code.now at masked spots.old
+        → HasFilled code.now (at + result) (if result == 0 then masked else None) spots.new }
+    ensures room { at + result ≤ length code.now }
+    ensures same { result ≡ 0 → spots.new ≡ spots.old }
     ensures long { length spots.new ≡ length spots.old }
 {
     if at % BUNDLE as usize != 0 {
-        return false;
+        return 0;
     }
-    let states = states_of(code, at);
-    if states[LAST] < END {
-        return false;
+    if code.len() - at < FOUR {
+        return read_one(spots, code, at);
     }
-    put_bundle(spots, at, &states);
-    true
+    read_four(spots, code, at)
 }

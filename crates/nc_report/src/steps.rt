@@ -7,7 +7,7 @@ ghost use Rattle.nc_report.specs.Reading.{extent, masked_by, spot_of, later_spot
 ghost use Rattle.nc_report.specs.machinery.Seen.{HasSpots};
 
 use crate::lengths::known_len;
-use crate::quick::read_bundle;
+use crate::quick::read_bundles;
 use crate::spot::Spot;
 use nc_decode::{BUNDLE, DecodeFault, Instr, decode};
 use std::alloc::{AllocError, Global};
@@ -177,9 +177,10 @@ fn fill_spots(spots: &mut [Spot], code: &[u8])
     let mut at = 0usize;
     let mut masked = None;
     while at < code.len() {
-        if read_bundle(spots, code, at) {
+        let read = read_bundles(spots, code, at);
+        if read > 0 {
             masked = None;
-            at += BUNDLE as usize;
+            at += read;
             continue;
         }
         let room = BUNDLE as usize - at % BUNDLE as usize;
