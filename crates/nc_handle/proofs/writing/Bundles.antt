@@ -15,7 +15,6 @@ use Rattle.nc_handle.specs.acts.Written.{Adds}
 use Rattle.nc_handle.specs.machinery.Writing.{HasPutUpTo}
 use Rattle.nc_handle.proofs.writing.PutLists.{puts_within}
 use Rattle.nc_handle.proofs.writing.WriteSteps.{put_none, put_next, pass_next, put_all, next_fits, adds_both}
-use Rattle.nc_handle.proofs.writing.RunLists.{bundle_more}
 
 -- places that don't pass are passed over
 pub passed_all : (chosen : ℕ → Bool) (at : ℕ) (bytes : List ℕ) (initial : List NcAct) (from n j : ℕ) (acts : List NcAct) (count : ℕ)
@@ -28,6 +27,25 @@ passed_all chosen at bytes initial from n (suc j) acts count fits none h =
     (pass_next chosen at bytes initial from (n + j) acts count
     (passed_all chosen at bytes initial from n j acts count (omega (arith, fits)) (λ i lt. none i (omega (arith, lt))) h)
     (omega (arith, fits)) (none j (omega arith)))
+
+-- ---- the bytes of a bundle
+
+-- there are 32
+pub bundle_size : (code : List ℕ) (i : ℕ) → i + 32 ≤ length code → length (take 32 (drop i code)) ≡ 32
+bundle_size code i fits = length-take-le 32 (drop i code) (omega (arith, fits, length-drop i code))
+
+-- one of them
+pub bundle_byte : (code : List ℕ) (i k : ℕ) → k < 32 → get_or (take 32 (drop i code)) k 0 ≡ get_or code (i + k) 0
+bundle_byte code i k lt = get_or-take 32 (drop i code) k 0 lt ∙ get_or-drop i code k 0
+
+-- they are any 32 bytes that are the same
+pub bundle_is : (code bytes : List ℕ) (i : ℕ) → i + 32 ≤ length code → length bytes ≡ 32
+    → ((k : ℕ) → k < 32 → get_or bytes k 0 ≡ get_or code (i + k) 0) → take 32 (drop i code) ≡ bytes
+bundle_is code bytes i fits long same =
+    ext_get_or 0 (take 32 (drop i code)) bytes (bundle_size code i fits ∙ sym long)
+    (λ k lt.
+    let short : k < 32 = omega (arith, lt, bundle_size code i fits) in
+    bundle_byte code i k short ∙ sym (same k short))
 
 -- ---- one bundle
 
@@ -102,16 +120,3 @@ part_next chosen inner base at n bytes others initial from acts now count m long
       counted = omega (arith, all.counted, h.counted, ap (λ (z : List Act). length z) both, length-append first last);
       written = subst (λ (z : List Entry). Adds initial from now m z) (sym entries) added;
     }
-
--- the puts of a bundle of a chunk's code
-pub code_puts : (chosen : ℕ → Bool) (base n : ℕ) (code bytes : List ℕ) → 32 * n + 32 ≤ length code → length bytes ≡ 32
-    → ((k : ℕ) → k < 32 → get_or bytes k 0 ≡ get_or code (32 * n + k) 0)
-    → puts_where chosen base (take (32 * (n + 1)) code) ≡ puts_where chosen base (take (32 * n) code) ++ puts_where chosen (base + 32 * n) bytes
-code_puts chosen base n code bytes fits long same =
-    let there : take 32 (drop (32 * n) code) ≡ bytes =
-    ext_get_or 0 (take 32 (drop (32 * n) code)) bytes (length-take-le 32 (drop (32 * n) code) (omega (arith, fits, length-drop (32 * n) code)) ∙ sym long)
-    (λ k lt.
-    let short : k < 32 = omega (arith, lt, length-take-le 32 (drop (32 * n) code) (omega (arith, fits, length-drop (32 * n) code))) in
-    get_or-take 32 (drop (32 * n) code) k 0 short ∙ (get_or-drop (32 * n) code k 0 ∙ sym (same k short))) in
-    bundle_more chosen base n code fits
-    ∙ ap (λ (z : List ℕ). puts_where chosen base (take (32 * n) code) ++ puts_where chosen (base + 32 * n) z) there

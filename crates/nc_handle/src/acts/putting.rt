@@ -1,9 +1,9 @@
 //! The acts of a creation and of a deletion with their settlings, written into a host's buffer.
 
-ghost use Rattle.std.specs.Prelude.{◌≡◌, ◌+◌, ◌*◌, ◌%◌, ◌==◌, ◌<◌, ◌≤◌, ◌^◌, ℕ, List, length, replicate};
+ghost use Rattle.std.specs.Prelude.{◌≡◌, ◌+◌, ◌*◌, ◌%◌, ◌==◌, ◌<◌, ◌≤◌, ◌^◌, ℕ, List, length, take, drop, replicate};
 ghost use Rattle.std.specs.Int.{bit_at};
 ghost use Rattle.nc_decode.specs.declared.instruction.Mark.{Mark};
-ghost use Rattle.nc_region.specs.Acts.{puts_where};
+ghost use Rattle.nc_region.specs.Acts.{puts_where, is_inside};
 ghost use Rattle.nc_region.specs.Log.{log_of_create, log_of_delete};
 ghost use Rattle.nc_handle.specs.acts.Standing.{AreMarksAt};
 ghost use Rattle.nc_handle.specs.acts.Written.{HasWritten};
@@ -16,7 +16,7 @@ use nc_decode::{BUNDLE, Mark};
 use nc_text::lowest_place;
 
 /// Whether the place is a bundle start, or, with `starts` false, whether it isn't one.
-pub(crate) fn is_chosen(at: u32, starts: bool) -> bool
+fn is_chosen(at: u32, starts: bool) -> bool
     ensures { result ≡ starts_if starts at }
 {
     if starts {
@@ -27,7 +27,7 @@ pub(crate) fn is_chosen(at: u32, starts: bool) -> bool
 }
 
 /// Whether the mark stands for a state, or, with `marked` false, whether it stands for none.
-pub(crate) fn is_as(mark: Mark, marked: bool) -> bool
+fn is_as(mark: Mark, marked: bool) -> bool
     ensures { result ≡ mark_if marked mark }
 {
     match mark {
@@ -44,23 +44,42 @@ fn whole_bundles(base: u32, len: usize) -> usize
     if base % BUNDLE == 0 { len / 32 } else { 0 }
 }
 
-/// Writes the put of a bundle's first byte, or, with `starts` false, those of its other bytes, in ascending order. Returns the
-/// new number of acts.
-fn write_bundle(acts: &mut [NcAct], from: usize, at: u32, bytes: &[u8], starts: bool) -> usize
+/// Writes the puts of a bundle's bytes but for the first, in ascending order. Returns the new number of acts.
+fn write_inside(acts: &mut [NcAct], from: usize, at: u32, bytes: &[u8]) -> usize
     requires start { at % 32 ≡ 0 }
     requires long { length bytes.now ≡ 32 }
     requires high { at + 32 ≤ 2 ^ 32 }
-    requires room { from + length (puts_where (starts_if starts) at bytes.now) ≤ length acts.old }
-    ensures { HasPutUpTo (starts_if starts) at bytes.now acts.old from 32 acts.new result }
+    requires room { from + length (puts_where is_inside at bytes.now) ≤ length acts.old }
+    ensures { HasPutUpTo is_inside at bytes.now acts.old from 32 acts.new result }
 {
-    if starts {
-        return write(acts, from, put(at, bytes[0]));
-    }
     let mut count = from;
     for k in 1..32 {
         count = write(acts, count, put(at + k as u32, bytes[k]));
     }
     count
+}
+
+/// Writes the puts of some bytes of a bundle, which begins at `i` in the chunk and at `at` in the text: of its first byte, or,
+/// with `starts` false, of the others, in ascending order. Returns the new number of acts.
+fn write_bundle<C: ReadChunk>(
+    acts: &mut [NcAct],
+    from: usize,
+    at: u32,
+    chunk: &C,
+    i: usize,
+    starts: bool,
+) -> usize
+    requires start { at % 32 ≡ 0 }
+    requires bundle { i % 32 ≡ 0 }
+    requires within { i + 32 ≤ length (C.code chunk.now) }
+    requires high { at + 32 ≤ 2 ^ 32 }
+    requires room { from + length (puts_where (starts_if starts) at (take 32 (drop i (C.code chunk.now)))) ≤ length acts.old }
+    ensures { HasPutUpTo (starts_if starts) at (take 32 (drop i (C.code chunk.now))) acts.old from 32 acts.new result }
+{
+    if starts {
+        return write(acts, from, put(at, chunk.byte(i)));
+    }
+    write_inside(acts, from, at, &chunk.bytes(i))
 }
 
 /// Writes the puts of a chunk's bundle starts, or of its other bytes, in ascending order. Returns the new number of acts.
@@ -78,9 +97,9 @@ fn write_code<C: ReadChunk>(
     let whole = whole_bundles(base, chunk.len());
     let mut count = from;
     for n in 0..whole {
-        let bytes = chunk.bytes(32 * n);
-        count = write_bundle(acts, count, base + 32 * n as u32, &bytes, starts);
+        count = write_bundle(acts, count, base + 32 * n as u32, chunk, 32 * n, starts);
     }
+    // The bytes behind the last whole bundle.
     for i in 32 * whole..chunk.len() {
         let at = base + i as u32;
         if is_chosen(at, starts) {
@@ -136,7 +155,7 @@ fn write_stops<C: ReadChunk>(
         let places = places_of(chunk, 32 * n, marked);
         count = write_places(acts, count, base + 32 * n as u32, places);
     }
-    // The places after the last whole 32.
+    // The places behind the last whole 32.
     for i in 32 * (chunk.len() / 32)..chunk.len() {
         if is_as(chunk.mark(i), marked) {
             count = write(acts, count, put(base + i as u32, STOP));

@@ -1,8 +1,9 @@
-use Rattle.std.proofs.Common.{◌+◌, ◌*◌, ◌<◌, ◌≤◌, ℕ, length, set, sym, subst, arith, ◌∙◌}
+use Rattle.std.proofs.Common.{◌+◌, ◌*◌, ◌<◌, ◌≤◌, ℕ, length, take, drop, set, sym, subst, arith, ◌∙◌}
 use Rattle.nc_region.specs.declared.acts.Act.TheVariants.{Put}
 use Rattle.nc_handle.specs.acts.Shown.{act_of}
 use Rattle.nc_handle.specs.machinery.Writing.{HasPutUpTo, starts_if}
-use Rattle.nc_handle.proofs.writing.Bundles.{code_puts, part_fits, part_next}
+use Rattle.nc_handle.proofs.writing.Bundles.{bundle_size, part_fits, part_next}
+use Rattle.nc_handle.proofs.writing.RunLists.{bundle_more}
 use Rattle.nc_handle.proofs.writing.WriteSteps.{next_fits, put_next, pass_next}
 use Rattle.nc_handle.proofs.acts.putting.write_code.Goals.{then-is_chosen, else-is_chosen}
 use Rattle.nc_handle.proofs.acts.putting.write_code.Goals as goal
@@ -41,23 +42,20 @@ pub write_bundle-count-requires-clause-room : goal.write_bundle-count-requires-c
 write_bundle-count-requires-clause-room g c =
     let code = g.C.ReadChunk.code c.args.chunk.now in
     let n = c.loop-n.n in
-    let bytes = c.bytes-bytes.result in
     let fits : 32 * n + 32 ≤ length code = omega (arith, c.loop-n-test.true, c.whole_bundles-whole.ensures.within, c.len.ensures) in
     let f = starts_if c.args.starts in
-    part_fits f f c.args.base (c.args.base + 32 * n) n code bytes c.args.acts.now c.args.from c.loop-n.acts c.loop-n.count
-    (code_puts f c.args.base n code bytes fits c.bytes-bytes.ensures.long c.bytes-bytes.ensures.bytes) c.loop-n.invariant c.requires.room
+    part_fits f f c.args.base (c.args.base + 32 * n) n code (take 32 (drop (32 * n) code)) c.args.acts.now c.args.from c.loop-n.acts c.loop-n.count
+    (bundle_more f c.args.base n code fits) c.loop-n.invariant c.requires.room
 
 pub loop-n-preserved : goal.loop-n-preserved
 loop-n-preserved g c =
     let code = g.C.ReadChunk.code c.args.chunk.now in
     let n = c.loop-n.n in
-    let bytes = c.bytes-bytes.result in
     let fits : 32 * n + 32 ≤ length code = omega (arith, c.loop-n-test.true, c.whole_bundles-whole.ensures.within, c.len.ensures) in
     let f = starts_if c.args.starts in
-    part_next f f c.args.base (c.args.base + 32 * n) n code bytes c.args.acts.now c.args.from c.loop-n.acts
-    c.write_bundle-count.new.acts c.loop-n.count c.write_bundle-count.result c.bytes-bytes.ensures.long
-    (code_puts f c.args.base n code bytes fits c.bytes-bytes.ensures.long c.bytes-bytes.ensures.bytes) c.loop-n.invariant
-    c.write_bundle-count.ensures
+    part_next f f c.args.base (c.args.base + 32 * n) n code (take 32 (drop (32 * n) code)) c.args.acts.now c.args.from c.loop-n.acts
+    c.write_bundle-count.new.acts c.loop-n.count c.write_bundle-count.result (bundle_size code (32 * n) fits)
+    (bundle_more f c.args.base n code fits) c.loop-n.invariant c.write_bundle-count.ensures
 
 pub returns : goal.returns
 returns g c =
