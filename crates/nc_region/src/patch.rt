@@ -4,6 +4,8 @@ ghost use Rattle.std.specs.Prelude.{◌≡◌, ◌+◌, ◌-◌, ◌≤◌, ◌<
 ghost use Rattle.nc_decode.specs.declared.instruction.Instr.{Instr};
 ghost use Rattle.nc_decode.specs.Front.{first_instruction};
 ghost use Rattle.nc_vet.specs.Chunk.{Piece};
+ghost use Rattle.nc_text.specs.Marks.{mark_at};
+ghost use Rattle.nc_text.specs.Places.{InRegion};
 ghost use Rattle.nc_text.specs.Ready.{AreReady};
 ghost use Rattle.nc_text.specs.MarkedText.{MarkedText, IsText, with_span};
 ghost use Rattle.nc_region.specs.declared.chunk.Chunk.{Chunk};
@@ -19,19 +21,32 @@ use crate::fault::ModifyFault;
 use crate::modify::{
     goes_well, is_marked, judge, length_at, put_patch, put_where_new, spares_pair,
 };
-use nc_decode::{Instr, decode};
+use nc_decode::{Instr, Mark, START, decode};
 
-/// Replaces instructions of a live chunk, or refuses to and changes nothing. Nearly all patches are of a single instruction,
-/// so that one is decoded only once.
+/// The mark at an address of the text, or `Unmarked` outside.
+pub(crate) fn mark_within<A: Acts>(acts: &A, at: u32) -> Mark
+    ensures { InRegion (A.marked acts.now).bytes at → result ≡ mark_at (A.marked acts.now).marks at }
+{
+    if START <= at && at < acts.limit() {
+        acts.mark(at)
+    } else {
+        Mark::Unmarked
+    }
+}
+
+/// Replaces instructions of a live chunk, or refuses to and changes nothing. The mark is that of the address. Nearly all patches
+/// are of a single instruction, so that one is decoded only once.
 pub(crate) fn patch<A: Acts>(
     acts: &mut A,
     chunk: Chunk,
     at: u32,
+    mark: Mark,
     new: &[u8],
 ) -> Result<(), ModifyFault>
     requires whole { IsText (A.marked acts.old) }
     requires holds { HoldsValid (A.marked acts.old) chunk }
     requires from { IsInChunk chunk at }
+    requires mark { mark ≡ mark_at (A.marked acts.old).marks at }
     requires ends { at + length new.now ≤ chunk.base + chunk.length }
     requires ready { AreReady (A.made acts.old) at (length new.now) }
     ensures can { OnOk result (CanPatch (A.marked acts.old) chunk at new.now) }
@@ -50,7 +65,7 @@ pub(crate) fn patch<A: Acts>(
     ensures refused { IfErr result (MayRefuseIn (A.marked acts.old) chunk at new.now) }
 {
     if let Some(instr) = single(new) {
-        judge_single(acts, chunk, at, instr, new)?;
+        judge_single(acts, chunk, at, mark, instr, new)?;
         put_single(acts, chunk, at, new);
         return Ok(());
     }
@@ -69,24 +84,27 @@ fn single(bytes: &[u8]) -> Option<Instr>
     }
 }
 
-/// Whether a single instruction may come in the place of one of the chunk: the first reason why not.
+/// Whether a single instruction may come in the place of one of the chunk: the first reason why not. The mark is that of the
+/// address.
 fn judge_single<A: Acts>(
     acts: &A,
     chunk: Chunk,
     at: u32,
+    mark: Mark,
     instr: Instr,
     new: &[u8],
 ) -> Result<(), ModifyFault>
     requires whole { IsText (A.marked acts.now) }
     requires holds { HoldsValid (A.marked acts.now) chunk }
     requires from { IsInChunk chunk at }
+    requires mark { mark ≡ mark_at (A.marked acts.now).marks at }
     requires ends { at + length new.now ≤ chunk.base + chunk.length }
     requires first { first_instruction new.now ≡ Some instr }
     requires only { instr.len ≡ length new.now }
     ensures can { OnOk result (CanPatch (A.marked acts.now) chunk at new.now) }
     ensures refused { IfErr result (MayRefuseIn (A.marked acts.now) chunk at new.now) }
 {
-    if !fits_single(acts, chunk, at, instr, new) {
+    if !fits_single(acts, chunk, at, mark, instr, new) {
         return Err(ModifyFault::Boundaries);
     }
     if !spares_pair(acts, chunk, at, instr, new) {
@@ -98,17 +116,25 @@ fn judge_single<A: Acts>(
     Ok(())
 }
 
-/// An instruction of the chunk begins at the address, and is as long as the new one.
-fn fits_single<A: Acts>(acts: &A, chunk: Chunk, at: u32, instr: Instr, new: &[u8]) -> bool
+/// An instruction of the chunk begins at the address, which has this mark, and is as long as the new one.
+fn fits_single<A: Acts>(
+    acts: &A,
+    chunk: Chunk,
+    at: u32,
+    mark: Mark,
+    instr: Instr,
+    new: &[u8],
+) -> bool
     requires whole { IsText (A.marked acts.now) }
     requires holds { HoldsValid (A.marked acts.now) chunk }
     requires from { IsInChunk chunk at }
+    requires mark { mark ≡ mark_at (A.marked acts.now).marks at }
     requires first { first_instruction new.now ≡ Some instr }
     requires only { instr.len ≡ length new.now }
     ensures run { IsTrue result → IsRun (A.marked acts.now) chunk at new.now }
     ensures none { IsFalse result → ¬ IsRun (A.marked acts.now) chunk at new.now }
 {
-    is_marked(acts.mark(at)) && length_at(acts, chunk, at) == u32::from(instr.len)
+    is_marked(mark) && length_at(acts, chunk, at) == u32::from(instr.len)
 }
 
 /// Replaces a single instruction, unless its bytes are there already.

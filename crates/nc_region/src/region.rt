@@ -27,7 +27,7 @@ use crate::fault::{CreateFault, DeleteFault, ModifyFault, RegionFault, WalkFault
 use crate::list::ChunkList;
 use crate::listing::{holder, live_at};
 use crate::modify::is_patch_span;
-use crate::patch::patch;
+use crate::patch::{mark_within, patch};
 use crate::plain::Plain;
 use crate::reclaim::free_due;
 use crate::trace::Trace;
@@ -257,10 +257,12 @@ impl<A: Acts + Drop> RegionOf<A> {
         if !is_patch_span(at, new.len()) {
             return Err(ModifyFault::BadSpan);
         }
+        // The mark is read before the search for the chunk, so that both wait for memory at the same time.
+        let mark = mark_within(&self.acts, at);
         let Some(chunk) = holder(&self.chunks, at) else {
             return Err(ModifyFault::NotLive);
         };
-        if let Err(fault) = patch(&mut self.acts, chunk, at, new) {
+        if let Err(fault) = patch(&mut self.acts, chunk, at, mark, new) {
             return Err(fault);
         }
         Ok(())

@@ -8,7 +8,7 @@ use Rattle.nc_region.proofs.patch.fits_single.Goals as goal
 pub length_at-requires-clause-begins : goal.length_at-requires-clause-begins
 length_at-requires-clause-begins g c =
     begins_marked (g.A.Acts.marked c.args.acts.now) c.args.chunk c.args.at c.requires.holds c.requires.from
-    (λ e. c.is_marked.ensures.0 c.if-is_marked.true (c.mark.ensures ∙ e))
+    (λ e. c.is_marked.ensures.0 c.if-is_marked.true (c.requires.mark ∙ e))
 
 pub returns-then-is_marked-clause-run : goal.returns-then-is_marked-clause-run
 returns-then-is_marked-clause-run g c = λ yes.
@@ -17,7 +17,7 @@ returns-then-is_marked-clause-run g c = λ yes.
     let i = c.args.instr in
     let o : IsOne c.args.new.now c.args.instr = record { first = c.requires.first; only = c.requires.only } in
     let b = begins_marked marked c.args.chunk c.args.at c.requires.holds c.requires.from
-    (λ e. c.is_marked.ensures.0 c.if-is_marked.true (c.mark.ensures ∙ e)) in
+    (λ e. c.is_marked.ensures.0 c.if-is_marked.true (c.requires.mark ∙ e)) in
     let s = standing marked c.args.chunk c.args.at c.requires.whole b c.requires.from.1 in
     let long : length s.piece.bytes ≡ length new = sym s.len ∙ (sym (c.length_at.ensures s.piece.instr s.instr)
     ∙ (eqb-true _ _ yes ∙ (c.from.ensures ∙ c.requires.only))) in
@@ -44,6 +44,6 @@ pub returns-else-is_marked-clause-none : goal.returns-else-is_marked-clause-none
 returns-else-is_marked-clause-none g c = λ no run.
     let yes : c.is_marked.result ≡ true =
     c.is_marked.ensures.1 (λ e. run_marked (g.A.Acts.marked c.args.acts.now) c.args.chunk c.args.at c.args.new.now
-    c.requires.whole c.requires.from run (sym c.mark.ensures ∙ e)) in
+    c.requires.whole c.requires.from run (sym c.requires.mark ∙ e)) in
     let differ : true ≡ false = sym yes ∙ no in
     cc

@@ -66,6 +66,13 @@ patch-requires-clause-ends g c =
     let spans : c.is_patch_span.result ≡ true = c.if-not-is_patch_span.false in
     omega (arith, (c.is_patch_span.ensures.0 spans).1, held.2.0, held.2.1, l.start, l.whole)
 
+pub patch-requires-clause-mark : goal.patch-requires-clause-mark
+patch-requires-clause-mark g c =
+    let held : IsHeldBy c.self.inside.chunks.items c.args.at c.in-Some.chunk = c.in-Some.ensures.some in
+    let l = lies (g.A.Acts.marked c.self.inside.acts) c.in-Some.chunk c.self.invariant.0.whole
+    (held_holds (g.A.Acts.marked c.self.inside.acts) c.self.inside.chunks.items c.args.at c.in-Some.chunk c.self.invariant.0 held) in
+    c.mark_within-mark.ensures (omega (arith, l.low, held.2.0), omega (arith, l.high, held.2.0, held.2.1))
+
 pub patch-requires-clause-ready : goal.patch-requires-clause-ready
 patch-requires-clause-ready g c =
     let held : IsHeldBy c.self.inside.chunks.items c.args.at c.in-Some.chunk = c.in-Some.ensures.some in
