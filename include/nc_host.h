@@ -485,7 +485,8 @@ NcChange nc_region_deletion_runs(NcRegion *region, NcAct *acts, size_t acts_len)
  * (HasReclaimed): `count` of them. Their spans may be reused, and keep only the marks of bundle starts. It puts no byte, writes no act,
  * and allocates no memory.
  * Promised: it is refused with NC_NO_HANDLE, or with NC_UNDER_WAY while a deletion is under way.
- * Cost: a look at each seat, at each block of 256 chunks, and at each chunk of a block that may have one to be removed.
+ * Cost: a look at each seat, at each block of 256 chunks, and at each chunk of a block that may have one to be removed; where chunks are
+ * removed, a few moves for each other chunk at most.
  */
 NcCount nc_region_reclaim(NcRegion *region);
 

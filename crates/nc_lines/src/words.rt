@@ -36,7 +36,7 @@ pub fn first_address_of(text: &[u8]) -> Option<(u32, Option<&[u8]>)>
     ensures value { option_map (λ found. (found.0, words_after (option_copied found.1))) result ≡ first_address_in (words_in text.now) }
     ensures shorter { IfSome result (λ found. IfSome found.1 (λ rest. length rest.now < length text.now)) }
 {
-    // an address has eight digits
+    // An address has eight digits.
     if text.len() <= 8 {
         return match address_of(text) {
             Some(at) => Some((at, None)),
