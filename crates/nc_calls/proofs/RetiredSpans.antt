@@ -57,7 +57,7 @@ retired_each P (c ∷ rest) h = with_each P c c.state (retired_spans rest) refl 
 pub all_contained : {X : Type 0} (P : X → Type 0) (xs : List X) → ((x : X) → Contains xs x → P x) → All P xs
 all_contained P xs f = λ k d lt. f (get_or xs k d) (Contains-get_or xs k d lt)
 
--- the spans of a world are those of the chunks
+-- each of the spans of a world is that of a retired chunk
 abbrev pub AreSpansOf : List RetiredSpan → List Chunk → Type 0
 AreSpansOf spans chunks = (span : RetiredSpan) → Contains spans span → Contains (retired_spans chunks) span
 

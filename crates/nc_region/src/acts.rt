@@ -103,8 +103,8 @@ pub trait Acts {
     /// Puts bytes from an address on, in ascending order, in one bundle: each byte is a put of its own, and is told and logged
     /// as one. The text is closed after each put. An empty run changes nothing, wherever `at` is.
     ///
-    /// This default calls `put` for each byte. An implementation that looks the bundle up only once may be faster; it must
-    /// still store the bytes one at a time and in this order.
+    /// This default calls `put` for each byte. An implementation that looks the bundle up only once may be faster; in memory
+    /// that threads execute it must still store the bytes one at a time and in this order, and nothing else.
     fn put_run(&mut self, at: u32, bytes: &[u8])
         requires inside { SpanInRegion (marked self.old).bytes at (length bytes.now) }
         requires one_bundle { at % 32 + length bytes.now ≤ 32 }

@@ -189,8 +189,9 @@ impl Text {
     /// Puts bytes from an address of the region on, in ascending order, in one bundle. No mark and no other byte changes. An
     /// empty run changes nothing, wherever `at` is.
     ///
-    /// It has the effect of a `put` of each byte, but finds the page only once. The conditions are that the run is in the
-    /// region and in one bundle, that its places are ready, and that the text is closed under the same marks after each byte.
+    /// It has the effect of a `put` of each byte, but finds the page only once, and may store several bytes at once and in any
+    /// order. So it isn't for memory that threads execute. The conditions are that the run is in the region and in one bundle,
+    /// that its places are ready, and that the text is closed under the same marks after each byte.
     pub fn put_run(&mut self, at: u32, bytes: &[u8])
         requires inside { SpanInRegion self.old.marked.bytes at (length bytes.now) }
         requires one_bundle { at % 32 + length bytes.now ≤ 32 }
@@ -212,8 +213,9 @@ impl Text {
     /// Puts F4 at the places of a bundle whose bits are set, in ascending order. The lowest bit is that of the bundle start, which
     /// is at the address `at`. No mark and no other byte changes.
     ///
-    /// It has the effect of a `put` at each of these places, but finds the page only once. The conditions are that the bundle is
-    /// in the region, that its places are ready, and that the text is closed under the same marks after each byte.
+    /// It has the effect of a `put` at each of these places, but finds the page only once, and may store the whole bundle at
+    /// once. So it isn't for memory that threads execute. The conditions are that the bundle is in the region, that its places
+    /// are ready, and that the text is closed under the same marks after each byte.
     pub fn stop_places(&mut self, at: u32, places: u32)
         requires inside { InRegion self.old.marked.bytes at }
         requires start { IsBundleStart at }
