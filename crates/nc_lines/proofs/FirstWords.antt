@@ -1,6 +1,6 @@
 -- The first word of a text, and the words after it: an address, or a word by itself.
-use Rattle.std.proofs.Common.{◌≡◌, ◌++◌, ◌<◌, ◌≤◌, ◌==◌, ◌&&◌, ◌⊎◌, inl, inr, ⊎_elim, ℕ, Bool, true, false, cond, List, [], ◌∷◌}
-use Rattle.std.proofs.Common.{Option, Some, None, Result, Ok, Err, length, take, drop, get_or, slice_index, refl, sym, ap, ◌∙◌, arith}
+use Rattle.std.proofs.Common.{◌≡◌, ◌+◌, ◌++◌, ◌<◌, ◌≤◌, ◌==◌, ◌&&◌, ◌⊎◌, inl, inr, ⊎_elim, ℕ, Bool, true, false, cond, List, [], ◌∷◌}
+use Rattle.std.proofs.Common.{Option, Some, None, is_some, eqb-true, Result, Ok, Err, length, take, drop, get_or, slice_index, refl, sym, ap, ◌∙◌, arith}
 use Rattle.std.proofs.Math.Seq.{get_or-append_seam, take-append_seam}
 use Rattle.std.proofs.lemmas.List.{drop_more, length-append, take-append-drop}
 use Rattle.std.proofs.lemmas.List.Elements.{All-head, All-nil, All-cons, All-tail}
@@ -10,6 +10,7 @@ use Rattle.std.specs.Int.{w32, from_be_bytes}
 use Rattle.std.specs.Option.{option_map, option_and_then}
 use Rattle.std.specs.Result.{result_ok}
 use Rattle.hex.specs.Hex.{decode_of, decode_sized, is_hex_digit}
+use Rattle.memchr.specs.Find.{IsFirstByte, is_byte}
 use Rattle.hex.specs.declared.error.FromHexError.{FromHexError}
 use Rattle.hex.proofs.HexLemmas.{decode_of-ok, decode_sized-ok, decode_sized-twice}
 use Rattle.nc_output.proofs.Offered.{eqb_no}
@@ -242,3 +243,19 @@ pub placed_some : (text rest : List ℕ) (a : ℕ) → Some (a, words_in rest) �
 placed_some text rest a e =
     placed_first (words_in text) ∙ ap placed_after (sym e)
     ∙ ap (option_map (λ (found : List ℕ). (a, found))) (of_one-text bytes_in rest bytes_in-spaced)
+
+-- no bytes are read of a text with a space at some place
+bytes_in-space_at : (rest : List ℕ) (i : ℕ) → i < length rest → slice_index rest i ≡ 32 → bytes_in rest ≡ None
+bytes_in-space_at rest i below space =
+    let parts : rest ≡ take i rest ++ 32 ∷ drop (i + 1) rest =
+    sym (take-append-drop i rest)
+    ∙ ap (λ (t : List ℕ). take i rest ++ t) (drop_more rest i 0 below ∙ ap (λ (b : ℕ). b ∷ drop (i + 1) rest) space) in
+    ap bytes_in parts ∙ bytes_in-spaced (take i rest) (drop (i + 1) rest)
+
+-- an address first, and then more than one word
+pub placed_spaced : (text rest : List ℕ) (a : ℕ) (space : Option ℕ) → Some (a, words_in rest) ≡ first_address_in (words_in text)
+    → IsFirstByte (is_byte 32) rest space → is_some space ≡ true → placed_in (words_in text) ≡ None
+placed_spaced text rest a None e first found = cc
+placed_spaced text rest a (Some i) e first found =
+    placed_some text rest a e
+    ∙ ap (option_map (λ (bytes : List ℕ). (a, bytes))) (bytes_in-space_at rest i first.0.high (eqb-true _ 32 first.1))

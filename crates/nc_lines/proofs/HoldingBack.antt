@@ -1,9 +1,10 @@
 -- Answers that are held back, written with others or before them.
-use Rattle.std.proofs.Common.{◌≡◌, ◌++◌, ◌+◌, ℕ, List, [], Option, Result, Ok, Err, OnOk, OnErr, length, take, sym, ap, ◌∙◌, subst}
+use Rattle.std.proofs.Common.{◌≡◌, ◌++◌, ◌+◌, ℕ, List, [], Option, Result, Ok, Err, OnOk, OnErr, length, min, take, sym, ap, ◌∙◌, subst, arith}
 use Rattle.std.proofs.Common.{Bool, false, cond, append-nil}
 use Rattle.std.specs.Io.KnownBytes.{Appends}
 use Rattle.std.proofs.KnownBytes.{Appends-trans}
 use Rattle.std.proofs.Math.Seq.{take-append-add}
+use Rattle.std.proofs.lemmas.List.{take-append-le, take_min}
 use Rattle.nc_lines.specs.machinery.Progress.{HoldsRest, WritesFront}
 
 -- what was held back is written, and then the answer
@@ -24,6 +25,16 @@ writes_more (Err e) before mid after held answer h a = (
   length held + a.0,
   subst (Appends before after) (sym (take-append-add held answer a.0)) (Appends-trans before mid after held (take a.0 answer) h a.1),
 )
+
+-- a prefix of what was held back is one of that and the answer
+pub front_of_more : (before after : Option (List ℕ)) (held answer : List ℕ) → WritesFront before after held
+    → WritesFront before after (held ++ answer)
+front_of_more before after held answer h =
+    let count = min h.0 (length held) in (
+      count,
+      subst (Appends before after)
+          (sym (take-append-le count held answer (omega arith) ∙ take_min h.0 held)) h.1,
+    )
 
 -- where it was not held back, what was held back before still is
 pub held_still : (is_held : Bool) (new all old : List ℕ) → new ≡ cond is_held all old → is_held ≡ false → new ≡ old

@@ -1,11 +1,12 @@
 //! Bytes gathered into lines, each answered as soon as it ends. A line is kept up to the first byte beyond the limit.
 
 ghost use Rattle.std.specs.Prelude.{◌≡◌, ◌++◌, ◌<◌, ◌≤◌, [], ℕ, List, Option, OnOk, IfOk, length, take, slice_index};
+ghost use Rattle.std.specs.Vec.{vec_capacity};
 ghost use Rattle.nc_lines.specs.Lines.{kept_of};
 ghost use Rattle.nc_lines.specs.machinery.Progress.{AnswersKept, IsOpen, KeepsUp, FeedsPart, Feeds};
 
 use crate::fault::ReplayFault;
-use crate::replies::{Replies, end_early, hold, write_held};
+use crate::replies::Replies;
 use crate::responder::Responder;
 use memchr::memchr;
 use std::alloc::AllocError;
@@ -21,17 +22,19 @@ pub(crate) fn answer_line<S: Responder, W: Write>(
     replies: &mut Replies,
     kept: &[u8],
 ) -> Result<(), ReplayFault>
-    ensures { (part : List ℕ) → kept.now ≡ kept_of part →
+    ensures answers { (part : List ℕ) → kept.now ≡ kept_of part →
         AnswersKept S.answers responder.old responder.new (W.contents writer.old) (W.contents writer.new)
         replies.old.held.items replies.new.held.items part result }
+    ensures most { replies.new.held.most ≡ replies.old.held.most }
+    ensures room { OnOk result (vec_capacity replies.new.answer ≤ 65_536) }
 {
+    // It is empty already, which no clause of a caller's says.
     replies.clear_answer();
     match responder.answer(kept, &mut replies.answer) {
         Ok(()) => {}
-        Err(_) => return Err(end_early(writer, &mut replies.held)),
+        Err(_) => return Err(replies.held.end_early(writer)),
     }
-    let answer = replies.answer.as_slice();
-    match hold(writer, &mut replies.held, replies.most, answer) {
+    match replies.held.hold(writer, replies.answer.as_slice()) {
         Ok(()) => {}
         Err(_) => return Err(ReplayFault::WriteFailed),
     }
@@ -61,7 +64,7 @@ fn keep(line: &mut Vec<u8>, part: &[u8]) -> Result<(), AllocError>
     line.extend_from_slice(&part[..count])
 }
 
-/// Answers a line of which all but these last bytes have been read. If no others have, it is answered from where it stands.
+/// Answers a line of which all but these last bytes are in `line`. If no others are, it is answered from where it stands.
 fn answer_last<S: Responder, W: Write>(
     responder: &mut S,
     writer: &mut W,
@@ -73,6 +76,7 @@ fn answer_last<S: Responder, W: Write>(
         AnswersKept S.answers responder.old responder.new (W.contents writer.old) (W.contents writer.new)
         replies.old.held.items replies.new.held.items (part ++ last.now) result }
     ensures none { OnOk result (line.new.items ≡ []) }
+    ensures most { replies.new.held.most ≡ replies.old.held.most }
 {
     if line.is_empty() {
         let count = last.len().min(LINE_LIMIT + 1);
@@ -80,7 +84,7 @@ fn answer_last<S: Responder, W: Write>(
     }
     match keep(line, last) {
         Ok(()) => {}
-        Err(_) => return Err(end_early(writer, &mut replies.held)),
+        Err(_) => return Err(replies.held.end_early(writer)),
     }
     match answer_line(responder, writer, replies, line.as_slice()) {
         Ok(()) => {
@@ -106,12 +110,13 @@ fn feed_part<S: Responder, W: Write>(
         → KeepsUp S.answers start before bytes responder.old (W.contents writer.old) replies.old.held.items line.old.items
         → FeedsPart S.answers start before bytes rest.now responder.new (W.contents writer.new) replies.new.held.items line.new.items
         result }
+    ensures most { replies.new.held.most ≡ replies.old.held.most }
 {
     let end = first_end(rest);
     if end == rest.len() {
         return match keep(line, rest) {
             Ok(()) => Ok(end),
-            Err(_) => Err(end_early(writer, &mut replies.held)),
+            Err(_) => Err(replies.held.end_early(writer)),
         };
     }
     match answer_last(responder, writer, replies, line, &rest[..end]) {
@@ -128,10 +133,11 @@ fn feed_parts<S: Responder, W: Write>(
     line: &mut Vec<u8>,
     piece: &[u8],
 ) -> Result<(), ReplayFault>
-    ensures { (start : S) (before : Option (List ℕ)) (bytes : List ℕ)
+    ensures feeds { (start : S) (before : Option (List ℕ)) (bytes : List ℕ)
         → KeepsUp S.answers start before bytes responder.old (W.contents writer.old) replies.old.held.items line.old.items
         → Feeds S.answers start before (bytes ++ piece.now) responder.new (W.contents writer.new) replies.new.held.items line.new.items
         result }
+    ensures most { replies.new.held.most ≡ replies.old.held.most }
 {
     let mut rest = piece;
     while !rest.is_empty() {
@@ -156,12 +162,13 @@ pub(crate) fn feed<S: Responder, W: Write>(
         → Feeds S.answers start before (bytes ++ piece.now) responder.new (W.contents writer.new) replies.new.held.items line.new.items
         result }
     ensures written { OnOk result (replies.new.held.items ≡ []) }
+    ensures most { replies.new.held.most ≡ replies.old.held.most }
 {
     match feed_parts(responder, writer, replies, line, piece) {
         Ok(()) => {}
         Err(fault) => return Err(fault),
     }
-    match write_held(writer, &mut replies.held) {
+    match replies.held.write_all(writer) {
         Ok(()) => Ok(()),
         Err(_) => Err(ReplayFault::WriteFailed),
     }

@@ -8,7 +8,7 @@ ghost use Rattle.nc_lines.specs.machinery.Progress.{KeepsUp, Finishes};
 
 use crate::fault::ReplayFault;
 use crate::lines::{answer_line, feed};
-use crate::replies::{Replies, write_held};
+use crate::replies::Replies;
 use crate::responder::Responder;
 use std::alloc::Global;
 use std::io::{Read, Write};
@@ -21,9 +21,10 @@ fn answer_rest<S: Responder, W: Write>(
     line: &[u8],
 ) -> Result<(), ReplayFault>
     requires { replies.old.held.items ≡ [] }
-    ensures { (start : S) (before : Option (List ℕ)) (bytes : List ℕ)
+    ensures finishes { (start : S) (before : Option (List ℕ)) (bytes : List ℕ)
         → KeepsUp S.answers start before bytes responder.old (W.contents writer.old) replies.old.held.items line.now
         → Finishes S.answers start before bytes responder.new (W.contents writer.new) result }
+    ensures most { replies.new.held.most ≡ replies.old.held.most }
 {
     if line.is_empty() {
         return Ok(());
@@ -32,7 +33,7 @@ fn answer_rest<S: Responder, W: Write>(
         Ok(()) => {}
         Err(fault) => return Err(fault),
     }
-    match write_held(writer, &mut replies.held) {
+    match replies.held.write_all(writer) {
         Ok(()) => Ok(()),
         Err(_) => Err(ReplayFault::WriteFailed),
     }
@@ -46,9 +47,10 @@ fn finish<S: Responder, W: Write>(
     line: &[u8],
 ) -> Result<(), ReplayFault>
     requires { replies.old.held.items ≡ [] }
-    ensures { (start : S) (before : Option (List ℕ)) (bytes : List ℕ)
+    ensures finishes { (start : S) (before : Option (List ℕ)) (bytes : List ℕ)
         → KeepsUp S.answers start before bytes responder.old (W.contents writer.old) replies.old.held.items line.now
         → Finishes S.answers start before bytes responder.new (W.contents writer.new) result }
+    ensures most { replies.new.held.most ≡ replies.old.held.most }
 {
     match answer_rest(responder, writer, replies, line) {
         Ok(()) => {}

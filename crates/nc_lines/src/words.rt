@@ -7,6 +7,7 @@ ghost use Rattle.nc_lines.specs.Words.{address_in, bytes_in, chunk_in, placed_in
 
 use crate::digits::decode;
 use crate::lines::LINE_LIMIT;
+use memchr::memchr;
 use std::alloc::{AllocError, Global};
 
 /// The words of a line, separated by single spaces; two adjacent spaces have an empty word between them.
@@ -91,16 +92,19 @@ pub fn placed_of(alloc: Global, words: &[&[u8]]) -> Result<Option<(u32, Vec<u8>)
     }
 }
 
-/// The address and the bytes that the two words of a text denote.
+/// The address and the bytes that the two words of a text denote. Memory is asked for only where there are two words.
 pub fn placed_at(alloc: Global, text: &[u8]) -> Result<Option<(u32, Vec<u8>)>, AllocError>
     ensures { IfOk result (λ found. option_map address_and_bytes found ≡ placed_in (words_in text.now)) }
 {
-    match first_address_of(text) {
-        Some((at, Some(rest))) => match bytes_of(alloc, rest)? {
-            Some(code) => Ok(Some((at, code))),
-            None => Ok(None),
-        },
-        _ => Ok(None),
+    let Some((at, Some(rest))) = first_address_of(text) else {
+        return Ok(None);
+    };
+    if memchr(b' ', rest).is_some() {
+        return Ok(None);
+    }
+    match bytes_of(alloc, rest)? {
+        Some(code) => Ok(Some((at, code))),
+        None => Ok(None),
     }
 }
 

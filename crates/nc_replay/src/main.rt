@@ -2,15 +2,18 @@
 //!
 //! It has two subcommands. `replay` runs a script: it creates, patches, deletes and reclaims chunks in a code region, walks
 //! through them and shows them. `vet` only vets chunks, several at a time. `ask` of `nc_command` parses the command line, and
-//! `start` carries it out over any reader and writer, by the calls of `nc_script` and `nc_lines`.
+//! `start` carries it out over any reader and writer, by the calls of `nc_script` and `nc_lines`. `gathering` says whether replies may be
+//! written together.
 #![tactic(auto)]
 
 ghost use Rattle.std.specs.Prelude.{◌≡◌, ◌⊎◌};
 ghost use Rattle.nc_replay.specs.Status.{status_of};
 
+mod gathering;
 pub mod program;
 
 use clap::error::ErrorKind as ClapKind;
+use gathering::most_held;
 use nc_command::{arguments, replay_words};
 use nc_lines::ReplayFault;
 use nc_output::Piped;
@@ -21,10 +24,11 @@ use std::rt::Env;
 use std::sync::Wait;
 use std::thread::Threads;
 
-/// Carries out the command line, and writes to this writer.
+/// Carries out the command line, and writes to this writer, of a script at most `most` bytes of replies together.
 fn run_words<R: Threads + Wait + Sync + Env + AllocGlobal + Input, W: Write>(
     rt: &R,
     writer: &mut W,
+    most: usize,
 ) -> Result<(), Halt> {
     let words = match replay_words(rt) {
         Ok(words) => words,
@@ -37,6 +41,7 @@ fn run_words<R: Threads + Wait + Sync + Env + AllocGlobal + Input, W: Write>(
             arguments.as_slice(),
             &mut rt.reader(),
             writer,
+            most,
         ),
         Err(_) => Err(Halt::Fault(ReplayFault::OutOfMemory)),
     }
@@ -78,7 +83,7 @@ fn stop<R: Print + Eprint>(rt: &R, halt: &Halt, is_closed: bool) -> u8
 
 fn main(rt: HostRuntime) -> ExitCode {
     let mut writer = Piped::new(io::writer(&rt));
-    match run_words(&rt, &mut writer) {
+    match run_words(&rt, &mut writer, most_held(&rt)) {
         Ok(()) => ExitCode::SUCCESS,
         Err(halt) => ExitCode::from(stop(&rt, &halt, writer.is_closed())),
     }

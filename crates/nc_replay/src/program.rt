@@ -7,7 +7,7 @@ ghost use Rattle.nc_replay.specs.Status.{status_of};
 use clap::error::ErrorKind;
 use nc_command::{Ask, ask};
 use nc_lines::{ReplayFault, vet_lines};
-use nc_script::run;
+use nc_script::run_gathered;
 use nc_work::Open;
 use std::alloc::Global;
 use std::io::{Read, Write};
@@ -39,14 +39,15 @@ impl Halt {
     }
 }
 
-/// Carries out the words of a command line, given without the program's own name: runs a script, or vets lines of chunks by
-/// workers.
+/// Carries out the words of a command line, given without the program's own name: runs a script, of which at most `most` bytes of
+/// replies are held back and written together, or vets lines of chunks by workers.
 pub fn start<'a, T: Threads + Wait + Sync, R: Read, W: Write>(
     rt: &T,
     alloc: Global,
     words: &'a [&'a str],
     reader: &mut R,
     writer: &mut W,
+    most: usize,
 ) -> Result<(), Halt>
     // A fault of the command line: nothing was read or written.
     ensures words { IfWords result ((reader.new ≡ reader.old) × (writer.new ≡ writer.old)) }
@@ -60,7 +61,7 @@ pub fn start<'a, T: Threads + Wait + Sync, R: Read, W: Write>(
 {
     match ask(alloc, words) {
         Ok(Ask::Replay { bundles, seats }) => {
-            match run(alloc, reader, writer, bundles, seats) {
+            match run_gathered(alloc, reader, writer, bundles, seats, most) {
                 Ok(()) => Ok(()),
                 Err(fault) => Err(Halt::Fault(fault)),
             }

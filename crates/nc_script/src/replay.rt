@@ -17,11 +17,8 @@ use nc_lines::{ReplayFault, answer_gathered};
 use std::alloc::Global;
 use std::io::{Read, Write};
 
-/// The most bytes of answers that are held back until more is read.
-const MOST_HELD: usize = 65_536;
-
 /// Runs a script on a new region of `bundles` bundles, for threads with `seats` seats: reads its lines, and writes the answer
-/// to each. Before more is read, the answers to all lines whose line end has been read are written.
+/// to each as soon as its line end has been read. Each answer is a write of its own, unless the writer takes only a part.
 ///
 /// A line ends at a byte 0A or at the end of the input. `create` with an address and bytes vets a chunk and creates it,
 /// `modify` with an address and bytes replaces instructions of a chunk, `delete` with an address retires a chunk, `checkin`
@@ -62,13 +59,55 @@ pub fn run<R: Read, W: Write>(
         → ((reader.new ≡ reader.old) × (writer.new ≡ writer.old)) ⊎ IfSome (R.remaining reader.old) (λ input.
         IsCutShort AnswersOnly (new_script bundles seats) (W.contents writer.old) (W.contents writer.new) (lines_of input)) }
 {
+    run_gathered(alloc, reader, writer, bundles, seats, 0)
+}
+
+/// Runs a script as [`run`], but holds back at most `most` bytes of answers, and writes them together: before more is read, and as
+/// the call returns. It is for writers that take all of a write, or as much of it as they have room for.
+///
+/// A pipe that doesn't block takes a write of at most 4,096 bytes whole or not at all. With such a writer less may have gone out at
+/// a failed write than by [`run`].
+pub fn run_gathered<R: Read, W: Write>(
+    alloc: Global,
+    reader: &mut R,
+    writer: &mut W,
+    bundles: u32,
+    seats: u32,
+    most: usize,
+) -> Result<(), ReplayFault>
+    // The two numbers are checked first, in this order, before anything is read or written.
+    ensures bad_size { IsErrOf result ReplayFault.BadSize ↔ ¬ IsRegionSize bundles }
+    ensures bad_seats { IsErrOf result ReplayFault.BadSeats ↔ (IsRegionSize bundles × ¬ AreSeats seats) }
+    ensures no_workers { IfErr result (λ fault. fault ≢ ReplayFault.BadWorkers) }
+    ensures untouched { ¬ (IsRegionSize bundles × AreSeats seats) → (reader.new ≡ reader.old) × (writer.new ≡ writer.old) }
+
+    // The whole input was read, and exactly the answers to its lines were written.
+    ensures ok { OnOk result (IfSome (R.remaining reader.old) (λ input.
+        HasAnswered bundles seats (W.contents writer.old) (W.contents writer.new) (lines_of input))) }
+    ensures read { OnOk result (IsAtEnd (R.remaining reader.new)) }
+
+    // A prefix of the answers was written.
+    ensures write_failed { IsErrOf result ReplayFault.WriteFailed → IfSome (R.remaining reader.old) (λ input.
+        IsBegun AnswersOnly (new_script bundles seats) (W.contents writer.old) (W.contents writer.new) (lines_of input)) }
+
+    // Exactly the answers to the lines whose line end was read were written.
+    ensures read_failed { IsErrOf result ReplayFault.ReadFailed → (front : List ℕ)
+        × Consumes (R.remaining reader.old) (R.remaining reader.new) front
+        × HasAnswered bundles seats (W.contents writer.old) (W.contents writer.new) (ended_lines front) }
+
+    // Exactly the answers to the lines before the one that failed were written, or there was no memory for the region, and
+    // nothing was read or written.
+    ensures out_of_memory { IsErrOf result ReplayFault.OutOfMemory
+        → ((reader.new ≡ reader.old) × (writer.new ≡ writer.old)) ⊎ IfSome (R.remaining reader.old) (λ input.
+        IsCutShort AnswersOnly (new_script bundles seats) (W.contents writer.old) (W.contents writer.new) (lines_of input)) }
+{
     if !is_region_size(bundles) {
         return Err(ReplayFault::BadSize);
     }
     if seats == 0 || seats as usize > MOST_SEATS {
         return Err(ReplayFault::BadSeats);
     }
-    run_new(alloc, reader, writer, bundles, seats)
+    run_new(alloc, reader, writer, bundles, seats, most)
 }
 
 /// Runs a script on a new region with valid numbers of bundles and of seats.
@@ -78,6 +117,7 @@ fn run_new<R: Read, W: Write>(
     writer: &mut W,
     bundles: u32,
     seats: u32,
+    most: usize,
 ) -> Result<(), ReplayFault>
     requires size { IsRegionSize bundles }
     requires seats { AreSeats seats }
@@ -99,7 +139,7 @@ fn run_new<R: Read, W: Write>(
         return Err(ReplayFault::OutOfMemory);
     };
     match Session::new(alloc, bundles, &gens, keeper, passes) {
-        Ok(mut session) => answer_gathered(alloc, &mut session, reader, writer, MOST_HELD),
+        Ok(mut session) => answer_gathered(alloc, &mut session, reader, writer, most),
         Err(_) => Err(ReplayFault::OutOfMemory),
     }
 }

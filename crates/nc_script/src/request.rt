@@ -1,6 +1,6 @@
 //! The request that a line makes.
 
-ghost use Rattle.std.specs.Prelude.{◌≡◌, IfOk, ◌∷◌};
+ghost use Rattle.std.specs.Prelude.{◌≡◌, ◌≤◌, IfOk, ◌∷◌};
 ghost use Rattle.std.specs.Option.{option_copied, option_map};
 ghost use Rattle.nc_lines.specs.Words.{words_after};
 ghost use Rattle.nc_script.specs.Requests.{request_in, create_in, modify_in, delete_in, of_seat_in, walk_in};
@@ -124,7 +124,9 @@ fn ask_of(word: &[u8], rest: Option<&[u8]>) -> Option<Request>
 const FIRST_ROOM: usize = 64;
 
 /// The number of addresses for which room is made: as many as the text may hold, each with a space after it, or the most.
-fn first_room(rest: Option<&[u8]>) -> usize {
+fn first_room(rest: Option<&[u8]>) -> usize
+    ensures { result ≤ 64 }
+{
     match rest {
         Some(text) => (text.len() / 9 + 1).min(FIRST_ROOM),
         None => 0,

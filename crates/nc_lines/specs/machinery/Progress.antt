@@ -7,6 +7,11 @@ use Rattle.nc_lines.specs.declared.fault.ReplayFault.TheVariants.{ReadFailed, Wr
 use Rattle.nc_lines.specs.Lines.{kept_of, lines_of}
 use Rattle.nc_lines.specs.Answering.{AnswersLines, IsAnswered, IsBegun, IsCutShort}
 
+-- the answers that are held back, and how many bytes they may have at most
+pub record HeldBytes : Type 0 where
+  pub items : List ℕ
+  pub most : ℕ
+
 -- no byte is a line end, 0A
 abbrev pub IsOpen : List ℕ → Type 0
 IsOpen [] = ⊤

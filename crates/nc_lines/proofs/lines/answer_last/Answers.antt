@@ -12,18 +12,18 @@ returns-then-is_empty-clause-answers g c = λ part e.
     let none : length line ≡ 0 = search rules in
     let empty : line ≡ [] = drop_all 0 line (omega arith) in
     let room : count ≡ min (1048577 - length line) (length last) = omega (arith, c.min-count.ensures) in
-    c.answer_line.ensures (part ++ last)
+    c.answer_line.ensures.answers (part ++ last)
     (ap (λ (xs : List ℕ). xs ++ take count last) (sym empty) ∙ kept_append 1048577 line part last count e room)
 
 pub returns-in-Err-clause-answers : goal.returns-in-Err-clause-answers
 returns-in-Err-clause-answers g c = λ part e.
-    early_kept (Unit {0}) g.S.Responder.answers c.args.responder.now c.args.responder.now _ _ c.args.replies.now.held.items c.end_early.new.held.items (part ++ c.args.last.now)
-    c.end_early.result c.end_early.ensures
+    early_kept (Unit {0}) g.S.Responder.answers c.args.responder.now c.args.responder.now _ _ c.args.replies.now.held.items c.end_early.new.self.items (part ++ c.args.last.now)
+    c.end_early.result c.end_early.ensures.ends
 
 pub returns-in-Ok-answer_line-clause-answers : goal.returns-in-Ok-answer_line-clause-answers
 returns-in-Ok-answer_line-clause-answers g c = λ part e.
-    c.in-Ok-answer_line.ensures (part ++ c.args.last.now) (c.as_slice.ensures.value ∙ c.in-Ok.ensures part e)
+    c.in-Ok-answer_line.ensures.answers (part ++ c.args.last.now) (c.as_slice.ensures.value ∙ c.in-Ok.ensures part e)
 
 pub returns-in-Err-answer_line-clause-answers : goal.returns-in-Err-answer_line-clause-answers
 returns-in-Err-answer_line-clause-answers g c = λ part e.
-    c.in-Err-answer_line.ensures (part ++ c.args.last.now) (c.as_slice.ensures.value ∙ c.in-Ok.ensures part e)
+    c.in-Err-answer_line.ensures.answers (part ++ c.args.last.now) (c.as_slice.ensures.value ∙ c.in-Ok.ensures part e)

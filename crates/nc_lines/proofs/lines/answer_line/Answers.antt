@@ -1,30 +1,29 @@
 use Rattle.std.proofs.Common.{◌≡◌, ◌++◌, ℕ, List, ap, sym, ◌∙◌, subst, inr}
-use Rattle.std.specs.Global.{Vec}
-use Rattle.nc_lines.specs.machinery.Progress.{HoldsRest, WritesFront}
+use Rattle.nc_lines.specs.machinery.Progress.{HeldBytes, HoldsRest, WritesFront}
 use Rattle.nc_lines.proofs.lines.answer_line.Goals as goal
 
-pub returns : goal.returns
-returns g c = λ part e.
+pub returns-clause-answers : goal.returns-clause-answers
+returns-clause-answers g c = λ part e.
     let h = c.in-Ok.ensures part e in
-    let given : c.as_slice-answer.result.now ≡ h.0 =
-    c.as_slice-answer.ensures.value ∙ h.1 ∙ ap (λ (l : List ℕ). l ++ h.0) c.clear_answer.ensures.answer in
-    let all : c.clear_answer.new.self.held.items ++ c.as_slice-answer.result.now ≡ c.args.replies.now.held.items ++ h.0 =
+    let given : c.as_slice.result.now ≡ h.0 =
+    c.as_slice.ensures.value ∙ h.1 ∙ ap (λ (l : List ℕ). l ++ h.0) c.clear_answer.ensures.answer in
+    let all : c.clear_answer.new.self.held.items ++ c.as_slice.result.now ≡ c.args.replies.now.held.items ++ h.0 =
     ap (λ (l : List ℕ). c.clear_answer.new.self.held.items ++ l) given
-    ∙ ap (λ (v : Vec ℕ). v.items ++ h.0) c.clear_answer.ensures.held in (
+    ∙ ap (λ (v : HeldBytes). v.items ++ h.0) c.clear_answer.ensures.held in (
       h.0,
       h.2,
-      subst (λ (v : Vec ℕ). HoldsRest (g.W.Write.contents c.args.writer.now) (g.W.Write.contents c.hold.new.writer)
+      subst (λ (v : HeldBytes). HoldsRest (g.W.Write.contents c.args.writer.now) (g.W.Write.contents c.hold.new.writer)
           (c.args.replies.now.held.items ++ h.0) v.items) (sym c.clear_answer-2.ensures.held)
           (subst (λ (xs : List ℕ). HoldsRest (g.W.Write.contents c.args.writer.now) (g.W.Write.contents c.hold.new.writer) xs
-          c.hold.new.held.items) all c.in-Ok-hold.ensures.ok),
+          c.hold.new.self.items) all c.in-Ok-hold.ensures.ok),
     )
 
-pub returns-in-Err-hold : goal.returns-in-Err-hold
-returns-in-Err-hold g c = λ part e.
+pub returns-in-Err-hold-clause-answers : goal.returns-in-Err-hold-clause-answers
+returns-in-Err-hold-clause-answers g c = λ part e.
     let h = c.in-Ok.ensures part e in
-    let given : c.as_slice-answer.result.now ≡ h.0 =
-    c.as_slice-answer.ensures.value ∙ h.1 ∙ ap (λ (l : List ℕ). l ++ h.0) c.clear_answer.ensures.answer in
-    let all : c.clear_answer.new.self.held.items ++ c.as_slice-answer.result.now ≡ c.args.replies.now.held.items ++ h.0 =
+    let given : c.as_slice.result.now ≡ h.0 =
+    c.as_slice.ensures.value ∙ h.1 ∙ ap (λ (l : List ℕ). l ++ h.0) c.clear_answer.ensures.answer in
+    let all : c.clear_answer.new.self.held.items ++ c.as_slice.result.now ≡ c.args.replies.now.held.items ++ h.0 =
     ap (λ (l : List ℕ). c.clear_answer.new.self.held.items ++ l) given
-    ∙ ap (λ (v : Vec ℕ). v.items ++ h.0) c.clear_answer.ensures.held in
+    ∙ ap (λ (v : HeldBytes). v.items ++ h.0) c.clear_answer.ensures.held in
     inr (h.0, c.answer.new.self, h.2, subst (WritesFront (g.W.Write.contents c.args.writer.now) (g.W.Write.contents c.hold.new.writer)) all c.in-Err-hold.ensures.front)

@@ -32,7 +32,7 @@ pub returns-in-Err-clause-feeds : goal.returns-in-Err-clause-feeds
 returns-in-Err-clause-feeds g c = λ start before bytes s.
     early_failed (Unit {0}) g.S.Responder.answers start before bytes c.args.responder.now (g.W.Write.contents c.args.writer.now)
     c.args.replies.now.held.items c.args.line.now.items c.args.rest.now c.args.responder.now (g.W.Write.contents c.end_early.new.writer)
-    c.end_early.new.held.items c.keep.new.line.items s c.requires c.end_early.result c.end_early.ensures
+    c.end_early.new.self.items c.keep.new.line.items s c.requires c.end_early.result c.end_early.ensures.ends
 
 pub returns-in-Ok-answer_last-clause-feeds : goal.returns-in-Ok-answer_last-clause-feeds
 returns-in-Ok-answer_last-clause-feeds g c = λ start before bytes s.

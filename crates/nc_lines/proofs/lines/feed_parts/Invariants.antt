@@ -5,7 +5,7 @@ use Rattle.nc_lines.proofs.lines.feed_parts.Given as goal
 
 abbrev pub invariant-loop-rest : goal.invariant-loop-rest
 invariant-loop-rest g l =
-    (done : List ℕ) × (l.fn.piece ≡ done ++ l.rest)
+    (done : List ℕ) × (l.fn.piece ≡ done ++ l.rest) × (l.replies.held.most ≡ l.initial.replies.held.most)
     × ((start : g.row.S.Denot) (before : Option (List ℕ)) (bytes : List ℕ)
     → KeepsUp g.S.Responder.answers start before bytes l.initial.responder (g.W.Write.contents l.initial.writer)
     l.initial.replies.held.items l.initial.line.items

@@ -11,7 +11,7 @@ use Rattle.nc_lines.proofs.stream.answer_gathered.Goals as goal
 
 pub returns-in-Err-clause-read_failed : goal.returns-in-Err-clause-read_failed
 returns-in-Err-clause-read_failed g c = λ _.
-    let (front, consumed, stands, none, _) = c.loop.invariant in (
+    let (front, consumed, stands, none, most, _) = c.loop.invariant in (
       front,
       Consumes-kept _ _ _ front consumed c.in-Err.ensures.bytes,
       stands_ended g.S.Responder.answers _ _ front _ _ c.loop.replies.held.items c.loop.line.items none stands,
@@ -23,6 +23,7 @@ loop-init g c = (
   Consumes-nil _,
   stands_start g.S.Responder.answers _ _ _ _ (search rules) (search rules),
   search rules,
+  c.new-replies.ensures.most,
   search rules,
 )
 
@@ -31,13 +32,14 @@ loop-preserved g c =
     let answers = g.S.Responder.answers in
     let m = c.args.responder.now in
     let before = g.W.Write.contents c.args.writer.now in
-    let (front, consumed, stands, none, long) = c.loop.invariant in
+    let (front, consumed, stands, none, most, long) = c.loop.invariant in
     let n = c.in-Ok.count in
     let buf = c.read.new.buf in (
       front ++ take n buf,
       Consumes-trans _ _ _ front (take n buf) consumed c.in-Ok.ensures.bytes.0,
       c.in-Ok-feed.ensures.feeds m before front stands,
       c.in-Ok-feed.ensures.written,
+      c.in-Ok-feed.ensures.most ∙ most,
       omega arith,
     )
 
@@ -46,7 +48,7 @@ returns-in-Err-feed-clause-write_failed g c = λ e.
     let answers = g.S.Responder.answers in
     let m = c.args.responder.now in
     let before = g.W.Write.contents c.args.writer.now in
-    let (front, consumed, stands, none, long) = c.loop.invariant in
+    let (front, consumed, stands, none, most, long) = c.loop.invariant in
     let n = c.in-Ok.count in
     let buf = c.read.new.buf in
     let is : c.in-Err-feed.fault ≡ WriteFailed = cc in
@@ -62,7 +64,7 @@ returns-in-Err-feed-clause-out_of_memory g c = λ e.
     let answers = g.S.Responder.answers in
     let m = c.args.responder.now in
     let before = g.W.Write.contents c.args.writer.now in
-    let (front, consumed, stands, none, long) = c.loop.invariant in
+    let (front, consumed, stands, none, most, long) = c.loop.invariant in
     let n = c.in-Ok.count in
     let buf = c.read.new.buf in
     let is : c.in-Err-feed.fault ≡ OutOfMemory = cc in
@@ -78,7 +80,7 @@ returns-in-Err-feed-clause-read_failed g c = λ e.
     let answers = g.S.Responder.answers in
     let m = c.args.responder.now in
     let before = g.W.Write.contents c.args.writer.now in
-    let (front, consumed, stands, none, long) = c.loop.invariant in
+    let (front, consumed, stands, none, most, long) = c.loop.invariant in
     let n = c.in-Ok.count in
     let buf = c.read.new.buf in
     let is : c.in-Err-feed.fault ≡ ReadFailed = cc in
@@ -93,7 +95,7 @@ returns-then-count-eq0-clause-ok g c =
     let answers = g.S.Responder.answers in
     let m = c.args.responder.now in
     let before = g.W.Write.contents c.args.writer.now in
-    let (front, consumed, stands, none, long) = c.loop.invariant in
+    let (front, consumed, stands, none, most, long) = c.loop.invariant in
     let stands_here = subst (λ (kept : List ℕ). KeepsUp answers m before front c.loop.responder (g.W.Write.contents c.loop.writer)
     c.loop.replies.held.items kept) (sym c.as_slice.ensures.value) stands in
     let n = c.in-Ok.count in
@@ -102,14 +104,14 @@ returns-then-count-eq0-clause-ok g c =
     (subst (Consumes _ _) (ap (λ (k : ℕ). front ++ take k buf) c.if-count-eq0.true ∙ append-nil front)
     (Consumes-trans _ _ _ front (take n buf) consumed c.in-Ok.ensures.bytes.0))
     (c.in-Ok.ensures.bytes.1 c.if-count-eq0.true (omega arith))
-    c.finish.new.responder (g.W.Write.contents c.finish.new.writer) c.finish.result (c.finish.ensures m before front stands_here)
+    c.finish.new.responder (g.W.Write.contents c.finish.new.writer) c.finish.result (c.finish.ensures.finishes m before front stands_here)
 
 pub returns-then-count-eq0-clause-write_failed : goal.returns-then-count-eq0-clause-write_failed
 returns-then-count-eq0-clause-write_failed g c = λ e.
     let answers = g.S.Responder.answers in
     let m = c.args.responder.now in
     let before = g.W.Write.contents c.args.writer.now in
-    let (front, consumed, stands, none, long) = c.loop.invariant in
+    let (front, consumed, stands, none, most, long) = c.loop.invariant in
     let stands_here = subst (λ (kept : List ℕ). KeepsUp answers m before front c.loop.responder (g.W.Write.contents c.loop.writer)
     c.loop.replies.held.items kept) (sym c.as_slice.ensures.value) stands in
     let n = c.in-Ok.count in
@@ -118,14 +120,14 @@ returns-then-count-eq0-clause-write_failed g c = λ e.
     (subst (Consumes _ _) (ap (λ (k : ℕ). front ++ take k buf) c.if-count-eq0.true ∙ append-nil front)
     (Consumes-trans _ _ _ front (take n buf) consumed c.in-Ok.ensures.bytes.0))
     (c.in-Ok.ensures.bytes.1 c.if-count-eq0.true (omega arith))
-    c.finish.new.responder (g.W.Write.contents c.finish.new.writer) c.finish.result (c.finish.ensures m before front stands_here) e
+    c.finish.new.responder (g.W.Write.contents c.finish.new.writer) c.finish.result (c.finish.ensures.finishes m before front stands_here) e
 
 pub returns-then-count-eq0-clause-out_of_memory : goal.returns-then-count-eq0-clause-out_of_memory
 returns-then-count-eq0-clause-out_of_memory g c = λ e.
     let answers = g.S.Responder.answers in
     let m = c.args.responder.now in
     let before = g.W.Write.contents c.args.writer.now in
-    let (front, consumed, stands, none, long) = c.loop.invariant in
+    let (front, consumed, stands, none, most, long) = c.loop.invariant in
     let stands_here = subst (λ (kept : List ℕ). KeepsUp answers m before front c.loop.responder (g.W.Write.contents c.loop.writer)
     c.loop.replies.held.items kept) (sym c.as_slice.ensures.value) stands in
     let n = c.in-Ok.count in
@@ -134,14 +136,14 @@ returns-then-count-eq0-clause-out_of_memory g c = λ e.
     (subst (Consumes _ _) (ap (λ (k : ℕ). front ++ take k buf) c.if-count-eq0.true ∙ append-nil front)
     (Consumes-trans _ _ _ front (take n buf) consumed c.in-Ok.ensures.bytes.0))
     (c.in-Ok.ensures.bytes.1 c.if-count-eq0.true (omega arith))
-    c.finish.new.responder (g.W.Write.contents c.finish.new.writer) c.finish.result (c.finish.ensures m before front stands_here) e
+    c.finish.new.responder (g.W.Write.contents c.finish.new.writer) c.finish.result (c.finish.ensures.finishes m before front stands_here) e
 
 pub returns-then-count-eq0-clause-read_failed : goal.returns-then-count-eq0-clause-read_failed
 returns-then-count-eq0-clause-read_failed g c = λ e.
     let answers = g.S.Responder.answers in
     let m = c.args.responder.now in
     let before = g.W.Write.contents c.args.writer.now in
-    let (front, consumed, stands, none, long) = c.loop.invariant in
+    let (front, consumed, stands, none, most, long) = c.loop.invariant in
     let stands_here = subst (λ (kept : List ℕ). KeepsUp answers m before front c.loop.responder (g.W.Write.contents c.loop.writer)
     c.loop.replies.held.items kept) (sym c.as_slice.ensures.value) stands in
     let n = c.in-Ok.count in
@@ -150,18 +152,18 @@ returns-then-count-eq0-clause-read_failed g c = λ e.
     (subst (Consumes _ _) (ap (λ (k : ℕ). front ++ take k buf) c.if-count-eq0.true ∙ append-nil front)
     (Consumes-trans _ _ _ front (take n buf) consumed c.in-Ok.ensures.bytes.0))
     (c.in-Ok.ensures.bytes.1 c.if-count-eq0.true (omega arith))
-    c.finish.new.responder (g.W.Write.contents c.finish.new.writer) c.finish.result (c.finish.ensures m before front stands_here) e)
+    c.finish.new.responder (g.W.Write.contents c.finish.new.writer) c.finish.result (c.finish.ensures.finishes m before front stands_here) e)
 
 pub returns-clause-read_failed : goal.returns-clause-read_failed
 returns-clause-read_failed g c = λ _.
-    let (front, consumed, stands, none, _) = c.loop.invariant in
+    let (front, consumed, stands, none, most, _) = c.loop.invariant in
     (front, consumed, stands_ended g.S.Responder.answers _ _ front _ _ c.loop.replies.held.items c.loop.line.items none stands)
 
 pub returns-in-Err-feed-clause-faults : goal.returns-in-Err-feed-clause-faults
 returns-in-Err-feed-clause-faults g c =
     let m = c.args.responder.now in
     let before = g.W.Write.contents c.args.writer.now in
-    let (front, consumed, stands, none, long) = c.loop.invariant in
+    let (front, consumed, stands, none, most, long) = c.loop.invariant in
     fed_no_size (Unit {0}) g.S.Responder.answers m before (front ++ take c.in-Ok.count c.read.new.buf) c.feed.new.responder
     (g.W.Write.contents c.feed.new.writer) c.feed.new.replies.held.items c.feed.new.line.items c.in-Err-feed.fault
     (c.in-Err-feed.ensures.feeds m before front stands)
@@ -170,8 +172,8 @@ pub returns-then-count-eq0-clause-faults : goal.returns-then-count-eq0-clause-fa
 returns-then-count-eq0-clause-faults g c =
     let m = c.args.responder.now in
     let before = g.W.Write.contents c.args.writer.now in
-    let (front, consumed, stands, none, long) = c.loop.invariant in
+    let (front, consumed, stands, none, most, long) = c.loop.invariant in
     let stands_here = subst (λ (kept : List ℕ). KeepsUp g.S.Responder.answers m before front c.loop.responder (g.W.Write.contents c.loop.writer)
     c.loop.replies.held.items kept) (sym c.as_slice.ensures.value) stands in
     finished_no_size (Unit {0}) g.S.Responder.answers m before front c.finish.new.responder
-    (g.W.Write.contents c.finish.new.writer) c.finish.result (c.finish.ensures m before front stands_here)
+    (g.W.Write.contents c.finish.new.writer) c.finish.result (c.finish.ensures.finishes m before front stands_here)

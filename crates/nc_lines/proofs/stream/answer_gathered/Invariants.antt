@@ -9,4 +9,4 @@ invariant-loop g l =
     (front : List ℕ) × Consumes (g.R.Read.remaining l.initial.reader) (g.R.Read.remaining l.reader) front
     × KeepsUp g.S.Responder.answers l.initial.responder (g.W.Write.contents l.initial.writer) front l.responder
     (g.W.Write.contents l.writer) l.replies.held.items l.line.items
-    × (l.replies.held.items ≡ []) × (length l.piece ≡ 4096)
+    × (l.replies.held.items ≡ []) × (l.replies.held.most ≡ l.fn.most) × (length l.piece ≡ 4096)

@@ -3,7 +3,7 @@ use Rattle.std.specs.Prelude.{◌↔◌, IsErrOf, IsTrue, false, Err}
 use Rattle.nc_decode.specs.Bundles.{IsRegionSize}
 use Rattle.nc_lines.specs.declared.fault.ReplayFault.{ReplayFault}
 use Rattle.nc_lines.specs.declared.fault.ReplayFault.TheVariants.{BadSize}
-use Rattle.nc_script.proofs.replay.run.Goals as goal
+use Rattle.nc_script.proofs.replay.run_gathered.Goals as goal
 
 -- the refusal of a size is due
 refuses_size : (bundles : ℕ) → (IsTrue false ↔ IsRegionSize bundles)
