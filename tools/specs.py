@@ -1,4 +1,4 @@
-"""What the definitions of specs/ say: their lines, their comments, what each of them cites, and what a law rests on."""
+"""What the definitions of specs/ say: their lines, their comments, what each of them cites, and what a contract rests on."""
 
 import pathlib
 import re
@@ -130,12 +130,12 @@ class Files:
 
 
 class Definitions(Files):
-    """Whatever a law's contract rests on, or a definition, each with what was found to cite it."""
+    """Whatever the contracts of laws or calls rest on, or definitions, each with what was found to cite it."""
 
-    def __init__(self, root):
+    def __init__(self, *roots):
         super().__init__()
-        self.found, self.root = {}, root
-        todo = [(key, root) for key in self.law(root) or self.definition(root)]
+        self.found, self.roots = {}, roots
+        todo = [(key, root) for root in roots for key in self.law(root) or self.definition(root)]
         while todo:
             key, by = todo.pop(0)
             crate, path, name = key = self.resolved(STANDS_FOR.get(key, key))
