@@ -132,7 +132,7 @@ class Files:
 class Definitions(Files):
     """Whatever the contracts of laws or calls rest on, or definitions, each with what was found to cite it."""
 
-    def __init__(self, *roots):
+    def __init__(self, *roots, met_by=MET_BY):
         super().__init__()
         self.found, self.roots = {}, roots
         todo = [(key, root) for root in roots for key in self.law(root) or self.definition(root)]
@@ -142,7 +142,7 @@ class Definitions(Files):
             if key not in self.found:
                 self.found[key] = by
                 file = self.file(crate, path)
-                cited = self.clauses(*MET_BY[key]) if key in MET_BY else file.names(file.parts[name], {name})
+                cited = self.clauses(*met_by[key]) if key in met_by else file.names(file.parts[name], {name})
                 todo += [(other, name) for other in cited]
 
     def clauses(self, crate, path, names):
