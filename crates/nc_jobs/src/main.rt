@@ -9,6 +9,7 @@
 //! | `load` | `modules` |
 //! | `judge`, `faults` | `files` |
 //! | `lines`, `replay` | `texts` |
+//! | `refusals` | `refusals` |
 #![tactic(auto)]
 
 mod digest;
@@ -18,6 +19,7 @@ mod modules;
 mod pieces;
 mod plan;
 mod random;
+mod refusals;
 mod texts;
 mod words;
 
@@ -49,6 +51,7 @@ fn do_job<R: Threads + Wait + Sync + AllocGlobal>(
         Job::Judge => files::run_judge(rt, alloc, digest, pieces, seed, count),
         Job::Faults => files::run_faults(rt, alloc, digest, pieces, seed, count),
         Job::Lines => texts::run_lines(rt, alloc, digest, pieces, seed, count),
+        Job::Refusals => refusals::run_refusals(rt, alloc, digest, pieces, seed, count),
         Job::Replay => texts::run_replay(alloc, digest, pieces, seed, count),
     }
 }

@@ -13,7 +13,7 @@ use std::sync::Wait;
 use std::thread::Threads;
 
 /// The address of the first chunk that is only vetted.
-const FIRST: u32 = 0x100_0000;
+pub const FIRST: u32 = 0x100_0000;
 
 /// The most bundles of a chunk in a script.
 const MOST: usize = 4;
@@ -23,14 +23,14 @@ static DIGITS: [u8; 16] = *b"0123456789abcdef";
 
 /// The pieces' code as hexadecimal digits, and the number of pieces that may be a chunk of a script.
 #[derive(Drop)]
-struct Hex<'a> {
+pub struct Hex<'a> {
     pieces: &'a Pieces,
     texts: Vec<Vec<u8>>,
     small: usize,
 }
 
 /// Adds a byte as two hexadecimal digits.
-fn push_byte(text: &mut Vec<u8>, byte: u8) -> Result<(), AllocError> {
+pub fn push_byte(text: &mut Vec<u8>, byte: u8) -> Result<(), AllocError> {
     text.push(DIGITS[usize::from(byte >> 4)])?;
     text.push(DIGITS[usize::from(byte & 15)])?;
     Ok(())
@@ -46,7 +46,7 @@ fn push_bytes(text: &mut Vec<u8>, bytes: &[u8]) -> Result<(), AllocError> {
 
 impl<'a> Hex<'a> {
     /// The digits of each piece.
-    fn new(alloc: Global, pieces: &'a Pieces) -> Result<Hex<'a>, AllocError> {
+    pub fn new(alloc: Global, pieces: &'a Pieces) -> Result<Hex<'a>, AllocError> {
         let mut texts = Vec::with_capacity(alloc, pieces.count())?;
         for i in 0..pieces.count() {
             let mut text = Vec::new(alloc);
@@ -59,6 +59,11 @@ impl<'a> Hex<'a> {
             texts,
             small,
         })
+    }
+
+    /// The number of pieces of at most this many bundles.
+    pub fn count_to(&self, bundles: usize) -> usize {
+        self.pieces.count_to(bundles)
     }
 
     /// The digits of a piece.
@@ -92,8 +97,8 @@ impl<'a> Hex<'a> {
     }
 }
 
-/// Adds a line with an address and a piece, after a word.
-fn push_chunk(
+/// Adds an address and a piece, after a word; the line doesn't end with them.
+pub fn push_chunk(
     text: &mut Vec<u8>,
     hex: &Hex<'_>,
     word: &[u8],
@@ -102,9 +107,7 @@ fn push_chunk(
     text.extend_from_slice(word)?;
     push_bytes(text, &live.base.to_be_bytes())?;
     text.push(b' ')?;
-    text.extend_from_slice(hex.digits(live.piece))?;
-    text.push(b'\n')?;
-    Ok(())
+    text.extend_from_slice(hex.digits(live.piece))
 }
 
 /// Lines of chunks: 30,000 of 1 to 8 bundles, or 150 modules of 64 KB where `is_large`.
@@ -124,11 +127,12 @@ fn chunk_lines(
         }
         return Ok(text);
     }
-    let count = hex.pieces.count_to(8);
+    let count = hex.count_to(8);
     for i in 0..30_000u32 {
         let base = FIRST.wrapping_add(i.wrapping_mul(256));
         let piece = random.index(count);
         push_chunk(&mut text, hex, b"", Live { base, piece })?;
+        text.push(b'\n')?;
     }
     Ok(text)
 }
@@ -163,7 +167,11 @@ fn push_address(text: &mut Vec<u8>, word: &[u8], base: u32) -> Result<(), AllocE
 /// Adds a line that creates a chunk.
 fn push_create(text: &mut Vec<u8>, hex: &Hex<'_>, plan: &mut Plan) -> Result<(), AllocError> {
     match plan.create(hex.small)? {
-        Some(live) => push_chunk(text, hex, b"create ", live),
+        Some(live) => {
+            push_chunk(text, hex, b"create ", live)?;
+            text.push(b'\n')?;
+            Ok(())
+        }
         None => Ok(()),
     }
 }

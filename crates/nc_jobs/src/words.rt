@@ -13,16 +13,18 @@ pub enum Job {
     Judge,
     Faults,
     Lines,
+    Refusals,
     Replay,
 }
 
 /// All jobs.
-pub const JOBS: [Job; 6] = [
+pub const JOBS: [Job; 7] = [
     Job::Jit,
     Job::Load,
     Job::Judge,
     Job::Faults,
     Job::Lines,
+    Job::Refusals,
     Job::Replay,
 ];
 
@@ -35,6 +37,7 @@ impl Job {
             Job::Judge => "judge",
             Job::Faults => "faults",
             Job::Lines => "lines",
+            Job::Refusals => "refusals",
             Job::Replay => "replay",
         }
     }
@@ -68,7 +71,7 @@ macro_rules! word {
 
 /// The parser of a job's name.
 const JOB: ValueParser<'static> = ValueParser::Names(&[
-    "jit", "load", "judge", "faults", "lines", "replay", "each",
+    "jit", "load", "judge", "faults", "lines", "refusals", "replay", "each",
 ]);
 
 /// The program.
@@ -100,6 +103,7 @@ fn named(name: &str) -> Option<Job> {
         "judge" => Some(Job::Judge),
         "faults" => Some(Job::Faults),
         "lines" => Some(Job::Lines),
+        "refusals" => Some(Job::Refusals),
         "replay" => Some(Job::Replay),
         _ => None,
     }

@@ -5,5 +5,6 @@ mod generations;
 mod lines;
 mod reports;
 pub mod rows;
+mod words;
 mod workers;
 mod writes;

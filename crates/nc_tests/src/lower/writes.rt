@@ -5,7 +5,7 @@ ghost use Rattle.std.specs.Prelude.{⊤};
 use crate::lower::rows::right;
 use nc_lines::{Responder, answer_all, answer_gathered};
 use std::alloc::{AllocError, Global};
-use std::io::{self, Write};
+use std::io::{self, Read, Write};
 use std::test::Fail;
 
 /// Takes all bytes of each write, and counts bytes and writes.
@@ -48,6 +48,21 @@ impl Responder for Agreeing {
     }
 }
 
+/// Gives one byte in each read.
+#[derive(Drop)]
+struct Bytewise {
+    rest: &'static [u8],
+}
+
+impl Read for Bytewise {
+    fn read(&mut self, buf: &mut [u8]) -> io::Result<usize> {
+        let count = self.rest.len().min(buf.len()).min(1);
+        buf[..count].copy_from_slice(&self.rest[..count]);
+        self.rest = &self.rest[count..];
+        Ok(count)
+    }
+}
+
 /// Four lines, of which the last has no line end; their answers have 12 bytes.
 const LINES: &[u8] = b"a\nb\nc\nd";
 
@@ -79,11 +94,10 @@ static GATHERINGS: [Gathering; 6] = [
 ];
 
 /// Whether answers of which at most so many bytes are held back make so many writes.
-fn are_together(alloc: Global, row: &Gathering) -> bool {
+fn are_written<R: Read>(alloc: Global, reader: &mut R, row: &Gathering) -> bool {
     let (most, writes) = *row;
-    let mut reader = LINES;
     let mut writer = Counting::new();
-    let end = answer_gathered(alloc, &mut Agreeing {}, &mut reader, &mut writer, most);
+    let end = answer_gathered(alloc, &mut Agreeing {}, reader, &mut writer, most);
     end.is_ok() && writer.bytes == 12 && writer.writes == writes
 }
 
@@ -92,7 +106,27 @@ fn together(rt: HostRuntime) -> Result<(), Fail> {
     let mut number = 0u32;
     for row in &GATHERINGS {
         number = number.wrapping_add(1);
-        right(are_together(rt.alloc(), row), number)?;
+        let mut reader = LINES;
+        right(are_written(rt.alloc(), &mut reader, row), number)?;
+    }
+    Ok(())
+}
+
+/// The same where each read gives one byte: no answer is held back over a read.
+#[rattlefmt::skip]
+static SINGLE_READS: [Gathering; 3] = [
+    (0, 4),
+    (6, 4),
+    (65_536, 4),
+];
+
+#[test]
+fn one_byte_a_read(rt: HostRuntime) -> Result<(), Fail> {
+    let mut number = 0u32;
+    for row in &SINGLE_READS {
+        number = number.wrapping_add(1);
+        let mut reader = Bytewise { rest: LINES };
+        right(are_written(rt.alloc(), &mut reader, row), number)?;
     }
     Ok(())
 }
