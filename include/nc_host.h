@@ -2,9 +2,14 @@
  * nc_host.h: the calls of Reedbodkin for a host in C or C++.
  *
  * They judge untrusted 32-bit x86 code, and give the acts by which a judged chunk is put into a text that threads are running, changed
- * there, or removed. Each call is proved to keep the contract of the function of the same name in crates/nc_host. The names in parentheses
- * below, such as (IsValid), are definitions that this contract cites; docs/DEFINITIONS.md explains them. That this header says the same as
- * the contracts is not proved.
+ * there, or removed. Each call is proved to keep the contract of the function of the same name in crates/nc_host.
+ *
+ * What the comments rest on
+ *   (IsValid)   A name in parentheses is a definition on which this contract rests. docs/DEFINITIONS.md explains it.
+ *   [refused]   A sentence that ends with a name in square brackets says what the clause of this name in the contract promises.
+ *   [tested]    A sentence that ends so says what no clause promises, and what tests try.
+ * That these sentences say the same as the clauses is not proved. The names of the clauses, and this header's declarations and numbers, are
+ * compared with the crates whenever the library is tested.
  *
  * What every call keeps
  *   Threads     The library starts no threads. Any thread may call, and several may call at once, as long as nobody writes what a call
@@ -14,12 +19,14 @@
  *               - a pointer with a length points to that many bytes or elements, even where the call uses fewer (so a length is below
  *                 2^63: a difference that has wrapped is not a length, and no fault reveals it);
  *               - no pointer is null, except one whose length is 0: nothing is read or written through it, so it may be null or any other
- *                 address (tested for each call, not proved);
+ *                 address [tested];
  *               - no buffer that is written overlaps another argument, and nobody changes lent memory while the call runs.
  *   Allocator   malloc, realloc and free must belong to one allocator, and align a block to each power of two up to 16 that divides its
  *               size. No call except nc_host_decode may be made from a signal handler, or in the child that a process with threads has
- *               forked. If memory runs out, the fault is NC_OUT_OF_MEMORY. 64 KiB of stack are enough (tested, not proved).
- *   Refusals    If the fault isn't 0, a buffer is unchanged. No more of a buffer is written than is stated.
+ *               forked. If memory runs out, the fault is NC_OUT_OF_MEMORY, and it is returned only then [tested]. 64 KiB of stack are
+ *               enough [tested].
+ *   Refusals    A call whose fault isn't 0 is refused. A refusal leaves each buffer unchanged. No more of a buffer is written than is
+ *               stated.
  *   Execution   Lent memory is never executed.
  *   Linking     The library is for Linux on x86-64 with the instructions of x86-64-v2, where it wasn't built for others. As tools/install
  *               installs it, it needs nothing but the C library. As `rt lib` builds it, the toolchain's liblibc_c.a must follow it on the
@@ -28,9 +35,8 @@
  * What the calls whose names begin with nc_host_ keep (for handles see "What all of them keep", below)
  *   Memory      The host lends code and buffers for the duration of the call. The library keeps nothing between calls, not even a pointer.
  *               Each call except nc_host_decode and nc_host_version allocates memory of its own by malloc, and frees all of it before it
- *               returns.
- *   Answers     The same arguments give the same answer, except for NC_OUT_OF_MEMORY. That it is returned only when memory ran out is
- *               tested, not proved.
+ *               returns [tested].
+ *   Answers     The same arguments give the same answer, except for NC_OUT_OF_MEMORY.
  *
  * The host's duties, without which no verdict protects it, in short (docs/EMBEDDING.md lists every duty, with its reason):
  *   - Untrusted code runs in a 32-bit code segment; in 64-bit mode the same bytes are other instructions. Nothing in that segment is
@@ -38,6 +44,8 @@
  *   - Untrusted code can write neither the region's text nor the code below NC_START, and can read no more than it is allowed to.
  *   - A segment ends at the limit, so that control that goes to the limit or above it traps.
  *   - Untrusted code is entered only at bundle starts, and bundle starts below NC_START hold trusted code or stops.
+ *   - A thread enters a region only with a seat of that region, which no other thread uses. A seat of another region checks in elsewhere,
+ *     and nothing notices.
  *   - Every address of the region that no chunk covers holds NC_STOP; those of the last bundle, the guard, always do.
  *   - Each put is one atomic store of one byte (memory_order_seq_cst), and the puts are made in the order in which they are written. At
  *     NC_SETTLE every processor that runs a thread of the host executes a serializing instruction before the host goes on. Each thread
@@ -56,6 +64,11 @@
  *     to the same instruction once; the same fault at the same count, unless the thread has entered anew, is the code's own.
  *   - Signal handlers run on an alternate stack that no 32-bit stack pointer reaches (above 4 GiB, or disarmed while in use), or their
  *     signals are blocked while a thread is inside: a kernel takes the untrusted stack pointer as a flat address.
+ *   - The host catches SIGSEGV, SIGBUS, SIGILL, SIGFPE and SIGTRAP, and these signals stay unblocked in a thread that is inside. Otherwise
+ *     one instruction of untrusted code ends the process. An access beyond the stack segment's limit is SIGBUS.
+ *   - The host bounds the depth of nested calls, where untrusted code calls the host and the host enters again. Untrusted code can begin
+ *     its own stack anew each time, and the host's would overflow.
+ *   - The host limits the time of each stay inside. A thread in a jump to itself never comes out, and no fault ends it.
  *   - Trusted code that is entered clears the direction flag, since untrusted code may set it, and uses no stack before it has loaded its
  *     own stack pointer. It reads each address to which it goes back once, masks it, and checks that it is in the region.
  *   - A deleted span is reused only once every thread that may have been in it has left the region or has been outside since the stamp was
@@ -291,18 +304,19 @@ typedef struct NcWalk {
 
 /*
  * Decodes the instruction at the start of the bytes.
- * Promised: NC_OK exactly where the bytes begin with a whole permitted instruction (IsAtFront), with that instruction's numbers;
- * NC_CUT_SHORT exactly where the bytes are a proper prefix of one (IsProperFront), as an empty list of bytes is; NC_NOT_PERMITTED
- * otherwise.
+ * Promised: the fault is NC_OK exactly where the bytes begin with a whole permitted instruction (IsAtFront), and then the numbers are that
+ * instruction's [found]. It is NC_CUT_SHORT exactly where the bytes are a proper prefix of one (IsProperFront), as an empty list of bytes
+ * is [cut_short]. It is NC_NOT_PERMITTED exactly where neither holds [not_permitted]. There is no other fault [faults]. No memory is
+ * allocated [tested].
  * Not promised: that the instruction is allowed at any particular address; nc_host_vet judges that.
- * Cost: at most 12 bytes are examined; no memory is allocated.
+ * Cost: at most 12 bytes are examined.
  */
 NcInstruction nc_host_decode(const uint8_t *code, size_t len);
 
 /*
  * Returns the verdict on a chunk at `base` in the region with this limit.
- * Promised: NC_OK only for a valid chunk (IsValid); 1 to 8 only for a chunk with that fault there (HasFault). The only fault that a valid
- * chunk can get is NC_OUT_OF_MEMORY.
+ * Promised: the fault is NC_OK only for a valid chunk (IsValid), and else 1 to 8, only for a chunk with that fault there (HasFault)
+ * [outcome]. The only fault that a valid chunk can get is NC_OUT_OF_MEMORY [valid].
  * Not promised: anything about what the code does with data, or about other chunks: any bundle start of the region may be a target.
  * Cost: one pass over the code, and memory of half the code's length.
  */
@@ -311,30 +325,34 @@ NcVerdict nc_host_vet(uint32_t base, uint32_t limit, const uint8_t *code, size_t
 /*
  * Returns the verdict of nc_host_vet, and writes the marks of a valid chunk, one byte for each of its bytes, into the first `len` bytes of
  * `marks`.
- * Promised: for NC_OK the chunk is valid with these marks (IsValid), and with no others. NC_NO_ROOM if the chunk is valid and the buffer is
- * shorter.
+ * Promised: the fault is as in nc_host_vet, but NC_NO_ROOM exactly where it would be NC_OK and the buffer is shorter [outcome]. For NC_OK
+ * the chunk is valid with these marks (IsValid), and with no others [written]. The only faults that a valid chunk can get are
+ * NC_OUT_OF_MEMORY and NC_NO_ROOM [valid]. A refusal changes nothing [untouched].
  */
 NcVerdict nc_host_marks(uint32_t base, uint32_t limit, const uint8_t *code, size_t len, uint8_t *marks, size_t marks_len);
 
 /*
  * Vets a chunk, and writes the acts of its creation, which put it into a span of the text that holds only stops.
- * Promised: for NC_OK exactly the `len` + 2 elements of a creation (log_of_create): the first `len` - `len` / 32 put the bytes that aren't
- * at bundle starts, the next is NC_SETTLE, the next marks the span, and the others put the bytes at bundle starts. NC_NO_ROOM if the chunk is
- * valid and the buffer has room for fewer acts. That every path is confined between any two of these acts is proved for a region's
- * creation, which makes them in an unused span.
- * Not promised: that the span is unused; the host knows its chunks.
+ * Promised: the fault is as in nc_host_vet, but NC_NO_ROOM exactly where it would be NC_OK and the buffer has room for fewer than `len` + 2
+ * acts [outcome]. For NC_OK the acts are exactly the `len` + 2 elements of a creation (log_of_create): the first `len` - `len` / 32 put the
+ * bytes that aren't at bundle starts, the next is NC_SETTLE, the next marks the span, and the others put the bytes at bundle starts
+ * [written]. For NC_OK and NC_NO_ROOM `count` is `len` + 2, for other faults 0 [count]. The only faults that a valid chunk can get are
+ * NC_OUT_OF_MEMORY and NC_NO_ROOM [valid]. A refusal changes nothing [untouched].
+ * Not promised: that the span is unused; the host knows its chunks. That every path is confined between any two of these acts is proved for
+ * a region's creation, which makes them in an unused span.
  */
 NcActs nc_host_create(uint32_t base, uint32_t limit, const uint8_t *code, size_t len, NcAct *acts, size_t acts_len);
 
 /*
  * Writes the acts of a patch: `new_len` new bytes from the address `at` on, in the chunk whose bytes at `base` are now `code`. The new
  * bytes are instructions of the same lengths as those that they replace.
- * Promised: the verdict is that on this patch in a region with only this chunk (IsPatch, MayRefusePatch). A patch that is reported
- * lawful is lawful in every region in which the chunk is live, whatever other chunks there are. A patch that begins in the chunk
- * and is lawful in such a region gets NC_OK, NC_OUT_OF_MEMORY or NC_NO_ROOM. For NC_OK the acts are exactly those of the patch
- * (log_of_modify): for each instruction whose bytes change, a stop at its first byte, NC_SETTLE, its further bytes, NC_SETTLE, its first
- * byte; for an instruction of a single byte, only that byte. NC_NO_ROOM if the patch is lawful and the buffer has room for fewer than
- * 3 * `new_len` acts; room for that many is always enough.
+ * Promised: the verdict is that on the chunk, and then on this patch in a region with only this chunk (IsPatch, MayRefusePatch), but
+ * NC_NO_ROOM exactly where it would be NC_OK and the buffer has room for fewer than 3 * `new_len` acts [outcome]. For NC_OK the patch is
+ * lawful in every region in which the chunk is live, whatever other chunks there are [anywhere]. A patch that begins in the chunk and is
+ * lawful in such a region gets NC_OK, NC_OUT_OF_MEMORY or NC_NO_ROOM [exact]. A patch of a valid chunk gets no fault from 1 to 7 [valid].
+ * For NC_OK the acts are exactly those of the patch (log_of_modify): for each instruction whose bytes change, a stop at its first byte,
+ * NC_SETTLE, its further bytes, NC_SETTLE, its first byte; for an instruction of a single byte, only that byte [written]. For NC_NO_ROOM
+ * `count` is 3 * `new_len`, which is always enough, and for other faults 0 [count]. A refusal changes nothing [untouched].
  * The host must lend as `code` the bytes that are in the text. If it lends others, the verdict is on those.
  * Cost: `code` is vetted again, and a region is made for the duration of the call, in memory of some five times the chunk's length and one
  * byte for each 256 bytes of the region: only its bytes tell the library that the chunk was accepted, and where its instructions begin.
@@ -347,16 +365,21 @@ NcActs nc_host_patch(uint32_t base, uint32_t limit, const uint8_t *code, size_t 
 
 /*
  * Writes the acts of a deletion of the chunk whose bytes at `base` are now `code`: `len` + 2 acts, which are stops at its marked places,
- * NC_SETTLE, stops at its other places, and NC_BUMP.
- * Promised: for NC_OK exactly the acts of a deletion (log_of_delete) of a text that has the chunk's marks. The marks are derived from
- * `code` again, so that nobody can name a wrong order. NC_NO_ROOM as in nc_host_create.
- * The host must lend as `code` the bytes that are in the text. The marks of the span stay until it is reclaimed.
+ * NC_SETTLE, stops at its other places, and NC_BUMP. The marks are derived from `code` again, so that nobody can name a wrong order. The
+ * marks of the span stay until it is reclaimed.
+ * Promised: the fault is as in nc_host_create [outcome]. For NC_OK the acts are exactly those of a deletion (log_of_delete) from any text
+ * that has the chunk's marks [written]. `count` is as in nc_host_create [count]. The only faults that a valid chunk can get are
+ * NC_OUT_OF_MEMORY and NC_NO_ROOM [valid]. A refusal changes nothing [untouched].
+ * The host must lend as `code` the bytes that are in the text.
  * Cost: memory of half the code's length. For lack of it a deletion may be refused; a host that must be able to delete keeps some in
  * reserve.
  */
 NcActs nc_host_delete(uint32_t base, uint32_t limit, const uint8_t *code, size_t len, NcAct *acts, size_t acts_len);
 
-/* Returns the version of the library that is linked, to be compared with NC_VERSION. */
+/*
+ * Returns the version of the library that is linked, to be compared with NC_VERSION.
+ * Promised: it is the number that NC_VERSION of this header is [version].
+ */
 uint32_t nc_host_version(void);
 
 /* ---- Calls on handles */
@@ -366,8 +389,9 @@ uint32_t nc_host_version(void);
  *   Locks       Calls on one region must be made one at a time: the host has its own lock around them, and around the acts that it makes in
  *               its memory. Calls on one seat must be made by one thread at a time, and need no lock, whatever runs on the region.
  *   Threads     A handle may be passed to another thread, if this is ordered by a lock, a thread's start or join, or a SeqCst atomic.
- *   Refusals    Each refusal leaves the region, the seats and the buffer unchanged, except that after a creation refused for lack of memory
- *               the region may have allocated memory for the text of its span. An empty handle is refused with NC_NO_HANDLE.
+ *   Refusals    "A refusal changes nothing" means that the region, the seats, the handles and the buffer are as before, except that after
+ *               a creation refused for lack of memory the region may have allocated memory for the text of its span. An empty handle is
+ *               refused with NC_NO_HANDLE.
  *   Acts        Each change writes the acts by which it changes the region's text, including the settlings, so that the host's memory has
  *               the region's bytes once the host has made them (for a deletion, once nc_region_end_delete has been called). If a buffer is
  *               shorter than the most that a change of this length may write, nothing is written and nothing changes, even if fewer acts
@@ -375,87 +399,108 @@ uint32_t nc_host_version(void);
  *               made, `count` is 0, and its acts aren't told, so that the host's memory no longer has the region's bytes. That is for a host
  *               without memory of its own, and for one that asks for the acts as runs (nc_region_creation_runs, nc_region_deletion_runs).
  *               A buffer that is to grow begins with a length above 0. (nc_host_create and its neighbours refuse a length of 0.)
- *   Memory      nc_region_free frees what a region has allocated, and nc_seat_leave what a seat has; the table of stamps and check-ins is
- *               freed with the last of them, in any order.
+ *   Memory      A region shares the table of stamps and check-ins with its seats. The table is freed with the last of them, in whatever
+ *               order nc_region_free and nc_seat_leave are called [tested].
  */
 
 /*
- * Makes a region of `bundles` bundles, all stops, with no chunk and `seats` seats (IsFirst), in an empty handle.
- * Promised: NC_HANDLE_TAKEN for a handle that isn't empty; else NC_BAD_SEATS unless `seats` is 1 to 256; else NC_BAD_SIZE unless `bundles`
- * is NC_MIN_BUNDLES to NC_MAX_BUNDLES; else no fault except NC_OUT_OF_MEMORY.
+ * Makes a region of `bundles` bundles with `seats` seats in an empty handle.
+ * Promised: for NC_OK the handle was empty, and has a region that is all stops, with no chunk, and with each seat still to be given
+ * (IsFirst) [made]. A refusal is NC_HANDLE_TAKEN for a handle that isn't empty; else NC_BAD_SEATS unless `seats` is 1 to 256; else
+ * NC_BAD_SIZE unless `bundles` is NC_MIN_BUNDLES to NC_MAX_BUNDLES; else NC_OUT_OF_MEMORY [refused]. A refusal changes nothing [unchanged].
  * Cost: memory for a table of the text's pages, and 8 bytes and more for each seat.
  */
 uint32_t nc_region_new(uint32_t bundles, uint32_t seats, NcRegion *region);
 
 /*
- * Frees a region; its handle is empty then. Seats that were given stay usable, and are left one by one. A second call does nothing.
+ * Frees a region. Seats that were given are left one by one.
+ * Promised: the handle is empty then, and a second call does nothing [emptied]. All that the region allocated is freed, but what it shares
+ * with its seats only with the last of them [tested]. Seats that were given stay usable [tested].
  */
 void nc_region_free(NcRegion *region);
 
 /*
- * Gives one of the region's seats to an empty handle (HasGiven). A thread needs a seat while it runs code of the region. Each seat is given
- * once, and not again after it was left: a host with many threads keeps a pool.
- * Promised: NC_HANDLE_TAKEN for a seat's handle that isn't empty; else NC_NO_HANDLE; else NC_NO_SEAT exactly where each seat has been
- * given, and NC_OUT_OF_MEMORY only where one is still to be given (MayRefuseSeat). That seat can still be given later.
- * Until its first check-in it also holds back the deletions since the last reclaim before it was given: check in once when it is given.
+ * Gives one of the region's seats to an empty handle. A thread needs a seat while it runs code of the region. Each seat is given once, and
+ * not again after it was left: a host with many threads keeps a pool. Until its first check-in a seat also holds back the deletions since
+ * the last reclaim before it was given: check in once when it is given.
+ * Promised: for NC_OK the handle was empty, and has a seat that was still to be given, and now no longer is (HasGiven) [given]. A refusal
+ * is NC_HANDLE_TAKEN for a seat's handle that isn't empty; else NC_NO_HANDLE; else NC_NO_SEAT exactly where each seat has been given, and
+ * NC_OUT_OF_MEMORY only where one is still to be given (MayRefuseSeat) [refused]. A refusal changes nothing, so that this seat can still be
+ * given later [unchanged].
  */
 uint32_t nc_region_seat(NcRegion *region, NcSeat *seat);
 
 /*
- * Vets the chunk and creates it in the region (IsCreated), and writes the acts as nc_host_create does.
- * Promised: a refusal is NC_NO_HANDLE; else the fault that vetting finds, 1 to 8; else the first of NC_UNDER_WAY, NC_NO_ROOM, NC_OCCUPIED
- * and NC_OUT_OF_MEMORY that holds. A buffer of `len` + 2 acts is enough; an `acts_len` of 0 makes the change without telling its acts.
- * The host must make the acts after the call, before the next change. No call names a free span: nc_region_chunk returns the chunks, in
- * ascending order, and the spans between them are free.
+ * Vets the chunk and creates it in the region, and writes the acts as nc_host_create does. A buffer of `len` + 2 acts is enough; an
+ * `acts_len` of 0 makes the change without telling its acts. No call names a free span: nc_region_chunk returns the chunks, in ascending
+ * order, and the spans between them are free.
+ * Promised: for NC_OK the chunk is valid for the region's limit, and the region has it (IsCreated) [created]. For NC_OK the acts are those
+ * of the creation (log_of_create) [told]. A refusal is NC_NO_HANDLE; else the fault that vetting finds, 1 to 8; else the first of
+ * NC_UNDER_WAY, NC_NO_ROOM, NC_OCCUPIED and NC_OUT_OF_MEMORY that holds [refused]. A refusal changes nothing [unchanged, untouched]. For
+ * NC_OK `at` is 0 [at].
+ * The host must make the acts after the call, before the next change.
  * Cost: that of nc_host_vet, and a copy of the code. This is under the lock.
  */
 NcChange nc_region_create(NcRegion *region, uint32_t base, const uint8_t *code, size_t len, NcAct *acts, size_t acts_len);
 
 /*
  * Vets a chunk for a region with this limit and keeps a copy of it, in an empty handle. No region is read, so no lock is needed.
- * Promised: NC_HANDLE_TAKEN for a handle that isn't empty; else NC_OK only for a valid chunk, and 1 to 8 only for a chunk with that fault.
+ * Promised: for NC_OK the handle was empty, and has a valid chunk (IsValid) of these bytes [vetted]. A refusal is NC_HANDLE_TAKEN for a
+ * handle that isn't empty; else 1 to 8, only for a chunk with that fault (HasFault) [refused]. A refusal changes nothing [unchanged]. For
+ * NC_OK `at` is 0 [at].
  * Cost: that of nc_host_vet, and memory for a copy of the code and half as much for its marks, until it is loaded or freed.
  */
 NcVerdict nc_vetted_new(uint32_t base, uint32_t limit, const uint8_t *code, size_t len, NcVetted *vetted);
 
-/* Frees a vetted chunk that isn't loaded. A second call does nothing. */
+/*
+ * Frees a vetted chunk that isn't loaded.
+ * Promised: the handle is empty then, and a second call does nothing [emptied]. All that the chunk allocated is freed [tested].
+ */
 void nc_vetted_free(NcVetted *vetted);
 
 /*
- * Creates a vetted chunk in the region, and writes the acts as nc_region_create does; the chunk's handle is empty then. After a refusal it
- * still has the chunk.
- * Promised: a refusal is NC_NO_HANDLE, for either handle; else the first of NC_UNDER_WAY, NC_NO_ROOM, NC_WRONG_LIMIT, NC_OCCUPIED and
- * NC_OUT_OF_MEMORY that holds.
+ * Creates a vetted chunk in the region, and writes the acts as nc_region_create does.
+ * Promised: for NC_OK the region has the chunk (IsCreated), the acts are those of the creation (log_of_create), and the chunk's handle is
+ * empty [created]. A refusal is NC_NO_HANDLE, for either handle; else the first of NC_UNDER_WAY, NC_NO_ROOM, NC_WRONG_LIMIT, NC_OCCUPIED
+ * and NC_OUT_OF_MEMORY that holds [refused]. A refusal changes nothing, so that the chunk's handle still has the chunk [unchanged,
+ * untouched]. `at` is 0 [at].
+ * The host must make the acts after the call, before the next change.
  */
 NcChange nc_region_load(NcRegion *region, NcVetted *vetted, NcAct *acts, size_t acts_len);
 
 /*
- * Patches a chunk (IsPatch, IsModified), and writes the acts as nc_host_patch does.
- * Promised: a refusal is NC_NO_HANDLE; else the first of NC_UNDER_WAY, NC_NO_ROOM (not returned for more than 32 bytes, which are
- * NC_PATCH_BAD_SPAN) and the faults of a patch that holds. A buffer of 3 * `len` acts is enough; an `acts_len` of 0 makes the change
- * without telling its acts.
- * The bytes must be whole instructions, even where only an immediate or a displacement in one changes. Acts are written for the
- * instructions that differ, so `count` may be 0. The host must make the acts after the call, before the next change.
- * Cost: that of the patch and of its targets' bundles, whatever the chunk; no memory is allocated.
+ * Patches a chunk, and writes the acts as nc_host_patch does. The bytes must be whole instructions, even where only an immediate or a
+ * displacement in one changes. Acts are written for the instructions that differ, so `count` may be 0. A buffer of 3 * `len` acts is
+ * enough; an `acts_len` of 0 makes the change without telling its acts.
+ * Promised: for NC_OK the patch was lawful (IsPatch), and the region has its bytes (IsModified) [modified]. For NC_OK the acts are those of
+ * the patch (log_of_modify) [told]. A buffer that is lent with room for fewer than 3 * `len` acts never gets NC_OK [allowed]. A refusal is
+ * NC_NO_HANDLE; else the first of NC_UNDER_WAY, NC_NO_ROOM (not returned for more than 32 bytes, which are NC_PATCH_BAD_SPAN) and the
+ * faults of a patch that holds [refused]. A refusal changes nothing [unchanged, untouched]. `at` is 0 [at]. No memory is allocated
+ * [tested].
+ * The host must make the acts after the call, before the next change.
+ * Cost: that of the patch and of its targets' bundles, whatever the chunk.
  */
 NcChange nc_region_patch(NcRegion *region, uint32_t at, const uint8_t *bytes, size_t len, NcAct *acts, size_t acts_len);
 
 /*
- * The first step of a deletion: writes its acts as nc_host_delete does; the region still has the chunk (HasBegun), so nc_region_place and
- * nc_region_walk show its bytes, while the host's memory gets stops. Until the last step,
- * which can't be left out, each call that changes the region is refused with NC_UNDER_WAY; calls that only read, and nc_region_seat,
- * are not.
- * Promised: a refusal is NC_NO_HANDLE; else the first of NC_UNDER_WAY, NC_NO_CHUNK, NC_FULL and NC_NO_ROOM that holds. A buffer for two
- * acts more than the chunk has bytes is enough; an `acts_len` of 0 begins the deletion without telling its acts.
+ * The first step of a deletion: writes its acts as nc_host_delete does. The region still has the chunk, so nc_region_place and
+ * nc_region_walk show its bytes, while the host's memory gets stops. Until the last step, which can't be left out, each call that changes
+ * the region is refused with NC_UNDER_WAY; calls that only read, and nc_region_seat, are not. A buffer for two acts more than the chunk has
+ * bytes is enough; an `acts_len` of 0 begins the deletion without telling its acts.
+ * Promised: for NC_OK the deletion of the live chunk at `base` is under way (HasBegun), and the acts are those of the deletion
+ * (log_of_delete) [begun]. A refusal is NC_NO_HANDLE; else the first of NC_UNDER_WAY, NC_NO_CHUNK, NC_FULL and NC_NO_ROOM that holds
+ * [refused]. A refusal changes nothing [unchanged, untouched]. `at` is 0 [at]. No memory is allocated [tested].
  * The host must make all acts except NC_BUMP, the last one, before it calls nc_region_end_delete, which is that act. A stamp drawn before
  * the stops are in place would free the span while a thread is in it.
- * Cost: that of writing the acts; no memory is allocated.
+ * Cost: that of writing the acts.
  */
 NcChange nc_region_begin_delete(NcRegion *region, uint32_t base, NcAct *acts, size_t acts_len);
 
 /*
- * The last step of a deletion: after it the chunk's bytes are stops, the chunk is retired, and the stamp is drawn (HasEnded).
- * Promised: it is refused only where no deletion is under way. No memory is allocated.
+ * The last step of a deletion.
+ * Promised: for NC_OK the chunk's bytes are stops, the chunk is retired, and its stamp, the next one, is drawn (HasEnded) [ended]. A
+ * refusal is NC_NO_HANDLE, or NC_NOT_BEGUN exactly where no deletion is under way [refused]. A refusal changes nothing [unchanged]. No
+ * memory is allocated [tested].
  */
 NcStamp nc_region_end_delete(NcRegion *region);
 
@@ -463,39 +508,51 @@ NcStamp nc_region_end_delete(NcRegion *region);
  * Writes the acts of the creation of the live chunk at `base`, as runs: for each bundle an NC_PUT_RUN of all its addresses but the first;
  * NC_SETTLE; NC_MARK; and for each bundle an NC_PUT_RUN of its first address. These are `len` / 16 + 2 acts instead of `len` + 2: for a
  * chunk of 64 MiB 50 MB instead of 800. The chunk's bytes are those that the region has now, so directly after a creation these are its
- * acts (AreCreationRuns): a host creates a large chunk by nc_region_create, without a buffer, and then calls this. It changes nothing.
- * Promised: a refusal is NC_NO_HANDLE; else NC_NO_CHUNK exactly where no live chunk has this base; else NC_NO_ROOM exactly where the buffer
- * is shorter, and then `count` is the number of acts. A length of 0 asks for this number.
- * Cost: that of reading the chunk twice; no memory is allocated.
+ * acts: a host creates a large chunk by nc_region_create, without a buffer, and then calls this.
+ * Promised: for NC_OK these are the acts (AreCreationRuns) [told]. A refusal is NC_NO_HANDLE; else NC_NO_CHUNK exactly where no live chunk
+ * has this base; else NC_NO_ROOM exactly where the buffer is shorter, and then `count` is the number of acts, so a length of 0 asks for it
+ * [refused]. The region doesn't change [same]. A refusal leaves the buffer unchanged [untouched]. `at` is 0 [at]. No memory is allocated
+ * [tested].
+ * Cost: that of reading the chunk twice.
  */
 NcChange nc_region_creation_runs(NcRegion *region, uint32_t base, NcAct *acts, size_t acts_len);
 
 /*
  * Writes the acts of the deletion that is under way, as runs: for each bundle an NC_STOP_RUN of its marked addresses; NC_SETTLE; for each
- * bundle an NC_STOP_RUN of the others; and NC_BUMP (AreDeletionRuns). These are `len` / 16 + 2 acts. A host begins the deletion of a large
- * chunk by nc_region_begin_delete, without a buffer, and then calls this. It changes nothing.
- * Promised: a refusal is NC_NO_HANDLE; else NC_NOT_BEGUN exactly where no deletion is under way; else NC_NO_ROOM as in
- * nc_region_creation_runs.
- * Cost: that of reading the chunk's marks twice; no memory is allocated.
+ * bundle an NC_STOP_RUN of the others; and NC_BUMP. These are `len` / 16 + 2 acts. A host begins the deletion of a large chunk by
+ * nc_region_begin_delete, without a buffer, and then calls this.
+ * Promised: for NC_OK these are the acts (AreDeletionRuns) [told]. A refusal is NC_NO_HANDLE; else NC_NOT_BEGUN exactly where no deletion
+ * is under way; else NC_NO_ROOM as in nc_region_creation_runs [refused]. The region doesn't change [same]. A refusal leaves the buffer
+ * unchanged [untouched]. `at` is 0 [at]. No memory is allocated [tested].
+ * Cost: that of reading the chunk's marks twice.
  */
 NcChange nc_region_deletion_runs(NcRegion *region, NcAct *acts, size_t acts_len);
 
 /*
- * Checks in for each seat that nobody was given, and removes from the list exactly those retired chunks that no seat holds back
- * (HasReclaimed): `count` of them. Their spans may be reused, and keep only the marks of bundle starts. It puts no byte, writes no act,
- * and allocates no memory.
- * Promised: it is refused with NC_NO_HANDLE, or with NC_UNDER_WAY while a deletion is under way.
+ * Checks in for each seat that nobody was given, looks at each seat, and removes retired chunks from the list. Their spans may be reused,
+ * and keep only the marks of bundle starts. It puts no byte and writes no act.
+ * Promised: for NC_OK exactly those retired chunks are removed that, by what the look at each seat found, no seat holds back
+ * (HasReclaimed), and `count` is their number [reclaimed]. A look at a seat finds its last check-in, or that it was left [tested]. A
+ * refusal is NC_NO_HANDLE, or NC_UNDER_WAY exactly while a deletion is under way [refused]. A refusal changes nothing [unchanged]. No
+ * memory is allocated [tested].
  * Cost: a look at each seat, at each block of 256 chunks, and at each chunk of a block that may have one to be removed; where chunks are
  * removed, a few moves for each other chunk at most.
  */
 NcCount nc_region_reclaim(NcRegion *region);
 
-/* Returns the chunk at an index of the list, which is in ascending order of base; NC_NO_CHUNK past the last one. It changes nothing. Cost:
-   the same at each index. */
+/*
+ * Returns the chunk at an index of the list, which is in ascending order of base.
+ * Promised: for NC_OK it is that chunk [chunk]. A refusal is NC_NO_HANDLE, or NC_NO_CHUNK exactly past the last chunk [refused]. The region
+ * doesn't change [same]. No memory is allocated [tested].
+ * Cost: the same at each index.
+ */
 NcChunk nc_region_chunk(NcRegion *region, size_t index);
 
-/* Returns the byte and the mark at an address of the region; else NC_NO_HANDLE, or NC_NO_PLACE exactly below NC_START and from the limit
-   on. It changes nothing. */
+/*
+ * Returns the byte and the mark at an address of the region.
+ * Promised: for NC_OK they are the region's [place]. A refusal is NC_NO_HANDLE, or NC_NO_PLACE exactly below NC_START and from the limit on
+ * [refused]. The region doesn't change [same]. No memory is allocated [tested].
+ */
 NcPlace nc_region_place(NcRegion *region, uint32_t at);
 
 /*
@@ -503,27 +560,36 @@ NcPlace nc_region_place(NcRegion *region, uint32_t at);
  * the last, into `places`. The choices stand for what data and flags would decide, and each step uses one up. At a branch 0 falls through
  * and every other number goes to the target; an indirect jump or call goes to the number with its low five bits cleared; at any other
  * instruction the number doesn't matter. The walk ends below NC_START, at a stop, where no choice is left, or where an indirect jump or
- * call goes to the limit or above it. It changes nothing.
+ * call goes to the limit or above it. A buffer of `choices_len` + 1 places is enough.
  * Promised: for NC_OK the places and the end are those of the machine's walk, which start and choices determine, and all of it is safe
- * (IsShownWalk). Else the first of NC_NO_HANDLE, NC_NO_START, NC_OUT_OF_MEMORY and NC_NO_ROOM that holds; `places` is unchanged. A buffer
- * of `choices_len` + 1 places is enough.
+ * (IsShownWalk) [told]. A refusal is the first of NC_NO_HANDLE, NC_NO_START, NC_OUT_OF_MEMORY and NC_NO_ROOM that holds, and `places` is
+ * unchanged [refused]. The region doesn't change [same].
  * Cost: memory for the places.
  */
 NcWalk nc_region_walk(NcRegion *region, uint32_t start, const uint32_t *choices, size_t choices_len, uint32_t *places, size_t places_len);
 
-/* Returns the generation: the last stamp that was drawn, or 0. It changes nothing. */
+/*
+ * Returns the generation: the last stamp that was drawn, or 0.
+ * Promised: for NC_OK `stamp` is the generation [generation]. A refusal is NC_NO_HANDLE [refused]. The region doesn't change [same]. No
+ * memory is allocated [tested].
+ */
 NcStamp nc_region_generation(NcRegion *region);
 
 /*
- * Checks in: reports that the seat's thread is outside the region, by one load and one store, both memory_order_seq_cst (HasCheckedIn). It
- * takes no lock, allocates no memory, and never waits. It returns NC_OK, or NC_NO_HANDLE for an empty handle.
+ * Checks in: reports that the seat's thread is outside the region, by one load and one store, both memory_order_seq_cst, and without a
+ * lock.
+ * Promised: for NC_OK the generation was loaded once and stored for the seat once, and the number stored is the one loaded, no less than
+ * any before (HasCheckedIn) [checked_in]. The only refusal is NC_NO_HANDLE, for an empty handle, which stays empty [nothing]. No memory is
+ * allocated [tested]. The call doesn't wait for another thread, even if that is stuck in a call on the region [tested].
  * Not promised: that the thread is outside. The host must call it only while the thread is outside: after it has come out, and before it
  * goes in again.
  */
 uint32_t nc_seat_check_in(NcSeat *seat);
 
 /*
- * Leaves: reports that the seat's thread is outside for good; the handle is empty then. A second call does nothing.
+ * Leaves: reports that the seat's thread is outside for good.
+ * Promised: the handle is empty then, and a second call does nothing [emptied]. The seat holds nothing back any more [tested]. All that the
+ * seat allocated is freed, but what it shares with the region only with the last of them [tested].
  */
 void nc_seat_leave(NcSeat *seat);
 
