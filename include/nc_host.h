@@ -378,7 +378,7 @@ NcActs nc_host_delete(uint32_t base, uint32_t limit, const uint8_t *code, size_t
 
 /*
  * Returns the version of the library that is linked, to be compared with NC_VERSION.
- * Promised: it is the number that NC_VERSION of this header is [version].
+ * Promised: it is NC_VERSION of the header that belongs to this library [version].
  */
 uint32_t nc_host_version(void);
 

@@ -149,10 +149,10 @@ def value_of(text):
 # ---- The crates
 
 FUNCTION = re.compile(r'^pub extern "C" fn (\w+)\(([^()]*)\)(?: -> (\w+))?(?: \{$|\n(.*?)^\{$)', re.M | re.S)
-CLAUSE = re.compile(r"^    (ensures|requires)(?: each)?(?: (\w+))? \{", re.M)
+CLAUSE = re.compile(r"^    (ensures|requires)(?: (\w+))? \{", re.M)
 STRUCT = re.compile(r"^#\[repr\(C\)\]\n(?:#[^\n]*\n)*pub struct (\w+) \{\n(.*?)^\}", re.M | re.S)
 MEMBER = re.compile(r"^    (?:pub )?(\w+): (.+),$", re.M)
-CONSTANT = re.compile(r"^(?:pub(?:\(crate\))? )?const ([A-Z_]+): u\d+ = (\w+);", re.M)
+CONSTANT = re.compile(r"^(?:pub(?:\(crate\))? )?const ([A-Z_]+): u\d+ = (0x[0-9A-F_]+|[\d_]+);", re.M)
 EQUATION = re.compile(r"^(?!register_)(\w+_number) (.*\b[A-Z]\w*.*?)\)? = (\d+)(?: \+ \w+)?$", re.M)
 ACT = re.compile(r"^(act_of|entry_of|run_of) \(?([A-Z]\w+).* = record \{ kind = (\d+);", re.M)
 
@@ -199,7 +199,7 @@ class Crates:
             name, arguments, returned, contract = function.groups()
             pairs = [pair for pair in re.findall(r"(\w+): ([^,]+)", arguments) if pair[1].strip() != NOWHERE]
             call = Call(name, SCALARS.get(returned, returned) or "void", [c for pair in pairs for c in c_arguments(*pair)], str(path))
-            call.clauses = [(kind, clause) for kind, clause in CLAUSE.findall(contract or "")]
+            call.clauses = CLAUSE.findall(contract or "")
             self.calls[name] = call
 
     def read_numbers(self):

@@ -1,7 +1,8 @@
 """The library nc_host for tests in Python: the calls of include/nc_host.h by ctypes, with their names and numbers.
 
-The environment variable NC_HOST names the shared library, which `tools/try-library` makes, with places.c in it. A call answers with a named
-tuple that has the fields of its struct in C; one that writes into a buffer has the list of what was written in place of `count`.
+The environment variable NC_HOST names the shared library, which `tools/try-library` makes, with places.c, counting.c and depth.c in it.
+A call answers with a named tuple that has the fields of its struct in C; one that writes into a buffer has the list of what was written in
+place of `count`.
 """
 import collections
 import ctypes
@@ -71,7 +72,15 @@ CALLS = {
     "nc_region_generation": (Stamp, to(Handle)),
     "nc_seat_check_in": (u32, to(Handle)),
     "nc_seat_leave": (None, to(Handle)),
+    "nc_host_version": (u32,),
     "places": (None, to(Handle), u32, size, ctypes.c_char_p, ctypes.c_char_p),
+    "allocations_asked": (ctypes.c_long,),
+    "blocks_kept": (ctypes.c_long,),
+    "refuse_allocations": (None, ctypes.c_bool),
+    "hold_allocation": (None, ctypes.c_long),
+    "allocation_is_held": (ctypes.c_bool,),
+    "let_go": (None,),
+    "most_stack": (size, u32),
 }
 for _name, (_returned, *_taken) in CALLS.items():
     _call = getattr(LIBRARY, _name)
@@ -161,6 +170,10 @@ class Region:
     def begin_delete(self, base, room):
         """The first step of a deletion, with room for this many acts."""
         return written(LIBRARY.nc_region_begin_delete, self.handle, base, room=room)
+
+    def creation_runs(self, base, room):
+        """The acts of a live chunk's creation, as runs."""
+        return written(LIBRARY.nc_region_creation_runs, self.handle, base, room=room)
 
     def deletion_runs(self, room):
         """The acts of the deletion that is under way, as runs."""
