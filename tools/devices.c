@@ -6,7 +6,8 @@
    FAILING_CALL   the number of the call that fails, counted from 1. It moves nothing, and those after it go on
    FAILING_ERROR  its error, as in errno; 0 has a write answer that it took nothing
    FAILING_REPORT the number of an open file, to which a byte is written when that call comes
-   STARTED_REPORT the number of an open file, to which a byte is written for each thread that the program starts */
+   STARTED_REPORT the number of an open file, to which a byte is written for each thread that the program starts
+   WRITES_REPORT  the number of an open file, to which a byte is written for each write to standard output */
 #define _GNU_SOURCE
 #include <dlfcn.h>
 #include <errno.h>
@@ -22,6 +23,7 @@ static long error;
 static long report;
 static long calls;
 static long started;
+static long writes;
 
 static long number(const char *name)
 {
@@ -37,6 +39,7 @@ __attribute__((constructor)) static void begin(void)
     size = (size_t)number("FAILING_SIZE");
     failing = number("FAILING_FILE");
     started = number("STARTED_REPORT");
+    writes = number("WRITES_REPORT");
 }
 
 /* Whether this call is the one that fails. */
@@ -65,6 +68,8 @@ ssize_t write(int file, const void *bytes, size_t count)
 {
     if (file != STDOUT_FILENO)
         return syscall(SYS_write, file, bytes, count);
+    if (writes >= 0)
+        syscall(SYS_write, (int)writes, "w", 1);
     if (fails(file))
         return error ? -1 : 0;
     return syscall(SYS_write, file, bytes, at_most(count));
