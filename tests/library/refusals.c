@@ -17,7 +17,8 @@
 
 #define BUNDLES 4u
 #define LIMIT NC_LIMIT(BUNDLES)
-#define PAGE_END 0x10FE0u        /* the last bundle in the first page of a larger region */
+#define MOST_CHUNKS 513u         /* of a list */
+#define LIST_BUNDLES(chunks) (128 + 2 * (chunks) + BUNDLES) /* one page, and every other bundle */
 #define ROOM (2 * NC_BUNDLE + 2) /* acts, enough for each chunk */
 #define UNTOUCHED UINT32_MAX     /* what a buffer has where nothing was written into it */
 
@@ -36,14 +37,16 @@
 /* A text as bytes and their number: two arguments. */
 #define BYTES(text) (const uint8_t *)(text), strlen(text)
 
-/* What a call finds: no region; one; a larger one, and code that begins at PAGE_END; one, and vetted code; one in which the code is a
-   chunk; and that with both seats given. */
-typedef enum Stand { NO_REGION, REGION, PAGES, VETTED, CHUNK, SEATS } Stand;
+/* What a call finds: no region; one of four bundles; a larger one, with a list of chunks; one of four, and vetted code; one in which the
+   code is a chunk; and that with both seats given. */
+typedef enum Stand { NO_REGION, REGION, LIST, VETTED, CHUNK, SEATS } Stand;
 
 typedef struct Call {
     const char *name;
     const char *code;
     Stand stand;
+    uint32_t chunks; /* of the list: the code at every other bundle, from the second one on */
+    uint32_t bundle; /* where the call's code begins */
     uint32_t (*make)(void); /* its fault; what it answers besides is printed */
     void (*show)(void);     /* what stands after it */
 } Call;
@@ -54,12 +57,20 @@ static NcRegion region;
 static NcSeat seats[2];
 static NcVetted vetted;
 static NcWalk walked;
+static bool taken[LIST_BUNDLES(MOST_CHUNKS)]; /* the bundles of a list's region that have to hold a chunk */
 
 static struct {
     NcAct acts[ROOM];
     uint8_t marks[2 * NC_BUNDLE];
     uint32_t places[3];
 } buffers;
+
+static void need(bool holds) {
+    if (!holds) {
+        fputs("refusals: a call can't be made\n", stderr);
+        exit(2);
+    }
+}
 
 /* ---- Calls that take memory */
 
@@ -72,6 +83,12 @@ static uint32_t seat(void) { return nc_region_seat(&region, &seats[0]); }
 static uint32_t create(void) { return nc_region_create(&region, base, BYTES(code), buffers.acts, ROOM).fault; }
 static uint32_t new_vetted(void) { return nc_vetted_new(base, LIMIT, BYTES(code), &vetted).fault; }
 static uint32_t load(void) { return nc_region_load(&region, &vetted, buffers.acts, ROOM).fault; }
+
+static uint32_t create_in_list(void) {
+    uint32_t fault = create();
+    taken[(base - NC_START) / NC_BUNDLE] |= fault == NC_OK;
+    return fault;
+}
 
 static uint32_t host_patch(void) {
     return nc_host_patch(base, LIMIT, BYTES(code), base + 2, BYTES("\xB8\x02\x01\x01\x01"), buffers.acts, ROOM).fault;
@@ -119,6 +136,21 @@ static uint32_t retire(void) {
     tell("check in", nc_seat_check_in(&seats[0]));
     reclaim();
     nc_seat_leave(&seats[1]);
+    reclaim();
+    return NC_OK;
+}
+
+/* Every other chunk of a list leaves it. Nobody was given a seat, so the reclaim checks in for each. */
+static uint32_t retire_list(void) {
+    unsigned stamps = 0;
+    for (uint32_t bundle = 1; bundle < LIST_BUNDLES(MOST_CHUNKS); bundle += 4) {
+        if (taken[bundle]) {
+            need(nc_region_begin_delete(&region, NC_START + bundle * NC_BUNDLE, NULL, 0).fault == NC_OK);
+            stamps += nc_region_end_delete(&region).stamp == stamps + 1;
+            taken[bundle] = false;
+        }
+    }
+    printf("stamps: %u\n", stamps);
     reclaim();
     return NC_OK;
 }
@@ -180,6 +212,35 @@ static void show_region(void) {
     }
 }
 
+static bool is_live(NcChunk chunk, uint32_t bundle) {
+    return chunk.fault == NC_OK && chunk.base == NC_START + bundle * NC_BUNDLE && chunk.length == NC_BUNDLE && !chunk.retired;
+}
+
+/* The bundle holds the code, or stops. */
+static bool holds(uint32_t bundle, bool is_taken) {
+    for (uint32_t i = 0; i < NC_BUNDLE; i++) {
+        if (nc_region_place(&region, NC_START + bundle * NC_BUNDLE + i).byte != (is_taken ? (uint8_t)code[i] : NC_STOP)) {
+            return false;
+        }
+    }
+    return true;
+}
+
+/* The number of chunks that a list has to have, how many chunks and bundles are wrong, and one bundle. */
+static void show_list(void) {
+    size_t chunks = 0;
+    unsigned wrong = 0;
+    for (uint32_t bundle = 0; nc_region_place(&region, NC_START + bundle * NC_BUNDLE).fault == NC_OK; bundle++) {
+        wrong += taken[bundle] && !is_live(nc_region_chunk(&region, chunks), bundle);
+        wrong += !holds(bundle, taken[bundle]);
+        chunks += taken[bundle];
+    }
+    wrong += nc_region_chunk(&region, chunks).fault != NC_NO_CHUNK;
+    show_acts();
+    printf("chunks: %zu, wrong: %u\n", chunks, wrong);
+    show_bundle(base);
+}
+
 static void show_change(void) {
     show_acts();
     show_region();
@@ -213,38 +274,51 @@ static void show_walk(void) {
 /* ---- All calls */
 
 static const Call calls[] = {
-    {"vet", JUMP, NO_REGION, vet, show_marks},
-    {"vet-return", RETURN, NO_REGION, vet, show_marks},
-    {"marks-pair", NOPS27 PAIR, NO_REGION, mark, show_marks},
-    {"marks-jumps", JUMPS, NO_REGION, mark, show_marks},
-    {"host-create", JUMP, NO_REGION, host_create, show_acts},
-    {"host-patch", SEVERAL, NO_REGION, host_patch, show_acts},
-    {"host-delete", JUMP, NO_REGION, host_delete, show_acts},
-    {"region", JUMP, NO_REGION, new_region, show_region},
-    {"seat", JUMP, REGION, seat, show_seat},
-    {"create", JUMP, REGION, create, show_change},
-    {"create-pages", JUMPS, PAGES, create, show_change},
-    {"vetted", JUMP, REGION, new_vetted, show_vetted},
-    {"load", JUMP, VETTED, load, show_change},
-    {"walk", JUMP, CHUNK, walk, show_walk},
-    {"retire", JUMP, SEATS, retire, show_reused},
-    {"patches", SEVERAL, CHUNK, patches, show_region},
-    {"runs", JUMP, CHUNK, tell_runs, show_change},
+    {"vet", JUMP, NO_REGION, 0, 0, vet, show_marks},
+    {"vet-return", RETURN, NO_REGION, 0, 0, vet, show_marks},
+    {"marks-pair", NOPS27 PAIR, NO_REGION, 0, 0, mark, show_marks},
+    {"marks-jumps", JUMPS, NO_REGION, 0, 0, mark, show_marks},
+    {"host-create", JUMP, NO_REGION, 0, 0, host_create, show_acts},
+    {"host-patch", SEVERAL, NO_REGION, 0, 0, host_patch, show_acts},
+    {"host-delete", JUMP, NO_REGION, 0, 0, host_delete, show_acts},
+    {"region", JUMP, NO_REGION, 0, 0, new_region, show_region},
+    {"seat", JUMP, REGION, 0, 0, seat, show_seat},
+    {"create", JUMP, REGION, 0, 0, create, show_change},
+    {"create-pages", JUMPS, LIST, 0, 127, create, show_change},
+    {"vetted", JUMP, REGION, 0, 0, new_vetted, show_vetted},
+    {"load", JUMP, VETTED, 0, 0, load, show_change},
+    {"walk", JUMP, CHUNK, 0, 0, walk, show_walk},
+    {"retire", JUMP, SEATS, 0, 0, retire, show_reused},
+    {"patches", SEVERAL, CHUNK, 0, 0, patches, show_region},
+    {"runs", JUMP, CHUNK, 0, 0, tell_runs, show_change},
+    {"256th-first", JUMP, LIST, 255, 0, create_in_list, show_list},
+    {"256th-between", JUMP, LIST, 255, 254, create_in_list, show_list},
+    {"256th-last", JUMP, LIST, 255, 510, create_in_list, show_list},
+    {"257th-first", JUMP, LIST, 256, 0, create_in_list, show_list},
+    {"257th-between", JUMP, LIST, 256, 256, create_in_list, show_list},
+    {"257th-last", JUMP, LIST, 256, 512, create_in_list, show_list},
+    {"513th-first", JUMP, LIST, 512, 0, create_in_list, show_list},
+    {"513th-between", JUMP, LIST, 512, 600, create_in_list, show_list},
+    {"513th-last", JUMP, LIST, 512, 1024, create_in_list, show_list},
+    {"retire-list", JUMP, LIST, 513, 0, retire_list, show_list},
 };
 
-static void need(bool holds) {
-    if (!holds) {
-        fputs("refusals: a call can't be made\n", stderr);
-        exit(2);
+/* The list's chunks, in ascending order. */
+static void prepare_list(uint32_t chunks) {
+    memset(taken, 0, sizeof taken);
+    for (uint32_t bundle = 1; bundle < 2 * chunks; bundle += 2) {
+        need(nc_region_create(&region, NC_START + bundle * NC_BUNDLE, BYTES(code), NULL, 0).fault == NC_OK);
+        taken[bundle] = true;
     }
 }
 
 static void prepare(const Call *call) {
     Stand stand = call->stand;
     code = call->code;
-    base = stand == PAGES ? PAGE_END : NC_START;
+    base = NC_START + call->bundle * NC_BUNDLE;
     memset(&buffers, 0xFF, sizeof buffers);
-    need(stand == NO_REGION || nc_region_new(stand == PAGES ? 132 : BUNDLES, 2, &region) == NC_OK);
+    need(stand == NO_REGION || nc_region_new(stand == LIST ? LIST_BUNDLES(call->chunks) : BUNDLES, 2, &region) == NC_OK);
+    prepare_list(call->chunks);
     need(stand != VETTED || new_vetted() == NC_OK);
     need(stand < CHUNK || nc_region_create(&region, base, BYTES(code), NULL, 0).fault == NC_OK);
     need(stand < SEATS || (seat() == NC_OK && nc_region_seat(&region, &seats[1]) == NC_OK));
