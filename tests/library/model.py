@@ -15,6 +15,7 @@ class Model:
         self.bytes = bytearray([nc.STOP]) * (limit - nc.START)
         self.marks = bytearray(unused_marks(limit - nc.START))
         self.live, self.retired = {}, {}
+        self.taken = set()  # where a bundle of some chunk begins
         self.generation, self.since = 0, [0] * seats
 
     def chunks(self):
@@ -27,8 +28,10 @@ class Model:
 
     def create(self, base, code):
         """Creates a valid chunk: the fault."""
-        if any(base < other + length and other < base + len(code) for other, length, _ in self.chunks()):
+        bundles = range(base, base + len(code), nc.BUNDLE)
+        if not self.taken.isdisjoint(bundles):
             return nc.OCCUPIED
+        self.taken.update(bundles)
         self.live[base] = code
         self.bytes[self.span(base, len(code))] = code
         self.marks[self.span(base, len(code))] = marks_of(code)
@@ -61,5 +64,6 @@ class Model:
         freed = [base for base, (_, stamp) in self.retired.items() if stamp <= min(self.since)]
         for base in freed:
             length, _ = self.retired.pop(base)
+            self.taken.difference_update(range(base, base + length, nc.BUNDLE))
             self.marks[self.span(base, length)] = unused_marks(length)
         return len(freed)

@@ -4,6 +4,7 @@ The environment variable NC_HOST names the shared library, which `tools/try-libr
 A call answers with a named tuple that has the fields of its struct in C; one that writes into a buffer has the list of what was written in
 place of `count`.
 """
+import array
 import collections
 import ctypes
 import os
@@ -23,10 +24,11 @@ u32, size = ctypes.c_uint32, ctypes.c_size_t
 
 
 def struct(name, **fields):
-    """A struct of C, and a named tuple with its fields."""
+    """A struct of C, and a named tuple with its fields: `plain` makes it from a struct, `made` from the fields."""
     kind = type(name, (ctypes.Structure,), {"_fields_": [*fields.items()]})
     plain = collections.namedtuple(name, fields)
     kind.plain = lambda self: plain(*(getattr(self, field) for field in fields))
+    kind.made = plain._make
     return kind
 
 
@@ -110,11 +112,17 @@ def marks(base, end, code):
 Changed = collections.namedtuple("Changed", "fault at acts")
 
 
+def acts_in(words):
+    """The acts that these words are, three of them each."""
+    return [*map(Act.made, zip(words[0::3], words[1::3], words[2::3]))]
+
+
 def written(call, *words, room):
     """A call that writes acts: its fault, its address, and the acts."""
     acts = (Act * room)()
     change = call(*words, acts, room).plain()
-    return Changed(change.fault, change.at, [act.plain() for act in acts[: change.count]] if change.fault == OK else [])
+    count = change.count if change.fault == OK else 0
+    return Changed(change.fault, change.at, acts_in(array.array("I", bytes(acts)[: 12 * count])))
 
 
 class Vetted:
