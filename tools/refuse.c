@@ -6,7 +6,7 @@
    REFUSE_MARKED  1 if only those are counted that come after the program's second write to standard output and before its
                   third; otherwise all of them are
    REFUSE_REPORT  the number of an open file, to which a line is written for each refusal, and as the program ends a line with
-                  the number of allocations that it hasn't given back
+                  the number of allocations that it asked for, and of those that it hasn't given back
 
    It stands on the C library's own allocator by the names that glibc gives it. */
 #include <errno.h>
@@ -26,6 +26,7 @@ static long nth;
 static long later;
 static long marked;
 static long report;
+static atomic_long asked;
 static atomic_long allocations;
 static atomic_long writes;
 static atomic_long kept;
@@ -47,6 +48,7 @@ __attribute__((constructor)) static void begin(void)
 /* Whether this allocation is to be refused. */
 static int refuses(void)
 {
+    asked++;
     if (nth == 0 || (marked && writes != 2))
         return 0;
     long now = ++allocations;
@@ -119,8 +121,8 @@ ssize_t write(int file, const void *bytes, size_t count)
 /* Says what is kept, as the program ends. */
 __attribute__((destructor)) static void end(void)
 {
-    char line[32];
-    int length = snprintf(line, sizeof line, "%ld\n", (long)kept);
+    char line[64];
+    int length = snprintf(line, sizeof line, "%ld %ld\n", (long)asked, (long)kept);
     syscall(SYS_write, (int)report, line, length);
 }
 
