@@ -158,6 +158,7 @@ static void *guest(void *argument) {
     }
     g->went_back = trap_went_back;
     seat_leave(g->seat);
+    trap_end_thread();
     return NULL;
 }
 

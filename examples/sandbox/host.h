@@ -5,6 +5,9 @@
 #include "region.h"
 #include "segment.h"
 
+#define DEPTH 16u            /* how many stays of a thread may lie within each other: each takes some of the host's stack */
+#define HUNDREDTHS 100u      /* of a second of a processor's time: the longest stay, with all within it */
+
 extern Region *host_region;
 
 /* 0, or what the system refused. */
@@ -16,7 +19,12 @@ uint32_t host_patch(uint32_t at, const uint8_t *bytes, uint32_t len);
 uint32_t host_delete(uint32_t base);
 uint32_t host_reclaim(void);
 
-/* Goes inside and serves its calls until it comes out for another reason: `guest_why`. */
+/* Goes inside and serves its calls until it comes out for another reason: `guest_why`. OUT_PRINT and OUT_CALL are then calls that the host
+   refused. */
 void host_run(uint32_t place);
+void host_run_for(uint32_t place, unsigned hundredths);
+
+/* `guest_why` in words. */
+const char *host_why(void);
 
 #endif

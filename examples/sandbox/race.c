@@ -75,6 +75,7 @@ static void *guest(void *argument) {
     }
     g->tally.went_back = trap_went_back;
     seat_leave(g->seat);
+    trap_end_thread();
     return NULL;
 }
 

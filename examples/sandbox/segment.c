@@ -1,4 +1,4 @@
-/* The code segment ends at the region's limit, data and stack have another: docs/EMBEDDING.md, "Segments" and "A 64-bit host on Linux". */
+/* The code segment ends at the region's limit, data and stack at another: docs/EMBEDDING.md, "Segments" and "A 64-bit host on Linux". */
 #define _GNU_SOURCE
 #include "segment.h"
 
@@ -15,15 +15,17 @@ __thread uint64_t host_stack;
    register, SS, DS and ES the untrusted code's. FS is still the thread's own, and through it the host finds its stack. */
 void enter(void);
 extern char ways_out[], out_of_handler[];
+#define TEXT_OF(number) #number
+#define IMMEDIATE(number) "$" TEXT_OF(number)
 __asm__(".text\n"
         "enter:\n"
         "  push %rbx; push %rbp; push %r12; push %r13; push %r14; push %r15\n"
         "  mov %rsp, %fs:host_stack@tpoff\n"
-        "  mov $0x0F, %eax; mov %eax, %ds; mov %eax, %es\n"
-        "  push %rax\n"                               /* SS */
+        "  mov " IMMEDIATE(DATA_SELECTOR) ", %eax; mov %eax, %ds; mov %eax, %es\n"
+        "  push " IMMEDIATE(STACK_SELECTOR) "\n"
         "  mov %fs:guest_reg@tpoff+16, %eax; push %rax\n" /* ESP */
         "  push $0x202\n"                             /* the flags: no direction, interrupts */
-        "  push $0x07\n"                              /* CS */
+        "  push " IMMEDIATE(CODE_SELECTOR) "\n"
         "  mov %fs:guest_place@tpoff, %eax; push %rax\n"
         "  mov %fs:guest_reg@tpoff, %eax; mov %fs:guest_reg@tpoff+4, %ecx\n"
         "  mov %fs:guest_reg@tpoff+8, %edx; mov %fs:guest_reg@tpoff+12, %ebx\n"
@@ -31,7 +33,7 @@ __asm__(".text\n"
         "  iretq\n"
         ".balign 32\n"
         "ways_out:\n"
-        ".irp why, 1, 2, 3, 4, 5\n"
+        ".irp why, 1, 2, 3, 4, 5, 6\n"
         "  .balign 32\n"
         "  movl $\\why, %fs:guest_why@tpoff\n"
         "  jmp 1f\n"
@@ -43,7 +45,7 @@ __asm__(".text\n"
         "  mov %esi, %fs:guest_reg@tpoff+24; mov %edi, %fs:guest_reg@tpoff+28\n"
         "out_of_handler:\n"
         "  cld\n"
-        "  mov $0x2B, %eax; mov %eax, %ss; mov %fs:host_stack@tpoff, %rsp\n"
+        "  mov " IMMEDIATE(HOST_DATA) ", %eax; mov %eax, %ss; mov %fs:host_stack@tpoff, %rsp\n"
         "  mov %eax, %ds; mov %eax, %es\n"
         "  pop %r15; pop %r14; pop %r13; pop %r12; pop %rbp; pop %rbx\n"
         "  ret\n");
@@ -58,7 +60,7 @@ uint64_t way_out_of_handler(void) {
 
 void go_inside(void) {
     if (guest_place % NC_BUNDLE != 0 || guest_place < NC_START || guest_place >= LIMIT) {
-        guest_why = OUT_FAULT;
+        guest_why = OUT_NO_ENTRY;
         return;
     }
     enter();
@@ -81,7 +83,8 @@ static long make_segment(unsigned entry, uint32_t base, uint32_t len, unsigned c
 const char *segment_begin(void) {
     void *data = mmap((void *)(uintptr_t)DATA_AT, DATA_LEN, PROT_READ | PROT_WRITE, MAP_PRIVATE | MAP_ANONYMOUS | MAP_FIXED_NOREPLACE, -1, 0);
     if (make_segment(CODE_SELECTOR >> 3, CODE_AT, LIMIT, MODIFY_LDT_CONTENTS_CODE) != 0 ||
-        make_segment(DATA_SELECTOR >> 3, DATA_AT, DATA_LEN, MODIFY_LDT_CONTENTS_DATA) != 0) {
+        make_segment(DATA_SELECTOR >> 3, DATA_AT, DATA_LEN, MODIFY_LDT_CONTENTS_DATA) != 0 ||
+        make_segment(STACK_SELECTOR >> 3, DATA_AT, DATA_LEN, MODIFY_LDT_CONTENTS_DATA) != 0) {
         return "modify_ldt";
     }
     if (data != (void *)(uintptr_t)DATA_AT || (uint64_t)(uintptr_t)out_of_handler >> 32 != 0) {

@@ -14,16 +14,19 @@
 static uint8_t *writable; /* indexed by place, as the code segment is; above 4 GiB, out of reach of untrusted code */
 static uint64_t changes;
 
+void text_lay_trampoline(uint8_t *at, unsigned why) {
+    uint32_t to = way_out(why);
+    at[0] = 0xEA; /* a far jump: the offset, the selector of 64-bit code */
+    memcpy(at + 1, &to, 4);
+    at[5] = HOST_CODE;
+    at[6] = 0;
+}
+
 /* The bundle starts below NC_START are doors: each is a trampoline of the host's or a stop. */
 static void lay_trampolines(void) {
     unsigned why;
     for (why = 1; why <= TRAMPOLINES; why++) {
-        uint8_t *t = writable + NC_BUNDLE * why;
-        uint32_t to = way_out(why);
-        t[0] = 0xEA; /* a far jump: the offset, the selector of 64-bit code */
-        memcpy(t + 1, &to, 4);
-        t[5] = HOST_CODE;
-        t[6] = 0;
+        text_lay_trampoline(writable + NC_BUNDLE * why, why);
     }
 }
 

@@ -7,6 +7,9 @@
 /* 0, or what the system refused. Call it before any other thread is started. */
 const char *text_begin(void);
 
+/* Writes the bytes of a trampoline. */
+void text_lay_trampoline(uint8_t *at, unsigned why);
+
 /* The bytes that stand there, for whoever changes the text; one of them, for anyone. */
 const uint8_t *text_at(uint32_t at);
 uint8_t text_byte(uint32_t at);

@@ -1,5 +1,5 @@
-/* The handler: docs/EMBEDDING.md, "Stops and faults". A stop may be that of a patch, and over by the time the handler looks; the count of
-   changes tells it from a fault of the code's own. */
+/* The handlers: docs/EMBEDDING.md, "Stops and faults" and "Time limits". A stop may be that of a patch, and over by the time the handler
+   looks; the count of changes tells it from a fault of the code's own. */
 #define _GNU_SOURCE
 #include "trap.h"
 
@@ -7,17 +7,30 @@
 
 #include <sched.h>
 #include <signal.h>
+#include <stdlib.h>
 #include <string.h>
 #include <sys/mman.h>
+#include <sys/syscall.h>
+#include <time.h>
 #include <ucontext.h>
 #include <unistd.h>
 
-#define GENERAL_PROTECTION 13
+#ifndef sigev_notify_thread_id
+#define sigev_notify_thread_id _sigev_un._tid
+#endif
 #define STACK_LEN (1u << 16)
+#define TICK SIGALRM /* each hundredth of a second of a thread's time */
 
+static const int FAULTS[] = {SIGSEGV, SIGBUS, SIGILL, SIGFPE, SIGTRAP}; /* by which untrusted code can come out: all of them */
+#define FAULT_COUNT (sizeof FAULTS / sizeof *FAULTS)
+
+__thread uint32_t guest_trap;
 __thread uint64_t trap_went_back;
 static __thread uint32_t kept_place; /* where this thread went back, or 0 */
 static __thread uint64_t kept_changes;
+static __thread volatile unsigned ticks_left; /* the handler counts down */
+static __thread timer_t timer;
+static __thread void *stack_at;
 
 void trap_forget(void) {
     kept_place = 0;
@@ -59,12 +72,16 @@ static void come_out(greg_t *reg, uint32_t why) {
     reg[REG_CSGSFS] = (greg_t)(((uint64_t)reg[REG_CSGSFS] & 0x0000FFFFFFFF0000ull) | HOST_CODE | (uint64_t)HOST_DATA << 48);
 }
 
+static int is_inside(const greg_t *reg) {
+    return ((uint64_t)reg[REG_CSGSFS] & 0xFFFF) == CODE_SELECTOR;
+}
+
 static void on_trap(int sig, siginfo_t *info, void *context) {
     static const char text[] = "a fault of the host itself\n";
     greg_t *reg = ((ucontext_t *)context)->uc_mcontext.gregs;
     uint32_t place = (uint32_t)reg[REG_RIP], why = OUT_FAULT;
     (void)info;
-    if (((uint64_t)reg[REG_CSGSFS] & 0xFFFF) != CODE_SELECTOR) {
+    if (!is_inside(reg)) {
         (void)!write(2, text, sizeof text - 1);
         _exit(4);
     }
@@ -74,33 +91,92 @@ static void on_trap(int sig, siginfo_t *info, void *context) {
     if (why == 0) {
         trap_went_back++;
     } else {
+        guest_trap = (uint32_t)reg[REG_TRAPNO];
         come_out(reg, why);
     }
 }
 
-const char *trap_begin(void) {
-    static const int signals[] = {SIGSEGV, SIGILL, SIGTRAP, SIGFPE, SIGBUS};
+/* If the thread is in the host, it comes out by the next tick that finds it inside. */
+static void on_tick(int sig, siginfo_t *info, void *context) {
+    greg_t *reg = ((ucontext_t *)context)->uc_mcontext.gregs;
+    (void)sig;
+    (void)info;
+    if (ticks_left != 0) {
+        ticks_left--;
+    }
+    if (ticks_left == 0 && is_inside(reg)) {
+        come_out(reg, OUT_LATE);
+    }
+}
+
+void trap_limit(unsigned hundredths) {
+    ticks_left = hundredths;
+}
+
+int trap_is_late(void) {
+    return ticks_left == 0;
+}
+
+static int handle(int sig, void (*handler)(int, siginfo_t *, void *)) {
     struct sigaction action;
-    size_t i;
     memset(&action, 0, sizeof action);
-    action.sa_sigaction = on_trap;
-    action.sa_flags = SA_SIGINFO | SA_ONSTACK;
-    for (i = 0; i < sizeof signals / sizeof *signals; i++) {
-        if (sigaction(signals[i], &action, NULL) != 0) {
+    action.sa_sigaction = handler;
+    action.sa_flags = SA_SIGINFO | SA_ONSTACK | SA_RESTART;
+    return sigaction(sig, &action, NULL) == 0;
+}
+
+const char *trap_begin(void) {
+    size_t i;
+    for (i = 0; i < FAULT_COUNT; i++) {
+        if (!handle(FAULTS[i], on_trap)) {
             return "sigaction";
         }
     }
-    return NULL;
+    return handle(TICK, on_tick) ? NULL : "sigaction";
 }
 
 /* A stack above 4 GiB, where no stack pointer of untrusted code reaches. */
-const char *trap_begin_thread(void) {
+static int make_stack(void) {
     stack_t stack;
     memset(&stack, 0, sizeof stack);
     stack.ss_size = STACK_LEN;
     stack.ss_sp = mmap(NULL, STACK_LEN, PROT_READ | PROT_WRITE, MAP_PRIVATE | MAP_ANONYMOUS, -1, 0);
-    if (stack.ss_sp == MAP_FAILED || (uint64_t)(uintptr_t)stack.ss_sp >> 32 == 0 || sigaltstack(&stack, NULL) != 0) {
-        return "sigaltstack";
+    stack_at = stack.ss_sp;
+    return stack_at != MAP_FAILED && (uint64_t)(uintptr_t)stack_at >> 32 != 0 && sigaltstack(&stack, NULL) == 0;
+}
+
+/* Linux ends a process in which a fault's signal is blocked. */
+static int unblock(void) {
+    sigset_t needed;
+    size_t i;
+    sigemptyset(&needed);
+    sigaddset(&needed, TICK);
+    for (i = 0; i < FAULT_COUNT; i++) {
+        sigaddset(&needed, FAULTS[i]);
     }
-    return NULL;
+    return pthread_sigmask(SIG_UNBLOCK, &needed, NULL) == 0;
+}
+
+/* It ticks by the processor time of the thread, in the host too. */
+static int start_timer(void) {
+    static const struct itimerspec each = {{0, 10000000}, {0, 10000000}};
+    struct sigevent event;
+    memset(&event, 0, sizeof event);
+    event.sigev_notify = SIGEV_THREAD_ID;
+    event.sigev_signo = TICK;
+    event.sigev_notify_thread_id = (pid_t)syscall(SYS_gettid);
+    return timer_create(CLOCK_THREAD_CPUTIME_ID, &event, &timer) == 0 && timer_settime(timer, 0, &each, NULL) == 0;
+}
+
+const char *trap_begin_thread(void) {
+    return !make_stack() ? "sigaltstack" : !unblock() ? "pthread_sigmask" : !start_timer() ? "timer_create" : NULL;
+}
+
+void trap_end_thread(void) {
+    stack_t none;
+    memset(&none, 0, sizeof none);
+    none.ss_flags = SS_DISABLE;
+    if (timer_delete(timer) != 0 || sigaltstack(&none, NULL) != 0 || munmap(stack_at, STACK_LEN) != 0) {
+        abort();
+    }
 }
