@@ -36,6 +36,8 @@ FILES = [
     ("docs", DOC + "docs"),
     ("docs/charts", DOC + "docs/charts"),
     ("examples/host", DOC + "examples/host"),
+    ("examples/sandbox", DOC + "examples/sandbox"),
+    ("examples/jit", DOC + "examples/jit"),
     ("examples/library", DOC + "examples/library"),
     ("examples/library/trials", DOC + "examples/library/trials"),
     ("examples/library/musl", DOC + "examples/library/musl"),
@@ -44,6 +46,11 @@ FILES = [
     ("examples/first.script", DOC + "examples/first.script"),
     ("examples/vet.lines", DOC + "examples/vet.lines"),
 ]
+
+# Folders and files of the repository that pages name and that aren't installed, and what stands before their names on an installed page.
+ELSEWHERE = [".ci/", "bench/", "crates/", "examples/mapped/", "packaging/", "tests/", "tools/"] + [
+    "examples/compile/" + name for name in ("build", "host.s", "instructions.txt", "nc-cc", "to-bundles")]
+ONLY_THERE = "Named on this page, and only in the source repository: "
 
 # Templates of packaging/, and where they go.
 TEMPLATES = [
@@ -97,6 +104,28 @@ def without_links(text, place, made):
     return re.sub(r"\[([^\]\n]+)\]\(([^)#\s]+)(?:#[^)\s]*)?\)", kept, text)
 
 
+def names(text, path):
+    """Whether a page names this file, or this folder (whose path ends with a slash) or something below it."""
+    end = "[/`]" if path.endswith("/") else r"(?![\w.-])"
+    return re.search(r"(?<![\w/.-])" + re.escape(path.rstrip("/")) + end, text) is not None
+
+
+def with_note(text):
+    """A page with a line below its title about what it names and isn't installed."""
+    named = ", ".join("`%s`" % path for path in ELSEWHERE if names(text, path))
+    title, rest = text.split("\n", 1)
+    return "%s\n\n%s%s.\n%s" % (title, ONLY_THERE, named, rest) if named else text
+
+
+def as_installed(text, place, made):
+    """A page as it is installed: without links to what isn't, and with the names that files have where they are installed."""
+    text = without_links(text, place, made)
+    for path, to in FILES:
+        if not to.startswith(DOC):
+            text = text.replace(path, to)
+    return with_note(text)
+
+
 def tree(cpu=DEFAULT, anew=False):
     """All of it, for a processor; what is built already isn't built again, if it isn't to be made anew."""
     number = version()
@@ -105,7 +134,7 @@ def tree(cpu=DEFAULT, anew=False):
     for path, to in FILES:
         made.update(copied(path, to))
     for path in [path for path in made if path.endswith(".md")]:
-        made[path] = File(without_links(made[path].content.decode(), path, made).encode(), made[path].mode)
+        made[path] = File(as_installed(made[path].content.decode(), path, made).encode(), made[path].mode)
     for template, to in TEMPLATES:
         made[to] = File(filled(template).encode(), 0o644)
     made["bin/nc-bundle"] = File(read(REWRITER).replace(b"to-bundles", b"nc-bundle"), 0o755)
