@@ -129,7 +129,6 @@ static int over;
 
 typedef struct Guest {
     pthread_t thread;
-    Seat *seat;
     uint32_t stack;
     uint64_t stays, resumed, wrong, went_back;
 } Guest;
@@ -149,23 +148,21 @@ static void run_cached(Guest *g, uint32_t sum) {
 static void *guest(void *argument) {
     Guest *g = argument;
     uint32_t sum = sum_of(CACHED, ROUNDS);
-    if (trap_begin_thread() != NULL) {
+    if (host_begin_thread() != NULL) {
         abort();
     }
     while (!__atomic_load_n(&over, __ATOMIC_SEQ_CST)) {
         run_cached(g, sum);
-        seat_check_in(g->seat);
+        host_check_in();
     }
     g->went_back = trap_went_back;
-    seat_leave(g->seat);
-    trap_end_thread();
+    host_end_thread();
     return NULL;
 }
 
 static void start(Guest *g, unsigned number) {
     g->stack = STACK_OF_EACH * (number + 2);
-    g->seat = region_seat(host_region);
-    if (g->seat == NULL || pthread_create(&g->thread, NULL, guest, g) != 0) {
+    if (pthread_create(&g->thread, NULL, guest, g) != 0) {
         abort();
     }
 }
@@ -204,7 +201,7 @@ static uint64_t change_while_running(double until, uint64_t *waits) {
 }
 
 static int run_cache(double seconds, unsigned threads) {
-    static Guest guests[SEATS];
+    static Guest guests[THREADS];
     uint64_t waits = 0, changes, stays = 0, wrong = 0, resumed = 0, went_back = 0;
     unsigned i;
     if (!generate(CACHED, CACHED_AT, &cached)) {
@@ -245,7 +242,7 @@ int main(int argc, char **argv) {
         }
         *number = (unsigned)atoi(argv[i + 1]);
     }
-    if (i != argc || seconds < 1 || threads < 1 || threads > SEATS) {
+    if (i != argc || seconds < 1 || threads < 1 || threads > THREADS) {
         fputs("usage: jit [--seconds N] [--threads N], of 1 to 16 threads and at least one second\n", stderr);
         return 2;
     }

@@ -11,7 +11,8 @@
 #define ROOM 65536u /* acts of the longest call */
 #define LONGEST_LINE 100u
 
-Region *host_region;
+static Region *region;
+static __thread Seat *seat;
 static pthread_mutex_t writer = PTHREAD_MUTEX_INITIALIZER;
 static NcAct acts[ROOM];
 static __thread unsigned depth; /* stays of this thread that lie within each other */
@@ -20,16 +21,37 @@ const char *host_begin(void) {
     const char *refused = nc_host_version() != NC_VERSION ? "another version of nc_host" : segment_begin();
     refused = refused ? refused : text_begin();
     refused = refused ? refused : trap_begin();
-    refused = refused ? refused : trap_begin_thread();
-    host_region = region_new();
-    return refused ? refused : host_region == NULL ? "memory" : NULL;
+    region = region_new();
+    refused = refused ? refused : region == NULL ? "memory" : NULL;
+    return refused ? refused : host_begin_thread();
+}
+
+/* Until its first check-in a seat may hold back what was deleted before. */
+const char *host_begin_thread(void) {
+    pthread_mutex_lock(&writer);
+    seat = region_seat(region);
+    pthread_mutex_unlock(&writer);
+    if (seat == NULL) {
+        return "a seat";
+    }
+    seat_check_in(seat);
+    return trap_begin_thread();
+}
+
+void host_end_thread(void) {
+    trap_end_thread();
+    seat_leave(seat);
+}
+
+void host_check_in(void) {
+    seat_check_in(seat);
 }
 
 NcVerdict host_load(uint32_t base, const uint8_t *code, uint32_t len) {
     NcVerdict verdict;
     NcActs told;
     pthread_mutex_lock(&writer);
-    told = region_create(host_region, base, code, len, acts, ROOM);
+    told = region_create(region, base, code, len, acts, ROOM);
     text_make(acts, told.count * (told.fault == NC_OK));
     pthread_mutex_unlock(&writer);
     verdict.fault = told.fault;
@@ -40,7 +62,7 @@ NcVerdict host_load(uint32_t base, const uint8_t *code, uint32_t len) {
 uint32_t host_patch(uint32_t at, const uint8_t *bytes, uint32_t len) {
     NcActs told;
     pthread_mutex_lock(&writer);
-    told = region_patch(host_region, at, bytes, len, acts, ROOM);
+    told = region_patch(region, at, bytes, len, acts, ROOM);
     text_make(acts, told.count * (told.fault == NC_OK));
     pthread_mutex_unlock(&writer);
     return told.fault;
@@ -50,10 +72,10 @@ uint32_t host_patch(uint32_t at, const uint8_t *bytes, uint32_t len) {
 uint32_t host_delete(uint32_t base) {
     NcActs told;
     pthread_mutex_lock(&writer);
-    told = region_begin_delete(host_region, base, acts, ROOM);
+    told = region_begin_delete(region, base, acts, ROOM);
     if (told.fault == NC_OK) {
         text_make(acts, told.count);
-        region_end_delete(host_region);
+        region_end_delete(region);
     }
     pthread_mutex_unlock(&writer);
     return told.fault;
@@ -61,8 +83,9 @@ uint32_t host_delete(uint32_t base) {
 
 uint32_t host_reclaim(void) {
     uint32_t freed;
+    host_check_in();
     pthread_mutex_lock(&writer);
-    freed = region_reclaim(host_region);
+    freed = region_reclaim(region);
     pthread_mutex_unlock(&writer);
     return freed;
 }

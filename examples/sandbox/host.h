@@ -7,17 +7,22 @@
 
 #define DEPTH 16u            /* how many stays of a thread may lie within each other: each takes some of the host's stack */
 #define HUNDREDTHS 100u      /* of a second of a processor's time: the longest stay, with all within it */
+#define THREADS 16u          /* that may go inside, beside the one that calls host_begin */
 
-extern Region *host_region;
-
-/* 0, or what the system refused. */
+/* 0, or what the system refused: for the process and the thread that calls it, and for each other thread that goes inside, which ends by the
+   last. */
 const char *host_begin(void);
+const char *host_begin_thread(void);
+void host_end_thread(void);
 
 /* Each answers the fault, NC_OK where the text was changed. */
 NcVerdict host_load(uint32_t base, const uint8_t *code, uint32_t len);
 uint32_t host_patch(uint32_t at, const uint8_t *bytes, uint32_t len);
 uint32_t host_delete(uint32_t base);
+
+/* How many deleted spans are free now. The thread that asks is outside, so it checks in. */
 uint32_t host_reclaim(void);
+void host_check_in(void);
 
 /* Goes inside and serves its calls until it comes out for another reason: `guest_why`. OUT_PRINT and OUT_CALL are then calls that the host
    refused. */

@@ -18,8 +18,6 @@
  */
 #include "host.h"
 #include "race.h"
-#include "text.h"
-#include "trap.h"
 #include "trials.h"
 
 #include <stdio.h>
@@ -28,6 +26,7 @@
 
 #define REFUSED 3
 #define SKIPPED 77
+#define SECONDS 86400u
 #define CODE_MAX 32768u
 #define UNTRUSTED_DATA 0x200000u /* where `build` puts data; the stack lies below it */
 #define CHANGED_AT 0x40000u
@@ -117,22 +116,31 @@ typedef struct Words {
     int torn;
 } Words;
 
+/* Whether it is a number within these bounds. */
+static int read_number(const char *text, unsigned least, unsigned most, unsigned *number) {
+    char *end;
+    unsigned long value = strtoul(text, &end, 10);
+    *number = (unsigned)value;
+    return text[0] >= '0' && text[0] <= '9' && *end == 0 && value >= least && value <= most;
+}
+
 /* Whether the command line is right. */
 static int read_words(Words *words, int argc, char **argv) {
-    int i;
-    for (i = 3; i < argc; i++) {
-        unsigned *number = strcmp(argv[i], "--threads") == 0 ? &words->threads : strcmp(argv[i], "--seconds") == 0 ? &words->seconds : NULL;
-        if (number != NULL && i + 1 < argc) {
-            *number = (unsigned)atoi(argv[++i]);
-        } else if (strcmp(argv[i], "--control") == 0) {
+    int i, right = argc >= 3;
+    for (i = 3; i < argc && right; i++) {
+        if (strcmp(argv[i], "--control") == 0) {
             words->torn = 1;
+        } else if (strcmp(argv[i], "--seconds") == 0 && i + 1 < argc) {
+            right = read_number(argv[++i], 0, SECONDS, &words->seconds);
+        } else if (strcmp(argv[i], "--threads") == 0 && i + 1 < argc) {
+            right = read_number(argv[++i], 1, THREADS, &words->threads);
         } else {
-            return 0;
+            right = 0;
         }
     }
-    words->code = argc < 3 ? NULL : argv[1];
-    words->data = argc < 3 ? NULL : argv[2];
-    return argc >= 3 && words->threads >= 1 && words->threads <= SEATS;
+    words->code = right ? argv[1] : NULL;
+    words->data = right ? argv[2] : NULL;
+    return right;
 }
 
 int main(int argc, char **argv) {

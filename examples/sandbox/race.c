@@ -18,7 +18,6 @@
 
 typedef struct Guest {
     pthread_t thread;
-    Seat *seat;
     uint32_t number;
     Tally tally;
 } Guest;
@@ -59,7 +58,7 @@ static int is_right(uint32_t way) {
 static void *guest(void *argument) {
     Guest *g = argument;
     uint64_t random = 0x9E3779B97F4A7C15ull * (g->number + 1);
-    if (trap_begin_thread() != NULL) {
+    if (host_begin_thread() != NULL) {
         abort();
     }
     while (!__atomic_load_n(&over, __ATOMIC_SEQ_CST)) {
@@ -71,11 +70,10 @@ static void *guest(void *argument) {
             fprintf(stderr, "astray: thread %u, way %u, out by %u at %08x, eax %08x\n", (unsigned)g->number, (unsigned)way,
                     (unsigned)guest_why, (unsigned)guest_place, (unsigned)guest_reg[EAX]);
         }
-        seat_check_in(g->seat);
+        host_check_in();
     }
     g->tally.went_back = trap_went_back;
-    seat_leave(g->seat);
-    trap_end_thread();
+    host_end_thread();
     return NULL;
 }
 
@@ -134,7 +132,7 @@ static double now(void) {
 }
 
 Tally race(unsigned threads, unsigned seconds, int torn) {
-    static Guest guests[SEATS];
+    static Guest guests[THREADS];
     Tally all = {0};
     uint64_t random = 88172645463325252ull;
     double until;
@@ -143,8 +141,7 @@ Tally race(unsigned threads, unsigned seconds, int torn) {
     load_chunks(&random);
     for (i = 0; i < threads; i++) {
         guests[i].number = i;
-        guests[i].seat = region_seat(host_region);
-        if (guests[i].seat == NULL || pthread_create(&guests[i].thread, NULL, guest, &guests[i]) != 0) {
+        if (pthread_create(&guests[i].thread, NULL, guest, &guests[i]) != 0) {
             abort();
         }
     }

@@ -4,7 +4,7 @@
 
 #include "nc_host.h"
 
-#define SEATS 16
+#define SEATS 32 /* a seat that was left isn't given again */
 
 typedef struct Region Region;
 typedef struct Seat Seat;

@@ -234,8 +234,7 @@ static void try_stops(const char *name, uint32_t from, uint32_t to, uint32_t ste
             printf("), ");
         }
     }
-    printf("%u stops", (unsigned)stops);
-    printf(other ? ", %u not\n" : "\n", (unsigned)other);
+    printf("%u stops, %u others\n", (unsigned)stops, (unsigned)other);
     astray += other != 0;
     unload();
 }
@@ -256,8 +255,12 @@ static void try_pages(void) {
         bad += rights[2] == 'x' && from < CODE_AT + LIMIT && to > CODE_AT && strstr(line, "memfd:text") == NULL;
     }
     must(fclose(maps) == 0, "/proc/self/maps");
-    printf(bad ? "ASTRAY: %u\n" : "what executes can't be written, and only the text executes in the code segment\n", bad);
-    astray += bad != 0;
+    if (bad != 0) {
+        printf("ASTRAY: %u can be written and executed, or are executed beside the text\n", bad);
+        astray++;
+        return;
+    }
+    printf("what executes can't be written, and only the text executes in the code segment\n");
 }
 
 /* ---- Signals */
@@ -292,9 +295,9 @@ static void try_case(const Case *c, uint32_t stack_pointer) {
 
 static void *run_blocked(void *none) {
     static const Case blocked = {"a stop, in a thread that was begun with all signals blocked", OUT_STOP, GENERAL_PROTECTION, 1, {0xF4}};
-    must(trap_begin_thread() == NULL, "preparing a thread");
+    must(host_begin_thread() == NULL, "preparing a thread");
     try_case(&blocked, STACK_AT);
-    trap_end_thread();
+    host_end_thread();
     return none;
 }
 
