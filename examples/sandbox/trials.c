@@ -279,10 +279,9 @@ typedef struct Case {
     uint8_t len, code[7];
 } Case;
 
-static void try_case(const Case *c, uint32_t stack_pointer) {
+static void run_case(const Case *c, uint32_t stack_pointer) {
     int is_trap = c->why == OUT_STOP || c->why == OUT_FAULT;
     const char *also;
-    load(c->code, c->len);
     begin_line(c->name);
     fill();
     set_registers();
@@ -290,23 +289,30 @@ static void try_case(const Case *c, uint32_t stack_pointer) {
     host_run_for(TRIAL_AT, SHORT);
     also = direction() ? ", the direction flag set" : is_untouched() ? "" : ", memory of the host's changed";
     end_line(guest_why == c->why && (!is_trap || guest_trap == c->trap) && *also == 0, also);
+}
+
+static void try_case(const Case *c, uint32_t stack_pointer) {
+    load(c->code, c->len);
+    run_case(c, stack_pointer);
     unload();
 }
 
-static void *run_blocked(void *none) {
-    static const Case blocked = {"a stop, in a thread that was begun with all signals blocked", OUT_STOP, GENERAL_PROTECTION, 1, {0xF4}};
+static void *run_blocked(void *blocked) {
     must(host_begin_thread() == NULL, "preparing a thread");
-    try_case(&blocked, STACK_AT);
+    run_case(blocked, STACK_AT);
     host_end_thread();
-    return none;
+    return NULL;
 }
 
 static void try_blocked(void) {
+    static Case blocked = {"a stop, in a thread that was begun with all signals blocked", OUT_STOP, GENERAL_PROTECTION, 1, {0xF4}};
     sigset_t all, old;
     pthread_t thread;
+    load(blocked.code, blocked.len);
     must(sigfillset(&all) == 0 && pthread_sigmask(SIG_SETMASK, &all, &old) == 0, "pthread_sigmask");
-    must(pthread_create(&thread, NULL, run_blocked, NULL) == 0 && pthread_join(thread, NULL) == 0, "a thread");
+    must(pthread_create(&thread, NULL, run_blocked, &blocked) == 0 && pthread_join(thread, NULL) == 0, "a thread");
     must(pthread_sigmask(SIG_SETMASK, &old, NULL) == 0, "pthread_sigmask");
+    unload();
 }
 
 /* A kernel takes the stack pointer of untrusted code as a flat address. */
