@@ -1,5 +1,5 @@
 # For the scripts `build` of this folder and of examples/jit: how to compile a host and to link it with the library, in the repository and where
-# Reedbodkin is installed. It reads `here`, the folder of the script, and sets `compile`, `link` and `nc_cc`.
+# Reedbodkin is installed. It reads `here`, the folder of the script, and sets `compile`, `link`, `libraries` and `nc_cc`.
 top=$here/../..
 if [ -d "$top/crates" ]; then
     kit=${RATTLE_KIT:-$(dirname "$(rt doc)")}
@@ -15,4 +15,5 @@ for library in "${libraries[@]}"; do
 done
 
 # The host is linked below 4 GiB, since a trampoline's far jump has an offset of 32 bits.
-compile=("${CC:-gcc}" -std=gnu11 -O2 -Wall -Wextra -no-pie -pthread "-I$include" "-I$top/examples/sandbox")
+compile=("${CC:-gcc}" -std=gnu11 -O2 -Wall -Wextra -fno-pie -pthread "-I$include" "-I$top/examples/sandbox")
+link=("${compile[@]}" -no-pie)
