@@ -375,7 +375,8 @@ static void try_calls(void) {
         {"arguments across the end of its data", OUT_PRINT, DATA_LEN - 8, {FUNCTION_AT, STACK_AT, 0}, OUT_PRINT},
         {"text beyond its data", OUT_PRINT, STACK_AT, {FUNCTION_AT, DATA_LEN, 16}, OUT_PRINT},
         {"text across the end of its data", OUT_PRINT, STACK_AT, {FUNCTION_AT, DATA_LEN - 8, 16}, OUT_PRINT},
-        {"more text than a line holds", OUT_PRINT, STACK_AT, {FUNCTION_AT, STACK_AT, 0xFFFFFFFF}, OUT_PRINT},
+        {"more text than a line holds", OUT_PRINT, STACK_AT, {FUNCTION_AT, STACK_AT, 4096}, OUT_PRINT},
+        {"a function to call back, and no room on its stack", OUT_CALL, 4, {FUNCTION_AT, FUNCTION_AT}, OUT_CALL},
         {"calls within calls without end, its stack pointer set anew", OUT_CALL, STACK_AT, {TRIAL_AT, TRIAL_AT}, OUT_TOO_DEEP},
         {"calls without end", OUT_CALL, STACK_AT, {TRIAL_AT, FUNCTION_AT}, OUT_LATE},
     };
