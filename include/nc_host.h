@@ -63,7 +63,8 @@
  *     the count again, until the count is the same. If the byte is NC_STOP, the stop is the code's own. If it isn't, the thread goes back
  *     to the same instruction once; the same fault at the same count, unless the thread has entered anew, is the code's own.
  *   - Signal handlers run on an alternate stack that no 32-bit stack pointer reaches (above 4 GiB, or disarmed while in use), or their
- *     signals are blocked while a thread is inside: a kernel takes the untrusted stack pointer as a flat address.
+ *     signals, unless they are those of faults, are blocked while a thread is inside. A kernel takes the untrusted stack pointer as a flat
+ *     address.
  *   - The host catches SIGSEGV, SIGBUS, SIGILL, SIGFPE and SIGTRAP, and these signals stay unblocked in a thread that is inside. Otherwise
  *     one instruction of untrusted code ends the process. An access beyond the stack segment's limit is SIGBUS.
  *   - The host bounds the depth of nested calls, where untrusted code calls the host and the host enters again. Untrusted code can begin
