@@ -93,13 +93,14 @@ MayRefuseModify h at new room (patch.NoRoom wanted) =
 MayRefuseModify h at new room (patch.Refused fault) =
     (h.begun ≡ None) × (¬ IsShortForPatch room (length new)) × MayRefusePatch h.region at new fault
 
--- when no deletion begins: one is under way; or else the region refuses (`MayRefuseDelete` of nc_region), or a lent
--- buffer has room for fewer acts than the live chunk has bytes plus two
+-- when `begin_delete` returns each refusal: a deletion is under way; or else the region refuses (`MayRefuseDelete` of
+-- nc_region); or else a lent buffer has room for fewer acts than the live chunk has bytes plus two
 abbrev pub MayRefuseBegin : HeldState → ℕ → ℕ → RetireFault → Type 0
 MayRefuseBegin h base room retire.Underway = IsSome h.begun
 MayRefuseBegin h base room (retire.Refused fault) = (h.begun ≡ None) × MayRefuseDelete h.region base fault
 MayRefuseBegin h base room (retire.NoRoom wanted) =
-    (h.begun ≡ None) × ((c : Chunk) × IsLiveAt h.region.chunks base c × IsShort room (c.length + 2) × (wanted ≡ c.length + 2))
+    (h.begun ≡ None) × (h.region.keeper.numbers.generation < 2 ^ 62)
+    × ((c : Chunk) × IsLiveAt h.region.chunks base c × IsShort room (c.length + 2) × (wanted ≡ c.length + 2))
 
 -- The deletion of this live chunk with this base is under way, none was before, and a stamp is left for it. All else is
 -- as before.

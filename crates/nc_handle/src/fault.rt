@@ -14,7 +14,7 @@ pub enum NewFault {
     OutOfMemory,
 }
 
-/// Why no seat is given.
+/// Why no seat is given. The first that applies is returned, in this order.
 #[derive(Clone, Copy)]
 pub enum SeatFault {
     /// Every seat has been given out.
@@ -56,7 +56,7 @@ pub enum RetireFault {
     NoRoom(usize),
 }
 
-/// Why the runs of a creation or of a deletion aren't written.
+/// Why the runs of a creation or of a deletion aren't written. The first that applies is returned, in this order.
 #[derive(Clone, Copy)]
 pub enum RunsFault {
     /// No live chunk has the base, or no deletion is under way.

@@ -1,6 +1,7 @@
 -- The values of handles after the calls on them, and the numbers of the calls' refusals.
 use Rattle.std.specs.Prelude.{◌≡◌, ℕ, ◌⊎◌, List, Option, Some, None, length}
 use Rattle.nc_text.specs.Places.{limit_of}
+use Rattle.nc_text.specs.Ready.{GetsReady}
 use Rattle.nc_vet.specs.Chunk.{MarkedChunk, IsValid}
 use Rattle.nc_region.specs.declared.fault.CreateFault.TheVariants.{WrongLimit, Occupied, OutOfMemory}
 use Rattle.nc_region.specs.declared.fault.DeleteFault.TheVariants.{NoChunk, GensFull}
@@ -110,6 +111,8 @@ abbrev pub HasPatched : ℕ → List ℕ → HeldState → HeldState → Type 0
 HasPatched at bytes old new =
     (old.begun ≡ None) × IsPatch old.region at bytes × IsModified old.region new.region at bytes × (new ≡ record old { region = new.region })
 
--- all is as before, except that pages of the text may have been allocated
-abbrev pub IsSameButPages : HeldState → HeldState → Type 0
-IsSameButPages old new = new ≡ record old { region = record old.region { made = new.region.made } }
+-- all is as before, except that pages of the text that overlap this span may have been allocated (`GetsReady` of
+-- nc_text)
+abbrev pub IsSameButPages : (base len : ℕ) → HeldState → HeldState → Type 0
+IsSameButPages base len old new =
+    (new ≡ record old { region = record old.region { made = new.region.made } }) × GetsReady old.region.made new.region.made base len

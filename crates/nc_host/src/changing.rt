@@ -25,7 +25,8 @@ pub(crate) fn load(held: &mut Held, vetted: Vetted, acts: &mut [NcAct]) -> NcCha
     ensures created { result.fault ≡ 0 → HasLoaded vetted held.old held.new }
     ensures told { result.fault ≡ 0 → IsTold acts.old acts.new result.count (log_of_create vetted.base vetted.code) }
     ensures untouched { 0 < result.fault → acts.new ≡ acts.old }
-    ensures unchanged { 0 < result.fault → (held.new ≡ held.old) ⊎ ((result.fault ≡ 8) × IsSameButPages held.old held.new) }
+    ensures unchanged { 0 < result.fault → (held.new ≡ held.old)
+        ⊎ ((result.fault ≡ 8) × IsSameButPages vetted.base (length vetted.code) held.old held.new) }
     ensures at { result.at ≡ 0 }
     ensures refused { 0 < result.fault → (f : LoadFault) × MayRefuseLoad held.old vetted (length acts.old) f
         × (result.fault ≡ load_number f) × (result.count ≡ load_wanted f) }
@@ -50,7 +51,9 @@ fn vet_and_load(
     ensures created { result.fault ≡ 0 → (v : MarkedChunk) × IsChunkFor held.old base code.now v × HasLoaded v held.old held.new }
     ensures told { result.fault ≡ 0 → IsTold acts.old acts.new result.count (log_of_create base code.now) }
     ensures untouched { 0 < result.fault → acts.new ≡ acts.old }
-    ensures unchanged { 0 < result.fault → (held.new ≡ held.old) ⊎ ((result.fault ≡ 8) × IsSameButPages held.old held.new) }
+    ensures unchanged { 0 < result.fault → (held.new ≡ held.old)
+        ⊎ ((result.fault ≡ 8) × IsSameButPages base (length code.now) held.old held.new) }
+    ensures at { result.fault ≡ 0 → result.at ≡ 0 }
     ensures refused { 0 < result.fault → ((result.count ≡ 0)
         × IsChunkFault base (limit_of held.old.region.marked.bytes) code.now result.fault result.at)
         ⊎ ((result.at ≡ 0) × ((v : MarkedChunk) × IsChunkFor held.old base code.now v
@@ -85,7 +88,8 @@ pub extern "C" fn nc_region_create(
     ensures told { result.fault ≡ 0 → IsTold acts.old acts.new result.count (log_of_create base code.now) }
     ensures untouched { 0 < result.fault → acts.new ≡ acts.old }
     ensures unchanged { 0 < result.fault → (region.new.value ≡ region.old.value)
-        ⊎ ((result.fault ≡ 8) × IsDone region.old.value region.new.value IsSameButPages) }
+        ⊎ ((result.fault ≡ 8) × IsDone region.old.value region.new.value (IsSameButPages base (length code.now))) }
+    ensures at { result.fault ≡ 0 → result.at ≡ 0 }
     // Each refusal is returned when it is due: there is no region, the chunk has a fault, or the region refuses it.
     ensures refused { 0 < result.fault → ((region.old.value ≡ None) × (result ≡ record { fault = 32; at = 0; count = 0 }))
         ⊎ ((h : HeldState) × (region.old.value ≡ Some h) × (
@@ -144,8 +148,8 @@ pub extern "C" fn nc_region_patch(
         → IsTold acts.old acts.new result.count (log_of_modify h.region.marked.bytes at news) }
     ensures untouched { 0 < result.fault → acts.new ≡ acts.old }
     ensures unchanged { 0 < result.fault → region.new.value ≡ region.old.value }
-    // Each refusal is returned exactly when it is due.
     ensures at { result.at ≡ 0 }
+    // Each refusal is returned exactly when it is due.
     ensures refused { 0 < result.fault → IsRefusal region.old.value (λ h f. MayRefuseModify h at bytes.now (length acts.old) f)
         modify_number modify_wanted result.fault result.count }
 {

@@ -49,8 +49,8 @@ pub extern "C" fn nc_region_begin_delete(
         × IsTold acts.old acts.new result.count (log_of_delete old.region.marked.marks base c.length)) }
     ensures untouched { 0 < result.fault → acts.new ≡ acts.old }
     ensures unchanged { 0 < result.fault → region.new.value ≡ region.old.value }
-    // Each refusal is returned exactly when it is due.
     ensures at { result.at ≡ 0 }
+    // Each refusal is returned exactly when it is due.
     ensures refused { 0 < result.fault → IsRefusal region.old.value (λ h f. MayRefuseBegin h base (length acts.old) f)
         retire_number retire_wanted result.fault result.count }
 {

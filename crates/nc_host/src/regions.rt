@@ -56,7 +56,7 @@ pub extern "C" fn nc_region_new(
 /// Frees a region. Seats that were given out stay as they are until each is left. An empty handle stays empty.
 #[unsafe(no_mangle)]
 pub extern "C" fn nc_region_free(alloc: Global, region: &mut NcRegion)
-    ensures { region.new.value ≡ None }
+    ensures emptied { region.new.value ≡ None }
 {
     drop(region.take(alloc));
 }
@@ -67,12 +67,12 @@ pub extern "C" fn nc_region_seat(alloc: Global, region: &mut NcRegion, seat: &mu
     ensures given { result ≡ 0 → (seat.old.value ≡ None) × ((guest : PassState) × (seat.new.value ≡ Some guest)
         × IsDone region.old.value region.new.value (λ old new. HasGiven old new guest)) }
     ensures unchanged { 0 < result → (region.new.value ≡ region.old.value) × (seat.new.value ≡ seat.old.value) }
-    // A seat's handle that isn't empty is refused, as is an empty region's handle. Else no seat is left, or there is no memory
-    // for it.
+    // A seat's handle that isn't empty is refused; else an empty region's handle is; else no seat is left, or there is no memory
+    // for one.
     ensures refused { 0 < result → ((result ≡ 33) × ((guest : PassState) × (seat.old.value ≡ Some guest)))
-        ⊎ (((result ≡ 32) × (region.old.value ≡ None))
+        ⊎ ((seat.old.value ≡ None) × (((result ≡ 32) × (region.old.value ≡ None))
         ⊎ ((h : HeldState) × (region.old.value ≡ Some h)
-        × ((f : SeatFault) × MayRefuseSeat h f × (result ≡ seat_number f)))) }
+        × ((f : SeatFault) × MayRefuseSeat h f × (result ≡ seat_number f))))) }
 {
     if let Some(kept) = seat.take(alloc) {
         *seat = NcSeat::of(kept);

@@ -38,8 +38,8 @@ pub extern "C" fn nc_region_creation_runs(
     ensures told { result.fault ≡ 0 → (h : HeldState) × (region.old.value ≡ Some h)
         × ((c : Chunk) × IsLiveAt h.region.chunks base c × AreCreationRuns h c acts.old acts.new result.count) }
     ensures untouched { 0 < result.fault → acts.new ≡ acts.old }
-    // Each refusal is returned exactly when it is due.
     ensures at { result.at ≡ 0 }
+    // Each refusal is returned exactly when it is due.
     ensures refused { 0 < result.fault → IsRefusal region.old.value (λ h f. MayRefuseCreationRuns h base (length acts.old) f)
         (runs_number 41) runs_wanted result.fault result.count }
 {
@@ -63,8 +63,8 @@ pub extern "C" fn nc_region_deletion_runs(
     ensures told { result.fault ≡ 0 → (h : HeldState) × (region.old.value ≡ Some h)
         × ((c : Chunk) × (h.begun ≡ Some c) × AreDeletionRuns h c acts.old acts.new result.count) }
     ensures untouched { 0 < result.fault → acts.new ≡ acts.old }
-    // Each refusal is returned exactly when it is due.
     ensures at { result.at ≡ 0 }
+    // Each refusal is returned exactly when it is due.
     ensures refused { 0 < result.fault → IsRefusal region.old.value (λ h f. MayRefuseDeletionRuns h (length acts.old) f)
         (runs_number 38) runs_wanted result.fault result.count }
 {

@@ -25,7 +25,7 @@ pub extern "C" fn nc_seat_check_in(alloc: Global, seat: &mut NcSeat) -> u32
 /// Leaves a seat whose thread is outside the region for good. An empty handle stays empty.
 #[unsafe(no_mangle)]
 pub extern "C" fn nc_seat_leave(alloc: Global, seat: &mut NcSeat)
-    ensures { seat.new.value ≡ None }
+    ensures emptied { seat.new.value ≡ None }
 {
     if let Some(guest) = seat.take(alloc) {
         Box::into_inner(guest).leave();

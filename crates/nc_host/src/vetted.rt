@@ -48,6 +48,7 @@ pub extern "C" fn nc_vetted_new(
 ) -> NcVerdict
     ensures vetted { result.fault ≡ 0 → (vetted.old.value ≡ None) × HoldsVetted base limit code.now vetted.new.value }
     ensures unchanged { 0 < result.fault → vetted.new.value ≡ vetted.old.value }
+    ensures at { result.fault ≡ 0 → result.at ≡ 0 }
     // A handle that isn't empty is refused; else the fault is one that the chunk has.
     ensures refused { 0 < result.fault → ((result ≡ record { fault = 33; at = 0 }) × ((k : Kept) × (vetted.old.value ≡ Some k)))
         ⊎ ((vetted.old.value ≡ None) × IsChunkFault base limit code.now result.fault result.at) }
@@ -71,7 +72,7 @@ pub extern "C" fn nc_vetted_new(
 /// Frees a vetted chunk that isn't loaded. An empty handle stays empty.
 #[unsafe(no_mangle)]
 pub extern "C" fn nc_vetted_free(alloc: Global, vetted: &mut NcVetted)
-    ensures { vetted.new.value ≡ None }
+    ensures emptied { vetted.new.value ≡ None }
 {
     drop(vetted.take(alloc));
 }
@@ -81,7 +82,8 @@ fn load_kept(held: &mut Held, kept: &mut Kept, acts: &mut [NcAct]) -> NcChange
     ensures created { result.fault ≡ 0 → (v : MarkedChunk) × (kept.old.chunk ≡ Some v) × HasLoaded v held.old held.new
         × IsTold acts.old acts.new result.count (log_of_create v.base v.code) }
     ensures untouched { 0 < result.fault → (acts.new ≡ acts.old) × (kept.new ≡ kept.old) }
-    ensures unchanged { 0 < result.fault → (held.new ≡ held.old) ⊎ ((result.fault ≡ 8) × IsSameButPages held.old held.new) }
+    ensures unchanged { 0 < result.fault → (held.new ≡ held.old) ⊎ ((result.fault ≡ 8)
+        × ((v : MarkedChunk) × (kept.old.chunk ≡ Some v) × IsSameButPages v.base (length v.code) held.old held.new)) }
     ensures at { result.at ≡ 0 }
     ensures refused { 0 < result.fault → ((result.fault ≡ 32) × (result.count ≡ 0) × (kept.old.chunk ≡ None))
         ⊎ ((v : MarkedChunk) × (kept.old.chunk ≡ Some v) × ((f : LoadFault) × MayRefuseLoad held.old v (length acts.old) f
@@ -114,10 +116,11 @@ pub extern "C" fn nc_region_load(
         × ((v : MarkedChunk) × (k.chunk ≡ Some v) × IsDone region.old.value region.new.value (HasLoaded v)
         × IsTold acts.old acts.new result.count (log_of_create v.base v.code))) }
     ensures untouched { 0 < result.fault → (acts.new ≡ acts.old) × (vetted.new.value ≡ vetted.old.value) }
-    ensures unchanged { 0 < result.fault → (region.new.value ≡ region.old.value)
-        ⊎ ((result.fault ≡ 8) × IsDone region.old.value region.new.value IsSameButPages) }
-    // Each refusal is returned when it is due: there is no chunk or no region, or the region refuses the chunk.
+    ensures unchanged { 0 < result.fault → (region.new.value ≡ region.old.value) ⊎ ((result.fault ≡ 8)
+        × ((k : Kept) × (vetted.old.value ≡ Some k) × ((v : MarkedChunk) × (k.chunk ≡ Some v)
+        × IsDone region.old.value region.new.value (IsSameButPages v.base (length v.code))))) }
     ensures at { result.at ≡ 0 }
+    // Each refusal is returned when it is due: there is no chunk or no region, or the region refuses the chunk.
     ensures refused { 0 < result.fault → ((result.fault ≡ 32) × (result.count ≡ 0) × ((vetted.old.value ≡ None) ⊎ ((region.old.value ≡ None)
         ⊎ ((k : Kept) × (vetted.old.value ≡ Some k) × (k.chunk ≡ None))))) ⊎ ((h : HeldState) × (k : Kept) × (v : MarkedChunk)
         × (region.old.value ≡ Some h) × (vetted.old.value ≡ Some k) × (k.chunk ≡ Some v)

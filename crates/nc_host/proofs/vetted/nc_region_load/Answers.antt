@@ -38,13 +38,21 @@ returns-then-change-gt0-clause-unchanged c = λ lt.
     (λ e. inl (c.of-2.ensures ∙ (ap (λ (h : HeldState). Some h) (e ∙ c.deref_mut.ensures.value) ∙ sym c.in-Some-take.ensures.some)))
     (λ p. inr (
       p.0,
-      record {
-        before = c.deref_mut.result.now;
-        after = c.load_kept-change.new.held;
-        had = c.in-Some-take.ensures.some ∙ ap (λ (h : HeldState). Some h) (sym c.deref_mut.ensures.value);
-        has = c.of-2.ensures;
-        did = p.1;
-      },
+      (
+        c.deref_mut-2.result.now,
+        c.in-Some.ensures.some ∙ ap (λ (k : Kept). Some k) (sym c.deref_mut-2.ensures.value),
+        (
+          p.1.0,
+          p.1.1,
+          record {
+            before = c.deref_mut.result.now;
+            after = c.load_kept-change.new.held;
+            had = c.in-Some-take.ensures.some ∙ ap (λ (h : HeldState). Some h) (sym c.deref_mut.ensures.value);
+            has = c.of-2.ensures;
+            did = p.1.2;
+          },
+        ),
+      ),
     ))
     (c.load_kept-change.ensures.unchanged lt)
 
