@@ -1,4 +1,4 @@
-"""Pipes that don't block and that nobody reads: how many bytes of replies go into one, and by how many writes."""
+"""Pipes that don't block and that nobody reads, and pipes of packets: how the replies to a script go into them."""
 
 import fcntl
 import os
@@ -58,9 +58,22 @@ def replayed(preload, program, script, output):
         return done.stderr.decode(), done.returncode, os.fstat(report.fileno()).st_size
 
 
+def are_packets(preload, program):
+    """Whether each reply is a packet of its own in a pipe of packets."""
+    reader, writer = os.pipe2(os.O_DIRECT)
+    ended = replayed(preload, program, "recl\n" * 12, writer)[:2]
+    os.close(writer)
+    packets = [*iter(lambda: os.read(reader, PAGE), b"")]
+    os.close(reader)
+    return ended == ("", 0) and packets == [b"bad line\n"] * 12
+
+
 def slips(preload, program):
     """The number of cases that go wrong."""
     wrong = 0
+    if not are_packets(preload, program):
+        wrong += 1
+        print("a pipe of packets: a packet isn't one reply")
     for script in (SHORT, GROWING):
         with tempfile.TemporaryFile() as file:
             said, status, writes = replayed(preload, program, script, file)

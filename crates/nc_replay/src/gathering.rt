@@ -8,8 +8,9 @@ use std::rt::Files;
 /// The most bytes of replies that are held back and written together.
 const MOST_HELD: usize = 65_536;
 
-/// The flag of an open file whose writes don't wait until there is room: `O_NONBLOCK` of Linux.
-const NONBLOCKING: u32 = 0o4000;
+/// The flags of an open file for which it matters how bytes are divided into writes: `O_NONBLOCK` of Linux, with which writes don't
+/// wait until there is room, and `O_DIRECT`, with which each write to a pipe is a packet of its own.
+const DIVIDED: u32 = 0o4000 | 0o40000;
 
 /// The flags of an open file, from what Linux says of it: a line with `flags:` and an octal number (`proc_pid_fdinfo(5)`).
 fn flags_in(info: &str) -> Option<u32> {
@@ -23,9 +24,10 @@ fn flags_in(info: &str) -> Option<u32> {
 
 /// How many bytes of replies may be held back and written together.
 ///
-/// A write that waits until there is room loses nothing by being long: all of it goes out, or nobody reads any more. A pipe that
-/// doesn't block takes a write of at most 4,096 bytes whole or not at all, so replies written together would be lost where there
-/// is room for some of them. So none are held back where standard output doesn't block, or where the system doesn't say.
+/// A write to a pipe that waits until there is room loses nothing by being long: all of it goes out, or nobody reads any more. A
+/// file takes as much of a write as it has room for. But a pipe that doesn't block takes a write of at most 4,096 bytes whole or
+/// not at all, so replies written together would be lost where there is room for some of them. So none are held back where
+/// standard output doesn't block, where it is a pipe of packets, or where the system doesn't say.
 pub fn most_held<R: Files + AllocGlobal>(rt: &R) -> usize
     ensures { result ≤ 65_536 }
 {
@@ -33,7 +35,7 @@ pub fn most_held<R: Files + AllocGlobal>(rt: &R) -> usize
         return 0;
     };
     match flags_in(&info) {
-        Some(flags) if flags & NONBLOCKING == 0 => MOST_HELD,
+        Some(flags) if flags & DIVIDED == 0 => MOST_HELD,
         _ => 0,
     }
 }
