@@ -28,7 +28,7 @@ pub(crate) fn answer_line<S: Responder, W: Write>(
     ensures most { replies.new.held.most ≡ replies.old.held.most }
     ensures room { OnOk result (vec_capacity replies.new.answer ≤ 65_536) }
 {
-    // It is empty already, which no clause of a caller's says.
+    // The buffer is empty already, but no clause of the callers says so.
     replies.clear_answer();
     match responder.answer(kept, &mut replies.answer) {
         Ok(()) => {}

@@ -17,12 +17,12 @@ const KEPT_ROOM: usize = 65_536;
 /// Answers that are held back, at most `most` bytes in all. An answer with which there would be more is written at once, after
 /// those before it; so is every answer where `most` is 0.
 #[derive(Drop)]
-pub(crate) struct Held {
+pub(crate) struct HeldReplies {
     bytes: Vec<u8>,
     most: usize,
 }
 
-impl Model for Held {
+impl Model for HeldReplies {
     ghost use Rattle.std.specs.Prelude.{◌≤◌, length};
     ghost use Rattle.nc_lines.specs.machinery.Progress.{HeldBytes};
 
@@ -33,13 +33,13 @@ impl Model for Held {
     ghost invariant = { λ h. length h.bytes.items ≤ h.most };
 }
 
-impl Held {
+impl HeldReplies {
     /// No answers, of which at most this many bytes are to be held back.
-    pub fn new(alloc: Global, most: usize) -> Held
+    pub fn new(alloc: Global, most: usize) -> HeldReplies
         ensures none { result.items ≡ [] }
         ensures most { result.most ≡ most }
     {
-        Held {
+        HeldReplies {
             bytes: Vec::new(alloc),
             most,
         }
@@ -102,7 +102,7 @@ impl Held {
 pub(crate) struct Replies {
     alloc: Global,
     pub answer: Vec<u8>,
-    pub held: Held,
+    pub held: HeldReplies,
 }
 
 impl Replies {
@@ -114,7 +114,7 @@ impl Replies {
         Replies {
             alloc,
             answer: Vec::new(alloc),
-            held: Held::new(alloc, most),
+            held: HeldReplies::new(alloc, most),
         }
     }
 

@@ -94,8 +94,13 @@ pub fn answer_all<S: Responder, R: Read, W: Write>(
     answer_gathered(alloc, responder, reader, writer, 0)
 }
 
-/// Reads all lines and answers each, as [`answer_all`], but holds back at most `most` bytes of answers until more is to be read,
-/// or the call returns. It is for a responder that neither waits nor writes elsewhere.
+/// Reads all lines and answers each, as [`answer_all`], but holds back at most `most` bytes of answers. Held answers are written
+/// together: before more is read, before an answer with which they would be too many, and as the call returns, unless the writer
+/// has failed.
+///
+/// It is for a responder that neither waits nor writes elsewhere, and for a writer that takes all of a write, or as much of it as
+/// it has room for. A pipe that doesn't block takes a write of at most 4,096 bytes whole or not at all. With such a writer less may
+/// have gone out at a failed write than by [`answer_all`].
 pub fn answer_gathered<S: Responder, R: Read, W: Write>(
     alloc: Global,
     responder: &mut S,

@@ -62,11 +62,8 @@ pub fn run<R: Read, W: Write>(
     run_gathered(alloc, reader, writer, bundles, seats, 0)
 }
 
-/// Runs a script as [`run`], but holds back at most `most` bytes of answers, and writes them together: before more is read, and as
-/// the call returns. It is for writers that take all of a write, or as much of it as they have room for.
-///
-/// A pipe that doesn't block takes a write of at most 4,096 bytes whole or not at all. With such a writer less may have gone out at
-/// a failed write than by [`run`].
+/// Runs a script as [`run`], but holds back at most `most` bytes of answers, and writes them together, when `answer_gathered` of
+/// `nc_lines` does. It is for the same writers as that.
 pub fn run_gathered<R: Read, W: Write>(
     alloc: Global,
     reader: &mut R,

@@ -1,7 +1,7 @@
 use Rattle.std.proofs.Common.{◌++◌, List, ℕ, OnErr, OnOk, subst}
 use Rattle.nc_lines.specs.machinery.Progress.{HoldsRest, WritesFront}
 use Rattle.nc_lines.proofs.HoldingBack.{front_of_more, held_still, holds_none, writes_more}
-use Rattle.nc_lines.proofs.replies.Held.hold.Goals as goal
+use Rattle.nc_lines.proofs.replies.HeldReplies.hold.Goals as goal
 
 pub returns-clause-ok : goal.returns-clause-ok
 returns-clause-ok g c =
