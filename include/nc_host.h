@@ -2,11 +2,12 @@
  * nc_host.h: the calls of Reedbodkin for a host in C or C++.
  *
  * They judge untrusted 32-bit x86 code, and give the acts by which a judged chunk is put into a text that threads are running, changed
- * there, or removed. Each call is proved to keep the contract of the function of the same name in crates/nc_host.
+ * there, or removed. Each call is proved to keep the contract of the function of the same name, which stands in crates/nc_host of the source
+ * repository.
  *
  * What the comments rest on
  *   (IsValid)   A name in parentheses is a definition on which this contract rests. docs/DEFINITIONS.md explains it.
- *   [refused]   A sentence that ends with a name in square brackets says what the clause of this name in the contract promises.
+ *   [refused]   A sentence that ends with names in square brackets says what the clauses of these names in the contract promise.
  *   [tested]    A sentence that ends so says what no clause promises, and what tests try.
  * That these sentences say the same as the clauses is not proved. The names of the clauses, and this header's declarations and numbers, are
  * compared with the crates whenever the library is tested.
@@ -36,7 +37,7 @@
  *   Memory      The host lends code and buffers for the duration of the call. The library keeps nothing between calls, not even a pointer.
  *               Each call except nc_host_decode and nc_host_version allocates memory of its own by malloc, and frees all of it before it
  *               returns [tested].
- *   Answers     The same arguments give the same answer, except for NC_OUT_OF_MEMORY.
+ *   Answers     Nothing but its arguments decides the answer of a call, except for NC_OUT_OF_MEMORY. This is known from reading the code.
  *
  * The host's duties, without which no verdict protects it, in short (docs/EMBEDDING.md lists every duty, with its reason):
  *   - Untrusted code runs in a 32-bit code segment; in 64-bit mode the same bytes are other instructions. Nothing in that segment is
@@ -65,8 +66,8 @@
  *   - Signal handlers run on an alternate stack that no 32-bit stack pointer reaches (above 4 GiB, or disarmed while in use), or their
  *     signals, unless they are those of faults, are blocked while a thread is inside. A kernel takes the untrusted stack pointer as a flat
  *     address.
- *   - The host catches SIGSEGV, SIGBUS, SIGILL, SIGFPE and SIGTRAP, and these signals stay unblocked in a thread that is inside. Otherwise
- *     one instruction of untrusted code ends the process. An access beyond the stack segment's limit is SIGBUS.
+ *   - The host handles SIGSEGV, SIGBUS, SIGILL, SIGFPE and SIGTRAP. These signals, and that of a time limit, stay unblocked in a thread that
+ *     is inside. Otherwise one instruction of untrusted code ends the process. An access beyond the stack segment's limit is SIGBUS.
  *   - The host bounds the depth of nested calls, where untrusted code calls the host and the host enters again. Untrusted code can begin
  *     its own stack anew each time, and the host's would overflow.
  *   - The host limits the time of each stay inside. A thread in a jump to itself never comes out, and no fault ends it.
@@ -581,7 +582,7 @@ NcStamp nc_region_generation(NcRegion *region);
  * lock.
  * Promised: for NC_OK the generation was loaded once and stored for the seat once, and the number stored is the one loaded, no less than
  * any before (HasCheckedIn) [checked_in]. The only refusal is NC_NO_HANDLE, for an empty handle, which stays empty [nothing]. No memory is
- * allocated [tested]. The call doesn't wait for another thread, even if that is stuck in a call on the region [tested].
+ * allocated [tested]. The call doesn't wait for another thread, even if that is stuck in a creation [tested].
  * Not promised: that the thread is outside. The host must call it only while the thread is outside: after it has come out, and before it
  * goes in again.
  */
