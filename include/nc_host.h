@@ -29,9 +29,10 @@
  *   Refusals    A call whose fault isn't 0 is refused. A refusal leaves each buffer unchanged. No more of a buffer is written than is
  *               stated.
  *   Execution   Lent memory is never executed.
- *   Linking     The library is for Linux on x86-64 with the instructions of x86-64-v2, where it wasn't built for others. As tools/install
- *               installs it, it needs nothing but the C library. As `rt lib` builds it, the toolchain's liblibc_c.a must follow it on the
- *               command line: `gcc host.c libnc_host.a liblibc_c.a`. In another order the linker doesn't find rattle_dealloc.
+ *   Linking     The library is for Linux on x86-64 with the instructions of x86-64-v2, where it wasn't built for others. As it is
+ *               installed, it needs nothing but the C library. As `rt lib` builds it in the source repository, the toolchain's liblibc_c.a
+ *               must follow it on the command line: `gcc host.c libnc_host.a liblibc_c.a`. In another order the linker doesn't find
+ *               rattle_dealloc.
  *
  * What the calls whose names begin with nc_host_ keep (for handles see "What all of them keep", below)
  *   Memory      The host lends code and buffers for the duration of the call. The library keeps nothing between calls, not even a pointer.
