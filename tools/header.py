@@ -13,6 +13,7 @@ OTHER_LINES = re.compile(r"^#(?:.*\\\n)*.*$|^extern \"C\" \{$|^\}$", re.M)
 STATEMENT = re.compile(r"\s*(?:typedef struct (\w+) \{([^{}]*)\} (\w+)|(\w+) (nc_\w+)\(([^()]*)\));")
 DECLARED = re.compile(r"(const )?(\w+) (\*?)(\w+)")
 NUMBER = re.compile(r"^#define (NC_\w+)(?:\(\w+\))? +(\(.*\)|0x[0-9A-F]+u|\d+u)\s*$", re.M)
+DEFINED = re.compile(r"^#define (NC_[A-Z0-9_]+)(?:\(\w+\))? +(?=[^\s\\])", re.M)
 FAULTS = re.compile(r"^#define NC_FAULTS\(X\)(?:.*\\\n)+.*", re.M)
 FAULT = re.compile(r"\bX\((NC_\w+),")
 FIRST_FAULTS = re.compile(r"^#define NC_OK .*\n(?:#define .*\n)*", re.M)
@@ -22,6 +23,9 @@ BELOW = re.compile(r"\n\w+ (nc_\w+)\(")
 LABELS = re.compile(r"^(Promised:|Not promised:|The host must|Cost:)")
 DEFINITIONS = re.compile(r"\(((?:Is|Has|Are|May|log_of_)\w+(?:, \w+)*)\)")
 BRACKETS = re.compile(r"\[(\w+(?:, \w+)*)\](?=[.;])")
+
+# What is defined beside numbers.
+NO_NUMBERS = {"NC_UNUSED", "NC_NAME_OF", "NC_SENTENCE_OF"}
 
 # Numbers that are written otherwise than as digits.
 FORMULAS = {
@@ -91,6 +95,7 @@ class Header:
         self.calls, self.structs, self.others, self.unread = {}, {}, [], []
         plain = blank(COMMENT, text)
         self.numbers = {name: value_of(value) for name, value in NUMBER.findall(plain)}
+        self.unread += sorted(set(DEFINED.findall(plain)) - self.numbers.keys() - NO_NUMBERS)
         listed, first = FAULTS.search(text), FIRST_FAULTS.search(text)
         self.messages = FAULT.findall(listed.group()) if listed else []
         self.faults = re.findall(r"^#define (\w+)", first.group(), re.M) if first else []

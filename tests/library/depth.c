@@ -11,6 +11,7 @@
 #include <sys/mman.h>
 
 #define STACK_SIZE (1u << 20)
+#define GUARD 4096u /* bytes below the stack that can't be touched */
 #define UNTOUCHED 0xA5
 #define SEATS 2
 
@@ -134,17 +135,18 @@ static bool is_right(Trial *own, uint8_t *stack) {
 
 static size_t depth(Trial *own) {
     size_t lowest = 0;
-    uint8_t *stack = mmap(NULL, STACK_SIZE, PROT_READ | PROT_WRITE, MAP_PRIVATE | MAP_ANONYMOUS, -1, 0);
-    if (stack == MAP_FAILED) {
+    uint8_t *mapped = mmap(NULL, GUARD + STACK_SIZE, PROT_READ | PROT_WRITE, MAP_PRIVATE | MAP_ANONYMOUS, -1, 0);
+    if (mapped == MAP_FAILED || mprotect(mapped, GUARD, PROT_NONE) != 0) {
         return SIZE_MAX;
     }
+    uint8_t *stack = mapped + GUARD;
     memset(stack, UNTOUCHED, STACK_SIZE);
     bool right = is_right(own, stack);
     while (right && stack[lowest] == UNTOUCHED) {
         lowest++;
     }
     size_t found = right ? (size_t)(own->top - (stack + lowest)) : SIZE_MAX;
-    return munmap(stack, STACK_SIZE) == 0 ? found : SIZE_MAX;
+    return munmap(mapped, GUARD + STACK_SIZE) == 0 ? found : SIZE_MAX;
 }
 
 /* How many bytes of stack the calls take for a chunk of this many bundles, and for as many chunks. SIZE_MAX if one of them answers
