@@ -4,8 +4,8 @@
  *     image FILE LENGTH COUNT STEPS
  *
  * A chunk has LENGTH bytes: the code of FILE, whole bundles of raw code, as often as it fits, and then nops. COUNT chunks are vetted and
- * then created; walks go over STEPS places, from bundle starts and by choices that are drawn; and the chunks are deleted. There is one
- * round, since new chunks come into new memory. docs/PERFORMANCE.md has numbers.
+ * then created in a region of the largest size; walks go over STEPS places, from bundle starts and by choices that are drawn; and the chunks
+ * are deleted. There is one round, since new chunks come into new memory. docs/PERFORMANCE.md has numbers.
  */
 #define _POSIX_C_SOURCE 199506L
 #include "nc_host.h"
@@ -41,7 +41,7 @@ static uint32_t base(uint32_t k) {
 }
 
 static uint32_t bundles(void) {
-    return count * (length / NC_BUNDLE) + 1;
+    return count * (length / NC_BUNDLE);
 }
 
 /* Gigabytes a second, for all chunks together. */
@@ -67,7 +67,7 @@ static double vet_all(void) {
     double start = now();
     uint32_t k;
     for (k = 0; k < count; k++) {
-        need(nc_vetted_new(base(k), NC_LIMIT(bundles()), code, length, &vetted[k]).fault == NC_OK, "a chunk isn't valid");
+        need(nc_vetted_new(base(k), NC_LIMIT(NC_MAX_BUNDLES), code, length, &vetted[k]).fault == NC_OK, "a chunk isn't valid");
     }
     return speed(start);
 }
@@ -127,7 +127,7 @@ int main(int argc, char **argv) {
     vetted = (NcVetted *)calloc(count, sizeof *vetted);
     need(code && vetted, "out of memory");
     lay_code(argv[1]);
-    need(nc_region_new(bundles(), 1, &region) == NC_OK, "no region has this size");
+    need(nc_region_new(NC_MAX_BUNDLES, 1, &region) == NC_OK, "there is no region");
     vets = vet_all();
     creations = create_all();
     steps = walk((size_t)atol(argv[4]));
