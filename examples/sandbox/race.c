@@ -127,7 +127,9 @@ static Tally sum(Tally all, const Tally *one) {
 
 static double now(void) {
     struct timespec t;
-    clock_gettime(CLOCK_MONOTONIC, &t);
+    if (clock_gettime(CLOCK_MONOTONIC, &t) != 0) {
+        abort();
+    }
     return (double)t.tv_sec + 1e-9 * (double)t.tv_nsec;
 }
 
@@ -150,7 +152,9 @@ Tally race(unsigned threads, unsigned seconds, int torn) {
     }
     __atomic_store_n(&over, 1, __ATOMIC_SEQ_CST);
     for (i = 0; i < threads; i++) {
-        pthread_join(guests[i].thread, NULL);
+        if (pthread_join(guests[i].thread, NULL) != 0) {
+            abort();
+        }
         all = sum(all, &guests[i].tally);
     }
     return all;

@@ -3,6 +3,7 @@
 
 #include "segment.h"
 
+#include <stdio.h>
 #include <stdlib.h>
 
 struct Seat {
@@ -14,6 +15,14 @@ struct Region {
     Seat seats[SEATS];
     size_t given;
 };
+
+/* For calls that are not refused, as this host makes them. */
+static void must(uint32_t fault) {
+    if (fault != NC_OK) {
+        fprintf(stderr, "region: fault %u\n", (unsigned)fault);
+        abort();
+    }
+}
 
 static NcActs told(NcChange change) {
     NcActs answer = {change.fault, change.at, (uint32_t)change.count};
@@ -42,11 +51,13 @@ NcActs region_begin_delete(Region *region, uint32_t base, NcAct *acts, size_t ac
 }
 
 void region_end_delete(Region *region) {
-    nc_region_end_delete(&region->handle);
+    must(nc_region_end_delete(&region->handle).fault);
 }
 
 uint32_t region_reclaim(Region *region) {
-    return nc_region_reclaim(&region->handle).count;
+    NcCount freed = nc_region_reclaim(&region->handle);
+    must(freed.fault);
+    return freed.count;
 }
 
 Seat *region_seat(Region *region) {
@@ -59,7 +70,7 @@ Seat *region_seat(Region *region) {
 }
 
 void seat_check_in(Seat *seat) {
-    nc_seat_check_in(&seat->handle);
+    must(nc_seat_check_in(&seat->handle));
 }
 
 void seat_leave(Seat *seat) {

@@ -44,7 +44,9 @@ const char *text_begin(void) {
     if (mmap((void *)(uintptr_t)CODE_AT, LIMIT, PROT_READ | PROT_EXEC, MAP_SHARED | MAP_FIXED_NOREPLACE, file, 0) == MAP_FAILED) {
         return "mmap";
     }
-    close(file);
+    if (close(file) != 0) {
+        return "close";
+    }
     if (syscall(SYS_membarrier, MEMBARRIER_CMD_REGISTER_PRIVATE_EXPEDITED_SYNC_CORE, 0, 0) != 0) {
         return "membarrier";
     }

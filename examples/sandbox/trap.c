@@ -19,6 +19,7 @@
 #define sigev_notify_thread_id _sigev_un._tid
 #endif
 #define STACK_LEN (1u << 16)
+#define STACK_HINT 0x1A0000000ul /* nothing of the host is at the low half of this address, where a trial tries to reach the stack */
 #define TICK SIGALRM /* each hundredth of a second of a thread's time */
 
 static const int FAULTS[] = {SIGSEGV, SIGBUS, SIGILL, SIGFPE, SIGTRAP}; /* by which untrusted code can come out: all of them */
@@ -135,26 +136,54 @@ const char *trap_begin(void) {
     return handle(TICK, on_tick) ? NULL : "sigaction";
 }
 
-/* A stack above 4 GiB, where no stack pointer of untrusted code reaches. */
+static void must(int good) {
+    if (!good) {
+        abort();
+    }
+}
+
+static void free_stack(void) {
+    must(munmap(stack_at, STACK_LEN) == 0);
+}
+
+/* A stack above 4 GiB, where no stack pointer of untrusted code reaches. The first thread's is at STACK_HINT. */
 static int make_stack(void) {
     stack_t stack;
     memset(&stack, 0, sizeof stack);
     stack.ss_size = STACK_LEN;
-    stack.ss_sp = mmap(NULL, STACK_LEN, PROT_READ | PROT_WRITE, MAP_PRIVATE | MAP_ANONYMOUS, -1, 0);
+    stack.ss_sp = mmap((void *)STACK_HINT, STACK_LEN, PROT_READ | PROT_WRITE, MAP_PRIVATE | MAP_ANONYMOUS, -1, 0);
     stack_at = stack.ss_sp;
-    return stack_at != MAP_FAILED && (uint64_t)(uintptr_t)stack_at >> 32 != 0 && sigaltstack(&stack, NULL) == 0;
+    if (stack_at == MAP_FAILED) {
+        return 0;
+    }
+    if ((uint64_t)(uintptr_t)stack_at >> 32 != 0 && sigaltstack(&stack, NULL) == 0) {
+        return 1;
+    }
+    free_stack();
+    return 0;
+}
+
+static void end_stack(void) {
+    stack_t none;
+    memset(&none, 0, sizeof none);
+    none.ss_flags = SS_DISABLE;
+    must(sigaltstack(&none, NULL) == 0);
+    free_stack();
 }
 
 /* Linux ends a process in which a fault's signal is blocked. */
 static int unblock(void) {
     sigset_t needed;
     size_t i;
-    sigemptyset(&needed);
-    sigaddset(&needed, TICK);
+    must(sigemptyset(&needed) == 0 && sigaddset(&needed, TICK) == 0);
     for (i = 0; i < FAULT_COUNT; i++) {
-        sigaddset(&needed, FAULTS[i]);
+        must(sigaddset(&needed, FAULTS[i]) == 0);
     }
     return pthread_sigmask(SIG_UNBLOCK, &needed, NULL) == 0;
+}
+
+static void end_timer(void) {
+    must(timer_delete(timer) == 0);
 }
 
 /* It ticks by the processor time of the thread, in the host too. */
@@ -165,18 +194,29 @@ static int start_timer(void) {
     event.sigev_notify = SIGEV_THREAD_ID;
     event.sigev_signo = TICK;
     event.sigev_notify_thread_id = (pid_t)syscall(SYS_gettid);
-    return timer_create(CLOCK_THREAD_CPUTIME_ID, &event, &timer) == 0 && timer_settime(timer, 0, &each, NULL) == 0;
+    if (timer_create(CLOCK_THREAD_CPUTIME_ID, &event, &timer) != 0) {
+        return 0;
+    }
+    if (timer_settime(timer, 0, &each, NULL) == 0) {
+        return 1;
+    }
+    end_timer();
+    return 0;
 }
 
 const char *trap_begin_thread(void) {
-    return !make_stack() ? "sigaltstack" : !unblock() ? "pthread_sigmask" : !start_timer() ? "timer_create" : NULL;
+    const char *refused;
+    if (!make_stack()) {
+        return "sigaltstack";
+    }
+    refused = !unblock() ? "pthread_sigmask" : !start_timer() ? "timer_create" : NULL;
+    if (refused != NULL) {
+        end_stack();
+    }
+    return refused;
 }
 
 void trap_end_thread(void) {
-    stack_t none;
-    memset(&none, 0, sizeof none);
-    none.ss_flags = SS_DISABLE;
-    if (timer_delete(timer) != 0 || sigaltstack(&none, NULL) != 0 || munmap(stack_at, STACK_LEN) != 0) {
-        abort();
-    }
+    end_timer();
+    end_stack();
 }

@@ -13,7 +13,8 @@ extern __thread uint32_t guest_trap;
 /* How often this thread has gone back to an instruction since a stop that it met was no longer there. */
 extern __thread uint64_t trap_went_back;
 
-/* 0, or what the system refused: for the process, and for each thread that goes inside, which calls the last before it ends. */
+/* trap_begin is for the process. Each thread that goes inside begins by trap_begin_thread and ends by trap_end_thread. The first two return
+   0, or what the system refused. A thread that was refused has nothing to end. */
 const char *trap_begin(void);
 const char *trap_begin_thread(void);
 void trap_end_thread(void);
