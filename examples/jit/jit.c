@@ -4,6 +4,9 @@
  * N seconds is the whole time, of which the inline cache has half. The times are printed beside those of the same bytes stored one by one
  * without a sandbox: loading is vetting, creating and making the acts, throwing away is deleting and reclaiming, so both cost more; running
  * costs the same.
+ *
+ * Status 0: each sum is right. 1: a line says WRONG. 2: the command line is wrong, standard output can't be written, or the library is
+ * broken. 4: the host itself faulted. 77: the system refuses what a host that executes needs; a line says what.
  */
 #define _GNU_SOURCE
 #include "generate.h"
@@ -35,7 +38,9 @@ static const char *const EXPRESSIONS[] = {
 
 static double now(void) {
     struct timespec t;
-    clock_gettime(CLOCK_MONOTONIC, &t);
+    if (clock_gettime(CLOCK_MONOTONIC, &t) != 0) {
+        abort();
+    }
     return (double)t.tv_sec + 1e-9 * (double)t.tv_nsec;
 }
 
@@ -167,6 +172,12 @@ static void start(Guest *g, unsigned number) {
     }
 }
 
+static void join(Guest *g) {
+    if (pthread_join(g->thread, NULL) != 0) {
+        abort();
+    }
+}
+
 static uint32_t stub_at(uint64_t n) {
     return STUB_AT + (uint32_t)(n % STUBS) * NC_BUNDLE;
 }
@@ -214,7 +225,7 @@ static int run_cache(double seconds, unsigned threads) {
     changes = change_while_running(now() + seconds, &waits);
     __atomic_store_n(&over, 1, __ATOMIC_SEQ_CST);
     for (i = 0; i < threads; i++) {
-        pthread_join(guests[i].thread, NULL);
+        join(&guests[i]);
         stays += guests[i].stays;
         wrong += guests[i].wrong;
         resumed += guests[i].resumed;
@@ -224,17 +235,33 @@ static int run_cache(double seconds, unsigned threads) {
     printf("an inline cache, changed while threads ran it: %s\n", wrong == 0 ? "each sum right" : "WRONG");
     printf("times: %.0f changes a second, each a stub, a patch and a deletion; %.0f runs a second of %u values\n", (double)changes / seconds,
            (double)stays / seconds, (unsigned)ROUNDS);
-    printf("counts: %u threads, %llu changes, %llu runs, %llu gone on from a stub that was no more, %llu stops of changes met, %llu waits, %llu wrong\n",
-           threads, (unsigned long long)changes, (unsigned long long)stays, (unsigned long long)resumed, (unsigned long long)went_back,
-           (unsigned long long)waits, (unsigned long long)wrong);
+    printf("counts: %u threads, %llu changes, %llu runs, %llu gone on from a stub that was no more, ", threads, (unsigned long long)changes,
+           (unsigned long long)stays, (unsigned long long)resumed);
+    printf("%llu stops of changes met, %llu waits, %llu wrong\n", (unsigned long long)went_back, (unsigned long long)waits,
+           (unsigned long long)wrong);
     return wrong != 0;
+}
+
+/* The status of the process. */
+static int run(unsigned seconds, unsigned threads) {
+    const char *refused = host_begin();
+    Times inside, plain;
+    int wrong;
+    if (refused != NULL) {
+        printf("skipped: code that is generated: this system refuses %s\n", refused);
+        return SKIPPED;
+    }
+    inside = make_and_throw(seconds / 4.0, 1, STACK_OF_EACH);
+    show_times("made, run and thrown away in the sandbox", &inside);
+    plain = make_and_throw(seconds / 4.0, 0, STACK_OF_EACH);
+    show_times("the same bytes stored one by one, without a sandbox", &plain);
+    wrong = run_cache(seconds / 2.0, threads);
+    return wrong || inside.wrong != 0 || plain.wrong != 0;
 }
 
 int main(int argc, char **argv) {
     unsigned threads = 2, seconds = 2;
-    const char *refused = host_begin();
-    Times inside, plain;
-    int i, wrong;
+    int i;
     for (i = 1; i + 1 < argc; i += 2) {
         unsigned *number = strcmp(argv[i], "--threads") == 0 ? &threads : strcmp(argv[i], "--seconds") == 0 ? &seconds : NULL;
         if (number == NULL) {
@@ -246,14 +273,5 @@ int main(int argc, char **argv) {
         fputs("usage: jit [--seconds N] [--threads N], of 1 to 16 threads and at least one second\n", stderr);
         return 2;
     }
-    if (refused != NULL) {
-        printf("skipped: code that is generated: this system refuses %s\n", refused);
-        return SKIPPED;
-    }
-    inside = make_and_throw(seconds / 4.0, 1, STACK_OF_EACH);
-    show_times("made, run and thrown away in the sandbox", &inside);
-    plain = make_and_throw(seconds / 4.0, 0, STACK_OF_EACH);
-    show_times("the same bytes stored one by one, without a sandbox", &plain);
-    wrong = run_cache(seconds / 2.0, threads);
-    return wrong || inside.wrong != 0 || plain.wrong != 0;
+    return host_status(run(seconds, threads));
 }

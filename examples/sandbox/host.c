@@ -6,6 +6,7 @@
 
 #include <pthread.h>
 #include <stdio.h>
+#include <stdlib.h>
 #include <string.h>
 
 #define ROOM 65536u /* acts of the longest call */
@@ -17,30 +18,62 @@ static pthread_mutex_t writer = PTHREAD_MUTEX_INITIALIZER;
 static NcAct acts[ROOM];
 static __thread unsigned depth; /* stays of this thread that lie within each other */
 
-const char *host_begin(void) {
-    const char *refused = nc_host_version() != NC_VERSION ? "another version of nc_host" : segment_begin();
-    refused = refused ? refused : text_begin();
-    refused = refused ? refused : trap_begin();
-    region = region_new();
-    refused = refused ? refused : region == NULL ? "memory" : NULL;
-    return refused ? refused : host_begin_thread();
+/* What no system refuses. Where it doesn't hold, the host or its library is broken. */
+static void need(int holds, const char *what) {
+    if (!holds) {
+        fprintf(stderr, "host: %s\n", what);
+        exit(2);
+    }
 }
 
-/* Until its first check-in a seat may hold back what was deleted before. */
-const char *host_begin_thread(void) {
-    pthread_mutex_lock(&writer);
-    seat = region_seat(region);
-    pthread_mutex_unlock(&writer);
-    if (seat == NULL) {
-        return "a seat";
+static void lock(void) {
+    need(pthread_mutex_lock(&writer) == 0, "pthread_mutex_lock failed");
+}
+
+static void unlock(void) {
+    need(pthread_mutex_unlock(&writer) == 0, "pthread_mutex_unlock failed");
+}
+
+const char *host_begin(void) {
+    const char *refused;
+    need(nc_host_version() == NC_VERSION, "another version of nc_host");
+    refused = segment_begin();
+    refused = refused ? refused : text_begin();
+    refused = refused ? refused : trap_begin();
+    if (refused != NULL) {
+        return refused;
     }
+    region = region_new();
+    need(region != NULL, "no region");
+    return host_begin_thread();
+}
+
+/* The seat comes last, since it holds back what is deleted until the thread leaves. Until its first check-in it may also hold back what was
+   deleted before. */
+const char *host_begin_thread(void) {
+    const char *refused = trap_begin_thread();
+    if (refused != NULL) {
+        return refused;
+    }
+    lock();
+    seat = region_seat(region);
+    unlock();
+    need(seat != NULL, "no seat");
     seat_check_in(seat);
-    return trap_begin_thread();
+    return NULL;
 }
 
 void host_end_thread(void) {
     trap_end_thread();
     seat_leave(seat);
+}
+
+int host_status(int status) {
+    if (fflush(stdout) != 0 || ferror(stdout)) {
+        fputs("host: standard output can't be written\n", stderr);
+        return 2;
+    }
+    return status;
 }
 
 void host_check_in(void) {
@@ -50,10 +83,10 @@ void host_check_in(void) {
 NcVerdict host_load(uint32_t base, const uint8_t *code, uint32_t len) {
     NcVerdict verdict;
     NcActs told;
-    pthread_mutex_lock(&writer);
+    lock();
     told = region_create(region, base, code, len, acts, ROOM);
     text_make(acts, told.count * (told.fault == NC_OK));
-    pthread_mutex_unlock(&writer);
+    unlock();
     verdict.fault = told.fault;
     verdict.at = told.at;
     return verdict;
@@ -61,32 +94,32 @@ NcVerdict host_load(uint32_t base, const uint8_t *code, uint32_t len) {
 
 uint32_t host_patch(uint32_t at, const uint8_t *bytes, uint32_t len) {
     NcActs told;
-    pthread_mutex_lock(&writer);
+    lock();
     told = region_patch(region, at, bytes, len, acts, ROOM);
     text_make(acts, told.count * (told.fault == NC_OK));
-    pthread_mutex_unlock(&writer);
+    unlock();
     return told.fault;
 }
 
 /* The stamp is drawn when the last stop stands. */
 uint32_t host_delete(uint32_t base) {
     NcActs told;
-    pthread_mutex_lock(&writer);
+    lock();
     told = region_begin_delete(region, base, acts, ROOM);
     if (told.fault == NC_OK) {
         text_make(acts, told.count);
         region_end_delete(region);
     }
-    pthread_mutex_unlock(&writer);
+    unlock();
     return told.fault;
 }
 
 uint32_t host_reclaim(void) {
     uint32_t freed;
     host_check_in();
-    pthread_mutex_lock(&writer);
+    lock();
     freed = region_reclaim(region);
-    pthread_mutex_unlock(&writer);
+    unlock();
     return freed;
 }
 
@@ -122,8 +155,8 @@ static int serve_print(void) {
 
 static void stay(uint32_t place);
 
-/* call(function, argument): the host calls the function, as a service does that is given one to call back. It returns to the trampoline of
-   OUT_DONE; if it ends otherwise, so does the stay that called. */
+/* call(function, argument): the host calls the function, as a service does that is given one to call back. It returns to the trampoline
+   of OUT_DONE; if it ends otherwise, so does the stay that called. */
 static int serve_call(void) {
     uint32_t words[3], frame[2] = {OUT_DONE * NC_BUNDLE}, before[8], top = guest_reg[ESP] - sizeof frame;
     if (!read_call(words) || !data_has(top, sizeof frame)) {

@@ -9,11 +9,15 @@
 #define HUNDREDTHS 100u      /* of a second of a processor's time: the longest stay, with all within it */
 #define THREADS 16u          /* that may go inside, beside the one that calls host_begin */
 
-/* 0, or what the system refused: for the process and the thread that calls it, and for each other thread that goes inside, which ends by the
-   last. */
+/* host_begin is for the process and its first thread. Each other thread that goes inside begins by host_begin_thread and ends by
+   host_end_thread. The first two return 0, or what the system refused. Where the library is of another version, or gives no region or no
+   seat, they end the process with status 2. */
 const char *host_begin(void);
 const char *host_begin_thread(void);
 void host_end_thread(void);
+
+/* The status with which the process ends: this one, or 2 where what was printed can't be written. */
+int host_status(int status);
 
 /* Each answers the fault, NC_OK where the text was changed. */
 NcVerdict host_load(uint32_t base, const uint8_t *code, uint32_t len);

@@ -1,8 +1,8 @@
 /*
  * A host that executes: sandbox CODE DATA [--control] [--seconds N] [--threads N]. examples/sandbox/build compiles it, and CODE and DATA.
  *
- * First it runs CODE. Then it tries what code must not be able to do, by a line for each (trials.c). Then threads are inside for N seconds (none: this is left out) while code is patched, deleted and replaced, which these numbers
- * count:
+ * First it runs CODE. Then trials.c tries what code must not be able to do, with a line for each trial. Then threads are inside for N
+ * seconds while code is patched, deleted and replaced. With 0 seconds this part is left out. These numbers count it:
  *
  *   stays                          times inside, each from its entry to its way out
  *   waits for check-ins            times that the writer wanted a deleted span and some thread had not checked in yet; nothing blocks
@@ -13,8 +13,9 @@
  * With --control patches are written byte by byte, with neither stops nor settlings (creations and deletions keep theirs). Threads then
  * execute halves of instructions; the first five such stays of each thread are shown on standard error.
  *
- * Status 0: all is as it has to be. 1: a line says ASTRAY. 2: the command line is wrong, or a file can't be read or is too long. 3: CODE was
- * refused, and nothing of it was executed. 4: the host itself faulted. 77: the system makes no 32-bit segments; a line says what was refused.
+ * Status 0: all is as it has to be. 1: a line says ASTRAY. 2: the command line is wrong, a file can't be read or is too long, standard
+ * output can't be written, the library is broken, or a change or a call of the system failed. 3: CODE was refused, and nothing of it was
+ * executed. 4: the host itself faulted. 77: the system refuses what a host that executes needs, such as 32-bit segments; a line says what.
  */
 #include "host.h"
 #include "race.h"
@@ -40,11 +41,10 @@ static uint32_t read_file(const char *name, uint8_t *to, uint32_t room) {
         len = fread(to, 1, room, file);
         more = fgetc(file);
     }
-    if (file == NULL || ferror(file)) {
+    if (file == NULL || ferror(file) || fclose(file) != 0) {
         perror(name);
         exit(2);
     }
-    fclose(file);
     if (more != EOF) {
         fprintf(stderr, "sandbox: %s has more than the %u bytes that there is room for\n", name, (unsigned)room);
         exit(2);
@@ -143,19 +143,13 @@ static int read_words(Words *words, int argc, char **argv) {
     return right;
 }
 
-int main(int argc, char **argv) {
+/* The status of the process. */
+static int run(const Words *words) {
     static uint8_t code[CODE_MAX], data[DATA_LEN - UNTRUSTED_DATA];
-    Words words = {NULL, NULL, 2, 2, 0};
-    uint32_t code_len, data_len;
+    uint32_t code_len = read_file(words->code, code, sizeof code);
+    uint32_t data_len = read_file(words->data, data, sizeof data);
+    const char *refused = host_begin();
     unsigned astray;
-    const char *refused;
-    if (!read_words(&words, argc, argv)) {
-        fputs("usage: sandbox CODE DATA [--control] [--seconds N] [--threads N], of 1 to 16 threads\n", stderr);
-        return 2;
-    }
-    code_len = read_file(words.code, code, sizeof code);
-    data_len = read_file(words.data, data, sizeof data);
-    refused = host_begin();
     if (refused != NULL) {
         printf("skipped: a host that executes: this system refuses %s\n", refused);
         return SKIPPED;
@@ -166,8 +160,17 @@ int main(int argc, char **argv) {
     }
     astray = trials_run();
     try_changes();
-    if (words.seconds != 0) {
-        astray += try_threads(words.threads, words.seconds, words.torn);
+    if (words->seconds != 0) {
+        astray += try_threads(words->threads, words->seconds, words->torn);
     }
     return astray != 0;
+}
+
+int main(int argc, char **argv) {
+    Words words = {NULL, NULL, 2, 2, 0};
+    if (!read_words(&words, argc, argv)) {
+        fputs("usage: sandbox CODE DATA [--control] [--seconds N] [--threads N], of 1 to 16 threads\n", stderr);
+        return 2;
+    }
+    return host_status(run(&words));
 }
