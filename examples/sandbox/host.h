@@ -5,7 +5,7 @@
 #include "region.h"
 #include "segment.h"
 
-#define DEPTH 16u            /* how many stays of a thread may lie within each other: each takes some of the host's stack */
+#define DEPTH 16u            /* how many stays of a thread may lie within each other; each takes some of the host's stack */
 #define HUNDREDTHS 100u      /* of a second of a processor's time: the longest stay, with all within it */
 #define THREADS 16u          /* that may go inside, beside the one that calls host_begin */
 

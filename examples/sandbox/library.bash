@@ -1,5 +1,5 @@
-# For the scripts `build` of this folder and of examples/jit: how to compile a host and to link it with the library, in the repository and where
-# Reedbodkin is installed. It reads `here`, the folder of the script, and sets `compile`, `link`, `libraries` and `nc_cc`.
+# For the scripts `build` of this folder and of examples/jit: how to compile a host and to link it with the library, in the repository and
+# where Reedbodkin is installed. It reads `here`, the folder of the script, and sets `compile`, `link`, `libraries` and `nc_cc`.
 top=$here/../..
 if [ -d "$top/crates" ]; then
     kit=${RATTLE_KIT:-$(dirname "$(rt doc)")}
@@ -11,7 +11,10 @@ else
     libraries=("$prefix/lib/libnc_host.a")
 fi
 for library in "${libraries[@]}"; do
-    [ -e "$library" ] || { echo "build: no $library: (cd crates/nc_host && rt lib) makes libnc_host.a, RATTLE_KIT leads to the other" >&2; exit 2; }
+    if [ ! -e "$library" ]; then
+        echo "build: no $library: (cd crates/nc_host && rt lib) makes libnc_host.a, RATTLE_KIT leads to the other" >&2
+        exit 2
+    fi
 done
 
 # The host is linked below 4 GiB, since a trampoline's far jump has an offset of 32 bits.

@@ -9,7 +9,8 @@ typedef struct Tally {
     uint64_t went_back, stopped, astray;
 } Tally;
 
-/* Runs a number of threads for a number of seconds. With `torn` patches are written byte by byte, without stops and settlings: a control. */
+/* Runs a number of threads for a number of seconds. With `torn` patches are written byte by byte, without stops and settlings; this is a
+   control. */
 Tally race(unsigned threads, unsigned seconds, int torn);
 
 #endif

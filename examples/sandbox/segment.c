@@ -81,7 +81,8 @@ static long make_segment(unsigned entry, uint32_t base, uint32_t len, unsigned c
 }
 
 const char *segment_begin(void) {
-    void *data = mmap((void *)(uintptr_t)DATA_AT, DATA_LEN, PROT_READ | PROT_WRITE, MAP_PRIVATE | MAP_ANONYMOUS | MAP_FIXED_NOREPLACE, -1, 0);
+    int flags = MAP_PRIVATE | MAP_ANONYMOUS | MAP_FIXED_NOREPLACE;
+    void *data = mmap((void *)(uintptr_t)DATA_AT, DATA_LEN, PROT_READ | PROT_WRITE, flags, -1, 0);
     if (make_segment(CODE_SELECTOR >> 3, CODE_AT, LIMIT, MODIFY_LDT_CONTENTS_CODE) != 0 ||
         make_segment(DATA_SELECTOR >> 3, DATA_AT, DATA_LEN, MODIFY_LDT_CONTENTS_DATA) != 0 ||
         make_segment(STACK_SELECTOR >> 3, DATA_AT, DATA_LEN, MODIFY_LDT_CONTENTS_DATA) != 0) {

@@ -22,8 +22,8 @@ void trap_end_thread(void);
 /* A thread goes inside anew: what it met before counts no more. */
 void trap_forget(void);
 
-/* From now on this thread has so many hundredths of a second of a processor's time; whether they are over. A thread that is inside then comes
-   out by OUT_LATE. */
+/* From now on this thread has so many hundredths of a second of a processor's time; whether they are over. A thread that is inside then
+   comes out by OUT_LATE. */
 void trap_limit(unsigned hundredths);
 int trap_is_late(void);
 

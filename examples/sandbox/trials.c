@@ -1,5 +1,5 @@
-/* What untrusted code must not reach or do: docs/EMBEDDING.md, "Duties". Each trial aims at memory of the host's that is mapped, since a page
-   that isn't there stops any access, whatever the segments are. A chunk of two bundles tries it, with all other registers -1. */
+/* What untrusted code must not reach or do: docs/EMBEDDING.md, "Duties". Each trial aims at memory of the host's that is mapped, since a
+   page that isn't there stops any access, whatever the segments are. A chunk of two bundles tries it, with all other registers -1. */
 #define _GNU_SOURCE
 #include "trials.h"
 
@@ -67,7 +67,8 @@ static int is_full(const uint8_t *bytes, size_t count) {
 }
 
 static int is_untouched(void) {
-    return is_full(before_data, AROUND) && is_full(after_data, AROUND) && is_full(own, sizeof own) && memcmp(code, text_at(TRIAL_AT), sizeof code) == 0;
+    return is_full(before_data, AROUND) && is_full(after_data, AROUND) && is_full(own, sizeof own) &&
+           memcmp(code, text_at(TRIAL_AT), sizeof code) == 0;
 }
 
 /* ---- A trial */
@@ -239,7 +240,8 @@ static void try_stops(const char *name, uint32_t from, uint32_t to, uint32_t ste
     unload();
 }
 
-/* Pages below 4 GiB, which 32-bit addresses reach: none can be both written and executed, and in the code segment only the text is executable. */
+/* Pages below 4 GiB, which 32-bit addresses reach. None can be both written and executed, and in the code segment only the text is
+   executable. */
 static void try_pages(void) {
     char line[512], rights[5];
     unsigned long from, to;

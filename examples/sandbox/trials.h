@@ -2,8 +2,7 @@
 #ifndef TRIALS_H
 #define TRIALS_H
 
-/* Prints a line for each trial, before it the trial's name; how many came out otherwise than they have to, each of which says ASTRAY. No other
-   thread is inside. */
+/* Prints a line for each trial. Returns how many went wrong; their lines say ASTRAY. No other thread may be inside. */
 unsigned trials_run(void);
 
 #endif
