@@ -1,0 +1,15 @@
+pub mod EachMember
+pub mod Rising
+pub mod Pieces
+pub mod Taking
+pub mod Stamps
+pub mod Combining
+pub mod Searching
+pub mod Mapped
+pub mod Parting
+pub mod Pairs
+pub mod Finding
+pub mod Rows
+pub mod Halves
+pub mod Leaving
+pub mod Offered

@@ -1,0 +1,46 @@
+-- Numbers of a list from an index on, gone over one by one.
+use Rattle.std.proofs.Common.{◌≡◌, ℕ, ◌+◌, ◌-◌, ◌<◌, ◌≤◌, List, [], ◌∷◌, ◌++◌, length, get_or, take, drop, map, sym, ap, ◌∙◌, arith, append_assoc, subst}
+use Rattle.nc_list.specs.Each.{Each}
+use Rattle.nc_list.proofs.EachMember.{each_get}
+use Rattle.std.proofs.lemmas.List.{take_more, map-append, length-drop, get_or-drop, drop-drop, take_all}
+
+-- one more of them
+pub mapped_tail : (f : ℕ → ℕ) (xs : List ℕ) (m i d : ℕ) → m ≤ i → i < length xs
+    → map f (take (i + 1 - m) (drop m xs)) ≡ map f (take (i - m) (drop m xs)) ++ f (get_or xs i d) ∷ []
+mapped_tail f xs m i d le lt =
+    let n : i + 1 - m ≡ i - m + 1 = omega (arith, le) in
+    let there : m + (i - m) ≡ i = omega (arith, le) in
+    let at : get_or (drop m xs) (i - m) d ≡ get_or xs i d = get_or-drop m xs (i - m) d ∙ ap (λ (k : ℕ). get_or xs k d) there in
+    ap (λ (k : ℕ). map f (take k (drop m xs))) n
+    ∙ (ap (map f) (take_more (drop m xs) (i - m) d (omega (arith, le, lt, length-drop m xs)))
+    ∙ (map-append f (take (i - m) (drop m xs)) (get_or (drop m xs) (i - m) d ∷ [])
+    ∙ ap (λ (y : ℕ). map f (take (i - m) (drop m xs)) ++ f y ∷ []) at))
+
+-- behind those before them
+pub mapped_more : (f : ℕ → ℕ) (xs : List ℕ) (m i d : ℕ) → m ≤ i → i < length xs
+    → take m xs ++ map f (take (i + 1 - m) (drop m xs)) ≡ (take m xs ++ map f (take (i - m) (drop m xs))) ++ f (get_or xs i d) ∷ []
+mapped_more f xs m i d le lt =
+    ap (λ (z : List ℕ). take m xs ++ z) (mapped_tail f xs m i d le lt)
+    ∙ sym (append_assoc (take m xs) (map f (take (i - m) (drop m xs))) (f (get_or xs i d) ∷ []))
+
+-- all of them
+pub mapped_all : (f : ℕ → ℕ) (xs : List ℕ) (m i : ℕ) → length xs ≤ i → map f (take (i - m) (drop m xs)) ≡ map f (drop m xs)
+mapped_all f xs m i le = ap (map f) (take_all (i - m) (drop m xs) (omega (arith, le, length-drop m xs)))
+
+-- what is left is the same one further on
+pub rest_more : {X : Type 0} (xs ys : List X) (i : ℕ) → drop i xs ≡ drop i ys → drop (i + 1) xs ≡ drop (i + 1) ys
+rest_more xs ys i same = sym (drop-drop 1 i xs) ∙ (ap (drop 1) same ∙ drop-drop 1 i ys)
+
+-- and begins with the same
+pub here_same : {X : Type 0} (xs ys : List X) (i : ℕ) (d : X) → drop i xs ≡ drop i ys → get_or xs i d ≡ get_or ys i d
+here_same xs ys i d same =
+    let e : i + 0 ≡ i = omega arith in
+    ap (λ (k : ℕ). get_or xs k d) (sym e)
+    ∙ (sym (get_or-drop i xs 0 d) ∙ (ap (λ z. get_or z 0 d) same ∙ (get_or-drop i ys 0 d ∙ ap (λ (k : ℕ). get_or ys k d) e)))
+
+-- what holds of each from an index on
+pub each_from_index : (P : ℕ → Type 0) (xs : List ℕ) (m i d : ℕ) → m ≤ i → i < length xs → Each P (drop m xs) → P (get_or xs i d)
+each_from_index P xs m i d le lt all =
+    let there : m + (i - m) ≡ i = omega (arith, le) in
+    subst (λ (n : ℕ). P n) (get_or-drop m xs (i - m) d ∙ ap (λ (k : ℕ). get_or xs k d) there)
+    (each_get P (drop m xs) (i - m) d (omega (arith, le, lt, length-drop m xs)) all)

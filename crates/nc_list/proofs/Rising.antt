@@ -1,0 +1,87 @@
+-- Chunks by rising base.
+use Rattle.std.proofs.Common.{◌≡◌, ℕ, zero, suc, ◌+◌, ◌<◌, ◌≤◌, List, [], ◌∷◌, ◌++◌, length, get_or, ap, inl, inr, arith}
+use Rattle.std.proofs.lemmas.Bool.{cases_lt}
+use Rattle.nc_list.specs.declared.chunk.Chunk.{Chunk}
+use Rattle.nc_list.specs.Each.{Each}
+use Rattle.nc_list.specs.Chunks.{IsRising, IsAboveAll, IsBelowAll, Meets}
+use Rattle.nc_list.proofs.EachMember.{each_map, each_get}
+
+-- chunks that rise from a place rise from any place below it
+pub rises_lower : (low from : ℕ) (chunks : List Chunk) → low ≤ from → IsRising from chunks → IsRising low chunks
+rises_lower low from [] le rising = tt
+rises_lower low from (c ∷ rest) le rising = (omega (arith, le, rising.0), rising.1)
+
+-- chunks that rise from a place lie above it
+pub rises_above : (from : ℕ) (chunks : List Chunk) → IsRising from chunks → IsBelowAll from chunks
+rises_above from [] rising = tt
+rises_above from (c ∷ rest) rising = (
+  rising.0,
+  each_map (λ (d : Chunk). c.base + c.length ≤ d.base) (λ (d : Chunk). from ≤ d.base) (λ d h. omega (arith, h, rising.0)) rest
+      (rises_above (c.base + c.length) rest rising.1),
+)
+
+-- the first of them
+pub rises_first : (from : ℕ) (xs ys : List Chunk) → IsRising from (xs ++ ys) → IsRising from xs
+rises_first from [] ys rising = tt
+rises_first from (c ∷ xs) ys rising = (rising.0, rises_first (c.base + c.length) xs ys rising.1)
+
+-- the others
+pub rises_rest : (from : ℕ) (xs ys : List Chunk) → IsRising from (xs ++ ys) → IsRising from ys
+rises_rest from [] ys rising = rising
+rises_rest from (c ∷ xs) ys rising =
+    rises_lower from (c.base + c.length) ys (omega (arith, rising.0)) (rises_rest (c.base + c.length) xs ys rising.1)
+
+-- those before a chunk end at or below its base
+pub rises_before : (from : ℕ) (xs : List Chunk) (c : Chunk) (ys : List Chunk) → IsRising from (xs ++ c ∷ ys) → IsAboveAll c.base xs
+rises_before from [] c ys rising = tt
+rises_before from (d ∷ xs) c ys rising = (
+  (rises_rest (d.base + d.length) xs (c ∷ ys) rising.1).0,
+  rises_before (d.base + d.length) xs c ys rising.1,
+)
+
+-- those from it on begin at or above its base
+pub rises_behind : (from : ℕ) (xs : List Chunk) (c : Chunk) (ys : List Chunk) → IsRising from (xs ++ c ∷ ys)
+    → IsBelowAll c.base (c ∷ ys)
+rises_behind from xs c ys rising =
+    let rest = rises_rest from xs (c ∷ ys) rising in (
+      omega arith,
+      each_map (λ (d : Chunk). c.base + c.length ≤ d.base) (λ (d : Chunk). c.base ≤ d.base) (λ d h. omega (arith, h)) ys
+          (rises_above (c.base + c.length) ys rest.1),
+    )
+
+-- a chunk ends at or below the base of each one behind it
+pub rises_apart : (from : ℕ) (chunks : List Chunk) (i j : ℕ) (d : Chunk) → IsRising from chunks → i < j → j < length chunks
+    → (get_or chunks i d).base + (get_or chunks i d).length ≤ (get_or chunks j d).base
+rises_apart from [] i j d rising before lt = absurd (omega (arith, lt))
+rises_apart from (c ∷ rest) i zero d rising before lt = absurd (omega (arith, before))
+rises_apart from (c ∷ rest) zero (suc j) d rising before lt =
+    each_get (λ (e : Chunk). c.base + c.length ≤ e.base) rest j d (omega (arith, lt)) (rises_above (c.base + c.length) rest rising.1)
+rises_apart from (c ∷ rest) (suc i) (suc j) d rising before lt =
+    rises_apart (c.base + c.length) rest i j d rising.1 (omega (arith, before)) (omega (arith, lt))
+
+-- it begins at or below each one from it on
+pub rises_at : (from : ℕ) (chunks : List Chunk) (i j : ℕ) (d : Chunk) → IsRising from chunks → i ≤ j → j < length chunks
+    → (get_or chunks i d).base ≤ (get_or chunks j d).base
+rises_at from chunks i j d rising le lt =
+    elim (cases_lt i j) [
+      | inl before ↦ omega (arith, rises_apart from chunks i j d rising before lt)
+      | inr from_it ↦
+          let same : i ≡ j = omega (arith, le, from_it) in
+          omega (arith, ap (λ (n : ℕ). (get_or chunks n d).base) same)
+    ]
+
+-- no chunk of a list that meets no span overlaps it
+pub meets_none : (base len : ℕ) (chunks : List Chunk) → ¬ Meets base len chunks
+    → Each (λ (d : Chunk). base < d.base + d.length → d.base < base + len → ⊥) chunks
+meets_none base len [] free = tt
+meets_none base len (d ∷ rest) free = (λ a b. free (inl (a, b)), meets_none base len rest (λ m. free (inr m)))
+
+-- a part of such a list
+pub meets_first : (base len : ℕ) (xs ys : List Chunk) → Meets base len xs → Meets base len (xs ++ ys)
+meets_first base len [] ys m = absurd m
+meets_first base len (d ∷ xs) ys m = elim m [ inl here ↦ inl here | inr later ↦ inr (meets_first base len xs ys later) ]
+
+-- another part
+pub meets_rest : (base len : ℕ) (xs ys : List Chunk) → Meets base len ys → Meets base len (xs ++ ys)
+meets_rest base len [] ys m = m
+meets_rest base len (d ∷ xs) ys m = inr (meets_rest base len xs ys m)

@@ -1,0 +1,5 @@
+pub mod Each
+pub mod Chunks
+pub mod Stamps
+pub mod Entries
+pub mod Parts

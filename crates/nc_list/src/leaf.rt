@@ -1,0 +1,198 @@
+//! A leaf of the list: chunks in one piece of memory.
+
+ghost use Rattle.std.specs.Prelude.{◌≡◌, ◌+◌, ◌-◌, ◌<◌, ◌≤◌, ◌^◌, [], ◌++◌, length, take, drop};
+ghost use Rattle.nc_list.specs.Chunks.{IsRising, AreTaken};
+ghost use Rattle.nc_list.specs.Stamps.{AreSince, BeginsAt};
+ghost use Rattle.nc_list.specs.Parts.{BeginTo, BeginAbove};
+
+use crate::chunk::Chunk;
+use crate::due::Due;
+use crate::entry::Entry;
+use crate::part::Part;
+use std::alloc::{AllocError, Global};
+use std::marker::Model;
+
+/// The number of chunks at which a leaf is full.
+const FULL: usize = 64;
+
+/// The number of chunks up to which two leaves become one.
+const SMALL: usize = 48;
+
+/// Up to `FULL` consecutive chunks of the list.
+#[derive(Drop)]
+pub(crate) struct Leaf {
+    entries: Vec<Entry>,
+    /// The base of the first chunk, if there is one.
+    first: u32,
+    /// No chunk is retired with a lower stamp.
+    oldest: u64,
+}
+
+impl Model for Leaf {
+    ghost use Rattle.std.specs.Prelude.{List};
+    ghost use Rattle.nc_list.specs.declared.chunk.Chunk.{Chunk};
+    ghost use Rattle.nc_list.specs.Stamps.{AreSince, BeginsAt};
+
+    ghost Value = { List Chunk };
+
+    ghost view = { λ l. l.entries.items };
+
+    ghost invariant = { λ l. BeginsAt l.first l.entries.items × AreSince l.oldest l.entries.items };
+}
+
+/// The number of chunks whose base is at most this address, by binary search.
+fn count_to(entries: &[Entry], at: u32) -> usize
+    requires { IsRising 0 entries.now }
+    ensures bound { result ≤ length entries.now }
+    ensures below { BeginTo at (take result entries.now) }
+    ensures above { BeginAbove at (drop result entries.now) }
+{
+    entries.partition_point(|e| e.base() <= at)
+}
+
+/// The base of the first chunk, or 0 if there is none.
+fn first_base(entries: &[Entry]) -> u32
+    ensures { BeginsAt result entries.now }
+{
+    if entries.is_empty() {
+        return 0;
+    }
+    entries[0].base()
+}
+
+/// A lower bound of the stamps.
+fn oldest_in(entries: &[Entry]) -> u64
+    ensures { AreSince result entries.now }
+{
+    let mut low = u64::MAX;
+    for i in 0..entries.len() {
+        low = low.min(entries[i].stamp());
+    }
+    low
+}
+
+/// Takes out the first chunks that are due, as many as there is room for, and returns a lower bound of the stamps of the others.
+fn take_from(entries: &mut Vec<Entry>, least: u64, due: &mut Due) -> u64
+    requires empty { due.old ≡ [] }
+    requires least { least < 2 ^ 64 - 1 }
+    ensures taken { AreTaken least entries.old.items entries.new.items due.new }
+    ensures since { AreSince result entries.new.items }
+{
+    let mut to = 0;
+    let mut low = u64::MAX;
+    for i in 0..entries.len() {
+        let entry = entries[i];
+        if entry.is_due(least) && !due.is_full() {
+            due.push(entry.chunk());
+        } else {
+            entries[to] = entry;
+            to += 1;
+            low = low.min(entry.stamp());
+        }
+    }
+    entries.truncate(to);
+    low
+}
+
+impl Part for Leaf {
+    ghost items = { λ l. l };
+
+    fn new(alloc: Global) -> Leaf {
+        Leaf {
+            entries: Vec::new(alloc),
+            first: 0,
+            oldest: u64::MAX,
+        }
+    }
+
+    fn len(&self) -> usize {
+        self.entries.len()
+    }
+
+    fn first(&self) -> u32 {
+        self.first
+    }
+
+    fn oldest(&self) -> u64 {
+        self.oldest
+    }
+
+    fn at(&self, i: usize) -> Chunk {
+        self.entries[i].chunk()
+    }
+
+    fn next(&self, at: u32) -> Option<Chunk> {
+        let k = count_to(&self.entries, at);
+        if 0 < k {
+            let entry = self.entries[k - 1];
+            if at - entry.base() < entry.length() {
+                return Some(entry.chunk());
+            }
+        }
+        if k < self.entries.len() {
+            return Some(self.entries[k].chunk());
+        }
+        None
+    }
+
+    fn insert(&mut self, base: u32, len: u32) -> Result<(), AllocError> {
+        let k = count_to(&self.entries, base);
+        if self.entries.insert(k, Entry::live(base, len)).is_err() {
+            return Err(AllocError);
+        }
+        if k == 0 {
+            self.first = base;
+        }
+        Ok(())
+    }
+
+    fn retire(&mut self, base: u32, stamp: u64) {
+        let k = count_to(&self.entries, base) - 1;
+        let entry = self.entries[k];
+        self.entries[k] = entry.retired(stamp);
+        self.oldest = self.oldest.min(stamp);
+    }
+
+    fn split(&mut self, base: u32) -> Result<Option<Leaf>, AllocError> {
+        let len = self.entries.len();
+        if len < FULL {
+            return Ok(None);
+        }
+        let cut = if self.entries[len - 1].base() < base {
+            len - 1
+        } else if base < self.first {
+            1
+        } else {
+            len / 2
+        };
+        // Room for a full leaf, so that any two small leaves can become one.
+        let mut entries = Vec::with_capacity(*self.entries.allocator(), FULL)?;
+        entries.extend_from_slice(&self.entries[cut..])?;
+        self.entries.truncate(cut);
+        self.oldest = oldest_in(&self.entries);
+        let first = first_base(&entries);
+        let oldest = oldest_in(&entries);
+        Ok(Some(Leaf {
+            entries,
+            first,
+            oldest,
+        }))
+    }
+
+    fn join(&mut self, upper: &mut Leaf) -> bool {
+        let len = self.entries.len() + upper.entries.len();
+        if SMALL < len || self.entries.capacity() < len {
+            return false;
+        }
+        if self.entries.append(&mut upper.entries).is_err() {
+            return false;
+        }
+        self.oldest = self.oldest.min(upper.oldest);
+        true
+    }
+
+    fn take_due(&mut self, least: u64, due: &mut Due) {
+        self.oldest = take_from(&mut self.entries, least, due);
+        self.first = first_base(&self.entries);
+    }
+}

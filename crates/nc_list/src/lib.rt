@@ -1,0 +1,28 @@
+//! A list of chunks by ascending base, in which no call's cost grows with the number of chunks.
+//!
+//! A *chunk* is a span of addresses, live or retired with a stamp. [`ChunkList`] is a tree of three levels: leaves of up to 64
+//! chunks, rows of up to 128 leaves, and a row of rows. Each part of a row knows its first base, and a lower bound of the stamps of its
+//! retired chunks; a row also knows how many chunks stand before each part. So the chunk of an address, the chunk at an index and
+//! the chunks that are due are found from the root down, in O(log n) for n chunks. A part that is full is split in two when a
+//! chunk is inserted, and two neighbours that have become small are joined when chunks are taken out.
+//!
+//! The bounds of stamps take the place of a queue of retired chunks: [`take_due`](ChunkList::take_due) goes down only where a chunk may be due, and so
+//! gives due chunks by ascending base without sorting them. Retiring a chunk and taking chunks out need no memory.
+//!
+//! A chunk takes 16 bytes. Two neighbouring leaves have more than 48 chunks in room for 128, and two neighbouring rows more than
+//! 96 leaves in room for 256, so a list takes at most 48 bytes for each chunk once it has more than a leaf's.
+#![tactic(auto)]
+
+mod chunk;
+mod due;
+mod entry;
+mod leaf;
+mod list;
+mod part;
+mod parts;
+mod row;
+mod starts;
+
+pub use chunk::{Chunk, ChunkState};
+pub use due::{DUE, Due};
+pub use list::ChunkList;
