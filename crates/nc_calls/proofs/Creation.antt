@@ -15,12 +15,12 @@ use Rattle.nc_text.specs.Marks.{Admits, IsMarked, IsClosed}
 use Rattle.nc_text.specs.MarkedText.{MarkedText, IsText, with_span}
 use Rattle.nc_text.proofs.Offered.{executes, length-with_span}
 use Rattle.nc_vet.specs.Chunk.{MarkedChunk, IsValid}
+use Rattle.nc_list.specs.declared.chunk.Chunk.{Chunk}
 use Rattle.nc_region.specs.schedules.Spans.{RetiredSpan, IsShut}
 use Rattle.nc_region.specs.schedules.World.{World}
 use Rattle.nc_region.specs.schedules.Events.{Event, Marks, Settles}
 use Rattle.nc_region.proofs.Offered.{Keeps, only_as_it_stands}
 use Rattle.nc_region.specs.declared.acts.Act.TheVariants.{MarkSpan}
-use Rattle.nc_region.specs.declared.chunk.Chunk.{Chunk}
 use Rattle.nc_region.specs.Acts.{is_inside, is_start, puts_where}
 use Rattle.nc_region.specs.Chunks.{HasGoodSpan, IsClosedChunk, with_chunk}
 use Rattle.nc_region.specs.machinery.Between.{IsUnused, HasPut, IsFinalBut}

@@ -6,15 +6,15 @@ use Rattle.nc_decode.specs.declared.instruction.Mark.TheVariants.{Unmarked}
 use Rattle.nc_text.specs.Machine.{State, state}
 use Rattle.nc_text.specs.Marks.{IsMarked, Admits, mark_at}
 use Rattle.nc_text.specs.MarkedText.{MarkedText}
+use Rattle.nc_list.specs.declared.chunk.Chunk.{Chunk}
+use Rattle.nc_list.specs.declared.chunk.ChunkState.{ChunkState}
+use Rattle.nc_list.specs.declared.chunk.ChunkState.TheVariants.{Live, Retired}
 use Rattle.nc_region.specs.schedules.Spans.{RetiredSpan}
 use Rattle.nc_region.specs.schedules.Views.{IsView}
 use Rattle.nc_region.specs.schedules.World.{World, IsViewOf, is_same_span}
 use Rattle.nc_region.specs.schedules.Events.{Event, Steps, Enters, Exits, Takes, Sees, Stores, Leaves, Puts, Settles, Marks, Bumps, Retires, Frees}
 use Rattle.nc_region.specs.schedules.Events.{Looks, after, world_after, AreAllowed}
 use Rattle.nc_region.proofs.Offered.{Keeps, keeps_event, may_free_now, freed_was}
-use Rattle.nc_region.specs.declared.chunk.Chunk.{Chunk}
-use Rattle.nc_region.specs.declared.chunk.ChunkState.{ChunkState}
-use Rattle.nc_region.specs.declared.chunk.ChunkState.TheVariants.{Live, Retired}
 use Rattle.nc_region.specs.Deletion.{is_due, kept}
 use Rattle.nc_region.specs.Region.{IsLive}
 use Rattle.nc_calls.specs.Views.{ViewsKeep, IsFree}

@@ -4,11 +4,11 @@ use Rattle.std.specs.Prelude.{All, Contains, ◌↔◌}
 use Rattle.nc_decode.specs.Bundles.{IsLawfulLimit}
 use Rattle.nc_text.specs.MarkedText.{unused_text}
 use Rattle.nc_gens.specs.Rule.{first_keeper_numbers, last_generation}
+use Rattle.nc_list.specs.declared.chunk.Chunk.{Chunk}
 use Rattle.nc_region.specs.schedules.Spans.{RetiredSpan}
 use Rattle.nc_region.specs.schedules.World.{World, first_world}
 use Rattle.nc_region.specs.schedules.Events.{Event, world_after}
 use Rattle.nc_region.proofs.Offered.{after_append}
-use Rattle.nc_region.specs.declared.chunk.Chunk.{Chunk}
 use Rattle.nc_region.specs.Quiet.{retired_spans}
 use Rattle.nc_region.specs.Region.{Region, IsRegion}
 use Rattle.nc_region.proofs.Offered.{region_of_new}

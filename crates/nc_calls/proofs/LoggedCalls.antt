@@ -6,9 +6,9 @@ use Rattle.std.proofs.lemmas.List.Elements.{All-nil, All-cons}
 use Rattle.nc_text.specs.Places.{limit_of}
 use Rattle.nc_gens.specs.Seen.{PassState, HasMet}
 use Rattle.nc_vet.specs.Chunk.{MarkedChunk, Piece, IsValid}
+use Rattle.nc_list.specs.declared.chunk.Chunk.{Chunk}
 use Rattle.nc_region.specs.schedules.Events.{Looks}
 use Rattle.nc_region.specs.declared.acts.Entry.{Entry}
-use Rattle.nc_region.specs.declared.chunk.Chunk.{Chunk}
 use Rattle.nc_region.specs.declared.fault.CreateFault.{CreateFault}
 use Rattle.nc_region.specs.Region.{Region, IsCreated, IsRefused, Meets}
 use Rattle.nc_region.specs.Log.{Logs, log_of_create, log_of_delete}

@@ -6,9 +6,9 @@ use Rattle.nc_text.specs.MarkedText.{MarkedText, with_span}
 use Rattle.nc_gens.specs.Rule.{last_generation}
 use Rattle.nc_gens.specs.Seen.{KeeperState}
 use Rattle.nc_vet.specs.Chunk.{Piece}
+use Rattle.nc_list.specs.declared.chunk.Chunk.{Chunk}
 use Rattle.nc_region.specs.schedules.World.{first_world}
 use Rattle.nc_region.specs.schedules.Events.{Event, Puts, Settles, world_after}
-use Rattle.nc_region.specs.declared.chunk.Chunk.{Chunk}
 use Rattle.nc_region.specs.Acts.{puts_where}
 use Rattle.nc_region.specs.Patch.{IsPatch, IsModified, AreBytesOf, any_place, stands_there}
 use Rattle.nc_region.specs.machinery.PatchSteps.{CanPatch}

@@ -16,11 +16,11 @@ use Rattle.nc_text.specs.MarkedText.{MarkedText, with_span}
 use Rattle.nc_text.proofs.Offered.{executes}
 use Rattle.nc_vet.specs.Chunk.{Piece, code_of, mark_of}
 use Rattle.nc_vet.proofs.Offered.{same_pieces}
+use Rattle.nc_list.specs.declared.chunk.Chunk.{Chunk}
 use Rattle.nc_region.specs.schedules.Spans.{RetiredSpan}
 use Rattle.nc_region.specs.schedules.World.{World}
 use Rattle.nc_region.specs.schedules.Events.{Event, Puts, Settles}
 use Rattle.nc_region.proofs.Offered.{as_it_stands, only_as_it_stands}
-use Rattle.nc_region.specs.declared.chunk.Chunk.{Chunk}
 use Rattle.nc_region.specs.Acts.{is_mark, puts_where}
 use Rattle.nc_region.specs.Patch.{AreBytesOf, IsHeldBy, any_place, stands_there}
 use Rattle.nc_region.specs.machinery.PatchSteps.{Begins, IsReplacing, CanPatch}

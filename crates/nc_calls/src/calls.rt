@@ -7,11 +7,11 @@
 ghost use Rattle.std.specs.Prelude.{◌≡◌, ℕ, List, [], ◌∷◌, length, Contains, IfOk, IfErr, OnOk, OnErr};
 ghost use Rattle.nc_text.specs.Places.{limit_of};
 ghost use Rattle.nc_gens.specs.Seen.{HasMet};
+ghost use Rattle.nc_list.specs.declared.chunk.Chunk.{Chunk};
 ghost use Rattle.nc_region.specs.Region.{IsCreated, IsRefused, MayRefuse, Meets};
 ghost use Rattle.nc_region.specs.Patch.{IsPatch, IsModified, MayRefusePatch};
 ghost use Rattle.nc_region.specs.Deletion.{IsDeleted, MayRefuseDelete, IsReclaimed};
 ghost use Rattle.nc_region.specs.schedules.Events.{Event};
-ghost use Rattle.nc_region.specs.declared.chunk.Chunk.{Chunk};
 ghost use Rattle.nc_region.specs.Quiet.{retired_spans};
 ghost use Rattle.nc_calls.specs.Calls.{no_details};
 ghost use Rattle.nc_calls.specs.Histories.{IsCall, LogsCall};

@@ -1,5 +1,4 @@
 pub mod schedules
-pub mod EachMember
 pub mod SpanPlaces
 pub mod telling
 pub mod chunks
@@ -7,4 +6,3 @@ pub mod patching
 pub mod deleting
 pub mod walking
 pub mod Offered
-pub mod tiers

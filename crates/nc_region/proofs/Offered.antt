@@ -1,13 +1,14 @@
 -- What proofs of the crates above may use of this crate: the law of walks, lemmas on each member of a list, and, for the law of
 -- calls, what stands in the text between the acts of a call and why it is closed. The other files are private.
+pub use Rattle.nc_list.proofs.Offered.{each_map, each_both, each_take, each_drop}
+pub use Rattle.nc_list.proofs.Offered.{each_append, each_set, each_get, each_contains, each_from, each_at_set, each_middle}
 pub use Rattle.nc_region.proofs.walking.OneWalk.{one_trace}
-pub use Rattle.nc_region.proofs.EachMember.{each_map, each_both, each_take, each_drop}
 pub use Rattle.nc_region.proofs.chunks.Creating.{final_all, final_but_starts, same_code}
-pub use Rattle.nc_region.proofs.EachMember.{each_append, each_set, each_get, each_contains, each_from, each_at_set, each_middle}
 pub use Rattle.nc_region.proofs.chunks.Inserting.{unused_if_apart, region_with_chunk, region_of_new}
 pub use Rattle.nc_region.proofs.chunks.Joining.{Joins, chunk_joins, chunk_keeps}
 pub use Rattle.nc_region.proofs.chunks.Pieces.{valid_chunk_is_closed, chunk_names_registers}
-pub use Rattle.nc_region.proofs.chunks.Rising.{rises_above, rises_get}
+pub use Rattle.nc_list.proofs.Offered.{rises_above}
+pub use Rattle.nc_region.proofs.chunks.Rising.{rises_get}
 pub use Rattle.nc_region.proofs.SpanPlaces.{Before, Within, Behind, place_of, unused_is_start, unused_at_start, is_inside_false}
 pub use Rattle.nc_region.proofs.SpanPlaces.{is_start_false, start_or_not, span_within, span_before, before_span, span_behind}
 pub use Rattle.nc_region.proofs.deleting.Deleted.{region_deleted, listed_there}

@@ -2,6 +2,8 @@
 pub mod QuietSpans
 pub mod Freed
 pub mod Due
+pub mod Least
+pub mod Freeing
 pub mod Deleting
 pub mod Stopping
 pub mod Deleted

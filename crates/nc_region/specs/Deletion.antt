@@ -1,14 +1,14 @@
 -- A region after a chunk was deleted, and after retired chunks were reclaimed.
-use Rattle.std.specs.Prelude.{◌≡◌, ℕ, ◌+◌, ◌-◌, ◌^◌, ◌<◌, Bool, false, not, nat_le, List, [], ◌∷◌, length, filter, map, replicate}
+use Rattle.std.specs.Prelude.{◌≡◌, ℕ, ◌+◌, ◌-◌, ◌^◌, ◌<◌, List, [], ◌∷◌, length, map, replicate}
 use Rattle.std.specs.Prelude.{Contains, Some, slice_get, slice_set}
 use Rattle.nc_gens.specs.Rule.{generation_raised}
 use Rattle.nc_gens.specs.Seen.{HasLooked, least_number}
 use Rattle.nc_text.specs.MarkedText.{MarkedText, with_span, without_marks}
+use Rattle.nc_list.specs.declared.chunk.Chunk.{Chunk}
+use Rattle.nc_list.specs.declared.chunk.ChunkState.TheVariants.{Live, Retired}
+pub use Rattle.nc_list.specs.Chunks.{is_due, freed, kept}
 use Rattle.nc_region.specs.declared.acts.Act.{Act}
 use Rattle.nc_region.specs.declared.acts.Act.TheVariants.{UnmarkSpan, Look}
-use Rattle.nc_region.specs.declared.chunk.Chunk.{Chunk}
-use Rattle.nc_region.specs.declared.chunk.ChunkState.{ChunkState}
-use Rattle.nc_region.specs.declared.chunk.ChunkState.TheVariants.{Live, Retired}
 use Rattle.nc_region.specs.declared.fault.DeleteFault.{DeleteFault}
 use Rattle.nc_region.specs.declared.fault.DeleteFault.TheVariants.{NoChunk, GensFull}
 use Rattle.nc_region.specs.Acts.{Tells, acts_of_delete}
@@ -49,19 +49,6 @@ pub record IsDeleted (old new : Region) (base stamp : ℕ) : Type 0 where
 abbrev pub MayRefuseDelete : Region → ℕ → DeleteFault → Type 0
 MayRefuseDelete r base NoChunk = ¬ HasLive r.chunks base
 MayRefuseDelete r base GensFull = HasLive r.chunks base × (r.keeper.numbers.generation ≡ 2 ^ 62)
-
--- retired, with a stamp of at most this number
-abbrev pub is_due : ℕ → ChunkState → Bool
-is_due least Live = false
-is_due least (Retired stamp) = nat_le stamp least
-
--- the retired chunks with a stamp of at most this number, in the order of the list
-abbrev pub freed : ℕ → List Chunk → List Chunk
-freed least chunks = filter (λ (c : Chunk). is_due least c.state) chunks
-
--- the other chunks, which stay in the list: the live ones, and the retired ones with a stamp above this number
-abbrev pub kept : ℕ → List Chunk → List Chunk
-kept least chunks = filter (λ (c : Chunk). not (is_due least c.state)) chunks
 
 -- the text with the spans of these chunks unmarked, except for bundle starts
 abbrev pub unmarked : MarkedText → List Chunk → MarkedText

@@ -1,10 +1,10 @@
 -- The spans of retired chunks, and that each of them is quiet.
 use Rattle.std.specs.Prelude.{List, [], ◌∷◌}
 use Rattle.nc_text.specs.MarkedText.{MarkedText}
+use Rattle.nc_list.specs.declared.chunk.Chunk.{Chunk}
+use Rattle.nc_list.specs.declared.chunk.ChunkState.{ChunkState}
+use Rattle.nc_list.specs.declared.chunk.ChunkState.TheVariants.{Live, Retired}
 pub use Rattle.nc_region.specs.schedules.Spans.{RetiredSpan, IsInSpan, IsWithin, IsQuiet}
-use Rattle.nc_region.specs.declared.chunk.Chunk.{Chunk}
-use Rattle.nc_region.specs.declared.chunk.ChunkState.{ChunkState}
-use Rattle.nc_region.specs.declared.chunk.ChunkState.TheVariants.{Live, Retired}
 use Rattle.nc_region.specs.Each.{Each}
 
 -- these spans, with the chunk's span in front of them if the chunk is retired

@@ -1,7 +1,6 @@
 -- A region: a text and the chunks in it.
-use Rattle.std.specs.Prelude.{◌≡◌, ◌≢◌, ℕ, ◌+◌, ◌-◌, ◌<◌, ◌≤◌, ◌⊎◌, ⊤, Bool, List, [], ◌∷◌, Option, length, take, drop, slice_index}
+use Rattle.std.specs.Prelude.{◌≡◌, ◌≢◌, ℕ, ◌+◌, ◌-◌, ◌<◌, ◌≤◌, ⊤, Bool, List, Option, length, slice_index}
 use Rattle.std.specs.Prelude.{slice_index_or}
-use Rattle.std.specs.List.{insert}
 use Rattle.nc_decode.specs.declared.instruction.Mark.TheVariants.{Unmarked}
 use Rattle.nc_vet.specs.Chunk.{IsValid}
 use Rattle.nc_vet.specs.Chunk as vet
@@ -11,11 +10,12 @@ use Rattle.nc_text.specs.Marks.{mark_at}
 use Rattle.nc_text.specs.MarkedText.{MarkedText, IsText, with_span, unused_mark, unused_text}
 use Rattle.nc_text.specs.Ready.{AreReady, GetsReady}
 use Rattle.nc_gens.specs.Seen.{KeeperState}
+use Rattle.nc_list.specs.declared.chunk.Chunk.{Chunk}
+use Rattle.nc_list.specs.declared.chunk.ChunkState.{ChunkState}
+use Rattle.nc_list.specs.declared.chunk.ChunkState.TheVariants.{Live, Retired}
+pub use Rattle.nc_list.specs.Chunks.{IsRising, IsAboveAll, IsBelowAll, IsNextChunk, FitsAt, Meets, IsInserted}
 use Rattle.nc_region.specs.declared.acts.Act.{Act}
 use Rattle.nc_region.specs.declared.acts.Entry.{Entry}
-use Rattle.nc_region.specs.declared.chunk.Chunk.{Chunk}
-use Rattle.nc_region.specs.declared.chunk.ChunkState.{ChunkState}
-use Rattle.nc_region.specs.declared.chunk.ChunkState.TheVariants.{Live, Retired}
 use Rattle.nc_region.specs.declared.fault.CreateFault.{CreateFault}
 use Rattle.nc_region.specs.declared.fault.CreateFault.TheVariants.{WrongLimit, Occupied, OutOfMemory}
 use Rattle.nc_region.specs.Chunks.{HasGoodSpan}
@@ -47,11 +47,6 @@ IsLive (Retired stamp) = ⊥
 abbrev pub IsInChunk : Chunk → ℕ → Type 0
 IsInChunk c at = (c.base ≤ at) × (at < c.base + c.length)
 
--- the chunks begin at or above this place, in ascending order and without overlap
-abbrev pub IsRising : ℕ → List Chunk → Type 0
-IsRising from [] = ⊤
-IsRising from (c ∷ rest) = (from ≤ c.base) × IsRising (c.base + c.length) rest
-
 -- the chunk's span has the bytes and marks of a valid chunk of its base and length, for the text's limit (`IsValid` of
 -- nc_vet)
 pub record HoldsValid (marked : MarkedText) (c : Chunk) : Type 0 where
@@ -82,27 +77,6 @@ AreChunksReady made chunks = Each (λ (c : Chunk). AreReady made c.base c.length
 -- the text is the unused one up to some lawful limit
 abbrev pub IsNew : MarkedText → Type 0
 IsNew marked = (limit : ℕ) × IsLawfulLimit limit × (marked ≡ unused_text limit)
-
--- all chunks of the list end at or below the place
-abbrev pub IsAboveAll : ℕ → List Chunk → Type 0
-IsAboveAll base chunks = Each (λ (d : Chunk). d.base + d.length ≤ base) chunks
-
--- all chunks of the list begin at or above the place
-abbrev pub IsBelowAll : ℕ → List Chunk → Type 0
-IsBelowAll end chunks = Each (λ (d : Chunk). end ≤ d.base) chunks
-
--- a chunk with this span can be inserted at index `k`: the list stays ascending and without overlap
-abbrev pub FitsAt : ℕ → ℕ → List Chunk → ℕ → Type 0
-FitsAt base len chunks k = (k ≤ length chunks) × IsAboveAll base (take k chunks) × IsBelowAll (base + len) (drop k chunks)
-
--- some chunk of the list overlaps the span
-abbrev pub Meets : ℕ → ℕ → List Chunk → Type 0
-Meets base len [] = ⊥
-Meets base len (d ∷ rest) = ((base < d.base + d.length) × (d.base < base + len)) ⊎ Meets base len rest
-
--- the new list is the old one with the chunk inserted where it fits
-abbrev pub IsInserted : List Chunk → List Chunk → Chunk → Type 0
-IsInserted old new c = (k : ℕ) × FitsAt c.base c.length old k × (new ≡ insert old k c)
 
 -- the list's entry for a vetted chunk, which is live
 abbrev pub live_chunk : vet.MarkedChunk → Chunk

@@ -1,7 +1,7 @@
 //! Putting a chunk into a text while threads run in it.
 
 ghost use Rattle.std.specs.Prelude.{◌≡◌, ◌≢◌, ◌+◌, ◌-◌, ◌<◌, ◌≤◌, ◌^◌, ℕ, List, [], ◌∷◌, ◌++◌, length, take, vec_capacity, All, IsTrue, true, false};
-ghost use Rattle.std.specs.Prelude.{IfOk, IfErr, OnOk};
+ghost use Rattle.std.specs.Prelude.{IfOk, IfErr, OnOk, OnErr};
 ghost use Rattle.nc_decode.specs.declared.instruction.Mark.{Mark};
 ghost use Rattle.nc_text.specs.Marks.{IsClosed};
 ghost use Rattle.nc_text.specs.Places.{limit_of};
@@ -13,42 +13,41 @@ ghost use Rattle.nc_region.specs.Acts.{Tells, puts_where, is_inside, is_start, a
 ghost use Rattle.nc_region.specs.Log.{Logs, unsettled, log_of_create};
 ghost use Rattle.nc_region.specs.Chunks.{HasGoodSpan, IsClosedChunk, with_chunk};
 ghost use Rattle.nc_region.specs.declared.fault.CreateFault.{CreateFault};
-ghost use Rattle.nc_region.specs.Region.{IsRegion, MayRefuse, live_chunk};
+ghost use Rattle.nc_region.specs.Region.{IsRegion, MayRefuse};
 ghost use Rattle.nc_region.specs.machinery.Between.{HasRoom, IsUnused, HasPut, IsFinalBut};
 
 use crate::acts::Acts;
-use crate::chunk::{Chunk, ChunkState};
 use crate::fault::CreateFault;
-use crate::list::ChunkList;
-use crate::listing::room_for;
+use crate::listing::is_free;
 use nc_decode::Mark;
+use nc_list::ChunkList;
 use nc_vet::Vetted;
 use std::alloc::{AllocError, Global};
 
 /// The length in bytes up to which a chunk is small: its marks are listed in an array, not on the heap.
 const SMALL: usize = 512;
 
-/// Prepares the creation of a chunk: finds its index in the list, reserves room for one more chunk there, allocates room for
-/// a list of its marks if they are more than `SMALL`, and makes every place of its span ready.
+/// Prepares the creation of a chunk: finds that its span is free, allocates room for a list of its marks if they are more than
+/// `SMALL`, makes every place of its span ready, and enters the chunk in the list.
 pub(crate) fn make_room<A: Acts>(
     acts: &mut A,
     chunks: &mut ChunkList,
     vetted: &Vetted,
-) -> Result<(usize, Vec<Mark>), CreateFault>
-    requires region { IsRegion (A.marked acts.old) chunks.old.items }
-    ensures found { IfOk result (λ r. HasRoom (A.marked acts.old) (A.made acts.new) chunks.old.items vetted.now r.0) }
-    ensures marks { IfOk result (λ r. (r.1.items ≡ []) × (512 < length vetted.now.code → length vetted.now.code ≤ vec_capacity r.1)) }
-    ensures place { OnOk result (chunks.new.roomy ≡ true) }
+) -> Result<Vec<Mark>, CreateFault>
+    requires region { IsRegion (A.marked acts.old) chunks.old }
+    ensures room { OnOk result (HasRoom (A.marked acts.old) (A.made acts.new) chunks.old chunks.new vetted.now) }
+    ensures marks { IfOk result (λ room. (room.items ≡ []) × (512 < length vetted.now.code → length vetted.now.code ≤ vec_capacity room)) }
     ensures only { GetsReady (A.made acts.old) (A.made acts.new) vetted.now.base (length vetted.now.code) }
-    ensures others { (chunks.new.items ≡ chunks.old.items) × (A.marked acts.new ≡ A.marked acts.old)
-        × (A.keeper acts.new ≡ A.keeper acts.old) × (A.told acts.new ≡ A.told acts.old) × (A.logged acts.new ≡ A.logged acts.old) }
+    ensures others { (A.marked acts.new ≡ A.marked acts.old) × (A.keeper acts.new ≡ A.keeper acts.old)
+        × (A.told acts.new ≡ A.told acts.old) × (A.logged acts.new ≡ A.logged acts.old) }
+    ensures unlisted { OnErr result (chunks.new ≡ chunks.old) }
     // A refusal other than `OutOfMemory` leaves the pages unchanged too.
     ensures made { IfErr result (λ fault. fault ≢ CreateFault.OutOfMemory → A.made acts.new ≡ A.made acts.old) }
     ensures refused { IfErr result (λ fault. MayRefuse
         (record {
           marked = A.marked acts.old;
           made = A.made acts.old;
-          chunks = chunks.old.items;
+          chunks = chunks.old;
           keeper = A.keeper acts.old;
           told = A.told acts.old;
           logged = A.logged acts.old;
@@ -59,11 +58,8 @@ pub(crate) fn make_room<A: Acts>(
     }
     let base = vetted.base();
     let length = vetted.code().len() as u32;
-    let Some(k) = room_for(chunks, base, length) else {
+    if !is_free(chunks, base, length) {
         return Err(CreateFault::Occupied);
-    };
-    if chunks.reserve().is_err() {
-        return Err(CreateFault::OutOfMemory);
     }
     let Ok(room) = list_room(chunks.allocator(), length as usize) else {
         return Err(CreateFault::OutOfMemory);
@@ -71,7 +67,10 @@ pub(crate) fn make_room<A: Acts>(
     if acts.ready(base, length).is_err() {
         return Err(CreateFault::OutOfMemory);
     }
-    Ok((k, room))
+    if chunks.insert(base, length).is_err() {
+        return Err(CreateFault::OutOfMemory);
+    }
+    Ok(room)
 }
 
 /// Room for a list of this many marks, or none if they are at most `SMALL`.
@@ -82,17 +81,6 @@ fn list_room(alloc: Global, length: usize) -> Result<Vec<Mark>, AllocError>
         return Ok(Vec::new(alloc));
     }
     Vec::with_capacity(alloc, length)
-}
-
-/// The list's entry for a vetted chunk.
-pub(crate) fn live_chunk(vetted: &Vetted) -> Chunk
-    ensures { result ≡ live_chunk vetted.now }
-{
-    Chunk {
-        base: vetted.base(),
-        length: vetted.code().len() as u32,
-        state: ChunkState::Live,
-    }
 }
 
 /// Creates a chunk that is closed by itself in an unused span. `room` is for a list of more than `SMALL` marks, if `acts` takes

@@ -44,14 +44,10 @@
 #![tactic(auto)]
 
 mod acts;
-mod block;
-mod blocks;
-mod chunk;
 mod create;
 mod delete;
 mod fault;
 mod law;
-mod list;
 mod listing;
 mod modify;
 mod patch;
@@ -64,9 +60,9 @@ mod trace;
 mod walk;
 
 pub use acts::{Act, Acts, Entry, mark_bit};
-pub use chunk::{Chunk, ChunkState};
 pub use fault::{CreateFault, DeleteFault, ModifyFault, RegionFault, WalkFault};
 pub use law::{law_of_chunks, law_of_logs, law_of_schedules};
+pub use nc_list::{Chunk, ChunkState};
 pub use plain::Plain;
 pub use recorder::Recorder;
 pub use region::{Region, RegionOf};

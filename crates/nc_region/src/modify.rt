@@ -12,7 +12,7 @@ ghost use Rattle.nc_text.specs.Marks.{IsClosed};
 ghost use Rattle.nc_text.specs.Places.{byte_at, instruction_at, limit_of};
 ghost use Rattle.nc_text.specs.Ready.{AreReady};
 ghost use Rattle.nc_text.specs.MarkedText.{MarkedText, IsText, with_span};
-ghost use Rattle.nc_region.specs.declared.chunk.Chunk.{Chunk};
+ghost use Rattle.nc_list.specs.declared.chunk.Chunk.{Chunk};
 ghost use Rattle.nc_region.specs.Acts.{Tells, puts_where};
 ghost use Rattle.nc_region.specs.Log.{Logs, unsettled};
 ghost use Rattle.nc_region.specs.machinery.Between.{HasPut};
@@ -25,10 +25,10 @@ ghost use Rattle.nc_region.specs.Patch.{acts_of_instruction, acts_of_modify, log
 ghost use Rattle.nc_region.specs.machinery.PatchSteps.{IsReplacing, IsInterim, Begins, Along, RunsAlong, is_after, KeepsTransfer, CanPatch, MayRefuseIn};
 
 use crate::acts::Acts;
-use crate::chunk::Chunk;
 use crate::delete::STOP;
 use crate::fault::ModifyFault;
 use nc_decode::{BUNDLE, Instr, Mark, decode};
+use nc_list::Chunk;
 use nc_text::lowest_place;
 
 /// The mark stands for some state.

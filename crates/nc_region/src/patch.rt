@@ -8,7 +8,7 @@ ghost use Rattle.nc_text.specs.Marks.{mark_at};
 ghost use Rattle.nc_text.specs.Places.{InRegion};
 ghost use Rattle.nc_text.specs.Ready.{AreReady};
 ghost use Rattle.nc_text.specs.MarkedText.{MarkedText, IsText, with_span};
-ghost use Rattle.nc_region.specs.declared.chunk.Chunk.{Chunk};
+ghost use Rattle.nc_list.specs.declared.chunk.Chunk.{Chunk};
 ghost use Rattle.nc_region.specs.Acts.{Tells};
 ghost use Rattle.nc_region.specs.Log.{Logs};
 ghost use Rattle.nc_region.specs.Region.{HoldsValid, IsInChunk};
@@ -16,12 +16,12 @@ ghost use Rattle.nc_region.specs.Patch.{AreBytesOf, IsRun, acts_of_modify, log_o
 ghost use Rattle.nc_region.specs.machinery.PatchSteps.{CanPatch, MayRefuseIn};
 
 use crate::acts::Acts;
-use crate::chunk::Chunk;
 use crate::fault::ModifyFault;
 use crate::modify::{
     goes_well, is_marked, judge, length_at, put_patch, put_where_new, spares_pair,
 };
 use nc_decode::{Instr, Mark, START, decode};
+use nc_list::Chunk;
 
 /// The mark at an address of the text, or `Unmarked` outside.
 pub(crate) fn mark_within<A: Acts>(acts: &A, at: u32) -> Mark

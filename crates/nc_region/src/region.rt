@@ -7,24 +7,22 @@ ghost use Rattle.nc_text.specs.Places.{InRegion, byte_at, limit_of};
 ghost use Rattle.nc_decode.specs.Bundles.{IsLawfulLimit};
 ghost use Rattle.nc_text.specs.MarkedText.{unused_text};
 ghost use Rattle.nc_text.specs.Ready.{unmade_pages};
+ghost use Rattle.nc_list.specs.declared.chunk.ChunkState.{ChunkState};
 ghost use Rattle.nc_region.specs.Acts.{Tells, acts_of_create};
 ghost use Rattle.nc_region.specs.Log.{Logs, log_of_create};
 ghost use Rattle.nc_gens.specs.Seen.{HasMet};
 ghost use Rattle.nc_region.specs.Quiet.{AreQuiet};
 ghost use Rattle.nc_region.specs.Deletion.{HasLive, IsDeleted, MayRefuseDelete, IsReclaimed};
 ghost use Rattle.nc_vet.specs.Faults.{HasGoodSpan};
-ghost use Rattle.nc_region.specs.Region.{Region, IsRegion, AreChunksReady, IsNew, IsCreated, IsRefused, MayRefuse, Meets};
-ghost use Rattle.nc_region.specs.declared.chunk.ChunkState.{ChunkState};
+ghost use Rattle.nc_region.specs.Region.{Region, IsRegion, AreChunksReady, IsNew, IsAboveAll, IsNextChunk, IsCreated, IsRefused, MayRefuse, Meets};
 ghost use Rattle.nc_vet.specs.Chunk.{Piece};
 ghost use Rattle.nc_region.specs.Patch.{IsPatch, MayRefusePatch, IsModified, AreBytesOf, acts_of_modify, log_of_modify};
 ghost use Rattle.nc_region.specs.Trace.{IsTrace, IsOnlyTrace, IsSafeWalk, IsWalkStart, MayRefuseWalk};
 
 use crate::acts::Acts;
-use crate::chunk::{Chunk, ChunkState};
-use crate::create::{live_chunk, make_room, put_chunk};
+use crate::create::{make_room, put_chunk};
 use crate::delete::put_stops;
 use crate::fault::{CreateFault, DeleteFault, ModifyFault, RegionFault, WalkFault};
-use crate::list::ChunkList;
 use crate::listing::{holder, live_at};
 use crate::modify::is_patch_span;
 use crate::patch::{mark_within, patch};
@@ -34,6 +32,7 @@ use crate::trace::Trace;
 use crate::walk::walk_from;
 use nc_decode::{BUNDLE, Mark, START};
 use nc_gens::{Gens, Keeper, LAST_GENERATION, Pass};
+use nc_list::{Chunk, ChunkList};
 use nc_text::{Text, TextFault};
 use nc_vet::Vetted;
 use std::alloc::{AllocError, Global};
@@ -61,13 +60,13 @@ impl<A: Acts + Drop> Model for RegionOf<A> {
     ghost view = { λ r. record {
       marked = A.marked r.acts;
       made = A.made r.acts;
-      chunks = r.chunks.items;
+      chunks = r.chunks;
       keeper = A.keeper r.acts;
       told = A.told r.acts;
       logged = A.logged r.acts;
     } };
 
-    ghost invariant = { λ r. IsRegion (A.marked r.acts) r.chunks.items × AreChunksReady (A.made r.acts) r.chunks.items };
+    ghost invariant = { λ r. IsRegion (A.marked r.acts) r.chunks × AreChunksReady (A.made r.acts) r.chunks };
 }
 
 impl<'g> RegionOf<Plain<'g>> {
@@ -184,6 +183,19 @@ impl<A: Acts + Drop> RegionOf<A> {
         self.chunks.get(i)
     }
 
+    /// The chunk, live or retired, that has this address, or else the first one above it, if there is one.
+    pub fn chunk_at(&self, at: u32) -> Option<Chunk>
+        ensures found { IfSome result (IsNextChunk self.now.chunks at) }
+        // Each chunk ends at or below the address.
+        ensures none { IsNone result → IsAboveAll at self.now.chunks }
+        // The chunk's span is whole bundles of the region.
+        ensures placed { IfSome result (λ c. HasGoodSpan c.base (limit_of self.now.marked.bytes) c.length) }
+    {
+        // Names a field, so that the first return is checked against the fields and not the whole.
+        let _open = &self.acts;
+        self.chunks.chunk_at(at)
+    }
+
     /// The live chunk of this base, if there is one, by binary search.
     pub fn live_at(&self, base: u32) -> Option<Chunk>
         ensures found { IfSome result (λ c. Contains self.now.chunks c × (c.state ≡ ChunkState.Live) × (c.base ≡ base)) }
@@ -191,12 +203,7 @@ impl<A: Acts + Drop> RegionOf<A> {
         // The chunk's span is whole bundles of the region.
         ensures placed { IfSome result (λ c. HasGoodSpan c.base (limit_of self.now.marked.bytes) c.length) }
     {
-        // Names a field, so that the first return is checked against the fields and not the whole.
-        let _open = &self.acts;
-        let Some((_k, found)) = live_at(&self.chunks, base) else {
-            return None;
-        };
-        Some(found)
+        live_at(&self.chunks, base)
     }
 
     /// Creates a chunk while threads may be running: makes the pages of its span, puts its bytes that aren't at bundle starts,
@@ -218,12 +225,11 @@ impl<A: Acts + Drop> RegionOf<A> {
         ensures refused { IfErr result (λ e. MayRefuse self.old vetted e.1) }
         ensures confined { IsConfined self.new.marked.bytes }
     {
-        let (k, room) = match make_room(&mut self.acts, &mut self.chunks, &vetted) {
-            Ok(found) => found,
+        let room = match make_room(&mut self.acts, &mut self.chunks, &vetted) {
+            Ok(room) => room,
             Err(fault) => return Err((vetted, fault)),
         };
         put_chunk(&mut self.acts, vetted.base(), vetted.code(), &vetted, room);
-        self.chunks.insert(k, live_chunk(&vetted));
         Ok(())
     }
 
@@ -282,20 +288,14 @@ impl<A: Acts + Drop> RegionOf<A> {
         ensures refused { IfErr result (MayRefuseDelete self.old base) }
         ensures confined { IsConfined self.new.marked.bytes }
     {
-        let Some((k, chunk)) = live_at(&self.chunks, base) else {
+        let Some(chunk) = live_at(&self.chunks, base) else {
             return Err(DeleteFault::NoChunk);
         };
         if self.acts.generation() >= LAST_GENERATION {
             return Err(DeleteFault::GensFull);
         }
-        let length = chunk.length;
-        let stamp = put_stops(&mut self.acts, base, length);
-        let retired = Chunk {
-            base,
-            length,
-            state: ChunkState::Retired(stamp),
-        };
-        self.chunks.set(k, retired);
+        let stamp = put_stops(&mut self.acts, base, chunk.length);
+        self.chunks.retire(base, stamp);
         Ok(stamp)
     }
 
@@ -310,6 +310,8 @@ impl<A: Acts + Drop> RegionOf<A> {
         ensures reclaimed { IsReclaimed self.old self.new result }
         ensures confined { IsConfined self.new.marked.bytes }
     {
+        // Called for its postconditions.
+        let _facts = self.acts.generation();
         let least = self.acts.look();
         free_due(&mut self.acts, &mut self.chunks, least)
     }

@@ -1,5 +1,5 @@
 -- A region with one more chunk.
-use Rattle.std.proofs.Common.{◌≡◌, ℕ, ◌+◌, ◌-◌, ◌<◌, ◌≤◌, ◌⊎◌, List, [], ◌∷◌, ◌++◌, length, get_or, take, drop, inl, inr, arith}
+use Rattle.std.proofs.Common.{◌≡◌, ℕ, ◌+◌, ◌-◌, ◌<◌, ◌≤◌, ◌⊎◌, List, [], ◌∷◌, length, get_or, take, drop, inl, inr, arith}
 use Rattle.std.proofs.Common.{◌∙◌, sym, ap, subst, zero, suc}
 use Rattle.std.specs.List.{insert}
 use Rattle.std.proofs.lemmas.List.{take-append-drop, get_or-replicate, length-replicate}
@@ -11,18 +11,13 @@ use Rattle.std.proofs.lemmas.List.FromFn.{get_or-map-range_with_len}
 use Rattle.nc_text.specs.MarkedText.{MarkedText, IsText, unused_mark}
 use Rattle.nc_text.proofs.Offered.{new_is_text, length-with_span}
 use Rattle.nc_vet.specs.Chunk as vet
-use Rattle.nc_region.specs.declared.chunk.Chunk.{Chunk}
+use Rattle.nc_list.specs.declared.chunk.Chunk.{Chunk}
+use Rattle.nc_list.proofs.Offered.{each_map, each_both, each_take, each_drop, each_append, each_split}
 use Rattle.nc_region.specs.Chunks.{HasGoodSpan, IsClosedChunk, with_chunk}
 use Rattle.nc_region.specs.machinery.Between.{IsUnused}
 use Rattle.nc_region.specs.Each.{Each}
 use Rattle.nc_region.specs.Region.{IsNew, IsLive, IsInChunk, IsRising, HoldsValid, IsRegion, IsAboveAll, IsBelowAll}
-use Rattle.nc_region.proofs.EachMember.{each_map, each_both, each_take, each_drop, each_append}
 use Rattle.nc_region.proofs.SpanPlaces.{place_of, Before, Within, Behind, span_before, span_within, span_behind}
-
--- both parts of a list
-each_split : {X : Type 0} (P : X → Type 0) (xs ys : List X) → Each P (xs ++ ys) → Each P xs × Each P ys
-each_split P [] ys h = (tt, h)
-each_split P (x ∷ xs) ys h = let r = each_split P xs ys h.1 in ((h.0, r.0), r.1)
 
 -- of all members but the inserted one
 each_but : {X : Type 0} (P : X → Type 0) (xs : List X) (k : ℕ) (x : X) → Each P (insert xs k x) → P x × Each P xs

@@ -3,11 +3,11 @@ use Rattle.std.proofs.Common.{◌≡◌, ℕ, ◌+◌, ◌-◌, ◌<◌, ◌≤�
 use Rattle.std.proofs.Common.{arith, subst, inl, get_or, not, Contains}
 use Rattle.std.specs.List.{insert}
 use Rattle.nc_text.specs.Ready.{IsReady, AreReady, GetsReady}
-use Rattle.nc_region.specs.declared.chunk.Chunk.{Chunk}
+use Rattle.nc_list.specs.declared.chunk.Chunk.{Chunk}
+use Rattle.nc_list.proofs.Offered.{each_map, each_append, each_take, each_drop, each_set, each_get}
 use Rattle.nc_region.specs.Each.{Each}
 use Rattle.nc_region.specs.Region.{AreChunksReady}
 use Rattle.nc_region.specs.Deletion.{kept, is_due}
-use Rattle.nc_region.proofs.EachMember.{each_map, each_append, each_take, each_drop, each_set, each_get}
 
 -- a part of a span that is ready
 pub ready_part : (made : List Bool) (base len at n : ℕ) → AreReady made base len → base ≤ at → at + n ≤ base + len → AreReady made at n

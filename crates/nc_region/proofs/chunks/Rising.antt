@@ -1,74 +1,76 @@
 -- Chunks by rising base.
-use Rattle.std.proofs.Common.{ℕ, zero, suc, ◌+◌, ◌<◌, ◌≤◌, List, [], ◌∷◌, length, get_or, take, drop, inl, inr, arith}
-use Rattle.nc_region.specs.declared.chunk.Chunk.{Chunk}
+use Rattle.std.proofs.Common.{◌≡◌, ℕ, zero, suc, ◌+◌, ◌<◌, ◌≤◌, List, [], ◌∷◌, length, get_or, inl, inr, arith, refl, sym, subst, Contains}
+use Rattle.std.proofs.lemmas.List.Elements.{Contains-append_right}
+use Rattle.nc_list.specs.declared.chunk.Chunk.{Chunk}
+use Rattle.nc_list.specs.Chunks.{IsNextChunk}
+use Rattle.nc_list.proofs.Offered.{each_map, each_append, each_contains, rises_above, rises_rest, meets_rest}
 use Rattle.nc_region.specs.Each.{Each}
-use Rattle.nc_region.specs.Region.{IsRising, IsAboveAll, IsBelowAll, Meets}
-use Rattle.nc_region.proofs.EachMember.{each_map}
+use Rattle.nc_region.specs.Region.{IsInChunk, IsRising, IsAboveAll, Meets}
 
--- chunks that rise from a place lie above it
-pub rises_above : (from : ℕ) (chunks : List Chunk) → IsRising from chunks → Each (λ (c : Chunk). from ≤ c.base) chunks
-rises_above from [] rising = tt
-rises_above from (c ∷ rest) rising = (
-  rising.0,
-  each_map (λ (d : Chunk). c.base + c.length ≤ d.base) (λ (d : Chunk). from ≤ d.base) (λ d h. omega (arith, h, rising.0)) rest
-      (rises_above (c.base + c.length) rest rising.1),
-)
-
--- each of them does
+-- each chunk that rises from a place lies above it
 pub rises_get : (from : ℕ) (chunks : List Chunk) (k : ℕ) (d : Chunk) → IsRising from chunks → k < length chunks
     → from ≤ (get_or chunks k d).base
 rises_get from [] k d rising lt = absurd (omega arith)
 rises_get from (c ∷ rest) zero d rising lt = rising.0
 rises_get from (c ∷ rest) (suc k) d rising lt = omega (arith, rising.0, rises_get (c.base + c.length) rest k d rising.1 (omega arith))
 
--- bases rise with the index
-pub rises_by_index : (from : ℕ) (chunks : List Chunk) (d : Chunk) → IsRising from chunks → (i j : ℕ) → i ≤ j → j < length chunks
-    → (get_or chunks i d).base ≤ (get_or chunks j d).base
-rises_by_index from [] d rising i j le lt = absurd (omega arith)
-rises_by_index from (c ∷ rest) d rising zero zero le lt = omega arith
-rises_by_index from (c ∷ rest) d rising zero (suc j) le lt = omega (arith, rises_get (c.base + c.length) rest j d rising.1 (omega arith))
-rises_by_index from (c ∷ rest) d rising (suc i) zero le lt = absurd (omega arith)
-rises_by_index from (c ∷ rest) d rising (suc i) (suc j) le lt =
-    rises_by_index (c.base + c.length) rest d rising.1 i j (omega arith) (omega arith)
-
--- where one chunk ends at or below a place, so do all before it
-pub above_to : (from : ℕ) (chunks : List Chunk) (k base : ℕ) (d : Chunk) → IsRising from chunks → k < length chunks
-    → (get_or chunks k d).base + (get_or chunks k d).length ≤ base → IsAboveAll base (take (suc k) chunks)
-above_to from [] k base d rising lt le = absurd (omega arith)
-above_to from (c ∷ rest) zero base d rising lt le = (le, tt)
-above_to from (c ∷ rest) (suc k) base d rising lt le = (
-  omega (arith, le, rises_get (c.base + c.length) rest k d rising.1 (omega arith)),
-  above_to (c.base + c.length) rest k base d rising.1 (omega arith) le,
-)
-
--- where one chunk begins at or above a place, so do all behind it
-pub below_from : (from : ℕ) (chunks : List Chunk) (k end : ℕ) (d : Chunk) → IsRising from chunks → k < length chunks
-    → end ≤ (get_or chunks k d).base → IsBelowAll end (drop k chunks)
-below_from from [] k end d rising lt le = absurd (omega arith)
-below_from from (c ∷ rest) zero end d rising lt le = (
-  le,
-  each_map (λ (x : Chunk). c.base + c.length ≤ x.base) (λ (x : Chunk). end ≤ x.base) (λ x h. omega (arith, h, le)) rest
-      (rises_above (c.base + c.length) rest rising.1),
-)
-below_from from (c ∷ rest) (suc k) end d rising lt le = below_from (c.base + c.length) rest k end d rising.1 (omega arith) le
-
--- a chunk of the list that has a place of the span
-pub meets_at : (chunks : List Chunk) (k base len : ℕ) (d : Chunk) → k < length chunks
-    → base < (get_or chunks k d).base + (get_or chunks k d).length → (get_or chunks k d).base < base + len → Meets base len chunks
-meets_at [] k base len d lt a b = absurd (omega arith)
-meets_at (c ∷ rest) zero base len d lt a b = inl (a, b)
-meets_at (c ∷ rest) (suc k) base len d lt a b = inr (meets_at rest k base len d (omega arith) a b)
-
--- chunks that begin after a span do not meet it
-below_meets : (chunks : List Chunk) (base len : ℕ) → IsBelowAll (base + len) chunks → Meets base len chunks → ⊥
-below_meets [] base len below m = m
-below_meets (c ∷ rest) base len below m =
-    elim m [ inl here ↦ omega (arith, here.1, below.0) | inr there ↦ below_meets rest base len below.1 there ]
-
--- where a chunk fits, it meets none
-pub fits_meets : (chunks : List Chunk) (base len k : ℕ) → IsAboveAll base (take k chunks) → IsBelowAll (base + len) (drop k chunks)
+-- where each chunk lies beside a span, none overlaps it
+beside_all : (base len : ℕ) (chunks : List Chunk) → Each (λ (d : Chunk). base < d.base + d.length → d.base < base + len → ⊥) chunks
     → Meets base len chunks → ⊥
-fits_meets chunks base len zero above below m = below_meets chunks base len below m
-fits_meets [] base len (suc k) above below m = m
-fits_meets (c ∷ rest) base len (suc k) above below m =
-    elim m [ inl here ↦ omega (arith, here.0, above.0) | inr there ↦ fits_meets rest base len k above.1 below there ]
+beside_all base len [] beside m = m
+beside_all base len (d ∷ rest) beside m =
+    elim m [ inl here ↦ beside.0 here.0 here.1 | inr there ↦ beside_all base len rest beside.1 there ]
+
+-- chunks that end at or below a span's base
+pub above_all_free : (base len : ℕ) (chunks : List Chunk) → IsAboveAll base chunks → Meets base len chunks → ⊥
+above_all_free base len chunks above =
+    beside_all base len chunks
+    (each_map (λ (d : Chunk). d.base + d.length ≤ base) (λ (d : Chunk). base < d.base + d.length → d.base < base + len → ⊥)
+    (λ d h low high. omega (arith, h, low)) chunks above)
+
+-- ---- the chunk that has a place, or the first above it
+
+-- those behind it
+behind_next : (at : ℕ) (chunks : List Chunk) (c : Chunk) → IsRising 65536 chunks → (n : IsNextChunk chunks at c)
+    → Each (λ (d : Chunk). c.base + c.length ≤ d.base) n.after
+behind_next at chunks c rising n =
+    rises_above (c.base + c.length) n.after (rises_rest 65536 n.before (c ∷ n.after) (subst (IsRising 65536) n.parts rising)).1
+
+-- it is in the list
+pub next_contained : (at : ℕ) (chunks : List Chunk) (c : Chunk) → IsNextChunk chunks at c → Contains chunks c
+next_contained at chunks c n =
+    subst (λ (z : List Chunk). Contains z c) (sym n.parts) (Contains-append_right n.before (c ∷ n.after) c (0, omega arith, refl))
+
+-- no other chunk has the place
+pub only_next : (at : ℕ) (chunks : List Chunk) (c d : Chunk) → IsRising 65536 chunks → IsNextChunk chunks at c → Contains chunks d
+    → IsInChunk d at → d ≡ c
+only_next at chunks c d rising n has =
+    let P : Chunk → Type 0 = λ x. IsInChunk x at → x ≡ c in
+    each_contains P chunks d
+    (subst (Each P) (sym n.parts)
+    (each_append P n.before (c ∷ n.after)
+    (each_map (λ (x : Chunk). x.base + x.length ≤ at) P (λ x h inside. absurd (omega (arith, h, inside.1))) n.before n.below) (
+      (λ inside. refl),
+      each_map (λ (x : Chunk). c.base + c.length ≤ x.base) P (λ x h inside. absurd (omega (arith, h, inside.0, n.above))) n.after
+          (behind_next at chunks c rising n),
+    )))
+    has
+
+-- a span from there to its base or below is free
+pub next_free : (base len : ℕ) (chunks : List Chunk) (c : Chunk) → IsRising 65536 chunks → IsNextChunk chunks base c → base + len ≤ c.base
+    → Meets base len chunks → ⊥
+next_free base len chunks c rising n le =
+    let P : Chunk → Type 0 = λ x. base < x.base + x.length → x.base < base + len → ⊥ in
+    beside_all base len chunks
+    (subst (Each P) (sym n.parts)
+    (each_append P n.before (c ∷ n.after)
+    (each_map (λ (x : Chunk). x.base + x.length ≤ base) P (λ x h low high. omega (arith, h, low)) n.before n.below) (
+      (λ low high. omega (arith, high, le)),
+      each_map (λ (x : Chunk). c.base + c.length ≤ x.base) P (λ x h low high. omega (arith, h, high, le)) n.after
+          (behind_next base chunks c rising n),
+    )))
+
+-- a longer one isn't
+pub next_meets : (base len : ℕ) (chunks : List Chunk) (c : Chunk) → IsNextChunk chunks base c → c.base < base + len → Meets base len chunks
+next_meets base len chunks c n lt =
+    subst (Meets base len) (sym n.parts) (meets_rest base len n.before (c ∷ n.after) (inl (n.above, lt)))

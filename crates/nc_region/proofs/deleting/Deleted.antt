@@ -1,17 +1,20 @@
 -- A region stays one when a chunk of it becomes stops and is retired.
 use Rattle.std.proofs.Common.{◌≡◌, ◌≢◌, ℕ, zero, suc, ◌+◌, ◌-◌, ◌<◌, ◌≤◌, ◌⊎◌, Bool, List, [], ◌∷◌, length, get_or, set, replicate}
-use Rattle.std.proofs.Common.{Some, None, inl, inr, arith, refl, ◌∙◌, sym, ap, subst, ⊎_elim}
+use Rattle.std.proofs.Common.{length-append, Some, None, inl, inr, arith, refl, ◌∙◌, sym, ap, subst, ⊎_elim}
 use Rattle.std.specs.List.{slice_get}
 use Rattle.std.proofs.lemmas.Bool.{cases_lt}
 use Rattle.std.proofs.lemmas.Option.{slice_get_cases, get_or_from_slice_get}
 use Rattle.std.proofs.lemmas.List.{length-replicate, get_or-replicate}
+use Rattle.std.proofs.Math.Seq.{get_or-append_seam, set-append_seam}
 use Rattle.nc_decode.specs.declared.instruction.Mark.{Mark}
 use Rattle.nc_text.specs.Places.{InRegion, limit_of, byte_at}
 use Rattle.nc_text.specs.Marks.{mark_at}
 use Rattle.nc_text.specs.MarkedText.{MarkedText, IsText, with_span}
 use Rattle.nc_text.proofs.Offered.{length-with_span}
-use Rattle.nc_region.specs.declared.chunk.Chunk.{Chunk}
-use Rattle.nc_region.specs.declared.chunk.ChunkState.TheVariants.{Live, Retired}
+use Rattle.nc_list.specs.declared.chunk.Chunk.{Chunk}
+use Rattle.nc_list.specs.declared.chunk.ChunkState.TheVariants.{Live, Retired}
+use Rattle.nc_list.specs.Chunks.{IsRetired}
+use Rattle.nc_list.proofs.Offered.{each_get, each_set, each_set_but, each_at_set, each_unset}
 use Rattle.nc_region.specs.Chunks.{HasGoodSpan}
 use Rattle.nc_region.specs.Each.{Each}
 use Rattle.nc_gens.specs.Rule.{generation_raised}
@@ -20,7 +23,6 @@ use Rattle.nc_region.specs.Log.{Logs, log_of_delete}
 use Rattle.nc_region.specs.Deletion.{IsDeleted}
 use Rattle.nc_region.specs.Region.{Region, IsLive, IsInChunk, IsRising, HoldsValid, IsRegion}
 use Rattle.nc_region.proofs.chunks.AgreesOutside.{AgreesOutside, LiesBeside, still_holds}
-use Rattle.nc_region.proofs.EachMember.{each_get, each_set, each_set_but, each_at_set, each_unset}
 use Rattle.nc_region.proofs.patching.Runs.{apart_by_index}
 use Rattle.nc_region.proofs.SpanPlaces.{place_of, Before, Within, Behind, span_within, span_before, span_behind}
 
@@ -140,12 +142,35 @@ region_deleted old new chunks k c stamp r =
           (each_at_set (λ (x : Chunk). IsInChunk x at → ⊥) chunks k (record c { state = Retired stamp }) r.inside free)));
     }
 
--- the chunk that takes its place, by its fields
-pub retired_is : (chunk : Chunk) (base len stamp : ℕ) → chunk.base ≡ base → len ≡ chunk.length
-    → record { base = base; length = len; state = Retired stamp } ≡ record chunk { state = Retired stamp }
-retired_is chunk base len stamp base_is len_is =
-    ap (λ (b : ℕ). let c : Chunk = record { base = b; length = len; state = Retired stamp } in c) (sym base_is)
-    ∙ ap (λ (n : ℕ). let c : Chunk = record { base = chunk.base; length = n; state = Retired stamp } in c) len_is
+-- no two chunks of the list have the same base
+same_index : (chunks : List Chunk) (i k : ℕ) (c : Chunk) → IsRising 65536 chunks → Each (λ (d : Chunk). 0 < d.length) chunks
+    → i < length chunks → k < length chunks → (get_or chunks i c).base ≡ (get_or chunks k c).base → i ≡ k
+same_index chunks i k c rising some here there is =
+    let long = each_get (λ (d : Chunk). 0 < d.length) chunks i c here some in
+    let long' = each_get (λ (d : Chunk). 0 < d.length) chunks k c there some in
+    ⊎_elim
+    (λ (before : i < k). absurd (omega (arith, apart_by_index 65536 chunks c rising i k before there, is, long)))
+    (λ (from : k ≤ i). ⊎_elim
+    (λ (behind : k < i). absurd (omega (arith, apart_by_index 65536 chunks c rising k i behind here, is, long')))
+    (λ (to : i ≤ k). omega (arith, from, to)) (cases_lt k i))
+    (cases_lt i k)
+
+-- the list once the chunk at an index has been retired, by its base
+pub retired_set : (old new : List Chunk) (k base stamp : ℕ) (c : Chunk) → IsRising 65536 old → Each (λ (d : Chunk). 0 < d.length) old
+    → k < length old → get_or old k c ≡ c → c.base ≡ base → IsRetired old new base stamp
+    → new ≡ set old k (record c { state = Retired stamp })
+retired_set old new k base stamp c rising some inside here base_is r =
+    let i : ℕ = length r.before in
+    let there : get_or old i c ≡ r.chunk = ap (λ (z : List Chunk). get_or z i c) r.was ∙ get_or-append_seam r.before r.chunk r.after c in
+    let same : i ≡ k = same_index old i k c rising some
+    (omega (arith, ap (λ (z : List Chunk). length z) r.was, length-append r.before (r.chunk ∷ r.after))) inside
+    (ap (λ (d : Chunk). d.base) there ∙ (r.base_is ∙ (sym base_is ∙ ap (λ (d : Chunk). d.base) (sym here)))) in
+    let chunk_is : r.chunk ≡ c = sym there ∙ (ap (λ (j : ℕ). get_or old j c) same ∙ here) in
+    r.now
+    ∙ (sym (set-append_seam r.before r.chunk r.after (record r.chunk { state = Retired stamp }))
+    ∙ (ap (λ (z : List Chunk). set z i (record r.chunk { state = Retired stamp })) (sym r.was)
+    ∙ (ap (λ (j : ℕ). set old j (record r.chunk { state = Retired stamp })) same
+    ∙ ap (λ (d : Chunk). set old k (record d { state = Retired stamp })) chunk_is)))
 
 -- a region with these marks and pages
 abbrev with_parts : Region → List Mark → List Bool → Region
@@ -160,16 +185,14 @@ with_parts r marks made =
     }
 
 -- what a deletion leaves, by its parts
-pub deleted_is : (old new : Region) (k base len stamp : ℕ) (chunk : Chunk) → slice_get old.chunks k ≡ Some chunk → chunk.state ≡ Live
-    → chunk.base ≡ base → len ≡ chunk.length
-    → old.keeper.numbers.generation < 4611686018427387904 → stamp ≡ old.keeper.numbers.generation + 1
-    → new.marked.bytes ≡ with_span old.marked.bytes (base - 65536) (replicate len 244) → new.marked.marks ≡ old.marked.marks
-    → new.made ≡ old.made
-    → new.chunks ≡ set old.chunks k (record { base = base; length = len; state = Retired stamp })
+pub deleted_is : (old new : Region) (k base stamp : ℕ) (chunk : Chunk) → slice_get old.chunks k ≡ Some chunk → chunk.state ≡ Live
+    → chunk.base ≡ base → old.keeper.numbers.generation < 4611686018427387904 → stamp ≡ old.keeper.numbers.generation + 1
+    → new.marked.bytes ≡ with_span old.marked.bytes (base - 65536) (replicate chunk.length 244) → new.marked.marks ≡ old.marked.marks
+    → new.made ≡ old.made → new.chunks ≡ set old.chunks k (record chunk { state = Retired stamp })
     → new.keeper ≡ record old.keeper { numbers = generation_raised old.keeper.numbers }
-    → Tells old.told new.told (acts_of_delete old.marked.marks base len)
-    → Logs old.logged new.logged (log_of_delete old.marked.marks base len) → IsDeleted old new base stamp
-deleted_is old new k base len stamp chunk listed live base_is len_is room stamp_is bytes marks made chunks keeper told log =
+    → Tells old.told new.told (acts_of_delete old.marked.marks base chunk.length)
+    → Logs old.logged new.logged (log_of_delete old.marked.marks base chunk.length) → IsDeleted old new base stamp
+deleted_is old new k base stamp chunk listed live base_is room stamp_is bytes marks made chunks keeper told log =
     record {
       index = k;
       chunk = chunk;
@@ -178,10 +201,10 @@ deleted_is old new k base len stamp chunk listed live base_is len_is room stamp_
       base_is = base_is;
       room = room;
       stamp_is = stamp_is;
-      bytes = bytes ∙ ap (λ (n : ℕ). with_span old.marked.bytes (base - 65536) (replicate n 244)) len_is;
-      chunks = chunks ∙ ap (λ (d : Chunk). set old.chunks k d) (retired_is chunk base len stamp base_is len_is);
+      bytes = bytes;
+      chunks = chunks;
       keeper = keeper;
       others = ap (λ (m : List Mark). with_parts new m new.made) marks ∙ ap (λ (d : List Bool). with_parts new old.marked.marks d) made;
-      acts = subst (λ (n : ℕ). Tells old.told new.told (acts_of_delete old.marked.marks base n)) len_is told;
-      log = subst (λ (n : ℕ). Logs old.logged new.logged (log_of_delete old.marked.marks base n)) len_is log;
+      acts = told;
+      log = log;
     }

@@ -1,141 +1,33 @@
--- The chunks that are due, one after the other: what is left of the list and of the marks.
-use Rattle.std.proofs.Common.{◌≡◌, ℕ, suc, ◌+◌, ◌<◌, ◌≤◌, Bool, true, false, not, cond, List, [], ◌∷◌, ◌++◌, length, filter}
-use Rattle.std.proofs.Common.{take, drop, get_or, Option, arith, refl, ◌∙◌, sym, ap, subst, append_assoc, append-nil}
-use Rattle.std.proofs.lemmas.List.{take_all, drop_all}
-use Rattle.std.proofs.lemmas.List.Elements.{filter-append}
-use Rattle.std.proofs.Math.Seq.{take-suc, drop-cons}
+-- The chunks that are due, and what a reclaim leaves.
+use Rattle.std.proofs.Common.{◌≡◌, ℕ, suc, ◌+◌, ◌≤◌, Bool, true, false, List, [], ◌∷◌, length}
+use Rattle.std.proofs.Common.{Option, arith, refl, ◌∙◌, ap, subst}
 use Rattle.nc_text.specs.MarkedText.{MarkedText, without_marks}
+use Rattle.nc_list.specs.declared.chunk.Chunk.{Chunk}
+use Rattle.nc_list.specs.declared.chunk.ChunkState.{ChunkState}
+use Rattle.nc_list.specs.declared.chunk.ChunkState.TheVariants.{Live, Retired}
 use Rattle.nc_region.specs.declared.acts.Act.{Act}
 use Rattle.nc_region.specs.declared.acts.Act.TheVariants.{Look}
 use Rattle.nc_region.specs.declared.acts.Entry.{Entry}
 use Rattle.nc_region.specs.declared.acts.Entry.TheVariants.{Did}
-use Rattle.nc_region.specs.declared.chunk.Chunk.{Chunk}
-use Rattle.nc_region.specs.declared.chunk.ChunkState.{ChunkState}
-use Rattle.nc_region.specs.declared.chunk.ChunkState.TheVariants.{Live, Retired}
 use Rattle.nc_region.specs.Chunks.{HasGoodSpan}
 use Rattle.nc_region.specs.Each.{Each}
-use Rattle.nc_region.specs.Quiet.{IsQuiet}
-use Rattle.nc_region.specs.Region.{Region, IsLive, IsRising, IsRegion}
+use Rattle.nc_region.specs.Region.{Region, IsLive, IsRising}
 use Rattle.nc_gens.specs.Seen.{HasLooked, least_number}
 use Rattle.nc_region.specs.Acts.{Tells}
 use Rattle.nc_region.specs.Log.{Logs, unsettled}
 use Rattle.nc_region.specs.Deletion.{is_due, freed, kept, unmarked, unmarkings, IsReclaimed}
 use Rattle.nc_region.proofs.telling.Told.{tells_more}
 use Rattle.nc_region.proofs.telling.Logged.{logs_more}
-use Rattle.nc_region.proofs.schedules.Unmarking.{MayFree}
-use Rattle.nc_region.proofs.deleting.Freed.{span_of, dead_is_quiet, frees, region_freed}
 
 -- what is due isn't live
 pub due_dead : (least : ℕ) (s : ChunkState) → is_due least s ≡ true → IsLive s → ⊥
 due_dead least Live is live = absurd cc
 due_dead least (Retired stamp) is live = live
 
--- the test of one chunk
-one : (p : Chunk → Bool) (c : Chunk) (b : Bool) → p c ≡ b → filter p (c ∷ []) ≡ cond b (c ∷ []) []
-one p c b is = ap (λ (x : Bool). cond x (c ∷ []) []) is
-
--- one more chunk that is due is freed
-pub freed_due : (least : ℕ) (done : List Chunk) (c : Chunk) → is_due least c.state ≡ true
-    → freed least (done ++ c ∷ []) ≡ freed least done ++ c ∷ []
-freed_due least done c is = filter-append (λ (x : Chunk). is_due least x.state) done (c ∷ [])
-    ∙ ap (λ (z : List Chunk). freed least done ++ z) (one (λ (x : Chunk). is_due least x.state) c true is)
-
--- and isn't kept
-pub kept_due : (least : ℕ) (done : List Chunk) (c : Chunk) → is_due least c.state ≡ true → kept least (done ++ c ∷ []) ≡ kept least done
-kept_due least done c is =
-    filter-append (λ (x : Chunk). not (is_due least x.state)) done (c ∷ [])
-    ∙ (ap (λ (z : List Chunk). kept least done ++ z) (one (λ (x : Chunk). not (is_due least x.state)) c false (ap not is))
-    ∙ append-nil (kept least done))
-
--- one more that isn't due isn't freed
-pub freed_other : (least : ℕ) (done : List Chunk) (c : Chunk) → is_due least c.state ≡ false
-    → freed least (done ++ c ∷ []) ≡ freed least done
-freed_other least done c is =
-    filter-append (λ (x : Chunk). is_due least x.state) done (c ∷ [])
-    ∙ (ap (λ (z : List Chunk). freed least done ++ z) (one (λ (x : Chunk). is_due least x.state) c false is)
-    ∙ append-nil (freed least done))
-
--- and is kept
-pub kept_other : (least : ℕ) (done : List Chunk) (c : Chunk) → is_due least c.state ≡ false
-    → kept least (done ++ c ∷ []) ≡ kept least done ++ c ∷ []
-kept_other least done c is = filter-append (λ (x : Chunk). not (is_due least x.state)) done (c ∷ [])
-    ∙ ap (λ (z : List Chunk). kept least done ++ z) (one (λ (x : Chunk). not (is_due least x.state)) c true (ap not is))
-
 -- no byte is changed
 pub unmarked_bytes : (marked : MarkedText) (done : List Chunk) → (unmarked marked done).bytes ≡ marked.bytes
 unmarked_bytes marked [] = refl
 unmarked_bytes marked (d ∷ done) = unmarked_bytes (without_marks marked d.base d.length) done
-
--- A run of chunks stands between others. This is the list that is left once those of its first i chunks that are due have been
--- freed.
-abbrev pub left_in : ℕ → List Chunk → List Chunk → List Chunk → ℕ → List Chunk
-left_in least before run after i = before ++ (kept least (take i run) ++ (drop i run ++ after))
-
--- the same, with the next chunk at the seam
-at_seam : (least : ℕ) (before run after : List Chunk) (i : ℕ) (d : Chunk) → i < length run
-    → left_in least before run after i ≡ (before ++ kept least (take i run)) ++ get_or run i d ∷ (drop (suc i) run ++ after)
-at_seam least before run after i d lt =
-    ap (λ (z : List Chunk). before ++ (kept least (take i run) ++ (z ++ after))) (drop-cons run i d lt)
-    ∙ sym (append_assoc before (kept least (take i run)) (get_or run i d ∷ (drop (suc i) run ++ after)))
-
--- the whole run is freed
-pub left_all : (least : ℕ) (before run after : List Chunk) (i : ℕ) → length run ≤ i
-    → left_in least before run after i ≡ before ++ (kept least run ++ after)
-left_all least before run after i le =
-    ap (λ (z : List Chunk). before ++ (kept least z ++ (drop i run ++ after))) (take_all i run le)
-    ∙ ap (λ (z : List Chunk). before ++ (kept least run ++ (z ++ after))) (drop_all i run le)
-
--- the list up to the next index
-pub take_more : (chunks : List Chunk) (i : ℕ) (d : Chunk) → i < length chunks
-    → take (i + 1) chunks ≡ take i chunks ++ get_or chunks i d ∷ []
-take_more chunks i d lt = let next : suc i ≡ i + 1 = omega arith in
-    subst (λ (k : ℕ). take k chunks ≡ take i chunks ++ get_or chunks i d ∷ []) next (take-suc chunks i d lt)
-
--- the next chunk's span may be freed, if it is due
-pub next_frees : (marked : MarkedText) (least : ℕ) (before run after : List Chunk) (i : ℕ) (d : Chunk) → i < length run
-    → is_due least (get_or run i d).state ≡ true → IsRegion marked (left_in least before run after i)
-    → MayFree marked (span_of (get_or run i d))
-next_frees marked least before run after i d lt is region =
-    frees marked (before ++ kept least (take i run)) (drop (suc i) run ++ after) (get_or run i d)
-    (subst (IsRegion marked) (at_seam least before run after i d lt) region) (due_dead least (get_or run i d).state is)
-
--- it is quiet
-pub next_quiet : (marked : MarkedText) (least : ℕ) (before run after : List Chunk) (i : ℕ) (d : Chunk) → i < length run
-    → is_due least (get_or run i d).state ≡ true → IsRegion marked (left_in least before run after i)
-    → IsQuiet marked.bytes marked.marks (span_of (get_or run i d))
-next_quiet marked least before run after i d lt is region =
-    dead_is_quiet marked (before ++ kept least (take i run)) (drop (suc i) run ++ after) (get_or run i d)
-    (subst (IsRegion marked) (at_seam least before run after i d lt) region) (due_dead least (get_or run i d).state is)
-
--- the region once it is freed
-pub next_freed : (marked : MarkedText) (least : ℕ) (before run after : List Chunk) (i : ℕ) (d : Chunk) → i < length run
-    → is_due least (get_or run i d).state ≡ true → IsRegion marked (left_in least before run after i)
-    → IsRegion (without_marks marked (get_or run i d).base (get_or run i d).length) (left_in least before run after (i + 1))
-next_freed marked least before run after i d lt is region =
-    let next : suc i ≡ i + 1 = omega arith in
-    let rest = drop (suc i) run ++ after in
-    subst (IsRegion (without_marks marked (get_or run i d).base (get_or run i d).length))
-    (append_assoc before (kept least (take i run)) rest
-    ∙ (ap (λ (z : List Chunk). before ++ (z ++ rest))
-    (sym (ap (λ (z : List Chunk). kept least z) (take-suc run i d lt) ∙ kept_due least (take i run) (get_or run i d) is))
-    ∙ ap (λ (k : ℕ). left_in least before run after k) next))
-    (region_freed marked (before ++ kept least (take i run)) rest (get_or run i d)
-    (subst (IsRegion marked) (at_seam least before run after i d lt) region) (due_dead least (get_or run i d).state is))
-
--- a chunk that isn't due stays
-pub next_kept : (marked : MarkedText) (least : ℕ) (before run after : List Chunk) (i : ℕ) (d : Chunk) → i < length run
-    → is_due least (get_or run i d).state ≡ false → IsRegion marked (left_in least before run after i)
-    → IsRegion marked (left_in least before run after (i + 1))
-next_kept marked least before run after i d lt is region =
-    let next : suc i ≡ i + 1 = omega arith in
-    let rest = drop (suc i) run ++ after in
-    subst (IsRegion marked)
-    (ap (λ (z : List Chunk). before ++ (kept least (take i run) ++ (z ++ after))) (drop-cons run i d lt)
-    ∙ (ap (λ (z : List Chunk). before ++ z) (sym (append_assoc (kept least (take i run)) (get_or run i d ∷ []) rest))
-    ∙ (ap (λ (z : List Chunk). before ++ (z ++ rest))
-    (sym (ap (λ (z : List Chunk). kept least z) (take-suc run i d lt) ∙ kept_other least (take i run) (get_or run i d) is))
-    ∙ ap (λ (k : ℕ). left_in least before run after k) next)))
-    region
 
 -- one more chunk is one or the other
 one_more : (least : ℕ) (c : Chunk) (rest : List Chunk) (b : Bool) → is_due least c.state ≡ b

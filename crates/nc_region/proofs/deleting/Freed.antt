@@ -2,26 +2,20 @@
 use Rattle.std.proofs.Common.{ℕ, ◌+◌, ◌≤◌, List, [], ◌∷◌, ◌++◌, inl, inr, arith, refl, ◌∙◌}
 use Rattle.nc_text.specs.Places.{limit_of}
 use Rattle.nc_text.specs.MarkedText.{MarkedText, without_marks}
-use Rattle.nc_region.specs.declared.chunk.Chunk.{Chunk}
+use Rattle.nc_list.specs.declared.chunk.Chunk.{Chunk}
+use Rattle.nc_list.proofs.Offered.{each_map, each_both, each_middle, each_out, each_in, rises_lower, rises_above}
 use Rattle.nc_region.specs.Chunks.{HasGoodSpan}
 use Rattle.nc_region.specs.Each.{Each}
 use Rattle.nc_region.specs.Quiet.{RetiredSpan, IsQuiet}
 use Rattle.nc_region.specs.Region.{IsLive, IsInChunk, IsRising, HoldsValid, IsRegion}
 use Rattle.nc_region.proofs.chunks.AgreesOutside.{AgreesOutside, LiesBeside, still_holds}
-use Rattle.nc_region.proofs.EachMember.{each_map, each_both, each_middle, each_out, each_in}
 use Rattle.nc_region.proofs.schedules.Unmarking.{shut_if_quiet, MayFree, freed_within, freed_before, freed_behind, freed_long, freed_closed}
 use Rattle.nc_region.proofs.deleting.QuietSpans.{quiet_chunks}
-use Rattle.nc_region.proofs.chunks.Rising.{rises_above}
 use Rattle.nc_region.proofs.SpanPlaces.{place_of, Before, Within, Behind}
-
--- a list that rises from a place rises from each lower one
-rises_from : (from to : ℕ) (chunks : List Chunk) → from ≤ to → IsRising to chunks → IsRising from chunks
-rises_from from to [] le rising = tt
-rises_from from to (c ∷ rest) le rising = (omega (arith, le, rising.0), rising.1)
 
 -- a list rises without one of its chunks
 rises_without : (from : ℕ) (before after : List Chunk) (c : Chunk) → IsRising from (before ++ c ∷ after) → IsRising from (before ++ after)
-rises_without from [] after c rising = rises_from from (c.base + c.length) after (omega (arith, rising.0)) rising.1
+rises_without from [] after c rising = rises_lower from (c.base + c.length) after (omega (arith, rising.0)) rising.1
 rises_without from (b ∷ before) after c rising = (rising.0, rises_without (b.base + b.length) before after c rising.1)
 
 -- the others lie beside it

@@ -7,17 +7,16 @@ use Rattle.nc_text.specs.Machine.{State, Step}
 use Rattle.nc_text.specs.Marks.{IsMarked, Admits}
 use Rattle.nc_text.specs.MarkedText.{MarkedText, unused_text}
 use Rattle.nc_text.proofs.Offered.{no_step_from_stop, step_borrowed, marked_within}
-use Rattle.nc_region.specs.declared.chunk.Chunk.{Chunk}
-use Rattle.nc_region.specs.declared.chunk.ChunkState.{ChunkState}
-use Rattle.nc_region.specs.declared.chunk.ChunkState.TheVariants.{Live, Retired}
+use Rattle.nc_list.specs.declared.chunk.Chunk.{Chunk}
+use Rattle.nc_list.specs.declared.chunk.ChunkState.{ChunkState}
+use Rattle.nc_list.specs.declared.chunk.ChunkState.TheVariants.{Live, Retired}
+use Rattle.nc_list.proofs.Offered.{each_map, each_both, rises_above}
 use Rattle.nc_region.specs.Chunks.{HasGoodSpan, IsClosedChunk}
 use Rattle.nc_region.specs.Each.{Each}
 use Rattle.nc_region.specs.Quiet.{RetiredSpan, IsQuiet, with_retired, retired_spans, AreQuiet}
 use Rattle.nc_region.specs.Region.{IsLive, IsInChunk, IsRising, HoldsValid, IsRegion}
-use Rattle.nc_region.proofs.EachMember.{each_map, each_both}
 use Rattle.nc_region.proofs.chunks.Alone.{alone, alone_fits_bytes, alone_within, alone_before, alone_behind, alone_bytes_long, alone_marks_long}
 use Rattle.nc_region.proofs.chunks.Pieces.{valid_chunk_is_closed}
-use Rattle.nc_region.proofs.chunks.Rising.{rises_above}
 use Rattle.nc_region.proofs.SpanPlaces.{place_of, Before, Within, Behind, span_within, unused_is_start, within_span}
 
 -- a place is in a live chunk, of which P holds, or in none

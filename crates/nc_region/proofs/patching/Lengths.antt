@@ -14,7 +14,7 @@ use Rattle.nc_vet.specs.Chunk.{Piece, place, AreSpelled, marks_of}
 use Rattle.nc_vet.proofs.Offered.{marks_of-append, length-marks_of}
 use Rattle.nc_text.specs.Marks.{mark_at, mark_bit}
 use Rattle.nc_text.specs.MarkedText.{MarkedText, IsText}
-use Rattle.nc_region.specs.declared.chunk.Chunk.{Chunk}
+use Rattle.nc_list.specs.declared.chunk.Chunk.{Chunk}
 use Rattle.nc_region.specs.machinery.PatchSteps.{Begins}
 use Rattle.nc_region.proofs.patching.Standing.{Standing, lies, standing, next_begins}
 use Rattle.nc_region.proofs.patching.Runs.{some_mark}

@@ -12,7 +12,7 @@ use Rattle.nc_vet.specs.Chunk.{Piece, IsTarget}
 use Rattle.nc_vet.proofs.Offered.{split_none}
 use Rattle.nc_text.specs.Places.{limit_of}
 use Rattle.nc_text.specs.MarkedText.{MarkedText}
-use Rattle.nc_region.specs.declared.chunk.Chunk.{Chunk}
+use Rattle.nc_list.specs.declared.chunk.Chunk.{Chunk}
 use Rattle.nc_region.specs.Patch.{AreBytesOf, IsRun, SparesPair, GoWell, LeavesPairs, KeepsTargets}
 use Rattle.nc_region.specs.machinery.PatchSteps.{RunsAlong}
 use Rattle.nc_region.proofs.patching.NewInstructions.{empty_list, none_of_none, parted, spelled_cons}

@@ -11,14 +11,14 @@ use Rattle.nc_vet.proofs.Offered.{length-marks_of}
 use Rattle.nc_vet.proofs.Offered as places
 use Rattle.nc_text.specs.Marks.{mark_at}
 use Rattle.nc_text.specs.MarkedText.{MarkedText, IsText}
-use Rattle.nc_region.specs.declared.chunk.Chunk.{Chunk}
+use Rattle.nc_list.specs.declared.chunk.Chunk.{Chunk}
+use Rattle.nc_list.proofs.Offered.{each_get}
 use Rattle.nc_region.specs.Region.{IsInChunk, IsRising, HoldsValid}
 use Rattle.nc_region.specs.Patch.{IsHeldBy, IsHeld, AreBytesOf, lengths, IsRun}
 use Rattle.nc_region.specs.machinery.PatchSteps.{Begins, Along, RunsAlong}
 use Rattle.nc_region.proofs.patching.Standing.{all_long, standing}
 use Rattle.nc_region.specs.Each.{Each}
 use Rattle.nc_region.specs.Deletion.{HasLive}
-use Rattle.nc_region.proofs.EachMember.{each_get}
 use Rattle.nc_region.proofs.chunks.Rising.{rises_get}
 
 -- where a place of the chunk is marked, an instruction begins
@@ -161,32 +161,6 @@ held_same chunks at c d rising a b =
     ∙ (ap (λ (k : ℕ). get_or chunks k c) same ∙ is_c)))
     (cases_lt b.0.0 a.0.0))
     (cases_lt a.0.0 b.0.0)
-
--- a live chunk that holds a place is the last of those whose base is at most the place
-pub held_last : (chunks : List Chunk) (k at : ℕ) (d : Chunk) → IsRising 65536 chunks → k ≤ length chunks
-    → ((i : ℕ) (e : Chunk) → i < k → (get_or chunks i e).base ≤ at)
-    → ((i : ℕ) (e : Chunk) → k ≤ i → i < length chunks → at < (get_or chunks i e).base)
-    → (h : IsHeld chunks at) → (0 < k) × (get_or chunks (k - 1) d ≡ h.0)
-held_last chunks k at d rising inside below above h =
-    let c : Chunk = h.0 in
-    let is_c : get_or chunks h.1.0.0 c ≡ c = h.1.0.2 in
-    let lt : h.1.0.0 < k = ⊎_elim (λ (lt : h.1.0.0 < k). lt)
-    (λ (past : k ≤ h.1.0.0). absurd (omega (arith, above h.1.0.0 c past h.1.0.1, ap (λ (x : Chunk). x.base) is_c, h.1.2.0)))
-    (cases_lt h.1.0.0 k) in (
-      omega (arith, lt),
-      ⊎_elim
-          (λ (early : h.1.0.0 < k - 1). absurd
-          (omega (
-            arith,
-            apart_by_index 65536 chunks c rising h.1.0.0 (k - 1) early (omega (arith, inside, lt)),
-            below (k - 1) c (omega (arith, lt)),
-            ap (λ (x : Chunk). x.base + x.length) is_c,
-            h.1.2.1,
-          )))
-          (λ (late : k - 1 ≤ h.1.0.0). (let same : k - 1 ≡ h.1.0.0 = omega (arith, late, lt) in ap (λ (j : ℕ). get_or chunks j d) same
-          ∙ (get_or_default chunks h.1.0.0 d c h.1.0.1 ∙ is_c)))
-          (cases_lt h.1.0.0 (k - 1)),
-    )
 
 -- a live chunk holds its base
 abbrev pub live_is_held : (chunks : List Chunk) (base : ℕ) → Each (λ (d : Chunk). 0 < d.length) chunks → HasLive chunks base

@@ -8,7 +8,7 @@ use Rattle.nc_vet.specs.Chunk.{Piece, mark_of}
 use Rattle.nc_text.specs.Places.{byte_at}
 use Rattle.nc_text.specs.Marks.{mark_at}
 use Rattle.nc_text.specs.MarkedText.{MarkedText, IsText}
-use Rattle.nc_region.specs.declared.chunk.Chunk.{Chunk}
+use Rattle.nc_list.specs.declared.chunk.Chunk.{Chunk}
 use Rattle.nc_region.specs.Patch.{GoesOnIndirectly, SparesPair, SparesPairs, stands_there}
 use Rattle.nc_region.specs.machinery.PatchSteps.{Begins, is_after}
 use Rattle.nc_region.proofs.patching.Standing.{stands_with, next_begins, goes_on}

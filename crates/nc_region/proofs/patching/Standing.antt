@@ -16,7 +16,7 @@ use Rattle.nc_vet.proofs.Offered as places
 use Rattle.nc_text.specs.Places.{limit_of, byte_at, instruction_at}
 use Rattle.nc_text.specs.Marks.{mark_at}
 use Rattle.nc_text.specs.MarkedText.{MarkedText, IsText}
-use Rattle.nc_region.specs.declared.chunk.Chunk.{Chunk}
+use Rattle.nc_list.specs.declared.chunk.Chunk.{Chunk}
 use Rattle.nc_region.specs.Region.{HoldsValid}
 use Rattle.nc_region.specs.Patch.{GoesOnIndirectly}
 use Rattle.nc_region.specs.machinery.PatchSteps.{Begins, RunsAlong, is_after}

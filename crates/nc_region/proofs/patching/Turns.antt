@@ -12,9 +12,9 @@ use Rattle.nc_vet.proofs.Offered.{place-push}
 use Rattle.nc_text.specs.Places.{limit_of, byte_at}
 use Rattle.nc_text.specs.MarkedText.{MarkedText, IsText, with_span}
 use Rattle.nc_text.proofs.Offered.{length-with_span}
+use Rattle.nc_list.specs.declared.chunk.Chunk.{Chunk}
 use Rattle.nc_region.specs.declared.acts.Act.{Act}
 use Rattle.nc_region.specs.declared.acts.Entry.{Entry}
-use Rattle.nc_region.specs.declared.chunk.Chunk.{Chunk}
 use Rattle.nc_region.specs.Patch.{AreBytesOf, lengths, SparesPairs, GoWell, stands_there, acts_of_instruction}
 use Rattle.nc_region.specs.Patch.{acts_of_modify, log_of_instruction, log_of_modify}
 use Rattle.nc_region.specs.machinery.PatchSteps.{CanPatch}

@@ -7,8 +7,8 @@ pub use Rattle.nc_text.specs.Puts.{HasPut, is_set}
 use Rattle.nc_text.specs.Ready.{AreReady}
 use Rattle.nc_text.specs.MarkedText.{MarkedText, unused_mark}
 use Rattle.nc_vet.specs.Chunk.{MarkedChunk, IsValid}
-use Rattle.nc_region.specs.declared.chunk.Chunk.{Chunk}
-use Rattle.nc_region.specs.Region.{FitsAt}
+use Rattle.nc_list.specs.declared.chunk.Chunk.{Chunk}
+use Rattle.nc_region.specs.Region.{Meets, IsInserted, live_chunk}
 
 -- the span is unused: all F4, with only bundle starts marked
 pub record IsUnused (marked : MarkedText) (base length : ℕ) : Type 0 where
@@ -23,9 +23,11 @@ pub record IsFinalBut (final now : List ℕ) (from to : ℕ) : Type 0 where
   pub behind : (at : ℕ) → to ≤ at → byte_at now at ≡ byte_at final at
   pub inside : (at : ℕ) → 0x10000 ≤ at → at % 32 ≢ 0 → byte_at now at ≡ byte_at final at
 
--- a valid chunk for the text's limit may be created: it fits into the list at index `k`, and its span is ready
-pub record HasRoom (marked : MarkedText) (made : List Bool) (chunks : List Chunk) (v : MarkedChunk) (k : ℕ) : Type 0 where
+-- a valid chunk for the text's limit may be put into its span, which no chunk of the list overlapped and which is ready, and has been
+-- entered in the list
+pub record HasRoom (marked : MarkedText) (made : List Bool) (old new : List Chunk) (v : MarkedChunk) : Type 0 where
   pub valid : IsValid v
   pub limit : v.limit ≡ limit_of marked.bytes
-  pub fits : FitsAt v.base (length v.code) chunks k
+  pub free : ¬ Meets v.base (length v.code) old
+  pub listed : IsInserted old new (live_chunk v)
   pub ready : AreReady made v.base (length v.code)

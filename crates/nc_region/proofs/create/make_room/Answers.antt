@@ -1,13 +1,11 @@
-use Rattle.std.proofs.Common.{◌≡◌, ◌+◌, ◌<◌, ◌^◌, length, arith, sym, ◌∙◌, refl, Result, Ok, Err, IfOk, true, false}
+use Rattle.std.proofs.Common.{◌≡◌, length, arith, sym, ◌∙◌, refl, Result, Ok, Err, IfOk, OnErr, true, false}
 use Rattle.std.specs.Result.{is_err}
 use Rattle.nc_text.specs.Places.{limit_of}
 use Rattle.nc_text.specs.Ready.{AreReady}
-use Rattle.nc_region.specs.declared.chunk.Chunk.{Chunk}
-use Rattle.nc_region.specs.Chunks.{HasGoodSpan}
-use Rattle.nc_region.specs.Region.{FitsAt}
-use Rattle.nc_region.proofs.EachMember.{each_map}
+use Rattle.nc_region.specs.Region.{IsInserted, live_chunk}
+use Rattle.nc_list.proofs.Offered.{rises_lower}
 use Rattle.nc_region.proofs.chunks.ReadyPlaces.{ready_same}
-use Rattle.nc_region.proofs.chunks.Rising.{fits_meets}
+use Rattle.nc_region.proofs.deleting.Due.{few}
 use Rattle.nc_region.proofs.create.make_room.Goals as goal
 
 -- what an answer that is no refusal ensures
@@ -15,112 +13,114 @@ at_ok : {T E : Type 0} (r : Result T E) (P : Type 0) → is_err r ≡ false → 
 at_ok (Ok x) P is h = h
 at_ok (Err y) P contrary h = absurd (let differ : true ≡ false = contrary in let e : ⊥ = cc in e)
 
-pub room_for-requires-clause-ends : goal.room_for-requires-clause-ends
-room_for-requires-clause-ends g c =
-    each_map (λ (d : Chunk). HasGoodSpan d.base (limit_of (g.A.Acts.marked c.args.acts.now).bytes) d.length)
-    (λ (d : Chunk). (0 < d.length) × (d.base + d.length < 2 ^ 32))
-    (λ d placed. (placed.some, omega (arith, placed.high, placed.lawful.2))) c.args.chunks.now.items c.requires.region.placed
+-- what a refusal ensures
+at_err : {T E : Type 0} (r : Result T E) (P : Type 0) → is_err r ≡ true → OnErr r P → P
+at_err (Ok x) P contrary h = absurd (let differ : false ≡ true = contrary in let e : ⊥ = cc in e)
+at_err (Err y) P is h = h
+
+pub insert-requires-clause-rising : goal.insert-requires-clause-rising
+insert-requires-clause-rising g c = rises_lower 0 65536 c.args.chunks.now (omega arith) c.requires.region.rising
+
+pub insert-requires-clause-few : goal.insert-requires-clause-few
+insert-requires-clause-few g c =
+    let region = c.requires.region in
+    let n = few (limit_of (g.A.Acts.marked c.args.acts.now).bytes) 65536 c.args.chunks.now region.rising region.placed
+    (omega (arith, region.whole.lawful.1)) in
+    omega (arith, n, region.whole.lawful.2)
 
 pub returns-then-limit : goal.returns-then-limit
 returns-then-limit g c =
     record {
-      found = tt;
+      room = tt;
       marks = tt;
-      place = tt;
       only = ready_same _ _ _;
-      others = (refl, refl, refl, refl, refl);
+      others = (refl, refl, refl, refl);
+      unlisted = refl;
       made = λ _. refl;
       refused = λ same. c.if-limit.true (c.limit.ensures.value ∙ (same ∙ sym c.limit-2.ensures.limit));
+    }
+
+pub returns-then-not-is_free : goal.returns-then-not-is_free
+returns-then-not-is_free g c =
+    record {
+      room = tt;
+      marks = tt;
+      only = ready_same _ _ _;
+      others = (refl, refl, refl, refl);
+      unlisted = refl;
+      made = λ _. refl;
+      refused = (
+        sym c.limit.ensures.value ∙ (c.if-limit.false ∙ c.limit-2.ensures.limit),
+        rw (← c.base-base.ensures.value, ← c.code.ensures.value) (c.is_free.ensures.meets c.if-not-is_free.true),
+      );
     }
 
 pub returns-in_default : goal.returns-in_default
 returns-in_default g c =
     record {
-      found = tt;
+      room = tt;
       marks = tt;
-      place = tt;
       only = ready_same _ _ _;
-      others = (refl, refl, refl, refl, refl);
+      others = (refl, refl, refl, refl);
+      unlisted = refl;
       made = λ _. refl;
       refused = (
         sym c.limit.ensures.value ∙ (c.if-limit.false ∙ c.limit-2.ensures.limit),
-        rw (← c.base-base.ensures.value, ← c.code.ensures.value) c.in_default.ensures.none,
+        rw (← c.base-base.ensures.value, ← c.code.ensures.value) (c.is_free.ensures.free c.if-not-is_free.false),
       );
     }
 
 pub returns-then-is_err : goal.returns-then-is_err
 returns-then-is_err g c =
-    let v = c.args.vetted.now in
-    let fit : FitsAt v.base (length v.code) c.args.chunks.now.items c.in-Some.k =
-    rw (← c.base-base.ensures.value, ← c.code.ensures.value) c.in-Some.ensures.some in
     record {
-      found = tt;
+      room = tt;
       marks = tt;
-      place = tt;
-      only = ready_same _ _ _;
-      others = (c.reserve.ensures.items, refl, refl, refl, refl);
-      made = λ _. refl;
+      only = rw (← c.base-base.ensures.value, ← c.code.ensures.value) c.ready.ensures.only;
+      others = (c.ready.ensures.marked, c.ready.ensures.keeper, c.ready.ensures.told, c.ready.ensures.logged);
+      unlisted = refl;
+      made = λ differ. absurd (differ refl);
       refused = (
         sym c.limit.ensures.value ∙ (c.if-limit.false ∙ c.limit-2.ensures.limit),
-        fits_meets c.args.chunks.now.items v.base (length v.code) c.in-Some.k fit.1 fit.2,
-      );
-    }
-
-pub returns-in_default-list_room : goal.returns-in_default-list_room
-returns-in_default-list_room g c =
-    let v = c.args.vetted.now in
-    let fit : FitsAt v.base (length v.code) c.args.chunks.now.items c.in-Some.k =
-    rw (← c.base-base.ensures.value, ← c.code.ensures.value) c.in-Some.ensures.some in
-    record {
-      found = tt;
-      marks = tt;
-      place = tt;
-      only = ready_same _ _ _;
-      others = (c.reserve.ensures.items, refl, refl, refl, refl);
-      made = λ _. refl;
-      refused = (
-        sym c.limit.ensures.value ∙ (c.if-limit.false ∙ c.limit-2.ensures.limit),
-        fits_meets c.args.chunks.now.items v.base (length v.code) c.in-Some.k fit.1 fit.2,
+        rw (← c.base-base.ensures.value, ← c.code.ensures.value) (c.is_free.ensures.free c.if-not-is_free.false),
       );
     }
 
 pub returns-then-is_err-2 : goal.returns-then-is_err-2
 returns-then-is_err-2 g c =
-    let v = c.args.vetted.now in
-    let fit : FitsAt v.base (length v.code) c.args.chunks.now.items c.in-Some.k =
-    rw (← c.base-base.ensures.value, ← c.code.ensures.value) c.in-Some.ensures.some in
     record {
-      found = tt;
+      room = tt;
       marks = tt;
-      place = tt;
       only = rw (← c.base-base.ensures.value, ← c.code.ensures.value) c.ready.ensures.only;
-      others = (c.reserve.ensures.items, c.ready.ensures.marked, c.ready.ensures.keeper, c.ready.ensures.told, c.ready.ensures.logged);
+      others = (c.ready.ensures.marked, c.ready.ensures.keeper, c.ready.ensures.told, c.ready.ensures.logged);
+      unlisted = at_err c.insert.result _ (sym c.is_err-2.ensures.value ∙ c.if-is_err-2.true) c.insert.ensures.err;
       made = λ differ. absurd (differ refl);
       refused = (
         sym c.limit.ensures.value ∙ (c.if-limit.false ∙ c.limit-2.ensures.limit),
-        fits_meets c.args.chunks.now.items v.base (length v.code) c.in-Some.k fit.1 fit.2,
+        rw (← c.base-base.ensures.value, ← c.code.ensures.value) (c.is_free.ensures.free c.if-not-is_free.false),
       );
     }
 
 pub returns : goal.returns
 returns g c =
     let v = c.args.vetted.now in
-    let fit : FitsAt v.base (length v.code) c.args.chunks.now.items c.in-Some.k =
-    rw (← c.base-base.ensures.value, ← c.code.ensures.value) c.in-Some.ensures.some in
     let here : AreReady (g.A.Acts.made c.ready.new.self) v.base (length v.code) =
     rw (← c.base-base.ensures.value, ← c.code.ensures.value)
-    (at_ok c.ready.result _ (sym c.is_err-2.ensures.value ∙ c.if-is_err-2.false) c.ready.ensures.ready) in
+    (at_ok c.ready.result _ (sym c.is_err.ensures.value ∙ c.if-is_err.false) c.ready.ensures.ready) in
+    let listed : IsInserted c.args.chunks.now c.insert.new.self (live_chunk v) =
+    rw (← c.base-base.ensures.value, ← c.code.ensures.value)
+    (at_ok c.insert.result _ (sym c.is_err-2.ensures.value ∙ c.if-is_err-2.false) c.insert.ensures.ok) in
     record {
-      found = record {
+      room = record {
         valid = c.code.ensures.valid;
         limit = sym c.limit.ensures.value ∙ (c.if-limit.false ∙ c.limit-2.ensures.limit);
-        fits = fit;
+        free = rw (← c.base-base.ensures.value, ← c.code.ensures.value) (c.is_free.ensures.free c.if-not-is_free.false);
+        listed = listed;
         ready = here;
       };
       marks = rw (← c.code.ensures.value) c.in-Ok.ensures;
-      place = at_ok c.reserve.result _ (sym c.is_err.ensures.value ∙ c.if-is_err.false) c.reserve.ensures.ok;
       only = rw (← c.base-base.ensures.value, ← c.code.ensures.value) c.ready.ensures.only;
-      others = (c.reserve.ensures.items, c.ready.ensures.marked, c.ready.ensures.keeper, c.ready.ensures.told, c.ready.ensures.logged);
+      others = (c.ready.ensures.marked, c.ready.ensures.keeper, c.ready.ensures.told, c.ready.ensures.logged);
+      unlisted = tt;
       made = tt;
       refused = tt;
     }

@@ -1,32 +1,27 @@
-use Rattle.std.proofs.Common.{◌≡◌, ◌-◌, Some, sym, subst, ap, ◌∙◌, arith}
-use Rattle.std.proofs.lemmas.Option.{slice_get-get_or}
-use Rattle.nc_region.specs.declared.chunk.Chunk.{Chunk}
-use Rattle.nc_region.specs.declared.chunk.ChunkState.TheVariants.{Live}
+use Rattle.std.proofs.Common.{sym, ap, subst, ◌∙◌, arith}
+use Rattle.nc_list.specs.declared.chunk.Chunk.{Chunk}
+use Rattle.nc_list.proofs.Offered.{rises_lower}
 use Rattle.nc_region.specs.Region.{IsLive}
-use Rattle.nc_region.proofs.patching.Runs.{held_last, live_is_held}
+use Rattle.nc_region.proofs.chunks.Rising.{next_contained, only_next}
+use Rattle.nc_region.proofs.patching.Runs.{live_is_held}
 use Rattle.nc_region.proofs.listing.live_at.Goals as goal
+use Rattle.nc_region.proofs.listing.live_at.Goals.{else-is_live-via-then-is_live+else-chunk-base, else-is_live-via-else-is_live}
 
-pub returns-then-k-eq0-clause-none : goal.returns-then-k-eq0-clause-none
-returns-then-k-eq0-clause-none c = λ h.
-    let none : Chunk = record { base = 0; length = 0; state = Live } in
-    let last = held_last c.args.chunks.now.items c.count_to-k.result c.args.base none c.requires.rising c.count_to-k.ensures.bound
-    c.count_to-k.ensures.below c.count_to-k.ensures.above (live_is_held c.args.chunks.now.items c.args.base c.requires.some h) in
-    omega (arith, last.0, c.if-k-eq0.true)
+pub chunk_at-requires : goal.chunk_at-requires
+chunk_at-requires c = rises_lower 0 65536 c.args.chunks.now (omega arith) c.requires.rising
 
-pub returns-then-not-is_live_from-clause-none : goal.returns-then-not-is_live_from-clause-none
-returns-then-not-is_live_from-clause-none c = λ h.
-    let found : Chunk = c.at-chunk.result in
-    let last = held_last c.args.chunks.now.items c.count_to-k.result c.args.base found c.requires.rising c.count_to-k.ensures.bound
-    c.count_to-k.ensures.below c.count_to-k.ensures.above (live_is_held c.args.chunks.now.items c.args.base c.requires.some h) in
-    c.is_live_from.ensures.not c.if-not-is_live_from.true
-    (subst (λ (d : Chunk). IsLive d.state × (d.base ≡ c.args.base)) (sym (c.at-chunk.ensures ∙ last.1)) (h.2, h.3))
+pub returns-then-chunk-base-clause-some : goal.returns-then-chunk-base-clause-some
+returns-then-chunk-base-clause-some c = (
+  next_contained c.args.base c.args.chunks.now c.in_ok-chunk.chunk c.in_ok-chunk.ensures.found,
+  c.is_live.ensures.live c.if-is_live.true,
+  c.if-chunk-base.true,
+)
 
-pub returns-clause-some : goal.returns-clause-some
-returns-clause-some c =
-    let found : Chunk = c.at-chunk.result in
-    let is = c.is_live_from.ensures.live c.if-not-is_live_from.false in (
-      slice_get-get_or c.args.chunks.now.items (c.count_to-k.result - 1) found (omega (arith, c.count_to-k.ensures.bound, c.if-k-eq0.false))
-          ∙ ap Some (sym c.at-chunk.ensures),
-      is.0,
-      is.1,
-    )
+pub returns-else-is_live-clause-none : goal.returns-else-is_live-clause-none
+returns-else-is_live-clause-none c = λ has.
+    let h = live_is_held c.args.chunks.now c.args.base c.requires.some has in
+    let same = only_next c.args.base c.args.chunks.now c.in_ok-chunk.chunk h.0 c.requires.rising c.in_ok-chunk.ensures.found h.1.0 h.1.2 in
+    elim c.else-is_live.branch [
+      | else-is_live-via-then-is_live+else-chunk-base w ↦ w.if-chunk-base.false (sym (ap (λ (d : Chunk). d.base) same) ∙ has.3)
+      | else-is_live-via-else-is_live w ↦ c.is_live.ensures.not w.if-is_live.false (subst (λ (d : Chunk). IsLive d.state) same h.1.1)
+    ]

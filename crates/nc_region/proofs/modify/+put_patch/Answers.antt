@@ -9,9 +9,9 @@ use Rattle.nc_vet.specs.Chunk.{Piece}
 use Rattle.nc_text.specs.Places.{limit_of, byte_at}
 use Rattle.nc_text.specs.MarkedText.{MarkedText, IsText, with_span}
 use Rattle.nc_text.specs.Ready.{AreReady}
+use Rattle.nc_list.specs.declared.chunk.Chunk.{Chunk}
 use Rattle.nc_region.specs.declared.acts.Act.{Act}
 use Rattle.nc_region.specs.declared.acts.Entry.{Entry}
-use Rattle.nc_region.specs.declared.chunk.Chunk.{Chunk}
 use Rattle.nc_region.specs.Acts.{Tells}
 use Rattle.nc_region.specs.Log.{Logs}
 use Rattle.nc_region.specs.Patch.{stands_there, acts_of_instruction, acts_of_modify, log_of_instruction, log_of_modify}

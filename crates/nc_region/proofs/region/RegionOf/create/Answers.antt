@@ -1,5 +1,4 @@
-use Rattle.std.proofs.Common.{◌≡◌, ◌≢◌, ℕ, Bool, List, length, subst, ap, ◌∙◌, refl, arith}
-use Rattle.std.specs.List.{insert}
+use Rattle.std.proofs.Common.{◌≡◌, ◌≢◌, ℕ, Bool, List, length, subst, ap, ◌∙◌, refl}
 use Rattle.nc_text.specs.Places.{limit_of}
 use Rattle.nc_text.specs.MarkedText.{MarkedText, IsText}
 use Rattle.nc_text.specs.Ready.{GetsReady}
@@ -12,8 +11,6 @@ use Rattle.nc_region.specs.Region.{Region, IsRefused, live_chunk}
 use Rattle.nc_region.proofs.chunks.Inserting.{unused_if_apart, region_with_chunk}
 use Rattle.nc_region.proofs.chunks.Pieces.{valid_chunk_is_closed, chunk_names_registers}
 use Rattle.nc_region.proofs.chunks.ReadyPlaces.{chunks_stay_ready, ready_inserted}
-use Rattle.nc_region.proofs.chunks.Rising.{fits_meets}
-use Rattle.nc_region.proofs.deleting.Due.{few}
 use Rattle.nc_region.proofs.region.RegionOf.create.Goals as goal
 
 -- only a want of memory may have made pages
@@ -28,9 +25,9 @@ refused_as old new v OutOfMemory same gets made = (same, gets)
 pub invariant_of-self : goal.invariant_of-self
 invariant_of-self g c =
     let others = c.make_room.ensures.others in
-    rw (others.1, others.0) (
+    rw (others.0, c.in-Err.ensures.unlisted) (
       c.self.invariant.0,
-      chunks_stay_ready _ _ _ _ c.make_room.ensures.only c.self.inside.chunks.items c.self.invariant.1,
+      chunks_stay_ready _ _ _ _ c.make_room.ensures.only c.self.inside.chunks c.self.invariant.1,
     )
 
 pub returns-in-Err : goal.returns-in-Err
@@ -41,7 +38,7 @@ returns-in-Err g c =
     let old : Region = record {
       marked = g.A.Acts.marked inside.acts;
       made = g.A.Acts.made inside.acts;
-      chunks = inside.chunks.items;
+      chunks = inside.chunks;
       keeper = g.A.Acts.keeper inside.acts;
       told = g.A.Acts.told inside.acts;
       logged = g.A.Acts.logged inside.acts;
@@ -49,12 +46,12 @@ returns-in-Err g c =
     let new : Region = record {
       marked = g.A.Acts.marked now.acts;
       made = g.A.Acts.made now.acts;
-      chunks = now.chunks.items;
+      chunks = now.chunks;
       keeper = g.A.Acts.keeper now.acts;
       told = g.A.Acts.told now.acts;
       logged = g.A.Acts.logged now.acts;
     } in
-    let same : new ≡ record old { made = new.made } = rw (others.1, others.0, others.2, others.3, others.4) refl in
+    let same : new ≡ record old { made = new.made } = rw (others.0, c.in-Err.ensures.unlisted, others.1, others.2, others.3) refl in
     record {
       created = tt;
       acts = tt;
@@ -65,7 +62,7 @@ returns-in-Err g c =
         refused_as old new c.args.vetted c.in-Err.fault same c.make_room.ensures.only c.in-Err.ensures.made,
       );
       refused = rw (← c.self.view_is) c.in-Err.ensures.refused;
-      confined = rw others.1 (confined_if_closed _ _ c.self.invariant.0.whole.closed);
+      confined = rw others.0 (confined_if_closed _ _ c.self.invariant.0.whole.closed);
     }
 
 pub put_chunk-requires : goal.put_chunk-requires
@@ -73,95 +70,69 @@ put_chunk-requires g c =
     let marked = g.A.Acts.marked c.self.inside.acts in
     let v = c.args.vetted in
     let others = c.make_room.ensures.others in
-    let found = c.in-Ok.ensures.found in
-    let k = c.in-Ok.found.0 in
+    let room = c.in-Ok.ensures.room in
     let placed : HasGoodSpan v.base (limit_of marked.bytes) (length v.code) =
-    subst (λ (l : ℕ). HasGoodSpan v.base l (length v.code)) found.limit (valid_chunk_is_closed v found.valid).placed in
+    subst (λ (l : ℕ). HasGoodSpan v.base l (length v.code)) room.limit (valid_chunk_is_closed v room.valid).placed in
     record {
-      whole = rw others.1 c.self.invariant.0.whole;
+      whole = rw others.0 c.self.invariant.0.whole;
       code = c.code.ensures.value;
       room = (c.in-Ok.ensures.marks.0, rw c.code.ensures.value c.in-Ok.ensures.marks.1);
-      chunk = rw (
-        others.1,
-        c.base.ensures.value,
-        c.code.ensures.value,
-        ← found.limit,
-      ) (valid_chunk_is_closed v found.valid);
-      registers = chunk_names_registers v found.valid;
-      unused = rw (others.1, c.base.ensures.value, c.code.ensures.value)
-          (unused_if_apart marked c.self.inside.chunks.items k v.base (length v.code) c.self.invariant.0 placed found.fits.1 found.fits.2);
-      ready = rw (c.base.ensures.value, c.code.ensures.value) found.ready;
+      chunk = rw (others.0, c.base.ensures.value, c.code.ensures.value, ← room.limit) (valid_chunk_is_closed v room.valid);
+      registers = chunk_names_registers v room.valid;
+      unused = rw (others.0, c.base.ensures.value, c.code.ensures.value)
+          (unused_if_apart marked c.self.inside.chunks room.listed.0 v.base (length v.code) c.self.invariant.0 placed
+          room.listed.1.1 room.listed.1.2);
+      ready = rw (c.base.ensures.value, c.code.ensures.value) room.ready;
     }
-
-pub insert-requires-clause-inside : goal.insert-requires-clause-inside
-insert-requires-clause-inside g c = rw c.make_room.ensures.others.0 c.in-Ok.ensures.found.fits.0
-
-pub insert-requires-clause-few : goal.insert-requires-clause-few
-insert-requires-clause-few g c =
-    let n = few (limit_of (g.A.Acts.marked c.self.inside.acts).bytes) 65536 c.self.inside.chunks.items c.self.invariant.0.rising
-    c.self.invariant.0.placed (omega (arith, c.self.invariant.0.whole.lawful.1)) in
-    rw c.make_room.ensures.others.0 (omega (arith, n, c.self.invariant.0.whole.lawful.2))
-
-pub insert-requires-clause-room : goal.insert-requires-clause-room
-insert-requires-clause-room g c = c.in-Ok.ensures.place
 
 pub invariant_of-self-2 : goal.invariant_of-self-2
 invariant_of-self-2 g c =
     let marked = g.A.Acts.marked c.self.inside.acts in
     let v = c.args.vetted in
-    let chunks = c.self.inside.chunks.items in
+    let chunks = c.self.inside.chunks in
     let others = c.make_room.ensures.others in
-    let found = c.in-Ok.ensures.found in
-    let k = c.in-Ok.found.0 in
+    let room = c.in-Ok.ensures.room in
+    let k : ℕ = room.listed.0 in
     let chunk : IsClosedChunk v.base (limit_of marked.bytes) v.code v.marks =
-    subst (λ (l : ℕ). IsClosedChunk v.base l v.code v.marks) found.limit (valid_chunk_is_closed v found.valid) in
+    subst (λ (l : ℕ). IsClosedChunk v.base l v.code v.marks) room.limit (valid_chunk_is_closed v room.valid) in
     let put : g.A.Acts.marked c.put_chunk.new.acts ≡ with_chunk marked v.base v.code v.marks = c.put_chunk.ensures.marked
-    ∙ rw (others.1, c.base.ensures.value, c.code.ensures.value) refl in
-    let list : c.insert.new.self.items ≡ insert chunks k (live_chunk v) =
-    c.insert.ensures ∙ rw (others.0, c.live_chunk.ensures) refl in
+    ∙ rw (others.0, c.base.ensures.value, c.code.ensures.value) refl in
     let region = region_with_chunk marked chunks k (live_chunk v) v.code v.marks
     (record {
       region = c.self.invariant.0;
       vetted = v;
-      valid = found.valid;
+      valid = room.valid;
       base_is = refl;
-      limit_is = found.limit;
-      code_is =
-          refl;
+      limit_is = room.limit;
+      code_is = refl;
       marks_is = refl;
       chunk = chunk;
       long = refl;
-      above = found.fits.1;
-      below = found.fits.2;
+      above = room.listed.1.1;
+      below = room.listed.1.2;
     }) tt (subst IsText put c.put_chunk.ensures.whole) in
     let stay = chunks_stay_ready _ _ _ _ c.make_room.ensures.only chunks c.self.invariant.1 in
-    rw (put, list, c.put_chunk.ensures.made) (region, ready_inserted _ chunks k (live_chunk v) stay found.ready)
+    rw (put, room.listed.2, c.put_chunk.ensures.made) (region, ready_inserted _ chunks k (live_chunk v) stay room.ready)
 
 pub returns : goal.returns
 returns g c =
     let marked = g.A.Acts.marked c.self.inside.acts in
     let v = c.args.vetted in
-    let chunks = c.self.inside.chunks.items in
     let others = c.make_room.ensures.others in
-    let found = c.in-Ok.ensures.found in
+    let room = c.in-Ok.ensures.room in
     let put : g.A.Acts.marked c.put_chunk.new.acts ≡ with_chunk marked v.base v.code v.marks = c.put_chunk.ensures.marked
-    ∙ rw (others.1, c.base.ensures.value, c.code.ensures.value) refl in
-    let list : c.insert.new.self.items ≡ insert chunks c.in-Ok.found.0 (live_chunk v) =
-    c.insert.ensures ∙ rw (others.0, c.live_chunk.ensures) refl in
+    ∙ rw (others.0, c.base.ensures.value, c.code.ensures.value) refl in
     record {
       created = rw (← c.self.view_is) (record {
         bytes = ap (λ (m : MarkedText). m.bytes) put;
         marks = ap (λ (m : MarkedText). m.marks) put;
-        chunks = (c.in-Ok.found.0, found.fits, list);
+        chunks = room.listed;
         ready = rw c.put_chunk.ensures.made c.make_room.ensures.only;
-        others = rw (c.put_chunk.ensures.keeper, others.2) refl;
+        others = rw (c.put_chunk.ensures.keeper, others.1) refl;
       });
-      acts = rw (← c.self.view_is, ← others.3, ← c.base.ensures.value, ← c.code.ensures.value) c.put_chunk.ensures.told;
-      log = rw (← c.self.view_is, ← others.4, ← c.base.ensures.value, ← c.code.ensures.value) c.put_chunk.ensures.log;
-      free = rw (← c.self.view_is) (
-        found.limit,
-        fits_meets chunks v.base (length v.code) c.in-Ok.found.0 found.fits.1 found.fits.2,
-      );
+      acts = rw (← c.self.view_is, ← others.2, ← c.base.ensures.value, ← c.code.ensures.value) c.put_chunk.ensures.told;
+      log = rw (← c.self.view_is, ← others.3, ← c.base.ensures.value, ← c.code.ensures.value) c.put_chunk.ensures.log;
+      free = rw (← c.self.view_is) (room.limit, room.free);
       unchanged = tt;
       refused = tt;
       confined = confined_if_closed _ _ c.put_chunk.ensures.whole.closed;

@@ -1,13 +1,17 @@
-use Rattle.std.proofs.Common.{ℕ, ◌-◌, set, replicate, sym, subst, ap, ◌∙◌, refl, arith}
+use Rattle.std.proofs.Common.{◌≡◌, ℕ, ◌-◌, ◌<◌, List, set, replicate, Contains, Some, sym, subst, ap, ◌∙◌, refl, arith}
+use Rattle.std.proofs.lemmas.Option.{slice_get-get_or}
 use Rattle.nc_text.specs.Places.{limit_of}
 use Rattle.nc_text.proofs.Offered.{confined_if_closed}
 use Rattle.nc_text.specs.MarkedText.{with_span}
-use Rattle.nc_region.specs.declared.chunk.Chunk.{Chunk}
-use Rattle.nc_region.specs.Region.{Region, IsLive, IsRegion}
+use Rattle.nc_list.specs.declared.chunk.Chunk.{Chunk}
+use Rattle.nc_list.specs.declared.chunk.ChunkState.TheVariants.{Retired}
+use Rattle.nc_list.specs.Chunks.{IsRetired}
+use Rattle.nc_list.proofs.Offered.{each_map, each_contains}
+use Rattle.nc_region.specs.Each.{Each}
+use Rattle.nc_region.specs.Region.{Region, IsLive, IsRising}
 use Rattle.nc_region.specs.Chunks.{HasGoodSpan}
-use Rattle.nc_region.proofs.EachMember.{each_get}
-use Rattle.nc_region.proofs.chunks.ReadyPlaces.{ready_listed, ready_set}
-use Rattle.nc_region.proofs.deleting.Deleted.{listed_there, retired_is, deleted_is, region_deleted}
+use Rattle.nc_region.proofs.chunks.ReadyPlaces.{ready_held, ready_set}
+use Rattle.nc_region.proofs.deleting.Deleted.{retired_set, deleted_is, region_deleted}
 use Rattle.nc_region.proofs.region.RegionOf.delete.Goals as goal
 
 pub returns-in_default-clause-confined : goal.returns-in_default-clause-confined
@@ -19,11 +23,9 @@ returns-then-generation-ge-LAST_GENERATION-clause-confined g c =
 
 pub returns-then-generation-ge-LAST_GENERATION-clause-refused : goal.returns-then-generation-ge-LAST_GENERATION-clause-refused
 returns-then-generation-ge-LAST_GENERATION-clause-refused g c =
-    let chunk : Chunk = c.in-Some.chunk in
     let f = c.in-Some.ensures.some in
-    let there = listed_there c.self.inside.chunks.items c.in-Some.k chunk f.0 in
     rw (← c.self.view_is) (
-      (chunk, (c.in-Some.k, there.0, there.1), subst IsLive (sym f.1) tt, f.2),
+      (c.in-Some.chunk, f.0, subst IsLive (sym f.1) tt, f.2),
       omega (arith, c.generation.ensures.generation, c.generation.ensures.in_range, c.if-generation-ge-LAST_GENERATION.true),
     )
 
@@ -31,88 +33,85 @@ pub put_stops-stamp-requires-clause-placed : goal.put_stops-stamp-requires-claus
 put_stops-stamp-requires-clause-placed g c =
     let chunk : Chunk = c.in-Some.chunk in
     let f = c.in-Some.ensures.some in
-    let there = listed_there c.self.inside.chunks.items c.in-Some.k chunk f.0 in
-    let p = each_get (λ (d : Chunk). HasGoodSpan d.base
-    (limit_of (g.A.Acts.marked c.self.inside.acts).bytes) d.length) c.self.inside.chunks.items c.in-Some.k chunk there.0
-    c.self.invariant.0.placed in
-    subst (λ (b : ℕ). HasGoodSpan b (limit_of (g.A.Acts.marked c.self.inside.acts).bytes) chunk.length) f.2
-    (subst (λ (d : Chunk). HasGoodSpan d.base (limit_of (g.A.Acts.marked c.self.inside.acts).bytes) d.length) there.1 p)
+    let limit = limit_of (g.A.Acts.marked c.self.inside.acts).bytes in
+    subst (λ (b : ℕ). HasGoodSpan b limit chunk.length) f.2
+    (each_contains (λ (d : Chunk). HasGoodSpan d.base limit d.length) c.self.inside.chunks chunk c.self.invariant.0.placed f.0)
 
 pub put_stops-stamp-requires-clause-ready : goal.put_stops-stamp-requires-clause-ready
 put_stops-stamp-requires-clause-ready g c =
-    let chunk : Chunk = c.in-Some.chunk in
     let f = c.in-Some.ensures.some in
-    let there = listed_there c.self.inside.chunks.items c.in-Some.k chunk f.0 in
-    rw (← f.2)
-    (ready_listed (g.A.Acts.made c.self.inside.acts) c.self.inside.chunks.items c.in-Some.k chunk c.self.invariant.1 there.0 chunk there.1)
+    rw (← f.2) (ready_held (g.A.Acts.made c.self.inside.acts) c.self.inside.chunks c.in-Some.chunk c.self.invariant.1 f.0)
 
-pub set-requires : goal.set-requires
-set-requires g c =
-    let chunk : Chunk = c.in-Some.chunk in
+pub retire-requires-clause-base : goal.retire-requires-clause-base
+retire-requires-clause-base g c =
     let f = c.in-Some.ensures.some in
-    let there = listed_there c.self.inside.chunks.items c.in-Some.k chunk f.0 in
-    there.0
+    let placed = each_contains (λ (d : Chunk). HasGoodSpan d.base (limit_of (g.A.Acts.marked c.self.inside.acts).bytes) d.length)
+    c.self.inside.chunks c.in-Some.chunk c.self.invariant.0.placed f.0 in
+    (c.in-Some.chunk, f.0, f.2, placed.some)
+
+-- the list with the chunk retired
+listed : (chunks new : List Chunk) (limit base stamp : ℕ) (c : Chunk) (has : Contains chunks c) → IsRising 65536 chunks
+    → Each (λ (d : Chunk). HasGoodSpan d.base limit d.length) chunks → c.base ≡ base → IsRetired chunks new base stamp
+    → new ≡ set chunks has.0 (record c { state = Retired stamp })
+listed chunks new limit base stamp c has rising placed base_is retired =
+    retired_set chunks new has.0 base stamp c rising
+    (each_map (λ (d : Chunk). HasGoodSpan d.base limit d.length) (λ (d : Chunk). 0 < d.length) (λ d p. p.some) chunks placed) has.1 has.2
+    base_is retired
 
 pub invariant_of-self : goal.invariant_of-self
 invariant_of-self g c =
     let chunk : Chunk = c.in-Some.chunk in
     let f = c.in-Some.ensures.some in
-    let there = listed_there c.self.inside.chunks.items c.in-Some.k chunk f.0 in
+    let chunks = c.self.inside.chunks in
     let old = g.A.Acts.marked c.self.inside.acts in
-    let list = c.set.ensures ∙ ap (λ (d : Chunk). set c.self.inside.chunks.items c.in-Some.k d)
-    (retired_is chunk c.args.base chunk.length c.put_stops-stamp.result f.2 refl) in
-    let region = subst (IsRegion (g.A.Acts.marked c.put_stops-stamp.new.acts)) (sym list)
-    (region_deleted (g.A.Acts.marked c.self.inside.acts)
-    (g.A.Acts.marked c.put_stops-stamp.new.acts) c.self.inside.chunks.items c.in-Some.k chunk c.put_stops-stamp.result
+    let list = listed chunks c.retire.new.self (limit_of old.bytes) c.args.base c.put_stops-stamp.result chunk f.0
+    c.self.invariant.0.rising c.self.invariant.0.placed f.2 c.retire.ensures in
+    let region = region_deleted old (g.A.Acts.marked c.put_stops-stamp.new.acts) chunks f.0.0 chunk c.put_stops-stamp.result
     (record {
       region = c.self.invariant.0;
-      inside = there.0;
-      here = there.1;
+      inside = f.0.1;
+      here = f.0.2;
       live = subst IsLive (sym f.1) tt;
       whole = c.put_stops-stamp.ensures.whole;
-      bytes_are =
-          c.put_stops-stamp.ensures.bytes
-          ∙ ap (λ (b : ℕ). with_span (g.A.Acts.marked c.self.inside.acts).bytes (b - 65536) (replicate chunk.length 244))
-          (sym f.2);
+      bytes_are = c.put_stops-stamp.ensures.bytes
+          ∙ ap (λ (b : ℕ). with_span old.bytes (b - 65536) (replicate chunk.length 244)) (sym f.2);
       marks_are = c.put_stops-stamp.ensures.marks;
-    })) in
-    let ready = ready_listed (g.A.Acts.made c.self.inside.acts) c.self.inside.chunks.items c.in-Some.k chunk c.self.invariant.1 there.0
-    chunk there.1 in (
+    }) in
+    rw (list, c.put_stops-stamp.ensures.made) (
       region,
-      rw (c.set.ensures, c.put_stops-stamp.ensures.made)
-          (ready_set (g.A.Acts.made c.self.inside.acts) c.self.inside.chunks.items c.in-Some.k _ c.self.invariant.1
-          (rw (← f.2) ready)),
+      ready_set (g.A.Acts.made c.self.inside.acts) chunks f.0.0 (record chunk { state = Retired c.put_stops-stamp.result }) c.self.invariant.1
+          (ready_held (g.A.Acts.made c.self.inside.acts) chunks chunk c.self.invariant.1 f.0),
     )
 
 pub returns-clause-deleted : goal.returns-clause-deleted
 returns-clause-deleted g c =
     let chunk : Chunk = c.in-Some.chunk in
     let f = c.in-Some.ensures.some in
-    let there = listed_there c.self.inside.chunks.items c.in-Some.k chunk f.0 in
+    let chunks = c.self.inside.chunks in
     let old : Region = record {
       marked = g.A.Acts.marked c.self.inside.acts;
       made = g.A.Acts.made c.self.inside.acts;
-      chunks = c.self.inside.chunks.items;
-      keeper =
-          g.A.Acts.keeper c.self.inside.acts;
+      chunks = chunks;
+      keeper = g.A.Acts.keeper c.self.inside.acts;
       told = g.A.Acts.told c.self.inside.acts;
       logged = g.A.Acts.logged c.self.inside.acts;
     } in
     let new : Region = record {
       marked = g.A.Acts.marked c.put_stops-stamp.new.acts;
       made = g.A.Acts.made c.put_stops-stamp.new.acts;
-      chunks = c.set.new.self.items;
-      keeper =
-          g.A.Acts.keeper c.put_stops-stamp.new.acts;
+      chunks = c.retire.new.self;
+      keeper = g.A.Acts.keeper c.put_stops-stamp.new.acts;
       told = g.A.Acts.told c.put_stops-stamp.new.acts;
       logged = g.A.Acts.logged c.put_stops-stamp.new.acts;
     } in
     rw (← c.self.view_is)
-    (deleted_is old new c.in-Some.k c.args.base chunk.length c.put_stops-stamp.result chunk f.0 f.1 f.2
-    refl
+    (deleted_is old new f.0.0 c.args.base c.put_stops-stamp.result chunk
+    (slice_get-get_or chunks f.0.0 chunk f.0.1 ∙ ap Some f.0.2) f.1 f.2
     (omega (arith, c.generation.ensures.generation, c.if-generation-ge-LAST_GENERATION.false))
     c.put_stops-stamp.ensures.stamp c.put_stops-stamp.ensures.bytes c.put_stops-stamp.ensures.marks
-    c.put_stops-stamp.ensures.made c.set.ensures
+    c.put_stops-stamp.ensures.made
+    (listed chunks c.retire.new.self (limit_of old.marked.bytes) c.args.base c.put_stops-stamp.result chunk f.0
+    c.self.invariant.0.rising c.self.invariant.0.placed f.2 c.retire.ensures)
     c.put_stops-stamp.ensures.keeper c.put_stops-stamp.ensures.told c.put_stops-stamp.ensures.log)
 
 pub returns-clause-confined : goal.returns-clause-confined

@@ -1,23 +1,19 @@
-use Rattle.std.proofs.Common.{subst}
+use Rattle.std.proofs.Common.{◌≡◌, ℕ, List, Option, Some, None, IfSome, Contains}
 use Rattle.nc_text.specs.Places.{limit_of}
-use Rattle.nc_region.specs.declared.chunk.Chunk.{Chunk}
+use Rattle.nc_list.specs.declared.chunk.Chunk.{Chunk}
+use Rattle.nc_list.specs.declared.chunk.ChunkState.TheVariants.{Live}
+use Rattle.nc_list.proofs.Offered.{each_contains}
 use Rattle.nc_region.specs.Chunks.{HasGoodSpan}
-use Rattle.nc_region.proofs.EachMember.{each_get}
-use Rattle.nc_region.proofs.deleting.Deleted.{listed_there}
+use Rattle.nc_region.specs.Each.{Each}
 use Rattle.nc_region.proofs.region.RegionOf.live_at.Goals as goal
+
+-- what is found lies in the region
+placed : (limit base : ℕ) (chunks : List Chunk) (found : Option Chunk) → Each (λ (c : Chunk). HasGoodSpan c.base limit c.length) chunks
+    → IfSome found (λ c. Contains chunks c × (c.state ≡ Live) × (c.base ≡ base)) → IfSome found (λ c. HasGoodSpan c.base limit c.length)
+placed limit base chunks None all is = tt
+placed limit base chunks (Some c) all is = each_contains (λ (d : Chunk). HasGoodSpan d.base limit d.length) chunks c all is.0
 
 pub returns-clause-placed : goal.returns-clause-placed
 returns-clause-placed g c =
-    let found : Chunk = c.in-Some.found in
-    let f = c.in-Some.ensures.some in
-    let there = listed_there c.self.inside.chunks.items c.in-Some._k found f.0 in
-    let p = each_get (λ (d : Chunk). HasGoodSpan d.base
-    (limit_of (g.A.Acts.marked c.self.inside.acts).bytes) d.length) c.self.inside.chunks.items c.in-Some._k found there.0
-    c.self.invariant.0.placed in
-    rw (← c.self.view_is) (subst (λ (d : Chunk). HasGoodSpan d.base (limit_of (g.A.Acts.marked c.self.inside.acts).bytes) d.length) there.1 p)
-
-pub returns-clause-found : goal.returns-clause-found
-returns-clause-found g c =
-    let f = c.in-Some.ensures.some in
-    let there = listed_there c.self.inside.chunks.items c.in-Some._k c.in-Some.found f.0 in
-    rw (← c.self.view_is) ((c.in-Some._k, there.0, there.1), f.1, f.2)
+    rw (← c.self.view_is) (placed (limit_of (g.A.Acts.marked c.self.inside.acts).bytes) c.args.base c.self.inside.chunks c.live_at.result
+    c.self.invariant.0.placed c.live_at.ensures.some)

@@ -56,31 +56,31 @@ returns-in_default-clause-refused g c =
 
 pub patch-requires-clause-holds : goal.patch-requires-clause-holds
 patch-requires-clause-holds g c =
-    held_holds (g.A.Acts.marked c.self.inside.acts) c.self.inside.chunks.items c.args.at c.in-Some.chunk c.self.invariant.0 c.in-Some.ensures.some
+    held_holds (g.A.Acts.marked c.self.inside.acts) c.self.inside.chunks c.args.at c.in-Some.chunk c.self.invariant.0 c.in-Some.ensures.some
 
 pub patch-requires-clause-ends : goal.patch-requires-clause-ends
 patch-requires-clause-ends g c =
-    let held : IsHeldBy c.self.inside.chunks.items c.args.at c.in-Some.chunk = c.in-Some.ensures.some in
+    let held : IsHeldBy c.self.inside.chunks c.args.at c.in-Some.chunk = c.in-Some.ensures.some in
     let l = lies (g.A.Acts.marked c.self.inside.acts) c.in-Some.chunk c.self.invariant.0.whole
-    (held_holds (g.A.Acts.marked c.self.inside.acts) c.self.inside.chunks.items c.args.at c.in-Some.chunk c.self.invariant.0 held) in
+    (held_holds (g.A.Acts.marked c.self.inside.acts) c.self.inside.chunks c.args.at c.in-Some.chunk c.self.invariant.0 held) in
     let spans : c.is_patch_span.result ≡ true = c.if-not-is_patch_span.false in
     omega (arith, (c.is_patch_span.ensures.0 spans).1, held.2.0, held.2.1, l.start, l.whole)
 
 pub patch-requires-clause-mark : goal.patch-requires-clause-mark
 patch-requires-clause-mark g c =
-    let held : IsHeldBy c.self.inside.chunks.items c.args.at c.in-Some.chunk = c.in-Some.ensures.some in
+    let held : IsHeldBy c.self.inside.chunks c.args.at c.in-Some.chunk = c.in-Some.ensures.some in
     let l = lies (g.A.Acts.marked c.self.inside.acts) c.in-Some.chunk c.self.invariant.0.whole
-    (held_holds (g.A.Acts.marked c.self.inside.acts) c.self.inside.chunks.items c.args.at c.in-Some.chunk c.self.invariant.0 held) in
+    (held_holds (g.A.Acts.marked c.self.inside.acts) c.self.inside.chunks c.args.at c.in-Some.chunk c.self.invariant.0 held) in
     c.mark_within-mark.ensures (omega (arith, l.low, held.2.0), omega (arith, l.high, held.2.0, held.2.1))
 
 pub patch-requires-clause-ready : goal.patch-requires-clause-ready
 patch-requires-clause-ready g c =
-    let held : IsHeldBy c.self.inside.chunks.items c.args.at c.in-Some.chunk = c.in-Some.ensures.some in
+    let held : IsHeldBy c.self.inside.chunks c.args.at c.in-Some.chunk = c.in-Some.ensures.some in
     let l = lies (g.A.Acts.marked c.self.inside.acts) c.in-Some.chunk c.self.invariant.0.whole
-    (held_holds (g.A.Acts.marked c.self.inside.acts) c.self.inside.chunks.items c.args.at c.in-Some.chunk c.self.invariant.0 held) in
+    (held_holds (g.A.Acts.marked c.self.inside.acts) c.self.inside.chunks c.args.at c.in-Some.chunk c.self.invariant.0 held) in
     let spans : c.is_patch_span.result ≡ true = c.if-not-is_patch_span.false in
     ready_part _ c.in-Some.chunk.base c.in-Some.chunk.length c.args.at (length c.args.new.now)
-    (ready_held _ c.self.inside.chunks.items c.in-Some.chunk c.self.invariant.1 held.0) held.2.0
+    (ready_held _ c.self.inside.chunks c.in-Some.chunk c.self.invariant.1 held.0) held.2.0
     (omega (arith, (c.is_patch_span.ensures.0 spans).1, held.2.0, held.2.1, l.start, l.whole))
 
 pub invariant_of-self : goal.invariant_of-self
@@ -90,11 +90,11 @@ invariant_of-self g c =
 pub returns-in-Err-clause-refused : goal.returns-in-Err-clause-refused
 returns-in-Err-clause-refused g c =
     let spans : c.is_patch_span.result ≡ true = c.if-not-is_patch_span.false in
-    let held : IsHeldBy c.self.inside.chunks.items c.args.at c.in-Some.chunk = c.in-Some.ensures.some in
+    let held : IsHeldBy c.self.inside.chunks c.args.at c.in-Some.chunk = c.in-Some.ensures.some in
     let refused = refused_in (record {
       marked = g.A.Acts.marked c.self.inside.acts;
       made = g.A.Acts.made c.self.inside.acts;
-      chunks = c.self.inside.chunks.items;
+      chunks = c.self.inside.chunks;
       keeper =
           g.A.Acts.keeper c.self.inside.acts;
       told = g.A.Acts.told c.self.inside.acts;
@@ -109,12 +109,12 @@ returns-in-Err-clause-confined g c = confined_if_closed _ _ c.patch.ensures.whol
 pub invariant_of-self-2 : goal.invariant_of-self-2
 invariant_of-self-2 g c =
     let marked = g.A.Acts.marked c.self.inside.acts in
-    let held : IsHeldBy c.self.inside.chunks.items c.args.at c.in-Some.chunk = c.in-Some.ensures.some in
+    let held : IsHeldBy c.self.inside.chunks c.args.at c.in-Some.chunk = c.in-Some.ensures.some in
     let l = lies marked c.in-Some.chunk c.self.invariant.0.whole
-    (held_holds (g.A.Acts.marked c.self.inside.acts) c.self.inside.chunks.items c.args.at c.in-Some.chunk c.self.invariant.0 held) in
+    (held_holds (g.A.Acts.marked c.self.inside.acts) c.self.inside.chunks c.args.at c.in-Some.chunk c.self.invariant.0 held) in
     let spans : c.is_patch_span.result ≡ true = c.if-not-is_patch_span.false in
     let span = c.is_patch_span.ensures.0 spans in
-    let region = region_patched marked (g.A.Acts.marked c.patch.new.acts) c.self.inside.chunks.items c.in-Some.chunk c.args.at
+    let region = region_patched marked (g.A.Acts.marked c.patch.new.acts) c.self.inside.chunks c.in-Some.chunk c.args.at
     c.args.new.now
     (record {
       region = c.self.invariant.0;
@@ -137,11 +137,11 @@ returns-clause-confined g c = confined_if_closed _ _ c.patch.ensures.whole.close
 pub returns-clause-lawful : goal.returns-clause-lawful
 returns-clause-lawful g c =
     let spans : c.is_patch_span.result ≡ true = c.if-not-is_patch_span.false in
-    let held : IsHeldBy c.self.inside.chunks.items c.args.at c.in-Some.chunk = c.in-Some.ensures.some in
+    let held : IsHeldBy c.self.inside.chunks c.args.at c.in-Some.chunk = c.in-Some.ensures.some in
     let lawful = patch_lawful (record {
       marked = g.A.Acts.marked c.self.inside.acts;
       made = g.A.Acts.made c.self.inside.acts;
-      chunks = c.self.inside.chunks.items;
+      chunks = c.self.inside.chunks;
       keeper =
           g.A.Acts.keeper c.self.inside.acts;
       told = g.A.Acts.told c.self.inside.acts;

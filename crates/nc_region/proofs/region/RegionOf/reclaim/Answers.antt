@@ -7,18 +7,26 @@ use Rattle.nc_region.specs.Region.{Region}
 use Rattle.nc_region.specs.Deletion.{freed, unmarked}
 use Rattle.nc_region.proofs.chunks.ReadyPlaces.{ready_kept}
 use Rattle.nc_region.proofs.deleting.Due.{few, reclaimed_is}
+use Rattle.nc_region.proofs.deleting.Least.{least_below}
 use Rattle.nc_region.proofs.region.RegionOf.reclaim.Goals as goal
 
 pub invariant_of-self : goal.invariant_of-self
 invariant_of-self g c =
     let made = c.free_due.ensures.made ∙ c.look-least.ensures.made in (
       c.free_due.ensures.region,
-      rw (c.free_due.ensures.chunks, made) (ready_kept (g.A.Acts.made c.self.inside.acts) c.look-least.result c.self.inside.chunks.items c.self.invariant.1),
+      rw (c.free_due.ensures.chunks, made) (ready_kept (g.A.Acts.made c.self.inside.acts) c.look-least.result c.self.inside.chunks c.self.invariant.1),
     )
+
+pub free_due-requires-clause-least : goal.free_due-requires-clause-least
+free_due-requires-clause-least g c =
+    let numbers = (g.A.Acts.keeper c.look-least.new.self).numbers in
+    least_below numbers.generation numbers.bounds c.look-least.result
+    (omega (arith, c.look-least.ensures.looked.generation, c.generation-facts.ensures.generation, c.generation-facts.ensures.in_range))
+    c.look-least.type_inv c.look-least.ensures.least
 
 pub free_due-requires-clause-few : goal.free_due-requires-clause-few
 free_due-requires-clause-few g c =
-    let n = few (limit_of (g.A.Acts.marked c.self.inside.acts).bytes) 65536 c.self.inside.chunks.items c.self.invariant.0.rising
+    let n = few (limit_of (g.A.Acts.marked c.self.inside.acts).bytes) 65536 c.self.inside.chunks c.self.invariant.0.rising
     c.self.invariant.0.placed (omega (arith, c.self.invariant.0.whole.lawful.1)) in
     omega (arith, n, c.self.invariant.0.whole.lawful.2)
 
@@ -27,7 +35,7 @@ returns-clause-reclaimed g c =
     let old : Region = record {
       marked = g.A.Acts.marked c.self.inside.acts;
       made = g.A.Acts.made c.self.inside.acts;
-      chunks = c.self.inside.chunks.items;
+      chunks = c.self.inside.chunks;
       keeper =
           g.A.Acts.keeper c.self.inside.acts;
       told = g.A.Acts.told c.self.inside.acts;
@@ -36,7 +44,7 @@ returns-clause-reclaimed g c =
     let new : Region = record {
       marked = g.A.Acts.marked c.free_due.new.acts;
       made = g.A.Acts.made c.free_due.new.acts;
-      chunks = c.free_due.new.chunks.items;
+      chunks = c.free_due.new.chunks;
       keeper =
           g.A.Acts.keeper c.free_due.new.acts;
       told = g.A.Acts.told c.free_due.new.acts;
@@ -49,7 +57,7 @@ returns-clause-reclaimed g c =
     c.free_due.ensures.chunks
     c.free_due.ensures.count
     (c.free_due.ensures.unmarks.marked ∙ ap (λ (m : MarkedText). unmarked m
-    (freed c.look-least.result c.self.inside.chunks.items)) c.look-least.ensures.marked)
+    (freed c.look-least.result c.self.inside.chunks)) c.look-least.ensures.marked)
     (c.free_due.ensures.made ∙ c.look-least.ensures.made)
     c.look-least.ensures.told
     c.free_due.ensures.unmarks.tells
