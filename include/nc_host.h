@@ -187,7 +187,7 @@ extern "C" {
     X(NC_NOT_BEGUN, "no deletion is under way") \
     X(NC_WRONG_LIMIT, "the chunk was vetted for another limit than the region's") \
     X(NC_OCCUPIED, "the span overlaps a chunk of the region, live or retired") \
-    X(NC_NO_CHUNK, "no live chunk has this base, or the list has no chunk at this index") \
+    X(NC_NO_CHUNK, "no live chunk has this base, the list has no chunk at this index, or no chunk has this address or lies above it") \
     X(NC_FULL, "no stamp is left, after 2^62 deletions") \
     X(NC_NO_PLACE, "the address is outside the region") \
     X(NC_NO_START, "the address is not a bundle start of the region, where a walk can begin")
@@ -435,8 +435,9 @@ uint32_t nc_region_seat(NcRegion *region, NcSeat *seat);
 
 /*
  * Vets the chunk and creates it in the region, and writes the acts as nc_host_create does. A buffer of `len` + 2 acts is enough; an
- * `acts_len` of 0 makes the change without telling its acts. No call names a free span: nc_region_chunk returns the chunks, in ascending
- * order, and the spans between them are free.
+ * `acts_len` of 0 makes the change without telling its acts. A host finds a free span by nc_region_chunk_at: it begins at NC_START, and asks
+ * for the chunk that has this address or lies above it. The span before that chunk is free; if there is no such chunk, it ends at the guard.
+ * If it is too short, the host goes on at the end of the chunk.
  * Promised: for NC_OK the chunk is valid for the region's limit, and the region has it (IsCreated) [created]. For NC_OK the acts are those
  * of the creation (log_of_create) [told]. A refusal is NC_NO_HANDLE; else the fault that vetting finds, 1 to 8; else the first of
  * NC_UNDER_WAY, NC_NO_ROOM, NC_OCCUPIED and NC_OUT_OF_MEMORY that holds [refused]. A refusal changes nothing [unchanged, untouched]. For
@@ -550,6 +551,15 @@ NcCount nc_region_reclaim(NcRegion *region);
  * Cost: the same at each index.
  */
 NcChunk nc_region_chunk(NcRegion *region, size_t index);
+
+/*
+ * Returns the chunk, live or retired, that has this address, or else the first one above it. The address may be any number.
+ * Promised: for NC_OK it is that chunk (IsNextChunk) [chunk]. For NC_OK its span is whole bundles of the region below the guard
+ * (HasGoodSpan) [placed]. A refusal is NC_NO_HANDLE, or NC_NO_CHUNK exactly where each chunk ends at or below the address [refused]. The
+ * region doesn't change [same]. No memory is allocated [tested].
+ * Cost: that of a binary search in the list.
+ */
+NcChunk nc_region_chunk_at(NcRegion *region, uint32_t at);
 
 /*
  * Returns the byte and the mark at an address of the region.

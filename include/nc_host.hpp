@@ -385,6 +385,12 @@ class Region {
     /* nc_region_chunk for one index after the other. Under the lock. */
     Chunks chunks() noexcept { return Chunks(handle()); }
 
+    /* nc_region_chunk_at. Under the lock. */
+    Result<NcChunk> chunk_at(std::uint32_t at) noexcept {
+        NcChunk chunk = nc_region_chunk_at(handle(), at);
+        return detail::told(chunk.fault, chunk);
+    }
+
     /* nc_region_place. Under the lock. */
     Result<NcPlace> place(std::uint32_t at) noexcept {
         NcPlace place = nc_region_place(handle(), at);

@@ -14,6 +14,8 @@ SCRIPT = [
     ("create 00010000 " + CHUNK, "refused Occupied"),
     ("walk 00010000 00000000 00000000", "walk 00010000 00010020 stop"),
     ("dump", "dump 00010000 live " + CHUNK),
+    ("chunk 0001001f", "chunk 00010000 live " + CHUNK),
+    ("chunk 00010020", "none"),
     ("delete 00010000", "stamp 1"),
     ("walk 00010000 00000000", "walk 00010000 stop"),
     ("dump", "dump 00010000 retired 32 1"),

@@ -62,6 +62,19 @@ static void show_chunks(void) {
     }
 }
 
+/* The first span of this many bytes that has no place of a chunk, and ends at or below the guard; or 0. */
+static uint32_t free_span(uint32_t len) {
+    uint32_t at = NC_START;
+    NcChunk next;
+    while ((next = nc_region_chunk_at(&region, at)).fault == NC_OK) {
+        if (next.base - at >= len) {
+            return at;
+        }
+        at = next.base + next.length;
+    }
+    return NC_LIMIT(BUNDLES) - NC_BUNDLE - at >= len ? at : 0;
+}
+
 static void show_place(uint32_t at) {
     NcPlace place = nc_region_place(&region, at);
     printf("place %08x: fault %u byte %02x mark %u\n", (unsigned)at, (unsigned)place.fault, (unsigned)place.byte, (unsigned)place.mark);
@@ -273,6 +286,7 @@ int main(void) {
     load(NC_START + 128, chunk);
     load(NC_START + 128, chunk);
     nc_vetted_free(&vetted);
+    printf("free: %08x %08x %08x\n", (unsigned)free_span(32), (unsigned)free_span(64), (unsigned)free_span(96));
     lend_nothing(chunk, mov);
     try_sizes();
     try_seats(chunk);

@@ -197,21 +197,36 @@ static void walk(uint32_t start) {
     printf(" %s\n", ends[told.end]);
 }
 
+static void show(NcChunk chunk) {
+    uint32_t at;
+    if (chunk.retired) {
+        printf(" %08x retired %u %lu", (unsigned)chunk.base, (unsigned)chunk.length, (unsigned long)chunk.stamp);
+        return;
+    }
+    printf(" %08x live ", (unsigned)chunk.base);
+    for (at = chunk.base; at < chunk.base + chunk.length; at++) {
+        printf("%02x", (unsigned)nc_region_place(&region, at).byte);
+    }
+}
+
 static void dump(void) {
     NcChunk chunk;
     size_t i;
-    uint32_t at;
     printf("dump");
     for (i = 0; (chunk = nc_region_chunk(&region, i)).fault == NC_OK; i++) {
-        if (chunk.retired) {
-            printf(" %08x retired %u %lu", (unsigned)chunk.base, (unsigned)chunk.length, (unsigned long)chunk.stamp);
-            continue;
-        }
-        printf(" %08x live ", (unsigned)chunk.base);
-        for (at = chunk.base; at < chunk.base + chunk.length; at++) {
-            printf("%02x", (unsigned)nc_region_place(&region, at).byte);
-        }
+        show(chunk);
     }
+    printf("\n");
+}
+
+static void show_next(uint32_t at) {
+    NcChunk chunk = nc_region_chunk_at(&region, at);
+    if (chunk.fault != NC_OK) {
+        puts("none");
+        return;
+    }
+    printf("chunk");
+    show(chunk);
     printf("\n");
 }
 
@@ -237,6 +252,8 @@ static void obey(void) {
         walk(at);
     } else if (strcmp(name, "dump") == 0) {
         dump();
+    } else if (strcmp(name, "chunk") == 0) {
+        show_next(at);
     } else {
         puts("bad line");
     }

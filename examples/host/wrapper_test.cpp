@@ -251,6 +251,8 @@ void chunks_and_walks() {
         bases.push_back(chunk.base);
     }
     CHECK((bases == std::vector<std::uint32_t>{NC_START, NC_START + 2 * LEN, NC_START + 4 * LEN}));
+    CHECK(region.chunk_at(NC_START + LEN - 1)->base == NC_START && region.chunk_at(NC_START + LEN)->base == NC_START + 2 * LEN);
+    CHECK(region.chunk_at(0)->base == NC_START && is(region.chunk_at(NC_START + 5 * LEN).fault(), NC_NO_CHUNK, "NC_NO_CHUNK"));
     const std::uint32_t choices[] = {0, 0, 0, NC_START + LEN + 5};
     std::array<std::uint32_t, 5> places;
     auto walk = region.walk(NC_START, choices, places);

@@ -80,6 +80,7 @@ static void hold_large(Trial *own, NcRegion *region) {
     expect(own, nc_region_patch(region, NC_START + NUMBER, number, sizeof number, own->acts, own->room).fault == NC_OK);
     expect(own, nc_region_walk(region, NC_START, own->choices, own->bundles, own->places, own->bundles + 1).fault == NC_OK);
     expect(own, nc_region_chunk(region, 0).fault == NC_OK && nc_region_place(region, NC_START).fault == NC_OK);
+    expect(own, nc_region_chunk_at(region, above - 1).base == NC_START && nc_region_chunk_at(region, above).fault == NC_NO_CHUNK);
     delete(own, region, NC_START);
     expect(own, nc_vetted_new(above, own->limit, own->code, own->len, &vetted).fault == NC_OK);
     expect(own, nc_region_load(region, &vetted, own->acts, own->room).fault == NC_OK);

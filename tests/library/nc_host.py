@@ -69,6 +69,7 @@ CALLS = {
     "nc_region_deletion_runs": (Change, to(Handle), to(Act), size),
     "nc_region_reclaim": (Count, to(Handle)),
     "nc_region_chunk": (Chunk, to(Handle), size),
+    "nc_region_chunk_at": (Chunk, to(Handle), u32),
     "nc_region_place": (Place, to(Handle), u32),
     "nc_region_walk": (Walk, to(Handle), u32, to(u32), size, to(u32), size),
     "nc_region_generation": (Stamp, to(Handle)),
@@ -202,6 +203,10 @@ class Region:
 
     def chunk(self, index):
         return LIBRARY.nc_region_chunk(self.handle, index).plain()
+
+    def chunk_at(self, at):
+        """The chunk that has an address, or else the first one above it."""
+        return LIBRARY.nc_region_chunk_at(self.handle, at).plain()
 
     def chunks(self):
         """All chunks, by ascending base."""

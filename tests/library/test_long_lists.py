@@ -96,8 +96,18 @@ class LongLists(unittest.TestCase):
         self.assertEqual([chunk.retired for chunk in found], [int(stamp > 0) for _, _, stamp in wanted], where)
         for index in (len(wanted), len(wanted) + 256, 2**64 - 1):
             self.assertEqual(self.region.chunk(index), (0, nc.NO_CHUNK, 0, 0, 0), where)
+        self.compare_by_address(found, where)
         self.assertEqual(differences(self.region, self.model), [], where)
         self.assertTrue(self.memory == self.model.bytes, where)
+
+    def compare_by_address(self, chunks, where):
+        """The chunk at or above each end of some chunks, and at or above the limit none."""
+        ends = [chunk.base + chunk.length for chunk in chunks]
+        for index in random.Random(len(chunks)).sample(range(len(chunks)), min(len(chunks), 50)):
+            for at, number in (chunks[index].base, index), (ends[index] - 1, index), (ends[index], index + 1):
+                wanted = chunks[number] if number < len(chunks) else (0, nc.NO_CHUNK, 0, 0, 0)
+                self.assertEqual(self.region.chunk_at(at), wanted, (where, hex(at)))
+        self.assertEqual(self.region.chunk_at(self.region.limit), (0, nc.NO_CHUNK, 0, 0, 0), where)
 
     def retire(self, bases, where):
         """Deletes some chunks. The first seat checks in after half of them, and so holds the others back."""

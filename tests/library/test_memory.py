@@ -55,6 +55,7 @@ class TakesNone(unittest.TestCase):
             self.assertEqual(nc.decode(CODE).length, 2)
             self.assertGreater(LIBRARY.nc_host_version(), 0)
             self.assertEqual([region.chunk(index).fault for index in (0, 599, 600, 2**40)], [nc.OK, nc.OK, nc.NO_CHUNK, nc.NO_CHUNK])
+            self.assertEqual([region.chunk_at(at).fault for at in (0, base(300), base(600))], [nc.OK, nc.OK, nc.NO_CHUNK])
             self.assertEqual([region.place(at).fault for at in (0, nc.START, region.limit)], [nc.NO_PLACE, nc.OK, nc.NO_PLACE])
             self.assertEqual(region.generation(), 0)
 

@@ -3,7 +3,7 @@ use Rattle.std.proofs.Common.{◌≡◌, ℕ, ◌+◌, ◌<◌, ◌≤◌, ◌^�
 use Rattle.std.proofs.lemmas.List.{get_or-take, length-take-le}
 use Rattle.nc_text.specs.Places.{limit_of}
 use Rattle.nc_vet.specs.Faults.{HasGoodSpan}
-use Rattle.nc_region.specs.declared.chunk.Chunk.{Chunk}
+use Rattle.nc_list.specs.declared.chunk.Chunk.{Chunk}
 use Rattle.nc_region.specs.Region.{Region, IsRegion}
 use Rattle.nc_region.specs.Patch.{IsPatch}
 use Rattle.nc_region.proofs.Offered.{each_get}

@@ -5,8 +5,8 @@ use Rattle.nc_gens.specs.Seen.{AreSeats, PassState, Raised, first_keeper, new_pa
 use Rattle.nc_text.specs.MarkedText.{unused_text}
 use Rattle.nc_text.specs.Ready.{unmade_pages}
 use Rattle.nc_vet.specs.Chunk.{MarkedChunk}
-use Rattle.nc_region.specs.declared.chunk.Chunk.{Chunk}
-use Rattle.nc_region.specs.declared.chunk.ChunkState.TheVariants.{Live}
+use Rattle.nc_list.specs.declared.chunk.Chunk.{Chunk}
+use Rattle.nc_list.specs.declared.chunk.ChunkState.TheVariants.{Live}
 use Rattle.nc_region.specs.Region.{Region, IsRefused, MayRefuse}
 use Rattle.nc_region.specs.Deletion.{IsDeleted, MayRefuseDelete, IsReclaimed}
 use Rattle.nc_region.specs.Patch.{MayRefusePatch}

@@ -1,6 +1,6 @@
 -- The acts of a chunk of a region as runs: their number, and when they are refused.
 use Rattle.std.specs.Prelude.{◌≡◌, ℕ, ◌+◌, ◌*◌, ◌/◌, ◌<◌, List, Some, None}
-use Rattle.nc_region.specs.declared.chunk.Chunk.{Chunk}
+use Rattle.nc_list.specs.declared.chunk.Chunk.{Chunk}
 use Rattle.nc_region.specs.Deletion.{HasLive}
 use Rattle.nc_region.specs.Log.{log_of_create, log_of_delete}
 use Rattle.nc_handle.specs.declared.acts.act.NcAct.{NcAct}

@@ -5,7 +5,8 @@ ghost use Rattle.nc_text.specs.Machine.{IsConfined};
 ghost use Rattle.nc_text.specs.Marks.{mark_at};
 ghost use Rattle.nc_text.specs.Places.{InRegion, byte_at, limit_of};
 ghost use Rattle.nc_region.specs.Quiet.{AreQuiet};
-ghost use Rattle.nc_region.specs.Region.{IsRegion, AreChunksReady};
+ghost use Rattle.nc_region.specs.Region.{IsRegion, AreChunksReady, IsAboveAll, IsNextChunk};
+ghost use Rattle.nc_vet.specs.Faults.{HasGoodSpan};
 ghost use Rattle.nc_region.specs.Trace.{IsTrace, IsOnlyTrace, IsSafeWalk, IsWalkStart, MayRefuseWalk};
 
 use crate::held::Held;
@@ -72,6 +73,17 @@ impl Held {
         ensures { result ≡ slice_get self.now.region.chunks i }
     {
         self.region.chunk(i)
+    }
+
+    /// The chunk, live or retired, that has this address, or else the first one above it, if there is one.
+    pub fn chunk_at(&self, at: u32) -> Option<Chunk>
+        ensures found { IfSome result (IsNextChunk self.now.region.chunks at) }
+        // Each chunk ends at or below the address.
+        ensures none { IsNone result → IsAboveAll at self.now.region.chunks }
+        // The chunk's span is whole bundles of the region.
+        ensures placed { IfSome result (λ c. HasGoodSpan c.base (limit_of self.now.region.marked.bytes) c.length) }
+    {
+        self.region.chunk_at(at)
     }
 
     /// The chunk whose deletion is under way.

@@ -1,8 +1,8 @@
 //! The acts of a creation and of a deletion as runs, computed from the region's present bytes and marks.
 
 ghost use Rattle.std.specs.Prelude.{◌≡◌, ◌≤◌, Some, IfOk, IfErr, OnErr, length};
+ghost use Rattle.nc_list.specs.declared.chunk.Chunk.{Chunk};
 ghost use Rattle.nc_region.specs.Log.{log_of_create, log_of_delete};
-ghost use Rattle.nc_region.specs.declared.chunk.Chunk.{Chunk};
 ghost use Rattle.nc_handle.specs.acts.Runs.{runs_of_create, runs_of_delete, HasRuns};
 ghost use Rattle.nc_handle.specs.Held.{IsLiveAt};
 ghost use Rattle.nc_handle.specs.Runs.{runs_of, AreCreationRuns, AreDeletionRuns, MayRefuseCreationRuns, MayRefuseDeletionRuns};

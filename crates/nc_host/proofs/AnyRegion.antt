@@ -4,6 +4,8 @@ use Rattle.std.proofs.lemmas.List.{ext_get_or, length-replicate}
 use Rattle.std.proofs.lemmas.List.FromFn.{length-map-range_with_len}
 use Rattle.nc_decode.specs.declared.instruction.Mark.{Mark}
 use Rattle.nc_decode.specs.declared.instruction.Mark.TheVariants.{Unmarked}
+use Rattle.nc_list.specs.declared.chunk.Chunk.{Chunk}
+use Rattle.nc_list.specs.declared.chunk.ChunkState.TheVariants.{Live}
 use Rattle.nc_region.specs.declared.fault.ModifyFault.{ModifyFault}
 use Rattle.nc_region.specs.declared.fault.ModifyFault.TheVariants.{BadSpan, NotLive, NotPermitted, Boundaries, PairTouched, BadTarget}
 use Rattle.nc_vet.specs.Chunk.{Piece, MarkedChunk, IsTarget}
@@ -11,8 +13,6 @@ use Rattle.nc_vet.proofs.Offered.{same_pieces, valid_len}
 use Rattle.nc_text.specs.Places.{limit_of, byte_at}
 use Rattle.nc_text.specs.MarkedText.{MarkedText, unused_mark, unused_text}
 use Rattle.nc_text.proofs.Offered.{length-with_span, get_or-with_span_in}
-use Rattle.nc_region.specs.declared.chunk.Chunk.{Chunk}
-use Rattle.nc_region.specs.declared.chunk.ChunkState.TheVariants.{Live}
 use Rattle.nc_region.specs.Chunks.{with_chunk}
 use Rattle.nc_region.specs.Region.{Region, HoldsValid, IsLive}
 use Rattle.nc_region.specs.Patch.{IsRun, LeavesPairs, KeepsTargets, GoWell, IsPatch, MayRefusePatch}

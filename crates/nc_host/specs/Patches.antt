@@ -3,7 +3,7 @@ use Rattle.std.specs.Prelude.{◌≡◌, ℕ, ◌+◌, ◌*◌, ◌<◌, ◌≤�
 use Rattle.nc_decode.specs.declared.instruction.Mark.{Mark}
 use Rattle.nc_text.specs.Places.{limit_of}
 use Rattle.nc_text.specs.MarkedText.{unused_text}
-use Rattle.nc_region.specs.declared.chunk.ChunkState.TheVariants.{Live}
+use Rattle.nc_list.specs.declared.chunk.ChunkState.TheVariants.{Live}
 use Rattle.nc_region.specs.declared.fault.ModifyFault.{ModifyFault}
 use Rattle.nc_region.specs.Chunks.{with_chunk}
 use Rattle.nc_region.specs.Region.{Region, IsRegion}

@@ -1,8 +1,8 @@
 //! Deletions in two steps, and reuse, by a region's handle.
 
 ghost use Rattle.std.specs.Prelude.{◌≡◌, ◌<◌, ◌⊎◌, None, Some, IsSome, length};
+ghost use Rattle.nc_list.specs.declared.chunk.Chunk.{Chunk};
 ghost use Rattle.nc_region.specs.Log.{log_of_delete};
-ghost use Rattle.nc_region.specs.declared.chunk.Chunk.{Chunk};
 ghost use Rattle.nc_handle.specs.Held.{HeldState, HasBegun, HasEnded, HasReclaimed, MayRefuseBegin};
 ghost use Rattle.nc_handle.specs.Shown.{IsTold};
 ghost use Rattle.nc_handle.specs.declared.fault.RetireFault.{RetireFault};

@@ -12,8 +12,8 @@
 //! - [`nc_vetted_new`], [`nc_vetted_free`], [`nc_region_load`]: a chunk that is vetted without a region, and created in one.
 //! - [`nc_region_reclaim`], [`nc_seat_check_in`], [`nc_seat_leave`]: when a deleted chunk's span may be used again.
 //! - [`nc_region_creation_runs`], [`nc_region_deletion_runs`]: the same acts, with runs for the puts of a bundle.
-//! - [`nc_region_chunk`], [`nc_region_place`], [`nc_region_walk`], [`nc_region_generation`]: a region's contents and
-//!   generation.
+//! - [`nc_region_chunk`], [`nc_region_chunk_at`], [`nc_region_place`], [`nc_region_walk`], [`nc_region_generation`]: a
+//!   region's contents and generation.
 //!
 //! [`nc_host_version`] returns the library's version.
 //!
@@ -50,7 +50,7 @@ pub use answers::{NcActs, NcInstruction, NcVerdict};
 pub use changing::{nc_region_create, nc_region_patch};
 pub use decoding::nc_host_decode;
 pub use deleting::{nc_region_begin_delete, nc_region_end_delete, nc_region_reclaim};
-pub use looking::{nc_region_chunk, nc_region_generation, nc_region_place};
+pub use looking::{nc_region_chunk, nc_region_chunk_at, nc_region_generation, nc_region_place};
 pub use marking::nc_host_marks;
 pub use nc_handle::NcAct;
 pub use patching::nc_host_patch;

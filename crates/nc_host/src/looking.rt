@@ -2,8 +2,10 @@
 
 ghost use Rattle.std.specs.Prelude.{◌≡◌, ◌<◌, ◌≤◌, ◌⊎◌, None, Some, length, slice_get};
 ghost use Rattle.nc_text.specs.Marks.{mark_at};
-ghost use Rattle.nc_text.specs.Places.{InRegion, byte_at};
-ghost use Rattle.nc_region.specs.declared.chunk.Chunk.{Chunk};
+ghost use Rattle.nc_text.specs.Places.{InRegion, byte_at, limit_of};
+ghost use Rattle.nc_vet.specs.Faults.{HasGoodSpan};
+ghost use Rattle.nc_list.specs.declared.chunk.Chunk.{Chunk};
+ghost use Rattle.nc_region.specs.Region.{IsAboveAll, IsNextChunk};
 ghost use Rattle.nc_handle.specs.Held.{HeldState};
 ghost use Rattle.nc_host.specs.Shown.{mark_number};
 ghost use Rattle.nc_host.specs.Looks.{chunk_of, no_chunk, shown_place, no_place};
@@ -45,6 +47,29 @@ pub extern "C" fn nc_region_chunk(alloc: Global, region: &mut NcRegion, index: u
         return no_chunk(NOTHING);
     };
     let chunk = held.chunk(index);
+    *region = NcRegion::of(held);
+    match chunk {
+        Some(chunk) => shown(chunk),
+        None => no_chunk(NO_CHUNK),
+    }
+}
+
+/// The chunk of a region, live or retired, that has this address, or else the first one above it. By this a host finds a chunk, or
+/// a free span, without going over the list.
+#[unsafe(no_mangle)]
+pub extern "C" fn nc_region_chunk_at(alloc: Global, region: &mut NcRegion, at: u32) -> NcChunk
+    ensures same { region.new.value ≡ region.old.value }
+    ensures chunk { result.fault ≡ 0 → (h : HeldState) × (region.old.value ≡ Some h)
+        × ((c : Chunk) × IsNextChunk h.region.chunks at c × (result ≡ chunk_of c)) }
+    ensures placed { result.fault ≡ 0 → (h : HeldState) × (region.old.value ≡ Some h)
+        × HasGoodSpan result.base (limit_of h.region.marked.bytes) result.length }
+    ensures refused { 0 < result.fault → ((result ≡ no_chunk 32) × (region.old.value ≡ None))
+        ⊎ ((result ≡ no_chunk 41) × ((h : HeldState) × (region.old.value ≡ Some h) × IsAboveAll at h.region.chunks)) }
+{
+    let Some(held) = region.take(alloc) else {
+        return no_chunk(NOTHING);
+    };
+    let chunk = held.chunk_at(at);
     *region = NcRegion::of(held);
     match chunk {
         Some(chunk) => shown(chunk),

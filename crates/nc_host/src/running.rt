@@ -1,7 +1,7 @@
 //! The acts of a creation and of a deletion as runs, by a region's handle.
 
 ghost use Rattle.std.specs.Prelude.{◌≡◌, ◌<◌, Some, IfOk, IfErr, length};
-ghost use Rattle.nc_region.specs.declared.chunk.Chunk.{Chunk};
+ghost use Rattle.nc_list.specs.declared.chunk.Chunk.{Chunk};
 ghost use Rattle.nc_handle.specs.Held.{HeldState, IsLiveAt};
 ghost use Rattle.nc_handle.specs.Runs.{AreCreationRuns, AreDeletionRuns, MayRefuseCreationRuns, MayRefuseDeletionRuns};
 ghost use Rattle.nc_host.specs.Handles.{IsRefusal};

@@ -9,3 +9,4 @@ pub mod RetiredChunks
 pub mod FreedChunks
 pub mod SpanDigits
 pub mod DumpReply
+pub mod NextChunk

@@ -1,5 +1,5 @@
 -- The text of a script's replies: single spaces, decimal numbers, lower-case hexadecimal digits. Line ends are added elsewhere.
-use Rattle.std.specs.Prelude.{ℕ, List, ◌∷◌, ◌++◌, codes}
+use Rattle.std.specs.Prelude.{ℕ, List, ◌∷◌, ◌++◌, Option, Some, None, codes}
 use Rattle.std.specs.List.{flat_map}
 use Rattle.std.specs.Fmt.{decimal}
 use Rattle.hex.specs.Hex.{encode_lower}
@@ -25,6 +25,11 @@ chunk_words chunk = 32 ∷ (address_digits chunk.base ++ state_words chunk.state
 -- every chunk of the list, in order
 abbrev pub dump_reply : List ScriptChunk → List ℕ
 dump_reply chunks = codes "dump" ++ flat_map chunk_words chunks
+
+-- one chunk, as in the list; or `none`, where there is no chunk
+abbrev pub chunk_reply : Option ScriptChunk → List ℕ
+chunk_reply None = codes "none"
+chunk_reply (Some chunk) = codes "chunk" ++ chunk_words chunk
 
 -- the places of a walk, each after a space
 abbrev pub places_words : List ℕ → List ℕ

@@ -5,6 +5,7 @@ use Rattle.nc_lines.specs.Lines.{words_in, is_long}
 use Rattle.nc_lines.specs.Words.{address_in, placed_in}
 use Rattle.nc_script.specs.Queries.{is_word, query_in}
 use Rattle.nc_script.specs.declared.query.Query.{Query}
+use Rattle.nc_script.specs.declared.query.Query.TheVariants.{ChunkAt}
 
 -- a request that a line of a script makes
 pub data Request : Type 0 where
@@ -60,6 +61,11 @@ abbrev pub walk_in : List (List ℕ) → Option Request
 walk_in (start ∷ choices) = option_and_then (λ a. option_map (Walk a) (addresses_in choices)) (address_in start)
 walk_in [] = None
 
+-- the request made by the words after `chunk`: an address
+abbrev pub chunk_in : List (List ℕ) → Option Request
+chunk_in (at ∷ []) = option_map (λ a. Ask (ChunkAt a)) (address_in at)
+chunk_in _ = None
+
 -- this request, if no words follow its own
 abbrev pub single_in : Request → List (List ℕ) → Option Request
 single_in request [] = Some request
@@ -80,6 +86,7 @@ request_of (word ∷ words) =
     else if is_word word (codes "leave") then of_seat_in Leave words
     else if is_word word (codes "reclaim") then single_in Reclaim words
     else if is_word word (codes "walk") then walk_in words
+    else if is_word word (codes "chunk") then chunk_in words
     else ask_in word words
 
 -- the request made by a line; a line that is too long or has no such form makes none, and is a bad line

@@ -1,8 +1,8 @@
-//! Queries: lines of one word that ask for something and change nothing.
+//! Queries: lines that ask for something and change nothing.
 
 ghost use Rattle.std.specs.Prelude.{◌≡◌, ◌++◌, List, ℕ, OnOk, map};
-ghost use Rattle.nc_script.specs.Queries.{query_in, reply_to};
-ghost use Rattle.nc_script.specs.Replies.{dump_reply};
+ghost use Rattle.nc_script.specs.Queries.{next_chunk, query_in, reply_to};
+ghost use Rattle.nc_script.specs.Replies.{chunk_reply, dump_reply};
 ghost use Rattle.nc_script.specs.Requests.{Ask};
 ghost use Rattle.nc_script.specs.Script.{ScriptSeat};
 ghost use Rattle.nc_script.specs.machinery.Session.{FollowsIn, script_chunk, script_of};
@@ -16,9 +16,11 @@ use std::alloc::{AllocError, Global};
 pub(crate) enum Query {
     /// The list of all chunks.
     Dump,
+    /// The chunk that has this address, or else the first one above it.
+    ChunkAt { at: u32 },
 }
 
-/// The query with this word, if there is one.
+/// The query of this one word, if there is one.
 pub(crate) fn query_of(word: &[u8]) -> Option<Query>
     ensures { result ≡ query_in word.now }
 {
@@ -55,6 +57,7 @@ fn push_reply(
 {
     match query {
         Query::Dump => push_dump(alloc, region, out),
+        Query::ChunkAt { at } => push_chunk_at(alloc, region, at, out),
     }
 }
 
@@ -69,4 +72,23 @@ fn push_dump(alloc: Global, region: &Region, out: &mut Vec<u8>) -> Result<(), Al
         push_chunk(alloc, region, chunk, out)?;
     }
     Ok(())
+}
+
+/// Adds the chunk that has an address, or else the first one above it.
+fn push_chunk_at(
+    alloc: Global,
+    region: &Region,
+    at: u32,
+    out: &mut Vec<u8>,
+) -> Result<(), AllocError>
+    ensures { OnOk result (out.new.items
+        ≡ out.old.items ++ chunk_reply (next_chunk at (map (script_chunk region.now.marked.bytes) region.now.chunks))) }
+{
+    // Called for its postconditions.
+    let _facts = region.chunk_count();
+    let Some(chunk) = region.chunk_at(at) else {
+        return out.extend_from_slice(b"none");
+    };
+    out.extend_from_slice(b"chunk")?;
+    push_chunk(alloc, region, chunk, out)
 }

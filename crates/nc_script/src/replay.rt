@@ -23,8 +23,8 @@ use std::io::{Read, Write};
 /// A line ends at a byte 0A or at the end of the input. `create` with an address and bytes vets a chunk and creates it,
 /// `modify` with an address and bytes replaces instructions of a chunk, `delete` with an address retires a chunk, `checkin`
 /// and `leave` with a seat act for the seat's thread, `reclaim` frees each retired chunk for which every seat has checked in
-/// since its deletion or has left, `walk` with an address and choices shows the places of a walk and its end, and `dump` shows
-/// every chunk. Any other line, and any line of more than 1,048,576 bytes, is answered as a bad line. The promises about bytes
+/// since its deletion or has left, `walk` with an address and choices shows the places of a walk and its end, `dump` shows every
+/// chunk, and `chunk` with an address shows the chunk that has it, or else the first one above it. Any other line, and any line of more than 1,048,576 bytes, is answered as a bad line. The promises about bytes
 /// hold for a reader and a writer whose bytes are known; nothing is promised about when a device fails.
 pub fn run<R: Read, W: Write>(
     alloc: Global,

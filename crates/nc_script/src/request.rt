@@ -4,7 +4,7 @@ ghost use Rattle.std.specs.Prelude.{◌≡◌, ◌≤◌, IfOk, ◌∷◌};
 ghost use Rattle.std.specs.Option.{option_copied, option_map};
 ghost use Rattle.nc_lines.specs.Words.{words_after};
 ghost use Rattle.nc_script.specs.Requests.{request_in, create_in, modify_in, delete_in, of_seat_in, walk_in};
-ghost use Rattle.nc_script.specs.Requests.{addresses_in, ask_in, single_in};
+ghost use Rattle.nc_script.specs.Requests.{addresses_in, ask_in, chunk_in, single_in};
 ghost use Rattle.nc_script.specs.Requests as spec;
 ghost use Rattle.nc_script.specs.machinery.Shown.{shown};
 
@@ -96,6 +96,21 @@ fn leave_of(rest: Option<&[u8]>) -> Option<Request>
     };
     match seat_of(text) {
         Some(seat) => Some(Request::Leave { seat }),
+        None => None,
+    }
+}
+
+/// The request made by the words after `chunk`.
+fn chunk_of(rest: Option<&[u8]>) -> Option<Request>
+    ensures { option_map shown result ≡ chunk_in (words_after (option_copied rest.entry)) }
+{
+    let Some(text) = rest else {
+        return None;
+    };
+    match address_of(text) {
+        Some(at) => Some(Request::Ask {
+            query: Query::ChunkAt { at },
+        }),
         None => None,
     }
 }
@@ -204,6 +219,9 @@ fn asked_by(alloc: Global, key: &[u8], rest: Option<&[u8]>) -> Result<Option<Req
     }
     if key == b"walk".as_slice() {
         return walk_of(alloc, rest);
+    }
+    if key == b"chunk".as_slice() {
+        return Ok(chunk_of(rest));
     }
     Ok(ask_of(key, rest))
 }

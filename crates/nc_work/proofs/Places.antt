@@ -72,14 +72,14 @@ pub done_tail : (jobs : List Job) (all : List Done) (one : Done) (rest : List Do
 done_tail jobs all one rest e h = record { each = All-rest (λ (d : Done). FitsPlace jobs d.job (Some d.answer)) one rest all e h.each }
 
 -- the next of a list's elements, where n of them have been taken
-pub record IsNext {X : Type 0} (xs : List X) (n : ℕ) (x : X) (rest : List X) : Type 0 where
+pub record IsNextChunk {X : Type 0} (xs : List X) (n : ℕ) (x : X) (rest : List X) : Type 0 where
   pub below : n < length xs
   pub here : slice_get xs n ≡ Some x
   pub front : take (suc n) xs ≡ take n xs ++ x ∷ []
   pub behind : rest ≡ drop (suc n) xs
 
 -- the first of the elements that are left is the next one
-pub next_of : {X : Type 0} (xs : List X) (n : ℕ) (x : X) (rest : List X) → drop n xs ≡ x ∷ rest → IsNext xs n x rest
+pub next_of : {X : Type 0} (xs : List X) (n : ℕ) (x : X) (rest : List X) → drop n xs ≡ x ∷ rest → IsNextChunk xs n x rest
 next_of [] zero x rest e = absurd (cc)
 next_of [] (suc n) x rest e = absurd (cc)
 next_of (y ∷ ys) zero x rest e = record { below = omega arith; here = cc; front = cc; behind = cc }
@@ -88,7 +88,7 @@ next_of (y ∷ ys) (suc n) x rest e =
     record { below = omega (arith, r.below); here = r.here; front = ap (λ (z : List _). y ∷ z) r.front; behind = r.behind }
 
 -- the same, where what is left is known by an equation
-pub next_at : {X : Type 0} (xs left rest : List X) (n : ℕ) (x : X) → left ≡ drop n xs → left ≡ x ∷ rest → IsNext xs n x rest
+pub next_at : {X : Type 0} (xs left rest : List X) (n : ℕ) (x : X) → left ≡ drop n xs → left ≡ x ∷ rest → IsNextChunk xs n x rest
 next_at xs left rest n x at e = next_of xs n x rest (sym at ∙ e)
 
 -- what the workers' lists hold once they are read out of the slice again

@@ -7,13 +7,13 @@ use Rattle.std.proofs.lemmas.List.{map-append, ext_get_or}
 use Rattle.nc_text.specs.Places.{limit_of}
 use Rattle.nc_text.specs.MarkedText.{with_span}
 use Rattle.nc_text.proofs.Offered.{length-with_span, get_or-with_span_in, get_or-with_span_below, get_or-with_span_above}
+use Rattle.nc_list.specs.declared.chunk.Chunk.{Chunk}
+use Rattle.nc_list.specs.declared.chunk.ChunkState.{ChunkState}
+use Rattle.nc_list.specs.declared.chunk.ChunkState.TheVariants.{Live, Retired}
 use Rattle.nc_region.specs.Each.{Each}
 use Rattle.nc_region.proofs.Offered.{each_map, each_both, each_take, each_drop}
 use Rattle.nc_region.specs.Chunks.{HasGoodSpan}
 use Rattle.nc_region.specs.Region.{FitsAt, Meets}
-use Rattle.nc_region.specs.declared.chunk.Chunk.{Chunk}
-use Rattle.nc_region.specs.declared.chunk.ChunkState.{ChunkState}
-use Rattle.nc_region.specs.declared.chunk.ChunkState.TheVariants.{Live, Retired}
 use Rattle.nc_script.specs.Script as script
 use Rattle.nc_script.specs.Script.{IsOccupied, IsPutBetween}
 use Rattle.nc_script.specs.machinery.Session.{bytes_at, state_in, script_chunk}

@@ -8,13 +8,13 @@ use Rattle.nc_text.specs.Places.{limit_of}
 use Rattle.nc_text.specs.MarkedText.{with_span}
 use Rattle.nc_text.proofs.Offered.{length-with_span, is_with_span, get_or-with_span_in, get_or-with_span_below}
 use Rattle.nc_text.proofs.Offered.{get_or-with_span_above}
+use Rattle.nc_list.specs.declared.chunk.Chunk.{Chunk}
+use Rattle.nc_list.specs.declared.chunk.ChunkState.{ChunkState}
+use Rattle.nc_list.specs.declared.chunk.ChunkState.TheVariants.{Live, Retired}
 use Rattle.nc_region.specs.Each.{Each}
 use Rattle.nc_region.proofs.Offered.{each_map}
 use Rattle.nc_region.specs.Chunks.{HasGoodSpan}
 use Rattle.nc_region.specs.Region.{IsRising, IsLive}
-use Rattle.nc_region.specs.declared.chunk.Chunk.{Chunk}
-use Rattle.nc_region.specs.declared.chunk.ChunkState.{ChunkState}
-use Rattle.nc_region.specs.declared.chunk.ChunkState.TheVariants.{Live, Retired}
 use Rattle.nc_script.specs.Script as script
 use Rattle.nc_script.specs.Script.{standing_bytes, covers}
 use Rattle.nc_script.specs.Patching.{patched_state, patched_at}

@@ -6,13 +6,13 @@ use Rattle.nc_vet.specs.Chunk.{Piece, place, IsValid, IsTarget}
 use Rattle.nc_vet.specs.Chunk as vet
 use Rattle.nc_vet.proofs.Offered.{same_pieces}
 use Rattle.nc_text.specs.Places.{limit_of}
+use Rattle.nc_list.specs.declared.chunk.Chunk.{Chunk}
+use Rattle.nc_list.specs.declared.chunk.ChunkState.{ChunkState}
+use Rattle.nc_list.specs.declared.chunk.ChunkState.TheVariants.{Live, Retired}
 use Rattle.nc_region.specs.Region.{Region, IsRegion, HoldsValid, IsLive}
 use Rattle.nc_region.specs.Patch as region
 use Rattle.nc_region.specs.Patch.{IsHeldBy, IsRun, GoWell}
 use Rattle.nc_region.proofs.Offered.{each_contains}
-use Rattle.nc_region.specs.declared.chunk.Chunk.{Chunk}
-use Rattle.nc_region.specs.declared.chunk.ChunkState.{ChunkState}
-use Rattle.nc_region.specs.declared.chunk.ChunkState.TheVariants.{Live, Retired}
 use Rattle.nc_region.specs.declared.fault.ModifyFault.{ModifyFault}
 use Rattle.nc_region.specs.declared.fault.ModifyFault.TheVariants.{BadSpan, NotLive, NotPermitted, Boundaries, PairTouched, BadTarget}
 use Rattle.nc_script.specs.Script as script

@@ -8,10 +8,10 @@ use native.Mathlib.Decide.{ℕ_discrete}
 use Rattle.nc_gens.specs.Rule.{left_word}
 use Rattle.nc_gens.specs.Seen.{PassState, least_number}
 use Rattle.nc_text.specs.Places.{limit_of}
+use Rattle.nc_list.specs.declared.chunk.Chunk.{Chunk}
 use Rattle.nc_region.specs.Region.{Region}
 use Rattle.nc_region.specs.Deletion as region
 use Rattle.nc_region.specs.Deletion.{IsReclaimed}
-use Rattle.nc_region.specs.declared.chunk.Chunk.{Chunk}
 use Rattle.nc_script.specs.Requests.{Reclaim}
 use Rattle.nc_script.specs.Script.{ScriptSeat, Staying, Left}
 use Rattle.nc_script.specs.Reuse.{LetsFree, number_of, kept_by}

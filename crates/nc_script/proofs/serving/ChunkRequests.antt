@@ -7,14 +7,14 @@ use Rattle.nc_text.specs.Places.{limit_of}
 use Rattle.nc_text.specs.MarkedText.{with_span}
 use Rattle.nc_text.proofs.Offered.{length-with_span}
 use Rattle.std.proofs.lemmas.List.{length-replicate}
+use Rattle.nc_list.specs.declared.chunk.Chunk.{Chunk}
+use Rattle.nc_list.specs.declared.chunk.ChunkState.{ChunkState}
+use Rattle.nc_list.specs.declared.chunk.ChunkState.TheVariants.{Live, Retired}
 use Rattle.nc_region.proofs.Offered.{each_map, each_contains, each_set, each_append, each_take, each_drop}
 use Rattle.nc_region.specs.Region.{Region, IsRegion, IsLive}
 use Rattle.nc_region.specs.Region as region
 use Rattle.nc_region.specs.Patch.{IsPatch, MayRefusePatch, IsModified}
 use Rattle.nc_region.specs.Deletion.{IsDeleted, MayRefuseDelete}
-use Rattle.nc_region.specs.declared.chunk.Chunk.{Chunk}
-use Rattle.nc_region.specs.declared.chunk.ChunkState.{ChunkState}
-use Rattle.nc_region.specs.declared.chunk.ChunkState.TheVariants.{Live, Retired}
 use Rattle.nc_region.specs.declared.fault.ModifyFault.{ModifyFault}
 use Rattle.nc_region.specs.declared.fault.DeleteFault.{DeleteFault}
 use Rattle.nc_region.specs.declared.fault.DeleteFault.TheVariants.{NoChunk, GensFull}

@@ -1,8 +1,8 @@
 -- What a session's calls answer is what the script answers.
 use Rattle.std.proofs.Common.{◌≡◌, ◌≢◌, ℕ, ◌+◌, ◌-◌, ◌≤◌, length, map, arith, List, inl, inr, refl, sym, ap, ◌∙◌, subst}
 use Rattle.std.specs.Prelude.{codes}
+use Rattle.nc_list.specs.declared.chunk.Chunk.{Chunk}
 use Rattle.nc_region.specs.Region.{Region, IsRegion, IsCreated, Meets}
-use Rattle.nc_region.specs.declared.chunk.Chunk.{Chunk}
 use Rattle.nc_text.specs.MarkedText.{with_span}
 use Rattle.nc_text.proofs.Offered.{length-with_span}
 use Rattle.nc_vet.specs.Chunk as vet

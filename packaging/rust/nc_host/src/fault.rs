@@ -98,7 +98,8 @@ faults! {
     NotBegun = 38, "NC_NOT_BEGUN", "no deletion is under way";
     WrongLimit = 39, "NC_WRONG_LIMIT", "the chunk was vetted for another limit than the region's";
     Occupied = 40, "NC_OCCUPIED", "the span overlaps a chunk of the region, live or retired";
-    NoChunk = 41, "NC_NO_CHUNK", "no live chunk has this base, or the list has no chunk at this index";
+    NoChunk = 41, "NC_NO_CHUNK",
+        "no live chunk has this base, the list has no chunk at this index, or no chunk has this address or lies above it";
     Full = 42, "NC_FULL", "no stamp is left, after 2^62 deletions";
     NoPlace = 43, "NC_NO_PLACE", "the address is outside the region";
     NoStart = 44, "NC_NO_START", "the address is not a bundle start of the region, where a walk can begin";

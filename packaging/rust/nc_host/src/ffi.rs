@@ -211,6 +211,7 @@ extern "C" {
     pub fn nc_region_deletion_runs(region: *mut NcRegion, acts: *mut NcAct, acts_len: usize) -> NcChange;
     pub fn nc_region_reclaim(region: *mut NcRegion) -> NcCount;
     pub fn nc_region_chunk(region: *mut NcRegion, index: usize) -> NcChunk;
+    pub fn nc_region_chunk_at(region: *mut NcRegion, at: u32) -> NcChunk;
     pub fn nc_region_place(region: *mut NcRegion, at: u32) -> NcPlace;
     pub fn nc_region_walk(
         region: *mut NcRegion,

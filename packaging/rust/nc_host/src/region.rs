@@ -126,6 +126,13 @@ impl Region {
         (0..).map_while(|index| self.chunk(index))
     }
 
+    /// `nc_region_chunk_at`: the chunk that has an address, or else the first one above it. `None` where each chunk ends at or below it.
+    pub fn chunk_at(&self, at: u32) -> Option<Chunk> {
+        // SAFETY: "Locks".
+        let chunk = unsafe { ffi::nc_region_chunk_at(self.handle.get(), at) };
+        (chunk.fault == ffi::NC_OK).then(|| Chunk::of(chunk))
+    }
+
     /// `nc_region_place`: the byte and the mark at an address; `None` where it is none of the region's.
     pub fn place(&self, at: u32) -> Option<Place> {
         // SAFETY: "Locks".

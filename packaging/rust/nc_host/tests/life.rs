@@ -163,6 +163,25 @@ fn vetted_chunks() -> Result<(), Fault> {
 }
 
 #[test]
+fn chunks_by_address() -> Result<(), Fault> {
+    let (mut region, mut buffer, len) = (Region::new(BUNDLES, 1)?, room(), LEN as u32);
+    assert_eq!(region.chunk_at(START), None);
+    region.create(START + len, &chunk_code(), &mut buffer)?;
+    region.create(START + 3 * len, &chunk_code(), &mut buffer)?;
+    region.begin_delete(START + 3 * len, &mut buffer)?.finish();
+    let low = Some(Chunk { base: START + len, length: len, retired: None });
+    let high = Some(Chunk { base: START + 3 * len, length: len, retired: Some(1) });
+    for at in [0, START, START + len, START + 2 * len - 1] {
+        assert_eq!(region.chunk_at(at), low);
+    }
+    for at in [START + 2 * len, START + 3 * len, START + 4 * len - 1] {
+        assert_eq!(region.chunk_at(at), high);
+    }
+    assert_eq!((region.chunk_at(START + 4 * len), region.chunk_at(u32::MAX)), (None, None));
+    Ok(())
+}
+
+#[test]
 fn walks() -> Result<(), Fault> {
     let (mut region, mut buffer, mut places) = (Region::new(BUNDLES, 1)?, room(), [0; 5]);
     region.create(START, &chunk_code(), &mut buffer)?;

@@ -1,5 +1,5 @@
 use Rattle.std.proofs.Common.{ap, sym}
-use Rattle.nc_region.specs.declared.chunk.ChunkState.{ChunkState}
+use Rattle.nc_list.specs.declared.chunk.ChunkState.{ChunkState}
 use Rattle.nc_host.specs.declared.region_answers.NcChunk.{NcChunk}
 use Rattle.nc_host.specs.Looks.{retired_of, stamp_of}
 use Rattle.nc_host.proofs.looking.shown.Goals as goal
