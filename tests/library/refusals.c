@@ -17,7 +17,7 @@
 
 #define BUNDLES 4u
 #define LIMIT NC_LIMIT(BUNDLES)
-#define MOST_CHUNKS 513u         /* of a list */
+#define MOST_CHUNKS 8003u        /* of a list */
 #define LIST_BUNDLES(chunks) (128 + 2 * (chunks) + BUNDLES) /* one page, and every other bundle */
 #define ROOM (2 * NC_BUNDLE + 2) /* acts, enough for each chunk */
 #define UNTOUCHED UINT32_MAX     /* what a buffer has where nothing was written into it */
@@ -291,15 +291,13 @@ static const Call calls[] = {
     {"retire", JUMP, SEATS, 0, 0, retire, show_reused},
     {"patches", SEVERAL, CHUNK, 0, 0, patches, show_region},
     {"runs", JUMP, CHUNK, 0, 0, tell_runs, show_change},
-    {"256th-first", JUMP, LIST, 255, 0, create_in_list, show_list},
-    {"256th-between", JUMP, LIST, 255, 254, create_in_list, show_list},
-    {"256th-last", JUMP, LIST, 255, 510, create_in_list, show_list},
-    {"257th-first", JUMP, LIST, 256, 0, create_in_list, show_list},
-    {"257th-between", JUMP, LIST, 256, 256, create_in_list, show_list},
-    {"257th-last", JUMP, LIST, 256, 512, create_in_list, show_list},
-    {"513th-first", JUMP, LIST, 512, 0, create_in_list, show_list},
-    {"513th-between", JUMP, LIST, 512, 600, create_in_list, show_list},
-    {"513th-last", JUMP, LIST, 512, 1024, create_in_list, show_list},
+    {"65th-first", JUMP, LIST, 64, 0, create_in_list, show_list},
+    {"65th-between", JUMP, LIST, 64, 64, create_in_list, show_list},
+    {"65th-last", JUMP, LIST, 64, 128, create_in_list, show_list},
+    {"254th-last", JUMP, LIST, 253, 506, create_in_list, show_list},
+    {"8004th-first", JUMP, LIST, 8003, 0, create_in_list, show_list},
+    {"8004th-between", JUMP, LIST, 8003, 8004, create_in_list, show_list},
+    {"8004th-last", JUMP, LIST, 8003, 16006, create_in_list, show_list},
     {"retire-list", JUMP, LIST, 513, 0, retire_list, show_list},
 };
 

@@ -1,5 +1,5 @@
-"""Lists of more than a thousand scattered chunks, which the library keeps in blocks of 256: created in several orders, deleted and
-reclaimed by few and by many, with a seat that holds back, and their spans used again. At the ends of blocks and after each round the whole
+"""Lists of more than a thousand scattered chunks, which the library keeps in leaves of up to 64: created in several orders, deleted and
+reclaimed by few and by many, with a seat that holds back, and their spans used again. Where leaves are full and after each round the whole
 list, every place, and a memory in which all acts were made are compared with a plain model.
 """
 import random
@@ -22,8 +22,8 @@ RESTS = [
     "eb00" + ADD + MOVE + MOVE + NUMBER,
 ]
 
-# Numbers of chunks around the ends of blocks.
-BORDERS = {256 * block + offset for block in range(1, 6) for offset in (-1, 0, 1, 2)}
+# Numbers of chunks around those at which an ascending list gets one more leaf.
+BORDERS = {63 * leaf + offset for leaf in (1, 2, 4, 8, 23) for offset in (0, 1, 2, 3)}
 
 
 # The order in which a list is made of some slots, which ascend.
@@ -36,12 +36,12 @@ ORDERS = {
 # Which chunks of a list are deleted, one plan after the other. The bases ascend.
 PLANS = {
     "a few": lambda rng, bases: rng.sample(bases, 5),
-    "one in each block": lambda rng, bases: bases[100::256],
-    "the ends of blocks": lambda rng, bases: [base for i, base in enumerate(bases) if (i + 3) % 256 < 6],
+    "one in each leaf": lambda rng, bases: bases[20::63],
+    "the ends of leaves": lambda rng, bases: [base for i, base in enumerate(bases) if (i + 3) % 63 < 6],
     "every other one": lambda rng, bases: bases[::2],
     "the lowest": lambda rng, bases: bases[:300],
     "the highest": lambda rng, bases: bases[-300:],
-    "a whole block and more": lambda rng, bases: bases[200:600],
+    "whole leaves and more": lambda rng, bases: bases[200:600],
     "half of them": lambda rng, bases: rng.sample(bases, len(bases) // 2),
     "all but the ends": lambda rng, bases: bases[1:-1],
     "all": lambda rng, bases: bases,

@@ -78,7 +78,7 @@ class TakesNone(unittest.TestCase):
             self.assertEqual(region.end_delete().stamp, 1)
 
     def test_deletions_and_reclaims(self):
-        """Of 1,200 chunks, in several blocks, each third one is deleted, then each."""
+        """Of 1,200 chunks, in many leaves, each third one is deleted, then each."""
         region, seats = filled_region(1200)
         with self.no_memory():
             self.assertEqual(retired(region, range(0, 1200, 3)), [*range(1, 401)])
