@@ -67,8 +67,8 @@ class Rows(unittest.TestCase):
         stamp = stamps.get(base, 0)
         return nc.Chunk.made((stamp, nc.OK, base, nc.BUNDLE, int(stamp > 0)))
 
-    def compare(self, stamps={}, whole=True):
-        wanted = [self.shown(base, stamps) for base in self.live]
+    def compare(self, stamps=None, whole=True):
+        wanted = [self.shown(base, stamps or {}) for base in self.live]
         indices = range(len(wanted)) if whole else self.rng.sample(range(len(wanted)), min(500, len(wanted)))
         self.assertEqual([self.region.chunk(i) for i in indices], [wanted[i] for i in indices])
         self.assertEqual(self.region.chunk(len(wanted)).fault, nc.NO_CHUNK)
