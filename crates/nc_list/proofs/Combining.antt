@@ -3,8 +3,8 @@ use Rattle.std.proofs.Common.{◌≡◌, ℕ, ◌+◌, ◌≤◌, List, [], ◌�
 use Rattle.std.proofs.lemmas.Bool.{cases_lt}
 use Rattle.std.proofs.lemmas.List.{take_at, drop_at, length-append}
 use Rattle.nc_list.specs.declared.chunk.Chunk.{Chunk}
-use Rattle.nc_list.specs.Chunks.{IsAboveAll, IsBelowAll, IsNextChunk, IsRetired, IsInserted, Meets}
-use Rattle.nc_list.specs.Parts.{IsPut, BeginAbove, all_of, live}
+use Rattle.nc_list.specs.Chunks.{IsAboveAll, IsBelowAll, IsNextChunk, IsRetired, IsInserted, Meets, live}
+use Rattle.nc_list.specs.Parts.{IsPut, BeginAbove, all_of}
 use Rattle.nc_list.proofs.EachMember.{each_append}
 use Rattle.nc_list.proofs.Pieces.{all_around}
 use Rattle.nc_list.proofs.Rising.{meets_rest}

@@ -1,14 +1,14 @@
 -- Chunks around a place in a rising list.
 use Rattle.std.proofs.Common.{◌≡◌, ℕ, zero, suc, ◌+◌, ◌-◌, ◌<◌, ◌≤◌, List, [], ◌∷◌, ◌++◌, length, get_or, set, take, drop, refl, sym, ap, ◌∙◌, subst, inl, inr, arith, length-take, length-drop, take-append-drop, get_or-take, get_or-drop}
 use Rattle.std.proofs.lemmas.Bool.{cases_lt}
-use Rattle.std.proofs.lemmas.List.{get_or_default, drop-drop}
+use Rattle.std.proofs.lemmas.List.{get_or_default}
 use Rattle.std.specs.List.{insert}
 use Rattle.nc_list.specs.declared.chunk.Chunk.{Chunk}
 use Rattle.nc_list.specs.declared.chunk.ChunkState.TheVariants.{Retired}
-use Rattle.nc_list.specs.Chunks.{IsRising, IsAboveAll, IsNextChunk, HasBase, IsRetired, Meets}
+use Rattle.nc_list.specs.Chunks.{IsRising, IsAboveAll, IsNextChunk, HasBase, IsRetired, Meets, live}
 use Rattle.nc_list.specs.Stamps.{BeginsAt}
-use Rattle.nc_list.specs.Parts.{IsPut, BeginTo, BeginAbove, live}
-use Rattle.nc_list.proofs.EachMember.{each_get, each_take_from}
+use Rattle.nc_list.specs.Parts.{IsPut, BeginTo, BeginAbove}
+use Rattle.nc_list.proofs.EachMember.{each_get, each_take_from, each_drop_from}
 use Rattle.nc_list.proofs.Rising.{rises_at, rises_apart, meets_first, meets_rest}
 use Rattle.nc_list.proofs.Pieces.{around, around_set}
 use Rattle.nc_list.proofs.Combining.{above_free}
@@ -53,6 +53,20 @@ last_begun chunks k at d some le to =
     let low : (get_or (take k chunks) (k - 1) d).base ≤ at =
     each_get (λ (e : Chunk). e.base ≤ at) (take k chunks) (k - 1) d (omega (arith, some, le, length-take k chunks)) to in
     omega (arith, low, same)
+
+-- chunks up to one that begins at or below a place
+pub begun_to : (chunks : List Chunk) (k at : ℕ) (d : Chunk) → IsRising 0 chunks → k ≤ length chunks
+    → (0 < k → (get_or chunks (k - 1) d).base ≤ at) → BeginTo at (take k chunks)
+begun_to chunks k at d rising le begun =
+    each_take_from (λ (e : Chunk). e.base ≤ at) k chunks d le (λ j before.
+    omega (arith, begun (omega (arith, before)), rises_at 0 chunks j (k - 1) d rising (omega (arith, before)) (omega (arith, before, le))))
+
+-- chunks from one on that begins above a place
+pub begun_above : (chunks : List Chunk) (k at : ℕ) (d : Chunk) → IsRising 0 chunks → (k < length chunks → at < (get_or chunks k d).base)
+    → BeginAbove at (drop k chunks)
+begun_above chunks k at d rising above =
+    each_drop_from (λ (e : Chunk). at < e.base) k chunks d (λ j from_it lt.
+    omega (arith, above (omega (arith, from_it, lt)), rises_at 0 chunks k j d rising from_it lt))
 
 -- a chunk of those that begin above a place
 pub later_above : (chunks : List Chunk) (k at j : ℕ) (d : Chunk) → k ≤ j → j < length chunks → BeginAbove at (drop k chunks)
@@ -127,14 +141,3 @@ put_at chunks k base len some to above free = record {
   above = above_free base len (drop k chunks) above (λ m.
       free (subst (Meets base len) (take-append-drop k chunks) (meets_rest base len (take k chunks) (drop k chunks) m)));
 }
-
--- the rests of two lists that are alike from an index on are alike from the next on
-pub rest_same : {X : Type 0} (xs ys : List X) (i : ℕ) → drop i xs ≡ drop i ys → drop (i + 1) xs ≡ drop (i + 1) ys
-rest_same {X = X} xs ys i same = sym (drop-drop 1 i xs) ∙ (ap (λ (z : List X). drop 1 z) same ∙ drop-drop 1 i ys)
-
--- so are the elements there
-pub here_same : {X : Type 0} (xs ys : List X) (i : ℕ) (d : X) → drop i xs ≡ drop i ys → get_or xs i d ≡ get_or ys i d
-here_same {X = X} xs ys i d same =
-    let e : i + 0 ≡ i = omega arith in
-    sym (get_or-drop i xs 0 d ∙ ap (λ (n : ℕ). get_or xs n d) e)
-    ∙ (ap (λ (z : List X). get_or z 0 d) same ∙ (get_or-drop i ys 0 d ∙ ap (λ (n : ℕ). get_or ys n d) e))

@@ -84,10 +84,11 @@ taken_here least old new taken k so =
     ∙ taken_long least so.here so.left taken so.taken_are
 
 -- the row afterwards
-pub taken_row : (least : ℕ) (old new last : List (List Chunk)) (starts now : List ℕ) (count first oldest front k n : ℕ) (taken : List Chunk)
-    → IsRow old starts count first oldest → AreTakenFrom least old new taken k → n ≡ length taken → all_of last ≡ all_of new
-    → now ≡ starts_of 0 last → HaveSome last → 0 < length last → BeginsAt front (get_or last 0 []) → IsRow last now (count - n) front oldest
-taken_row least old new last starts now count first oldest front k n taken row so is same are have some begins =
+pub taken_row : (least : ℕ) (old new last : List (List Chunk)) (starts now : List ℕ) (count first oldest front since k n : ℕ)
+    (taken : List Chunk) → IsRow old starts count first oldest → AreTakenFrom least old new taken k → n ≡ length taken
+    → all_of last ≡ all_of new → now ≡ starts_of 0 last → HaveSome last → 0 < length last → BeginsAt front (get_or last 0 [])
+    → AreSince since (all_of last) → IsRow last now (count - n) front since
+taken_row least old new last starts now count first oldest front since k n taken row so is same are have some begins later =
     let took = taken_from least old new taken k so in
     record {
       starts_are = are;
@@ -100,5 +101,5 @@ taken_row least old new last starts now count first oldest front k n taken row s
         ap (λ (z : List Chunk). length z) same,
       );
       begins = begins_all last front some have begins;
-      since = subst (AreSince oldest) (sym same) (taken_since least oldest (all_of old) (all_of new) taken took row.since);
+      since = later;
     }

@@ -47,22 +47,22 @@ all_stay least (c ∷ cs) none =
 
 -- Some chunks have been gone over: the due ones of the front have been taken, and all of the back stay. There is no back while there
 -- is room for one more.
-pub record AreGoneOver (least : ℕ) (old new taken : List Chunk) : Type 0 where
+pub record AreGoneOver (most least : ℕ) (old new taken : List Chunk) : Type 0 where
   pub front : List Chunk
   pub back : List Chunk
   pub was : old ≡ front ++ back
   pub now : new ≡ kept least front ++ back
   pub taken_are : taken ≡ freed least front
-  pub more : length taken < 16 → back ≡ []
+  pub more : length taken < most → back ≡ []
 
 -- none yet
-pub gone_none : (least : ℕ) → AreGoneOver least [] [] []
-gone_none least = record { front = []; back = []; was = refl; now = refl; taken_are = refl; more = λ lt. refl }
+pub gone_none : (most least : ℕ) → AreGoneOver most least [] [] []
+gone_none most least = record { front = []; back = []; was = refl; now = refl; taken_are = refl; more = λ lt. refl }
 
 -- one more that is taken
-pub gone_taken : (least : ℕ) (old new taken : List Chunk) (c : Chunk) → is_due least c.state ≡ true → length taken < 16
-    → AreGoneOver least old new taken → AreGoneOver least (old ++ c ∷ []) new (taken ++ c ∷ [])
-gone_taken least old new taken c is lt so =
+pub gone_taken : (most least : ℕ) (old new taken : List Chunk) (c : Chunk) → is_due least c.state ≡ true → length taken < most
+    → AreGoneOver most least old new taken → AreGoneOver most least (old ++ c ∷ []) new (taken ++ c ∷ [])
+gone_taken most least old new taken c is lt so =
     let none = so.more lt in
     record {
       front = so.front ++ c ∷ [];
@@ -79,9 +79,9 @@ gone_taken least old new taken c is lt so =
     }
 
 -- one more that stays, since it isn't due
-gone_left : (least : ℕ) (old new taken : List Chunk) (c : Chunk) → is_due least c.state ≡ false → length taken < 16
-    → AreGoneOver least old new taken → AreGoneOver least (old ++ c ∷ []) (new ++ c ∷ []) taken
-gone_left least old new taken c is lt so =
+gone_left : (most least : ℕ) (old new taken : List Chunk) (c : Chunk) → is_due least c.state ≡ false → length taken < most
+    → AreGoneOver most least old new taken → AreGoneOver most least (old ++ c ∷ []) (new ++ c ∷ []) taken
+gone_left most least old new taken c is lt so =
     let none = so.more lt in
     record {
       front = so.front ++ c ∷ [];
@@ -98,9 +98,9 @@ gone_left least old new taken c is lt so =
     }
 
 -- one more that stays, since there is no room
-gone_full : (least : ℕ) (old new taken : List Chunk) (c : Chunk) → 16 ≤ length taken → AreGoneOver least old new taken
-    → AreGoneOver least (old ++ c ∷ []) (new ++ c ∷ []) taken
-gone_full least old new taken c full so = record {
+gone_full : (most least : ℕ) (old new taken : List Chunk) (c : Chunk) → most ≤ length taken → AreGoneOver most least old new taken
+    → AreGoneOver most least (old ++ c ∷ []) (new ++ c ∷ []) taken
+gone_full most least old new taken c full so = record {
   front = so.front;
   back = so.back ++ c ∷ [];
   was = ap (λ (z : List Chunk). z ++ c ∷ []) so.was ∙ append_assoc so.front so.back (c ∷ []);
@@ -110,24 +110,24 @@ gone_full least old new taken c full so = record {
 }
 
 -- one or the other
-pub gone_on : (least : ℕ) (old new taken : List Chunk) (c : Chunk) → (length taken < 16 → is_due least c.state ≡ false)
-    → AreGoneOver least old new taken → AreGoneOver least (old ++ c ∷ []) (new ++ c ∷ []) taken
-gone_on least old new taken c why so =
-    elim (cases_lt (length taken) 16) [
-      | inl lt ↦ gone_left least old new taken c (why lt) lt so
-      | inr full ↦ gone_full least old new taken c full so
+pub gone_on : (most least : ℕ) (old new taken : List Chunk) (c : Chunk) → (length taken < most → is_due least c.state ≡ false)
+    → AreGoneOver most least old new taken → AreGoneOver most least (old ++ c ∷ []) (new ++ c ∷ []) taken
+gone_on most least old new taken c why so =
+    elim (cases_lt (length taken) most) [
+      | inl lt ↦ gone_left most least old new taken c (why lt) lt so
+      | inr full ↦ gone_full most least old new taken c full so
     ]
 
 -- all
-pub gone_all : (least : ℕ) (old new taken : List Chunk) → AreGoneOver least old new taken → AreTaken least old new taken
-gone_all least old new taken so = record {
+pub gone_all : (most least : ℕ) (old new taken : List Chunk) → 0 < most → AreGoneOver most least old new taken → AreTaken least old new taken
+gone_all most least old new taken some so = record {
   front = so.front;
   back = so.back;
   was = so.was;
   now = so.now;
   taken_are = so.taken_are;
   none = λ none. ap (λ (z : List Chunk). freed least z)
-      (so.was ∙ (ap (λ (z : List Chunk). so.front ++ z) (so.more (rw none (omega arith))) ∙ append-nil so.front))
+      (so.was ∙ (ap (λ (z : List Chunk). so.front ++ z) (so.more (rw none some)) ∙ append-nil so.front))
       ∙ (sym so.taken_are ∙ none);
 }
 

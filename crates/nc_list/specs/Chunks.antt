@@ -28,6 +28,10 @@ abbrev pub Meets : ℕ → ℕ → List Chunk → Type 0
 Meets base len [] = ⊥
 Meets base len (d ∷ rest) = ((base < d.base + d.length) × (d.base < base + len)) ⊎ Meets base len rest
 
+-- a live chunk with this span
+abbrev pub live : ℕ → ℕ → Chunk
+live base len = record { base = base; length = len; state = Live }
+
 -- the new list is the old one with the chunk inserted where it fits
 abbrev pub IsInserted : List Chunk → List Chunk → Chunk → Type 0
 IsInserted old new c = (k : ℕ) × FitsAt c.base c.length old k × (new ≡ insert old k c)

@@ -2,14 +2,9 @@
 use Rattle.std.specs.Prelude.{◌≡◌, ◌≢◌, ℕ, ◌+◌, ◌<◌, ◌≤◌, List, [], ◌∷◌, ◌++◌, length, take, drop}
 use Rattle.std.specs.List.{flat_map}
 use Rattle.nc_list.specs.declared.chunk.Chunk.{Chunk}
-use Rattle.nc_list.specs.declared.chunk.ChunkState.TheVariants.{Live}
 use Rattle.nc_list.specs.Each.{Each}
 use Rattle.nc_list.specs.Chunks.{IsAboveAll, IsBelowAll, AreTaken, freed}
 use Rattle.nc_list.specs.Stamps.{AreSince, BeginsAt}
-
--- a live chunk with this span
-abbrev pub live : ℕ → ℕ → Chunk
-live base len = record { base = base; length = len; state = Live }
 
 -- each of the chunks begins at or below the place
 abbrev pub BeginTo : ℕ → List Chunk → Type 0

@@ -1,21 +1,20 @@
-//! The chunks of a region.
+//! The chunks of a list.
 
-/// Whether threads may enter a chunk.
+/// Whether a chunk is in use.
 #[derive(Clone, Copy, Debug, Drop, PartialEq, Eq)]
 pub enum ChunkState {
-    /// Its code is in the text.
+    /// It is in use.
     Live,
-    /// Its bytes are stops, and its span waits for threads that may still be between its bundle starts. The number is its
-    /// stamp, the generation with which it was retired.
+    /// It is no longer in use, and is taken out of the list once its stamp, which is this number, is due.
     Retired(u64),
 }
 
-/// One chunk of a region's list.
+/// One chunk of a list.
 #[derive(Clone, Copy, Debug, Drop, PartialEq, Eq)]
 pub struct Chunk {
-    /// The address of its first byte, which is a bundle start.
+    /// The address of its first byte.
     pub base: u32,
-    /// The number of its bytes, which are whole bundles.
+    /// The number of its bytes.
     pub length: u32,
     pub state: ChunkState,
 }

@@ -11,9 +11,9 @@ use std::marker::Model;
 /// The stamp of a live chunk, which is above those of all retired ones.
 pub(crate) const LIVE: u64 = u64::MAX;
 
-/// A chunk of the list.
+/// A chunk in 16 bytes.
 #[derive(Clone, Copy, Drop)]
-pub(crate) struct Entry {
+pub struct Entry {
     base: u32,
     length: u32,
     /// `LIVE`, or the stamp of a retired chunk.
@@ -36,7 +36,7 @@ impl Model for Entry {
 
 impl Entry {
     /// A live chunk.
-    pub(crate) fn live(base: u32, length: u32) -> Entry
+    pub fn live(base: u32, length: u32) -> Entry
         ensures { result ≡ record { base = base; length = length; state = ChunkState.Live } }
     {
         Entry {
@@ -59,7 +59,7 @@ impl Entry {
     }
 
     /// The chunk.
-    pub(crate) fn chunk(self) -> Chunk
+    pub fn chunk(self) -> Chunk
         ensures { result ≡ self }
     {
         let state = if self.stamp == LIVE {
@@ -75,14 +75,14 @@ impl Entry {
     }
 
     /// The address of its first byte.
-    pub(crate) fn base(self) -> u32
+    pub fn base(self) -> u32
         ensures { result ≡ self.base }
     {
         self.base
     }
 
     /// The number of its bytes.
-    pub(crate) fn length(self) -> u32
+    pub fn length(self) -> u32
         ensures { result ≡ self.length }
     {
         self.length

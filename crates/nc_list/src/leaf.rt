@@ -1,14 +1,14 @@
 //! A leaf of the list: chunks in one piece of memory.
 
-ghost use Rattle.std.specs.Prelude.{◌≡◌, ◌+◌, ◌-◌, ◌<◌, ◌≤◌, ◌^◌, [], ◌++◌, length, take, drop};
+ghost use Rattle.std.specs.Prelude.{◌≡◌, ◌+◌, ◌-◌, ◌<◌, ◌≤◌, ◌^◌, [], ◌++◌, length, take, drop, IsTrue};
 ghost use Rattle.nc_list.specs.Chunks.{IsRising, AreTaken};
 ghost use Rattle.nc_list.specs.Stamps.{AreSince, BeginsAt};
 ghost use Rattle.nc_list.specs.Parts.{BeginTo, BeginAbove};
 
 use crate::chunk::Chunk;
-use crate::due::Due;
 use crate::entry::Entry;
 use crate::part::Part;
+use crate::place::Place;
 use std::alloc::{AllocError, Global};
 use std::marker::Model;
 
@@ -50,6 +50,38 @@ fn count_to(entries: &[Entry], at: u32) -> usize
     entries.partition_point(|e| e.base() <= at)
 }
 
+/// The first chunks, so many, begin at or below this address.
+fn begin_to(entries: &[Entry], at: u32, count: usize) -> bool
+    requires rising { IsRising 0 entries.now }
+    requires enough { count ≤ length entries.now }
+    ensures { IsTrue result → BeginTo at (take count entries.now) }
+{
+    count == 0 || entries[count - 1].base() <= at
+}
+
+/// The chunks behind the first ones, so many, begin above this address.
+fn begin_above(entries: &[Entry], at: u32, count: usize) -> bool
+    requires rising { IsRising 0 entries.now }
+    requires enough { count ≤ length entries.now }
+    ensures { IsTrue result → BeginAbove at (drop count entries.now) }
+{
+    count == entries.len() || at < entries[count].base()
+}
+
+/// The number of chunks whose base is at most this address, without a search if it is the guess.
+fn count_near(entries: &[Entry], at: u32, guess: usize) -> usize
+    requires { IsRising 0 entries.now }
+    ensures bound { result ≤ length entries.now }
+    ensures below { BeginTo at (take result entries.now) }
+    ensures above { BeginAbove at (drop result entries.now) }
+{
+    if guess <= entries.len() && begin_to(entries, at, guess) && begin_above(entries, at, guess) {
+        guess
+    } else {
+        count_to(entries, at)
+    }
+}
+
 /// The base of the first chunk, or 0 if there is none.
 fn first_base(entries: &[Entry]) -> u32
     ensures { BeginsAt result entries.now }
@@ -71,19 +103,24 @@ fn oldest_in(entries: &[Entry]) -> u64
     low
 }
 
-/// Takes out the first chunks that are due, as many as there is room for, and returns a lower bound of the stamps of the others.
-fn take_from(entries: &mut Vec<Entry>, least: u64, due: &mut Due) -> u64
-    requires empty { due.old ≡ [] }
+/// Takes out the first chunks that are due, as many as there is room for. Returns their number, and a lower bound of the stamps of
+/// the others.
+fn take_from(entries: &mut Vec<Entry>, least: u64, room: &mut [Entry]) -> (usize, u64)
+    requires some { 0 < length room.old }
     requires least { least < 2 ^ 64 - 1 }
-    ensures taken { AreTaken least entries.old.items entries.new.items due.new }
-    ensures since { AreSince result entries.new.items }
+    ensures room { length room.new ≡ length room.old }
+    ensures count { result.0 ≤ length room.new }
+    ensures taken { AreTaken least entries.old.items entries.new.items (take result.0 room.new) }
+    ensures since { AreSince result.1 entries.new.items }
 {
     let mut to = 0;
+    let mut count = 0;
     let mut low = u64::MAX;
     for i in 0..entries.len() {
         let entry = entries[i];
-        if entry.is_due(least) && !due.is_full() {
-            due.push(entry.chunk());
+        if entry.is_due(least) && count < room.len() {
+            room[count] = entry;
+            count += 1;
         } else {
             entries[to] = entry;
             to += 1;
@@ -91,7 +128,7 @@ fn take_from(entries: &mut Vec<Entry>, least: u64, due: &mut Due) -> u64
         }
     }
     entries.truncate(to);
-    low
+    (count, low)
 }
 
 impl Part for Leaf {
@@ -121,22 +158,23 @@ impl Part for Leaf {
         self.entries[i].chunk()
     }
 
-    fn next(&self, at: u32) -> Option<Chunk> {
-        let k = count_to(&self.entries, at);
+    fn next(&self, at: u32) -> (Option<Chunk>, Place) {
+        let len = self.entries.len();
+        let k = count_near(&self.entries, at, len);
         if 0 < k {
             let entry = self.entries[k - 1];
             if at - entry.base() < entry.length() {
-                return Some(entry.chunk());
+                return (Some(entry.chunk()), Place::of(k));
             }
         }
-        if k < self.entries.len() {
-            return Some(self.entries[k].chunk());
+        if k < len {
+            return (Some(self.entries[k].chunk()), Place::of(k));
         }
-        None
+        (None, Place::of(k))
     }
 
-    fn insert(&mut self, base: u32, len: u32) -> Result<(), AllocError> {
-        let k = count_to(&self.entries, base);
+    fn insert(&mut self, base: u32, len: u32, place: Place) -> Result<(), AllocError> {
+        let k = count_near(&self.entries, base, place.outer());
         if self.entries.insert(k, Entry::live(base, len)).is_err() {
             return Err(AllocError);
         }
@@ -146,8 +184,8 @@ impl Part for Leaf {
         Ok(())
     }
 
-    fn retire(&mut self, base: u32, stamp: u64) {
-        let k = count_to(&self.entries, base) - 1;
+    fn retire(&mut self, base: u32, stamp: u64, place: Place) {
+        let k = count_near(&self.entries, base, place.outer()) - 1;
         let entry = self.entries[k];
         self.entries[k] = entry.retired(stamp);
         self.oldest = self.oldest.min(stamp);
@@ -191,8 +229,10 @@ impl Part for Leaf {
         true
     }
 
-    fn take_due(&mut self, least: u64, due: &mut Due) {
-        self.oldest = take_from(&mut self.entries, least, due);
+    fn take_due(&mut self, least: u64, room: &mut [Entry]) -> usize {
+        let (count, oldest) = take_from(&mut self.entries, least, room);
+        self.oldest = oldest;
         self.first = first_base(&self.entries);
+        count
     }
 }

@@ -6,23 +6,27 @@
 //! the chunks that are due are found from the root down, in O(log n) for n chunks. A part that is full is split in two when a
 //! chunk is inserted, and two neighbours that have become small are joined when chunks are taken out.
 //!
-//! The bounds of stamps take the place of a queue of retired chunks: [`take_due`](ChunkList::take_due) goes down only where a chunk may be due, and so
-//! gives due chunks by ascending base without sorting them. Retiring a chunk and taking chunks out need no memory.
+//! A search returns the [`Place`] where it ended, so a caller that looks before it inserts or retires searches once.
+//!
+//! The bounds of stamps take the place of a queue of retired chunks. [`take_due`](ChunkList::take_due) goes down only where a
+//! chunk may be due, so it gives due chunks by ascending base without sorting them. Retiring a chunk and taking chunks out need
+//! no memory.
 //!
 //! A chunk takes 16 bytes. Two neighbouring leaves have more than 48 chunks in room for 128, and two neighbouring rows more than
 //! 96 leaves in room for 256, so a list takes at most 48 bytes for each chunk once it has more than a leaf's.
 #![tactic(auto)]
 
 mod chunk;
-mod due;
 mod entry;
 mod leaf;
 mod list;
 mod part;
 mod parts;
+mod place;
 mod row;
 mod starts;
 
 pub use chunk::{Chunk, ChunkState};
-pub use due::{DUE, Due};
+pub use entry::Entry;
 pub use list::ChunkList;
+pub use place::Place;

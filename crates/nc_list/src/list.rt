@@ -1,13 +1,13 @@
 //! The list of chunks.
 
-ghost use Rattle.std.specs.Prelude.{◌≡◌, ◌+◌, ◌-◌, ◌<◌, ◌^◌, [], length, slice_get, IfSome, IsNone, OnOk, OnErr};
-ghost use Rattle.nc_list.specs.Chunks.{IsRising, IsAboveAll, IsInserted, IsNextChunk, Meets, HasBase, IsRetired, AreTaken};
-ghost use Rattle.nc_list.specs.Parts.{live};
+ghost use Rattle.std.specs.Prelude.{◌≡◌, ◌+◌, ◌-◌, ◌<◌, ◌≤◌, ◌^◌, [], length, take, slice_get, IfSome, IsNone, false, OnOk, OnErr};
+ghost use Rattle.nc_list.specs.Chunks.{IsRising, IsAboveAll, IsInserted, IsNextChunk, Meets, HasBase, IsRetired, AreTaken, freed, live};
 
 use crate::chunk::Chunk;
-use crate::due::Due;
+use crate::entry::Entry;
 use crate::leaf::Leaf;
 use crate::part::Part;
+use crate::place::Place;
 use crate::row::Row;
 use std::alloc::{AllocError, Global};
 use std::marker::Model;
@@ -68,11 +68,20 @@ impl ChunkList {
         ensures found { IfSome result (IsNextChunk self.now at) }
         ensures none { IsNone result → IsAboveAll at self.now }
     {
+        self.find(at).0
+    }
+
+    /// The same chunk, and the place for the address, by which it is found again without a search.
+    pub fn find(&self, at: u32) -> (Option<Chunk>, Place)
+        requires { IsRising 0 self.now }
+        ensures found { IfSome result.0 (IsNextChunk self.now at) }
+        ensures none { IsNone result.0 → IsAboveAll at self.now }
+    {
         self.root.next(at)
     }
 
-    /// Inserts a live chunk. A refusal leaves the list as it was.
-    pub fn insert(&mut self, base: u32, len: u32) -> Result<(), AllocError>
+    /// Inserts a live chunk, without a search if `place` is the one for its base. A refusal leaves the list as it was.
+    pub fn insert(&mut self, base: u32, len: u32, place: Place) -> Result<(), AllocError>
         requires rising { IsRising 0 self.old }
         requires some { 0 < len }
         requires free { ¬ Meets base len self.old }
@@ -80,29 +89,41 @@ impl ChunkList {
         ensures ok { OnOk result (IsInserted self.old self.new (live base len)) }
         ensures err { OnErr result (self.new ≡ self.old) }
     {
-        self.root.insert(base, len)
+        self.root.insert(base, len, place)
     }
 
-    /// Retires the chunk with this base: it stays in the list, with this stamp. No memory is allocated.
-    pub fn retire(&mut self, base: u32, stamp: u64)
+    /// Retires the chunk with this base, without a search if `place` is the one for it. The chunk stays in the list, with this
+    /// stamp. No memory is allocated.
+    pub fn retire(&mut self, base: u32, stamp: u64, place: Place)
         requires rising { IsRising 0 self.old }
         requires base { HasBase self.old base }
         requires stamp { stamp < 2 ^ 64 - 1 }
         ensures { IsRetired self.old self.new base stamp }
     {
-        self.root.retire(base, stamp);
+        self.root.retire(base, stamp, place);
     }
 
-    /// Takes out the first chunks that are retired with a stamp of at most this number, at most `DUE`, in ascending order. None is
-    /// taken only if none is due. No memory is allocated.
-    pub fn take_due(&mut self, least: u64, due: &mut Due)
-        requires empty { due.old ≡ [] }
-        requires least { least < 2 ^ 64 - 1 }
-        ensures { AreTaken least self.old self.new due.new }
+    /// Some chunk may be retired with a stamp of at most this number. It takes the same time for every list.
+    pub fn may_be_due(&self, least: u64) -> bool
+        requires { least < 2 ^ 64 - 1 }
+        ensures { result ≡ false → freed least self.now ≡ [] }
     {
-        if least < self.root.oldest() {
-            return;
+        self.root.oldest() <= least
+    }
+
+    /// Takes out the first chunks that are retired with a stamp of at most this number, as many as there is room for, in ascending
+    /// order, and returns their number. None is taken only if none is due. No memory is allocated.
+    pub fn take_due(&mut self, least: u64, room: &mut [Entry]) -> usize
+        requires some { 0 < length room.old }
+        requires few { length room.old < 2 ^ 32 }
+        requires least { least < 2 ^ 64 - 1 }
+        ensures room { length room.new ≡ length room.old }
+        ensures count { result ≤ length room.new }
+        ensures taken { AreTaken least self.old self.new (take result room.new) }
+    {
+        if !self.may_be_due(least) {
+            return 0;
         }
-        self.root.take_due(least, due);
+        self.root.take_due(least, room)
     }
 }

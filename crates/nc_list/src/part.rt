@@ -1,13 +1,14 @@
 //! Chunks that stand together: a leaf, or a row of parts.
 
-ghost use Rattle.std.specs.Prelude.{◌≡◌, ◌+◌, ◌-◌, ◌<◌, ◌≤◌, ◌^◌, [], ◌++◌, List, length, slice_index_or, true, false, IsTrue, IfSome, IfOk, IfErr, OnOk, OnErr, IsNone, MatchOption};
+ghost use Rattle.std.specs.Prelude.{◌≡◌, ◌+◌, ◌-◌, ◌<◌, ◌≤◌, ◌^◌, [], ◌++◌, List, length, take, slice_index_or, true, false, IsTrue, IfSome, IfOk, IfErr, OnOk, OnErr, IsNone, MatchOption};
 ghost use Rattle.nc_list.specs.declared.chunk.Chunk.{Chunk};
-ghost use Rattle.nc_list.specs.Chunks.{IsRising, IsAboveAll, IsNextChunk, Meets, HasBase, IsRetired, AreTaken};
+ghost use Rattle.nc_list.specs.Chunks.{IsRising, IsAboveAll, IsNextChunk, Meets, HasBase, IsRetired, AreTaken, live};
 ghost use Rattle.nc_list.specs.Stamps.{AreSince, BeginsAt};
-ghost use Rattle.nc_list.specs.Parts.{IsPut, AreParted, live};
+ghost use Rattle.nc_list.specs.Parts.{IsPut, AreParted};
 
 use crate::chunk::Chunk;
-use crate::due::Due;
+use crate::entry::Entry;
+use crate::place::Place;
 use std::alloc::{AllocError, Global};
 
 /// Chunks by ascending base.
@@ -36,14 +37,14 @@ pub(crate) trait Part: Drop {
         requires { i < length (items self.now) }
         ensures { result ≡ slice_index_or (items self.now) i result };
 
-    /// The chunk that has this address, or the first one above it.
-    fn next(&self, at: u32) -> Option<Chunk>
+    /// The chunk that has this address, or the first one above it, and the place for the address.
+    fn next(&self, at: u32) -> (Option<Chunk>, Place)
         requires { IsRising 0 (items self.now) }
-        ensures found { IfSome result (IsNextChunk (items self.now) at) }
-        ensures none { IsNone result → IsAboveAll at (items self.now) };
+        ensures found { IfSome result.0 (IsNextChunk (items self.now) at) }
+        ensures none { IsNone result.0 → IsAboveAll at (items self.now) };
 
     /// Inserts a live chunk. A refusal leaves the chunks as they were.
-    fn insert(&mut self, base: u32, len: u32) -> Result<(), AllocError>
+    fn insert(&mut self, base: u32, len: u32, place: Place) -> Result<(), AllocError>
         requires rising { IsRising 0 (items self.old) }
         requires some { 0 < len }
         requires free { ¬ Meets base len (items self.old) }
@@ -52,7 +53,7 @@ pub(crate) trait Part: Drop {
         ensures err { OnErr result (items self.new ≡ items self.old) };
 
     /// Retires the chunk with this base.
-    fn retire(&mut self, base: u32, stamp: u64)
+    fn retire(&mut self, base: u32, stamp: u64, place: Place)
         requires rising { IsRising 0 (items self.old) }
         requires base { HasBase (items self.old) base }
         requires stamp { stamp < 2 ^ 64 - 1 }
@@ -72,10 +73,13 @@ pub(crate) trait Part: Drop {
         ensures joined { IsTrue result → items self.new ≡ items self.old ++ items upper.old }
         ensures not { result ≡ false → (items self.new ≡ items self.old) × (items upper.new ≡ items upper.old) };
 
-    /// Takes out the first chunks that are retired with a stamp of at most this number, in ascending order. No memory is
-    /// allocated.
-    fn take_due(&mut self, least: u64, due: &mut Due)
-        requires empty { due.old ≡ [] }
+    /// Takes out the first chunks that are retired with a stamp of at most this number, as many as there is room for, in ascending
+    /// order, and returns their number. No memory is allocated.
+    fn take_due(&mut self, least: u64, room: &mut [Entry]) -> usize
+        requires some { 0 < length room.old }
+        requires few { length room.old < 2 ^ 32 }
         requires least { least < 2 ^ 64 - 1 }
-        ensures { AreTaken least (items self.old) (items self.new) due.new };
+        ensures room { length room.new ≡ length room.old }
+        ensures count { result ≤ length room.new }
+        ensures taken { AreTaken least (items self.old) (items self.new) (take result room.new) };
 }

@@ -1,16 +1,16 @@
 //! The parts of a row.
 
-ghost use Rattle.std.specs.Prelude.{◌≡◌, ◌≢◌, ◌+◌, ◌-◌, ◌<◌, ◌≤◌, ◌^◌, [], ◌++◌, ℕ, List, length, map, slice_index_or, false, IfOk, IfSome, IsNone, OnOk, OnErr};
-ghost use Rattle.nc_list.specs.Chunks.{IsRising, AreTaken, freed};
+ghost use Rattle.std.specs.Prelude.{◌≡◌, ◌≢◌, ◌+◌, ◌-◌, ◌<◌, ◌≤◌, ◌^◌, [], ◌++◌, ℕ, List, length, map, take, drop, slice_index_or, false, IfOk, IfSome, IsNone, IsTrue, OnOk, OnErr};
+ghost use Rattle.nc_list.specs.Chunks.{IsRising, IsAboveAll, AreTaken, freed};
 ghost use Rattle.nc_list.specs.Stamps.{AreSince};
-ghost use Rattle.nc_list.specs.Parts.{IsPartFor, HaveSome, OthersHaveSome, AreTakenFrom, all_of, starts_of};
+ghost use Rattle.nc_list.specs.Parts.{IsPartFor, BeginAbove, HaveSome, OthersHaveSome, AreTakenFrom, all_of, starts_of};
 
-use crate::due::Due;
+use crate::entry::Entry;
 use crate::part::Part;
 use std::alloc::AllocError;
 
 /// The part for a place, by binary search.
-pub(crate) fn part_for<T: Part>(parts: &[T], at: u32) -> usize
+fn part_for<T: Part>(parts: &[T], at: u32) -> usize
     requires some { 0 < length parts.now }
     requires have { HaveSome (map T.items parts.now) }
     requires rising { IsRising 0 (all_of (map T.items parts.now)) }
@@ -29,6 +29,40 @@ pub(crate) fn part_for<T: Part>(parts: &[T], at: u32) -> usize
     low
 }
 
+/// The parts before this one end at or below a place.
+fn end_below<T: Part>(parts: &[T], at: u32, k: usize) -> bool
+    requires inside { k < length parts.now }
+    requires have { HaveSome (map T.items parts.now) }
+    requires rising { IsRising 0 (all_of (map T.items parts.now)) }
+    ensures { IsTrue result → IsAboveAll at (all_of (take k (map T.items parts.now))) }
+{
+    k == 0 || parts[k].first() <= at
+}
+
+/// The parts behind this one begin above a place.
+fn begin_above<T: Part>(parts: &[T], at: u32, k: usize) -> bool
+    requires inside { k < length parts.now }
+    requires have { HaveSome (map T.items parts.now) }
+    requires rising { IsRising 0 (all_of (map T.items parts.now)) }
+    ensures { IsTrue result → BeginAbove at (all_of (drop (k + 1) (map T.items parts.now))) }
+{
+    k + 1 == parts.len() || at < parts[k + 1].first()
+}
+
+/// The part for a place, without a search if it is the one at the guess.
+pub(crate) fn part_near<T: Part>(parts: &[T], at: u32, guess: usize) -> usize
+    requires some { 0 < length parts.now }
+    requires have { HaveSome (map T.items parts.now) }
+    requires rising { IsRising 0 (all_of (map T.items parts.now)) }
+    ensures { IsPartFor (map T.items parts.now) result at }
+{
+    if guess < parts.len() && end_below(parts, at, guess) && begin_above(parts, at, guess) {
+        guess
+    } else {
+        part_for(parts, at)
+    }
+}
+
 /// A lower bound of the stamps.
 pub(crate) fn oldest_of<T: Part>(parts: &[T]) -> u64
     ensures { AreSince result (all_of (map T.items parts.now)) }
@@ -38,6 +72,14 @@ pub(crate) fn oldest_of<T: Part>(parts: &[T]) -> u64
         low = low.min(parts[k].oldest());
     }
     low
+}
+
+/// A lower bound of the stamps, by the bounds of the parts if `anew`, or else the one that is known.
+pub(crate) fn raised<T: Part>(parts: &[T], oldest: u64, anew: bool) -> u64
+    requires { AreSince oldest (all_of (map T.items parts.now)) }
+    ensures { AreSince result (all_of (map T.items parts.now)) }
+{
+    if anew { oldest_of(parts) } else { oldest }
 }
 
 /// Makes a part if there is none.
@@ -97,6 +139,7 @@ pub(crate) fn part_for_new<T: Part>(
     parts: &mut Vec<T>,
     starts: &mut Vec<u32>,
     base: u32,
+    guess: usize,
 ) -> Result<usize, AllocError>
     requires some { 0 < length parts.old.items }
     requires few { length (all_of (map T.items parts.old.items)) < 2 ^ 32 - 1 }
@@ -108,11 +151,11 @@ pub(crate) fn part_for_new<T: Part>(
     ensures have { HaveSome (map T.items parts.new.items) }
     ensures part { IfOk result (λ k. IsPartFor (map T.items parts.new.items) k base) }
 {
-    let k = part_for(parts, base);
+    let k = part_near(parts, base, guess);
     if !split_part(parts, starts, k, base)? {
         return Ok(k);
     }
-    Ok(part_for(parts, base))
+    Ok(part_near(parts, base, k + 1))
 }
 
 /// Removes a part that has no chunk, unless it is the only one.
@@ -172,19 +215,32 @@ pub(crate) fn close_up<T: Part>(parts: &mut Vec<T>, starts: &mut Vec<u32>, k: us
     }
 }
 
-/// Takes out the first chunks that are due, of the first part that has any, and returns that part's index.
-pub(crate) fn take_one<T: Part>(parts: &mut Vec<T>, least: u64, due: &mut Due) -> Option<usize>
-    requires empty { due.old ≡ [] }
+/// The chunks that were taken out of one part.
+#[derive(Clone, Copy, Drop)]
+pub(crate) struct Taken {
+    /// The index of the part.
+    pub(crate) part: usize,
+    /// The number of the chunks.
+    pub(crate) count: usize,
+}
+
+/// Takes out the first chunks that are due, of the first part that has any, as many as there is room for.
+pub(crate) fn take_one<T: Part>(parts: &mut Vec<T>, least: u64, room: &mut [Entry]) -> Option<Taken>
+    requires some { 0 < length room.old }
+    requires few { length room.old < 2 ^ 32 }
     requires least { least < 2 ^ 64 - 1 }
-    ensures some { IfSome result (λ k. AreTakenFrom least (map T.items parts.old.items) (map T.items parts.new.items) due.new k) }
-    ensures none { IsNone result → (map T.items parts.new.items ≡ map T.items parts.old.items) × (due.new ≡ [])
+    ensures room { length room.new ≡ length room.old }
+    ensures count { IfSome result (λ t. t.count ≤ length room.new) }
+    ensures some { IfSome result (λ t. AreTakenFrom least (map T.items parts.old.items) (map T.items parts.new.items)
+        (take t.count room.new) t.part) }
+    ensures none { IsNone result → (map T.items parts.new.items ≡ map T.items parts.old.items)
         × (freed least (all_of (map T.items parts.old.items)) ≡ []) }
 {
     for k in 0..parts.len() {
         if parts[k].oldest() <= least {
-            parts[k].take_due(least, due);
-            if !due.is_empty() {
-                return Some(k);
+            let count = parts[k].take_due(least, room);
+            if count != 0 {
+                return Some(Taken { part: k, count });
             }
         }
     }

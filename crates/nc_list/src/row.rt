@@ -3,9 +3,10 @@
 ghost use Rattle.std.specs.Prelude.{◌≡◌, ◌<◌, length};
 
 use crate::chunk::Chunk;
-use crate::due::Due;
+use crate::entry::Entry;
 use crate::part::Part;
-use crate::parts::{close_up, make_first, oldest_of, part_for, part_for_new, take_one};
+use crate::parts::{close_up, make_first, oldest_of, part_for_new, part_near, raised, take_one};
+use crate::place::Place;
 use crate::starts::{join_starts, lower, part_with, raise, split_starts};
 use std::alloc::{AllocError, Global};
 use std::marker::Model;
@@ -90,33 +91,35 @@ impl<T: Part> Part for Row<T> {
         self.parts[k].at(i - self.starts[k] as usize)
     }
 
-    fn next(&self, at: u32) -> Option<Chunk> {
+    fn next(&self, at: u32) -> (Option<Chunk>, Place) {
         if self.parts.is_empty() {
-            return None;
+            return (None, Place::of(0));
         }
-        let k = part_for(&self.parts, at);
-        if let Some(chunk) = self.parts[k].next(at) {
-            return Some(chunk);
+        let k = part_near(&self.parts, at, self.parts.len() - 1);
+        let (found, inner) = self.parts[k].next(at);
+        let place = inner.within(k);
+        if let Some(chunk) = found {
+            return (Some(chunk), place);
         }
         if k + 1 < self.parts.len() {
-            return Some(self.parts[k + 1].at(0));
+            return (Some(self.parts[k + 1].at(0)), place);
         }
-        None
+        (None, place)
     }
 
-    fn insert(&mut self, base: u32, len: u32) -> Result<(), AllocError> {
+    fn insert(&mut self, base: u32, len: u32, place: Place) -> Result<(), AllocError> {
         make_first(&mut self.parts, &mut self.starts)?;
-        let k = part_for_new(&mut self.parts, &mut self.starts, base)?;
-        self.parts[k].insert(base, len)?;
+        let k = part_for_new(&mut self.parts, &mut self.starts, base, place.outer())?;
+        self.parts[k].insert(base, len, place.inner())?;
         raise(&mut self.starts, k);
         self.count += 1;
         self.first = self.parts[0].first();
         Ok(())
     }
 
-    fn retire(&mut self, base: u32, stamp: u64) {
-        let k = part_for(&self.parts, base);
-        self.parts[k].retire(base, stamp);
+    fn retire(&mut self, base: u32, stamp: u64, place: Place) {
+        let k = part_near(&self.parts, base, place.outer());
+        self.parts[k].retire(base, stamp, place.inner());
         self.oldest = self.oldest.min(stamp);
     }
 
@@ -164,14 +167,18 @@ impl<T: Part> Part for Row<T> {
         true
     }
 
-    fn take_due(&mut self, least: u64, due: &mut Due) {
-        let Some(k) = take_one(&mut self.parts, least, due) else {
+    fn take_due(&mut self, least: u64, room: &mut [Entry]) -> usize {
+        let Some(taken) = take_one(&mut self.parts, least, room) else {
             self.oldest = oldest_of(&self.parts);
-            return;
+            return 0;
         };
-        lower(&mut self.starts, k, due.len() as u32);
-        self.count -= due.len();
-        close_up(&mut self.parts, &mut self.starts, k);
+        // The bounds of those before it are above `least`, so if it is the last one, a bound from all of them may be above it too.
+        let is_last = taken.part + 1 == self.parts.len();
+        lower(&mut self.starts, taken.part, taken.count as u32);
+        self.count -= taken.count;
+        close_up(&mut self.parts, &mut self.starts, taken.part);
         self.first = self.parts[0].first();
+        self.oldest = raised(&self.parts, self.oldest, is_last);
+        taken.count
     }
 }

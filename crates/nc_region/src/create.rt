@@ -18,7 +18,7 @@ ghost use Rattle.nc_region.specs.machinery.Between.{HasRoom, IsUnused, HasPut, I
 
 use crate::acts::Acts;
 use crate::fault::CreateFault;
-use crate::listing::is_free;
+use crate::listing::free_place;
 use nc_decode::Mark;
 use nc_list::ChunkList;
 use nc_vet::Vetted;
@@ -58,16 +58,16 @@ pub(crate) fn make_room<A: Acts>(
     }
     let base = vetted.base();
     let length = vetted.code().len() as u32;
-    if !is_free(chunks, base, length) {
+    let Some(place) = free_place(chunks, base, length) else {
         return Err(CreateFault::Occupied);
-    }
+    };
     let Ok(room) = list_room(chunks.allocator(), length as usize) else {
         return Err(CreateFault::OutOfMemory);
     };
     if acts.ready(base, length).is_err() {
         return Err(CreateFault::OutOfMemory);
     }
-    if chunks.insert(base, length).is_err() {
+    if chunks.insert(base, length, place).is_err() {
         return Err(CreateFault::OutOfMemory);
     }
     Ok(room)

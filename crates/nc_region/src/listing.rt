@@ -8,19 +8,22 @@ ghost use Rattle.nc_region.specs.Deletion.{HasLive};
 ghost use Rattle.nc_region.specs.Region.{IsRising, IsLive, Meets};
 ghost use Rattle.nc_region.specs.Patch.{IsHeldBy, IsHeld};
 
-use nc_list::{Chunk, ChunkList, ChunkState};
+use nc_list::{Chunk, ChunkList, ChunkState, Place};
 
-/// The span overlaps no chunk.
-pub(crate) fn is_free(chunks: &ChunkList, base: u32, len: u32) -> bool
+/// The place for a chunk in the list, if its span overlaps no other.
+pub(crate) fn free_place(chunks: &ChunkList, base: u32, len: u32) -> Option<Place>
     requires fits { base + len < 2 ^ 32 }
     requires rising { IsRising 0x10000 chunks.now }
-    ensures free { IsTrue result → ¬ Meets base len chunks.now }
-    ensures meets { result ≡ false → Meets base len chunks.now }
+    ensures free { IfSome result (λ place. ¬ Meets base len chunks.now) }
+    ensures meets { IfNone result (Meets base len chunks.now) }
 {
-    match chunks.chunk_at(base) {
-        Some(chunk) => base + len <= chunk.base,
-        None => true,
+    let (next, place) = chunks.find(base);
+    if let Some(chunk) = next {
+        if chunk.base < base + len {
+            return None;
+        }
     }
+    Some(place)
 }
 
 /// The live chunk in which the place lies.
@@ -44,9 +47,23 @@ pub(crate) fn live_at(chunks: &ChunkList, base: u32) -> Option<Chunk>
     ensures some { IfSome result (λ c. Contains chunks.now c × (c.state ≡ ChunkState.Live) × (c.base ≡ base)) }
     ensures none { IfNone result (¬ HasLive chunks.now base) }
 {
-    let chunk = chunks.chunk_at(base)?;
+    let (chunk, _) = live_place(chunks, base)?;
+    Some(chunk)
+}
+
+/// The live chunk with this base, and its place in the list.
+pub(crate) fn live_place(chunks: &ChunkList, base: u32) -> Option<(Chunk, Place)>
+    requires rising { IsRising 0x10000 chunks.now }
+    requires some { Each (λ (d : Chunk). 0 < d.length) chunks.now }
+    ensures some { IfSome result (λ r. Contains chunks.now r.0 × (r.0.state ≡ ChunkState.Live) × (r.0.base ≡ base)) }
+    ensures none { IfNone result (¬ HasLive chunks.now base) }
+{
+    let (next, place) = chunks.find(base);
+    let Some(chunk) = next else {
+        return None;
+    };
     if is_live(chunk) && chunk.base == base {
-        Some(chunk)
+        Some((chunk, place))
     } else {
         None
     }

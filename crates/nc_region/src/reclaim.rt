@@ -7,10 +7,16 @@ ghost use Rattle.nc_region.specs.Deletion.{freed, kept};
 ghost use Rattle.nc_region.specs.machinery.Freeing.{AreTakenOut, AreUnmarked};
 
 use crate::acts::Acts;
-use nc_list::{ChunkList, Due};
+use nc_list::{ChunkList, Entry};
+
+/// How many chunks of a list that has no more are taken out of it at once.
+const FEW: usize = 16;
+
+/// How many chunks of a longer list are taken out of it at once.
+const MANY: usize = 64;
 
 /// Unmarks the spans of chunks that have been taken out of a region's list, in ascending order.
-fn unmark_taken<A: Acts>(acts: &mut A, taken: &Due)
+fn unmark_taken<A: Acts>(acts: &mut A, taken: &[Entry])
     requires { (least : ℕ) × (left : List Chunk) × AreTakenOut least (A.marked acts.old) left taken.now }
     ensures region { (least : ℕ) (left : List Chunk) → AreTakenOut least (A.marked acts.old) left taken.now → IsRegion (A.marked acts.new) left }
     ensures unmarks { AreUnmarked taken.now (A.marked acts.old) (A.marked acts.new) (A.told acts.old) (A.told acts.new)
@@ -19,8 +25,30 @@ fn unmark_taken<A: Acts>(acts: &mut A, taken: &Due)
     ensures keeper { A.keeper acts.new ≡ A.keeper acts.old }
 {
     for i in 0..taken.len() {
-        let chunk = taken.at(i);
+        let chunk = taken[i].chunk();
         acts.unmark_span(chunk.base, chunk.length);
+    }
+}
+
+/// Unmarks the span of each retired chunk of the list with a stamp of at most this number, in ascending order, and removes these
+/// chunks. There is room for those that are taken out at once.
+fn free_in<A: Acts>(acts: &mut A, chunks: &mut ChunkList, least: u64, room: &mut [Entry])
+    requires region { IsRegion (A.marked acts.old) chunks.old }
+    requires least { least < 2 ^ 64 - 1 }
+    requires room { (0 < length room.old) × (length room.old < 2 ^ 32) }
+    ensures chunks { chunks.new ≡ kept least chunks.old }
+    ensures region { IsRegion (A.marked acts.new) chunks.new }
+    ensures unmarks { AreUnmarked (freed least chunks.old) (A.marked acts.old) (A.marked acts.new) (A.told acts.old) (A.told acts.new)
+        (A.logged acts.old) (A.logged acts.new) }
+    ensures made { A.made acts.new ≡ A.made acts.old }
+    ensures keeper { A.keeper acts.new ≡ A.keeper acts.old }
+{
+    loop {
+        let count = chunks.take_due(least, room);
+        if count == 0 {
+            return;
+        }
+        unmark_taken(acts, &room[..count]);
     }
 }
 
@@ -38,13 +66,14 @@ pub(crate) fn free_due<A: Acts>(acts: &mut A, chunks: &mut ChunkList, least: u64
     ensures made { A.made acts.new ≡ A.made acts.old }
     ensures keeper { A.keeper acts.new ≡ A.keeper acts.old }
 {
-    let before = chunks.len();
-    loop {
-        let mut due = Due::new();
-        chunks.take_due(least, &mut due);
-        if due.is_empty() {
-            return (before - chunks.len()) as u32;
-        }
-        unmark_taken(acts, &due);
+    if !chunks.may_be_due(least) {
+        return 0;
     }
+    let before = chunks.len();
+    if before <= FEW {
+        free_in(acts, chunks, least, &mut [Entry::live(0, 0); FEW]);
+    } else {
+        free_in(acts, chunks, least, &mut [Entry::live(0, 0); MANY]);
+    }
+    (before - chunks.len()) as u32
 }

@@ -23,7 +23,7 @@ use crate::acts::Acts;
 use crate::create::{make_room, put_chunk};
 use crate::delete::put_stops;
 use crate::fault::{CreateFault, DeleteFault, ModifyFault, RegionFault, WalkFault};
-use crate::listing::{holder, live_at};
+use crate::listing::{holder, live_at, live_place};
 use crate::modify::is_patch_span;
 use crate::patch::{mark_within, patch};
 use crate::plain::Plain;
@@ -288,14 +288,14 @@ impl<A: Acts + Drop> RegionOf<A> {
         ensures refused { IfErr result (MayRefuseDelete self.old base) }
         ensures confined { IsConfined self.new.marked.bytes }
     {
-        let Some(chunk) = live_at(&self.chunks, base) else {
+        let Some((chunk, place)) = live_place(&self.chunks, base) else {
             return Err(DeleteFault::NoChunk);
         };
         if self.acts.generation() >= LAST_GENERATION {
             return Err(DeleteFault::GensFull);
         }
         let stamp = put_stops(&mut self.acts, base, chunk.length);
-        self.chunks.retire(base, stamp);
+        self.chunks.retire(base, stamp, place);
         Ok(stamp)
     }
 

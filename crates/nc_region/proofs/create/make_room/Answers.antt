@@ -40,21 +40,6 @@ returns-then-limit g c =
       refused = λ same. c.if-limit.true (c.limit.ensures.value ∙ (same ∙ sym c.limit-2.ensures.limit));
     }
 
-pub returns-then-not-is_free : goal.returns-then-not-is_free
-returns-then-not-is_free g c =
-    record {
-      room = tt;
-      marks = tt;
-      only = ready_same _ _ _;
-      others = (refl, refl, refl, refl);
-      unlisted = refl;
-      made = λ _. refl;
-      refused = (
-        sym c.limit.ensures.value ∙ (c.if-limit.false ∙ c.limit-2.ensures.limit),
-        rw (← c.base-base.ensures.value, ← c.code.ensures.value) (c.is_free.ensures.meets c.if-not-is_free.true),
-      );
-    }
-
 pub returns-in_default : goal.returns-in_default
 returns-in_default g c =
     record {
@@ -66,7 +51,22 @@ returns-in_default g c =
       made = λ _. refl;
       refused = (
         sym c.limit.ensures.value ∙ (c.if-limit.false ∙ c.limit-2.ensures.limit),
-        rw (← c.base-base.ensures.value, ← c.code.ensures.value) (c.is_free.ensures.free c.if-not-is_free.false),
+        rw (← c.base-base.ensures.value, ← c.code.ensures.value) c.in_default.ensures.meets,
+      );
+    }
+
+pub returns-in_default-list_room : goal.returns-in_default-list_room
+returns-in_default-list_room g c =
+    record {
+      room = tt;
+      marks = tt;
+      only = ready_same _ _ _;
+      others = (refl, refl, refl, refl);
+      unlisted = refl;
+      made = λ _. refl;
+      refused = (
+        sym c.limit.ensures.value ∙ (c.if-limit.false ∙ c.limit-2.ensures.limit),
+        rw (← c.base-base.ensures.value, ← c.code.ensures.value) c.in-Some.ensures.free,
       );
     }
 
@@ -81,7 +81,7 @@ returns-then-is_err g c =
       made = λ differ. absurd (differ refl);
       refused = (
         sym c.limit.ensures.value ∙ (c.if-limit.false ∙ c.limit-2.ensures.limit),
-        rw (← c.base-base.ensures.value, ← c.code.ensures.value) (c.is_free.ensures.free c.if-not-is_free.false),
+        rw (← c.base-base.ensures.value, ← c.code.ensures.value) c.in-Some.ensures.free,
       );
     }
 
@@ -96,7 +96,7 @@ returns-then-is_err-2 g c =
       made = λ differ. absurd (differ refl);
       refused = (
         sym c.limit.ensures.value ∙ (c.if-limit.false ∙ c.limit-2.ensures.limit),
-        rw (← c.base-base.ensures.value, ← c.code.ensures.value) (c.is_free.ensures.free c.if-not-is_free.false),
+        rw (← c.base-base.ensures.value, ← c.code.ensures.value) c.in-Some.ensures.free,
       );
     }
 
@@ -113,7 +113,7 @@ returns g c =
       room = record {
         valid = c.code.ensures.valid;
         limit = sym c.limit.ensures.value ∙ (c.if-limit.false ∙ c.limit-2.ensures.limit);
-        free = rw (← c.base-base.ensures.value, ← c.code.ensures.value) (c.is_free.ensures.free c.if-not-is_free.false);
+        free = rw (← c.base-base.ensures.value, ← c.code.ensures.value) c.in-Some.ensures.free;
         listed = listed;
         ready = here;
       };

@@ -1,68 +1,28 @@
-use Rattle.std.proofs.Common.{◌≡◌, ◌≢◌, ◌<◌, List, [], ◌∷◌, length, true, false, refl, sym, ◌∙◌, arith}
+use Rattle.std.proofs.Common.{◌≡◌, ◌+◌, List, length, sym, ap, arith}
 use Rattle.nc_list.specs.declared.chunk.Chunk.{Chunk}
-use Rattle.nc_region.proofs.deleting.Freeing.{taken_out, taken_shorter, freed_none, freed_more, freed_all, AllFreed}
+use Rattle.nc_list.proofs.Offered.{all_stay}
+use Rattle.nc_region.specs.Deletion.{freed, kept}
+use Rattle.nc_region.proofs.deleting.Due.{kept_and_freed}
 use Rattle.nc_region.proofs.reclaim.free_due.Given.{Over}
 use Rattle.nc_region.proofs.reclaim.free_due.Goals as goal
-use Rattle.nc_region.proofs.reclaim.free_due.Goals.{After-len}
+use Rattle.nc_region.proofs.reclaim.free_due.Goals.{then-before-le-FEW, else-before-le-FEW, Joined-before-le-FEW}
 
--- a list that isn't empty has a member
-some_long : (xs : List Chunk) → xs ≢ [] → 0 < length xs
-some_long [] some = absurd (some refl)
-some_long (x ∷ xs) some = omega arith
+-- the chunks that stay and those that were freed
+parted : (g : Over) (c : Joined-before-le-FEW g) → length c.if-before-le-FEW.chunks + length (freed c.args.least c.args.chunks.now)
+    ≡ length c.args.chunks.now
+parted g c =
+    let stay : c.if-before-le-FEW.chunks ≡ kept c.args.least c.args.chunks.now =
+    elim c.if-before-le-FEW.branch [
+      | then-before-le-FEW w ↦ rw w.chunks-is w.free_in.ensures.chunks
+      | else-before-le-FEW w ↦ rw w.chunks-is w.free_in-else-before-le-FEW.ensures.chunks
+    ] in
+    omega (arith, kept_and_freed c.args.least c.args.chunks.now, ap (λ (z : List Chunk). length z) stay)
 
--- what the last turn finds
-ended : (g : Over) (c : After-len g) → AllFreed c.args.least c.args.chunks.now c.take_due.new.self (g.A.Acts.marked c.args.acts.now)
-    (g.A.Acts.marked c.loop-due.acts) (g.A.Acts.told c.args.acts.now) (g.A.Acts.told c.loop-due.acts) (g.A.Acts.logged c.args.acts.now)
-    (g.A.Acts.logged c.loop-due.acts)
-ended g c =
-    freed_all c.args.least c.args.chunks.now c.loop-due.chunks c.take_due.new.self c.take_due.new.due _ _ _ _ _ _ c.loop-due.invariant.freed
-    c.take_due.ensures (c.is_empty.ensures.0 c.if-is_empty.true)
-
-pub loop-due-init : goal.loop-due-init
-loop-due-init g c = record {
-  freed = freed_none c.args.least c.args.chunks.now (g.A.Acts.marked c.args.acts.now) (g.A.Acts.told c.args.acts.now)
-      (g.A.Acts.logged c.args.acts.now) c.requires.region;
-  made = refl;
-  keeper = refl;
-}
-
-pub unmark_taken-requires : goal.unmark_taken-requires
-unmark_taken-requires g c = (
-  c.args.least,
-  c.take_due.new.self,
-  taken_out c.args.least (g.A.Acts.marked c.loop-due.acts) c.loop-due.chunks c.take_due.new.self c.take_due.new.due
-      c.loop-due.invariant.freed.region c.take_due.ensures,
-)
-
-pub loop-due-preserved : goal.loop-due-preserved
-loop-due-preserved g c =
-    let out = taken_out c.args.least (g.A.Acts.marked c.loop-due.acts) c.loop-due.chunks c.take_due.new.self c.take_due.new.due
-    c.loop-due.invariant.freed.region c.take_due.ensures in
-    record {
-      freed = freed_more c.args.least c.args.chunks.now c.loop-due.chunks c.take_due.new.self c.take_due.new.due _ _ _ _ _ _ _ _ _
-          c.loop-due.invariant.freed c.take_due.ensures c.unmark_taken.ensures.unmarks
-          (c.unmark_taken.ensures.region c.args.least c.take_due.new.self out);
-      made = c.unmark_taken.ensures.made ∙ c.loop-due.invariant.made;
-      keeper = c.unmark_taken.ensures.keeper ∙ c.loop-due.invariant.keeper;
-    }
-
-pub loop-due-smaller : goal.loop-due-smaller
-loop-due-smaller g c =
-    let some : 0 < length c.take_due.new.due =
-    some_long c.take_due.new.due (λ none. let yes = c.is_empty.ensures.1 none in let differ : true ≡ false = sym yes ∙ c.if-is_empty.false in cc) in
-    omega (arith, some, taken_shorter c.args.least c.loop-due.chunks c.take_due.new.self c.take_due.new.due c.take_due.ensures)
+pub returns-then-not-may_be_due-clause-chunks : goal.returns-then-not-may_be_due-clause-chunks
+returns-then-not-may_be_due-clause-chunks g c = sym (all_stay c.args.least c.args.chunks.now (c.may_be_due.ensures c.if-not-may_be_due.true))
 
 pub overflow_sub-result : goal.overflow_sub-result
-overflow_sub-result g c = omega (arith, (ended g c).count, c.len-before.ensures, c.len.ensures)
+overflow_sub-result g c = omega (arith, parted g (goal.at.overflow_sub-result g c).Joined-before-le-FEW, c.len-before.ensures, c.len.ensures)
 
-pub returns-then-is_empty-clause-chunks : goal.returns-then-is_empty-clause-chunks
-returns-then-is_empty-clause-chunks g c = (ended g c).stay
-
-pub returns-then-is_empty-clause-count : goal.returns-then-is_empty-clause-count
-returns-then-is_empty-clause-count g c = omega (arith, (ended g c).count, c.len-before.ensures, c.len.ensures)
-
-pub returns-then-is_empty-clause-region : goal.returns-then-is_empty-clause-region
-returns-then-is_empty-clause-region g c = (ended g c).region
-
-pub returns-then-is_empty-clause-unmarks : goal.returns-then-is_empty-clause-unmarks
-returns-then-is_empty-clause-unmarks g c = (ended g c).unmarks
+pub returns-clause-count : goal.returns-clause-count
+returns-clause-count g c = omega (arith, parted g (goal.at.returns-clause-count g c).Joined-before-le-FEW, c.len-before.ensures, c.len.ensures)

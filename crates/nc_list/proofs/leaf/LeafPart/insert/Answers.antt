@@ -2,8 +2,8 @@ use Rattle.std.proofs.Common.{◌≡◌, ℕ, Bool, true, not, if◌then◌else�
 use Rattle.std.specs.Result.{is_ok}
 use Rattle.std.specs.List.{insert}
 use Rattle.nc_list.specs.declared.chunk.Chunk.{Chunk}
-use Rattle.nc_list.specs.Chunks.{Meets}
-use Rattle.nc_list.specs.Parts.{IsPut, BeginTo, BeginAbove, live}
+use Rattle.nc_list.specs.Chunks.{Meets, live}
+use Rattle.nc_list.specs.Parts.{IsPut, BeginTo, BeginAbove}
 use Rattle.nc_list.proofs.Finding.{put_at}
 use Rattle.nc_list.proofs.leaf.LeafPart.insert.Goals as goal
 use Rattle.nc_list.proofs.leaf.LeafPart.insert.Goals.{Else-is_err}
@@ -12,9 +12,9 @@ use Rattle.nc_list.proofs.leaf.LeafPart.insert.Goals.{Else-is_err}
 put : (c : Else-is_err) → IsPut c.args.self.now c.insert.new.self.items (live c.args.base c.args.len)
 put c =
     let items : List Chunk = c.self.inside.entries.items in
-    let k : ℕ = c.count_to-k.result in
-    let to : BeginTo c.args.base (take k items) = rw c.deref.ensures.value at c.count_to-k.ensures.below in
-    let above : BeginAbove c.args.base (drop k items) = rw c.deref.ensures.value at c.count_to-k.ensures.above in
+    let k : ℕ = c.count_near-k.result in
+    let to : BeginTo c.args.base (take k items) = rw c.deref.ensures.value at c.count_near-k.ensures.below in
+    let above : BeginAbove c.args.base (drop k items) = rw c.deref.ensures.value at c.count_near-k.ensures.above in
     let free : ¬ Meets c.args.base c.args.len items =
     subst (λ (z : List Chunk). ¬ Meets c.args.base c.args.len z) (sym c.self.view_is) c.requires.free in
     let done : is_ok c.insert.result ≡ true = c.is_err.ensures.negation ∙ ap not c.if-is_err.false in

@@ -11,7 +11,7 @@ use Rattle.nc_list.proofs.leaf.LeafPart.retire.Goals as goal
 pub invariant_of-self : goal.invariant_of-self
 invariant_of-self c =
     let items : List Chunk = c.self.inside.entries.items in
-    let i : ℕ = c.count_to-k.result - 1 in
+    let i : ℕ = c.count_near-k.result - 1 in
     let found : Chunk = c.index-entry.result.now in
     let now : Chunk = c.retired.result in
     let same : now.base ≡ found.base = ap (λ (d : Chunk). d.base) c.retired.ensures in
@@ -25,11 +25,11 @@ invariant_of-self c =
 pub returns : goal.returns
 returns c =
     let items : List Chunk = c.self.inside.entries.items in
-    let k : ℕ = c.count_to-k.result in
+    let k : ℕ = c.count_near-k.result in
     let found : Chunk = c.index-entry.result.now in
-    let to : BeginTo c.args.base (take k items) = rw c.deref.ensures.value at c.count_to-k.ensures.below in
-    let above : BeginAbove c.args.base (drop k items) = rw c.deref.ensures.value at c.count_to-k.ensures.above in
-    let le : k ≤ length items = rw c.deref.ensures.value at c.count_to-k.ensures.bound in
+    let to : BeginTo c.args.base (take k items) = rw c.deref.ensures.value at c.count_near-k.ensures.below in
+    let above : BeginAbove c.args.base (drop k items) = rw c.deref.ensures.value at c.count_near-k.ensures.above in
+    let le : k ≤ length items = rw c.deref.ensures.value at c.count_near-k.ensures.bound in
     let last = last_has items k c.args.base found (subst (IsRising 0) (sym c.self.view_is) c.requires.rising) le to above
     (subst (λ (z : List Chunk). HasBase z c.args.base) (sym c.self.view_is) c.requires.base) in
     rw (c.retired.ensures, ← c.self.view_is)

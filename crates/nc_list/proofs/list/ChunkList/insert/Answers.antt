@@ -1,6 +1,6 @@
 use Rattle.std.proofs.lemmas.Result.{on_ok_weaker}
-use Rattle.nc_list.specs.Parts.{live}
 use Rattle.nc_list.proofs.Combining.{put_inserted}
+use Rattle.nc_list.specs.Chunks.{live}
 use Rattle.nc_list.proofs.list.ChunkList.insert.Goals as goal
 
 pub returns-clause-ok : goal.returns-clause-ok

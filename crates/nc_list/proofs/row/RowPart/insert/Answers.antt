@@ -3,9 +3,9 @@ use Rattle.std.proofs.lemmas.List.{length-map, length-set, map-set}
 use Rattle.std.proofs.lemmas.Result.{err_from_is_err_and}
 use Rattle.nc_list.specs.declared.chunk.Chunk.{Chunk}
 use Rattle.nc_list.specs.Each.{Each}
-use Rattle.nc_list.specs.Chunks.{IsRising, Meets}
+use Rattle.nc_list.specs.Chunks.{IsRising, Meets, live}
 use Rattle.nc_list.specs.Stamps.{BeginsAt}
-use Rattle.nc_list.specs.Parts.{IsRow, IsPut, all_of, live}
+use Rattle.nc_list.specs.Parts.{IsRow, IsPut, all_of}
 use Rattle.nc_list.proofs.Pieces.{part_is, starts_long}
 use Rattle.nc_list.proofs.Pairs.{written}
 use Rattle.nc_list.proofs.Parting.{kept_parts, starts_many}

@@ -1,15 +1,15 @@
 use Rattle.std.proofs.Common.{◌≡◌, ℕ, ◌+◌, ◌-◌, ◌≤◌, List, [], ◌++◌, length, get_or, take, drop, map, sym, ap, ◌∙◌, arith, subst}
-use Rattle.std.proofs.lemmas.List.{length-map, length-set}
+use Rattle.std.proofs.lemmas.List.{length-map, length-set, length-take-le}
 use Rattle.nc_list.specs.declared.chunk.Chunk.{Chunk}
 use Rattle.nc_list.specs.Each.{Each}
-use Rattle.nc_list.specs.Stamps.{BeginsAt}
+use Rattle.nc_list.specs.Stamps.{BeginsAt, AreSince}
 use Rattle.nc_list.specs.Parts.{AreTakenFrom, OthersHaveSome, all_of, starts_of}
 use Rattle.nc_list.proofs.Pieces.{part_is, starts_long}
 use Rattle.nc_list.proofs.Pairs.{written}
 use Rattle.nc_list.proofs.Parting.{starts_many}
 use Rattle.nc_list.proofs.Rows.{lowered, enough_behind, set_others}
 use Rattle.nc_list.proofs.Taking.{taken_from}
-use Rattle.nc_list.proofs.Leaving.{taken_long, taken_inside, taken_set, taken_here, taken_row}
+use Rattle.nc_list.proofs.Leaving.{taken_long, taken_inside, taken_set, taken_here, taken_row, taken_since}
 use Rattle.nc_list.proofs.row.RowPart.take_due.Goals as goal
 
 pub lower-requires-clause-inside : goal.lower-requires-clause-inside
@@ -17,8 +17,10 @@ lower-requires-clause-inside g c =
     let xs = c.self.inside.parts.items in
     let old = map g.T.Part.items xs in
     let new = map g.T.Part.items c.take_one.new.parts.items in
-    let so : AreTakenFrom c.args.least old new c.take_one.new.due c.in-Some.k = c.in-Some.ensures.some in
-    let inside = taken_inside c.args.least old new c.take_one.new.due c.in-Some.k so in
+    let due = take c.in-Some.taken.count c.take_one.new.room in
+    let many : length due ≡ c.in-Some.taken.count = length-take-le c.in-Some.taken.count c.take_one.new.room c.in-Some.ensures.count in
+    let so : AreTakenFrom c.args.least old new due c.in-Some.taken.part = c.in-Some.ensures.some in
+    let inside = taken_inside c.args.least old new due c.in-Some.taken.part so in
     omega (
       arith,
       inside,
@@ -32,24 +34,28 @@ lower-requires-clause-enough g c =
     let xs = c.self.inside.parts.items in
     let old = map g.T.Part.items xs in
     let new = map g.T.Part.items c.take_one.new.parts.items in
-    let so : AreTakenFrom c.args.least old new c.take_one.new.due c.in-Some.k = c.in-Some.ensures.some in
-    let inside = taken_inside c.args.least old new c.take_one.new.due c.in-Some.k so in
-    subst (λ (z : List ℕ). Each (λ (n : ℕ). c.len.result ≤ n) (drop (c.in-Some.k + 1) z)) (sym c.deref_mut.ensures.value)
-    (enough_behind old c.self.inside.starts.items c.in-Some.k c.len.result inside c.self.invariant.starts_are
-    (omega (arith, taken_here c.args.least old new c.take_one.new.due c.in-Some.k so, c.len.ensures.count)))
+    let due = take c.in-Some.taken.count c.take_one.new.room in
+    let many : length due ≡ c.in-Some.taken.count = length-take-le c.in-Some.taken.count c.take_one.new.room c.in-Some.ensures.count in
+    let so : AreTakenFrom c.args.least old new due c.in-Some.taken.part = c.in-Some.ensures.some in
+    let inside = taken_inside c.args.least old new due c.in-Some.taken.part so in
+    subst (λ (z : List ℕ). Each (λ (n : ℕ). c.in-Some.taken.count ≤ n) (drop (c.in-Some.taken.part + 1) z)) (sym c.deref_mut.ensures.value)
+    (enough_behind old c.self.inside.starts.items c.in-Some.taken.part c.in-Some.taken.count inside c.self.invariant.starts_are
+    (omega (arith, taken_here c.args.least old new due c.in-Some.taken.part so, many)))
 
 pub overflow_sub-self : goal.overflow_sub-self
 overflow_sub-self g c =
     let xs = c.self.inside.parts.items in
     let old = map g.T.Part.items xs in
     let new = map g.T.Part.items c.take_one.new.parts.items in
-    let so : AreTakenFrom c.args.least old new c.take_one.new.due c.in-Some.k = c.in-Some.ensures.some in
-    let inside = taken_inside c.args.least old new c.take_one.new.due c.in-Some.k so in
+    let due = take c.in-Some.taken.count c.take_one.new.room in
+    let many : length due ≡ c.in-Some.taken.count = length-take-le c.in-Some.taken.count c.take_one.new.room c.in-Some.ensures.count in
+    let so : AreTakenFrom c.args.least old new due c.in-Some.taken.part = c.in-Some.ensures.some in
+    let inside = taken_inside c.args.least old new due c.in-Some.taken.part so in
     omega (
       arith,
-      c.len-2.ensures.count,
+      many,
       c.self.invariant.count_is,
-      taken_long c.args.least (all_of old) (all_of new) c.take_one.new.due (taken_from c.args.least old new c.take_one.new.due c.in-Some.k so),
+      taken_long c.args.least (all_of old) (all_of new) due (taken_from c.args.least old new due c.in-Some.taken.part so),
     )
 
 pub close_up-requires-clause-starts : goal.close_up-requires-clause-starts
@@ -57,25 +63,27 @@ close_up-requires-clause-starts g c =
     let xs = c.self.inside.parts.items in
     let old = map g.T.Part.items xs in
     let new = map g.T.Part.items c.take_one.new.parts.items in
-    let so : AreTakenFrom c.args.least old new c.take_one.new.due c.in-Some.k = c.in-Some.ensures.some in
-    let inside = taken_inside c.args.least old new c.take_one.new.due c.in-Some.k so in
+    let due = take c.in-Some.taken.count c.take_one.new.room in
+    let many : length due ≡ c.in-Some.taken.count = length-take-le c.in-Some.taken.count c.take_one.new.room c.in-Some.ensures.count in
+    let so : AreTakenFrom c.args.least old new due c.in-Some.taken.part = c.in-Some.ensures.some in
+    let inside = taken_inside c.args.least old new due c.in-Some.taken.part so in
     let starts = c.self.inside.starts.items in
     let are : c.lower.new.starts
-    ≡ take (c.in-Some.k + 1) starts ++ map (λ (n : ℕ). n - c.len.result) (drop (c.in-Some.k + 1) starts) =
+    ≡ take (c.in-Some.taken.part + 1) starts ++ map (λ (n : ℕ). n - c.in-Some.taken.count) (drop (c.in-Some.taken.part + 1) starts) =
     c.lower.ensures
-    ∙ ap (λ (z : List ℕ). take (c.in-Some.k + 1) z ++ map (λ (n : ℕ). n - c.len.result) (drop (c.in-Some.k + 1) z)) c.deref_mut.ensures.value in
-    let fewer : length (get_or old c.in-Some.k []) ≡ length so.left + c.len.result =
-    omega (arith, taken_here c.args.least old new c.take_one.new.due c.in-Some.k so, c.len.ensures.count) in
-    let set_is = taken_set c.args.least old new c.take_one.new.due c.in-Some.k so in
+    ∙ ap (λ (z : List ℕ). take (c.in-Some.taken.part + 1) z ++ map (λ (n : ℕ). n - c.in-Some.taken.count) (drop (c.in-Some.taken.part + 1) z)) c.deref_mut.ensures.value in
+    let fewer : length (get_or old c.in-Some.taken.part []) ≡ length so.left + c.in-Some.taken.count =
+    omega (arith, taken_here c.args.least old new due c.in-Some.taken.part so, many) in
+    let set_is = taken_set c.args.least old new due c.in-Some.taken.part so in
     let now : c.lower.new.starts ≡ starts_of 0 new =
-    are ∙ (lowered old starts c.in-Some.k c.len.result so.left inside c.self.invariant.starts_are fewer ∙ ap (starts_of 0) set_is) in
+    are ∙ (lowered old starts c.in-Some.taken.part c.in-Some.taken.count so.left inside c.self.invariant.starts_are fewer ∙ ap (starts_of 0) set_is) in
     let size : length c.lower.new.starts ≡ c.self.inside.starts.len =
     omega (
       arith,
       ap (λ (z : List ℕ). length z) now,
       starts_long 0 new,
       ap (λ (z : List (List Chunk)). length z) set_is,
-      length-set old c.in-Some.k so.left,
+      length-set old c.in-Some.taken.part so.left,
       starts_long 0 old,
       ap (λ (z : List ℕ). length z) c.self.invariant.starts_are,
       c.self.inside.starts.ok.0,
@@ -87,32 +95,53 @@ close_up-requires-clause-have g c =
     let xs = c.self.inside.parts.items in
     let old = map g.T.Part.items xs in
     let new = map g.T.Part.items c.take_one.new.parts.items in
-    let so : AreTakenFrom c.args.least old new c.take_one.new.due c.in-Some.k = c.in-Some.ensures.some in
-    let inside = taken_inside c.args.least old new c.take_one.new.due c.in-Some.k so in
-    subst (λ (z : List (List Chunk)). OthersHaveSome z c.in-Some.k) (taken_set c.args.least old new c.take_one.new.due c.in-Some.k so)
-    (set_others old c.in-Some.k so.left c.self.invariant.some)
+    let due = take c.in-Some.taken.count c.take_one.new.room in
+    let many : length due ≡ c.in-Some.taken.count = length-take-le c.in-Some.taken.count c.take_one.new.room c.in-Some.ensures.count in
+    let so : AreTakenFrom c.args.least old new due c.in-Some.taken.part = c.in-Some.ensures.some in
+    let inside = taken_inside c.args.least old new due c.in-Some.taken.part so in
+    subst (λ (z : List (List Chunk)). OthersHaveSome z c.in-Some.taken.part) (taken_set c.args.least old new due c.in-Some.taken.part so)
+    (set_others old c.in-Some.taken.part so.left c.self.invariant.some)
+
+pub overflow_cast-taken : goal.overflow_cast-taken
+overflow_cast-taken g c = omega (arith, c.in-Some.ensures.count, c.take_one.ensures.room, c.requires.few)
+
+pub raised-self-inside-requires : goal.raised-self-inside-requires
+raised-self-inside-requires g c =
+    let xs = c.self.inside.parts.items in
+    let old = map g.T.Part.items xs in
+    let new = map g.T.Part.items c.take_one.new.parts.items in
+    let due = take c.in-Some.taken.count c.take_one.new.room in
+    let so : AreTakenFrom c.args.least old new due c.in-Some.taken.part = c.in-Some.ensures.some in
+    subst (λ (z : List g.row.T.Denot). AreSince c.self.inside.oldest (all_of (map g.T.Part.items z))) (sym c.deref-2.ensures.value)
+    (subst (AreSince c.self.inside.oldest) (sym c.close_up.ensures.all)
+    (taken_since c.args.least c.self.inside.oldest (all_of old) (all_of new) due
+    (taken_from c.args.least old new due c.in-Some.taken.part so) c.self.invariant.since))
 
 pub invariant_of-self-2 : goal.invariant_of-self-2
 invariant_of-self-2 g c =
     let xs = c.self.inside.parts.items in
     let old = map g.T.Part.items xs in
     let new = map g.T.Part.items c.take_one.new.parts.items in
-    let so : AreTakenFrom c.args.least old new c.take_one.new.due c.in-Some.k = c.in-Some.ensures.some in
-    let inside = taken_inside c.args.least old new c.take_one.new.due c.in-Some.k so in
+    let due = take c.in-Some.taken.count c.take_one.new.room in
+    let many : length due ≡ c.in-Some.taken.count = length-take-le c.in-Some.taken.count c.take_one.new.room c.in-Some.ensures.count in
+    let so : AreTakenFrom c.args.least old new due c.in-Some.taken.part = c.in-Some.ensures.some in
     let last = map g.T.Part.items c.close_up.new.parts.items in
     let long = length-map c.close_up.new.parts.items g.T.Part.items in
     let begins = subst (BeginsAt c.first-self-inside.result)
     (part_is g.T.Part.items c.close_up.new.parts.items 0 c.index.result.now c.close_up.ensures.some c.index.ensures)
     c.first-self-inside.ensures in
     taken_row c.args.least old new last c.self.inside.starts.items c.close_up.new.starts.items c.self.inside.count c.self.inside.first
-    c.self.inside.oldest c.first-self-inside.result c.in-Some.k c.len-2.result c.take_one.new.due c.self.invariant so c.len-2.ensures.count
-    c.close_up.ensures.all c.close_up.ensures.starts c.close_up.ensures.have (omega (arith, c.close_up.ensures.some, long)) begins
+    c.self.inside.oldest c.first-self-inside.result c.raised-self-inside.result c.in-Some.taken.part c.in-Some.taken.count due
+    c.self.invariant so (sym many) c.close_up.ensures.all c.close_up.ensures.starts c.close_up.ensures.have
+    (omega (arith, c.close_up.ensures.some, long)) begins
+    (subst (λ (z : List g.row.T.Denot). AreSince c.raised-self-inside.result (all_of (map g.T.Part.items z))) c.deref-2.ensures.value
+    c.raised-self-inside.ensures)
 
-pub returns : goal.returns
-returns g c =
+pub returns-clause-taken : goal.returns-clause-taken
+returns-clause-taken g c =
     let xs = c.self.inside.parts.items in
     let old = map g.T.Part.items xs in
     let new = map g.T.Part.items c.take_one.new.parts.items in
-    let so : AreTakenFrom c.args.least old new c.take_one.new.due c.in-Some.k = c.in-Some.ensures.some in
-    let inside = taken_inside c.args.least old new c.take_one.new.due c.in-Some.k so in
-    rw (← c.self.view_is, c.close_up.ensures.all) (taken_from c.args.least old new c.take_one.new.due c.in-Some.k so)
+    let due = take c.in-Some.taken.count c.take_one.new.room in
+    let so : AreTakenFrom c.args.least old new due c.in-Some.taken.part = c.in-Some.ensures.some in
+    rw (← c.self.view_is, c.close_up.ensures.all) (taken_from c.args.least old new due c.in-Some.taken.part so)

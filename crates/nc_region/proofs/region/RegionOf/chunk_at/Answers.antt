@@ -1,10 +1,10 @@
-use Rattle.std.proofs.Common.{◌≡◌, ℕ, List, Option, Some, None, IfSome, ◌++◌, ◌∷◌, subst, arith}
+use Rattle.std.proofs.Common.{ℕ, List, Option, Some, None, IfSome, subst, arith}
 use Rattle.nc_text.specs.Places.{limit_of}
 use Rattle.nc_list.specs.declared.chunk.Chunk.{Chunk}
 use Rattle.nc_list.proofs.Offered.{each_middle, rises_lower}
 use Rattle.nc_region.specs.Chunks.{HasGoodSpan}
 use Rattle.nc_region.specs.Each.{Each}
-use Rattle.nc_region.specs.Region.{IsRising, IsNextChunk}
+use Rattle.nc_region.specs.Region.{IsNextChunk}
 use Rattle.nc_region.proofs.region.RegionOf.chunk_at.Goals as goal
 
 -- what is found lies in the region

@@ -1,14 +1,15 @@
 use Rattle.std.proofs.Common.{◌≡◌, length}
 use Rattle.nc_region.proofs.deleting.Freeing.{AreFreed}
-use Rattle.nc_region.proofs.reclaim.free_due.Given as goal
+use Rattle.nc_region.proofs.reclaim.free_in.Given as goal
 
-abbrev pub invariant-loop-due : goal.invariant-loop-due
-invariant-loop-due g l = record {
+abbrev pub invariant-loop-least : goal.invariant-loop-least
+invariant-loop-least g l = record {
   freed : AreFreed l.least l.initial.chunks l.chunks (g.A.Acts.marked l.initial.acts) (g.A.Acts.marked l.acts) (g.A.Acts.told l.initial.acts)
       (g.A.Acts.told l.acts) (g.A.Acts.logged l.initial.acts) (g.A.Acts.logged l.acts);
+  room : length l.room ≡ length l.initial.room;
   made : g.A.Acts.made l.acts ≡ g.A.Acts.made l.initial.acts;
   keeper : g.A.Acts.keeper l.acts ≡ g.A.Acts.keeper l.initial.acts;
 }
 
-abbrev pub decreases-loop-due : goal.decreases-loop-due
-decreases-loop-due g l = length l.chunks
+abbrev pub decreases-loop-least : goal.decreases-loop-least
+decreases-loop-least g l = length l.chunks
