@@ -1,7 +1,10 @@
 //! The meaning of the words of the command line.
 
 use crate::code::{Kind, Source};
-use crate::load::{Load, Order};
+use crate::load::Load;
+use crate::order::Order;
+use crate::plan::{Churn, Out};
+use crate::reclaim::Share;
 use crate::workers::Jobs;
 use clap::ArgMatches;
 use std::io;
@@ -15,6 +18,14 @@ pub enum Ask<'a> {
     Workers(Jobs, Option<u32>),
     /// The calls of a region.
     Chunks(Load),
+    /// One reclaim of a share of the chunks.
+    Reclaim(Share),
+    /// Reclaims that free nothing, among this number of retired chunks.
+    Idle(u32),
+    /// Creations, deletions and reclaims by turns.
+    Churn(Churn),
+    /// Looking up the chunks of a region.
+    Lookups(Load),
     /// This number of check-ins.
     CheckIn(u32),
 }
@@ -56,6 +67,7 @@ fn order(found: &ArgMatches<'_>) -> Order {
     match text(found, "ORDER") {
         "descending" => Order::Descending,
         "scattered" => Order::Scattered,
+        "random" => Order::Random,
         _ => Order::Ascending,
     }
 }
@@ -66,6 +78,33 @@ fn load(found: &ArgMatches<'_>) -> Load {
         count: number(found, "COUNT"),
         bundles: number(found, "BUNDLES"),
         order: order(found),
+    }
+}
+
+/// The share of chunks that is asked for.
+fn share(found: &ArgMatches<'_>) -> Share {
+    Share {
+        count: number(found, "COUNT"),
+        of: number(found, "SHARE"),
+    }
+}
+
+/// The order of deletions that is asked for.
+fn out(found: &ArgMatches<'_>) -> Out {
+    match text(found, "OUT") {
+        "last" => Out::Last,
+        "random" => Out::Random,
+        _ => Out::First,
+    }
+}
+
+/// The turns that are asked for.
+fn churn(found: &ArgMatches<'_>) -> Churn {
+    Churn {
+        count: number(found, "COUNT"),
+        turns: number(found, "TURNS"),
+        batch: number(found, "BATCH"),
+        out: out(found),
     }
 }
 
@@ -83,6 +122,10 @@ fn named<'a>(name: &str, found: &ArgMatches<'a>) -> io::Result<Ask<'a>> {
         "vet" => Ok(Ask::Vet(source(found)?)),
         "workers" => Ok(Ask::Workers(jobs(found), found.get_one("WORKERS"))),
         "chunks" => Ok(Ask::Chunks(load(found))),
+        "reclaim" => Ok(Ask::Reclaim(share(found))),
+        "idle" => Ok(Ask::Idle(number(found, "COUNT"))),
+        "churn" => Ok(Ask::Churn(churn(found))),
+        "lookups" => Ok(Ask::Lookups(load(found))),
         _ => Ok(Ask::CheckIn(number(found, "TIMES"))),
     }
 }

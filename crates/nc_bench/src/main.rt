@@ -8,26 +8,41 @@
 //! | `vet` | `vetting`, on code that `code` makes from a file |
 //! | `workers` | `workers` |
 //! | `chunks` | `chunks` |
+//! | `reclaim` | `reclaim` |
+//! | `idle` | `idle` |
+//! | `churn` | `churn`, on turns that `plan` makes |
+//! | `lookups` | `lookups` |
 //! | `checkin` | `check_in` |
 #![tactic(auto)]
 
 mod check_in;
 mod chunks;
+mod churn;
 mod code;
 mod command_line;
+mod idle;
 mod load;
+mod lookups;
 mod measurements;
+mod order;
 mod ordinary;
+mod plan;
+mod reclaim;
+mod tables;
 mod timing;
 mod vetting;
 mod workers;
 
 use check_in::measure_check_in;
 use chunks::measure_chunks;
+use churn::measure_churn;
 use clap::Error;
 use command_line::{Ask, asked};
+use idle::measure_idle;
+use lookups::measure_lookups;
 use measurements::matches;
 use nc_command::arguments;
+use reclaim::measure_reclaim;
 use std::process::ExitCode;
 use std::rt::{Env, Files};
 use std::sync::Wait;
@@ -47,6 +62,10 @@ fn measure<R: Threads + Wait + Sync + Clock + Files + Print + AllocGlobal>(
         Ask::Vet(source) => measure_vet(rt, &source, rounds),
         Ask::Workers(jobs, workers) => measure_workers(rt, jobs, rounds, workers),
         Ask::Chunks(load) => measure_chunks(rt, load, rounds),
+        Ask::Reclaim(share) => measure_reclaim(rt, share, rounds),
+        Ask::Idle(count) => measure_idle(rt, count, rounds),
+        Ask::Churn(churn) => measure_churn(rt, churn, rounds),
+        Ask::Lookups(load) => measure_lookups(rt, load, rounds),
         Ask::CheckIn(times) => measure_check_in(rt, times, rounds),
     }
 }

@@ -8,6 +8,9 @@ use std::alloc::Global;
 /// The parser of a number from 1 on.
 const NUMBER: ValueParser<'static> = ValueParser::Signed(1, u32::MAX as i64);
 
+/// The parser of a number from 0 on.
+const ANY_NUMBER: ValueParser<'static> = ValueParser::Signed(0, u32::MAX as i64);
+
 /// The parser of any text.
 const TEXT: ValueParser<'static> = ValueParser::String;
 
@@ -15,7 +18,15 @@ const TEXT: ValueParser<'static> = ValueParser::String;
 const KIND: ValueParser<'static> = ValueParser::Names(&["accepted", "stuck", "astray"]);
 
 /// The parser of an order of creations.
-const ORDER: ValueParser<'static> = ValueParser::Names(&["ascending", "descending", "scattered"]);
+const ORDER: ValueParser<'static> = ValueParser::Names(&[
+    "ascending",
+    "descending",
+    "scattered",
+    "random",
+]);
+
+/// The parser of an order of deletions.
+const OUT: ValueParser<'static> = ValueParser::Names(&["first", "last", "random"]);
 
 /// A word that must be given, or one that may be left out.
 macro_rules! word {
@@ -78,6 +89,40 @@ static BENCH: Program = Program {
             words: &[
                 word!(true, "COUNT", NUMBER, "Number of chunks"),
                 word!(true, "BUNDLES", NUMBER, "Bundles of a chunk"),
+                ROUNDS,
+                word!(false, "ORDER", ORDER, "Order of the bases in which the chunks are created [default: ascending]"),
+            ],
+        },
+        Usage {
+            name: "reclaim",
+            about: "Time one reclaim among chunks of one bundle, of which some are due",
+            words: &[
+                word!(true, "COUNT", NUMBER, "Number of chunks"),
+                word!(true, "SHARE", NUMBER, "Number of chunks of which one is due"),
+                ROUNDS,
+            ],
+        },
+        Usage {
+            name: "idle",
+            about: "Time reclaims that free nothing, among retired chunks and without a chunk",
+            words: &[word!(true, "COUNT", NUMBER, "Number of retired chunks"), ROUNDS],
+        },
+        Usage {
+            name: "churn",
+            about: "Time turns of a creation, a deletion and a reclaim among live chunks of one bundle",
+            words: &[
+                word!(true, "COUNT", ANY_NUMBER, "Number of live chunks between turns"),
+                word!(true, "TURNS", NUMBER, "Turns of a round"),
+                ROUNDS,
+                word!(false, "OUT", OUT, "Chunk that is deleted: the first in, the last in, or one at random [default: first]"),
+                word!(false, "BATCH", NUMBER, "Creations of a turn, and deletions before its reclaim [default: 1]"),
+            ],
+        },
+        Usage {
+            name: "lookups",
+            about: "Time looking up each chunk of a region, by its index and by its address",
+            words: &[
+                word!(true, "COUNT", NUMBER, "Number of chunks"),
                 ROUNDS,
                 word!(false, "ORDER", ORDER, "Order of the bases in which the chunks are created [default: ascending]"),
             ],
