@@ -539,8 +539,8 @@ NcChange nc_region_deletion_runs(NcRegion *region, NcAct *acts, size_t acts_len)
  * (HasReclaimed), and `count` is their number [reclaimed]. A look at a seat finds its last check-in, or that it was left [tested]. A
  * refusal is NC_NO_HANDLE, or NC_UNDER_WAY exactly while a deletion is under way [refused]. A refusal changes nothing [unchanged]. No
  * memory is allocated [tested].
- * Cost: a look at each seat, at each block of 256 chunks, and at each chunk of a block that may have one to be removed; where chunks are
- * removed, a few moves for each other chunk at most.
+ * Cost: a look at each seat. Where chunks may have to be removed, also a search of the list for each leaf that has some, and a pass over
+ * that leaf's chunks, which are at most 64.
  */
 NcCount nc_region_reclaim(NcRegion *region);
 
@@ -548,7 +548,7 @@ NcCount nc_region_reclaim(NcRegion *region);
  * Returns the chunk at an index of the list, which is in ascending order of base.
  * Promised: for NC_OK it is that chunk [chunk]. A refusal is NC_NO_HANDLE, or NC_NO_CHUNK exactly past the last chunk [refused]. The region
  * doesn't change [same]. No memory is allocated [tested].
- * Cost: the same at each index.
+ * Cost: that of a binary search in the list.
  */
 NcChunk nc_region_chunk(NcRegion *region, size_t index);
 

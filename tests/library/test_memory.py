@@ -1,11 +1,13 @@
 """Which calls allocate, what is given back, how much stack the calls take, and that a check-in waits for no other call."""
 import contextlib
 import itertools
+import random
 import threading
 import time
 import unittest
 
 import nc_host as nc
+from memory import used
 from reading import filled
 
 LIBRARY = nc.LIBRARY
@@ -174,6 +176,42 @@ class GivenBack(unittest.TestCase):
         self.assertEqual(region.walk(nc.START, [0] * 1000)[0], nc.OK)
         self.assertEqual(region.walk(nc.START + 1, [0])[0], nc.NO_START)
         free(region)
+
+
+class BytesOfAList(unittest.TestCase):
+    """How much more memory a region takes with chunks than without, once all its pages are made."""
+    CHUNKS = 20_000
+    SLACK = 8 << 10
+
+    def setUp(self):
+        self.region = nc.Region(2 * self.CHUNKS + 1, 1)
+        self.seat = self.region.seat()
+        whole = CODE * (2 * self.CHUNKS + 1)
+        self.assertEqual(self.region.create(nc.START, whole).fault, nc.OK)
+        self.reclaim([0])
+        self.before = used()
+
+    def reclaim(self, numbers):
+        retired(self.region, numbers)
+        self.seat.check_in()
+        self.assertEqual(self.region.reclaim(), len(numbers))
+
+    def most(self, chunks):
+        self.assertLess(used() - self.before, 48 * chunks + self.SLACK)
+
+    def test_at_most_48_a_chunk(self):
+        shuffled = random.Random(5).sample(range(self.CHUNKS), self.CHUNKS)
+        for order in range(self.CHUNKS), range(self.CHUNKS)[::-1], shuffled:
+            for number in order:
+                self.assertEqual(self.region.create(base(number), CODE).fault, nc.OK)
+            self.most(self.CHUNKS)
+            self.reclaim(range(0, self.CHUNKS, 2))
+            self.most(self.CHUNKS // 2)
+            left = range(1, self.CHUNKS, 2)
+            self.reclaim([number for number in left if number % 50 != 1])
+            self.most(self.CHUNKS // 50)
+            self.reclaim([number for number in left if number % 50 == 1])
+            self.most(0)
 
 
 class Stack(unittest.TestCase):
