@@ -438,10 +438,10 @@ uint32_t nc_region_seat(NcRegion *region, NcSeat *seat);
  * `acts_len` of 0 makes the change without telling its acts. A host finds a free span by nc_region_chunk_at: it begins at NC_START, and asks
  * for the chunk that has this address or lies above it. The span before that chunk is free; if there is no such chunk, it ends at the guard.
  * If it is too short, the host goes on at the end of the chunk.
- * Promised: for NC_OK the chunk is valid for the region's limit, and the region has it (IsCreated) [created]. For NC_OK the acts are those
- * of the creation (log_of_create) [told]. A refusal is NC_NO_HANDLE; else the fault that vetting finds, 1 to 8; else the first of
- * NC_UNDER_WAY, NC_NO_ROOM, NC_OCCUPIED and NC_OUT_OF_MEMORY that holds [refused]. A refusal changes nothing [unchanged, untouched]. For
- * NC_OK `at` is 0 [at].
+ * Promised: for NC_OK the chunk is valid for the region's limit, the region has it (IsCreated), and the call is one of a history (LogsCall)
+ * [created]. For NC_OK the acts are those of the creation (log_of_create) [told]. A refusal is NC_NO_HANDLE; else the fault that vetting
+ * finds, 1 to 8; else the first of NC_UNDER_WAY, NC_NO_ROOM, NC_OCCUPIED and NC_OUT_OF_MEMORY that holds [refused]. A refusal changes
+ * nothing [unchanged, untouched]. For NC_OK `at` is 0 [at].
  * The host must make the acts after the call, before the next change.
  * Cost: that of nc_host_vet, and a copy of the code. This is under the lock.
  */
@@ -464,10 +464,10 @@ void nc_vetted_free(NcVetted *vetted);
 
 /*
  * Creates a vetted chunk in the region, and writes the acts as nc_region_create does.
- * Promised: for NC_OK the region has the chunk (IsCreated), the acts are those of the creation (log_of_create), and the chunk's handle is
- * empty [created]. A refusal is NC_NO_HANDLE, for either handle; else the first of NC_UNDER_WAY, NC_NO_ROOM, NC_WRONG_LIMIT, NC_OCCUPIED
- * and NC_OUT_OF_MEMORY that holds [refused]. A refusal changes nothing, so that the chunk's handle still has the chunk [unchanged,
- * untouched]. `at` is 0 [at].
+ * Promised: for NC_OK the region has the chunk (IsCreated), the call is one of a history (LogsCall), the acts are those of the creation
+ * (log_of_create), and the chunk's handle is empty [created]. A refusal is NC_NO_HANDLE, for either handle; else the first of NC_UNDER_WAY,
+ * NC_NO_ROOM, NC_WRONG_LIMIT, NC_OCCUPIED and NC_OUT_OF_MEMORY that holds [refused]. A refusal changes nothing, so that the chunk's handle
+ * still has the chunk [unchanged, untouched]. `at` is 0 [at].
  * The host must make the acts after the call, before the next change.
  */
 NcChange nc_region_load(NcRegion *region, NcVetted *vetted, NcAct *acts, size_t acts_len);
@@ -476,11 +476,11 @@ NcChange nc_region_load(NcRegion *region, NcVetted *vetted, NcAct *acts, size_t 
  * Patches a chunk, and writes the acts as nc_host_patch does. The bytes must be whole instructions, even where only an immediate or a
  * displacement in one changes. Acts are written for the instructions that differ, so `count` may be 0. A buffer of 3 * `len` acts is
  * enough; an `acts_len` of 0 makes the change without telling its acts.
- * Promised: for NC_OK the patch was lawful (IsPatch), and the region has its bytes (IsModified) [modified]. For NC_OK the acts are those of
- * the patch (log_of_modify) [told]. A buffer that is lent with room for fewer than 3 * `len` acts never gets NC_OK [allowed]. A refusal is
- * NC_NO_HANDLE; else the first of NC_UNDER_WAY, NC_NO_ROOM (not returned for more than 32 bytes, which are NC_PATCH_BAD_SPAN) and the
- * faults of a patch that holds [refused]. A refusal changes nothing [unchanged, untouched]. `at` is 0 [at]. No memory is allocated
- * [tested].
+ * Promised: for NC_OK the patch was lawful (IsPatch), the region has its bytes (IsModified), and the call is one of a history (LogsCall)
+ * [modified]. For NC_OK the acts are those of the patch (log_of_modify) [told]. A buffer that is lent with room for fewer than 3 * `len`
+ * acts never gets NC_OK [allowed]. A refusal is NC_NO_HANDLE; else the first of NC_UNDER_WAY, NC_NO_ROOM (not returned for more than 32
+ * bytes, which are NC_PATCH_BAD_SPAN) and the faults of a patch that holds [refused]. A refusal changes nothing [unchanged, untouched].
+ * `at` is 0 [at]. No memory is allocated [tested].
  * The host must make the acts after the call, before the next change.
  * Cost: that of the patch and of its targets' bundles, whatever the chunk.
  */
@@ -502,9 +502,9 @@ NcChange nc_region_begin_delete(NcRegion *region, uint32_t base, NcAct *acts, si
 
 /*
  * The last step of a deletion.
- * Promised: for NC_OK the chunk's bytes are stops, the chunk is retired, and its stamp, the next one, is drawn (HasEnded) [ended]. A
- * refusal is NC_NO_HANDLE, or NC_NOT_BEGUN exactly where no deletion is under way [refused]. A refusal changes nothing [unchanged]. No
- * memory is allocated [tested].
+ * Promised: for NC_OK the chunk's bytes are stops, the chunk is retired, its stamp, the next one, is drawn, and the whole deletion is one
+ * call of a history (HasEnded) [ended]. A refusal is NC_NO_HANDLE, or NC_NOT_BEGUN exactly where no deletion is under way [refused]. A
+ * refusal changes nothing [unchanged]. No memory is allocated [tested].
  */
 NcStamp nc_region_end_delete(NcRegion *region);
 
@@ -535,10 +535,10 @@ NcChange nc_region_deletion_runs(NcRegion *region, NcAct *acts, size_t acts_len)
 /*
  * Checks in for each seat that nobody was given, looks at each seat, and removes retired chunks from the list. Their spans may be reused,
  * and keep only the marks of bundle starts. It puts no byte and writes no act.
- * Promised: for NC_OK exactly those retired chunks are removed that, by what the look at each seat found, no seat holds back
- * (HasReclaimed), and `count` is their number [reclaimed]. A look at a seat finds its last check-in, or that it was left [tested]. A
- * refusal is NC_NO_HANDLE, or NC_UNDER_WAY exactly while a deletion is under way [refused]. A refusal changes nothing [unchanged]. No
- * memory is allocated [tested].
+ * Promised: for NC_OK exactly those retired chunks are removed that, by what the look at each seat found, no seat holds back, and `count`
+ * is their number; these are two calls of a history (HasReclaimed) [reclaimed]. A look at a seat finds its last check-in, or that it was left
+ * [tested]. A refusal is NC_NO_HANDLE, or NC_UNDER_WAY exactly while a deletion is under way [refused]. A refusal changes nothing
+ * [unchanged]. No memory is allocated [tested].
  * Cost: a look at each seat. Where chunks may have to be removed, also a search of the list for each leaf that has some, and a pass over
  * that leaf's chunks, which are at most 64.
  */

@@ -1,6 +1,6 @@
 -- What a call of a region logs is a call of a history.
-use Rattle.std.proofs.Common.{◌≡◌, ℕ, List, [], ◌∷◌, ◌++◌, refl, sym, ap, subst}
-use Rattle.std.specs.Prelude.{Option, Some, None, Result, Ok, Err, OnOk, OnErr, IfOk, IfErr, IfSome, IsSomeAnd, Contains, length}
+use Rattle.std.proofs.Common.{◌≡◌, ℕ, List, [], ◌∷◌, refl, sym, ap, subst}
+use Rattle.std.specs.Prelude.{Result, Ok, Err, OnOk, OnErr, IfOk, IfErr, Contains, length}
 use Rattle.std.proofs.lemmas.List.{append-nil}
 use Rattle.std.proofs.lemmas.List.Elements.{All-nil, All-cons}
 use Rattle.nc_text.specs.Places.{limit_of}
@@ -21,27 +21,18 @@ use Rattle.nc_calls.specs.Calls.{Details, no_details, events_of_log}
 use Rattle.nc_calls.specs.Histories.{IsCall, Creates, Patches, Deletes, Reclaims, UsesKeeper, Refuses, Keeps, LogsCall}
 use Rattle.nc_calls.proofs.AllTurns.{refused_same}
 
--- the entries that came to a log have the property
-with_own : (after before : Option (List Entry)) (own : List Entry) (P : List Entry → Type 0) → Logs before after own → P own
-    → IfSome after (λ log. IsSomeAnd before (λ earlier. (entries : List Entry) × (log ≡ earlier ++ entries) × P entries))
-with_own None before own P logs holds = tt
-with_own (Some log) None own P logs holds = logs
-with_own (Some log) (Some earlier) own P logs holds = (own, logs, holds)
-
 -- a call whose events are those of its log
 logs_call : (seats : ℕ) (details : Details) (old new : Region) (own : List Entry) → Logs old.logged new.logged own
     → IsCall seats old new (events_of_log details own) → LogsCall seats details old new
-logs_call seats details old new own logs call =
-    with_own new.logged old.logged own (λ (entries : List Entry). IsCall seats old new (events_of_log details entries)) logs call
+logs_call seats details old new own logs call = (own, logs, call)
 
 -- nothing came to a log that is as before
-nothing_logged : (log : Option (List Entry)) → Logs log log []
-nothing_logged None = tt
-nothing_logged (Some log) = sym (append-nil log)
+nothing_logged : (log : List Entry) → Logs log log []
+nothing_logged log = sym (append-nil log)
 
 -- a region with the same log has logged nothing
 logs_nothing : (old new : Region) → new.logged ≡ old.logged → Logs old.logged new.logged []
-logs_nothing old new same = subst (λ (log : Option (List Entry)). Logs old.logged log []) (sym same) (nothing_logged old.logged)
+logs_nothing old new same = subst (λ (log : List Entry). Logs old.logged log []) (sym same) (nothing_logged old.logged)
 
 -- an equal region is left by a call that does nothing
 keeps_logged : (seats : ℕ) (old new : Region) → new ≡ old → LogsCall seats no_details old new

@@ -1,6 +1,6 @@
 -- Histories of a region: its calls one after the other, interleaved with events of threads between any two acts; and the
 -- states in which threads may be.
-use Rattle.std.specs.Prelude.{◌≡◌, ℕ, ◌≤◌, ⊤, List, [], ◌∷◌, ◌++◌, All, IfSome, IsSomeAnd}
+use Rattle.std.specs.Prelude.{◌≡◌, ℕ, ◌≤◌, ⊤, List, [], ◌∷◌, ◌++◌, All, IfSome}
 use Rattle.nc_decode.specs.Bundles.{IsLawfulLimit}
 use Rattle.nc_vet.specs.Chunk.{MarkedChunk, Piece, IsValid}
 use Rattle.nc_text.specs.Places.{limit_of}
@@ -36,12 +36,10 @@ pub data IsCall (seats : ℕ) (old new : Region) (own : List Event) : Type 0 whe
   Refuses : (v : MarkedChunk) (fault : CreateFault) → IsRefused old new v fault → own ≡ [] → IsCall seats old new own
   Keeps : new ≡ old → own ≡ [] → IsCall seats old new own
 
--- If the region logs its acts, the entries logged between the old and the new region, read as events with these details,
--- are one call of a history.
+-- the entries logged between the old and the new region, read as events with these details, are one call of a history
 abbrev pub LogsCall : ℕ → Details → Region → Region → Type 0
 LogsCall seats details old new =
-    IfSome new.logged (λ log. IsSomeAnd old.logged (λ earlier.
-    (own : List Entry) × (log ≡ earlier ++ own) × IsCall seats old new (events_of_log details own)))
+    (own : List Entry) × (new.logged ≡ old.logged ++ own) × IsCall seats old new (events_of_log details own)
 
 -- a call in a history: all events from the end of the previous call up to its own end, including those of threads, and the
 -- region that it leaves

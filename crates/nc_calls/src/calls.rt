@@ -6,10 +6,12 @@
 
 ghost use Rattle.std.specs.Prelude.{◌≡◌, ℕ, List, [], ◌∷◌, length, Contains, IfOk, IfErr, OnOk, OnErr};
 ghost use Rattle.nc_text.specs.Places.{limit_of};
+ghost use Rattle.nc_vet.specs.Chunk.{Piece};
 ghost use Rattle.nc_gens.specs.Seen.{HasMet};
 ghost use Rattle.nc_list.specs.declared.chunk.Chunk.{Chunk};
+ghost use Rattle.nc_region.specs.Log.{Logs, log_of_create};
 ghost use Rattle.nc_region.specs.Region.{IsCreated, IsRefused, MayRefuse, Meets};
-ghost use Rattle.nc_region.specs.Patch.{IsPatch, IsModified, MayRefusePatch};
+ghost use Rattle.nc_region.specs.Patch.{AreBytesOf, IsPatch, IsModified, MayRefusePatch, log_of_modify};
 ghost use Rattle.nc_region.specs.Deletion.{IsDeleted, MayRefuseDelete, IsReclaimed};
 ghost use Rattle.nc_region.specs.schedules.Events.{Event};
 ghost use Rattle.nc_region.specs.Quiet.{retired_spans};
@@ -27,6 +29,7 @@ pub fn create<A: Acts + Drop>(
 ) -> Result<(), (Vetted, CreateFault)>
     // As `RegionOf::create` ensures it.
     ensures created { OnOk result (IsCreated region.old region.new vetted) }
+    ensures log { OnOk result (Logs region.old.logged region.new.logged (log_of_create vetted.base vetted.code)) }
     ensures free { OnOk result ((vetted.limit ≡ limit_of region.old.marked.bytes)
         × ¬ Meets vetted.base (length vetted.code) region.old.chunks) }
     ensures unchanged { IfErr result (λ e. (e.0 ≡ vetted) × IsRefused region.old region.new vetted e.1) }
@@ -47,6 +50,8 @@ pub fn modify<A: Acts + Drop>(
 ) -> Result<(), ModifyFault>
     // As `RegionOf::modify` ensures it.
     ensures modified { OnOk result (IsModified region.old region.new at new.now) }
+    ensures log { OnOk result ((news : List Piece) → AreBytesOf new.now news
+        → Logs region.old.logged region.new.logged (log_of_modify region.old.marked.bytes at news)) }
     ensures lawful { OnOk result (IsPatch region.old at new.now) }
     ensures unchanged { IfErr result (λ e. region.new ≡ region.old) }
     ensures due { IfErr result (MayRefusePatch region.old at new.now) }

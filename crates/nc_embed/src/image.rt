@@ -89,7 +89,7 @@ impl<'g> Acts for Image<'g> {
 
     ghost told = { λ i. None };
 
-    ghost logged = { λ i. None };
+    ghost logged = { λ i. i.plain.entries };
 
     fn ready(&mut self, at: u32, len: u32) -> Result<(), TextFault> {
         self.plain.ready(at, len)

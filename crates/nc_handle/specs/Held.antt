@@ -10,6 +10,10 @@ use Rattle.nc_list.specs.declared.chunk.ChunkState.TheVariants.{Live}
 use Rattle.nc_region.specs.Region.{Region, IsRefused, MayRefuse}
 use Rattle.nc_region.specs.Deletion.{IsDeleted, MayRefuseDelete, IsReclaimed}
 use Rattle.nc_region.specs.Patch.{MayRefusePatch}
+use Rattle.nc_region.specs.Quiet.{retired_spans}
+use Rattle.nc_region.specs.schedules.Events.{Event, Looks}
+use Rattle.nc_calls.specs.Calls.{no_details}
+use Rattle.nc_calls.specs.Histories.{IsCall, LogsCall}
 use Rattle.nc_handle.specs.declared.fault.NewFault.{NewFault}
 use Rattle.nc_handle.specs.declared.fault.NewFault.TheVariants.{BadSeats, BadSize, OutOfMemory}
 use Rattle.nc_handle.specs.declared.fault.SeatFault.{SeatFault}
@@ -36,8 +40,8 @@ IsLiveAt chunks base c = Contains chunks c × (c.state ≡ Live) × (c.base ≡ 
 abbrev pub CanEnd : Option Chunk → Region → Type 0
 CanEnd begun r = IfSome begun (λ c. IsLiveAt r.chunks c.base c × (r.keeper.numbers.generation < 2 ^ 62))
 
--- a new region of a lawful size with 1 to 256 seats: only F4, no page allocated, no chunk, no stamp drawn, nothing told,
--- no pass given out
+-- a new region of a lawful size with 1 to 256 seats: only F4, no page allocated, no chunk, no stamp drawn, nothing told
+-- or logged, no pass given out
 pub record IsFirst (bundles seats : ℕ) (h : HeldState) : Type 0 where
   pub numbers : AreSeats seats
   pub lawful : IsLawfulLimit (0x10000 + 32 * bundles)
@@ -46,7 +50,7 @@ pub record IsFirst (bundles seats : ℕ) (h : HeldState) : Type 0 where
   pub chunks : h.region.chunks ≡ []
   pub keeper : h.region.keeper ≡ first_keeper h.region.keeper.table seats
   pub told : h.region.told ≡ None
-  pub logged : h.region.logged ≡ None
+  pub logged : h.region.logged ≡ []
   pub passes : h.passes ≡ new_passes h.region.keeper.table seats
   pub begun : h.begun ≡ None
 
@@ -110,12 +114,15 @@ pub record HasBegun (old new : HeldState) (base : ℕ) (c : Chunk) : Type 0 wher
   pub none : old.begun ≡ None
   pub others : new ≡ record old { begun = Some c }
 
--- The chunk whose deletion was under way is deleted with this stamp (`IsDeleted` of nc_region), and none is under way.
--- All else is as before.
+-- The chunk whose deletion was under way is the one that is deleted, with this stamp (`IsDeleted` of nc_region), and none
+-- is under way. All acts of the deletion are logged now, as a call of a history (`LogsCall` of nc_calls). All else is as
+-- before.
 pub record HasEnded (old new : HeldState) (stamp : ℕ) : Type 0 where
   pub chunk : Chunk
   pub begun : old.begun ≡ Some chunk
   pub deleted : IsDeleted old.region new.region chunk.base stamp
+  pub same : deleted.chunk ≡ chunk
+  pub call : (seats : ℕ) → LogsCall seats (record no_details { base = chunk.base; len = chunk.length }) old.region new.region
   pub others : new ≡ record old { region = new.region; begun = None }
 
 -- the last of the passes not given out yet has been given out; all else is as before
@@ -127,16 +134,25 @@ pub record HasGiven (old new : HeldState) (guest : PassState) : Type 0 where
 abbrev pub IsIn : Region → ℕ → PassState → Type 0
 IsIn r number p = (p.seat < length r.keeper.numbers.bounds) × (number ≤ slice_index r.keeper.numbers.bounds p.seat)
 
--- No deletion was under way. The keeper's bounds may have risen, and then this many retired chunks were reclaimed
--- (`IsReclaimed` of nc_region). The passes not given out keep their seat numbers, and the keeper's bounds for these are at
--- least the generation. All else is as before.
+-- the keeper meets each of these passes before and after it checks in, which are two looks at its seat
+abbrev pub meetings : List PassState → List Event
+meetings [] = []
+meetings (p ∷ rest) = Looks p.seat ∷ Looks p.seat ∷ meetings rest
+
+-- No deletion was under way. The keeper met the passes not given out, by which its bounds may have risen, and then this
+-- many retired chunks were reclaimed (`IsReclaimed` of nc_region). These are two calls of a history (`IsCall` and
+-- `LogsCall` of nc_calls); the first one logs nothing. The passes not given out keep their seat numbers, and the keeper's
+-- bounds for these are at least the generation. All else is as before.
 pub record HasReclaimed (old new : HeldState) (count : ℕ) : Type 0 where
   pub none : old.begun ≡ None
   pub met : Region
   pub keeper : met ≡ record old.region { keeper = met.keeper }
   pub generation : met.keeper.numbers.generation ≡ old.region.keeper.numbers.generation
   pub raised : Raised old.region.keeper.numbers.bounds met.keeper.numbers.bounds
+  pub meets : (seats : ℕ) → IsCall seats old.region met (meetings old.passes)
   pub reclaimed : IsReclaimed met new.region count
+  pub call : (seats : ℕ)
+      → LogsCall seats (record no_details { seats = seats; spans = retired_spans met.chunks }) met new.region
   pub outside : All (IsIn new.region old.region.keeper.numbers.generation) new.passes
   pub seats : map (λ (p : PassState). p.seat) new.passes ≡ map (λ (p : PassState). p.seat) old.passes
   pub others : new ≡ record old { region = new.region; passes = new.passes }

@@ -5,9 +5,11 @@ ghost use Rattle.nc_text.specs.Machine.{IsConfined};
 ghost use Rattle.nc_text.specs.Places.{limit_of};
 ghost use Rattle.nc_vet.specs.Chunk.{Piece};
 ghost use Rattle.nc_vet.specs.Faults.{HasGoodSpan};
-ghost use Rattle.nc_region.specs.Log.{log_of_create, log_of_delete};
+ghost use Rattle.nc_region.specs.Log.{Logs, log_of_create, log_of_delete};
 ghost use Rattle.nc_region.specs.Patch.{AreBytesOf, IsModified, IsPatch, log_of_modify};
 ghost use Rattle.nc_region.specs.Region.{IsCreated, Meets};
+ghost use Rattle.nc_calls.specs.Calls.{no_details};
+ghost use Rattle.nc_calls.specs.Histories.{LogsCall};
 ghost use Rattle.nc_handle.specs.acts.Standing.{AreBytesAt};
 ghost use Rattle.nc_handle.specs.Held.{IsLiveAt, IsShort, IsShortForPatch, HasBegun, HasEnded, IsNotLoaded, MayRefuseBegin, MayRefuseLoad, MayRefuseModify};
 ghost use Rattle.nc_handle.specs.Shown.{IsTold, bytes_of_span};
@@ -166,6 +168,10 @@ impl Held {
             × ¬ Meets vetted.base (length vetted.code) self.old.region.chunks) }
         // The acts written are those of a creation, with the settling.
         ensures told { IfOk result (λ count. IsTold acts.old acts.new count (log_of_create vetted.base vetted.code)) }
+        // So are those logged, and they are a call of a history, in which the span gets the chunk's marks.
+        ensures log { OnOk result (Logs self.old.region.logged self.new.region.logged (log_of_create vetted.base vetted.code)) }
+        ensures call { (seats : ℕ) → OnOk result
+            (LogsCall seats (record no_details { marks = vetted.marks }) self.old.region self.new.region) }
         // The chunk is returned, and the buffer is as it was.
         ensures unchanged { IfErr result (λ e. (e.0 ≡ vetted) × IsNotLoaded self.old self.new vetted e.1) }
         ensures untouched { OnErr result (acts.new ≡ acts.old) }
@@ -177,7 +183,7 @@ impl Held {
         }
         let base = vetted.base();
         let length = vetted.code().len() as u32;
-        match self.region.create(vetted) {
+        match nc_calls::create(&mut self.region, vetted) {
             Ok(()) => {
                 let span = Span {
                     region: &self.region,
@@ -203,6 +209,10 @@ impl Held {
         // The acts written are those of a patch of the region's own bytes, with the settlings.
         ensures told { IfOk result (λ count. (news : List Piece) → AreBytesOf new.now news
             → IsTold acts.old acts.new count (log_of_modify self.old.region.marked.bytes at news)) }
+        // So are those logged, and they are a call of a history.
+        ensures log { OnOk result ((news : List Piece) → AreBytesOf new.now news
+            → Logs self.old.region.logged self.new.region.logged (log_of_modify self.old.region.marked.bytes at news)) }
+        ensures call { (seats : ℕ) → OnOk result (LogsCall seats no_details self.old.region self.new.region) }
         ensures unchanged { OnErr result (self.new ≡ self.old) }
         ensures untouched { OnErr result (acts.new ≡ acts.old) }
         // Each refusal is returned exactly when it is due.
@@ -212,7 +222,7 @@ impl Held {
             return Err(fault);
         }
         let before = read_window(&self.region, at, bytes_before(acts, new.len()));
-        match self.region.modify(at, new) {
+        match nc_calls::modify(&mut self.region, at, new) {
             Ok(()) => Ok(tell_patch(acts, at, &before[..new.len()], new)),
             Err(fault) => Err(PatchFault::Refused(fault)),
         }
@@ -220,7 +230,7 @@ impl Held {
 
     /// The last step of a deletion: the chunk is deleted, as by `RegionOf::delete`, and its stamp drawn. It takes no memory.
     pub fn end_delete(&mut self) -> Option<u64>
-        // While a deletion is under way, it is never refused.
+        // While a deletion is under way, it is never refused. The acts of the deletion are logged now, the stamp last.
         ensures ended { IfSome result (HasEnded self.old self.new) }
         ensures none { IsNone result ↔ (self.old.begun ≡ None) }
         ensures unchanged { IsNone result → self.new ≡ self.old }
@@ -228,7 +238,9 @@ impl Held {
         let Some(chunk) = self.begun else {
             return None;
         };
-        match self.region.delete(chunk.base) {
+        // Called for its postconditions.
+        let _facts = self.region.limit();
+        match nc_calls::delete(&mut self.region, chunk.base) {
             Ok(stamp) => {
                 self.begun = None;
                 Some(stamp)

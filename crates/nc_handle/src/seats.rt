@@ -11,6 +11,7 @@ use crate::fault::SeatFault;
 use crate::guest::Guest;
 use crate::held::Held;
 use nc_gens::{Gens, Pass};
+use nc_region::Acts;
 use std::alloc::Global;
 use std::sync::Arc;
 
@@ -69,7 +70,9 @@ impl Held {
         if self.begun.is_some() {
             return None;
         }
+        // Called for its postconditions.
+        let _facts = self.region.acts().generation();
         attend(&mut self.region, &self.gens, &mut self.passes);
-        Some(self.region.reclaim())
+        Some(nc_calls::reclaim(&mut self.region))
     }
 }

@@ -8,4 +8,5 @@ pub mod Region
 pub mod Quiet
 pub mod Deletion
 pub mod Patch
+pub mod Noted
 pub mod Trace

@@ -1,5 +1,5 @@
 -- The acts of each call with the settlings among them.
-use Rattle.std.specs.Prelude.{◌≡◌, ℕ, List, [], ◌∷◌, ◌++◌, Option, IfSome, IsSomeAnd, length, map, replicate}
+use Rattle.std.specs.Prelude.{◌≡◌, ℕ, List, [], ◌∷◌, ◌++◌, length, map, replicate}
 use Rattle.nc_decode.specs.declared.instruction.Mark.{Mark}
 use Rattle.nc_region.specs.declared.acts.Act.{Act}
 use Rattle.nc_region.specs.declared.acts.Act.TheVariants.{MarkSpan, Bump}
@@ -7,9 +7,9 @@ use Rattle.nc_region.specs.declared.acts.Entry.{Entry}
 use Rattle.nc_region.specs.declared.acts.Entry.TheVariants.{Did, Settled}
 use Rattle.nc_region.specs.Acts.{puts_where, is_start, is_inside, is_marked_at, is_unmarked_at}
 
--- if entries are still logged, they were logged before, and these entries have been appended to the list
-abbrev pub Logs : Option (List Entry) → Option (List Entry) → List Entry → Type 0
-Logs before after entries = IfSome after (λ log. IsSomeAnd before (λ earlier. log ≡ earlier ++ entries))
+-- these entries have been appended to the log
+abbrev pub Logs : List Entry → List Entry → List Entry → Type 0
+Logs before after entries = after ≡ before ++ entries
 
 -- the log entries of these acts, with no settling among them
 abbrev pub unsettled : List Act → List Entry

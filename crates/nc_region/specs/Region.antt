@@ -22,21 +22,21 @@ use Rattle.nc_region.specs.Chunks.{HasGoodSpan}
 use Rattle.nc_region.specs.Each.{Each}
 
 -- What contracts see of a region: bytes and marks, which pages are made, the chunks by ascending base, the keeper, the
--- acts told so far, and the entries logged so far, which are acts and settlings. The last two are `None` where nothing is
--- told or logged.
+-- acts told so far, which are `None` where none is told, and the entries logged so far, which are acts and settlings
 pub record Region : Type 0 where
   pub marked : MarkedText
   pub made : List Bool
   pub chunks : List Chunk
   pub keeper : KeeperState
   pub told : Option (List Act)
-  pub logged : Option (List Entry)
+  pub logged : List Entry
 
--- what contracts see of a `Plain`: bytes and marks, which pages are made, and the keeper
+-- what contracts see of a `Plain`: bytes and marks, which pages are made, the keeper, and the entries logged so far
 pub record PlainState : Type 0 where
   pub marked : MarkedText
   pub made : List Bool
   pub keeper : KeeperState
+  pub entries : List Entry
 
 -- the chunk is live, so threads may enter it
 abbrev pub IsLive : ChunkState → Type 0

@@ -53,8 +53,9 @@ pub enum Entry {
 /// generations.
 ///
 /// The contracts are those of `nc_text::Text` and `nc_gens::Gens`; an act on the text leaves the keeper unchanged, and vice
-/// versa. A value may tell its puts, spans marked and unmarked, bumps and looks: each is appended to the list. A value that
-/// tells nothing says `None`, for good. Separately, it may log the same acts with the settlings among them.
+/// versa. Every value logs its puts, spans marked and unmarked, bumps, looks and settlings: each is appended to `logged`, which
+/// only clauses read. An implementer hands its acts on to one that logs, or notes them in a [`History`](crate::History), which
+/// has no bytes. Separately, a value may tell the acts without the settlings. A value that tells nothing says `None`, for good.
 pub trait Acts {
     /// Bytes and marks.
     ghost marked: { Self → MarkedText };
@@ -68,8 +69,8 @@ pub trait Acts {
     /// The acts so far, while they are told.
     ghost told: { Self → Option (List Act) };
 
-    /// The acts so far with the settlings among them, while they are logged.
-    ghost logged: { Self → Option (List Entry) };
+    /// The acts so far, with the settlings among them.
+    ghost logged: { Self → List Entry };
 
     /// Makes the pages of a span. This isn't an act and isn't told.
     fn ready(&mut self, at: u32, len: u32) -> Result<(), TextFault>

@@ -47,6 +47,7 @@ mod acts;
 mod create;
 mod delete;
 mod fault;
+mod history;
 mod law;
 mod listing;
 mod modify;
@@ -61,6 +62,7 @@ mod walk;
 
 pub use acts::{Act, Acts, Entry, mark_bit};
 pub use fault::{CreateFault, DeleteFault, ModifyFault, RegionFault, WalkFault};
+pub use history::{History, Note};
 pub use law::{law_of_chunks, law_of_logs, law_of_schedules};
 /// In a region a chunk's span is whole bundles. The code of a live chunk is in the text. The bytes of a retired one are stops, and
 /// its span waits for threads that may still be between its bundle starts; its stamp is the generation with which it was retired.

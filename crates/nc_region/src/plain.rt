@@ -1,19 +1,21 @@
-//! The acts of a region that tells nothing.
+//! The acts of a region that nobody is told of.
 
-ghost use Rattle.std.specs.Prelude.{◌≡◌, None};
+ghost use Rattle.std.specs.Prelude.{◌≡◌, None, []};
 
-use crate::acts::Acts;
+use crate::acts::{Act, Acts, Entry};
+use crate::history::{History, Note};
 use nc_decode::{Bundle, Mark};
 use nc_gens::{Gens, GensFull, Keeper, Pass};
 use nc_text::{Text, TextFault};
 use std::marker::Model;
 
-/// A text beside a table of generations and its keeper. It doesn't tell its acts.
+/// A text beside a table of generations and its keeper. It logs its acts in a history, which has no bytes, and tells none.
 #[derive(Drop)]
 pub struct Plain<'g> {
     text: Text,
     gens: &'g Gens,
     keeper: Keeper,
+    history: History,
 }
 
 impl<'g> Model for Plain<'g> {
@@ -22,7 +24,7 @@ impl<'g> Model for Plain<'g> {
 
     ghost Value = { PlainState };
 
-    ghost view = { λ p. record { marked = p.text.marked; made = p.text.made; keeper = p.keeper } };
+    ghost view = { λ p. record { marked = p.text.marked; made = p.text.made; keeper = p.keeper; entries = p.history.entries } };
 
     ghost invariant = { λ p. p.keeper.table ≡ p.gens.now };
 }
@@ -31,9 +33,14 @@ impl<'g> Plain<'g> {
     /// This text, beside this table and its keeper, each changed only by its own calls.
     pub fn new(text: Text, gens: &'g Gens, keeper: Keeper) -> Plain<'g>
         requires { keeper.table ≡ gens.now }
-        ensures { result ≡ record { marked = text.marked; made = text.made; keeper = keeper } }
+        ensures { result ≡ record { marked = text.marked; made = text.made; keeper = keeper; entries = [] } }
     {
-        Plain { text, gens, keeper }
+        Plain {
+            text,
+            gens,
+            keeper,
+            history: History::new(),
+        }
     }
 
     /// The table of generations.
@@ -53,7 +60,7 @@ impl<'g> Acts for Plain<'g> {
 
     ghost told = { λ p. None };
 
-    ghost logged = { λ p. None };
+    ghost logged = { λ p. p.entries };
 
     fn ready(&mut self, at: u32, len: u32) -> Result<(), TextFault> {
         self.text.ready(at, len)
@@ -65,32 +72,41 @@ impl<'g> Acts for Plain<'g> {
 
     fn put(&mut self, at: u32, byte: u8) {
         self.text.put(at, byte);
+        self.history
+            .note(&Note::One(Entry::Did(Act::Put(at, byte))));
     }
 
     fn put_run(&mut self, at: u32, bytes: &[u8]) {
         self.text.put_run(at, bytes);
+        self.history.note(&Note::Run(at, bytes));
     }
 
     fn stop_places(&mut self, at: u32, places: u32) {
         self.text.stop_places(at, places);
+        self.history.note(&Note::Stops(at, places));
     }
 
     fn settle(&mut self) {
         // Called for its postconditions.
         let _facts = self.text.limit();
+        self.history.note(&Note::One(Entry::Settled));
     }
 
     fn mark_span(&mut self, at: u32, marks: &[Mark]) {
         self.text.mark_span(at, marks);
+        self.history.note(&Note::One(Entry::Did(Act::MarkSpan(at, marks.len() as u32))));
     }
 
     fn mark_bundles(&mut self, at: u32, code: &[u8], bundles: &[Bundle]) -> bool {
         self.text.mark_bundles(at, code, bundles);
+        self.history.note(&Note::One(Entry::Did(Act::MarkSpan(at, code.len() as u32))));
         true
     }
 
     fn unmark_span(&mut self, at: u32, len: u32) {
         self.text.unmark_span(at, len);
+        self.history
+            .note(&Note::One(Entry::Did(Act::UnmarkSpan(at, len))));
     }
 
     fn byte(&self, at: u32) -> u8 {
@@ -110,10 +126,15 @@ impl<'g> Acts for Plain<'g> {
     }
 
     fn bump(&mut self) -> Result<u64, GensFull> {
-        self.gens.bump(&mut self.keeper)
+        let answer = self.gens.bump(&mut self.keeper);
+        if answer.is_ok() {
+            self.history.note(&Note::One(Entry::Did(Act::Bump)));
+        }
+        answer
     }
 
     fn look(&mut self) -> u64 {
+        self.history.note(&Note::One(Entry::Did(Act::Look)));
         self.gens.look(&mut self.keeper)
     }
 

@@ -1,7 +1,7 @@
 //! A recorder of acts, for tests and for observing the order of single puts.
 
-ghost use Rattle.std.specs.Prelude.{◌≡◌, ◌↔◌, ◌+◌, ◌*◌, ◌%◌, ◌<◌, ◌≤◌, [], ◌∷◌, Some, None, IfOk, IsOk, OnOk, OnErr, ◌^◌, length, All};
-ghost use Rattle.std.specs.Prelude.{IsTrue, if◌then◌else◌, false};
+ghost use Rattle.std.specs.Prelude.{◌≡◌, ◌↔◌, ◌+◌, ◌*◌, ◌%◌, ◌<◌, ◌≤◌, [], ◌∷◌, Some, None, IfOk, IfSome, IsNone, IsOk, OnOk, OnErr, ◌^◌, length, All};
+ghost use Rattle.std.specs.Prelude.{IsTrue, if◌then◌else◌, true, false};
 ghost use Rattle.std.specs.Option.{option_map};
 ghost use Rattle.std.specs.Vec.{vec_len, vec_capacity};
 ghost use Rattle.nc_decode.specs.Bits.{marks_in};
@@ -18,6 +18,7 @@ ghost use Rattle.nc_region.specs.Acts.{Tells};
 ghost use Rattle.nc_region.specs.Log.{Logs};
 
 use crate::acts::{Act, Acts, Entry};
+use crate::history::{History, Note};
 use nc_decode::{Bundle, Mark};
 use nc_gens::{GensFull, Pass};
 use nc_text::TextFault;
@@ -28,7 +29,8 @@ use std::alloc::{AllocError, Global};
 /// The log's room is allocated when the recorder is made. From the first act for which there is no room, the recorder tells
 /// nothing, for good; the acts themselves are still done. The clause `goes_on` of each act says this.
 ///
-/// A second log, with room of its own, has the same acts with the settlings among them (`logs_on`).
+/// A second log, with room of its own, has the same acts with the settlings among them (`logs_on`). It is what the recorder
+/// logs, as long as it has room.
 #[derive(Drop)]
 pub struct Recorder<A: Acts + Drop> {
     acts: A,
@@ -36,6 +38,8 @@ pub struct Recorder<A: Acts + Drop> {
     full: bool,
     entries: Vec<Entry>,
     entries_full: bool,
+    history: History,
+    ghost kept: { entries_full ≡ false → entries.items ≡ history.entries },
 }
 
 impl<A: Acts + Drop> Recorder<A> {
@@ -44,7 +48,7 @@ impl<A: Acts + Drop> Recorder<A> {
         ensures acts { IfOk result (λ r. r.acts ≡ acts) }
         ensures told { IfOk result (λ r. (r.log.items ≡ []) × (r.full ≡ false)) }
         ensures room { IfOk result (λ r. vec_len r.log + room ≤ vec_capacity r.log) }
-        ensures logged { IfOk result (λ r. (r.entries.items ≡ []) × (r.entries_full ≡ false)) }
+        ensures logged { IfOk result (λ r. (r.history.entries ≡ []) × (r.entries.items ≡ []) × (r.entries_full ≡ false)) }
         ensures entries { IfOk result (λ r. vec_len r.entries + 2 * room ≤ vec_capacity r.entries) }
     {
         let Some(both) = room.checked_mul(2) else {
@@ -60,6 +64,7 @@ impl<A: Acts + Drop> Recorder<A> {
             full: false,
             entries,
             entries_full: false,
+            history: History::new(),
         })
     }
 
@@ -70,9 +75,10 @@ impl<A: Acts + Drop> Recorder<A> {
         if self.full { None } else { Some(&self.log) }
     }
 
-    /// The acts so far with the settlings among them, first to last, while they are logged.
+    /// The acts so far with the settlings among them, first to last, as long as there was room.
     pub fn entries(&self) -> Option<&[Entry]>
-        ensures { option_map (λ entries. entries.now) result ≡ ⟦<Recorder<A> as Acts>⟧.logged self.now }
+        ensures entries { IfSome result (λ entries. entries.now ≡ ⟦<Recorder<A> as Acts>⟧.logged self.now) }
+        ensures room { IsNone result ↔ (self.now.entries_full ≡ true) }
     {
         if self.entries_full {
             None
@@ -87,8 +93,7 @@ impl<A: Acts + Drop> Recorder<A> {
         ensures goes_on { (self.new.full ≡ false) ↔ ((self.old.full ≡ false) × (vec_len self.old.log < vec_capacity self.old.log)) }
         ensures told { Tells (if self.old.full then None else Some self.old.log.items)
             (if self.new.full then None else Some self.new.log.items) (act ∷ []) }
-        ensures logged { Logs (if self.old.entries_full then None else Some self.old.entries.items)
-            (if self.new.entries_full then None else Some self.new.entries.items) (Entry.Did act ∷ []) }
+        ensures logged { Logs self.old.history.entries self.new.history.entries (Entry.Did act ∷ []) }
         ensures logs_on { (self.new.entries_full ≡ false) ↔ ((self.old.entries_full ≡ false)
             × (vec_len self.old.entries < vec_capacity self.old.entries)) }
     {
@@ -105,11 +110,11 @@ impl<A: Acts + Drop> Recorder<A> {
     fn enter(&mut self, entry: Entry)
         ensures acts { self.new.acts ≡ self.old.acts }
         ensures told { (self.new.log ≡ self.old.log) × (self.new.full ≡ self.old.full) }
-        ensures logged { Logs (if self.old.entries_full then None else Some self.old.entries.items)
-            (if self.new.entries_full then None else Some self.new.entries.items) (entry ∷ []) }
+        ensures logged { Logs self.old.history.entries self.new.history.entries (entry ∷ []) }
         ensures logs_on { (self.new.entries_full ≡ false) ↔ ((self.old.entries_full ≡ false)
             × (vec_len self.old.entries < vec_capacity self.old.entries)) }
     {
+        self.history.note(&Note::One(entry));
         if self.entries_full || self.entries.len() == self.entries.capacity() {
             self.entries_full = true;
             return;
@@ -129,7 +134,7 @@ impl<A: Acts + Drop> Acts for Recorder<A> {
 
     ghost told = { λ r. if r.full then None else Some r.log.items };
 
-    ghost logged = { λ r. if r.entries_full then None else Some r.entries.items };
+    ghost logged = { λ r. r.history.entries };
 
     fn ready(&mut self, at: u32, len: u32) -> Result<(), TextFault> {
         self.acts.ready(at, len)
@@ -150,8 +155,7 @@ impl<A: Acts + Drop> Acts for Recorder<A> {
         ensures told { Tells (if self.old.full then None else Some self.old.log.items)
             (if self.new.full then None else Some self.new.log.items) (Act.Put at byte ∷ []) }
         ensures goes_on { (self.new.full ≡ false) ↔ ((self.old.full ≡ false) × (vec_len self.old.log < vec_capacity self.old.log)) }
-        ensures logged { Logs (if self.old.entries_full then None else Some self.old.entries.items)
-            (if self.new.entries_full then None else Some self.new.entries.items) (Entry.Did (Act.Put at byte) ∷ []) }
+        ensures logged { Logs self.old.history.entries self.new.history.entries (Entry.Did (Act.Put at byte) ∷ []) }
         ensures logs_on { (self.new.entries_full ≡ false) ↔ ((self.old.entries_full ≡ false)
             × (vec_len self.old.entries < vec_capacity self.old.entries)) }
     {
@@ -160,8 +164,7 @@ impl<A: Acts + Drop> Acts for Recorder<A> {
     }
 
     fn settle(&mut self)
-        ensures logged { Logs (if self.old.entries_full then None else Some self.old.entries.items)
-            (if self.new.entries_full then None else Some self.new.entries.items) (Entry.Settled ∷ []) }
+        ensures logged { Logs self.old.history.entries self.new.history.entries (Entry.Settled ∷ []) }
         ensures logs_on { (self.new.entries_full ≡ false) ↔ ((self.old.entries_full ≡ false)
             × (vec_len self.old.entries < vec_capacity self.old.entries)) }
         ensures marked { A.marked self.new.acts ≡ A.marked self.old.acts }
@@ -188,8 +191,7 @@ impl<A: Acts + Drop> Acts for Recorder<A> {
         ensures told { Tells (if self.old.full then None else Some self.old.log.items)
             (if self.new.full then None else Some self.new.log.items) (Act.MarkSpan at (length marks.now) ∷ []) }
         ensures goes_on { (self.new.full ≡ false) ↔ ((self.old.full ≡ false) × (vec_len self.old.log < vec_capacity self.old.log)) }
-        ensures logged { Logs (if self.old.entries_full then None else Some self.old.entries.items)
-            (if self.new.entries_full then None else Some self.new.entries.items) (Entry.Did (Act.MarkSpan at (length marks.now)) ∷ []) }
+        ensures logged { Logs self.old.history.entries self.new.history.entries (Entry.Did (Act.MarkSpan at (length marks.now)) ∷ []) }
         ensures logs_on { (self.new.entries_full ≡ false) ↔ ((self.old.entries_full ≡ false)
             × (vec_len self.old.entries < vec_capacity self.old.entries)) }
     {
@@ -212,13 +214,13 @@ impl<A: Acts + Drop> Acts for Recorder<A> {
             (if self.new.full then None else Some self.new.log.items) (Act.MarkSpan at (length code.now) ∷ []) }
         ensures goes_on { IsTrue result → (self.new.full ≡ false) ↔ ((self.old.full ≡ false)
             × (vec_len self.old.log < vec_capacity self.old.log)) }
-        ensures logged { IsTrue result → Logs (if self.old.entries_full then None else Some self.old.entries.items)
-            (if self.new.entries_full then None else Some self.new.entries.items) (Entry.Did (Act.MarkSpan at (length code.now)) ∷ []) }
+        ensures logged { IsTrue result → Logs self.old.history.entries self.new.history.entries (Entry.Did (Act.MarkSpan at (length code.now)) ∷ []) }
         ensures logs_on { IsTrue result → (self.new.entries_full ≡ false) ↔ ((self.old.entries_full ≡ false)
             × (vec_len self.old.entries < vec_capacity self.old.entries)) }
         ensures unchanged { result ≡ false → (A.marked self.new.acts ≡ A.marked self.old.acts)
             × (self.new.full ≡ self.old.full) × (self.new.log.items ≡ self.old.log.items)
-            × (self.new.entries_full ≡ self.old.entries_full) × (self.new.entries.items ≡ self.old.entries.items) }
+            × (self.new.entries_full ≡ self.old.entries_full) × (self.new.entries.items ≡ self.old.entries.items)
+            × (self.new.history.entries ≡ self.old.history.entries) }
         ensures made { A.made self.new.acts ≡ A.made self.old.acts }
         ensures whole { IsText (A.marked self.new.acts) }
         ensures keeper { A.keeper self.new.acts ≡ A.keeper self.old.acts }
@@ -241,8 +243,7 @@ impl<A: Acts + Drop> Acts for Recorder<A> {
         ensures told { Tells (if self.old.full then None else Some self.old.log.items)
             (if self.new.full then None else Some self.new.log.items) (Act.UnmarkSpan at len ∷ []) }
         ensures goes_on { (self.new.full ≡ false) ↔ ((self.old.full ≡ false) × (vec_len self.old.log < vec_capacity self.old.log)) }
-        ensures logged { Logs (if self.old.entries_full then None else Some self.old.entries.items)
-            (if self.new.entries_full then None else Some self.new.entries.items) (Entry.Did (Act.UnmarkSpan at len) ∷ []) }
+        ensures logged { Logs self.old.history.entries self.new.history.entries (Entry.Did (Act.UnmarkSpan at len) ∷ []) }
         ensures logs_on { (self.new.entries_full ≡ false) ↔ ((self.old.entries_full ≡ false)
             × (vec_len self.old.entries < vec_capacity self.old.entries)) }
     {
@@ -275,8 +276,7 @@ impl<A: Acts + Drop> Acts for Recorder<A> {
             (if self.new.full then None else Some self.new.log.items) (Act.Bump ∷ [])) }
         ensures goes_on { OnOk result ((self.new.full ≡ false) ↔ ((self.old.full ≡ false)
             × (vec_len self.old.log < vec_capacity self.old.log))) }
-        ensures logged { OnOk result (Logs (if self.old.entries_full then None else Some self.old.entries.items)
-            (if self.new.entries_full then None else Some self.new.entries.items) (Entry.Did Act.Bump ∷ [])) }
+        ensures logged { OnOk result (Logs self.old.history.entries self.new.history.entries (Entry.Did Act.Bump ∷ [])) }
         ensures logs_on { OnOk result ((self.new.entries_full ≡ false) ↔ ((self.old.entries_full ≡ false)
             × (vec_len self.old.entries < vec_capacity self.old.entries))) }
         ensures marked { A.marked self.new.acts ≡ A.marked self.old.acts }
@@ -285,7 +285,7 @@ impl<A: Acts + Drop> Acts for Recorder<A> {
             × (A.keeper self.new.acts ≡ A.keeper self.old.acts)) }
         ensures silent { OnErr result ((self.new.full ≡ self.old.full) × (self.new.log.items ≡ self.old.log.items)) }
         ensures unlogged { OnErr result ((self.new.entries_full ≡ self.old.entries_full)
-            × (self.new.entries.items ≡ self.old.entries.items)) }
+            × (self.new.entries.items ≡ self.old.entries.items) × (self.new.history.entries ≡ self.old.history.entries)) }
     {
         let answer = self.acts.bump();
         if answer.is_ok() {
@@ -302,8 +302,7 @@ impl<A: Acts + Drop> Acts for Recorder<A> {
         ensures told { Tells (if self.old.full then None else Some self.old.log.items)
             (if self.new.full then None else Some self.new.log.items) (Act.Look ∷ []) }
         ensures goes_on { (self.new.full ≡ false) ↔ ((self.old.full ≡ false) × (vec_len self.old.log < vec_capacity self.old.log)) }
-        ensures logged { Logs (if self.old.entries_full then None else Some self.old.entries.items)
-            (if self.new.entries_full then None else Some self.new.entries.items) (Entry.Did Act.Look ∷ []) }
+        ensures logged { Logs self.old.history.entries self.new.history.entries (Entry.Did Act.Look ∷ []) }
         ensures logs_on { (self.new.entries_full ≡ false) ↔ ((self.old.entries_full ≡ false)
             × (vec_len self.old.entries < vec_capacity self.old.entries)) }
     {

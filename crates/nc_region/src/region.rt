@@ -90,7 +90,7 @@ impl<'g> RegionOf<Plain<'g>> {
               chunks = [];
               keeper = keeper;
               told = None;
-              logged = None;
+              logged = [];
             }) }
         ensures confined { IfOk result (λ r. IsConfined r.marked.bytes) }
     {

@@ -54,7 +54,7 @@ with_pages r made =
     record { marked = r.marked; made = made; chunks = r.chunks; keeper = r.keeper; told = r.told; logged = r.logged }
 
 -- what reclaiming leaves, by its parts
-pub reclaimed_is : (old new : Region) (between : Option (List Act)) (halfway : Option (List Entry)) (count least : ℕ)
+pub reclaimed_is : (old new : Region) (between : Option (List Act)) (halfway : List Entry) (count least : ℕ)
     → HasLooked old.keeper new.keeper
     → least ≡ least_number new.keeper.numbers
     → new.chunks ≡ kept least old.chunks → count ≡ length (freed least old.chunks)

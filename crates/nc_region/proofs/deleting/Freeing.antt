@@ -35,18 +35,18 @@ unmarkings_append : (xs ys : List Chunk) → unmarkings (xs ++ ys) ≡ unmarking
 unmarkings_append xs ys = map-append (λ (x : Chunk). UnmarkSpan x.base x.length) xs ys
 
 -- nothing is unmarked
-pub unmarks_none : (marked : MarkedText) (told : Option (List Act)) (logged : Option (List Entry))
+pub unmarks_none : (marked : MarkedText) (told : Option (List Act)) (logged : List Entry)
     → AreUnmarked [] marked marked told told logged logged
 unmarks_none marked told logged = record { marked = refl; tells = tells_none told; logs = logs_none logged }
 
 -- one chunk
-pub unmarks_one : (chunk : Chunk) (a b : MarkedText) (t u : Option (List Act)) (l m : Option (List Entry))
+pub unmarks_one : (chunk : Chunk) (a b : MarkedText) (t u : Option (List Act)) (l m : List Entry)
     → b ≡ without_marks a chunk.base chunk.length → Tells t u (UnmarkSpan chunk.base chunk.length ∷ [])
     → Logs l m (Did (UnmarkSpan chunk.base chunk.length) ∷ []) → AreUnmarked (chunk ∷ []) a b t u l m
 unmarks_one chunk a b t u l m marked tells logs = record { marked = marked; tells = tells; logs = logs }
 
 -- some chunks, and then more
-pub unmarks_more : (xs ys : List Chunk) (a b c : MarkedText) (t u v : Option (List Act)) (l m n : Option (List Entry))
+pub unmarks_more : (xs ys : List Chunk) (a b c : MarkedText) (t u v : Option (List Act)) (l m n : List Entry)
     → AreUnmarked xs a b t u l m → AreUnmarked ys b c u v m n → AreUnmarked (xs ++ ys) a c t v l n
 unmarks_more xs ys a b c t u v l m n first second = record {
   marked = second.marked ∙ (ap (λ (z : MarkedText). unmarked z ys) first.marked ∙ sym (unmarked_append a xs ys));
@@ -219,7 +219,7 @@ taken_shorter least old new taken t =
 
 -- Of a region's chunks, the first ones that are due have been taken out and unmarked, which left a region with the others.
 pub record AreFreed (least : ℕ) (old new : List Chunk) (was now : MarkedText) (told told_now : Option (List Act))
-    (logged logged_now : Option (List Entry)) : Type 0 where
+    (logged logged_now : List Entry) : Type 0 where
   pub done : List Chunk
   pub stay : kept least new ≡ kept least old
   pub parted : freed least old ≡ done ++ freed least new
@@ -227,13 +227,13 @@ pub record AreFreed (least : ℕ) (old new : List Chunk) (was now : MarkedText) 
   pub region : IsRegion now new
 
 -- none is freed yet
-pub freed_none : (least : ℕ) (chunks : List Chunk) (marked : MarkedText) (told : Option (List Act)) (logged : Option (List Entry))
+pub freed_none : (least : ℕ) (chunks : List Chunk) (marked : MarkedText) (told : Option (List Act)) (logged : List Entry)
     → IsRegion marked chunks → AreFreed least chunks chunks marked marked told told logged logged
 freed_none least chunks marked told logged region =
     record { done = []; stay = refl; parted = refl; unmarks = unmarks_none marked told logged; region = region }
 
 -- those that were taken now are
-pub freed_more : (least : ℕ) (old mid new taken : List Chunk) (a b c : MarkedText) (t u v : Option (List Act)) (l m n : Option (List Entry))
+pub freed_more : (least : ℕ) (old mid new taken : List Chunk) (a b c : MarkedText) (t u v : Option (List Act)) (l m n : List Entry)
     → AreFreed least old mid a b t u l m → AreTaken least mid new taken → AreUnmarked taken b c u v m n → IsRegion c new
     → AreFreed least old new a c t v l n
 freed_more least old mid new taken a b c t u v l m n f t' one region = record {
@@ -247,14 +247,14 @@ freed_more least old mid new taken a b c t u v l m n f t' one region = record {
 
 -- All chunks that are due have been taken out and unmarked.
 pub record AllFreed (least : ℕ) (old new : List Chunk) (was now : MarkedText) (told told_now : Option (List Act))
-    (logged logged_now : Option (List Entry)) : Type 0 where
+    (logged logged_now : List Entry) : Type 0 where
   pub stay : new ≡ kept least old
   pub count : length old ≡ length new + length (freed least old)
   pub unmarks : AreUnmarked (freed least old) was now told told_now logged logged_now
   pub region : IsRegion now new
 
 -- so it is where none is taken any more
-pub freed_all : (least : ℕ) (old mid new taken : List Chunk) (a b : MarkedText) (t u : Option (List Act)) (l m : Option (List Entry))
+pub freed_all : (least : ℕ) (old mid new taken : List Chunk) (a b : MarkedText) (t u : Option (List Act)) (l m : List Entry)
     → AreFreed least old mid a b t u l m → AreTaken least mid new taken → taken ≡ [] → AllFreed least old new a b t u l m
 freed_all least old mid new taken a b t u l m f t' none =
     let no_more : freed least mid ≡ [] = t'.none none in

@@ -65,7 +65,7 @@ abbrev pub stops : List ℕ
 stops = replicate 32 244
 
 -- up to some place stops stand where bits are set, told and logged one by one, and the bits from it on are left
-pub record Stopping (places left at : ℕ) (old new : List ℕ) (before after : Option (List Act)) (begun ended : Option (List Entry)) : Type 0 where
+pub record Stopping (places left at : ℕ) (old new : List ℕ) (before after : Option (List Act)) (begun ended : List Entry) : Type 0 where
   pub count : ℕ
   pub few : count ≤ 32
   pub done : (k : ℕ) → k < count → bit_at left k ≡ 0
@@ -75,7 +75,7 @@ pub record Stopping (places left at : ℕ) (old new : List ℕ) (before after : 
   pub log : Logs begun ended (unsettled (puts_where (is_set places at) at (take count stops)))
 
 -- at first none do
-pub stopping_none : (places at : ℕ) (old : List ℕ) (told : Option (List Act)) (log : Option (List Entry))
+pub stopping_none : (places at : ℕ) (old : List ℕ) (told : Option (List Act)) (log : List Entry)
     → Stopping places places at old old told told log log
 stopping_none places at old told log =
     record {
@@ -89,7 +89,7 @@ stopping_none places at old told log =
     }
 
 -- the places whose bits aren't set are passed
-pub stopping_to : (places left at : ℕ) (old new : List ℕ) (told told' : Option (List Act)) (log log' : Option (List Entry))
+pub stopping_to : (places left at : ℕ) (old new : List ℕ) (told told' : Option (List Act)) (log log' : List Entry)
     → (s : Stopping places left at old new told told' log log') → (n : ℕ) → s.count ≤ n → n ≤ 32 → ((k : ℕ) → k < n → bit_at left k ≡ 0)
     → HasPut (is_set places at) at stops n old new × Tells told told' (puts_where (is_set places at) at (take n stops))
     × Logs log log' (unsettled (puts_where (is_set places at) at (take n stops)))
@@ -108,7 +108,7 @@ stopping_to places left at old new told told' log log' s n from most none =
     )
 
 -- the lowest bit that is left is behind what is done
-pub behind_done : (places left at : ℕ) (old new : List ℕ) (told told' : Option (List Act)) (log log' : Option (List Entry))
+pub behind_done : (places left at : ℕ) (old new : List ℕ) (told told' : Option (List Act)) (log log' : List Entry)
     → (s : Stopping places left at old new told told' log log') → (k : ℕ) → bit_at left k ≡ 1 → s.count ≤ k
 behind_done places left at old new told told' log log' s k set = elim (cases_lt k s.count) [
   | inl before ↦ absurd (let e : 0 ≡ 1 = sym (s.done k before) ∙ set in omega (arith, e))
@@ -116,13 +116,13 @@ behind_done places left at old new told told' log log' s k set = elim (cases_lt 
 ]
 
 -- it is set among all
-pub still_set : (places left at : ℕ) (old new : List ℕ) (told told' : Option (List Act)) (log log' : Option (List Entry))
+pub still_set : (places left at : ℕ) (old new : List ℕ) (told told' : Option (List Act)) (log log' : List Entry)
     → (s : Stopping places left at old new told told' log log') → (k : ℕ) → k < 32 → bit_at left k ≡ 1 → is_set places at (at + k) ≡ true
 still_set places left at old new told told' log log' s k lt set =
     set_at places at k 1 (sym (s.rest k (behind_done places left at old new told told' log log' s k set) lt) ∙ set)
 
 -- where the bytes stand once a stop is put at that place
-pub next_bytes : (places left at : ℕ) (old new : List ℕ) (told told' : Option (List Act)) (log log' : Option (List Entry))
+pub next_bytes : (places left at : ℕ) (old new : List ℕ) (told told' : Option (List Act)) (log log' : List Entry)
     → (s : Stopping places left at old new told told' log log') → (k : ℕ) → k < 32 → bit_at left k ≡ 1
     → ((i : ℕ) → i < k → bit_at left i ≡ 0) → 65536 ≤ at → at + 32 ≤ 65536 + length old
     → HasPut (is_set places at) at stops (k + 1) old (set new (at + k - 65536) 244)
@@ -134,10 +134,10 @@ next_bytes places left at old new told told' log log' s k lt is below low high =
     (still_set places left at old new told told' log log' s k lt is))
 
 -- a stop at that place
-pub stopping_next : (places left at : ℕ) (old new : List ℕ) (told told' : Option (List Act)) (log log' : Option (List Entry))
+pub stopping_next : (places left at : ℕ) (old new : List ℕ) (told told' : Option (List Act)) (log log' : List Entry)
     → (s : Stopping places left at old new told told' log log') → (k : ℕ) → k < 32 → bit_at left k ≡ 1
     → ((i : ℕ) → i < k → bit_at left i ≡ 0) → 65536 ≤ at → at + 32 ≤ 65536 + length old → (others : ℕ) → bit_at others k ≡ 0
-    → ((i : ℕ) → i < 32 → i ≢ k → bit_at others i ≡ bit_at left i) → (told'' : Option (List Act)) (log'' : Option (List Entry))
+    → ((i : ℕ) → i < 32 → i ≢ k → bit_at others i ≡ bit_at left i) → (told'' : Option (List Act)) (log'' : List Entry)
     → Tells told' told'' (Put (at + k) 244 ∷ []) → Logs log' log'' (Did (Put (at + k) 244) ∷ [])
     → Stopping places others at old (set new (at + k - 65536) 244) told told'' log log''
 stopping_next places left at old new told told' log log' s k lt is below low high others cleared kept told'' log'' tells logs =
@@ -162,7 +162,7 @@ stopping_next places left at old new told told' log log' s k lt is below low hig
     }
 
 -- once none is left, the whole bundle is done
-pub stopping_all : (places at : ℕ) (old new : List ℕ) (told told' : Option (List Act)) (log log' : Option (List Entry))
+pub stopping_all : (places at : ℕ) (old new : List ℕ) (told told' : Option (List Act)) (log log' : List Entry)
     → Stopping places 0 at old new told told' log log' → HasPut (is_set places at) at stops 32 old new
     × Tells told told' (puts_where (is_set places at) at stops) × Logs log log' (unsettled (puts_where (is_set places at) at stops))
 stopping_all places at old new told told' log log' s =
@@ -209,7 +209,7 @@ bundle_told chosen places base i len a b c fits agree first second =
     subst (λ (acts : List Act). Tells a c acts) (sym (bundle_puts chosen places base i len fits agree)) (tells_more a b c _ _ first second)
 
 -- and logged
-pub bundle_log : (chosen : ℕ → Bool) (places base i len : ℕ) (a b c : Option (List Entry)) → i + 32 ≤ len
+pub bundle_log : (chosen : ℕ → Bool) (places base i len : ℕ) (a b c : List Entry) → i + 32 ≤ len
     → ((k : ℕ) → k < 32 → is_set places (base + i) (base + i + k) ≡ chosen (base + i + k))
     → Logs a b (unsettled (puts_where chosen base (take i (replicate len 244))))
     → Logs b c (unsettled (puts_where (is_set places (base + i)) (base + i) stops))

@@ -1,7 +1,7 @@
 -- The entries logged, one call after another.
-use Rattle.std.proofs.Common.{◌≡◌, ℕ, ◌+◌, ◌<◌, ◌≤◌, Bool, true, false, cond, List, [], ◌∷◌, ◌++◌, length, get_or, take, replicate, Option}
+use Rattle.std.proofs.Common.{◌≡◌, ℕ, ◌+◌, ◌<◌, ◌≤◌, Bool, true, false, cond, List, [], ◌∷◌, ◌++◌, length, get_or, take, replicate}
 use Rattle.std.proofs.Common.{refl, ◌∙◌, sym, ap, subst, append_assoc}
-use Rattle.std.proofs.lemmas.List.{map-append}
+use Rattle.std.proofs.lemmas.List.{map-append, append-nil}
 use Rattle.nc_decode.specs.declared.instruction.Mark.{Mark}
 use Rattle.nc_vet.specs.Chunk.{Piece}
 use Rattle.nc_region.specs.declared.acts.Act.{Act}
@@ -11,35 +11,35 @@ use Rattle.nc_region.specs.declared.acts.Entry.TheVariants.{Did, Settled}
 use Rattle.nc_region.specs.Acts.{puts_where, is_inside, is_start, is_marked_at, is_unmarked_at, acts_of_create, acts_of_delete}
 use Rattle.nc_region.specs.Log.{Logs, unsettled, acts_in, log_of_create, log_of_delete}
 use Rattle.nc_region.specs.Patch.{stands_there, any_place, acts_of_instruction, acts_of_modify, log_of_instruction, log_of_modify}
-use Rattle.nc_region.proofs.telling.Told.{grows_none, grows_more, next_put, next_passed, all_passed}
+use Rattle.nc_region.proofs.telling.Told.{next_put, next_passed, all_passed}
 
 -- no entry is logged
-pub logs_none : (logged : Option (List Entry)) → Logs logged logged []
-logs_none logged = grows_none logged
+pub logs_none : (logged : List Entry) → Logs logged logged []
+logs_none logged = sym (append-nil logged)
 
 -- entries after entries
-pub logs_more : (a b c : Option (List Entry)) (xs ys : List Entry) → Logs a b xs → Logs b c ys → Logs a c (xs ++ ys)
-logs_more a b c xs ys first second = grows_more a b c xs ys first second
+pub logs_more : (a b c : List Entry) (xs ys : List Entry) → Logs a b xs → Logs b c ys → Logs a c (xs ++ ys)
+logs_more a b c xs ys first second = second ∙ (ap (λ (z : List Entry). z ++ ys) first ∙ append_assoc a xs ys)
 
 -- entries after some of which a settling is the last
-pub logs_after : (a b c : Option (List Entry)) (xs ys : List Entry) → Logs a b (xs ++ Settled ∷ []) → Logs b c ys
+pub logs_after : (a b c : List Entry) (xs ys : List Entry) → Logs a b (xs ++ Settled ∷ []) → Logs b c ys
     → Logs a c (xs ++ Settled ∷ ys)
 logs_after a b c xs ys first second =
     subst (λ (z : List Entry). Logs a c z) (append_assoc xs (Settled ∷ []) ys) (logs_more a b c (xs ++ Settled ∷ []) ys first second)
 
 -- one more settling
-pub ends_settled : (a b : Option (List Entry)) (xs : List Entry) → Logs a b xs → (c : Option (List Entry)) → Logs b c (Settled ∷ [])
+pub ends_settled : (a b : List Entry) (xs : List Entry) → Logs a b xs → (c : List Entry) → Logs b c (Settled ∷ [])
     → Logs a c (xs ++ Settled ∷ [])
 ends_settled a b xs first c last = logs_more a b c xs (Settled ∷ []) first last
 
 -- acts after acts, with no settling between
-pub logs_acts : (a b c : Option (List Entry)) (xs ys : List Act) → Logs a b (unsettled xs) → Logs b c (unsettled ys)
+pub logs_acts : (a b c : List Entry) (xs ys : List Act) → Logs a b (unsettled xs) → Logs b c (unsettled ys)
     → Logs a c (unsettled (xs ++ ys))
 logs_acts a b c xs ys first second =
     subst (λ (z : List Entry). Logs a c z) (sym (map-append Did xs ys)) (logs_more a b c (unsettled xs) (unsettled ys) first second)
 
 -- the entries of one more byte
-pub log_put : (front : List Entry) (chosen : ℕ → Bool) (base : ℕ) (bytes : List ℕ) (i : ℕ) (a b c : Option (List Entry)) → i < length bytes
+pub log_put : (front : List Entry) (chosen : ℕ → Bool) (base : ℕ) (bytes : List ℕ) (i : ℕ) (a b c : List Entry) → i < length bytes
     → chosen (base + i) ≡ true → Logs a b (front ++ unsettled (puts_where chosen base (take i bytes)))
     → Logs b c (Did (Put (base + i) (get_or bytes i 0)) ∷ []) → Logs a c (front ++ unsettled (puts_where chosen base (take (i + 1) bytes)))
 log_put front chosen base bytes i a b c lt is first second =
@@ -52,14 +52,14 @@ log_put front chosen base bytes i a b c lt is first second =
     subst (λ (z : List Entry). Logs a c z) whole (logs_more a b c (front ++ unsettled acts) (unsettled one) first second)
 
 -- a place that is not chosen logs nothing
-pub log_passed : (chosen : ℕ → Bool) (base : ℕ) (bytes : List ℕ) (i : ℕ) (a b : Option (List Entry)) → i < length bytes
+pub log_passed : (chosen : ℕ → Bool) (base : ℕ) (bytes : List ℕ) (i : ℕ) (a b : List Entry) → i < length bytes
     → chosen (base + i) ≡ false → Logs a b (unsettled (puts_where chosen base (take i bytes)))
     → Logs a b (unsettled (puts_where chosen base (take (i + 1) bytes)))
 log_passed chosen base bytes i a b lt not first =
     subst (λ (acts : List Act). Logs a b (unsettled acts)) (sym (next_passed chosen base bytes i lt not)) first
 
 -- nor do some that follow one another
-pub log_passed_all : (chosen : ℕ → Bool) (base : ℕ) (bytes : List ℕ) (i n : ℕ) (a b : Option (List Entry)) → i + n ≤ length bytes
+pub log_passed_all : (chosen : ℕ → Bool) (base : ℕ) (bytes : List ℕ) (i n : ℕ) (a b : List Entry) → i + n ≤ length bytes
     → ((j : ℕ) → j < n → chosen (base + (i + j)) ≡ false) → Logs a b (unsettled (puts_where chosen base (take i bytes)))
     → Logs a b (unsettled (puts_where chosen base (take (i + n) bytes)))
 log_passed_all chosen base bytes i n a b fits none first =

@@ -139,7 +139,7 @@ told_bundle base i code run a b c start whole long fits same first second =
     (tells_more a b c _ _ passed second)
 
 -- and logged
-pub log_bundle : (base i : ℕ) (code run : List ℕ) (a b c : Option (List Entry)) → base % 32 ≡ 0 → i % 32 ≡ 0 → length run ≡ 31
+pub log_bundle : (base i : ℕ) (code run : List ℕ) (a b c : List Entry) → base % 32 ≡ 0 → i % 32 ≡ 0 → length run ≡ 31
     → i + 32 ≤ length code → ((k : ℕ) → k < 31 → get_or run k 0 ≡ get_or code (i + 1 + k) 0)
     → Logs a b (unsettled (puts_where is_inside base (take i code))) → Logs b c (unsettled (puts_where any_place (base + (i + 1)) run))
     → Logs a c (unsettled (puts_where is_inside base (take (i + 32) code)))

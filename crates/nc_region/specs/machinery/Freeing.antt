@@ -20,7 +20,7 @@ pub record AreTakenOut (least : ℕ) (marked : MarkedText) (left taken : List Ch
 
 -- The spans of these chunks have been unmarked, in this order: what became of the marks, the acts told and the entries logged.
 pub record AreUnmarked (chunks : List Chunk) (was now : MarkedText) (told told_now : Option (List Act))
-    (logged logged_now : Option (List Entry)) : Type 0 where
+    (logged logged_now : List Entry) : Type 0 where
   pub marked : now ≡ unmarked was chunks
   pub tells : Tells told told_now (unmarkings chunks)
   pub logs : Logs logged logged_now (unsettled (unmarkings chunks))

@@ -13,7 +13,7 @@ pub(crate) trait Telling {
     /// The acts, first to last, while they are told.
     fn told(&self) -> Option<&[Act]>;
 
-    /// The acts with the settlings among them, first to last, while they are logged.
+    /// The acts with the settlings among them, first to last, as long as there was room.
     fn logged(&self) -> Option<&[Entry]>;
 }
 

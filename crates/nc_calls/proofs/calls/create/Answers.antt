@@ -20,3 +20,6 @@ returns-clause-unchanged g c = c.create.ensures.unchanged
 
 pub returns-clause-due : goal.returns-clause-due
 returns-clause-due g c = c.create.ensures.refused
+
+pub returns-clause-log : goal.returns-clause-log
+returns-clause-log g c = c.create.ensures.log

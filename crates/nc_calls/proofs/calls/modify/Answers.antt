@@ -17,3 +17,6 @@ returns-clause-unchanged g c = c.modify.ensures.unchanged
 
 pub returns-clause-due : goal.returns-clause-due
 returns-clause-due g c = c.modify.ensures.refused
+
+pub returns-clause-log : goal.returns-clause-log
+returns-clause-log g c = c.modify.ensures.log

@@ -23,7 +23,7 @@ returns c =
       chunks = ap (λ (r : Region). r.chunks) region;
       keeper = keeper ∙ ap (λ (t : TableId). first_keeper t c.args.seats) table;
       told = ap (λ (r : Region). r.told) region;
-      logged = ap (λ (r : Region). r.logged) region;
+      logged = ap (λ (r : Region). r.logged) region ∙ ap (λ (p : PlainState). p.entries) owned;
       passes = c.in-Ok-new.ensures.passes ∙ ap (λ (t : TableId). new_passes t c.args.seats) table;
       begun = refl;
     }

@@ -80,5 +80,5 @@ returns-clause-told g c =
 pub returns-clause-log : goal.returns-clause-log
 returns-clause-log g c =
     logs_after _ _ _ _ _ c.put_inside.ensures.log
-    (logs_more _ _ _ (Did (MarkSpan c.args.base (length c.args.code.now)) ∷ []) _ (rw c.requires.code c.mark_chunk.ensures.logged)
+    (logs_more _ _ _ (Did (MarkSpan c.args.base (length c.args.code.now)) ∷ []) _ (rw (← c.requires.code) at c.mark_chunk.ensures.logged)
     c.put_starts.ensures.log)

@@ -82,4 +82,5 @@ returns-clause-log g c =
     let log = subst (λ (bytes : List ℕ). Logs (g.A.Acts.logged c.args.acts.now) (g.A.Acts.logged c.loop-bundle.acts)
     (unsettled (puts_where is_inside c.args.base bytes))) (take_all (32 * c.loop-bundle.bundle) c.args.code.now
     (omega (arith, c.requires.placed.whole))) c.loop-bundle.invariant.log in
-    search (ends_settled _ _ _ log)
+    search (ends_settled (g.A.Acts.logged c.args.acts.now) (g.A.Acts.logged c.loop-bundle.acts)
+    (unsettled (puts_where is_inside c.args.base c.args.code.now)) log)

@@ -102,9 +102,11 @@ returns-clause-told g c =
 -- names no step behind the loop, so that a settling left out there leaves a goal open
 pub returns-clause-log : goal.returns-clause-log
 returns-clause-log g c =
-    let stops = replicate c.args.len 244 in
+    let stops : List ℕ = replicate c.args.len 244 in
     let chosen = is_marked_at (g.A.Acts.marked c.args.acts.now).marks in
-    let log = subst (λ (bytes : List ℕ). Logs (g.A.Acts.logged c.args.acts.now) (g.A.Acts.logged c.loop-bundle.acts)
+    let log : Logs (g.A.Acts.logged c.args.acts.now) (g.A.Acts.logged c.loop-bundle.acts) (unsettled (puts_where chosen c.args.base stops)) =
+    subst (λ (bytes : List ℕ). Logs (g.A.Acts.logged c.args.acts.now) (g.A.Acts.logged c.loop-bundle.acts)
     (unsettled (puts_where chosen c.args.base bytes))) (take_all (32 * c.loop-bundle.bundle) stops
     (omega (arith, c.requires.placed.whole, length-replicate {A = ℕ} c.args.len 244))) c.loop-bundle.invariant.log in
-    search (ends_settled _ _ _ log)
+    search (ends_settled (g.A.Acts.logged c.args.acts.now) (g.A.Acts.logged c.loop-bundle.acts)
+    (unsettled (puts_where chosen c.args.base stops)) log)

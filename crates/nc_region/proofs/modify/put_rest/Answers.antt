@@ -72,7 +72,8 @@ returns-clause-log g c =
     subst (λ (z : List ℕ). Logs (g.A.Acts.logged c.args.acts.now) (g.A.Acts.logged c.loop-i.acts)
     (Settled ∷ unsettled (puts_where any_place (c.args.at + 1) z))) (take_all c.loop-i.i c.args.rest.now (omega arith))
     c.loop-i.invariant.log in
-    search (ends_settled _ _ _ log)
+    search (ends_settled (g.A.Acts.logged c.args.acts.now) (g.A.Acts.logged c.loop-i.acts)
+    (Settled ∷ unsettled (puts_where any_place (c.args.at + 1) c.args.rest.now)) log)
 
 pub returns-clause-bytes : goal.returns-clause-bytes
 returns-clause-bytes g c =

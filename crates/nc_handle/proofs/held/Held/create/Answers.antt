@@ -2,6 +2,9 @@ use Rattle.std.proofs.Common.{rules, ap, subst}
 use Rattle.std.specs.Prelude.{◌≡◌, length}
 use Rattle.nc_text.specs.Places.{limit_of}
 use Rattle.nc_region.specs.Region.{IsCreated, IsRefused, MayRefuse, Meets}
+use Rattle.nc_region.specs.Log.{Logs, log_of_create}
+use Rattle.nc_calls.specs.Calls.{no_details}
+use Rattle.nc_calls.specs.Histories.{LogsCall}
 use Rattle.nc_handle.specs.Held.{HeldState}
 use Rattle.nc_handle.proofs.SpanReads.{created_span, created_told}
 use Rattle.nc_handle.proofs.held.Held.create.Goals.{in-Ok, in-Err-create}
@@ -9,7 +12,7 @@ use Rattle.nc_handle.proofs.held.Held.create.Goals as goal
 
 pub invariant_of-span : goal.invariant_of-span
 invariant_of-span c = record {
-  placed = created_span c.self.inside.region c.create.new.self c.args.vetted c.base-base.result c.code.result.now
+  placed = created_span c.self.inside.region c.create.new.region c.args.vetted c.base-base.result c.code.result.now
       c.base-base.ensures.value c.code.ensures.value c.in-Ok.ensures.created c.code.ensures.valid c.in-Ok.ensures.free.0;
 }
 
@@ -19,7 +22,7 @@ invariant_of-self c = search rules
 pub returns-clause-created : goal.returns-clause-created
 returns-clause-created c =
     elim c.match-create.branch [
-      | in-Ok w ↦ rw w.result-is (subst (λ (h : HeldState). IsCreated h.region c.create.new.self c.args.vetted) c.self.view_is w.in-Ok.ensures.created)
+      | in-Ok w ↦ rw w.result-is (subst (λ (h : HeldState). IsCreated h.region c.create.new.region c.args.vetted) c.self.view_is w.in-Ok.ensures.created)
       | in-Err-create w ↦ rw w.result-is tt
     ]
 
@@ -37,7 +40,7 @@ returns-clause-free c =
 pub returns-clause-others : goal.returns-clause-others
 returns-clause-others c =
     elim c.match-create.branch [
-      | in-Ok w ↦ rw w.result-is (ap (λ (h : HeldState). record h { region = c.create.new.self }) c.self.view_is)
+      | in-Ok w ↦ rw w.result-is (ap (λ (h : HeldState). record h { region = c.create.new.region }) c.self.view_is)
       | in-Err-create w ↦ rw w.result-is tt
     ]
 
@@ -46,7 +49,7 @@ returns-clause-told c =
     elim c.match-create.branch [
       | in-Ok w ↦
           rw (w.result-is, w.acts-is)
-          (created_told c.self.inside.region c.create.new.self c.args.vetted c.base-base.result c.code.result.now c.args.acts.now
+          (created_told c.self.inside.region c.create.new.region c.args.vetted c.base-base.result c.code.result.now c.args.acts.now
           w.tell_creation.new.acts w.tell_creation.result c.base-base.ensures.value c.code.ensures.value w.in-Ok.ensures.created
           c.code.ensures.valid w.in-Ok.ensures.free.0 w.tell_creation.ensures)
       | in-Err-create w ↦ rw w.result-is tt
@@ -60,8 +63,8 @@ returns-clause-unchanged c =
           rw w.result-is (
             w.in-Err-create.ensures.unchanged.0,
             (
-              ap (λ (h : HeldState). record h { region = c.create.new.self }) c.self.view_is,
-              subst (λ (h : HeldState). IsRefused h.region c.create.new.self c.args.vetted w.in-Err-create.fault) c.self.view_is
+              ap (λ (h : HeldState). record h { region = c.create.new.region }) c.self.view_is,
+              subst (λ (h : HeldState). IsRefused h.region c.create.new.region c.args.vetted w.in-Err-create.fault) c.self.view_is
                   w.in-Err-create.ensures.unchanged.1,
             ),
           )
@@ -82,6 +85,28 @@ returns-clause-refused c =
           rw w.result-is (
             c.in_default.ensures.allowed.0,
             c.in_default.ensures.allowed.1,
-            subst (λ (h : HeldState). MayRefuse h.region c.args.vetted w.in-Err-create.fault) c.self.view_is w.in-Err-create.ensures.refused,
+            subst (λ (h : HeldState). MayRefuse h.region c.args.vetted w.in-Err-create.fault) c.self.view_is w.in-Err-create.ensures.due,
           )
+    ]
+
+pub returns-clause-log : goal.returns-clause-log
+returns-clause-log c =
+    elim c.match-create.branch [
+      | in-Ok w ↦
+          rw w.result-is (
+          subst (λ (h : HeldState). Logs h.region.logged c.create.new.region.logged (log_of_create c.args.vetted.base c.args.vetted.code))
+          c.self.view_is w.in-Ok.ensures.log
+          )
+      | in-Err-create w ↦ rw w.result-is tt
+    ]
+
+pub returns-clause-call : goal.returns-clause-call
+returns-clause-call c = λ seats.
+    elim c.match-create.branch [
+      | in-Ok w ↦
+          rw w.result-is (
+          subst (λ (h : HeldState). LogsCall seats (record no_details { marks = c.args.vetted.marks }) h.region c.create.new.region)
+          c.self.view_is (w.in-Ok.ensures.call seats)
+          )
+      | in-Err-create w ↦ rw w.result-is tt
     ]

@@ -1,6 +1,10 @@
-use Rattle.std.proofs.Common.{length, ap, subst, ◌∙◌}
-use Rattle.nc_region.specs.Patch.{IsModified, IsPatch, MayRefusePatch}
+use Rattle.std.proofs.Common.{List, length, ap, subst, ◌∙◌}
+use Rattle.nc_vet.specs.Chunk.{Piece}
+use Rattle.nc_region.specs.Patch.{AreBytesOf, IsModified, IsPatch, MayRefusePatch, log_of_modify}
 use Rattle.nc_region.specs.Region.{Region}
+use Rattle.nc_region.specs.Log.{Logs}
+use Rattle.nc_calls.specs.Calls.{no_details}
+use Rattle.nc_calls.specs.Histories.{LogsCall}
 use Rattle.nc_handle.specs.Held.{HeldState}
 use Rattle.nc_handle.proofs.PatchPlaces.{patch_lies, window_stands}
 use Rattle.nc_handle.proofs.held.Held.modify.Goals.{in-Ok, in-Err-modify}
@@ -11,14 +15,14 @@ returns-clause-modified c =
     elim c.match-modify.branch [
       | in-Ok w ↦
           rw w.result-is
-          (subst (λ (h : HeldState). IsModified h.region c.modify.new.self c.args.at c.args.new.now) c.self.view_is w.in-Ok.ensures.modified)
+          (subst (λ (h : HeldState). IsModified h.region c.modify.new.region c.args.at c.args.new.now) c.self.view_is w.in-Ok.ensures.modified)
       | in-Err-modify w ↦ rw w.result-is tt
     ]
 
 pub returns-clause-others : goal.returns-clause-others
 returns-clause-others c =
     elim c.match-modify.branch [
-      | in-Ok w ↦ rw w.result-is (ap (λ (h : HeldState). record h { region = c.modify.new.self }) c.self.view_is)
+      | in-Ok w ↦ rw w.result-is (ap (λ (h : HeldState). record h { region = c.modify.new.region }) c.self.view_is)
       | in-Err-modify w ↦ rw w.result-is tt
     ]
 
@@ -75,6 +79,26 @@ returns-clause-refused c =
             c.in_default.ensures.allowed.0,
             c.in_default.ensures.allowed.1,
             subst (λ (h : HeldState). MayRefusePatch h.region c.args.at c.args.new.now w.in-Err-modify.fault) c.self.view_is
-                w.in-Err-modify.ensures.refused,
+                w.in-Err-modify.ensures.due,
           )
+    ]
+
+pub returns-clause-log : goal.returns-clause-log
+returns-clause-log c =
+    elim c.match-modify.branch [
+      | in-Ok w ↦
+          rw w.result-is (
+          subst (λ (h : HeldState). (news : List Piece) → AreBytesOf c.args.new.now news
+          → Logs h.region.logged c.modify.new.region.logged (log_of_modify h.region.marked.bytes c.args.at news)) c.self.view_is w.in-Ok.ensures.log
+          )
+      | in-Err-modify w ↦ rw w.result-is tt
+    ]
+
+pub returns-clause-call : goal.returns-clause-call
+returns-clause-call c = λ seats.
+    elim c.match-modify.branch [
+      | in-Ok w ↦
+          rw w.result-is
+          (subst (λ (h : HeldState). LogsCall seats no_details h.region c.modify.new.region) c.self.view_is (c.modify.ensures.call seats))
+      | in-Err-modify w ↦ rw w.result-is tt
     ]

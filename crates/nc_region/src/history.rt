@@ -1,0 +1,55 @@
+//! A log that only clauses read.
+
+ghost use Rattle.std.specs.Prelude.{◌≡◌, List, [], ◌++◌};
+ghost use Rattle.std.specs.Borrow.{ftrue};
+ghost use Rattle.nc_region.specs.declared.acts.Entry.{Entry};
+
+use crate::acts::Entry;
+use std::marker::Model;
+
+/// The entries of a log, of which nothing is kept: a value has no bytes, and its methods do nothing when they run.
+///
+/// By itself a history says nothing about a text, since its holder notes what it likes. An `Acts` has one as a private field, and
+/// the contract of each of its methods says both what the method does and what it notes.
+#[derive(Drop)]
+pub struct History {
+    pub ghost entries: { List Entry },
+}
+
+impl Model for History {
+    ghost also_owns = { λ _. ftrue };
+}
+
+// It owns nothing.
+unsafe impl Send for History {}
+
+// It owns nothing.
+unsafe impl Sync for History {}
+
+/// What is noted at once.
+#[derive(Clone, Copy, Drop)]
+pub enum Note<'a> {
+    /// One entry.
+    One(Entry),
+    /// The puts of these bytes from this address on, in ascending order.
+    Run(u32, &'a [u8]),
+    /// The puts of F4 at the places of the bundle at this address whose bits are set, in ascending order.
+    Stops(u32, u32),
+}
+
+impl History {
+    ghost use Rattle.nc_region.specs.Noted.{noted};
+
+    /// Without an entry.
+    pub fn new() -> History
+        ensures { result.entries ≡ [] }
+    {
+        History {}
+    }
+
+    /// These entries are appended.
+    #[inline(always)]
+    pub fn note(&mut self, _note: &Note<'_>)
+        ensures { self.new.entries ≡ self.old.entries ++ noted _note.now }
+    {}
+}
