@@ -180,13 +180,13 @@ class GivenBack(unittest.TestCase):
 
 class BytesOfAList(unittest.TestCase):
     """How much more memory a region takes with chunks than without, once all its pages are made."""
-    CHUNKS = 20_000
+    CHUNKS = 9_000
     SLACK = 8 << 10
 
     def setUp(self):
         self.region = nc.Region(2 * self.CHUNKS + 1, 1)
         self.seat = self.region.seat()
-        whole = CODE * (2 * self.CHUNKS + 1)
+        whole = CODE * (2 * self.CHUNKS)
         self.assertEqual(self.region.create(nc.START, whole).fault, nc.OK)
         self.reclaim([0])
         self.before = used()
