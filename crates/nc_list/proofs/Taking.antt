@@ -55,9 +55,21 @@ pub record AreGoneOver (most least : ℕ) (old new taken : List Chunk) : Type 0 
   pub taken_are : taken ≡ freed least front
   pub more : length taken < most → back ≡ []
 
--- none yet
-pub gone_none : (most least : ℕ) → AreGoneOver most least [] [] []
-gone_none most least = record { front = []; back = []; was = refl; now = refl; taken_are = refl; more = λ lt. refl }
+-- those before the first that is due
+pub gone_before : (most least : ℕ) (xs : List Chunk) → freed least xs ≡ [] → AreGoneOver most least xs xs []
+gone_before most least xs none = record {
+  front = xs;
+  back = [];
+  was = sym (append-nil xs);
+  now = sym (append-nil (kept least xs) ∙ all_stay least xs none);
+  taken_are = sym none;
+  more = λ lt. refl;
+}
+
+-- one more of them
+pub none_more : (least : ℕ) (xs : List Chunk) (c : Chunk) → freed least xs ≡ [] → is_due least c.state ≡ false → freed least (xs ++ c ∷ []) ≡ []
+none_more least xs c none is =
+    freed_append least xs (c ∷ []) ∙ (ap (λ (z : List Chunk). z ++ freed least (c ∷ [])) none ∙ freed_not least c is)
 
 -- one more that is taken
 pub gone_taken : (most least : ℕ) (old new taken : List Chunk) (c : Chunk) → is_due least c.state ≡ true → length taken < most

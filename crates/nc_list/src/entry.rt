@@ -36,13 +36,24 @@ impl Model for Entry {
 
 impl Entry {
     /// A live chunk.
-    pub fn live(base: u32, length: u32) -> Entry
+    pub(crate) fn live(base: u32, length: u32) -> Entry
         ensures { result ≡ record { base = base; length = length; state = ChunkState.Live } }
     {
         Entry {
             base,
             length,
             stamp: LIVE,
+        }
+    }
+
+    /// An entry to fill room with. Its bytes are all 0.
+    pub fn blank() -> Entry
+        ensures { result ≡ record { base = 0; length = 0; state = ChunkState.Retired 0 } }
+    {
+        Entry {
+            base: 0,
+            length: 0,
+            stamp: 0,
         }
     }
 

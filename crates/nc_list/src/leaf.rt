@@ -1,7 +1,7 @@
 //! A leaf of the list: chunks in one piece of memory.
 
 ghost use Rattle.std.specs.Prelude.{◌≡◌, ◌+◌, ◌-◌, ◌<◌, ◌≤◌, ◌^◌, [], ◌++◌, length, take, drop, IsTrue};
-ghost use Rattle.nc_list.specs.Chunks.{IsRising, AreTaken};
+ghost use Rattle.nc_list.specs.Chunks.{IsRising, AreTaken, freed};
 ghost use Rattle.nc_list.specs.Stamps.{AreSince, BeginsAt};
 ghost use Rattle.nc_list.specs.Parts.{BeginTo, BeginAbove};
 
@@ -103,8 +103,27 @@ fn oldest_in(entries: &[Entry]) -> u64
     low
 }
 
+/// The number of chunks before the first one that is due, and a lower bound of their stamps.
+fn count_kept(entries: &[Entry], least: u64) -> (usize, u64)
+    requires least { least < 2 ^ 64 - 1 }
+    ensures bound { result.0 ≤ length entries.now }
+    ensures none { freed least (take result.0 entries.now) ≡ [] }
+    ensures since { AreSince result.1 (take result.0 entries.now) }
+{
+    let mut low = u64::MAX;
+    for i in 0..entries.len() {
+        let entry = entries[i];
+        if entry.is_due(least) {
+            return (i, low);
+        }
+        low = low.min(entry.stamp());
+    }
+    (entries.len(), low)
+}
+
 /// Takes out the first chunks that are due, as many as there is room for. Returns their number, and a lower bound of the stamps of
-/// the others.
+/// the others. It isn't inlined, so that the loop has all registers.
+#[inline(never)]
 fn take_from(entries: &mut Vec<Entry>, least: u64, room: &mut [Entry]) -> (usize, u64)
     requires some { 0 < length room.old }
     requires least { least < 2 ^ 64 - 1 }
@@ -113,10 +132,11 @@ fn take_from(entries: &mut Vec<Entry>, least: u64, room: &mut [Entry]) -> (usize
     ensures taken { AreTaken least entries.old.items entries.new.items (take result.0 room.new) }
     ensures since { AreSince result.1 entries.new.items }
 {
-    let mut to = 0;
+    let (from, bound) = count_kept(entries, least);
+    let mut to = from;
     let mut count = 0;
-    let mut low = u64::MAX;
-    for i in 0..entries.len() {
+    let mut low = bound;
+    for i in from..entries.len() {
         let entry = entries[i];
         if entry.is_due(least) && count < room.len() {
             room[count] = entry;

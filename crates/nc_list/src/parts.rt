@@ -208,6 +208,9 @@ pub(crate) fn close_up<T: Part>(parts: &mut Vec<T>, starts: &mut Vec<u32>, k: us
     ensures have { HaveSome (map T.items parts.new.items) }
     ensures some { 0 < length parts.new.items }
 {
+    if parts.len() == 1 {
+        return;
+    }
     remove_empty(parts, starts, k);
     join_next(parts, starts, k);
     if 0 < k {

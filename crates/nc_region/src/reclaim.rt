@@ -9,10 +9,10 @@ ghost use Rattle.nc_region.specs.machinery.Freeing.{AreTakenOut, AreUnmarked};
 use crate::acts::Acts;
 use nc_list::{ChunkList, Entry};
 
-/// How many chunks of a list that has no more are taken out of it at once.
+/// How many chunks are taken out of the list at once, as long as no more are due there.
 const FEW: usize = 16;
 
-/// How many chunks of a longer list are taken out of it at once.
+/// How many are taken out at once where more are due.
 const MANY: usize = 64;
 
 /// Unmarks the spans of chunks that have been taken out of a region's list, in ascending order.
@@ -31,11 +31,11 @@ fn unmark_taken<A: Acts>(acts: &mut A, taken: &[Entry])
 }
 
 /// Unmarks the span of each retired chunk of the list with a stamp of at most this number, in ascending order, and removes these
-/// chunks. There is room for those that are taken out at once.
-fn free_in<A: Acts>(acts: &mut A, chunks: &mut ChunkList, least: u64, room: &mut [Entry])
+/// chunks, `MANY` at once. It isn't inlined, so that its room costs nothing where few are due.
+#[inline(never)]
+fn free_many<A: Acts>(acts: &mut A, chunks: &mut ChunkList, least: u64)
     requires region { IsRegion (A.marked acts.old) chunks.old }
     requires least { least < 2 ^ 64 - 1 }
-    requires room { (0 < length room.old) × (length room.old < 2 ^ 32) }
     ensures chunks { chunks.new ≡ kept least chunks.old }
     ensures region { IsRegion (A.marked acts.new) chunks.new }
     ensures unmarks { AreUnmarked (freed least chunks.old) (A.marked acts.old) (A.marked acts.new) (A.told acts.old) (A.told acts.new)
@@ -43,12 +43,40 @@ fn free_in<A: Acts>(acts: &mut A, chunks: &mut ChunkList, least: u64, room: &mut
     ensures made { A.made acts.new ≡ A.made acts.old }
     ensures keeper { A.keeper acts.new ≡ A.keeper acts.old }
 {
+    let mut room = [Entry::blank(); MANY];
     loop {
-        let count = chunks.take_due(least, room);
+        let count = chunks.take_due(least, &mut room);
         if count == 0 {
             return;
         }
         unmark_taken(acts, &room[..count]);
+    }
+}
+
+/// Does the same, `FEW` at once, up to the first time that there may be more. It isn't inlined, so that its room costs nothing where
+/// none is due.
+#[inline(never)]
+fn free_few<A: Acts>(acts: &mut A, chunks: &mut ChunkList, least: u64)
+    requires region { IsRegion (A.marked acts.old) chunks.old }
+    requires least { least < 2 ^ 64 - 1 }
+    ensures chunks { chunks.new ≡ kept least chunks.old }
+    ensures region { IsRegion (A.marked acts.new) chunks.new }
+    ensures unmarks { AreUnmarked (freed least chunks.old) (A.marked acts.old) (A.marked acts.new) (A.told acts.old) (A.told acts.new)
+        (A.logged acts.old) (A.logged acts.new) }
+    ensures made { A.made acts.new ≡ A.made acts.old }
+    ensures keeper { A.keeper acts.new ≡ A.keeper acts.old }
+{
+    let mut room = [Entry::blank(); FEW];
+    loop {
+        let count = chunks.take_due(least, &mut room);
+        if count == 0 {
+            return;
+        }
+        unmark_taken(acts, &room[..count]);
+        if count == FEW {
+            free_many(acts, chunks, least);
+            return;
+        }
     }
 }
 
@@ -70,10 +98,6 @@ pub(crate) fn free_due<A: Acts>(acts: &mut A, chunks: &mut ChunkList, least: u64
         return 0;
     }
     let before = chunks.len();
-    if before <= FEW {
-        free_in(acts, chunks, least, &mut [Entry::live(0, 0); FEW]);
-    } else {
-        free_in(acts, chunks, least, &mut [Entry::live(0, 0); MANY]);
-    }
+    free_few(acts, chunks, least);
     (before - chunks.len()) as u32
 }

@@ -268,3 +268,18 @@ freed_all least old mid new taken a b t u l m f t' none =
           (sym (f.parted ∙ (ap (λ (z : List Chunk). f.done ++ z) no_more ∙ append-nil f.done))) f.unmarks;
       region = subst (IsRegion b) (sym same) f.region;
     }
+
+-- so it is where all others are taken out and unmarked after some
+pub freed_rest : (least : ℕ) (old mid new : List Chunk) (a b c : MarkedText) (t u v : Option (List Act)) (l m n : List Entry)
+    → AreFreed least old mid a b t u l m → new ≡ kept least mid → AreUnmarked (freed least mid) b c u v m n → IsRegion c new
+    → AllFreed least old new a c t v l n
+freed_rest least old mid new a b c t u v l m n f left rest region =
+    let stay : new ≡ kept least old = left ∙ f.stay in
+    record {
+      stay = stay;
+      count = omega (arith, kept_and_freed least old, ap (λ (z : List Chunk). length z) stay);
+      unmarks =
+          subst (λ (z : List Chunk). AreUnmarked z a c t v l n) (sym f.parted)
+          (unmarks_more f.done (freed least mid) a b c t u v l m n f.unmarks rest);
+      region = region;
+    }

@@ -1,13 +1,28 @@
-use Rattle.std.proofs.Common.{◌≡◌, ℕ, ◌+◌, ◌<◌, true, false, List, [], ◌∷◌, ◌++◌, length, get_or, set, take, sym, ap, ◌∙◌, subst, arith}
+use Rattle.std.proofs.Common.{◌≡◌, ℕ, ◌+◌, ◌<◌, true, false, List, [], ◌∷◌, ◌++◌, length, get_or, set, take, refl, sym, ap, ◌∙◌, subst, arith}
 use Rattle.std.proofs.lemmas.List.{length-set, length-take-le, drop-set-lt, take_more, take_more_set}
 use Rattle.nc_list.specs.declared.chunk.Chunk.{Chunk}
-use Rattle.nc_list.specs.Chunks.{is_due}
+use Rattle.nc_list.specs.Chunks.{is_due, freed}
 use Rattle.nc_list.specs.Stamps.{AreSince}
-use Rattle.nc_list.proofs.Taking.{gone_taken, gone_on}
+use Rattle.nc_list.proofs.Taking.{gone_before, gone_taken, gone_on}
 use Rattle.nc_list.proofs.Stamps.{since_last}
 use Rattle.nc_list.proofs.Mapped.{rest_more, here_same}
 use Rattle.nc_list.proofs.leaf.take_from.Goals as goal
 use Rattle.nc_list.proofs.leaf.take_from.Goals.{then-is_due+then-count-room, else-is_due, else-is_due-via-then-is_due+else-count-room, else-is_due-via-else-is_due}
+
+pub loop-i-init : goal.loop-i-init
+loop-i-init c =
+    let from : ℕ = c.count_kept-from.result.0 in
+    let items : List Chunk = c.args.entries.now.items in
+    record {
+      long = refl;
+      within = omega arith;
+      room = refl;
+      count = omega arith;
+      rest = refl;
+      gone = gone_before (length c.args.room.now) c.args.least (take from items)
+          (subst (λ (z : List Chunk). freed c.args.least (take from z) ≡ []) c.deref.ensures.value c.count_kept-from.ensures.none);
+      since = subst (λ (z : List Chunk). AreSince c.count_kept-from.result.1 (take from z)) c.deref.ensures.value c.count_kept-from.ensures.since;
+    }
 
 pub loop-i-preserved : goal.loop-i-preserved
 loop-i-preserved c =
