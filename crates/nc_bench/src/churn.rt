@@ -86,7 +86,7 @@ fn reclaims_timed<R: Clock, A: Acts + Drop>(
     Timed { done, took }
 }
 
-/// Makes all pages of the region: creates a chunk that fills it, deletes it and reclaims it.
+/// Makes all pages of the region, by a chunk that fills it and is deleted and reclaimed.
 fn make_pages<A: Acts + Drop>(region: &mut RegionOf<A>, alloc: Global, places: u32) {
     let whole = Load {
         count: 1,

@@ -66,7 +66,7 @@ pub fn measure_idle<R: Clock + Print + AllocGlobal>(
     count: u32,
     rounds: u32,
 ) -> io::Result<()> {
-    // Enough of them that reading the clock takes no part of the time that counts.
+    // So many that reading the clock is negligible.
     let times = (1_000_000 / count.max(1)).max(1000);
     let mut held = Timed::worst();
     let mut none = Timed::worst();

@@ -119,7 +119,7 @@ fn look_up<R: Clock, A: Acts + Drop>(
     }
 }
 
-/// How often the chunks are looked up in a round, so that reading the clock takes no part of the time that counts.
+/// How often the chunks are looked up in a round. It is so often that reading the clock is negligible.
 fn repeats(count: u32) -> u32 {
     (100_000 / count.max(1)).max(1)
 }

@@ -114,7 +114,7 @@ static BENCH: Program = Program {
                 word!(true, "COUNT", ANY_NUMBER, "Number of live chunks between turns"),
                 word!(true, "TURNS", NUMBER, "Turns of a round"),
                 ROUNDS,
-                word!(false, "OUT", OUT, "Chunk that is deleted: the first in, the last in, or one at random [default: first]"),
+                word!(false, "OUT", OUT, "Chunk that is deleted: the first in, the last in, or the first in where places are taken in random order [default: first]"),
                 word!(false, "BATCH", NUMBER, "Creations of a turn, and deletions before its reclaim [default: 1]"),
             ],
         },

@@ -1,7 +1,7 @@
 //! The chunks that come and go by turns.
 //!
-//! New chunks take the places of a region in an order, each the next place, and the first place again after the last one. Only
-//! where the chunk that came last is deleted, its place is taken again at once.
+//! New chunks take the places of a region one after the other, in an order, and then from the first place again. Where the chunk that
+//! came last is deleted, its place is taken again at once.
 
 use crate::load::Load;
 use crate::order::Order;

@@ -1,4 +1,4 @@
-//! Tables of generations of one seat, which no longer takes part in the measurement.
+//! Tables of generations of one seat, for measurements without a thread.
 
 ghost use Rattle.std.specs.Prelude.{◌≡◌, IfSome};
 

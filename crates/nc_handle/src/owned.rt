@@ -12,8 +12,8 @@ use std::alloc::Global;
 use std::marker::Model;
 use std::sync::Arc;
 
-/// A text, a share of a table of generations, and the table's keeper. It logs its acts in a history,
-/// which has no bytes, and tells none.
+/// A text, a share of a table of generations, and the table's keeper. It logs its acts in a history, which has no bytes, and tells
+/// none.
 #[derive(Drop)]
 pub struct Owned {
     text: Text,

@@ -5,7 +5,7 @@
 pub enum ChunkState {
     /// It is in use.
     Live,
-    /// It is no longer in use, and is taken out of the list once its stamp, which is this number, is due.
+    /// It is no longer in use. The number is its stamp. The chunk is taken out of the list once its stamp is due.
     Retired(u64),
 }
 

@@ -50,7 +50,7 @@ fn count_to(entries: &[Entry], at: u32) -> usize
     entries.partition_point(|e| e.base() <= at)
 }
 
-/// The first chunks, so many, begin at or below this address.
+/// The first `count` chunks begin at or below this address.
 fn begin_to(entries: &[Entry], at: u32, count: usize) -> bool
     requires rising { IsRising 0 entries.now }
     requires enough { count ≤ length entries.now }
@@ -59,7 +59,7 @@ fn begin_to(entries: &[Entry], at: u32, count: usize) -> bool
     count == 0 || entries[count - 1].base() <= at
 }
 
-/// The chunks behind the first ones, so many, begin above this address.
+/// The chunks behind the first `count` begin above this address.
 fn begin_above(entries: &[Entry], at: u32, count: usize) -> bool
     requires rising { IsRising 0 entries.now }
     requires enough { count ≤ length entries.now }
@@ -122,7 +122,7 @@ fn count_kept(entries: &[Entry], least: u64) -> (usize, u64)
 }
 
 /// Takes out the first chunks that are due, as many as there is room for. Returns their number, and a lower bound of the stamps of
-/// the others. It isn't inlined, so that the loop has all registers.
+/// the others. It isn't inlined, so its loop has the registers to itself.
 #[inline(never)]
 fn take_from(entries: &mut Vec<Entry>, least: u64, room: &mut [Entry]) -> (usize, u64)
     requires some { 0 < length room.old }
@@ -180,6 +180,7 @@ impl Part for Leaf {
 
     fn next(&self, at: u32) -> (Option<Chunk>, Place) {
         let len = self.entries.len();
+        // Lists often grow at the end.
         let k = count_near(&self.entries, at, len);
         if 0 < k {
             let entry = self.entries[k - 1];

@@ -71,7 +71,7 @@ impl ChunkList {
         self.find(at).0
     }
 
-    /// The same chunk, and the place for the address, by which it is found again without a search.
+    /// The chunk that `chunk_at` returns, and the place for the address, by which `insert` and `retire` need no search.
     pub fn find(&self, at: u32) -> (Option<Chunk>, Place)
         requires { IsRising 0 self.now }
         ensures found { IfSome result.0 (IsNextChunk self.now at) }
@@ -80,7 +80,8 @@ impl ChunkList {
         self.root.next(at)
     }
 
-    /// Inserts a live chunk, without a search if `place` is the one for its base. A refusal leaves the list as it was.
+    /// Inserts a live chunk, without a search if `place` is the one for its base and no part is split. A refusal leaves the list as
+    /// it was.
     pub fn insert(&mut self, base: u32, len: u32, place: Place) -> Result<(), AllocError>
         requires rising { IsRising 0 self.old }
         requires some { 0 < len }
@@ -111,8 +112,8 @@ impl ChunkList {
         self.root.oldest() <= least
     }
 
-    /// Takes out the first chunks that are retired with a stamp of at most this number, as many as there is room for, in ascending
-    /// order, and returns their number. None is taken only if none is due. No memory is allocated.
+    /// Takes out the first chunks that are retired with a stamp of at most this number, in ascending order, and returns their
+    /// number. They are of one leaf, and no more than there is room for. None is taken only if none is due. No memory is allocated.
     pub fn take_due(&mut self, least: u64, room: &mut [Entry]) -> usize
         requires some { 0 < length room.old }
         requires few { length room.old < 2 ^ 32 }

@@ -73,8 +73,8 @@ pub(crate) trait Part: Drop {
         ensures joined { IsTrue result → items self.new ≡ items self.old ++ items upper.old }
         ensures not { result ≡ false → (items self.new ≡ items self.old) × (items upper.new ≡ items upper.old) };
 
-    /// Takes out the first chunks that are retired with a stamp of at most this number, as many as there is room for, in ascending
-    /// order, and returns their number. No memory is allocated.
+    /// Takes out the first chunks that are retired with a stamp of at most this number, in ascending order, and returns their
+    /// number. They are of one leaf, and no more than there is room for. No memory is allocated.
     fn take_due(&mut self, least: u64, room: &mut [Entry]) -> usize
         requires some { 0 < length room.old }
         requires few { length room.old < 2 ^ 32 }

@@ -95,6 +95,7 @@ impl<T: Part> Part for Row<T> {
         if self.parts.is_empty() {
             return (None, Place::of(0));
         }
+        // Lists often grow at the end.
         let k = part_near(&self.parts, at, self.parts.len() - 1);
         let (found, inner) = self.parts[k].next(at);
         let place = inner.within(k);
@@ -172,7 +173,7 @@ impl<T: Part> Part for Row<T> {
             self.oldest = oldest_of(&self.parts);
             return 0;
         };
-        // The bounds of those before it are above `least`, so if it is the last one, a bound from all of them may be above it too.
+        // The parts before this one have bounds above `least`. If it is the last part, the bound of all may thus rise above it too.
         let is_last = taken.part + 1 == self.parts.len();
         lower(&mut self.starts, taken.part, taken.count as u32);
         self.count -= taken.count;

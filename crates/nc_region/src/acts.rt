@@ -53,7 +53,7 @@ pub enum Entry {
 /// generations.
 ///
 /// The contracts are those of `nc_text::Text` and `nc_gens::Gens`; an act on the text leaves the keeper unchanged, and vice
-/// versa. Every value logs its puts, spans marked and unmarked, bumps, looks and settlings: each is appended to `logged`, which
+/// versa. Every value logs its puts, spans marked and unmarked, bumps, looks and settlings. Each is appended to `logged`, which
 /// only clauses read. An implementer hands its acts on to one that logs, or notes them in a [`History`](crate::History), which
 /// has no bytes. Separately, a value may tell the acts without the settlings. A value that tells nothing says `None`, for good.
 pub trait Acts {

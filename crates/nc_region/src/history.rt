@@ -7,7 +7,7 @@ ghost use Rattle.nc_region.specs.declared.acts.Entry.{Entry};
 use crate::acts::Entry;
 use std::marker::Model;
 
-/// The entries of a log, of which nothing is kept: a value has no bytes, and its methods do nothing when they run.
+/// The entries of a log. A value has no bytes, and its methods do nothing when they run.
 ///
 /// By itself a history says nothing about a text, since its holder notes what it likes. An `Acts` has one as a private field, and
 /// the contract of each of its methods says both what the method does and what it notes.

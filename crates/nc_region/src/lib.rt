@@ -64,8 +64,8 @@ pub use acts::{Act, Acts, Entry, mark_bit};
 pub use fault::{CreateFault, DeleteFault, ModifyFault, RegionFault, WalkFault};
 pub use history::{History, Note};
 pub use law::{law_of_chunks, law_of_logs, law_of_schedules};
-/// In a region a chunk's span is whole bundles. The code of a live chunk is in the text. The bytes of a retired one are stops, and
-/// its span waits for threads that may still be between its bundle starts; its stamp is the generation with which it was retired.
+/// In a region a chunk's span is whole bundles. The code of a live chunk is in the text. The bytes of a retired one are stops. Its
+/// span waits for threads that may still be between its bundle starts. Its stamp is the generation with which it was retired.
 pub use nc_list::{Chunk, ChunkState};
 pub use plain::Plain;
 pub use recorder::Recorder;

@@ -9,10 +9,10 @@ ghost use Rattle.nc_region.specs.machinery.Freeing.{AreTakenOut, AreUnmarked};
 use crate::acts::Acts;
 use nc_list::{ChunkList, Entry};
 
-/// How many chunks are taken out of the list at once, as long as no more are due there.
+/// The room for chunks with which a reclaim begins.
 const FEW: usize = 16;
 
-/// How many are taken out at once where more are due.
+/// The room once `FEW` chunks were due at once. It is enough for a leaf of the list.
 const MANY: usize = 64;
 
 /// Unmarks the spans of chunks that have been taken out of a region's list, in ascending order.
@@ -53,7 +53,7 @@ fn free_many<A: Acts>(acts: &mut A, chunks: &mut ChunkList, least: u64)
     }
 }
 
-/// Does the same, `FEW` at once, up to the first time that there may be more. It isn't inlined, so that its room costs nothing where
+/// Does the same, `FEW` at once. Once so many were taken, `free_many` goes on. It isn't inlined, so that its room costs nothing where
 /// none is due.
 #[inline(never)]
 fn free_few<A: Acts>(acts: &mut A, chunks: &mut ChunkList, least: u64)

@@ -29,8 +29,8 @@ use std::alloc::{AllocError, Global};
 /// The log's room is allocated when the recorder is made. From the first act for which there is no room, the recorder tells
 /// nothing, for good; the acts themselves are still done. The clause `goes_on` of each act says this.
 ///
-/// A second log, with room of its own, has the same acts with the settlings among them (`logs_on`). It is what the recorder
-/// logs, as long as it has room.
+/// A second list, with room of its own, has the same acts with the settlings among them (`logs_on`). It equals what is logged, as
+/// long as it has room.
 #[derive(Drop)]
 pub struct Recorder<A: Acts + Drop> {
     acts: A,

@@ -129,7 +129,7 @@ impl<A: Acts + Drop> RegionOf<A> {
         }
     }
 
-    /// The `Acts` behind this region, for example to read its log.
+    /// The `Acts` behind this region, for example to read what a `Recorder` has written down.
     pub fn acts(&self) -> &A
         ensures marked { A.marked result.now ≡ self.now.marked }
         ensures made { A.made result.now ≡ self.now.made }
@@ -212,7 +212,7 @@ impl<A: Acts + Drop> RegionOf<A> {
     pub fn create(&mut self, vetted: Vetted) -> Result<(), (Vetted, CreateFault)>
         // The span holds the chunk's code and marks, and the chunk is in the list; all else is as before.
         ensures created { OnOk result (IsCreated self.old self.new vetted) }
-        // Exactly the acts of a creation were done, if acts are told.
+        // Exactly the acts of a creation are told, if acts are told.
         ensures acts { OnOk result (Tells self.old.told self.new.told (acts_of_create vetted.base vetted.code)) }
         // The region settled once, before the marks were set.
         ensures log { OnOk result (Logs self.old.logged self.new.logged (log_of_create vetted.base vetted.code)) }
@@ -244,7 +244,7 @@ impl<A: Acts + Drop> RegionOf<A> {
     pub fn modify(&mut self, at: u32, new: &[u8]) -> Result<(), ModifyFault>
         // The new bytes are in their place; all else is as before.
         ensures modified { OnOk result (IsModified self.old self.new at new.now) }
-        // Exactly the acts of a patch were done, if acts are told.
+        // Exactly the acts of a patch are told, if acts are told.
         ensures acts { OnOk result ((news : List Piece) → AreBytesOf new.now news
             → Tells self.old.told self.new.told (acts_of_modify self.old.marked.bytes at news)) }
         // The region settled twice for each instruction of more than one byte that was replaced.
@@ -280,7 +280,7 @@ impl<A: Acts + Drop> RegionOf<A> {
     /// memory is allocated.
     pub fn delete(&mut self, base: u32) -> Result<u64, DeleteFault>
         // The chunk's bytes are stops, and it is retired with the returned stamp; all else is as before. Exactly the acts of a
-        // deletion were done, if acts are told.
+        // deletion are logged, and told if acts are told.
         ensures deleted { IfOk result (IsDeleted self.old self.new base) }
         // Text, marks, chunks, keeper and acts are as before.
         ensures unchanged { OnErr result (self.new ≡ self.old) }
@@ -306,7 +306,7 @@ impl<A: Acts + Drop> RegionOf<A> {
     /// Not promised: that any chunk is ever freed. A seat that neither checks in nor leaves holds back every later stamp.
     pub fn reclaim(&mut self) -> u32
         // Exactly the chunks that are due have been removed; the keeper has looked, and all else is as before. Exactly the acts
-        // of a reclaim were done, if acts are told.
+        // of a reclaim are logged, and told if acts are told.
         ensures reclaimed { IsReclaimed self.old self.new result }
         ensures confined { IsConfined self.new.marked.bytes }
     {
