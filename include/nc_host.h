@@ -535,12 +535,12 @@ NcChange nc_region_deletion_runs(NcRegion *region, NcAct *acts, size_t acts_len)
 /*
  * Checks in for each seat that nobody was given, looks at each seat, and removes retired chunks from the list. Their spans may be reused,
  * and keep only the marks of bundle starts. It puts no byte and writes no act.
- * Promised: for NC_OK exactly those retired chunks are removed that, by what the look at each seat found, no seat holds back, and `count`
- * is their number; these are two calls of a history (HasReclaimed) [reclaimed]. A look at a seat finds its last check-in, or that it was left
- * [tested]. A refusal is NC_NO_HANDLE, or NC_UNDER_WAY exactly while a deletion is under way [refused]. A refusal changes nothing
- * [unchanged]. No memory is allocated [tested].
- * Cost: a look at each seat. Where chunks may have to be removed, also a search of the list for each leaf that has some, and a pass over
- * that leaf's chunks, which are at most 64.
+ * Promised: for NC_OK exactly those retired chunks are removed that, by what the look at each seat found, no seat holds back, `count` is
+ * their number, and this is two calls of a history, of which the first logs nothing (HasReclaimed) [reclaimed]. A look at a seat finds its
+ * last check-in, or that it was left [tested]. A refusal is NC_NO_HANDLE, or NC_UNDER_WAY exactly while a deletion is under way [refused].
+ * A refusal changes nothing [unchanged]. No memory is allocated [tested].
+ * Cost: a look at each seat. Where a chunk may be due, also, for each leaf of the list that has one, a search of the list and a pass over
+ * the leaf's chunks, which are at most 64.
  */
 NcCount nc_region_reclaim(NcRegion *region);
 

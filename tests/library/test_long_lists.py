@@ -33,6 +33,12 @@ ORDERS = {
     "scattered": lambda rng, slots: rng.sample(slots, len(slots)),
 }
 
+
+def in_a_row(count):
+    """A plan for so many neighbours, the first of which stands within a leaf of an ascending list."""
+    return lambda rng, bases: bases[20 : 20 + count]
+
+
 # Which chunks of a list are deleted, one plan after the other. The bases ascend.
 PLANS = {
     "a few": lambda rng, bases: rng.sample(bases, 5),
@@ -45,6 +51,8 @@ PLANS = {
     "half of them": lambda rng, bases: rng.sample(bases, len(bases) // 2),
     "all but the ends": lambda rng, bases: bases[1:-1],
     "all": lambda rng, bases: bases,
+    # The numbers around those that a reclaim takes out at once.
+    **{f"{count} in a row": in_a_row(count) for count in (15, 16, 17, 63, 64, 65)},
 }
 
 
