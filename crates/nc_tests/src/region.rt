@@ -1,10 +1,11 @@
-//! Tests of `nc_region`: the acts that a `Recorder` tells and logs, and regions that threads share.
+//! Tests of `nc_region`: the acts that a `Recorder` tells and logs, lists of thousands of chunks, and regions that threads share.
 
 mod acts;
 mod calls;
 mod check_in;
 pub mod fixtures;
 mod listed;
+mod long_list;
 mod shared;
 mod sizes;
 mod steps;
