@@ -4,7 +4,7 @@ ghost use Rattle.std.specs.Prelude.{◌≡◌, ◌≤◌, ◌<◌, All, length, 
 ghost use Rattle.nc_gens.specs.Seen.{Raised, PassState};
 ghost use Rattle.nc_handle.specs.Held.{IsIn};
 
-use crate::owned::Owned;
+use crate::held::Owned;
 use nc_gens::{Gens, Pass};
 use nc_region::RegionOf;
 

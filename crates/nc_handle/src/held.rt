@@ -8,14 +8,16 @@ ghost use Rattle.nc_handle.specs.Held.{IsFirst, MayRefuseNew};
 ghost use Rattle.nc_handle.specs.declared.fault.NewFault.{NewFault};
 
 use crate::fault::NewFault;
-use crate::owned::Owned;
 use nc_decode::is_region_size;
 use nc_gens::{Gens, MOST_SEATS, Pass};
-use nc_region::{Chunk, RegionOf};
+use nc_region::{Chunk, PlainOf, RegionOf};
 use nc_text::Text;
 use std::alloc::Global;
 use std::marker::Model;
 use std::sync::Arc;
+
+/// A text beside a share of its table of generations, and the keeper.
+pub(crate) type Owned = PlainOf<Arc<Gens, Global>>;
 
 /// A region with its text, a share of its table of generations, the passes not given out yet, and the chunk whose deletion
 /// is under way.

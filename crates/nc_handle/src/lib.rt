@@ -16,7 +16,6 @@ mod fault;
 mod guest;
 mod held;
 mod kept;
-mod owned;
 mod parts;
 mod reading;
 mod region_calls;
@@ -34,7 +33,6 @@ pub use fault::{LoadFault, NewFault, PatchFault, RetireFault, RunsFault, SeatFau
 pub use guest::Guest;
 pub use held::Held;
 pub use kept::Kept;
-pub use owned::Owned;
 pub use region_handle::NcRegion;
 pub use seat_handle::NcSeat;
 pub use vetted_handle::NcVetted;

@@ -4,7 +4,7 @@ ghost use Rattle.nc_text.specs.Places.{limit_of};
 ghost use Rattle.nc_vet.specs.Faults.{HasGoodSpan};
 
 use crate::acts::ReadChunk;
-use crate::owned::Owned;
+use crate::held::Owned;
 use nc_decode::Mark;
 use nc_region::{Acts, RegionOf};
 
@@ -39,7 +39,7 @@ impl<'a> ReadChunk for Span<'a> {
     }
 
     fn bytes(&self, i: usize) -> [u8; 32] {
-        self.region.acts().read_run(self.base + i as u32, 32)
+        self.region.acts().text().read_run(self.base + i as u32, 32)
     }
 
     fn marked_places(&self, i: usize) -> u32 {

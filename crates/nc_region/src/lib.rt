@@ -67,7 +67,7 @@ pub use law::{law_of_chunks, law_of_logs, law_of_schedules};
 /// In a region a chunk's span is whole bundles. The code of a live chunk is in the text. The bytes of a retired one are stops. Its
 /// span waits for threads that may still be between its bundle starts. Its stamp is the generation with which it was retired.
 pub use nc_list::{Chunk, ChunkState};
-pub use plain::Plain;
+pub use plain::{GensRef, Plain, PlainOf};
 pub use recorder::Recorder;
 pub use region::{Region, RegionOf};
 pub use shared::{Shared, SharedOf};

@@ -1,24 +1,59 @@
-//! The acts of a region that nobody is told of.
+//! The acts of a region over a text and a keeper.
 
 ghost use Rattle.std.specs.Prelude.{◌≡◌, None, []};
+ghost use Rattle.std.specs.Arc.{arc_value};
 
 use crate::acts::{Act, Acts, Entry};
 use crate::history::{History, Note};
 use nc_decode::{Bundle, Mark};
 use nc_gens::{Gens, GensFull, Keeper, Pass};
 use nc_text::{Text, TextFault};
+use std::alloc::Global;
 use std::marker::Model;
+use std::sync::Arc;
 
-/// A text beside a table of generations and its keeper. It logs its acts in a history, which has no bytes, and tells none.
+/// A reference to a table of generations: a borrow of it, or a share.
+pub trait GensRef {
+    ghost use Rattle.atomic_table.specs.Seated.{TableId};
+
+    /// Which table it is.
+    ghost table: { Self → TableId };
+
+    /// The table.
+    fn gens(&self) -> &Gens
+        ensures { result.now ≡ table self.now };
+}
+
+impl<'g> GensRef for &'g Gens {
+    ghost table = { λ gens. gens.now };
+
+    fn gens(&self) -> &Gens {
+        self
+    }
+}
+
+impl GensRef for Arc<Gens, Global> {
+    ghost table = { λ gens. arc_value gens };
+
+    fn gens(&self) -> &Gens {
+        self
+    }
+}
+
+/// A text beside a reference to a table of generations and the table's keeper. It logs its acts in a history, which has no bytes, and
+/// tells none.
 #[derive(Drop)]
-pub struct Plain<'g> {
+pub struct PlainOf<G: GensRef + Drop> {
     text: Text,
-    gens: &'g Gens,
+    gens: G,
     keeper: Keeper,
     history: History,
 }
 
-impl<'g> Model for Plain<'g> {
+/// A text beside a borrowed table of generations and its keeper.
+pub type Plain<'g> = PlainOf<&'g Gens>;
+
+impl<G: GensRef + Drop> Model for PlainOf<G> {
     ghost use Rattle.std.specs.Prelude.{◌≡◌};
     ghost use Rattle.nc_region.specs.Region.{PlainState};
 
@@ -26,16 +61,25 @@ impl<'g> Model for Plain<'g> {
 
     ghost view = { λ p. record { marked = p.text.marked; made = p.text.made; keeper = p.keeper; entries = p.history.entries } };
 
-    ghost invariant = { λ p. p.keeper.table ≡ p.gens.now };
+    ghost invariant = { λ p. p.keeper.table ≡ G.table p.gens };
 }
 
-impl<'g> Plain<'g> {
+impl<'g> PlainOf<&'g Gens> {
+    /// The table of generations.
+    pub(crate) fn borrowed(&self) -> &'g Gens
+        ensures { result.now ≡ self.now.keeper.table }
+    {
+        self.gens
+    }
+}
+
+impl<G: GensRef + Drop> PlainOf<G> {
     /// This text, beside this table and its keeper, each changed only by its own calls.
-    pub fn new(text: Text, gens: &'g Gens, keeper: Keeper) -> Plain<'g>
-        requires { keeper.table ≡ gens.now }
+    pub fn new(text: Text, gens: G, keeper: Keeper) -> PlainOf<G>
+        requires { keeper.table ≡ G.table gens }
         ensures { result ≡ record { marked = text.marked; made = text.made; keeper = keeper; entries = [] } }
     {
-        Plain {
+        PlainOf {
             text,
             gens,
             keeper,
@@ -43,15 +87,16 @@ impl<'g> Plain<'g> {
         }
     }
 
-    /// The table of generations.
-    pub(crate) fn gens(&self) -> &'g Gens
-        ensures { result.now ≡ self.now.keeper.table }
+    /// The text.
+    pub fn text(&self) -> &Text
+        ensures marked { result.now.marked ≡ self.now.marked }
+        ensures made { result.now.made ≡ self.now.made }
     {
-        self.gens
+        &self.text
     }
 }
 
-impl<'g> Acts for Plain<'g> {
+impl<G: GensRef + Drop> Acts for PlainOf<G> {
     ghost marked = { λ p. p.marked };
 
     ghost made = { λ p. p.made };
@@ -126,7 +171,7 @@ impl<'g> Acts for Plain<'g> {
     }
 
     fn bump(&mut self) -> Result<u64, GensFull> {
-        let answer = self.gens.bump(&mut self.keeper);
+        let answer = self.gens.gens().bump(&mut self.keeper);
         if answer.is_ok() {
             self.history.note(&Note::One(Entry::Did(Act::Bump)));
         }
@@ -135,11 +180,11 @@ impl<'g> Acts for Plain<'g> {
 
     fn look(&mut self) -> u64 {
         self.history.note(&Note::One(Entry::Did(Act::Look)));
-        self.gens.look(&mut self.keeper)
+        self.gens.gens().look(&mut self.keeper)
     }
 
     fn meet(&mut self, pass: &mut Pass) {
-        self.gens.meet(pass, &mut self.keeper);
+        self.gens.gens().meet(pass, &mut self.keeper);
     }
 
     fn generation(&self) -> u64 {

@@ -106,7 +106,7 @@ impl<'g> RegionOf<Plain<'g>> {
         ensures { result.now ≡ self.now.keeper.table }
     {
         let acts = &self.acts;
-        acts.gens()
+        acts.borrowed()
     }
 }
 

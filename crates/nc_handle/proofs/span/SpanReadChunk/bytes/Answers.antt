@@ -15,7 +15,7 @@ read_run-requires-clause-inside c =
     let span = c.args.self.now in
     let placed = span.placed in
     let within = span_long span.region.now.marked.bytes span.base span.length placed in
-    rw c.acts.ensures.marked (omega (arith, placed.low), omega (arith, c.requires.within, within, placed.high))
+    rw (c.text.ensures.marked ∙ c.acts.ensures.marked) (omega (arith, placed.low), omega (arith, c.requires.within, within, placed.high))
 
 pub read_run-requires-clause-one_bundle : goal.read_run-requires-clause-one_bundle
 read_run-requires-clause-one_bundle c = omega (arith, c.args.self.now.placed.start, c.requires.start)
@@ -26,6 +26,6 @@ returns-clause-bytes c = λ k lt.
     let text = span.region.now.marked.bytes in
     let within = span_long text span.base span.length span.placed in
     c.read_run.ensures k lt
-    ∙ (ap (λ (m : MarkedText). byte_at m.bytes (span.base + c.args.i + k)) c.acts.ensures.marked
+    ∙ (ap (λ (m : MarkedText). byte_at m.bytes (span.base + c.args.i + k)) (c.text.ensures.marked ∙ c.acts.ensures.marked)
     ∙ (ap (λ (n : ℕ). byte_at text n) {x = span.base + c.args.i + k} {y = span.base + (c.args.i + k)} (omega arith)
     ∙ span_byte text span.base span.length (c.args.i + k) span.placed (omega (arith, c.requires.within, within, lt))))
