@@ -3,7 +3,7 @@
 //! It shows what a host's implementation of [`Acts`] looks like, and what can be proved about it: after every act the memory
 //! holds the bytes of the region.
 
-ghost use Rattle.std.specs.Prelude.{◌≡◌, ◌+◌, ◌*◌, ◌↔◌, None, OnOk, IfOk, IfErr};
+ghost use Rattle.std.specs.Prelude.{◌≡◌, ◌+◌, ◌*◌, ◌↔◌, OnOk, IfOk, IfErr};
 ghost use Rattle.nc_decode.specs.Bundles.{IsLawfulLimit};
 ghost use Rattle.nc_text.specs.MarkedText.{unused_text};
 
@@ -86,8 +86,6 @@ impl<'g> Acts for Image<'g> {
     ghost made = { λ i. i.plain.made };
 
     ghost keeper = { λ i. i.plain.keeper };
-
-    ghost told = { λ i. None };
 
     ghost logged = { λ i. i.plain.entries };
 

@@ -40,8 +40,8 @@ IsLiveAt chunks base c = Contains chunks c × (c.state ≡ Live) × (c.base ≡ 
 abbrev pub CanEnd : Option Chunk → Region → Type 0
 CanEnd begun r = IfSome begun (λ c. IsLiveAt r.chunks c.base c × (r.keeper.numbers.generation < 2 ^ 62))
 
--- a new region of a lawful size with 1 to 256 seats: only F4, no page allocated, no chunk, no stamp drawn, nothing told
--- or logged, no pass given out
+-- a new region of a lawful size with 1 to 256 seats: only F4, no page allocated, no chunk, no stamp drawn, nothing
+-- logged, no pass given out
 pub record IsFirst (bundles seats : ℕ) (h : HeldState) : Type 0 where
   pub numbers : AreSeats seats
   pub lawful : IsLawfulLimit (0x10000 + 32 * bundles)
@@ -49,7 +49,6 @@ pub record IsFirst (bundles seats : ℕ) (h : HeldState) : Type 0 where
   pub made : h.region.made ≡ unmade_pages (0x10000 + 32 * bundles)
   pub chunks : h.region.chunks ≡ []
   pub keeper : h.region.keeper ≡ first_keeper h.region.keeper.table seats
-  pub told : h.region.told ≡ None
   pub logged : h.region.logged ≡ []
   pub passes : h.passes ≡ new_passes h.region.keeper.table seats
   pub begun : h.begun ≡ None

@@ -1,5 +1,5 @@
 -- What acts tell and log.
-pub mod Told
+pub mod Chosen
 pub mod Logged
 pub mod Puts
 pub mod PutRun

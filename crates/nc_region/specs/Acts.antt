@@ -1,15 +1,11 @@
 -- The acts that a value tells: each is appended as it is done.
-use Rattle.std.specs.Prelude.{◌≡◌, ℕ, ◌+◌, ◌%◌, Bool, not, ◌==◌, if◌then◌else◌, true, false, List, [], ◌∷◌, ◌++◌, Option, IfSome}
-use Rattle.std.specs.Prelude.{IsSomeAnd, length, replicate}
+use Rattle.std.specs.Prelude.{ℕ, ◌+◌, ◌%◌, Bool, not, ◌==◌, if◌then◌else◌, true, false, List, [], ◌∷◌, ◌++◌}
+use Rattle.std.specs.Prelude.{length, replicate}
 use Rattle.nc_decode.specs.declared.instruction.Mark.{Mark}
 use Rattle.nc_decode.specs.declared.instruction.Mark.TheVariants.{Unmarked, Plain, After}
 use Rattle.nc_text.specs.Marks.{mark_at}
 use Rattle.nc_region.specs.declared.acts.Act.{Act}
 use Rattle.nc_region.specs.declared.acts.Act.TheVariants.{Put, MarkSpan, Bump}
-
--- if acts are still told, they were told before, and these acts have been appended to the list
-abbrev pub Tells : Option (List Act) → Option (List Act) → List Act → Type 0
-Tells before after acts = IfSome after (λ told. IsSomeAnd before (λ earlier. told ≡ earlier ++ acts))
 
 -- the puts of these bytes from this address on, in ascending order, at the places that pass the test
 abbrev pub puts_where : (ℕ → Bool) → ℕ → List ℕ → List Act

@@ -1,5 +1,5 @@
 -- A region after a chunk was deleted, and after retired chunks were reclaimed.
-use Rattle.std.specs.Prelude.{◌≡◌, ℕ, ◌+◌, ◌-◌, ◌^◌, ◌<◌, List, [], ◌∷◌, length, map, replicate}
+use Rattle.std.specs.Prelude.{◌≡◌, ℕ, ◌+◌, ◌-◌, ◌^◌, ◌<◌, List, [], ◌∷◌, ◌++◌, length, map, replicate}
 use Rattle.std.specs.Prelude.{Contains, Some, slice_get, slice_set}
 use Rattle.nc_gens.specs.Rule.{generation_raised}
 use Rattle.nc_gens.specs.Seen.{HasLooked, least_number}
@@ -11,9 +11,9 @@ use Rattle.nc_region.specs.declared.acts.Act.{Act}
 use Rattle.nc_region.specs.declared.acts.Act.TheVariants.{UnmarkSpan, Look}
 use Rattle.nc_region.specs.declared.fault.DeleteFault.{DeleteFault}
 use Rattle.nc_region.specs.declared.fault.DeleteFault.TheVariants.{NoChunk, GensFull}
-use Rattle.nc_region.specs.Acts.{Tells, acts_of_delete}
+use Rattle.nc_region.specs.Acts.{acts_of_delete}
 use Rattle.nc_region.specs.Log.{Logs, unsettled, log_of_delete}
-use Rattle.nc_region.specs.Region.{Region, IsLive}
+use Rattle.nc_region.specs.Region.{Region, IsLive, told}
 
 -- some live chunk of the list has this base
 abbrev pub HasLive : List Chunk → ℕ → Type 0
@@ -36,12 +36,10 @@ pub record IsDeleted (old new : Region) (base stamp : ℕ) : Type 0 where
   pub others : new ≡ record old {
     marked = record old.marked { bytes = new.marked.bytes };
     chunks = new.chunks;
-    keeper =
-        new.keeper;
-    told = new.told;
+    keeper = new.keeper;
     logged = new.logged;
   }
-  pub acts : Tells old.told new.told (acts_of_delete old.marked.marks base chunk.length)
+  pub acts : told new ≡ told old ++ acts_of_delete old.marked.marks base chunk.length
   pub log : Logs old.logged new.logged (log_of_delete old.marked.marks base chunk.length)
 
 -- when `delete` may return each fault: `NoChunk` if no live chunk has this base; `GensFull` if one has and the generation
@@ -69,6 +67,6 @@ pub record IsReclaimed (old new : Region) (count : ℕ) : Type 0 where
   pub count_is : count ≡ length (freed (least_number new.keeper.numbers) old.chunks)
   pub marked : new.marked ≡ unmarked old.marked (freed (least_number new.keeper.numbers) old.chunks)
   pub bytes : new.marked.bytes ≡ old.marked.bytes
-  pub others : new ≡ record old { marked = new.marked; chunks = new.chunks; keeper = new.keeper; told = new.told; logged = new.logged }
-  pub acts : Tells old.told new.told (Look ∷ unmarkings (freed (least_number new.keeper.numbers) old.chunks))
+  pub others : new ≡ record old { marked = new.marked; chunks = new.chunks; keeper = new.keeper; logged = new.logged }
+  pub acts : told new ≡ told old ++ Look ∷ unmarkings (freed (least_number new.keeper.numbers) old.chunks)
   pub log : Logs old.logged new.logged (unsettled (Look ∷ unmarkings (freed (least_number new.keeper.numbers) old.chunks)))

@@ -128,11 +128,10 @@ IsRefusalBy Held Fit Beside Lawful at new BadTarget = IsPatchSpan at (length new
 abbrev pub MayRefusePatch : Region → ℕ → List ℕ → ModifyFault → Type 0
 MayRefusePatch r at new fault = IsRefusalBy (IsHeld r.chunks at) (Fits r at new) (FitsBesidePairs r at new) (IsPatch r at new) at new fault
 
--- The region after a patch: it has the new bytes at their place. All else is as before, except for the acts told and
--- logged.
+-- The region after a patch: it has the new bytes at their place. All else is as before, except for the log.
 pub record IsModified (old new : Region) (at : ℕ) (bytes : List ℕ) : Type 0 where
   pub patched : new.marked.bytes ≡ with_span old.marked.bytes (at - 0x10000) bytes
-  pub others : new ≡ record old { marked = record old.marked { bytes = new.marked.bytes }; told = new.told; logged = new.logged }
+  pub others : new ≡ record old { marked = record old.marked { bytes = new.marked.bytes }; logged = new.logged }
 
 -- the text already has these bytes from this address on
 abbrev pub stands_there : List ℕ → ℕ → List ℕ → Bool

@@ -1,5 +1,5 @@
 -- A region: a text and the chunks in it.
-use Rattle.std.specs.Prelude.{◌≡◌, ◌≢◌, ℕ, ◌+◌, ◌-◌, ◌<◌, ◌≤◌, ⊤, Bool, List, Option, length, slice_index}
+use Rattle.std.specs.Prelude.{◌≡◌, ◌≢◌, ℕ, ◌+◌, ◌-◌, ◌<◌, ◌≤◌, ⊤, Bool, List, length, slice_index}
 use Rattle.std.specs.Prelude.{slice_index_or}
 use Rattle.nc_decode.specs.declared.instruction.Mark.TheVariants.{Unmarked}
 use Rattle.nc_vet.specs.Chunk.{IsValid}
@@ -19,19 +19,23 @@ use Rattle.nc_region.specs.declared.acts.Entry.{Entry}
 use Rattle.nc_region.specs.declared.fault.CreateFault.{CreateFault}
 use Rattle.nc_region.specs.declared.fault.CreateFault.TheVariants.{WrongLimit, Occupied, OutOfMemory}
 use Rattle.nc_region.specs.Chunks.{HasGoodSpan}
+use Rattle.nc_region.specs.Log.{acts_in}
 use Rattle.nc_region.specs.Each.{Each}
 
--- What contracts see of a region: bytes and marks, which pages are made, the chunks by ascending base, the keeper, the
--- acts told so far, which are `None` where none is told, and the entries logged so far, which are acts and settlings
+-- What contracts see of a region: bytes and marks, which pages are made, the chunks by ascending base, the keeper, and the
+-- entries logged so far, which are acts and settlings
 pub record Region : Type 0 where
   pub marked : MarkedText
   pub made : List Bool
   pub chunks : List Chunk
   pub keeper : KeeperState
-  pub told : Option (List Act)
   pub logged : List Entry
 
--- what contracts see of a `Plain`: bytes and marks, which pages are made, the keeper, and the entries logged so far
+-- the acts that a region has told so far: those of its log, without the settlings
+abbrev pub told : Region → List Act
+told r = acts_in r.logged
+
+-- what contracts see of a `PlainOf`: bytes and marks, which pages are made, the keeper, and the entries logged so far
 pub record PlainState : Type 0 where
   pub marked : MarkedText
   pub made : List Bool
@@ -83,7 +87,7 @@ abbrev pub live_chunk : vet.MarkedChunk → Chunk
 live_chunk v = record { base = v.base; length = length v.code; state = Live }
 
 -- The region after a chunk was created: its span has the chunk's code and marks, and the chunk is in the list. Pages of
--- the span may have been made. All else is as before, except for the acts told and logged.
+-- the span may have been made. All else is as before, except for the log.
 pub record IsCreated (old new : Region) (v : vet.MarkedChunk) : Type 0 where
   pub bytes : new.marked.bytes ≡ with_span old.marked.bytes (v.base - 0x10000) v.code
   pub marks : new.marked.marks ≡ with_span old.marked.marks (v.base - 0x10000) v.marks
@@ -93,7 +97,6 @@ pub record IsCreated (old new : Region) (v : vet.MarkedChunk) : Type 0 where
     marked = new.marked;
     made = new.made;
     chunks = new.chunks;
-    told = new.told;
     logged = new.logged;
   }
 

@@ -1,6 +1,6 @@
 //! The acts through which a region uses its text and its generations.
 
-ghost use Rattle.std.specs.Prelude.{◌≡◌, ◌+◌, ◌%◌, ◌^◌, ◌<◌, ◌≤◌, ◌↔◌, ℕ, List, [], ◌∷◌, Option, length, take, replicate, All, IsOk, IfOk, IfErr};
+ghost use Rattle.std.specs.Prelude.{◌≡◌, ◌+◌, ◌%◌, ◌^◌, ◌<◌, ◌≤◌, ◌↔◌, ℕ, List, [], ◌∷◌, length, take, replicate, All, IsOk, IfOk, IfErr};
 ghost use Rattle.std.specs.Prelude.{IsTrue, OnOk, OnErr, Bool, false};
 ghost use Rattle.std.specs.Int.{bit_at};
 ghost use Rattle.nc_decode.specs.declared.instruction.Mark.{Mark};
@@ -16,7 +16,7 @@ ghost use Rattle.nc_gens.specs.Rule.{generation_raised};
 ghost use Rattle.nc_gens.specs.Seen.{KeeperState, HasLooked, HasMet, least_number};
 ghost use Rattle.nc_region.specs.declared.acts.Act.{Act};
 ghost use Rattle.nc_region.specs.declared.acts.Entry.{Entry};
-ghost use Rattle.nc_region.specs.Acts.{Tells, puts_where};
+ghost use Rattle.nc_region.specs.Acts.{puts_where};
 ghost use Rattle.nc_region.specs.Log.{Logs, unsettled};
 ghost use Rattle.nc_region.specs.Patch.{any_place};
 
@@ -55,7 +55,7 @@ pub enum Entry {
 /// The contracts are those of `nc_text::Text` and `nc_gens::Gens`; an act on the text leaves the keeper unchanged, and vice
 /// versa. Every value logs its puts, spans marked and unmarked, bumps, looks and settlings. Each is appended to `logged`, which
 /// only clauses read. An implementer hands its acts on to one that logs, or notes them in a [`History`](crate::History), which
-/// has no bytes. Separately, a value may tell the acts without the settlings. A value that tells nothing says `None`, for good.
+/// has no bytes. The acts that a value has told are those of its log, without the settlings.
 pub trait Acts {
     /// Bytes and marks.
     ghost marked: { Self → MarkedText };
@@ -66,13 +66,10 @@ pub trait Acts {
     /// The keeper.
     ghost keeper: { Self → KeeperState };
 
-    /// The acts so far, while they are told.
-    ghost told: { Self → Option (List Act) };
-
     /// The acts so far, with the settlings among them.
     ghost logged: { Self → List Entry };
 
-    /// Makes the pages of a span. This isn't an act and isn't told.
+    /// Makes the pages of a span. This isn't an act and isn't logged.
     fn ready(&mut self, at: u32, len: u32) -> Result<(), TextFault>
         requires inside { SpanInRegion (marked self.old).bytes at len }
         ensures ready { IfOk result (λ _. AreReady (made self.new) at len) }
@@ -81,7 +78,6 @@ pub trait Acts {
         ensures marked { marked self.new ≡ marked self.old }
         ensures whole { IsText (marked self.new) }
         ensures keeper { keeper self.new ≡ keeper self.old }
-        ensures told { told self.new ≡ told self.old }
         ensures logged { logged self.new ≡ logged self.old };
 
     /// Whether every place of a span is ready.
@@ -98,10 +94,9 @@ pub trait Acts {
         ensures made { made self.new ≡ made self.old }
         ensures whole { IsText (marked self.new) }
         ensures keeper { keeper self.new ≡ keeper self.old }
-        ensures told { Tells (told self.old) (told self.new) (Act.Put at byte ∷ []) }
         ensures logged { Logs (logged self.old) (logged self.new) (Entry.Did (Act.Put at byte) ∷ []) };
 
-    /// Puts bytes from an address on, in ascending order, in one bundle: each byte is a put of its own, and is told and logged
+    /// Puts bytes from an address on, in ascending order, in one bundle: each byte is a put of its own, and is logged
     /// as one. The text is closed after each put. An empty run changes nothing, wherever `at` is.
     ///
     /// This default calls `put` for each byte. An implementation that looks the bundle up only once may be faster; in memory
@@ -116,7 +111,6 @@ pub trait Acts {
         ensures made { made self.new ≡ made self.old }
         ensures whole { IsText (marked self.new) }
         ensures keeper { keeper self.new ≡ keeper self.old }
-        ensures told { Tells (told self.old) (told self.new) (puts_where any_place at bytes.now) }
         ensures logged { Logs (logged self.old) (logged self.new) (unsettled (puts_where any_place at bytes.now)) }
     {
         // Called for its postconditions.
@@ -126,7 +120,7 @@ pub trait Acts {
         }
     }
 
-    /// Puts F4 at the places of a bundle whose bits are set, in ascending order: each is a put of its own, and is told and logged
+    /// Puts F4 at the places of a bundle whose bits are set, in ascending order: each is a put of its own, and is logged
     /// as one. The lowest bit is that of the bundle start, at the address `at`. The text is closed after each put.
     ///
     /// This default calls `put` for each place. An implementation that looks the bundle up only once may be faster; in memory
@@ -143,7 +137,6 @@ pub trait Acts {
         ensures made { made self.new ≡ made self.old }
         ensures whole { IsText (marked self.new) }
         ensures keeper { keeper self.new ≡ keeper self.old }
-        ensures told { Tells (told self.old) (told self.new) (puts_where (is_set places at) at (replicate 32 0xF4)) }
         ensures logged { Logs (logged self.old) (logged self.new)
             (unsettled (puts_where (is_set places at) at (replicate 32 0xF4))) }
     {
@@ -158,14 +151,13 @@ pub trait Acts {
     }
 
     /// Makes every processor fetch anew: once it has returned, no byte is executed that was overwritten before the call. It
-    /// changes no byte, no mark and no number. It is logged, but isn't an act and isn't told.
+    /// changes no byte, no mark and no number. It is logged, but isn't an act.
     fn settle(&mut self)
         ensures logged { Logs (logged self.old) (logged self.new) (Entry.Settled ∷ []) }
         ensures marked { marked self.new ≡ marked self.old }
         ensures made { made self.new ≡ made self.old }
         ensures whole { IsText (marked self.new) }
-        ensures keeper { keeper self.new ≡ keeper self.old }
-        ensures told { told self.new ≡ told self.old };
+        ensures keeper { keeper self.new ≡ keeper self.old };
 
     /// Sets the marks of a span.
     fn mark_span(&mut self, at: u32, marks: &[Mark])
@@ -178,11 +170,10 @@ pub trait Acts {
         ensures made { made self.new ≡ made self.old }
         ensures whole { IsText (marked self.new) }
         ensures keeper { keeper self.new ≡ keeper self.old }
-        ensures told { Tells (told self.old) (told self.new) (Act.MarkSpan at (length marks.now) ∷ []) }
         ensures logged { Logs (logged self.old) (logged self.new) (Entry.Did (Act.MarkSpan at (length marks.now)) ∷ []) };
 
     /// Sets the marks of a chunk's span from the bits of its bundles and returns true, or does nothing and returns false; then
-    /// `mark_span` sets them from a list. It is told and logged as `mark_span` is.
+    /// `mark_span` sets them from a list. It is logged as `mark_span` is.
     ///
     /// This default does nothing. An implementation that keeps marks as bits is faster if it overrides it.
     fn mark_bundles(&mut self, at: u32, code: &[u8], bundles: &[Bundle]) -> bool
@@ -195,10 +186,9 @@ pub trait Acts {
         requires closed { IsClosed (marked self.old).bytes
             (with_marks (marked self.old) at (marks_in code.now bundles.now)).marks }
         ensures marked { IsTrue result → marked self.new ≡ with_marks (marked self.old) at (marks_in code.now bundles.now) }
-        ensures told { IsTrue result → Tells (told self.old) (told self.new) (Act.MarkSpan at (length code.now) ∷ []) }
         ensures logged { IsTrue result
             → Logs (logged self.old) (logged self.new) (Entry.Did (Act.MarkSpan at (length code.now)) ∷ []) }
-        ensures unchanged { result ≡ false → (marked self.new ≡ marked self.old) × (told self.new ≡ told self.old)
+        ensures unchanged { result ≡ false → (marked self.new ≡ marked self.old)
             × (logged self.new ≡ logged self.old) }
         ensures made { made self.new ≡ made self.old }
         ensures whole { IsText (marked self.new) }
@@ -218,7 +208,6 @@ pub trait Acts {
         ensures made { made self.new ≡ made self.old }
         ensures whole { IsText (marked self.new) }
         ensures keeper { keeper self.new ≡ keeper self.old }
-        ensures told { Tells (told self.old) (told self.new) (Act.UnmarkSpan at len ∷ []) }
         ensures logged { Logs (logged self.old) (logged self.new) (Entry.Did (Act.UnmarkSpan at len) ∷ []) };
 
     /// The byte at an address.
@@ -259,12 +248,10 @@ pub trait Acts {
         ensures stamp { IfOk result (λ n. n ≡ (keeper self.old).numbers.generation + 1) }
         ensures raised { OnOk result (keeper self.new
             ≡ record (keeper self.old) { numbers = generation_raised (keeper self.old).numbers }) }
-        ensures told { OnOk result (Tells (told self.old) (told self.new) (Act.Bump ∷ [])) }
         ensures logged { OnOk result (Logs (logged self.old) (logged self.new) (Entry.Did Act.Bump ∷ [])) }
         ensures marked { marked self.new ≡ marked self.old }
         ensures made { made self.new ≡ made self.old }
         ensures full { OnErr result (((keeper self.old).numbers.generation ≡ 2 ^ 62) × (keeper self.new ≡ keeper self.old)) }
-        ensures silent { OnErr result (told self.new ≡ told self.old) }
         ensures unlogged { OnErr result (logged self.new ≡ logged self.old) };
 
     /// Loads each seat's word and returns the keeper's least number.
@@ -273,17 +260,15 @@ pub trait Acts {
         ensures least { result ≡ least_number (keeper self.new).numbers }
         ensures marked { marked self.new ≡ marked self.old }
         ensures made { made self.new ≡ made self.old }
-        ensures told { Tells (told self.old) (told self.new) (Act.Look ∷ []) }
         ensures logged { Logs (logged self.old) (logged self.new) (Entry.Did Act.Look ∷ []) };
 
     /// A pass and the keeper meet: the pass sees the generation, and the keeper the pass's word. This isn't an act and isn't
-    /// told.
+    /// logged.
     fn meet(&mut self, pass: &mut Pass)
         requires { pass.old.table ≡ (keeper self.old).table }
         ensures met { HasMet pass.old (keeper self.old) pass.new (keeper self.new) }
         ensures marked { marked self.new ≡ marked self.old }
         ensures made { made self.new ≡ made self.old }
-        ensures told { told self.new ≡ told self.old }
         ensures logged { logged self.new ≡ logged self.old };
 
     /// The generation.

@@ -9,7 +9,7 @@ ghost use Rattle.nc_text.specs.Ready.{AreReady, GetsReady};
 ghost use Rattle.nc_text.specs.MarkedText.{MarkedText, IsText, with_span, with_marks, KeepsMarks, NamesRegister};
 ghost use Rattle.nc_region.specs.declared.acts.Act.{Act};
 ghost use Rattle.nc_region.specs.declared.acts.Entry.{Entry};
-ghost use Rattle.nc_region.specs.Acts.{Tells, puts_where, is_inside, is_start, acts_of_create};
+ghost use Rattle.nc_region.specs.Acts.{puts_where, is_inside, is_start};
 ghost use Rattle.nc_region.specs.Log.{Logs, unsettled, log_of_create};
 ghost use Rattle.nc_region.specs.Chunks.{HasGoodSpan, IsClosedChunk, with_chunk};
 ghost use Rattle.nc_region.specs.declared.fault.CreateFault.{CreateFault};
@@ -39,7 +39,7 @@ pub(crate) fn make_room<A: Acts>(
     ensures marks { IfOk result (λ room. (room.items ≡ []) × (512 < length vetted.now.code → length vetted.now.code ≤ vec_capacity room)) }
     ensures only { GetsReady (A.made acts.old) (A.made acts.new) vetted.now.base (length vetted.now.code) }
     ensures others { (A.marked acts.new ≡ A.marked acts.old) × (A.keeper acts.new ≡ A.keeper acts.old)
-        × (A.told acts.new ≡ A.told acts.old) × (A.logged acts.new ≡ A.logged acts.old) }
+        × (A.logged acts.new ≡ A.logged acts.old) }
     ensures unlisted { OnErr result (chunks.new ≡ chunks.old) }
     // A refusal other than `OutOfMemory` leaves the pages unchanged too.
     ensures made { IfErr result (λ fault. fault ≢ CreateFault.OutOfMemory → A.made acts.new ≡ A.made acts.old) }
@@ -49,7 +49,6 @@ pub(crate) fn make_room<A: Acts>(
           made = A.made acts.old;
           chunks = chunks.old;
           keeper = A.keeper acts.old;
-          told = A.told acts.old;
           logged = A.logged acts.old;
         }) vetted.now fault) }
 {
@@ -103,7 +102,6 @@ pub(crate) fn put_chunk<A: Acts>(
     ensures whole { IsText (A.marked acts.new) }
     ensures made { A.made acts.new ≡ A.made acts.old }
     ensures keeper { A.keeper acts.new ≡ A.keeper acts.old }
-    ensures told { Tells (A.told acts.old) (A.told acts.new) (acts_of_create base code.now) }
     ensures log { Logs (A.logged acts.old) (A.logged acts.new) (log_of_create base code.now) }
 {
     put_inside(acts, base, code);
@@ -125,7 +123,6 @@ fn mark_chunk<A: Acts>(acts: &mut A, base: u32, vetted: &Vetted, room: Vec<Mark>
     ensures made { A.made acts.new ≡ A.made acts.old }
     ensures whole { IsText (A.marked acts.new) }
     ensures keeper { A.keeper acts.new ≡ A.keeper acts.old }
-    ensures told { Tells (A.told acts.old) (A.told acts.new) (Act.MarkSpan base (length vetted.now.code) ∷ []) }
     ensures logged { Logs (A.logged acts.old) (A.logged acts.new) (Entry.Did (Act.MarkSpan base (length vetted.now.code)) ∷ []) }
 {
     if marked_by_bits(acts, base, vetted) {
@@ -142,11 +139,9 @@ fn marked_by_bits<A: Acts>(acts: &mut A, base: u32, vetted: &Vetted) -> bool
     requires keeps { KeepsMarks (A.marked acts.old).marks (with_marks (A.marked acts.old) base vetted.now.marks).marks }
     requires closed { IsClosed (A.marked acts.old).bytes (with_marks (A.marked acts.old) base vetted.now.marks).marks }
     ensures marked { IsTrue result → A.marked acts.new ≡ with_marks (A.marked acts.old) base vetted.now.marks }
-    ensures told { IsTrue result
-        → Tells (A.told acts.old) (A.told acts.new) (Act.MarkSpan base (length vetted.now.code) ∷ []) }
     ensures logged { IsTrue result
         → Logs (A.logged acts.old) (A.logged acts.new) (Entry.Did (Act.MarkSpan base (length vetted.now.code)) ∷ []) }
-    ensures unchanged { result ≡ false → (A.marked acts.new ≡ A.marked acts.old) × (A.told acts.new ≡ A.told acts.old)
+    ensures unchanged { result ≡ false → (A.marked acts.new ≡ A.marked acts.old)
         × (A.logged acts.new ≡ A.logged acts.old) }
     ensures made { A.made acts.new ≡ A.made acts.old }
     ensures whole { IsText (A.marked acts.new) }
@@ -174,7 +169,6 @@ fn mark_listed<A: Acts>(acts: &mut A, base: u32, vetted: &Vetted, room: Vec<Mark
     ensures made { A.made acts.new ≡ A.made acts.old }
     ensures whole { IsText (A.marked acts.new) }
     ensures keeper { A.keeper acts.new ≡ A.keeper acts.old }
-    ensures told { Tells (A.told acts.old) (A.told acts.new) (Act.MarkSpan base (length vetted.now.code) ∷ []) }
     ensures logged { Logs (A.logged acts.old) (A.logged acts.new) (Entry.Did (Act.MarkSpan base (length vetted.now.code)) ∷ []) }
 {
     let length = vetted.code().len();
@@ -224,7 +218,6 @@ fn put_inside<A: Acts>(acts: &mut A, base: u32, code: &[u8])
     ensures whole { IsText (A.marked acts.new) }
     ensures made { A.made acts.new ≡ A.made acts.old }
     ensures keeper { A.keeper acts.new ≡ A.keeper acts.old }
-    ensures told { Tells (A.told acts.old) (A.told acts.new) (puts_where is_inside base code.now) }
     ensures log { Logs (A.logged acts.old) (A.logged acts.new)
         (unsettled (puts_where is_inside base code.now) ++ Entry.Settled ∷ []) }
 {
@@ -248,7 +241,6 @@ fn put_starts<A: Acts>(acts: &mut A, base: u32, code: &[u8])
     ensures whole { IsText (A.marked acts.new) }
     ensures made { A.made acts.new ≡ A.made acts.old }
     ensures keeper { A.keeper acts.new ≡ A.keeper acts.old }
-    ensures told { Tells (A.told acts.old) (A.told acts.new) (puts_where is_start base code.now) }
     ensures log { Logs (A.logged acts.old) (A.logged acts.new) (unsettled (puts_where is_start base code.now)) }
 {
     for bundle in 0..code.len() / 32 {

@@ -7,7 +7,7 @@ ghost use Rattle.nc_text.specs.Ready.{AreReady};
 ghost use Rattle.nc_text.specs.MarkedText.{MarkedText, IsText, with_span};
 ghost use Rattle.nc_gens.specs.Rule.{generation_raised};
 ghost use Rattle.nc_region.specs.declared.acts.Entry.{Entry};
-ghost use Rattle.nc_region.specs.Acts.{Tells, puts_where, is_marked_at, is_unmarked_at, acts_of_delete};
+ghost use Rattle.nc_region.specs.Acts.{puts_where, is_marked_at, is_unmarked_at};
 ghost use Rattle.nc_region.specs.Log.{Logs, unsettled, log_of_delete};
 ghost use Rattle.nc_region.specs.Chunks.{HasGoodSpan};
 ghost use Rattle.nc_region.specs.machinery.Between.{HasPut};
@@ -29,7 +29,6 @@ pub(crate) fn put_stops<A: Acts>(acts: &mut A, base: u32, len: u32) -> u64
     ensures stamp { result ≡ (A.keeper acts.old).numbers.generation + 1 }
     ensures made { A.made acts.new ≡ A.made acts.old }
     ensures keeper { A.keeper acts.new ≡ record (A.keeper acts.old) { numbers = generation_raised (A.keeper acts.old).numbers } }
-    ensures told { Tells (A.told acts.old) (A.told acts.new) (acts_of_delete (A.marked acts.old).marks base len) }
     ensures log { Logs (A.logged acts.old) (A.logged acts.new) (log_of_delete (A.marked acts.old).marks base len) }
 {
     stop_marked(acts, base, len);
@@ -51,8 +50,6 @@ fn stop_marked<A: Acts>(acts: &mut A, base: u32, len: u32)
     ensures whole { IsText (A.marked acts.new) }
     ensures made { A.made acts.new ≡ A.made acts.old }
     ensures keeper { A.keeper acts.new ≡ A.keeper acts.old }
-    ensures told { Tells (A.told acts.old) (A.told acts.new)
-        (puts_where (is_marked_at (A.marked acts.old).marks) base (replicate len 0xF4)) }
     ensures log { Logs (A.logged acts.old) (A.logged acts.new)
         (unsettled (puts_where (is_marked_at (A.marked acts.old).marks) base (replicate len 0xF4)) ++ Entry.Settled ∷ []) }
 {
@@ -77,8 +74,6 @@ fn stop_others<A: Acts>(acts: &mut A, base: u32, len: u32)
     ensures whole { IsText (A.marked acts.new) }
     ensures made { A.made acts.new ≡ A.made acts.old }
     ensures keeper { A.keeper acts.new ≡ A.keeper acts.old }
-    ensures told { Tells (A.told acts.old) (A.told acts.new)
-        (puts_where (is_unmarked_at (A.marked acts.old).marks) base (replicate len 0xF4)) }
     ensures log { Logs (A.logged acts.old) (A.logged acts.new)
         (unsettled (puts_where (is_unmarked_at (A.marked acts.old).marks) base (replicate len 0xF4))) }
 {

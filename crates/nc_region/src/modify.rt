@@ -13,7 +13,7 @@ ghost use Rattle.nc_text.specs.Places.{byte_at, instruction_at, limit_of};
 ghost use Rattle.nc_text.specs.Ready.{AreReady};
 ghost use Rattle.nc_text.specs.MarkedText.{MarkedText, IsText, with_span};
 ghost use Rattle.nc_list.specs.declared.chunk.Chunk.{Chunk};
-ghost use Rattle.nc_region.specs.Acts.{Tells, puts_where};
+ghost use Rattle.nc_region.specs.Acts.{puts_where};
 ghost use Rattle.nc_region.specs.Log.{Logs, unsettled};
 ghost use Rattle.nc_region.specs.machinery.Between.{HasPut};
 ghost use Rattle.nc_region.specs.declared.acts.Act.{Act};
@@ -21,7 +21,7 @@ ghost use Rattle.nc_region.specs.declared.acts.Entry.{Entry};
 ghost use Rattle.nc_region.specs.Region.{HoldsValid, IsInChunk};
 ghost use Rattle.nc_region.specs.Patch.{IsPatchSpan, AreBytesOf, AreInstructions, IsRun, SparesPair, SparesPairs, GoWell};
 ghost use Rattle.nc_region.specs.Patch.{stands_there, any_place};
-ghost use Rattle.nc_region.specs.Patch.{acts_of_instruction, acts_of_modify, log_of_instruction, log_of_modify};
+ghost use Rattle.nc_region.specs.Patch.{log_of_instruction, log_of_modify};
 ghost use Rattle.nc_region.specs.machinery.PatchSteps.{IsReplacing, IsInterim, Begins, Along, RunsAlong, is_after, KeepsTransfer, CanPatch, MayRefuseIn};
 
 use crate::acts::Acts;
@@ -296,8 +296,6 @@ pub(crate) fn put_patch<A: Acts>(acts: &mut A, chunk: Chunk, at: u32, new: &[u8]
     ensures made { A.made acts.new ≡ A.made acts.old }
     ensures keeper { A.keeper acts.new ≡ A.keeper acts.old }
     ensures holds { HoldsValid (A.marked acts.new) chunk }
-    ensures told { (news : List Piece) → AreBytesOf new.now news
-        → Tells (A.told acts.old) (A.told acts.new) (acts_of_modify (A.marked acts.old).bytes at news) }
     ensures log { (news : List Piece) → AreBytesOf new.now news
         → Logs (A.logged acts.old) (A.logged acts.new) (log_of_modify (A.marked acts.old).bytes at news) }
 {
@@ -323,8 +321,6 @@ pub(crate) fn put_where_new<A: Acts>(acts: &mut A, at: u32, bytes: &[u8])
     ensures whole { IsText (A.marked acts.new) }
     ensures made { A.made acts.new ≡ A.made acts.old }
     ensures keeper { A.keeper acts.new ≡ A.keeper acts.old }
-    ensures told { Tells (A.told acts.old) (A.told acts.new)
-        (if stands_there (A.marked acts.old).bytes at bytes.now then [] else acts_of_instruction at bytes.now) }
     ensures log { Logs (A.logged acts.old) (A.logged acts.new)
         (if stands_there (A.marked acts.old).bytes at bytes.now then [] else log_of_instruction at bytes.now) }
 {
@@ -344,7 +340,6 @@ fn put_instruction<A: Acts>(acts: &mut A, at: u32, bytes: &[u8])
     ensures whole { IsText (A.marked acts.new) }
     ensures made { A.made acts.new ≡ A.made acts.old }
     ensures keeper { A.keeper acts.new ≡ A.keeper acts.old }
-    ensures told { Tells (A.told acts.old) (A.told acts.new) (acts_of_instruction at bytes.now) }
     ensures log { Logs (A.logged acts.old) (A.logged acts.new) (log_of_instruction at bytes.now) }
 {
     let first = bytes[0];
@@ -367,8 +362,6 @@ fn put_longer<A: Acts>(acts: &mut A, at: u32, first: u8, rest: &[u8])
     ensures whole { IsText (A.marked acts.new) }
     ensures made { A.made acts.new ≡ A.made acts.old }
     ensures keeper { A.keeper acts.new ≡ A.keeper acts.old }
-    ensures told { Tells (A.told acts.old) (A.told acts.new)
-        (Act.Put at 0xF4 ∷ (puts_where any_place (at + 1) rest.now ++ (Act.Put at first ∷ []))) }
     ensures log { Logs (A.logged acts.old) (A.logged acts.new) (Entry.Did (Act.Put at 0xF4) ∷ Entry.Settled
         ∷ (unsettled (puts_where any_place (at + 1) rest.now) ++ (Entry.Settled ∷ Entry.Did (Act.Put at first) ∷ []))) }
 {
@@ -391,7 +384,6 @@ fn put_rest<A: Acts>(acts: &mut A, at: u32, rest: &[u8])
     ensures whole { IsText (A.marked acts.new) }
     ensures made { A.made acts.new ≡ A.made acts.old }
     ensures keeper { A.keeper acts.new ≡ A.keeper acts.old }
-    ensures told { Tells (A.told acts.old) (A.told acts.new) (puts_where any_place (at + 1) rest.now) }
     ensures log { Logs (A.logged acts.old) (A.logged acts.new) (Entry.Settled
         ∷ (unsettled (puts_where any_place (at + 1) rest.now) ++ Entry.Settled ∷ [])) }
 {

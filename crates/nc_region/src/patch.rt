@@ -9,10 +9,9 @@ ghost use Rattle.nc_text.specs.Places.{InRegion};
 ghost use Rattle.nc_text.specs.Ready.{AreReady};
 ghost use Rattle.nc_text.specs.MarkedText.{MarkedText, IsText, with_span};
 ghost use Rattle.nc_list.specs.declared.chunk.Chunk.{Chunk};
-ghost use Rattle.nc_region.specs.Acts.{Tells};
 ghost use Rattle.nc_region.specs.Log.{Logs};
 ghost use Rattle.nc_region.specs.Region.{HoldsValid, IsInChunk};
-ghost use Rattle.nc_region.specs.Patch.{AreBytesOf, IsRun, acts_of_modify, log_of_modify};
+ghost use Rattle.nc_region.specs.Patch.{AreBytesOf, IsRun, log_of_modify};
 ghost use Rattle.nc_region.specs.machinery.PatchSteps.{CanPatch, MayRefuseIn};
 
 use crate::acts::Acts;
@@ -52,15 +51,13 @@ pub(crate) fn patch<A: Acts>(
     ensures can { OnOk result (CanPatch (A.marked acts.old) chunk at new.now) }
     ensures bytes { OnOk result ((A.marked acts.new).bytes ≡ with_span (A.marked acts.old).bytes (at - 0x10000) new.now) }
     ensures holds { OnOk result (HoldsValid (A.marked acts.new) chunk) }
-    ensures told { OnOk result ((news : List Piece) → AreBytesOf new.now news
-        → Tells (A.told acts.old) (A.told acts.new) (acts_of_modify (A.marked acts.old).bytes at news)) }
     ensures log { OnOk result ((news : List Piece) → AreBytesOf new.now news
         → Logs (A.logged acts.old) (A.logged acts.new) (log_of_modify (A.marked acts.old).bytes at news)) }
     ensures marks { (A.marked acts.new).marks ≡ (A.marked acts.old).marks }
     ensures whole { IsText (A.marked acts.new) }
     ensures made { A.made acts.new ≡ A.made acts.old }
     ensures keeper { A.keeper acts.new ≡ A.keeper acts.old }
-    ensures unchanged { OnErr result ((A.marked acts.new ≡ A.marked acts.old) × (A.told acts.new ≡ A.told acts.old)
+    ensures unchanged { OnErr result ((A.marked acts.new ≡ A.marked acts.old)
         × (A.logged acts.new ≡ A.logged acts.old)) }
     ensures refused { IfErr result (MayRefuseIn (A.marked acts.old) chunk at new.now) }
 {
@@ -149,8 +146,6 @@ fn put_single<A: Acts>(acts: &mut A, chunk: Chunk, at: u32, new: &[u8])
     ensures made { A.made acts.new ≡ A.made acts.old }
     ensures keeper { A.keeper acts.new ≡ A.keeper acts.old }
     ensures holds { HoldsValid (A.marked acts.new) chunk }
-    ensures told { (news : List Piece) → AreBytesOf new.now news
-        → Tells (A.told acts.old) (A.told acts.new) (acts_of_modify (A.marked acts.old).bytes at news) }
     ensures log { (news : List Piece) → AreBytesOf new.now news
         → Logs (A.logged acts.old) (A.logged acts.new) (log_of_modify (A.marked acts.old).bytes at news) }
 {

@@ -1,6 +1,6 @@
 //! The acts of a region over a text and a keeper.
 
-ghost use Rattle.std.specs.Prelude.{◌≡◌, None, []};
+ghost use Rattle.std.specs.Prelude.{◌≡◌, []};
 ghost use Rattle.std.specs.Arc.{arc_value};
 
 use crate::acts::{Act, Acts, Entry};
@@ -102,8 +102,6 @@ impl<G: GensRef + Drop> Acts for PlainOf<G> {
     ghost made = { λ p. p.made };
 
     ghost keeper = { λ p. p.keeper };
-
-    ghost told = { λ p. None };
 
     ghost logged = { λ p. p.entries };
 

@@ -19,7 +19,7 @@ const MANY: usize = 64;
 fn unmark_taken<A: Acts>(acts: &mut A, taken: &[Entry])
     requires { (least : ℕ) × (left : List Chunk) × AreTakenOut least (A.marked acts.old) left taken.now }
     ensures region { (least : ℕ) (left : List Chunk) → AreTakenOut least (A.marked acts.old) left taken.now → IsRegion (A.marked acts.new) left }
-    ensures unmarks { AreUnmarked taken.now (A.marked acts.old) (A.marked acts.new) (A.told acts.old) (A.told acts.new)
+    ensures unmarks { AreUnmarked taken.now (A.marked acts.old) (A.marked acts.new)
         (A.logged acts.old) (A.logged acts.new) }
     ensures made { A.made acts.new ≡ A.made acts.old }
     ensures keeper { A.keeper acts.new ≡ A.keeper acts.old }
@@ -38,7 +38,7 @@ fn free_many<A: Acts>(acts: &mut A, chunks: &mut ChunkList, least: u64)
     requires least { least < 2 ^ 64 - 1 }
     ensures chunks { chunks.new ≡ kept least chunks.old }
     ensures region { IsRegion (A.marked acts.new) chunks.new }
-    ensures unmarks { AreUnmarked (freed least chunks.old) (A.marked acts.old) (A.marked acts.new) (A.told acts.old) (A.told acts.new)
+    ensures unmarks { AreUnmarked (freed least chunks.old) (A.marked acts.old) (A.marked acts.new)
         (A.logged acts.old) (A.logged acts.new) }
     ensures made { A.made acts.new ≡ A.made acts.old }
     ensures keeper { A.keeper acts.new ≡ A.keeper acts.old }
@@ -61,7 +61,7 @@ fn free_few<A: Acts>(acts: &mut A, chunks: &mut ChunkList, least: u64)
     requires least { least < 2 ^ 64 - 1 }
     ensures chunks { chunks.new ≡ kept least chunks.old }
     ensures region { IsRegion (A.marked acts.new) chunks.new }
-    ensures unmarks { AreUnmarked (freed least chunks.old) (A.marked acts.old) (A.marked acts.new) (A.told acts.old) (A.told acts.new)
+    ensures unmarks { AreUnmarked (freed least chunks.old) (A.marked acts.old) (A.marked acts.new)
         (A.logged acts.old) (A.logged acts.new) }
     ensures made { A.made acts.new ≡ A.made acts.old }
     ensures keeper { A.keeper acts.new ≡ A.keeper acts.old }
@@ -89,7 +89,7 @@ pub(crate) fn free_due<A: Acts>(acts: &mut A, chunks: &mut ChunkList, least: u64
     ensures chunks { chunks.new ≡ kept least chunks.old }
     ensures count { result ≡ length (freed least chunks.old) }
     ensures region { IsRegion (A.marked acts.new) chunks.new }
-    ensures unmarks { AreUnmarked (freed least chunks.old) (A.marked acts.old) (A.marked acts.new) (A.told acts.old) (A.told acts.new)
+    ensures unmarks { AreUnmarked (freed least chunks.old) (A.marked acts.old) (A.marked acts.new)
         (A.logged acts.old) (A.logged acts.new) }
     ensures made { A.made acts.new ≡ A.made acts.old }
     ensures keeper { A.keeper acts.new ≡ A.keeper acts.old }

@@ -1,6 +1,6 @@
 //! A region: a text, changed by acts, and the list of its chunks.
 
-ghost use Rattle.std.specs.Prelude.{◌≡◌, ◌+◌, ◌*◌, ◌↔◌, List, length, [], None, OnOk, OnErr, IfOk, IfErr, IfSome, IsNone, Contains, slice_get};
+ghost use Rattle.std.specs.Prelude.{◌≡◌, ◌+◌, ◌*◌, ◌↔◌, ◌++◌, List, length, [], None, OnOk, OnErr, IfOk, IfErr, IfSome, IsNone, Contains, slice_get};
 ghost use Rattle.nc_text.specs.Machine.{IsConfined};
 ghost use Rattle.nc_text.specs.Marks.{mark_at};
 ghost use Rattle.nc_text.specs.Places.{InRegion, byte_at, limit_of};
@@ -8,13 +8,13 @@ ghost use Rattle.nc_decode.specs.Bundles.{IsLawfulLimit};
 ghost use Rattle.nc_text.specs.MarkedText.{unused_text};
 ghost use Rattle.nc_text.specs.Ready.{unmade_pages};
 ghost use Rattle.nc_list.specs.declared.chunk.ChunkState.{ChunkState};
-ghost use Rattle.nc_region.specs.Acts.{Tells, acts_of_create};
+ghost use Rattle.nc_region.specs.Acts.{acts_of_create};
 ghost use Rattle.nc_region.specs.Log.{Logs, log_of_create};
 ghost use Rattle.nc_gens.specs.Seen.{HasMet};
 ghost use Rattle.nc_region.specs.Quiet.{AreQuiet};
 ghost use Rattle.nc_region.specs.Deletion.{HasLive, IsDeleted, MayRefuseDelete, IsReclaimed};
 ghost use Rattle.nc_vet.specs.Faults.{HasGoodSpan};
-ghost use Rattle.nc_region.specs.Region.{Region, IsRegion, AreChunksReady, IsNew, IsAboveAll, IsNextChunk, IsCreated, IsRefused, MayRefuse, Meets};
+ghost use Rattle.nc_region.specs.Region.{Region, IsRegion, AreChunksReady, IsNew, IsAboveAll, IsNextChunk, IsCreated, IsRefused, MayRefuse, Meets, told};
 ghost use Rattle.nc_vet.specs.Chunk.{Piece};
 ghost use Rattle.nc_region.specs.Patch.{IsPatch, MayRefusePatch, IsModified, AreBytesOf, acts_of_modify, log_of_modify};
 ghost use Rattle.nc_region.specs.Trace.{IsTrace, IsOnlyTrace, IsSafeWalk, IsWalkStart, MayRefuseWalk};
@@ -62,7 +62,6 @@ impl<A: Acts + Drop> Model for RegionOf<A> {
       made = A.made r.acts;
       chunks = r.chunks;
       keeper = A.keeper r.acts;
-      told = A.told r.acts;
       logged = A.logged r.acts;
     } };
 
@@ -89,7 +88,6 @@ impl<'g> RegionOf<Plain<'g>> {
               made = unmade_pages (0x10000 + 32 * bundles);
               chunks = [];
               keeper = keeper;
-              told = None;
               logged = [];
             }) }
         ensures confined { IfOk result (λ r. IsConfined r.marked.bytes) }
@@ -119,7 +117,6 @@ impl<A: Acts + Drop> RegionOf<A> {
           made = A.made acts;
           chunks = [];
           keeper = A.keeper acts;
-          told = A.told acts;
           logged = A.logged acts;
         } }
     {
@@ -134,7 +131,6 @@ impl<A: Acts + Drop> RegionOf<A> {
         ensures marked { A.marked result.now ≡ self.now.marked }
         ensures made { A.made result.now ≡ self.now.made }
         ensures keeper { A.keeper result.now ≡ self.now.keeper }
-        ensures told { A.told result.now ≡ self.now.told }
         ensures logged { A.logged result.now ≡ self.now.logged }
     {
         &self.acts
@@ -212,8 +208,8 @@ impl<A: Acts + Drop> RegionOf<A> {
     pub fn create(&mut self, vetted: Vetted) -> Result<(), (Vetted, CreateFault)>
         // The span holds the chunk's code and marks, and the chunk is in the list; all else is as before.
         ensures created { OnOk result (IsCreated self.old self.new vetted) }
-        // Exactly the acts of a creation are told, if acts are told.
-        ensures acts { OnOk result (Tells self.old.told self.new.told (acts_of_create vetted.base vetted.code)) }
+        // Exactly the acts of a creation are told.
+        ensures acts { OnOk result (told self.new ≡ told self.old ++ acts_of_create vetted.base vetted.code) }
         // The region settled once, before the marks were set.
         ensures log { OnOk result (Logs self.old.logged self.new.logged (log_of_create vetted.base vetted.code)) }
         // The chunk was vetted for this region's limit, and no chunk was in its span.
@@ -244,9 +240,9 @@ impl<A: Acts + Drop> RegionOf<A> {
     pub fn modify(&mut self, at: u32, new: &[u8]) -> Result<(), ModifyFault>
         // The new bytes are in their place; all else is as before.
         ensures modified { OnOk result (IsModified self.old self.new at new.now) }
-        // Exactly the acts of a patch are told, if acts are told.
+        // Exactly the acts of a patch are told.
         ensures acts { OnOk result ((news : List Piece) → AreBytesOf new.now news
-            → Tells self.old.told self.new.told (acts_of_modify self.old.marked.bytes at news)) }
+            → told self.new ≡ told self.old ++ acts_of_modify self.old.marked.bytes at news) }
         // The region settled twice for each instruction of more than one byte that was replaced.
         ensures log { OnOk result ((news : List Piece) → AreBytesOf new.now news
             → Logs self.old.logged self.new.logged (log_of_modify self.old.marked.bytes at news)) }
@@ -280,7 +276,7 @@ impl<A: Acts + Drop> RegionOf<A> {
     /// memory is allocated.
     pub fn delete(&mut self, base: u32) -> Result<u64, DeleteFault>
         // The chunk's bytes are stops, and it is retired with the returned stamp; all else is as before. Exactly the acts of a
-        // deletion are logged, and told if acts are told.
+        // deletion are told and logged.
         ensures deleted { IfOk result (IsDeleted self.old self.new base) }
         // Text, marks, chunks, keeper and acts are as before.
         ensures unchanged { OnErr result (self.new ≡ self.old) }
@@ -306,7 +302,7 @@ impl<A: Acts + Drop> RegionOf<A> {
     /// Not promised: that any chunk is ever freed. A seat that neither checks in nor leaves holds back every later stamp.
     pub fn reclaim(&mut self) -> u32
         // Exactly the chunks that are due have been removed; the keeper has looked, and all else is as before. Exactly the acts
-        // of a reclaim are logged, and told if acts are told.
+        // of a reclaim are told and logged.
         ensures reclaimed { IsReclaimed self.old self.new result }
         ensures confined { IsConfined self.new.marked.bytes }
     {

@@ -18,13 +18,14 @@ use Rattle.nc_list.proofs.Offered.{each_get, each_set, each_set_but, each_at_set
 use Rattle.nc_region.specs.Chunks.{HasGoodSpan}
 use Rattle.nc_region.specs.Each.{Each}
 use Rattle.nc_gens.specs.Rule.{generation_raised}
-use Rattle.nc_region.specs.Acts.{Tells, acts_of_delete}
+use Rattle.nc_region.specs.Acts.{acts_of_delete}
 use Rattle.nc_region.specs.Log.{Logs, log_of_delete}
 use Rattle.nc_region.specs.Deletion.{IsDeleted}
 use Rattle.nc_region.specs.Region.{Region, IsLive, IsInChunk, IsRising, HoldsValid, IsRegion}
 use Rattle.nc_region.proofs.chunks.AgreesOutside.{AgreesOutside, LiesBeside, still_holds}
 use Rattle.nc_region.proofs.patching.Runs.{apart_by_index}
 use Rattle.nc_region.proofs.SpanPlaces.{place_of, Before, Within, Behind, span_within, span_before, span_behind}
+use Rattle.nc_region.proofs.telling.Logged.{told_logged, deleted_acts}
 
 -- one chunk of a rising list put in place of another of the same span
 rising_set : (from : ℕ) (chunks : List Chunk) (k : ℕ) (c d : Chunk) → IsRising from chunks → k < length chunks → get_or chunks k c ≡ c
@@ -180,7 +181,6 @@ with_parts r marks made =
       made = made;
       chunks = r.chunks;
       keeper = r.keeper;
-      told = r.told;
       logged = r.logged;
     }
 
@@ -190,9 +190,8 @@ pub deleted_is : (old new : Region) (k base stamp : ℕ) (chunk : Chunk) → sli
     → new.marked.bytes ≡ with_span old.marked.bytes (base - 65536) (replicate chunk.length 244) → new.marked.marks ≡ old.marked.marks
     → new.made ≡ old.made → new.chunks ≡ set old.chunks k (record chunk { state = Retired stamp })
     → new.keeper ≡ record old.keeper { numbers = generation_raised old.keeper.numbers }
-    → Tells old.told new.told (acts_of_delete old.marked.marks base chunk.length)
     → Logs old.logged new.logged (log_of_delete old.marked.marks base chunk.length) → IsDeleted old new base stamp
-deleted_is old new k base stamp chunk listed live base_is room stamp_is bytes marks made chunks keeper told log =
+deleted_is old new k base stamp chunk listed live base_is room stamp_is bytes marks made chunks keeper log =
     record {
       index = k;
       chunk = chunk;
@@ -205,6 +204,7 @@ deleted_is old new k base stamp chunk listed live base_is room stamp_is bytes ma
       chunks = chunks;
       keeper = keeper;
       others = ap (λ (m : List Mark). with_parts new m new.made) marks ∙ ap (λ (d : List Bool). with_parts new old.marked.marks d) made;
-      acts = told;
+      acts = told_logged old.logged new.logged (log_of_delete old.marked.marks base chunk.length)
+          (acts_of_delete old.marked.marks base chunk.length) (deleted_acts old.marked.marks base chunk.length) log;
       log = log;
     }

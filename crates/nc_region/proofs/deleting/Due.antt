@@ -1,23 +1,20 @@
 -- The chunks that are due, and what a reclaim leaves.
-use Rattle.std.proofs.Common.{◌≡◌, ℕ, suc, ◌+◌, ◌≤◌, Bool, true, false, List, [], ◌∷◌, length}
-use Rattle.std.proofs.Common.{Option, arith, refl, ◌∙◌, ap, subst}
+use Rattle.std.proofs.Common.{◌++◌, ◌≡◌, ℕ, suc, ◌+◌, ◌≤◌, Bool, true, false, List, [], ◌∷◌, length}
+use Rattle.std.proofs.Common.{arith, refl, ◌∙◌, ap, subst}
 use Rattle.nc_text.specs.MarkedText.{MarkedText, without_marks}
 use Rattle.nc_list.specs.declared.chunk.Chunk.{Chunk}
 use Rattle.nc_list.specs.declared.chunk.ChunkState.{ChunkState}
 use Rattle.nc_list.specs.declared.chunk.ChunkState.TheVariants.{Live, Retired}
-use Rattle.nc_region.specs.declared.acts.Act.{Act}
 use Rattle.nc_region.specs.declared.acts.Act.TheVariants.{Look}
 use Rattle.nc_region.specs.declared.acts.Entry.{Entry}
 use Rattle.nc_region.specs.declared.acts.Entry.TheVariants.{Did}
 use Rattle.nc_region.specs.Chunks.{HasGoodSpan}
 use Rattle.nc_region.specs.Each.{Each}
-use Rattle.nc_region.specs.Region.{Region, IsLive, IsRising}
+use Rattle.nc_region.specs.Region.{Region, IsLive, IsRising, told}
 use Rattle.nc_gens.specs.Seen.{HasLooked, least_number}
-use Rattle.nc_region.specs.Acts.{Tells}
 use Rattle.nc_region.specs.Log.{Logs, unsettled}
 use Rattle.nc_region.specs.Deletion.{is_due, freed, kept, unmarked, unmarkings, IsReclaimed}
-use Rattle.nc_region.proofs.telling.Told.{tells_more}
-use Rattle.nc_region.proofs.telling.Logged.{logs_more}
+use Rattle.nc_region.proofs.telling.Logged.{logs_more, told_logged, acts_back}
 
 -- what is due isn't live
 pub due_dead : (least : ℕ) (s : ChunkState) → is_due least s ≡ true → IsLive s → ⊥
@@ -51,18 +48,20 @@ few limit from (c ∷ rest) rising placed le =
 -- a region with these pages
 abbrev with_pages : Region → List Bool → Region
 with_pages r made =
-    record { marked = r.marked; made = made; chunks = r.chunks; keeper = r.keeper; told = r.told; logged = r.logged }
+    record { marked = r.marked; made = made; chunks = r.chunks; keeper = r.keeper; logged = r.logged }
 
 -- what reclaiming leaves, by its parts
-pub reclaimed_is : (old new : Region) (between : Option (List Act)) (halfway : List Entry) (count least : ℕ)
+pub reclaimed_is : (old new : Region) (halfway : List Entry) (count least : ℕ)
     → HasLooked old.keeper new.keeper
     → least ≡ least_number new.keeper.numbers
     → new.chunks ≡ kept least old.chunks → count ≡ length (freed least old.chunks)
     → new.marked ≡ unmarked old.marked (freed least old.chunks) → new.made ≡ old.made
-    → Tells old.told between (Look ∷ []) → Tells between new.told (unmarkings (freed least old.chunks))
     → Logs old.logged halfway (Did Look ∷ []) → Logs halfway new.logged (unsettled (unmarkings (freed least old.chunks)))
     → IsReclaimed old new count
-reclaimed_is old new between halfway count least looked is chunks count_is marked made first second look rest =
+reclaimed_is old new halfway count least looked is chunks count_is marked made look rest =
+    let acts = Look ∷ unmarkings (freed least old.chunks) in
+    let log : Logs old.logged new.logged (unsettled acts) =
+    logs_more old.logged halfway new.logged (Did Look ∷ []) (unsettled (unmarkings (freed least old.chunks))) look rest in
     record {
       looked = looked;
       chunks = chunks ∙ ap (λ (n : ℕ). kept n old.chunks) is;
@@ -70,8 +69,7 @@ reclaimed_is old new between halfway count least looked is chunks count_is marke
       marked = marked ∙ ap (λ (n : ℕ). unmarked old.marked (freed n old.chunks)) is;
       bytes = ap (λ (m : MarkedText). m.bytes) marked ∙ unmarked_bytes old.marked (freed least old.chunks);
       others = ap (λ (d : List Bool). with_pages new d) made;
-      acts = subst (λ (n : ℕ). Tells old.told new.told (Look ∷ unmarkings (freed n old.chunks))) is
-          (tells_more old.told between new.told (Look ∷ []) (unmarkings (freed least old.chunks)) first second);
-      log = subst (λ (n : ℕ). Logs old.logged new.logged (unsettled (Look ∷ unmarkings (freed n old.chunks)))) is
-          (logs_more old.logged halfway new.logged (Did Look ∷ []) (unsettled (unmarkings (freed least old.chunks))) look rest);
+      acts = subst (λ (n : ℕ). told new ≡ told old ++ Look ∷ unmarkings (freed n old.chunks)) is
+          (told_logged old.logged new.logged (unsettled acts) acts (acts_back acts) log);
+      log = subst (λ (n : ℕ). Logs old.logged new.logged (unsettled (Look ∷ unmarkings (freed n old.chunks)))) is log;
     }

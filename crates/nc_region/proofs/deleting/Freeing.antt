@@ -1,5 +1,5 @@
 -- Taking the chunks that are due out of the list, and unmarking them.
-use Rattle.std.proofs.Common.{◌≡◌, ℕ, suc, ◌+◌, ◌<◌, Bool, true, false, not, cond, List, [], ◌∷◌, ◌++◌, Option, length, refl, sym, ap, ◌∙◌, subst}
+use Rattle.std.proofs.Common.{◌≡◌, ℕ, suc, ◌+◌, ◌<◌, Bool, true, false, not, cond, List, [], ◌∷◌, ◌++◌, length, refl, sym, ap, ◌∙◌, subst}
 use Rattle.std.proofs.Common.{arith, append_assoc, append-nil, length-append, get_or, take, drop, drop-cons}
 use Rattle.std.proofs.Math.Seq.{take-suc}
 use Rattle.std.proofs.lemmas.List.{map-append}
@@ -11,7 +11,6 @@ use Rattle.nc_region.specs.declared.acts.Act.{Act}
 use Rattle.nc_region.specs.declared.acts.Act.TheVariants.{UnmarkSpan}
 use Rattle.nc_region.specs.declared.acts.Entry.{Entry}
 use Rattle.nc_region.specs.declared.acts.Entry.TheVariants.{Did}
-use Rattle.nc_region.specs.Acts.{Tells}
 use Rattle.nc_region.specs.Log.{Logs, unsettled}
 use Rattle.nc_region.specs.Deletion.{is_due, freed, kept, unmarked, unmarkings}
 use Rattle.nc_region.specs.Quiet.{IsQuiet}
@@ -20,7 +19,6 @@ use Rattle.nc_region.specs.machinery.Freeing.{AreTakenOut, AreUnmarked}
 use Rattle.nc_region.proofs.schedules.Unmarking.{MayFree}
 use Rattle.nc_region.proofs.deleting.Freed.{span_of, dead_is_quiet, frees, region_freed}
 use Rattle.nc_region.proofs.deleting.Due.{due_dead, kept_and_freed}
-use Rattle.nc_region.proofs.telling.Told.{tells_none, tells_more}
 use Rattle.nc_region.proofs.telling.Logged.{logs_none, logs_acts}
 
 -- ---- spans that are unmarked
@@ -35,23 +33,19 @@ unmarkings_append : (xs ys : List Chunk) → unmarkings (xs ++ ys) ≡ unmarking
 unmarkings_append xs ys = map-append (λ (x : Chunk). UnmarkSpan x.base x.length) xs ys
 
 -- nothing is unmarked
-pub unmarks_none : (marked : MarkedText) (told : Option (List Act)) (logged : List Entry)
-    → AreUnmarked [] marked marked told told logged logged
-unmarks_none marked told logged = record { marked = refl; tells = tells_none told; logs = logs_none logged }
+pub unmarks_none : (marked : MarkedText) (logged : List Entry) → AreUnmarked [] marked marked logged logged
+unmarks_none marked logged = record { marked = refl; logs = logs_none logged }
 
 -- one chunk
-pub unmarks_one : (chunk : Chunk) (a b : MarkedText) (t u : Option (List Act)) (l m : List Entry)
-    → b ≡ without_marks a chunk.base chunk.length → Tells t u (UnmarkSpan chunk.base chunk.length ∷ [])
-    → Logs l m (Did (UnmarkSpan chunk.base chunk.length) ∷ []) → AreUnmarked (chunk ∷ []) a b t u l m
-unmarks_one chunk a b t u l m marked tells logs = record { marked = marked; tells = tells; logs = logs }
+pub unmarks_one : (chunk : Chunk) (a b : MarkedText) (l m : List Entry) → b ≡ without_marks a chunk.base chunk.length
+    → Logs l m (Did (UnmarkSpan chunk.base chunk.length) ∷ []) → AreUnmarked (chunk ∷ []) a b l m
+unmarks_one chunk a b l m marked logs = record { marked = marked; logs = logs }
 
 -- some chunks, and then more
-pub unmarks_more : (xs ys : List Chunk) (a b c : MarkedText) (t u v : Option (List Act)) (l m n : List Entry)
-    → AreUnmarked xs a b t u l m → AreUnmarked ys b c u v m n → AreUnmarked (xs ++ ys) a c t v l n
-unmarks_more xs ys a b c t u v l m n first second = record {
+pub unmarks_more : (xs ys : List Chunk) (a b c : MarkedText) (l m n : List Entry)
+    → AreUnmarked xs a b l m → AreUnmarked ys b c m n → AreUnmarked (xs ++ ys) a c l n
+unmarks_more xs ys a b c l m n first second = record {
   marked = second.marked ∙ (ap (λ (z : MarkedText). unmarked z ys) first.marked ∙ sym (unmarked_append a xs ys));
-  tells = subst (λ (z : List Act). Tells t v z) (sym (unmarkings_append xs ys))
-      (tells_more t u v (unmarkings xs) (unmarkings ys) first.tells second.tells);
   logs = subst (λ (z : List Act). Logs l n (unsettled z)) (sym (unmarkings_append xs ys))
       (logs_acts l m n (unmarkings xs) (unmarkings ys) first.logs second.logs);
 }
@@ -218,45 +212,43 @@ taken_shorter least old new taken t =
     )
 
 -- Of a region's chunks, the first ones that are due have been taken out and unmarked, which left a region with the others.
-pub record AreFreed (least : ℕ) (old new : List Chunk) (was now : MarkedText) (told told_now : Option (List Act))
-    (logged logged_now : List Entry) : Type 0 where
+pub record AreFreed (least : ℕ) (old new : List Chunk) (was now : MarkedText) (logged logged_now : List Entry) : Type 0 where
   pub done : List Chunk
   pub stay : kept least new ≡ kept least old
   pub parted : freed least old ≡ done ++ freed least new
-  pub unmarks : AreUnmarked done was now told told_now logged logged_now
+  pub unmarks : AreUnmarked done was now logged logged_now
   pub region : IsRegion now new
 
 -- none is freed yet
-pub freed_none : (least : ℕ) (chunks : List Chunk) (marked : MarkedText) (told : Option (List Act)) (logged : List Entry)
-    → IsRegion marked chunks → AreFreed least chunks chunks marked marked told told logged logged
-freed_none least chunks marked told logged region =
-    record { done = []; stay = refl; parted = refl; unmarks = unmarks_none marked told logged; region = region }
+pub freed_none : (least : ℕ) (chunks : List Chunk) (marked : MarkedText) (logged : List Entry)
+    → IsRegion marked chunks → AreFreed least chunks chunks marked marked logged logged
+freed_none least chunks marked logged region =
+    record { done = []; stay = refl; parted = refl; unmarks = unmarks_none marked logged; region = region }
 
 -- those that were taken now are
-pub freed_more : (least : ℕ) (old mid new taken : List Chunk) (a b c : MarkedText) (t u v : Option (List Act)) (l m n : List Entry)
-    → AreFreed least old mid a b t u l m → AreTaken least mid new taken → AreUnmarked taken b c u v m n → IsRegion c new
-    → AreFreed least old new a c t v l n
-freed_more least old mid new taken a b c t u v l m n f t' one region = record {
+pub freed_more : (least : ℕ) (old mid new taken : List Chunk) (a b c : MarkedText) (l m n : List Entry)
+    → AreFreed least old mid a b l m → AreTaken least mid new taken → AreUnmarked taken b c m n → IsRegion c new
+    → AreFreed least old new a c l n
+freed_more least old mid new taken a b c l m n f t' one region = record {
   done = f.done ++ taken;
   stay = kept_taken least mid new taken t' ∙ f.stay;
   parted = f.parted ∙ (ap (λ (z : List Chunk). f.done ++ z) (freed_taken least mid new taken t')
       ∙ sym (append_assoc f.done taken (freed least new)));
-  unmarks = unmarks_more f.done taken a b c t u v l m n f.unmarks one;
+  unmarks = unmarks_more f.done taken a b c l m n f.unmarks one;
   region = region;
 }
 
 -- All chunks that are due have been taken out and unmarked.
-pub record AllFreed (least : ℕ) (old new : List Chunk) (was now : MarkedText) (told told_now : Option (List Act))
-    (logged logged_now : List Entry) : Type 0 where
+pub record AllFreed (least : ℕ) (old new : List Chunk) (was now : MarkedText) (logged logged_now : List Entry) : Type 0 where
   pub stay : new ≡ kept least old
   pub count : length old ≡ length new + length (freed least old)
-  pub unmarks : AreUnmarked (freed least old) was now told told_now logged logged_now
+  pub unmarks : AreUnmarked (freed least old) was now logged logged_now
   pub region : IsRegion now new
 
 -- so it is where none is taken any more
-pub freed_all : (least : ℕ) (old mid new taken : List Chunk) (a b : MarkedText) (t u : Option (List Act)) (l m : List Entry)
-    → AreFreed least old mid a b t u l m → AreTaken least mid new taken → taken ≡ [] → AllFreed least old new a b t u l m
-freed_all least old mid new taken a b t u l m f t' none =
+pub freed_all : (least : ℕ) (old mid new taken : List Chunk) (a b : MarkedText) (l m : List Entry)
+    → AreFreed least old mid a b l m → AreTaken least mid new taken → taken ≡ [] → AllFreed least old new a b l m
+freed_all least old mid new taken a b l m f t' none =
     let no_more : freed least mid ≡ [] = t'.none none in
     let same : new ≡ mid = taken_nothing least mid new (subst (AreTaken least mid new) none t') in
     let stay : new ≡ kept least old = same ∙ (sym (all_stay least mid no_more) ∙ f.stay) in
@@ -264,22 +256,22 @@ freed_all least old mid new taken a b t u l m f t' none =
       stay = stay;
       count = omega (arith, kept_and_freed least old, ap (λ (z : List Chunk). length z) stay);
       unmarks =
-          subst (λ (z : List Chunk). AreUnmarked z a b t u l m)
+          subst (λ (z : List Chunk). AreUnmarked z a b l m)
           (sym (f.parted ∙ (ap (λ (z : List Chunk). f.done ++ z) no_more ∙ append-nil f.done))) f.unmarks;
       region = subst (IsRegion b) (sym same) f.region;
     }
 
 -- so it is where all others are taken out and unmarked after some
-pub freed_rest : (least : ℕ) (old mid new : List Chunk) (a b c : MarkedText) (t u v : Option (List Act)) (l m n : List Entry)
-    → AreFreed least old mid a b t u l m → new ≡ kept least mid → AreUnmarked (freed least mid) b c u v m n → IsRegion c new
-    → AllFreed least old new a c t v l n
-freed_rest least old mid new a b c t u v l m n f left rest region =
+pub freed_rest : (least : ℕ) (old mid new : List Chunk) (a b c : MarkedText) (l m n : List Entry)
+    → AreFreed least old mid a b l m → new ≡ kept least mid → AreUnmarked (freed least mid) b c m n → IsRegion c new
+    → AllFreed least old new a c l n
+freed_rest least old mid new a b c l m n f left rest region =
     let stay : new ≡ kept least old = left ∙ f.stay in
     record {
       stay = stay;
       count = omega (arith, kept_and_freed least old, ap (λ (z : List Chunk). length z) stay);
       unmarks =
-          subst (λ (z : List Chunk). AreUnmarked z a c t v l n) (sym f.parted)
-          (unmarks_more f.done (freed least mid) a b c t u v l m n f.unmarks rest);
+          subst (λ (z : List Chunk). AreUnmarked z a c l n) (sym f.parted)
+          (unmarks_more f.done (freed least mid) a b c l m n f.unmarks rest);
       region = region;
     }

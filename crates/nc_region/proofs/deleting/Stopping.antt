@@ -1,6 +1,6 @@
 -- Stops put at the places of a bundle whose bits are set.
 use Rattle.std.proofs.Common.{◌≡◌, ◌≢◌, ℕ, ◌+◌, ◌-◌, ◌==◌, ◌<◌, ◌≤◌, Bool, true, false, not, List, [], ◌∷◌, length, get_or, set, take}
-use Rattle.std.proofs.Common.{◌++◌, ◌^◌, replicate, Option, inl, inr, arith, refl, ◌∙◌, sym, ap, subst, w32}
+use Rattle.std.proofs.Common.{◌++◌, ◌^◌, replicate, inl, inr, arith, refl, ◌∙◌, sym, ap, subst, w32}
 use Rattle.std.specs.Int.{bit_at, bit_not}
 use Rattle.std.proofs.lemmas.Bool.{cases_lt, cases_eq}
 use Rattle.std.proofs.lemmas.List.{get_or-replicate, length-replicate, take_all}
@@ -12,11 +12,11 @@ use Rattle.nc_region.specs.declared.acts.Act.{Act}
 use Rattle.nc_region.specs.declared.acts.Act.TheVariants.{Put}
 use Rattle.nc_region.specs.declared.acts.Entry.{Entry}
 use Rattle.nc_region.specs.declared.acts.Entry.TheVariants.{Did}
-use Rattle.nc_region.specs.Acts.{Tells, puts_where, is_mark, is_marked_at, is_unmarked_at}
+use Rattle.nc_region.specs.Acts.{puts_where, is_mark, is_marked_at, is_unmarked_at}
 use Rattle.nc_region.specs.Log.{Logs, unsettled}
 use Rattle.nc_region.specs.machinery.Between.{HasPut, is_set}
 use Rattle.nc_region.proofs.telling.Puts.{put_none, put_more, put_passed_all, put_join}
-use Rattle.nc_region.proofs.telling.Told.{tells_none, tells_more, told_put, told_passed_all, joined_puts}
+use Rattle.nc_region.proofs.telling.Chosen.{joined_puts}
 use Rattle.nc_region.proofs.telling.Logged.{logs_none, logs_acts, log_put, log_passed_all}
 
 -- ---- bits and marks
@@ -64,36 +64,33 @@ set_unmarked marks places at k fits lt is =
 abbrev pub stops : List ℕ
 stops = replicate 32 244
 
--- up to some place stops stand where bits are set, told and logged one by one, and the bits from it on are left
-pub record Stopping (places left at : ℕ) (old new : List ℕ) (before after : Option (List Act)) (begun ended : List Entry) : Type 0 where
+-- up to some place stops stand where bits are set, logged one by one, and the bits from it on are left
+pub record Stopping (places left at : ℕ) (old new : List ℕ) (begun ended : List Entry) : Type 0 where
   pub count : ℕ
   pub few : count ≤ 32
   pub done : (k : ℕ) → k < count → bit_at left k ≡ 0
   pub rest : (k : ℕ) → count ≤ k → k < 32 → bit_at left k ≡ bit_at places k
   pub bytes : HasPut (is_set places at) at stops count old new
-  pub told : Tells before after (puts_where (is_set places at) at (take count stops))
   pub log : Logs begun ended (unsettled (puts_where (is_set places at) at (take count stops)))
 
 -- at first none do
-pub stopping_none : (places at : ℕ) (old : List ℕ) (told : Option (List Act)) (log : List Entry)
-    → Stopping places places at old old told told log log
-stopping_none places at old told log =
+pub stopping_none : (places at : ℕ) (old : List ℕ) (log : List Entry) → Stopping places places at old old log log
+stopping_none places at old log =
     record {
       count = 0;
       few = omega arith;
       done = λ k lt. absurd (omega (arith, lt));
       rest = λ k from lt. refl;
       bytes = put_none (is_set places at) at stops old;
-      told = tells_none told;
       log = logs_none log;
     }
 
 -- the places whose bits aren't set are passed
-pub stopping_to : (places left at : ℕ) (old new : List ℕ) (told told' : Option (List Act)) (log log' : List Entry)
-    → (s : Stopping places left at old new told told' log log') → (n : ℕ) → s.count ≤ n → n ≤ 32 → ((k : ℕ) → k < n → bit_at left k ≡ 0)
-    → HasPut (is_set places at) at stops n old new × Tells told told' (puts_where (is_set places at) at (take n stops))
+pub stopping_to : (places left at : ℕ) (old new : List ℕ) (log log' : List Entry)
+    → (s : Stopping places left at old new log log') → (n : ℕ) → s.count ≤ n → n ≤ 32 → ((k : ℕ) → k < n → bit_at left k ≡ 0)
+    → HasPut (is_set places at) at stops n old new
     × Logs log log' (unsettled (puts_where (is_set places at) at (take n stops)))
-stopping_to places left at old new told told' log log' s n from most none =
+stopping_to places left at old new log log' s n from most none =
     let reached : s.count + (n - s.count) ≡ n = omega (arith, from) in
     let long = length-replicate {A = ℕ} 32 244 in
     let passed : (j : ℕ) → j < n - s.count → is_set places at (at + (s.count + j)) ≡ false =
@@ -101,49 +98,47 @@ stopping_to places left at old new told told' log log' s n from most none =
     ∙ none (s.count + j) (omega (arith, lt))) in (
       subst (λ (k : ℕ). HasPut (is_set places at) at stops k old new) reached
           (put_passed_all (is_set places at) at stops s.count (n - s.count) old new s.bytes passed),
-      subst (λ (k : ℕ). Tells told told' (puts_where (is_set places at) at (take k stops))) reached
-          (told_passed_all (is_set places at) at stops s.count (n - s.count) told told' (omega (arith, long, from, most)) passed s.told),
       subst (λ (k : ℕ). Logs log log' (unsettled (puts_where (is_set places at) at (take k stops)))) reached
           (log_passed_all (is_set places at) at stops s.count (n - s.count) log log' (omega (arith, long, from, most)) passed s.log),
     )
 
 -- the lowest bit that is left is behind what is done
-pub behind_done : (places left at : ℕ) (old new : List ℕ) (told told' : Option (List Act)) (log log' : List Entry)
-    → (s : Stopping places left at old new told told' log log') → (k : ℕ) → bit_at left k ≡ 1 → s.count ≤ k
-behind_done places left at old new told told' log log' s k set = elim (cases_lt k s.count) [
+pub behind_done : (places left at : ℕ) (old new : List ℕ) (log log' : List Entry)
+    → (s : Stopping places left at old new log log') → (k : ℕ) → bit_at left k ≡ 1 → s.count ≤ k
+behind_done places left at old new log log' s k set = elim (cases_lt k s.count) [
   | inl before ↦ absurd (let e : 0 ≡ 1 = sym (s.done k before) ∙ set in omega (arith, e))
   | inr from ↦ from
 ]
 
 -- it is set among all
-pub still_set : (places left at : ℕ) (old new : List ℕ) (told told' : Option (List Act)) (log log' : List Entry)
-    → (s : Stopping places left at old new told told' log log') → (k : ℕ) → k < 32 → bit_at left k ≡ 1 → is_set places at (at + k) ≡ true
-still_set places left at old new told told' log log' s k lt set =
-    set_at places at k 1 (sym (s.rest k (behind_done places left at old new told told' log log' s k set) lt) ∙ set)
+pub still_set : (places left at : ℕ) (old new : List ℕ) (log log' : List Entry)
+    → (s : Stopping places left at old new log log') → (k : ℕ) → k < 32 → bit_at left k ≡ 1 → is_set places at (at + k) ≡ true
+still_set places left at old new log log' s k lt set =
+    set_at places at k 1 (sym (s.rest k (behind_done places left at old new log log' s k set) lt) ∙ set)
 
 -- where the bytes stand once a stop is put at that place
-pub next_bytes : (places left at : ℕ) (old new : List ℕ) (told told' : Option (List Act)) (log log' : List Entry)
-    → (s : Stopping places left at old new told told' log log') → (k : ℕ) → k < 32 → bit_at left k ≡ 1
+pub next_bytes : (places left at : ℕ) (old new : List ℕ) (log log' : List Entry)
+    → (s : Stopping places left at old new log log') → (k : ℕ) → k < 32 → bit_at left k ≡ 1
     → ((i : ℕ) → i < k → bit_at left i ≡ 0) → 65536 ≤ at → at + 32 ≤ 65536 + length old
     → HasPut (is_set places at) at stops (k + 1) old (set new (at + k - 65536) 244)
-next_bytes places left at old new told told' log log' s k lt is below low high =
-    let from = behind_done places left at old new told told' log log' s k is in
-    let to = stopping_to places left at old new told told' log log' s k from (omega (arith, lt)) below in
+next_bytes places left at old new log log' s k lt is below low high =
+    let from = behind_done places left at old new log log' s k is in
+    let to = stopping_to places left at old new log log' s k from (omega (arith, lt)) below in
     subst (λ (b : ℕ). HasPut (is_set places at) at stops (k + 1) old (set new (at + k - 65536) b)) (get_or-replicate {A = ℕ} 32 k 244 0 lt)
     (put_more (is_set places at) at stops k old new to.0 low (omega (arith, high, lt))
-    (still_set places left at old new told told' log log' s k lt is))
+    (still_set places left at old new log log' s k lt is))
 
 -- a stop at that place
-pub stopping_next : (places left at : ℕ) (old new : List ℕ) (told told' : Option (List Act)) (log log' : List Entry)
-    → (s : Stopping places left at old new told told' log log') → (k : ℕ) → k < 32 → bit_at left k ≡ 1
+pub stopping_next : (places left at : ℕ) (old new : List ℕ) (log log' : List Entry)
+    → (s : Stopping places left at old new log log') → (k : ℕ) → k < 32 → bit_at left k ≡ 1
     → ((i : ℕ) → i < k → bit_at left i ≡ 0) → 65536 ≤ at → at + 32 ≤ 65536 + length old → (others : ℕ) → bit_at others k ≡ 0
-    → ((i : ℕ) → i < 32 → i ≢ k → bit_at others i ≡ bit_at left i) → (told'' : Option (List Act)) (log'' : List Entry)
-    → Tells told' told'' (Put (at + k) 244 ∷ []) → Logs log' log'' (Did (Put (at + k) 244) ∷ [])
-    → Stopping places others at old (set new (at + k - 65536) 244) told told'' log log''
-stopping_next places left at old new told told' log log' s k lt is below low high others cleared kept told'' log'' tells logs =
-    let from = behind_done places left at old new told told' log log' s k is in
-    let to = stopping_to places left at old new told told' log log' s k from (omega (arith, lt)) below in
-    let chosen = still_set places left at old new told told' log log' s k lt is in
+    → ((i : ℕ) → i < 32 → i ≢ k → bit_at others i ≡ bit_at left i) → (log'' : List Entry)
+    → Logs log' log'' (Did (Put (at + k) 244) ∷ [])
+    → Stopping places others at old (set new (at + k - 65536) 244) log log''
+stopping_next places left at old new log log' s k lt is below low high others cleared kept log'' logs =
+    let from = behind_done places left at old new log log' s k is in
+    let to = stopping_to places left at old new log log' s k from (omega (arith, lt)) below in
+    let chosen = still_set places left at old new log log' s k lt is in
     let byte = get_or-replicate {A = ℕ} 32 k 244 0 lt in
     let short : k < length stops = omega (arith, lt, length-replicate {A = ℕ} 32 244) in
     record {
@@ -154,23 +149,20 @@ stopping_next places left at old new told told' log log' s k lt is below low hig
         | inr ne ↦ kept i (omega (arith, i-lt, lt)) ne ∙ below i (omega (arith, i-lt, ne))
       ];
       rest = λ i past i-lt. kept i i-lt (λ same. omega (arith, same, past)) ∙ s.rest i (omega (arith, past, from)) i-lt;
-      bytes = next_bytes places left at old new told told' log log' s k lt is below low high;
-      told = told_put (is_set places at) at stops k told told' told'' short chosen to.1
-          (subst (λ (b : ℕ). Tells told' told'' (Put (at + k) b ∷ [])) (sym byte) tells);
-      log = log_put [] (is_set places at) at stops k log log' log'' short chosen to.2
+      bytes = next_bytes places left at old new log log' s k lt is below low high;
+      log = log_put [] (is_set places at) at stops k log log' log'' short chosen to.1
           (subst (λ (b : ℕ). Logs log' log'' (Did (Put (at + k) b) ∷ [])) (sym byte) logs);
     }
 
 -- once none is left, the whole bundle is done
-pub stopping_all : (places at : ℕ) (old new : List ℕ) (told told' : Option (List Act)) (log log' : List Entry)
-    → Stopping places 0 at old new told told' log log' → HasPut (is_set places at) at stops 32 old new
-    × Tells told told' (puts_where (is_set places at) at stops) × Logs log log' (unsettled (puts_where (is_set places at) at stops))
-stopping_all places at old new told told' log log' s =
-    let to = stopping_to places 0 at old new told told' log log' s 32 s.few (omega arith) (λ k lt. bit_at-zero k) in
+pub stopping_all : (places at : ℕ) (old new : List ℕ) (log log' : List Entry)
+    → Stopping places 0 at old new log log' → HasPut (is_set places at) at stops 32 old new
+    × Logs log log' (unsettled (puts_where (is_set places at) at stops))
+stopping_all places at old new log log' s =
+    let to = stopping_to places 0 at old new log log' s 32 s.few (omega arith) (λ k lt. bit_at-zero k) in
     let whole : take 32 stops ≡ stops = take_all 32 stops (omega (arith, length-replicate {A = ℕ} 32 244)) in (
       to.0,
-      subst (λ (bytes : List ℕ). Tells told told' (puts_where (is_set places at) at bytes)) whole to.1,
-      subst (λ (bytes : List ℕ). Logs log log' (unsettled (puts_where (is_set places at) at bytes))) whole to.2,
+      subst (λ (bytes : List ℕ). Logs log log' (unsettled (puts_where (is_set places at) at bytes))) whole to.1,
     )
 
 -- ---- one more bundle
@@ -200,15 +192,7 @@ bundle_puts chosen places base i len fits agree =
     ∙ ap (λ (bytes : List ℕ). puts_where chosen base (take i (replicate len 244)) ++ puts_where (is_set places (base + i)) (base + i) bytes)
     (take_all 32 stops (omega (arith, long)))
 
--- told
-pub bundle_told : (chosen : ℕ → Bool) (places base i len : ℕ) (a b c : Option (List Act)) → i + 32 ≤ len
-    → ((k : ℕ) → k < 32 → is_set places (base + i) (base + i + k) ≡ chosen (base + i + k))
-    → Tells a b (puts_where chosen base (take i (replicate len 244))) → Tells b c (puts_where (is_set places (base + i)) (base + i) stops)
-    → Tells a c (puts_where chosen base (take (i + 32) (replicate len 244)))
-bundle_told chosen places base i len a b c fits agree first second =
-    subst (λ (acts : List Act). Tells a c acts) (sym (bundle_puts chosen places base i len fits agree)) (tells_more a b c _ _ first second)
-
--- and logged
+-- they are logged
 pub bundle_log : (chosen : ℕ → Bool) (places base i len : ℕ) (a b c : List Entry) → i + 32 ≤ len
     → ((k : ℕ) → k < 32 → is_set places (base + i) (base + i + k) ≡ chosen (base + i + k))
     → Logs a b (unsettled (puts_where chosen base (take i (replicate len 244))))

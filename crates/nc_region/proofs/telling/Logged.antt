@@ -11,7 +11,7 @@ use Rattle.nc_region.specs.declared.acts.Entry.TheVariants.{Did, Settled}
 use Rattle.nc_region.specs.Acts.{puts_where, is_inside, is_start, is_marked_at, is_unmarked_at, acts_of_create, acts_of_delete}
 use Rattle.nc_region.specs.Log.{Logs, unsettled, acts_in, log_of_create, log_of_delete}
 use Rattle.nc_region.specs.Patch.{stands_there, any_place, acts_of_instruction, acts_of_modify, log_of_instruction, log_of_modify}
-use Rattle.nc_region.proofs.telling.Told.{next_put, next_passed, all_passed}
+use Rattle.nc_region.proofs.telling.Chosen.{next_put, next_passed, all_passed}
 
 -- no entry is logged
 pub logs_none : (logged : List Entry) → Logs logged logged []
@@ -72,13 +72,19 @@ acts_join (Did act ∷ rest) ys = ap (λ (z : List Act). act ∷ z) (acts_join r
 acts_join (Settled ∷ rest) ys = acts_join rest ys
 
 -- acts that are logged with no settling are these acts
-acts_back : (acts : List Act) → acts_in (unsettled acts) ≡ acts
+pub acts_back : (acts : List Act) → acts_in (unsettled acts) ≡ acts
 acts_back [] = refl
 acts_back (act ∷ rest) = ap (λ (z : List Act). act ∷ z) (acts_back rest)
 
 -- and so they are before others
 acts_before : (acts : List Act) (ys : List Entry) → acts_in (unsettled acts ++ ys) ≡ acts ++ acts_in ys
 acts_before acts ys = acts_join (unsettled acts) ys ∙ ap (λ (z : List Act). z ++ acts_in ys) (acts_back acts)
+
+-- what is logged tells its acts
+pub told_logged : (before after entries : List Entry) (acts : List Act) → acts_in entries ≡ acts → Logs before after entries
+    → acts_in after ≡ acts_in before ++ acts
+told_logged before after entries acts are logs =
+    ap acts_in logs ∙ (acts_join before entries ∙ ap (λ (z : List Act). acts_in before ++ z) are)
 
 -- the acts in the log of a creation
 pub created_acts : (base : ℕ) (code : List ℕ) → acts_in (log_of_create base code) ≡ acts_of_create base code

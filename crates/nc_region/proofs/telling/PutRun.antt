@@ -1,5 +1,5 @@
 -- Bytes put one after the other from a place on.
-use Rattle.std.proofs.Common.{◌≡◌, ℕ, ◌+◌, ◌-◌, ◌%◌, ◌<◌, ◌≤◌, ◌++◌, List, [], length, get_or, set, take, drop, Option}
+use Rattle.std.proofs.Common.{◌≡◌, ℕ, ◌+◌, ◌-◌, ◌%◌, ◌<◌, ◌≤◌, ◌++◌, List, [], length, get_or, set, take, drop}
 use Rattle.std.proofs.Common.{arith, ◌∙◌, sym, ap, subst, inl, inr}
 use Rattle.std.proofs.lemmas.Bool.{cases_eq, false≢true}
 use Rattle.std.proofs.lemmas.List.{places, length-set, length-take, get_or-set_same, get_or-set_other, take-append-drop, take_all}
@@ -7,12 +7,12 @@ use Rattle.nc_text.specs.MarkedText.{MarkedText, with_byte, with_bytes, with_spa
 use Rattle.nc_text.proofs.Offered.{length-with_span, is_with_span, get_or-with_span_in, get_or-with_span_below, get_or-with_span_above}
 use Rattle.nc_region.specs.declared.acts.Act.{Act}
 use Rattle.nc_region.specs.declared.acts.Entry.{Entry}
-use Rattle.nc_region.specs.Acts.{Tells, puts_where, is_inside}
+use Rattle.nc_region.specs.Acts.{puts_where, is_inside}
 use Rattle.nc_region.specs.Log.{Logs, unsettled}
 use Rattle.nc_region.specs.Patch.{any_place}
 use Rattle.nc_region.specs.machinery.Between.{HasPut}
 use Rattle.nc_region.proofs.telling.Puts.{put_passed, put_join}
-use Rattle.nc_region.proofs.telling.Told.{tells_more, told_passed, joined_puts}
+use Rattle.nc_region.proofs.telling.Chosen.{joined_puts}
 use Rattle.nc_region.proofs.telling.Logged.{logs_acts, log_passed}
 use Rattle.nc_region.proofs.SpanPlaces.{is_inside_true, is_inside_false}
 
@@ -128,17 +128,7 @@ bundle_puts base i code run start whole long fits same =
     ∙ ap (λ (bytes : List ℕ). puts_where is_inside base (take (i + 1) code) ++ puts_where any_place (base + (i + 1)) bytes)
     (take_all 31 run (omega arith)))
 
--- told
-pub told_bundle : (base i : ℕ) (code run : List ℕ) (a b c : Option (List Act)) → base % 32 ≡ 0 → i % 32 ≡ 0 → length run ≡ 31
-    → i + 32 ≤ length code → ((k : ℕ) → k < 31 → get_or run k 0 ≡ get_or code (i + 1 + k) 0)
-    → Tells a b (puts_where is_inside base (take i code)) → Tells b c (puts_where any_place (base + (i + 1)) run)
-    → Tells a c (puts_where is_inside base (take (i + 32) code))
-told_bundle base i code run a b c start whole long fits same first second =
-    let passed = told_passed is_inside base code i a b (omega arith) (is_inside_false (base + i) (omega arith)) first in
-    subst (λ (acts : List Act). Tells a c acts) (sym (bundle_puts base i code run start whole long fits same))
-    (tells_more a b c _ _ passed second)
-
--- and logged
+-- they are logged
 pub log_bundle : (base i : ℕ) (code run : List ℕ) (a b c : List Entry) → base % 32 ≡ 0 → i % 32 ≡ 0 → length run ≡ 31
     → i + 32 ≤ length code → ((k : ℕ) → k < 31 → get_or run k 0 ≡ get_or code (i + 1 + k) 0)
     → Logs a b (unsettled (puts_where is_inside base (take i code))) → Logs b c (unsettled (puts_where any_place (base + (i + 1)) run))

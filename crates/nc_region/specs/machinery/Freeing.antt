@@ -1,10 +1,8 @@
 -- Taking chunks that are due out of the list and unmarking their spans.
-use Rattle.std.specs.Prelude.{◌≡◌, ℕ, Option, List, ◌++◌}
+use Rattle.std.specs.Prelude.{◌≡◌, ℕ, List, ◌++◌}
 use Rattle.nc_text.specs.MarkedText.{MarkedText}
 use Rattle.nc_list.specs.declared.chunk.Chunk.{Chunk}
-use Rattle.nc_region.specs.declared.acts.Act.{Act}
 use Rattle.nc_region.specs.declared.acts.Entry.{Entry}
-use Rattle.nc_region.specs.Acts.{Tells}
 use Rattle.nc_region.specs.Log.{Logs, unsettled}
 use Rattle.nc_region.specs.Region.{IsRegion}
 use Rattle.nc_region.specs.Deletion.{freed, kept, unmarked, unmarkings}
@@ -18,9 +16,7 @@ pub record AreTakenOut (least : ℕ) (marked : MarkedText) (left taken : List Ch
   pub left_are : left ≡ kept least front ++ back
   pub taken_are : taken ≡ freed least front
 
--- The spans of these chunks have been unmarked, in this order: what became of the marks, the acts told and the entries logged.
-pub record AreUnmarked (chunks : List Chunk) (was now : MarkedText) (told told_now : Option (List Act))
-    (logged logged_now : List Entry) : Type 0 where
+-- The spans of these chunks have been unmarked, in this order: what became of the marks, and the entries logged.
+pub record AreUnmarked (chunks : List Chunk) (was now : MarkedText) (logged logged_now : List Entry) : Type 0 where
   pub marked : now ≡ unmarked was chunks
-  pub tells : Tells told told_now (unmarkings chunks)
   pub logs : Logs logged logged_now (unsettled (unmarkings chunks))

@@ -35,7 +35,7 @@ first_words table (suc n) i l =
 -- a session over a new region
 abbrev pub first_state : MarkedText → List Bool → TableId → ℕ → SessionState
 first_state marked made table n = record {
-  region = record { marked = marked; made = made; chunks = []; keeper = first_keeper table n; told = None; logged = [] };
+  region = record { marked = marked; made = made; chunks = []; keeper = first_keeper table n; logged = [] };
   seats = record { table = table; passes = map (λ (p : PassState). Some p) (new_passes table n) };
 }
 

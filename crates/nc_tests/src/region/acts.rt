@@ -136,51 +136,22 @@ fn are_of_life(entries: &[Entry], len: u32) -> bool {
     created && patched && stopped && freed && unmarked && log.next().is_none()
 }
 
-/// An entry of a log is a settling, or the next act told.
-fn is_told(acts: &mut Iter<'_, Act>, entry: &Entry) -> bool {
-    match entry {
-        Entry::Did(act) => acts.next() == Some(act),
-        Entry::Settled => true,
-    }
-}
-
-/// The next acts told are those among these entries, in their order.
-fn are_next_told(acts: &mut Iter<'_, Act>, entries: &[Entry]) -> bool {
-    for entry in entries {
-        if !is_told(acts, entry) {
-            return false;
-        }
-    }
-    true
-}
-
-/// The acts told are those of the log, in its order.
-fn are_told(told: &[Act], entries: &[Entry]) -> bool {
-    let mut acts = told.iter();
-    are_next_told(&mut acts, entries) && acts.next().is_none()
-}
-
-/// A chunk's life, until its span is free: the number of bundles of the chunk and its length, the number of acts for which there
-/// is room, and whether all are told and logged.
+/// A chunk's life, until its span is free: the number of bundles of the chunk and its length, the number of entries for which
+/// there is room, and whether all are told.
 struct Life {
     bundles: usize,
     len: u32,
     room: usize,
     is_told: bool,
-    is_logged: bool,
 }
 
 impl Life {
-    /// What is told and logged is all of the life, or nothing where there wasn't room for all.
-    fn is_owed(&self, told: Option<&[Act]>, logged: Option<&[Entry]>) -> bool {
-        let Some(entries) = logged else {
-            return told.is_none() && !self.is_logged;
-        };
-        let tells = match told {
-            Some(acts) => self.is_told && are_told(acts, entries),
+    /// What is told is all of the life, or nothing where there wasn't room for all.
+    fn is_owed(&self, told: Option<&[Entry]>) -> bool {
+        match told {
+            Some(entries) => self.is_told && are_of_life(entries, self.len),
             None => !self.is_told,
-        };
-        tells && self.is_logged && are_of_life(entries, self.len)
+        }
     }
 
     /// Creates, patches, deletes and reclaims the chunk.
@@ -206,8 +177,7 @@ impl Life {
     {
         let mut region = RegionOf::over(alloc, acts);
         let has_run = self.run(alloc, &mut region, gens, pass);
-        let acts = region.acts();
-        has_run && self.is_owed(acts.told(), acts.logged())
+        has_run && self.is_owed(region.acts().told())
     }
 
     /// Runs in a new region over these acts, which are recorded.
@@ -238,16 +208,15 @@ impl Life {
     }
 }
 
-/// The life of a chunk of one bundle has 79 acts and 85 entries, for twice as many of which there is room as for acts.
+/// The life of a chunk of one bundle has 79 acts and 6 settlings.
 #[rattlefmt::skip]
-static LIVES: [Life; 7] = [
-    Life { bundles: 1, len: 32, room: 300, is_told: true, is_logged: true },
-    Life { bundles: 2, len: 64, room: 300, is_told: true, is_logged: true },
-    Life { bundles: 3, len: 96, room: 300, is_told: true, is_logged: true },
-    Life { bundles: 1, len: 32, room: 79, is_told: true, is_logged: true },
-    Life { bundles: 1, len: 32, room: 78, is_told: false, is_logged: true },
-    Life { bundles: 1, len: 32, room: 43, is_told: false, is_logged: true },
-    Life { bundles: 1, len: 32, room: 42, is_told: false, is_logged: false },
+static LIVES: [Life; 6] = [
+    Life { bundles: 1, len: 32, room: 300, is_told: true },
+    Life { bundles: 2, len: 64, room: 300, is_told: true },
+    Life { bundles: 3, len: 96, room: 300, is_told: true },
+    Life { bundles: 1, len: 32, room: 85, is_told: true },
+    Life { bundles: 1, len: 32, room: 84, is_told: false },
+    Life { bundles: 1, len: 32, room: 0, is_told: false },
 ];
 
 /// Tries each life.

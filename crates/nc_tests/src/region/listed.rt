@@ -43,8 +43,6 @@ impl<A: Acts + Drop> Acts for Listing<A> {
 
     ghost keeper = { λ l. A.keeper l.acts };
 
-    ghost told = { λ l. A.told l.acts };
-
     ghost logged = { λ l. A.logged l.acts };
 
     fn ready(&mut self, at: u32, len: u32) -> Result<(), TextFault> {

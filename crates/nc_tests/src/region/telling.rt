@@ -3,31 +3,24 @@ ghost use Rattle.std.specs.Prelude.{◌≡◌, IfSome};
 ghost use Rattle.nc_region.specs.Region.{IsNew};
 
 use nc_gens::{Gens, Keeper};
-use nc_region::{Act, Acts, Entry, Plain, Recorder};
+use nc_region::{Acts, Entry, Plain, Recorder};
 use nc_text::Text;
 use std::alloc::Global;
 
 /// Acts that report which of them were done. Tests are generic over them, since a proof over a region whose acts are a recorder
 /// takes several times as long.
 pub(crate) trait Telling {
-    /// The acts, first to last, while they are told.
-    fn told(&self) -> Option<&[Act]>;
-
     /// The acts with the settlings among them, first to last, as long as there was room.
-    fn logged(&self) -> Option<&[Entry]>;
+    fn told(&self) -> Option<&[Entry]>;
 }
 
 impl<A: Acts + Drop> Telling for Recorder<A> {
-    fn told(&self) -> Option<&[Act]> {
-        Recorder::told(self)
-    }
-
-    fn logged(&self) -> Option<&[Entry]> {
+    fn told(&self) -> Option<&[Entry]> {
         self.entries()
     }
 }
 
-/// Acts for a new region of this size, which aren't told.
+/// Acts for a new region of this size, which nobody records.
 pub(crate) fn plain<'g>(
     alloc: Global,
     bundles: u32,

@@ -22,7 +22,6 @@ returns c =
       made = ap (λ (r : Region). r.made) region ∙ (ap (λ (p : PlainState). p.made) owned ∙ c.in-Ok.ensures.made);
       chunks = ap (λ (r : Region). r.chunks) region;
       keeper = keeper ∙ ap (λ (t : TableId). first_keeper t c.args.seats) table;
-      told = ap (λ (r : Region). r.told) region;
       logged = ap (λ (r : Region). r.logged) region ∙ ap (λ (p : PlainState). p.entries) owned;
       passes = c.in-Ok-new.ensures.passes ∙ ap (λ (t : TableId). new_passes t c.args.seats) table;
       begun = refl;

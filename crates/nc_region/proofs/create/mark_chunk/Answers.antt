@@ -20,7 +20,6 @@ returns-then-marked_by_bits g c =
       made = done.made;
       whole = done.whole;
       keeper = done.keeper;
-      told = done.told yes;
       logged = done.logged yes;
     }
 
@@ -49,6 +48,5 @@ returns g c =
       made = done.made ∙ c.marked_by_bits.ensures.made;
       whole = done.whole;
       keeper = done.keeper ∙ c.marked_by_bits.ensures.keeper;
-      told = rw same.1 at done.told;
-      logged = rw same.2 at done.logged;
+      logged = rw same.1 at done.logged;
     }

@@ -21,6 +21,5 @@ returns g c =
       made = c.mark_span-2.ensures.made;
       whole = c.mark_span-2.ensures.whole;
       keeper = c.mark_span-2.ensures.keeper;
-      told = rw (list, c.requires.as_long) at c.mark_span-2.ensures.told;
       logged = rw (list, c.requires.as_long) at c.mark_span-2.ensures.logged;
     }

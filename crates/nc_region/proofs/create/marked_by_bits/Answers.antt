@@ -20,7 +20,6 @@ returns-in-Some g c =
     let code = c.code.ensures.value in
     record {
       marked = λ yes. rw (c.in-Some.ensures.marks, ← code) (done.marked yes);
-      told = λ yes. rw (← code) (done.told yes);
       logged = λ yes. rw (← code) (done.logged yes);
       unchanged = done.unchanged;
       made = done.made;
@@ -29,4 +28,4 @@ returns-in-Some g c =
     }
 
 pub returns-in-None-clause-unchanged : goal.returns-in-None-clause-unchanged
-returns-in-None-clause-unchanged g c = λ no. (refl, refl, refl)
+returns-in-None-clause-unchanged g c = λ no. (refl, refl)

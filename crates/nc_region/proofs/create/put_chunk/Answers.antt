@@ -7,7 +7,6 @@ use Rattle.nc_region.specs.declared.acts.Act.TheVariants.{MarkSpan}
 use Rattle.nc_region.specs.declared.acts.Entry.TheVariants.{Did}
 use Rattle.nc_region.specs.Chunks.{IsClosedChunk, with_chunk}
 use Rattle.nc_region.specs.machinery.Between.{IsUnused}
-use Rattle.nc_region.proofs.telling.Told.{tells_more}
 use Rattle.nc_region.proofs.telling.Logged.{logs_more, logs_after}
 use Rattle.nc_region.proofs.chunks.Joining.{Joins, chunk_joins, chunk_keeps}
 use Rattle.nc_region.proofs.chunks.Creating.{final_but_closed, final_but_starts, same_final, same_code}
@@ -70,12 +69,6 @@ returns-clause-marked g c =
     same_code (g.A.Acts.marked c.put_starts.new.acts) (with_chunk old c.args.base c.args.code.now c.args.vetted.now.marks)
     (c.put_starts.ensures.bytes ∙ rw c.mark_chunk.ensures.marked same)
     (c.put_starts.ensures.marks ∙ rw (c.mark_chunk.ensures.marked, c.put_inside.ensures.marks) refl)
-
-pub returns-clause-told : goal.returns-clause-told
-returns-clause-told g c =
-    tells_more _ _ _ _ _ c.put_inside.ensures.told
-    (tells_more _ _ _ (MarkSpan c.args.base (length c.args.code.now) ∷ []) _ (rw c.requires.code c.mark_chunk.ensures.told)
-    c.put_starts.ensures.told)
 
 pub returns-clause-log : goal.returns-clause-log
 returns-clause-log g c =

@@ -4,13 +4,13 @@ use Rattle.nc_decode.specs.declared.instruction.Mark.{Mark}
 use Rattle.nc_text.specs.Marks.{IsClosed}
 use Rattle.nc_text.specs.Ready.{AreReady}
 use Rattle.nc_text.specs.MarkedText.{with_span}
-use Rattle.nc_region.specs.Acts.{Tells, puts_where, is_inside}
+use Rattle.nc_region.specs.Acts.{puts_where, is_inside}
 use Rattle.nc_region.specs.Log.{Logs, unsettled}
 use Rattle.nc_region.specs.machinery.Between.{HasPut}
 use Rattle.nc_region.proofs.chunks.Creating.{inside_closed}
 use Rattle.nc_region.proofs.telling.Logged.{ends_settled}
 use Rattle.nc_region.proofs.chunks.ReadyPlaces.{ready_part}
-use Rattle.nc_region.proofs.telling.PutRun.{behind_first, behind_first_long, behind_first_at, bundle_inside, told_bundle, log_bundle}
+use Rattle.nc_region.proofs.telling.PutRun.{behind_first, behind_first_long, behind_first_at, bundle_inside, log_bundle}
 use Rattle.nc_region.proofs.create.put_inside.Goals as goal
 
 pub put_run-requires-clause-ready : goal.put_run-requires-clause-ready
@@ -68,9 +68,6 @@ loop-bundle-preserved g c =
       whole = c.put_run.ensures.whole;
       made = c.put_run.ensures.made ∙ so.made;
       keeper = c.put_run.ensures.keeper ∙ so.keeper;
-      told = subst (λ (n : ℕ). Tells (g.A.Acts.told c.args.acts.now) (g.A.Acts.told c.put_run.new.self)
-          (puts_where is_inside base (take n code))) more
-          (told_bundle base i code run _ _ _ c.requires.placed.start (omega arith) long fits same so.told c.put_run.ensures.told);
       log = subst (λ (n : ℕ). Logs (g.A.Acts.logged c.args.acts.now) (g.A.Acts.logged c.put_run.new.self)
           (unsettled (puts_where is_inside base (take n code)))) more
           (log_bundle base i code run _ _ _ c.requires.placed.start (omega arith) long fits same so.log c.put_run.ensures.logged);

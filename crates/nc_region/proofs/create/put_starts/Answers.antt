@@ -4,10 +4,9 @@ use Rattle.nc_decode.specs.declared.instruction.Mark.{Mark}
 use Rattle.nc_text.specs.Marks.{IsClosed}
 use Rattle.nc_text.specs.Ready.{IsReady}
 use Rattle.nc_text.specs.MarkedText.{with_span}
-use Rattle.nc_region.specs.Acts.{Tells, puts_where, is_start}
+use Rattle.nc_region.specs.Acts.{puts_where, is_start}
 use Rattle.nc_region.specs.Log.{Logs, unsettled}
 use Rattle.nc_region.specs.machinery.Between.{IsFinalBut}
-use Rattle.nc_region.proofs.telling.Told.{told_put, told_passed_all}
 use Rattle.nc_region.proofs.telling.Logged.{log_put, log_passed_all}
 use Rattle.nc_region.proofs.chunks.Creating.{final_but_closed, final_all, start_put, starts_passed}
 use Rattle.nc_region.proofs.SpanPlaces.{is_start_true, is_start_false}
@@ -46,8 +45,6 @@ loop-bundle-preserved g c =
     let put = start_put old.bytes now.bytes base c.args.code.now i c.requires.placed.low (omega (arith, c.requires.placed.high))
     (omega arith)
     c.loop-bundle.invariant.bytes in
-    let told = told_put is_start base c.args.code.now i _ _ _ (omega arith) (is_start_true (base + i) start) c.loop-bundle.invariant.told
-    c.put.ensures.told in
     let log = log_put [] is_start base c.args.code.now i _ _ _ (omega arith) (is_start_true (base + i) start) c.loop-bundle.invariant.log
     c.put.ensures.logged in
     record {
@@ -59,10 +56,6 @@ loop-bundle-preserved g c =
       whole = c.put.ensures.whole;
       made = c.put.ensures.made ∙ c.loop-bundle.invariant.made;
       keeper = c.put.ensures.keeper ∙ c.loop-bundle.invariant.keeper;
-      told = subst (λ (n : ℕ). Tells (g.A.Acts.told c.args.acts.now) (g.A.Acts.told c.put.new.self)
-          (puts_where is_start base (take n c.args.code.now))) more
-          (told_passed_all is_start base c.args.code.now (i + 1) 31 _ _ (omega (arith, c.requires.placed.whole))
-          (λ j lt. is_start_false (base + (i + 1 + j)) (none j lt)) told);
       log = subst (λ (n : ℕ). Logs (g.A.Acts.logged c.args.acts.now) (g.A.Acts.logged c.put.new.self)
           (unsettled (puts_where is_start base (take n c.args.code.now)))) more
           (log_passed_all is_start base c.args.code.now (i + 1) 31 _ _ (omega (arith, c.requires.placed.whole))
@@ -77,12 +70,6 @@ returns-clause-bytes g c =
     let f = subst (λ (k : ℕ). IsFinalBut (with_span old.bytes (c.args.base - 65536) c.args.code.now) now.bytes (c.args.base + k)
     (c.args.base + length c.args.code.now)) end c.loop-bundle.invariant.bytes in
     final_all (with_span old.bytes (c.args.base - 65536) c.args.code.now) now.bytes (c.args.base + length c.args.code.now) f
-
-pub returns-clause-told : goal.returns-clause-told
-returns-clause-told g c =
-    let end : 32 * c.loop-bundle.bundle ≡ length c.args.code.now = omega (arith, c.requires.placed.whole) in
-    subst (λ (z : List ℕ). Tells (g.A.Acts.told c.args.acts.now) (g.A.Acts.told c.loop-bundle.acts) (puts_where is_start c.args.base z))
-    (take_all (32 * c.loop-bundle.bundle) c.args.code.now (omega arith)) c.loop-bundle.invariant.told
 
 pub returns-clause-log : goal.returns-clause-log
 returns-clause-log g c =

@@ -1,6 +1,6 @@
 use Rattle.std.proofs.Common.{◌≡◌, ◌+◌, ◌*◌, ◌-◌, length, take}
 use Rattle.nc_text.specs.MarkedText.{IsText, with_span}
-use Rattle.nc_region.specs.Acts.{Tells, puts_where, is_start}
+use Rattle.nc_region.specs.Acts.{puts_where, is_start}
 use Rattle.nc_region.specs.Log.{Logs, unsettled}
 use Rattle.nc_region.specs.machinery.Between.{IsFinalBut}
 use Rattle.nc_region.proofs.create.put_starts.Given as goal
@@ -14,7 +14,6 @@ invariant-loop-bundle g l =
       whole : IsText (g.A.Acts.marked l.acts);
       made : g.A.Acts.made l.acts ≡ g.A.Acts.made l.initial.acts;
       keeper : g.A.Acts.keeper l.acts ≡ g.A.Acts.keeper l.initial.acts;
-      told : Tells (g.A.Acts.told l.initial.acts) (g.A.Acts.told l.acts) (puts_where is_start l.base (take (32 * l.bundle) l.code));
       log : Logs (g.A.Acts.logged l.initial.acts) (g.A.Acts.logged l.acts)
           (unsettled (puts_where is_start l.base (take (32 * l.bundle) l.code)));
     }

@@ -7,7 +7,6 @@ use Rattle.nc_region.specs.declared.acts.Entry.TheVariants.{Did}
 use Rattle.nc_region.specs.Acts.{is_unmarked_at}
 use Rattle.nc_region.specs.Chunks.{HasGoodSpan}
 use Rattle.nc_region.specs.machinery.Between.{HasPut}
-use Rattle.nc_region.proofs.telling.Told.{tells_more}
 use Rattle.nc_region.proofs.telling.Logged.{logs_more, logs_after}
 use Rattle.nc_region.proofs.deleting.Deleting.{all_stops}
 use Rattle.nc_region.proofs.delete.put_stops.Goals as goal
@@ -24,11 +23,6 @@ returns-clause-bytes g c =
     (replicate c.args.len 244) c.args.len mid.bytes now.bytes) c.stop_marked.ensures.marks c.stop_others.ensures.bytes in
     rw c.bump.ensures.marked (all_stops old.bytes mid.bytes now.bytes old.marks c.args.base c.args.len c.requires.placed.low
     (omega (arith, c.requires.placed.high)) c.stop_marked.ensures.bytes second)
-
-pub returns-clause-told : goal.returns-clause-told
-returns-clause-told g c =
-    let second = rw c.stop_marked.ensures.marks at c.stop_others.ensures.told in
-    tells_more _ _ _ _ _ c.stop_marked.ensures.told (tells_more _ _ _ _ (Bump ∷ []) second c.in-Ok.ensures.told)
 
 pub returns-clause-log : goal.returns-clause-log
 returns-clause-log g c =

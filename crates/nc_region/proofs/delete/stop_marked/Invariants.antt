@@ -1,6 +1,6 @@
 use Rattle.std.proofs.Common.{◌≡◌, ◌*◌, take, replicate}
 use Rattle.nc_text.specs.MarkedText.{IsText}
-use Rattle.nc_region.specs.Acts.{Tells, puts_where, is_marked_at}
+use Rattle.nc_region.specs.Acts.{puts_where, is_marked_at}
 use Rattle.nc_region.specs.Log.{Logs, unsettled}
 use Rattle.nc_region.specs.machinery.Between.{HasPut}
 use Rattle.nc_region.proofs.delete.stop_marked.Given as goal
@@ -14,8 +14,6 @@ invariant-loop-bundle g l =
       whole : IsText (g.A.Acts.marked l.acts);
       made : g.A.Acts.made l.acts ≡ g.A.Acts.made l.initial.acts;
       keeper : g.A.Acts.keeper l.acts ≡ g.A.Acts.keeper l.initial.acts;
-      told : Tells (g.A.Acts.told l.initial.acts) (g.A.Acts.told l.acts)
-          (puts_where (is_marked_at (g.A.Acts.marked l.initial.acts).marks) l.base (take (32 * l.bundle) (replicate l.len 244)));
       log : Logs (g.A.Acts.logged l.initial.acts) (g.A.Acts.logged l.acts)
           (unsettled (puts_where (is_marked_at (g.A.Acts.marked l.initial.acts).marks) l.base (take (32 * l.bundle) (replicate l.len 244))));
     }

@@ -5,11 +5,11 @@ use Rattle.std.proofs.lemmas.List.{length-replicate, take_all}
 use Rattle.nc_decode.specs.declared.instruction.Mark.{Mark}
 use Rattle.nc_text.specs.Marks.{IsClosed, mark_at, mark_bit}
 use Rattle.nc_text.specs.Ready.{IsReady}
-use Rattle.nc_region.specs.Acts.{Tells, puts_where, is_unmarked_at}
+use Rattle.nc_region.specs.Acts.{puts_where, is_unmarked_at}
 use Rattle.nc_region.specs.Log.{Logs, unsettled}
 use Rattle.nc_region.specs.machinery.Between.{HasPut, is_set}
 use Rattle.nc_region.proofs.deleting.Deleting.{others_closed}
-use Rattle.nc_region.proofs.deleting.Stopping.{set_unmarked, bundle_put, bundle_told, bundle_log}
+use Rattle.nc_region.proofs.deleting.Stopping.{set_unmarked, bundle_put, bundle_log}
 use Rattle.nc_region.proofs.delete.stop_others.Goals as goal
 
 pub marked_places-marked-requires-clause-inside : goal.marked_places-marked-requires-clause-inside
@@ -74,9 +74,6 @@ loop-bundle-preserved g c =
       whole = c.stop_places.ensures.whole;
       made = c.stop_places.ensures.made ∙ so.made;
       keeper = c.stop_places.ensures.keeper ∙ so.keeper;
-      told = subst (λ (n : ℕ). Tells (g.A.Acts.told c.args.acts.now) (g.A.Acts.told c.stop_places.new.self)
-          (puts_where chosen base (take n (replicate len 244)))) more
-          (bundle_told chosen (bit_not w32 c.marked_places-marked.result) base i len _ _ _ fits agree so.told c.stop_places.ensures.told);
       log = subst (λ (n : ℕ). Logs (g.A.Acts.logged c.args.acts.now) (g.A.Acts.logged c.stop_places.new.self)
           (unsettled (puts_where chosen base (take n (replicate len 244))))) more
           (bundle_log chosen (bit_not w32 c.marked_places-marked.result) base i len _ _ _ fits agree so.log c.stop_places.ensures.logged);
@@ -88,14 +85,6 @@ returns-clause-bytes g c =
     let end : 32 * c.loop-bundle.bundle ≡ c.args.len = omega (arith, c.requires.placed.whole) in
     subst (λ (n : ℕ). HasPut (is_unmarked_at old.marks) c.args.base (replicate c.args.len 244) n old.bytes
     (g.A.Acts.marked c.loop-bundle.acts).bytes) end c.loop-bundle.invariant.bytes
-
-pub returns-clause-told : goal.returns-clause-told
-returns-clause-told g c =
-    let stops = replicate c.args.len 244 in
-    let chosen = is_unmarked_at (g.A.Acts.marked c.args.acts.now).marks in
-    subst (λ (bytes : List ℕ). Tells (g.A.Acts.told c.args.acts.now) (g.A.Acts.told c.loop-bundle.acts)
-    (puts_where chosen c.args.base bytes)) (take_all (32 * c.loop-bundle.bundle) stops
-    (omega (arith, c.requires.placed.whole, length-replicate {A = ℕ} c.args.len 244))) c.loop-bundle.invariant.told
 
 pub returns-clause-log : goal.returns-clause-log
 returns-clause-log g c =

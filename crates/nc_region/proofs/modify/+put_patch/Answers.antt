@@ -10,21 +10,18 @@ use Rattle.nc_text.specs.Places.{limit_of, byte_at}
 use Rattle.nc_text.specs.MarkedText.{MarkedText, IsText, with_span}
 use Rattle.nc_text.specs.Ready.{AreReady}
 use Rattle.nc_list.specs.declared.chunk.Chunk.{Chunk}
-use Rattle.nc_region.specs.declared.acts.Act.{Act}
 use Rattle.nc_region.specs.declared.acts.Entry.{Entry}
-use Rattle.nc_region.specs.Acts.{Tells}
 use Rattle.nc_region.specs.Log.{Logs}
-use Rattle.nc_region.specs.Patch.{stands_there, acts_of_instruction, acts_of_modify, log_of_instruction, log_of_modify}
+use Rattle.nc_region.specs.Patch.{stands_there, log_of_instruction, log_of_modify}
 use Rattle.nc_region.specs.machinery.PatchSteps.{CanPatch, IsReplacing}
 use Rattle.nc_region.proofs.SpanPlaces.{span_behind}
 use Rattle.nc_region.proofs.chunks.Creating.{same_code}
-use Rattle.nc_region.proofs.telling.Told.{tells_none, tells_more}
 use Rattle.nc_region.proofs.telling.Logged.{logs_none, logs_more}
 use Rattle.nc_region.proofs.patching.NewInstructions.{none_of_none, not_found, parted, whole_again}
 use Rattle.nc_region.proofs.patching.Standing.{lies}
 use Rattle.nc_region.proofs.chunks.ReadyPlaces.{ready_part}
 use Rattle.nc_region.proofs.patching.Exchanged.{changed, changes_replace}
-use Rattle.nc_region.proofs.patching.Turns.{turn, next_patch, spans_join, same_acts, same_log}
+use Rattle.nc_region.proofs.patching.Turns.{turn, next_patch, spans_join, same_log}
 use Rattle.nc_region.proofs.modify.+put_patch.Goals as goal
 
 -- behind the first new instruction no byte changes
@@ -38,13 +35,6 @@ same_behind marked chunk at new i patch whole is now put k le =
     ap (λ (z : List ℕ). byte_at z k) (put ∙ ap (λ (z : List ℕ). with_span marked.bytes (at - 65536) z) p.front)
     ∙ span_behind marked.bytes at p.first.bytes k 0 r.low r.high (omega (arith, le, p.len))
 
-pub returns-then-is_empty-clause-told : goal.returns-then-is_empty-clause-told
-returns-then-is_empty-clause-told g t c = λ news b.
-    subst (λ (z : List Piece). Tells (g.A.Acts.told c.args.acts.now) (g.A.Acts.told c.args.acts.now)
-    (acts_of_modify (g.A.Acts.marked c.args.acts.now).bytes c.args.at z))
-    (sym (none_of_none c.args.new.now news (eqb-true _ _ (sym c.is_empty.ensures ∙ c.if-is_empty.true)) b))
-    (tells_none (g.A.Acts.told c.args.acts.now))
-
 pub returns-then-is_empty-clause-log : goal.returns-then-is_empty-clause-log
 returns-then-is_empty-clause-log g t c = λ news b.
     subst (λ (z : List Piece). Logs (g.A.Acts.logged c.args.acts.now) (g.A.Acts.logged c.args.acts.now)
@@ -54,12 +44,6 @@ returns-then-is_empty-clause-log g t c = λ news b.
 
 pub returns-in_default-clause-bytes : goal.returns-in_default-clause-bytes
 returns-in_default-clause-bytes g t c =
-    let none : first_instruction c.args.new.now ≡ None = sym c.decode.ensures.first ∙ ap result_ok c.in_default.is in
-    let some = eqb-false (length c.args.new.now) 0 (sym c.is_empty.ensures ∙ c.if-is_empty.false) in
-    absurd (not_found c.args.new.now (omega (arith, some)) none c.requires.patch.run.news c.requires.patch.run.bytes)
-
-pub returns-in_default-clause-told : goal.returns-in_default-clause-told
-returns-in_default-clause-told g t c =
     let none : first_instruction c.args.new.now ≡ None = sym c.decode.ensures.first ∙ ap result_ok c.in_default.is in
     let some = eqb-false (length c.args.new.now) 0 (sym c.is_empty.ensures ∙ c.if-is_empty.false) in
     absurd (not_found c.args.new.now (omega (arith, some)) none c.requires.patch.run.news c.requires.patch.run.bytes)
@@ -139,35 +123,6 @@ returns-clause-bytes g t c =
     (take (length c.args.new.now - c.in-Ok.instr.len) (drop c.in-Ok.instr.len c.args.new.now)) r.low (omega (arith, fits, p.long))
     ∙ ap (λ (z : List ℕ). with_span (g.A.Acts.marked c.args.acts.now).bytes (c.args.at - 65536) z)
     (whole_again c.args.new.now patch.run.news c.in-Ok.instr p))))
-
-pub returns-clause-told : goal.returns-clause-told
-returns-clause-told g t c = λ news b.
-    let marked = g.A.Acts.marked c.args.acts.now in
-    let is = sym c.decode.ensures.first ∙ ap result_ok c.in-Ok.is in
-    let q = parted c.args.new.now news c.in-Ok.instr b is in
-    let patch = c.requires.patch in
-    let one : Tells (g.A.Acts.told c.args.acts.now) (g.A.Acts.told c.put_where_new.new.acts)
-    (cond (stands_there (g.A.Acts.marked c.args.acts.now).bytes c.args.at q.first.bytes) []
-    (acts_of_instruction c.args.at q.first.bytes)) =
-    subst (λ (z : List ℕ). Tells (g.A.Acts.told c.args.acts.now) (g.A.Acts.told c.put_where_new.new.acts)
-    (cond (stands_there (g.A.Acts.marked c.args.acts.now).bytes c.args.at z) []
-    (acts_of_instruction c.args.at z))) q.front c.put_where_new.ensures.told in
-    let len : c.from.result ≡ length q.first.bytes = c.from.ensures ∙ q.len in
-    let agree : (k : ℕ) → c.args.at + length q.first.bytes ≤ k
-    → byte_at (g.A.Acts.marked c.put_where_new.new.acts).bytes k ≡ byte_at (g.A.Acts.marked c.args.acts.now).bytes k = λ k le.
-    same_behind marked c.args.chunk c.args.at c.args.new.now c.in-Ok.instr patch c.requires.whole is _
-    c.put_where_new.ensures.bytes k (omega (arith, le, q.len)) in
-    let two : Tells (g.A.Acts.told c.put_where_new.new.acts) (g.A.Acts.told c.put_patch.new.acts)
-    (acts_of_modify (g.A.Acts.marked c.args.acts.now).bytes (c.args.at + length q.first.bytes) q.rest) =
-    subst (λ (z : List Act). Tells (g.A.Acts.told c.put_where_new.new.acts) (g.A.Acts.told c.put_patch.new.acts) z)
-    (same_acts (g.A.Acts.marked c.put_where_new.new.acts).bytes (g.A.Acts.marked c.args.acts.now).bytes
-    (c.args.at + length q.first.bytes) q.rest agree)
-    (subst (λ (k : ℕ). Tells (g.A.Acts.told c.put_where_new.new.acts) (g.A.Acts.told c.put_patch.new.acts)
-    (acts_of_modify (g.A.Acts.marked c.put_where_new.new.acts).bytes (c.args.at + k) q.rest)) len
-    (c.put_patch.ensures.told q.rest q.behind)) in
-    subst (λ (z : List Piece). Tells (g.A.Acts.told c.args.acts.now) (g.A.Acts.told c.put_patch.new.acts)
-    (acts_of_modify (g.A.Acts.marked c.args.acts.now).bytes c.args.at z)) (sym q.is)
-    (tells_more _ _ _ _ _ one two)
 
 pub returns-clause-log : goal.returns-clause-log
 returns-clause-log g t c = λ news b.

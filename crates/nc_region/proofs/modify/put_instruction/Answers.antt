@@ -73,13 +73,6 @@ returns-then-is_empty-clause-bytes g c =
 pub returns-then-is_empty-clause-marks : goal.returns-then-is_empty-clause-marks
 returns-then-is_empty-clause-marks g c = ap (λ (m : MarkedText). m.marks) c.put.ensures.marked
 
-pub returns-then-is_empty-clause-told : goal.returns-then-is_empty-clause-told
-returns-then-is_empty-clause-told g c =
-    let r = c.requires.replacing in
-    let none = eqb-true _ _ (sym c.is_empty.ensures ∙ c.if-is_empty.true) in
-    let one : length c.args.bytes.now ≡ 1 = omega (arith, none, r.some, length-take {A = ℕ}, length-drop {A = ℕ}) in
-    rw (← acts_of_one c.args.at c.args.bytes.now one) c.put.ensures.told
-
 pub returns-then-is_empty-clause-log : goal.returns-then-is_empty-clause-log
 returns-then-is_empty-clause-log g c =
     let r = c.requires.replacing in
@@ -100,15 +93,6 @@ put_longer-requires-clause-replacing g c =
 pub returns-clause-bytes : goal.returns-clause-bytes
 returns-clause-bytes g c =
     rw (parted c.args.bytes.now c.requires.replacing.some) c.put_longer.ensures.bytes
-
-pub returns-clause-told : goal.returns-clause-told
-returns-clause-told g c =
-    let some = eqb-false _ _ (sym c.is_empty.ensures ∙ c.if-is_empty.false) in
-    let bytes = c.args.bytes.now in
-    rw (
-      parted bytes c.requires.replacing.some,
-      ← acts_of_more c.args.at (get_or bytes 0 0) (take (length bytes - 1) (drop 1 bytes)) (omega (arith, some)),
-    ) c.put_longer.ensures.told
 
 pub returns-clause-log : goal.returns-clause-log
 returns-clause-log g c =

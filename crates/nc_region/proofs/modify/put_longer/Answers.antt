@@ -4,7 +4,6 @@ use Rattle.nc_text.specs.MarkedText.{MarkedText}
 use Rattle.nc_region.specs.declared.acts.Act.TheVariants.{Put}
 use Rattle.nc_region.specs.declared.acts.Entry.TheVariants.{Did, Settled}
 use Rattle.nc_region.proofs.chunks.ReadyPlaces.{ready_place}
-use Rattle.nc_region.proofs.telling.Told.{tells_more}
 use Rattle.nc_region.proofs.telling.Logged.{logs_more, logs_after}
 use Rattle.nc_region.proofs.patching.Replacing.{patching_closed, patch_started, patching_over, patch_final}
 use Rattle.nc_region.proofs.modify.put_longer.Goals as goal
@@ -55,11 +54,6 @@ returns-clause-bytes g c =
     let mid = g.A.Acts.marked c.put_rest.new.acts in
     let puts = rw c.put.ensures.marked at c.put_rest.ensures.bytes in
     rw c.put-2.ensures.marked (patch_final old c.args.at c.args.first c.args.rest.now mid.bytes c.requires.replacing puts)
-
-pub returns-clause-told : goal.returns-clause-told
-returns-clause-told g c =
-    tells_more _ _ _ (Put c.args.at 244 ∷ []) _ c.put.ensures.told
-    (tells_more _ _ _ _ (Put c.args.at c.args.first ∷ []) c.put_rest.ensures.told c.put-2.ensures.told)
 
 pub returns-clause-log : goal.returns-clause-log
 returns-clause-log g c =

@@ -4,13 +4,12 @@ use Rattle.nc_decode.specs.declared.instruction.Mark.{Mark}
 use Rattle.nc_text.specs.Marks.{IsClosed}
 use Rattle.nc_text.specs.Ready.{IsReady}
 use Rattle.nc_region.specs.declared.acts.Entry.TheVariants.{Settled}
-use Rattle.nc_region.specs.Acts.{Tells, puts_where}
+use Rattle.nc_region.specs.Acts.{puts_where}
 use Rattle.nc_region.specs.Log.{Logs, unsettled}
 use Rattle.nc_region.specs.Patch.{any_place}
 use Rattle.nc_region.specs.machinery.Between.{HasPut}
 use Rattle.nc_region.proofs.telling.Puts.{put_more}
 use Rattle.nc_region.proofs.chunks.ReadyPlaces.{ready_place}
-use Rattle.nc_region.proofs.telling.Told.{told_put}
 use Rattle.nc_region.proofs.telling.Logged.{log_put, ends_settled}
 use Rattle.nc_region.proofs.patching.Replacing.{patching_from_put}
 use Rattle.nc_region.proofs.modify.put_rest.Goals as goal
@@ -23,7 +22,6 @@ loop-i-init g c =
       whole = search rules;
       made = search rules;
       keeper = search rules;
-      told = search rules;
       log = search rules;
     }
 
@@ -60,7 +58,6 @@ loop-i-preserved g c =
       whole = c.put.ensures.whole;
       made = c.put.ensures.made ∙ c.loop-i.invariant.made;
       keeper = c.put.ensures.keeper ∙ c.loop-i.invariant.keeper;
-      told = told_put any_place (at + 1) c.args.rest.now i _ _ _ (omega arith) refl c.loop-i.invariant.told c.put.ensures.told;
       log = log_put (Settled ∷ []) any_place (at + 1) c.args.rest.now i _ _ _ (omega arith) refl c.loop-i.invariant.log c.put.ensures.logged;
     }
 
@@ -89,8 +86,3 @@ returns-clause-made g c = c.settle-2.ensures.made ∙ c.loop-i.invariant.made
 
 pub returns-clause-keeper : goal.returns-clause-keeper
 returns-clause-keeper g c = c.settle-2.ensures.keeper ∙ c.loop-i.invariant.keeper
-
-pub returns-clause-told : goal.returns-clause-told
-returns-clause-told g c =
-    rw c.settle-2.ensures.told (subst (λ (z : List ℕ). Tells (g.A.Acts.told c.args.acts.now) (g.A.Acts.told c.loop-i.acts)
-    (puts_where any_place (c.args.at + 1) z)) (take_all c.loop-i.i c.args.rest.now (omega arith)) c.loop-i.invariant.told)

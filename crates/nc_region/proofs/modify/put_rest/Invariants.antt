@@ -1,7 +1,7 @@
 use Rattle.std.proofs.Common.{◌≡◌, ◌+◌, ◌∷◌, take}
 use Rattle.nc_text.specs.MarkedText.{IsText}
 use Rattle.nc_region.specs.declared.acts.Entry.TheVariants.{Settled}
-use Rattle.nc_region.specs.Acts.{Tells, puts_where}
+use Rattle.nc_region.specs.Acts.{puts_where}
 use Rattle.nc_region.specs.Log.{Logs, unsettled}
 use Rattle.nc_region.specs.Patch.{any_place}
 use Rattle.nc_region.specs.machinery.Between.{HasPut}
@@ -15,7 +15,6 @@ invariant-loop-i g l =
       whole : IsText (g.A.Acts.marked l.acts);
       made : g.A.Acts.made l.acts ≡ g.A.Acts.made l.fn.acts;
       keeper : g.A.Acts.keeper l.acts ≡ g.A.Acts.keeper l.fn.acts;
-      told : Tells (g.A.Acts.told l.fn.acts) (g.A.Acts.told l.acts) (puts_where any_place (l.at + 1) (take l.i l.rest));
       log : Logs (g.A.Acts.logged l.fn.acts) (g.A.Acts.logged l.acts)
           (Settled ∷ unsettled (puts_where any_place (l.at + 1) (take l.i l.rest)));
     }

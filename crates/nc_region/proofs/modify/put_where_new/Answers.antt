@@ -1,8 +1,6 @@
 use Rattle.std.proofs.Common.{[], cond, Bool, sym, subst, ◌∙◌}
-use Rattle.nc_region.specs.Acts.{Tells}
 use Rattle.nc_region.specs.Log.{Logs}
-use Rattle.nc_region.specs.Patch.{acts_of_instruction, log_of_instruction}
-use Rattle.nc_region.proofs.telling.Told.{tells_none}
+use Rattle.nc_region.specs.Patch.{log_of_instruction}
 use Rattle.nc_region.proofs.telling.Logged.{logs_none}
 use Rattle.nc_region.proofs.patching.Turns.{stands_same}
 use Rattle.nc_region.proofs.modify.put_where_new.Goals as goal
@@ -12,12 +10,6 @@ returns-then-stands_there-clause-bytes g c =
     let r = c.requires.replacing in
     stands_same (g.A.Acts.marked c.args.acts.now).bytes c.args.at c.args.bytes.now r.low r.high (sym c.stands_there.ensures
     ∙ c.if-stands_there.true)
-
-pub returns-then-stands_there-clause-told : goal.returns-then-stands_there-clause-told
-returns-then-stands_there-clause-told g c =
-    subst (λ (z : Bool). Tells (g.A.Acts.told c.args.acts.now) (g.A.Acts.told c.args.acts.now)
-    (cond z [] (acts_of_instruction c.args.at c.args.bytes.now))) (sym (sym c.stands_there.ensures ∙ c.if-stands_there.true))
-    (tells_none (g.A.Acts.told c.args.acts.now))
 
 pub returns-then-stands_there-clause-log : goal.returns-then-stands_there-clause-log
 returns-then-stands_there-clause-log g c =
@@ -39,9 +31,6 @@ returns g c = record {
   whole = c.put_instruction.ensures.whole;
   made = c.put_instruction.ensures.made;
   keeper = c.put_instruction.ensures.keeper;
-  told = subst (λ (z : Bool). Tells (g.A.Acts.told c.args.acts.now) (g.A.Acts.told c.put_instruction.new.acts)
-      (cond z [] (acts_of_instruction c.args.at c.args.bytes.now)))
-      (sym (sym c.stands_there.ensures ∙ c.if-stands_there.false)) c.put_instruction.ensures.told;
   log = subst (λ (z : Bool). Logs (g.A.Acts.logged c.args.acts.now) (g.A.Acts.logged c.put_instruction.new.acts)
       (cond z [] (log_of_instruction c.args.at c.args.bytes.now)))
       (sym (sym c.stands_there.ensures ∙ c.if-stands_there.false)) c.put_instruction.ensures.log;

@@ -1,11 +1,9 @@
 use Rattle.std.proofs.Common.{◌≡◌, cond, List, [], ◌++◌, sym, subst, ◌∙◌, ap, append-nil}
 use Rattle.nc_vet.specs.Chunk.{Piece}
 use Rattle.nc_text.specs.MarkedText.{MarkedText}
-use Rattle.nc_region.specs.declared.acts.Act.{Act}
 use Rattle.nc_region.specs.declared.acts.Entry.{Entry}
-use Rattle.nc_region.specs.Acts.{Tells}
 use Rattle.nc_region.specs.Log.{Logs}
-use Rattle.nc_region.specs.Patch.{stands_there, acts_of_instruction, acts_of_modify, log_of_instruction, log_of_modify}
+use Rattle.nc_region.specs.Patch.{stands_there, log_of_instruction, log_of_modify}
 use Rattle.nc_region.specs.Region.{HoldsValid}
 use Rattle.nc_region.proofs.chunks.Creating.{same_code}
 use Rattle.nc_region.proofs.patching.Exchanged.{changed, changed_holds, changes_replace}
@@ -35,18 +33,6 @@ returns-clause-holds g c =
     (sym (same_code (g.A.Acts.marked c.put_where_new.new.acts) (changed marked c.args.at new)
     c.put_where_new.ensures.bytes c.put_where_new.ensures.marks))
     (changed_holds marked c.args.chunk c.args.at patch.run.before (w.os ++ patch.run.after) w.o (piece_of new i) w.change)
-
-pub returns-clause-told : goal.returns-clause-told
-returns-clause-told g c = λ news b.
-    let i = c.requires.only.0 in
-    let new = c.args.new.now in
-    let text = (g.A.Acts.marked c.args.acts.now).bytes in
-    let o : IsOne c.args.new.now c.requires.only.0 = record { first = c.requires.only.1; only = c.requires.only.2 } in
-    let one : acts_of_modify text c.args.at news ≡ cond (stands_there text c.args.at new) [] (acts_of_instruction c.args.at new) =
-    ap (λ (z : List Piece). acts_of_modify text c.args.at z) (only_one new news i o b)
-    ∙ append-nil (cond (stands_there text c.args.at new) [] (acts_of_instruction c.args.at new)) in
-    subst (λ (z : List Act). Tells (g.A.Acts.told c.args.acts.now) (g.A.Acts.told c.put_where_new.new.acts) z) (sym one)
-    c.put_where_new.ensures.told
 
 pub returns-clause-log : goal.returns-clause-log
 returns-clause-log g c = λ news b.

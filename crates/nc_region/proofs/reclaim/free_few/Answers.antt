@@ -8,16 +8,16 @@ use Rattle.nc_region.proofs.reclaim.free_few.Goals.{Then-count-eq0, After-unmark
 
 -- what the last turn finds
 ended : (g : Over) (c : Then-count-eq0 g) → AllFreed c.args.least c.args.chunks.now c.take_due-count.new.self (g.A.Acts.marked c.args.acts.now)
-    (g.A.Acts.marked c.loop-room.acts) (g.A.Acts.told c.args.acts.now) (g.A.Acts.told c.loop-room.acts)
+    (g.A.Acts.marked c.loop-room.acts)
     (g.A.Acts.logged c.args.acts.now) (g.A.Acts.logged c.loop-room.acts)
 ended g c =
     freed_all c.args.least c.args.chunks.now c.loop-room.chunks c.take_due-count.new.self
-    (take c.take_due-count.result c.take_due-count.new.room) _ _ _ _ _ _ c.loop-room.invariant.freed c.take_due-count.ensures.taken
+    (take c.take_due-count.result c.take_due-count.new.room) _ _ _ _ c.loop-room.invariant.freed c.take_due-count.ensures.taken
     (ap (λ (n : ℕ). take n c.take_due-count.new.room) c.if-count-eq0.true)
 
 pub loop-room-init : goal.loop-room-init
 loop-room-init g c = record {
-  freed = freed_none c.args.least c.args.chunks.now (g.A.Acts.marked c.args.acts.now) (g.A.Acts.told c.args.acts.now)
+  freed = freed_none c.args.least c.args.chunks.now (g.A.Acts.marked c.args.acts.now)
       (g.A.Acts.logged c.args.acts.now) c.requires.region;
   room = refl;
   made = refl;
@@ -34,13 +34,13 @@ unmark_taken-requires g c = (
 
 -- what this turn has freed, with the turns before
 so_far : (g : Over) (c : After-unmark_taken g) → AreFreed c.args.least c.args.chunks.now c.take_due-count.new.self (g.A.Acts.marked c.args.acts.now)
-    (g.A.Acts.marked c.unmark_taken.new.acts) (g.A.Acts.told c.args.acts.now) (g.A.Acts.told c.unmark_taken.new.acts)
+    (g.A.Acts.marked c.unmark_taken.new.acts)
     (g.A.Acts.logged c.args.acts.now) (g.A.Acts.logged c.unmark_taken.new.acts)
 so_far g c =
     let due : List Chunk = take c.take_due-count.result c.take_due-count.new.room in
     let out = taken_out c.args.least (g.A.Acts.marked c.loop-room.acts) c.loop-room.chunks c.take_due-count.new.self due
     c.loop-room.invariant.freed.region c.take_due-count.ensures.taken in
-    freed_more c.args.least c.args.chunks.now c.loop-room.chunks c.take_due-count.new.self due _ _ _ _ _ _ _ _ _
+    freed_more c.args.least c.args.chunks.now c.loop-room.chunks c.take_due-count.new.self due _ _ _ _ _ _
     c.loop-room.invariant.freed c.take_due-count.ensures.taken c.unmark_taken.ensures.unmarks
     (c.unmark_taken.ensures.region c.args.least c.take_due-count.new.self out)
 
@@ -61,7 +61,7 @@ returns-then-count-eq-FEW-clause-chunks g c =
 
 pub returns-then-count-eq-FEW-clause-unmarks : goal.returns-then-count-eq-FEW-clause-unmarks
 returns-then-count-eq-FEW-clause-unmarks g c =
-    (freed_rest c.args.least c.args.chunks.now c.take_due-count.new.self c.free_many.new.chunks _ _ _ _ _ _ _ _ _
+    (freed_rest c.args.least c.args.chunks.now c.take_due-count.new.self c.free_many.new.chunks _ _ _ _ _ _
     (so_far g (goal.at.returns-then-count-eq-FEW-clause-unmarks g c).After-unmark_taken) c.free_many.ensures.chunks
     c.free_many.ensures.unmarks c.free_many.ensures.region).unmarks
 

@@ -8,16 +8,16 @@ use Rattle.nc_region.proofs.reclaim.free_many.Goals.{Then-count-eq0}
 
 -- what the last turn finds
 ended : (g : Over) (c : Then-count-eq0 g) → AllFreed c.args.least c.args.chunks.now c.take_due-count.new.self (g.A.Acts.marked c.args.acts.now)
-    (g.A.Acts.marked c.loop-room.acts) (g.A.Acts.told c.args.acts.now) (g.A.Acts.told c.loop-room.acts)
+    (g.A.Acts.marked c.loop-room.acts)
     (g.A.Acts.logged c.args.acts.now) (g.A.Acts.logged c.loop-room.acts)
 ended g c =
     freed_all c.args.least c.args.chunks.now c.loop-room.chunks c.take_due-count.new.self
-    (take c.take_due-count.result c.take_due-count.new.room) _ _ _ _ _ _ c.loop-room.invariant.freed c.take_due-count.ensures.taken
+    (take c.take_due-count.result c.take_due-count.new.room) _ _ _ _ c.loop-room.invariant.freed c.take_due-count.ensures.taken
     (ap (λ (n : ℕ). take n c.take_due-count.new.room) c.if-count-eq0.true)
 
 pub loop-room-init : goal.loop-room-init
 loop-room-init g c = record {
-  freed = freed_none c.args.least c.args.chunks.now (g.A.Acts.marked c.args.acts.now) (g.A.Acts.told c.args.acts.now)
+  freed = freed_none c.args.least c.args.chunks.now (g.A.Acts.marked c.args.acts.now)
       (g.A.Acts.logged c.args.acts.now) c.requires.region;
   room = refl;
   made = refl;
@@ -38,7 +38,7 @@ loop-room-preserved g c =
     let out = taken_out c.args.least (g.A.Acts.marked c.loop-room.acts) c.loop-room.chunks c.take_due-count.new.self due
     c.loop-room.invariant.freed.region c.take_due-count.ensures.taken in
     record {
-      freed = freed_more c.args.least c.args.chunks.now c.loop-room.chunks c.take_due-count.new.self due _ _ _ _ _ _ _ _ _
+      freed = freed_more c.args.least c.args.chunks.now c.loop-room.chunks c.take_due-count.new.self due _ _ _ _ _ _
           c.loop-room.invariant.freed c.take_due-count.ensures.taken c.unmark_taken.ensures.unmarks
           (c.unmark_taken.ensures.region c.args.least c.take_due-count.new.self out);
       room = c.take_due-count.ensures.room ∙ c.loop-room.invariant.room;

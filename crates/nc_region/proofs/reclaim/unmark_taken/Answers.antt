@@ -12,7 +12,7 @@ use Rattle.nc_region.proofs.reclaim.unmark_taken.Goals as goal
 pub loop-i-init : goal.loop-i-init
 loop-i-init g c = record {
   others = λ least left out. out;
-  unmarks = unmarks_none (g.A.Acts.marked c.args.acts.now) (g.A.Acts.told c.args.acts.now) (g.A.Acts.logged c.args.acts.now);
+  unmarks = unmarks_none (g.A.Acts.marked c.args.acts.now) (g.A.Acts.logged c.args.acts.now);
   made = refl;
   keeper = refl;
 }
@@ -50,11 +50,10 @@ loop-i-preserved g c =
           subst (λ (m : MarkedText). AreTakenOut least m left (drop (c.loop-i.i + 1) taken)) (sym c.unmark_span.ensures.marked)
           (taken_at least marked left taken c.loop-i.i found lt (subst (λ (d : Chunk). d ≡ slice_index_or c.args.taken.now c.loop-i.i d) (sym c.chunk-chunk.ensures) c.index-taken-i.is) (c.loop-i.invariant.others least left out)).2;
       unmarks =
-          subst (λ (z : List Chunk). AreUnmarked z (g.A.Acts.marked c.args.acts.now) (g.A.Acts.marked c.unmark_span.new.self)
-          (g.A.Acts.told c.args.acts.now) (g.A.Acts.told c.unmark_span.new.self) (g.A.Acts.logged c.args.acts.now)
+          subst (λ (z : List Chunk). AreUnmarked z (g.A.Acts.marked c.args.acts.now) (g.A.Acts.marked c.unmark_span.new.self) (g.A.Acts.logged c.args.acts.now)
           (g.A.Acts.logged c.unmark_span.new.self)) (sym (taken_more taken c.loop-i.i found lt (subst (λ (d : Chunk). d ≡ slice_index_or c.args.taken.now c.loop-i.i d) (sym c.chunk-chunk.ensures) c.index-taken-i.is)))
-          (unmarks_more (take c.loop-i.i taken) (found ∷ []) _ _ _ _ _ _ _ _ _ c.loop-i.invariant.unmarks
-          (unmarks_one found _ _ _ _ _ _ c.unmark_span.ensures.marked c.unmark_span.ensures.told c.unmark_span.ensures.logged));
+          (unmarks_more (take c.loop-i.i taken) (found ∷ []) _ _ _ _ _ _ c.loop-i.invariant.unmarks
+          (unmarks_one found _ _ _ _ c.unmark_span.ensures.marked c.unmark_span.ensures.logged));
       made = c.unmark_span.ensures.made ∙ c.loop-i.invariant.made;
       keeper = c.unmark_span.ensures.keeper ∙ c.loop-i.invariant.keeper;
     }
@@ -69,8 +68,7 @@ returns g c =
           (drop_all c.loop-i.i taken (omega (arith, c.loop-i-test.false)))
           (c.loop-i.invariant.others least left out));
       unmarks =
-          subst (λ (z : List Chunk). AreUnmarked z (g.A.Acts.marked c.args.acts.now) (g.A.Acts.marked c.loop-i.acts)
-          (g.A.Acts.told c.args.acts.now) (g.A.Acts.told c.loop-i.acts) (g.A.Acts.logged c.args.acts.now)
+          subst (λ (z : List Chunk). AreUnmarked z (g.A.Acts.marked c.args.acts.now) (g.A.Acts.marked c.loop-i.acts) (g.A.Acts.logged c.args.acts.now)
           (g.A.Acts.logged c.loop-i.acts)) (take_all c.loop-i.i taken (omega (arith, c.loop-i-test.false)))
           c.loop-i.invariant.unmarks;
       made = c.loop-i.invariant.made;

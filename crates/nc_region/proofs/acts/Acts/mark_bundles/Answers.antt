@@ -4,8 +4,5 @@ use Rattle.nc_region.proofs.acts.Acts.mark_bundles.Goals as goal
 pub returns-clause-marked : goal.returns-clause-marked
 returns-clause-marked g c = λ yes. absurd (let differ : false ≡ true = yes in cc)
 
-pub returns-clause-told : goal.returns-clause-told
-returns-clause-told g c = λ yes. absurd (let differ : false ≡ true = yes in cc)
-
 pub returns-clause-logged : goal.returns-clause-logged
 returns-clause-logged g c = λ yes. absurd (let differ : false ≡ true = yes in cc)

@@ -5,7 +5,6 @@ use Rattle.nc_region.specs.Patch.{any_place}
 use Rattle.std.proofs.lemmas.List.{length-take}
 use Rattle.nc_text.proofs.Offered.{length-with_span}
 use Rattle.nc_region.proofs.telling.PutRun.{with_none, with_more}
-use Rattle.nc_region.proofs.telling.Told.{tells_none, told_put}
 use Rattle.nc_region.proofs.telling.Logged.{logs_none, log_put}
 use Rattle.nc_region.proofs.acts.Acts.put_run.Goals as goal
 
@@ -37,7 +36,6 @@ loop-i-preserved g c =
       whole = c.put.ensures.whole;
       made = c.put.ensures.made ∙ so.made;
       keeper = c.put.ensures.keeper ∙ so.keeper;
-      told = told_put any_place at bytes i _ _ _ (omega arith) refl so.told c.put.ensures.told;
       logged = log_put [] any_place at bytes i _ _ _ (omega arith) refl so.logged c.put.ensures.logged;
     }
 
@@ -48,7 +46,6 @@ loop-i-init g c =
       whole = c.limit-facts.ensures.whole;
       made = refl;
       keeper = refl;
-      told = tells_none (g.Self.Acts.told c.args.self.now);
       logged = logs_none (g.Self.Acts.logged c.args.self.now);
     }
 

@@ -23,7 +23,7 @@ put-requires-clause-closed g c =
     let now = g.Self.Acts.marked c.loop-left.self in
     subst (λ (marks : List Mark). IsClosed (set now.bytes (c.args.at + k - 65536) 244) marks) (sym c.loop-left.invariant.marks)
     (c.requires.closed (k + 1) (set now.bytes (c.args.at + k - 65536) 244) (omega (arith, c.lowest_place-k.ensures.place))
-    (next_bytes _ _ _ _ _ _ _ _ _ c.loop-left.invariant.stopping k c.lowest_place-k.ensures.place c.lowest_place-k.ensures.set
+    (next_bytes _ _ _ _ _ _ _ c.loop-left.invariant.stopping k c.lowest_place-k.ensures.place c.lowest_place-k.ensures.set
     c.lowest_place-k.ensures.below c.requires.inside.0 (omega (arith, c.requires.inside.1, c.requires.start, c.limit-facts.ensures.whole.lawful.0))))
 
 pub loop-left-preserved : goal.loop-left-preserved
@@ -31,9 +31,9 @@ loop-left-preserved g c =
     let k = c.lowest_place-k.result.0 in
     let e = c.put.ensures.marked in
     record {
-      stopping = rw e (stopping_next _ _ _ _ _ _ _ _ _ c.loop-left.invariant.stopping k c.lowest_place-k.ensures.place
+      stopping = rw e (stopping_next _ _ _ _ _ _ _ c.loop-left.invariant.stopping k c.lowest_place-k.ensures.place
           c.lowest_place-k.ensures.set c.lowest_place-k.ensures.below c.requires.inside.0 (omega (arith, c.requires.inside.1, c.requires.start, c.limit-facts.ensures.whole.lawful.0)) _ c.lowest_place-k.ensures.cleared
-          c.lowest_place-k.ensures.others _ _ c.put.ensures.told c.put.ensures.logged);
+          c.lowest_place-k.ensures.others _ c.put.ensures.logged);
       marks = rw e c.loop-left.invariant.marks;
       whole = c.put.ensures.whole;
       made = c.put.ensures.made ∙ c.loop-left.invariant.made;
@@ -44,22 +44,14 @@ pub returns-clause-bytes : goal.returns-clause-bytes
 returns-clause-bytes g c =
     let none : c.loop-left.left ≡ 0 = omega arith in
     let all = subst (λ (left : ℕ). Stopping c.args.places left c.args.at (g.Self.Acts.marked c.args.self.now).bytes
-    (g.Self.Acts.marked c.loop-left.self).bytes (g.Self.Acts.told c.args.self.now) (g.Self.Acts.told c.loop-left.self)
+    (g.Self.Acts.marked c.loop-left.self).bytes
     (g.Self.Acts.logged c.args.self.now) (g.Self.Acts.logged c.loop-left.self)) none c.loop-left.invariant.stopping in
-    (stopping_all _ _ _ _ _ _ _ _ all).0
-
-pub returns-clause-told : goal.returns-clause-told
-returns-clause-told g c =
-    let none : c.loop-left.left ≡ 0 = omega arith in
-    let all = subst (λ (left : ℕ). Stopping c.args.places left c.args.at (g.Self.Acts.marked c.args.self.now).bytes
-    (g.Self.Acts.marked c.loop-left.self).bytes (g.Self.Acts.told c.args.self.now) (g.Self.Acts.told c.loop-left.self)
-    (g.Self.Acts.logged c.args.self.now) (g.Self.Acts.logged c.loop-left.self)) none c.loop-left.invariant.stopping in
-    (stopping_all _ _ _ _ _ _ _ _ all).1
+    (stopping_all _ _ _ _ _ _ all).0
 
 pub returns-clause-logged : goal.returns-clause-logged
 returns-clause-logged g c =
     let none : c.loop-left.left ≡ 0 = omega arith in
     let all = subst (λ (left : ℕ). Stopping c.args.places left c.args.at (g.Self.Acts.marked c.args.self.now).bytes
-    (g.Self.Acts.marked c.loop-left.self).bytes (g.Self.Acts.told c.args.self.now) (g.Self.Acts.told c.loop-left.self)
+    (g.Self.Acts.marked c.loop-left.self).bytes
     (g.Self.Acts.logged c.args.self.now) (g.Self.Acts.logged c.loop-left.self)) none c.loop-left.invariant.stopping in
-    (stopping_all _ _ _ _ _ _ _ _ all).2
+    (stopping_all _ _ _ _ _ _ all).1

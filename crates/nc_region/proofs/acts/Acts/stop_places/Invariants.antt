@@ -6,8 +6,7 @@ use Rattle.nc_region.proofs.acts.Acts.stop_places.Given as goal
 abbrev pub invariant-loop-left : goal.invariant-loop-left
 invariant-loop-left g l =
     record {
-      stopping : Stopping l.places l.left l.at (g.Self.Acts.marked l.initial.self).bytes (g.Self.Acts.marked l.self).bytes
-          (g.Self.Acts.told l.initial.self) (g.Self.Acts.told l.self) (g.Self.Acts.logged l.initial.self) (g.Self.Acts.logged l.self);
+      stopping : Stopping l.places l.left l.at (g.Self.Acts.marked l.initial.self).bytes (g.Self.Acts.marked l.self).bytes (g.Self.Acts.logged l.initial.self) (g.Self.Acts.logged l.self);
       marks : (g.Self.Acts.marked l.self).marks ≡ (g.Self.Acts.marked l.initial.self).marks;
       whole : IsText (g.Self.Acts.marked l.self);
       made : g.Self.Acts.made l.self ≡ g.Self.Acts.made l.initial.self;

@@ -24,25 +24,16 @@ returns-then-is_ok g c =
       room = c.bump-answer.ensures.room;
       stamp = c.bump-answer.ensures.stamp;
       raised = rw acts c.bump-answer.ensures.raised;
-      told = if_ok _ _ c.record.ensures.told;
-      goes_on = if_ok _ _ c.record.ensures.goes_on;
       logged = if_ok _ _ c.record.ensures.logged;
-      logs_on = if_ok _ _ c.record.ensures.logs_on;
+      goes_on = if_ok _ _ c.record.ensures.goes_on;
       marked = rw acts c.bump-answer.ensures.marked;
       made = rw acts c.bump-answer.ensures.made;
       full = rw acts c.bump-answer.ensures.full;
-      silent = if_err _ _ ok;
       unlogged = if_err _ _ ok;
     }
-
-pub returns-else-is_ok-clause-told : goal.returns-else-is_ok-clause-told
-returns-else-is_ok-clause-told g c = none_ok _ _ (sym c.is_ok.ensures.value ∙ c.if-is_ok.false)
-
-pub returns-else-is_ok-clause-goes_on : goal.returns-else-is_ok-clause-goes_on
-returns-else-is_ok-clause-goes_on g c = none_ok _ _ (sym c.is_ok.ensures.value ∙ c.if-is_ok.false)
 
 pub returns-else-is_ok-clause-logged : goal.returns-else-is_ok-clause-logged
 returns-else-is_ok-clause-logged g c = none_ok _ _ (sym c.is_ok.ensures.value ∙ c.if-is_ok.false)
 
-pub returns-else-is_ok-clause-logs_on : goal.returns-else-is_ok-clause-logs_on
-returns-else-is_ok-clause-logs_on g c = none_ok _ _ (sym c.is_ok.ensures.value ∙ c.if-is_ok.false)
+pub returns-else-is_ok-clause-goes_on : goal.returns-else-is_ok-clause-goes_on
+returns-else-is_ok-clause-goes_on g c = none_ok _ _ (sym c.is_ok.ensures.value ∙ c.if-is_ok.false)

@@ -6,10 +6,8 @@ returns-then-done g c =
     let acts = c.record.ensures.acts in
     record {
       marked = λ yes. rw acts (c.mark_bundles-done.ensures.marked yes);
-      told = λ yes. c.record.ensures.told;
-      goes_on = λ yes. c.record.ensures.goes_on;
       logged = λ yes. c.record.ensures.logged;
-      logs_on = λ yes. c.record.ensures.logs_on;
+      goes_on = λ yes. c.record.ensures.goes_on;
       unchanged = λ no. absurd (let differ : true ≡ false = sym c.if-done.true ∙ no in let none : ⊥ = cc in none);
       made = rw acts c.mark_bundles-done.ensures.made;
       whole = rw acts c.mark_bundles-done.ensures.whole;
@@ -24,11 +22,9 @@ returns-else-done g c =
     none in
     record {
       marked = λ yes. absurd (none yes);
-      told = λ yes. absurd (none yes);
-      goes_on = λ yes. absurd (none yes);
       logged = λ yes. absurd (none yes);
-      logs_on = λ yes. absurd (none yes);
-      unchanged = λ no. ((c.mark_bundles-done.ensures.unchanged no).0, refl, refl, refl, refl, refl);
+      goes_on = λ yes. absurd (none yes);
+      unchanged = λ no. ((c.mark_bundles-done.ensures.unchanged no).0, refl, refl, refl);
       made = c.mark_bundles-done.ensures.made;
       whole = c.mark_bundles-done.ensures.whole;
       keeper = c.mark_bundles-done.ensures.keeper;

@@ -7,11 +7,14 @@ use Rattle.nc_vet.specs.Chunk.{MarkedChunk}
 use Rattle.nc_region.specs.declared.fault.CreateFault.{CreateFault}
 use Rattle.nc_region.specs.declared.fault.CreateFault.TheVariants.{WrongLimit, Occupied, OutOfMemory}
 use Rattle.nc_region.specs.Chunks.{HasGoodSpan, IsClosedChunk, with_chunk}
+use Rattle.nc_region.specs.Acts.{acts_of_create}
+use Rattle.nc_region.specs.Log.{log_of_create}
 use Rattle.nc_region.specs.Region.{Region, IsRefused, live_chunk}
 use Rattle.nc_region.proofs.chunks.Inserting.{unused_if_apart, region_with_chunk}
 use Rattle.nc_region.proofs.chunks.Pieces.{valid_chunk_is_closed, chunk_names_registers}
 use Rattle.nc_region.proofs.chunks.ReadyPlaces.{chunks_stay_ready, ready_inserted}
 use Rattle.nc_region.proofs.region.RegionOf.create.Goals as goal
+use Rattle.nc_region.proofs.telling.Logged.{told_logged, created_acts}
 
 -- only a want of memory may have made pages
 refused_as : (old new : Region) (v : MarkedChunk) (fault : CreateFault) → new ≡ record old { made = new.made }
@@ -40,7 +43,6 @@ returns-in-Err g c =
       made = g.A.Acts.made inside.acts;
       chunks = inside.chunks;
       keeper = g.A.Acts.keeper inside.acts;
-      told = g.A.Acts.told inside.acts;
       logged = g.A.Acts.logged inside.acts;
     } in
     let new : Region = record {
@@ -48,10 +50,9 @@ returns-in-Err g c =
       made = g.A.Acts.made now.acts;
       chunks = now.chunks;
       keeper = g.A.Acts.keeper now.acts;
-      told = g.A.Acts.told now.acts;
       logged = g.A.Acts.logged now.acts;
     } in
-    let same : new ≡ record old { made = new.made } = rw (others.0, c.in-Err.ensures.unlisted, others.1, others.2, others.3) refl in
+    let same : new ≡ record old { made = new.made } = rw (others.0, c.in-Err.ensures.unlisted, others.1, others.2) refl in
     record {
       created = tt;
       acts = tt;
@@ -130,8 +131,11 @@ returns g c =
         ready = rw c.put_chunk.ensures.made c.make_room.ensures.only;
         others = rw (c.put_chunk.ensures.keeper, others.1) refl;
       });
-      acts = rw (← c.self.view_is, ← others.2, ← c.base.ensures.value, ← c.code.ensures.value) c.put_chunk.ensures.told;
-      log = rw (← c.self.view_is, ← others.3, ← c.base.ensures.value, ← c.code.ensures.value) c.put_chunk.ensures.log;
+      acts = rw (← c.self.view_is, ← others.2, ← c.base.ensures.value, ← c.code.ensures.value)
+          (told_logged (g.A.Acts.logged c.make_room.new.acts) (g.A.Acts.logged c.put_chunk.new.acts)
+          (log_of_create c.base.result c.code.result.now) (acts_of_create c.base.result c.code.result.now)
+          (created_acts c.base.result c.code.result.now) c.put_chunk.ensures.log);
+      log = rw (← c.self.view_is, ← others.2, ← c.base.ensures.value, ← c.code.ensures.value) c.put_chunk.ensures.log;
       free = rw (← c.self.view_is) (room.limit, room.free);
       unchanged = tt;
       refused = tt;

@@ -93,7 +93,6 @@ returns-clause-deleted g c =
       made = g.A.Acts.made c.self.inside.acts;
       chunks = chunks;
       keeper = g.A.Acts.keeper c.self.inside.acts;
-      told = g.A.Acts.told c.self.inside.acts;
       logged = g.A.Acts.logged c.self.inside.acts;
     } in
     let new : Region = record {
@@ -101,7 +100,6 @@ returns-clause-deleted g c =
       made = g.A.Acts.made c.put_stops-stamp.new.acts;
       chunks = c.retire.new.self;
       keeper = g.A.Acts.keeper c.put_stops-stamp.new.acts;
-      told = g.A.Acts.told c.put_stops-stamp.new.acts;
       logged = g.A.Acts.logged c.put_stops-stamp.new.acts;
     } in
     rw (← c.self.view_is)
@@ -112,7 +110,7 @@ returns-clause-deleted g c =
     c.put_stops-stamp.ensures.made
     (listed chunks c.retire.new.self (limit_of old.marked.bytes) c.args.base c.put_stops-stamp.result chunk f.0
     c.self.invariant.0.rising c.self.invariant.0.placed f.2 c.retire.ensures)
-    c.put_stops-stamp.ensures.keeper c.put_stops-stamp.ensures.told c.put_stops-stamp.ensures.log)
+    c.put_stops-stamp.ensures.keeper c.put_stops-stamp.ensures.log)
 
 pub returns-clause-confined : goal.returns-clause-confined
 returns-clause-confined g c = confined_if_closed _ _ c.put_stops-stamp.ensures.whole.closed

@@ -5,6 +5,8 @@ use Rattle.nc_region.specs.Region.{Region}
 use Rattle.nc_region.proofs.patching.Standing.{lies}
 use Rattle.nc_region.proofs.chunks.ReadyPlaces.{ready_part, ready_held}
 use Rattle.nc_region.proofs.patching.Patched.{region_patched, held_holds, patch_lawful, refused_in}
+use Rattle.nc_region.specs.Patch.{acts_of_modify, log_of_modify}
+use Rattle.nc_region.proofs.telling.Logged.{told_logged, modified_acts}
 use Rattle.nc_region.proofs.region.RegionOf.modify.Goals as goal
 
 pub returns-then-not-is_patch_span-clause-confined : goal.returns-then-not-is_patch_span-clause-confined
@@ -97,7 +99,6 @@ returns-in-Err-clause-refused g c =
       chunks = c.self.inside.chunks;
       keeper =
           g.A.Acts.keeper c.self.inside.acts;
-      told = g.A.Acts.told c.self.inside.acts;
       logged = g.A.Acts.logged c.self.inside.acts;
     }) c.args.at c.args.new.now c.in-Some.chunk c.in-Err.fault c.self.invariant.0.rising (c.is_patch_span.ensures.0 spans) held
     c.in-Err.ensures.refused in
@@ -134,6 +135,13 @@ invariant_of-self-2 g c =
 pub returns-clause-confined : goal.returns-clause-confined
 returns-clause-confined g c = confined_if_closed _ _ c.patch.ensures.whole.closed
 
+pub returns-clause-acts : goal.returns-clause-acts
+returns-clause-acts g c = λ news are.
+    let text = (g.A.Acts.marked c.self.inside.acts).bytes in
+    rw (← c.self.view_is)
+    (told_logged (g.A.Acts.logged c.self.inside.acts) (g.A.Acts.logged c.patch.new.acts) (log_of_modify text c.args.at news)
+    (acts_of_modify text c.args.at news) (modified_acts text c.args.at news) (c.in_default-patch.ensures.log news are))
+
 pub returns-clause-lawful : goal.returns-clause-lawful
 returns-clause-lawful g c =
     let spans : c.is_patch_span.result ≡ true = c.if-not-is_patch_span.false in
@@ -144,7 +152,6 @@ returns-clause-lawful g c =
       chunks = c.self.inside.chunks;
       keeper =
           g.A.Acts.keeper c.self.inside.acts;
-      told = g.A.Acts.told c.self.inside.acts;
       logged = g.A.Acts.logged c.self.inside.acts;
     }) c.args.at c.args.new.now c.in-Some.chunk (c.is_patch_span.ensures.0 spans) held c.in_default-patch.ensures.can in
     subst (λ (r : Region). IsPatch r c.args.at c.args.new.now) c.self.view_is lawful

@@ -38,7 +38,6 @@ returns-clause-reclaimed g c =
       chunks = c.self.inside.chunks;
       keeper =
           g.A.Acts.keeper c.self.inside.acts;
-      told = g.A.Acts.told c.self.inside.acts;
       logged = g.A.Acts.logged c.self.inside.acts;
     } in
     let new : Region = record {
@@ -47,11 +46,10 @@ returns-clause-reclaimed g c =
       chunks = c.free_due.new.chunks;
       keeper =
           g.A.Acts.keeper c.free_due.new.acts;
-      told = g.A.Acts.told c.free_due.new.acts;
       logged = g.A.Acts.logged c.free_due.new.acts;
     } in
     rw (← c.self.view_is)
-    (reclaimed_is old new (g.A.Acts.told c.look-least.new.self) (g.A.Acts.logged c.look-least.new.self) c.free_due.result c.look-least.result
+    (reclaimed_is old new (g.A.Acts.logged c.look-least.new.self) c.free_due.result c.look-least.result
     (subst (HasLooked (g.A.Acts.keeper c.self.inside.acts)) (sym c.free_due.ensures.keeper) c.look-least.ensures.looked)
     (c.look-least.ensures.least ∙ ap (λ (k : KeeperState). least_number k.numbers) (sym c.free_due.ensures.keeper))
     c.free_due.ensures.chunks
@@ -59,8 +57,6 @@ returns-clause-reclaimed g c =
     (c.free_due.ensures.unmarks.marked ∙ ap (λ (m : MarkedText). unmarked m
     (freed c.look-least.result c.self.inside.chunks)) c.look-least.ensures.marked)
     (c.free_due.ensures.made ∙ c.look-least.ensures.made)
-    c.look-least.ensures.told
-    c.free_due.ensures.unmarks.tells
     c.look-least.ensures.logged
     c.free_due.ensures.unmarks.logs)
 

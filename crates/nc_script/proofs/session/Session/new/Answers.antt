@@ -17,7 +17,6 @@ returns-in-Ok-clause-fits c =
     ∙ ap (λ (ps : List PassState). map (λ (p : PassState). Some p) ps) c.requires.passes in
     let table_is = ap (λ (s : SeatsState). s.table) c.in_ok-seats.ensures in
     let chunks_are = ap (λ (r : Region). r.chunks) c.in-Ok.ensures.region in
-    let told_is = ap (λ (r : Region). r.told) c.in-Ok.ensures.region in
     let logged_is = ap (λ (r : Region). r.logged) c.in-Ok.ensures.region in
     subst (λ (s : SessionState). FitsSession s (replicate n (Staying 0)) 0)
     (λ j. record {
@@ -26,7 +25,6 @@ returns-in-Ok-clause-fits c =
         made = made;
         chunks = sym chunks_are j;
         keeper = sym keeper_is j;
-        told = sym told_is j;
         logged = sym logged_is j;
       };
       seats = record { table = sym table_is j; passes = sym passes_are j };

@@ -1,37 +1,12 @@
--- The acts told, one call after another.
-use Rattle.std.proofs.Common.{◌≡◌, ℕ, ◌+◌, ◌<◌, ◌≤◌, Bool, true, false, cond, List, [], ◌∷◌, ◌++◌, length, get_or, take, Option, Some, None}
-use Rattle.std.proofs.Common.{IfSome, IsSomeAnd, inl, inr}
+-- The puts at chosen places, one more place at a time.
+use Rattle.std.proofs.Common.{◌≡◌, ℕ, ◌+◌, ◌<◌, ◌≤◌, Bool, true, false, cond, List, [], ◌∷◌, ◌++◌, length, get_or, take}
+use Rattle.std.proofs.Common.{inl, inr}
 use Rattle.std.proofs.Common.{arith, refl, ◌∙◌, sym, ap, subst, append_assoc, add-zero, suc, zero}
 use Rattle.std.proofs.lemmas.List.{append-nil, take_more, length-take}
 use Rattle.nc_decode.proofs.Offered.{true_or_false}
 use Rattle.nc_region.specs.declared.acts.Act.{Act}
 use Rattle.nc_region.specs.declared.acts.Act.TheVariants.{Put}
-use Rattle.nc_region.specs.Acts.{Tells, puts_where}
-
--- where a list is still kept, it was kept before, and these have come to its end
-abbrev pub Grows : {X : Type 0} → Option (List X) → Option (List X) → List X → Type 0
-Grows before after more = IfSome after (λ list. IsSomeAnd before (λ earlier. list ≡ earlier ++ more))
-
--- nothing comes to it
-pub grows_none : {X : Type 0} (list : Option (List X)) → Grows list list []
-grows_none None = tt
-grows_none (Some list) = sym (append-nil list)
-
--- some, and then more
-pub grows_more : {X : Type 0} (a b c : Option (List X)) (xs ys : List X) → Grows a b xs → Grows b c ys → Grows a c (xs ++ ys)
-grows_more a b None xs ys first second = tt
-grows_more a None (Some l) xs ys first second = absurd second
-grows_more None (Some k) (Some l) xs ys first second = absurd first
-grows_more {X} (Some j) (Some k) (Some l) xs ys first second =
-    second ∙ (ap (λ (z : List X). z ++ ys) first ∙ append_assoc j xs ys)
-
--- no act is told
-pub tells_none : (told : Option (List Act)) → Tells told told []
-tells_none told = grows_none told
-
--- acts after acts
-pub tells_more : (a b c : Option (List Act)) (xs ys : List Act) → Tells a b xs → Tells b c ys → Tells a c (xs ++ ys)
-tells_more a b c xs ys first second = grows_more a b c xs ys first second
+use Rattle.nc_region.specs.Acts.{puts_where}
 
 -- an act before a list that grows
 one_more : (b : Bool) (y : Act) (p q r : List Act) → p ≡ q ++ r → cond b (y ∷ p) p ≡ cond b (y ∷ q) q ++ r
@@ -82,28 +57,6 @@ all_passed chosen base bytes i (suc n) fits none =
     ap (λ (k : ℕ). puts_where chosen base (take k bytes)) next
     ∙ (next_passed chosen base bytes (i + n) (omega (arith, fits)) (none n (omega arith))
     ∙ all_passed chosen base bytes i n (omega (arith, fits)) (λ j lt. none j (omega (arith, lt))))
-
--- the acts of one more byte
-pub told_put : (chosen : ℕ → Bool) (base : ℕ) (bytes : List ℕ) (i : ℕ) (a b c : Option (List Act)) → i < length bytes
-    → chosen (base + i) ≡ true → Tells a b (puts_where chosen base (take i bytes)) → Tells b c (Put (base + i) (get_or bytes i 0) ∷ [])
-    → Tells a c (puts_where chosen base (take (i + 1) bytes))
-told_put chosen base bytes i a b c lt is first second =
-    subst (λ (acts : List Act). Tells a c acts) (sym (next_put chosen base bytes i lt is))
-    (tells_more a b c (puts_where chosen base (take i bytes)) (Put (base + i) (get_or bytes i 0) ∷ []) first second)
-
--- a place that is not chosen tells nothing
-pub told_passed : (chosen : ℕ → Bool) (base : ℕ) (bytes : List ℕ) (i : ℕ) (a b : Option (List Act)) → i < length bytes
-    → chosen (base + i) ≡ false → Tells a b (puts_where chosen base (take i bytes))
-    → Tells a b (puts_where chosen base (take (i + 1) bytes))
-told_passed chosen base bytes i a b lt not first =
-    subst (λ (acts : List Act). Tells a b acts) (sym (next_passed chosen base bytes i lt not)) first
-
--- nor do some that follow one another
-pub told_passed_all : (chosen : ℕ → Bool) (base : ℕ) (bytes : List ℕ) (i n : ℕ) (a b : Option (List Act)) → i + n ≤ length bytes
-    → ((j : ℕ) → j < n → chosen (base + (i + j)) ≡ false) → Tells a b (puts_where chosen base (take i bytes))
-    → Tells a b (puts_where chosen base (take (i + n) bytes))
-told_passed_all chosen base bytes i n a b fits none first =
-    subst (λ (acts : List Act). Tells a b acts) (sym (all_passed chosen base bytes i n fits none)) first
 
 -- the puts by another test of the same places come after those so far
 pub joined_puts : (chosen inner : ℕ → Bool) (base i : ℕ) (bytes others : List ℕ) (n : ℕ) → i + n ≤ length bytes → n ≤ length others
