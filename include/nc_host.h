@@ -51,14 +51,10 @@
  *   - Every address of the region that no chunk covers holds NC_STOP; those of the last bundle, the guard, always do.
  *   - Each put is one atomic store of one byte (memory_order_seq_cst), and the puts are made in the order in which they are written. At
  *     NC_SETTLE every processor that runs a thread of the host executes a serializing instruction before the host goes on. Each thread
- *     executes one on its way in, after the host has last counted it as outside. Nothing else is required of processors: until a processor
- *     has serialized, it may execute the old bytes.
- *   - Only one call at a time changes a text: the host holds its own lock while it asks for acts and makes them (for a creation, while it
- *     makes them). If it makes the first act of a call, it makes all the others before it asks for more.
- *   - The limit is the region's own, the same in every call.
- *   - A patch or a deletion names a chunk by the base and the length with which it was created. A part of a chunk is never deleted or
- *     patched as a chunk of its own: the rest of the chunk could then jump between instructions, and no call would report it.
- *   - A chunk is created only where there is no chunk, live or retired. (Until a call has judged the range, `base` + `len` may wrap.)
+ *     executes one on its way in, after its last check-in. Nothing else is required of processors: until a processor has serialized, it may
+ *     execute the old bytes.
+ *   - Only one call at a time changes a region: the host holds its own lock around the call and its acts, and makes all acts of a call
+ *     before the next one.
  *   - A stop at which a thread traps may be gone when the handler reads it: it belonged to a patch that was being made, or to unused text
  *     where a chunk is being created. The trap doesn't distinguish it from a data fault. So the writer increments a count before the first
  *     act of a call and after the last (for a deletion, after the last stop). The handler waits for an even count, then reads the byte and
@@ -74,16 +70,11 @@
  *   - The host limits the time of each stay inside. A thread in a jump to itself never comes out, and no fault ends it.
  *   - Trusted code that is entered clears the direction flag, since untrusted code may set it, and uses no stack before it has loaded its
  *     own stack pointer. It reads each address to which it goes back once, masks it, and checks that it is in the region.
- *   - A deleted span is reused only once every thread that may have been in it has left the region or has been outside since the stamp was
- *     drawn. Until then and afterwards its pages stay executable and full of NC_STOP: threads may jump to its bundle starts.
+ *   - The pages of deleted spans, reclaimed or not, stay executable and full of NC_STOP: threads may jump to their bundle starts.
  *
- * Two ways to hold a region:
- *   - By a handle (nc_region_new and the calls below it): the library keeps the list of the chunks, the region's bytes and marks, the
- *     stamps and the check-ins, and says when a span may be reused. These calls alone then fulfil the host's duties, above, that concern
- *     chunks. The host has its own memory, in which it makes the acts that each change writes, and its own lock.
- *   - Without a handle (nc_host_create, nc_host_patch, nc_host_delete): the host keeps the list and the stamps and decides when a span is
- *     reused, and nothing about these is proved.
- * The library has no lock: a static library of this toolchain can't have one.
+ * A host holds a region by a handle (nc_region_new and the calls below it): the library keeps the list of the chunks, the region's bytes and
+ * marks, the stamps and the check-ins, and says when a span may be reused. The host has its own memory, in which it makes the acts that each
+ * change writes, and its own lock. The library has no lock: a static library of this toolchain can't have one.
  */
 #ifndef NC_HOST_H
 #define NC_HOST_H
@@ -118,10 +109,9 @@ extern "C" {
  * The faults.
  *
  *  0 to 10  For a chunk the first fault is returned: 1 to 3 in this order, then the one of 4 to 6 with the lowest address, then 7 with the
- *           lowest address. 8 says nothing about the code, except that 1 to 3 don't hold. NC_NO_ROOM (9) is the last fault of a call
- *           without a handle: the chunk is valid, or the patch lawful. On a handle it comes before the faults of a patch and after
- *           those of a chunk. 10 is returned only by nc_host_decode. docs/GUIDE.md says what a compiler may emit; specs/Rows of nc_decode
- *           is the table of permitted instructions.
+ *           lowest address. 8 says nothing about the code, except that 1 to 3 don't hold. NC_NO_ROOM (9) comes after the faults of a
+ *           chunk, and before those of a patch. 10 is returned only by nc_host_decode. docs/GUIDE.md says what a compiler may emit;
+ *           specs/Rows of nc_decode is the table of permitted instructions.
  * 16 to 21  For a patch the first of these is returned, in this order. None has an address.
  * 32 to 44  From calls on handles, beside those above.
  */
@@ -245,12 +235,6 @@ typedef struct NcAct {
     uint32_t value;
 } NcAct;
 
-typedef struct NcActs {
-    uint32_t fault;
-    uint32_t at;     /* as in NcVerdict */
-    uint32_t count;  /* the number of elements written, acts and settlings; for NC_NO_ROOM a buffer length that is enough; else 0 */
-} NcActs;
-
 /*
  * A handle is a struct of the host's. All zeros are an empty handle, one that has nothing. Only the library reads or writes its pointer.
  * The host may move a handle and must not copy it: of two copies only one may ever be passed to a call.
@@ -335,51 +319,6 @@ NcVerdict nc_host_vet(uint32_t base, uint32_t limit, const uint8_t *code, size_t
 NcVerdict nc_host_marks(uint32_t base, uint32_t limit, const uint8_t *code, size_t len, uint8_t *marks, size_t marks_len);
 
 /*
- * Vets a chunk, and writes the acts of its creation, which put it into a span of the text that holds only stops.
- * Promised: the fault is as in nc_host_vet, but NC_NO_ROOM exactly where it would be NC_OK and the buffer has room for fewer than `len` + 2
- * acts [outcome]. For NC_OK the acts are exactly the `len` + 2 elements of a creation (log_of_create): the first `len` - `len` / 32 put the
- * bytes that aren't at bundle starts, the next is NC_SETTLE, the next marks the span, and the others put the bytes at bundle starts
- * [written]. For NC_OK and NC_NO_ROOM `count` is `len` + 2, for other faults 0 [count]. The only faults that a valid chunk can get are
- * NC_OUT_OF_MEMORY and NC_NO_ROOM [valid]. A refusal changes nothing [untouched].
- * Not promised: that the span is unused; the host knows its chunks. That every path is confined between any two of these acts is proved for
- * a region's creation, which makes them in an unused span.
- */
-NcActs nc_host_create(uint32_t base, uint32_t limit, const uint8_t *code, size_t len, NcAct *acts, size_t acts_len);
-
-/*
- * Writes the acts of a patch: `new_len` new bytes from the address `at` on, in the chunk whose bytes at `base` are now `code`. The new
- * bytes are instructions of the same lengths as those that they replace.
- * Promised: the verdict is that on the chunk, and then on this patch in a region with only this chunk (IsPatch, MayRefusePatch), but
- * NC_NO_ROOM exactly where it would be NC_OK and the buffer has room for fewer than 3 * `new_len` acts [outcome]. For NC_OK the patch is
- * lawful in every region in which the chunk is live, whatever other chunks there are [anywhere]. A patch that begins in the chunk and is
- * lawful in such a region gets NC_OK, NC_OUT_OF_MEMORY or NC_NO_ROOM [exact]. A patch of a valid chunk gets no fault from 1 to 7 [valid].
- * For NC_OK the acts are exactly those of the patch (log_of_modify): for each instruction whose bytes change, a stop at its first byte,
- * NC_SETTLE, its further bytes, NC_SETTLE, its first byte; for an instruction of a single byte, only that byte [written]. For NC_NO_ROOM
- * `count` is 3 * `new_len`, which is always enough, and for other faults 0 [count]. A refusal changes nothing [untouched].
- * The host must lend as `code` the bytes that are in the text. If it lends others, the verdict is on those.
- * Cost: `code` is vetted again, and a region is made for the duration of the call, in memory of some five times the chunk's length and one
- * byte for each 256 bytes of the region: only its bytes tell the library that the chunk was accepted, and where its instructions begin.
- * (nc_region_patch knows this, and reads only the bundles of the patch and of its targets.) So the time has a part for the chunk, some
- * fifteen to twenty times that of nc_host_vet, and a part for the region, independent of the chunk: for a chunk of a few bundles some 5
- * microseconds in a region of 4 MiB and 50 in one of 64 MiB. A patch may be refused for lack of memory.
- */
-NcActs nc_host_patch(uint32_t base, uint32_t limit, const uint8_t *code, size_t len, uint32_t at, const uint8_t *new_bytes, size_t new_len,
-                     NcAct *acts, size_t acts_len);
-
-/*
- * Writes the acts of a deletion of the chunk whose bytes at `base` are now `code`: `len` + 2 acts, which are stops at its marked places,
- * NC_SETTLE, stops at its other places, and NC_BUMP. The marks are derived from `code` again, so that nobody can name a wrong order. The
- * marks of the span stay until it is reclaimed.
- * Promised: the fault is as in nc_host_create [outcome]. For NC_OK the acts are exactly those of a deletion (log_of_delete) from any text
- * that has the chunk's marks [written]. `count` is as in nc_host_create [count]. The only faults that a valid chunk can get are
- * NC_OUT_OF_MEMORY and NC_NO_ROOM [valid]. A refusal changes nothing [untouched].
- * The host must lend as `code` the bytes that are in the text.
- * Cost: memory of half the code's length. For lack of it a deletion may be refused; a host that must be able to delete keeps some in
- * reserve.
- */
-NcActs nc_host_delete(uint32_t base, uint32_t limit, const uint8_t *code, size_t len, NcAct *acts, size_t acts_len);
-
-/*
  * Returns the version of the library that is linked, to be compared with NC_VERSION.
  * Promised: it is NC_VERSION of the header that belongs to this library [version].
  */
@@ -401,7 +340,7 @@ uint32_t nc_host_version(void);
  *               are due: the fault is NC_NO_ROOM, and `count` is that length. But a length of 0 doesn't ask for this number: the change is
  *               made, `count` is 0, and its acts aren't told, so that the host's memory no longer has the region's bytes. That is for a host
  *               without memory of its own, and for one that asks for the acts as runs (nc_region_creation_runs, nc_region_deletion_runs).
- *               A buffer that is to grow begins with a length above 0. (nc_host_create and its neighbours refuse a length of 0.)
+ *               A buffer that is to grow begins with a length above 0.
  *   Memory      A region shares the table of stamps and check-ins with its seats. The table is freed with the last of them, in whatever
  *               order nc_region_free and nc_seat_leave are called [tested].
  */
@@ -434,10 +373,11 @@ void nc_region_free(NcRegion *region);
 uint32_t nc_region_seat(NcRegion *region, NcSeat *seat);
 
 /*
- * Vets the chunk and creates it in the region, and writes the acts as nc_host_create does. A buffer of `len` + 2 acts is enough; an
- * `acts_len` of 0 makes the change without telling its acts. A host finds a free span by nc_region_chunk_at: it begins at NC_START, and asks
- * for the chunk that has this address or lies above it. The span before that chunk is free; if there is no such chunk, it ends at the guard.
- * If it is too short, the host goes on at the end of the chunk.
+ * Vets the chunk and creates it in the region, and writes the acts: the first `len` - `len` / 32 put the bytes that aren't at bundle starts,
+ * then come NC_SETTLE and NC_MARK, and the others put the bytes at bundle starts. A buffer of `len` + 2 acts is enough; an `acts_len` of 0
+ * makes the change without telling its acts. A host finds a free span by nc_region_chunk_at: it begins at NC_START, and asks for the chunk
+ * that has this address or lies above it. The span before that chunk is free; if there is no such chunk, it ends at the guard. If it is too
+ * short, the host goes on at the end of the chunk.
  * Promised: for NC_OK the chunk is valid for the region's limit, the region has it (IsCreated), and the call is one of a history (LogsCall)
  * [created]. For NC_OK the acts are those of the creation (log_of_create) [told]. A refusal is NC_NO_HANDLE; else the fault that vetting
  * finds, 1 to 8; else the first of NC_UNDER_WAY, NC_NO_ROOM, NC_OCCUPIED and NC_OUT_OF_MEMORY that holds [refused]. A refusal changes
@@ -473,9 +413,10 @@ void nc_vetted_free(NcVetted *vetted);
 NcChange nc_region_load(NcRegion *region, NcVetted *vetted, NcAct *acts, size_t acts_len);
 
 /*
- * Patches a chunk, and writes the acts as nc_host_patch does. The bytes must be whole instructions, even where only an immediate or a
- * displacement in one changes. Acts are written for the instructions that differ, so `count` may be 0. A buffer of 3 * `len` acts is
- * enough; an `acts_len` of 0 makes the change without telling its acts.
+ * Patches a chunk, and writes the acts. The new bytes are instructions of the same lengths as those that they replace, whole ones even where
+ * only an immediate or a displacement changes. The acts are, for each instruction that differs, a stop at its first byte, NC_SETTLE, its
+ * further bytes, NC_SETTLE, and its first byte; for an instruction of a single byte, only that byte. So `count` may be 0. A buffer of
+ * 3 * `len` acts is enough; an `acts_len` of 0 makes the change without telling its acts.
  * Promised: for NC_OK the patch was lawful (IsPatch), the region has its bytes (IsModified), and the call is one of a history (LogsCall)
  * [modified]. For NC_OK the acts are those of the patch (log_of_modify) [told]. A buffer that is lent with room for fewer than 3 * `len`
  * acts never gets NC_OK [allowed]. A refusal is NC_NO_HANDLE; else the first of NC_UNDER_WAY, NC_NO_ROOM (not returned for more than 32
@@ -487,10 +428,11 @@ NcChange nc_region_load(NcRegion *region, NcVetted *vetted, NcAct *acts, size_t 
 NcChange nc_region_patch(NcRegion *region, uint32_t at, const uint8_t *bytes, size_t len, NcAct *acts, size_t acts_len);
 
 /*
- * The first step of a deletion: writes its acts as nc_host_delete does. The region still has the chunk, so nc_region_place and
- * nc_region_walk show its bytes, while the host's memory gets stops. Until the last step, which can't be left out, each call that changes
- * the region is refused with NC_UNDER_WAY; calls that only read, and nc_region_seat, are not. A buffer for two acts more than the chunk has
- * bytes is enough; an `acts_len` of 0 begins the deletion without telling its acts.
+ * The first step of a deletion: writes its acts, which are stops at the chunk's marked addresses, NC_SETTLE, stops at its other addresses,
+ * and NC_BUMP. The region still has the chunk, so nc_region_place and nc_region_walk show its bytes, while the host's memory gets stops.
+ * Until the last step, which can't be left out, each call that changes the region is refused with NC_UNDER_WAY; calls that only read, and
+ * nc_region_seat, are not. A buffer for two acts more than the chunk has bytes is enough; an `acts_len` of 0 begins the deletion without
+ * telling its acts.
  * Promised: for NC_OK the deletion of the live chunk at `base` is under way (HasBegun), and the acts are those of the deletion
  * (log_of_delete) [begun]. A refusal is NC_NO_HANDLE; else the first of NC_UNDER_WAY, NC_NO_CHUNK, NC_FULL and NC_NO_ROOM that holds
  * [refused]. A refusal changes nothing [unchanged, untouched]. `at` is 0 [at]. No memory is allocated [tested].

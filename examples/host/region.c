@@ -1,5 +1,6 @@
 /*
- * A host in C with a region by a handle: memory of its own follows the region by the acts that each call writes.
+ * A host in C with a region by a handle: memory of its own follows the region by the acts that each call writes. Before, it decodes, and has
+ * code judged without a region.
  *
  * It executes nothing. After each call it compares its memory with the region's bytes. tools/try-host compiles it as C and as C++ and
  * compares what it prints with region.txt.
@@ -152,16 +153,65 @@ static void delete_chunk(void) {
     end_delete();
 }
 
+static void show_instruction(const char *name, const uint8_t *code, size_t len) {
+    NcInstruction i = nc_host_decode(code, len);
+    printf("%s: fault %u length %u flow %u rel %d reg %u masks %u\n", name, (unsigned)i.fault, (unsigned)i.length, (unsigned)i.flow,
+           (int)i.rel, (unsigned)i.reg, (unsigned)i.masks);
+}
+
+static void show_instructions(const uint8_t *chunk) {
+    static const uint8_t ret[] = {0xC3};
+    show_instruction("mov eax, 5", chunk, LEN);
+    show_instruction("jmp 00010020", chunk + 5, LEN - 5);
+    show_instruction("and ebx, -32", chunk + 32, LEN - 32);
+    show_instruction("jmp ebx", chunk + 35, LEN - 35);
+    show_instruction("mov, cut short", chunk, 4);
+    show_instruction("ret", ret, sizeof ret);
+}
+
+/* The verdict on a chunk at this base and with this length, some bytes of which are others. */
+static void show_verdict(const uint8_t *chunk, const char *name, uint32_t base, size_t len, size_t at, const char *bytes) {
+    uint8_t changed[LEN];
+    NcVerdict v;
+    memcpy(changed, chunk, LEN);
+    memcpy(changed + at, bytes, strlen(bytes));
+    v = nc_host_vet(base, NC_LIMIT(BUNDLES), changed, len);
+    printf("%s: fault %u at %08x\n", name, (unsigned)v.fault, (unsigned)v.at);
+}
+
+static void show_verdicts(const uint8_t *chunk) {
+    show_verdict(chunk, "the chunk", NC_START, LEN, 0, "");
+    show_verdict(chunk, "no bundle start", NC_START + 16, LEN, 0, "");
+    show_verdict(chunk, "31 bytes", NC_START, 31, 0, "");
+    show_verdict(chunk, "into the guard", NC_LIMIT(BUNDLES) - LEN, LEN, 0, "");
+    show_verdict(chunk, "a return", NC_START, LEN, 10, "\xC3");
+    show_verdict(chunk, "across a bundle's end", NC_START, LEN, 30, "\xB8");
+    show_verdict(chunk, "a bare jump", NC_START, LEN, 40, "\xFF\xE3");
+    show_verdict(chunk, "a jump into an instruction", NC_START, LEN, 5, "\xEB\x1A");
+}
+
+/* A bundle a line: i where an instruction starts, a digit where an indirect transfer on that register does. */
+static void show_marks(const uint8_t *chunk) {
+    uint8_t marks[LEN];
+    size_t i;
+    uint32_t fault = nc_host_marks(NC_START, NC_LIMIT(BUNDLES), chunk, LEN, marks, LEN).fault;
+    printf("marks: fault %u\n", (unsigned)fault);
+    for (i = 0; fault == NC_OK && i < LEN; i++) {
+        putchar(marks[i] == NC_UNMARKED ? '.' : marks[i] == NC_PLAIN ? 'i' : (char)('0' + (marks[i] - NC_MASKED(0))));
+        if (i % NC_BUNDLE == NC_BUNDLE - 1) {
+            putchar('\n');
+        }
+    }
+    printf("marks by a short buffer: fault %u\n", (unsigned)nc_host_marks(NC_START, NC_LIMIT(BUNDLES), chunk, LEN, marks, LEN - 1).fault);
+}
+
 /* Where a length is 0 the pointer may be null: no code, no bytes, and no buffer. */
 static void lend_nothing(const uint8_t *chunk, const uint8_t *mov) {
     static NcRegion own;
     uint32_t limit = NC_LIMIT(BUNDLES);
     printf("null: %u", (unsigned)nc_host_decode(NULL, 0).fault);
     printf(" %u", (unsigned)nc_host_vet(NC_START, limit, NULL, 0).fault);
-    printf(" %u", (unsigned)nc_host_marks(NC_START, limit, chunk, LEN, NULL, 0).fault);
-    printf(" %u", (unsigned)nc_host_create(NC_START, limit, chunk, LEN, NULL, 0).fault);
-    printf(" %u", (unsigned)nc_host_delete(NC_START, limit, chunk, LEN, NULL, 0).fault);
-    printf(" %u\n", (unsigned)nc_host_patch(NC_START, limit, chunk, LEN, NC_START, NULL, 0, NULL, 0).fault);
+    printf(" %u\n", (unsigned)nc_host_marks(NC_START, limit, chunk, LEN, NULL, 0).fault);
     printf("null: %u", (unsigned)nc_region_new(BUNDLES, 1, &own));
     printf(" %u", (unsigned)nc_region_create(&own, NC_START, NULL, 0, NULL, 0).fault);
     printf(" %u", (unsigned)nc_region_create(&own, NC_START, chunk, LEN, NULL, 0).fault);
@@ -196,6 +246,25 @@ static void show_acts(const char *name, NcChange told) {
     for (i = 0; told.fault == NC_OK && i < told.count; i++) {
         printf("  %u %08x %08x\n", (unsigned)acts[i].kind, (unsigned)acts[i].at, (unsigned)acts[i].value);
     }
+}
+
+/* Patches of a chunk with their acts, and one for each reason why a patch of a live chunk isn't made. */
+static void try_patches(const uint8_t *chunk) {
+    static const uint8_t seven[] = {0xB8, 0x07, 0x00, 0x00, 0x00, 0xEB, 0x19}, back[] = {0xEB, 0xF9}, nop[] = {0x90}, ret[] = {0xC3};
+    static const uint8_t other_mask[] = {0x83, 0xE0, 0xE0}, middle[] = {0xEB, 0xFA}, two[] = {0x90, 0x90}, inc[] = {0x40};
+    static NcRegion own;
+    printf("own region: %u\n", (unsigned)nc_region_new(BUNDLES, 1, &own));
+    show_acts("create without a buffer", nc_region_create(&own, NC_START, chunk, LEN, NULL, 0));
+    show_acts("mov eax, 7", nc_region_patch(&own, NC_START, seven, sizeof seven, acts, ROOM));
+    show_acts("jmp 00010000", nc_region_patch(&own, NC_START + 5, back, sizeof back, acts, ROOM));
+    show_acts("inc eax", nc_region_patch(&own, NC_START + 7, inc, sizeof inc, acts, ROOM));
+    show_acts("across a bundle's end", nc_region_patch(&own, NC_START + 31, two, sizeof two, acts, ROOM));
+    show_acts("outside", nc_region_patch(&own, NC_START + 64, nop, sizeof nop, acts, ROOM));
+    show_acts("a return", nc_region_patch(&own, NC_START + 7, ret, sizeof ret, acts, ROOM));
+    show_acts("a shorter one", nc_region_patch(&own, NC_START, nop, sizeof nop, acts, ROOM));
+    show_acts("another mask", nc_region_patch(&own, NC_START + 32, other_mask, sizeof other_mask, acts, ROOM));
+    show_acts("a jump into an instruction", nc_region_patch(&own, NC_START + 5, middle, sizeof middle, acts, ROOM));
+    nc_region_free(&own);
 }
 
 /* A chunk that is created and deleted without a buffer, and the runs of both. */
@@ -255,6 +324,9 @@ int main(void) {
     show_fault(NC_OK);
     show_fault(NC_OCCUPIED);
     show_fault(11);
+    show_instructions(chunk);
+    show_verdicts(chunk);
+    show_marks(chunk);
     refuse();
     show_walk(NC_START, 6);
     begin();
@@ -290,6 +362,7 @@ int main(void) {
     lend_nothing(chunk, mov);
     try_sizes();
     try_seats(chunk);
+    try_patches(chunk);
     memset(chunk + 5, 0x90, LEN - 5);
     try_runs(chunk);
     printf("generation: %u\n", (unsigned)nc_region_generation(&region).stamp);

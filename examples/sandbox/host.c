@@ -82,7 +82,7 @@ void host_check_in(void) {
 
 NcVerdict host_load(uint32_t base, const uint8_t *code, uint32_t len) {
     NcVerdict verdict;
-    NcActs told;
+    NcChange told;
     lock();
     told = region_create(region, base, code, len, acts, ROOM);
     text_make(acts, told.count * (told.fault == NC_OK));
@@ -93,7 +93,7 @@ NcVerdict host_load(uint32_t base, const uint8_t *code, uint32_t len) {
 }
 
 uint32_t host_patch(uint32_t at, const uint8_t *bytes, uint32_t len) {
-    NcActs told;
+    NcChange told;
     lock();
     told = region_patch(region, at, bytes, len, acts, ROOM);
     text_make(acts, told.count * (told.fault == NC_OK));
@@ -103,7 +103,7 @@ uint32_t host_patch(uint32_t at, const uint8_t *bytes, uint32_t len) {
 
 /* The stamp is drawn when the last stop stands. */
 uint32_t host_delete(uint32_t base) {
-    NcActs told;
+    NcChange told;
     lock();
     told = region_begin_delete(region, base, acts, ROOM);
     if (told.fault == NC_OK) {

@@ -24,11 +24,6 @@ static void must(uint32_t fault) {
     }
 }
 
-static NcActs told(NcChange change) {
-    NcActs answer = {change.fault, change.at, (uint32_t)change.count};
-    return answer;
-}
-
 Region *region_new(void) {
     Region *region = calloc(1, sizeof *region);
     if (region != NULL && nc_region_new(BUNDLES, SEATS, &region->handle) != NC_OK) {
@@ -38,16 +33,16 @@ Region *region_new(void) {
     return region;
 }
 
-NcActs region_create(Region *region, uint32_t base, const uint8_t *code, size_t len, NcAct *acts, size_t acts_len) {
-    return told(nc_region_create(&region->handle, base, code, len, acts, acts_len));
+NcChange region_create(Region *region, uint32_t base, const uint8_t *code, size_t len, NcAct *acts, size_t acts_len) {
+    return nc_region_create(&region->handle, base, code, len, acts, acts_len);
 }
 
-NcActs region_patch(Region *region, uint32_t at, const uint8_t *bytes, size_t len, NcAct *acts, size_t acts_len) {
-    return told(nc_region_patch(&region->handle, at, bytes, len, acts, acts_len));
+NcChange region_patch(Region *region, uint32_t at, const uint8_t *bytes, size_t len, NcAct *acts, size_t acts_len) {
+    return nc_region_patch(&region->handle, at, bytes, len, acts, acts_len);
 }
 
-NcActs region_begin_delete(Region *region, uint32_t base, NcAct *acts, size_t acts_len) {
-    return told(nc_region_begin_delete(&region->handle, base, acts, acts_len));
+NcChange region_begin_delete(Region *region, uint32_t base, NcAct *acts, size_t acts_len) {
+    return nc_region_begin_delete(&region->handle, base, acts, acts_len);
 }
 
 void region_end_delete(Region *region) {

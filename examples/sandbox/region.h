@@ -11,11 +11,11 @@ typedef struct Seat Seat;
 
 /* One call at a time, under the writer's lock. The acts of a call are made before the next call. */
 Region *region_new(void);
-NcActs region_create(Region *region, uint32_t base, const uint8_t *code, size_t len, NcAct *acts, size_t acts_len);
-NcActs region_patch(Region *region, uint32_t at, const uint8_t *bytes, size_t len, NcAct *acts, size_t acts_len);
+NcChange region_create(Region *region, uint32_t base, const uint8_t *code, size_t len, NcAct *acts, size_t acts_len);
+NcChange region_patch(Region *region, uint32_t at, const uint8_t *bytes, size_t len, NcAct *acts, size_t acts_len);
 
 /* The stops are made between these two; the second draws the stamp. */
-NcActs region_begin_delete(Region *region, uint32_t base, NcAct *acts, size_t acts_len);
+NcChange region_begin_delete(Region *region, uint32_t base, NcAct *acts, size_t acts_len);
 void region_end_delete(Region *region);
 
 /* How many deleted spans are free now: since their stamp every seat has checked in or has been left. */

@@ -73,8 +73,8 @@ static void settle(void) {
     }
 }
 
-void text_make(const NcAct *acts, uint32_t count) {
-    uint32_t i;
+void text_make(const NcAct *acts, size_t count) {
+    size_t i;
     __atomic_add_fetch(&changes, 1, __ATOMIC_SEQ_CST);
     for (i = 0; i < count; i++) {
         if (acts[i].kind == NC_PUT) {

@@ -15,7 +15,7 @@ const uint8_t *text_at(uint32_t at);
 uint8_t text_byte(uint32_t at);
 
 /* Makes the acts of one call, in their order; under the writer's lock. */
-void text_make(const NcAct *acts, uint32_t count);
+void text_make(const NcAct *acts, size_t count);
 
 /* For the control: bytes one after the other, without stops and settlings. */
 void text_tear(uint32_t at, const uint8_t *bytes, uint32_t count);

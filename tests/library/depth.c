@@ -41,27 +41,30 @@ static void expect(Trial *own, bool holds) {
 
 /* ---- The calls */
 
-/* The calls over lent memory, for code that gets this fault. */
-static void lend(Trial *own, uint32_t fault) {
-    uint32_t limit = own->limit;
-    expect(own, nc_host_vet(NC_START, limit, own->code, own->len).fault == fault);
-    expect(own, nc_host_marks(NC_START, limit, own->code, own->len, own->marks, own->len).fault == fault);
-    expect(own, nc_host_create(NC_START, limit, own->code, own->len, own->acts, own->room).fault == fault);
-    expect(own, nc_host_delete(NC_START, limit, own->code, own->len, own->acts, own->room).fault == fault);
-    expect(own, nc_host_patch(NC_START, limit, own->code, own->len, NC_START + NUMBER, number, sizeof number, own->acts,
-                              own->room).fault == fault);
+/* The calls without a handle, for code that gets this verdict. */
+static void judge(Trial *own, uint32_t fault) {
+    expect(own, nc_host_vet(NC_START, own->limit, own->code, own->len).fault == fault);
+    expect(own, nc_host_marks(NC_START, own->limit, own->code, own->len, own->marks, own->len).fault == fault);
+}
+
+/* Code that gets this fault is refused by each call that vets. */
+static void refuse(Trial *own, NcRegion *region, uint32_t fault) {
+    NcVetted vetted = {NULL};
+    judge(own, fault);
+    expect(own, nc_vetted_new(NC_START, own->limit, own->code, own->len, &vetted).fault == fault);
+    expect(own, nc_region_create(region, NC_START, own->code, own->len, own->acts, own->room).fault == fault);
 }
 
 /* Valid code, and code with each kind of fault at its end. */
-static void lend_each(Trial *own) {
+static void judge_each(Trial *own, NcRegion *region) {
     uint8_t *last = own->code + own->len - NC_BUNDLE;
     expect(own, nc_host_decode(own->code, own->len).fault == NC_OK && nc_host_version() == NC_VERSION);
-    lend(own, NC_OK);
+    judge(own, NC_OK);
     last[NC_BUNDLE - 1] = 0xC3;
-    lend(own, NC_NOT_PERMITTED);
+    refuse(own, region, NC_NOT_PERMITTED);
     last[NC_BUNDLE - 1] = bundle[NC_BUNDLE - 1];
     last[1] = NUMBER - 1; /* into the next instruction */
-    lend(own, NC_BAD_TARGET);
+    refuse(own, region, NC_BAD_TARGET);
     last[1] = NEXT;
 }
 
@@ -108,8 +111,8 @@ static void *make_calls(void *given) {
     NcRegion region = {NULL};
     NcSeat seats[SEATS] = {{NULL}, {NULL}};
     own->top = __builtin_frame_address(0);
-    lend_each(own);
     expect(own, nc_region_new(2 * own->bundles + 1, SEATS, &region) == NC_OK);
+    judge_each(own, &region);
     expect(own, nc_region_seat(&region, &seats[0]) == NC_OK && nc_region_seat(&region, &seats[1]) == NC_OK);
     nc_seat_leave(&seats[1]);
     hold_large(own, &region);

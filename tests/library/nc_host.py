@@ -35,7 +35,6 @@ def struct(name, **fields):
 Instruction = struct("Instruction", fault=u32, length=u32, flow=u32, rel=ctypes.c_int32, reg=u32, masks=u32)
 Verdict = struct("Verdict", fault=u32, at=u32)
 Act = struct("Act", kind=u32, at=u32, value=u32)
-Acts = struct("Acts", fault=u32, at=u32, count=u32)
 Change = struct("Change", fault=u32, at=u32, count=size)
 Stamp = struct("Stamp", stamp=ctypes.c_uint64, fault=u32)
 Count = struct("Count", fault=u32, count=u32)
@@ -52,9 +51,6 @@ CALLS = {
     "nc_host_decode": (Instruction, ctypes.c_char_p, size),
     "nc_host_vet": (Verdict, u32, u32, ctypes.c_char_p, size),
     "nc_host_marks": (Verdict, u32, u32, ctypes.c_char_p, size, ctypes.c_char_p, size),
-    "nc_host_create": (Acts, u32, u32, ctypes.c_char_p, size, to(Act), size),
-    "nc_host_patch": (Acts, u32, u32, ctypes.c_char_p, size, u32, ctypes.c_char_p, size, to(Act), size),
-    "nc_host_delete": (Acts, u32, u32, ctypes.c_char_p, size, to(Act), size),
     "nc_region_new": (u32, u32, u32, to(Handle)),
     "nc_region_free": (None, to(Handle)),
     "nc_region_seat": (u32, to(Handle), to(Handle)),

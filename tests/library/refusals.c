@@ -76,8 +76,6 @@ static void need(bool holds) {
 
 static uint32_t vet(void) { return nc_host_vet(base, LIMIT, BYTES(code)).fault; }
 static uint32_t mark(void) { return nc_host_marks(base, LIMIT, BYTES(code), buffers.marks, sizeof buffers.marks).fault; }
-static uint32_t host_create(void) { return nc_host_create(base, LIMIT, BYTES(code), buffers.acts, ROOM).fault; }
-static uint32_t host_delete(void) { return nc_host_delete(base, LIMIT, BYTES(code), buffers.acts, ROOM).fault; }
 static uint32_t new_region(void) { return nc_region_new(BUNDLES, 1, &region); }
 static uint32_t seat(void) { return nc_region_seat(&region, &seats[0]); }
 static uint32_t create(void) { return nc_region_create(&region, base, BYTES(code), buffers.acts, ROOM).fault; }
@@ -88,10 +86,6 @@ static uint32_t create_in_list(void) {
     uint32_t fault = create();
     taken[(base - NC_START) / NC_BUNDLE] |= fault == NC_OK;
     return fault;
-}
-
-static uint32_t host_patch(void) {
-    return nc_host_patch(base, LIMIT, BYTES(code), base + 2, BYTES("\xB8\x02\x01\x01\x01"), buffers.acts, ROOM).fault;
 }
 
 static uint32_t walk(void) {
@@ -278,9 +272,6 @@ static const Call calls[] = {
     {"vet-return", RETURN, NO_REGION, 0, 0, vet, show_marks},
     {"marks-pair", NOPS27 PAIR, NO_REGION, 0, 0, mark, show_marks},
     {"marks-jumps", JUMPS, NO_REGION, 0, 0, mark, show_marks},
-    {"host-create", JUMP, NO_REGION, 0, 0, host_create, show_acts},
-    {"host-patch", SEVERAL, NO_REGION, 0, 0, host_patch, show_acts},
-    {"host-delete", JUMP, NO_REGION, 0, 0, host_delete, show_acts},
     {"region", JUMP, NO_REGION, 0, 0, new_region, show_region},
     {"seat", JUMP, REGION, 0, 0, seat, show_seat},
     {"create", JUMP, REGION, 0, 0, create, show_change},

@@ -20,7 +20,7 @@ class Header(unittest.TestCase):
 
     def test_fields(self):
         text = HEADER.read_text(encoding="utf-8")
-        for kind in (nc.Instruction, nc.Verdict, nc.Act, nc.Acts, nc.Change, nc.Stamp, nc.Count, nc.Chunk, nc.Place, nc.Walk):
+        for kind in (nc.Instruction, nc.Verdict, nc.Act, nc.Change, nc.Stamp, nc.Count, nc.Chunk, nc.Place, nc.Walk):
             with self.subTest(kind.__name__):
                 body = re.search(r"typedef struct Nc%s \{(.*?)\n\}" % kind.__name__, text, re.S).group(1)
                 fields = re.findall(r"^\s*(?:u?int\d+_t|size_t) (\w+);", body, re.M)

@@ -195,10 +195,7 @@ class Largest(unittest.TestCase):
 
     def test_no_room(self):
         """A buffer for all acts of this chunk would have 800 MB; one for a single act is refused."""
-        host, words = nc.LIBRARY, (nc.START, LIMIT, self.code, LENGTH)
-        self.assert_no_room(host.nc_host_create, *words)
-        self.assert_no_room(host.nc_host_delete, *words)
-        region, vetted = nc.Region(BUNDLES + 1), nc.Vetted(*words[:3])
+        host, region, vetted = nc.LIBRARY, nc.Region(BUNDLES + 1), nc.Vetted(nc.START, LIMIT, self.code)
         self.assert_no_room(host.nc_region_create, region.handle, nc.START, self.code, LENGTH)
         self.assert_no_room(host.nc_region_load, region.handle, vetted.handle)
         self.assertEqual(region.chunks(), [])
@@ -228,11 +225,10 @@ class Largest(unittest.TestCase):
         self.assert_text(region, self.code, self.marks, every=9)
 
     def test_patches(self):
-        """The last jump is made to lead to the first bundle, on a handle and without one."""
+        """The last jump is made to lead to the first bundle."""
         at, new = nc.START + LENGTH - 2 * nc.BUNDLE + 27, b"\xe9" + (nc.BUNDLE - LENGTH).to_bytes(4, "little", signed=True)
         puts = [(nc.PUT, at + i, byte) for i, byte in enumerate(new)]
         acts = [(nc.PUT, at, nc.STOP), (nc.SETTLE, 0, 0), *puts[1:], (nc.SETTLE, 0, 0), puts[0]]
-        self.assertEqual(nc.written(nc.LIBRARY.nc_host_patch, nc.START, LIMIT, self.code, LENGTH, at, new, 5, room=15), (nc.OK, 0, acts))
         region = self.created()
         self.assertEqual(region.patch(at, new), (nc.OK, 0, acts))
         self.assert_text(region, replaced(self.code, at - nc.START, new), self.marks, every=9)

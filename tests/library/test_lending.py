@@ -20,26 +20,17 @@ def as_list(kind, address):
 
 
 def lent(address):
-    """The faults of the calls over lent memory."""
-    none, acts = as_bytes(address), as_list(nc.Act, address)
-    chunk = nc.START, END, CODE, len(CODE)
+    """The faults of the calls without a handle."""
+    none = as_bytes(address)
     return [
         LIBRARY.nc_host_decode(none, 0).fault,
         LIBRARY.nc_host_vet(nc.START, END, none, 0).fault,
         LIBRARY.nc_host_marks(nc.START, END, none, 0, none, 0).fault,
-        LIBRARY.nc_host_marks(*chunk, none, 0).fault,
-        LIBRARY.nc_host_create(nc.START, END, none, 0, acts, 0).fault,
-        LIBRARY.nc_host_create(*chunk, acts, 0).fault,
-        LIBRARY.nc_host_delete(nc.START, END, none, 0, acts, 0).fault,
-        LIBRARY.nc_host_delete(*chunk, acts, 0).fault,
-        LIBRARY.nc_host_patch(nc.START, END, none, 0, nc.START, none, 0, acts, 0).fault,
-        LIBRARY.nc_host_patch(*chunk, nc.START, none, 0, acts, 0).fault,
-        LIBRARY.nc_host_patch(*chunk, nc.START, NUMBER, len(NUMBER), acts, 0).fault,
+        LIBRARY.nc_host_marks(nc.START, END, CODE, len(CODE), none, 0).fault,
     ]
 
 
-LENT = [nc.CUT_SHORT, nc.BAD_LENGTH, nc.BAD_LENGTH, nc.NO_ROOM, nc.BAD_LENGTH, nc.NO_ROOM, nc.BAD_LENGTH, nc.NO_ROOM, nc.BAD_LENGTH,
-        nc.PATCH_BAD_SPAN, nc.NO_ROOM]
+LENT = [nc.CUT_SHORT, nc.BAD_LENGTH, nc.BAD_LENGTH, nc.NO_ROOM]
 
 
 def held(address):

@@ -160,15 +160,14 @@ class GivenBack(unittest.TestCase):
         free_vetted(vetted)
         free_vetted(again)
 
-    def test_over_lent_memory(self):
-        end = nc.limit(4)
-        for code, wanted in (CODE, nc.OK), (filled("c3"), nc.NOT_PERMITTED), (filled("eb7e"), nc.BAD_TARGET):
-            words = nc.START, end, code, len(code)
+    def test_verdicts(self):
+        region, end = nc.Region(4, 1), nc.limit(4)
+        for code, wanted in (filled("c3"), nc.NOT_PERMITTED), (filled("eb7e"), nc.BAD_TARGET), (CODE, nc.OK):
             self.assertEqual(nc.vet(nc.START, end, code).fault, wanted)
             self.assertEqual(nc.marks(nc.START, end, code)[0].fault, wanted)
-            self.assertEqual(nc.written(LIBRARY.nc_host_create, *words, room=len(code) + 2).fault, wanted)
-            self.assertEqual(nc.written(LIBRARY.nc_host_delete, *words, room=len(code) + 2).fault, wanted)
-            self.assertEqual(nc.written(LIBRARY.nc_host_patch, *words, PLACE, OTHER, len(OTHER), room=len(code)).fault, wanted)
+            self.assertEqual(nc.Vetted(nc.START, end, code).verdict.fault, wanted)
+            self.assertEqual(region.create(nc.START, code).fault, wanted)
+        free(region)
 
     def test_walks(self):
         region = nc.Region(4, 1)

@@ -1,5 +1,3 @@
--- Acts as a host reads them, and the contents of the buffer into which they were written.
+-- Acts and runs as a host reads them.
 pub mod Shown
-pub mod Standing
-pub mod Written
 pub mod Runs

@@ -1,4 +1,6 @@
 -- Definitions that only private contracts cite, and what handles own.
+pub mod Standing
+pub mod Written
 pub mod Writing
 pub mod Running
 pub mod Attending

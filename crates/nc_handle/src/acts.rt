@@ -10,7 +10,7 @@ mod replacing;
 mod runs;
 
 pub use act::NcAct;
-pub use putting::{write_creation, write_deletion};
-pub use reading::ReadChunk;
-pub use replacing::write_patch;
+pub(crate) use putting::{write_creation, write_deletion};
+pub(crate) use reading::ReadChunk;
+pub(crate) use replacing::write_patch;
 pub(crate) use runs::{write_creation_runs, write_deletion_runs};

@@ -6,8 +6,7 @@
 //! `Guest` is called by its own thread, without a lock.
 //!
 //! An [`NcAct`] is an entry of the log by which `nc_region` changes a text. The calls of a `Held` write such a log into a
-//! buffer that the host lends. [`write_creation`], [`write_deletion`] and [`write_patch`] write it without a region, from a
-//! chunk that is read place by place ([`ReadChunk`]) or from its bytes.
+//! buffer that the host lends.
 #![tactic(auto)]
 
 mod acts;
@@ -28,7 +27,7 @@ mod span;
 mod vetted_handle;
 mod window;
 
-pub use acts::{NcAct, ReadChunk, write_creation, write_deletion, write_patch};
+pub use acts::NcAct;
 pub use fault::{LoadFault, NewFault, PatchFault, RetireFault, RunsFault, SeatFault};
 pub use guest::Guest;
 pub use held::Held;

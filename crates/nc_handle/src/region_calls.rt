@@ -1,7 +1,6 @@
 //! The calls that change a region that owns everything it needs, with the acts of each change.
 
 ghost use Rattle.std.specs.Prelude.{◌≡◌, ◌+◌, ◌*◌, ◌^◌, ◌<◌, ◌≤◌, ◌↔◌, ℕ, List, IfOk, IfErr, IfSome, IsNone, IsTrue, OnOk, OnErr, None, length};
-ghost use Rattle.nc_text.specs.Machine.{IsConfined};
 ghost use Rattle.nc_text.specs.Places.{limit_of};
 ghost use Rattle.nc_vet.specs.Chunk.{Piece};
 ghost use Rattle.nc_vet.specs.Faults.{HasGoodSpan};
@@ -10,7 +9,7 @@ ghost use Rattle.nc_region.specs.Patch.{AreBytesOf, IsModified, IsPatch, log_of_
 ghost use Rattle.nc_region.specs.Region.{IsCreated, Meets};
 ghost use Rattle.nc_calls.specs.Calls.{no_details};
 ghost use Rattle.nc_calls.specs.Histories.{LogsCall};
-ghost use Rattle.nc_handle.specs.acts.Standing.{AreBytesAt};
+ghost use Rattle.nc_handle.specs.machinery.Standing.{AreBytesAt};
 ghost use Rattle.nc_handle.specs.Held.{IsLiveAt, IsShort, IsShortForPatch, HasBegun, HasEnded, IsNotLoaded, MayRefuseBegin, MayRefuseLoad, MayRefuseModify};
 ghost use Rattle.nc_handle.specs.Shown.{IsTold, bytes_of_span};
 

@@ -1,6 +1,5 @@
 pub mod Shown
 pub mod Outcomes
-pub mod Patches
 pub mod Handles
 pub mod Seats
 pub mod Looks

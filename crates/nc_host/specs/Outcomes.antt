@@ -1,11 +1,9 @@
 -- The results that a host's calls report for a chunk.
-use Rattle.std.specs.Prelude.{◌≡◌, ℕ, ◌+◌, ◌<◌, ◌≤◌, ◌⊎◌, List, length, slice_index_or}
+use Rattle.std.specs.Prelude.{◌≡◌, ℕ, ◌<◌, ◌≤◌, ◌⊎◌, List}
 use Rattle.nc_decode.specs.declared.instruction.Mark.{Mark}
-use Rattle.nc_decode.specs.declared.instruction.Mark.TheVariants.{Unmarked}
 use Rattle.nc_vet.specs.declared.fault.VetFault.{VetFault}
 use Rattle.nc_vet.specs.Chunk.{IsValid}
 use Rattle.nc_vet.specs.Faults.{HasFault}
-use Rattle.nc_text.specs.Marks.{mark_at}
 use Rattle.nc_host.specs.Shown.{fault_number, fault_place}
 
 -- the code is a valid chunk at this base for this limit, with these marks
@@ -24,7 +22,3 @@ IsOutcome base limit code wanted room fault at =
     ((fault ≡ 0) × (at ≡ 0) × (wanted ≤ room) × ((marks : List Mark) × IsAccepted base limit code marks))
     ⊎ (((fault ≡ 9) × (at ≡ 0) × (room < wanted) × ((marks : List Mark) × IsAccepted base limit code marks))
     ⊎ IsChunkFault base limit code fault at)
-
--- the text has these marks from the base on
-abbrev pub StandAt : List Mark → ℕ → List Mark → Type 0
-StandAt text base marks = (k : ℕ) → k < length marks → mark_at text (base + k) ≡ slice_index_or marks k Unmarked

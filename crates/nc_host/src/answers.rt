@@ -28,18 +28,6 @@ pub struct NcVerdict {
     pub at: u32,
 }
 
-/// A verdict, and the number of acts.
-#[repr(C)]
-#[derive(Clone, Copy)]
-pub struct NcActs {
-    /// 0, or the number of the fault.
-    pub fault: u32,
-    /// The address of the fault, for a fault that has one, else 0.
-    pub at: u32,
-    /// The number of acts, settlings among them: written where the fault is 0, needed where there is no room, else 0.
-    pub count: u32,
-}
-
 /// The buffer is too short.
 pub(crate) const NO_ROOM: u32 = 9;
 

@@ -1,4 +1,4 @@
-//! Calls for a host in another language: on a region that it holds by a handle, and over memory that it lends.
+//! Calls for a host in another language: on a region that it holds by a handle, and the verdicts on code that it lends.
 //!
 //! The library starts no thread, and keeps nothing between two calls except in handles. Each call may be made from any thread,
 //! but those that take memory must not be made from a signal handler or a forked child. Each call accepts any arguments: a C
@@ -17,25 +17,20 @@
 //!
 //! [`nc_host_version`] returns the library's version.
 //!
-//! Over lent memory:
+//! On lent code, without a region:
 //!
 //! - [`nc_host_decode`]: the instruction with which some bytes begin.
 //! - [`nc_host_vet`], [`nc_host_marks`]: the verdict on a chunk, and its marks.
-//! - [`nc_host_create`], [`nc_host_patch`], [`nc_host_delete`]: the acts, in their order, that put a chunk into a text that
-//!   threads are running, change it there, or turn it into stops, with the places where the host settles.
 #![tactic(auto)]
 
-mod acting;
 mod answers;
 mod changing;
 mod chunks;
 mod decoding;
 mod deleting;
-mod lent;
 mod looking;
 mod marking;
 mod numbers;
-mod patching;
 mod region_answers;
 mod regions;
 mod running;
@@ -45,15 +40,13 @@ mod vetted;
 mod vetting;
 mod walking;
 
-pub use acting::{nc_host_create, nc_host_delete};
-pub use answers::{NcActs, NcInstruction, NcVerdict};
+pub use answers::{NcInstruction, NcVerdict};
 pub use changing::{nc_region_create, nc_region_patch};
 pub use decoding::nc_host_decode;
 pub use deleting::{nc_region_begin_delete, nc_region_end_delete, nc_region_reclaim};
 pub use looking::{nc_region_chunk, nc_region_chunk_at, nc_region_generation, nc_region_place};
 pub use marking::nc_host_marks;
 pub use nc_handle::NcAct;
-pub use patching::nc_host_patch;
 pub use region_answers::{NcChange, NcChunk, NcCount, NcPlace, NcStamp, NcWalk};
 pub use regions::{nc_region_free, nc_region_new, nc_region_seat};
 pub use running::{nc_region_creation_runs, nc_region_deletion_runs};

@@ -1,12 +1,12 @@
 //! The numbers of refusals.
 
 ghost use Rattle.std.specs.Prelude.{◌≡◌};
+ghost use Rattle.nc_host.specs.Shown.{patch_number};
 ghost use Rattle.nc_host.specs.Handles.{new_number, seat_number, load_number, load_wanted, modify_number, modify_wanted, retire_number, retire_wanted};
 
 use crate::answers::{NO_MEMORY, NO_ROOM};
-use crate::patching::patch_number;
 use nc_handle::{LoadFault, NewFault, PatchFault, RetireFault, SeatFault};
-use nc_region::{CreateFault, DeleteFault};
+use nc_region::{CreateFault, DeleteFault, ModifyFault};
 
 /// The handle is empty.
 pub(crate) const NOTHING: u32 = 32;
@@ -60,6 +60,20 @@ pub(crate) fn load_numbers(fault: LoadFault) -> (u32, usize)
         LoadFault::Refused(CreateFault::WrongLimit) => (39, 0),
         LoadFault::Refused(CreateFault::Occupied) => (40, 0),
         LoadFault::Refused(CreateFault::OutOfMemory) => (NO_MEMORY, 0),
+    }
+}
+
+/// The number of a patch's fault.
+fn patch_number(fault: ModifyFault) -> u32
+    ensures { result ≡ patch_number fault }
+{
+    match fault {
+        ModifyFault::BadSpan => 16,
+        ModifyFault::NotLive => 17,
+        ModifyFault::NotPermitted => 18,
+        ModifyFault::Boundaries => 19,
+        ModifyFault::PairTouched => 20,
+        ModifyFault::BadTarget => 21,
     }
 }
 

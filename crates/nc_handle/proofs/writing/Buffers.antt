@@ -5,7 +5,7 @@ use Rattle.std.proofs.lemmas.List.{append-nil, length-map, map-append, length-ap
 use Rattle.nc_region.specs.declared.acts.Entry.{Entry}
 use Rattle.nc_handle.specs.declared.acts.act.NcAct.{NcAct}
 use Rattle.nc_handle.specs.acts.Shown.{entry_of, over}
-use Rattle.nc_handle.specs.acts.Written.{HasWritten}
+use Rattle.nc_handle.specs.machinery.Written.{HasWritten}
 
 drop_none : {X : Type 0} (n : ℕ) → drop {A = X} n [] ≡ []
 drop_none zero = refl

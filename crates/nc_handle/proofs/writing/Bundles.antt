@@ -11,7 +11,7 @@ use Rattle.nc_region.specs.Log.{unsettled}
 use Rattle.nc_region.proofs.Offered.{is_start_false}
 use Rattle.nc_handle.specs.declared.acts.act.NcAct.{NcAct}
 use Rattle.nc_handle.specs.acts.Shown.{act_of}
-use Rattle.nc_handle.specs.acts.Written.{Adds}
+use Rattle.nc_handle.specs.machinery.Written.{Adds}
 use Rattle.nc_handle.specs.machinery.Writing.{HasPutUpTo}
 use Rattle.nc_handle.proofs.writing.PutLists.{puts_within}
 use Rattle.nc_handle.proofs.writing.WriteSteps.{put_none, put_next, pass_next, put_all, next_fits, adds_both}

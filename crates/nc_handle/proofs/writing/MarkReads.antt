@@ -1,11 +1,10 @@
--- What is read at a place: whether a bundle begins, a mark, a bit, a stop.
-use Rattle.std.proofs.Common.{◌≡◌, ℕ, zero, suc, ◌+◌, ◌-◌, ◌%◌, ◌==◌, ◌<◌, ◌^◌, Bool, true, false, not, length, replicate, get_or, ap, arith, refl, sym, ◌∙◌, w32}
+-- What is read at a place: whether a bundle begins, a mark, a bit.
+use Rattle.std.proofs.Common.{◌≡◌, ℕ, zero, suc, ◌+◌, ◌-◌, ◌%◌, ◌==◌, ◌<◌, ◌^◌, Bool, true, false, not, ap, arith, refl, sym, ◌∙◌, w32}
 use Rattle.std.specs.Int.{bit_at, bit_not}
 use Rattle.std.proofs.lemmas.Nat.Bits.{bit_at_not, bit_at_lowest, bit_at-suc, bit_at-zero, bit_at-lt}
 use Rattle.nc_decode.specs.declared.instruction.Mark.TheVariants.{Unmarked, Plain, After}
 use Rattle.nc_text.specs.Marks.{mark_bit}
 use Rattle.nc_region.specs.Acts.{is_start, is_inside, is_mark}
-use Rattle.std.proofs.lemmas.List.{length-replicate, get_or-replicate}
 use Rattle.nc_decode.specs.declared.instruction.Mark.{Mark}
 use Rattle.nc_region.proofs.Offered.{is_start_false}
 use Rattle.nc_handle.specs.machinery.Writing.{mark_if, marked_if}
@@ -15,21 +14,7 @@ pub mark_read : (marked : Bool) (marks : ℕ → Mark) (base i : ℕ) → marked
 mark_read marked marks base i =
     let here : base + i - base ≡ i = omega arith in ap (λ (k : ℕ). mark_if marked (marks k)) here
 
--- a place of a list of stops
-pub within_stops : (n i : ℕ) → i < n → i < length (replicate {A = ℕ} n 244)
-within_stops n i lt = omega (arith, lt, length-replicate {A = ℕ} n 244)
-
--- a stop among as many as there are places
-pub stop_read : (n i : ℕ) → i < n → get_or (replicate {A = ℕ} n 244) i 0 ≡ 244
-stop_read n i lt = get_or-replicate n i 244 0 lt
-
--- the bit of a mark is one bit
-pub small_mark_bit : (mark : Mark) → mark_bit mark < 2
-small_mark_bit Unmarked = omega arith
-small_mark_bit Plain = omega arith
-small_mark_bit (After register) = omega arith
-
--- it is set where the mark stands for a state
+-- the bit of a mark is set where the mark stands for a state
 pub bit_is_mark : (mark : Mark) → (mark_bit mark == 1) ≡ is_mark mark
 bit_is_mark Unmarked = refl
 bit_is_mark Plain = refl

@@ -13,7 +13,7 @@ use Rattle.nc_region.specs.Log.{unsettled}
 use Rattle.nc_region.specs.Patch.{any_place, stands_there, log_of_instruction, log_of_modify}
 use Rattle.nc_region.proofs.Offered.{Parted, slice_rest}
 use Rattle.nc_handle.specs.declared.acts.act.NcAct.{NcAct}
-use Rattle.nc_handle.specs.acts.Written.{Adds}
+use Rattle.nc_handle.specs.machinery.Written.{Adds}
 use Rattle.nc_handle.specs.machinery.Writing.{HasPutUpTo}
 use Rattle.nc_handle.proofs.writing.WriteSteps.{put_all, adds_both}
 

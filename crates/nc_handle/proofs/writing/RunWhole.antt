@@ -12,7 +12,7 @@ use Rattle.nc_region.specs.Acts.{puts_where, is_start, is_inside, is_marked_at}
 use Rattle.nc_region.specs.Log.{unsettled, log_of_create, log_of_delete}
 use Rattle.nc_handle.specs.declared.acts.act.NcAct.{NcAct}
 use Rattle.nc_handle.specs.acts.Shown.{entry_of}
-use Rattle.nc_handle.specs.acts.Standing.{AreMarksAt}
+use Rattle.nc_handle.specs.machinery.Standing.{AreMarksAt}
 use Rattle.nc_handle.specs.acts.Runs.{Run, Single, PutRun, StopRun, runs_where, runs_of_create, runs_of_delete, HasRuns}
 use Rattle.nc_handle.specs.machinery.Running.{AddsRuns}
 use Rattle.nc_handle.specs.machinery.Writing.{mark_if, marked_if}

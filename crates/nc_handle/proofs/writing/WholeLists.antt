@@ -12,8 +12,8 @@ use Rattle.nc_region.specs.Acts.{puts_where, is_start, is_inside, is_marked_at}
 use Rattle.nc_region.specs.Log.{unsettled, log_of_create, log_of_delete}
 use Rattle.nc_handle.specs.declared.acts.act.NcAct.{NcAct}
 use Rattle.nc_handle.specs.acts.Shown.{entry_of}
-use Rattle.nc_handle.specs.acts.Standing.{AreMarksAt}
-use Rattle.nc_handle.specs.acts.Written.{HasWritten, Adds}
+use Rattle.nc_handle.specs.machinery.Standing.{AreMarksAt}
+use Rattle.nc_handle.specs.machinery.Written.{HasWritten, Adds}
 use Rattle.nc_handle.specs.machinery.Writing.{HasPutUpTo, mark_if, marked_if}
 use Rattle.nc_handle.proofs.writing.PutLists.{puts_of_both, puts_same}
 use Rattle.nc_handle.proofs.writing.WriteSteps.{put_all, adds_one, adds_both}

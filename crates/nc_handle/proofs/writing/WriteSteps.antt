@@ -11,7 +11,7 @@ use Rattle.nc_region.specs.Acts.{puts_where}
 use Rattle.nc_region.specs.Log.{unsettled}
 use Rattle.nc_handle.specs.declared.acts.act.NcAct.{NcAct}
 use Rattle.nc_handle.specs.acts.Shown.{act_of, entry_of}
-use Rattle.nc_handle.specs.acts.Written.{HasWritten, Adds}
+use Rattle.nc_handle.specs.machinery.Written.{HasWritten, Adds}
 use Rattle.nc_handle.specs.machinery.Writing.{HasPutUpTo}
 use Rattle.nc_handle.proofs.writing.Buffers.{write_one}
 use Rattle.nc_handle.proofs.writing.PutLists.{put_in, put_out, put_fits}

@@ -6,7 +6,7 @@ use Rattle.nc_region.specs.declared.acts.Entry.{Entry}
 use Rattle.nc_region.specs.Acts.{puts_where, is_start, is_inside, is_mark}
 use Rattle.nc_region.specs.Log.{unsettled}
 use Rattle.nc_handle.specs.declared.acts.act.NcAct.{NcAct}
-use Rattle.nc_handle.specs.acts.Written.{HasWritten}
+use Rattle.nc_handle.specs.machinery.Written.{HasWritten}
 
 -- The first n of these bytes have been examined, and the puts of those at places that pass the test follow the entries that
 -- the buffer had at first.

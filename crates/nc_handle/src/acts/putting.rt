@@ -1,48 +1,18 @@
 //! The acts of a creation and of a deletion with their settlings, written into a host's buffer.
 
-ghost use Rattle.std.specs.Prelude.{◌≡◌, ◌+◌, ◌*◌, ◌%◌, ◌==◌, ◌<◌, ◌≤◌, ◌^◌, ℕ, List, length, take, drop, replicate};
+ghost use Rattle.std.specs.Prelude.{◌≡◌, ◌+◌, ◌%◌, ◌==◌, ◌<◌, ◌≤◌, ◌^◌, ℕ, List, length, take, drop, replicate};
 ghost use Rattle.std.specs.Int.{bit_at};
 ghost use Rattle.nc_decode.specs.declared.instruction.Mark.{Mark};
 ghost use Rattle.nc_region.specs.Acts.{puts_where, is_inside};
 ghost use Rattle.nc_region.specs.Log.{log_of_create, log_of_delete};
-ghost use Rattle.nc_handle.specs.acts.Standing.{AreMarksAt};
-ghost use Rattle.nc_handle.specs.acts.Written.{HasWritten};
+ghost use Rattle.nc_handle.specs.machinery.Standing.{AreMarksAt};
+ghost use Rattle.nc_handle.specs.machinery.Written.{HasWritten};
 ghost use Rattle.nc_handle.specs.machinery.Writing.{HasPutUpTo, starts_if, mark_if, marked_if, is_among};
 
 use crate::acts::act::NcAct;
 use crate::acts::entries::{STOP, bump, mark_span, put, settle, write};
 use crate::acts::reading::ReadChunk;
-use nc_decode::{BUNDLE, Mark};
 use nc_text::lowest_place;
-
-/// Whether the place is a bundle start, or, with `starts` false, whether it isn't one.
-fn is_chosen(at: u32, starts: bool) -> bool
-    ensures { result ≡ starts_if starts at }
-{
-    if starts {
-        at % BUNDLE == 0
-    } else {
-        at % BUNDLE != 0
-    }
-}
-
-/// Whether the mark stands for a state, or, with `marked` false, whether it stands for none.
-fn is_as(mark: Mark, marked: bool) -> bool
-    ensures { result ≡ mark_if marked mark }
-{
-    match mark {
-        Mark::Unmarked => !marked,
-        Mark::Plain | Mark::After(_) => marked,
-    }
-}
-
-/// The number of a chunk's whole bundles, or 0 if the chunk doesn't begin at a bundle start.
-fn whole_bundles(base: u32, len: usize) -> usize
-    ensures within { 32 * result ≤ len }
-    ensures start { 0 < result → base % 32 ≡ 0 }
-{
-    if base % BUNDLE == 0 { len / 32 } else { 0 }
-}
 
 /// Writes the puts of a bundle's bytes but for the first, in ascending order. Returns the new number of acts.
 fn write_inside(acts: &mut [NcAct], from: usize, at: u32, bytes: &[u8]) -> usize
@@ -90,21 +60,15 @@ fn write_code<C: ReadChunk>(
     chunk: &C,
     starts: bool,
 ) -> usize
+    requires start { base % 32 ≡ 0 }
     requires high { base + length (C.code chunk.now) < 2 ^ 32 }
+    requires whole { length (C.code chunk.now) % 32 ≡ 0 }
     requires room { from + length (puts_where (starts_if starts) base (C.code chunk.now)) ≤ length acts.old }
     ensures { HasPutUpTo (starts_if starts) base (C.code chunk.now) acts.old from (length (C.code chunk.now)) acts.new result }
 {
-    let whole = whole_bundles(base, chunk.len());
     let mut count = from;
-    for n in 0..whole {
+    for n in 0..chunk.len() / 32 {
         count = write_bundle(acts, count, base + 32 * n as u32, chunk, 32 * n, starts);
-    }
-    // The bytes behind the last whole bundle.
-    for i in 32 * whole..chunk.len() {
-        let at = base + i as u32;
-        if is_chosen(at, starts) {
-            count = write(acts, count, put(at, chunk.byte(i)));
-        }
     }
     count
 }
@@ -145,6 +109,7 @@ fn write_stops<C: ReadChunk>(
     marked: bool,
 ) -> usize
     requires high { base + length (C.code chunk.now) < 2 ^ 32 }
+    requires whole { length (C.code chunk.now) % 32 ≡ 0 }
     requires room { from + length (puts_where (marked_if marked (C.marks chunk.now) base) base (replicate (length (C.code chunk.now)) 0xF4))
         ≤ length acts.old }
     ensures { HasPutUpTo (marked_if marked (C.marks chunk.now) base) base (replicate (length (C.code chunk.now)) 0xF4) acts.old from
@@ -155,18 +120,14 @@ fn write_stops<C: ReadChunk>(
         let places = places_of(chunk, 32 * n, marked);
         count = write_places(acts, count, base + 32 * n as u32, places);
     }
-    // The places behind the last whole 32.
-    for i in 32 * (chunk.len() / 32)..chunk.len() {
-        if is_as(chunk.mark(i), marked) {
-            count = write(acts, count, put(base + i as u32, STOP));
-        }
-    }
     count
 }
 
 /// Writes the acts of a creation, with its settling: two more than the chunk has bytes.
-pub fn write_creation<C: ReadChunk>(acts: &mut [NcAct], base: u32, chunk: &C)
+pub(crate) fn write_creation<C: ReadChunk>(acts: &mut [NcAct], base: u32, chunk: &C)
+    requires start { base % 32 ≡ 0 }
     requires high { base + length (C.code chunk.now) < 2 ^ 32 }
+    requires whole { length (C.code chunk.now) % 32 ≡ 0 }
     requires room { length (C.code chunk.now) + 2 ≤ length acts.old }
     ensures { HasWritten acts.old acts.new (length (C.code chunk.now) + 2) (log_of_create base (C.code chunk.now)) }
 {
@@ -177,8 +138,9 @@ pub fn write_creation<C: ReadChunk>(acts: &mut [NcAct], base: u32, chunk: &C)
 }
 
 /// Writes the acts of a deletion, with its settling: two more than the chunk has bytes.
-pub fn write_deletion<C: ReadChunk>(acts: &mut [NcAct], base: u32, chunk: &C)
+pub(crate) fn write_deletion<C: ReadChunk>(acts: &mut [NcAct], base: u32, chunk: &C)
     requires high { base + length (C.code chunk.now) < 2 ^ 32 }
+    requires whole { length (C.code chunk.now) % 32 ≡ 0 }
     requires room { length (C.code chunk.now) + 2 ≤ length acts.old }
     // For any text that has the chunk's marks from this base on.
     ensures { (text : List Mark) → AreMarksAt text base (length (C.code chunk.now)) (C.marks chunk.now)

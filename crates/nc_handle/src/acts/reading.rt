@@ -6,10 +6,9 @@ ghost use Rattle.nc_decode.specs.declared.instruction.Mark.{Mark};
 ghost use Rattle.nc_text.specs.Marks.{mark_bit};
 
 use nc_decode::Mark;
-use nc_region::mark_bit;
 
 /// A chunk, wherever it is stored, read place by place. A place is an index into its code.
-pub trait ReadChunk {
+pub(crate) trait ReadChunk {
     /// Its code.
     ghost code: { Self → List ℕ };
 
@@ -31,33 +30,15 @@ pub trait ReadChunk {
         ensures { result ≡ marks self.now i };
 
     /// The 32 bytes that begin at a multiple of 32.
-    ///
-    /// This default reads each byte. An implementation that keeps bytes in a row may be faster.
     fn bytes(&self, i: usize) -> [u8; 32]
         requires start { i % 32 ≡ 0 }
         requires within { i + 32 ≤ length (code self.now) }
         ensures long { length result ≡ 32 }
-        ensures bytes { (k : ℕ) → k < 32 → slice_index result k ≡ slice_index (code self.now) (i + k) }
-    {
-        let mut bytes = [0; 32];
-        for k in 0..32 {
-            bytes[k] = self.byte(i + k);
-        }
-        bytes
-    }
+        ensures bytes { (k : ℕ) → k < 32 → slice_index result k ≡ slice_index (code self.now) (i + k) };
 
     /// The marked places of 32 that begin at a multiple of 32: a bit for each, the lowest for the first.
-    ///
-    /// This default reads each mark. An implementation that keeps marks as bits may be faster.
     fn marked_places(&self, i: usize) -> u32
         requires start { i % 32 ≡ 0 }
         requires within { i + 32 ≤ length (code self.now) }
-        ensures { (k : ℕ) → k < 32 → bit_at result k ≡ mark_bit (marks self.now (i + k)) }
-    {
-        let mut places = 0;
-        for n in 0..32 {
-            places = 2 * places + mark_bit(self.mark(i + (31 - n)));
-        }
-        places
-    }
+        ensures { (k : ℕ) → k < 32 → bit_at result k ≡ mark_bit (marks self.now (i + k)) };
 }

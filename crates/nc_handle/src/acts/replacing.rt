@@ -3,8 +3,8 @@
 ghost use Rattle.std.specs.Prelude.{◌≡◌, ◌+◌, ◌*◌, ◌<◌, ◌≤◌, ◌^◌, ℕ, List, [], length, if◌then◌else◌};
 ghost use Rattle.nc_vet.specs.Chunk.{Piece};
 ghost use Rattle.nc_region.specs.Patch.{AreBytesOf, stands_there, any_place, log_of_instruction, log_of_modify};
-ghost use Rattle.nc_handle.specs.acts.Standing.{AreBytesAt};
-ghost use Rattle.nc_handle.specs.acts.Written.{Adds};
+ghost use Rattle.nc_handle.specs.machinery.Standing.{AreBytesAt};
+ghost use Rattle.nc_handle.specs.machinery.Written.{Adds};
 ghost use Rattle.nc_handle.specs.machinery.Writing.{HasPutUpTo};
 
 use crate::acts::act::NcAct;
@@ -82,7 +82,7 @@ fn write_where_new(
 
 /// Writes the acts that replace instructions of a chunk, from a place on, by others of the same lengths. Returns the new number
 /// of acts.
-pub fn write_patch(
+pub(crate) fn write_patch(
     acts: &mut [NcAct],
     count: usize,
     base: u32,

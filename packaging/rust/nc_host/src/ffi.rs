@@ -1,7 +1,7 @@
 //! The declarations of include/nc_host.h, by the header's own names. `tests/layout.rs` compares sizes, offsets and numbers with the header.
 //!
 //! The header says what each call promises and what its caller must keep. The safe interface above this module makes each call on a handle;
-//! the calls over lent memory, whose names begin with `nc_host_`, are here only.
+//! the calls whose names begin with `nc_host_`, which have none, are here only.
 
 use std::ffi::c_void;
 
@@ -64,14 +64,6 @@ pub struct NcAct {
     pub kind: u32,
     pub at: u32,
     pub value: u32,
-}
-
-#[repr(C)]
-#[derive(Clone, Copy, Debug, Default, PartialEq, Eq)]
-pub struct NcActs {
-    pub fault: u32,
-    pub at: u32,
-    pub count: u32,
 }
 
 /// A handle. It isn't `Copy`: of two copies only one may ever be passed to a call.
@@ -154,33 +146,6 @@ extern "C" {
         marks: *mut u8,
         marks_len: usize,
     ) -> NcVerdict;
-    pub fn nc_host_create(
-        base: u32,
-        limit: u32,
-        code: *const u8,
-        len: usize,
-        acts: *mut NcAct,
-        acts_len: usize,
-    ) -> NcActs;
-    pub fn nc_host_patch(
-        base: u32,
-        limit: u32,
-        code: *const u8,
-        len: usize,
-        at: u32,
-        new_bytes: *const u8,
-        new_len: usize,
-        acts: *mut NcAct,
-        acts_len: usize,
-    ) -> NcActs;
-    pub fn nc_host_delete(
-        base: u32,
-        limit: u32,
-        code: *const u8,
-        len: usize,
-        acts: *mut NcAct,
-        acts_len: usize,
-    ) -> NcActs;
     pub fn nc_host_version() -> u32;
 
     pub fn nc_region_new(bundles: u32, seats: u32, region: *mut NcRegion) -> u32;

@@ -41,7 +41,6 @@ fn said() -> (String, String) {
         NcInstruction { fault, length, flow, rel, reg, masks }
         NcVerdict { fault, at }
         NcAct { kind, at, value }
-        NcActs { fault, at, count }
         NcRegion { at }
         NcSeat { at }
         NcVetted { at }

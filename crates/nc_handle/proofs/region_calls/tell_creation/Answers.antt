@@ -1,4 +1,4 @@
-use Rattle.std.proofs.Common.{◌+◌, length, arith, sym, ◌∙◌}
+use Rattle.std.proofs.Common.{◌+◌, ◌%◌, ℕ, length, ap, arith, sym, ◌∙◌}
 use Rattle.std.proofs.lemmas.Bool.{eqb-false}
 use Rattle.nc_handle.proofs.SpanReads.{span_long, span_high, has_room}
 use Rattle.nc_handle.proofs.region_calls.tell_creation.Goals as goal
@@ -17,6 +17,11 @@ pub write_creation-requires-clause-high : goal.write_creation-requires-clause-hi
 write_creation-requires-clause-high c =
     let span = c.args.span.now in
     span_high span.region.now.marked.bytes span.base span.length span.placed
+
+pub write_creation-requires-clause-whole : goal.write_creation-requires-clause-whole
+write_creation-requires-clause-whole c =
+    let span = c.args.span.now in
+    ap (λ (m : ℕ). m % 32) (span_long span.region.now.marked.bytes span.base span.length span.placed) ∙ span.placed.whole
 
 pub write_creation-requires-clause-room : goal.write_creation-requires-clause-room
 write_creation-requires-clause-room c =

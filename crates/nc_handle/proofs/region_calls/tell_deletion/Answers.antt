@@ -1,7 +1,7 @@
-use Rattle.std.proofs.Common.{◌+◌, ℕ, length, refl, arith, sym, subst, ◌∙◌}
+use Rattle.std.proofs.Common.{◌+◌, ◌%◌, ℕ, length, refl, ap, arith, sym, subst, ◌∙◌}
 use Rattle.std.proofs.lemmas.Bool.{eqb-false}
 use Rattle.nc_region.specs.Log.{log_of_delete}
-use Rattle.nc_handle.specs.acts.Written.{HasWritten}
+use Rattle.nc_handle.specs.machinery.Written.{HasWritten}
 use Rattle.nc_handle.proofs.SpanReads.{span_long, span_high, has_room}
 use Rattle.nc_handle.proofs.region_calls.tell_deletion.Goals as goal
 
@@ -20,6 +20,11 @@ pub write_deletion-requires-clause-high : goal.write_deletion-requires-clause-hi
 write_deletion-requires-clause-high c =
     let span = c.args.span.now in
     span_high span.region.now.marked.bytes span.base span.length span.placed
+
+pub write_deletion-requires-clause-whole : goal.write_deletion-requires-clause-whole
+write_deletion-requires-clause-whole c =
+    let span = c.args.span.now in
+    ap (λ (m : ℕ). m % 32) (span_long span.region.now.marked.bytes span.base span.length span.placed) ∙ span.placed.whole
 
 pub write_deletion-requires-clause-room : goal.write_deletion-requires-clause-room
 write_deletion-requires-clause-room c =

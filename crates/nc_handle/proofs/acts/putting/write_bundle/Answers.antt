@@ -1,4 +1,4 @@
-use Rattle.std.proofs.Common.{◌≡◌, ◌+◌, ◌≤◌, ℕ, List, length, take, drop, get_or, set, ap, arith, sym, subst, ◌∙◌}
+use Rattle.std.proofs.Common.{◌+◌, ◌≤◌, ℕ, List, length, take, drop, get_or, set, ap, arith, sym, subst, ◌∙◌}
 use Rattle.nc_region.specs.declared.acts.Act.TheVariants.{Put}
 use Rattle.nc_region.specs.Acts.{puts_where, is_start, is_inside}
 use Rattle.nc_handle.specs.acts.Shown.{act_of}

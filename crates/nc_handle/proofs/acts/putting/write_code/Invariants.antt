@@ -4,6 +4,3 @@ use Rattle.nc_handle.proofs.acts.putting.write_code.Given as goal
 
 abbrev pub invariant-loop-n : goal.invariant-loop-n
 invariant-loop-n g l = HasPutUpTo (starts_if l.starts) l.base (g.C.ReadChunk.code l.chunk) l.initial.acts l.from (32 * l.n) l.acts l.count
-
-abbrev pub invariant-loop-i : goal.invariant-loop-i
-invariant-loop-i g l = HasPutUpTo (starts_if l.starts) l.base (g.C.ReadChunk.code l.chunk) l.fn.acts l.from l.i l.acts l.count

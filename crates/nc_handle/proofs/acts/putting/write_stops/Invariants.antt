@@ -6,8 +6,3 @@ abbrev pub invariant-loop-n : goal.invariant-loop-n
 invariant-loop-n g l =
     HasPutUpTo (marked_if l.marked (g.C.ReadChunk.marks l.chunk) l.base) l.base (replicate (length (g.C.ReadChunk.code l.chunk)) 244)
     l.initial.acts l.from (32 * l.n) l.acts l.count
-
-abbrev pub invariant-loop-i : goal.invariant-loop-i
-invariant-loop-i g l =
-    HasPutUpTo (marked_if l.marked (g.C.ReadChunk.marks l.chunk) l.base) l.base (replicate (length (g.C.ReadChunk.code l.chunk)) 244)
-    l.fn.acts l.from l.i l.acts l.count

@@ -5,7 +5,7 @@ use Rattle.nc_decode.specs.Front.{first_instruction}
 use Rattle.nc_vet.specs.Chunk.{Piece}
 use Rattle.nc_region.specs.Patch.{log_of_modify}
 use Rattle.nc_region.proofs.Offered.{none_of_none, not_found, parted}
-use Rattle.nc_handle.specs.acts.Written.{Adds}
+use Rattle.nc_handle.specs.machinery.Written.{Adds}
 use Rattle.nc_handle.proofs.writing.WriteSteps.{adds_none}
 use Rattle.nc_handle.proofs.writing.Replacements.{patch_added}
 use Rattle.nc_handle.proofs.acts.replacing.+write_patch.Goals as goal

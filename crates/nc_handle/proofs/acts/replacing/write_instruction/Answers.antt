@@ -2,7 +2,7 @@ use Rattle.std.proofs.Common.{List, get_or, arith, sym, subst}
 use Rattle.nc_region.specs.declared.acts.Act.TheVariants.{Put}
 use Rattle.nc_region.specs.declared.acts.Entry.{Entry}
 use Rattle.nc_region.specs.declared.acts.Entry.TheVariants.{Did, Settled}
-use Rattle.nc_handle.specs.acts.Written.{Adds}
+use Rattle.nc_handle.specs.machinery.Written.{Adds}
 use Rattle.nc_handle.proofs.writing.WriteSteps.{adds_put}
 use Rattle.nc_handle.proofs.writing.Replacements.{of_one, longer_added, rest_counted}
 use Rattle.nc_handle.proofs.acts.replacing.write_instruction.Goals as goal
