@@ -129,10 +129,6 @@ impl<'g> Acts for Image<'g> {
         self.plain.mark(at)
     }
 
-    fn marked_places(&self, at: u32) -> u32 {
-        self.plain.marked_places(at)
-    }
-
     fn bump(&mut self) -> Result<u64, GensFull> {
         self.plain.bump()
     }

@@ -5,7 +5,6 @@ ghost use Rattle.nc_vet.specs.Faults.{HasGoodSpan};
 
 use crate::acts::ReadChunk;
 use crate::held::Owned;
-use nc_decode::Mark;
 use nc_region::{Acts, RegionOf};
 
 /// A span of a region that holds a chunk.
@@ -32,10 +31,6 @@ impl<'a> ReadChunk for Span<'a> {
 
     fn byte(&self, i: usize) -> u8 {
         self.region.byte(self.base + i as u32)
-    }
-
-    fn mark(&self, i: usize) -> Mark {
-        self.region.mark(self.base + i as u32)
     }
 
     fn bytes(&self, i: usize) -> [u8; 32] {

@@ -5,5 +5,4 @@ pub mod Due
 pub mod Least
 pub mod Freeing
 pub mod Deleting
-pub mod Stopping
 pub mod Deleted

@@ -2,4 +2,4 @@
 pub mod Chosen
 pub mod Logged
 pub mod Puts
-pub mod PutRun
+pub mod SoFar

@@ -1,29 +1,30 @@
 //! The acts through which a region uses its text and its generations.
 
 ghost use Rattle.std.specs.Prelude.{◌≡◌, ◌+◌, ◌%◌, ◌^◌, ◌<◌, ◌≤◌, ◌↔◌, ℕ, List, [], ◌∷◌, length, take, replicate, All, IsOk, IfOk, IfErr};
-ghost use Rattle.std.specs.Prelude.{IsTrue, OnOk, OnErr, Bool, false};
+ghost use Rattle.std.specs.Prelude.{IsTrue, OnOk, OnErr, Bool, true, false};
 ghost use Rattle.std.specs.Int.{bit_at};
 ghost use Rattle.nc_decode.specs.declared.instruction.Mark.{Mark};
 ghost use Rattle.nc_decode.specs.Bits.{marks_in};
 ghost use Rattle.nc_decode.specs.Bundles.{IsBundleStart};
 ghost use Rattle.nc_text.specs.Marks.{IsClosed, mark_at, mark_bit};
 ghost use Rattle.nc_text.specs.Places.{InRegion, SpanInRegion, byte_at, limit_of};
-ghost use Rattle.nc_text.specs.MarkedText.{MarkedText, IsText, with_byte, with_bytes, with_marks, without_marks, NamesRegister};
+ghost use Rattle.nc_text.specs.MarkedText.{MarkedText, IsText, with_byte, with_marks, without_marks, NamesRegister};
 ghost use Rattle.nc_text.specs.MarkedText.{KeepsMarks, AreStops};
-ghost use Rattle.nc_text.specs.Puts.{HasPut, is_set};
+ghost use Rattle.nc_text.specs.Puts.{HasPut};
 ghost use Rattle.nc_text.specs.Ready.{IsReady, AreReady, GetsReady};
 ghost use Rattle.nc_gens.specs.Rule.{generation_raised};
 ghost use Rattle.nc_gens.specs.Seen.{KeeperState, HasLooked, HasMet, least_number};
 ghost use Rattle.nc_region.specs.declared.acts.Act.{Act};
 ghost use Rattle.nc_region.specs.declared.acts.Entry.{Entry};
-ghost use Rattle.nc_region.specs.Acts.{puts_where};
+ghost use Rattle.nc_region.specs.Acts.{puts_where, starts_if, marked_if, is_marked_at};
 ghost use Rattle.nc_region.specs.Log.{Logs, unsettled};
-ghost use Rattle.nc_region.specs.Patch.{any_place};
 
-use crate::delete::STOP;
 use nc_decode::{Bundle, Mark};
 use nc_gens::{GensFull, Pass};
-use nc_text::{TextFault, lowest_place};
+use nc_text::TextFault;
+
+/// The byte of the instruction hlt.
+pub(crate) const STOP: u8 = 0xF4;
 
 /// One atomic change that a region makes, or one look at its generations.
 #[derive(Clone, Copy, Debug, PartialEq, Eq)]
@@ -96,57 +97,64 @@ pub trait Acts {
         ensures keeper { keeper self.new ≡ keeper self.old }
         ensures logged { Logs (logged self.old) (logged self.new) (Entry.Did (Act.Put at byte) ∷ []) };
 
-    /// Puts bytes from an address on, in ascending order, in one bundle: each byte is a put of its own, and is logged
-    /// as one. The text is closed after each put. An empty run changes nothing, wherever `at` is.
+    /// Puts the bytes of a span that are at bundle starts, or those that aren't, in ascending order. Each is a put of its own, and is
+    /// logged as one. The span consists of whole bundles. The text is closed after each put. An empty span changes nothing, wherever
+    /// `at` is.
     ///
-    /// This default calls `put` for each byte. An implementation that looks the bundle up only once may be faster; in memory
-    /// that threads execute it must still store the bytes one at a time and in this order, and nothing else.
-    fn put_run(&mut self, at: u32, bytes: &[u8])
-        requires inside { SpanInRegion (marked self.old).bytes at (length bytes.now) }
-        requires one_bundle { at % 32 + length bytes.now ≤ 32 }
-        requires ready { AreReady (made self.old) at (length bytes.now) }
-        requires closed { (count : ℕ) → count ≤ length bytes.now
-            → IsClosed (with_bytes (marked self.old) at (take count bytes.now)).bytes (marked self.old).marks }
-        ensures marked { marked self.new ≡ with_bytes (marked self.old) at bytes.now }
+    /// This default calls `put` for each byte, as that of `stop_where` does. An implementation that stores many bytes at once is
+    /// faster; in memory that threads execute it must still store the bytes one at a time and in this order, and nothing else.
+    fn put_where(&mut self, at: u32, code: &[u8], at_starts: bool)
+        requires inside { SpanInRegion (marked self.old).bytes at (length code.now) }
+        requires start { IsBundleStart at }
+        requires whole { length code.now % 32 ≡ 0 }
+        requires ready { AreReady (made self.old) at (length code.now) }
+        requires closed { (count : ℕ) (now : List ℕ) → count ≤ length code.now
+            → HasPut (starts_if at_starts) at code.now count (marked self.old).bytes now → IsClosed now (marked self.old).marks }
+        ensures bytes { HasPut (starts_if at_starts) at code.now (length code.now) (marked self.old).bytes (marked self.new).bytes }
+        ensures marks { (marked self.new).marks ≡ (marked self.old).marks }
         ensures made { made self.new ≡ made self.old }
         ensures whole { IsText (marked self.new) }
         ensures keeper { keeper self.new ≡ keeper self.old }
-        ensures logged { Logs (logged self.old) (logged self.new) (unsettled (puts_where any_place at bytes.now)) }
+        ensures logged { Logs (logged self.old) (logged self.new) (unsettled (puts_where (starts_if at_starts) at code.now)) }
     {
         // Called for its postconditions.
         let _facts = self.limit();
-        for i in 0..bytes.len() {
-            self.put(at + i as u32, bytes[i]);
+        for i in 0..code.len() {
+            let place = at + i as u32;
+            if (place % 32 == 0) == at_starts {
+                self.put(place, code[i]);
+            }
         }
     }
 
-    /// Puts F4 at the places of a bundle whose bits are set, in ascending order: each is a put of its own, and is logged
-    /// as one. The lowest bit is that of the bundle start, at the address `at`. The text is closed after each put.
-    ///
-    /// This default calls `put` for each place. An implementation that looks the bundle up only once may be faster; in memory
-    /// that threads execute it must still store the stops one at a time and in this order, and nothing else.
-    fn stop_places(&mut self, at: u32, places: u32)
-        requires inside { InRegion (marked self.old).bytes at }
+    /// Puts F4 at the marked places of a span of `len` places, or at those that aren't marked, under the conditions of `put_where` and
+    /// like it. F4 is put at unmarked places only where it is at the marked ones already.
+    fn stop_where(&mut self, at: u32, len: u32, at_marked: bool)
+        requires inside { SpanInRegion (marked self.old).bytes at len }
         requires start { IsBundleStart at }
-        requires ready { AreReady (made self.old) at 32 }
-        requires closed { (count : ℕ) (now : List ℕ) → count ≤ 32
-            → HasPut (is_set places at) at (replicate 32 0xF4) count (marked self.old).bytes now
+        requires whole { len % 32 ≡ 0 }
+        requires ready { AreReady (made self.old) at len }
+        requires stopped { at_marked ≡ false → (k : ℕ) → at ≤ k → k < at + len → is_marked_at (marked self.old).marks k ≡ true
+            → byte_at (marked self.old).bytes k ≡ 0xF4 }
+        requires closed { (count : ℕ) (now : List ℕ) → count ≤ len
+            → HasPut (marked_if at_marked (marked self.old).marks) at (replicate len 0xF4) count (marked self.old).bytes now
             → IsClosed now (marked self.old).marks }
-        ensures bytes { HasPut (is_set places at) at (replicate 32 0xF4) 32 (marked self.old).bytes (marked self.new).bytes }
+        ensures bytes { HasPut (marked_if at_marked (marked self.old).marks) at (replicate len 0xF4) len (marked self.old).bytes
+            (marked self.new).bytes }
         ensures marks { (marked self.new).marks ≡ (marked self.old).marks }
         ensures made { made self.new ≡ made self.old }
         ensures whole { IsText (marked self.new) }
         ensures keeper { keeper self.new ≡ keeper self.old }
         ensures logged { Logs (logged self.old) (logged self.new)
-            (unsettled (puts_where (is_set places at) at (replicate 32 0xF4))) }
+            (unsettled (puts_where (marked_if at_marked (marked self.old).marks) at (replicate len 0xF4))) }
     {
         // Called for its postconditions.
         let _facts = self.limit();
-        let mut left = places;
-        while left != 0 {
-            let (k, others) = lowest_place(left);
-            self.put(at + k, STOP);
-            left = others;
+        for i in 0..len {
+            let place = at + i;
+            if (mark_bit(self.mark(place)) == 1) == at_marked {
+                self.put(place, STOP);
+            }
         }
     }
 
@@ -278,7 +286,7 @@ pub trait Acts {
 }
 
 /// The bit of a mark among those of marked places: 1 for a mark that stands for some state, otherwise 0.
-pub fn mark_bit(mark: Mark) -> u32
+fn mark_bit(mark: Mark) -> u32
     ensures { result ≡ mark_bit mark }
 {
     match mark {

@@ -104,9 +104,10 @@ pub(crate) fn put_chunk<A: Acts>(
     ensures keeper { A.keeper acts.new ≡ A.keeper acts.old }
     ensures log { Logs (A.logged acts.old) (A.logged acts.new) (log_of_create base code.now) }
 {
-    put_inside(acts, base, code);
+    acts.put_where(base, code, false);
+    acts.settle();
     mark_chunk(acts, base, vetted, room);
-    put_starts(acts, base, code);
+    acts.put_where(base, code, true);
 }
 
 /// Sets the marks of a chunk's span: from bits if both sides keep them, otherwise from a list.
@@ -205,46 +206,4 @@ fn listed(vetted: &Vetted, room: Vec<Mark>) -> Vec<Mark>
         marks.push_reserved(vetted.mark(i));
     }
     marks
-}
-
-/// Puts the bytes that aren't at bundle starts, in ascending order, one run for each bundle; then settles.
-fn put_inside<A: Acts>(acts: &mut A, base: u32, code: &[u8])
-    requires whole { IsText (A.marked acts.old) }
-    requires placed { HasGoodSpan base (limit_of (A.marked acts.old).bytes) (length code.now) }
-    requires unused { IsUnused (A.marked acts.old) base (length code.now) }
-    requires ready { AreReady (A.made acts.old) base (length code.now) }
-    ensures bytes { HasPut is_inside base code.now (length code.now) (A.marked acts.old).bytes (A.marked acts.new).bytes }
-    ensures marks { (A.marked acts.new).marks ≡ (A.marked acts.old).marks }
-    ensures whole { IsText (A.marked acts.new) }
-    ensures made { A.made acts.new ≡ A.made acts.old }
-    ensures keeper { A.keeper acts.new ≡ A.keeper acts.old }
-    ensures log { Logs (A.logged acts.old) (A.logged acts.new)
-        (unsettled (puts_where is_inside base code.now) ++ Entry.Settled ∷ []) }
-{
-    for bundle in 0..code.len() / 32 {
-        let second = 32 * bundle + 1;
-        acts.put_run(base + second as u32, &code[second..second + 31]);
-    }
-    acts.settle();
-}
-
-/// Puts the bytes at bundle starts, in ascending order.
-fn put_starts<A: Acts>(acts: &mut A, base: u32, code: &[u8])
-    requires whole { IsText (A.marked acts.old) }
-    requires placed { HasGoodSpan base (limit_of (A.marked acts.old).bytes) (length code.now) }
-    requires ready { AreReady (A.made acts.old) base (length code.now) }
-    requires closed { IsClosed (with_span (A.marked acts.old).bytes (base - 0x10000) code.now) (A.marked acts.old).marks }
-    requires almost { IsFinalBut (with_span (A.marked acts.old).bytes (base - 0x10000) code.now) (A.marked acts.old).bytes base
-        (base + length code.now) }
-    ensures bytes { (A.marked acts.new).bytes ≡ with_span (A.marked acts.old).bytes (base - 0x10000) code.now }
-    ensures marks { (A.marked acts.new).marks ≡ (A.marked acts.old).marks }
-    ensures whole { IsText (A.marked acts.new) }
-    ensures made { A.made acts.new ≡ A.made acts.old }
-    ensures keeper { A.keeper acts.new ≡ A.keeper acts.old }
-    ensures log { Logs (A.logged acts.old) (A.logged acts.new) (unsettled (puts_where is_start base code.now)) }
-{
-    for bundle in 0..code.len() / 32 {
-        let i = 32 * bundle;
-        acts.put(base + i as u32, code[i]);
-    }
 }

@@ -14,9 +14,6 @@ ghost use Rattle.nc_region.specs.machinery.Between.{HasPut};
 
 use crate::acts::Acts;
 
-/// The byte of the instruction hlt.
-pub(crate) const STOP: u8 = 0xF4;
-
 /// Puts stops at all places of a chunk, and draws the stamp.
 pub(crate) fn put_stops<A: Acts>(acts: &mut A, base: u32, len: u32) -> u64
     requires whole { IsText (A.marked acts.old) }
@@ -31,55 +28,11 @@ pub(crate) fn put_stops<A: Acts>(acts: &mut A, base: u32, len: u32) -> u64
     ensures keeper { A.keeper acts.new ≡ record (A.keeper acts.old) { numbers = generation_raised (A.keeper acts.old).numbers } }
     ensures log { Logs (A.logged acts.old) (A.logged acts.new) (log_of_delete (A.marked acts.old).marks base len) }
 {
-    stop_marked(acts, base, len);
-    stop_others(acts, base, len);
+    acts.stop_where(base, len, true);
+    acts.settle();
+    acts.stop_where(base, len, false);
     match acts.bump() {
         Ok(stamp) => stamp,
         Err(_) => unreachable!(),
-    }
-}
-
-/// Puts stops at the marked places, in ascending order, and settles.
-fn stop_marked<A: Acts>(acts: &mut A, base: u32, len: u32)
-    requires whole { IsText (A.marked acts.old) }
-    requires placed { HasGoodSpan base (limit_of (A.marked acts.old).bytes) len }
-    requires ready { AreReady (A.made acts.old) base len }
-    ensures bytes { HasPut (is_marked_at (A.marked acts.old).marks) base (replicate len 0xF4) len (A.marked acts.old).bytes
-        (A.marked acts.new).bytes }
-    ensures marks { (A.marked acts.new).marks ≡ (A.marked acts.old).marks }
-    ensures whole { IsText (A.marked acts.new) }
-    ensures made { A.made acts.new ≡ A.made acts.old }
-    ensures keeper { A.keeper acts.new ≡ A.keeper acts.old }
-    ensures log { Logs (A.logged acts.old) (A.logged acts.new)
-        (unsettled (puts_where (is_marked_at (A.marked acts.old).marks) base (replicate len 0xF4)) ++ Entry.Settled ∷ []) }
-{
-    for bundle in 0..len / 32 {
-        let at = base + 32 * bundle;
-        let marked = acts.marked_places(at);
-        acts.stop_places(at, marked);
-    }
-    acts.settle();
-}
-
-/// Puts stops at the unmarked places, in ascending order.
-fn stop_others<A: Acts>(acts: &mut A, base: u32, len: u32)
-    requires whole { IsText (A.marked acts.old) }
-    requires placed { HasGoodSpan base (limit_of (A.marked acts.old).bytes) len }
-    requires ready { AreReady (A.made acts.old) base len }
-    requires stopped { (at : ℕ) → base ≤ at → at < base + len → is_marked_at (A.marked acts.old).marks at ≡ true
-        → byte_at (A.marked acts.old).bytes at ≡ 0xF4 }
-    ensures bytes { HasPut (is_unmarked_at (A.marked acts.old).marks) base (replicate len 0xF4) len (A.marked acts.old).bytes
-        (A.marked acts.new).bytes }
-    ensures marks { (A.marked acts.new).marks ≡ (A.marked acts.old).marks }
-    ensures whole { IsText (A.marked acts.new) }
-    ensures made { A.made acts.new ≡ A.made acts.old }
-    ensures keeper { A.keeper acts.new ≡ A.keeper acts.old }
-    ensures log { Logs (A.logged acts.old) (A.logged acts.new)
-        (unsettled (puts_where (is_unmarked_at (A.marked acts.old).marks) base (replicate len 0xF4))) }
-{
-    for bundle in 0..len / 32 {
-        let at = base + 32 * bundle;
-        let marked = acts.marked_places(at);
-        acts.stop_places(at, !marked);
     }
 }

@@ -5,6 +5,7 @@ ghost use Rattle.std.specs.Borrow.{ftrue};
 ghost use Rattle.nc_region.specs.declared.acts.Entry.{Entry};
 
 use crate::acts::Entry;
+use nc_text::Text;
 use std::marker::Model;
 
 /// The entries of a log. A value has no bytes, and its methods do nothing when they run.
@@ -31,10 +32,10 @@ unsafe impl Sync for History {}
 pub enum Note<'a> {
     /// One entry.
     One(Entry),
-    /// The puts of these bytes from this address on, in ascending order.
-    Run(u32, &'a [u8]),
-    /// The puts of F4 at the places of the bundle at this address whose bits are set, in ascending order.
-    Stops(u32, u32),
+    /// The puts of a span's bytes that are at bundle starts, or those that aren't, in ascending order.
+    Puts(u32, &'a [u8], bool),
+    /// The puts of F4 at the marked places of a span of this length, or at those that aren't marked, in ascending order.
+    Stops(u32, u32, bool, &'a Text),
 }
 
 impl History {

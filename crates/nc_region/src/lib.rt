@@ -60,7 +60,7 @@ mod shared;
 mod trace;
 mod walk;
 
-pub use acts::{Act, Acts, Entry, mark_bit};
+pub use acts::{Act, Acts, Entry};
 pub use fault::{CreateFault, DeleteFault, ModifyFault, RegionFault, WalkFault};
 pub use history::{History, Note};
 pub use law::{law_of_chunks, law_of_logs, law_of_schedules};

@@ -24,8 +24,7 @@ ghost use Rattle.nc_region.specs.Patch.{stands_there, any_place};
 ghost use Rattle.nc_region.specs.Patch.{log_of_instruction, log_of_modify};
 ghost use Rattle.nc_region.specs.machinery.PatchSteps.{IsReplacing, IsInterim, Begins, Along, RunsAlong, is_after, KeepsTransfer, CanPatch, MayRefuseIn};
 
-use crate::acts::Acts;
-use crate::delete::STOP;
+use crate::acts::{Acts, STOP};
 use crate::fault::ModifyFault;
 use nc_decode::{BUNDLE, Instr, Mark, decode};
 use nc_list::Chunk;

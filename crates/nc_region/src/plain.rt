@@ -40,8 +40,7 @@ impl GensRef for Arc<Gens, Global> {
     }
 }
 
-/// A text beside a reference to a table of generations and the table's keeper. It logs its acts in a history, which has no bytes, and
-/// tells none.
+/// A text beside a reference to a table of generations and the table's keeper. It logs its acts in a history, which has no bytes.
 #[derive(Drop)]
 pub struct PlainOf<G: GensRef + Drop> {
     text: Text,
@@ -119,14 +118,15 @@ impl<G: GensRef + Drop> Acts for PlainOf<G> {
             .note(&Note::One(Entry::Did(Act::Put(at, byte))));
     }
 
-    fn put_run(&mut self, at: u32, bytes: &[u8]) {
-        self.text.put_run(at, bytes);
-        self.history.note(&Note::Run(at, bytes));
+    fn put_where(&mut self, at: u32, code: &[u8], at_starts: bool) {
+        self.text.put_where(at, code, at_starts);
+        self.history.note(&Note::Puts(at, code, at_starts));
     }
 
-    fn stop_places(&mut self, at: u32, places: u32) {
-        self.text.stop_places(at, places);
-        self.history.note(&Note::Stops(at, places));
+    fn stop_where(&mut self, at: u32, len: u32, at_marked: bool) {
+        self.text.stop_where(at, len, at_marked);
+        self.history
+            .note(&Note::Stops(at, len, at_marked, &self.text));
     }
 
     fn settle(&mut self) {

@@ -38,7 +38,7 @@ use nc_vet::Vetted;
 use std::alloc::{AllocError, Global};
 use std::marker::Model;
 
-/// A region that doesn't tell its acts.
+/// A region over a text of its own and a borrowed table of generations.
 pub type Region<'g> = RegionOf<Plain<'g>>;
 
 /// A region of code from 00010000 to its limit, reached only through `A`.

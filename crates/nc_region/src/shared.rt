@@ -21,7 +21,7 @@ use nc_vet::Vetted;
 use std::marker::Model;
 use std::sync::{Mutex, Wait};
 
-/// A region that doesn't tell its acts, shared by threads.
+/// A region over a text of its own, shared by threads.
 pub type Shared<'g> = SharedOf<'g, Plain<'g>>;
 
 /// A region that threads share by reference, behind a lock.

@@ -1,14 +1,15 @@
 -- The marked places of a bundle, a bit for each.
-use Rattle.std.proofs.Common.{◌≡◌, ◌≢◌, ℕ, zero, suc, ◌+◌, ◌/◌, ◌%◌, ◌==◌, ◌<◌, max, if◌then◌else◌, List, None, get_or, arith, refl, sym, ap, subst, ◌∙◌}
+use Rattle.std.proofs.Common.{◌≡◌, ◌≢◌, ℕ, zero, suc, ◌+◌, ◌%◌, ◌==◌, ◌<◌, max, if◌then◌else◌, arith, refl, sym, ap, subst, ◌∙◌}
 use Rattle.std.proofs.Common.{inl, inr}
 use Rattle.std.specs.Int.{bit_at}
 use Rattle.std.proofs.lemmas.Bool.{cases_eq}
 use Rattle.std.proofs.lemmas.Bool.Decides.{nat_tests}
 use Rattle.std.proofs.lemmas.Nat.Bits.{bit_at-pow_other}
+use Rattle.nc_decode.specs.declared.instruction.Mark.{Mark}
 use Rattle.nc_decode.specs.declared.instruction.Mark.TheVariants.{Unmarked, Plain, After}
 use Rattle.nc_text.specs.Marks.{mark_bit}
+use Rattle.nc_text.specs.Puts.{is_mark}
 use Rattle.nc_text.specs.MarkedText.{unused_mark}
-use Rattle.nc_text.specs.machinery.Pages.{Slot, byte_if_made, byte_of, mark_if_made, mark_in_pages}
 
 -- a place is marked if it is plain or a second half
 pub either_bit : (start second register : ℕ) → start < 2 → second < 2
@@ -35,20 +36,8 @@ unused_bit k lt = elim (cases_eq k 0) [
 pub unused_from : (at k : ℕ) → at % 32 ≡ 0 → unused_mark (at + k) ≡ unused_mark k
 unused_from at k start = let e : (at + k) % 32 ≡ k % 32 = omega (arith, start) in grind (arith, nat_tests, e)
 
--- they are on one page
-pub mark_from : (pages : List Slot) (at k : ℕ) → at % 32 ≡ 0 → k < 32
-    → mark_in_pages pages (at + k) ≡ mark_if_made (get_or pages (at / 4096) None) (at % 4096 + k)
-mark_from pages at k start lt =
-    let page : (at + k) / 4096 ≡ at / 4096 = omega (arith, start, lt) in
-    let place : (at + k) % 4096 ≡ at % 4096 + k = omega (arith, start, lt) in
-    ap (λ (j : ℕ). mark_if_made (get_or pages j None) ((at + k) % 4096)) page
-    ∙ ap (λ (j : ℕ). mark_if_made (get_or pages (at / 4096) None) j) place
-
--- so are their bytes
-pub byte_from : (pages : List Slot) (at k : ℕ) → at % 32 + k < 32
-    → byte_of pages (at + k) ≡ byte_if_made (get_or pages (at / 4096) None) (at % 4096 + k)
-byte_from pages at k small =
-    let page : (at + k) / 4096 ≡ at / 4096 = omega (arith, small) in
-    let place : (at + k) % 4096 ≡ at % 4096 + k = omega (arith, small) in
-    ap (λ (j : ℕ). byte_if_made (get_or pages j None) ((at + k) % 4096)) page
-    ∙ ap (λ (j : ℕ). byte_if_made (get_or pages (at / 4096) None) j) place
+-- a place has a bit if its mark stands for some state
+pub marked_if_bit : (mark : Mark) → (mark_bit mark == 1) ≡ is_mark mark
+marked_if_bit Unmarked = refl
+marked_if_bit Plain = refl
+marked_if_bit (After register) = refl

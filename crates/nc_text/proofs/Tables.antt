@@ -82,14 +82,20 @@ one_page F pages i new k inside same =
       | inr other ↦ ap (λ (o : Slot). F o (k % 4096)) (get_or-set_other pages i (k / 4096) new None other)
     ]
 
--- what is said of a place of the page that was changed
-pub on_page : {X : Type 0} (F : Slot → ℕ → X) (pages : List Slot) (new : Slot) (at k : ℕ) → at / 4096 < length pages → at % 32 + k < 32
-    → F (get_or (set pages (at / 4096) new) ((at + k) / 4096) None) ((at + k) % 4096) ≡ F new (at % 4096 + k)
-on_page F pages new at k inside small =
+-- what is said of a place, by the page of another place
+pub same_page : {X : Type 0} (F : Slot → ℕ → X) (pages : List Slot) (at k : ℕ) → at % 4096 + k < 4096
+    → F (get_or pages ((at + k) / 4096) None) ((at + k) % 4096) ≡ F (get_or pages (at / 4096) None) (at % 4096 + k)
+same_page F pages at k small =
     let page : (at + k) / 4096 ≡ at / 4096 = omega (arith, small) in
     let place : (at + k) % 4096 ≡ at % 4096 + k = omega (arith, small) in
-    ap (λ (j : ℕ). F (get_or (set pages (at / 4096) new) j None) ((at + k) % 4096)) page
-    ∙ (ap (λ (o : Slot). F o ((at + k) % 4096)) (get_or-set_same pages (at / 4096) new None inside) ∙ ap (λ (j : ℕ). F new j) place)
+    ap (λ (j : ℕ). F (get_or pages j None) ((at + k) % 4096)) page ∙ ap (λ (j : ℕ). F (get_or pages (at / 4096) None) j) place
+
+-- what is said of a place of the page that was changed
+pub on_page : {X : Type 0} (F : Slot → ℕ → X) (pages : List Slot) (new : Slot) (at k : ℕ) → at / 4096 < length pages → at % 4096 + k < 4096
+    → F (get_or (set pages (at / 4096) new) ((at + k) / 4096) None) ((at + k) % 4096) ≡ F new (at % 4096 + k)
+on_page F pages new at k inside small =
+    same_page F (set pages (at / 4096) new) at k small
+    ∙ ap (λ (o : Slot). F o (at % 4096 + k)) (get_or-set_same pages (at / 4096) new None inside)
 
 -- whether a page is made
 pub made_at : (pages : List Slot) (i : ℕ) → get_or (map is_some pages) i false ≡ is_some (get_or pages i None)

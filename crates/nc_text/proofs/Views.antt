@@ -12,8 +12,8 @@ use Rattle.nc_decode.specs.declared.instruction.Mark.{Mark}
 use Rattle.nc_decode.specs.declared.instruction.Mark.TheVariants.{Unmarked}
 use Rattle.nc_text.specs.machinery.Pages.{Slot, byte_if_made, mark_if_made, byte_of, mark_in_pages, text_of}
 use Rattle.nc_text.specs.Places.{InRegion, byte_at}
-use Rattle.nc_text.specs.Marks.{IsClosed}
-use Rattle.nc_text.specs.MarkedText.{MarkedText, IsText, with_byte, with_bytes, with_marks, with_span, unused_mark, unused_text}
+use Rattle.nc_text.specs.Marks.{IsClosed, mark_at}
+use Rattle.nc_text.specs.MarkedText.{MarkedText, IsText, with_byte, with_marks, with_span, unused_mark, unused_text}
 use Rattle.nc_text.specs.Ready.{TextState, IsReady, AreReady, GetsReady, SharesPage, unmade_pages}
 use Rattle.nc_text.proofs.SpanElements.{is_with_span, length-with_span}
 use Rattle.nc_text.proofs.Tables.{same_all, same_but_one, made_at, unused_mark_on}
@@ -40,20 +40,35 @@ byte_seen pages size k inside = get_or-map-range_with_len (byte_of pages) 0 size
 pub mark_seen : (pages : List Slot) (size k : ℕ) → k < size → get_or (text_of pages size).marked.marks k Unmarked ≡ mark_in_pages pages k
 mark_seen pages size k inside = get_or-map-range_with_len (mark_in_pages pages) 0 size k k Unmarked inside (omega arith)
 
--- a byte of a run, read from a table that was lent
-pub run_read : (old lent : List Slot) (size at k : ℕ) (now : TextState) → lent ≡ old → text_of old size ≡ now
-    → IsText (text_of old size).marked → InRegion now.marked.bytes at → at % 32 + k < 32
-    → byte_of lent (at - 65536 + k) ≡ byte_at now.marked.bytes (at + k)
-run_read old lent size at k now loan view whole inside small =
-    let long = bytes_long old size in
+-- a byte in a table that was lent
+pub byte_there : (old lent : List Slot) (size at k : ℕ) (now : TextState) → lent ≡ old → text_of old size ≡ now → 65536 ≤ at
+    → at - 65536 + k < length now.marked.bytes → byte_of lent (at - 65536 + k) ≡ byte_at now.marked.bytes (at + k)
+byte_there old lent size at k now loan view low inside =
     let same = ap (λ (t : TextState). length t.marked.bytes) view in
-    let whole_bundles : size % 32 ≡ 0 = omega (arith, long, whole.lawful.0) in
-    let within : at - 65536 + k < size = omega (arith, long, same, whole_bundles, small, inside.0, inside.1) in
-    let moved : at - 65536 + k ≡ at + k - 65536 = omega (arith, inside.0) in
+    let moved : at - 65536 + k ≡ at + k - 65536 = omega (arith, low) in
     ap (λ (ps : List Slot). byte_of ps (at - 65536 + k)) loan
-    ∙ (sym (byte_seen old size (at - 65536 + k) within)
+    ∙ (sym (byte_seen old size (at - 65536 + k) (omega (arith, bytes_long old size, same, inside)))
     ∙ (ap (λ (t : TextState). get_or t.marked.bytes (at - 65536 + k) 0) view
     ∙ ap (λ (j : ℕ). get_or now.marked.bytes j 0) moved))
+
+-- and a mark
+pub mark_there : (old lent : List Slot) (size at k : ℕ) (now : TextState) → lent ≡ old → text_of old size ≡ now → 65536 ≤ at
+    → at - 65536 + k < length now.marked.bytes → mark_in_pages lent (at - 65536 + k) ≡ mark_at now.marked.marks (at + k)
+mark_there old lent size at k now loan view low inside =
+    let same = ap (λ (t : TextState). length t.marked.bytes) view in
+    let moved : at - 65536 + k ≡ at + k - 65536 = omega (arith, low) in
+    ap (λ (ps : List Slot). mark_in_pages ps (at - 65536 + k)) loan
+    ∙ (sym (mark_seen old size (at - 65536 + k) (omega (arith, bytes_long old size, same, inside)))
+    ∙ (ap (λ (t : TextState). get_or t.marked.marks (at - 65536 + k) Unmarked) view
+    ∙ ap (λ (j : ℕ). get_or now.marked.marks j Unmarked) moved))
+
+-- the places of a bundle are all in a text
+pub bundle_inside : (old : List Slot) (size at k : ℕ) (now : TextState) → text_of old size ≡ now → IsText (text_of old size).marked
+    → InRegion now.marked.bytes at → at % 32 + k < 32 → at - 65536 + k < length now.marked.bytes
+bundle_inside old size at k now view whole inside small =
+    let same = ap (λ (t : TextState). length t.marked.bytes) view in
+    let whole_bundles : length now.marked.bytes % 32 ≡ 0 = omega (arith, same, whole.lawful.0) in
+    omega (arith, whole_bundles, small, inside.0, inside.1)
 
 -- what is seen of a text, by its parts
 abbrev pub state : MarkedText → List Bool → TextState
@@ -79,26 +94,6 @@ pub put_seen : (old new : List Slot) (size at byte : ℕ) → at < size → byte
 put_seen old new size at byte inside here other marks made =
     state_is _ _ _ _ _ _ (same_but_one 0 (byte_of old) (byte_of new) size at byte inside here other)
     (same_all Unmarked (mark_in_pages old) (mark_in_pages new) size (λ k lt. marks k)) made
-
--- the bytes of a run put
-pub run_seen : (old new : List Slot) (size start : ℕ) (bytes : List ℕ) → start + length bytes ≤ size
-    → ((k : ℕ) → start ≤ k → k < start + length bytes → byte_of new k ≡ get_or bytes (k - start) 0)
-    → ((k : ℕ) → (k < start) ⊎ (start + length bytes ≤ k) → byte_of new k ≡ byte_of old k)
-    → ((k : ℕ) → mark_in_pages new k ≡ mark_in_pages old k) → map is_some new ≡ map is_some old
-    → text_of new size
-    ≡ state (both (with_span (text_of old size).marked.bytes start bytes) (text_of old size).marked.marks) (text_of old size).made
-run_seen old new size start bytes fits within others marks made =
-    let long_old = bytes_long old size in
-    let long_new = bytes_long new size in
-    state_is _ _ _ _ _ _ (is_with_span (text_of new size).marked.bytes (text_of old size).marked.bytes start bytes 0 (omega arith)
-    (long_new ∙ sym long_old)
-    (λ k lt. byte_seen new size k (omega arith) ∙ (others k (inl lt) ∙ sym (byte_seen old size k (omega arith))))
-    (λ k low high. byte_seen new size k (omega arith) ∙ within k low high)
-    (λ k past. elim (cases_lt k size) [
-      | inl lt ↦ byte_seen new size k lt ∙ (others k (inr past) ∙ sym (byte_seen old size k lt))
-      | inr out ↦ get_or_past (text_of new size).marked.bytes k 0 (omega arith)
-          ∙ sym (get_or_past (text_of old size).marked.bytes k 0 (omega arith))
-    ])) (same_all Unmarked (mark_in_pages old) (mark_in_pages new) size (λ k lt. marks k)) made
 
 -- the marks of a span set
 pub span_seen : (old new : List Slot) (size start : ℕ) (marks : List Mark) → start + length marks ≤ size
@@ -127,17 +122,6 @@ pub text_with_byte : (marked : MarkedText) (at byte : ℕ) → IsText marked →
     → IsText (with_byte marked at byte)
 text_with_byte marked at byte is closed =
     let long = length-set marked.bytes (at - 65536) byte in
-    record {
-      lawful = subst IsLawfulLimit (ap (λ (n : ℕ). 65536 + n) (sym long)) is.lawful;
-      as_long = is.as_long ∙ sym long;
-      closed = closed;
-    }
-
--- so is one with the bytes of a run put
-pub text_with_bytes : (marked : MarkedText) (at : ℕ) (bytes : List ℕ) → (at - 65536) + length bytes ≤ length marked.bytes
-    → IsText marked → IsClosed (with_bytes marked at bytes).bytes marked.marks → IsText (with_bytes marked at bytes)
-text_with_bytes marked at bytes fits is closed =
-    let long = length-with_span marked.bytes (at - 65536) bytes fits in
     record {
       lawful = subst IsLawfulLimit (ap (λ (n : ℕ). 65536 + n) (sym long)) is.lawful;
       as_long = is.as_long ∙ sym long;
@@ -185,35 +169,6 @@ put_done old lent new size n at byte now loan many long view kept inside here ot
           (made ∙ ap (λ (ps : List Slot). map is_some ps) loan)
           ∙ ap (λ (t : TextState). state (with_byte t.marked at byte) t.made) view);
       whole = text_with_byte now.marked at byte (subst (λ (t : TextState). IsText t.marked) view kept.0) closed;
-      long = ap (λ (ps : List Slot). length ps) table ∙ (long ∙ (many_lent ∙ kept.1));
-    }
-
--- the bytes of a run were put into a table that was lent
-pub run_done : (old lent new : List Slot) (size n at : ℕ) (bytes : List ℕ) (now : TextState) → lent ≡ old → n ≡ length old
-    → length new ≡ length lent → text_of old size ≡ now → IsText (text_of old size).marked × (length old ≡ (size + 4095) / 4096)
-    → at - 65536 + length bytes ≤ length now.marked.bytes
-    → ((k : ℕ) → k < length bytes → byte_of new (at - 65536 + k) ≡ get_or bytes k 0)
-    → ((k : ℕ) → (k < at - 65536) ⊎ (at - 65536 + length bytes ≤ k) → byte_of new k ≡ byte_of lent k)
-    → ((k : ℕ) → mark_in_pages new k ≡ mark_in_pages lent k) → map is_some new ≡ map is_some lent
-    → ((count : ℕ) → count ≤ length bytes → IsClosed (with_bytes now.marked at (take count bytes)).bytes now.marked.marks)
-    → IsSeenAs (take n (new ++ drop (length new) old)) size (state (with_bytes now.marked at bytes) now.made)
-run_done old lent new size n at bytes now loan many long view kept fits within others marks made closed =
-    let long_old : length (text_of old size).marked.bytes ≡ size = bytes_long old size in
-    let same : length (text_of old size).marked.bytes ≡ length now.marked.bytes = ap (λ (t : TextState). length t.marked.bytes) view in
-    let many_lent : length lent ≡ length old = ap (λ (ps : List Slot). length ps) loan in
-    let table = whole_slice new old n many (long ∙ many_lent) in
-    let all = subst (λ (bs : List ℕ). IsClosed (with_bytes now.marked at bs).bytes now.marked.marks)
-    (take_all (length bytes) bytes (omega arith)) (closed (length bytes) (omega arith)) in
-    record {
-      seen = ap (λ (ps : List Slot). text_of ps size) table
-          ∙ (run_seen old new size (at - 65536) bytes (omega (arith, fits, long_old, same))
-          (λ k low high. subst (λ (j : ℕ). byte_of new j ≡ get_or bytes (k - (at - 65536)) 0) (omega (arith, low))
-          (within (k - (at - 65536)) (omega (arith, low, high))))
-          (λ k out. others k out ∙ ap (λ (ps : List Slot). byte_of ps k) loan)
-          (λ k. marks k ∙ ap (λ (ps : List Slot). mark_in_pages ps k) loan)
-          (made ∙ ap (λ (ps : List Slot). map is_some ps) loan)
-          ∙ ap (λ (t : TextState). state (with_bytes t.marked at bytes) t.made) view);
-      whole = text_with_bytes now.marked at bytes fits (subst (λ (t : TextState). IsText t.marked) view kept.0) all;
       long = ap (λ (ps : List Slot). length ps) table ∙ (long ∙ (many_lent ∙ kept.1));
     }
 

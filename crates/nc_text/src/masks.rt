@@ -157,10 +157,6 @@ impl Masks {
         ensures within { (k : ℕ) → k < len → mark_in self.new (from + k) ≡ unused_mark (from + k) }
         ensures others { (k : ℕ) → k < 32 → (k < from) ⊎ (from + len ≤ k) → mark_in self.new k ≡ mark_in self.old k }
     {
-        if len == 32 {
-            *self = Masks::unused();
-            return;
-        }
         let mut masks = *self;
         for i in 0..len {
             masks.set(from + i, unused_mark(from + i));

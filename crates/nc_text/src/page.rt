@@ -1,15 +1,17 @@
 //! One page of a text.
 
-ghost use Rattle.std.specs.Prelude.{◌≡◌, ℕ, ◌<◌, ◌≤◌, length, slice_index};
-
 use crate::masks::Masks;
-use nc_decode::Mark;
+use crate::places::with_stops;
+use nc_decode::{Bundle, Mark, bundle_at};
 
 /// The byte of the instruction hlt, with which all unused text is filled.
 pub(crate) const STOP: u8 = 0xF4;
 
 /// The number of places on a page.
 pub(crate) const PAGE: usize = 4096;
+
+/// The number of places in a bundle.
+pub(crate) const BUNDLE: usize = 32;
 
 /// The number of bundles on a page.
 const BUNDLES: usize = 128;
@@ -22,10 +24,13 @@ pub(crate) struct Page {
 }
 
 impl Page {
-    ghost use Rattle.std.specs.Prelude.{◌≡◌, ◌≢◌, ℕ, ◌+◌, ◌%◌, ◌<◌, ◌≤◌, ◌⊎◌, All, length, slice_index, slice_index_or, IfOk};
+    ghost use Rattle.std.specs.Prelude.{◌≡◌, ◌≢◌, ℕ, ◌+◌, ◌%◌, ◌^◌, ◌<◌, ◌≤◌, ◌⊎◌, ◌==◌, if◌then◌else◌, All, length, slice_index};
+    ghost use Rattle.std.specs.Prelude.{slice_index_or, IfOk};
+    ghost use Rattle.nc_decode.specs.Bits.{mark_by_bits};
     ghost use Rattle.nc_decode.specs.declared.instruction.Mark.TheVariants.{Unmarked};
     ghost use Rattle.std.specs.Int.{bit_at};
     ghost use Rattle.nc_text.specs.Marks.{mark_bit};
+    ghost use Rattle.nc_text.specs.Puts.{is_start, is_mark};
     ghost use Rattle.nc_text.specs.machinery.Pages.{byte_on, mark_on};
     ghost use Rattle.nc_text.specs.machinery.Masks.{mark_in};
     ghost use Rattle.nc_text.specs.MarkedText.{unused_mark, NamesRegister};
@@ -90,20 +95,80 @@ impl Page {
         self.bytes[at] = byte;
     }
 
-    /// Puts bytes from `at` on, one after the other. They are read before the first is put: the compiler doesn't know that they
-    /// are on no page, and would move byte by byte.
-    #[inline(always)]
-    pub(crate) fn put_run(&mut self, at: usize, bytes: &[u8])
-        requires inside { at + length bytes.now ≤ 4096 }
-        requires few { length bytes.now ≤ 32 }
-        ensures within { (k : ℕ) → k < length bytes.now → byte_on self.new (at + k) ≡ slice_index bytes.now k }
-        ensures others { (k : ℕ) → (k < at) ⊎ (at + length bytes.now ≤ k) → byte_on self.new k ≡ byte_on self.old k }
+    /// Puts the bytes of whole bundles that aren't at bundle starts. The bytes of a bundle are stored 16 at a time, and then the
+    /// byte that was at its start: the 31 others alone would take five stores.
+    pub(crate) fn put_inside(&mut self, at: usize, code: &[u8])
+        requires inside { at + length code.now ≤ 4096 }
+        requires start { at % 32 ≡ 0 }
+        requires whole { length code.now % 32 ≡ 0 }
+        ensures within { (k : ℕ) → k < length code.now
+            → byte_on self.new (at + k) ≡ (if is_start (at + k) then byte_on self.old (at + k) else slice_index code.now k) }
+        ensures others { (k : ℕ) → (k < at) ⊎ (at + length code.now ≤ k) → byte_on self.new k ≡ byte_on self.old k }
         ensures marks { (k : ℕ) → mark_on self.new k ≡ mark_on self.old k }
     {
-        let copy = copy_of(bytes);
-        for k in 0..bytes.len() {
-            self.bytes[at + k] = copy[k];
+        for n in 0..code.len() / BUNDLE {
+            let from = BUNDLE * n;
+            let start = at + from;
+            let first = self.bytes[start];
+            self.bytes[start..start + BUNDLE].copy_from_slice(&code[from..from + BUNDLE]);
+            self.bytes[start] = first;
         }
+    }
+
+    /// Puts the bytes of whole bundles that are at bundle starts.
+    pub(crate) fn put_starts(&mut self, at: usize, code: &[u8])
+        requires inside { at + length code.now ≤ 4096 }
+        requires start { at % 32 ≡ 0 }
+        requires whole { length code.now % 32 ≡ 0 }
+        ensures within { (k : ℕ) → k < length code.now
+            → byte_on self.new (at + k) ≡ (if is_start (at + k) then slice_index code.now k else byte_on self.old (at + k)) }
+        ensures others { (k : ℕ) → (k < at) ⊎ (at + length code.now ≤ k) → byte_on self.new k ≡ byte_on self.old k }
+        ensures marks { (k : ℕ) → mark_on self.new k ≡ mark_on self.old k }
+    {
+        for n in 0..code.len() / BUNDLE {
+            self.bytes[at + BUNDLE * n] = code[BUNDLE * n];
+        }
+    }
+
+    /// Puts the bytes of a bundle. They are passed by value: of a slice the compiler wouldn't know that it is on no page, and
+    /// would test it.
+    #[inline(always)]
+    fn put_bundle(&mut self, at: usize, bytes: [u8; BUNDLE])
+        requires inside { at + 32 ≤ 4096 }
+        ensures within { (k : ℕ) → k < 32 → byte_on self.new (at + k) ≡ slice_index bytes k }
+        ensures others { (k : ℕ) → (k < at) ⊎ (at + 32 ≤ k) → byte_on self.new k ≡ byte_on self.old k }
+        ensures masks { self.new.masks ≡ self.old.masks }
+    {
+        for k in 0..BUNDLE {
+            self.bytes[at + k] = bytes[k];
+        }
+    }
+
+    /// Puts stops at the marked places of whole bundles.
+    pub(crate) fn stop_marked(&mut self, at: usize, len: usize)
+        requires inside { at + len ≤ 4096 }
+        requires start { at % 32 ≡ 0 }
+        requires whole { len % 32 ≡ 0 }
+        ensures within { (k : ℕ) → k < len
+            → byte_on self.new (at + k) ≡ (if is_mark (mark_on self.old (at + k)) then 0xF4 else byte_on self.old (at + k)) }
+        ensures others { (k : ℕ) → (k < at) ⊎ (at + len ≤ k) → byte_on self.new k ≡ byte_on self.old k }
+        ensures marks { (k : ℕ) → mark_on self.new k ≡ mark_on self.old k }
+    {
+        for n in 0..len / BUNDLE {
+            let start = at + BUNDLE * n;
+            let stopped = with_stops(self.read_run(start, BUNDLE), self.marked(start));
+            self.put_bundle(start, stopped);
+        }
+    }
+
+    /// Puts stops at all places of a span.
+    pub(crate) fn stop(&mut self, at: usize, len: usize)
+        requires inside { at + len ≤ 4096 }
+        ensures within { (k : ℕ) → k < len → byte_on self.new (at + k) ≡ 0xF4 }
+        ensures others { (k : ℕ) → (k < at) ⊎ (at + len ≤ k) → byte_on self.new k ≡ byte_on self.old k }
+        ensures marks { (k : ℕ) → mark_on self.new k ≡ mark_on self.old k }
+    {
+        self.bytes[at..at + len].fill(STOP);
     }
 
     /// Sets the marks of a span inside one bundle.
@@ -118,8 +183,33 @@ impl Page {
         self.masks[at / 32].set_from((at % 32) as u32, marks);
     }
 
+    /// Sets the marks of whole bundles by the bits of their instructions. They begin at offset `from` of their chunk's code.
+    pub(crate) fn set_bundles(
+        &mut self,
+        at: usize,
+        code: &[u8],
+        bundles: &[Bundle],
+        from: usize,
+        len: usize,
+    )
+        requires inside { at + len ≤ 4096 }
+        requires start { at % 32 ≡ 0 }
+        requires whole { len % 32 ≡ 0 }
+        requires from { from % 32 ≡ 0 }
+        requires fits { from + len < 2 ^ 62 }
+        ensures within { (k : ℕ) → k < len → mark_on self.new (at + k) ≡ mark_by_bits code.now bundles.now (from + k) }
+        ensures others { (k : ℕ) → (k < at) ⊎ (at + len ≤ k) → mark_on self.new k ≡ mark_on self.old k }
+        ensures bytes { (k : ℕ) → byte_on self.new k ≡ byte_on self.old k }
+    {
+        for n in 0..len / BUNDLE {
+            let bundle = bundle_at(bundles, from / BUNDLE + n);
+            let masks = Masks::of_bits(bundle, code, from + BUNDLE * n);
+            self.set_bundle(at + BUNDLE * n, masks);
+        }
+    }
+
     /// Sets the marks of the bundle that starts at `at`.
-    pub(crate) fn set_bundle(&mut self, at: usize, masks: Masks)
+    fn set_bundle(&mut self, at: usize, masks: Masks)
         requires inside { at < 4096 }
         requires start { at % 32 ≡ 0 }
         ensures within { (k : ℕ) → k < 32 → mark_on self.new (at + k) ≡ mark_in masks k }
@@ -129,27 +219,33 @@ impl Page {
         self.masks[at / 32] = masks;
     }
 
-    /// Leaves only bundle starts marked in a span inside one bundle.
+    /// Leaves only bundle starts marked in a span.
     pub(crate) fn unmark(&mut self, at: usize, len: usize)
-        requires inside { at < 4096 }
+        requires inside { at + len ≤ 4096 }
+        ensures within { (k : ℕ) → k < len → mark_on self.new (at + k) ≡ unused_mark (at + k) }
+        ensures others { (k : ℕ) → (k < at) ⊎ (at + len ≤ k) → mark_on self.new k ≡ mark_on self.old k }
+        ensures bytes { (k : ℕ) → byte_on self.new k ≡ byte_on self.old k }
+    {
+        let head = ((PAGE - at) % BUNDLE).min(len);
+        let first = (at + head) / BUNDLE;
+        let whole = (len - head) / BUNDLE;
+        let done = head + BUNDLE * whole;
+        self.unmark_part(at, head);
+        self.masks[first..first + whole].fill(Masks::unused());
+        self.unmark_part(at + done, len - done);
+    }
+
+    /// Leaves only bundle starts marked in a span inside one bundle.
+    fn unmark_part(&mut self, at: usize, len: usize)
+        requires inside { at + len ≤ 4096 }
         requires one_bundle { at % 32 + len ≤ 32 }
         ensures within { (k : ℕ) → k < len → mark_on self.new (at + k) ≡ unused_mark (at + k) }
         ensures others { (k : ℕ) → (k < at) ⊎ (at + len ≤ k) → mark_on self.new k ≡ mark_on self.old k }
         ensures bytes { (k : ℕ) → byte_on self.new k ≡ byte_on self.old k }
     {
+        if len == 0 {
+            return;
+        }
         self.masks[at / 32].unmark((at % 32) as u32, len as u32);
     }
-}
-
-/// A copy of at most 32 bytes: the first bytes of the result.
-#[inline(always)]
-fn copy_of(bytes: &[u8]) -> [u8; 32]
-    requires { length bytes.now ≤ 32 }
-    ensures { (k : ℕ) → k < length bytes.now → slice_index result k ≡ slice_index bytes.now k }
-{
-    let mut copy = [0; 32];
-    for k in 0..bytes.len() {
-        copy[k] = bytes[k];
-    }
-    copy
 }

@@ -27,9 +27,19 @@ pub(crate) fn with_stops(bytes: [u8; 32], places: u32) -> [u8; 32]
 {
     let mut stopped = [0; 32];
     for k in 0..32 {
-        stopped[k] = stop_if((places >> k) & 1 == 1, bytes[k]);
+        stopped[k] = stop_if(has_place(places, k), bytes[k]);
     }
     stopped
+}
+
+/// Whether the bit of a place is set. It is taken from half a word, since the compiler would test the highest bit of a word as
+/// its sign, and not together with the bits beside it.
+fn has_place(places: u32, k: usize) -> bool
+    requires { k < 32 }
+    ensures { result ≡ (bit_at places k == 1) }
+{
+    let half = places >> (k / 16 * 16);
+    (half >> (k % 16)) & 1 == 1
 }
 
 /// A stop if `stops`, otherwise the byte.

@@ -4,19 +4,15 @@ ghost use Rattle.std.specs.Prelude.{◌≡◌, ◌≢◌, ℕ, ◌+◌, ◌/◌,
 ghost use Rattle.std.specs.Prelude.{slice_index, slice_index_or, replicate, ◌^◌};
 ghost use Rattle.nc_decode.specs.declared.instruction.Mark.TheVariants.{Unmarked};
 ghost use Rattle.std.specs.Int.{bit_at};
-ghost use Rattle.nc_decode.specs.Bits.{bit_mark, mark_by_bits};
 ghost use Rattle.std.specs.Option.{is_some};
 ghost use Rattle.nc_text.specs.Marks.{mark_bit};
 ghost use Rattle.nc_text.specs.machinery.Pages.{byte_on, mark_on, byte_of, mark_in_pages, page_of};
 ghost use Rattle.nc_text.specs.MarkedText.{unused_mark, NamesRegister};
 
-use crate::masks::Masks;
-use crate::page::{PAGE, Page, STOP};
-use nc_decode::{Bundle, Mark, bundle_at};
+use crate::change::Change;
+use crate::page::{BUNDLE, PAGE, Page, STOP};
+use nc_decode::Mark;
 use std::alloc::{AllocError, Global};
-
-/// The number of places in a bundle.
-const BUNDLE: usize = 32;
 
 /// The marked places of a bundle on a page that isn't allocated: only its start.
 const UNUSED: u32 = 1;
@@ -103,21 +99,6 @@ pub(crate) fn put(pages: &mut [Option<Box<Page>>], at: usize, byte: u8)
     }
 }
 
-/// Puts bytes from `at` on, in one bundle of an allocated page.
-#[inline(always)]
-pub(crate) fn put_run(pages: &mut [Option<Box<Page>>], at: usize, bytes: &[u8])
-    requires ready { is_some (page_of pages.old at) ≡ true }
-    requires one_bundle { at % 32 + length bytes.now ≤ 32 }
-    ensures within { (k : ℕ) → k < length bytes.now → byte_of pages.new (at + k) ≡ slice_index bytes.now k }
-    ensures others { (k : ℕ) → (k < at) ⊎ (at + length bytes.now ≤ k) → byte_of pages.new k ≡ byte_of pages.old k }
-    ensures marks { (k : ℕ) → mark_in_pages pages.new k ≡ mark_in_pages pages.old k }
-    ensures made { map is_some pages.new ≡ map is_some pages.old }
-{
-    if let Some(page) = &mut pages[at / PAGE] {
-        page.put_run(at % PAGE, bytes);
-    }
-}
-
 /// Sets the marks of a span inside one bundle, on an allocated page.
 fn set_part(pages: &mut [Option<Box<Page>>], at: usize, marks: &[Mark])
     requires ready { is_some (page_of pages.old at) ≡ true }
@@ -153,54 +134,61 @@ pub(crate) fn set_span(pages: &mut [Option<Box<Page>>], start: usize, marks: &[M
     }
 }
 
-/// Sets the marks of a bundle on an allocated page, by the bits of its instructions. The bundle begins at offset `start` of
-/// its chunk's code.
-fn set_bundle(pages: &mut [Option<Box<Page>>], at: usize, bundle: Bundle, code: &[u8], start: usize)
+/// Makes a change at the places of an allocated page from `at` on, which are those of the span from number `from` on.
+fn change_page<C: Change>(
+    pages: &mut [Option<Box<Page>>],
+    at: usize,
+    what: &C,
+    from: usize,
+    len: usize,
+)
     requires ready { is_some (page_of pages.old at) ≡ true }
-    requires whole { at % 32 ≡ 0 }
-    requires fits { start + 32 < 2 ^ 63 }
-    ensures within { (k : ℕ) → k < 32 → mark_in_pages pages.new (at + k) ≡ bit_mark bundle k (slice_index code.now (start + k + 1)) }
-    ensures others { (k : ℕ) → (k < at) ⊎ (at + 32 ≤ k) → mark_in_pages pages.new k ≡ mark_in_pages pages.old k }
-    ensures bytes { (k : ℕ) → byte_of pages.new k ≡ byte_of pages.old k }
+    requires one_page { at % 4096 + len ≤ 4096 }
+    requires start { at % 32 ≡ 0 }
+    requires from { from % 32 ≡ 0 }
+    requires whole { len % 32 ≡ 0 }
+    requires part { from + len ≤ C.size what.now }
+    requires fits { C.size what.now < 2 ^ 62 }
+    ensures bytes { (k : ℕ) → k < len
+        → byte_of pages.new (at + k) ≡ C.byte what.now (from + k) (mark_in_pages pages.old (at + k)) (byte_of pages.old (at + k)) }
+    ensures marks { (k : ℕ) → k < len → mark_in_pages pages.new (at + k) ≡ C.mark what.now (from + k) (mark_in_pages pages.old (at + k)) }
+    ensures other_bytes { (k : ℕ) → (k < at) ⊎ (at + len ≤ k) → byte_of pages.new k ≡ byte_of pages.old k }
+    ensures other_marks { (k : ℕ) → (k < at) ⊎ (at + len ≤ k) → mark_in_pages pages.new k ≡ mark_in_pages pages.old k }
     ensures made { map is_some pages.new ≡ map is_some pages.old }
 {
     if let Some(page) = &mut pages[at / PAGE] {
-        page.set_bundle(at % PAGE, Masks::of_bits(bundle, code, start));
+        what.make(page, at % PAGE, from, len);
     }
 }
 
-/// Sets the marks of a chunk's code, by the bits of its bundles, on allocated pages.
-pub(crate) fn set_bundles(
-    pages: &mut [Option<Box<Page>>],
-    base: usize,
-    code: &[u8],
-    bundles: &[Bundle],
-)
-    requires ready { (k : ℕ) → k < length code.now → is_some (page_of pages.old (base + k)) ≡ true }
-    requires start { base % 32 ≡ 0 }
-    requires whole { length code.now % 32 ≡ 0 }
-    requires fits { base + length code.now < 2 ^ 62 }
-    ensures within { (k : ℕ) → k < length code.now → mark_in_pages pages.new (base + k) ≡ mark_by_bits code.now bundles.now k }
-    ensures below { (k : ℕ) → k < base → mark_in_pages pages.new k ≡ mark_in_pages pages.old k }
-    ensures above { (k : ℕ) → base + length code.now ≤ k → mark_in_pages pages.new k ≡ mark_in_pages pages.old k }
-    ensures bytes { (k : ℕ) → byte_of pages.new k ≡ byte_of pages.old k }
+/// Makes a change of whole bundles on allocated pages, a page at a time.
+pub(crate) fn change<C: Change>(pages: &mut [Option<Box<Page>>], start: usize, what: &C)
+    requires ready { (k : ℕ) → k < C.size what.now → is_some (page_of pages.old (start + k)) ≡ true }
+    requires start { start % 32 ≡ 0 }
+    requires whole { C.size what.now % 32 ≡ 0 }
+    requires fits { start + C.size what.now < 2 ^ 62 }
+    ensures bytes { (k : ℕ) → k < C.size what.now
+        → byte_of pages.new (start + k) ≡ C.byte what.now k (mark_in_pages pages.old (start + k)) (byte_of pages.old (start + k)) }
+    ensures marks { (k : ℕ) → k < C.size what.now
+        → mark_in_pages pages.new (start + k) ≡ C.mark what.now k (mark_in_pages pages.old (start + k)) }
+    ensures other_bytes { (k : ℕ) → (k < start) ⊎ (start + C.size what.now ≤ k) → byte_of pages.new k ≡ byte_of pages.old k }
+    ensures other_marks { (k : ℕ) → (k < start) ⊎ (start + C.size what.now ≤ k) → mark_in_pages pages.new k ≡ mark_in_pages pages.old k }
     ensures made { map is_some pages.new ≡ map is_some pages.old }
 {
-    for n in 0..code.len() / BUNDLE {
-        set_bundle(
-            pages,
-            base + BUNDLE * n,
-            bundle_at(bundles, n),
-            code,
-            BUNDLE * n,
-        );
+    let size = what.size();
+    let mut done = 0;
+    while done < size {
+        let at = start + done;
+        let part = (PAGE - at % PAGE).min(size - done);
+        change_page(pages, at, what, done, part);
+        done += part;
     }
 }
 
-/// Leaves only bundle starts marked in a span inside one bundle. On a page that isn't allocated, nothing has to be done.
-fn unmark_part(pages: &mut [Option<Box<Page>>], at: usize, len: usize)
+/// Leaves only bundle starts marked in a span on one page. On a page that isn't allocated, nothing has to be done.
+fn unmark_page(pages: &mut [Option<Box<Page>>], at: usize, len: usize)
     requires inside { at / 4096 < length pages.old }
-    requires one_bundle { at % 32 + len ≤ 32 }
+    requires one_page { at % 4096 + len ≤ 4096 }
     ensures within { (k : ℕ) → k < len → mark_in_pages pages.new (at + k) ≡ unused_mark (at + k) }
     ensures others { (k : ℕ) → (k < at) ⊎ (at + len ≤ k) → mark_in_pages pages.new k ≡ mark_in_pages pages.old k }
     ensures bytes { (k : ℕ) → byte_of pages.new k ≡ byte_of pages.old k }
@@ -211,7 +199,7 @@ fn unmark_part(pages: &mut [Option<Box<Page>>], at: usize, len: usize)
     }
 }
 
-/// Leaves only bundle starts marked in a span, a bundle at a time.
+/// Leaves only bundle starts marked in a span, a page at a time.
 pub(crate) fn unmark(pages: &mut [Option<Box<Page>>], start: usize, len: usize)
     requires fits { start + len < 2 ^ 63 }
     requires inside { (k : ℕ) → k < len → (start + k) / 4096 < length pages.old }
@@ -224,8 +212,8 @@ pub(crate) fn unmark(pages: &mut [Option<Box<Page>>], start: usize, len: usize)
     let mut done = 0;
     while done < len {
         let at = start + done;
-        let part = (BUNDLE - at % BUNDLE).min(len - done);
-        unmark_part(pages, at, part);
+        let part = (PAGE - at % PAGE).min(len - done);
+        unmark_page(pages, at, part);
         done += part;
     }
 }

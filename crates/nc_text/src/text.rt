@@ -1,18 +1,19 @@
 //! A text: the bytes of a region and their marks.
 
-ghost use Rattle.std.specs.Prelude.{◌≡◌, ◌+◌, ◌%◌, ◌-◌, ◌*◌, ◌≤◌, ◌<◌, ℕ, List, length, take, replicate, slice_index, IfOk, IfErr, IsTrue, All, ◌↔◌, ◌⊎◌};
+ghost use Rattle.std.specs.Prelude.{◌≡◌, ◌+◌, ◌%◌, ◌-◌, ◌*◌, ◌≤◌, ◌<◌, ℕ, true, false, List, length, replicate, slice_index};
+ghost use Rattle.std.specs.Prelude.{IfOk, IfErr, IsTrue, All, ◌↔◌, ◌⊎◌};
 ghost use Rattle.std.specs.Int.{bit_at};
 ghost use Rattle.nc_decode.specs.Bundles.{IsBundleStart, IsLawfulLimit};
 ghost use Rattle.nc_decode.specs.Bits.{marks_in};
 ghost use Rattle.nc_text.specs.Marks.{IsClosed, mark_at, mark_bit};
 ghost use Rattle.nc_text.specs.Places.{InRegion, SpanInRegion, byte_at, limit_of};
-ghost use Rattle.nc_text.specs.MarkedText.{MarkedText, IsText, with_byte, with_bytes, with_marks, without_marks, unused_text, NamesRegister};
+ghost use Rattle.nc_text.specs.MarkedText.{MarkedText, IsText, with_byte, with_marks, without_marks, unused_text, NamesRegister};
 ghost use Rattle.nc_text.specs.MarkedText.{KeepsMarks, AreStops};
-ghost use Rattle.nc_text.specs.Puts.{HasPut, is_set};
+ghost use Rattle.nc_text.specs.Puts.{HasPut, starts_if, marked_if, is_marked_at};
 ghost use Rattle.nc_text.specs.Ready.{TextState, IsReady, AreReady, GetsReady, unmade_pages};
 
+use crate::change::{MarkBundles, Puts, Stops};
 use crate::page::{PAGE, Page};
-use crate::places::with_stops;
 use crate::table;
 use nc_decode::{Bundle, MAX_BUNDLES, Mark, START};
 use std::alloc::Global;
@@ -54,7 +55,6 @@ pub struct Text {
 impl Model for Text {
     ghost use Rattle.std.specs.Prelude.{◌≡◌, ◌+◌, ◌/◌, length};
     ghost use Rattle.nc_text.specs.MarkedText.{IsText};
-    ghost use Rattle.nc_text.specs.Puts.{HasPut, is_set};
     ghost use Rattle.nc_text.specs.Ready.{TextState};
     ghost use Rattle.nc_text.specs.machinery.Pages.{text_of};
 
@@ -186,50 +186,61 @@ impl Text {
         table::put(&mut self.pages, (at - START) as usize, byte);
     }
 
-    /// Puts bytes from an address of the region on, in ascending order, in one bundle. No mark and no other byte changes. An
-    /// empty run changes nothing, wherever `at` is.
+    /// Puts the bytes of a span that are at bundle starts, or those that aren't. The span consists of whole bundles from a bundle start
+    /// on. No mark and no other byte changes. An empty span changes nothing, wherever `at` is.
     ///
-    /// It has the effect of a `put` of each byte, but finds the page only once, and may store several bytes at once and in any
-    /// order. So it isn't for memory that threads execute. The conditions are that the run is in the region and in one bundle,
-    /// that its places are ready, and that the text is closed under the same marks after each byte.
-    pub fn put_run(&mut self, at: u32, bytes: &[u8])
-        requires inside { SpanInRegion self.old.marked.bytes at (length bytes.now) }
-        requires one_bundle { at % 32 + length bytes.now ≤ 32 }
-        requires ready { AreReady self.old.made at (length bytes.now) }
-        requires closed { (count : ℕ) → count ≤ length bytes.now
-            → IsClosed (with_bytes self.old.marked at (take count bytes.now)).bytes self.old.marked.marks }
-        ensures marked { self.new.marked ≡ with_bytes self.old.marked at bytes.now }
+    /// It has the effect of a `put` of each of these bytes in ascending order, but finds each page only once, and may store several
+    /// bytes at once and in any order. So it isn't for memory that threads execute. The conditions are that the span is in the
+    /// region, that its places are ready, and that the text is closed under the same marks after each byte.
+    pub fn put_where(&mut self, at: u32, code: &[u8], at_starts: bool)
+        requires inside { SpanInRegion self.old.marked.bytes at (length code.now) }
+        requires start { IsBundleStart at }
+        requires whole { length code.now % 32 ≡ 0 }
+        requires ready { AreReady self.old.made at (length code.now) }
+        requires closed { (count : ℕ) (now : List ℕ) → count ≤ length code.now
+            → HasPut (starts_if at_starts) at code.now count self.old.marked.bytes now → IsClosed now self.old.marked.marks }
+        ensures bytes { HasPut (starts_if at_starts) at code.now (length code.now) self.old.marked.bytes self.new.marked.bytes }
+        ensures marks { self.new.marked.marks ≡ self.old.marked.marks }
         ensures made { self.new.made ≡ self.old.made }
         ensures whole { IsText self.new.marked }
     {
         // Names a field, so that the early return is checked against the fields and not the whole.
         let _open = &self.pages;
-        if bytes.is_empty() {
+        if code.is_empty() {
             return;
         }
-        table::put_run(&mut self.pages, (at - START) as usize, bytes);
+        let puts = Puts { code, at_starts };
+        table::change(&mut self.pages, (at - START) as usize, &puts);
     }
 
-    /// Puts F4 at the places of a bundle whose bits are set, in ascending order. The lowest bit is that of the bundle start, which
-    /// is at the address `at`. No mark and no other byte changes.
-    ///
-    /// It has the effect of a `put` at each of these places, but finds the page only once, and may store the whole bundle at
-    /// once. So it isn't for memory that threads execute. The conditions are that the bundle is in the region, that its places
-    /// are ready, and that the text is closed under the same marks after each byte.
-    pub fn stop_places(&mut self, at: u32, places: u32)
-        requires inside { InRegion self.old.marked.bytes at }
+    /// Puts F4 at the marked places of a span of `len` bytes, or at those that aren't marked, under the conditions of `put_where` and
+    /// like it. F4 is put at unmarked places only where it is at the marked ones already.
+    pub fn stop_where(&mut self, at: u32, len: u32, at_marked: bool)
+        requires inside { SpanInRegion self.old.marked.bytes at len }
         requires start { IsBundleStart at }
-        requires ready { AreReady self.old.made at 32 }
-        requires closed { (count : ℕ) (now : List ℕ) → count ≤ 32
-            → HasPut (is_set places at) at (replicate 32 0xF4) count self.old.marked.bytes now → IsClosed now self.old.marked.marks }
-        ensures bytes { HasPut (is_set places at) at (replicate 32 0xF4) 32 self.old.marked.bytes self.new.marked.bytes }
+        requires whole { len % 32 ≡ 0 }
+        requires ready { AreReady self.old.made at len }
+        requires stopped { at_marked ≡ false → (k : ℕ) → at ≤ k → k < at + len → is_marked_at self.old.marked.marks k ≡ true
+            → byte_at self.old.marked.bytes k ≡ 0xF4 }
+        requires closed { (count : ℕ) (now : List ℕ) → count ≤ len
+            → HasPut (marked_if at_marked self.old.marked.marks) at (replicate len 0xF4) count self.old.marked.bytes now
+            → IsClosed now self.old.marked.marks }
+        ensures bytes { HasPut (marked_if at_marked self.old.marked.marks) at (replicate len 0xF4) len self.old.marked.bytes
+            self.new.marked.bytes }
         ensures marks { self.new.marked.marks ≡ self.old.marked.marks }
         ensures made { self.new.made ≡ self.old.made }
         ensures whole { IsText self.new.marked }
     {
-        let start = (at - START) as usize;
-        let stopped = with_stops(table::read_run(&self.pages, start, 32), places);
-        table::put_run(&mut self.pages, start, &stopped);
+        // Names a field, so that the early return is checked against the fields and not the whole.
+        let _open = &self.pages;
+        if len == 0 {
+            return;
+        }
+        let stops = Stops {
+            len: len as usize,
+            only_marked: at_marked,
+        };
+        table::change(&mut self.pages, (at - START) as usize, &stops);
     }
 
     /// Sets the marks of the span that begins at `at` and is as long as `marks`. No byte changes, and no mark outside the
@@ -275,7 +286,8 @@ impl Text {
         if code.is_empty() {
             return;
         }
-        table::set_bundles(&mut self.pages, (at - START) as usize, code, bundles);
+        let marks = MarkBundles { code, bundles };
+        table::change(&mut self.pages, (at - START) as usize, &marks);
     }
 
     /// Makes every place except bundle starts `Unmarked` in the span of `len` bytes from `at` on. No byte changes, and no mark

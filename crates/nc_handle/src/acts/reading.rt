@@ -5,8 +5,6 @@ ghost use Rattle.std.specs.Int.{bit_at};
 ghost use Rattle.nc_decode.specs.declared.instruction.Mark.{Mark};
 ghost use Rattle.nc_text.specs.Marks.{mark_bit};
 
-use nc_decode::Mark;
-
 /// A chunk, wherever it is stored, read place by place. A place is an index into its code.
 pub(crate) trait ReadChunk {
     /// Its code.
@@ -23,11 +21,6 @@ pub(crate) trait ReadChunk {
     fn byte(&self, i: usize) -> u8
         requires { i < length (code self.now) }
         ensures { result ≡ slice_index (code self.now) i };
-
-    /// The mark at a place.
-    fn mark(&self, i: usize) -> Mark
-        requires { i < length (code self.now) }
-        ensures { result ≡ marks self.now i };
 
     /// The 32 bytes that begin at a multiple of 32.
     fn bytes(&self, i: usize) -> [u8; 32]

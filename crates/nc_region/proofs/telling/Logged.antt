@@ -1,5 +1,5 @@
 -- The entries logged, one call after another.
-use Rattle.std.proofs.Common.{◌≡◌, ℕ, ◌+◌, ◌<◌, ◌≤◌, Bool, true, false, cond, List, [], ◌∷◌, ◌++◌, length, get_or, take, replicate}
+use Rattle.std.proofs.Common.{◌≡◌, ℕ, ◌+◌, ◌<◌, Bool, true, false, cond, List, [], ◌∷◌, ◌++◌, length, get_or, take, replicate}
 use Rattle.std.proofs.Common.{refl, ◌∙◌, sym, ap, subst, append_assoc}
 use Rattle.std.proofs.lemmas.List.{map-append, append-nil}
 use Rattle.nc_decode.specs.declared.instruction.Mark.{Mark}
@@ -11,7 +11,7 @@ use Rattle.nc_region.specs.declared.acts.Entry.TheVariants.{Did, Settled}
 use Rattle.nc_region.specs.Acts.{puts_where, is_inside, is_start, is_marked_at, is_unmarked_at, acts_of_create, acts_of_delete}
 use Rattle.nc_region.specs.Log.{Logs, unsettled, acts_in, log_of_create, log_of_delete}
 use Rattle.nc_region.specs.Patch.{stands_there, any_place, acts_of_instruction, acts_of_modify, log_of_instruction, log_of_modify}
-use Rattle.nc_region.proofs.telling.Chosen.{next_put, next_passed, all_passed}
+use Rattle.nc_region.proofs.telling.Chosen.{next_put, next_passed}
 
 -- no entry is logged
 pub logs_none : (logged : List Entry) → Logs logged logged []
@@ -57,13 +57,6 @@ pub log_passed : (chosen : ℕ → Bool) (base : ℕ) (bytes : List ℕ) (i : �
     → Logs a b (unsettled (puts_where chosen base (take (i + 1) bytes)))
 log_passed chosen base bytes i a b lt not first =
     subst (λ (acts : List Act). Logs a b (unsettled acts)) (sym (next_passed chosen base bytes i lt not)) first
-
--- nor do some that follow one another
-pub log_passed_all : (chosen : ℕ → Bool) (base : ℕ) (bytes : List ℕ) (i n : ℕ) (a b : List Entry) → i + n ≤ length bytes
-    → ((j : ℕ) → j < n → chosen (base + (i + j)) ≡ false) → Logs a b (unsettled (puts_where chosen base (take i bytes)))
-    → Logs a b (unsettled (puts_where chosen base (take (i + n) bytes)))
-log_passed_all chosen base bytes i n a b fits none first =
-    subst (λ (acts : List Act). Logs a b (unsettled acts)) (sym (all_passed chosen base bytes i n fits none)) first
 
 -- the acts of two logs, one after the other
 acts_join : (xs ys : List Entry) → acts_in (xs ++ ys) ≡ acts_in xs ++ acts_in ys

@@ -3,7 +3,7 @@ use Rattle.std.specs.Prelude.{◌≡◌, ◌≢◌, ℕ, ◌+◌, ◌%◌, ◌<�
 use Rattle.nc_decode.specs.Bundles.{IsBundleStart}
 use Rattle.nc_text.specs.Places.{byte_at, limit_of}
 use Rattle.nc_text.specs.Marks.{mark_at}
-pub use Rattle.nc_text.specs.Puts.{HasPut, is_set}
+pub use Rattle.nc_text.specs.Puts.{HasPut}
 use Rattle.nc_text.specs.Ready.{AreReady}
 use Rattle.nc_text.specs.MarkedText.{MarkedText, unused_mark}
 use Rattle.nc_vet.specs.Chunk.{MarkedChunk, IsValid}

@@ -12,16 +12,16 @@ loop-done-preserved c =
     record {
       few = omega (arith, c.min-part.ensures);
       within = λ k lt. elim (cases_lt k done) [
-        | inl before ↦ c.unmark_part.ensures.others (start + k) (inl (omega arith)) ∙ so.within k before
+        | inl before ↦ c.unmark_page.ensures.others (start + k) (inl (omega arith)) ∙ so.within k before
         | inr from ↦
             let place : start + done + (k - done) ≡ start + k = omega arith in
-            subst (λ (j : ℕ). mark_in_pages c.unmark_part.new.pages j ≡ unused_mark j) place
-            (c.unmark_part.ensures.within (k - done) (omega (arith, c.min-part.ensures)))
+            subst (λ (j : ℕ). mark_in_pages c.unmark_page.new.pages j ≡ unused_mark j) place
+            (c.unmark_page.ensures.within (k - done) (omega (arith, c.min-part.ensures)))
       ];
-      below = λ k lt. c.unmark_part.ensures.others k (inl (omega arith)) ∙ so.below k lt;
-      above = λ k past. c.unmark_part.ensures.others k (inr (omega (arith, c.min-part.ensures))) ∙ so.above k (omega arith);
-      bytes = λ k. c.unmark_part.ensures.bytes k ∙ so.bytes k;
-      made = c.unmark_part.ensures.made ∙ so.made;
+      below = λ k lt. c.unmark_page.ensures.others k (inl (omega arith)) ∙ so.below k lt;
+      above = λ k past. c.unmark_page.ensures.others k (inr (omega (arith, c.min-part.ensures))) ∙ so.above k (omega arith);
+      bytes = λ k. c.unmark_page.ensures.bytes k ∙ so.bytes k;
+      made = c.unmark_page.ensures.made ∙ so.made;
     }
 
 pub returns-clause-within : goal.returns-clause-within

@@ -3,7 +3,7 @@ use Rattle.std.specs.Int.{bit_at}
 use Rattle.std.proofs.Math.Nat.{pow-succ'}
 use Rattle.nc_text.specs.Marks.{mark_at, mark_bit}
 use Rattle.nc_text.proofs.Offered.{doubled_low, doubled_high}
-use Rattle.nc_region.proofs.deleting.Stopping.{small_mark_bit}
+use Rattle.nc_region.proofs.telling.SoFar.{small_mark_bit}
 use Rattle.nc_region.proofs.acts.Acts.marked_places.Goals as goal
 
 pub mark-requires : goal.mark-requires

@@ -1,9 +1,7 @@
 use Rattle.std.proofs.Common.{ℕ, ◌+◌, arith, ap, sym, ◌∙◌, inl, inr}
 use Rattle.std.proofs.lemmas.Bool.{cases_eq}
-use Rattle.nc_text.specs.declared.masks.Masks.{Masks}
 use Rattle.nc_text.specs.machinery.Masks.{mark_in}
 use Rattle.nc_text.specs.MarkedText.{unused_mark}
-use Rattle.nc_text.proofs.Tables.{bare_at}
 use Rattle.nc_text.proofs.masks.Masks.unmark.Goals as goal
 
 pub loop-i-preserved : goal.loop-i-preserved
@@ -22,7 +20,3 @@ loop-i-preserved c =
         | inr high ↦ c.set.ensures.other k lt (omega arith) ∙ so.others k lt (inr (omega arith))
       ];
     }
-
-pub returns-then-len-eq32-clause-within : goal.returns-then-len-eq32-clause-within
-returns-then-len-eq32-clause-within c = λ k lt.
-    ap (λ (m : Masks). mark_in m (c.args.from + k)) c.unused.ensures ∙ bare_at (c.args.from + k) (omega arith)

@@ -1,95 +1,50 @@
-use Rattle.std.proofs.Common.{◌≡◌, ℕ, ◌-◌, ◌<◌, length, get_or, arith, subst, sym, ap, ◌∙◌}
+use Rattle.std.proofs.Common.{◌≡◌, ℕ, ◌-◌, ◌<◌, length, get_or, arith, subst, sym, ap, ◌∙◌, inl, inr}
 use Rattle.std.proofs.lemmas.Bool.Decides.{nat_tests}
 use Rattle.nc_decode.specs.declared.instruction.Mark.TheVariants.{Unmarked}
 use Rattle.nc_decode.specs.Bits.{marks_in}
 use Rattle.nc_decode.proofs.Offered.{length-marks_in, marks_in-at}
-use Rattle.nc_text.specs.machinery.Pages.{mark_in_pages}
+use Rattle.nc_text.specs.machinery.Pages.{byte_of, mark_in_pages}
+use Rattle.nc_text.specs.MarkedText.{with_marks}
 use Rattle.nc_text.specs.Ready.{TextState}
-use Rattle.nc_text.proofs.Views.{span_done, ready_made, keeps_invariant}
+use Rattle.nc_text.proofs.Putting.{put_back, same_everywhere}
+use Rattle.nc_text.proofs.Views.{IsSeenAs, state, span_done, ready_made, keeps_invariant}
 use Rattle.nc_text.proofs.text.Text.mark_bundles.Goals as goal
 
-pub set_bundles-requires-clause-ready : goal.set_bundles-requires-clause-ready
-set_bundles-requires-clause-ready c = λ k lt.
+pub change-requires-clause-ready : goal.change-requires-clause-ready
+change-requires-clause-ready c = λ k lt.
     let first = c.requires.inside 0 (omega arith) in
     ready_made c.self.inside.pages.items c.deref_mut.result.now c.self.inside.size c.args.at k c.args.self.now c.deref_mut.ensures.value
     c.self.view_is (omega (arith, first.0)) (c.requires.ready k lt)
 
-pub invariant_of-self : goal.invariant_of-self
-invariant_of-self c =
-    let done =
+-- the text is seen with these marks
+seen_of : (c : goal.After-self-1) → IsSeenAs (put_back c.self.inside.pages.items c.change.new.pages c.self.inside.pages.len)
+    c.self.inside.size (state (with_marks c.args.self.now.marked c.args.at (marks_in c.args.code.now c.args.bundles.now)) c.args.self.now.made)
+seen_of c =
     let some : 0 < length c.args.code.now = grind (arith, nat_tests, c.is_empty.ensures, c.if-is_empty.false) in
     let first = c.requires.inside 0 some in
     let last = c.requires.inside (length c.args.code.now - 1) (omega arith) in
     let marks = marks_in c.args.code.now c.args.bundles.now in
     let long : length marks ≡ length c.args.code.now = length-marks_in c.args.code.now c.args.bundles.now in
-    span_done c.self.inside.pages.items c.deref_mut.result.now c.set_bundles.new.pages c.self.inside.size c.self.inside.pages.len c.args.at
-    marks c.args.self.now c.deref_mut.ensures.value (omega (arith, c.self.inside.pages.ok.0)) c.set_bundles.auto.pages
+    span_done c.self.inside.pages.items c.deref_mut.result.now c.change.new.pages c.self.inside.size c.self.inside.pages.len c.args.at
+    marks c.args.self.now c.deref_mut.ensures.value (omega (arith, c.self.inside.pages.ok.0)) c.change.auto.pages
     c.self.view_is c.self.invariant (omega (arith, first.0, last.1, long))
     (λ k low high.
     let within : k - (c.args.at - 65536) < length c.args.code.now = omega (arith, low, high, long) in
-    subst (λ (j : ℕ). mark_in_pages c.set_bundles.new.pages j ≡ get_or marks (k - (c.args.at - 65536)) Unmarked) (omega arith)
-    (c.set_bundles.ensures.within (k - (c.args.at - 65536)) within
+    subst (λ (j : ℕ). mark_in_pages c.change.new.pages j ≡ get_or marks (k - (c.args.at - 65536)) Unmarked) (omega arith)
+    (c.change.ensures.marks (k - (c.args.at - 65536)) within
     ∙ sym (marks_in-at c.args.code.now c.args.bundles.now (k - (c.args.at - 65536)) Unmarked within)))
-    c.set_bundles.ensures.below (λ k past. c.set_bundles.ensures.above k (omega (arith, past, long))) c.set_bundles.ensures.bytes
-    c.set_bundles.ensures.made c.requires.closed in
-    keeps_invariant _ _ _ done
+    (λ k lt. c.change.ensures.other_marks k (inl lt)) (λ k past. c.change.ensures.other_marks k (inr (omega (arith, past, long))))
+    (same_everywhere (byte_of c.change.new.pages) (byte_of c.deref_mut.result.now) (c.args.at - 65536) (length c.args.code.now)
+    c.change.ensures.bytes c.change.ensures.other_bytes) c.change.ensures.made c.requires.closed
+
+pub invariant_of-self : goal.invariant_of-self
+invariant_of-self c = keeps_invariant _ _ _ (seen_of c)
 
 pub returns-clause-marked : goal.returns-clause-marked
-returns-clause-marked c =
-    let done =
-    let some : 0 < length c.args.code.now = grind (arith, nat_tests, c.is_empty.ensures, c.if-is_empty.false) in
-    let first = c.requires.inside 0 some in
-    let last = c.requires.inside (length c.args.code.now - 1) (omega arith) in
-    let marks = marks_in c.args.code.now c.args.bundles.now in
-    let long : length marks ≡ length c.args.code.now = length-marks_in c.args.code.now c.args.bundles.now in
-    span_done c.self.inside.pages.items c.deref_mut.result.now c.set_bundles.new.pages c.self.inside.size c.self.inside.pages.len c.args.at
-    marks c.args.self.now c.deref_mut.ensures.value (omega (arith, c.self.inside.pages.ok.0)) c.set_bundles.auto.pages
-    c.self.view_is c.self.invariant (omega (arith, first.0, last.1, long))
-    (λ k low high.
-    let within : k - (c.args.at - 65536) < length c.args.code.now = omega (arith, low, high, long) in
-    subst (λ (j : ℕ). mark_in_pages c.set_bundles.new.pages j ≡ get_or marks (k - (c.args.at - 65536)) Unmarked) (omega arith)
-    (c.set_bundles.ensures.within (k - (c.args.at - 65536)) within
-    ∙ sym (marks_in-at c.args.code.now c.args.bundles.now (k - (c.args.at - 65536)) Unmarked within)))
-    c.set_bundles.ensures.below (λ k past. c.set_bundles.ensures.above k (omega (arith, past, long))) c.set_bundles.ensures.bytes
-    c.set_bundles.ensures.made c.requires.closed in
-    ap (λ (t : TextState). t.marked) done.seen
+returns-clause-marked c = ap (λ (t : TextState). t.marked) (seen_of c).seen
 
 pub returns-clause-made : goal.returns-clause-made
-returns-clause-made c =
-    let done =
-    let some : 0 < length c.args.code.now = grind (arith, nat_tests, c.is_empty.ensures, c.if-is_empty.false) in
-    let first = c.requires.inside 0 some in
-    let last = c.requires.inside (length c.args.code.now - 1) (omega arith) in
-    let marks = marks_in c.args.code.now c.args.bundles.now in
-    let long : length marks ≡ length c.args.code.now = length-marks_in c.args.code.now c.args.bundles.now in
-    span_done c.self.inside.pages.items c.deref_mut.result.now c.set_bundles.new.pages c.self.inside.size c.self.inside.pages.len c.args.at
-    marks c.args.self.now c.deref_mut.ensures.value (omega (arith, c.self.inside.pages.ok.0)) c.set_bundles.auto.pages
-    c.self.view_is c.self.invariant (omega (arith, first.0, last.1, long))
-    (λ k low high.
-    let within : k - (c.args.at - 65536) < length c.args.code.now = omega (arith, low, high, long) in
-    subst (λ (j : ℕ). mark_in_pages c.set_bundles.new.pages j ≡ get_or marks (k - (c.args.at - 65536)) Unmarked) (omega arith)
-    (c.set_bundles.ensures.within (k - (c.args.at - 65536)) within
-    ∙ sym (marks_in-at c.args.code.now c.args.bundles.now (k - (c.args.at - 65536)) Unmarked within)))
-    c.set_bundles.ensures.below (λ k past. c.set_bundles.ensures.above k (omega (arith, past, long))) c.set_bundles.ensures.bytes
-    c.set_bundles.ensures.made c.requires.closed in
-    ap (λ (t : TextState). t.made) done.seen
+returns-clause-made c = ap (λ (t : TextState). t.made) (seen_of c).seen
 
 pub returns-clause-whole : goal.returns-clause-whole
-returns-clause-whole c =
-    let done =
-    let some : 0 < length c.args.code.now = grind (arith, nat_tests, c.is_empty.ensures, c.if-is_empty.false) in
-    let first = c.requires.inside 0 some in
-    let last = c.requires.inside (length c.args.code.now - 1) (omega arith) in
-    let marks = marks_in c.args.code.now c.args.bundles.now in
-    let long : length marks ≡ length c.args.code.now = length-marks_in c.args.code.now c.args.bundles.now in
-    span_done c.self.inside.pages.items c.deref_mut.result.now c.set_bundles.new.pages c.self.inside.size c.self.inside.pages.len c.args.at
-    marks c.args.self.now c.deref_mut.ensures.value (omega (arith, c.self.inside.pages.ok.0)) c.set_bundles.auto.pages
-    c.self.view_is c.self.invariant (omega (arith, first.0, last.1, long))
-    (λ k low high.
-    let within : k - (c.args.at - 65536) < length c.args.code.now = omega (arith, low, high, long) in
-    subst (λ (j : ℕ). mark_in_pages c.set_bundles.new.pages j ≡ get_or marks (k - (c.args.at - 65536)) Unmarked) (omega arith)
-    (c.set_bundles.ensures.within (k - (c.args.at - 65536)) within
-    ∙ sym (marks_in-at c.args.code.now c.args.bundles.now (k - (c.args.at - 65536)) Unmarked within)))
-    c.set_bundles.ensures.below (λ k past. c.set_bundles.ensures.above k (omega (arith, past, long))) c.set_bundles.ensures.bytes
-    c.set_bundles.ensures.made c.requires.closed in
-    (keeps_invariant _ _ _ done).0
+returns-clause-whole c = (keeps_invariant _ _ _ (seen_of c)).0

@@ -1,9 +1,8 @@
-use Rattle.std.proofs.Common.{ℕ, ◌≡◌, ◌+◌, ◌-◌, ◌%◌, ◌<◌, length, List, get_or, arith, ap, sym, ◌∙◌}
-use Rattle.nc_decode.specs.declared.instruction.Mark.TheVariants.{Unmarked}
+use Rattle.std.proofs.Common.{length, List, arith, ap, ◌∙◌}
 use Rattle.nc_text.specs.Marks.{mark_bit}
-use Rattle.nc_text.specs.machinery.Pages.{Slot, mark_in_pages}
+use Rattle.nc_text.specs.machinery.Pages.{Slot}
 use Rattle.nc_text.specs.Ready.{TextState}
-use Rattle.nc_text.proofs.Views.{bytes_long, mark_seen}
+use Rattle.nc_text.proofs.Views.{bytes_long, mark_there, bundle_inside}
 use Rattle.nc_text.proofs.text.Text.marked_places.Goals as goal
 
 pub marked-requires-clause-inside : goal.marked-requires-clause-inside
@@ -15,15 +14,10 @@ marked-requires-clause-inside c =
 
 pub returns : goal.returns
 returns c = λ k lt.
-    let at = c.args.at in
-    let pages = c.self.inside.pages.items in
-    let long = bytes_long pages c.self.inside.size in
-    let same = ap (λ (t : TextState). length t.marked.bytes) c.self.view_is in
-    let whole : c.self.inside.size % 32 ≡ 0 = omega (arith, long, c.self.invariant.0.lawful.0) in
-    let inside : at - 65536 + k < c.self.inside.size =
-    omega (arith, long, same, whole, lt, c.requires.inside.0, c.requires.inside.1, c.requires.start) in
-    let moved : at - 65536 + k ≡ at + k - 65536 = omega (arith, c.requires.inside.0) in
-    c.marked.ensures k lt ∙ ap mark_bit (ap (λ (ps : List Slot). mark_in_pages ps (at - 65536 + k)) c.deref.ensures.value
-    ∙ (sym (mark_seen pages c.self.inside.size (at - 65536 + k) inside)
-    ∙ (ap (λ (t : TextState). get_or t.marked.marks (at - 65536 + k) Unmarked) c.self.view_is
-    ∙ ap (λ (j : ℕ). get_or c.args.self.now.marked.marks j Unmarked) moved)))
+    let old = c.self.inside.pages.items in
+    let size = c.self.inside.size in
+    let inside = bundle_inside old size c.args.at k c.args.self.now c.self.view_is c.self.invariant.0 c.requires.inside
+    (omega (arith, c.requires.start, lt)) in
+    c.marked.ensures k lt
+    ∙ ap mark_bit (mark_there old c.deref.result.now size c.args.at k c.args.self.now c.deref.ensures.value c.self.view_is
+    c.requires.inside.0 inside)
