@@ -2,79 +2,41 @@
  * nc_host.h: the calls of Reedbodkin for a host in C or C++.
  *
  * They judge untrusted 32-bit x86 code, and give the acts by which a judged chunk is put into a text that threads are running, changed
- * there, or removed. Each call is proved to keep the contract of the function of the same name, which stands in crates/nc_host of the source
- * repository.
+ * there, or removed. Each call is proved to keep the contract of the function of the same name in crates/nc_host of the source repository.
+ *
+ * A host holds a region by a handle (nc_region_new). The library keeps the list of the chunks, the region's bytes and marks, the stamps and
+ * the check-ins, and says when a span may be reused. The host has its own memory, in which it makes the acts that each change writes, and
+ * its own lock. The library has no lock.
+ *
+ * The host's duties
+ *   No verdict protects a host that doesn't fulfil its duties. docs/EMBEDDING.md, installed as share/doc/reedbodkin/docs/EMBEDDING.md,
+ *   lists them with their reasons. Untrusted code runs in a 32-bit code segment that ends at the limit. Nothing but the acts writes its
+ *   text. A thread enters only at a bundle start, with a seat of its own. Each put is one atomic store of one byte, and puts are made in
+ *   the order in which they are written. Processors serialize at NC_SETTLE, and each thread on its way in. One lock is held around a call
+ *   and its acts. Other duties are about signals, what untrusted code can reach, where it can come out, and how long it may stay.
  *
  * What the comments rest on
- *   (IsValid)   A name in parentheses is a definition on which this contract rests. docs/DEFINITIONS.md explains it.
+ *   (IsValid)   A name in parentheses is a definition on which the contract rests. docs/DEFINITIONS.md explains it.
  *   [refused]   A sentence that ends with names in square brackets says what the clauses of these names in the contract promise.
  *   [tested]    A sentence that ends so says what no clause promises, and what tests try.
- * That these sentences say the same as the clauses is not proved. The names of the clauses, and this header's declarations and numbers, are
- * compared with the crates whenever the library is tested.
+ * That sentences and clauses say the same is not proved. Tests compare the names of clauses, declarations and numbers with the crates.
  *
  * What every call keeps
- *   Threads     The library starts no threads. Any thread may call, and several may call at once, as long as nobody writes what a call
- *               reads or writes. Calls on one region must be made one at a time.
- *   Arguments   Numbers other than lengths can have any value: where a value makes no sense, the call returns a fault. The host must
- *               ensure that
- *               - a pointer with a length points to that many bytes or elements, even where the call uses fewer (so a length is below
- *                 2^63: a difference that has wrapped is not a length, and no fault reveals it);
- *               - no pointer is null, except one whose length is 0: nothing is read or written through it, so it may be null or any other
- *                 address [tested];
- *               - no buffer that is written overlaps another argument, and nobody changes lent memory while the call runs.
+ *   Threads     The library starts no threads. Any thread may call, and calls may overlap, as long as nobody writes what they read or
+ *               write. Calls on handles need more (Locks, below).
+ *   Arguments   A number that isn't a length may have any value. A value that makes no sense gets a fault. A pointer with a length must
+ *               point to that many bytes or elements, even where the call uses fewer. So a length is below 2^63, and no fault reveals a
+ *               difference that has wrapped. A pointer whose length is 0 may be null or any other address, since nothing is accessed there
+ *               [tested]. No other pointer may be null. No buffer that is written may overlap another argument, and nobody may change lent
+ *               memory while the call runs.
+ *   Lending     Code and buffers are lent for the duration of the call. The library keeps no pointer to them, and never executes them.
  *   Allocator   malloc, realloc and free must belong to one allocator, and align a block to each power of two up to 16 that divides its
- *               size. No call except nc_host_decode may be made from a signal handler, or in the child that a process with threads has
- *               forked. If memory runs out, the fault is NC_OUT_OF_MEMORY, and it is returned only then [tested]. 64 KiB of stack are
- *               enough [tested].
- *   Refusals    A call whose fault isn't 0 is refused. A refusal leaves each buffer unchanged. No more of a buffer is written than is
- *               stated.
- *   Execution   Lent memory is never executed.
- *   Linking     The library is for Linux on x86-64 with the instructions of x86-64-v2, where it wasn't built for others. As it is
- *               installed, it needs nothing but the C library. As `rt lib` builds it in the source repository, the toolchain's liblibc_c.a
- *               must follow it on the command line: `gcc host.c libnc_host.a liblibc_c.a`. In another order the linker doesn't find
- *               rattle_dealloc.
- *
- * What the calls whose names begin with nc_host_ keep (for handles see "What all of them keep", below)
- *   Memory      The host lends code and buffers for the duration of the call. The library keeps nothing between calls, not even a pointer.
- *               Each call except nc_host_decode and nc_host_version allocates memory of its own by malloc, and frees all of it before it
- *               returns [tested].
- *   Answers     Nothing but its arguments decides the answer of a call, except for NC_OUT_OF_MEMORY. This is known from reading the code.
- *
- * The host's duties, without which no verdict protects it, in short (docs/EMBEDDING.md lists every duty, with its reason):
- *   - Untrusted code runs in a 32-bit code segment; in 64-bit mode the same bytes are other instructions. Nothing in that segment is
- *     executable except the text and the memory below NC_START.
- *   - Untrusted code can write neither the region's text nor the code below NC_START, and can read no more than it is allowed to.
- *   - A segment ends at the limit, so that control that goes to the limit or above it traps.
- *   - Untrusted code is entered only at bundle starts, and bundle starts below NC_START hold trusted code or stops.
- *   - A thread enters a region only with a seat of that region, which no other thread uses. A seat of another region checks in elsewhere,
- *     and nothing notices.
- *   - Every address of the region that no chunk covers holds NC_STOP; those of the last bundle, the guard, always do.
- *   - Each put is one atomic store of one byte (memory_order_seq_cst), and the puts are made in the order in which they are written. At
- *     NC_SETTLE every processor that runs a thread of the host executes a serializing instruction before the host goes on. Each thread
- *     executes one on its way in, after its last check-in. Nothing else is required of processors: until a processor has serialized, it may
- *     execute the old bytes.
- *   - Only one call at a time changes a region: the host holds its own lock around the call and its acts, and makes all acts of a call
- *     before the next one.
- *   - A stop at which a thread traps may be gone when the handler reads it: it belonged to a patch that was being made, or to unused text
- *     where a chunk is being created. The trap doesn't distinguish it from a data fault. So the writer increments a count before the first
- *     act of a call and after the last (for a deletion, after the last stop). The handler waits for an even count, then reads the byte and
- *     the count again, until the count is the same. If the byte is NC_STOP, the stop is the code's own. If it isn't, the thread goes back
- *     to the same instruction once; the same fault at the same count, unless the thread has entered anew, is the code's own.
- *   - Signal handlers run on an alternate stack that no 32-bit stack pointer reaches (above 4 GiB, or disarmed while in use), or their
- *     signals, unless they are those of faults, are blocked while a thread is inside. A kernel takes the untrusted stack pointer as a flat
- *     address.
- *   - The host handles SIGSEGV, SIGBUS, SIGILL, SIGFPE and SIGTRAP. These signals, and that of a time limit, stay unblocked in a thread that
- *     is inside. Otherwise one instruction of untrusted code ends the process. An access beyond the stack segment's limit is SIGBUS.
- *   - The host bounds the depth of nested calls, where untrusted code calls the host and the host enters again. Untrusted code can begin
- *     its own stack anew each time, and the host's would overflow.
- *   - The host limits the time of each stay inside. A thread in a jump to itself never comes out, and no fault ends it.
- *   - Trusted code that is entered clears the direction flag, since untrusted code may set it, and uses no stack before it has loaded its
- *     own stack pointer. It reads each address to which it goes back once, masks it, and checks that it is in the region.
- *   - The pages of deleted spans, reclaimed or not, stay executable and full of NC_STOP: threads may jump to their bundle starts.
- *
- * A host holds a region by a handle (nc_region_new and the calls below it): the library keeps the list of the chunks, the region's bytes and
- * marks, the stamps and the check-ins, and says when a span may be reused. The host has its own memory, in which it makes the acts that each
- * change writes, and its own lock. The library has no lock: a static library of this toolchain can't have one.
+ *               size. No call except nc_host_decode may be made from a signal handler, or in the forked child of a process with threads.
+ *               NC_OUT_OF_MEMORY is returned exactly where memory runs out [tested]. 64 KiB of stack are enough [tested].
+ *   Refusals    A call whose fault isn't 0 is refused, and leaves each buffer unchanged. No more of a buffer is written than is stated.
+ *   Costs       docs/PERFORMANCE.md says what calls cost.
+ *   Linking     The library is for Linux on x86-64-v2, unless it was built for other processors. Once installed it needs only the C
+ *               library. As `rt lib` builds it, the toolchain's liblibc_c.a must follow it, or the linker doesn't find rattle_dealloc.
  */
 #ifndef NC_HOST_H
 #define NC_HOST_H
@@ -106,14 +68,10 @@ extern "C" {
 #define NC_LIMIT(bundles) (NC_START + NC_BUNDLE * (uint32_t)(bundles))
 
 /*
- * The faults.
- *
- *  0 to 10  For a chunk the first fault is returned: 1 to 3 in this order, then the one of 4 to 6 with the lowest address, then 7 with the
- *           lowest address. 8 says nothing about the code, except that 1 to 3 don't hold. NC_NO_ROOM (9) comes after the faults of a
- *           chunk, and before those of a patch. 10 is returned only by nc_host_decode. docs/GUIDE.md says what a compiler may emit;
- *           specs/Rows of nc_decode is the table of permitted instructions.
- * 16 to 21  For a patch the first of these is returned, in this order. None has an address.
- * 32 to 44  From calls on handles, beside those above.
+ * The faults. For a chunk the first one is returned. 1 to 3 come first, in this order, then the one of 4 to 6 with the lowest address, then
+ * 7 with the lowest address. 8 says nothing about the code, except that 1 to 3 don't hold. 9 comes after the faults of a chunk, and before
+ * those of a patch. Only nc_host_decode returns 10. For a patch the first of 16 to 21 is returned, and none has an address. Only calls on
+ * handles return 32 to 44. docs/GUIDE.md says what a compiler may emit. specs/Rows of nc_decode is the table of permitted instructions.
  */
 #define NC_OK 0u
 #define NC_BAD_BASE 1u
@@ -206,8 +164,7 @@ extern "C" {
 #define NC_PUT 1u    /* put the byte `value` at the address `at` */
 #define NC_MARK 2u   /* the `value` addresses from `at` on get the chunk's marks; a host that keeps no marks does nothing */
 #define NC_BUMP 3u   /* draw a stamp: the span may be reused only once every thread has been outside since. `at` and `value` are 0 */
-#define NC_SETTLE 6u /* make every processor that runs a thread of the host serialize, on Linux by membarrier with the command
-                        MEMBARRIER_CMD_PRIVATE_EXPEDITED_SYNC_CORE; no byte changes. `at` and `value` are 0. No call writes 4 or 5 */
+#define NC_SETTLE 6u /* make every processor that runs a thread of the host serialize. `at` and `value` are 0. No call writes 4 or 5 */
 
 /* Runs: one act for many puts of one bundle, which begins at the address `at`. Bit k of `value`, counted from the lowest, is set if there is
    a put at `at` + k. The puts are made in ascending order, each one a store of its own. Only nc_region_creation_runs and
@@ -287,16 +244,19 @@ typedef struct NcWalk {
     uint32_t end;    /* if the fault is NC_OK, how the walk ended, else 0 */
 } NcWalk;
 
-/* ---- Calls */
+/* ---- Calls on code alone */
 
 /*
- * Decodes the instruction at the start of the bytes.
+ * They keep nothing between two calls. Only nc_host_vet and nc_host_marks allocate memory, and free all of it before they return [tested].
+ * Nothing but its arguments decides a call's answer, except for NC_OUT_OF_MEMORY. This is known from reading the code.
+ */
+
+/*
+ * Decodes the instruction at the start of the bytes, of which it examines at most 12.
  * Promised: the fault is NC_OK exactly where the bytes begin with a whole permitted instruction (IsAtFront), and then the numbers are that
  * instruction's [found]. It is NC_CUT_SHORT exactly where the bytes are a proper prefix of one (IsProperFront), as an empty list of bytes
- * is [cut_short]. It is NC_NOT_PERMITTED exactly where neither holds [not_permitted]. There is no other fault [faults]. No memory is
- * allocated [tested].
+ * is [cut_short]. It is NC_NOT_PERMITTED exactly where neither holds [not_permitted]. There is no other fault [faults].
  * Not promised: that the instruction is allowed at any particular address; nc_host_vet judges that.
- * Cost: at most 12 bytes are examined.
  */
 NcInstruction nc_host_decode(const uint8_t *code, size_t len);
 
@@ -305,13 +265,11 @@ NcInstruction nc_host_decode(const uint8_t *code, size_t len);
  * Promised: the fault is NC_OK only for a valid chunk (IsValid), and else 1 to 8, only for a chunk with that fault there (HasFault)
  * [outcome]. The only fault that a valid chunk can get is NC_OUT_OF_MEMORY [valid].
  * Not promised: anything about what the code does with data, or about other chunks: any bundle start of the region may be a target.
- * Cost: one pass over the code, and memory of half the code's length.
  */
 NcVerdict nc_host_vet(uint32_t base, uint32_t limit, const uint8_t *code, size_t len);
 
 /*
- * Returns the verdict of nc_host_vet, and writes the marks of a valid chunk, one byte for each of its bytes, into the first `len` bytes of
- * `marks`.
+ * Returns the verdict of nc_host_vet, and writes the marks of a valid chunk into the first `len` bytes of `marks`, one for each byte.
  * Promised: the fault is as in nc_host_vet, but NC_NO_ROOM exactly where it would be NC_OK and the buffer is shorter [outcome]. For NC_OK
  * the chunk is valid with these marks (IsValid), and with no others [written]. The only faults that a valid chunk can get are
  * NC_OUT_OF_MEMORY and NC_NO_ROOM [valid]. A refusal changes nothing [untouched].
@@ -328,21 +286,20 @@ uint32_t nc_host_version(void);
 
 /*
  * What all of them keep
- *   Locks       Calls on one region must be made one at a time: the host has its own lock around them, and around the acts that it makes in
+ *   Locks       Calls on one region must be made one at a time. The host has its own lock around them, and around the acts that it makes in
  *               its memory. Calls on one seat must be made by one thread at a time, and need no lock, whatever runs on the region.
  *   Threads     A handle may be passed to another thread, if this is ordered by a lock, a thread's start or join, or a SeqCst atomic.
  *   Refusals    "A refusal changes nothing" means that the region, the seats, the handles and the buffer are as before, except that after
- *               a creation refused for lack of memory the region may have allocated memory for the text of its span. An empty handle is
- *               refused with NC_NO_HANDLE.
- *   Acts        Each change writes the acts by which it changes the region's text, including the settlings, so that the host's memory has
- *               the region's bytes once the host has made them (for a deletion, once nc_region_end_delete has been called). If a buffer is
- *               shorter than the most that a change of this length may write, nothing is written and nothing changes, even if fewer acts
- *               are due: the fault is NC_NO_ROOM, and `count` is that length. But a length of 0 doesn't ask for this number: the change is
- *               made, `count` is 0, and its acts aren't told, so that the host's memory no longer has the region's bytes. That is for a host
- *               without memory of its own, and for one that asks for the acts as runs (nc_region_creation_runs, nc_region_deletion_runs).
- *               A buffer that is to grow begins with a length above 0.
- *   Memory      A region shares the table of stamps and check-ins with its seats. The table is freed with the last of them, in whatever
- *               order nc_region_free and nc_seat_leave are called [tested].
+ *               a creation refused for lack of memory the region may have allocated memory for the text of its span.
+ *   Acts        Each change writes the acts by which it changes the region's text, including the settlings. The host must make them, in
+ *               this order, after the call and before the next change. Then its memory has the region's bytes (for a deletion, once
+ *               nc_region_end_delete has been called). If a buffer is shorter than the most that a change of this length may write, the
+ *               fault is NC_NO_ROOM, even if fewer acts are due, and `count` is that length. But with a length of 0 the change is made,
+ *               `count` is 0, and its acts aren't told, so that the host's memory no longer has the region's bytes. That is for a host
+ *               without memory of its own, and for one that asks for the acts as runs. A buffer that grows begins with a length above 0.
+ *   Memory      Only nc_region_new, nc_region_seat, nc_region_create, nc_region_load, nc_region_walk, nc_vetted_new and the calls that free
+ *               or leave may allocate memory [tested]. A region shares the table of stamps and check-ins with its seats. The table is freed
+ *               with the last of them, in whatever order nc_region_free and nc_seat_leave are called [tested].
  */
 
 /*
@@ -350,40 +307,33 @@ uint32_t nc_host_version(void);
  * Promised: for NC_OK the handle was empty, and has a region that is all stops, with no chunk, and with each seat still to be given
  * (IsFirst) [made]. A refusal is NC_HANDLE_TAKEN for a handle that isn't empty; else NC_BAD_SEATS unless `seats` is 1 to 256; else
  * NC_BAD_SIZE unless `bundles` is NC_MIN_BUNDLES to NC_MAX_BUNDLES; else NC_OUT_OF_MEMORY [refused]. A refusal changes nothing [unchanged].
- * Cost: memory for a table of the text's pages, and 8 bytes and more for each seat.
  */
 uint32_t nc_region_new(uint32_t bundles, uint32_t seats, NcRegion *region);
 
 /*
  * Frees a region. Seats that were given are left one by one.
- * Promised: the handle is empty then, and a second call does nothing [emptied]. All that the region allocated is freed, but what it shares
- * with its seats only with the last of them [tested]. Seats that were given stay usable [tested].
+ * Promised: the handle is empty then, and a second call does nothing [emptied]. All that the region allocated is freed, except the table
+ * that it shares with its seats [tested]. Seats that were given stay usable [tested].
  */
 void nc_region_free(NcRegion *region);
 
 /*
  * Gives one of the region's seats to an empty handle. A thread needs a seat while it runs code of the region. Each seat is given once, and
- * not again after it was left: a host with many threads keeps a pool. Until its first check-in a seat also holds back the deletions since
- * the last reclaim before it was given: check in once when it is given.
+ * not again after it was left, so a host with many threads keeps a pool. A thread checks in once when it gets a seat. Until then the seat
+ * also holds back the deletions since the last reclaim before it was given.
  * Promised: for NC_OK the handle was empty, and has a seat that was still to be given, and now no longer is (HasGiven) [given]. A refusal
  * is NC_HANDLE_TAKEN for a seat's handle that isn't empty; else NC_NO_HANDLE; else NC_NO_SEAT exactly where each seat has been given, and
- * NC_OUT_OF_MEMORY only where one is still to be given (MayRefuseSeat) [refused]. A refusal changes nothing, so that this seat can still be
- * given later [unchanged].
+ * NC_OUT_OF_MEMORY only where one is still to be given (MayRefuseSeat) [refused]. A refusal changes nothing, and costs no seat [unchanged].
  */
 uint32_t nc_region_seat(NcRegion *region, NcSeat *seat);
 
 /*
- * Vets the chunk and creates it in the region, and writes the acts: the first `len` - `len` / 32 put the bytes that aren't at bundle starts,
- * then come NC_SETTLE and NC_MARK, and the others put the bytes at bundle starts. A buffer of `len` + 2 acts is enough; an `acts_len` of 0
- * makes the change without telling its acts. A host finds a free span by nc_region_chunk_at: it begins at NC_START, and asks for the chunk
- * that has this address or lies above it. The span before that chunk is free; if there is no such chunk, it ends at the guard. If it is too
- * short, the host goes on at the end of the chunk.
+ * Vets the chunk, creates it in the region, and writes the acts. The first `len` - `len` / 32 put the bytes that aren't at bundle starts,
+ * then come NC_SETTLE and NC_MARK, and the others put the bytes at bundle starts. A buffer of `len` + 2 acts is enough.
  * Promised: for NC_OK the chunk is valid for the region's limit, the region has it (IsCreated), and the call is one of a history (LogsCall)
  * [created]. For NC_OK the acts are those of the creation (log_of_create) [told]. A refusal is NC_NO_HANDLE; else the fault that vetting
  * finds, 1 to 8; else the first of NC_UNDER_WAY, NC_NO_ROOM, NC_OCCUPIED and NC_OUT_OF_MEMORY that holds [refused]. A refusal changes
  * nothing [unchanged, untouched]. For NC_OK `at` is 0 [at].
- * The host must make the acts after the call, before the next change.
- * Cost: that of nc_host_vet, and a copy of the code. This is under the lock.
  */
 NcChange nc_region_create(NcRegion *region, uint32_t base, const uint8_t *code, size_t len, NcAct *acts, size_t acts_len);
 
@@ -392,7 +342,6 @@ NcChange nc_region_create(NcRegion *region, uint32_t base, const uint8_t *code, 
  * Promised: for NC_OK the handle was empty, and has a valid chunk (IsValid) of these bytes [vetted]. A refusal is NC_HANDLE_TAKEN for a
  * handle that isn't empty; else 1 to 8, only for a chunk with that fault (HasFault) [refused]. A refusal changes nothing [unchanged]. For
  * NC_OK `at` is 0 [at].
- * Cost: that of nc_host_vet, and memory for a copy of the code and half as much for its marks, until it is loaded or freed.
  */
 NcVerdict nc_vetted_new(uint32_t base, uint32_t limit, const uint8_t *code, size_t len, NcVetted *vetted);
 
@@ -408,37 +357,29 @@ void nc_vetted_free(NcVetted *vetted);
  * (log_of_create), and the chunk's handle is empty [created]. A refusal is NC_NO_HANDLE, for either handle; else the first of NC_UNDER_WAY,
  * NC_NO_ROOM, NC_WRONG_LIMIT, NC_OCCUPIED and NC_OUT_OF_MEMORY that holds [refused]. A refusal changes nothing, so that the chunk's handle
  * still has the chunk [unchanged, untouched]. `at` is 0 [at].
- * The host must make the acts after the call, before the next change.
  */
 NcChange nc_region_load(NcRegion *region, NcVetted *vetted, NcAct *acts, size_t acts_len);
 
 /*
- * Patches a chunk, and writes the acts. The new bytes are instructions of the same lengths as those that they replace, whole ones even where
+ * Patches a chunk, and writes the acts. The new bytes are instructions of the same lengths as those that they replace, whole ones even if
  * only an immediate or a displacement changes. The acts are, for each instruction that differs, a stop at its first byte, NC_SETTLE, its
  * further bytes, NC_SETTLE, and its first byte; for an instruction of a single byte, only that byte. So `count` may be 0. A buffer of
- * 3 * `len` acts is enough; an `acts_len` of 0 makes the change without telling its acts.
+ * 3 * `len` acts is enough.
  * Promised: for NC_OK the patch was lawful (IsPatch), the region has its bytes (IsModified), and the call is one of a history (LogsCall)
  * [modified]. For NC_OK the acts are those of the patch (log_of_modify) [told]. A buffer that is lent with room for fewer than 3 * `len`
- * acts never gets NC_OK [allowed]. A refusal is NC_NO_HANDLE; else the first of NC_UNDER_WAY, NC_NO_ROOM (not returned for more than 32
- * bytes, which are NC_PATCH_BAD_SPAN) and the faults of a patch that holds [refused]. A refusal changes nothing [unchanged, untouched].
- * `at` is 0 [at]. No memory is allocated [tested].
- * The host must make the acts after the call, before the next change.
- * Cost: that of the patch and of its targets' bundles, whatever the chunk.
+ * acts never gets NC_OK [allowed]. A refusal is NC_NO_HANDLE; else the first of NC_UNDER_WAY, NC_NO_ROOM (for at most 32 bytes, as more
+ * are NC_PATCH_BAD_SPAN) and the faults of a patch that holds [refused]. A refusal changes nothing [unchanged, untouched]. `at` is 0 [at].
  */
 NcChange nc_region_patch(NcRegion *region, uint32_t at, const uint8_t *bytes, size_t len, NcAct *acts, size_t acts_len);
 
 /*
- * The first step of a deletion: writes its acts, which are stops at the chunk's marked addresses, NC_SETTLE, stops at its other addresses,
- * and NC_BUMP. The region still has the chunk, so nc_region_place and nc_region_walk show its bytes, while the host's memory gets stops.
- * Until the last step, which can't be left out, each call that changes the region is refused with NC_UNDER_WAY; calls that only read, and
- * nc_region_seat, are not. A buffer for two acts more than the chunk has bytes is enough; an `acts_len` of 0 begins the deletion without
- * telling its acts.
+ * The first step of a deletion. Its acts are stops at the chunk's marked addresses, NC_SETTLE, stops at its other addresses, and NC_BUMP.
+ * A buffer for two acts more than the chunk has bytes is enough. Until the last step, which can't be left out, nc_region_place and
+ * nc_region_walk show the chunk's bytes, and calls that change the region, except nc_region_seat, are refused with NC_UNDER_WAY.
  * Promised: for NC_OK the deletion of the live chunk at `base` is under way (HasBegun), and the acts are those of the deletion
  * (log_of_delete) [begun]. A refusal is NC_NO_HANDLE; else the first of NC_UNDER_WAY, NC_NO_CHUNK, NC_FULL and NC_NO_ROOM that holds
- * [refused]. A refusal changes nothing [unchanged, untouched]. `at` is 0 [at]. No memory is allocated [tested].
- * The host must make all acts except NC_BUMP, the last one, before it calls nc_region_end_delete, which is that act. A stamp drawn before
- * the stops are in place would free the span while a thread is in it.
- * Cost: that of writing the acts.
+ * [refused]. A refusal changes nothing [unchanged, untouched]. `at` is 0 [at].
+ * The host must make all acts except NC_BUMP, the last one, before it calls nc_region_end_delete, which is that act.
  */
 NcChange nc_region_begin_delete(NcRegion *region, uint32_t base, NcAct *acts, size_t acts_len);
 
@@ -446,20 +387,18 @@ NcChange nc_region_begin_delete(NcRegion *region, uint32_t base, NcAct *acts, si
  * The last step of a deletion.
  * Promised: for NC_OK the chunk's bytes are stops, the chunk is retired, its stamp, the next one, is drawn, and the whole deletion is one
  * call of a history (HasEnded) [ended]. A refusal is NC_NO_HANDLE, or NC_NOT_BEGUN exactly where no deletion is under way [refused]. A
- * refusal changes nothing [unchanged]. No memory is allocated [tested].
+ * refusal changes nothing [unchanged].
  */
 NcStamp nc_region_end_delete(NcRegion *region);
 
 /*
  * Writes the acts of the creation of the live chunk at `base`, as runs: for each bundle an NC_PUT_RUN of all its addresses but the first;
- * NC_SETTLE; NC_MARK; and for each bundle an NC_PUT_RUN of its first address. These are `len` / 16 + 2 acts instead of `len` + 2: for a
- * chunk of 64 MiB 50 MB instead of 800. The chunk's bytes are those that the region has now, so directly after a creation these are its
- * acts: a host creates a large chunk by nc_region_create, without a buffer, and then calls this.
+ * NC_SETTLE; NC_MARK; and for each bundle an NC_PUT_RUN of its first address. These are `len` / 16 + 2 acts instead of `len` + 2. The
+ * chunk's bytes are those that the region has now, so directly after a creation these are its acts. A host creates a large chunk by
+ * nc_region_create, without a buffer, and then calls this.
  * Promised: for NC_OK these are the acts (AreCreationRuns) [told]. A refusal is NC_NO_HANDLE; else NC_NO_CHUNK exactly where no live chunk
  * has this base; else NC_NO_ROOM exactly where the buffer is shorter, and then `count` is the number of acts, so a length of 0 asks for it
- * [refused]. The region doesn't change [same]. A refusal leaves the buffer unchanged [untouched]. `at` is 0 [at]. No memory is allocated
- * [tested].
- * Cost: that of reading the chunk twice.
+ * [refused]. The region doesn't change [same]. A refusal leaves the buffer unchanged [untouched]. `at` is 0 [at].
  */
 NcChange nc_region_creation_runs(NcRegion *region, uint32_t base, NcAct *acts, size_t acts_len);
 
@@ -469,8 +408,7 @@ NcChange nc_region_creation_runs(NcRegion *region, uint32_t base, NcAct *acts, s
  * nc_region_begin_delete, without a buffer, and then calls this.
  * Promised: for NC_OK these are the acts (AreDeletionRuns) [told]. A refusal is NC_NO_HANDLE; else NC_NOT_BEGUN exactly where no deletion
  * is under way; else NC_NO_ROOM as in nc_region_creation_runs [refused]. The region doesn't change [same]. A refusal leaves the buffer
- * unchanged [untouched]. `at` is 0 [at]. No memory is allocated [tested].
- * Cost: that of reading the chunk's marks twice.
+ * unchanged [untouched]. `at` is 0 [at].
  */
 NcChange nc_region_deletion_runs(NcRegion *region, NcAct *acts, size_t acts_len);
 
@@ -480,33 +418,30 @@ NcChange nc_region_deletion_runs(NcRegion *region, NcAct *acts, size_t acts_len)
  * Promised: for NC_OK exactly those retired chunks are removed that, by what the look at each seat found, no seat holds back, `count` is
  * their number, and this is two calls of a history, of which the first logs nothing (HasReclaimed) [reclaimed]. A look at a seat finds its
  * last check-in, or that it was left [tested]. A refusal is NC_NO_HANDLE, or NC_UNDER_WAY exactly while a deletion is under way [refused].
- * A refusal changes nothing [unchanged]. No memory is allocated [tested].
- * Cost: a look at each seat. Where a chunk may be due, also, for each leaf of the list that has one, a search of the list and a pass over
- * the leaf's chunks, which are at most 64.
+ * A refusal changes nothing [unchanged].
  */
 NcCount nc_region_reclaim(NcRegion *region);
 
 /*
  * Returns the chunk at an index of the list, which is in ascending order of base.
  * Promised: for NC_OK it is that chunk [chunk]. A refusal is NC_NO_HANDLE, or NC_NO_CHUNK exactly past the last chunk [refused]. The region
- * doesn't change [same]. No memory is allocated [tested].
- * Cost: that of a binary search in the list.
+ * doesn't change [same].
  */
 NcChunk nc_region_chunk(NcRegion *region, size_t index);
 
 /*
- * Returns the chunk, live or retired, that has this address, or else the first one above it. The address may be any number.
+ * Returns the chunk, live or retired, that has this address, or else the first one above it. The address may be any number. By this call a
+ * host finds a free span, as docs/EMBEDDING.md shows.
  * Promised: for NC_OK it is that chunk (IsNextChunk) [chunk]. For NC_OK its span is whole bundles of the region below the guard
  * (HasGoodSpan) [placed]. A refusal is NC_NO_HANDLE, or NC_NO_CHUNK exactly where each chunk ends at or below the address [refused]. The
- * region doesn't change [same]. No memory is allocated [tested].
- * Cost: that of a binary search in the list.
+ * region doesn't change [same].
  */
 NcChunk nc_region_chunk_at(NcRegion *region, uint32_t at);
 
 /*
  * Returns the byte and the mark at an address of the region.
  * Promised: for NC_OK they are the region's [place]. A refusal is NC_NO_HANDLE, or NC_NO_PLACE exactly below NC_START and from the limit on
- * [refused]. The region doesn't change [same]. No memory is allocated [tested].
+ * [refused]. The region doesn't change [same].
  */
 NcPlace nc_region_place(NcRegion *region, uint32_t at);
 
@@ -519,32 +454,28 @@ NcPlace nc_region_place(NcRegion *region, uint32_t at);
  * Promised: for NC_OK the places and the end are those of the machine's walk, which start and choices determine, and all of it is safe
  * (IsShownWalk) [told]. A refusal is the first of NC_NO_HANDLE, NC_NO_START, NC_OUT_OF_MEMORY and NC_NO_ROOM that holds, and `places` is
  * unchanged [refused]. The region doesn't change [same].
- * Cost: memory for the places.
  */
 NcWalk nc_region_walk(NcRegion *region, uint32_t start, const uint32_t *choices, size_t choices_len, uint32_t *places, size_t places_len);
 
 /*
  * Returns the generation: the last stamp that was drawn, or 0.
- * Promised: for NC_OK `stamp` is the generation [generation]. A refusal is NC_NO_HANDLE [refused]. The region doesn't change [same]. No
- * memory is allocated [tested].
+ * Promised: for NC_OK `stamp` is the generation [generation]. A refusal is NC_NO_HANDLE [refused]. The region doesn't change [same].
  */
 NcStamp nc_region_generation(NcRegion *region);
 
 /*
- * Checks in: reports that the seat's thread is outside the region, by one load and one store, both memory_order_seq_cst, and without a
- * lock.
+ * Checks in: reports that the seat's thread is outside the region, by one load and one store, both memory_order_seq_cst, without a lock.
  * Promised: for NC_OK the generation was loaded once and stored for the seat once, and the number stored is the one loaded, no less than
- * any before (HasCheckedIn) [checked_in]. The only refusal is NC_NO_HANDLE, for an empty handle, which stays empty [nothing]. No memory is
- * allocated [tested]. The call doesn't wait for another thread, even if that is stuck in a creation [tested].
- * Not promised: that the thread is outside. The host must call it only while the thread is outside: after it has come out, and before it
- * goes in again.
+ * any before (HasCheckedIn) [checked_in]. The only refusal is NC_NO_HANDLE, for an empty handle, which stays empty [nothing]. The call
+ * doesn't wait for another thread, even if that is stuck in a creation [tested].
+ * Not promised: that the thread is outside. The host must call it only after the thread has come out, and before it goes in again.
  */
 uint32_t nc_seat_check_in(NcSeat *seat);
 
 /*
  * Leaves: reports that the seat's thread is outside for good.
  * Promised: the handle is empty then, and a second call does nothing [emptied]. The seat holds nothing back any more [tested]. All that the
- * seat allocated is freed, but what it shares with the region only with the last of them [tested].
+ * seat allocated is freed, except the table that it shares with the region [tested].
  */
 void nc_seat_leave(NcSeat *seat);
 

@@ -1,9 +1,9 @@
 /*
  * nc_host.hpp: regions, seats and vetted chunks of nc_host.h as C++ values.
  *
- * It needs C++17, and neither exceptions nor RTTI. A member makes the call of the library that its comment names (a deletion makes two), and
- * nc_host.h says what that call promises, what it costs, and what the host has to keep. Nothing is proved about this header. The calls
- * whose names begin with nc_host_ have no handle, so there is nothing to wrap: a host makes them by nc_host.h.
+ * It needs C++17, and neither exceptions nor RTTI. A member makes the call of the library that its comment names (a deletion makes two).
+ * nc_host.h says what that call promises and what it asks of the host, and docs/EMBEDDING.md lists the host's duties. Nothing is proved
+ * about this header. It wraps neither the calls on code alone nor nc_host_version.
  *
  *   Locks     "Under the lock" means the host's own lock for the region: calls on one region must be made one at a time, including those
  *             that only read, so no member is const. The lock also covers the acts that the host makes for a change. "No lock" means that

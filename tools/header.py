@@ -20,7 +20,7 @@ FIRST_FAULTS = re.compile(r"^#define NC_OK .*\n(?:#define .*\n)*", re.M)
 BELOW = re.compile(r"\n\w+ (nc_\w+)\(")
 
 # How a paragraph of a call's comment may begin. What is before the first of them says what the call does.
-LABELS = re.compile(r"^(Promised:|Not promised:|The host must|Cost:)")
+LABELS = re.compile(r"^(Promised:|Not promised:|The host must)")
 DEFINITIONS = re.compile(r"\(((?:Is|Has|Are|May|log_of_)\w+(?:, \w+)*)\)")
 BRACKETS = re.compile(r"\[(\w+(?:, \w+)*)\](?=[.;])")
 

@@ -41,7 +41,7 @@ static void expect(Trial *own, bool holds) {
 
 /* ---- The calls */
 
-/* The calls without a handle, for code that gets this verdict. */
+/* The calls on code alone, for code that gets this verdict. */
 static void judge(Trial *own, uint32_t fault) {
     expect(own, nc_host_vet(NC_START, own->limit, own->code, own->len).fault == fault);
     expect(own, nc_host_marks(NC_START, own->limit, own->code, own->len, own->marks, own->len).fault == fault);

@@ -20,7 +20,7 @@ def as_list(kind, address):
 
 
 def lent(address):
-    """The faults of the calls without a handle."""
+    """The faults of the calls on code alone."""
     none = as_bytes(address)
     return [
         LIBRARY.nc_host_decode(none, 0).fault,

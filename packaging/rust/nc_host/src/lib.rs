@@ -1,7 +1,7 @@
 //! A safe interface of the C library `nc_host`: regions of proved Native Client code, the seats of their threads, and vetted chunks.
 //!
-//! Each method makes the call of the library that its documentation names, and `include/nc_host.h` says what that call promises and what it
-//! costs. Nothing is proved of this crate. The calls that have no handle are declared in [`ffi`] only.
+//! Each method makes the call of the library that its documentation names, and `include/nc_host.h` says what that call promises. Nothing is
+//! proved of this crate. The calls on code alone, such as `nc_host_vet`, are declared in [`ffi`] only.
 //!
 //! What the header asks of handles is kept by types: [`Region`], [`Seat`] and [`Vetted`] own theirs, free or leave when they are dropped, and
 //! are never empty; `&mut` keeps calls on one of them apart. A [`Region`] isn't `Sync`: hosts with threads put it behind a lock of their own,
