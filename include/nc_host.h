@@ -13,7 +13,7 @@
  *   lists them with their reasons. Untrusted code runs in a 32-bit code segment that ends at the limit. Nothing but the acts writes its
  *   text. A thread enters only at a bundle start, with a seat of its own. Each put is one atomic store of one byte, and puts are made in
  *   the order in which they are written. Processors serialize at NC_SETTLE, and each thread on its way in. One lock is held around a call
- *   and its acts. Other duties are about signals, what untrusted code can reach, where it can come out, and how long it may stay.
+ *   on a region and its acts. Other duties are about signals, what untrusted code can reach, where it can come out, and how long it may stay.
  *
  * What the comments rest on
  *   (IsValid)   A name in parentheses is a definition on which the contract rests. docs/DEFINITIONS.md explains it.
@@ -244,6 +244,12 @@ typedef struct NcWalk {
     uint32_t end;    /* if the fault is NC_OK, how the walk ended, else 0 */
 } NcWalk;
 
+/*
+ * Returns the version of the library that is linked, to be compared with NC_VERSION.
+ * Promised: it is NC_VERSION of the header that belongs to this library [version].
+ */
+uint32_t nc_host_version(void);
+
 /* ---- Calls on code alone */
 
 /*
@@ -276,12 +282,6 @@ NcVerdict nc_host_vet(uint32_t base, uint32_t limit, const uint8_t *code, size_t
  */
 NcVerdict nc_host_marks(uint32_t base, uint32_t limit, const uint8_t *code, size_t len, uint8_t *marks, size_t marks_len);
 
-/*
- * Returns the version of the library that is linked, to be compared with NC_VERSION.
- * Promised: it is NC_VERSION of the header that belongs to this library [version].
- */
-uint32_t nc_host_version(void);
-
 /* ---- Calls on handles */
 
 /*
@@ -297,8 +297,8 @@ uint32_t nc_host_version(void);
  *               fault is NC_NO_ROOM, even if fewer acts are due, and `count` is that length. But with a length of 0 the change is made,
  *               `count` is 0, and its acts aren't told, so that the host's memory no longer has the region's bytes. That is for a host
  *               without memory of its own, and for one that asks for the acts as runs. A buffer that grows begins with a length above 0.
- *   Memory      Only nc_region_new, nc_region_seat, nc_region_create, nc_region_load, nc_region_walk, nc_vetted_new and the calls that free
- *               or leave may allocate memory [tested]. A region shares the table of stamps and check-ins with its seats. The table is freed
+ *   Memory      Only nc_region_new, nc_region_seat, nc_region_create, nc_region_load, nc_region_walk and nc_vetted_new allocate memory
+ *               [tested]. A region shares the table of stamps and check-ins with its seats. The table is freed
  *               with the last of them, in whatever order nc_region_free and nc_seat_leave are called [tested].
  */
 
@@ -312,8 +312,8 @@ uint32_t nc_region_new(uint32_t bundles, uint32_t seats, NcRegion *region);
 
 /*
  * Frees a region. Seats that were given are left one by one.
- * Promised: the handle is empty then, and a second call does nothing [emptied]. All that the region allocated is freed, except the table
- * that it shares with its seats [tested]. Seats that were given stay usable [tested].
+ * Promised: the handle is empty then, and a second call does nothing [emptied]. All that the region allocated is freed, and the table
+ * that it shares with its seats unless one still has it [tested]. Seats that were given stay usable [tested].
  */
 void nc_region_free(NcRegion *region);
 
@@ -363,8 +363,8 @@ NcChange nc_region_load(NcRegion *region, NcVetted *vetted, NcAct *acts, size_t 
 /*
  * Patches a chunk, and writes the acts. The new bytes are instructions of the same lengths as those that they replace, whole ones even if
  * only an immediate or a displacement changes. The acts are, for each instruction that differs, a stop at its first byte, NC_SETTLE, its
- * further bytes, NC_SETTLE, and its first byte; for an instruction of a single byte, only that byte. So `count` may be 0. A buffer of
- * 3 * `len` acts is enough.
+ * further bytes, NC_SETTLE, and its first byte; for an instruction of a single byte, only that byte. If no instruction
+ * differs, there is no act, and `count` is 0. A buffer of 3 * `len` acts is enough.
  * Promised: for NC_OK the patch was lawful (IsPatch), the region has its bytes (IsModified), and the call is one of a history (LogsCall)
  * [modified]. For NC_OK the acts are those of the patch (log_of_modify) [told]. A buffer that is lent with room for fewer than 3 * `len`
  * acts never gets NC_OK [allowed]. A refusal is NC_NO_HANDLE; else the first of NC_UNDER_WAY, NC_NO_ROOM (for at most 32 bytes, as more
@@ -475,7 +475,7 @@ uint32_t nc_seat_check_in(NcSeat *seat);
 /*
  * Leaves: reports that the seat's thread is outside for good.
  * Promised: the handle is empty then, and a second call does nothing [emptied]. The seat holds nothing back any more [tested]. All that the
- * seat allocated is freed, except the table that it shares with the region [tested].
+ * seat allocated is freed, and the table too if nobody else shares it any more [tested].
  */
 void nc_seat_leave(NcSeat *seat);
 

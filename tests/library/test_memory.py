@@ -95,6 +95,14 @@ class TakesNone(unittest.TestCase):
             self.assertEqual(region.reclaim(), 800)
             self.assertEqual(region.chunks(), [])
 
+    def test_frees(self):
+        region, seats = filled_region(600)
+        vetted = nc.Vetted(nc.START, region.limit, CODE)
+        with self.no_memory():
+            for give_back in (seats[0].leave, lambda: free(region), seats[1].leave, lambda: free_vetted(vetted)):
+                give_back()
+                give_back()
+
 
 def free(region):
     LIBRARY.nc_region_free(region.handle)

@@ -1,7 +1,7 @@
 //! The declarations of include/nc_host.h, by the header's own names. `tests/layout.rs` compares sizes, offsets and numbers with the header.
 //!
-//! The header says what each call promises and what its caller must keep. The safe interface above this module makes each call on a handle;
-//! the calls whose names begin with `nc_host_`, which have none, are here only.
+//! The header says what each call promises and what its caller must keep. The safe interface above this module makes each call on a handle.
+//! The calls on code alone are here only.
 
 use std::ffi::c_void;
 
