@@ -136,6 +136,8 @@ pub struct NcWalk {
 }
 
 extern "C" {
+    pub fn nc_host_version() -> u32;
+
     pub fn nc_host_decode(code: *const u8, len: usize) -> NcInstruction;
     pub fn nc_host_vet(base: u32, limit: u32, code: *const u8, len: usize) -> NcVerdict;
     pub fn nc_host_marks(
@@ -146,7 +148,6 @@ extern "C" {
         marks: *mut u8,
         marks_len: usize,
     ) -> NcVerdict;
-    pub fn nc_host_version() -> u32;
 
     pub fn nc_region_new(bundles: u32, seats: u32, region: *mut NcRegion) -> u32;
     pub fn nc_region_free(region: *mut NcRegion);
