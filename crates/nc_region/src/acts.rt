@@ -1,6 +1,6 @@
 //! The acts through which a region uses its text and its generations.
 
-ghost use Rattle.std.specs.Prelude.{◌≡◌, ◌+◌, ◌%◌, ◌^◌, ◌<◌, ◌≤◌, ◌↔◌, ℕ, List, [], ◌∷◌, length, take, replicate, All, IsOk, IfOk, IfErr};
+ghost use Rattle.std.specs.Prelude.{◌≡◌, ◌+◌, ◌%◌, ◌^◌, ◌<◌, ◌≤◌, ◌↔◌, ℕ, List, [], ◌∷◌, length, replicate, All, IsOk, IfOk, IfErr};
 ghost use Rattle.std.specs.Prelude.{IsTrue, OnOk, OnErr, Bool, true, false};
 ghost use Rattle.std.specs.Int.{bit_at};
 ghost use Rattle.nc_decode.specs.declared.instruction.Mark.{Mark};
@@ -128,7 +128,7 @@ pub trait Acts {
     }
 
     /// Puts F4 at the marked places of a span of `len` places, or at those that aren't marked, under the conditions of `put_where` and
-    /// like it. F4 is put at unmarked places only where it is at the marked ones already.
+    /// like it. It puts F4 at unmarked places only once the marked places of the span have it.
     fn stop_where(&mut self, at: u32, len: u32, at_marked: bool)
         requires inside { SpanInRegion (marked self.old).bytes at len }
         requires start { IsBundleStart at }

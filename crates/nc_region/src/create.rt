@@ -1,20 +1,19 @@
 //! Putting a chunk into a text while threads run in it.
 
-ghost use Rattle.std.specs.Prelude.{◌≡◌, ◌≢◌, ◌+◌, ◌-◌, ◌<◌, ◌≤◌, ◌^◌, ℕ, List, [], ◌∷◌, ◌++◌, length, take, vec_capacity, All, IsTrue, true, false};
+ghost use Rattle.std.specs.Prelude.{◌≡◌, ◌≢◌, ◌<◌, ◌≤◌, [], ◌∷◌, length, take, vec_capacity, All, IsTrue, false};
 ghost use Rattle.std.specs.Prelude.{IfOk, IfErr, OnOk, OnErr};
 ghost use Rattle.nc_decode.specs.declared.instruction.Mark.{Mark};
 ghost use Rattle.nc_text.specs.Marks.{IsClosed};
 ghost use Rattle.nc_text.specs.Places.{limit_of};
 ghost use Rattle.nc_text.specs.Ready.{AreReady, GetsReady};
-ghost use Rattle.nc_text.specs.MarkedText.{MarkedText, IsText, with_span, with_marks, KeepsMarks, NamesRegister};
+ghost use Rattle.nc_text.specs.MarkedText.{IsText, with_marks, KeepsMarks, NamesRegister};
 ghost use Rattle.nc_region.specs.declared.acts.Act.{Act};
 ghost use Rattle.nc_region.specs.declared.acts.Entry.{Entry};
-ghost use Rattle.nc_region.specs.Acts.{puts_where, is_inside, is_start};
-ghost use Rattle.nc_region.specs.Log.{Logs, unsettled, log_of_create};
+ghost use Rattle.nc_region.specs.Log.{Logs, log_of_create};
 ghost use Rattle.nc_region.specs.Chunks.{HasGoodSpan, IsClosedChunk, with_chunk};
 ghost use Rattle.nc_region.specs.declared.fault.CreateFault.{CreateFault};
 ghost use Rattle.nc_region.specs.Region.{IsRegion, MayRefuse};
-ghost use Rattle.nc_region.specs.machinery.Between.{HasRoom, IsUnused, HasPut, IsFinalBut};
+ghost use Rattle.nc_region.specs.machinery.Between.{HasRoom, IsUnused};
 
 use crate::acts::Acts;
 use crate::fault::CreateFault;

@@ -1,16 +1,12 @@
 //! Turning a chunk into stops while threads run in its text.
 
-ghost use Rattle.std.specs.Prelude.{◌≡◌, ◌+◌, ◌-◌, ◌<◌, ◌≤◌, ◌^◌, ℕ, List, [], ◌∷◌, ◌++◌, length, replicate, true};
-ghost use Rattle.nc_text.specs.Marks.{IsClosed};
-ghost use Rattle.nc_text.specs.Places.{limit_of, byte_at};
+ghost use Rattle.std.specs.Prelude.{◌≡◌, ◌+◌, ◌-◌, ◌<◌, ◌^◌, replicate};
+ghost use Rattle.nc_text.specs.Places.{limit_of};
 ghost use Rattle.nc_text.specs.Ready.{AreReady};
-ghost use Rattle.nc_text.specs.MarkedText.{MarkedText, IsText, with_span};
+ghost use Rattle.nc_text.specs.MarkedText.{IsText, with_span};
 ghost use Rattle.nc_gens.specs.Rule.{generation_raised};
-ghost use Rattle.nc_region.specs.declared.acts.Entry.{Entry};
-ghost use Rattle.nc_region.specs.Acts.{puts_where, is_marked_at, is_unmarked_at};
-ghost use Rattle.nc_region.specs.Log.{Logs, unsettled, log_of_delete};
+ghost use Rattle.nc_region.specs.Log.{Logs, log_of_delete};
 ghost use Rattle.nc_region.specs.Chunks.{HasGoodSpan};
-ghost use Rattle.nc_region.specs.machinery.Between.{HasPut};
 
 use crate::acts::Acts;
 

@@ -32,9 +32,10 @@ unsafe impl Sync for History {}
 pub enum Note<'a> {
     /// One entry.
     One(Entry),
-    /// The puts of a span's bytes that are at bundle starts, or those that aren't, in ascending order.
+    /// The puts of a span's bytes, in ascending order. If the flag is true they are those at bundle starts, otherwise the others.
     Puts(u32, &'a [u8], bool),
-    /// The puts of F4 at the marked places of a span of this length, or at those that aren't marked, in ascending order.
+    /// The puts of F4 in a span of this length, in ascending order. If the flag is true they are at the places that this text marks,
+    /// otherwise at the others.
     Stops(u32, u32, bool, &'a Text),
 }
 

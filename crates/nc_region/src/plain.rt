@@ -12,7 +12,7 @@ use std::alloc::Global;
 use std::marker::Model;
 use std::sync::Arc;
 
-/// A reference to a table of generations: a borrow of it, or a share.
+/// A borrow or a share of a table of generations.
 pub trait GensRef {
     ghost use Rattle.atomic_table.specs.Seated.{TableId};
 

@@ -22,11 +22,11 @@ use nc_gens::{GensFull, Pass};
 use nc_text::TextFault;
 use std::alloc::{AllocError, Global};
 
-/// Acts that are recorded: each is appended to a list as it is done, and so is each settling.
+/// Acts that are recorded. Each is appended to a list as it is done, and so is each settling.
 ///
-/// The list's room is allocated when the recorder is made. From the first entry for which there is no room, the recorder tells
-/// nothing, for good; the acts themselves are still done. The clause `goes_on` of each act says this. As long as there is room,
-/// the list is exactly what is logged.
+/// The list's room is allocated when the recorder is made. From the first entry for which there is no room, the recorder has no
+/// list, for good; the acts themselves are still done. The clause `goes_on` of each act says this. As long as there is room, the
+/// list is exactly what is logged.
 #[derive(Drop)]
 pub struct Recorder<A: Acts + Drop> {
     acts: A,
@@ -64,7 +64,7 @@ impl<A: Acts + Drop> Recorder<A> {
     fn record(&mut self, entry: Entry)
         ensures acts { self.new.acts ≡ self.old.acts }
         ensures logged { Logs self.old.history.entries self.new.history.entries (entry ∷ []) }
-        // It still tells exactly if it told before and there was room.
+        // It goes on exactly if it did before and there was room.
         ensures goes_on { (self.new.full ≡ false) ↔ ((self.old.full ≡ false)
             × (vec_len self.old.entries < vec_capacity self.old.entries)) }
     {

@@ -67,7 +67,7 @@ impl Change for Puts<'_> {
     }
 }
 
-/// Puts stops at the marked places of so many, or at all of them.
+/// Puts stops at the marked places of a span, or at all of its places.
 #[derive(Drop)]
 pub(crate) struct Stops {
     pub(crate) len: usize,

@@ -95,8 +95,8 @@ impl Page {
         self.bytes[at] = byte;
     }
 
-    /// Puts the bytes of whole bundles that aren't at bundle starts. The bytes of a bundle are stored 16 at a time, and then the
-    /// byte that was at its start: the 31 others alone would take five stores.
+    /// Puts the bytes of whole bundles that aren't at bundle starts. A bundle is stored whole, and then the byte that was at its start
+    /// is put back. The 31 others alone would take five stores.
     pub(crate) fn put_inside(&mut self, at: usize, code: &[u8])
         requires inside { at + length code.now ≤ 4096 }
         requires start { at % 32 ≡ 0 }
@@ -130,8 +130,8 @@ impl Page {
         }
     }
 
-    /// Puts the bytes of a bundle. They are passed by value: of a slice the compiler wouldn't know that it is on no page, and
-    /// would test it.
+    /// Puts the bytes of a bundle. They are passed by value. The compiler couldn't know that a slice lies outside the page, and would
+    /// test for an overlap.
     #[inline(always)]
     fn put_bundle(&mut self, at: usize, bytes: [u8; BUNDLE])
         requires inside { at + 32 ≤ 4096 }

@@ -214,7 +214,7 @@ impl Text {
     }
 
     /// Puts F4 at the marked places of a span of `len` bytes, or at those that aren't marked, under the conditions of `put_where` and
-    /// like it. F4 is put at unmarked places only where it is at the marked ones already.
+    /// like it. It puts F4 at unmarked places only once the marked places of the span have it.
     pub fn stop_where(&mut self, at: u32, len: u32, at_marked: bool)
         requires inside { SpanInRegion self.old.marked.bytes at len }
         requires start { IsBundleStart at }

@@ -7,10 +7,10 @@ use Rattle.nc_text.specs.Marks.{mark_bit}
 use Rattle.nc_region.specs.Acts.{is_start, is_inside, is_mark}
 use Rattle.nc_decode.specs.declared.instruction.Mark.{Mark}
 use Rattle.nc_region.proofs.Offered.{is_start_false}
-use Rattle.nc_handle.specs.machinery.Writing.{mark_if, marked_if}
+use Rattle.nc_handle.specs.machinery.Writing.{mark_if, marks_if}
 
 -- whether a place is marked, by its mark
-pub mark_read : (marked : Bool) (marks : ℕ → Mark) (base i : ℕ) → marked_if marked marks base (base + i) ≡ mark_if marked (marks i)
+pub mark_read : (marked : Bool) (marks : ℕ → Mark) (base i : ℕ) → marks_if marked marks base (base + i) ≡ mark_if marked (marks i)
 mark_read marked marks base i =
     let here : base + i - base ≡ i = omega arith in ap (λ (k : ℕ). mark_if marked (marks k)) here
 

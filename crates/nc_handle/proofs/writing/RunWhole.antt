@@ -15,7 +15,7 @@ use Rattle.nc_handle.specs.acts.Shown.{entry_of}
 use Rattle.nc_handle.specs.machinery.Standing.{AreMarksAt}
 use Rattle.nc_handle.specs.acts.Runs.{Run, Single, PutRun, StopRun, runs_where, runs_of_create, runs_of_delete, HasRuns}
 use Rattle.nc_handle.specs.machinery.Running.{AddsRuns}
-use Rattle.nc_handle.specs.machinery.Writing.{mark_if, marked_if}
+use Rattle.nc_handle.specs.machinery.Writing.{mark_if, marks_if}
 use Rattle.nc_handle.proofs.writing.RunLists.{runs_same}
 use Rattle.nc_handle.proofs.writing.RunSteps.{adds_run, adds_both_runs}
 use Rattle.nc_handle.proofs.writing.WholeLists.{same_stops, stands_so}
@@ -57,25 +57,25 @@ creation_runs base code acts acts1 acts2 acts3 acts4 n1 n2 n3 n4 one long m1 e2 
 
 -- the same runs by a chunk's marks as by those of the text in which they stand
 same_runs : (marked : Bool) (marks : ℕ → Mark) (text : List Mark) (base len : ℕ) → AreMarksAt text base len marks
-    → runs_where StopRun (marked_if marked marks base) base (len / 32)
+    → runs_where StopRun (marks_if marked marks base) base (len / 32)
     ≡ runs_where StopRun (λ at. mark_if marked (mark_at text at)) base (len / 32)
 same_runs marked marks text base len h =
-    runs_same StopRun (marked_if marked marks base) (λ at. mark_if marked (mark_at text at)) base (len / 32)
+    runs_same StopRun (marks_if marked marks base) (λ at. mark_if marked (mark_at text at)) base (len / 32)
     (λ k lt. stands_so marked marks text base len k h (omega (arith, lt)))
 
 -- a deletion's runs and log by a chunk's marks are those by the text's
 by_text : (marks : ℕ → Mark) (text : List Mark) (base : ℕ) (code : List ℕ) (acts acts4 : List NcAct) (n : ℕ)
     → AreMarksAt text base (length code) marks
     → HasRuns acts acts4 n base code
-    (runs_where StopRun (marked_if true marks base) base (length code / 32)
-    ++ (Single Settled ∷ (runs_where StopRun (marked_if false marks base) base (length code / 32) ++ Single (Did Bump) ∷ [])))
-    (unsettled (puts_where (marked_if true marks base) base (replicate {A = ℕ} (length code) 244))
-    ++ (Settled ∷ (unsettled (puts_where (marked_if false marks base) base (replicate {A = ℕ} (length code) 244)) ++ Did Bump ∷ [])))
+    (runs_where StopRun (marks_if true marks base) base (length code / 32)
+    ++ (Single Settled ∷ (runs_where StopRun (marks_if false marks base) base (length code / 32) ++ Single (Did Bump) ∷ [])))
+    (unsettled (puts_where (marks_if true marks base) base (replicate {A = ℕ} (length code) 244))
+    ++ (Settled ∷ (unsettled (puts_where (marks_if false marks base) base (replicate {A = ℕ} (length code) 244)) ++ Did Bump ∷ [])))
     → HasRuns acts acts4 n base code (runs_of_delete text base (length code)) (log_of_delete text base (length code))
 by_text marks text base code acts acts4 n stand h =
     let bytes : List ℕ = replicate {A = ℕ} (length code) 244 in
-    let others : List Act = puts_where (marked_if false marks base) base bytes in
-    let last : List Run = runs_where StopRun (marked_if false marks base) base (length code / 32) in
+    let others : List Act = puts_where (marks_if false marks base) base bytes in
+    let last : List Run = runs_where StopRun (marks_if false marks base) base (length code / 32) in
     let log : _ ≡ log_of_delete text base (length code) =
     ap (λ (z : List Act). unsettled z ++ (Settled ∷ (unsettled others ++ Did Bump ∷ []))) (same_stops true marks text base (length code) stand)
     ∙ ap (λ (z : List Act). unsettled (puts_where (is_marked_at text) base bytes) ++ (Settled ∷ (unsettled z ++ Did Bump ∷ [])))
@@ -86,24 +86,24 @@ by_text marks text base code acts acts4 n stand h =
     ++ (Single Settled ∷ (z ++ Single (Did Bump) ∷ []))) (same_runs false marks text base (length code) stand) in
     subst (λ (z : List Entry). HasRuns acts acts4 n base code (runs_of_delete text base (length code)) z) log
     (subst (λ (z : List Run). HasRuns acts acts4 n base code z
-    (unsettled (puts_where (marked_if true marks base) base bytes) ++ (Settled ∷ (unsettled others ++ Did Bump ∷ [])))) runs h)
+    (unsettled (puts_where (marks_if true marks base) base bytes) ++ (Settled ∷ (unsettled others ++ Did Bump ∷ [])))) runs h)
 
 -- the runs of a deletion
 pub deletion_runs : (marks : ℕ → Mark) (text : List Mark) (base : ℕ) (code : List ℕ) (acts acts1 acts2 acts3 acts4 : List NcAct) (n1 n2 n3 : ℕ)
-    → AddsRuns base code acts 0 acts1 n1 (runs_where StopRun (marked_if true marks base) base (length code / 32))
-    (unsettled (puts_where (marked_if true marks base) base (replicate {A = ℕ} (length code) 244)))
+    → AddsRuns base code acts 0 acts1 n1 (runs_where StopRun (marks_if true marks base) base (length code / 32))
+    (unsettled (puts_where (marks_if true marks base) base (replicate {A = ℕ} (length code) 244)))
     → length acts1 ≡ length acts → n1 ≡ 0 + length code / 32 → acts2 ≡ set acts1 n1 (entry_of Settled) → n2 ≡ n1 + 1
-    → AddsRuns base code acts2 n2 acts3 n3 (runs_where StopRun (marked_if false marks base) base (length code / 32))
-    (unsettled (puts_where (marked_if false marks base) base (replicate {A = ℕ} (length code) 244)))
+    → AddsRuns base code acts2 n2 acts3 n3 (runs_where StopRun (marks_if false marks base) base (length code / 32))
+    (unsettled (puts_where (marks_if false marks base) base (replicate {A = ℕ} (length code) 244)))
     → length acts3 ≡ length acts2 → n3 ≡ n2 + length code / 32 → acts4 ≡ set acts3 n3 (entry_of (Did Bump))
     → 2 * (length code / 32) + 2 ≤ length acts → AreMarksAt text base (length code) marks
     → HasRuns acts acts4 (2 * (length code / 32) + 2) base code (runs_of_delete text base (length code)) (log_of_delete text base (length code))
 deletion_runs marks text base code acts acts1 acts2 acts3 acts4 n1 n2 n3 one long m1 e2 m2 rest long3 m3 e4 room stand =
     let bytes : List ℕ = replicate {A = ℕ} (length code) 244 in
-    let ones : List Entry = unsettled (puts_where (marked_if true marks base) base bytes) in
-    let others : List Entry = unsettled (puts_where (marked_if false marks base) base bytes) in
-    let first_runs : List Run = runs_where StopRun (marked_if true marks base) base (length code / 32) in
-    let other_runs : List Run = runs_where StopRun (marked_if false marks base) base (length code / 32) in
+    let ones : List Entry = unsettled (puts_where (marks_if true marks base) base bytes) in
+    let others : List Entry = unsettled (puts_where (marks_if false marks base) base bytes) in
+    let first_runs : List Run = runs_where StopRun (marks_if true marks base) base (length code / 32) in
+    let other_runs : List Run = runs_where StopRun (marks_if false marks base) base (length code / 32) in
     let end_runs : List Run = Single (Did Bump) ∷ [] in
     let end : List Entry = Did Bump ∷ [] in
     let long2 = ap (λ (z : List NcAct). length z) e2 ∙ length-set acts1 n1 (entry_of Settled) in

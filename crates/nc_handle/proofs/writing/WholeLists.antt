@@ -14,7 +14,7 @@ use Rattle.nc_handle.specs.declared.acts.act.NcAct.{NcAct}
 use Rattle.nc_handle.specs.acts.Shown.{entry_of}
 use Rattle.nc_handle.specs.machinery.Standing.{AreMarksAt}
 use Rattle.nc_handle.specs.machinery.Written.{HasWritten, Adds}
-use Rattle.nc_handle.specs.machinery.Writing.{HasPutUpTo, mark_if, marked_if}
+use Rattle.nc_handle.specs.machinery.Writing.{HasPutUpTo, mark_if, marks_if}
 use Rattle.nc_handle.proofs.writing.PutLists.{puts_of_both, puts_same}
 use Rattle.nc_handle.proofs.writing.WriteSteps.{put_all, adds_one, adds_both}
 
@@ -29,10 +29,10 @@ both_of_create base code = omega (arith, puts_of_both is_start base code)
 
 -- each place of a chunk gets one stop
 pub both_of_delete : (marks : ℕ → Mark) (base len : ℕ)
-    → length (puts_where (marked_if true marks base) base (replicate {A = ℕ} len 244))
-    + length (puts_where (marked_if false marks base) base (replicate {A = ℕ} len 244)) ≡ len
+    → length (puts_where (marks_if true marks base) base (replicate {A = ℕ} len 244))
+    + length (puts_where (marks_if false marks base) base (replicate {A = ℕ} len 244)) ≡ len
 both_of_delete marks base len =
-    puts_of_both (marked_if true marks base) base (replicate {A = ℕ} len 244) ∙ length-replicate {A = ℕ} len 244
+    puts_of_both (marks_if true marks base) base (replicate {A = ℕ} len 244) ∙ length-replicate {A = ℕ} len 244
 
 pub record WroteFirst (chosen : ℕ → Bool) (base : ℕ) (bytes : List ℕ) (acts now : List NcAct) (count : ℕ) : Type 0 where
   pub len : length now ≡ length acts
@@ -76,34 +76,34 @@ creation_written base code acts acts1 acts2 acts3 acts4 n1 n2 n3 n4 h1 e2 m2 e3 
 
 -- a place is marked by a chunk's marks as by those of the text in which they stand
 pub stands_so : (marked : Bool) (marks : ℕ → Mark) (text : List Mark) (base len k : ℕ) → AreMarksAt text base len marks → k < len
-    → marked_if marked marks base (base + k) ≡ mark_if marked (mark_at text (base + k))
+    → marks_if marked marks base (base + k) ≡ mark_if marked (mark_at text (base + k))
 stands_so marked marks text base len k h lt =
     let here : base + k - base ≡ k = omega arith in
     ap (λ (n : ℕ). mark_if marked (marks n)) here ∙ ap (λ (z : Mark). mark_if marked z) (sym (h k lt))
 
 -- so the same stops are put
 pub same_stops : (marked : Bool) (marks : ℕ → Mark) (text : List Mark) (base len : ℕ) → AreMarksAt text base len marks
-    → puts_where (marked_if marked marks base) base (replicate {A = ℕ} len 244)
+    → puts_where (marks_if marked marks base) base (replicate {A = ℕ} len 244)
     ≡ puts_where (λ at. mark_if marked (mark_at text at)) base (replicate {A = ℕ} len 244)
 same_stops marked marks text base len h =
-    puts_same (marked_if marked marks base) (λ at. mark_if marked (mark_at text at)) base (replicate {A = ℕ} len 244)
+    puts_same (marks_if marked marks base) (λ at. mark_if marked (mark_at text at)) base (replicate {A = ℕ} len 244)
     (λ k lt. stands_so marked marks text base len k h (omega (arith, lt, length-replicate {A = ℕ} len 244)))
 
 -- the log of a deletion
 pub deletion_written : (marks : ℕ → Mark) (text : List Mark) (base len : ℕ) (acts acts1 acts2 acts3 acts4 : List NcAct) (n1 n2 n3 : ℕ)
-    → HasPutUpTo (marked_if true marks base) base (replicate {A = ℕ} len 244) acts 0 len acts1 n1
+    → HasPutUpTo (marks_if true marks base) base (replicate {A = ℕ} len 244) acts 0 len acts1 n1
     → acts2 ≡ set acts1 n1 (entry_of Settled) → n2 ≡ n1 + 1
-    → HasPutUpTo (marked_if false marks base) base (replicate {A = ℕ} len 244) acts2 n2 len acts3 n3
+    → HasPutUpTo (marks_if false marks base) base (replicate {A = ℕ} len 244) acts2 n2 len acts3 n3
     → acts4 ≡ set acts3 n3 (entry_of (Did Bump)) → len + 2 ≤ length acts → AreMarksAt text base len marks
     → HasWritten acts acts4 (len + 2) (log_of_delete text base len)
 deletion_written marks text base len acts acts1 acts2 acts3 acts4 n1 n2 n3 h1 e2 m2 h3 e4 room stand =
     let bytes : List ℕ = replicate {A = ℕ} len 244 in
-    let ones : List Act = puts_where (marked_if true marks base) base bytes in
-    let others : List Act = puts_where (marked_if false marks base) base bytes in
+    let ones : List Act = puts_where (marks_if true marks base) base bytes in
+    let others : List Act = puts_where (marks_if false marks base) base bytes in
     let end : len ≡ length bytes = sym (length-replicate {A = ℕ} len 244) in
     let both = both_of_delete marks base len in
-    let one = first_written (marked_if true marks base) base bytes acts acts1 len n1 end h1 in
-    let rest = put_all (marked_if false marks base) base bytes acts2 n2 len acts3 n3 end h3 in
+    let one = first_written (marks_if true marks base) base bytes acts acts1 len n1 end h1 in
+    let rest = put_all (marks_if false marks base) base bytes acts2 n2 len acts3 n3 end h3 in
     let long2 = ap (λ (z : List NcAct). length z) e2 ∙ length-set acts1 n1 (entry_of Settled) in
     let many : n3 ≡ len + 1 = omega (arith, rest.counted, m2, one.counted, both) in
     let lt1 : n1 < length acts1 = omega (arith, one.len, one.counted, room, both) in

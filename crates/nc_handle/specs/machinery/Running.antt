@@ -8,14 +8,14 @@ use Rattle.nc_handle.specs.declared.acts.act.NcAct.{NcAct}
 use Rattle.nc_handle.specs.declared.acts.runs.Places.{Places}
 use Rattle.nc_handle.specs.declared.acts.runs.Places.TheVariants.{Inside, Starts, Marked, Unmarked}
 use Rattle.nc_handle.specs.acts.Runs.{Run, PutRun, StopRun, runs_where, HasRuns}
-use Rattle.nc_handle.specs.machinery.Writing.{marked_if}
+use Rattle.nc_handle.specs.machinery.Writing.{marks_if}
 
 -- whether a run of these places includes this one, in a chunk with these marks at this base
 abbrev pub picks : Places → (ℕ → Mark) → ℕ → ℕ → Bool
 picks Inside marks base at = is_inside at
 picks Starts marks base at = is_start at
-picks Marked marks base at = marked_if true marks base at
-picks Unmarked marks base at = marked_if false marks base at
+picks Marked marks base at = marks_if true marks base at
+picks Unmarked marks base at = marks_if false marks base at
 
 -- the bytes that runs of these places put: the chunk's, or stops
 abbrev pub bytes_for : Places → List ℕ → List ℕ

@@ -3,7 +3,8 @@ use Rattle.std.specs.Prelude.{◌≡◌, ℕ, ◌+◌, ◌-◌, ◌==◌, Bool, 
 use Rattle.std.specs.Int.{bit_at}
 use Rattle.nc_decode.specs.declared.instruction.Mark.{Mark}
 use Rattle.nc_region.specs.declared.acts.Entry.{Entry}
-use Rattle.nc_region.specs.Acts.{puts_where, is_start, is_inside, is_mark}
+use Rattle.nc_region.specs.Acts.{puts_where, is_mark}
+pub use Rattle.nc_region.specs.Acts.{starts_if}
 use Rattle.nc_region.specs.Log.{unsettled}
 use Rattle.nc_handle.specs.declared.acts.act.NcAct.{NcAct}
 use Rattle.nc_handle.specs.machinery.Written.{HasWritten}
@@ -17,19 +18,14 @@ pub record HasPutUpTo (chosen : ℕ → Bool) (at : ℕ) (bytes : List ℕ) (ini
   pub written : (start : List NcAct) (log : List Entry) → HasWritten start initial from log
       → HasWritten start acts count (log ++ unsettled (puts_where chosen at (take n bytes)))
 
--- bundle starts, or the other places
-abbrev pub starts_if : Bool → ℕ → Bool
-starts_if true = is_start
-starts_if false = is_inside
-
 -- a mark that stands for a state, or one that stands for none
 abbrev pub mark_if : Bool → Mark → Bool
 mark_if true mark = is_mark mark
 mark_if false mark = not (is_mark mark)
 
 -- marked places, or the others, by the marks of a chunk at this base
-abbrev pub marked_if : Bool → (ℕ → Mark) → ℕ → ℕ → Bool
-marked_if marked marks base at = mark_if marked (marks (at - base))
+abbrev pub marks_if : Bool → (ℕ → Mark) → ℕ → ℕ → Bool
+marks_if marked marks base at = mark_if marked (marks (at - base))
 
 -- the place's bit is set, in a number with a bit for each place from this address on; the lowest bit is the first place's
 abbrev pub is_among : ℕ → ℕ → ℕ → Bool

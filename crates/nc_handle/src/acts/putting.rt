@@ -7,7 +7,7 @@ ghost use Rattle.nc_region.specs.Acts.{puts_where, is_inside};
 ghost use Rattle.nc_region.specs.Log.{log_of_create, log_of_delete};
 ghost use Rattle.nc_handle.specs.machinery.Standing.{AreMarksAt};
 ghost use Rattle.nc_handle.specs.machinery.Written.{HasWritten};
-ghost use Rattle.nc_handle.specs.machinery.Writing.{HasPutUpTo, starts_if, mark_if, marked_if, is_among};
+ghost use Rattle.nc_handle.specs.machinery.Writing.{HasPutUpTo, starts_if, mark_if, marks_if, is_among};
 
 use crate::acts::act::NcAct;
 use crate::acts::entries::{STOP, bump, mark_span, put, settle, write};
@@ -110,9 +110,9 @@ fn write_stops<C: ReadChunk>(
 ) -> usize
     requires high { base + length (C.code chunk.now) < 2 ^ 32 }
     requires whole { length (C.code chunk.now) % 32 ≡ 0 }
-    requires room { from + length (puts_where (marked_if marked (C.marks chunk.now) base) base (replicate (length (C.code chunk.now)) 0xF4))
+    requires room { from + length (puts_where (marks_if marked (C.marks chunk.now) base) base (replicate (length (C.code chunk.now)) 0xF4))
         ≤ length acts.old }
-    ensures { HasPutUpTo (marked_if marked (C.marks chunk.now) base) base (replicate (length (C.code chunk.now)) 0xF4) acts.old from
+    ensures { HasPutUpTo (marks_if marked (C.marks chunk.now) base) base (replicate (length (C.code chunk.now)) 0xF4) acts.old from
         (length (C.code chunk.now)) acts.new result }
 {
     let mut count = from;

@@ -1,7 +1,7 @@
 use Rattle.std.proofs.Common.{arith, sym, ◌∙◌, ap, ℕ, List, ◌≡◌, length, set, replicate, true, false}
 use Rattle.std.proofs.lemmas.List.{length-replicate, length-set}
 use Rattle.nc_handle.specs.declared.acts.act.NcAct.{NcAct}
-use Rattle.nc_handle.specs.machinery.Writing.{marked_if}
+use Rattle.nc_handle.specs.machinery.Writing.{marks_if}
 use Rattle.nc_handle.proofs.writing.WriteSteps.{put_all}
 use Rattle.nc_handle.proofs.writing.WholeLists.{both_of_delete, first_written, deletion_written}
 use Rattle.nc_handle.proofs.acts.putting.write_deletion.Goals as goal
@@ -14,7 +14,7 @@ pub write-settled-requires : goal.write-settled-requires
 write-settled-requires g c =
     let marks = g.C.ReadChunk.marks c.args.chunk.now in
     let len = length (g.C.ReadChunk.code c.args.chunk.now) in
-    let one = first_written (marked_if true marks c.args.base) c.args.base (replicate {A = ℕ} len 244) c.args.acts.now
+    let one = first_written (marks_if true marks c.args.base) c.args.base (replicate {A = ℕ} len 244) c.args.acts.now
     c.write_stops-marked.new.acts len c.write_stops-marked.result (sym (length-replicate {A = ℕ} len 244)) c.write_stops-marked.ensures in
     omega (arith, one.len, one.counted, c.requires.room, both_of_delete marks c.args.base len)
 
@@ -22,7 +22,7 @@ pub write_stops-count-requires-clause-room : goal.write_stops-count-requires-cla
 write_stops-count-requires-clause-room g c =
     let marks = g.C.ReadChunk.marks c.args.chunk.now in
     let len = length (g.C.ReadChunk.code c.args.chunk.now) in
-    let one = first_written (marked_if true marks c.args.base) c.args.base (replicate {A = ℕ} len 244) c.args.acts.now
+    let one = first_written (marks_if true marks c.args.base) c.args.base (replicate {A = ℕ} len 244) c.args.acts.now
     c.write_stops-marked.new.acts len c.write_stops-marked.result (sym (length-replicate {A = ℕ} len 244)) c.write_stops-marked.ensures in
     let same : length c.write-settled.new.acts ≡ length c.write_stops-marked.new.acts =
     ap (λ (z : List NcAct). length z) c.write-settled.ensures.acts
@@ -34,12 +34,12 @@ write-requires g c =
     let marks = g.C.ReadChunk.marks c.args.chunk.now in
     let len = length (g.C.ReadChunk.code c.args.chunk.now) in
     let end = sym (length-replicate {A = ℕ} len 244) in
-    let one = first_written (marked_if true marks c.args.base) c.args.base (replicate {A = ℕ} len 244) c.args.acts.now
+    let one = first_written (marks_if true marks c.args.base) c.args.base (replicate {A = ℕ} len 244) c.args.acts.now
     c.write_stops-marked.new.acts len c.write_stops-marked.result end c.write_stops-marked.ensures in
     let same : length c.write-settled.new.acts ≡ length c.write_stops-marked.new.acts =
     ap (λ (z : List NcAct). length z) c.write-settled.ensures.acts
     ∙ length-set c.write_stops-marked.new.acts c.write_stops-marked.result c.settle.result in
-    let rest = put_all (marked_if false marks c.args.base) c.args.base (replicate {A = ℕ} len 244) c.write-settled.new.acts
+    let rest = put_all (marks_if false marks c.args.base) c.args.base (replicate {A = ℕ} len 244) c.write-settled.new.acts
     c.write-settled.result len c.write_stops-count.new.acts c.write_stops-count.result end c.write_stops-count.ensures in
     omega (
       arith,
