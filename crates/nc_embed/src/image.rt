@@ -108,7 +108,7 @@ impl<'g> Acts for Image<'g> {
         self.plain.settle();
     }
 
-    // It takes no bits, so a creation's marks come as a list: `mark_bundles` is the trait's.
+    // It takes no bits, so a creation's marks come as a list: `put_bundles` is the trait's.
     fn mark_span(&mut self, at: u32, marks: &[Mark]) {
         self.plain.mark_span(at, marks);
     }

@@ -1,6 +1,7 @@
 pub mod schedules
 pub mod machinery
 pub mod Each
+pub mod Puts
 pub mod Acts
 pub mod Log
 pub mod Chunks

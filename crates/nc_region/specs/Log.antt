@@ -22,6 +22,12 @@ log_of_create base code =
     unsettled (puts_where is_inside base code)
     ++ (Settled ∷ Did (MarkSpan base (length code)) ∷ unsettled (puts_where is_start base code))
 
+-- the log of the stops over a span: F4 is put at the marked places, then the region settles, then F4 is put at the others
+abbrev pub log_of_stops : List Mark → ℕ → ℕ → List Entry
+log_of_stops marks base len =
+    unsettled (puts_where (is_marked_at marks) base (replicate len 0xF4))
+    ++ (Settled ∷ unsettled (puts_where (is_unmarked_at marks) base (replicate len 0xF4)))
+
 -- the log of a deletion: its acts, with one settling after F4 is put at the marked places and before it is put at the
 -- others
 abbrev pub log_of_delete : List Mark → ℕ → ℕ → List Entry

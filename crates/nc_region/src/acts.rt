@@ -8,16 +8,17 @@ ghost use Rattle.nc_decode.specs.Bits.{marks_in};
 ghost use Rattle.nc_decode.specs.Bundles.{IsBundleStart};
 ghost use Rattle.nc_text.specs.Marks.{IsClosed, mark_at, mark_bit};
 ghost use Rattle.nc_text.specs.Places.{InRegion, SpanInRegion, byte_at, limit_of};
-ghost use Rattle.nc_text.specs.MarkedText.{MarkedText, IsText, with_byte, with_marks, without_marks, NamesRegister};
+ghost use Rattle.nc_text.specs.MarkedText.{MarkedText, IsText, with_byte, with_chunk, with_stops, with_marks, without_marks, NamesRegister};
 ghost use Rattle.nc_text.specs.MarkedText.{KeepsMarks, AreStops};
-ghost use Rattle.nc_text.specs.Puts.{HasPut};
+ghost use Rattle.nc_region.specs.Puts.{HasPut};
 ghost use Rattle.nc_text.specs.Ready.{IsReady, AreReady, GetsReady};
 ghost use Rattle.nc_gens.specs.Rule.{generation_raised};
 ghost use Rattle.nc_gens.specs.Seen.{KeeperState, HasLooked, HasMet, least_number};
 ghost use Rattle.nc_region.specs.declared.acts.Act.{Act};
 ghost use Rattle.nc_region.specs.declared.acts.Entry.{Entry};
 ghost use Rattle.nc_region.specs.Acts.{puts_where, starts_if, marked_if, is_marked_at};
-ghost use Rattle.nc_region.specs.Log.{Logs, unsettled};
+ghost use Rattle.nc_region.specs.Chunks.{HasGoodSpan, IsClosedChunk, IsUnused};
+ghost use Rattle.nc_region.specs.Log.{Logs, unsettled, log_of_create, log_of_stops};
 
 use nc_decode::{Bundle, Mark};
 use nc_gens::{GensFull, Pass};
@@ -101,8 +102,8 @@ pub trait Acts {
     /// logged as one. The span consists of whole bundles. The text is closed after each put. An empty span changes nothing, wherever
     /// `at` is.
     ///
-    /// This default calls `put` for each byte, as that of `stop_where` does. An implementation that stores many bytes at once is
-    /// faster; in memory that threads execute it must still store the bytes one at a time and in this order, and nothing else.
+    /// This default calls `put` for each byte, as that of `stop_where` does. An implementation of its own must store the bytes one at
+    /// a time and in this order too, and nothing else, in memory that threads execute.
     fn put_where(&mut self, at: u32, code: &[u8], at_starts: bool)
         requires inside { SpanInRegion (marked self.old).bytes at (length code.now) }
         requires start { IsBundleStart at }
@@ -158,6 +159,27 @@ pub trait Acts {
         }
     }
 
+    /// Puts F4 at every place of a chunk's span: at the marked places, and, once the region has settled, at the others. The text is
+    /// closed after each put.
+    ///
+    /// This default calls `stop_where` and `settle`. An implementation over a text that no thread executes is faster if it overrides
+    /// it.
+    fn stop_span(&mut self, at: u32, len: u32)
+        requires placed { HasGoodSpan at (limit_of (marked self.old).bytes) len }
+        requires ready { AreReady (made self.old) at len }
+        ensures marked { marked self.new ≡ with_stops (marked self.old) at len }
+        ensures made { made self.new ≡ made self.old }
+        ensures whole { IsText (marked self.new) }
+        ensures keeper { keeper self.new ≡ keeper self.old }
+        ensures logged { Logs (logged self.old) (logged self.new) (log_of_stops (marked self.old).marks at len) }
+    {
+        // Called for its postconditions.
+        let _facts = self.limit();
+        self.stop_where(at, len, true);
+        self.settle();
+        self.stop_where(at, len, false);
+    }
+
     /// Makes every processor fetch anew: once it has returned, no byte is executed that was overwritten before the call. It
     /// changes no byte, no mark and no number. It is logged, but isn't an act.
     fn settle(&mut self)
@@ -180,22 +202,18 @@ pub trait Acts {
         ensures keeper { keeper self.new ≡ keeper self.old }
         ensures logged { Logs (logged self.old) (logged self.new) (Entry.Did (Act.MarkSpan at (length marks.now)) ∷ []) };
 
-    /// Sets the marks of a chunk's span from the bits of its bundles and returns true, or does nothing and returns false; then
-    /// `mark_span` sets them from a list. It is logged as `mark_span` is.
+    /// Creates a chunk from the bits of its bundles and returns true, or does nothing and returns false. Then the region makes its acts
+    /// one by one, by `put_where`, `settle` and `mark_span`. It is logged as these are. The text is closed after each of these acts,
+    /// since the chunk is closed by itself and its span is unused.
     ///
-    /// This default does nothing. An implementation that keeps marks as bits is faster if it overrides it.
-    fn mark_bundles(&mut self, at: u32, code: &[u8], bundles: &[Bundle]) -> bool
-        requires inside { SpanInRegion (marked self.old).bytes at (length code.now) }
-        requires start { IsBundleStart at }
-        requires whole { length code.now % 32 ≡ 0 }
+    /// This default does nothing. An implementation that keeps marks as bits, over a text that no thread executes, is faster if it
+    /// overrides it.
+    fn put_bundles(&mut self, at: u32, code: &[u8], bundles: &[Bundle]) -> bool
+        requires chunk { IsClosedChunk at (limit_of (marked self.old).bytes) code.now (marks_in code.now bundles.now) }
+        requires unused { IsUnused (marked self.old) at (length code.now) }
         requires ready { AreReady (made self.old) at (length code.now) }
-        requires keeps { KeepsMarks (marked self.old).marks
-            (with_marks (marked self.old) at (marks_in code.now bundles.now)).marks }
-        requires closed { IsClosed (marked self.old).bytes
-            (with_marks (marked self.old) at (marks_in code.now bundles.now)).marks }
-        ensures marked { IsTrue result → marked self.new ≡ with_marks (marked self.old) at (marks_in code.now bundles.now) }
-        ensures logged { IsTrue result
-            → Logs (logged self.old) (logged self.new) (Entry.Did (Act.MarkSpan at (length code.now)) ∷ []) }
+        ensures marked { IsTrue result → marked self.new ≡ with_chunk (marked self.old) at code.now (marks_in code.now bundles.now) }
+        ensures logged { IsTrue result → Logs (logged self.old) (logged self.new) (log_of_create at code.now) }
         ensures unchanged { result ≡ false → (marked self.new ≡ marked self.old)
             × (logged self.new ≡ logged self.old) }
         ensures made { made self.new ≡ made self.old }

@@ -10,10 +10,10 @@ ghost use Rattle.nc_text.specs.MarkedText.{IsText, with_marks, KeepsMarks, Names
 ghost use Rattle.nc_region.specs.declared.acts.Act.{Act};
 ghost use Rattle.nc_region.specs.declared.acts.Entry.{Entry};
 ghost use Rattle.nc_region.specs.Log.{Logs, log_of_create};
-ghost use Rattle.nc_region.specs.Chunks.{HasGoodSpan, IsClosedChunk, with_chunk};
+ghost use Rattle.nc_region.specs.Chunks.{HasGoodSpan, IsClosedChunk, IsUnused, with_chunk};
 ghost use Rattle.nc_region.specs.declared.fault.CreateFault.{CreateFault};
 ghost use Rattle.nc_region.specs.Region.{IsRegion, MayRefuse};
-ghost use Rattle.nc_region.specs.machinery.Between.{HasRoom, IsUnused};
+ghost use Rattle.nc_region.specs.machinery.Between.{HasRoom};
 
 use crate::acts::Acts;
 use crate::fault::CreateFault;
@@ -81,8 +81,8 @@ fn list_room(alloc: Global, length: usize) -> Result<Vec<Mark>, AllocError>
     Vec::with_capacity(alloc, length)
 }
 
-/// Creates a chunk that is closed by itself in an unused span. `room` is for a list of more than `SMALL` marks, if `acts` takes
-/// no bits.
+/// Creates a chunk that is closed by itself in an unused span: from bits if both sides keep them, otherwise act by act. `room` is for
+/// a list of more than `SMALL` marks.
 pub(crate) fn put_chunk<A: Acts>(
     acts: &mut A,
     base: u32,
@@ -103,44 +103,21 @@ pub(crate) fn put_chunk<A: Acts>(
     ensures keeper { A.keeper acts.new ≡ A.keeper acts.old }
     ensures log { Logs (A.logged acts.old) (A.logged acts.new) (log_of_create base code.now) }
 {
-    acts.put_where(base, code, false);
-    acts.settle();
-    mark_chunk(acts, base, vetted, room);
-    acts.put_where(base, code, true);
-}
-
-/// Sets the marks of a chunk's span: from bits if both sides keep them, otherwise from a list.
-fn mark_chunk<A: Acts>(acts: &mut A, base: u32, vetted: &Vetted, room: Vec<Mark>)
-    requires room { (room.items ≡ []) × (512 < length vetted.now.code → length vetted.now.code ≤ vec_capacity room) }
-    requires whole { IsText (A.marked acts.old) }
-    requires placed { HasGoodSpan base (limit_of (A.marked acts.old).bytes) (length vetted.now.code) }
-    requires as_long { length vetted.now.marks ≡ length vetted.now.code }
-    requires ready { AreReady (A.made acts.old) base (length vetted.now.code) }
-    requires registers { All NamesRegister vetted.now.marks }
-    requires keeps { KeepsMarks (A.marked acts.old).marks (with_marks (A.marked acts.old) base vetted.now.marks).marks }
-    requires closed { IsClosed (A.marked acts.old).bytes (with_marks (A.marked acts.old) base vetted.now.marks).marks }
-    ensures marked { A.marked acts.new ≡ with_marks (A.marked acts.old) base vetted.now.marks }
-    ensures made { A.made acts.new ≡ A.made acts.old }
-    ensures whole { IsText (A.marked acts.new) }
-    ensures keeper { A.keeper acts.new ≡ A.keeper acts.old }
-    ensures logged { Logs (A.logged acts.old) (A.logged acts.new) (Entry.Did (Act.MarkSpan base (length vetted.now.code)) ∷ []) }
-{
-    if marked_by_bits(acts, base, vetted) {
+    if put_by_bits(acts, base, code, vetted) {
         return;
     }
-    mark_listed(acts, base, vetted, room);
+    put_listed(acts, base, code, vetted, room);
 }
 
-/// Sets the marks of a chunk's span from bits if both sides keep them, and returns whether they do.
-fn marked_by_bits<A: Acts>(acts: &mut A, base: u32, vetted: &Vetted) -> bool
-    requires placed { HasGoodSpan base (limit_of (A.marked acts.old).bytes) (length vetted.now.code) }
+/// Creates a chunk from bits if both sides keep them, and returns whether they do.
+fn put_by_bits<A: Acts>(acts: &mut A, base: u32, code: &[u8], vetted: &Vetted) -> bool
     requires whole { IsText (A.marked acts.old) }
-    requires ready { AreReady (A.made acts.old) base (length vetted.now.code) }
-    requires keeps { KeepsMarks (A.marked acts.old).marks (with_marks (A.marked acts.old) base vetted.now.marks).marks }
-    requires closed { IsClosed (A.marked acts.old).bytes (with_marks (A.marked acts.old) base vetted.now.marks).marks }
-    ensures marked { IsTrue result → A.marked acts.new ≡ with_marks (A.marked acts.old) base vetted.now.marks }
-    ensures logged { IsTrue result
-        → Logs (A.logged acts.old) (A.logged acts.new) (Entry.Did (Act.MarkSpan base (length vetted.now.code)) ∷ []) }
+    requires code { code.now ≡ vetted.now.code }
+    requires chunk { IsClosedChunk base (limit_of (A.marked acts.old).bytes) code.now vetted.now.marks }
+    requires unused { IsUnused (A.marked acts.old) base (length code.now) }
+    requires ready { AreReady (A.made acts.old) base (length code.now) }
+    ensures marked { IsTrue result → A.marked acts.new ≡ with_chunk (A.marked acts.old) base code.now vetted.now.marks }
+    ensures log { IsTrue result → Logs (A.logged acts.old) (A.logged acts.new) (log_of_create base code.now) }
     ensures unchanged { result ≡ false → (A.marked acts.new ≡ A.marked acts.old)
         × (A.logged acts.new ≡ A.logged acts.old) }
     ensures made { A.made acts.new ≡ A.made acts.old }
@@ -148,14 +125,34 @@ fn marked_by_bits<A: Acts>(acts: &mut A, base: u32, vetted: &Vetted) -> bool
     ensures keeper { A.keeper acts.new ≡ A.keeper acts.old }
 {
     match vetted.bundles() {
-        Some(bundles) => acts.mark_bundles(base, vetted.code(), bundles),
+        Some(bundles) => acts.put_bundles(base, code, bundles),
         None => false,
     }
 }
 
-/// Sets the marks of a chunk's span from a list: in an array if they are at most `SMALL`, otherwise in the room for them. It isn't
-/// inlined, so that the array costs nothing where marks are set from bits.
+/// Creates a chunk act by act, with its marks from a list. It isn't inlined, so that it costs nothing where chunks are put from bits.
 #[inline(never)]
+fn put_listed<A: Acts>(acts: &mut A, base: u32, code: &[u8], vetted: &Vetted, room: Vec<Mark>)
+    requires whole { IsText (A.marked acts.old) }
+    requires code { code.now ≡ vetted.now.code }
+    requires room { (room.items ≡ []) × (512 < length code.now → length code.now ≤ vec_capacity room) }
+    requires chunk { IsClosedChunk base (limit_of (A.marked acts.old).bytes) code.now vetted.now.marks }
+    requires registers { All NamesRegister vetted.now.marks }
+    requires unused { IsUnused (A.marked acts.old) base (length code.now) }
+    requires ready { AreReady (A.made acts.old) base (length code.now) }
+    ensures marked { A.marked acts.new ≡ with_chunk (A.marked acts.old) base code.now vetted.now.marks }
+    ensures whole { IsText (A.marked acts.new) }
+    ensures made { A.made acts.new ≡ A.made acts.old }
+    ensures keeper { A.keeper acts.new ≡ A.keeper acts.old }
+    ensures log { Logs (A.logged acts.old) (A.logged acts.new) (log_of_create base code.now) }
+{
+    acts.put_where(base, code, false);
+    acts.settle();
+    mark_listed(acts, base, vetted, room);
+    acts.put_where(base, code, true);
+}
+
+/// Sets the marks of a chunk's span from a list: in an array if they are at most `SMALL`, otherwise in the room for them.
 fn mark_listed<A: Acts>(acts: &mut A, base: u32, vetted: &Vetted, room: Vec<Mark>)
     requires room { (room.items ≡ []) × (512 < length vetted.now.code → length vetted.now.code ≤ vec_capacity room) }
     requires whole { IsText (A.marked acts.old) }

@@ -24,9 +24,7 @@ pub(crate) fn put_stops<A: Acts>(acts: &mut A, base: u32, len: u32) -> u64
     ensures keeper { A.keeper acts.new ≡ record (A.keeper acts.old) { numbers = generation_raised (A.keeper acts.old).numbers } }
     ensures log { Logs (A.logged acts.old) (A.logged acts.new) (log_of_delete (A.marked acts.old).marks base len) }
 {
-    acts.stop_where(base, len, true);
-    acts.settle();
-    acts.stop_where(base, len, false);
+    acts.stop_span(base, len);
     match acts.bump() {
         Ok(stamp) => stamp,
         Err(_) => unreachable!(),

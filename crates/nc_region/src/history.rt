@@ -32,11 +32,10 @@ unsafe impl Sync for History {}
 pub enum Note<'a> {
     /// One entry.
     One(Entry),
-    /// The puts of a span's bytes, in ascending order. If the flag is true they are those at bundle starts, otherwise the others.
-    Puts(u32, &'a [u8], bool),
-    /// The puts of F4 in a span of this length, in ascending order. If the flag is true they are at the places that this text marks,
-    /// otherwise at the others.
-    Stops(u32, u32, bool, &'a Text),
+    /// The entries of a creation of this code at this base.
+    Creation(u32, &'a [u8]),
+    /// The entries of the stops over a span of this length, whose marks are those of this text.
+    Stops(u32, u32, &'a Text),
 }
 
 impl History {

@@ -118,15 +118,11 @@ impl<G: GensRef + Drop> Acts for PlainOf<G> {
             .note(&Note::One(Entry::Did(Act::Put(at, byte))));
     }
 
-    fn put_where(&mut self, at: u32, code: &[u8], at_starts: bool) {
-        self.text.put_where(at, code, at_starts);
-        self.history.note(&Note::Puts(at, code, at_starts));
-    }
-
-    fn stop_where(&mut self, at: u32, len: u32, at_marked: bool) {
-        self.text.stop_where(at, len, at_marked);
-        self.history
-            .note(&Note::Stops(at, len, at_marked, &self.text));
+    fn stop_span(&mut self, at: u32, len: u32) {
+        // Called for its postconditions.
+        let _facts = self.text.limit();
+        self.text.stop_span(at, len);
+        self.history.note(&Note::Stops(at, len, &self.text));
     }
 
     fn settle(&mut self) {
@@ -140,9 +136,11 @@ impl<G: GensRef + Drop> Acts for PlainOf<G> {
         self.history.note(&Note::One(Entry::Did(Act::MarkSpan(at, marks.len() as u32))));
     }
 
-    fn mark_bundles(&mut self, at: u32, code: &[u8], bundles: &[Bundle]) -> bool {
-        self.text.mark_bundles(at, code, bundles);
-        self.history.note(&Note::One(Entry::Did(Act::MarkSpan(at, code.len() as u32))));
+    fn put_bundles(&mut self, at: u32, code: &[u8], bundles: &[Bundle]) -> bool {
+        // Called for its postconditions.
+        let _facts = self.text.limit();
+        self.text.put_bundles(at, code, bundles);
+        self.history.note(&Note::Creation(at, code));
         true
     }
 

@@ -144,34 +144,6 @@ impl<A: Acts + Drop> Acts for Recorder<A> {
         self.record(Entry::Did(Act::MarkSpan(at, marks.len() as u32)));
     }
 
-    fn mark_bundles(&mut self, at: u32, code: &[u8], bundles: &[Bundle]) -> bool
-        requires inside { SpanInRegion (A.marked self.old.acts).bytes at (length code.now) }
-        requires start { IsBundleStart at }
-        requires whole { length code.now % 32 ≡ 0 }
-        requires ready { AreReady (A.made self.old.acts) at (length code.now) }
-        requires keeps { KeepsMarks (A.marked self.old.acts).marks
-            (with_marks (A.marked self.old.acts) at (marks_in code.now bundles.now)).marks }
-        requires closed { IsClosed (A.marked self.old.acts).bytes
-            (with_marks (A.marked self.old.acts) at (marks_in code.now bundles.now)).marks }
-        ensures marked { IsTrue result
-            → A.marked self.new.acts ≡ with_marks (A.marked self.old.acts) at (marks_in code.now bundles.now) }
-        ensures logged { IsTrue result → Logs self.old.history.entries self.new.history.entries (Entry.Did (Act.MarkSpan at (length code.now)) ∷ []) }
-        ensures goes_on { IsTrue result → (self.new.full ≡ false) ↔ ((self.old.full ≡ false)
-            × (vec_len self.old.entries < vec_capacity self.old.entries)) }
-        ensures unchanged { result ≡ false → (A.marked self.new.acts ≡ A.marked self.old.acts)
-            × (self.new.full ≡ self.old.full) × (self.new.entries.items ≡ self.old.entries.items)
-            × (self.new.history.entries ≡ self.old.history.entries) }
-        ensures made { A.made self.new.acts ≡ A.made self.old.acts }
-        ensures whole { IsText (A.marked self.new.acts) }
-        ensures keeper { A.keeper self.new.acts ≡ A.keeper self.old.acts }
-    {
-        let done = self.acts.mark_bundles(at, code, bundles);
-        if done {
-            self.record(Entry::Did(Act::MarkSpan(at, code.len() as u32)));
-        }
-        done
-    }
-
     fn unmark_span(&mut self, at: u32, len: u32)
         requires inside { SpanInRegion (A.marked self.old.acts).bytes at len }
         requires stops { AreStops (A.marked self.old.acts).bytes at len }

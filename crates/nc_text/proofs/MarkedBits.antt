@@ -5,10 +5,8 @@ use Rattle.std.specs.Int.{bit_at}
 use Rattle.std.proofs.lemmas.Bool.{cases_eq}
 use Rattle.std.proofs.lemmas.Bool.Decides.{nat_tests}
 use Rattle.std.proofs.lemmas.Nat.Bits.{bit_at-pow_other}
-use Rattle.nc_decode.specs.declared.instruction.Mark.{Mark}
 use Rattle.nc_decode.specs.declared.instruction.Mark.TheVariants.{Unmarked, Plain, After}
 use Rattle.nc_text.specs.Marks.{mark_bit}
-use Rattle.nc_text.specs.Puts.{is_mark}
 use Rattle.nc_text.specs.MarkedText.{unused_mark}
 
 -- a place is marked if it is plain or a second half
@@ -35,9 +33,3 @@ unused_bit k lt = elim (cases_eq k 0) [
 -- the places of a bundle, from its start on
 pub unused_from : (at k : ℕ) → at % 32 ≡ 0 → unused_mark (at + k) ≡ unused_mark k
 unused_from at k start = let e : (at + k) % 32 ≡ k % 32 = omega (arith, start) in grind (arith, nat_tests, e)
-
--- a place has a bit if its mark stands for some state
-pub marked_if_bit : (mark : Mark) → (mark_bit mark == 1) ≡ is_mark mark
-marked_if_bit Unmarked = refl
-marked_if_bit Plain = refl
-marked_if_bit (After register) = refl

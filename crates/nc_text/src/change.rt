@@ -1,9 +1,8 @@
 //! Changes of the bytes or of the marks of whole bundles.
 
-ghost use Rattle.std.specs.Prelude.{◌≡◌, ℕ, ◌+◌, ◌%◌, ◌^◌, ◌<◌, ◌≤◌, ◌⊎◌, if◌then◌else◌, length, slice_index};
+ghost use Rattle.std.specs.Prelude.{◌≡◌, ℕ, ◌+◌, ◌%◌, ◌^◌, ◌<◌, ◌≤◌, ◌⊎◌, length, slice_index};
 ghost use Rattle.nc_decode.specs.Bits.{mark_by_bits};
 ghost use Rattle.nc_decode.specs.declared.instruction.Mark.{Mark};
-ghost use Rattle.nc_text.specs.Puts.{starts_if, is_mark};
 ghost use Rattle.nc_text.specs.machinery.Pages.{byte_on, mark_on};
 
 use crate::page::Page;
@@ -39,45 +38,40 @@ pub(crate) trait Change {
         ensures other_marks { (k : ℕ) → (k < at) ⊎ (at + len ≤ k) → mark_on page.new k ≡ mark_on page.old k };
 }
 
-/// Puts the bytes of code that are at bundle starts, or those that aren't.
+/// Puts the bytes of code, and sets their marks by the bits of its bundles.
 #[derive(Drop)]
-pub(crate) struct Puts<'a> {
+pub(crate) struct PutBundles<'a> {
     pub(crate) code: &'a [u8],
-    pub(crate) at_starts: bool,
+    pub(crate) bundles: &'a [Bundle],
 }
 
-impl Change for Puts<'_> {
+impl Change for PutBundles<'_> {
     ghost size = { λ p. length p.code.now };
 
-    ghost byte = { λ p k mark old. if starts_if p.at_starts k then slice_index p.code.now k else old };
+    ghost byte = { λ p k mark old. slice_index p.code.now k };
 
-    ghost mark = { λ p k mark. mark };
+    ghost mark = { λ p k mark. mark_by_bits p.code.now p.bundles.now k };
 
     fn size(&self) -> usize {
         self.code.len()
     }
 
     fn make(&self, page: &mut Page, at: usize, from: usize, len: usize) {
-        let code = &self.code[from..from + len];
-        if self.at_starts {
-            page.put_starts(at, code);
-        } else {
-            page.put_inside(at, code);
-        }
+        page.put_span(at, &self.code[from..from + len]);
+        page.set_bundles(at, self.code, self.bundles, from, len);
     }
 }
 
-/// Puts stops at the marked places of a span, or at all of its places.
+/// Puts stops at all places of a span.
 #[derive(Drop)]
 pub(crate) struct Stops {
     pub(crate) len: usize,
-    pub(crate) only_marked: bool,
 }
 
 impl Change for Stops {
     ghost size = { λ s. s.len };
 
-    ghost byte = { λ s k mark old. if s.only_marked then (if is_mark mark then 0xF4 else old) else 0xF4 };
+    ghost byte = { λ s k mark old. 0xF4 };
 
     ghost mark = { λ s k mark. mark };
 
@@ -86,33 +80,6 @@ impl Change for Stops {
     }
 
     fn make(&self, page: &mut Page, at: usize, _from: usize, len: usize) {
-        if self.only_marked {
-            page.stop_marked(at, len);
-        } else {
-            page.stop(at, len);
-        }
-    }
-}
-
-/// Sets the marks of code, by the bits of its bundles.
-#[derive(Drop)]
-pub(crate) struct MarkBundles<'a> {
-    pub(crate) code: &'a [u8],
-    pub(crate) bundles: &'a [Bundle],
-}
-
-impl Change for MarkBundles<'_> {
-    ghost size = { λ s. length s.code.now };
-
-    ghost byte = { λ s k mark old. old };
-
-    ghost mark = { λ s k mark. mark_by_bits s.code.now s.bundles.now k };
-
-    fn size(&self) -> usize {
-        self.code.len()
-    }
-
-    fn make(&self, page: &mut Page, at: usize, from: usize, len: usize) {
-        page.set_bundles(at, self.code, self.bundles, from, len);
+        page.stop(at, len);
     }
 }

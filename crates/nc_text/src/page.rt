@@ -1,7 +1,6 @@
 //! One page of a text.
 
 use crate::masks::Masks;
-use crate::places::with_stops;
 use nc_decode::{Bundle, Mark, bundle_at};
 
 /// The byte of the instruction hlt, with which all unused text is filled.
@@ -30,7 +29,6 @@ impl Page {
     ghost use Rattle.nc_decode.specs.declared.instruction.Mark.TheVariants.{Unmarked};
     ghost use Rattle.std.specs.Int.{bit_at};
     ghost use Rattle.nc_text.specs.Marks.{mark_bit};
-    ghost use Rattle.nc_text.specs.Puts.{is_start, is_mark};
     ghost use Rattle.nc_text.specs.machinery.Pages.{byte_on, mark_on};
     ghost use Rattle.nc_text.specs.machinery.Masks.{mark_in};
     ghost use Rattle.nc_text.specs.MarkedText.{unused_mark, NamesRegister};
@@ -95,70 +93,14 @@ impl Page {
         self.bytes[at] = byte;
     }
 
-    /// Puts the bytes of whole bundles that aren't at bundle starts. A bundle is stored whole, and then the byte that was at its start
-    /// is put back. The 31 others alone would take five stores.
-    pub(crate) fn put_inside(&mut self, at: usize, code: &[u8])
+    /// Puts the bytes of a span.
+    pub(crate) fn put_span(&mut self, at: usize, code: &[u8])
         requires inside { at + length code.now ≤ 4096 }
-        requires start { at % 32 ≡ 0 }
-        requires whole { length code.now % 32 ≡ 0 }
-        ensures within { (k : ℕ) → k < length code.now
-            → byte_on self.new (at + k) ≡ (if is_start (at + k) then byte_on self.old (at + k) else slice_index code.now k) }
+        ensures within { (k : ℕ) → k < length code.now → byte_on self.new (at + k) ≡ slice_index code.now k }
         ensures others { (k : ℕ) → (k < at) ⊎ (at + length code.now ≤ k) → byte_on self.new k ≡ byte_on self.old k }
         ensures marks { (k : ℕ) → mark_on self.new k ≡ mark_on self.old k }
     {
-        for n in 0..code.len() / BUNDLE {
-            let from = BUNDLE * n;
-            let start = at + from;
-            let first = self.bytes[start];
-            self.bytes[start..start + BUNDLE].copy_from_slice(&code[from..from + BUNDLE]);
-            self.bytes[start] = first;
-        }
-    }
-
-    /// Puts the bytes of whole bundles that are at bundle starts.
-    pub(crate) fn put_starts(&mut self, at: usize, code: &[u8])
-        requires inside { at + length code.now ≤ 4096 }
-        requires start { at % 32 ≡ 0 }
-        requires whole { length code.now % 32 ≡ 0 }
-        ensures within { (k : ℕ) → k < length code.now
-            → byte_on self.new (at + k) ≡ (if is_start (at + k) then slice_index code.now k else byte_on self.old (at + k)) }
-        ensures others { (k : ℕ) → (k < at) ⊎ (at + length code.now ≤ k) → byte_on self.new k ≡ byte_on self.old k }
-        ensures marks { (k : ℕ) → mark_on self.new k ≡ mark_on self.old k }
-    {
-        for n in 0..code.len() / BUNDLE {
-            self.bytes[at + BUNDLE * n] = code[BUNDLE * n];
-        }
-    }
-
-    /// Puts the bytes of a bundle. They are passed by value. The compiler couldn't know that a slice lies outside the page, and would
-    /// test for an overlap.
-    #[inline(always)]
-    fn put_bundle(&mut self, at: usize, bytes: [u8; BUNDLE])
-        requires inside { at + 32 ≤ 4096 }
-        ensures within { (k : ℕ) → k < 32 → byte_on self.new (at + k) ≡ slice_index bytes k }
-        ensures others { (k : ℕ) → (k < at) ⊎ (at + 32 ≤ k) → byte_on self.new k ≡ byte_on self.old k }
-        ensures masks { self.new.masks ≡ self.old.masks }
-    {
-        for k in 0..BUNDLE {
-            self.bytes[at + k] = bytes[k];
-        }
-    }
-
-    /// Puts stops at the marked places of whole bundles.
-    pub(crate) fn stop_marked(&mut self, at: usize, len: usize)
-        requires inside { at + len ≤ 4096 }
-        requires start { at % 32 ≡ 0 }
-        requires whole { len % 32 ≡ 0 }
-        ensures within { (k : ℕ) → k < len
-            → byte_on self.new (at + k) ≡ (if is_mark (mark_on self.old (at + k)) then 0xF4 else byte_on self.old (at + k)) }
-        ensures others { (k : ℕ) → (k < at) ⊎ (at + len ≤ k) → byte_on self.new k ≡ byte_on self.old k }
-        ensures marks { (k : ℕ) → mark_on self.new k ≡ mark_on self.old k }
-    {
-        for n in 0..len / BUNDLE {
-            let start = at + BUNDLE * n;
-            let stopped = with_stops(self.read_run(start, BUNDLE), self.marked(start));
-            self.put_bundle(start, stopped);
-        }
+        self.bytes[at..at + code.len()].copy_from_slice(code);
     }
 
     /// Puts stops at all places of a span.

@@ -7,12 +7,11 @@ ghost use Rattle.nc_decode.specs.Bundles.{IsBundleStart, IsLawfulLimit};
 ghost use Rattle.nc_decode.specs.Bits.{marks_in};
 ghost use Rattle.nc_text.specs.Marks.{IsClosed, mark_at, mark_bit};
 ghost use Rattle.nc_text.specs.Places.{InRegion, SpanInRegion, byte_at, limit_of};
-ghost use Rattle.nc_text.specs.MarkedText.{MarkedText, IsText, with_byte, with_marks, without_marks, unused_text, NamesRegister};
+ghost use Rattle.nc_text.specs.MarkedText.{MarkedText, IsText, with_byte, with_chunk, with_stops, with_marks, without_marks, unused_text, NamesRegister};
 ghost use Rattle.nc_text.specs.MarkedText.{KeepsMarks, AreStops};
-ghost use Rattle.nc_text.specs.Puts.{HasPut, starts_if, marked_if, is_marked_at};
 ghost use Rattle.nc_text.specs.Ready.{TextState, IsReady, AreReady, GetsReady, unmade_pages};
 
-use crate::change::{MarkBundles, Puts, Stops};
+use crate::change::{PutBundles, Stops};
 use crate::page::{PAGE, Page};
 use crate::table;
 use nc_decode::{Bundle, MAX_BUNDLES, Mark, START};
@@ -186,21 +185,21 @@ impl Text {
         table::put(&mut self.pages, (at - START) as usize, byte);
     }
 
-    /// Puts the bytes of a span that are at bundle starts, or those that aren't. The span consists of whole bundles from a bundle start
-    /// on. No mark and no other byte changes. An empty span changes nothing, wherever `at` is.
+    /// Puts the bytes of code, and sets their marks by the bits of its bundles, as vetting finds them. The span consists of whole
+    /// bundles from a bundle start on; a bundle without bits has only its start marked. No other byte and no other mark changes. An
+    /// empty span changes nothing, wherever `at` is.
     ///
-    /// It has the effect of a `put` of each of these bytes in ascending order, but finds each page only once, and may store several
-    /// bytes at once and in any order. So it isn't for memory that threads execute. The conditions are that the span is in the
-    /// region, that its places are ready, and that the text is closed under the same marks after each byte.
-    pub fn put_where(&mut self, at: u32, code: &[u8], at_starts: bool)
+    /// It finds each page only once, and may store several bytes at once and in any order. So it isn't for memory that threads
+    /// execute. The conditions are those of `put` and of `mark_span`, on the text that it leaves.
+    pub fn put_bundles(&mut self, at: u32, code: &[u8], bundles: &[Bundle])
         requires inside { SpanInRegion self.old.marked.bytes at (length code.now) }
         requires start { IsBundleStart at }
         requires whole { length code.now % 32 ≡ 0 }
         requires ready { AreReady self.old.made at (length code.now) }
-        requires closed { (count : ℕ) (now : List ℕ) → count ≤ length code.now
-            → HasPut (starts_if at_starts) at code.now count self.old.marked.bytes now → IsClosed now self.old.marked.marks }
-        ensures bytes { HasPut (starts_if at_starts) at code.now (length code.now) self.old.marked.bytes self.new.marked.bytes }
-        ensures marks { self.new.marked.marks ≡ self.old.marked.marks }
+        requires keeps { KeepsMarks self.old.marked.marks (with_chunk self.old.marked at code.now (marks_in code.now bundles.now)).marks }
+        requires closed { IsClosed (with_chunk self.old.marked at code.now (marks_in code.now bundles.now)).bytes
+            (with_chunk self.old.marked at code.now (marks_in code.now bundles.now)).marks }
+        ensures marked { self.new.marked ≡ with_chunk self.old.marked at code.now (marks_in code.now bundles.now) }
         ensures made { self.new.made ≡ self.old.made }
         ensures whole { IsText self.new.marked }
     {
@@ -209,25 +208,19 @@ impl Text {
         if code.is_empty() {
             return;
         }
-        let puts = Puts { code, at_starts };
+        let puts = PutBundles { code, bundles };
         table::change(&mut self.pages, (at - START) as usize, &puts);
     }
 
-    /// Puts F4 at the marked places of a span of `len` bytes, or at those that aren't marked, under the conditions of `put_where` and
-    /// like it. It puts F4 at unmarked places only once the marked places of the span have it.
-    pub fn stop_where(&mut self, at: u32, len: u32, at_marked: bool)
+    /// Puts F4 at every place of a span of `len` bytes, which consists of whole bundles from a bundle start on. No other byte and no
+    /// mark changes. An empty span changes nothing, wherever `at` is. It works as `put_bundles` does, under the same conditions.
+    pub fn stop_span(&mut self, at: u32, len: u32)
         requires inside { SpanInRegion self.old.marked.bytes at len }
         requires start { IsBundleStart at }
         requires whole { len % 32 ≡ 0 }
         requires ready { AreReady self.old.made at len }
-        requires stopped { at_marked ≡ false → (k : ℕ) → at ≤ k → k < at + len → is_marked_at self.old.marked.marks k ≡ true
-            → byte_at self.old.marked.bytes k ≡ 0xF4 }
-        requires closed { (count : ℕ) (now : List ℕ) → count ≤ len
-            → HasPut (marked_if at_marked self.old.marked.marks) at (replicate len 0xF4) count self.old.marked.bytes now
-            → IsClosed now self.old.marked.marks }
-        ensures bytes { HasPut (marked_if at_marked self.old.marked.marks) at (replicate len 0xF4) len self.old.marked.bytes
-            self.new.marked.bytes }
-        ensures marks { self.new.marked.marks ≡ self.old.marked.marks }
+        requires closed { IsClosed (with_stops self.old.marked at len).bytes self.old.marked.marks }
+        ensures marked { self.new.marked ≡ with_stops self.old.marked at len }
         ensures made { self.new.made ≡ self.old.made }
         ensures whole { IsText self.new.marked }
     {
@@ -236,10 +229,7 @@ impl Text {
         if len == 0 {
             return;
         }
-        let stops = Stops {
-            len: len as usize,
-            only_marked: at_marked,
-        };
+        let stops = Stops { len: len as usize };
         table::change(&mut self.pages, (at - START) as usize, &stops);
     }
 
@@ -265,29 +255,6 @@ impl Text {
             return;
         }
         table::set_span(&mut self.pages, (at - START) as usize, marks);
-    }
-
-    /// Sets the marks of the span that begins at `at` and is as long as `code`, by the bits of its bundles, as vetting finds
-    /// them. It has the effect of `mark_span` with the list of these marks, under the same conditions, but needs no list. The
-    /// span consists of whole bundles from a bundle start on; a bundle without bits has only its start marked.
-    pub fn mark_bundles(&mut self, at: u32, code: &[u8], bundles: &[Bundle])
-        requires inside { SpanInRegion self.old.marked.bytes at (length code.now) }
-        requires start { IsBundleStart at }
-        requires whole { length code.now % 32 ≡ 0 }
-        requires ready { AreReady self.old.made at (length code.now) }
-        requires keeps { KeepsMarks self.old.marked.marks (with_marks self.old.marked at (marks_in code.now bundles.now)).marks }
-        requires closed { IsClosed self.old.marked.bytes (with_marks self.old.marked at (marks_in code.now bundles.now)).marks }
-        ensures marked { self.new.marked ≡ with_marks self.old.marked at (marks_in code.now bundles.now) }
-        ensures made { self.new.made ≡ self.old.made }
-        ensures whole { IsText self.new.marked }
-    {
-        // Names a field, so that the early return is checked against the fields and not the whole.
-        let _open = &self.pages;
-        if code.is_empty() {
-            return;
-        }
-        let marks = MarkBundles { code, bundles };
-        table::change(&mut self.pages, (at - START) as usize, &marks);
     }
 
     /// Makes every place except bundle starts `Unmarked` in the span of `len` bytes from `at` on. No byte changes, and no mark

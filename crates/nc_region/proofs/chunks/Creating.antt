@@ -11,7 +11,8 @@ use Rattle.nc_text.specs.MarkedText.{MarkedText, with_span}
 use Rattle.nc_text.proofs.Offered.{closed_with_stops, length-with_span}
 use Rattle.nc_region.specs.Acts.{is_inside, is_start}
 use Rattle.nc_region.specs.Chunks.{HasGoodSpan}
-use Rattle.nc_region.specs.machinery.Between.{IsUnused, HasPut, IsFinalBut}
+use Rattle.nc_region.specs.machinery.Between.{HasPut, IsFinalBut}
+use Rattle.nc_region.specs.Chunks.{IsUnused}
 use Rattle.nc_region.proofs.SpanPlaces.{Before, Within, Behind, place_of, unused_is_start, is_inside_false, is_inside_true, is_start_true, is_start_false, start_or_not}
 use Rattle.nc_region.proofs.SpanPlaces.{span_within, span_before, span_behind, before_span}
 

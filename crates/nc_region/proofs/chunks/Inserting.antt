@@ -14,7 +14,7 @@ use Rattle.nc_vet.specs.Chunk as vet
 use Rattle.nc_list.specs.declared.chunk.Chunk.{Chunk}
 use Rattle.nc_list.proofs.Offered.{each_map, each_both, each_take, each_drop, each_append, each_split}
 use Rattle.nc_region.specs.Chunks.{HasGoodSpan, IsClosedChunk, with_chunk}
-use Rattle.nc_region.specs.machinery.Between.{IsUnused}
+use Rattle.nc_region.specs.Chunks.{IsUnused}
 use Rattle.nc_region.specs.Each.{Each}
 use Rattle.nc_region.specs.Region.{IsNew, IsLive, IsInChunk, IsRising, HoldsValid, IsRegion, IsAboveAll, IsBelowAll}
 use Rattle.nc_region.proofs.SpanPlaces.{place_of, Before, Within, Behind, span_before, span_within, span_behind}

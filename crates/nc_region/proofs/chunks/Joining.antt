@@ -10,7 +10,7 @@ use Rattle.nc_text.specs.Marks.{IsMarked, IsClosed, mark_at, Admits}
 use Rattle.nc_text.specs.MarkedText.{MarkedText, unused_mark, unused_text, StaysOrPlain, KeepsMarks}
 use Rattle.nc_text.proofs.Offered.{Borrows, closed_by_parts, length-with_span, marked_within, plain_is_marked}
 use Rattle.nc_region.specs.Chunks.{IsClosedChunk, with_chunk}
-use Rattle.nc_region.specs.machinery.Between.{IsUnused}
+use Rattle.nc_region.specs.Chunks.{IsUnused}
 use Rattle.nc_region.proofs.chunks.Alone.{alone, alone_fits_bytes, alone_within, alone_before, alone_behind, alone_bytes_long, alone_marks_long}
 use Rattle.nc_region.proofs.SpanPlaces.{Before, Within, Behind, place_of, unused_is_start, start_or_not, unused_at_start, span_within}
 use Rattle.nc_region.proofs.SpanPlaces.{span_before, span_behind, before_span, within_span}

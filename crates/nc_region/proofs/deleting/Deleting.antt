@@ -6,7 +6,7 @@ use Rattle.nc_decode.specs.declared.instruction.Mark.{Mark}
 use Rattle.nc_decode.specs.declared.instruction.Mark.TheVariants.{Unmarked, Plain, After}
 use Rattle.nc_text.specs.Places.{limit_of, byte_at}
 use Rattle.nc_text.specs.Marks.{IsClosed, mark_at, Admits}
-use Rattle.nc_text.specs.MarkedText.{MarkedText, with_span}
+use Rattle.nc_text.specs.MarkedText.{MarkedText, with_span, with_stops}
 use Rattle.nc_text.proofs.Offered.{closed_with_stops, length-with_span}
 use Rattle.nc_region.specs.Acts.{is_mark, is_marked_at, is_unmarked_at}
 use Rattle.nc_region.specs.Chunks.{HasGoodSpan}
@@ -49,6 +49,24 @@ others_closed old now base len count placed le closed stopped puts =
           let is = admits_is_mark (mark_at old.marks s.place) s.masked m.1 in
           inl (puts.passed s.place a (ap not is) ∙ stopped s.place a b is)
       | Behind p ↦ inr (λ i is fits k lt. puts.above (s.place + k) (omega arith))
+    ])
+
+-- with all of them put it is closed
+pub stops_closed : (old : MarkedText) (base len : ℕ) → HasGoodSpan base (limit_of old.bytes) len → IsClosed old.bytes old.marks
+    → IsClosed (with_stops old base len).bytes old.marks
+stops_closed old base len placed closed =
+    let n = length-replicate {A = ℕ} len 244 in
+    let fits : base + length (replicate {A = ℕ} len 244) ≤ 65536 + length old.bytes = omega (arith, n, placed.high) in
+    closed_with_stops old.bytes (with_stops old base len).bytes old.marks closed
+    (length-with_span old.bytes (base - 65536) (replicate len 244) (omega (arith, n, placed.high, placed.low))) (λ s m.
+    elim (place_of base len s.place) [
+      | Before l ↦ inr (λ i is fits_one k lt.
+          span_before old.bytes base (replicate len 244) (s.place + k) 0 placed.low fits (omega (arith, m.0))
+          (before_span s.place i.len k base fits_one lt placed.start l))
+      | Within a b ↦ inl (span_within old.bytes base (replicate len 244) s.place 0 placed.low fits a (omega (arith, n, b))
+          ∙ stop_byte base len s.place a b)
+      | Behind p ↦ inr (λ i is fits_one k lt.
+          span_behind old.bytes base (replicate len 244) (s.place + k) 0 placed.low fits (omega (arith, n, p)))
     ])
 
 -- by either of the two a stop stands there

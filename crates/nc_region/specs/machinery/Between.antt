@@ -3,17 +3,12 @@ use Rattle.std.specs.Prelude.{◌≡◌, ◌≢◌, ℕ, ◌+◌, ◌%◌, ◌<�
 use Rattle.nc_decode.specs.Bundles.{IsBundleStart}
 use Rattle.nc_text.specs.Places.{byte_at, limit_of}
 use Rattle.nc_text.specs.Marks.{mark_at}
-pub use Rattle.nc_text.specs.Puts.{HasPut}
+pub use Rattle.nc_region.specs.Puts.{HasPut}
 use Rattle.nc_text.specs.Ready.{AreReady}
 use Rattle.nc_text.specs.MarkedText.{MarkedText, unused_mark}
 use Rattle.nc_vet.specs.Chunk.{MarkedChunk, IsValid}
 use Rattle.nc_list.specs.declared.chunk.Chunk.{Chunk}
 use Rattle.nc_region.specs.Region.{Meets, IsInserted, live_chunk}
-
--- the span is unused: all F4, with only bundle starts marked
-pub record IsUnused (marked : MarkedText) (base length : ℕ) : Type 0 where
-  pub stops : (at : ℕ) → base ≤ at → at < base + length → byte_at marked.bytes at ≡ 0xF4
-  pub unused : (at : ℕ) → base ≤ at → at < base + length → mark_at marked.marks at ≡ unused_mark at
 
 -- The text is the final one, except that the bundle starts from `from` to below `to` hold F4.
 pub record IsFinalBut (final now : List ℕ) (from to : ℕ) : Type 0 where

@@ -30,7 +30,7 @@ const LIMIT: u32 = 0x10280;
 #[rattlefmt::skip]
 static FRONT: [u8; 10] = [0x83, 0xE1, 0xE0, 0xFF, 0xE1, 0xB8, 1, 0, 0, 0];
 
-/// Acts that take no bits, so a creation's marks come as a list: `mark_bundles` is the trait's.
+/// Acts that take no bits, so a creation's marks come as a list: `put_bundles` is the trait's.
 #[derive(Drop)]
 struct Listing<A: Acts + Drop> {
     acts: A,

@@ -1,111 +1,51 @@
-use Rattle.std.proofs.Common.{◌≡◌, ap, ℕ, ◌+◌, ◌-◌, List, [], ◌∷◌, length, arith, sym, subst, ◌∙◌}
-use Rattle.nc_decode.specs.declared.instruction.Mark.{Mark}
-use Rattle.nc_text.specs.Marks.{IsClosed}
-use Rattle.nc_text.specs.Places.{limit_of}
-use Rattle.nc_text.specs.MarkedText.{MarkedText, IsText, with_span, KeepsMarks}
-use Rattle.nc_region.specs.declared.acts.Act.TheVariants.{MarkSpan}
-use Rattle.nc_region.specs.declared.acts.Entry.TheVariants.{Did, Settled}
-use Rattle.nc_region.specs.Chunks.{IsClosedChunk, with_chunk}
-use Rattle.nc_region.specs.machinery.Between.{IsUnused, IsFinalBut}
-use Rattle.nc_region.proofs.telling.Logged.{logs_more}
-use Rattle.nc_region.proofs.chunks.Joining.{Joins, chunk_joins, chunk_keeps}
-use Rattle.nc_region.proofs.chunks.Creating.{inside_closed, final_but_closed, final_but_starts, final_all, starts_final, same_code}
-use Rattle.nc_region.proofs.create.put_chunk.Given.{Over}
-use Rattle.nc_region.proofs.create.put_chunk.Goals.{After-put_where, After-mark_chunk, After-put_where-2}
+use Rattle.std.proofs.Common.{◌≡◌, true, false, ◌∙◌, refl}
 use Rattle.nc_region.proofs.create.put_chunk.Goals as goal
 
-joins : (marked : MarkedText) (base : ℕ) (bytes : List ℕ) (marks : List Mark) → IsText marked
-    → IsClosedChunk base (limit_of marked.bytes) bytes marks → IsUnused marked base (length bytes) → Joins marked base bytes marks
-joins marked base bytes marks whole chunk unused =
-    record { closed = whole.closed; as_long = whole.as_long; chunk = chunk; unused = unused }
+pub put_by_bits-requires : goal.put_by_bits-requires
+put_by_bits-requires g c =
+    record {
+      whole = c.requires.whole;
+      code = c.requires.code;
+      chunk = c.requires.chunk;
+      unused = c.requires.unused;
+      ready = c.requires.ready;
+    }
 
-pub put_where-requires-clause-inside : goal.put_where-requires-clause-inside
-put_where-requires-clause-inside g c = λ k lt.
-    let placed = c.requires.chunk.placed in
-    (omega (arith, placed.low), omega (arith, placed.high, lt))
+pub returns-then-put_by_bits : goal.returns-then-put_by_bits
+returns-then-put_by_bits g c =
+    let yes : c.put_by_bits.result ≡ true = c.if-put_by_bits.true in
+    let done = c.put_by_bits.ensures in
+    record {
+      marked = done.marked yes;
+      whole = done.whole;
+      made = done.made;
+      keeper = done.keeper;
+      log = done.log yes;
+    }
 
-pub put_where-requires-clause-closed : goal.put_where-requires-clause-closed
-put_where-requires-clause-closed g c = λ count now few puts.
-    inside_closed (g.A.Acts.marked c.args.acts.now) now c.args.base c.args.code.now count c.requires.chunk.placed few
-    c.requires.whole.closed c.requires.unused puts
+pub put_listed-requires : goal.put_listed-requires
+put_listed-requires g c =
+    let no : c.put_by_bits.result ≡ false = c.if-put_by_bits.false in
+    let same = c.put_by_bits.ensures.unchanged no in
+    record {
+      whole = c.put_by_bits.ensures.whole;
+      code = c.requires.code;
+      room = c.requires.room;
+      chunk = rw same.0 c.requires.chunk;
+      registers = c.requires.registers;
+      unused = rw same.0 c.requires.unused;
+      ready = rw c.put_by_bits.ensures.made c.requires.ready;
+    }
 
--- the text is the final one, but for stops at bundle starts
-almost : (g : Over) (c : After-put_where g) → IsFinalBut (with_span (g.A.Acts.marked c.args.acts.now).bytes (c.args.base - 65536) c.args.code.now)
-    (g.A.Acts.marked c.put_where.new.self).bytes c.args.base (c.args.base + length c.args.code.now)
-almost g c =
-    final_but_starts (g.A.Acts.marked c.args.acts.now) (g.A.Acts.marked c.put_where.new.self).bytes c.args.base c.args.code.now
-    c.requires.chunk.placed c.requires.unused c.put_where.ensures.bytes
-
--- the bytes and marks before the bundle starts are put
-bytes_then : (g : Over) (c : After-mark_chunk g) → (g.A.Acts.marked c.mark_chunk.new.acts).bytes ≡ (g.A.Acts.marked c.put_where.new.self).bytes
-bytes_then g c =
-    ap (λ (m : MarkedText). m.bytes) c.mark_chunk.ensures.marked ∙ ap (λ (m : MarkedText). m.bytes) c.settle.ensures.marked
-
-marks_then : (g : Over) (c : After-mark_chunk g) → (g.A.Acts.marked c.mark_chunk.new.acts).marks
-    ≡ with_span (g.A.Acts.marked c.args.acts.now).marks (c.args.base - 65536) c.args.vetted.now.marks
-marks_then g c =
-    ap (λ (m : MarkedText). m.marks) c.mark_chunk.ensures.marked
-    ∙ ap (λ (marks : List Mark). with_span marks (c.args.base - 65536) c.args.vetted.now.marks)
-    (ap (λ (m : MarkedText). m.marks) c.settle.ensures.marked ∙ c.put_where.ensures.marks)
-
-pub mark_chunk-requires-clause-ready : goal.mark_chunk-requires-clause-ready
-mark_chunk-requires-clause-ready g c = rw (c.settle.ensures.made, c.put_where.ensures.made, ← c.requires.code) c.requires.ready
-
-pub mark_chunk-requires-clause-keeps : goal.mark_chunk-requires-clause-keeps
-mark_chunk-requires-clause-keeps g c =
-    let old = g.A.Acts.marked c.args.acts.now in
-    let j = joins old c.args.base c.args.code.now c.args.vetted.now.marks c.requires.whole c.requires.chunk c.requires.unused in
-    rw c.settle.ensures.marked (subst (λ (marks : List Mark). KeepsMarks marks (with_span marks (c.args.base - 65536) c.args.vetted.now.marks))
-    (sym c.put_where.ensures.marks) (chunk_keeps old c.args.base c.args.code.now c.args.vetted.now.marks j))
-
-pub mark_chunk-requires-clause-closed : goal.mark_chunk-requires-clause-closed
-mark_chunk-requires-clause-closed g c =
-    let old = g.A.Acts.marked c.args.acts.now in
-    let now = g.A.Acts.marked c.put_where.new.self in
-    let j = joins old c.args.base c.args.code.now c.args.vetted.now.marks c.requires.whole c.requires.chunk c.requires.unused in
-    rw c.settle.ensures.marked (subst (λ (marks : List Mark). IsClosed now.bytes (with_span marks (c.args.base - 65536) c.args.vetted.now.marks))
-    (sym c.put_where.ensures.marks)
-    (final_but_closed (with_span old.bytes (c.args.base - 65536) c.args.code.now) now.bytes
-    (with_span old.marks (c.args.base - 65536) c.args.vetted.now.marks) c.args.base (c.args.base + length c.args.code.now) (omega arith)
-    (chunk_joins old c.args.base c.args.code.now c.args.vetted.now.marks j) (almost g (goal.at.mark_chunk-requires-clause-closed g c).After-put_where)))
-
-pub put_where-requires-2-clause-ready : goal.put_where-requires-2-clause-ready
-put_where-requires-2-clause-ready g c =
-    rw (c.mark_chunk.ensures.made, c.settle.ensures.made, c.put_where.ensures.made) c.requires.ready
-
-pub put_where-requires-2-clause-closed : goal.put_where-requires-2-clause-closed
-put_where-requires-2-clause-closed g c = λ count now few puts.
-    let old = g.A.Acts.marked c.args.acts.now in
-    let base = c.args.base in
-    let code = c.args.code.now in
-    let final : List ℕ = with_span old.bytes (base - 65536) code in
-    let j = joins old base code c.args.vetted.now.marks c.requires.whole c.requires.chunk c.requires.unused in
-    let here = goal.at.put_where-requires-2-clause-closed g c in
-    let before = subst (λ (bytes : List ℕ). IsFinalBut final bytes base (base + length code)) (sym (bytes_then g here.After-mark_chunk))
-    (almost g here.After-put_where) in
-    let f = starts_final old.bytes (g.A.Acts.marked c.mark_chunk.new.acts).bytes now base code count c.requires.chunk.placed.low
-    (omega (arith, c.requires.chunk.placed.high)) few before puts in
-    subst (λ (marks : List Mark). IsClosed now marks) (sym (marks_then g here.After-mark_chunk))
-    (final_but_closed final now (with_span old.marks (base - 65536) c.args.vetted.now.marks) (base + count) (base + length code)
-    (omega (arith, few)) (chunk_joins old base code c.args.vetted.now.marks j) f)
-
-pub returns-clause-marked : goal.returns-clause-marked
-returns-clause-marked g c =
-    let old = g.A.Acts.marked c.args.acts.now in
-    let base = c.args.base in
-    let code = c.args.code.now in
-    let final : List ℕ = with_span old.bytes (base - 65536) code in
-    let here = goal.at.returns-clause-marked g c in
-    let before = subst (λ (bytes : List ℕ). IsFinalBut final bytes base (base + length code)) (sym (bytes_then g here.After-mark_chunk))
-    (almost g here.After-put_where) in
-    let now = g.A.Acts.marked c.put_where-2.new.self in
-    let f = starts_final old.bytes (g.A.Acts.marked c.mark_chunk.new.acts).bytes now.bytes base code (length code)
-    c.requires.chunk.placed.low (omega (arith, c.requires.chunk.placed.high)) (omega arith) before c.put_where-2.ensures.bytes in
-    same_code now (with_chunk old base code c.args.vetted.now.marks) (final_all final now.bytes (base + length code) f)
-    (c.put_where-2.ensures.marks ∙ marks_then g here.After-mark_chunk)
-
-pub returns-clause-log : goal.returns-clause-log
-returns-clause-log g c =
-    logs_more _ _ _ _ _ c.put_where.ensures.logged (logs_more _ _ _ (Settled ∷ []) _ c.settle.ensures.logged
-    (logs_more _ _ _ (Did (MarkSpan c.args.base (length c.args.code.now)) ∷ []) _ (rw (← c.requires.code) at c.mark_chunk.ensures.logged)
-    c.put_where-2.ensures.logged))
+pub returns : goal.returns
+returns g c =
+    let no : c.put_by_bits.result ≡ false = c.if-put_by_bits.false in
+    let same = c.put_by_bits.ensures.unchanged no in
+    let done = c.put_listed.ensures in
+    record {
+      marked = done.marked ∙ rw same.0 refl;
+      whole = done.whole;
+      made = done.made ∙ c.put_by_bits.ensures.made;
+      keeper = done.keeper ∙ c.put_by_bits.ensures.keeper;
+      log = rw same.1 at done.log;
+    }

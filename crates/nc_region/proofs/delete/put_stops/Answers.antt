@@ -1,105 +1,43 @@
-use Rattle.std.proofs.Common.{true, ◌≡◌, ℕ, ◌+◌, ◌-◌, ◌<◌, ◌≤◌, ◌∙◌, List, [], ◌∷◌, replicate, arith, sym, ap, subst}
-use Rattle.std.proofs.lemmas.List.{get_or-replicate}
-use Rattle.nc_decode.specs.declared.instruction.Mark.{Mark}
+use Rattle.std.proofs.Common.{ℕ, ◌∙◌, List, [], ◌∷◌, replicate, arith, ap, subst, append_assoc}
+use Rattle.nc_region.specs.declared.acts.Entry.{Entry}
+use Rattle.nc_region.specs.Acts.{puts_where, is_marked_at, is_unmarked_at}
+use Rattle.nc_region.specs.Log.{Logs, unsettled}
 use Rattle.nc_text.specs.MarkedText.{MarkedText}
-use Rattle.nc_text.specs.Places.{limit_of, byte_at}
 use Rattle.nc_region.specs.declared.acts.Entry.TheVariants.{Did, Settled}
 use Rattle.nc_region.specs.declared.acts.Act.TheVariants.{Bump}
-use Rattle.nc_region.specs.Acts.{is_marked_at, is_unmarked_at}
-use Rattle.nc_region.specs.Chunks.{HasGoodSpan}
-use Rattle.nc_region.specs.machinery.Between.{HasPut}
 use Rattle.nc_region.proofs.telling.Logged.{logs_more}
-use Rattle.nc_region.proofs.deleting.Deleting.{marked_closed, others_closed, all_stops}
-use Rattle.nc_region.proofs.delete.put_stops.Given.{Over}
-use Rattle.nc_region.proofs.delete.put_stops.Goals.{After-settle}
 use Rattle.nc_region.proofs.delete.put_stops.Goals as goal
-
-pub stop_where-requires-clause-inside : goal.stop_where-requires-clause-inside
-stop_where-requires-clause-inside g c = λ k lt. (omega (arith, c.requires.placed.low), omega (arith, c.requires.placed.high, lt))
-
-pub stop_where-requires-clause-closed : goal.stop_where-requires-clause-closed
-stop_where-requires-clause-closed g c = λ count now few puts.
-    marked_closed (g.A.Acts.marked c.args.acts.now) now c.args.base c.args.len count c.requires.placed few c.requires.whole.closed puts
-
--- stops stand at the marked places, once the region has settled
-marked_stopped : (g : Over) (c : After-settle g) → (at : ℕ) → c.args.base ≤ at → at < c.args.base + c.args.len
-    → is_marked_at (g.A.Acts.marked c.args.acts.now).marks at ≡ true → byte_at (g.A.Acts.marked c.settle.new.self).bytes at ≡ 244
-marked_stopped g c at low high marked =
-    ap (λ (m : MarkedText). byte_at m.bytes at) c.settle.ensures.marked
-    ∙ (c.stop_where.ensures.bytes.put at low high marked
-    ∙ get_or-replicate c.args.len (at - c.args.base) 244 0 (omega (arith, low, high)))
-
--- the marks then
-marks_then : (g : Over) (c : After-settle g) → (g.A.Acts.marked c.settle.new.self).marks ≡ (g.A.Acts.marked c.args.acts.now).marks
-marks_then g c = ap (λ (m : MarkedText). m.marks) c.settle.ensures.marked ∙ c.stop_where.ensures.marks
-
--- the span then
-placed_then : (g : Over) (c : After-settle g)
-    → HasGoodSpan c.args.base (limit_of (g.A.Acts.marked c.settle.new.self).bytes) c.args.len
-placed_then g c =
-    rw c.settle.ensures.marked (subst (λ (n : ℕ). HasGoodSpan c.args.base (65536 + n) c.args.len) (sym c.stop_where.ensures.bytes.as_long)
-    c.requires.placed)
-
-pub stop_where-requires-2-clause-inside : goal.stop_where-requires-2-clause-inside
-stop_where-requires-2-clause-inside g c = λ k lt.
-    let placed = placed_then g (goal.at.stop_where-requires-2-clause-inside g c).After-settle in
-    (omega (arith, placed.low), omega (arith, placed.high, lt))
-
-pub stop_where-requires-2-clause-ready : goal.stop_where-requires-2-clause-ready
-stop_where-requires-2-clause-ready g c = rw (c.settle.ensures.made, c.stop_where.ensures.made) c.requires.ready
-
-pub stop_where-requires-2-clause-stopped : goal.stop_where-requires-2-clause-stopped
-stop_where-requires-2-clause-stopped g c = λ other at low high marked.
-    let here = (goal.at.stop_where-requires-2-clause-stopped g c).After-settle in
-    marked_stopped g here at low high (subst (λ (marks : List Mark). is_marked_at marks at ≡ true) (marks_then g here) marked)
-
-pub stop_where-requires-2-clause-closed : goal.stop_where-requires-2-clause-closed
-stop_where-requires-2-clause-closed g c = λ count now few puts.
-    let here = (goal.at.stop_where-requires-2-clause-closed g c).After-settle in
-    others_closed (g.A.Acts.marked c.settle.new.self) now c.args.base c.args.len count (placed_then g here) few c.settle.ensures.whole.closed
-    (λ at low high marked. marked_stopped g here at low high
-    (subst (λ (marks : List Mark). is_marked_at marks at ≡ true) (marks_then g here) marked)) puts
 
 pub unreachable-requires : goal.unreachable-requires
 unreachable-requires g c =
-    let full = rw (c.stop_where-2.ensures.keeper, c.settle.ensures.keeper, c.stop_where.ensures.keeper) at c.in-Err.ensures.full.0 in
+    let full = rw c.stop_span.ensures.keeper at c.in-Err.ensures.full.0 in
     omega (arith, full, c.requires.room)
 
 pub returns-clause-bytes : goal.returns-clause-bytes
 returns-clause-bytes g c =
-    let old = g.A.Acts.marked c.args.acts.now in
-    let mid = g.A.Acts.marked c.settle.new.self in
-    let now = g.A.Acts.marked c.stop_where-2.new.self in
-    let here = (goal.at.returns-clause-bytes g c).After-settle in
-    let first = subst (λ (m : MarkedText). HasPut (is_marked_at old.marks) c.args.base (replicate c.args.len 244) c.args.len old.bytes m.bytes)
-    (sym c.settle.ensures.marked) c.stop_where.ensures.bytes in
-    let second = subst (λ (marks : List Mark). HasPut (is_unmarked_at marks) c.args.base
-    (replicate c.args.len 244) c.args.len mid.bytes now.bytes) (marks_then g here) c.stop_where-2.ensures.bytes in
-    rw c.bump.ensures.marked (all_stops old.bytes mid.bytes now.bytes old.marks c.args.base c.args.len c.requires.placed.low
-    (omega (arith, c.requires.placed.high)) first second)
+    ap (λ (m : MarkedText). m.bytes) c.bump.ensures.marked ∙ ap (λ (m : MarkedText). m.bytes) c.stop_span.ensures.marked
 
 pub returns-clause-marks : goal.returns-clause-marks
 returns-clause-marks g c =
-    ap (λ (m : MarkedText). m.marks) c.bump.ensures.marked
-    ∙ (c.stop_where-2.ensures.marks ∙ marks_then g (goal.at.returns-clause-marks g c).After-settle)
+    ap (λ (m : MarkedText). m.marks) c.bump.ensures.marked ∙ ap (λ (m : MarkedText). m.marks) c.stop_span.ensures.marked
 
 pub returns-clause-whole : goal.returns-clause-whole
-returns-clause-whole g c = rw c.bump.ensures.marked c.stop_where-2.ensures.whole
+returns-clause-whole g c = rw c.bump.ensures.marked c.stop_span.ensures.whole
 
 pub returns-clause-stamp : goal.returns-clause-stamp
-returns-clause-stamp g c =
-    rw (c.stop_where-2.ensures.keeper, c.settle.ensures.keeper, c.stop_where.ensures.keeper) at c.in-Ok.ensures.stamp
+returns-clause-stamp g c = rw c.stop_span.ensures.keeper at c.in-Ok.ensures.stamp
 
 pub returns-clause-made : goal.returns-clause-made
-returns-clause-made g c =
-    c.bump.ensures.made ∙ (c.stop_where-2.ensures.made ∙ (c.settle.ensures.made ∙ c.stop_where.ensures.made))
+returns-clause-made g c = c.bump.ensures.made ∙ c.stop_span.ensures.made
 
 pub returns-clause-keeper : goal.returns-clause-keeper
-returns-clause-keeper g c =
-    rw (c.stop_where-2.ensures.keeper, c.settle.ensures.keeper, c.stop_where.ensures.keeper) at c.in-Ok.ensures.raised
+returns-clause-keeper g c = rw c.stop_span.ensures.keeper at c.in-Ok.ensures.raised
 
 pub returns-clause-log : goal.returns-clause-log
 returns-clause-log g c =
-    let second = rw (marks_then g (goal.at.returns-clause-log g c).After-settle) at c.stop_where-2.ensures.logged in
-    logs_more _ _ _ _ _ c.stop_where.ensures.logged (logs_more _ _ _ (Settled ∷ []) _ c.settle.ensures.logged
-    (logs_more _ _ _ _ (Did Bump ∷ []) second c.in-Ok.ensures.logged))
+    let marks = (g.A.Acts.marked c.args.acts.now).marks in
+    let stops = replicate {A = ℕ} c.args.len 244 in
+    subst (λ (z : List Entry). Logs (g.A.Acts.logged c.args.acts.now) (g.A.Acts.logged c.bump.new.self) z)
+    (append_assoc (unsettled (puts_where (is_marked_at marks) c.args.base stops))
+    (Settled ∷ unsettled (puts_where (is_unmarked_at marks) c.args.base stops)) (Did Bump ∷ []))
+    (logs_more _ _ _ _ (Did Bump ∷ []) c.stop_span.ensures.logged c.in-Ok.ensures.logged)

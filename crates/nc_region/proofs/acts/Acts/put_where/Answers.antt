@@ -1,7 +1,7 @@
 use Rattle.std.proofs.Common.{Bool, ◌≡◌, ℕ, ◌+◌, ◌-◌, ◌<◌, List, length, get_or, set, refl, arith, sym, subst, ◌∙◌}
 use Rattle.nc_decode.specs.declared.instruction.Mark.{Mark}
 use Rattle.nc_text.specs.Marks.{IsClosed}
-use Rattle.nc_text.specs.Puts.{HasPut}
+use Rattle.nc_region.specs.Puts.{HasPut}
 use Rattle.nc_text.specs.Ready.{IsReady}
 use Rattle.nc_region.specs.Acts.{starts_if}
 use Rattle.nc_region.proofs.telling.SoFar.{none_yet, one_put, one_passed, all_logged, start_chosen, start_passed}

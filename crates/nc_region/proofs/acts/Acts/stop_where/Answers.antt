@@ -2,7 +2,7 @@ use Rattle.std.proofs.Common.{Bool, true, ◌≡◌, ℕ, ◌+◌, ◌-◌, ◌<
 use Rattle.std.proofs.lemmas.List.{length-replicate, get_or-replicate}
 use Rattle.nc_decode.specs.declared.instruction.Mark.{Mark}
 use Rattle.nc_text.specs.Marks.{IsClosed, mark_at, mark_bit}
-use Rattle.nc_text.specs.Puts.{HasPut}
+use Rattle.nc_region.specs.Puts.{HasPut}
 use Rattle.nc_text.specs.Ready.{IsReady}
 use Rattle.nc_region.specs.Acts.{marked_if}
 use Rattle.nc_region.proofs.telling.SoFar.{none_yet, one_put, one_passed, all_logged, mark_chosen, mark_passed}

@@ -1,0 +1,12 @@
+use Rattle.std.proofs.Common.{sym, subst}
+use Rattle.nc_text.specs.Places.{limit_of}
+use Rattle.nc_region.specs.Chunks.{HasGoodSpan}
+use Rattle.nc_region.specs.Region.{PlainState}
+use Rattle.nc_region.proofs.deleting.Deleting.{stops_closed}
+use Rattle.nc_region.proofs.plain.PlainOfActs.stop_span.Goals as goal
+
+pub stop_span-requires-clause-closed : goal.stop_span-requires-clause-closed
+stop_span-requires-clause-closed g c =
+    stops_closed c.self.inside.text.marked c.args.at c.args.len
+    (subst (λ (p : PlainState). HasGoodSpan c.args.at (limit_of p.marked.bytes) c.args.len) (sym c.self.view_is) c.requires.placed)
+    c.limit-facts.ensures.whole.closed
