@@ -5,9 +5,12 @@ import re
 import sys
 
 STANDS_FOR = {("nc_decode", "specs/machinery/Reading.antt", "reading"): ("nc_decode", "specs/Front.antt", "IsExact")}
-# A definition that is only a premise, with the file whose public functions are each proved to meet it, and the clauses that say so. (The
+# Definitions that are only premises, each with the file whose public functions are proved to meet it, and the clauses that say so. (The
 # other clauses of these functions say what their bodies, of one line each, do.)
-MET_BY = {("nc_calls", "specs/Histories.antt", "IsCall"): ("nc_calls", "src/calls.rt", ("call", "refused", "logged"))}
+MET_BY = {
+    ("nc_calls", "specs/Histories.antt", "IsCall"): ("nc_calls", "src/calls.rt", ("call", "refused", "logged")),
+    ("nc_calls", "specs/Histories.antt", "IsRefusal"): ("nc_calls", "src/calls.rt", ("refused",)),
+}
 
 IMPORT = re.compile(r"^\s*(?:ghost |pub )*use Rattle\.(nc_\w+)\.specs\.([\w.]+?)(?:\.\{([^}]*)\}| as (\w+));?", re.M)
 START = re.compile(r"^(?:(?:abbrev|unfoldable) )?(?:pub )?(?:(record|data) )?([A-Za-z_][\w']*)(?: |$)")

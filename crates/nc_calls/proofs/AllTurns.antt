@@ -1,5 +1,5 @@
 -- What every history of a region keeps.
-use Rattle.std.proofs.Common.{◌≡◌, ℕ, Bool, List, [], ◌∷◌, ◌++◌, refl, ◌∙◌, sym, ap, subst}
+use Rattle.std.proofs.Common.{◌≡◌, ℕ, List, [], ◌∷◌, ◌++◌, refl, sym, ap, subst}
 use Rattle.std.specs.Prelude.{IfSome}
 use Rattle.std.proofs.lemmas.List.Elements.{All-weaker}
 use Rattle.nc_text.specs.Machine.{IsConfined, IsSafe}
@@ -10,25 +10,26 @@ use Rattle.nc_region.specs.schedules.Spans.{RetiredSpan}
 use Rattle.nc_region.specs.schedules.World.{World, Seat, first_world, IsViewOf, AllStandSafe, NoneIsWithin}
 use Rattle.nc_region.specs.schedules.Events.{Event, Frees, world_after, AreAllowed}
 use Rattle.nc_region.proofs.Offered.{safe_after, none_is_within_freed, if_map}
-use Rattle.nc_region.specs.declared.fault.CreateFault.{CreateFault}
-use Rattle.nc_region.specs.declared.fault.CreateFault.TheVariants.{WrongLimit, Occupied, OutOfMemory}
-use Rattle.nc_region.specs.Region.{Region, IsRegion, IsRefused}
+use Rattle.nc_region.specs.Region.{Region, IsRegion}
 use Rattle.nc_region.proofs.Offered.{region_of_new}
-use Rattle.nc_vet.specs.Chunk.{MarkedChunk}
 use Rattle.nc_calls.specs.Weaving.{writers, ThreadsMay}
-use Rattle.nc_calls.specs.Calls.{StandsFor, HasLedTo}
+use Rattle.nc_calls.specs.Calls.{KnowsNoMore, StandsFor, HasLedTo}
 use Rattle.nc_calls.specs.Histories.{IsCall, Creates, Patches, Deletes, Reclaims, UsesKeeper, Refuses, Keeps, Turn, AreTurns, IsHistory}
 use Rattle.nc_calls.specs.Histories.{happened, region_at_end, AllStand}
-use Rattle.nc_calls.proofs.Histories.{goes_on, created, deleted}
-use Rattle.nc_calls.proofs.Instances.{refused}
+use Rattle.nc_calls.specs.Whole.{AllFetchWhole}
+use Rattle.nc_calls.proofs.Histories.{Grows, goes_on, created, deleted}
 use Rattle.nc_calls.proofs.Keeping.{begins, keeper}
 use Rattle.nc_calls.proofs.Modified.{modified}
 use Rattle.nc_calls.proofs.Reclaimed.{reclaimed}
+use Rattle.nc_calls.proofs.Refusals.{refusal_same, refusal_silent}
+use Rattle.nc_calls.proofs.Fetching.{fetch_whole_after}
+use Rattle.nc_calls.proofs.Whole.{whole_settled, StaysWhole, whole_append}
 use Rattle.nc_calls.proofs.StillRegion.{still_created, still_patched, still_deleted, still_reclaimed}
 
 -- what is kept from one call to the next
 record Stays (limit seats : ℕ) (before : List Event) (r : Region) : Type 0 where
   led : HasLedTo limit seats before r
+  whole : StaysWhole (first_world limit seats) before
   region : IsRegion r.marked r.chunks
 
 -- a region with the same text and chunks is one
@@ -37,51 +38,50 @@ same_region : (old new : Region) → new.marked ≡ old.marked → new.chunks �
 same_region old new marked chunks region =
     subst (λ (m : MarkedText). IsRegion m new.chunks) (sym marked) (subst (IsRegion old.marked) (sym chunks) region)
 
--- a refused creation leaves text and chunks
-pub refused_same : (old new : Region) (v : MarkedChunk) (fault : CreateFault) → IsRefused old new v fault
-    → new ≡ record old { made = new.made }
-refused_same old new v WrongLimit same = same ∙ ap (λ (z : List Bool). record old { made = z }) (sym (ap (λ (r : Region). r.made) same))
-refused_same old new v Occupied same = same ∙ ap (λ (z : List Bool). record old { made = z }) (sym (ap (λ (r : Region). r.made) same))
-refused_same old new v OutOfMemory pages = pages.0
+-- with the events of a turn
+turn_stays : (limit seats : ℕ) (before events : List Event) (old new : Region) → Stays limit seats before old
+    → Grows limit seats before events new → IsRegion new.marked new.chunks → Stays limit seats (before ++ events) new
+turn_stays limit seats before events old new s g region =
+    record { led = g.led; whole = whole_append (first_world limit seats) before events s.whole g.whole; region = region }
+
+-- a call without an event that leaves the region as it was, but for pages
+still_same : (limit seats : ℕ) (before : List Event) (old : Region) (turn : Turn) → Stays limit seats before old
+    → ThreadsMay (world_after (first_world limit seats) before) turn.events → turn.region ≡ record old { made = turn.region.made }
+    → writers turn.events ≡ [] → Stays limit seats (before ++ turn.events) turn.region
+still_same limit seats before old turn s threads same own =
+    turn_stays limit seats before turn.events old turn.region s
+    (goes_on limit seats before turn.events old turn.region s.led same own threads)
+    (same_region old turn.region (ap (λ (r : Region). r.marked) same) (ap (λ (r : Region). r.chunks) same) s.region)
 
 -- each call
 call_stays : (limit seats : ℕ) (before : List Event) (old : Region) (turn : Turn) → Stays limit seats before old
     → ThreadsMay (world_after (first_world limit seats) before) turn.events
-    → (world_after (first_world limit seats) (before ++ turn.events)).keeper ≡ turn.region.keeper.numbers
+    → KnowsNoMore turn.region.keeper.numbers (world_after (first_world limit seats) (before ++ turn.events)).keeper
     → IsCall seats old turn.region (writers turn.events) → Stays limit seats (before ++ turn.events) turn.region
-call_stays limit seats before old turn s threads found (Creates v valid lim is own) = record {
-  led = created limit seats before turn.events old turn.region v s.led s.region valid lim is own threads;
-  region = still_created old turn.region v s.region valid lim is;
-}
-call_stays limit seats before old turn s threads found (Patches at bytes news lawful b is own) = record {
-  led = modified limit seats before turn.events old turn.region at bytes news s.led s.region lawful b is own threads;
-  region = still_patched old turn.region at bytes news s.region lawful b is;
-}
-call_stays limit seats before old turn s threads found (Deletes base stamp is own) = record {
-  led = deleted limit seats before turn.events old turn.region base stamp s.led s.region is own threads;
-  region = still_deleted old turn.region base stamp s.region is;
-}
-call_stays limit seats before old turn s threads found (Reclaims count is own) = record {
-  led = reclaimed limit seats before turn.events old turn.region count s.led s.region is own threads found;
-  region = still_reclaimed old turn.region count s.region is;
-}
-call_stays limit seats before old turn s threads found (UsesKeeper marked chunks own range) = record {
-  led = keeper limit seats before turn.events old turn.region s.led marked chunks own threads found range;
-  region = same_region old turn.region marked chunks s.region;
-}
-call_stays limit seats before old turn s threads found (Refuses v fault is own) =
-    let same = refused_same old turn.region v fault is in
-    record {
-      led = refused limit seats before turn.events old turn.region v fault s.led is own threads;
-      region = same_region old turn.region (ap (λ (r : Region). r.marked) same) (ap (λ (r : Region). r.chunks) same) s.region;
-    }
-call_stays limit seats before old turn s threads found (Keeps same own) =
-    let pages : turn.region ≡ record old { made = turn.region.made } =
-    same ∙ ap (λ (z : List Bool). record old { made = z }) (sym (ap (λ (r : Region). r.made) same)) in
-    record {
-      led = goes_on limit seats before turn.events old turn.region s.led pages own threads;
-      region = same_region old turn.region (ap (λ (r : Region). r.marked) same) (ap (λ (r : Region). r.chunks) same) s.region;
-    }
+call_stays limit seats before old turn s threads found (Creates v valid lim is own) =
+    turn_stays limit seats before turn.events old turn.region s
+    (created limit seats before turn.events old turn.region v s.led s.region valid lim is own threads)
+    (still_created old turn.region v s.region valid lim is)
+call_stays limit seats before old turn s threads found (Patches at bytes news lawful b is own) =
+    turn_stays limit seats before turn.events old turn.region s
+    (modified limit seats before turn.events old turn.region at bytes news s.led s.region lawful b is own threads)
+    (still_patched old turn.region at bytes news s.region lawful b is)
+call_stays limit seats before old turn s threads found (Deletes base stamp is own) =
+    turn_stays limit seats before turn.events old turn.region s
+    (deleted limit seats before turn.events old turn.region base stamp s.led s.region is own threads)
+    (still_deleted old turn.region base stamp s.region is)
+call_stays limit seats before old turn s threads found (Reclaims count is own) =
+    turn_stays limit seats before turn.events old turn.region s
+    (reclaimed limit seats before turn.events old turn.region count s.led s.region is own threads found)
+    (still_reclaimed old turn.region count s.region is)
+call_stays limit seats before old turn s threads found (UsesKeeper marked chunks own range) =
+    turn_stays limit seats before turn.events old turn.region s
+    (keeper limit seats before turn.events old turn.region s.led marked chunks own threads found range)
+    (same_region old turn.region marked chunks s.region)
+call_stays limit seats before old turn s threads found (Refuses is) =
+    still_same limit seats before old turn s threads (refusal_same old turn.region (writers turn.events) is)
+    (refusal_silent old turn.region (writers turn.events) is)
+call_stays limit seats before old turn s threads found (Keeps same own) = still_same limit seats before old turn s threads same own
 
 -- one after the other
 turns_stay : (limit seats : ℕ) (turns : List Turn) (before : List Event) (r : Region) → Stays limit seats before r
@@ -95,9 +95,11 @@ turns_stay limit seats (turn ∷ rest) before r s are =
 history_stays : (limit seats : ℕ) (first : List Event) (r : Region) (turns : List Turn) → IsHistory limit seats first r turns
     → Stays limit seats (happened first turns) (region_at_end r turns)
 history_stays limit seats first r turns h =
+    let g = begins limit seats first r h.lawful h.marked h.chunks h.keepers h.threads h.keeper h.in_range in
     turns_stay limit seats turns first r
     (record {
-      led = begins limit seats first r h.lawful h.marked h.chunks h.keepers h.threads h.keeper h.in_range;
+      led = g.led;
+      whole = g.whole (whole_settled (unused_text limit).marks (unused_text limit).bytes);
       region = subst (λ (m : MarkedText). IsRegion m r.chunks) (sym h.marked)
           (subst (IsRegion (unused_text limit)) (sym h.chunks) (region_of_new (unused_text limit) (limit, h.lawful, refl)));
     }) h.turns_are
@@ -119,6 +121,15 @@ stand_always limit seats first events later r turns h is =
     let s = history_stays limit seats first r turns h in
     all_stand (world_after (first_world limit seats) events)
     (safe_after limit seats events later h.lawful (subst (AreAllowed (first_world limit seats)) is s.led.allowed))
+
+-- what threads fetch after every event
+pub whole_always : (limit seats : ℕ) (first events later : List Event) (r : Region) (turns : List Turn)
+    → IsHistory limit seats first r turns → happened first turns ≡ events ++ later
+    → AllFetchWhole (world_after (first_world limit seats) events)
+whole_always limit seats first events later r turns h is =
+    let s = history_stays limit seats first r turns h in
+    fetch_whole_after limit seats events later h.lawful (subst (AreAllowed (first_world limit seats)) is s.led.allowed)
+    (subst (StaysWhole (first_world limit seats)) is s.whole)
 
 -- where none stands when a span is freed
 pub none_in_freed : (limit seats : ℕ) (first events later : List Event) (r : Region) (turns : List Turn) (span : RetiredSpan)

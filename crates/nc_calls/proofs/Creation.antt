@@ -1,6 +1,6 @@
 -- The acts of a creation are allowed events.
 use Rattle.std.proofs.Common.{◌≡◌, ◌≢◌, ℕ, ◌+◌, ◌-◌, ◌%◌, ◌<◌, ◌≤◌, ◌⊎◌, All, List, [], ◌∷◌, ◌++◌, length, get_or, set, take, drop}
-use Rattle.std.proofs.Common.{None, Some, inl, inr, arith, refl, ◌∙◌, sym, ap, subst}
+use Rattle.std.proofs.Common.{true, None, Some, inl, inr, arith, refl, ◌∙◌, sym, ap, subst}
 use Rattle.std.specs.Prelude.{Contains}
 use Rattle.std.specs.List.{insert}
 use Rattle.std.proofs.lemmas.Bool.{false≢true}
@@ -9,7 +9,7 @@ use Rattle.std.proofs.lemmas.List.{take-append-drop, length-set}
 use Rattle.nc_decode.specs.declared.instruction.Instr.{Instr}
 use Rattle.nc_decode.specs.declared.instruction.Mark.{Mark}
 use Rattle.nc_decode.specs.Bundles.{IsLawfulLimit, IsBundleStart, IsInOneBundle}
-use Rattle.nc_text.specs.Places.{limit_of, byte_at, instruction_at}
+use Rattle.nc_text.specs.Places.{limit_of, InRegion, byte_at, instruction_at}
 use Rattle.nc_text.specs.Machine.{State, state}
 use Rattle.nc_text.specs.Marks.{Admits, IsMarked, IsClosed}
 use Rattle.nc_text.specs.MarkedText.{MarkedText, IsText, with_span}
@@ -33,6 +33,8 @@ use Rattle.nc_calls.specs.Views.{ViewsKeep, IsFree}
 use Rattle.nc_calls.proofs.Entries.{events_of, create_is}
 use Rattle.nc_calls.proofs.Good.{text_of, Good, KeepsInstruction, good_by_places, stop_ends}
 use Rattle.nc_calls.proofs.OnePut.{good_put_unread, byte_beside, byte_there}
+use Rattle.nc_calls.proofs.PutsWhole.{put_in_both, whole_put_unread, whole_put_marked}
+use Rattle.nc_calls.proofs.Whole.{PutsWhole, whole_settled}
 use Rattle.nc_calls.proofs.Parting.{Kept, region_good, region_stopped}
 use Rattle.nc_calls.proofs.Putting.{with_text, settled, Views, Leads, Reaches, leads_one, leads_more, settling_leads, settled_views, MayLay, lay_all}
 use Rattle.nc_calls.proofs.RetiredSpans.{AreSpansOf, retired_insert}
@@ -98,6 +100,10 @@ may_lay_inside w base code placed unused =
                 (λ same. not (ap (λ (n : ℕ). n % 32) (sym same) ∙ start))
                 ∙ f.stops at low high start;
           };
+      whole = λ view text count lt chosen inside within f t.
+          let not : (base + count) % 32 ≢ 0 = λ start. false≢true (sym (is_inside_false (base + count) start) ∙ chosen) in
+          whole_put_unread w.marked.marks w.retired view text (base + count) (get_or code count 0) f.good inside.0
+          (filling_clear w base (length code) view (base + count) placed unused f (omega arith) (omega (arith, lt)) not);
     }
 
 -- where a chunk fits, no live chunk is
@@ -166,6 +172,58 @@ nearly_first final mid base len f =
           ];
     }
 
+-- with one more of the bundle starts it is nearly the final one still
+nearly_put : (final view : List ℕ) (at byte : ℕ) → InRegion view at → byte ≡ byte_at final at → IsNearly final view
+    → IsNearly final (set view (at - 65536) byte)
+nearly_put final view at byte inside is n =
+    record {
+      as_long = length-set view (at - 65536) byte ∙ n.as_long;
+      each = λ place low.
+          elim (eqb_tells place at) [
+            | inl same ↦ inl
+                (subst (λ (p : ℕ). byte_at (set view (at - 65536) byte) p ≡ byte_at final p) (sym same.1)
+                (byte_there view at byte inside ∙ is))
+            | inr other ↦
+                let beside = byte_beside view at place byte inside.0 low other.1 in
+                elim (n.each place low) [
+                  | inl there ↦ inl (beside ∙ there)
+                  | inr stop ↦ inr (beside ∙ stop.0, stop.1)
+                ]
+          ];
+    }
+
+-- two such texts differ at bundle starts only
+nearly_same : (final one other : List ℕ) (at : ℕ) → IsNearly final one → IsNearly final other → 65536 ≤ at → at % 32 ≢ 0
+    → byte_at one at ≡ byte_at other at
+nearly_same final one other at n m low not =
+    elim (n.each at low) [
+      | inl same ↦
+          elim (m.each at low) [
+            | inl there ↦ same ∙ sym there
+            | inr stop ↦ absurd (not stop.1)
+          ]
+      | inr stop ↦ absurd (not stop.1)
+    ]
+
+-- so the instruction that begins at a bundle start is put whole
+whole_start : (w : World) (final view text : List ℕ) (at byte : ℕ) → Good final w.marked.marks w.retired → InRegion view at
+    → InRegion text at → IsBundleStart at → byte ≡ byte_at final at → IsNearly final view → IsNearly final text
+    → PutsWhole w.marked.marks view text at byte
+whole_start w final view text at byte good inside within start is n t =
+    let good_view = nearly_good final view w.marked.marks w.retired good n in
+    let n_put = nearly_put final view at byte inside is n in
+    let good_put = nearly_good final (set view (at - 65536) byte) w.marked.marks w.retired good n_put in
+    let marked : IsMarked w.marked.marks (state at None) =
+    (inside.0, subst (λ (mark : Mark). Admits mark None) (sym (good_view.closed.starts at inside start)) tt) in
+    whole_put_marked w.marked.marks w.retired view text (state at None) byte good_view inside.0 marked (λ i there k lt.
+    let bundle = in_one_bundle (set view (at - 65536) byte) w.marked.marks (state at None) i good_put.closed marked there in
+    elim (eqb_tells k 0) [
+      | inl none ↦ put_in_both view text at byte k inside within (omega (arith, none.1))
+      | inr some ↦
+          nearly_same final (set text (at - 65536) byte) (set view (at - 65536) byte) (at + k) (nearly_put final text at byte within is t) n_put
+          (omega (arith, inside.0)) (λ other. omega (arith, other, start, bundle, lt, some.1))
+    ])
+
 -- the bundle starts may be put
 may_lay_starts : (w : World) (final : List ℕ) (base : ℕ) (code : List ℕ) → 65536 ≤ base → Good final w.marked.marks w.retired
     → ((at : ℕ) → base ≤ at → at < base + length code → get_or code (at - base) 0 ≡ byte_at final at)
@@ -175,27 +233,19 @@ may_lay_starts w final base code above good code_is =
       low = above;
       good = λ view n. nearly_good final view w.marked.marks w.retired good n;
       put = λ view count lt chosen inside n.
-          record {
-            as_long = length-set view (base + count - 65536) (get_or code count 0) ∙ n.as_long;
-            each = λ at low.
-                elim (eqb_tells at (base + count)) [
-                  | inl same ↦ inl
-                      (subst (λ (p : ℕ). byte_at (set view (base + count - 65536) (get_or code count 0)) p ≡ byte_at final p) (sym same.1)
-                      (byte_there view (base + count) (get_or code count 0) inside ∙ byte_is count lt))
-                  | inr other ↦
-                      let beside = byte_beside view (base + count) at (get_or code count 0) inside.0 low other.1 in
-                      elim (n.each at low) [
-                        | inl there ↦ inl (beside ∙ there)
-                        | inr stop ↦ inr (beside ∙ stop.0, stop.1)
-                      ]
-                ];
-          };
+          nearly_put final view (base + count) (get_or code count 0) inside (byte_is count lt) n;
+      whole = λ view text count lt chosen inside within n t.
+          whole_start w final view text (base + count) (get_or code count 0) good inside within (start_is (base + count) chosen)
+          (byte_is count lt) n t;
     }
   where
     byte_is : (count : ℕ) → count < length code → get_or code count 0 ≡ byte_at final (base + count)
     byte_is count lt =
         let e : base + count - base ≡ count = omega arith in
         ap (λ (n : ℕ). get_or code n 0) (sym e) ∙ code_is (base + count) (omega arith) (omega (arith, lt))
+
+    start_is : (at : ℕ) → is_start at ≡ true → IsBundleStart at
+    start_is at chosen = elim (start_or_not at) [ inl start ↦ start.1 | inr inside ↦ absurd (false≢true (sym inside.0 ∙ chosen)) ]
 
 -- some of the bundle starts put over a text that lacks them all
 final_from_puts : (final mid now : List ℕ) (base : ℕ) (bytes : List ℕ) (count : ℕ) → count ≤ length bytes
@@ -302,6 +352,7 @@ marking_leads w chunks k base code marks mid c long nearly =
       λ view v. subst (λ (z : List ℕ). IsClosed z (with_chunk w.marked base code marks).marks
           × All (IsShut z (with_chunk w.marked base code marks).marks) w.retired) (sym (only_as_it_stands mid view v)) (good.closed, good.shut),
     )
+    (λ whole. whole_settled (with_chunk w.marked base code marks).marks mid)
 
 -- the chunk's acts lead to the text with the chunk, and every view is nearly that text
 creation_leads : (w : World) (chunks : List Chunk) (k base : ℕ) (code : List ℕ) (marks : List Mark) → Creates w chunks k base code marks

@@ -34,6 +34,7 @@ use Rattle.nc_calls.proofs.Entries.{events_of, delete_is}
 use Rattle.nc_calls.proofs.Good.{text_of, Good, KeepsInstruction, step_back, stop_ends}
 use Rattle.nc_calls.proofs.OnePut.{good_put_marked, good_put_unread, byte_beside, byte_there}
 use Rattle.nc_calls.proofs.Parting.{Kept, region_stopped}
+use Rattle.nc_calls.proofs.PutsWhole.{whole_put_unread, whole_put_stop}
 use Rattle.nc_calls.proofs.Putting.{with_text, settled, Views, Leads, Reaches, leads_one, leads_more, settling_leads, settled_views, MayLay, lay_all}
 use Rattle.nc_calls.proofs.RetiredSpans.{AreSpansOf, IsBeside, all_spans, retired_each}
 
@@ -113,6 +114,10 @@ may_lay_marked w base len low =
           let s = marked_state (mark_at w.marked.marks (base + count)) chosen in
           good_put_marked view w.marked.marks w.retired (state (base + count) s.0) (get_or (replicate len 244) count 0) g inside
           (inside.0, s.1) (inl (stop_byte len count (omega (arith, lt, length-replicate {A = ℕ} len 244))));
+      whole = λ view text count lt chosen inside within g t.
+          let s = marked_state (mark_at w.marked.marks (base + count)) chosen in
+          whole_put_stop w.marked.marks w.retired view text (state (base + count) s.0) (get_or (replicate len 244) count 0) g inside within
+          (inside.0, s.1) (stop_byte len count (omega (arith, lt, length-replicate {A = ℕ} len 244)));
     }
 
 -- ---- stops at the others
@@ -173,6 +178,9 @@ may_lay_others w base len mid placed =
                 (λ same. elim out [ inl l ↦ omega (arith, l, same) | inr b ↦ omega (arith, b, same, lt, n) ])
                 ∙ f.outside at low out;
           };
+      whole = λ view text count lt chosen inside within f t.
+          whole_put_unread w.marked.marks w.retired view text (base + count) (get_or (replicate len 244) count 0) f.good inside.0
+          (emptied_clear w base len mid view (base + count) placed f (omega arith) (omega (arith, lt, n)) chosen);
     }
 
 -- once all marked places are stops, the text is such a one
@@ -305,7 +313,7 @@ deletion_leads w chunks k c r =
     subst (λ (z : List ℕ). Leads (settled w a.bytes) (events_of (record no_details { base = c.base; len = c.length })
     (puts_where (is_unmarked_at w.marked.marks) c.base (replicate c.length 244))) (with_text w z b.earlier)) same b.leads in
     let last = leads_one (record w { marked = stopped w c; earlier = b.earlier }) (Retires c.base c.length)
-    (may_retire w chunks k c b.earlier a.bytes r views) in
+    (may_retire w chunks k c b.earlier a.bytes r views) (λ whole. whole) in
     let here = views (stopped w c).bytes (as_it_stands (stopped w c).bytes b.earlier) in
     let region = region_after w chunks k c r here.good in
     record {

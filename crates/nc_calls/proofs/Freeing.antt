@@ -19,8 +19,10 @@ use Rattle.nc_region.specs.Deletion.{is_due, kept}
 use Rattle.nc_region.specs.Region.{IsLive}
 use Rattle.nc_calls.specs.Views.{ViewsKeep, IsFree}
 use Rattle.nc_calls.specs.Weaving.{writers}
+use Rattle.nc_calls.specs.Whole.{StoodWhole}
 use Rattle.nc_calls.proofs.Deletion.{marked_state, unmarked_or_mark}
 use Rattle.nc_calls.proofs.Reclaiming.{FreesMay}
+use Rattle.nc_calls.proofs.Whole.{IsWholeIn, StaysWhole}
 
 -- the bytes, now and before, are the same, and what is marked now was marked before
 pub record IsThinned (w v : World) : Type 0 where
@@ -46,50 +48,69 @@ thinned_more : (w v u : World) → IsThinned w v → IsThinned v u → IsThinned
 thinned_more w v u a b =
     record { bytes = b.bytes ∙ a.bytes; earlier = b.earlier ∙ a.earlier; fewer = λ now m. a.fewer now (b.fewer now m) }
 
--- a thread's event, before others
-thinned_beside : (w v u : World) → v.marked ≡ w.marked → v.earlier ≡ w.earlier → IsThinned v u → IsThinned w u
-thinned_beside w v u marked earlier t =
-    thinned_more w v u
-    (record {
+-- a thread's event
+thinned_beside : (w v : World) → v.marked ≡ w.marked → v.earlier ≡ w.earlier → IsThinned w v
+thinned_beside w v marked earlier =
+    record {
       bytes = ap (λ (m : MarkedText). m.bytes) marked;
       earlier = earlier;
       fewer = λ now m. subst (λ (z : List Mark). IsMarked z now) (ap (λ (x : MarkedText). x.marks) marked) m;
-    }) t
+    }
+
+-- what views have at fewer places stood there whole
+whole_thinned : (w v : World) → IsThinned w v → IsWholeIn w → IsWholeIn v
+whole_thinned w v t whole = λ now m.
+    subst (λ (text : List ℕ). StoodWhole text v.earlier now.place) (sym t.bytes)
+    (subst (λ (earlier : List (List ℕ)). StoodWhole w.marked.bytes earlier now.place) (sym t.earlier) (whole now (t.fewer now m)))
+
+-- Events that only take marks away. If what views have at marked places stood there whole before them, it did after each.
+pub record Thins (w : World) (events : List Event) : Type 0 where
+  pub thinned : IsThinned w (world_after w events)
+  pub whole : IsWholeIn w → StaysWhole w events
+
+-- an event before others
+thins_more : (w : World) (event : Event) (events : List Event) → IsThinned w (after w event) → Thins (after w event) events
+    → Thins w (event ∷ events)
+thins_more w event events t rest =
+    record {
+      thinned = thinned_more w (after w event) (world_after (after w event) events) t rest.thinned;
+      whole = λ whole. (whole, rest.whole (whole_thinned w (after w event) t whole));
+    }
 
 -- spans are freed, with threads in between
-pub thinned : (events : List Event) (w : World) (spans : List RetiredSpan) (least : ℕ) → Keeps w → AreAllowed w events
-    → FreesMay spans least (writers events) → IsThinned w (world_after w events)
-thinned [] w spans least keeps a may = thinned_none w
-thinned (Steps k next ∷ events) w spans least keeps a may =
-    thinned_beside w (after w (Steps k next)) _ refl refl
-    (thinned events (after w (Steps k next)) spans least (keeps_event w (Steps k next) keeps a.0) a.1 may)
-thinned (Enters k at ∷ events) w spans least keeps a may =
-    thinned_beside w (after w (Enters k at)) _ refl refl
-    (thinned events (after w (Enters k at)) spans least (keeps_event w (Enters k at) keeps a.0) a.1 may)
-thinned (Exits k ∷ events) w spans least keeps a may =
-    thinned_beside w (after w (Exits k)) _ refl refl
-    (thinned events (after w (Exits k)) spans least (keeps_event w (Exits k) keeps a.0) a.1 may)
-thinned (Takes k ∷ events) w spans least keeps a may =
-    thinned_beside w (after w (Takes k)) _ refl refl
-    (thinned events (after w (Takes k)) spans least (keeps_event w (Takes k) keeps a.0) a.1 may)
-thinned (Sees k ∷ events) w spans least keeps a may =
-    thinned_beside w (after w (Sees k)) _ refl refl
-    (thinned events (after w (Sees k)) spans least (keeps_event w (Sees k) keeps a.0) a.1 may)
-thinned (Stores k ∷ events) w spans least keeps a may =
-    thinned_beside w (after w (Stores k)) _ refl refl
-    (thinned events (after w (Stores k)) spans least (keeps_event w (Stores k) keeps a.0) a.1 may)
-thinned (Leaves k ∷ events) w spans least keeps a may =
-    thinned_beside w (after w (Leaves k)) _ refl refl
-    (thinned events (after w (Leaves k)) spans least (keeps_event w (Leaves k) keeps a.0) a.1 may)
-thinned (Puts at byte ∷ events) w spans least keeps a may = absurd may
-thinned (Settles ∷ events) w spans least keeps a may = absurd may
-thinned (Marks at marks ∷ events) w spans least keeps a may = absurd may
-thinned (Bumps ∷ events) w spans least keeps a may = absurd may
-thinned (Retires base len ∷ events) w spans least keeps a may = absurd may
-thinned (Looks k ∷ events) w spans least keeps a may = absurd may
-thinned (Frees span ∷ events) w spans least keeps a may =
-    thinned_more w (after w (Frees span)) _ (thinned_frees w span keeps (a.0, tt))
-    (thinned events (after w (Frees span)) (filter (λ other. not (is_same_span span other)) spans) least
+pub thins : (events : List Event) (w : World) (spans : List RetiredSpan) (least : ℕ) → Keeps w → AreAllowed w events
+    → FreesMay spans least (writers events) → Thins w events
+thins [] w spans least keeps a may = record { thinned = thinned_none w; whole = λ whole. whole }
+thins (Steps k next ∷ events) w spans least keeps a may =
+    thins_more w (Steps k next) events (thinned_beside w (after w (Steps k next)) refl refl)
+    (thins events (after w (Steps k next)) spans least (keeps_event w (Steps k next) keeps a.0) a.1 may)
+thins (Enters k at ∷ events) w spans least keeps a may =
+    thins_more w (Enters k at) events (thinned_beside w (after w (Enters k at)) refl refl)
+    (thins events (after w (Enters k at)) spans least (keeps_event w (Enters k at) keeps a.0) a.1 may)
+thins (Exits k ∷ events) w spans least keeps a may =
+    thins_more w (Exits k) events (thinned_beside w (after w (Exits k)) refl refl)
+    (thins events (after w (Exits k)) spans least (keeps_event w (Exits k) keeps a.0) a.1 may)
+thins (Takes k ∷ events) w spans least keeps a may =
+    thins_more w (Takes k) events (thinned_beside w (after w (Takes k)) refl refl)
+    (thins events (after w (Takes k)) spans least (keeps_event w (Takes k) keeps a.0) a.1 may)
+thins (Sees k ∷ events) w spans least keeps a may =
+    thins_more w (Sees k) events (thinned_beside w (after w (Sees k)) refl refl)
+    (thins events (after w (Sees k)) spans least (keeps_event w (Sees k) keeps a.0) a.1 may)
+thins (Stores k ∷ events) w spans least keeps a may =
+    thins_more w (Stores k) events (thinned_beside w (after w (Stores k)) refl refl)
+    (thins events (after w (Stores k)) spans least (keeps_event w (Stores k) keeps a.0) a.1 may)
+thins (Leaves k ∷ events) w spans least keeps a may =
+    thins_more w (Leaves k) events (thinned_beside w (after w (Leaves k)) refl refl)
+    (thins events (after w (Leaves k)) spans least (keeps_event w (Leaves k) keeps a.0) a.1 may)
+thins (Puts at byte ∷ events) w spans least keeps a may = absurd may
+thins (Settles ∷ events) w spans least keeps a may = absurd may
+thins (Marks at marks ∷ events) w spans least keeps a may = absurd may
+thins (Bumps ∷ events) w spans least keeps a may = absurd may
+thins (Retires base len ∷ events) w spans least keeps a may = absurd may
+thins (Looks k ∷ events) w spans least keeps a may = absurd may
+thins (Frees span ∷ events) w spans least keeps a may =
+    thins_more w (Frees span) events (thinned_frees w span keeps (a.0, tt))
+    (thins events (after w (Frees span)) (filter (λ other. not (is_same_span span other)) spans) least
     (keeps_event w (Frees span) keeps a.0) a.1 may.2)
 
 -- what isn't live isn't in the way

@@ -23,14 +23,16 @@ use Rattle.nc_region.specs.Region.{Region, IsLive, IsRegion, IsCreated, live_chu
 use Rattle.nc_region.specs.Deletion.{IsDeleted}
 use Rattle.nc_region.proofs.Offered.{same_code, listed_there}
 use Rattle.nc_calls.specs.Weaving.{writers, ThreadsMay}
-use Rattle.nc_calls.specs.Calls.{StandsFor, HasLedTo, Details, create_events, delete_events}
+use Rattle.nc_calls.specs.Calls.{KnowsNoMore, StandsFor, HasLedTo, Details, create_events, delete_events}
 use Rattle.nc_calls.specs.Views.{ViewsKeep}
 use Rattle.nc_calls.proofs.Creation.{create_leads}
 use Rattle.nc_calls.proofs.Deletion.{stopped, delete_leads}
 use Rattle.nc_calls.proofs.Entries.{events_of, create_is, delete_is}
+use Rattle.nc_calls.proofs.Knowing.{knows_raised}
 use Rattle.nc_calls.proofs.Parting.{Kept}
 use Rattle.nc_calls.proofs.Putting.{Leads, Reaches, Views, leads_none}
 use Rattle.nc_calls.proofs.RetiredSpans.{retired_insert, same_spans_retired}
+use Rattle.nc_calls.proofs.Whole.{IsWholeIn, StaysWhole}
 use Rattle.nc_calls.proofs.Woven.{ArePlain, weave, seated}
 
 -- puts before plain events
@@ -81,18 +83,26 @@ views_keep w chunks keep = λ view is. record { parted = keep.parted view is; st
 stands_seated : (w : World) (seats : List Seat) (r : Region) → StandsFor w r → StandsFor (seated w seats) r
 stands_seated w seats r s = record { marked = s.marked; keeper = s.keeper; spans = s.spans }
 
+-- Further events have led to the region. If what views have at marked places stood there whole before them, it did after each.
+pub record Grows (limit seats : ℕ) (before events : List Event) (new : Region) : Type 0 where
+  pub led : HasLedTo limit seats (before ++ events) new
+  pub whole : IsWholeIn (world_after (first_world limit seats) before) → StaysWhole (world_after (first_world limit seats) before) events
+
 -- events that are allowed, and lead to a world that stands for another region
 pub grown : (limit seats : ℕ) (before events : List Event) (old new : Region) (v : World) → HasLedTo limit seats before old
     → Leads (world_after (first_world limit seats) before) events v → StandsFor v new → ViewsKeep v new.chunks
-    → new.keeper.numbers.generation ≤ last_generation → HasLedTo limit seats (before ++ events) new
+    → new.keeper.numbers.generation ≤ last_generation → Grows limit seats before events new
 grown limit seats before events old new v h l stands views range =
     let same = after_append (first_world limit seats) before events ∙ l.after_is in
     record {
-      lawful = h.lawful;
-      allowed = allowed_append (first_world limit seats) before events h.allowed l.allowed;
-      stands = subst (λ (w : World). StandsFor w new) (sym same) stands;
-      views = subst (λ (w : World). ViewsKeep w new.chunks) (sym same) views;
-      in_range = range;
+      led = record {
+        lawful = h.lawful;
+        allowed = allowed_append (first_world limit seats) before events h.allowed l.allowed;
+        stands = subst (λ (w : World). StandsFor w new) (sym same) stands;
+        views = subst (λ (w : World). ViewsKeep w new.chunks) (sym same) views;
+        in_range = range;
+      };
+      whole = l.whole;
     }
 
 -- the same with threads between the writer's events
@@ -100,19 +110,23 @@ pub grown_beside : (limit seats : ℕ) (before events own : List Event) (old new
     → writers events ≡ own → ArePlain own
     → Reaches (world_after (first_world limit seats) before) own v (Kept v.marked.marks new.chunks)
     → ThreadsMay (world_after (first_world limit seats) before) events → StandsFor v new
-    → new.keeper.numbers.generation ≤ last_generation → HasLedTo limit seats (before ++ events) new
+    → new.keeper.numbers.generation ≤ last_generation → Grows limit seats before events new
 grown_beside limit seats before events own old new v h is plain r threads stands range =
     let w = world_after (first_world limit seats) before in
     let l = r.leads in
     let woven = weave w w.seats events (subst ArePlain (sym is) plain)
     (subst (λ (z : List Event). AreAllowed (world_after (first_world limit seats) before) z) (sym is) l.allowed) threads in
+    let whole : IsWholeIn (world_after (first_world limit seats) before)
+    → StaysWhole (world_after (first_world limit seats) before) events =
+    λ first. woven.whole
+    (subst (λ (z : List Event). StaysWhole (world_after (first_world limit seats) before) z) (sym is) (l.whole first)) in
     let after_is : world_after (world_after (first_world limit seats) before) events
     ≡ seated (record v { earlier = r.earlier }) woven.seats_after =
     woven.after_is
     ∙ (ap (λ (z : List Event). seated (world_after (world_after (first_world limit seats) before) z) woven.seats_after) is
     ∙ ap (λ (x : World). seated x woven.seats_after) l.after_is) in
     grown limit seats before events old new (seated (record v { earlier = r.earlier }) woven.seats_after) h
-    (record { allowed = woven.allowed; after_is = after_is })
+    (record { allowed = woven.allowed; whole = whole; after_is = after_is })
     (record { marked = stands.marked; keeper = stands.keeper; spans = stands.spans })
     (views_kept (record v { earlier = r.earlier }) new.chunks woven.seats_after r.views) range
 
@@ -124,7 +138,7 @@ kept_there limit seats before r h = keeps_reached limit seats before h.lawful h.
 -- threads by themselves, and a call that was refused
 pub goes_on : (limit seats : ℕ) (before events : List Event) (old new : Region) → HasLedTo limit seats before old
     → new ≡ record old { made = new.made } → writers events ≡ []
-    → ThreadsMay (world_after (first_world limit seats) before) events → HasLedTo limit seats (before ++ events) new
+    → ThreadsMay (world_after (first_world limit seats) before) events → Grows limit seats before events new
 goes_on limit seats before events old new h others is threads =
     let w = world_after (first_world limit seats) before in
     let chunks : old.chunks ≡ new.chunks = sym (ap (λ (r : Region). r.chunks) others) in
@@ -142,7 +156,7 @@ goes_on limit seats before events old new h others is threads =
 pub created : (limit seats : ℕ) (before events : List Event) (old new : Region) (v : MarkedChunk)
     → HasLedTo limit seats before old → IsRegion old.marked old.chunks → IsValid v → v.limit ≡ limit_of old.marked.bytes
     → IsCreated old new v → writers events ≡ create_events v
-    → ThreadsMay (world_after (first_world limit seats) before) events → HasLedTo limit seats (before ++ events) new
+    → ThreadsMay (world_after (first_world limit seats) before) events → Grows limit seats before events new
 created limit seats before events old new v h region valid lim is own threads =
     let w = world_after (first_world limit seats) before in
     let k = is.chunks.0 in
@@ -172,7 +186,7 @@ created limit seats before events old new v h region valid lim is own threads =
             marks = with_span old.marked.marks
                 (v.base - 65536) v.marks;
           }) is.bytes is.marks);
-      keeper = h.stands.keeper ∙ ap (λ (x : KeeperState). x.numbers) (sym keeper);
+      keeper = subst (λ (x : KeeperState). KnowsNoMore x.numbers w.keeper) (sym keeper) h.stands.keeper;
       spans = λ span. subst (λ (z : List RetiredSpan). Contains w.retired span ↔ Contains z span) (sym spans) (h.stands.spans span);
     })
     (subst (λ (x : KeeperState). x.numbers.generation ≤ last_generation) (sym keeper) h.in_range)
@@ -181,7 +195,7 @@ created limit seats before events old new v h region valid lim is own threads =
 pub deleted : (limit seats : ℕ) (before events : List Event) (old new : Region) (base stamp : ℕ)
     → HasLedTo limit seats before old → IsRegion old.marked old.chunks → (is : IsDeleted old new base stamp)
     → writers events ≡ delete_events old.marked.marks base is.chunk.length
-    → ThreadsMay (world_after (first_world limit seats) before) events → HasLedTo limit seats (before ++ events) new
+    → ThreadsMay (world_after (first_world limit seats) before) events → Grows limit seats before events new
 deleted limit seats before events old new base stamp h region is own threads =
     let w = world_after (first_world limit seats) before in
     let c = is.chunk in
@@ -194,7 +208,7 @@ deleted limit seats before events old new base stamp h region is own threads =
     let own_is : writers events ≡ delete_events w.marked.marks is.chunk.base is.chunk.length =
     own ∙ (ap (λ (b : ℕ). delete_events old.marked.marks b is.chunk.length) (sym is.base_is)
     ∙ ap (λ (m : MarkedText). delete_events m.marks is.chunk.base is.chunk.length) (sym here)) in
-    let stamp_is : stamp ≡ w.keeper.generation + 1 = is.stamp_is ∙ ap (λ (n : KeeperNumbers). n.generation + 1) (sym h.stands.keeper) in
+    let stamp_is : stamp ≡ w.keeper.generation + 1 = is.stamp_is ∙ ap (λ (n : ℕ). n + 1) h.stands.keeper.generation in
     let same = same_spans_retired w.retired old.chunks is.index is.chunk (w.keeper.generation + 1) there.0 there.1 live h.stands.spans in
     let list : new.chunks ≡ set old.chunks is.index (record is.chunk { state = Retired (w.keeper.generation + 1) }) =
     is.chunks ∙ ap (λ (n : ℕ). set old.chunks is.index (record is.chunk { state = Retired n })) stamp_is in
@@ -217,7 +231,8 @@ deleted limit seats before events old new base stamp h region is own threads =
           (record { bytes = with_span old.marked.bytes (is.chunk.base - 65536) (replicate is.chunk.length 244); marks = old.marked.marks })
           (is.bytes ∙ ap (λ (b : ℕ). with_span old.marked.bytes (b - 65536) (replicate is.chunk.length 244)) (sym is.base_is))
           (ap (λ (r : Region). r.marked.marks) is.others));
-      keeper = ap generation_raised h.stands.keeper ∙ sym keeper;
+      keeper = subst (λ (n : KeeperNumbers). KnowsNoMore n (generation_raised w.keeper)) (sym keeper)
+          (knows_raised old.keeper.numbers w.keeper h.stands.keeper);
       spans = λ span. subst
           (λ (z : List Chunk). Contains
           (record { base = is.chunk.base; length = is.chunk.length; stamp = w.keeper.generation + 1 } ∷ w.retired) span ↔ Contains

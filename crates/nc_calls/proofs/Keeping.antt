@@ -14,8 +14,9 @@ use Rattle.nc_region.specs.Region.{Region, IsRegion}
 use Rattle.nc_region.proofs.Offered.{region_of_new}
 use Rattle.nc_calls.specs.Views.{ViewsKeep}
 use Rattle.nc_calls.specs.Weaving.{writers, IsKeepers, ThreadsMay}
-use Rattle.nc_calls.specs.Calls.{HasLedTo}
-use Rattle.nc_calls.proofs.Histories.{grown}
+use Rattle.nc_calls.specs.Calls.{KnowsNoMore, HasLedTo}
+use Rattle.nc_calls.proofs.Histories.{Grows, grown}
+use Rattle.nc_calls.proofs.Knowing.{knows_as_much}
 use Rattle.nc_calls.proofs.Looking.{KeeperOnly, keeper_woven, placed}
 use Rattle.nc_calls.proofs.Parting.{Kept, region_kept}
 use Rattle.nc_calls.proofs.Putting.{settled_views}
@@ -24,18 +25,19 @@ use Rattle.nc_calls.proofs.Putting.{settled_views}
 pub keeper : (limit seats : ℕ) (before events : List Event) (old new : Region) → HasLedTo limit seats before old
     → new.marked ≡ old.marked → new.chunks ≡ old.chunks → All IsKeepers (writers events)
     → ThreadsMay (world_after (first_world limit seats) before) events
-    → (world_after (first_world limit seats) (before ++ events)).keeper ≡ new.keeper.numbers
-    → new.keeper.numbers.generation ≤ last_generation → HasLedTo limit seats (before ++ events) new
+    → KnowsNoMore new.keeper.numbers (world_after (first_world limit seats) (before ++ events)).keeper
+    → new.keeper.numbers.generation ≤ last_generation → Grows limit seats before events new
 keeper limit seats before events old new h marked chunks own threads found range =
     let w = world_after (first_world limit seats) before in
     let a : KeeperOnly w w.keeper w.seats events = keeper_woven w events w.keeper w.seats own threads in
-    let keeper_is : a.keeper_after ≡ new.keeper.numbers =
-    sym (ap (λ (x : World). x.keeper) (after_append (first_world limit seats) before events ∙ a.after_is)) ∙ found in
+    let knows : KnowsNoMore new.keeper.numbers a.keeper_after =
+    subst (KnowsNoMore new.keeper.numbers) (ap (λ (x : World). x.keeper)
+    (after_append (first_world limit seats) before events ∙ a.after_is)) found in
     grown limit seats before events old new (placed w a.keeper_after a.seats_after) h
-    (record { allowed = a.allowed; after_is = a.after_is })
+    (record { allowed = a.allowed; whole = a.whole; after_is = a.after_is })
     (record {
       marked = h.stands.marked ∙ sym marked;
-      keeper = keeper_is;
+      keeper = knows;
       spans = λ span. subst (λ (z : List Chunk). Contains w.retired span ↔ Contains (retired_spans z) span) (sym chunks)
           (h.stands.spans span);
     })
@@ -53,8 +55,8 @@ first_views limit seats lawful =
 -- A new region. It is the one over an unused keeper, after what this keeper did.
 pub begins : (limit seats : ℕ) (events : List Event) (r : Region) → IsLawfulLimit limit → r.marked ≡ unused_text limit → r.chunks ≡ []
     → All IsKeepers (writers events) → ThreadsMay (first_world limit seats) events
-    → (world_after (first_world limit seats) events).keeper ≡ r.keeper.numbers
-    → r.keeper.numbers.generation ≤ last_generation → HasLedTo limit seats events r
+    → KnowsNoMore r.keeper.numbers (world_after (first_world limit seats) events).keeper
+    → r.keeper.numbers.generation ≤ last_generation → Grows limit seats [] events r
 begins limit seats events r lawful marked chunks own threads found range =
     let none : List RetiredSpan = [] in
     let unused : Region = record r { keeper = record r.keeper { numbers = first_keeper_numbers seats } } in
@@ -64,7 +66,7 @@ begins limit seats events r lawful marked chunks own threads found range =
       allowed = tt;
       stands = record {
         marked = sym marked;
-        keeper = refl;
+        keeper = knows_as_much (first_keeper_numbers seats) (first_keeper_numbers seats) refl;
         spans = λ span. subst (λ (z : List Chunk). Contains none span ↔ Contains (retired_spans z) span) (sym chunks)
             ((λ x. x), (λ x. x));
       };

@@ -1,5 +1,7 @@
 pub mod Good
 pub mod OnePut
+pub mod Whole
+pub mod PutsWhole
 pub mod RetiredSpans
 pub mod Parting
 pub mod Woven
@@ -8,6 +10,7 @@ pub mod Putting
 pub mod Creation
 pub mod Deletion
 pub mod Patching
+pub mod Knowing
 pub mod Histories
 pub mod Modified
 pub mod Looking
@@ -15,7 +18,10 @@ pub mod Keeping
 pub mod Reclaiming
 pub mod Freeing
 pub mod Reclaimed
+pub mod Refusals
 pub mod Instances
 pub mod StillRegion
+pub mod Fetching
 pub mod AllTurns
 pub mod LoggedCalls
+pub mod lives

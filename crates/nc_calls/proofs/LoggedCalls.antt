@@ -10,16 +10,19 @@ use Rattle.nc_list.specs.declared.chunk.Chunk.{Chunk}
 use Rattle.nc_region.specs.schedules.Events.{Looks}
 use Rattle.nc_region.specs.declared.acts.Entry.{Entry}
 use Rattle.nc_region.specs.declared.fault.CreateFault.{CreateFault}
-use Rattle.nc_region.specs.Region.{Region, IsCreated, IsRefused, Meets}
+use Rattle.nc_region.specs.declared.fault.ModifyFault.{ModifyFault}
+use Rattle.nc_region.specs.declared.fault.DeleteFault.{DeleteFault}
+use Rattle.nc_region.specs.Region.{Region, IsCreated, IsRefused, MayRefuse, Meets}
 use Rattle.nc_region.specs.Log.{Logs, log_of_create, log_of_delete}
-use Rattle.nc_region.specs.Deletion.{IsDeleted, IsReclaimed}
-use Rattle.nc_region.specs.Patch.{IsPatch, IsModified, AreBytesOf, log_of_modify}
+use Rattle.nc_region.specs.Deletion.{IsDeleted, MayRefuseDelete, IsReclaimed}
+use Rattle.nc_region.specs.Patch.{IsPatch, IsModified, MayRefusePatch, AreBytesOf, log_of_modify}
 use Rattle.nc_region.specs.Quiet.{retired_spans}
 use Rattle.nc_region.proofs.Offered.{listed_there}
 use Rattle.nc_calls.specs.Weaving.{IsKeepers}
 use Rattle.nc_calls.specs.Calls.{Details, no_details, events_of_log}
+use Rattle.nc_calls.specs.Histories.{IsRefusal, OfCreation, OfPatch, OfDeletion, LogsRefusal}
 use Rattle.nc_calls.specs.Histories.{IsCall, Creates, Patches, Deletes, Reclaims, UsesKeeper, Refuses, Keeps, LogsCall}
-use Rattle.nc_calls.proofs.AllTurns.{refused_same}
+use Rattle.nc_calls.proofs.Refusals.{same_but_pages, refusal_same}
 
 -- a call whose events are those of its log
 logs_call : (seats : ℕ) (details : Details) (old new : Region) (own : List Entry) → Logs old.logged new.logged own
@@ -37,7 +40,18 @@ logs_nothing old new same = subst (λ (log : List Entry). Logs old.logged log []
 -- an equal region is left by a call that does nothing
 keeps_logged : (seats : ℕ) (old new : Region) → new ≡ old → LogsCall seats no_details old new
 keeps_logged seats old new same =
-    logs_call seats no_details old new [] (logs_nothing old new (ap (λ (r : Region). r.logged) same)) (Keeps same refl)
+    logs_call seats no_details old new [] (logs_nothing old new (ap (λ (r : Region). r.logged) same))
+    (Keeps (same_but_pages old new same) refl)
+
+-- a refused call has logged nothing
+logs_refusal : (old new : Region) → IsRefusal old new [] → LogsRefusal old new
+logs_refusal old new is = (ap (λ (r : Region). r.logged) (refusal_same old new [] is), is)
+
+-- and is a call
+logs_both : (seats : ℕ) (old new : Region) → IsRefusal old new [] → LogsRefusal old new × LogsCall seats no_details old new
+logs_both seats old new is =
+    let logs = logs_refusal old new is in
+    (logs, logs_call seats no_details old new [] (logs_nothing old new logs.0) (Refuses is))
 
 -- an accepted creation
 pub creates : {T E : Type 0} (answer : Result T E) (seats : ℕ) (old new : Region) (v : MarkedChunk) → IsValid v
@@ -50,11 +64,10 @@ creates (Err e) seats old new v valid is log free = tt
 
 -- a refused creation
 pub refuses : {T : Type 0} (answer : Result T (MarkedChunk × CreateFault)) (seats : ℕ) (old new : Region) (v : MarkedChunk)
-    → IfErr answer (λ e. (e.0 ≡ v) × IsRefused old new v e.1) → OnErr answer (LogsCall seats no_details old new)
-refuses (Ok x) seats old new v is = tt
-refuses (Err e) seats old new v is =
-    logs_call seats no_details old new []
-    (logs_nothing old new (ap (λ (r : Region). r.logged) (refused_same old new v e.1 is.1))) (Refuses v e.1 is.1 refl)
+    → IfErr answer (λ e. (e.0 ≡ v) × IsRefused old new v e.1) → IfErr answer (λ e. MayRefuse old v e.1)
+    → OnErr answer (LogsRefusal old new × LogsCall seats no_details old new)
+refuses (Ok x) seats old new v is due = tt
+refuses (Err e) seats old new v is due = logs_both seats old new (OfCreation v e.1 due is.1 refl)
 
 -- a patch, accepted or refused
 pub patches : {T E : Type 0} (answer : Result T E) (seats : ℕ) (old new : Region) (at : ℕ) (bytes : List ℕ)
@@ -67,6 +80,12 @@ patches (Ok x) seats old new at bytes lawful is log same =
     logs_call seats no_details old new (log_of_modify old.marked.bytes at run.news) (log run.news run.bytes)
     (Patches at bytes run.news lawful run.bytes is refl)
 patches (Err e) seats old new at bytes lawful is log same = keeps_logged seats old new same
+
+-- a refused patch
+pub patches_nothing : {T : Type 0} (answer : Result T ModifyFault) (old new : Region) (at : ℕ) (bytes : List ℕ)
+    → IfErr answer (λ e. new ≡ old) → IfErr answer (MayRefusePatch old at bytes) → OnErr answer (LogsRefusal old new)
+patches_nothing (Ok x) old new at bytes same due = tt
+patches_nothing (Err e) old new at bytes same due = logs_refusal old new (OfPatch at bytes e due same refl)
 
 -- an accepted deletion
 pub deletes : {E : Type 0} (answer : Result ℕ E) (seats : ℕ) (old new : Region) (base : ℕ) → IfOk answer (IsDeleted old new base)
@@ -83,10 +102,11 @@ deletes (Ok stamp) seats old new base is =
 deletes (Err e) seats old new base is = tt
 
 -- a refused deletion
-pub deletes_nothing : {T E : Type 0} (answer : Result T E) (seats : ℕ) (old new : Region) → OnErr answer (new ≡ old)
-    → OnErr answer (LogsCall seats no_details old new)
-deletes_nothing (Ok x) seats old new same = tt
-deletes_nothing (Err e) seats old new same = keeps_logged seats old new same
+pub deletes_nothing : {T : Type 0} (answer : Result T DeleteFault) (seats : ℕ) (old new : Region) (base : ℕ)
+    → OnErr answer (new ≡ old) → IfErr answer (MayRefuseDelete old base)
+    → OnErr answer (LogsRefusal old new × LogsCall seats no_details old new)
+deletes_nothing (Ok x) seats old new base same due = tt
+deletes_nothing (Err e) seats old new base same due = logs_both seats old new (OfDeletion base e due same refl)
 
 -- a reclaiming
 pub reclaims : (seats : ℕ) (old new : Region) (count : ℕ) → IsReclaimed old new count

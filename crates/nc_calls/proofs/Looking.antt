@@ -13,6 +13,8 @@ use Rattle.nc_region.specs.schedules.Events.{Looks}
 use Rattle.nc_region.specs.schedules.Events.{IsAllowed, after, world_after, AreAllowed}
 use Rattle.nc_region.proofs.Offered.{Keeps}
 use Rattle.nc_calls.specs.Weaving.{is_writers, writers, IsKeepers, ThreadsMay}
+use Rattle.nc_calls.specs.Calls.{KnowsNoMore}
+use Rattle.nc_calls.proofs.Whole.{IsWholeIn, StaysWhole}
 
 -- ---- the least number
 
@@ -49,19 +51,21 @@ least_below g (b ∷ bs) (suc k) lt stays =
     go true counted passed = counted
     go false counted passed = passed
 
--- a stamp of at most the least number has passed every seat
-pub has_passed : (w : World) (stamp : ℕ) → Keeps w → w.keeper.generation ≤ last_generation → stamp ≤ least_number w.keeper
-    → HasPassed w stamp
-has_passed w stamp keeps range le k lt = go (seat_at w k).found_left refl
+-- a stamp of at most the least number of a keeper that knows no more than the world's has passed every seat
+pub has_passed : (w : World) (known : KeeperNumbers) (stamp : ℕ) → Keeps w → w.keeper.generation ≤ last_generation
+    → KnowsNoMore known w.keeper → stamp ≤ least_number known → HasPassed w stamp
+has_passed w known stamp keeps range knows le k lt = go (seat_at w k).found_left refl
   where
     go : (found : Bool) → (seat_at w k).found_left ≡ found → (stamp ≤ slice_index w.keeper.bounds k) ⊎ ((seat_at w k).found_left ≡ true)
     go true is = inr is
     go false is =
         let s = keeps.seats k lt in
         let bound = s.bound_is is in
-        let stays : get_or w.keeper.bounds k 0 ≢ left_word = λ e. omega (arith, e, bound, s.since, range) in
-        let below = least_below w.keeper.generation w.keeper.bounds k (omega (arith, lt, keeps.bounds)) stays in
-        inl (omega (arith, le, below))
+        let inside : k < length known.bounds = omega (arith, lt, keeps.bounds, knows.seats) in
+        let most = knows.below k inside in
+        let stays : get_or known.bounds k 0 ≢ left_word = λ e. omega (arith, e, most, bound, s.since, range) in
+        let below = least_below known.generation known.bounds k inside stays in
+        inl (omega (arith, le, most, below))
 
 -- ---- the keeper's events
 
@@ -74,9 +78,11 @@ pub looks_are : (a m : ℕ) → All IsKeepers (map Looks (range_with_len a m))
 looks_are a zero = All-nil IsKeepers
 looks_are a (suc m) = All-cons IsKeepers (Looks a) (map Looks (range_with_len (a + 1) m)) tt (looks_are (a + 1) m)
 
--- All are allowed, and only the keeper's numbers and the seats are others afterwards.
+-- All are allowed, and only the keeper's numbers and the seats are others afterwards. If what views have at marked places stood
+-- there whole before them, it did after each.
 pub record KeeperOnly (w : World) (keeper : KeeperNumbers) (seats : List Seat) (events : List Event) : Type 0 where
   pub allowed : AreAllowed (placed w keeper seats) events
+  pub whole : IsWholeIn w → StaysWhole (placed w keeper seats) events
   pub keeper_after : KeeperNumbers
   pub seats_after : List Seat
   pub after_is : world_after (placed w keeper seats) events ≡ placed w keeper_after seats_after
@@ -88,6 +94,7 @@ keeper_more : (w : World) (keeper later : KeeperNumbers) (seats others : List Se
 keeper_more w keeper later seats others event events allowed same rest =
     record {
       allowed = (allowed, subst (λ (x : World). AreAllowed x events) (sym same) rest.allowed);
+      whole = λ whole. (whole, subst (λ (x : World). StaysWhole x events) (sym same) (rest.whole whole));
       keeper_after = rest.keeper_after;
       seats_after = rest.seats_after;
       after_is = ap (λ (x : World). world_after x events) same ∙ rest.after_is;
@@ -96,7 +103,8 @@ keeper_more w keeper later seats others event events allowed same rest =
 -- the keeper's events with threads between them
 pub keeper_woven : (w : World) (events : List Event) (keeper : KeeperNumbers) (seats : List Seat) → All IsKeepers (writers events)
     → ThreadsMay (placed w keeper seats) events → KeeperOnly w keeper seats events
-keeper_woven w [] keeper seats own threads = record { allowed = tt; keeper_after = keeper; seats_after = seats; after_is = refl }
+keeper_woven w [] keeper seats own threads =
+    record { allowed = tt; whole = λ whole. whole; keeper_after = keeper; seats_after = seats; after_is = refl }
 keeper_woven w (Steps k next ∷ events) keeper seats own threads =
     keeper_more w keeper keeper seats _ (Steps k next) events (threads.0 refl) refl (keeper_woven w events keeper _ own threads.1)
 keeper_woven w (Enters k at ∷ events) keeper seats own threads =

@@ -16,10 +16,10 @@ use Rattle.nc_region.specs.Quiet.{retired_spans}
 use Rattle.nc_region.specs.Region.{Region, IsRegion}
 use Rattle.nc_region.proofs.Offered.{same_code, lies, changed}
 use Rattle.nc_calls.specs.Weaving.{writers, ThreadsMay}
-use Rattle.nc_calls.specs.Calls.{HasLedTo, no_details, modify_events}
+use Rattle.nc_calls.specs.Calls.{KnowsNoMore, HasLedTo, no_details, modify_events}
 use Rattle.nc_calls.proofs.Creation.{start_good}
 use Rattle.nc_calls.proofs.Entries.{events_of, instruction_events, patch_events, modify_is}
-use Rattle.nc_calls.proofs.Histories.{grown_beside, plain_puts, kept_there}
+use Rattle.nc_calls.proofs.Histories.{Grows, grown_beside, plain_puts, kept_there}
 use Rattle.nc_calls.proofs.Parting.{Kept}
 use Rattle.nc_calls.proofs.Patching.{Sound, patch_leads}
 use Rattle.nc_calls.proofs.Putting.{Views, Reaches, reaches_as}
@@ -51,7 +51,7 @@ patch_plain text at (n ∷ ns) =
 pub modified : (limit seats : ℕ) (before events : List Event) (old new : Region) (at : ℕ) (bytes : List ℕ) (news : List Piece)
     → HasLedTo limit seats before old → IsRegion old.marked old.chunks → IsPatch old at bytes → AreBytesOf bytes news
     → IsModified old new at bytes → writers events ≡ modify_events old.marked.bytes at news
-    → ThreadsMay (world_after (first_world limit seats) before) events → HasLedTo limit seats (before ++ events) new
+    → ThreadsMay (world_after (first_world limit seats) before) events → Grows limit seats before events new
 modified limit seats before events old new at bytes news h region lawful b is own threads =
     let w = world_after (first_world limit seats) before in
     let here = h.stands.marked in
@@ -91,7 +91,7 @@ modified limit seats before events old new at bytes news h region lawful b is ow
           ∙ sym (same_code new.marked
           (record { bytes = with_span old.marked.bytes (at - 65536) bytes; marks = old.marked.marks }) is.patched
           (ap (λ (r : Region). r.marked.marks) is.others));
-      keeper = h.stands.keeper ∙ ap (λ (x : KeeperState). x.numbers) (sym keeper);
+      keeper = subst (λ (x : KeeperState). KnowsNoMore x.numbers w.keeper) (sym keeper) h.stands.keeper;
       spans = λ span. subst (λ (z : List Chunk). Contains w.retired span ↔ Contains (retired_spans z) span) (sym chunks)
           (h.stands.spans span);
     })

@@ -34,7 +34,7 @@ pub not_unmarked : (marks : List Mark) (now : State) → IsMarked marks now → 
 not_unmarked marks now m e = subst (λ (x : Mark). Admits x now.masked) e m.1
 
 -- in a good text no other marked place's instruction has a marked place
-other_clear : (text : List ℕ) (marks : List Mark) (spans : List RetiredSpan) (there now : State) → Good text marks spans → IsMarked marks there
+pub other_clear : (text : List ℕ) (marks : List Mark) (spans : List RetiredSpan) (there now : State) → Good text marks spans → IsMarked marks there
     → IsMarked marks now → now.place ≢ there.place → (i : Instr) (k : ℕ) → instruction_at text now.place ≡ Some i → k < i.len
     → now.place + k ≢ there.place
 other_clear text marks spans there now good marked m other i k is lt same =

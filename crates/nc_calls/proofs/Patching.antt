@@ -13,7 +13,7 @@ use Rattle.nc_text.specs.Places.{InRegion, byte_at, instruction_at}
 use Rattle.nc_text.specs.Machine.{State, state}
 use Rattle.nc_text.specs.Marks.{IsMarked, mark_at}
 use Rattle.nc_text.specs.MarkedText.{MarkedText, with_span}
-use Rattle.nc_text.proofs.Offered.{executes}
+use Rattle.nc_text.proofs.Offered.{executes, KeepsBytes, same_instruction}
 use Rattle.nc_vet.specs.Chunk.{Piece, code_of, mark_of}
 use Rattle.nc_vet.proofs.Offered.{same_pieces}
 use Rattle.nc_list.specs.declared.chunk.Chunk.{Chunk}
@@ -35,6 +35,8 @@ use Rattle.nc_calls.proofs.Entries.{events_of, instruction_events, patch_events}
 use Rattle.nc_calls.proofs.Good.{text_of, Good, marked_inside, stop_ends}
 use Rattle.nc_calls.proofs.OnePut.{good_put_marked, good_put_unread, byte_beside, byte_there, not_unmarked}
 use Rattle.nc_calls.proofs.Parting.{region_good, region_stopped}
+use Rattle.nc_calls.proofs.PutsWhole.{whole_put_unread, whole_put_marked, whole_put_single, whole_put_stop}
+use Rattle.nc_calls.proofs.Whole.{PutsWhole}
 use Rattle.nc_calls.proofs.Putting.{with_text, settled, Views, Leads, Reaches, leads_none, leads_more, put_leads, settling_leads, settled_views, MayLay, lay_all}
 use Rattle.nc_calls.proofs.RetiredSpans.{AreSpansOf}
 
@@ -94,6 +96,25 @@ byte_put w chunks at byte view r inside long there s =
       stopped = still_stopped w chunks at (byte ∷ []) view at byte r (omega arith) (omega (arith, r.replacing.some)) s.stopped;
     }
 
+-- it is the whole instruction
+whole_byte : (w : World) (chunks : List Chunk) (at byte : ℕ) (view text : List ℕ) → Replaces w chunks at (byte ∷ []) → InRegion view at
+    → InRegion text at → length view ≡ length (changed w.marked at (byte ∷ [])).bytes
+    → byte_at (changed w.marked at (byte ∷ [])).bytes at ≡ byte → Sound w chunks view
+    → PutsWhole w.marked.marks view text at byte
+whole_byte w chunks at byte view text r inside within long there s =
+    let e = executes (changed w.marked at (byte ∷ [])).bytes (state at r.masked) inside.0
+    (r.final.good.closed.safe (state at r.masked) r.marked) in
+    let one : e.i.len ≡ 1 = r.len e.i e.is in
+    let kept : KeepsBytes (changed w.marked at (byte ∷ [])).bytes (set view (at - 65536) byte) at e.i.len = λ k lt.
+    let first : at ≡ at + k = omega (arith, one, lt) in
+    subst (λ (p : ℕ). byte_at (set view (at - 65536) byte) p ≡ byte_at (changed w.marked at (byte ∷ [])).bytes p) first
+    (byte_there view at byte inside ∙ sym there) in
+    let put_is = same_instruction (changed w.marked at (byte ∷ [])).bytes (set view (at - 65536) byte) at e.i
+    (length-set view (at - 65536) byte ∙ long) e.inside e.is kept in
+    whole_put_single w.marked.marks w.retired view text (state at r.masked) byte s.good inside within r.marked (λ i is.
+    let same : e.i ≡ i = some_same (instruction_at (set view (at - 65536) byte) at) e.i i put_is is in
+    omega (arith, one, ap (λ (j : Instr). j.len) same))
+
 -- one byte replaced
 single_leads : (w : World) (chunks : List Chunk) (at byte : ℕ) → Replaces w chunks at (byte ∷ [])
     → Views (λ view. Sound w chunks view) w.marked.bytes w.earlier
@@ -107,7 +128,9 @@ single_leads w chunks at byte r views =
     let long : length (changed w.marked at (byte ∷ [])).bytes ≡ length w.marked.bytes =
     ap (λ (z : List ℕ). length z) (sym same) ∙ length-set w.marked.bytes (at - 65536) byte in
     let p = put_leads w (λ view. Sound w chunks view) w.marked.bytes w.earlier at byte inside (λ view s. s.good) views
-    (λ view is s. byte_put w chunks at byte view r (inside.0, omega (arith, inside.1, is.as_long)) (is.as_long ∙ sym long) there s) in
+    (λ view is s. byte_put w chunks at byte view r (inside.0, omega (arith, inside.1, is.as_long)) (is.as_long ∙ sym long) there s)
+    (λ view is s. whole_byte w chunks at byte view w.marked.bytes r (inside.0, omega (arith, inside.1, is.as_long)) inside
+    (is.as_long ∙ sym long) there s) in
     let is : p.bytes ≡ (changed w.marked at (byte ∷ [])).bytes = p.has ∙ same in
     record {
       earlier = p.earlier;
@@ -168,6 +191,9 @@ may_lay_rest w chunks at first rest r =
         };
         stop = byte_beside view (at + 1 + count) at (get_or rest count 0) inside.0 r.replacing.low (λ same. omega (arith, same)) ∙ o.stop;
       };
+      whole = λ view text count lt chosen inside within o t.
+          whole_put_unread w.marked.marks w.retired view text (at + 1 + count) (get_or rest count 0) o.sound.good inside.0
+          (open_clear w chunks at (first ∷ rest) view (at + 1 + count) r o (omega arith) (omega (arith, lt)));
     }
 
 -- several bytes replaced
@@ -180,7 +206,9 @@ longer_leads w chunks at first rest r views =
     let text0 : List ℕ = set w.marked.bytes (at - 65536) 244 in
     let long0 : length (set w.marked.bytes (at - 65536) 244) ≡ length w.marked.bytes = length-set w.marked.bytes (at - 65536) 244 in
     let p = put_leads w (λ view. Sound w chunks view) w.marked.bytes w.earlier at 244 inside (λ view s. s.good) views
-    (λ view is s. stop_put w chunks at (first ∷ rest) view r (inside.0, omega (arith, inside.1, is.as_long)) s) in
+    (λ view is s. stop_put w chunks at (first ∷ rest) view r (inside.0, omega (arith, inside.1, is.as_long)) s)
+    (λ view is s. whole_put_stop w.marked.marks w.retired view w.marked.bytes (state at r.masked) 244 s.good
+    (inside.0, omega (arith, inside.1, is.as_long)) inside r.marked refl) in
     let started : Leads w (Puts at 244 ∷ []) (with_text w (set w.marked.bytes (at - 65536) 244) p.earlier) =
     subst (λ (z : List ℕ). Leads w (Puts at 244 ∷ []) (with_text w z p.earlier)) p.has p.leads in
     let opened : Open w chunks at (set w.marked.bytes (at - 65536) 244) = record {
@@ -197,7 +225,9 @@ longer_leads w chunks at first rest r views =
     let b = put_leads w (λ view. Sound w chunks view) a.bytes [] at first (inside.0, omega (arith, inside.1, long)) (λ view s. s.good)
     (settled_views (λ view. Sound w chunks view) a.bytes here.sound)
     (λ view is s. subst (λ (z : List ℕ). Sound w chunks (set z (at - 65536) first)) (sym (only_as_it_stands a.bytes view is))
-    (subst (λ view. Sound w chunks view) (sym same) r.final)) in
+    (subst (λ view. Sound w chunks view) (sym same) r.final))
+    (λ view is s. whole_put_marked w.marked.marks w.retired view a.bytes (state at r.masked) first s.good inside.0 r.marked
+    (λ i there k lt. ap (λ (z : List ℕ). byte_at (set z (at - 65536) first) (at + k)) (sym (only_as_it_stands a.bytes view is)))) in
     let is : b.bytes ≡ (changed w.marked at (first ∷ rest)).bytes = b.has ∙ same in
     let end : World = record w { marked = changed w.marked at (first ∷ rest); earlier = b.earlier } in
     let last : Leads (settled w a.bytes) (Puts at first ∷ [])

@@ -1,4 +1,4 @@
--- Puts, one after the other: each is allowed, and what they leave, in the text and in every view.
+-- Puts, one after the other: each is allowed, instructions are put whole, and what they leave, in the text and in every view.
 use Rattle.std.proofs.Common.{◌≡◌, ℕ, ◌+◌, ◌-◌, ◌<◌, ◌≤◌, Bool, true, false, cond, List, [], ◌∷◌, ◌++◌, length, get_or, set, drop, arith}
 use Rattle.std.proofs.Common.{refl, ◌∙◌, sym, ap, subst}
 use Rattle.std.proofs.lemmas.List.{drop_more, length-drop}
@@ -6,7 +6,7 @@ use Rattle.nc_text.specs.Places.{InRegion}
 use Rattle.nc_region.specs.schedules.Views.{IsView}
 use Rattle.nc_region.specs.schedules.World.{World}
 use Rattle.nc_region.specs.schedules.Events.{Event, Puts, Settles, IsAllowed, after, world_after, AreAllowed}
-use Rattle.nc_region.proofs.Offered.{allowed_append, after_append, views_after_put, only_as_it_stands}
+use Rattle.nc_region.proofs.Offered.{allowed_append, after_append, views_after_put, as_it_stands, only_as_it_stands}
 use Rattle.nc_region.specs.declared.acts.Act.TheVariants.{Put}
 use Rattle.nc_region.specs.Acts.{puts_where}
 use Rattle.nc_region.specs.machinery.Between.{HasPut}
@@ -14,6 +14,7 @@ use Rattle.nc_region.proofs.Offered.{put_none, put_more, put_passed}
 use Rattle.nc_calls.specs.Calls.{Details}
 use Rattle.nc_calls.proofs.Entries.{events_of}
 use Rattle.nc_calls.proofs.Good.{text_of, Good}
+use Rattle.nc_calls.proofs.Whole.{PutsWhole, whole_after_put, whole_settled, IsWholeIn, StaysWhole, whole_append}
 
 -- the world with these bytes, after those that stood before
 abbrev pub with_text : World → List ℕ → List (List ℕ) → World
@@ -31,24 +32,29 @@ Views V bytes earlier = (view : List ℕ) → IsView bytes earlier view → V vi
 pub settled_views : (V : List ℕ → Type 0) (bytes : List ℕ) → V bytes → Views V bytes []
 settled_views V bytes v = λ view is. subst V (sym (only_as_it_stands bytes view is)) v
 
--- events that are allowed in one world and lead to another
+-- Events that are allowed in one world and lead to another. If what views have at marked places stood there whole before them, it
+-- did after each.
 pub record Leads (w : World) (events : List Event) (v : World) : Type 0 where
   pub allowed : AreAllowed w events
+  pub whole : IsWholeIn w → StaysWhole w events
   pub after_is : world_after w events ≡ v
 
 -- no event
 pub leads_none : (w : World) → Leads w [] w
-leads_none w = record { allowed = tt; after_is = refl }
+leads_none w = record { allowed = tt; whole = λ whole. whole; after_is = refl }
 
 -- one event
-pub leads_one : (w : World) (event : Event) → IsAllowed w event → Leads w (event ∷ []) (after w event)
-leads_one w event allowed = record { allowed = (allowed, tt); after_is = refl }
+pub leads_one : (w : World) (event : Event) → IsAllowed w event → (IsWholeIn w → IsWholeIn (after w event))
+    → Leads w (event ∷ []) (after w event)
+leads_one w event allowed keeps = record { allowed = (allowed, tt); whole = λ whole. (whole, keeps whole); after_is = refl }
 
 -- events after events
 pub leads_more : (w v u : World) (first second : List Event) → Leads w first v → Leads v second u → Leads w (first ++ second) u
 leads_more w v u first second a b =
     record {
       allowed = allowed_append w first second a.allowed (subst (λ (x : World). AreAllowed x second) (sym a.after_is) b.allowed);
+      whole = λ whole. whole_append w first second (a.whole whole)
+          (subst (λ (x : World). IsWholeIn x → StaysWhole x second) (sym a.after_is) b.whole);
       after_is = after_append w first second ∙ (ap (λ (x : World). world_after x second) a.after_is ∙ b.after_is);
     }
 
@@ -75,8 +81,9 @@ reaches_as w events v V W f r = record { earlier = r.earlier; leads = r.leads; v
 pub put_leads : (w : World) (V : List ℕ → Type 0) (now : List ℕ) (before : List (List ℕ)) (at byte : ℕ) → InRegion now at
     → ((view : List ℕ) → V view → Good view w.marked.marks w.retired) → Views V now before
     → ((view : List ℕ) → IsView now before view → V view → V (set view (at - 65536) byte))
+    → ((view : List ℕ) → IsView now before view → V view → PutsWhole w.marked.marks view now at byte)
     → HasLaid w now before (Puts at byte ∷ []) (λ bytes. bytes ≡ set now (at - 65536) byte) V
-put_leads w V now before at byte inside good views put =
+put_leads w V now before at byte inside good views put whole =
     let later : Views V (set now (at - 65536) byte) (now ∷ before) = views_after_put V now before at byte inside views
     (λ view is. put view is (views view is)) in
     record {
@@ -85,21 +92,25 @@ put_leads w V now before at byte inside good views put =
       leads = leads_one (with_text w now before) (Puts at byte) (
         inside,
         λ view is. let g = good view (later view is) in (g.closed, g.shut),
-      );
+      )
+          (whole_after_put w.marked.marks now before at byte inside (λ view is. whole view is (views view is)));
       has = refl;
       views = later;
     }
 
 -- a settling
 pub settling_leads : (w : World) (now : List ℕ) (before : List (List ℕ)) → Leads (with_text w now before) (Settles ∷ []) (settled w now)
-settling_leads w now before = leads_one (with_text w now before) Settles tt
+settling_leads w now before = leads_one (with_text w now before) Settles tt (λ whole. whole_settled w.marked.marks now)
 
--- what a run of puts needs: views with V are good, and have V again after each of the puts, in whatever order
+-- what a run of puts needs: views with V are good, and have V again after each of the puts, in whatever order; and each puts
+-- instructions whole
 pub record MayLay (w : World) (chosen : ℕ → Bool) (base : ℕ) (bytes : List ℕ) (V : List ℕ → Type 0) : Type 0 where
   pub low : 65536 ≤ base
   pub good : (view : List ℕ) → V view → Good view w.marked.marks w.retired
   pub put : (view : List ℕ) (count : ℕ) → count < length bytes → chosen (base + count) ≡ true → InRegion view (base + count) → V view
       → V (set view (base + count - 65536) (get_or bytes count 0))
+  pub whole : (view text : List ℕ) (count : ℕ) → count < length bytes → chosen (base + count) ≡ true → InRegion view (base + count)
+      → InRegion text (base + count) → V view → V text → PutsWhole w.marked.marks view text (base + count) (get_or bytes count 0)
 
 -- one more byte, put or passed over
 lay_one : (w : World) (d : Details) (chosen : ℕ → Bool) (base : ℕ) (bytes old : List ℕ) (V : List ℕ → Type 0)
@@ -123,7 +134,13 @@ lay_one w d chosen base bytes old V may fits byte rest count at now before here 
     subst (λ (b : ℕ). V (set view (at - 65536) b)) (sym first)
     (subst (λ (a : ℕ). V (set view (a - 65536) (get_or bytes count 0))) (sym here)
     (may.put view count lt is_here
-    (omega (arith, may.low), omega (arith, here, inside.1, is_view.as_long)) v))) in
+    (omega (arith, may.low), omega (arith, here, inside.1, is_view.as_long)) v)))
+    (λ view is_view v.
+    subst (λ (b : ℕ). PutsWhole w.marked.marks view now at b) (sym first)
+    (subst (λ (a : ℕ). PutsWhole w.marked.marks view now a (get_or bytes count 0)) (sym here)
+    (may.whole view now count lt is_here
+    (omega (arith, may.low), omega (arith, here, inside.1, is_view.as_long)) (omega (arith, may.low), omega (arith, here, inside.1)) v
+    (views now (as_it_stands now before))))) in
     let r = go one.bytes one.earlier
     (subst (HasPut chosen base bytes (count + 1) old) (sym one.has) next) one.views in
     record {

@@ -4,7 +4,6 @@ use Rattle.std.specs.Prelude.{All, Contains, ◌↔◌}
 use Rattle.std.specs.List.{range_with_len}
 use Rattle.nc_text.specs.Places.{limit_of}
 use Rattle.nc_text.specs.MarkedText.{MarkedText}
-use Rattle.nc_gens.specs.declared.view.KeeperNumbers.{KeeperNumbers}
 use Rattle.nc_gens.specs.Rule.{last_generation}
 use Rattle.nc_gens.specs.Seen.{least_number}
 use Rattle.nc_list.specs.declared.chunk.Chunk.{Chunk}
@@ -16,11 +15,11 @@ use Rattle.nc_region.specs.Deletion.{freed, kept, unmarked, unmarkings, IsReclai
 use Rattle.nc_region.specs.Quiet.{retired_spans}
 use Rattle.nc_region.specs.Region.{Region, IsRegion}
 use Rattle.nc_calls.specs.Weaving.{writers, IsKeepers, ThreadsMay}
-use Rattle.nc_calls.specs.Calls.{HasLedTo, no_details, reclaim_events}
+use Rattle.nc_calls.specs.Calls.{KnowsNoMore, HasLedTo, no_details, reclaim_events}
 use Rattle.nc_calls.specs.Views.{ViewsKeep}
 use Rattle.nc_calls.proofs.Entries.{unsettled_events}
-use Rattle.nc_calls.proofs.Freeing.{thinned, views_thinned}
-use Rattle.nc_calls.proofs.Histories.{grown}
+use Rattle.nc_calls.proofs.Freeing.{thins, views_thinned}
+use Rattle.nc_calls.proofs.Histories.{Grows, grown}
 use Rattle.nc_calls.proofs.Looking.{KeeperOnly, looks_are, keeper_woven, placed, part, threads_parted}
 use Rattle.nc_calls.proofs.Putting.{Leads, leads_more}
 use Rattle.nc_calls.proofs.Reclaiming.{FreesMay, frees, frees_same, frees_woven, frees_done, finds_all, keeper_stays}
@@ -31,8 +30,8 @@ pub reclaimed : (limit seats : ℕ) (before events : List Event) (old new : Regi
     → HasLedTo limit seats before old → IsRegion old.marked old.chunks → IsReclaimed old new count
     → writers events ≡ reclaim_events seats (least_number new.keeper.numbers) old.chunks
     → ThreadsMay (world_after (first_world limit seats) before) events
-    → (world_after (first_world limit seats) (before ++ events)).keeper ≡ new.keeper.numbers
-    → HasLedTo limit seats (before ++ events) new
+    → KnowsNoMore new.keeper.numbers (world_after (first_world limit seats) (before ++ events)).keeper
+    → Grows limit seats before events new
 reclaimed limit seats before events old new count h region is own threads found =
     let w = world_after (first_world limit seats) before in
     let least = least_number new.keeper.numbers in
@@ -61,25 +60,20 @@ reclaimed limit seats before events old new count h region is own threads found 
     let f = frees_done (least_number new.keeper.numbers) (retired_spans old.chunks) old.chunks []
     (placed (world_after (first_world limit seats) before) a.keeper_after a.seats_after) region_mid
     (finds_all 65536 (limit_of old.marked.bytes) old.chunks region.rising region.placed) h.stands.spans in
-    let whole_keeper :
-    (world_after (placed
-    (world_after (first_world limit seats) before) a.keeper_after a.seats_after) p.second).keeper ≡ new.keeper.numbers =
-    sym (ap (λ (x : World). x.keeper)
-    (ap (λ (z : List Event). world_after (first_world limit seats) (before ++ z)) p.is
-    ∙ (after_append (first_world limit seats) before (p.first ++ p.second)
-    ∙ (after_append w p.first p.second ∙ ap (λ (x : World). world_after x p.second) a.after_is)))) ∙ found in
     let may : FreesMay w.retired (least_number new.keeper.numbers) (writers p.second) =
     subst (FreesMay w.retired (least_number new.keeper.numbers)) (sym p.second_is) f.may in
-    let keeper_is : a.keeper_after ≡ new.keeper.numbers =
-    sym (keeper_stays p.second (placed (world_after (first_world limit seats) before) a.keeper_after a.seats_after) w.retired
-    (least_number new.keeper.numbers) may) ∙ whole_keeper in
+    let keeper_is : (world_after (first_world limit seats) (before ++ events)).keeper ≡ a.keeper_after =
+    ap (λ (x : World). x.keeper)
+    (ap (λ (z : List Event). world_after (first_world limit seats) (before ++ z)) p.is
+    ∙ (after_append (first_world limit seats) before (p.first ++ p.second)
+    ∙ (after_append w p.first p.second ∙ ap (λ (x : World). world_after x p.second) a.after_is)))
+    ∙ keeper_stays p.second (placed (world_after (first_world limit seats) before) a.keeper_after a.seats_after) w.retired
+    (least_number new.keeper.numbers) may in
+    let knows : KnowsNoMore new.keeper.numbers a.keeper_after = subst (KnowsNoMore new.keeper.numbers) keeper_is found in
     let range : a.keeper_after.generation ≤ last_generation =
-    subst (λ (k : KeeperNumbers). k.generation ≤ last_generation) (sym keeper_is) (omega (arith, is.looked.generation, h.in_range)) in
-    let least_is : least_number new.keeper.numbers ≤ least_number a.keeper_after =
-    subst (λ (k : KeeperNumbers). least_number new.keeper.numbers ≤ least_number k) (sym keeper_is) (omega arith) in
+    omega (arith, knows.generation, is.looked.generation, h.in_range) in
     let b = frees_woven p.second (placed (world_after (first_world limit seats) before) a.keeper_after a.seats_after) a.seats_after
-    (least_number new.keeper.numbers) keeps_mid
-    range least_is may (subst (λ (x : World). ThreadsMay x p.second) a.after_is t.1) in
+    new.keeper.numbers keeps_mid range knows may (subst (λ (x : World). ThreadsMay x p.second) a.after_is t.1) in
     let end : World =
     seated (world_after (placed (world_after (first_world limit seats) before) a.keeper_after a.seats_after)
     (frees (retired_spans old.chunks) (freed (least_number new.keeper.numbers) old.chunks))) b.seats_after in
@@ -89,18 +83,19 @@ reclaimed limit seats before events old new count h region is own threads found 
     b.after_is ∙ ap
     (λ (z : List Event). seated
     (world_after (placed (world_after (first_world limit seats) before) a.keeper_after a.seats_after) z) b.seats_after) p.second_is in
+    let thin = thins p.second (placed (world_after (first_world limit seats) before) a.keeper_after a.seats_after) w.retired
+    (least_number new.keeper.numbers) keeps_mid b.allowed may in
     let both : Leads w (p.first ++ p.second)
     (seated (world_after (placed (world_after (first_world limit seats) before) a.keeper_after a.seats_after)
     (frees (retired_spans old.chunks) (freed (least_number new.keeper.numbers) old.chunks))) b.seats_after) =
     leads_more w (placed (world_after (first_world limit seats) before) a.keeper_after a.seats_after) _ p.first p.second
-    (record { allowed = a.allowed; after_is = a.after_is }) (record { allowed = b.allowed; after_is = end_is }) in
-    let thin = thinned p.second (placed (world_after (first_world limit seats) before) a.keeper_after a.seats_after) w.retired
-    (least_number new.keeper.numbers) keeps_mid b.allowed may in
+    (record { allowed = a.allowed; whole = a.whole; after_is = a.after_is })
+    (record { allowed = b.allowed; whole = thin.whole; after_is = end_is }) in
     let views_mid : ViewsKeep (placed (world_after (first_world limit seats) before) a.keeper_after a.seats_after) old.chunks =
     record { parted = h.views.parted; stopped = h.views.stopped } in
     let views_end = views_thinned (placed (world_after (first_world limit seats) before) a.keeper_after a.seats_after)
     (world_after (placed (world_after (first_world limit seats) before) a.keeper_after a.seats_after) p.second) old.chunks
-    (least_number new.keeper.numbers) thin views_mid in
+    (least_number new.keeper.numbers) thin.thinned views_mid in
     grown limit seats before events old new _ h
     (subst (λ (z : List Event). Leads (world_after (first_world limit seats) before) z
     (seated (world_after (placed (world_after (first_world limit seats) before) a.keeper_after a.seats_after)
@@ -108,7 +103,7 @@ reclaimed limit seats before events old new count h region is own threads found 
     (record {
       marked = f.marked_is
           ∙ (ap (λ (m : MarkedText). unmarked m (freed (least_number new.keeper.numbers) old.chunks)) here ∙ sym is.marked);
-      keeper = f.keeper_is ∙ keeper_is;
+      keeper = subst (KnowsNoMore new.keeper.numbers) (sym f.keeper_is) knows;
       spans = λ span. subst
           (λ (z : List Chunk). Contains
           (world_after (placed (world_after (first_world limit seats) before) a.keeper_after a.seats_after)

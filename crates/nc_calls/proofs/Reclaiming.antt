@@ -8,6 +8,7 @@ use Rattle.std.proofs.lemmas.List.Elements.{filter_passes, All-filter, All-conta
 use Rattle.std.proofs.lemmas.List.Elements.{Contains-append_left, Contains-push}
 use Rattle.nc_text.specs.Places.{limit_of}
 use Rattle.nc_text.specs.MarkedText.{MarkedText}
+use Rattle.nc_gens.specs.declared.view.KeeperNumbers.{KeeperNumbers}
 use Rattle.nc_gens.specs.Rule.{last_generation}
 use Rattle.nc_gens.specs.Seen.{least_number}
 use Rattle.nc_list.specs.declared.chunk.Chunk.{Chunk}
@@ -26,7 +27,7 @@ use Rattle.nc_region.specs.Quiet.{with_retired, retired_spans}
 use Rattle.nc_region.specs.Region.{IsLive, IsRising, IsRegion}
 use Rattle.nc_region.proofs.Offered.{each_map, each_both, each_contains, each_middle, region_freed, rises_above}
 use Rattle.nc_calls.specs.Weaving.{writers, ThreadsMay}
-use Rattle.nc_calls.specs.Calls.{span_from}
+use Rattle.nc_calls.specs.Calls.{KnowsNoMore, span_from}
 use Rattle.nc_calls.proofs.Entries.{events_of}
 use Rattle.nc_calls.proofs.Looking.{has_passed}
 use Rattle.nc_calls.proofs.RetiredSpans.{AreSameSpans, retired_append, retired_head, into_middle, out_of_middle}
@@ -43,43 +44,44 @@ FreesMay spans least (Frees span ∷ events) =
 FreesMay spans least (event ∷ events) = ⊥
 
 -- spans are freed with threads in between
-pub frees_woven : (events : List Event) (w : World) (seats : List Seat) (least : ℕ) → Keeps (seated w seats)
-    → w.keeper.generation ≤ last_generation → least ≤ least_number w.keeper → FreesMay w.retired least (writers events)
+pub frees_woven : (events : List Event) (w : World) (seats : List Seat) (known : KeeperNumbers) → Keeps (seated w seats)
+    → w.keeper.generation ≤ last_generation → KnowsNoMore known w.keeper → FreesMay w.retired (least_number known) (writers events)
     → ThreadsMay (seated w seats) events → Woven w seats events
-frees_woven [] w seats least keeps range le may threads = record { allowed = tt; seats_after = seats; after_is = refl }
-frees_woven (Steps k next ∷ events) w seats least keeps range le may threads =
+frees_woven [] w seats known keeps range knows may threads =
+    record { allowed = tt; whole = λ whole. whole; seats_after = seats; after_is = refl }
+frees_woven (Steps k next ∷ events) w seats known keeps range knows may threads =
     thread_more w seats _ (Steps k next) events (threads.0 refl) refl refl
-    (frees_woven events w _ least (keeps_event (seated w seats) (Steps k next) keeps (threads.0 refl)) range le may threads.1)
-frees_woven (Enters k at ∷ events) w seats least keeps range le may threads =
+    (frees_woven events w _ known (keeps_event (seated w seats) (Steps k next) keeps (threads.0 refl)) range knows may threads.1)
+frees_woven (Enters k at ∷ events) w seats known keeps range knows may threads =
     thread_more w seats _ (Enters k at) events (threads.0 refl) refl refl
-    (frees_woven events w _ least (keeps_event (seated w seats) (Enters k at) keeps (threads.0 refl)) range le may threads.1)
-frees_woven (Exits k ∷ events) w seats least keeps range le may threads =
+    (frees_woven events w _ known (keeps_event (seated w seats) (Enters k at) keeps (threads.0 refl)) range knows may threads.1)
+frees_woven (Exits k ∷ events) w seats known keeps range knows may threads =
     thread_more w seats _ (Exits k) events (threads.0 refl) refl refl
-    (frees_woven events w _ least (keeps_event (seated w seats) (Exits k) keeps (threads.0 refl)) range le may threads.1)
-frees_woven (Takes k ∷ events) w seats least keeps range le may threads =
+    (frees_woven events w _ known (keeps_event (seated w seats) (Exits k) keeps (threads.0 refl)) range knows may threads.1)
+frees_woven (Takes k ∷ events) w seats known keeps range knows may threads =
     thread_more w seats _ (Takes k) events (threads.0 refl) refl refl
-    (frees_woven events w _ least (keeps_event (seated w seats) (Takes k) keeps (threads.0 refl)) range le may threads.1)
-frees_woven (Sees k ∷ events) w seats least keeps range le may threads =
+    (frees_woven events w _ known (keeps_event (seated w seats) (Takes k) keeps (threads.0 refl)) range knows may threads.1)
+frees_woven (Sees k ∷ events) w seats known keeps range knows may threads =
     thread_more w seats _ (Sees k) events (threads.0 refl) refl refl
-    (frees_woven events w _ least (keeps_event (seated w seats) (Sees k) keeps (threads.0 refl)) range le may threads.1)
-frees_woven (Stores k ∷ events) w seats least keeps range le may threads =
+    (frees_woven events w _ known (keeps_event (seated w seats) (Sees k) keeps (threads.0 refl)) range knows may threads.1)
+frees_woven (Stores k ∷ events) w seats known keeps range knows may threads =
     thread_more w seats _ (Stores k) events (threads.0 refl) refl refl
-    (frees_woven events w _ least (keeps_event (seated w seats) (Stores k) keeps (threads.0 refl)) range le may threads.1)
-frees_woven (Leaves k ∷ events) w seats least keeps range le may threads =
+    (frees_woven events w _ known (keeps_event (seated w seats) (Stores k) keeps (threads.0 refl)) range knows may threads.1)
+frees_woven (Leaves k ∷ events) w seats known keeps range knows may threads =
     thread_more w seats _ (Leaves k) events (threads.0 refl) refl refl
-    (frees_woven events w _ least (keeps_event (seated w seats) (Leaves k) keeps (threads.0 refl)) range le may threads.1)
-frees_woven (Puts at byte ∷ events) w seats least keeps range le may threads = absurd may
-frees_woven (Settles ∷ events) w seats least keeps range le may threads = absurd may
-frees_woven (Marks at marks ∷ events) w seats least keeps range le may threads = absurd may
-frees_woven (Bumps ∷ events) w seats least keeps range le may threads = absurd may
-frees_woven (Retires base len ∷ events) w seats least keeps range le may threads = absurd may
-frees_woven (Looks k ∷ events) w seats least keeps range le may threads = absurd may
-frees_woven (Frees span ∷ events) w seats least keeps range le may threads =
+    (frees_woven events w _ known (keeps_event (seated w seats) (Leaves k) keeps (threads.0 refl)) range knows may threads.1)
+frees_woven (Puts at byte ∷ events) w seats known keeps range knows may threads = absurd may
+frees_woven (Settles ∷ events) w seats known keeps range knows may threads = absurd may
+frees_woven (Marks at marks ∷ events) w seats known keeps range knows may threads = absurd may
+frees_woven (Bumps ∷ events) w seats known keeps range knows may threads = absurd may
+frees_woven (Retires base len ∷ events) w seats known keeps range knows may threads = absurd may
+frees_woven (Looks k ∷ events) w seats known keeps range knows may threads = absurd may
+frees_woven (Frees span ∷ events) w seats known keeps range knows may threads =
     let allowed : IsAllowed (seated w seats) (Frees span) =
-    (may.0, has_passed (seated w seats) span.stamp keeps range (omega (arith, may.1, le))) in
+    (may.0, has_passed (seated w seats) known span.stamp keeps range knows may.1) in
     writer_more w seats (Frees span) events refl allowed refl refl
-    (frees_woven events (after w (Frees span)) seats least
-    (keeps_event (seated w seats) (Frees span) keeps allowed) range le may.2 threads.1)
+    (frees_woven events (after w (Frees span)) seats known
+    (keeps_event (seated w seats) (Frees span) keeps allowed) range knows may.2 threads.1)
 
 -- ---- members of a filtered list
 

@@ -6,6 +6,7 @@ use Rattle.nc_region.specs.schedules.Events.{Event, Steps, Enters, Exits, Takes,
 use Rattle.nc_region.specs.schedules.Events.{Looks}
 use Rattle.nc_region.specs.schedules.Events.{IsAllowed, after, world_after, AreAllowed}
 use Rattle.nc_calls.specs.Weaving.{is_writers, writers, ThreadsMay}
+use Rattle.nc_calls.proofs.Whole.{StaysWhole, whole_first}
 
 -- the world with these seats
 abbrev pub seated : World → List Seat → World
@@ -21,9 +22,11 @@ ArePlain (Bumps ∷ events) = ArePlain events
 ArePlain (Retires base len ∷ events) = ArePlain events
 ArePlain (event ∷ events) = ⊥
 
--- All are allowed, and the world afterwards is the one that the writer's events leave, but for the seats.
+-- All are allowed, and the world afterwards is the one that the writer's events leave, but for the seats. If what views have at
+-- marked places stood there whole after each of the writer's events, it did after every event.
 pub record Woven (w : World) (seats : List Seat) (events : List Event) : Type 0 where
   pub allowed : AreAllowed (seated w seats) events
+  pub whole : StaysWhole w (writers events) → StaysWhole (seated w seats) events
   pub seats_after : List Seat
   pub after_is : world_after (seated w seats) events ≡ seated (world_after w (writers events)) seats_after
 
@@ -34,6 +37,9 @@ pub writer_more : (w : World) (seats : List Seat) (event : Event) (events : List
 writer_more w seats event events is allowed same list rest =
     record {
       allowed = (allowed, subst (λ (x : World). AreAllowed x events) (sym same) rest.allowed);
+      whole = λ whole.
+          let own = subst (StaysWhole w) list whole in
+          (own.0, subst (λ (x : World). StaysWhole x events) (sym same) (rest.whole own.1));
       seats_after = rest.seats_after;
       after_is = ap (λ (x : World). world_after x events) same
           ∙ (rest.after_is ∙ ap (λ (z : List Event). seated (world_after w z) rest.seats_after) (sym list));
@@ -46,6 +52,9 @@ pub thread_more : (w : World) (seats later : List Seat) (event : Event) (events 
 thread_more w seats later event events allowed same list rest =
     record {
       allowed = (allowed, subst (λ (x : World). AreAllowed x events) (sym same) rest.allowed);
+      whole = λ whole.
+          let own = subst (StaysWhole w) list whole in
+          (whole_first w (writers events) own, subst (λ (x : World). StaysWhole x events) (sym same) (rest.whole own));
       seats_after = rest.seats_after;
       after_is = ap (λ (x : World). world_after x events) same
           ∙ (rest.after_is ∙ ap (λ (z : List Event). seated (world_after w z) rest.seats_after) (sym list));
@@ -54,7 +63,7 @@ thread_more w seats later event events allowed same list rest =
 -- where the writer's events are allowed by themselves, all are
 pub weave : (w : World) (seats : List Seat) (events : List Event) → ArePlain (writers events) → AreAllowed w (writers events)
     → ThreadsMay (seated w seats) events → Woven w seats events
-weave w seats [] plain allowed threads = record { allowed = tt; seats_after = seats; after_is = refl }
+weave w seats [] plain allowed threads = record { allowed = tt; whole = λ whole. whole; seats_after = seats; after_is = refl }
 weave w seats (Steps k next ∷ events) plain allowed threads =
     thread_more w seats _ (Steps k next) events (threads.0 refl) refl refl (weave w _ events plain allowed threads.1)
 weave w seats (Enters k at ∷ events) plain allowed threads =

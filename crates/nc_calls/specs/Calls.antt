@@ -1,8 +1,9 @@
 -- The calls of a region as events of a world.
-use Rattle.std.specs.Prelude.{◌≡◌, ℕ, ◌≤◌, ◌==◌, if◌then◌else◌, List, [], ◌∷◌, Contains, map, ◌↔◌}
+use Rattle.std.specs.Prelude.{◌≡◌, ℕ, ◌<◌, ◌≤◌, ◌==◌, if◌then◌else◌, List, [], ◌∷◌, Contains, length, map, slice_index, ◌↔◌}
 use Rattle.std.specs.List.{range_with_len, flat_map}
 use Rattle.nc_decode.specs.declared.instruction.Mark.{Mark}
 use Rattle.nc_decode.specs.Bundles.{IsLawfulLimit}
+use Rattle.nc_gens.specs.declared.view.KeeperNumbers.{KeeperNumbers}
 use Rattle.nc_gens.specs.Rule.{last_generation}
 use Rattle.nc_vet.specs.Chunk.{MarkedChunk, Piece}
 use Rattle.nc_list.specs.declared.chunk.Chunk.{Chunk}
@@ -20,11 +21,19 @@ use Rattle.nc_region.specs.Quiet.{retired_spans}
 use Rattle.nc_region.specs.Region.{Region}
 use Rattle.nc_calls.specs.Views.{ViewsKeep}
 
--- the world stands for the region: it has the region's text and marks, its keeper's numbers, and as retired spans those of
--- its retired chunks, in any order
+-- A keeper's numbers say no more than those of the world's keeper: they have the same generation and as many bounds, each at
+-- most the world's. So a bound says that a seat has left only if the world's does, whose other bounds are at most the
+-- generation. How often each word was looked at doesn't matter.
+pub record KnowsNoMore (k world : KeeperNumbers) : Type 0 where
+  pub generation : k.generation ≡ world.generation
+  pub seats : length k.bounds ≡ length world.bounds
+  pub below : (i : ℕ) → i < length k.bounds → slice_index k.bounds i ≤ slice_index world.bounds i
+
+-- The world stands for the region: it has the region's text and marks, and as retired spans those of its retired chunks, in
+-- any order. The generation is that of the region's keeper, and the bounds are at least that keeper's (`KnowsNoMore`).
 pub record StandsFor (w : World) (r : Region) : Type 0 where
   pub marked : w.marked ≡ r.marked
-  pub keeper : w.keeper ≡ r.keeper.numbers
+  pub keeper : KnowsNoMore r.keeper.numbers w.keeper
   pub spans : (span : RetiredSpan) → Contains w.retired span ↔ Contains (retired_spans r.chunks) span
 
 -- The events lead to the region: each was allowed where it happened, and the world they leave stands for the region. In

@@ -12,16 +12,27 @@ use Rattle.nc_region.specs.schedules.World.{World, Seat, first_world, IsViewOf}
 use Rattle.nc_region.specs.schedules.Events.{Event, world_after}
 use Rattle.nc_region.specs.declared.acts.Entry.{Entry}
 use Rattle.nc_region.specs.declared.fault.CreateFault.{CreateFault}
-use Rattle.nc_region.specs.Region.{Region, IsCreated, IsRefused}
-use Rattle.nc_region.specs.Deletion.{IsDeleted, IsReclaimed}
-use Rattle.nc_region.specs.Patch.{IsPatch, IsModified, AreBytesOf}
+use Rattle.nc_region.specs.declared.fault.ModifyFault.{ModifyFault}
+use Rattle.nc_region.specs.declared.fault.DeleteFault.{DeleteFault}
+use Rattle.nc_region.specs.Region.{Region, IsCreated, IsRefused, MayRefuse}
+use Rattle.nc_region.specs.Deletion.{IsDeleted, MayRefuseDelete, IsReclaimed}
+use Rattle.nc_region.specs.Patch.{IsPatch, IsModified, MayRefusePatch, AreBytesOf}
 use Rattle.nc_calls.specs.Weaving.{writers, IsKeepers, ThreadsMay}
-use Rattle.nc_calls.specs.Calls.{Details, events_of_log, create_events, modify_events, delete_events, reclaim_events}
+use Rattle.nc_calls.specs.Calls.{KnowsNoMore, Details, events_of_log, create_events, modify_events, delete_events, reclaim_events}
+
+-- A refused creation, patch or deletion, as its contract describes it. It has no event, and its fault is one that the call
+-- may return there. A patch or a deletion leaves an equal region; a creation may have made pages (`IsRefused`).
+pub data IsRefusal (old new : Region) (own : List Event) : Type 0 where
+  OfCreation : (v : MarkedChunk) (fault : CreateFault) → MayRefuse old v fault → IsRefused old new v fault → own ≡ []
+      → IsRefusal old new own
+  OfPatch : (at : ℕ) (bytes : List ℕ) (fault : ModifyFault) → MayRefusePatch old at bytes fault → new ≡ old → own ≡ []
+      → IsRefusal old new own
+  OfDeletion : (base : ℕ) (fault : DeleteFault) → MayRefuseDelete old base fault → new ≡ old → own ≡ [] → IsRefusal old new own
 
 -- A call of a region, as its contract describes it: the region that it leaves, and its own events. `Creates`, `Patches`,
 -- `Deletes` and `Reclaims` are the accepted calls, with the events of their logs. `UsesKeeper` uses the keeper by itself.
--- `Refuses` is a refused creation, which has no event and may have made pages. `Keeps` is any other refusal, or a call that
--- only reads: it has no event and leaves an equal region.
+-- `Refuses` is a refused call. `Keeps` is any other call without an event that leaves the region as it was, except that pages
+-- may have been made. A call that only reads is one.
 pub data IsCall (seats : ℕ) (old new : Region) (own : List Event) : Type 0 where
   Creates : (v : MarkedChunk) → IsValid v → v.limit ≡ limit_of old.marked.bytes → IsCreated old new v → own ≡ create_events v
       → IsCall seats old new own
@@ -33,13 +44,17 @@ pub data IsCall (seats : ℕ) (old new : Region) (own : List Event) : Type 0 whe
       → own ≡ reclaim_events seats (least_number new.keeper.numbers) old.chunks → IsCall seats old new own
   UsesKeeper : new.marked ≡ old.marked → new.chunks ≡ old.chunks → All IsKeepers own → new.keeper.numbers.generation ≤ last_generation
       → IsCall seats old new own
-  Refuses : (v : MarkedChunk) (fault : CreateFault) → IsRefused old new v fault → own ≡ [] → IsCall seats old new own
-  Keeps : new ≡ old → own ≡ [] → IsCall seats old new own
+  Refuses : IsRefusal old new own → IsCall seats old new own
+  Keeps : new ≡ record old { made = new.made } → own ≡ [] → IsCall seats old new own
 
 -- the entries logged between the old and the new region, read as events with these details, are one call of a history
 abbrev pub LogsCall : ℕ → Details → Region → Region → Type 0
 LogsCall seats details old new =
     (own : List Entry) × (new.logged ≡ old.logged ++ own) × IsCall seats old new (events_of_log details own)
+
+-- nothing was logged between the old and the new region, which are those of a refused call
+abbrev pub LogsRefusal : Region → Region → Type 0
+LogsRefusal old new = (new.logged ≡ old.logged) × IsRefusal old new []
 
 -- a call in a history: all events from the end of the previous call up to its own end, including those of threads, and the
 -- region that it leaves
@@ -47,12 +62,14 @@ pub record Turn : Type 0 where
   pub events : List Event
   pub region : Region
 
--- after the events `before`, the writer's events of the turn are those of one call, threads do only what they may, and the
--- world's keeper then has the numbers of the region's keeper
+-- After the events `before`, the writer's events of the turn are those of one call, and threads do only what they may. The
+-- region's keeper then knows no more than the world's (`KnowsNoMore`): it has found no seat's word to be greater than the
+-- world did by its last `Looks` at that seat. That event may stand where the load happened, or later before a span is freed.
+-- Words never decrease, so a load that returned an old value is covered too.
 pub record IsTurn (limit seats : ℕ) (before : List Event) (old : Region) (turn : Turn) : Type 0 where
   pub call : IsCall seats old turn.region (writers turn.events)
   pub threads : ThreadsMay (world_after (first_world limit seats) before) turn.events
-  pub keeper : (world_after (first_world limit seats) (before ++ turn.events)).keeper ≡ turn.region.keeper.numbers
+  pub keeper : KnowsNoMore turn.region.keeper.numbers (world_after (first_world limit seats) (before ++ turn.events)).keeper
 
 -- the turns are calls one after the other, from a region that the events `before` have led to
 abbrev pub AreTurns : ℕ → ℕ → List Event → Region → List Turn → Type 0
@@ -66,7 +83,7 @@ pub record IsHistory (limit seats : ℕ) (first : List Event) (r : Region) (turn
   pub lawful : IsLawfulLimit limit
   pub keepers : All IsKeepers (writers first)
   pub threads : ThreadsMay (first_world limit seats) first
-  pub keeper : (world_after (first_world limit seats) first).keeper ≡ r.keeper.numbers
+  pub keeper : KnowsNoMore r.keeper.numbers (world_after (first_world limit seats) first).keeper
   pub in_range : r.keeper.numbers.generation ≤ last_generation
   pub marked : r.marked ≡ unused_text limit
   pub chunks : r.chunks ≡ []

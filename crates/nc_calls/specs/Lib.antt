@@ -2,3 +2,5 @@ pub mod Weaving
 pub mod Views
 pub mod Calls
 pub mod Histories
+pub mod Whole
+pub mod Example

@@ -2,7 +2,8 @@
 //!
 //! [`law_of_histories`](crate::law_of_histories) is about lists of calls, and `IsCall` says what a call is. That `IsCall`
 //! describes what a region does needn't be taken on trust: each function here makes one call of a region, and its contract
-//! says what that call did, and that its log is a call by `IsCall`.
+//! says what that call did, and that its log is a call by `IsCall`. If it was refused, it logged nothing, and is a refusal by
+//! `IsRefusal`.
 
 ghost use Rattle.std.specs.Prelude.{◌≡◌, ℕ, List, [], ◌∷◌, length, Contains, IfOk, IfErr, OnOk, OnErr};
 ghost use Rattle.nc_text.specs.Places.{limit_of};
@@ -16,7 +17,7 @@ ghost use Rattle.nc_region.specs.Deletion.{IsDeleted, MayRefuseDelete, IsReclaim
 ghost use Rattle.nc_region.specs.schedules.Events.{Event};
 ghost use Rattle.nc_region.specs.Quiet.{retired_spans};
 ghost use Rattle.nc_calls.specs.Calls.{no_details};
-ghost use Rattle.nc_calls.specs.Histories.{IsCall, LogsCall};
+ghost use Rattle.nc_calls.specs.Histories.{IsCall, LogsCall, LogsRefusal};
 
 use nc_gens::Pass;
 use nc_region::{Acts, CreateFault, DeleteFault, ModifyFault, RegionOf};
@@ -35,7 +36,8 @@ pub fn create<A: Acts + Drop>(
     ensures unchanged { IfErr result (λ e. (e.0 ≡ vetted) × IsRefused region.old region.new vetted e.1) }
     ensures due { IfErr result (λ e. MayRefuse region.old vetted e.1) }
     ensures call { (seats : ℕ) → OnOk result (LogsCall seats (record no_details { marks = vetted.marks }) region.old region.new) }
-    ensures refused { (seats : ℕ) → OnErr result (LogsCall seats no_details region.old region.new) }
+    ensures refused { (seats : ℕ)
+        → OnErr result (LogsRefusal region.old region.new × LogsCall seats no_details region.old region.new) }
 {
     // Called for its postconditions.
     let _facts = vetted.code();
@@ -56,6 +58,7 @@ pub fn modify<A: Acts + Drop>(
     ensures unchanged { IfErr result (λ e. region.new ≡ region.old) }
     ensures due { IfErr result (MayRefusePatch region.old at new.now) }
     ensures call { (seats : ℕ) → LogsCall seats no_details region.old region.new }
+    ensures refused { OnErr result (LogsRefusal region.old region.new) }
 {
     region.modify(at, new)
 }
@@ -68,7 +71,8 @@ pub fn delete<A: Acts + Drop>(region: &mut RegionOf<A>, base: u32) -> Result<u64
     ensures due { IfErr result (MayRefuseDelete region.old base) }
     ensures call { (seats : ℕ) → OnOk result ((c : Chunk) × Contains region.old.chunks c × (c.base ≡ base)
         × LogsCall seats (record no_details { base = base; len = c.length }) region.old region.new) }
-    ensures refused { (seats : ℕ) → OnErr result (LogsCall seats no_details region.old region.new) }
+    ensures refused { (seats : ℕ)
+        → OnErr result (LogsRefusal region.old region.new × LogsCall seats no_details region.old region.new) }
 {
     region.delete(base)
 }

@@ -1,8 +1,8 @@
 //! Properties of every history of a region.
 //!
 //! To judge what is proved about a region, read [`law_of_histories`] first, in `src/history`: whatever calls are made, and
-//! whatever threads do between any two acts, each thread inside is where the headline says. `docs/THEOREM.md` walks through
-//! it.
+//! whatever threads do between any two acts, each thread inside is where the headline says, and fetches an instruction that
+//! stood there whole. `docs/THEOREM.md` walks through it.
 //!
 //! `law_of_schedules` of `nc_region` says that no list of allowed events brings a thread to a state that isn't safe; the
 //! contracts of a region's calls say which acts each makes, and where it settles. [`law_of_calls`] joins them: the acts
@@ -11,6 +11,9 @@
 //! before and after the region is made, and refused calls. Whatever is proved about every schedule therefore holds for every
 //! history of a region.
 //!
+//! [`law_of_example`] says that histories exist: each valid chunk has one in which it is created, perhaps patched, deleted and
+//! freed, with a thread in it.
+//!
 //! [`create`], [`modify`], [`delete`], [`reclaim`] and [`meet`] make these calls of a region, and their contracts say that the
 //! logged entries are a call of a history. Nobody has to compare `IsCall`, the calls that the laws are about, with the
 //! contracts of `nc_region`. A host calls the region itself: these functions do the same and promise nothing more.
@@ -18,16 +21,20 @@
 //! ```text
 //! law_of_histories();   // does nothing; what it promises is its contract
 //! law_of_calls();
+//! law_of_example();
 //! ```
 //!
 //! `specs/Weaving` separates the writer's events from those of the threads, `specs/Calls` turns the acts and settlings of each
-//! call into events, `specs/Views` says what is true in every view between two calls, and `specs/Histories` defines a history.
+//! call into events, `specs/Views` says what is true in every view between two calls, `specs/Histories` defines a history,
+//! `specs/Whole` what it means that threads fetch whole instructions, and `specs/Example` a chunk's life in a history.
 #![tactic(auto)]
 
 mod calls;
+mod example;
 mod history;
 mod law;
 
 pub use calls::{create, delete, meet, modify, reclaim};
+pub use example::law_of_example;
 pub use history::law_of_histories;
 pub use law::law_of_calls;

@@ -5,4 +5,5 @@ pub mod chunks
 pub mod patching
 pub mod deleting
 pub mod walking
+pub mod Constructing
 pub mod Offered

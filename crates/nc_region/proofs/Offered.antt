@@ -1,5 +1,6 @@
 -- What proofs of the crates above may use of this crate: the law of walks, lemmas on each member of a list, and, for the law of
--- calls, what stands in the text between the acts of a call and why it is closed. The other files are private.
+-- calls, what stands in the text between the acts of a call and why it is closed; and a region that each call leaves. The
+-- other files are private.
 pub use Rattle.nc_list.proofs.Offered.{each_map, each_both, each_take, each_drop}
 pub use Rattle.nc_list.proofs.Offered.{each_append, each_set, each_get, each_contains, each_from, each_at_set, each_middle}
 pub use Rattle.nc_region.proofs.walking.OneWalk.{one_trace}
@@ -30,6 +31,10 @@ pub use Rattle.nc_region.proofs.patching.Exchanging.{Where, Here, Earlier, Later
 pub use Rattle.nc_region.proofs.schedules.Unmarking.{shut_if_quiet, freed_was}
 pub use Rattle.nc_region.proofs.schedules.Invariant.{Keeps, if_map}
 pub use Rattle.nc_region.proofs.schedules.Schedules.{keeps_event, keeps_all, keeps_reached, safe_after, none_is_within_freed}
-pub use Rattle.nc_region.proofs.schedules.Schedules.{allowed_append, after_append}
+pub use Rattle.nc_region.proofs.schedules.Schedules.{allowed_append, allowed_front, after_append}
 pub use Rattle.nc_region.proofs.schedules.Seeing.{as_it_stands, only_as_it_stands, views_after_put}
 pub use Rattle.nc_region.proofs.schedules.WriterEvents.{may_free_now}
+pub use Rattle.nc_region.proofs.Constructing.{deleted_region, deleted_at, deleted_exists, created_region}
+pub use Rattle.nc_region.proofs.Constructing.{created_at, created_exists}
+pub use Rattle.nc_region.proofs.Constructing.{pages_made, pages_get_ready, modified_region, modified_exists}
+pub use Rattle.nc_region.proofs.Constructing.{reclaimed_region, reclaimed_exists}

@@ -7,7 +7,8 @@ returns-clause-call g c = λ seats.
     c.create.ensures.free
 
 pub returns-clause-refused : goal.returns-clause-refused
-returns-clause-refused g c = λ seats. refuses c.create.result seats _ _ c.args.vetted c.create.ensures.unchanged
+returns-clause-refused g c = λ seats.
+    refuses c.create.result seats _ _ c.args.vetted c.create.ensures.unchanged c.create.ensures.refused
 
 pub returns-clause-created : goal.returns-clause-created
 returns-clause-created g c = c.create.ensures.created

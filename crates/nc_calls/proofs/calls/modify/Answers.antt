@@ -1,10 +1,14 @@
-use Rattle.nc_calls.proofs.LoggedCalls.{patches}
+use Rattle.nc_calls.proofs.LoggedCalls.{patches, patches_nothing}
 use Rattle.nc_calls.proofs.calls.modify.Goals as goal
 
 pub returns-clause-call : goal.returns-clause-call
 returns-clause-call g c = λ seats.
     patches c.modify.result seats _ _ c.args.at c.args.new.now c.modify.ensures.lawful c.modify.ensures.modified c.modify.ensures.log
     c.modify.ensures.unchanged
+
+pub returns-clause-refused : goal.returns-clause-refused
+returns-clause-refused g c =
+    patches_nothing c.modify.result _ _ c.args.at c.args.new.now c.modify.ensures.unchanged c.modify.ensures.refused
 
 pub returns-clause-modified : goal.returns-clause-modified
 returns-clause-modified g c = c.modify.ensures.modified

@@ -1,0 +1,239 @@
+-- The last turns of a chunk's life: the thread goes along a path, the chunk is deleted, the thread checks in, the span is freed.
+use Rattle.std.proofs.Common.{◌≡◌, ℕ, zero, suc, ◌+◌, ◌-◌, ◌≤◌, ◌<◌, Bool, cond, List, [], ◌∷◌, ◌++◌, length, map, replicate}
+use Rattle.std.proofs.Common.{arith, refl, ◌∙◌, sym, ap, subst}
+use Rattle.std.specs.Prelude.{slice_index}
+use Rattle.std.proofs.lemmas.Bool.{eq-eqb}
+use Rattle.nc_decode.specs.declared.instruction.Mark.{Mark}
+use Rattle.nc_vet.specs.Chunk.{MarkedChunk}
+use Rattle.nc_text.specs.Machine.{State, Joined}
+use Rattle.nc_text.specs.MarkedText.{MarkedText, with_span, unused_marks, unused_text}
+use Rattle.nc_gens.specs.declared.view.KeeperNumbers.{KeeperNumbers}
+use Rattle.nc_gens.specs.Rule.{first_keeper_numbers, generation_raised}
+use Rattle.nc_gens.specs.Seen.{KeeperState, HasLooked}
+use Rattle.nc_list.specs.declared.chunk.ChunkState.TheVariants.{Retired}
+use Rattle.nc_region.specs.schedules.Spans.{RetiredSpan}
+use Rattle.nc_region.specs.schedules.World.{World, first_world, seat_at}
+use Rattle.nc_region.specs.schedules.Events.{Event, Steps, Exits, Takes, Stores, Retires, Frees, Looks, after, world_after}
+use Rattle.nc_region.specs.declared.acts.Entry.{Entry}
+use Rattle.nc_region.specs.Region.{Region, live_chunk}
+use Rattle.nc_region.specs.Deletion.{IsDeleted, IsReclaimed}
+use Rattle.nc_region.proofs.Offered.{after_append, same_code, deleted_region, deleted_at, reclaimed_region, reclaimed_exists}
+use Rattle.nc_calls.specs.Weaving.{writers, ThreadsMay}
+use Rattle.nc_calls.specs.Calls.{delete_events, reclaim_events}
+use Rattle.nc_calls.specs.Histories.{Deletes, Reclaims, Turn, IsTurn, AreTurns}
+use Rattle.nc_calls.specs.Example.{ThreadIsIn, start_of, last_of}
+use Rattle.nc_calls.proofs.Knowing.{knows_as_much}
+use Rattle.nc_calls.proofs.lives.TextEvents.{own_before, may_before, delete_front, delete_parts, delete_front_text}
+use Rattle.nc_calls.proofs.lives.OneSeat.{Stage, stage_of_text, seat_in, stage_gone, own_gone, may_go}
+
+-- a region with one live chunk, over a keeper without a deletion so far
+abbrev pub with_live : MarkedChunk → KeeperState → MarkedText → List Bool → List Entry → Region
+with_live v keeper marked made logged =
+    record {
+      marked = marked;
+      made = made;
+      chunks = live_chunk v ∷ [];
+      keeper = record keeper { numbers = first_keeper_numbers 1 };
+      logged = logged;
+    }
+
+-- the chunk's span once it is retired
+abbrev pub span_of : MarkedChunk → RetiredSpan
+span_of v = record { base = v.base; length = length v.code; stamp = 1 }
+
+-- the last turns of a life, from the region in which the thread is in the chunk
+pub record Ended (v : MarkedChunk) (before : List Event) (old : Region) (path : List State) : Type 0 where
+  pub deletion : Turn
+  pub reclaim : Turn
+  pub turns_are : AreTurns v.limit 1 before old (deletion ∷ reclaim ∷ [])
+  pub deletes : IsDeleted old deletion.region v.base 1
+  pub goes : deletion.events ≡ map (Steps 0) path ++ delete_events old.marked.marks v.base (length v.code)
+  pub stays : ThreadIsIn v.limit (before ++ deletion.events) (last_of (start_of v) path)
+  pub checks_in : reclaim.events ≡ Exits 0 ∷ Takes 0 ∷ Stores 0 ∷ Looks 0 ∷ Frees (span_of v) ∷ []
+  pub frees : IsReclaimed deletion.region reclaim.region 1
+  pub no_chunk : reclaim.region.chunks ≡ []
+  pub unused : reclaim.region.marked ≡ unused_text v.limit
+
+-- the world in which they begin, after these events: the thread is at the chunk's base, and the text has these bytes
+pub record Begun (v : MarkedChunk) (before : List Event) (text : List ℕ) : Type 0 where
+  pub stage : Stage v.limit (first_keeper_numbers 1) (seat_in (start_of v)) (world_after (first_world v.limit 1) before)
+  pub text_is : (world_after (first_world v.limit 1) before).marked.bytes ≡ text
+
+-- ---- the deletion
+
+-- the keeper's numbers after it
+abbrev pub second_numbers : KeeperNumbers
+second_numbers = generation_raised (first_keeper_numbers 1)
+
+-- the world after it
+stage_deleted : (limit base len : ℕ) (now : State) (marks : List Mark) (w : World)
+    → Stage limit (first_keeper_numbers 1) (seat_in now) w
+    → Stage limit second_numbers (seat_in now) (world_after w (delete_events marks base len))
+stage_deleted limit base len now marks w s =
+    let front = stage_of_text limit (first_keeper_numbers 1) (seat_in now) w (delete_front marks base len)
+    (delete_front_text marks base len) s in
+    subst (λ (z : List Event). Stage limit second_numbers (seat_in now) (world_after w z)) (sym (delete_parts marks base len))
+    (subst (Stage limit second_numbers (seat_in now)) (sym (after_append w (delete_front marks base len) (Retires base len ∷ [])))
+    (record {
+      marked = front.marked;
+      earlier = front.earlier;
+      retired = record { base = base; length = len; stamp = 1 } ∷ front.retired;
+      is = ap (λ (x : World). after x (Retires base len)) front.is;
+      as_long = front.as_long;
+    }))
+
+-- all its events are the writer's
+own_deleted : (marks : List Mark) (base len : ℕ) → writers (delete_events marks base len) ≡ delete_events marks base len
+own_deleted marks base len =
+    ap writers (delete_parts marks base len)
+    ∙ (own_before (delete_front marks base len) (Retires base len ∷ []) (delete_front_text marks base len) ∙ sym (delete_parts marks base len))
+
+-- they ask nothing of the thread
+may_deleted : (marks : List Mark) (base len : ℕ) (w : World) → ThreadsMay w (delete_events marks base len)
+may_deleted marks base len w =
+    subst (ThreadsMay w) (sym (delete_parts marks base len))
+    (may_before w (delete_front marks base len) (Retires base len ∷ []) (delete_front_text marks base len) ((λ e. tt), tt))
+
+-- the region after it
+abbrev deleted_of : MarkedChunk → KeeperState → MarkedText → List Bool → List Entry → Region
+deleted_of v keeper marked made logged = deleted_region (with_live v keeper marked made logged) 0 (live_chunk v)
+
+-- the events of its turn
+abbrev gone_and_deleted : MarkedChunk → List State → List Mark → List Event
+gone_and_deleted v path marks = map (Steps 0) path ++ delete_events marks v.base (length v.code)
+
+-- its turn
+abbrev deletion_turn : MarkedChunk → KeeperState → MarkedText → List Bool → List Entry → List State → Turn
+deletion_turn v keeper marked made logged path =
+    record { events = gone_and_deleted v path marked.marks; region = deleted_of v keeper marked made logged }
+
+-- what it does
+abbrev deletes_of : (v : MarkedChunk) (keeper : KeeperState) (marked : MarkedText) (made : List Bool) (logged : List Entry)
+    → IsDeleted (with_live v keeper marked made logged) (deleted_of v keeper marked made logged) v.base 1
+deletes_of v keeper marked made logged = deleted_at (with_live v keeper marked made logged) 0 (live_chunk v) refl refl (omega arith)
+
+-- the world after what happened before, and this turn
+stage_then : (v : MarkedChunk) (before : List Event) (marks : List Mark) (path : List State)
+    → Stage v.limit (first_keeper_numbers 1) (seat_in (start_of v)) (world_after (first_world v.limit 1) before)
+    → Stage v.limit second_numbers (seat_in (last_of (start_of v) path))
+    (world_after (first_world v.limit 1) (before ++ gone_and_deleted v path marks))
+stage_then v before marks path s =
+    let w = world_after (first_world v.limit 1) before in
+    subst (Stage v.limit second_numbers (seat_in (last_of (start_of v) path)))
+    (sym (after_append (first_world v.limit 1) before (gone_and_deleted v path marks)
+    ∙ after_append (world_after (first_world v.limit 1) before) (map (Steps 0) path) (delete_events marks v.base (length v.code))))
+    (stage_deleted v.limit v.base (length v.code) (last_of (start_of v) path) marks
+    (world_after (world_after (first_world v.limit 1) before) (map (Steps 0) path))
+    (stage_gone v.limit (first_keeper_numbers 1) (start_of v) w path s))
+
+-- it is a turn
+deletion_is_turn : (v : MarkedChunk) (keeper : KeeperState) (marked : MarkedText) (made : List Bool) (logged : List Entry)
+    (before : List Event) (path : List State) → Begun v before marked.bytes → Joined marked.bytes (start_of v) path
+    → IsTurn v.limit 1 before (with_live v keeper marked made logged) (deletion_turn v keeper marked made logged path)
+deletion_is_turn v keeper marked made logged before path b joined =
+    let w = world_after (first_world v.limit 1) before in
+    record {
+      call = Deletes v.base 1 (deletes_of v keeper marked made logged)
+          (own_gone path (delete_events marked.marks v.base (length v.code)) ∙ own_deleted marked.marks v.base (length v.code));
+      threads = may_go v.limit (first_keeper_numbers 1) marked.bytes (start_of v) w path (delete_events marked.marks v.base (length v.code))
+          b.stage b.text_is joined
+          (may_deleted marked.marks v.base (length v.code)
+          (world_after (world_after (first_world v.limit 1) before) (map (Steps 0) path)));
+      keeper = knows_as_much second_numbers
+          (world_after (first_world v.limit 1) (before ++ gone_and_deleted v path marked.marks)).keeper
+          (ap (λ (x : World). x.keeper) (stage_then v before marked.marks path b.stage).is);
+    }
+
+-- ---- the reclaim
+
+-- the keeper's numbers after it
+abbrev pub third_numbers : KeeperNumbers
+third_numbers = record { generation = 1; bounds = 1 ∷ []; looks = 1 ∷ [] }
+
+-- the events of its turn
+abbrev pub last_events : MarkedChunk → List Event
+last_events v = Exits 0 ∷ Takes 0 ∷ Stores 0 ∷ Looks 0 ∷ Frees (span_of v) ∷ []
+
+-- the region after it
+abbrev reclaimed_of : MarkedChunk → KeeperState → MarkedText → List Bool → List Entry → Region
+reclaimed_of v keeper marked made logged =
+    reclaimed_region (deleted_of v keeper marked made logged) (record keeper { numbers = third_numbers })
+
+-- the one seat was looked at once more
+one_more : (i : ℕ) → i < 1 → slice_index third_numbers.looks i ≡ slice_index second_numbers.looks i + 1
+one_more zero lt = refl
+one_more (suc i) lt = absurd (omega (arith, lt))
+
+-- its bound is no lower
+not_lower : (i : ℕ) → i < 1 → slice_index second_numbers.bounds i ≤ slice_index third_numbers.bounds i
+not_lower zero lt = omega arith
+not_lower (suc i) lt = absurd (omega (arith, lt))
+
+-- the keeper has looked
+has_looked : (keeper : KeeperState) → HasLooked (record keeper { numbers = second_numbers }) (record keeper { numbers = third_numbers })
+has_looked keeper =
+    record { table = refl; generation = refl; looks = (refl, one_more); counted = refl; raised = (refl, not_lower) }
+
+-- what the reclaim does
+abbrev reclaims_of : (v : MarkedChunk) (keeper : KeeperState) (marked : MarkedText) (made : List Bool) (logged : List Entry)
+    → IsReclaimed (deleted_of v keeper marked made logged) (reclaimed_of v keeper marked made logged) 1
+reclaims_of v keeper marked made logged =
+    reclaimed_exists (deleted_of v keeper marked made logged) (record keeper { numbers = third_numbers }) (has_looked keeper)
+
+-- its turn
+abbrev reclaim_turn : MarkedChunk → KeeperState → MarkedText → List Bool → List Entry → Turn
+reclaim_turn v keeper marked made logged = record { events = last_events v; region = reclaimed_of v keeper marked made logged }
+
+-- its own events
+own_reclaimed : (v : MarkedChunk) → writers (last_events v)
+    ≡ reclaim_events 1 1 (record { base = v.base; length = length v.code; state = Retired 1 } ∷ [])
+own_reclaimed v =
+    ap (λ (b : Bool). Looks 0 ∷ Frees (cond b (span_of v) (record { base = v.base; length = 0; stamp = 0 })) ∷ [])
+    (sym (eq-eqb v.base v.base refl))
+
+-- the thread may exit and check in
+may_check_in : (v : MarkedChunk) (now : State) (w : World) → Stage v.limit second_numbers (seat_in now) w → ThreadsMay w (last_events v)
+may_check_in v now w s =
+    subst (λ (x : World). ThreadsMay x (last_events v)) (sym s.is)
+    ((λ e. tt), ((λ e. refl), ((λ e. refl), ((λ e. tt), ((λ e. tt), tt)))))
+
+-- it is a turn
+reclaim_is_turn : (v : MarkedChunk) (keeper : KeeperState) (marked : MarkedText) (made : List Bool) (logged : List Entry)
+    (before : List Event) (now : State) → Stage v.limit second_numbers (seat_in now) (world_after (first_world v.limit 1) before)
+    → IsTurn v.limit 1 before (deleted_of v keeper marked made logged) (reclaim_turn v keeper marked made logged)
+reclaim_is_turn v keeper marked made logged before now s = record {
+  call = Reclaims 1 (reclaims_of v keeper marked made logged) (own_reclaimed v);
+  threads = may_check_in v now (world_after (first_world v.limit 1) before) s;
+  keeper = knows_as_much third_numbers (world_after (first_world v.limit 1) (before ++ last_events v)).keeper
+      (ap (λ (x : World). x.keeper)
+      (after_append (first_world v.limit 1) before (last_events v) ∙ ap (λ (x : World). world_after x (last_events v)) s.is));
+}
+
+-- ---- both
+
+-- the last turns
+pub ended : (v : MarkedChunk) (keeper : KeeperState) (marked : MarkedText) (made : List Bool) (logged : List Entry) (before : List Event)
+    → Begun v before marked.bytes
+    → with_span marked.bytes (v.base - 65536) (replicate (length v.code) 244) ≡ (unused_text v.limit).bytes
+    → with_span marked.marks (v.base - 65536) (unused_marks v.base (length v.code)) ≡ (unused_text v.limit).marks
+    → (path : List State) → Joined marked.bytes (start_of v) path → Ended v before (with_live v keeper marked made logged) path
+ended v keeper marked made logged before b bytes marks path joined =
+    let then = stage_then v before marked.marks path b.stage in
+    record {
+      deletion = deletion_turn v keeper marked made logged path;
+      reclaim = reclaim_turn v keeper marked made logged;
+      turns_are = (
+        deletion_is_turn v keeper marked made logged before path b joined,
+        (
+          reclaim_is_turn v keeper marked made logged (before ++ gone_and_deleted v path marked.marks) (last_of (start_of v) path) then,
+          tt,
+        ),
+      );
+      deletes = deletes_of v keeper marked made logged;
+      goes = refl;
+      stays = ap (λ (x : World). (seat_at x 0).inside) then.is;
+      checks_in = refl;
+      frees = reclaims_of v keeper marked made logged;
+      no_chunk = refl;
+      unused = same_code (reclaimed_of v keeper marked made logged).marked (unused_text v.limit) bytes marks;
+    }

@@ -1,0 +1,107 @@
+-- A chunk's life without a patch.
+use Rattle.std.proofs.Common.{◌≡◌, ℕ, ◌+◌, ◌-◌, ◌/◌, false, List, [], ◌∷◌, length}
+use Rattle.std.proofs.Common.{arith, refl, sym, ap, subst}
+use Rattle.std.proofs.lemmas.List.{length-replicate}
+use Rattle.std.proofs.lemmas.List.Elements.{All-nil}
+use Rattle.nc_vet.specs.Chunk.{MarkedChunk, IsValid}
+use Rattle.nc_text.specs.Machine.{State, Joined}
+use Rattle.nc_text.specs.MarkedText.{MarkedText}
+use Rattle.nc_text.specs.Ready.{unmade_pages}
+use Rattle.nc_gens.specs.declared.view.KeeperNumbers.{KeeperNumbers}
+use Rattle.nc_gens.specs.Rule.{first_keeper_numbers}
+use Rattle.nc_gens.specs.Seen.{KeeperState}
+use Rattle.nc_region.specs.Region.{Region, IsCreated}
+use Rattle.nc_region.proofs.Offered.{created_region, created_at, pages_made, pages_get_ready}
+use Rattle.nc_calls.specs.Weaving.{IsKeepers}
+use Rattle.nc_calls.specs.Histories.{Turn, AreTurns, IsHistory}
+use Rattle.nc_calls.specs.Example.{first_region, start_of, IsLife}
+use Rattle.nc_calls.proofs.AllTurns.{text_at_end}
+use Rattle.nc_calls.proofs.Knowing.{knows_as_much}
+use Rattle.nc_calls.proofs.lives.LastTurns.{Ended, Begun, ended}
+use Rattle.nc_calls.proofs.lives.FirstTurn.{creation_events, stage_created, fresh, same_created, creation_turn, creation_is_turn, creates_around}
+use Rattle.nc_calls.proofs.lives.FirstTurn.{lies_in, bytes_back, marks_back}
+
+-- along each path through this text that begins at the chunk's base
+abbrev pub HasLives : MarkedChunk → KeeperState → Turn → List Turn → List ℕ → Type 0
+HasLives v keeper creation between text = (path : List State) → Joined text (start_of v) path → IsLife v keeper creation between path
+
+-- a history that begins with a new region
+pub history_of : (v : MarkedChunk) (keeper : KeeperState) (turns : List Turn) → IsValid v
+    → AreTurns v.limit 1 [] (first_region v.limit (fresh keeper)) turns
+    → IsHistory v.limit 1 [] (first_region v.limit (fresh keeper)) turns
+history_of v keeper turns valid are = record {
+  lawful = valid.range.0;
+  keepers = All-nil IsKeepers;
+  threads = tt;
+  keeper = knows_as_much (first_keeper_numbers 1) (first_keeper_numbers 1) refl;
+  in_range = omega arith;
+  marked = refl;
+  chunks = refl;
+  turns_are = are;
+}
+
+-- where the creation leaves the world
+begun_created : (v : MarkedChunk) (keeper : KeeperState) (created : Region) → IsValid v
+    → IsCreated (first_region v.limit (fresh keeper)) created v → Begun v (creation_events v) created.marked.bytes
+begun_created v keeper created valid is =
+    let h = history_of v keeper (creation_turn v created ∷ []) valid (creation_is_turn v keeper created valid is, tt) in
+    let stands = text_at_end v.limit 1 [] (first_region v.limit (fresh keeper)) (creation_turn v created ∷ []) h in
+    record { stage = stage_created v; text_is = ap (λ (m : MarkedText). m.bytes) stands.marked }
+
+-- the last turns after the creation
+ended_created : (v : MarkedChunk) (keeper : KeeperState) (created : Region) → IsValid v
+    → IsCreated (first_region v.limit (fresh keeper)) created v → (path : List State) → Joined created.marked.bytes (start_of v) path
+    → Ended v (creation_events v) created path
+ended_created v keeper created valid is path joined =
+    subst (λ (r : Region). Ended v (creation_events v) r path) (sym (same_created v keeper created is))
+    (ended v keeper created.marked created.made created.logged (creation_events v) (begun_created v keeper created valid is)
+    (bytes_back v keeper created valid is) (marks_back v keeper created valid is) path joined)
+
+-- the life after a creation
+life_created : (v : MarkedChunk) (keeper : KeeperState) (created : Region) → IsValid v
+    → IsCreated (first_region v.limit (fresh keeper)) created v
+    → HasLives v (fresh keeper) (creation_turn v created) [] created.marked.bytes
+life_created v keeper created valid is path joined =
+    let e = ended_created v keeper created valid is path joined in
+    record {
+      deletion = e.deletion;
+      reclaim = e.reclaim;
+      history = history_of v keeper (creation_turn v created ∷ e.deletion ∷ e.reclaim ∷ []) valid
+          (creation_is_turn v keeper created valid is, e.turns_are);
+      creates = creates_around v keeper created valid is;
+      deletes = e.deletes;
+      goes = e.goes;
+      stays = e.stays;
+      checks_in = e.checks_in;
+      frees = e.frees;
+      no_chunk = e.no_chunk;
+      unused = e.unused;
+    }
+
+-- a creation in a new region
+created_first : (v : MarkedChunk) (keeper : KeeperState) → IsValid v
+    → (created : Region) × IsCreated (first_region v.limit (fresh keeper)) created v
+created_first v keeper valid =
+    let old = first_region v.limit (fresh keeper) in
+    let pages = length-replicate ((v.limit - 65536 + 4095) / 4096) false in
+    let made = pages_made (unmade_pages v.limit) v.base (length v.code) in (
+      created_region (first_region v.limit (fresh keeper)) v 0 (pages_made (unmade_pages v.limit) v.base (length v.code)),
+      created_at (first_region v.limit (fresh keeper)) v 0 (pages_made (unmade_pages v.limit) v.base (length v.code)) (omega arith, tt, tt)
+          (pages_get_ready (unmade_pages v.limit) v.base (length v.code) valid.base_is.1 valid.length_is.0
+          (omega (arith, pages, lies_in v valid))),
+    )
+
+-- the numbers of a keeper are its first ones
+pub same_keeper : (keeper : KeeperState) → keeper.numbers ≡ first_keeper_numbers 1 → fresh keeper ≡ keeper
+same_keeper keeper first = ap (λ (n : KeeperNumbers). record keeper { numbers = n }) (sym first)
+
+-- what is to be shown of each chunk, for a keeper
+abbrev HasLife : MarkedChunk → KeeperState → Type 0
+HasLife v keeper = (creation : Turn) × HasLives v keeper creation [] creation.region.marked.bytes
+
+-- each valid chunk has a life
+pub lives : (v : MarkedChunk) (keeper : KeeperState) → IsValid v → keeper.numbers ≡ first_keeper_numbers 1
+    → (creation : Turn) × HasLives v keeper creation [] creation.region.marked.bytes
+lives v keeper valid first =
+    let c = created_first v keeper valid in
+    subst (HasLife v) (same_keeper keeper first) (creation_turn v c.0, life_created v keeper c.0 valid c.1)
