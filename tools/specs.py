@@ -5,11 +5,16 @@ import re
 import sys
 
 STANDS_FOR = {("nc_decode", "specs/machinery/Reading.antt", "reading"): ("nc_decode", "specs/Front.antt", "IsExact")}
-# Definitions that are only premises, each with the file whose public functions are proved to meet it, and the clauses that say so. (The
-# other clauses of these functions say what their bodies, of one line each, do.)
+# A definition that is only a premise, with the files whose public functions are each proved to meet it, and the clauses that say so. (The
+# other clauses of these functions say what else their bodies do.)
 MET_BY = {
-    ("nc_calls", "specs/Histories.antt", "IsCall"): ("nc_calls", "src/calls.rt", ("call", "refused", "logged")),
-    ("nc_calls", "specs/Histories.antt", "IsRefusal"): ("nc_calls", "src/calls.rt", ("refused",)),
+    ("nc_calls", "specs/Histories.antt", "IsCall"): [("nc_calls", "src/calls.rt", ("call", "refused", "logged"))],
+    ("nc_calls", "specs/Histories.antt", "IsRefusal"): [("nc_calls", "src/calls.rt", ("refused",))],
+    ("nc_handle", "specs/Pending.antt", "IsHeldCall"): [
+        ("nc_host", "src/changing.rt", ("pending",)),
+        ("nc_host", "src/deleting.rt", ("pending",)),
+        ("nc_host", "src/vetted.rt", ("pending",)),
+    ],
 }
 
 IMPORT = re.compile(r"^\s*(?:ghost |pub )*use Rattle\.(nc_\w+)\.specs\.([\w.]+?)(?:\.\{([^}]*)\}| as (\w+));?", re.M)
@@ -145,13 +150,14 @@ class Definitions(Files):
             if key not in self.found:
                 self.found[key] = by
                 file = self.file(crate, path)
-                cited = self.clauses(*met_by[key]) if key in met_by else file.names(file.parts[name], {name})
+                met = [cited for meets in met_by.get(key, []) for cited in self.clauses(*meets)]
+                cited = met if key in met_by else file.names(file.parts[name], {name})
                 todo += [(other, name) for other in cited]
 
     def clauses(self, crate, path, names):
         """The definitions that the clauses of these names, the conditions and the types of a file's public functions name."""
         text = pathlib.Path("crates", crate, path).read_text(encoding="utf-8")
-        found = re.findall(r"^pub fn .*?^{", text, re.M | re.S)
+        found = re.findall(r'^pub (?:extern "C" )?fn .*?^{', text, re.M | re.S)
         parts = [part for function in found for part in re.split(r"^(?=    ensures )", function, flags=re.M)]
         kept = [part for part in parts if not part.startswith("    ensures ") or part.split()[1] in names]
         return self.file(crate, path).names(counted("".join(kept).split("\n")))

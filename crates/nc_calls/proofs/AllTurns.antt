@@ -27,13 +27,13 @@ use Rattle.nc_calls.proofs.Whole.{whole_settled, StaysWhole, whole_append}
 use Rattle.nc_calls.proofs.StillRegion.{still_created, still_patched, still_deleted, still_reclaimed}
 
 -- what is kept from one call to the next
-record Stays (limit seats : ℕ) (before : List Event) (r : Region) : Type 0 where
-  led : HasLedTo limit seats before r
-  whole : StaysWhole (first_world limit seats) before
-  region : IsRegion r.marked r.chunks
+pub record Stays (limit seats : ℕ) (before : List Event) (r : Region) : Type 0 where
+  pub led : HasLedTo limit seats before r
+  pub whole : StaysWhole (first_world limit seats) before
+  pub region : IsRegion r.marked r.chunks
 
 -- a region with the same text and chunks is one
-same_region : (old new : Region) → new.marked ≡ old.marked → new.chunks ≡ old.chunks → IsRegion old.marked old.chunks
+pub same_region : (old new : Region) → new.marked ≡ old.marked → new.chunks ≡ old.chunks → IsRegion old.marked old.chunks
     → IsRegion new.marked new.chunks
 same_region old new marked chunks region =
     subst (λ (m : MarkedText). IsRegion m new.chunks) (sym marked) (subst (IsRegion old.marked) (sym chunks) region)
@@ -54,7 +54,7 @@ still_same limit seats before old turn s threads same own =
     (same_region old turn.region (ap (λ (r : Region). r.marked) same) (ap (λ (r : Region). r.chunks) same) s.region)
 
 -- each call
-call_stays : (limit seats : ℕ) (before : List Event) (old : Region) (turn : Turn) → Stays limit seats before old
+pub call_stays : (limit seats : ℕ) (before : List Event) (old : Region) (turn : Turn) → Stays limit seats before old
     → ThreadsMay (world_after (first_world limit seats) before) turn.events
     → KnowsNoMore turn.region.keeper.numbers (world_after (first_world limit seats) (before ++ turn.events)).keeper
     → IsCall seats old turn.region (writers turn.events) → Stays limit seats (before ++ turn.events) turn.region
@@ -105,7 +105,7 @@ history_stays limit seats first r turns h =
     }) h.turns_are
 
 -- what is safe in every view stands in every view
-all_stand : (w : World) → AllStandSafe w → AllStand w
+pub all_stand : (w : World) → AllStandSafe w → AllStand w
 all_stand w safe =
     All-weaker (λ (seat : Seat). IfSome seat.inside (λ now. (view : List ℕ) → IsViewOf w view → IsSafe view now))
     (λ (seat : Seat). IfSome seat.inside (λ now. (view : List ℕ) → IsViewOf w view → Stands view now))

@@ -25,3 +25,4 @@ pub mod Fetching
 pub mod AllTurns
 pub mod LoggedCalls
 pub mod lives
+pub mod Offered

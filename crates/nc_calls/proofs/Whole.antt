@@ -83,6 +83,11 @@ pub whole_first : (w : World) (events : List Event) → StaysWhole w events → 
 whole_first w [] whole = whole
 whole_first w (event ∷ events) whole = whole.0
 
+-- up to an event
+pub whole_front : (w : World) (events later : List Event) → StaysWhole w (events ++ later) → StaysWhole w events
+whole_front w [] later whole = whole_first w later whole
+whole_front w (event ∷ events) later whole = (whole.0, whole_front (after w event) events later whole.1)
+
 -- after some of them
 pub whole_between : (w : World) (events later : List Event) → StaysWhole w (events ++ later) → IsWholeIn (world_after w events)
 whole_between w [] later whole = whole_first w later whole

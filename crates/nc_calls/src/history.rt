@@ -30,8 +30,9 @@ ghost use Rattle.nc_calls.specs.Whole.{AllFetchWhole};
 /// says. The function does nothing when called.
 ///
 /// Its assumptions are in `ThreadsMay`, `IsTurn` and `IsHistory`: a thread enters only at bundle starts and while its seat
-/// hasn't left, and its pass checks in and leaves only while it is outside; the keeper finds no seat's word to be greater than
-/// it is; and puts and settlings reach execution in the order in which the calls make them.
+/// hasn't left, and its pass checks in and leaves only while it is outside; the keeper has the world's generation and a bound for
+/// each of its seats, and finds no word to be greater than it is; and puts and settlings reach execution in the order in which the
+/// calls make them.
 pub fn law_of_histories()
     ensures stand { (limit seats : ℕ) (first events later : List Event) (r : Region) (turns : List Turn)
         → IsHistory limit seats first r turns → happened first turns ≡ events ++ later

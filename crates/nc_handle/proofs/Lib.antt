@@ -6,3 +6,5 @@ pub mod OneChunk
 pub mod Handled
 pub mod writing
 pub mod Offered
+pub mod Telling
+pub mod RunsPending

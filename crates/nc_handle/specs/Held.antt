@@ -7,9 +7,10 @@ use Rattle.nc_text.specs.Ready.{unmade_pages}
 use Rattle.nc_vet.specs.Chunk.{MarkedChunk}
 use Rattle.nc_list.specs.declared.chunk.Chunk.{Chunk}
 use Rattle.nc_list.specs.declared.chunk.ChunkState.TheVariants.{Live}
-use Rattle.nc_region.specs.Region.{Region, IsRefused, MayRefuse}
+use Rattle.nc_text.specs.Places.{limit_of}
+use Rattle.nc_region.specs.Region.{Region, IsCreated, IsRefused, MayRefuse, Meets}
 use Rattle.nc_region.specs.Deletion.{IsDeleted, MayRefuseDelete, IsReclaimed}
-use Rattle.nc_region.specs.Patch.{MayRefusePatch}
+use Rattle.nc_region.specs.Patch.{IsModified, IsPatch, MayRefusePatch}
 use Rattle.nc_region.specs.Quiet.{retired_spans}
 use Rattle.nc_region.specs.schedules.Events.{Event, Looks}
 use Rattle.nc_calls.specs.Calls.{no_details}
@@ -155,3 +156,19 @@ pub record HasReclaimed (old new : HeldState) (count : ℕ) : Type 0 where
   pub outside : All (IsIn new.region old.region.keeper.numbers.generation) new.passes
   pub seats : map (λ (p : PassState). p.seat) new.passes ≡ map (λ (p : PassState). p.seat) old.passes
   pub others : new ≡ record old { region = new.region; passes = new.passes }
+
+-- no deletion was under way, the chunk was vetted for the region's limit, no chunk overlapped its span, it was created
+-- in the region (`IsCreated`), all else is as before, and what was logged is a call of a history (`LogsCall` of
+-- nc_calls)
+abbrev pub HasLoaded : MarkedChunk → HeldState → HeldState → Type 0
+HasLoaded v old new =
+    (old.begun ≡ None) × (v.limit ≡ limit_of old.region.marked.bytes) × (¬ Meets v.base (length v.code) old.region.chunks)
+    × IsCreated old.region new.region v × (new ≡ record old { region = new.region })
+    × ((seats : ℕ) → LogsCall seats (record no_details { marks = v.marks }) old.region new.region)
+
+-- no deletion was under way, a lawful patch (`IsPatch`) was made in the region (`IsModified`), all else is as before,
+-- and what was logged is a call of a history (`LogsCall` of nc_calls)
+abbrev pub HasPatched : ℕ → List ℕ → HeldState → HeldState → Type 0
+HasPatched at bytes old new =
+    (old.begun ≡ None) × IsPatch old.region at bytes × IsModified old.region new.region at bytes × (new ≡ record old { region = new.region })
+    × ((seats : ℕ) → LogsCall seats no_details old.region new.region)

@@ -3,3 +3,4 @@ pub mod acts
 pub mod Shown
 pub mod Runs
 pub mod Held
+pub mod Pending

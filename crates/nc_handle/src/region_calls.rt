@@ -1,8 +1,8 @@
 //! The calls that change a region that owns everything it needs, with the acts of each change.
 
-ghost use Rattle.std.specs.Prelude.{◌≡◌, ◌+◌, ◌*◌, ◌^◌, ◌<◌, ◌≤◌, ◌↔◌, ℕ, List, IfOk, IfErr, IfSome, IsNone, IsTrue, OnOk, OnErr, None, length};
+ghost use Rattle.std.specs.Prelude.{◌≡◌, ◌+◌, ◌*◌, ◌^◌, ◌<◌, ◌≤◌, ◌↔◌, ℕ, List, IfOk, IfErr, IfSome, IsNone, IsTrue, OnOk, OnErr, OnSome, None, length};
 ghost use Rattle.nc_text.specs.Places.{limit_of};
-ghost use Rattle.nc_vet.specs.Chunk.{Piece};
+ghost use Rattle.nc_vet.specs.Chunk.{MarkedChunk, Piece};
 ghost use Rattle.nc_vet.specs.Faults.{HasGoodSpan};
 ghost use Rattle.nc_region.specs.Log.{Logs, log_of_create, log_of_delete};
 ghost use Rattle.nc_region.specs.Patch.{AreBytesOf, IsModified, IsPatch, log_of_modify};
@@ -11,6 +11,7 @@ ghost use Rattle.nc_calls.specs.Calls.{no_details};
 ghost use Rattle.nc_calls.specs.Histories.{LogsCall};
 ghost use Rattle.nc_handle.specs.machinery.Standing.{AreBytesAt};
 ghost use Rattle.nc_handle.specs.Held.{IsLiveAt, IsShort, IsShortForPatch, HasBegun, HasEnded, IsNotLoaded, MayRefuseBegin, MayRefuseLoad, MayRefuseModify};
+ghost use Rattle.nc_handle.specs.Pending.{TellsPending, DoesItself};
 ghost use Rattle.nc_handle.specs.Shown.{IsTold, bytes_of_span};
 
 use crate::acts::{NcAct, write_creation, write_deletion, write_patch};
@@ -171,6 +172,8 @@ impl Held {
         ensures log { OnOk result (Logs self.old.region.logged self.new.region.logged (log_of_create vetted.base vetted.code)) }
         ensures call { (seats : ℕ) → OnOk result
             (LogsCall seats (record no_details { marks = vetted.marks }) self.old.region self.new.region) }
+        // What the buffer then has is pending.
+        ensures pending { IfOk result (TellsPending self.old self.new vetted acts.old acts.new) }
         // The chunk is returned, and the buffer is as it was.
         ensures unchanged { IfErr result (λ e. (e.0 ≡ vetted) × IsNotLoaded self.old self.new vetted e.1) }
         ensures untouched { OnErr result (acts.new ≡ acts.old) }
@@ -212,6 +215,8 @@ impl Held {
         ensures log { OnOk result ((news : List Piece) → AreBytesOf new.now news
             → Logs self.old.region.logged self.new.region.logged (log_of_modify self.old.region.marked.bytes at news)) }
         ensures call { (seats : ℕ) → OnOk result (LogsCall seats no_details self.old.region self.new.region) }
+        // What the buffer then has is pending.
+        ensures pending { (v : MarkedChunk) → IfOk result (TellsPending self.old self.new v acts.old acts.new) }
         ensures unchanged { OnErr result (self.new ≡ self.old) }
         ensures untouched { OnErr result (acts.new ≡ acts.old) }
         // Each refusal is returned exactly when it is due.
@@ -231,6 +236,8 @@ impl Held {
     pub fn end_delete(&mut self) -> Option<u64>
         // While a deletion is under way, it is never refused. The acts of the deletion are logged now, the stamp last.
         ensures ended { IfSome result (HasEnded self.old self.new) }
+        // What is pending is the stamp, which the library draws itself.
+        ensures pending { (seats : ℕ) → OnSome result (DoesItself seats self.old self.new) }
         ensures none { IsNone result ↔ (self.old.begun ≡ None) }
         ensures unchanged { IsNone result → self.new ≡ self.old }
     {
@@ -262,6 +269,8 @@ impl Held {
         ensures allowed { IfOk result (λ r. ¬ IsShort (length acts.old) (r.0.length + 2)) }
         // The acts written are those of a deletion, by the region's own marks, with the settling.
         ensures told { IfOk result (λ r. IsTold acts.old acts.new r.1 (log_of_delete self.old.region.marked.marks base r.0.length)) }
+        // What the buffer then has, up to the stamp, is pending.
+        ensures pending { (v : MarkedChunk) → IfOk result (λ r. TellsPending self.old self.new v acts.old acts.new r.1) }
         ensures unchanged { OnErr result (self.new ≡ self.old) }
         ensures untouched { OnErr result (acts.new ≡ acts.old) }
         // Each refusal is returned exactly when it is due.

@@ -1,9 +1,10 @@
 //! The seats of a region that owns its table: each is given out once, and until then the region checks in for it.
 
-ghost use Rattle.std.specs.Prelude.{◌≡◌, ◌≤◌, ◌<◌, ◌↔◌, [], All, IfOk, IfErr, IfSome, IsErrOf, IsNone, IsSome, OnErr, length, slice_index};
+ghost use Rattle.std.specs.Prelude.{◌≡◌, ◌≤◌, ◌<◌, ◌↔◌, ℕ, [], All, IfOk, IfErr, IfSome, IsErrOf, IsNone, IsSome, OnErr, OnSome, length, slice_index};
 ghost use Rattle.std.specs.Arc.{arc_value};
 ghost use Rattle.nc_gens.specs.Seen.{Raised};
-ghost use Rattle.nc_handle.specs.Held.{HasGiven, HasReclaimed, MayRefuseSeat};
+ghost use Rattle.nc_handle.specs.Pending.{DoesItself};
+ghost use Rattle.nc_handle.specs.Held.{HeldState, HasGiven, HasReclaimed, MayRefuseSeat};
 ghost use Rattle.nc_handle.specs.declared.fault.SeatFault.{SeatFault};
 
 use crate::attending::attend;
@@ -64,6 +65,8 @@ impl Held {
     pub fn reclaim(&mut self) -> Option<u32>
         // No seat that wasn't given out delays reclaiming.
         ensures reclaimed { IfSome result (HasReclaimed self.old self.new) }
+        // The library makes all that is pending itself, first for the seats not given out.
+        ensures pending { (seats : ℕ) → OnSome result ((met : HeldState) × DoesItself seats self.old met × DoesItself seats met self.new) }
         ensures underway { IsNone result ↔ IsSome self.old.begun }
         ensures unchanged { IsNone result → self.new ≡ self.old }
     {

@@ -1,14 +1,10 @@
 -- The values of handles after the calls on them, and the numbers of the calls' refusals.
-use Rattle.std.specs.Prelude.{◌≡◌, ℕ, ◌⊎◌, List, Option, Some, None, length}
+use Rattle.std.specs.Prelude.{◌≡◌, ℕ, ◌⊎◌, List, Option, Some, None}
 use Rattle.nc_text.specs.Places.{limit_of}
 use Rattle.nc_text.specs.Ready.{GetsReady}
 use Rattle.nc_vet.specs.Chunk.{MarkedChunk, IsValid}
 use Rattle.nc_region.specs.declared.fault.CreateFault.TheVariants.{WrongLimit, Occupied, OutOfMemory}
 use Rattle.nc_region.specs.declared.fault.DeleteFault.TheVariants.{NoChunk, GensFull}
-use Rattle.nc_region.specs.Patch.{IsModified, IsPatch}
-use Rattle.nc_region.specs.Region.{IsCreated, Meets}
-use Rattle.nc_calls.specs.Calls.{no_details}
-use Rattle.nc_calls.specs.Histories.{LogsCall}
 use Rattle.nc_handle.specs.declared.fault.NewFault.{NewFault}
 use Rattle.nc_handle.specs.declared.fault.NewFault.TheVariants as new
 use Rattle.nc_handle.specs.declared.fault.SeatFault.{SeatFault}
@@ -99,22 +95,6 @@ HoldsVetted base limit code held = (k : Kept) × (held ≡ Some k) × ((v : Mark
 -- the chunk is valid, with this code at this base, for the region's limit
 abbrev pub IsChunkFor : HeldState → ℕ → List ℕ → MarkedChunk → Type 0
 IsChunkFor h base code v = IsVetted base (limit_of h.region.marked.bytes) code v
-
--- no deletion was under way, the chunk was vetted for the region's limit, no chunk overlapped its span, it was created
--- in the region (`IsCreated`), all else is as before, and what was logged is a call of a history (`LogsCall` of
--- nc_calls)
-abbrev pub HasLoaded : MarkedChunk → HeldState → HeldState → Type 0
-HasLoaded v old new =
-    (old.begun ≡ None) × (v.limit ≡ limit_of old.region.marked.bytes) × (¬ Meets v.base (length v.code) old.region.chunks)
-    × IsCreated old.region new.region v × (new ≡ record old { region = new.region })
-    × ((seats : ℕ) → LogsCall seats (record no_details { marks = v.marks }) old.region new.region)
-
--- no deletion was under way, a lawful patch (`IsPatch`) was made in the region (`IsModified`), all else is as before,
--- and what was logged is a call of a history (`LogsCall` of nc_calls)
-abbrev pub HasPatched : ℕ → List ℕ → HeldState → HeldState → Type 0
-HasPatched at bytes old new =
-    (old.begun ≡ None) × IsPatch old.region at bytes × IsModified old.region new.region at bytes × (new ≡ record old { region = new.region })
-    × ((seats : ℕ) → LogsCall seats no_details old.region new.region)
 
 -- all is as before, except that pages of the text that overlap this span may have been allocated (`GetsReady` of
 -- nc_text)

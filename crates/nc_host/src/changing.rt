@@ -6,11 +6,12 @@ ghost use Rattle.nc_vet.specs.Chunk.{MarkedChunk, Piece};
 ghost use Rattle.nc_region.specs.Log.{log_of_create};
 ghost use Rattle.nc_region.specs.Patch.{AreBytesOf, IsModified, IsPatch, log_of_modify};
 ghost use Rattle.nc_region.specs.Region.{IsCreated};
-ghost use Rattle.nc_handle.specs.Held.{HeldState, IsShortForPatch, MayRefuseLoad, MayRefuseModify};
+ghost use Rattle.nc_handle.specs.Held.{HasLoaded, HasPatched, HeldState, IsShortForPatch, MayRefuseLoad, MayRefuseModify};
+ghost use Rattle.nc_handle.specs.Pending.{TellsPending};
 ghost use Rattle.nc_handle.specs.Shown.{IsTold};
 ghost use Rattle.nc_handle.specs.declared.fault.LoadFault.{LoadFault};
 ghost use Rattle.nc_handle.specs.declared.fault.PatchFault.{PatchFault};
-ghost use Rattle.nc_host.specs.Handles.{HasLoaded, HasPatched, IsChunkFor, IsDone, IsRefusal, IsSameButPages, load_number, load_wanted, modify_number, modify_wanted};
+ghost use Rattle.nc_host.specs.Handles.{IsChunkFor, IsDone, IsRefusal, IsSameButPages, load_number, load_wanted, modify_number, modify_wanted};
 ghost use Rattle.nc_host.specs.Outcomes.{IsChunkFault};
 
 use crate::chunks::vet_copy;
@@ -24,6 +25,7 @@ use std::alloc::Global;
 pub(crate) fn load(held: &mut Held, vetted: Vetted, acts: &mut [NcAct]) -> NcChange
     ensures created { result.fault ≡ 0 → HasLoaded vetted held.old held.new }
     ensures told { result.fault ≡ 0 → IsTold acts.old acts.new result.count (log_of_create vetted.base vetted.code) }
+    ensures pending { result.fault ≡ 0 → TellsPending held.old held.new vetted acts.old acts.new result.count }
     ensures untouched { 0 < result.fault → acts.new ≡ acts.old }
     ensures unchanged { 0 < result.fault → (held.new ≡ held.old)
         ⊎ ((result.fault ≡ 8) × IsSameButPages vetted.base (length vetted.code) held.old held.new) }
@@ -50,6 +52,8 @@ fn vet_and_load(
 ) -> NcChange
     ensures created { result.fault ≡ 0 → (v : MarkedChunk) × IsChunkFor held.old base code.now v × HasLoaded v held.old held.new }
     ensures told { result.fault ≡ 0 → IsTold acts.old acts.new result.count (log_of_create base code.now) }
+    ensures pending { result.fault ≡ 0 → (v : MarkedChunk) × (v.base ≡ base) × (v.code ≡ code.now)
+        × TellsPending held.old held.new v acts.old acts.new result.count }
     ensures untouched { 0 < result.fault → acts.new ≡ acts.old }
     ensures unchanged { 0 < result.fault → (held.new ≡ held.old)
         ⊎ ((result.fault ≡ 8) × IsSameButPages base (length code.now) held.old held.new) }
@@ -86,6 +90,9 @@ pub extern "C" fn nc_region_create(
         (λ old new. (v : MarkedChunk) × IsChunkFor old base code.now v × HasLoaded v old new) }
     // The acts written are those of a creation, with the settling.
     ensures told { result.fault ≡ 0 → IsTold acts.old acts.new result.count (log_of_create base code.now) }
+    // What the buffer then has is pending, for a chunk of this code.
+    ensures pending { result.fault ≡ 0 → IsDone region.old.value region.new.value (λ old new. (v : MarkedChunk) × (v.base ≡ base)
+        × (v.code ≡ code.now) × TellsPending old new v acts.old acts.new result.count) }
     ensures untouched { 0 < result.fault → acts.new ≡ acts.old }
     ensures unchanged { 0 < result.fault → (region.new.value ≡ region.old.value)
         ⊎ ((result.fault ≡ 8) × IsDone region.old.value region.new.value (IsSameButPages base (length code.now))) }
@@ -111,6 +118,7 @@ fn patch(held: &mut Held, at: u32, new: &[u8], acts: &mut [NcAct]) -> NcChange
     ensures allowed { result.fault ≡ 0 → ¬ IsShortForPatch (length acts.old) (length new.now) }
     ensures told { result.fault ≡ 0 → (news : List Piece) → AreBytesOf new.now news
         → IsTold acts.old acts.new result.count (log_of_modify held.old.region.marked.bytes at news) }
+    ensures pending { (v : MarkedChunk) → result.fault ≡ 0 → TellsPending held.old held.new v acts.old acts.new result.count }
     ensures untouched { 0 < result.fault → acts.new ≡ acts.old }
     ensures unchanged { 0 < result.fault → held.new ≡ held.old }
     ensures at { result.at ≡ 0 }
@@ -146,6 +154,9 @@ pub extern "C" fn nc_region_patch(
     // The acts written are those of a patch of the region's own bytes, with the settlings.
     ensures told { result.fault ≡ 0 → (h : HeldState) (news : List Piece) → region.old.value ≡ Some h → AreBytesOf bytes.now news
         → IsTold acts.old acts.new result.count (log_of_modify h.region.marked.bytes at news) }
+    // What the buffer then has is pending.
+    ensures pending { (v : MarkedChunk) → result.fault ≡ 0 → IsDone region.old.value region.new.value
+        (λ old new. TellsPending old new v acts.old acts.new result.count) }
     ensures untouched { 0 < result.fault → acts.new ≡ acts.old }
     ensures unchanged { 0 < result.fault → region.new.value ≡ region.old.value }
     ensures at { result.at ≡ 0 }

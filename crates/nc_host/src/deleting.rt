@@ -1,9 +1,11 @@
 //! Deletions in two steps, and reuse, by a region's handle.
 
-ghost use Rattle.std.specs.Prelude.{◌≡◌, ◌<◌, ◌⊎◌, None, Some, IsSome, length};
+ghost use Rattle.std.specs.Prelude.{◌≡◌, ◌<◌, ◌⊎◌, ℕ, None, Some, IsSome, length};
+ghost use Rattle.nc_vet.specs.Chunk.{MarkedChunk};
 ghost use Rattle.nc_list.specs.declared.chunk.Chunk.{Chunk};
 ghost use Rattle.nc_region.specs.Log.{log_of_delete};
 ghost use Rattle.nc_handle.specs.Held.{HeldState, HasBegun, HasEnded, HasReclaimed, MayRefuseBegin};
+ghost use Rattle.nc_handle.specs.Pending.{TellsPending, DoesItself};
 ghost use Rattle.nc_handle.specs.Shown.{IsTold};
 ghost use Rattle.nc_handle.specs.declared.fault.RetireFault.{RetireFault};
 ghost use Rattle.nc_host.specs.Handles.{IsDone, IsRefusal, retire_number, retire_wanted};
@@ -17,6 +19,7 @@ use std::alloc::Global;
 fn begin(held: &mut Held, base: u32, acts: &mut [NcAct]) -> NcChange
     ensures begun { result.fault ≡ 0 → (c : Chunk) × HasBegun held.old held.new base c
         × IsTold acts.old acts.new result.count (log_of_delete held.old.region.marked.marks base c.length) }
+    ensures pending { (v : MarkedChunk) → result.fault ≡ 0 → TellsPending held.old held.new v acts.old acts.new result.count }
     ensures untouched { 0 < result.fault → acts.new ≡ acts.old }
     ensures unchanged { 0 < result.fault → held.new ≡ held.old }
     ensures at { result.at ≡ 0 }
@@ -47,6 +50,9 @@ pub extern "C" fn nc_region_begin_delete(
     // The acts written are those of a deletion, by the region's own marks, with the settling.
     ensures begun { result.fault ≡ 0 → IsDone region.old.value region.new.value (λ old new. (c : Chunk) × HasBegun old new base c
         × IsTold acts.old acts.new result.count (log_of_delete old.region.marked.marks base c.length)) }
+    // What the buffer then has, up to the stamp, is pending.
+    ensures pending { (v : MarkedChunk) → result.fault ≡ 0 → IsDone region.old.value region.new.value
+        (λ old new. TellsPending old new v acts.old acts.new result.count) }
     ensures untouched { 0 < result.fault → acts.new ≡ acts.old }
     ensures unchanged { 0 < result.fault → region.new.value ≡ region.old.value }
     ensures at { result.at ≡ 0 }
@@ -67,6 +73,8 @@ pub extern "C" fn nc_region_begin_delete(
 #[unsafe(no_mangle)]
 pub extern "C" fn nc_region_end_delete(alloc: Global, region: &mut NcRegion) -> NcStamp
     ensures ended { result.fault ≡ 0 → IsDone region.old.value region.new.value (λ old new. HasEnded old new result.stamp) }
+    // What is pending is the stamp, which the library has drawn itself.
+    ensures pending { (seats : ℕ) → result.fault ≡ 0 → IsDone region.old.value region.new.value (DoesItself seats) }
     ensures unchanged { 0 < result.fault → (result.stamp ≡ 0) × (region.new.value ≡ region.old.value) }
     ensures refused { 0 < result.fault → ((result.fault ≡ 32) × (region.old.value ≡ None))
         ⊎ ((result.fault ≡ 38) × ((h : HeldState) × (region.old.value ≡ Some h) × (h.begun ≡ None))) }
@@ -93,6 +101,9 @@ pub extern "C" fn nc_region_end_delete(alloc: Global, region: &mut NcRegion) -> 
 #[unsafe(no_mangle)]
 pub extern "C" fn nc_region_reclaim(alloc: Global, region: &mut NcRegion) -> NcCount
     ensures reclaimed { result.fault ≡ 0 → IsDone region.old.value region.new.value (λ old new. HasReclaimed old new result.count) }
+    // The library has made all that is pending itself, first for the seats not given out.
+    ensures pending { (seats : ℕ) → result.fault ≡ 0 → IsDone region.old.value region.new.value
+        (λ old new. (met : HeldState) × DoesItself seats old met × DoesItself seats met new) }
     ensures unchanged { 0 < result.fault → (result.count ≡ 0) × (region.new.value ≡ region.old.value) }
     ensures refused { 0 < result.fault → ((result.fault ≡ 32) × (region.old.value ≡ None))
         ⊎ ((result.fault ≡ 37) × ((h : HeldState) × (region.old.value ≡ Some h) × IsSome h.begun)) }

@@ -3,11 +3,12 @@
 ghost use Rattle.std.specs.Prelude.{◌≡◌, ◌<◌, ◌⊎◌, None, Some, IfOk, IfErr, length};
 ghost use Rattle.nc_vet.specs.Chunk.{MarkedChunk};
 ghost use Rattle.nc_region.specs.Log.{log_of_create};
-ghost use Rattle.nc_handle.specs.Held.{HeldState, MayRefuseLoad};
+ghost use Rattle.nc_handle.specs.Held.{HasLoaded, HeldState, MayRefuseLoad};
+ghost use Rattle.nc_handle.specs.Pending.{TellsPending};
 ghost use Rattle.nc_handle.specs.Shown.{IsTold};
 ghost use Rattle.nc_handle.specs.declared.fault.LoadFault.{LoadFault};
 ghost use Rattle.nc_handle.specs.declared.kept.Kept.{Kept};
-ghost use Rattle.nc_host.specs.Handles.{HasLoaded, HoldsVetted, IsDone, IsSameButPages, IsVetted, load_number, load_wanted};
+ghost use Rattle.nc_host.specs.Handles.{HoldsVetted, IsDone, IsSameButPages, IsVetted, load_number, load_wanted};
 ghost use Rattle.nc_host.specs.Outcomes.{IsChunkFault};
 
 use crate::answers::NcVerdict;
@@ -81,6 +82,8 @@ pub extern "C" fn nc_vetted_free(alloc: Global, vetted: &mut NcVetted)
 fn load_kept(held: &mut Held, kept: &mut Kept, acts: &mut [NcAct]) -> NcChange
     ensures created { result.fault ≡ 0 → (v : MarkedChunk) × (kept.old.chunk ≡ Some v) × HasLoaded v held.old held.new
         × IsTold acts.old acts.new result.count (log_of_create v.base v.code) }
+    ensures pending { result.fault ≡ 0 → (v : MarkedChunk) × (kept.old.chunk ≡ Some v)
+        × TellsPending held.old held.new v acts.old acts.new result.count }
     ensures untouched { 0 < result.fault → (acts.new ≡ acts.old) × (kept.new ≡ kept.old) }
     ensures unchanged { 0 < result.fault → (held.new ≡ held.old) ⊎ ((result.fault ≡ 8)
         × ((v : MarkedChunk) × (kept.old.chunk ≡ Some v) × IsSameButPages v.base (length v.code) held.old held.new)) }
@@ -115,6 +118,9 @@ pub extern "C" fn nc_region_load(
     ensures created { result.fault ≡ 0 → (vetted.new.value ≡ None) × ((k : Kept) × (vetted.old.value ≡ Some k)
         × ((v : MarkedChunk) × (k.chunk ≡ Some v) × IsDone region.old.value region.new.value (HasLoaded v)
         × IsTold acts.old acts.new result.count (log_of_create v.base v.code))) }
+    // What the buffer then has is pending, for this chunk.
+    ensures pending { result.fault ≡ 0 → (k : Kept) × (vetted.old.value ≡ Some k) × ((v : MarkedChunk) × (k.chunk ≡ Some v)
+        × IsDone region.old.value region.new.value (λ old new. TellsPending old new v acts.old acts.new result.count)) }
     ensures untouched { 0 < result.fault → (acts.new ≡ acts.old) × (vetted.new.value ≡ vetted.old.value) }
     ensures unchanged { 0 < result.fault → (region.new.value ≡ region.old.value) ⊎ ((result.fault ≡ 8)
         × ((k : Kept) × (vetted.old.value ≡ Some k) × ((v : MarkedChunk) × (k.chunk ≡ Some v)

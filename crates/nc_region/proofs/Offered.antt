@@ -25,6 +25,7 @@ pub use Rattle.nc_region.proofs.patching.Replacing.{single_span}
 pub use Rattle.nc_region.proofs.patching.Turns.{turn, next_patch, spans_join, stands_same, same_stands}
 pub use Rattle.nc_region.proofs.telling.Puts.{put_none, put_more, put_passed}
 pub use Rattle.nc_region.proofs.telling.Chosen.{puts_append}
+pub use Rattle.nc_region.proofs.telling.Logged.{told_logged, deleted_acts}
 pub use Rattle.nc_region.proofs.deleting.Freed.{region_freed}
 pub use Rattle.nc_region.proofs.patching.NewInstructions.{Parted, parted, not_found, none_of_none, slice_rest, some_same}
 pub use Rattle.nc_region.proofs.patching.Exchanging.{Where, Here, Earlier, Later, where_is}

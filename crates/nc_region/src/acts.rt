@@ -163,7 +163,7 @@ pub trait Acts {
     /// closed after each put.
     ///
     /// This default calls `stop_where` and `settle`. An implementation over a text that no thread executes is faster if it overrides
-    /// it.
+    /// it. In memory that threads execute, it must make each store by itself, in the order of the entries, and settle at `Settled`.
     fn stop_span(&mut self, at: u32, len: u32)
         requires placed { HasGoodSpan at (limit_of (marked self.old).bytes) len }
         requires ready { AreReady (made self.old) at len }
@@ -202,12 +202,13 @@ pub trait Acts {
         ensures keeper { keeper self.new ≡ keeper self.old }
         ensures logged { Logs (logged self.old) (logged self.new) (Entry.Did (Act.MarkSpan at (length marks.now)) ∷ []) };
 
-    /// Creates a chunk from the bits of its bundles and returns true, or does nothing and returns false. Then the region makes its acts
-    /// one by one, by `put_where`, `settle` and `mark_span`. It is logged as these are. The text is closed after each of these acts,
-    /// since the chunk is closed by itself and its span is unused.
+    /// Creates a chunk from the bits of its bundles and returns true, or does nothing and returns false. If it returns false, the region
+    /// makes the creation's acts by `put_where`, `settle` and `mark_span`. The entries logged are the same. The text is closed after each
+    /// of these acts, since the chunk is closed by itself and its span is unused.
     ///
     /// This default does nothing. An implementation that keeps marks as bits, over a text that no thread executes, is faster if it
-    /// overrides it.
+    /// overrides it. In memory that threads execute, it must make each store by itself, in the order of the entries, and settle at
+    /// `Settled`.
     fn put_bundles(&mut self, at: u32, code: &[u8], bundles: &[Bundle]) -> bool
         requires chunk { IsClosedChunk at (limit_of (marked self.old).bytes) code.now (marks_in code.now bundles.now) }
         requires unused { IsUnused (marked self.old) at (length code.now) }

@@ -6,6 +6,7 @@ use Rattle.nc_region.specs.Log.{Logs, log_of_create}
 use Rattle.nc_calls.specs.Calls.{no_details}
 use Rattle.nc_calls.specs.Histories.{LogsCall}
 use Rattle.nc_handle.specs.Held.{HeldState}
+use Rattle.nc_handle.proofs.Telling.{loads}
 use Rattle.nc_handle.proofs.SpanReads.{created_span, created_told}
 use Rattle.nc_handle.proofs.held.Held.create.Goals.{in-Ok, in-Err-create}
 use Rattle.nc_handle.proofs.held.Held.create.Goals as goal
@@ -108,5 +109,22 @@ returns-clause-call c = λ seats.
           subst (λ (h : HeldState). LogsCall seats (record no_details { marks = c.args.vetted.marks }) h.region c.create.new.region)
           c.self.view_is (w.in-Ok.ensures.call seats)
           )
+      | in-Err-create w ↦ rw w.result-is tt
+    ]
+
+pub returns-clause-pending : goal.returns-clause-pending
+returns-clause-pending c =
+    elim c.match-create.branch [
+      | in-Ok w ↦
+          rw (w.result-is, w.acts-is)
+          (loads c.args.self.now (record { region = c.create.new.region; passes = c.self.inside.passes.items; begun = c.self.inside.begun })
+          c.args.vetted c.args.acts.now w.tell_creation.new.acts w.tell_creation.result c.code.ensures.valid
+          (subst (λ (h : HeldState). c.args.vetted.limit ≡ limit_of h.region.marked.bytes) c.self.view_is w.in-Ok.ensures.free.0)
+          (subst (λ (h : HeldState). IsCreated h.region c.create.new.region c.args.vetted) c.self.view_is w.in-Ok.ensures.created)
+          c.in_default.ensures.allowed.0
+          (ap (λ (h : HeldState). record h { region = c.create.new.region }) c.self.view_is)
+          (created_told c.self.inside.region c.create.new.region c.args.vetted c.base-base.result c.code.result.now c.args.acts.now
+          w.tell_creation.new.acts w.tell_creation.result c.base-base.ensures.value c.code.ensures.value w.in-Ok.ensures.created
+          c.code.ensures.valid w.in-Ok.ensures.free.0 w.tell_creation.ensures))
       | in-Err-create w ↦ rw w.result-is tt
     ]

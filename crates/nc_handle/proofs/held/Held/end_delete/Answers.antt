@@ -6,6 +6,7 @@ use Rattle.nc_region.proofs.Offered.{listed_there}
 use Rattle.nc_calls.specs.Calls.{no_details}
 use Rattle.nc_calls.specs.Histories.{LogsCall}
 use Rattle.nc_handle.specs.Held.{HeldState, CanEnd, HasEnded}
+use Rattle.nc_handle.proofs.Telling.{ends}
 use Rattle.nc_handle.proofs.OneChunk.{one_of_base}
 use Rattle.nc_handle.proofs.held.Held.end_delete.Goals as goal
 
@@ -36,3 +37,6 @@ returns-clause-ended c =
       call = call;
       others = refl;
     })
+
+pub returns-clause-pending : goal.returns-clause-pending
+returns-clause-pending c = λ seats. ends seats _ _ c.in-Ok.stamp (returns-clause-ended c)

@@ -1,4 +1,4 @@
-use Rattle.std.proofs.Common.{List, length, ap, subst, ◌∙◌}
+use Rattle.std.proofs.Common.{List, refl, length, ap, subst, ◌∙◌}
 use Rattle.nc_vet.specs.Chunk.{Piece}
 use Rattle.nc_region.specs.Patch.{AreBytesOf, IsModified, IsPatch, MayRefusePatch, log_of_modify}
 use Rattle.nc_region.specs.Region.{Region}
@@ -6,6 +6,8 @@ use Rattle.nc_region.specs.Log.{Logs}
 use Rattle.nc_calls.specs.Calls.{no_details}
 use Rattle.nc_calls.specs.Histories.{LogsCall}
 use Rattle.nc_handle.specs.Held.{HeldState}
+use Rattle.nc_handle.specs.Pending.{TellsPending}
+use Rattle.nc_handle.proofs.Telling.{patches}
 use Rattle.nc_handle.proofs.PatchPlaces.{patch_lies, window_stands}
 use Rattle.nc_handle.proofs.held.Held.modify.Goals.{in-Ok, in-Err-modify}
 use Rattle.nc_handle.proofs.held.Held.modify.Goals as goal
@@ -100,5 +102,23 @@ returns-clause-call c = λ seats.
       | in-Ok w ↦
           rw w.result-is
           (subst (λ (h : HeldState). LogsCall seats no_details h.region c.modify.new.region) c.self.view_is (c.modify.ensures.call seats))
+      | in-Err-modify w ↦ rw w.result-is tt
+    ]
+
+pub returns-clause-pending : goal.returns-clause-pending
+returns-clause-pending c = λ v.
+    elim c.match-modify.branch [
+      | in-Ok w ↦
+          let lies = patch_lies c.self.inside.region c.args.at c.args.new.now c.read_window-before.ensures.region w.in-Ok.ensures.lawful in
+          rw (w.result-is, w.acts-is) (subst
+          (λ (h : HeldState). TellsPending h (record { region = c.modify.new.region; passes = c.self.inside.passes.items; begun = c.self.inside.begun })
+          v c.args.acts.now w.tell_patch.new.acts w.tell_patch.result) c.self.view_is
+          (patches (record { region = c.self.inside.region; passes = c.self.inside.passes.items; begun = c.self.inside.begun })
+          (record { region = c.modify.new.region; passes = c.self.inside.passes.items; begun = c.self.inside.begun })
+          c.args.at c.args.new.now c.args.acts.now w.tell_patch.new.acts w.tell_patch.result v w.in-Ok.ensures.lawful w.in-Ok.ensures.modified
+          (ap (λ (h : HeldState). h.begun) c.self.view_is ∙ c.in_default.ensures.allowed.0) refl (λ news are.
+          w.tell_patch.ensures c.self.inside.region.marked.bytes news (λ some.
+          window_stands c.self.inside.region.marked.bytes c.args.at (length c.args.new.now) c.bytes_before.result c.read_window-before.result lies
+          (c.bytes_before.ensures.lent some lies.short) c.read_window-before.ensures.read) are)))
       | in-Err-modify w ↦ rw w.result-is tt
     ]

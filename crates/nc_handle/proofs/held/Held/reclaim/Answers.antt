@@ -8,6 +8,7 @@ use Rattle.nc_calls.specs.Weaving.{IsKeepers}
 use Rattle.nc_calls.specs.Histories.{UsesKeeper}
 use Rattle.nc_handle.specs.Held.{meetings}
 use Rattle.std.proofs.lemmas.Grind.{common_steps}
+use Rattle.nc_handle.proofs.Telling.{reclaims}
 use Rattle.nc_handle.proofs.held.Held.reclaim.Goals as goal
 
 -- meetings are events of the keeper
@@ -34,3 +35,6 @@ returns-clause-reclaimed c =
       seats = grind (arith, common_steps);
       others = search rules;
     }
+
+pub returns-clause-pending : goal.returns-clause-pending
+returns-clause-pending c = λ seats. reclaims seats _ _ c.reclaim.result (returns-clause-reclaimed c)

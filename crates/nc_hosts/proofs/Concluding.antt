@@ -1,0 +1,307 @@
+-- What holds in every state that a host can reach.
+use Rattle.std.proofs.Common.{◌≡◌, ℕ, ◌+◌, ◌-◌, ◌*◌, ◌<◌, inl, inr, Some, None, List, [], ◌∷◌, ◌++◌, replicate, refl, ◌∙◌, sym, ap, subst}
+use Rattle.std.specs.Prelude.{All}
+use Rattle.std.specs.List.{range_with_len}
+use Rattle.std.proofs.lemmas.List.{append-nil, append_assoc}
+use Rattle.std.proofs.lemmas.List.Elements.{All-append}
+use Rattle.nc_decode.specs.Bundles.{IsLawfulLimit}
+use Rattle.nc_text.specs.Machine.{IsConfined}
+use Rattle.nc_text.specs.MarkedText.{MarkedText, with_span}
+use Rattle.nc_text.proofs.Offered.{confined_if_closed}
+use Rattle.nc_gens.specs.Seen.{least_number}
+use Rattle.nc_list.specs.declared.chunk.Chunk.{Chunk}
+use Rattle.nc_region.specs.schedules.Spans.{RetiredSpan}
+use Rattle.nc_region.specs.schedules.World.{World, first_world, NoneIsWithin}
+use Rattle.nc_region.specs.schedules.Events.{Event, Retires, Frees, world_after, AreAllowed}
+use Rattle.nc_region.proofs.Offered.{after_append, allowed_append, safe_after, none_is_within_freed}
+use Rattle.nc_region.proofs.Offered.{allowed_front}
+use Rattle.nc_region.specs.Log.{unsettled}
+use Rattle.nc_region.specs.Deletion.{IsReclaimed, freed, unmarkings}
+use Rattle.nc_region.specs.Quiet.{retired_spans}
+use Rattle.nc_region.specs.Region.{Region, IsRegion}
+use Rattle.nc_calls.specs.Weaving.{writers, IsKeepers, ThreadsMay}
+use Rattle.nc_calls.specs.Calls.{KnowsNoMore, StandsFor, HasLedTo, no_details, events_of_log, delete_events, reclaim_events}
+use Rattle.nc_calls.specs.Histories.{IsRefusal, IsCall, Creates, Patches, Deletes, Reclaims, UsesKeeper, Refuses, Keeps, AllStand}
+use Rattle.nc_calls.proofs.Offered.{goes_on, created, deleted}
+use Rattle.nc_calls.proofs.Offered.{refused}
+use Rattle.nc_calls.proofs.Offered.{keeper_woven}
+use Rattle.nc_calls.proofs.Offered.{modified}
+use Rattle.nc_calls.proofs.Offered.{reclaimed}
+use Rattle.nc_calls.proofs.Offered.{still_created, still_patched, still_deleted, still_reclaimed}
+use Rattle.nc_calls.proofs.Offered.{refusal_same}
+use Rattle.nc_calls.proofs.Offered.{Grows, StaysWhole, whole_append, whole_front, fetch_whole_after}
+use Rattle.nc_calls.specs.Whole.{AllFetchWhole}
+use Rattle.nc_handle.specs.Held.{IsLiveAt}
+use Rattle.nc_hosts.specs.Hosts.{Host, IsNoLook, IsReached}
+use Rattle.nc_calls.proofs.Offered.{Stays, same_region, all_stand}
+use Rattle.nc_region.proofs.Offered.{deleted_region}
+use Rattle.nc_hosts.proofs.Deleting.{deleted_there}
+use Rattle.nc_hosts.proofs.Weaving.{IsWriters, writers_own, threads_append, threads_none, one_writers}
+use Rattle.nc_hosts.proofs.Looked.{looks_or_not, frees_no_look, only_looks, frees_last}
+use Rattle.nc_hosts.proofs.Reaching.{Phase, Calling, Deleting, Led, finished, led}
+
+-- all events so far are allowed, and leave instructions whole, and those pending too, unless a look is still pending
+data Goes (w : World) (so_far pending : List Event) : Type 0 where
+  Done : AreAllowed w (so_far ++ pending) → StaysWhole w (so_far ++ pending) → Goes w so_far pending
+  Looking : AreAllowed w so_far → StaysWhole w so_far → ((span : RetiredSpan) (later : List Event) → pending ≡ Frees span ∷ later → ⊥)
+      → Goes w so_far pending
+
+-- so are events that lead to a region
+led_goes : (limit seats : ℕ) (before since pending : List Event) (from r : Region) → Stays limit seats before from
+    → Grows limit seats before (since ++ pending) r → Goes (first_world limit seats) (before ++ since) pending
+led_goes limit seats before since pending from r stays g =
+    Done (subst (AreAllowed (first_world limit seats)) (sym (append_assoc before since pending)) g.led.allowed)
+    (subst (StaysWhole (first_world limit seats)) (sym (append_assoc before since pending))
+    (whole_append (first_world limit seats) before (since ++ pending) stays.whole g.whole))
+
+-- the keeper's events are allowed
+keepers_allowed : (limit seats : ℕ) (before events : List Event) (r : Region) → HasLedTo limit seats before r
+    → All IsKeepers (writers events) → ThreadsMay (world_after (first_world limit seats) before) events
+    → AreAllowed (first_world limit seats) (before ++ events)
+keepers_allowed limit seats before events r h own threads =
+    let w = world_after (first_world limit seats) before in
+    let k = keeper_woven w events w.keeper w.seats own threads in
+    allowed_append (first_world limit seats) before events h.allowed k.allowed
+
+-- and leave instructions whole
+keepers_whole : (limit seats : ℕ) (before events : List Event) (r : Region) → Stays limit seats before r
+    → All IsKeepers (writers events) → ThreadsMay (world_after (first_world limit seats) before) events
+    → StaysWhole (first_world limit seats) (before ++ events)
+keepers_whole limit seats before events r stays own threads =
+    let w = world_after (first_world limit seats) before in
+    let k = keeper_woven w events w.keeper w.seats own threads in
+    whole_append (first_world limit seats) before events stays.whole k.whole
+
+-- a reclaim
+reclaim_goes : (limit seats : ℕ) (before since pending : List Event) (from region : Region) (count : ℕ) → Stays limit seats before from
+    → ThreadsMay (world_after (first_world limit seats) before) since
+    → ThreadsMay (world_after (first_world limit seats) before) (since ++ pending)
+    → writers (since ++ pending) ≡ writers since ++ pending → IsReclaimed from region count
+    → writers since ++ pending ≡ reclaim_events seats (least_number region.keeper.numbers) from.chunks
+    → (All IsNoLook pending → KnowsNoMore region.keeper.numbers (world_after (first_world limit seats) (before ++ (since ++ pending))).keeper)
+    → Goes (first_world limit seats) (before ++ since) pending
+reclaim_goes limit seats before since pending from region count stays threads all_threads own is events found =
+    elim (looks_or_not pending) [
+      | inl no_look ↦
+          led_goes limit seats before since pending from region stays
+          (reclaimed limit seats before (since ++ pending) from region count stays.led stays.region is (own ∙ events) all_threads
+          (found no_look))
+      | inr some ↦
+          let looks : All IsKeepers (writers since) =
+          only_looks (writers since) pending (range_with_len 0 seats)
+          (events_of_log (record no_details { seats = seats; spans = retired_spans from.chunks })
+          (unsettled (unmarkings (freed (least_number region.keeper.numbers) from.chunks)))) events
+          (frees_no_look (record no_details { seats = seats; spans = retired_spans from.chunks })
+          (freed (least_number region.keeper.numbers) from.chunks)) some in
+          Looking (keepers_allowed limit seats before since from stays.led looks threads)
+          (keepers_whole limit seats before since from stays looks threads)
+          (λ span later at. some (subst (All IsNoLook) (sym at)
+          (frees_last (writers since) later span (range_with_len 0 seats)
+          (events_of_log (record no_details { seats = seats; spans = retired_spans from.chunks })
+          (unsettled (unmarkings (freed (least_number region.keeper.numbers) from.chunks))))
+          (ap (λ (z : List Event). writers since ++ z) (sym at) ∙ events)
+          (frees_no_look (record no_details { seats = seats; spans = retired_spans from.chunks })
+          (freed (least_number region.keeper.numbers) from.chunks)))))
+    ]
+
+-- a call that tells its acts or uses the keeper
+call_goes : (limit seats : ℕ) (before since pending : List Event) (from region : Region) → Stays limit seats before from
+    → ThreadsMay (world_after (first_world limit seats) before) since
+    → ThreadsMay (world_after (first_world limit seats) before) (since ++ pending)
+    → writers (since ++ pending) ≡ writers since ++ pending
+    → (All IsNoLook pending → KnowsNoMore region.keeper.numbers (world_after (first_world limit seats) (before ++ (since ++ pending))).keeper)
+    → IsCall seats from region (writers since ++ pending) → Goes (first_world limit seats) (before ++ since) pending
+call_goes limit seats before since pending from region stays some threads own found (Creates v valid lim is same) =
+    led_goes limit seats before since pending from region stays
+    (created limit seats before (since ++ pending) from region v stays.led stays.region valid lim is (own ∙ same) threads)
+call_goes limit seats before since pending from region stays some threads own found (Patches at bytes news lawful b is same) =
+    led_goes limit seats before since pending from region stays
+    (modified limit seats before (since ++ pending) from region at bytes news stays.led stays.region lawful b is (own ∙ same) threads)
+call_goes limit seats before since pending from region stays some threads own found (Deletes base stamp is same) =
+    led_goes limit seats before since pending from region stays
+    (deleted limit seats before (since ++ pending) from region base stamp stays.led stays.region is (own ∙ same) threads)
+call_goes limit seats before since pending from region stays some threads own found (Reclaims count is same) =
+    reclaim_goes limit seats before since pending from region count stays some threads own is same found
+call_goes limit seats before since pending from region stays some threads own found (UsesKeeper marked chunks all range) =
+    let keepers = subst (All IsKeepers) (sym own) all in
+    Done (subst (AreAllowed (first_world limit seats)) (sym (append_assoc before since pending))
+    (keepers_allowed limit seats before (since ++ pending) from stays.led keepers threads))
+    (subst (StaysWhole (first_world limit seats)) (sym (append_assoc before since pending))
+    (keepers_whole limit seats before (since ++ pending) from stays keepers threads))
+call_goes limit seats before since pending from region stays some threads own found (Refuses is) =
+    led_goes limit seats before since pending from region stays
+    (refused limit seats before (since ++ pending) from region stays.led (subst (IsRefusal from region) (sym own) is) threads)
+call_goes limit seats before since pending from region stays some threads own found (Keeps is same) =
+    led_goes limit seats before since pending from region stays
+    (goes_on limit seats before (since ++ pending) from region stays.led is (own ∙ same) threads)
+
+-- a deletion, once its stamp is drawn
+deletion_led : (limit seats : ℕ) (before since pending : List Event) (from : Region) (c : Chunk) (live : IsLiveAt from.chunks c.base c)
+    → Stays limit seats before from → ThreadsMay (world_after (first_world limit seats) before) since
+    → All IsWriters pending → from.keeper.numbers.generation < 4611686018427387904
+    → writers since ++ (pending ++ Retires c.base c.length ∷ []) ≡ delete_events from.marked.marks c.base c.length
+    → Grows limit seats before (since ++ (pending ++ Retires c.base c.length ∷ [])) (deleted_region from live.0.0 c)
+deletion_led limit seats before since pending from c live stays threads plain room own =
+    let all : All IsWriters (pending ++ Retires c.base c.length ∷ []) =
+    All-append IsWriters pending (Retires c.base c.length ∷ []) plain (one_writers (Retires c.base c.length) refl) in
+    deleted limit seats before (since ++ (pending ++ Retires c.base c.length ∷ [])) from (deleted_region from live.0.0 c) c.base
+    (from.keeper.numbers.generation + 1) stays.led stays.region (deleted_there from c live room)
+    (writers_own since (pending ++ Retires c.base c.length ∷ []) all ∙ own)
+    (threads_append (world_after (first_world limit seats) before) since (pending ++ Retires c.base c.length ∷ []) threads
+    (threads_none (world_after (world_after (first_world limit seats) before) since) (pending ++ Retires c.base c.length ∷ []) all))
+
+-- every state
+goes : (limit seats : ℕ) (host : Host) (l : Led limit seats host) → Goes (first_world limit seats) (l.before ++ l.since) host.pending
+goes limit seats host l = go l.phase
+  where
+    go : Phase seats l.from (writers l.since) host.held.begun host.held.region host.pending
+        → Goes (first_world limit seats) (l.before ++ l.since) host.pending
+    go (Calling idle call) =
+        call_goes limit seats l.before l.since host.pending l.from host.held.region l.stays l.threads
+        (threads_append (world_after (first_world limit seats) l.before) l.since host.pending l.threads
+        (threads_none (world_after (world_after (first_world limit seats) l.before) l.since) host.pending l.plain))
+        (writers_own l.since host.pending l.plain)
+        (λ none. subst (λ (w : World). KnowsNoMore host.held.region.keeper.numbers w.keeper)
+        (ap (λ (w : World). world_after w host.pending) l.world
+        ∙ (sym (after_append (first_world limit seats) (l.before ++ l.since) host.pending)
+        ∙ ap (world_after (first_world limit seats)) (append_assoc l.before l.since host.pending))) (l.found none))
+        call
+    go (Deleting c is at live room own) =
+        let g = deletion_led limit seats l.before l.since host.pending l.from c live l.stays l.threads l.plain room own in
+        let parts : l.before ++ (l.since ++ (host.pending ++ Retires c.base c.length ∷ [])) ≡
+        ((l.before ++ l.since) ++ host.pending) ++ Retires c.base c.length ∷ [] =
+        sym (append_assoc l.before l.since (host.pending ++ Retires c.base c.length ∷ []))
+        ∙ sym (append_assoc (l.before ++ l.since) host.pending (Retires c.base c.length ∷ [])) in
+        Done (allowed_front (first_world limit seats) ((l.before ++ l.since) ++ host.pending) (Retires c.base c.length ∷ [])
+        (subst (AreAllowed (first_world limit seats)) parts g.led.allowed))
+        (whole_front (first_world limit seats) ((l.before ++ l.since) ++ host.pending) (Retires c.base c.length ∷ [])
+        (subst (StaysWhole (first_world limit seats)) parts
+        (whole_append (first_world limit seats) l.before (l.since ++ (host.pending ++ Retires c.base c.length ∷ [])) l.stays.whole g.whole)))
+
+-- where threads stand
+stand_there : (limit seats : ℕ) (host : Host) → Led limit seats host → AllStand host.world
+stand_there limit seats host l =
+    subst AllStand (sym l.world) (go (goes limit seats host l))
+  where
+    lawful : IsLawfulLimit limit
+    lawful = l.stays.led.lawful
+
+    go : Goes (first_world limit seats) (l.before ++ l.since) host.pending
+        → AllStand (world_after (first_world limit seats) (l.before ++ l.since))
+    go (Done allowed whole) =
+        all_stand (world_after (first_world limit seats) (l.before ++ l.since))
+        (safe_after limit seats (l.before ++ l.since) host.pending lawful allowed)
+    go (Looking allowed whole none) =
+        all_stand (world_after (first_world limit seats) (l.before ++ l.since))
+        (safe_after limit seats (l.before ++ l.since) [] lawful
+        (subst (AreAllowed (first_world limit seats)) (sym (append-nil (l.before ++ l.since))) allowed))
+
+pub stands : (bundles seats : ℕ) (host : Host) → IsReached bundles seats host → AllStand host.world
+stands bundles seats host reached = stand_there (65536 + 32 * bundles) seats host (led bundles seats host reached)
+
+-- what threads fetch
+fetch_there : (limit seats : ℕ) (host : Host) → Led limit seats host → AllFetchWhole host.world
+fetch_there limit seats host l =
+    subst AllFetchWhole (sym l.world) (go (goes limit seats host l))
+  where
+    go : Goes (first_world limit seats) (l.before ++ l.since) host.pending
+        → AllFetchWhole (world_after (first_world limit seats) (l.before ++ l.since))
+    go (Done allowed whole) = fetch_whole_after limit seats (l.before ++ l.since) host.pending l.stays.led.lawful allowed whole
+    go (Looking allowed whole none) =
+        fetch_whole_after limit seats (l.before ++ l.since) [] l.stays.led.lawful
+        (subst (AreAllowed (first_world limit seats)) (sym (append-nil (l.before ++ l.since))) allowed)
+        (subst (StaysWhole (first_world limit seats)) (sym (append-nil (l.before ++ l.since))) whole)
+
+pub fetch_whole : (bundles seats : ℕ) (host : Host) → IsReached bundles seats host → AllFetchWhole host.world
+fetch_whole bundles seats host reached = fetch_there (65536 + 32 * bundles) seats host (led bundles seats host reached)
+
+-- none is in a span that is freed next
+freed_there : (limit seats : ℕ) (host : Host) (span : RetiredSpan) (later : List Event) → Led limit seats host
+    → host.pending ≡ Frees span ∷ later → NoneIsWithin host.world span
+freed_there limit seats host span later l is =
+    subst (λ (w : World). NoneIsWithin w span) (sym l.world) (go (goes limit seats host l))
+  where
+    go : Goes (first_world limit seats) (l.before ++ l.since) host.pending
+        → NoneIsWithin (world_after (first_world limit seats) (l.before ++ l.since)) span
+    go (Done allowed whole) =
+        none_is_within_freed limit seats (l.before ++ l.since) later span l.stays.led.lawful
+        (subst (λ (z : List Event). AreAllowed (first_world limit seats) ((l.before ++ l.since) ++ z)) is allowed)
+    go (Looking allowed whole none) = absurd (none span later is)
+
+pub frees : (bundles seats : ℕ) (host : Host) (span : RetiredSpan) (later : List Event) → IsReached bundles seats host
+    → host.pending ≡ Frees span ∷ later → NoneIsWithin host.world span
+frees bundles seats host span later reached is =
+    freed_there (65536 + 32 * bundles) seats host span later (led bundles seats host reached) is
+
+-- the memory where nothing is pending
+memory_there : (limit seats : ℕ) (host : Host) → Led limit seats host → host.pending ≡ [] → host.held.begun ≡ None
+    → StandsFor host.world host.held.region
+memory_there limit seats host l none idle =
+    subst (λ (w : World). StandsFor w host.held.region) (sym l.world) (finished limit seats host l none idle).led.stands
+
+pub memory : (bundles seats : ℕ) (host : Host) → IsReached bundles seats host → host.pending ≡ [] → host.held.begun ≡ None
+    → StandsFor host.world host.held.region
+memory bundles seats host reached none idle =
+    memory_there (65536 + 32 * bundles) seats host (led bundles seats host reached) none idle
+
+-- the memory where the stops of a deletion are made
+abbrev stops_in : MarkedText → Chunk → MarkedText
+stops_in marked c = record marked { bytes = with_span marked.bytes (c.base - 65536) (replicate c.length 244) }
+
+stopped_there : (limit seats : ℕ) (host : Host) (c : Chunk) → Led limit seats host → host.pending ≡ [] → host.held.begun ≡ Some c
+    → host.world.marked ≡ stops_in host.held.region.marked c
+stopped_there limit seats host c l none begun = go l.phase
+  where
+    go : Phase seats l.from (writers l.since) host.held.begun host.held.region host.pending
+        → host.world.marked ≡ stops_in host.held.region.marked c
+    go (Calling idle call) = absurd (let bad : None ≡ Some c = sym idle ∙ begun in cc)
+    go (Deleting d is at live room own) =
+        let here : Some d ≡ Some c = sym is ∙ begun in
+        let same : d ≡ c = cc in
+        let h = (deletion_led limit seats l.before l.since host.pending l.from d live l.stays l.threads l.plain room own).led in
+        let stamped : world_after (first_world limit seats) (l.before ++ (l.since ++ (host.pending ++ Retires d.base d.length ∷ [])))
+        ≡ world_after host.world (Retires d.base d.length ∷ []) =
+        ap (λ (z : List Event). world_after (first_world limit seats) (l.before ++ (l.since ++ (z ++ Retires d.base d.length ∷ [])))) none
+        ∙ (ap (world_after (first_world limit seats)) (sym (append_assoc l.before l.since (Retires d.base d.length ∷ [])))
+        ∙ (after_append (first_world limit seats) (l.before ++ l.since) (Retires d.base d.length ∷ [])
+        ∙ ap (λ (w : World). world_after w (Retires d.base d.length ∷ [])) (sym l.world))) in
+        sym (ap (λ (w : World). w.marked) stamped)
+        ∙ (h.stands.marked
+        ∙ (ap (λ (r : Region). stops_in r.marked d) (sym at) ∙ ap (λ (e : Chunk). stops_in host.held.region.marked e) same))
+
+pub stopped : (bundles seats : ℕ) (host : Host) (c : Chunk) → IsReached bundles seats host → host.pending ≡ [] → host.held.begun ≡ Some c
+    → host.world.marked ≡ stops_in host.held.region.marked c
+stopped bundles seats host c reached none begun =
+    stopped_there (65536 + 32 * bundles) seats host c (led bundles seats host reached) none begun
+
+-- after a call there is a region
+call_region : (seats : ℕ) (old new : Region) (own : List Event) → IsRegion old.marked old.chunks → IsCall seats old new own
+    → IsRegion new.marked new.chunks
+call_region seats old new own region (Creates v valid lim is same) = still_created old new v region valid lim is
+call_region seats old new own region (Patches at bytes news lawful b is same) = still_patched old new at bytes news region lawful b is
+call_region seats old new own region (Deletes base stamp is same) = still_deleted old new base stamp region is
+call_region seats old new own region (Reclaims count is same) = still_reclaimed old new count region is
+call_region seats old new own region (UsesKeeper marked chunks all range) = same_region old new marked chunks region
+call_region seats old new own region (Refuses is) =
+    let pages = refusal_same old new own is in
+    same_region old new (ap (λ (r : Region). r.marked) pages) (ap (λ (r : Region). r.chunks) pages) region
+call_region seats old new own region (Keeps is same) =
+    same_region old new (ap (λ (r : Region). r.marked) is) (ap (λ (r : Region). r.chunks) is) region
+
+-- the handle's region is one
+region_there : (limit seats : ℕ) (host : Host) → Led limit seats host → IsRegion host.held.region.marked host.held.region.chunks
+region_there limit seats host l = go l.phase
+  where
+    go : Phase seats l.from (writers l.since) host.held.begun host.held.region host.pending
+        → IsRegion host.held.region.marked host.held.region.chunks
+    go (Calling idle call) = call_region seats l.from host.held.region (writers l.since ++ host.pending) l.stays.region call
+    go (Deleting c is at live room own) =
+        same_region l.from host.held.region (ap (λ (r : Region). r.marked) at) (ap (λ (r : Region). r.chunks) at) l.stays.region
+
+pub is_region : (bundles seats : ℕ) (host : Host) → IsReached bundles seats host → IsRegion host.held.region.marked host.held.region.chunks
+is_region bundles seats host reached = region_there (65536 + 32 * bundles) seats host (led bundles seats host reached)
+
+-- so its text is confined
+pub confined : (bundles seats : ℕ) (host : Host) → IsReached bundles seats host → IsConfined host.held.region.marked.bytes
+confined bundles seats host reached =
+    confined_if_closed host.held.region.marked.bytes host.held.region.marked.marks (is_region bundles seats host reached).whole.closed

@@ -1,0 +1,62 @@
+-- The looks of a reclaim come before its other events.
+use Rattle.std.proofs.Common.{◌≡◌, ℕ, ◌⊎◌, inl, inr, List, [], ◌∷◌, ◌++◌, map, sym, subst}
+use Rattle.std.specs.Prelude.{All}
+use Rattle.std.proofs.lemmas.List.Elements.{All-nil, All-cons, All-head, All-tail}
+use Rattle.nc_list.specs.declared.chunk.Chunk.{Chunk}
+use Rattle.nc_region.specs.schedules.Spans.{RetiredSpan}
+use Rattle.nc_region.specs.schedules.Events.{Event, Frees, Looks}
+use Rattle.nc_region.specs.Log.{unsettled}
+use Rattle.nc_region.specs.Deletion.{unmarkings}
+use Rattle.nc_calls.specs.Weaving.{IsKeepers}
+use Rattle.nc_calls.specs.Calls.{Details, events_of_log, span_from}
+use Rattle.nc_hosts.specs.Hosts.{IsNoLook}
+
+-- a look, or none
+look_or_not : (event : Event) → IsNoLook event ⊎ (¬ IsNoLook event)
+look_or_not (Looks k) = inr (λ x. x)
+look_or_not _ = inl tt
+
+-- no look among these, or not
+pub looks_or_not : (events : List Event) → All IsNoLook events ⊎ (¬ All IsNoLook events)
+looks_or_not [] = inl (All-nil IsNoLook)
+looks_or_not (event ∷ events) =
+    elim (look_or_not event) [
+      | inr is ↦ inr (λ all. is (All-head IsNoLook event events all))
+      | inl is_none ↦
+          elim (looks_or_not events) [
+            | inl none ↦ inl (All-cons IsNoLook event events is_none none)
+            | inr some ↦ inr (λ all. some (All-tail IsNoLook event events all))
+          ]
+    ]
+
+-- the last of some elements
+all_back : {X : Type 0} (P : X → Type 0) (xs ys : List X) → All P (xs ++ ys) → All P ys
+all_back P [] ys all = all
+all_back P (x ∷ xs) ys all = all_back P xs ys (All-tail P x (xs ++ ys) all)
+
+-- the unmarkings of a reclaim
+pub frees_no_look : (d : Details) (chunks : List Chunk) → All IsNoLook (events_of_log d (unsettled (unmarkings chunks)))
+frees_no_look d [] = All-nil IsNoLook
+frees_no_look d (c ∷ chunks) = All-cons IsNoLook (Frees (span_from d.spans c.base)) _ tt (frees_no_look d chunks)
+
+-- while a look is to come, there were only looks
+pub only_looks : (since pending : List Event) (ks : List ℕ) (frees : List Event) → since ++ pending ≡ map Looks ks ++ frees
+    → All IsNoLook frees → ¬ All IsNoLook pending → All IsKeepers since
+only_looks [] pending ks frees is none some = All-nil IsKeepers
+only_looks (x ∷ since) pending [] frees is none some =
+    absurd (some (all_back IsNoLook (x ∷ since) pending (subst (All IsNoLook) (sym is) none)))
+only_looks (x ∷ since) pending (k ∷ ks) frees is none some =
+    let first : x ≡ Looks k = cc in
+    let rest : since ++ pending ≡ map Looks ks ++ frees = cc in
+    All-cons IsKeepers x since (subst IsKeepers (sym first) tt) (only_looks since pending ks frees rest none some)
+
+-- once a span is freed, no look is to come
+pub frees_last : (since later : List Event) (span : RetiredSpan) (ks : List ℕ) (frees : List Event)
+    → since ++ Frees span ∷ later ≡ map Looks ks ++ frees → All IsNoLook frees → All IsNoLook (Frees span ∷ later)
+frees_last [] later span [] frees is none = subst (All IsNoLook) (sym is) none
+frees_last [] later span (k ∷ ks) frees is none = absurd (let first : Frees span ≡ Looks k = cc in cc)
+frees_last (x ∷ since) later span [] frees is none =
+    all_back IsNoLook (x ∷ since) (Frees span ∷ later) (subst (All IsNoLook) (sym is) none)
+frees_last (x ∷ since) later span (k ∷ ks) frees is none =
+    let rest : since ++ Frees span ∷ later ≡ map Looks ks ++ frees = cc in
+    frees_last since later span ks frees rest none

@@ -1,0 +1,8 @@
+use Rattle.nc_hosts.proofs.Running.{creation, deletion}
+use Rattle.nc_hosts.proofs.runs.law_of_runs.Goals as goal
+
+pub returns-clause-creation : goal.returns-clause-creation
+returns-clause-creation c = creation
+
+pub returns-clause-deletion : goal.returns-clause-deletion
+returns-clause-deletion c = deletion

@@ -1,0 +1,44 @@
+-- A host in C, step by step: its memory, its calls by a handle of a region, and the threads that run that memory.
+use Rattle.std.specs.Prelude.{◌≡◌, ℕ, ◌+◌, ◌*◌, ⊤, false, List, [], ◌∷◌, All}
+use Rattle.nc_region.specs.schedules.World.{World, first_world}
+use Rattle.nc_region.specs.schedules.Events.{Event, Looks, ThreadMay, after, world_after}
+use Rattle.nc_calls.specs.Weaving.{is_writers}
+use Rattle.nc_calls.specs.Calls.{KnowsNoMore}
+use Rattle.nc_handle.specs.Held.{HeldState, IsFirst}
+use Rattle.nc_handle.specs.Pending.{IsHeldCall}
+
+-- What the library keeps for the host's handle; the world of the host's memory, whose text is what was stored there; and the
+-- pending events, in their order. These are the stores and settlings that the host was told and hasn't made yet, or the
+-- library's own steps.
+pub record Host : Type 0 where
+  pub held : HeldState
+  pub world : World
+  pub pending : List Event
+
+-- A step of a host with this number of seats. `Runs`: a thread does what it may. `Makes`: the first pending event happens.
+-- `Calls`: while nothing is pending, the host makes a call that may change the region, after which events are pending.
+-- `Asks`: another call, which leaves the region as it is.
+pub data IsStep (seats : ℕ) (old new : Host) : Type 0 where
+  Runs : (event : Event) → is_writers event ≡ false → ThreadMay old.world event
+      → new ≡ record old { world = after old.world event } → IsStep seats old new
+  Makes : (event : Event) → old.pending ≡ event ∷ new.pending
+      → new ≡ record old { world = after old.world event; pending = new.pending } → IsStep seats old new
+  Calls : old.pending ≡ [] → IsHeldCall seats old.held new.held new.pending → new.world ≡ old.world → IsStep seats old new
+  Asks : new.held.region ≡ old.held.region → new.held.begun ≡ old.held.begun → new ≡ record old { held = new.held }
+      → IsStep seats old new
+
+-- the event isn't a look at a seat's word
+abbrev pub IsNoLook : Event → Type 0
+IsNoLook (Looks k) = ⊥
+IsNoLook event = ⊤
+
+-- where no look is pending any more, the region's keeper knows no more than the world's will, once the other events are made
+abbrev pub HasFound : Host → Type 0
+HasFound host = All IsNoLook host.pending → KnowsNoMore host.held.region.keeper.numbers (world_after host.world host.pending).keeper
+
+-- A state that a host can reach from a new region of a handle: nothing is pending, and its memory is a region's without any
+-- chunk; then steps, after each of which the keeper knows no more than the world's (`HasFound`).
+pub data IsReached (bundles seats : ℕ) : Host → Type 0 where
+  First : {host : Host} → IsFirst bundles seats host.held → host.world ≡ first_world (0x10000 + 32 * bundles) seats
+      → host.pending ≡ [] → IsReached bundles seats host
+  Then : {old new : Host} → IsReached bundles seats old → IsStep seats old new → HasFound new → IsReached bundles seats new

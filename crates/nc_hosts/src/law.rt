@@ -1,0 +1,54 @@
+//! The theorem over a host's memory.
+
+ghost use Rattle.std.specs.Prelude.{◌≡◌, ◌-◌, ◌⊎◌, ℕ, List, [], ◌∷◌, None, Some, replicate, slice_set};
+ghost use Rattle.nc_text.specs.Machine.{IsConfined};
+ghost use Rattle.nc_text.specs.MarkedText.{with_span};
+ghost use Rattle.nc_list.specs.declared.chunk.Chunk.{Chunk};
+ghost use Rattle.nc_region.specs.schedules.Spans.{RetiredSpan};
+ghost use Rattle.nc_region.specs.schedules.World.{NoneIsWithin};
+ghost use Rattle.nc_region.specs.schedules.Events.{Event};
+ghost use Rattle.nc_calls.specs.Calls.{StandsFor};
+ghost use Rattle.nc_calls.specs.Histories.{AllStand};
+ghost use Rattle.nc_calls.specs.Whole.{AllFetchWhole};
+ghost use Rattle.nc_hosts.specs.Hosts.{Host, IsStep, IsReached};
+
+/// For every state that a host can reach from a new region, whatever calls it makes by the region's handle, accepted or refused, in any
+/// order, and whatever its threads may do between any two stores:
+///
+/// - each thread inside is, in every view of the host's memory, where `law_of_histories` of `nc_calls` says;
+/// - if it is in the region, the instruction that it fetches, in any view, stood there, with all its bytes, in one of the memory's
+///   texts since the last settling;
+/// - when a retired span is freed next, no thread is in it except possibly at a bundle start;
+/// - where nothing is pending and no deletion is under way, the memory stands for the handle's region: it has its bytes, and the world its
+///   marks, its generation and its retired spans, and no bound that is lower than its keeper's;
+/// - where nothing is pending and a deletion is under way, the memory has the region's bytes, but F4 in the chunk's span;
+/// - a step changes no byte of the memory, or it makes the first pending event, a store, which writes its byte at its place and changes
+///   no other;
+/// - the text of the handle's region is confined.
+///
+/// A host (`specs/Hosts`) makes what is pending one by one and in order, and makes no call that may change the region before it has
+/// made all of it. What is pending is what it reads in the buffer that it lent, or what the library does itself (`TellsPending`,
+/// `DoesItself` of `nc_handle`). A state is after each single store, so `stand` and `whole` are about every moment. The function does
+/// nothing when called.
+///
+/// Its assumptions are in `ThreadMay`, `IsStep`, `HasFound` and `IsReached`: at first the memory is all stops, the host has settled since
+/// they were stored, and all threads are outside; a thread inside moves only as the machine does in some view, and by no masked jump or
+/// call to the limit or above; it enters only at bundle starts and while its seat hasn't left, and its pass checks in and leaves only
+/// while it is outside; the keeper has the world's generation and a bound for each of its seats, and finds no word to be greater than it
+/// is; and the host makes each pending event once, and its stores and settlings reach execution in their order.
+pub fn law_of_hosts()
+    ensures stand { (bundles seats : ℕ) (host : Host) → IsReached bundles seats host → AllStand host.world }
+    ensures whole { (bundles seats : ℕ) (host : Host) → IsReached bundles seats host → AllFetchWhole host.world }
+    ensures freed { (bundles seats : ℕ) (host : Host) (span : RetiredSpan) (later : List Event) → IsReached bundles seats host
+        → host.pending ≡ Event.Frees span ∷ later → NoneIsWithin host.world span }
+    ensures memory { (bundles seats : ℕ) (host : Host) → IsReached bundles seats host → host.pending ≡ [] → host.held.begun ≡ None
+        → StandsFor host.world host.held.region }
+    ensures stopped { (bundles seats : ℕ) (host : Host) (c : Chunk) → IsReached bundles seats host → host.pending ≡ []
+        → host.held.begun ≡ Some c → host.world.marked ≡ record host.held.region.marked {
+          bytes = with_span host.held.region.marked.bytes (c.base - 0x10000) (replicate c.length 0xF4);
+        } }
+    ensures stores { (seats : ℕ) (old new : Host) → IsStep seats old new → (new.world.marked.bytes ≡ old.world.marked.bytes)
+        ⊎ ((at : ℕ) × (byte : ℕ) × (old.pending ≡ Event.Puts at byte ∷ new.pending)
+        × (new.world.marked.bytes ≡ slice_set old.world.marked.bytes (at - 0x10000) byte)) }
+    ensures confined { (bundles seats : ℕ) (host : Host) → IsReached bundles seats host → IsConfined host.held.region.marked.bytes }
+{}

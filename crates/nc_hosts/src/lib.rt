@@ -1,0 +1,21 @@
+//! A host in C, and the bytes that processors fetch from its memory.
+//!
+//! [`law_of_hosts`] is about every state that a host can reach (`specs/Hosts`): its threads run its own memory, and by a handle it
+//! makes calls one at a time, reads in a buffer which stores and settlings are pending, and makes these one by one. [`law_of_runs`] says
+//! that runs are read as the same stores, and [`law_of_reaching`] that a host goes on by creations and pending events. The contracts of
+//! `nc_host` say that accepted calls are such calls (`TellsPending` and `DoesItself` of `nc_handle`).
+//!
+//! ```text
+//! law_of_hosts();   // does nothing; what it promises is its contract
+//! law_of_runs();
+//! law_of_reaching();
+//! ```
+#![tactic(auto)]
+
+mod law;
+mod runs;
+mod steps;
+
+pub use law::law_of_hosts;
+pub use runs::law_of_runs;
+pub use steps::law_of_reaching;
