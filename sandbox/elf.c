@@ -1,0 +1,140 @@
+/* Reads an ELF file that may have been made to harm: what it says is judged before anything else looks there. TRUSTED, NOT PROVED. */
+#include "inner.h"
+
+#include <elf.h>
+#include <string.h>
+
+static int file_has(const Image *image, uint64_t at, uint64_t len) {
+    return at <= image->len && len <= image->len - at;
+}
+
+/* A segment to load, the k-th one of the file. The table was judged. */
+static int segment(const Image *image, unsigned k, Elf32_Phdr *p) {
+    Elf32_Ehdr h;
+    if (k >= image->segment_count) {
+        return 0;
+    }
+    memcpy(&h, image->bytes, sizeof h);
+    memcpy(p, image->bytes + h.e_phoff + k * sizeof *p, sizeof *p);
+    return 1;
+}
+
+static int is_loaded(const Elf32_Phdr *p) {
+    return p->p_type == PT_LOAD && p->p_memsz != 0;
+}
+
+static const char *read_header(Image *image) {
+    static const uint8_t ident[] = {0x7F, 'E', 'L', 'F', ELFCLASS32, ELFDATA2LSB, EV_CURRENT};
+    Elf32_Ehdr h;
+    if (image->len < sizeof h || memcmp(image->bytes, ident, sizeof ident) != 0) {
+        return "it isn't a 32-bit ELF file";
+    }
+    memcpy(&h, image->bytes, sizeof h);
+    if (h.e_type != ET_EXEC || h.e_machine != EM_386) {
+        return "it isn't a program for 32-bit x86 that is linked for its addresses";
+    }
+    if (h.e_phentsize != sizeof(Elf32_Phdr) || !file_has(image, h.e_phoff, (uint64_t)h.e_phnum * sizeof(Elf32_Phdr))) {
+        return "its program headers aren't in the file";
+    }
+    image->segment_count = h.e_phnum;
+    return NULL;
+}
+
+/* A segment of the data widens the span of the data; the one of the code is noted. */
+static const char *read_segment(Image *image, const Elf32_Phdr *p) {
+    uint32_t end = p->p_vaddr + p->p_memsz;
+    if (p->p_filesz > p->p_memsz || !file_has(image, p->p_offset, p->p_filesz)) {
+        return "a segment isn't in the file";
+    }
+    if (p->p_vaddr < DATA_LEAST || p->p_memsz > NCS_MEMORY_MAX || p->p_vaddr > NCS_MEMORY_MAX - p->p_memsz) {
+        return "a segment is below 00010000 or above 1 GiB";
+    }
+    if ((p->p_flags & PF_X) == 0) {
+        image->data_begin = p->p_vaddr < image->data_begin ? p->p_vaddr : image->data_begin;
+        image->data_end = end > image->data_end ? end : image->data_end;
+        return NULL;
+    }
+    if (image->code_len != 0 || (p->p_flags & PF_W) != 0 || p->p_filesz != p->p_memsz) {
+        return "it hasn't one segment of code, all of it in the file, that can't be written";
+    }
+    image->code_at = p->p_vaddr;
+    image->code_len = p->p_filesz;
+    image->code_offset = p->p_offset;
+    return NULL;
+}
+
+/* The section with this index, and whether all of it is in the file. */
+static int section(const Image *image, const Elf32_Ehdr *h, uint32_t k, Elf32_Shdr *s) {
+    uint64_t at = h->e_shoff + (uint64_t)k * sizeof *s;
+    if (k >= h->e_shnum || h->e_shentsize != sizeof *s || !file_has(image, at, sizeof *s)) {
+        return 0;
+    }
+    memcpy(s, image->bytes + at, sizeof *s);
+    return file_has(image, s->sh_offset, s->sh_size);
+}
+
+/* The first table of symbols, with its names, which end with a 0. A file without one, or with one that makes no sense, has no symbols. */
+static void find_symbols(Image *image) {
+    Elf32_Ehdr h;
+    Elf32_Shdr table, names;
+    unsigned k = 0;
+    memcpy(&h, image->bytes, sizeof h);
+    while (k < h.e_shnum && !(section(image, &h, k, &table) && table.sh_type == SHT_SYMTAB)) {
+        k++;
+    }
+    if (k < h.e_shnum && section(image, &h, table.sh_link, &names) && names.sh_size != 0 &&
+        image->bytes[names.sh_offset + names.sh_size - 1] == 0) {
+        image->symbols = table.sh_offset;
+        image->symbol_count = table.sh_size / sizeof(Elf32_Sym);
+        image->names = names.sh_offset;
+        image->names_len = names.sh_size;
+    }
+}
+
+const char *ncs_elf_read(Image *image) {
+    Elf32_Phdr p;
+    const char *wrong = read_header(image);
+    unsigned k;
+    image->data_begin = UINT32_MAX;
+    for (k = 0; wrong == NULL && segment(image, k, &p); k++) {
+        wrong = is_loaded(&p) ? read_segment(image, &p) : NULL;
+    }
+    if (wrong != NULL) {
+        return wrong;
+    }
+    if (image->code_len == 0) {
+        return "it has no code";
+    }
+    if (image->data_begin == UINT32_MAX) {
+        image->data_begin = image->data_end = STACK_TOP;
+    }
+    if (image->data_begin < DATA_LEAST + STACK_LEAST) {
+        return "there is no room for a stack below its data: it has to begin at 00020000 or above";
+    }
+    find_symbols(image);
+    return NULL;
+}
+
+uint32_t ncs_elf_symbol(const Image *image, const char *name) {
+    const char *names = (const char *)image->bytes + image->names;
+    size_t k;
+    for (k = 0; k < image->symbol_count; k++) {
+        Elf32_Sym s;
+        memcpy(&s, image->bytes + image->symbols + k * sizeof s, sizeof s);
+        if (s.st_name < image->names_len && s.st_shndx != SHN_UNDEF && ELF32_ST_BIND(s.st_info) != STB_LOCAL &&
+            strcmp(names + s.st_name, name) == 0) {
+            return s.st_value;
+        }
+    }
+    return 0;
+}
+
+void ncs_elf_copy_data(const Image *image, uint8_t *to) {
+    Elf32_Phdr p;
+    unsigned k;
+    for (k = 0; segment(image, k, &p); k++) {
+        if (is_loaded(&p) && (p.p_flags & PF_X) == 0) {
+            memcpy(to + p.p_vaddr, image->bytes + p.p_offset, p.p_filesz);
+        }
+    }
+}

@@ -1,0 +1,180 @@
+/*
+ * nc_sandbox.h: boxes, in which a process runs untrusted 32-bit code. TRUSTED, NOT PROVED: only nc_host's verdicts on code are proved.
+ *
+ * A module is code that nc_host has accepted, with its data. A box is an instance of a module. The boxes of a module share its code, and
+ * each has data, heap and stack of its own. A box reads and writes its own memory and nothing else. It calls nothing but the call-backs
+ * that the host gives it. For Linux on x86-64. docs/SANDBOX.md has an example, and says which duty of a host is done where.
+ *
+ * What the library can't see to, and the host must:
+ *   Handlers    Each signal handler of the process has SA_ONSTACK. A new module or box is refused while one hasn't. A handler that is
+ *               installed later goes unnoticed: the untrusted code then chooses which memory below 4 GiB the kernel overwrites.
+ *   Signals     SIGSEGV, SIGBUS, SIGILL, SIGFPE, SIGTRAP and SIGRTMAX - 1 stay this library's. It hands on the faults of the host's own
+ *               code to the handlers that were there before. A thread that calls boxes blocks none of them, and keeps its alternate stack.
+ *   Results     What comes out of a box is untrusted: results, arguments of call-backs, bytes of its memory. Read it once, and judge it.
+ *   Call-backs  A call-back returns. It doesn't leave by longjmp, an exception or the end of its thread.
+ *
+ * Every call
+ *   Threads     Any thread may call. One thread at a time is in a call of a box. A box or module is freed once, and isn't used after that.
+ *               No call may be made from a signal handler. In the forked child of a process every call is refused, and nothing is freed.
+ *   Costs       A process has at most some 3,000 boxes and modules at once, and some 3 GB of memory for them.
+ */
+#ifndef NC_SANDBOX_H
+#define NC_SANDBOX_H
+
+#include <stddef.h>
+#include <stdint.h>
+
+typedef struct NcsModule NcsModule;
+typedef struct NcsBox NcsBox;
+
+/* An address of a box, of its data or of its code. It isn't a pointer, so the host can't follow it by mistake. 0 is never a good one. */
+typedef struct NcsAt {
+    uint32_t at;
+} NcsAt;
+
+/* ---- Refusals */
+
+/* Why there is no module or no box. */
+enum {
+    NCS_OK,
+    NCS_BAD_FILE,    /* it isn't an ELF file as nc-cc makes it */
+    NCS_BAD_CODE,    /* nc_host refuses the code: `fault` and `at` say why and where */
+    NCS_BAD_LIMITS,  /* a limit is 0 or too large, or there is less memory than the data needs */
+    NCS_BAD_HANDLER, /* a signal has a handler without SA_ONSTACK: `at` is its number */
+    NCS_NO_MEMORY,   /* there is no memory, no room below 4 GiB, or no segment left */
+    NCS_BAD_SYSTEM   /* the system refuses what boxes need, or this is a forked child */
+};
+
+/* Nothing was entered, and everything is as it was. */
+typedef struct NcsRefusal {
+    uint32_t kind;        /* one of these, NCS_OK if nothing was refused */
+    uint32_t fault;       /* of refused code, one of nc_host.h; else 0 */
+    uint32_t at;          /* the address of that fault, or the number of a signal; else 0 */
+    const char *sentence; /* what is wrong, in a constant text */
+} NcsRefusal;
+
+/* ---- Modules */
+
+/*
+ * A module from an ELF file, which is copied. `why` gets the refusal, and may be null. The file has one segment of code, at or above
+ * 00010000, which nc_host judges before any of it is mapped. Its other segments are the data that each box begins with. They begin at or
+ * above 00020000, since the stack lies below them (nc-cc: --data 00110000 leaves a stack of 1 MiB). Null if it is refused.
+ */
+NcsModule *ncs_module_elf(const void *file, size_t len, NcsRefusal *why);
+
+/* A module from bytes of code alone, which begins at 00010000. Its boxes have a stack of 1 MiB, below 00110000. Null if it is refused. */
+NcsModule *ncs_module_code(const void *code, size_t len, NcsRefusal *why);
+
+/* The address that a global symbol of the file has, or 0 if it has no such symbol. A file may name any number. So ncs_call and the calls
+   for memory judge the address. */
+NcsAt ncs_symbol(const NcsModule *module, const char *name);
+
+/* Frees a module, once its last box is freed. Null is allowed. */
+void ncs_module_free(NcsModule *module);
+
+/* ---- Boxes */
+
+#define NCS_MEMORY_MAX (1u << 30)
+#define NCS_DEPTH_MAX 64u
+
+/* What a box may use. */
+typedef struct NcsLimits {
+    uint32_t memory;       /* bytes: data, heap and stack are below this address. A multiple of 4096, at most NCS_MEMORY_MAX */
+    uint32_t depth;        /* calls that one thread may have under way at once, with the calls of other boxes: 1 to NCS_DEPTH_MAX */
+    uint32_t milliseconds; /* of processor time of the calling thread, for a call with its call-backs: from 1. See NCS_LATE */
+} NcsLimits;
+
+/* A box with its data as the file has it, and all other memory 0. `why` gets the refusal, and may be null. Null if it is refused. */
+NcsBox *ncs_box_new(NcsModule *module, const NcsLimits *limits, NcsRefusal *why);
+
+/* Gives a box its first memory again, and revives it. Its call-backs stay. 0, and nothing is done, while a call of it is under way. 0 also
+   if the system refuses, and then the box is dead. */
+int ncs_reset(NcsBox *box);
+
+/* Ends the call that is under way, or else the next one, with NCS_KILLED. Any thread may ask for it. It doesn't wait: the thread comes out
+   within some 20 ms of its processor time, or when its call-back returns. A reset takes back a kill that hasn't ended a call. */
+void ncs_kill(NcsBox *box);
+
+/* Frees a box. 0, and nothing is done, while a call of it is under way. Null is allowed. */
+int ncs_free(NcsBox *box);
+
+/* ---- Calls */
+
+/* How a call ended. Those marked with a star leave the box dead, and every call under way in it ends in the same way. */
+enum {
+    NCS_RETURNED,  /* the function returned: `result` */
+    NCS_STOPPED,   /* * at a stop (hlt), which is also at each address without code */
+    NCS_FAULTED,   /* * by a fault: `trap`, and `data` if that is 14 */
+    NCS_LATE,      /* * its time is over. Some 30 ms more may pass, and still more where call-backs make many system calls */
+    NCS_KILLED,    /* * by ncs_kill */
+    NCS_EXITED,    /* * it called NCS_EXIT: `status` */
+    NCS_BAD_ENTRY, /* the function isn't at a bundle start of the code, and nothing was entered; * so isn't an address to return to */
+    NCS_BAD_CALL,  /* * a call of the host that is none, or arguments or a frame that aren't in the box's memory */
+    NCS_DENIED,    /* * by ncs_deny */
+    NCS_TOO_DEEP,  /* the thread has too many calls under way, and nothing was entered */
+    NCS_DEAD,      /* an earlier call has left the box dead, and nothing was entered */
+    NCS_BUSY,      /* another thread is in a call of the box, and nothing was entered */
+    NCS_HOST       /* too many arguments, a thread that can't be prepared, or a forked child; * a call-back forked, and this is the child */
+};
+
+typedef struct NcsEnd {
+    uint32_t how;    /* one of these */
+    uint32_t result; /* of NCS_RETURNED: EAX */
+    uint32_t high;   /* and EDX, which is the upper half of a result of 64 bits, and else any number */
+    uint32_t place;  /* where in the code it ended; for a call of the host, the trampoline's address or the one to return to; else 0 */
+    uint32_t trap;   /* the interrupt of a stop or fault, as docs/EMBEDDING.md lists them; else 0 */
+    uint32_t data;   /* of interrupt 14 (no page, below 00010000) the address of the data; else 0. The others tell none */
+    uint32_t status; /* of NCS_EXITED */
+} NcsEnd;
+
+#define NCS_ARGS_MAX 16u
+/* The last two arguments of ncs_call: NCS_ARGS(1, at.at). */
+#define NCS_ARGS(...) (unsigned)(sizeof((uint32_t[]){__VA_ARGS__}) / sizeof(uint32_t)), (const uint32_t[]){__VA_ARGS__}
+#define NCS_NO_ARGS 0u, NULL
+
+/* An end in a word or two, such as "stopped"; "?" for another number. */
+const char *ncs_how(uint32_t how);
+
+/* Calls a function of the box with 32-bit arguments, at most NCS_ARGS_MAX, as C for i386 does. A number of 64 bits is two, the lower half
+   first. A call-back may call: its box, with the stack below the frame that the code has left, or another one. */
+NcsEnd ncs_call(NcsBox *box, NcsAt function, unsigned count, const uint32_t *args);
+
+/* A call-back gets a copy of its arguments. What it returns goes to EDX and EAX. */
+typedef uint64_t (*NcsCallback)(NcsBox *box, void *user, const uint32_t *args);
+
+#define NCS_CALLBACKS 64u
+#define NCS_CALLBACK_ARGS 12u
+#define NCS_EXIT 0x40u                     /* where the code ends its call, with a status: nc-cc -Wl,--defsym=ncs_exit=0x40 */
+#define NCS_CALLBACK(k) (0x100u + 32u * (k)) /* where call-back k is, counted from 0 as the box gets them */
+
+/* Gives the box a call-back with so many 32-bit arguments, at most NCS_CALLBACK_ARGS, and returns its address: NCS_CALLBACK(0) for the
+   first one, and so on up to NCS_CALLBACKS of them. 0 if it isn't given. Not while another thread is in a call of the box. */
+NcsAt ncs_callback(NcsBox *box, NcsCallback function, void *user, unsigned args);
+
+/* Within a call-back: the call that made it ends with NCS_DENIED, once the call-back has returned. */
+void ncs_deny(NcsBox *box);
+
+/* ---- Memory */
+
+/* Each range is judged: it lies at or above 00010000 and ends at or below the limit. While another thread is in a call of the box, its
+   memory changes at any moment. */
+
+/* A pointer to `len` bytes of the box, valid until the box is freed; null unless all of them are the box's. */
+void *ncs_at(NcsBox *box, NcsAt at, uint32_t len);
+
+/* Copies into the box, or out of it. 1; or 0, and nothing is copied, unless all of the range is the box's. */
+int ncs_set(NcsBox *box, NcsAt at, const void *from, uint32_t len);
+int ncs_get(NcsBox *box, void *to, NcsAt at, uint32_t len);
+
+/* Copies a text out of the box up to its 0, and cuts it to `room` bytes with the 0. Its length as copied; or -1 if it leaves the box, or
+   if there is no room at all. */
+long ncs_text(NcsBox *box, char *to, size_t room, NcsAt at);
+
+/* Takes `len` bytes from the heap, at a multiple of 16. The heap begins behind the data, and ends at the limit. Nothing is given back
+   before the reset. A library with an allocator of its own gets a range to work in. 0 if there is no room. */
+NcsAt ncs_take(NcsBox *box, uint32_t len);
+
+/* Takes room for these bytes, and copies them there. 0 if there is no room. */
+NcsAt ncs_put(NcsBox *box, const void *from, uint32_t len);
+
+#endif
