@@ -13,7 +13,8 @@
  *   lists them with their reasons. Untrusted code runs in a 32-bit code segment that ends at the limit. Nothing but the acts writes its
  *   text. A thread enters only at a bundle start, with a seat of its own. Each put is one atomic store of one byte, and puts are made in
  *   the order in which they are written. Processors serialize at NC_SETTLE, and each thread on its way in. One lock is held around a call
- *   on a region and its acts. Other duties are about signals, what untrusted code can reach, where it can come out, and how long it may stay.
+ *   on a region and its acts. Other duties are about signals, what untrusted code can reach, where it can come out, and how long it may
+ *   stay.
  *
  * What the comments rest on
  *   (IsValid)   A name in parentheses is a definition on which the contract rests. docs/DEFINITIONS.md explains it.
@@ -166,8 +167,8 @@ extern "C" {
 #define NC_BUMP 3u   /* draw a stamp: the span may be reused only once every thread has been outside since. `at` and `value` are 0 */
 #define NC_SETTLE 6u /* make every processor that runs a thread of the host serialize. `at` and `value` are 0. No call writes 4 or 5 */
 
-/* Runs: one act for many puts of one bundle, which begins at the address `at`. Bit k of `value`, counted from the lowest, is set if there is
-   a put at `at` + k. The puts are made in ascending order, each one a store of its own. Only nc_region_creation_runs and
+/* Runs: one act for many puts of one bundle, which begins at the address `at`. Bit k of `value`, counted from the lowest, is set if there
+   is a put at `at` + k. The puts are made in ascending order, each one a store of its own. Only nc_region_creation_runs and
    nc_region_deletion_runs write them. */
 #define NC_PUT_RUN 7u  /* put the chunk's byte at each of these addresses */
 #define NC_STOP_RUN 8u /* put NC_STOP at each of these addresses */
@@ -332,9 +333,9 @@ uint32_t nc_region_seat(NcRegion *region, NcSeat *seat);
  * then come NC_SETTLE and NC_MARK, and the others put the bytes at bundle starts. A buffer of `len` + 2 acts is enough.
  * Promised: for NC_OK the chunk is valid for the region's limit, the region has it (IsCreated), and the call is one of a history (LogsCall)
  * [created]. For NC_OK the acts are those of the creation (log_of_create) [told]. For NC_OK, in a buffer that was lent, they are what is
- * pending next in the host's memory (TellsPending) [pending]. A refusal is NC_NO_HANDLE; else the fault that vetting finds, 1 to 8; else the first of
- * NC_UNDER_WAY, NC_NO_ROOM, NC_OCCUPIED and NC_OUT_OF_MEMORY that holds [refused]. A refusal changes nothing [unchanged, untouched]. For
- * NC_OK `at` is 0 [at].
+ * pending next in the host's memory (TellsPending) [pending]. A refusal is NC_NO_HANDLE; else the fault that vetting finds, 1 to 8; else
+ * the first of NC_UNDER_WAY, NC_NO_ROOM, NC_OCCUPIED and NC_OUT_OF_MEMORY that holds [refused]. A refusal changes nothing [unchanged,
+ * untouched]. For NC_OK `at` is 0 [at].
  */
 NcChange nc_region_create(NcRegion *region, uint32_t base, const uint8_t *code, size_t len, NcAct *acts, size_t acts_len);
 
@@ -355,10 +356,10 @@ void nc_vetted_free(NcVetted *vetted);
 /*
  * Creates a vetted chunk in the region, and writes the acts as nc_region_create does.
  * Promised: for NC_OK the region has the chunk (IsCreated), the call is one of a history (LogsCall), the acts are those of the creation
- * (log_of_create), and the chunk's handle is empty [created]. For NC_OK, in a buffer that was lent, they are what is pending next in the host's
- * memory (TellsPending) [pending]. A refusal is NC_NO_HANDLE, for either handle; else the first of NC_UNDER_WAY, NC_NO_ROOM, NC_WRONG_LIMIT,
- * NC_OCCUPIED and NC_OUT_OF_MEMORY that holds [refused]. A refusal changes nothing, so that the chunk's handle still has the chunk
- * [unchanged, untouched]. `at` is 0 [at].
+ * (log_of_create), and the chunk's handle is empty [created]. For NC_OK, in a buffer that was lent, they are what is pending next in the
+ * host's memory (TellsPending) [pending]. A refusal is NC_NO_HANDLE, for either handle; else the first of NC_UNDER_WAY, NC_NO_ROOM,
+ * NC_WRONG_LIMIT, NC_OCCUPIED and NC_OUT_OF_MEMORY that holds [refused]. A refusal changes nothing, so that the chunk's handle still has
+ * the chunk [unchanged, untouched]. `at` is 0 [at].
  */
 NcChange nc_region_load(NcRegion *region, NcVetted *vetted, NcAct *acts, size_t acts_len);
 
@@ -368,10 +369,10 @@ NcChange nc_region_load(NcRegion *region, NcVetted *vetted, NcAct *acts, size_t 
  * further bytes, NC_SETTLE, and its first byte; for an instruction of a single byte, only that byte. If no instruction
  * differs, there is no act, and `count` is 0. A buffer of 3 * `len` acts is enough.
  * Promised: for NC_OK the patch was lawful (IsPatch), the region has its bytes (IsModified), and the call is one of a history (LogsCall)
- * [modified]. For NC_OK the acts are those of the patch (log_of_modify) [told]. For NC_OK, in a buffer that was lent, they are what is pending
- * next in the host's memory (TellsPending) [pending]. A buffer that is lent with room for fewer than 3 * `len` acts never gets NC_OK [allowed]. A
- * refusal is NC_NO_HANDLE; else the first of NC_UNDER_WAY, NC_NO_ROOM (for at most 32 bytes, as more are NC_PATCH_BAD_SPAN) and the faults
- * of a patch that holds [refused]. A refusal changes nothing [unchanged, untouched]. `at` is 0 [at].
+ * [modified]. For NC_OK the acts are those of the patch (log_of_modify) [told]. For NC_OK, in a buffer that was lent, they are what is
+ * pending next in the host's memory (TellsPending) [pending]. A buffer that is lent with room for fewer than 3 * `len` acts never gets
+ * NC_OK [allowed]. A refusal is NC_NO_HANDLE; else the first of NC_UNDER_WAY, NC_NO_ROOM (for at most 32 bytes, as more are
+ * NC_PATCH_BAD_SPAN) and the faults of a patch that holds [refused]. A refusal changes nothing [unchanged, untouched]. `at` is 0 [at].
  */
 NcChange nc_region_patch(NcRegion *region, uint32_t at, const uint8_t *bytes, size_t len, NcAct *acts, size_t acts_len);
 
@@ -380,8 +381,8 @@ NcChange nc_region_patch(NcRegion *region, uint32_t at, const uint8_t *bytes, si
  * A buffer for two acts more than the chunk has bytes is enough. Until the last step, which can't be left out, nc_region_place and
  * nc_region_walk show the chunk's bytes, and calls that change the region, except nc_region_seat, are refused with NC_UNDER_WAY.
  * Promised: for NC_OK the deletion of the live chunk at `base` is under way (HasBegun), and the acts are those of the deletion
- * (log_of_delete) [begun]. For NC_OK, in a buffer that was lent, they are, up to NC_BUMP, what is pending next in the host's memory (TellsPending)
- * [pending]. A refusal is NC_NO_HANDLE; else the first of NC_UNDER_WAY, NC_NO_CHUNK, NC_FULL and NC_NO_ROOM that holds
+ * (log_of_delete) [begun]. For NC_OK, in a buffer that was lent, they are, up to NC_BUMP, what is pending next in the host's memory
+ * (TellsPending) [pending]. A refusal is NC_NO_HANDLE; else the first of NC_UNDER_WAY, NC_NO_CHUNK, NC_FULL and NC_NO_ROOM that holds
  * [refused]. A refusal changes nothing [unchanged, untouched]. `at` is 0 [at].
  * The host must make all acts except NC_BUMP, the last one, before it calls nc_region_end_delete, which is that act.
  */
@@ -420,8 +421,8 @@ NcChange nc_region_deletion_runs(NcRegion *region, NcAct *acts, size_t acts_len)
  * Checks in for each seat that nobody was given, looks at each seat, and removes retired chunks from the list. Their spans may be reused,
  * and keep only the marks of bundle starts. It puts no byte and writes no act.
  * Promised: for NC_OK exactly those retired chunks are removed that, by what the look at each seat found, no seat holds back, `count` is
- * their number, and this is two calls of a history, of which the first logs nothing (HasReclaimed) [reclaimed]. For NC_OK what is pending next
- * are looks and freed spans, which the library has made (DoesItself) [pending]. A look at a seat finds its
+ * their number, and this is two calls of a history, of which the first logs nothing (HasReclaimed) [reclaimed]. For NC_OK what is pending
+ * next are looks and freed spans, which the library has made (DoesItself) [pending]. A look at a seat finds its
  * last check-in, or that it was left [tested]. A refusal is NC_NO_HANDLE, or NC_UNDER_WAY exactly while a deletion is under way [refused].
  * A refusal changes nothing [unchanged].
  */

@@ -18,7 +18,7 @@
  *               No call may be made from a signal handler. In the forked child of a process every call is refused, and nothing is freed.
  *   Costs       A process has at most some 3,000 boxes and modules at once, and some 3 GB of memory for them.
  *               A module's text reaches from 0 to the end of its code, and all of it is written. A file whose code lies high can
- *               therefore take up to 1 GiB.
+ *               therefore take up to 64 MiB.
  */
 #ifndef NC_SANDBOX_H
 #define NC_SANDBOX_H

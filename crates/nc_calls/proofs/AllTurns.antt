@@ -66,9 +66,9 @@ call_stays limit seats before old turn s threads found (Patches at bytes news la
     turn_stays limit seats before turn.events old turn.region s
     (modified limit seats before turn.events old turn.region at bytes news s.led s.region lawful b is own threads)
     (still_patched old turn.region at bytes news s.region lawful b is)
-call_stays limit seats before old turn s threads found (Deletes base stamp is own) =
+call_stays limit seats before old turn s threads found (Deletes base stamp is made begun own) =
     turn_stays limit seats before turn.events old turn.region s
-    (deleted limit seats before turn.events old turn.region base stamp s.led s.region is own threads)
+    (deleted limit seats before turn.events old turn.region base stamp made s.led s.region is begun own threads)
     (still_deleted old turn.region base stamp s.region is)
 call_stays limit seats before old turn s threads found (Reclaims count is own) =
     turn_stays limit seats before turn.events old turn.region s

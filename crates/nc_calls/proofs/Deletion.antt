@@ -1,5 +1,5 @@
 -- The acts of a deletion are allowed events.
-use Rattle.std.proofs.Common.{◌≡◌, ◌≢◌, ℕ, ◌+◌, ◌-◌, ◌<◌, ◌≤◌, ◌⊎◌, true, not, All, List, [], ◌∷◌, ◌++◌, length, get_or, set}
+use Rattle.std.proofs.Common.{◌≡◌, ◌≢◌, ℕ, Bool, ◌+◌, ◌-◌, ◌<◌, ◌≤◌, ◌⊎◌, true, not, All, List, [], ◌∷◌, ◌++◌, length, get_or, set}
 use Rattle.std.proofs.Common.{replicate, Option, Some, None, inl, inr, arith, refl, ◌∙◌, sym, ap, subst, ⊎_elim}
 use Rattle.std.proofs.lemmas.Bool.{cases_lt, false≢true}
 use Rattle.std.proofs.lemmas.Bool.Decides.{eqb_tells}
@@ -13,7 +13,7 @@ use Rattle.nc_text.specs.Places.{limit_of, byte_at, instruction_at}
 use Rattle.nc_text.specs.Machine.{State, state}
 use Rattle.nc_text.specs.Marks.{Admits, IsMarked, mark_at}
 use Rattle.nc_text.specs.MarkedText.{MarkedText, with_span}
-use Rattle.nc_text.proofs.Offered.{executes, length-with_span}
+use Rattle.nc_text.proofs.Offered.{executes, length-with_span, is_with_span, get_or-with_span_in, get_or-with_span_below, get_or-with_span_above}
 use Rattle.nc_list.specs.declared.chunk.Chunk.{Chunk}
 use Rattle.nc_list.specs.declared.chunk.ChunkState.TheVariants.{Retired}
 use Rattle.nc_region.specs.schedules.Spans.{IsQuiet, IsShut}
@@ -27,10 +27,10 @@ use Rattle.nc_region.specs.Each.{Each}
 use Rattle.nc_region.specs.Region.{IsLive, IsRising, IsRegion}
 use Rattle.nc_region.proofs.Offered.{region_deleted, all_stops, each_get, each_from, each_at_set, quiet_chunks, rises_get}
 use Rattle.nc_region.proofs.Offered.{apart_by_index, place_of, Before, Within, Behind, before_span}
-use Rattle.nc_calls.specs.Calls.{no_details, delete_events}
+use Rattle.nc_calls.specs.Calls.{no_details}
 use Rattle.nc_calls.specs.Views.{ViewsKeep}
-use Rattle.nc_calls.proofs.Creation.{start_good, in_one_bundle}
-use Rattle.nc_calls.proofs.Entries.{events_of, delete_is}
+use Rattle.nc_calls.proofs.Creation.{in_one_bundle}
+use Rattle.nc_calls.proofs.Entries.{events_of}
 use Rattle.nc_calls.proofs.Good.{text_of, Good, KeepsInstruction, step_back, stop_ends}
 use Rattle.nc_calls.proofs.OnePut.{good_put_marked, good_put_unread, byte_beside, byte_there}
 use Rattle.nc_calls.proofs.Parting.{Kept, region_stopped}
@@ -79,17 +79,17 @@ live_beside chunks k c rising lt here live =
     ))
 
 -- what is known where a live chunk is deleted in a world
-record IsDeleting (w : World) (chunks : List Chunk) (k : ℕ) (c : Chunk) : Type 0 where
-  keeps : Keeps w
-  views : ViewsKeep w chunks
-  region : IsRegion w.marked chunks
-  spans : AreSpansOf w.retired chunks
-  inside : k < length chunks
-  here : get_or chunks k c ≡ c
-  live : IsLive c.state
+pub record IsDeleting (w : World) (chunks : List Chunk) (k : ℕ) (c : Chunk) : Type 0 where
+  pub keeps : Keeps w
+  pub views : ViewsKeep w chunks
+  pub region : IsRegion w.marked chunks
+  pub spans : AreSpansOf w.retired chunks
+  pub inside : k < length chunks
+  pub here : get_or chunks k c ≡ c
+  pub live : IsLive c.state
 
 -- it lies in the region
-placed_there : (w : World) (chunks : List Chunk) (k : ℕ) (c : Chunk) → IsDeleting w chunks k c
+pub placed_there : (w : World) (chunks : List Chunk) (k : ℕ) (c : Chunk) → IsDeleting w chunks k c
     → HasGoodSpan c.base (limit_of w.marked.bytes) c.length
 placed_there w chunks k c r =
     subst (λ (d : Chunk). HasGoodSpan d.base (limit_of w.marked.bytes) d.length) r.here
@@ -104,7 +104,7 @@ beside_there w chunks k c r =
 -- ---- stops at the marked places
 
 -- at marked places stops may be put
-may_lay_marked : (w : World) (base len : ℕ) → 65536 ≤ base
+pub may_lay_marked : (w : World) (base len : ℕ) → 65536 ≤ base
     → MayLay w (is_marked_at w.marked.marks) base (replicate len 244) (λ view. Good view w.marked.marks w.retired)
 may_lay_marked w base len low =
     record {
@@ -123,11 +123,11 @@ may_lay_marked w base len low =
 -- ---- stops at the others
 
 -- the text is good, it is as another outside the span, and in the span each marked place is a stop
-record Emptied (w : World) (base len : ℕ) (mid view : List ℕ) : Type 0 where
-  good : Good view w.marked.marks w.retired
-  as_long : length view ≡ length mid
-  stops : (now : State) → IsMarked w.marked.marks now → base ≤ now.place → now.place < base + len → byte_at view now.place ≡ 244
-  outside : (at : ℕ) → 65536 ≤ at → (at < base) ⊎ (base + len ≤ at) → byte_at view at ≡ byte_at mid at
+pub record Emptied (w : World) (base len : ℕ) (mid view : List ℕ) : Type 0 where
+  pub good : Good view w.marked.marks w.retired
+  pub as_long : length view ≡ length mid
+  pub stops : (now : State) → IsMarked w.marked.marks now → base ≤ now.place → now.place < base + len → byte_at view now.place ≡ 244
+  pub outside : (at : ℕ) → 65536 ≤ at → (at < base) ⊎ (base + len ≤ at) → byte_at view at ≡ byte_at mid at
 
 -- no instruction has an unmarked place of the span
 emptied_clear : (w : World) (base len : ℕ) (mid view : List ℕ) (at : ℕ) → HasGoodSpan base (limit_of w.marked.bytes) len
@@ -151,7 +151,7 @@ emptied_clear w base len mid view at placed f low high is_unmarked now i k m is 
     ]
 
 -- at its unmarked places stops may be put
-may_lay_others : (w : World) (base len : ℕ) (mid : List ℕ) → HasGoodSpan base (limit_of w.marked.bytes) len
+pub may_lay_others : (w : World) (base len : ℕ) (mid : List ℕ) → HasGoodSpan base (limit_of w.marked.bytes) len
     → MayLay w (is_unmarked_at w.marked.marks) base (replicate len 244) (Emptied w base len mid)
 may_lay_others w base len mid placed =
     let n = length-replicate {A = ℕ} len 244 in
@@ -184,9 +184,9 @@ may_lay_others w base len mid placed =
     }
 
 -- once all marked places are stops, the text is such a one
-emptied_first : (w : World) (base len : ℕ) (mid : List ℕ) → Good mid w.marked.marks w.retired
-    → HasPut (is_marked_at w.marked.marks) base (replicate len 244) len w.marked.bytes mid → Emptied w base len mid mid
-emptied_first w base len mid good has =
+emptied_first : (w : World) (base len : ℕ) (now mid : List ℕ) → Good mid w.marked.marks w.retired
+    → HasPut (is_marked_at w.marked.marks) base (replicate len 244) len now mid → Emptied w base len mid mid
+emptied_first w base len now mid good has =
     record {
       good = good;
       as_long = refl;
@@ -282,47 +282,113 @@ may_retire w chunks k c earlier mid r views =
       λ view v. emptied_shut w c.base c.length (w.keeper.generation + 1) mid view (stopped w c).bytes p (views view v) here shut,
     )
 
+-- ---- from a text in which some stops of the span were put before
+
+-- a text is as long as another, and as that one is outside the span
+pub record Agrees (base len : ℕ) (old now : List ℕ) : Type 0 where
+  pub as_long : length now ≡ length old
+  pub outside : (at : ℕ) → 65536 ≤ at → (at < base) ⊎ (base + len ≤ at) → byte_at now at ≡ byte_at old at
+
+-- it does after more puts in the span
+pub put_agrees : (chosen : ℕ → Bool) (base len count : ℕ) (bytes old now new : List ℕ) → count ≤ len
+    → HasPut chosen base bytes count now new → Agrees base len old now → Agrees base len old new
+put_agrees chosen base len count bytes old now new le has a =
+    record {
+      as_long = has.as_long ∙ a.as_long;
+      outside = λ at low out.
+          elim out [
+            | inl l ↦ has.below at low l ∙ a.outside at low (inl l)
+            | inr b ↦ has.above at (omega (arith, b, le)) ∙ a.outside at low (inr b)
+          ];
+    }
+
+-- an element outside the span
+agrees_at : (base len : ℕ) (old now : List ℕ) (k : ℕ) → Agrees base len old now → (65536 + k < base) ⊎ (base + len ≤ 65536 + k)
+    → get_or now k 0 ≡ get_or old k 0
+agrees_at base len old now k a out =
+    let e : 65536 + k - 65536 ≡ k = omega arith in
+    subst (λ (i : ℕ). get_or now i 0 ≡ get_or old i 0) e (a.outside (65536 + k) (omega arith) out)
+
+-- with stops in all of the span both are the same
+same_stopped : (base len : ℕ) (old now : List ℕ) → 65536 ≤ base → base + len ≤ 65536 + length old → Agrees base len old now
+    → with_span now (base - 65536) (replicate len 244) ≡ with_span old (base - 65536) (replicate len 244)
+same_stopped base len old now low fits a =
+    let n = length-replicate {A = ℕ} len 244 in
+    let here : base - 65536 + length (replicate {A = ℕ} len 244) ≤ length old = omega (arith, n) in
+    let there : base - 65536 + length (replicate {A = ℕ} len 244) ≤ length now = omega (arith, n, a.as_long) in
+    is_with_span (with_span now (base - 65536) (replicate len 244)) old (base - 65536) (replicate len 244) 0 here
+    (length-with_span now (base - 65536) (replicate len 244) there ∙ a.as_long)
+    (λ k lt. get_or-with_span_below now (base - 65536) (replicate len 244) k 0 there lt ∙ agrees_at base len old now k a (inl (omega arith)))
+    (λ k from lt. get_or-with_span_in now (base - 65536) (replicate len 244) k 0 there from lt)
+    (λ k past.
+    get_or-with_span_above now (base - 65536) (replicate len 244) k 0 there past
+    ∙ agrees_at base len old now k a (inr (omega (arith, past, n))))
+
+-- the text once stops are at all marked places, and nothing else is to be settled
+pub record HasStopped (w : World) (c : Chunk) (now : List ℕ) (before : List (List ℕ)) : Type 0 where
+  pub mid : List ℕ
+  pub earlier : List (List ℕ)
+  pub leads : Leads (with_text w now before) (events_of (record no_details { base = c.base; len = c.length })
+      (puts_where (is_marked_at w.marked.marks) c.base (replicate c.length 244))) (with_text w mid earlier)
+  pub done : HasPut (is_marked_at w.marked.marks) c.base (replicate c.length 244) c.length now mid
+  pub emptied : Emptied w c.base c.length mid mid
+
+pub stops_marked : (w : World) (chunks : List Chunk) (k : ℕ) (c : Chunk) → IsDeleting w chunks k c → (now : List ℕ)
+    (before : List (List ℕ)) → Agrees c.base c.length w.marked.bytes now → Views (λ view. Good view w.marked.marks w.retired) now before
+    → HasStopped w c now before
+stops_marked w chunks k c r now before agrees good =
+    let p = placed_there w chunks k c r in
+    let n = length-replicate {A = ℕ} c.length 244 in
+    let a = lay_all w (record no_details { base = c.base; len = c.length }) (is_marked_at w.marked.marks) c.base (replicate c.length 244)
+    now before (λ view. Good view w.marked.marks w.retired) (may_lay_marked w c.base c.length p.low)
+    (omega (arith, n, p.high, agrees.as_long)) good in
+    let done : HasPut (is_marked_at w.marked.marks) c.base (replicate c.length 244) c.length now a.bytes =
+    subst (λ (l : ℕ). HasPut (is_marked_at w.marked.marks) c.base (replicate c.length 244) l now a.bytes) n a.has in
+    record {
+      mid = a.bytes;
+      earlier = a.earlier;
+      leads = a.leads;
+      done = done;
+      emptied = emptied_first w c.base c.length now a.bytes (a.views a.bytes (as_it_stands a.bytes a.earlier)) done;
+    }
+
 -- the chunk's acts lead to the text without it, with one more retired span
-deletion_leads : (w : World) (chunks : List Chunk) (k : ℕ) (c : Chunk) → IsDeleting w chunks k c
-    → Reaches w (events_of (record no_details { base = c.base; len = c.length })
+pub deletion_leads : (w : World) (chunks : List Chunk) (k : ℕ) (c : Chunk) → IsDeleting w chunks k c → (now : List ℕ)
+    (before : List (List ℕ)) → Agrees c.base c.length w.marked.bytes now → Views (λ view. Good view w.marked.marks w.retired) now before
+    → Reaches (with_text w now before) (events_of (record no_details { base = c.base; len = c.length })
     (puts_where (is_marked_at w.marked.marks) c.base (replicate c.length 244))
     ++ (Settles ∷ (events_of (record no_details { base = c.base; len = c.length })
     (puts_where (is_unmarked_at w.marked.marks) c.base (replicate c.length 244)) ++ Retires c.base c.length ∷ [])))
     (after (record w { marked = stopped w c }) (Retires c.base c.length)) (Kept w.marked.marks (retired_list w chunks k c))
-deletion_leads w chunks k c r =
+deletion_leads w chunks k c r now before agrees good =
     let p = placed_there w chunks k c r in
     let n = length-replicate {A = ℕ} c.length 244 in
-    let fits : c.base + length (replicate {A = ℕ} c.length 244) ≤ 65536 + length w.marked.bytes = omega (arith, n, p.high) in
-    let a = lay_all w (record no_details { base = c.base; len = c.length }) (is_marked_at w.marked.marks) c.base (replicate c.length 244)
-    w.marked.bytes w.earlier (λ view. Good view w.marked.marks w.retired) (may_lay_marked w c.base c.length p.low) fits
-    (start_good w chunks r.keeps r.views) in
-    let done : HasPut (is_marked_at w.marked.marks) c.base (replicate c.length 244) c.length w.marked.bytes a.bytes =
-    subst (λ (l : ℕ). HasPut (is_marked_at w.marked.marks) c.base (replicate c.length 244) l w.marked.bytes a.bytes) n a.has in
-    let first = emptied_first w c.base c.length a.bytes (a.views a.bytes (as_it_stands a.bytes a.earlier)) done in
+    let a = stops_marked w chunks k c r now before agrees good in
     let b = lay_all w (record no_details { base = c.base; len = c.length }) (is_unmarked_at w.marked.marks) c.base
-    (replicate c.length 244) a.bytes [] (Emptied w c.base c.length a.bytes) (may_lay_others w c.base c.length a.bytes p)
-    (omega (arith, fits, a.has.as_long)) (settled_views (Emptied w c.base c.length a.bytes) a.bytes first) in
+    (replicate c.length 244) a.mid [] (Emptied w c.base c.length a.mid) (may_lay_others w c.base c.length a.mid p)
+    (omega (arith, n, p.high, a.done.as_long, agrees.as_long)) (settled_views (Emptied w c.base c.length a.mid) a.mid a.emptied) in
     let same : b.bytes ≡ (stopped w c).bytes =
-    all_stops w.marked.bytes a.bytes b.bytes w.marked.marks c.base c.length p.low (omega (arith, p.high)) done
-    (subst (λ (l : ℕ). HasPut (is_unmarked_at w.marked.marks) c.base (replicate c.length 244) l a.bytes b.bytes) n b.has) in
-    let views : Views (Emptied w c.base c.length a.bytes) (stopped w c).bytes b.earlier =
-    subst (λ (z : List ℕ). Views (Emptied w c.base c.length a.bytes) z b.earlier) same b.views in
-    let end : World = after (record w { marked = stopped w c; earlier = b.earlier }) (Retires c.base c.length) in
-    let second : Leads (settled w a.bytes) (events_of (record no_details { base = c.base; len = c.length })
+    all_stops now a.mid b.bytes w.marked.marks c.base c.length p.low (omega (arith, p.high, agrees.as_long)) a.done
+    (subst (λ (l : ℕ). HasPut (is_unmarked_at w.marked.marks) c.base (replicate c.length 244) l a.mid b.bytes) n b.has)
+    ∙ same_stopped c.base c.length w.marked.bytes now p.low (omega (arith, p.high)) agrees in
+    let views : Views (Emptied w c.base c.length a.mid) (stopped w c).bytes b.earlier =
+    subst (λ (z : List ℕ). Views (Emptied w c.base c.length a.mid) z b.earlier) same b.views in
+    let second : Leads (settled w a.mid) (events_of (record no_details { base = c.base; len = c.length })
     (puts_where (is_unmarked_at w.marked.marks) c.base (replicate c.length 244))) (record w { marked = stopped w c; earlier = b.earlier }) =
-    subst (λ (z : List ℕ). Leads (settled w a.bytes) (events_of (record no_details { base = c.base; len = c.length })
+    subst (λ (z : List ℕ). Leads (settled w a.mid) (events_of (record no_details { base = c.base; len = c.length })
     (puts_where (is_unmarked_at w.marked.marks) c.base (replicate c.length 244))) (with_text w z b.earlier)) same b.leads in
     let last = leads_one (record w { marked = stopped w c; earlier = b.earlier }) (Retires c.base c.length)
-    (may_retire w chunks k c b.earlier a.bytes r views) (λ whole. whole) in
+    (may_retire w chunks k c b.earlier a.mid r views) (λ whole. whole) in
     let here = views (stopped w c).bytes (as_it_stands (stopped w c).bytes b.earlier) in
     let region = region_after w chunks k c r here.good in
     record {
       earlier = b.earlier;
-      leads = leads_more w (with_text w a.bytes a.earlier) (after (record w { marked = stopped w c; earlier = b.earlier })
+      leads = leads_more (with_text w now before) (with_text w a.mid a.earlier)
+          (after (record w { marked = stopped w c; earlier = b.earlier })
           (Retires c.base c.length)) _ _ a.leads
-          (leads_more (with_text w a.bytes a.earlier) (settled w a.bytes) (after (record w { marked = stopped w c; earlier = b.earlier })
-          (Retires c.base c.length)) (Settles ∷ []) _ (settling_leads w a.bytes a.earlier)
-          (leads_more (settled w a.bytes) (record w { marked = stopped w c; earlier = b.earlier })
+          (leads_more (with_text w a.mid a.earlier) (settled w a.mid) (after (record w { marked = stopped w c; earlier = b.earlier })
+          (Retires c.base c.length)) (Settles ∷ []) _ (settling_leads w a.mid a.earlier)
+          (leads_more (settled w a.mid) (record w { marked = stopped w c; earlier = b.earlier })
           (after (record w { marked = stopped w c; earlier = b.earlier }) (Retires c.base c.length)) _ (Retires c.base c.length ∷ [])
           second last));
       views = λ view v.
@@ -338,20 +404,4 @@ deletion_leads w chunks k c r =
                       ∙ region_stopped (stopped w c) (retired_list w chunks k c) region now m free)
                 ];
           };
-    }
-
--- a live chunk is deleted in a world that has a region's text and spans
-pub delete_leads : (w : World) (chunks : List Chunk) (k : ℕ) (c : Chunk) → Keeps w → ViewsKeep w chunks → IsRegion w.marked chunks
-    → AreSpansOf w.retired chunks → k < length chunks → get_or chunks k c ≡ c → IsLive c.state
-    → Reaches w (delete_events w.marked.marks c.base c.length) (after (record w { marked = stopped w c }) (Retires c.base c.length))
-    (Kept w.marked.marks (set chunks k (record c { state = Retired (w.keeper.generation + 1) })))
-delete_leads w chunks k c keeps views region spans inside here live =
-    let r = deletion_leads w chunks k c
-    (record { keeps = keeps; views = views; region = region; spans = spans; inside = inside; here = here; live = live }) in
-    record {
-      earlier = r.earlier;
-      leads = subst (λ (z : List Event). Leads w z
-          (record (after (record w { marked = stopped w c }) (Retires c.base c.length)) { earlier = r.earlier }))
-          (sym (delete_is w.marked.marks c.base c.length)) r.leads;
-      views = r.views;
     }

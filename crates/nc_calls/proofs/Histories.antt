@@ -1,6 +1,6 @@
 -- Schedules that have led to a region, and one call more.
 use Rattle.std.proofs.Common.{◌≡◌, ℕ, ◌+◌, ◌-◌, ◌≤◌, Bool, true, false, cond, List, [], ◌∷◌, ◌++◌, set, replicate, arith}
-use Rattle.std.proofs.Common.{◌∙◌, sym, ap, subst, append-nil}
+use Rattle.std.proofs.Common.{◌∙◌, sym, ap, subst, append-nil, append_assoc}
 use Rattle.std.specs.Prelude.{Contains, ◌↔◌}
 use Rattle.nc_decode.specs.declared.instruction.Mark.{Mark}
 use Rattle.nc_text.specs.Places.{limit_of}
@@ -23,10 +23,12 @@ use Rattle.nc_region.specs.Region.{Region, IsLive, IsRegion, IsCreated, live_chu
 use Rattle.nc_region.specs.Deletion.{IsDeleted}
 use Rattle.nc_region.proofs.Offered.{same_code, listed_there}
 use Rattle.nc_calls.specs.Weaving.{writers, ThreadsMay}
-use Rattle.nc_calls.specs.Calls.{KnowsNoMore, StandsFor, HasLedTo, Details, create_events, delete_events}
+use Rattle.nc_calls.specs.Calls.{KnowsNoMore, StandsFor, HasLedTo, Details, no_details, create_events, delete_events}
+use Rattle.nc_calls.specs.Histories.{AreBeginnings, NoneYet, OneMore}
 use Rattle.nc_calls.specs.Views.{ViewsKeep}
 use Rattle.nc_calls.proofs.Creation.{create_leads}
-use Rattle.nc_calls.proofs.Deletion.{stopped, delete_leads}
+use Rattle.nc_calls.proofs.Beginnings.{IsPart, OfMarked, OfOthers, is_part, delete_leads}
+use Rattle.nc_calls.proofs.Deletion.{stopped}
 use Rattle.nc_calls.proofs.Entries.{events_of, create_is, delete_is}
 use Rattle.nc_calls.proofs.Knowing.{knows_raised}
 use Rattle.nc_calls.proofs.Parting.{Kept}
@@ -68,6 +70,30 @@ delete_plain marks base len =
     (Settles ∷ (events_of (record { marks = []; base = base; len = len; seats = 0; spans = [] })
     (puts_where (is_unmarked_at marks) base (replicate len 244)) ++ Retires base len ∷ []))
     (plain_puts d (is_unmarked_at marks) base (replicate len 244) (Retires base len ∷ []) tt))
+
+-- a beginning of a deletion before plain events
+part_plain : (marks : List Mark) (base len : ℕ) (part more : List Event) → IsPart marks base len part → ArePlain more → ArePlain (part ++ more)
+part_plain marks base len part more (OfMarked n le is) plain =
+    subst (λ (z : List Event). ArePlain (z ++ more)) (sym is)
+    (plain_puts (record no_details { base = base; len = len }) (is_marked_at marks) base (replicate n 244) more plain)
+part_plain marks base len part more (OfOthers n le is) plain =
+    let d : Details = record { marks = []; base = base; len = len; seats = 0; spans = [] } in
+    let others : List Event = events_of (record no_details { base = base; len = len })
+    (puts_where (is_unmarked_at marks) base (replicate n 244)) in
+    subst (λ (z : List Event). ArePlain (z ++ more)) (sym is)
+    (subst ArePlain (sym (append_assoc (events_of (record no_details { base = base; len = len })
+    (puts_where (is_marked_at marks) base (replicate len 244))) (Settles ∷ others) more))
+    (plain_puts d (is_marked_at marks) base (replicate len 244) (Settles ∷ (others ++ more))
+    (plain_puts d (is_unmarked_at marks) base (replicate n 244) more plain)))
+
+-- any number of them
+begun_plain : (marks : List Mark) (base len : ℕ) (made more : List Event) → AreBeginnings marks base len made → ArePlain more
+    → ArePlain (made ++ more)
+begun_plain marks base len [] more NoneYet plain = plain
+begun_plain marks base len _ more (OneMore {earlier} first part rest own) plain =
+    subst ArePlain (sym (append_assoc earlier part more))
+    (begun_plain marks base len earlier (part ++ more) first
+    (part_plain marks base len part more (is_part marks base len part rest own) plain))
 
 -- where a call's views keep what they have to, those of the world do, whoever sits in it
 pub views_kept : (w : World) (chunks : List Chunk) (seats : List Seat) → Views (Kept w.marked.marks chunks) w.marked.bytes w.earlier
@@ -191,32 +217,37 @@ created limit seats before events old new v h region valid lim is own threads =
     })
     (subst (λ (x : KeeperState). x.numbers.generation ≤ last_generation) (sym keeper) h.in_range)
 
--- a deletion
-pub deleted : (limit seats : ℕ) (before events : List Event) (old new : Region) (base stamp : ℕ)
+-- a deletion, after beginnings of it
+pub deleted : (limit seats : ℕ) (before events : List Event) (old new : Region) (base stamp : ℕ) (made : List Event)
     → HasLedTo limit seats before old → IsRegion old.marked old.chunks → (is : IsDeleted old new base stamp)
-    → writers events ≡ delete_events old.marked.marks base is.chunk.length
+    → AreBeginnings old.marked.marks base is.chunk.length made
+    → writers events ≡ made ++ delete_events old.marked.marks base is.chunk.length
     → ThreadsMay (world_after (first_world limit seats) before) events → Grows limit seats before events new
-deleted limit seats before events old new base stamp h region is own threads =
+deleted limit seats before events old new base stamp made h region is beginnings own threads =
     let w = world_after (first_world limit seats) before in
     let c = is.chunk in
     let here = h.stands.marked in
     let there = listed_there old.chunks is.index is.chunk is.listed in
     let live : IsLive is.chunk.state = subst IsLive (sym is.live) tt in
-    let l = delete_leads w old.chunks is.index is.chunk (kept_there limit seats before old h) h.views
+    let begun : AreBeginnings w.marked.marks is.chunk.base is.chunk.length made =
+    subst (λ (m : MarkedText). AreBeginnings m.marks is.chunk.base is.chunk.length made) (sym here)
+    (subst (λ (b : ℕ). AreBeginnings old.marked.marks b is.chunk.length made) (sym is.base_is) beginnings) in
+    let l = delete_leads w old.chunks is.index is.chunk made (kept_there limit seats before old h) h.views
     (subst (λ (m : MarkedText). IsRegion m old.chunks) (sym here) region)
-    (λ span has. (h.stands.spans span).0 has) there.0 there.1 live in
-    let own_is : writers events ≡ delete_events w.marked.marks is.chunk.base is.chunk.length =
-    own ∙ (ap (λ (b : ℕ). delete_events old.marked.marks b is.chunk.length) (sym is.base_is)
-    ∙ ap (λ (m : MarkedText). delete_events m.marks is.chunk.base is.chunk.length) (sym here)) in
+    (λ span has. (h.stands.spans span).0 has) there.0 there.1 live begun in
+    let own_is : writers events ≡ made ++ delete_events w.marked.marks is.chunk.base is.chunk.length =
+    own ∙ (ap (λ (b : ℕ). made ++ delete_events old.marked.marks b is.chunk.length) (sym is.base_is)
+    ∙ ap (λ (m : MarkedText). made ++ delete_events m.marks is.chunk.base is.chunk.length) (sym here)) in
     let stamp_is : stamp ≡ w.keeper.generation + 1 = is.stamp_is ∙ ap (λ (n : ℕ). n + 1) h.stands.keeper.generation in
     let same = same_spans_retired w.retired old.chunks is.index is.chunk (w.keeper.generation + 1) there.0 there.1 live h.stands.spans in
     let list : new.chunks ≡ set old.chunks is.index (record is.chunk { state = Retired (w.keeper.generation + 1) }) =
     is.chunks ∙ ap (λ (n : ℕ). set old.chunks is.index (record is.chunk { state = Retired n })) stamp_is in
     let keeper : new.keeper.numbers ≡ generation_raised old.keeper.numbers = ap (λ (x : KeeperState). x.numbers) is.keeper in
-    grown_beside limit seats before events (delete_events w.marked.marks is.chunk.base is.chunk.length) old new _ h own_is
-    (delete_plain w.marked.marks is.chunk.base is.chunk.length)
+    grown_beside limit seats before events (made ++ delete_events w.marked.marks is.chunk.base is.chunk.length) old new _ h own_is
+    (begun_plain w.marked.marks is.chunk.base is.chunk.length made (delete_events w.marked.marks is.chunk.base is.chunk.length) begun
+    (delete_plain w.marked.marks is.chunk.base is.chunk.length))
     (subst (λ (z : List Chunk). Reaches (world_after (first_world limit seats) before)
-    (delete_events (world_after (first_world limit seats) before).marked.marks is.chunk.base is.chunk.length)
+    (made ++ delete_events (world_after (first_world limit seats) before).marked.marks is.chunk.base is.chunk.length)
     (after (record (world_after (first_world limit seats) before) {
       marked = stopped (world_after (first_world limit seats) before) is.chunk;
     }) (Retires is.chunk.base is.chunk.length)) (Kept (world_after (first_world limit seats) before).marked.marks z)) (sym list) l) threads

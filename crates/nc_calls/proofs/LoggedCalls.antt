@@ -21,7 +21,7 @@ use Rattle.nc_region.proofs.Offered.{listed_there}
 use Rattle.nc_calls.specs.Weaving.{IsKeepers}
 use Rattle.nc_calls.specs.Calls.{Details, no_details, events_of_log}
 use Rattle.nc_calls.specs.Histories.{IsRefusal, OfCreation, OfPatch, OfDeletion, LogsRefusal}
-use Rattle.nc_calls.specs.Histories.{IsCall, Creates, Patches, Deletes, Reclaims, UsesKeeper, Refuses, Keeps, LogsCall}
+use Rattle.nc_calls.specs.Histories.{NoneYet, IsCall, Creates, Patches, Deletes, Reclaims, UsesKeeper, Refuses, Keeps, LogsCall}
 use Rattle.nc_calls.proofs.Refusals.{same_but_pages, refusal_same}
 
 -- a call whose events are those of its log
@@ -97,7 +97,7 @@ deletes (Ok stamp) seats old new base is =
       (is.index, there.0, there.1),
       is.base_is,
       logs_call seats (record no_details { base = base; len = is.chunk.length }) old new
-          (log_of_delete old.marked.marks base is.chunk.length) is.log (Deletes base stamp is refl),
+          (log_of_delete old.marked.marks base is.chunk.length) is.log (Deletes base stamp is [] NoneYet refl),
     )
 deletes (Err e) seats old new base is = tt
 

@@ -1,5 +1,7 @@
 -- What proofs of the crates above may use of this crate: what a history keeps from one call to the next, and what each call leads
 -- to. The other files are private.
+pub use Rattle.nc_calls.proofs.Beginnings.{IsPart, OfMarked, OfOthers, is_part}
+pub use Rattle.nc_calls.proofs.Entries.{events_of}
 pub use Rattle.nc_calls.proofs.Histories.{Grows, goes_on, created, deleted}
 pub use Rattle.nc_calls.proofs.Modified.{modified}
 pub use Rattle.nc_calls.proofs.Reclaimed.{reclaimed}
@@ -7,7 +9,7 @@ pub use Rattle.nc_calls.proofs.Instances.{begins_unused, refused}
 pub use Rattle.nc_calls.proofs.Looking.{KeeperOnly, keeper_woven}
 pub use Rattle.nc_calls.proofs.StillRegion.{still_created, still_patched, still_deleted, still_reclaimed}
 pub use Rattle.nc_calls.proofs.Refusals.{refusal_same, refusal_silent}
-pub use Rattle.nc_calls.proofs.Knowing.{knows_as_much}
+pub use Rattle.nc_calls.proofs.Knowing.{knows_as_much, knows_raised}
 pub use Rattle.nc_calls.proofs.Whole.{IsWholeIn, StaysWhole, whole_settled, whole_append, whole_front}
 pub use Rattle.nc_calls.proofs.Fetching.{fetch_whole_after}
 pub use Rattle.nc_calls.proofs.AllTurns.{Stays, same_region, call_stays, all_stand}

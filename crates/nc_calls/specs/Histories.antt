@@ -1,6 +1,7 @@
 -- Histories of a region: its calls one after the other, interleaved with events of threads between any two acts; and the
 -- states in which threads may be.
 use Rattle.std.specs.Prelude.{◌≡◌, ℕ, ◌≤◌, ⊤, List, [], ◌∷◌, ◌++◌, All, IfSome}
+use Rattle.nc_decode.specs.declared.instruction.Mark.{Mark}
 use Rattle.nc_decode.specs.Bundles.{IsLawfulLimit}
 use Rattle.nc_vet.specs.Chunk.{MarkedChunk, Piece, IsValid}
 use Rattle.nc_text.specs.Places.{limit_of}
@@ -9,7 +10,7 @@ use Rattle.nc_text.specs.MarkedText.{unused_text}
 use Rattle.nc_gens.specs.Rule.{last_generation}
 use Rattle.nc_gens.specs.Seen.{least_number}
 use Rattle.nc_region.specs.schedules.World.{World, Seat, first_world, IsViewOf}
-use Rattle.nc_region.specs.schedules.Events.{Event, world_after}
+use Rattle.nc_region.specs.schedules.Events.{Event, Retires, world_after}
 use Rattle.nc_region.specs.declared.acts.Entry.{Entry}
 use Rattle.nc_region.specs.declared.fault.CreateFault.{CreateFault}
 use Rattle.nc_region.specs.declared.fault.ModifyFault.{ModifyFault}
@@ -29,17 +30,26 @@ pub data IsRefusal (old new : Region) (own : List Event) : Type 0 where
       → IsRefusal old new own
   OfDeletion : (base : ℕ) (fault : DeleteFault) → MayRefuseDelete old base fault → new ≡ old → own ≡ [] → IsRefusal old new own
 
+-- Beginnings of a deletion with these marks, one after the other. Each consists of the deletion's first events, any number of
+-- them, but never of the stamp.
+pub data AreBeginnings (marks : List Mark) (base len : ℕ) : List Event → Type 0 where
+  NoneYet : AreBeginnings marks base len []
+  OneMore : {earlier : List Event} → AreBeginnings marks base len earlier → (part rest : List Event)
+      → part ++ (rest ++ Retires base len ∷ []) ≡ delete_events marks base len → AreBeginnings marks base len (earlier ++ part)
+
 -- A call of a region, as its contract describes it: the region that it leaves, and its own events. `Creates`, `Patches`,
--- `Deletes` and `Reclaims` are the accepted calls, with the events of their logs. `UsesKeeper` uses the keeper by itself.
--- `Refuses` is a refused call. `Keeps` is any other call without an event that leaves the region as it was, except that pages
--- may have been made. A call that only reads is one.
+-- `Deletes` and `Reclaims` are the accepted calls, with the events of their logs; the deletion's may have been begun before
+-- and left unfinished, any number of times. `UsesKeeper` uses the keeper by itself. `Refuses` is a refused call. `Keeps` is
+-- any other call without an event that leaves the region as it was, except that pages may have been made. A call that only
+-- reads is one.
 pub data IsCall (seats : ℕ) (old new : Region) (own : List Event) : Type 0 where
   Creates : (v : MarkedChunk) → IsValid v → v.limit ≡ limit_of old.marked.bytes → IsCreated old new v → own ≡ create_events v
       → IsCall seats old new own
   Patches : (at : ℕ) (bytes : List ℕ) (news : List Piece) → IsPatch old at bytes → AreBytesOf bytes news → IsModified old new at bytes
       → own ≡ modify_events old.marked.bytes at news → IsCall seats old new own
-  Deletes : (base stamp : ℕ) (is : IsDeleted old new base stamp) → own ≡ delete_events old.marked.marks base is.chunk.length
-      → IsCall seats old new own
+  Deletes : (base stamp : ℕ) (is : IsDeleted old new base stamp) (made : List Event)
+      → AreBeginnings old.marked.marks base is.chunk.length made
+      → own ≡ made ++ delete_events old.marked.marks base is.chunk.length → IsCall seats old new own
   Reclaims : (count : ℕ) → IsReclaimed old new count
       → own ≡ reclaim_events seats (least_number new.keeper.numbers) old.chunks → IsCall seats old new own
   UsesKeeper : new.marked ≡ old.marked → new.chunks ≡ old.chunks → All IsKeepers own → new.keeper.numbers.generation ≤ last_generation

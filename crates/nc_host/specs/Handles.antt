@@ -17,6 +17,7 @@ use Rattle.nc_handle.specs.declared.fault.RetireFault.{RetireFault}
 use Rattle.nc_handle.specs.declared.fault.RetireFault.TheVariants as retire
 use Rattle.nc_handle.specs.declared.kept.Kept.{Kept}
 use Rattle.nc_handle.specs.Held.{HeldState}
+use Rattle.nc_handle.specs.Pending.{ChangesPages}
 use Rattle.nc_host.specs.Shown.{patch_number}
 
 -- the handle had a value and has one, and the relation holds between the two
@@ -99,5 +100,4 @@ IsChunkFor h base code v = IsVetted base (limit_of h.region.marked.bytes) code v
 -- all is as before, except that pages of the text that overlap this span may have been allocated (`GetsReady` of
 -- nc_text)
 abbrev pub IsSameButPages : (base len : ℕ) → HeldState → HeldState → Type 0
-IsSameButPages base len old new =
-    (new ≡ record old { region = record old.region { made = new.region.made } }) × GetsReady old.region.made new.region.made base len
+IsSameButPages base len old new = ChangesPages old new × GetsReady old.region.made new.region.made base len

@@ -21,7 +21,7 @@ use Rattle.nc_region.specs.Quiet.{retired_spans}
 use Rattle.nc_region.specs.Region.{Region, IsRegion}
 use Rattle.nc_calls.specs.Weaving.{writers, IsKeepers, ThreadsMay}
 use Rattle.nc_calls.specs.Calls.{KnowsNoMore, StandsFor, HasLedTo, no_details, events_of_log, delete_events, reclaim_events}
-use Rattle.nc_calls.specs.Histories.{IsRefusal, IsCall, Creates, Patches, Deletes, Reclaims, UsesKeeper, Refuses, Keeps, AllStand}
+use Rattle.nc_calls.specs.Histories.{AreBeginnings, IsRefusal, IsCall, Creates, Patches, Deletes, Reclaims, UsesKeeper, Refuses, Keeps, AllStand}
 use Rattle.nc_calls.proofs.Offered.{goes_on, created, deleted}
 use Rattle.nc_calls.proofs.Offered.{refused}
 use Rattle.nc_calls.proofs.Offered.{keeper_woven}
@@ -117,9 +117,9 @@ call_goes limit seats before since pending from region stays some threads own fo
 call_goes limit seats before since pending from region stays some threads own found (Patches at bytes news lawful b is same) =
     led_goes limit seats before since pending from region stays
     (modified limit seats before (since ++ pending) from region at bytes news stays.led stays.region lawful b is (own ∙ same) threads)
-call_goes limit seats before since pending from region stays some threads own found (Deletes base stamp is same) =
+call_goes limit seats before since pending from region stays some threads own found (Deletes base stamp is made begun same) =
     led_goes limit seats before since pending from region stays
-    (deleted limit seats before (since ++ pending) from region base stamp stays.led stays.region is (own ∙ same) threads)
+    (deleted limit seats before (since ++ pending) from region base stamp made stays.led stays.region is begun (own ∙ same) threads)
 call_goes limit seats before since pending from region stays some threads own found (Reclaims count is same) =
     reclaim_goes limit seats before since pending from region count stays some threads own is same found
 call_goes limit seats before since pending from region stays some threads own found (UsesKeeper marked chunks all range) =
@@ -136,17 +136,20 @@ call_goes limit seats before since pending from region stays some threads own fo
     (goes_on limit seats before (since ++ pending) from region stays.led is (own ∙ same) threads)
 
 -- a deletion, once its stamp is drawn
-deletion_led : (limit seats : ℕ) (before since pending : List Event) (from : Region) (c : Chunk) (live : IsLiveAt from.chunks c.base c)
-    → Stays limit seats before from → ThreadsMay (world_after (first_world limit seats) before) since
+deletion_led : (limit seats : ℕ) (before since pending made last : List Event) (from : Region) (c : Chunk)
+    (live : IsLiveAt from.chunks c.base c) → Stays limit seats before from → ThreadsMay (world_after (first_world limit seats) before) since
     → All IsWriters pending → from.keeper.numbers.generation < 4611686018427387904
-    → writers since ++ (pending ++ Retires c.base c.length ∷ []) ≡ delete_events from.marked.marks c.base c.length
+    → AreBeginnings from.marked.marks c.base c.length made → writers since ≡ made ++ last
+    → last ++ (pending ++ Retires c.base c.length ∷ []) ≡ delete_events from.marked.marks c.base c.length
     → Grows limit seats before (since ++ (pending ++ Retires c.base c.length ∷ [])) (deleted_region from live.0.0 c)
-deletion_led limit seats before since pending from c live stays threads plain room own =
+deletion_led limit seats before since pending made last from c live stays threads plain room first own_is last_is =
     let all : All IsWriters (pending ++ Retires c.base c.length ∷ []) =
     All-append IsWriters pending (Retires c.base c.length ∷ []) plain (one_writers (Retires c.base c.length) refl) in
     deleted limit seats before (since ++ (pending ++ Retires c.base c.length ∷ [])) from (deleted_region from live.0.0 c) c.base
-    (from.keeper.numbers.generation + 1) stays.led stays.region (deleted_there from c live room)
-    (writers_own since (pending ++ Retires c.base c.length ∷ []) all ∙ own)
+    (from.keeper.numbers.generation + 1) made stays.led stays.region (deleted_there from c live room) first
+    (writers_own since (pending ++ Retires c.base c.length ∷ []) all
+    ∙ (ap (λ (z : List Event). z ++ (pending ++ Retires c.base c.length ∷ [])) own_is
+    ∙ (append_assoc made last (pending ++ Retires c.base c.length ∷ []) ∙ ap (λ (z : List Event). made ++ z) last_is)))
     (threads_append (world_after (first_world limit seats) before) since (pending ++ Retires c.base c.length ∷ []) threads
     (threads_none (world_after (world_after (first_world limit seats) before) since) (pending ++ Retires c.base c.length ∷ []) all))
 
@@ -166,8 +169,9 @@ goes limit seats host l = go l.phase
         ∙ (sym (after_append (first_world limit seats) (l.before ++ l.since) host.pending)
         ∙ ap (world_after (first_world limit seats)) (append_assoc l.before l.since host.pending))) (l.found none))
         call
-    go (Deleting c is at live room own) =
-        let g = deletion_led limit seats l.before l.since host.pending l.from c live l.stays l.threads l.plain room own in
+    go (Deleting c is at live room made last first own_is last_is) =
+        let g = deletion_led limit seats l.before l.since host.pending made last l.from c live l.stays l.threads l.plain room first own_is
+        last_is in
         let parts : l.before ++ (l.since ++ (host.pending ++ Retires c.base c.length ∷ [])) ≡
         ((l.before ++ l.since) ++ host.pending) ++ Retires c.base c.length ∷ [] =
         sym (append_assoc l.before l.since (host.pending ++ Retires c.base c.length ∷ []))
@@ -255,10 +259,11 @@ stopped_there limit seats host c l none begun = go l.phase
     go : Phase seats l.from (writers l.since) host.held.begun host.held.region host.pending
         → host.world.marked ≡ stops_in host.held.region.marked c
     go (Calling idle call) = absurd (let bad : None ≡ Some c = sym idle ∙ begun in cc)
-    go (Deleting d is at live room own) =
+    go (Deleting d is at live room made last first own_is last_is) =
         let here : Some d ≡ Some c = sym is ∙ begun in
         let same : d ≡ c = cc in
-        let h = (deletion_led limit seats l.before l.since host.pending l.from d live l.stays l.threads l.plain room own).led in
+        let h = (deletion_led limit seats l.before l.since host.pending made last l.from d live l.stays l.threads l.plain room first own_is
+        last_is).led in
         let stamped : world_after (first_world limit seats) (l.before ++ (l.since ++ (host.pending ++ Retires d.base d.length ∷ [])))
         ≡ world_after host.world (Retires d.base d.length ∷ []) =
         ap (λ (z : List Event). world_after (first_world limit seats) (l.before ++ (l.since ++ (z ++ Retires d.base d.length ∷ [])))) none
@@ -279,7 +284,7 @@ call_region : (seats : ℕ) (old new : Region) (own : List Event) → IsRegion o
     → IsRegion new.marked new.chunks
 call_region seats old new own region (Creates v valid lim is same) = still_created old new v region valid lim is
 call_region seats old new own region (Patches at bytes news lawful b is same) = still_patched old new at bytes news region lawful b is
-call_region seats old new own region (Deletes base stamp is same) = still_deleted old new base stamp region is
+call_region seats old new own region (Deletes base stamp is made begun same) = still_deleted old new base stamp region is
 call_region seats old new own region (Reclaims count is same) = still_reclaimed old new count region is
 call_region seats old new own region (UsesKeeper marked chunks all range) = same_region old new marked chunks region
 call_region seats old new own region (Refuses is) =
@@ -295,7 +300,7 @@ region_there limit seats host l = go l.phase
     go : Phase seats l.from (writers l.since) host.held.begun host.held.region host.pending
         → IsRegion host.held.region.marked host.held.region.chunks
     go (Calling idle call) = call_region seats l.from host.held.region (writers l.since ++ host.pending) l.stays.region call
-    go (Deleting c is at live room own) =
+    go (Deleting c is at live room made last first own_is last_is) =
         same_region l.from host.held.region (ap (λ (r : Region). r.marked) at) (ap (λ (r : Region). r.chunks) at) l.stays.region
 
 pub is_region : (bundles seats : ℕ) (host : Host) → IsReached bundles seats host → IsRegion host.held.region.marked host.held.region.chunks

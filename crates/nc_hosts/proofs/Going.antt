@@ -1,20 +1,27 @@
--- From each state that a host can reach, its pending events can be made, and a creation is a step.
-use Rattle.std.proofs.Common.{◌≡◌, ℕ, ◌+◌, ◌*◌, List, [], ◌∷◌, ◌++◌, refl, ◌∙◌, sym, ap, subst}
+-- From each state that a host can reach, its pending events can be made, and each call leads on.
+use Rattle.std.proofs.Common.{◌≡◌, ℕ, ◌+◌, ◌*◌, Some, List, [], ◌∷◌, ◌++◌, refl, ◌∙◌, sym, ap, subst}
 use Rattle.std.specs.Prelude.{All}
-use Rattle.std.proofs.lemmas.List.Elements.{All-cons}
-use Rattle.nc_vet.specs.Chunk.{MarkedChunk, IsValid}
+use Rattle.std.proofs.lemmas.List.Elements.{All-nil, All-cons}
+use Rattle.nc_vet.specs.Chunk.{MarkedChunk, Piece, IsValid}
+use Rattle.nc_gens.specs.declared.view.KeeperNumbers.{KeeperNumbers}
+use Rattle.nc_gens.specs.Rule.{generation_raised}
+use Rattle.nc_gens.specs.Seen.{KeeperState}
+use Rattle.nc_list.specs.declared.chunk.Chunk.{Chunk}
 use Rattle.nc_region.specs.schedules.World.{World, first_world}
-use Rattle.nc_region.specs.schedules.Events.{Event, after, world_after}
+use Rattle.nc_region.specs.schedules.Events.{Event, Retires, after, world_after}
 use Rattle.nc_region.specs.Log.{log_of_create}
+use Rattle.nc_region.specs.Patch.{AreBytesOf, log_of_modify}
+use Rattle.nc_region.specs.Region.{Region}
 use Rattle.nc_region.proofs.Offered.{after_append}
-use Rattle.nc_calls.specs.Calls.{KnowsNoMore, no_details, create_events}
-use Rattle.nc_calls.specs.Histories.{Creates}
-use Rattle.nc_calls.proofs.Offered.{created}
-use Rattle.nc_handle.specs.Held.{HeldState, HasLoaded}
-use Rattle.nc_handle.specs.Pending.{Changes}
-use Rattle.nc_hosts.specs.Hosts.{Host, Makes, Calls, IsNoLook, IsReached, Then}
+use Rattle.nc_calls.specs.Calls.{KnowsNoMore, no_details, create_events, modify_events, delete_events}
+use Rattle.nc_calls.specs.Histories.{IsCall, Creates, Patches, Keeps}
+use Rattle.nc_calls.proofs.Offered.{created, modified, knows_raised}
+use Rattle.nc_handle.specs.Held.{HeldState, HasLoaded, HasPatched, HasBegun, HasEnded}
+use Rattle.nc_handle.specs.Pending.{ChangesPages, Changes, Begins, Ends, Fails}
+use Rattle.nc_hosts.specs.Hosts.{Host, Makes, Restarts, Calls, IsNoLook, IsReached, Then}
+use Rattle.nc_hosts.proofs.Kept.{IsStore, rest_stores, stores_keep, stores_look_not}
 use Rattle.nc_hosts.proofs.Weaving.{IsWriters, log_writers, writers_own, threads_none}
-use Rattle.nc_hosts.proofs.Reaching.{finished, led}
+use Rattle.nc_hosts.proofs.Reaching.{finished, could_begin, deletion_stores, led}
 
 -- the next event is made
 pub makes_next : (bundles seats : ℕ) (host : Host) (event : Event) (later : List Event) → IsReached bundles seats host
@@ -41,3 +48,87 @@ loads bundles seats host new v reached none valid loaded =
     Then reached
     (Calls none (Changes loaded.0 (ap (λ (h : HeldState). h.begun) loaded.4 ∙ loaded.0) (Creates v valid loaded.1 loaded.3 refl)) refl)
     (λ looks. subst (λ (x : World). KnowsNoMore new.region.keeper.numbers x.keeper) there g.led.stands.keeper)
+
+-- a patch
+pub patches : (bundles seats : ℕ) (host : Host) (new : HeldState) (at : ℕ) (bytes : List ℕ) (news : List Piece)
+    → IsReached bundles seats host → host.pending ≡ [] → AreBytesOf bytes news → HasPatched at bytes host.held new
+    → IsReached bundles seats (record { held = new; world = host.world; pending = modify_events host.held.region.marked.bytes at news })
+patches bundles seats host new at bytes news reached none b patched =
+    let l = led bundles seats host reached in
+    let w = first_world (65536 + 32 * bundles) seats in
+    let s = finished (65536 + 32 * bundles) seats host l none patched.0 in
+    let own : List Event = modify_events host.held.region.marked.bytes at news in
+    let all : All IsWriters own = log_writers no_details (log_of_modify host.held.region.marked.bytes at news) in
+    let g = modified (65536 + 32 * bundles) seats (l.before ++ l.since) own host.held.region new.region at bytes news s.led s.region
+    patched.1 b patched.2 (writers_own [] own all) (threads_none (world_after w (l.before ++ l.since)) own all) in
+    let there : world_after w ((l.before ++ l.since) ++ own) ≡ world_after host.world own =
+    after_append w (l.before ++ l.since) own ∙ ap (λ (x : World). world_after x own) (sym l.world) in
+    Then reached
+    (Calls none (Changes patched.0 (ap (λ (h : HeldState). h.begun) patched.3 ∙ patched.0) (Patches at bytes news patched.1 b patched.2 refl))
+    refl)
+    (λ looks. subst (λ (x : World). KnowsNoMore new.region.keeper.numbers x.keeper) there g.led.stands.keeper)
+
+-- where no look is pending, the region's keeper knows no more than the world's will
+knows_then : (bundles seats : ℕ) (host : Host) → IsReached bundles seats host → All IsStore host.pending
+    → KnowsNoMore host.held.region.keeper.numbers host.world.keeper
+knows_then bundles seats host reached stores =
+    subst (KnowsNoMore host.held.region.keeper.numbers) (stores_keep host.world host.pending stores)
+    ((led bundles seats host reached).found (stores_look_not host.pending stores))
+
+-- so it does before other stores
+knows_before : (bundles seats : ℕ) (host : Host) (events : List Event) → IsReached bundles seats host → All IsStore host.pending
+    → All IsStore events → KnowsNoMore host.held.region.keeper.numbers (world_after host.world events).keeper
+knows_before bundles seats host events reached stores all =
+    subst (KnowsNoMore host.held.region.keeper.numbers) (sym (stores_keep host.world events all)) (knows_then bundles seats host reached stores)
+
+-- where nothing is pending, no event but stores is
+none_stores : (pending : List Event) → pending ≡ [] → All IsStore pending
+none_stores pending none = subst (All IsStore) (sym none) (All-nil IsStore)
+
+-- the first step of a deletion
+pub begins : (bundles seats : ℕ) (host : Host) (new : HeldState) (c : Chunk) (stops : List Event) → IsReached bundles seats host
+    → host.pending ≡ [] → HasBegun host.held new c.base c
+    → stops ++ Retires c.base c.length ∷ [] ≡ delete_events host.held.region.marked.marks c.base c.length
+    → IsReached bundles seats (record { held = new; world = host.world; pending = stops })
+begins bundles seats host new c stops reached none begun own =
+    let same : new.region ≡ host.held.region = ap (λ (h : HeldState). h.region) begun.others in
+    Then reached (Calls none (Begins c begun own) refl) (λ looks.
+    subst (λ (r : Region). KnowsNoMore r.keeper.numbers (world_after host.world stops).keeper) (sym same)
+    (knows_before bundles seats host stops reached (none_stores host.pending none)
+    (rest_stores host.held.region.marked.marks c.base c.length [] stops own)))
+
+-- its events are made anew
+pub restarts : (bundles seats : ℕ) (host : Host) (c : Chunk) (stops : List Event) → IsReached bundles seats host
+    → host.held.begun ≡ Some c
+    → stops ++ Retires c.base c.length ∷ [] ≡ delete_events host.held.region.marked.marks c.base c.length
+    → IsReached bundles seats (record host { pending = stops })
+restarts bundles seats host c stops reached begun own =
+    Then reached
+    (Restarts c begun (Begins c (could_begin (65536 + 32 * bundles) seats host c (led bundles seats host reached) begun) own) refl) (λ looks.
+    knows_before bundles seats host stops reached
+    (deletion_stores (65536 + 32 * bundles) seats host c (led bundles seats host reached) begun)
+    (rest_stores host.held.region.marked.marks c.base c.length [] stops own))
+
+-- its last step
+pub ends : (bundles seats : ℕ) (host : Host) (new : HeldState) (stamp : ℕ) (is : HasEnded host.held new stamp)
+    → IsReached bundles seats host → host.pending ≡ []
+    → IsReached bundles seats (record { held = new; world = host.world; pending = Retires is.chunk.base is.chunk.length ∷ [] })
+ends bundles seats host new stamp is reached none =
+    Then reached (Calls none (Ends stamp is refl) refl) (λ looks.
+    subst (λ (n : KeeperNumbers). KnowsNoMore n (generation_raised host.world.keeper))
+    (sym (ap (λ (k : KeeperState). k.numbers) is.deleted.keeper))
+    (knows_raised host.held.region.keeper.numbers host.world.keeper
+    (knows_then bundles seats host reached (none_stores host.pending none))))
+
+-- a refused call
+pub fails : (bundles seats : ℕ) (host : Host) (new : HeldState) → IsReached bundles seats host → host.pending ≡ []
+    → ChangesPages host.held new → IsReached bundles seats (record host { held = new })
+fails bundles seats host new reached none pages =
+    let keeper : new.region.keeper ≡ host.held.region.keeper = ap (λ (h : HeldState). h.region.keeper) pages in
+    Then reached (Calls none (Fails pages none) refl) (λ looks.
+    subst (λ (k : KeeperState). KnowsNoMore k.numbers (world_after host.world host.pending).keeper) (sym keeper)
+    ((led bundles seats host reached).found looks))
+
+-- which is a call of a history
+pub keeps : (seats : ℕ) (old new : HeldState) → ChangesPages old new → IsCall seats old.region new.region []
+keeps seats old new pages = Keeps (ap (λ (h : HeldState). h.region) pages) refl

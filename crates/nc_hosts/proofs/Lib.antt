@@ -1,6 +1,7 @@
 mod Deleting
 mod Weaving
 mod Looked
+mod Kept
 mod Reaching
 mod Concluding
 mod Running

@@ -15,25 +15,27 @@ use Rattle.nc_region.specs.Region.{Region, IsRegion}
 use Rattle.nc_region.specs.Deletion.{IsDeleted}
 use Rattle.nc_calls.specs.Weaving.{is_writers, writers, ThreadsMay}
 use Rattle.nc_calls.specs.Calls.{HasLedTo, no_details, delete_events}
-use Rattle.nc_calls.specs.Histories.{IsCall, Deletes, Keeps}
+use Rattle.nc_calls.specs.Histories.{AreBeginnings, NoneYet, OneMore, IsCall, Deletes, Keeps}
 use Rattle.nc_calls.proofs.Offered.{begins_unused}
 use Rattle.nc_region.specs.Log.{log_of_delete}
-use Rattle.nc_handle.specs.Held.{HeldState, IsLiveAt, IsFirst, HasEnded}
+use Rattle.nc_handle.specs.Held.{HeldState, IsLiveAt, IsFirst, HasBegun, HasEnded}
 use Rattle.nc_handle.specs.Pending.{IsHeldCall, Changes, Begins, Ends, Fails}
 use Rattle.nc_calls.specs.Calls.{KnowsNoMore}
-use Rattle.nc_hosts.specs.Hosts.{Host, IsStep, Runs, Makes, Calls, Asks, IsNoLook, HasFound, IsReached, First, Then}
+use Rattle.nc_hosts.specs.Hosts.{Host, IsStep, Runs, Makes, Restarts, Calls, Asks, IsNoLook, HasFound, IsReached, First, Then}
 use Rattle.nc_calls.proofs.Offered.{Stays, same_region, goes_on, call_stays}
 use Rattle.nc_calls.proofs.Offered.{whole_settled, knows_as_much}
+use Rattle.nc_hosts.proofs.Kept.{IsStore, rest_stores}
 use Rattle.nc_hosts.proofs.Weaving.{IsWriters, all_front, one_writers, writers_thread, writers_own, threads_append, threads_none}
 use Rattle.nc_hosts.proofs.Weaving.{log_writers, call_writers}
 
--- the events that there are before a call of a region ends are those of that call so far, whose rest is pending; or those of a deletion,
--- whose rest but for the stamp is pending
+-- The events that there are before a call of a region ends are those of that call so far, whose rest is pending. Or they are beginnings of
+-- a deletion and the last one so far, whose rest but for the stamp is pending.
 pub data Phase (seats : ℕ) (from : Region) (own : List Event) (begun : Option Chunk) (region : Region) (pending : List Event) : Type 0 where
   Calling : begun ≡ None → IsCall seats from region (own ++ pending) → Phase seats from own begun region pending
   Deleting : (c : Chunk) → begun ≡ Some c → region ≡ from → IsLiveAt from.chunks c.base c
-      → from.keeper.numbers.generation < 4611686018427387904
-      → own ++ (pending ++ Retires c.base c.length ∷ []) ≡ delete_events from.marked.marks c.base c.length
+      → from.keeper.numbers.generation < 4611686018427387904 → (made last : List Event)
+      → AreBeginnings from.marked.marks c.base c.length made → own ≡ made ++ last
+      → last ++ (pending ++ Retires c.base c.length ∷ []) ≡ delete_events from.marked.marks c.base c.length
       → Phase seats from own begun region pending
 
 -- the events before the last call began, and since then
@@ -62,16 +64,18 @@ led_there : (limit seats : ℕ) (before since : List Event) (w : World) → w �
     → w ≡ world_after (world_after (first_world limit seats) before) since
 led_there limit seats before since w is = is ∙ after_append (first_world limit seats) before since
 
--- a phase with other events of the same list
-phase_moved : (seats : ℕ) (from : Region) (own later : List Event) (begun : Option Chunk) (region : Region) (pending rest : List Event)
-    → ((more : List Event) → own ++ (pending ++ more) ≡ later ++ (rest ++ more)) → Phase seats from own begun region pending
-    → Phase seats from later begun region rest
-phase_moved seats from own later begun region pending rest same (Calling none call) =
-    let is : own ++ pending ≡ later ++ rest =
-    ap (λ (z : List Event). own ++ z) (sym (append-nil pending)) ∙ (same [] ∙ ap (λ (z : List Event). later ++ z) (append-nil rest)) in
-    Calling none (subst (IsCall seats from region) is call)
-phase_moved seats from own later begun region pending rest same (Deleting c is at live room own_is) =
-    Deleting c is at live room (sym (same (Retires c.base c.length ∷ [])) ∙ own_is)
+-- one event of a phase that was pending is made
+phase_made : (seats : ℕ) (from : Region) (own : List Event) (begun : Option Chunk) (region : Region) (event : Event)
+    (pending rest : List Event) → pending ≡ event ∷ rest → Phase seats from own begun region pending
+    → Phase seats from (own ++ event ∷ []) begun region rest
+phase_made seats from own begun region event pending rest is (Calling none call) =
+    Calling none (subst (IsCall seats from region)
+    (ap (λ (z : List Event). own ++ z) is ∙ sym (append_assoc own (event ∷ []) rest)) call)
+phase_made seats from own begun region event pending rest is (Deleting c at same live room made last first own_is last_is) =
+    Deleting c at same live room made (last ++ event ∷ []) first
+    (ap (λ (z : List Event). z ++ event ∷ []) own_is ∙ append_assoc made last (event ∷ []))
+    (append_assoc last (event ∷ []) (rest ++ Retires c.base c.length ∷ [])
+    ∙ (ap (λ (z : List Event). last ++ (z ++ Retires c.base c.length ∷ [])) (sym is) ∙ last_is))
 
 -- a thread's event
 led_runs : (limit seats : ℕ) (old : Host) (event : Event) → Led limit seats old → is_writers event ≡ false → ThreadMay old.world event
@@ -110,11 +114,37 @@ led_makes limit seats old event rest l is found =
           (one_writers event (All-head IsWriters event rest plain)));
       plain = All-tail IsWriters event rest plain;
       found = found;
-      phase = phase_moved seats l.from (writers l.since) (writers (l.since ++ event ∷ [])) old.held.begun old.held.region old.pending rest
-          (λ more. ap (λ (z : List Event). writers l.since ++ (z ++ more)) is
-          ∙ (sym (append_assoc (writers l.since) (event ∷ []) (rest ++ more))
-          ∙ ap (λ (z : List Event). z ++ (rest ++ more)) (sym own))) l.phase;
+      phase = subst (λ (own : List Event). Phase seats l.from own old.held.begun old.held.region rest) (sym own)
+          (phase_made seats l.from (writers l.since) old.held.begun old.held.region event old.pending rest is l.phase);
     }
+
+-- a deletion that is under way could begin
+pub could_begin : (limit seats : ℕ) (host : Host) (c : Chunk) → Led limit seats host → host.held.begun ≡ Some c
+    → HasBegun (record host.held { begun = None }) host.held c.base c
+could_begin limit seats host c l begun = go l.phase
+  where
+    go : Phase seats l.from (writers l.since) host.held.begun host.held.region host.pending
+        → HasBegun (record host.held { begun = None }) host.held c.base c
+    go (Calling idle call) = absurd (let bad : None ≡ Some c = sym idle ∙ begun in cc)
+    go (Deleting d is at live room made last first own_is last_is) =
+        let here : Some d ≡ Some c = sym is ∙ begun in
+        let same : d ≡ c = cc in
+        record {
+          live = subst (λ (e : Chunk). IsLiveAt host.held.region.chunks e.base e) same
+              (subst (λ (r : Region). IsLiveAt r.chunks d.base d) (sym at) live);
+          room = subst (λ (r : Region). r.keeper.numbers.generation < 4611686018427387904) (sym at) room;
+          none = refl;
+          others = ap (λ (b : Option Chunk). record host.held { begun = b }) begun;
+        }
+
+-- while a deletion is under way, stores and settlings are pending
+pub deletion_stores : (limit seats : ℕ) (host : Host) (c : Chunk) → Led limit seats host → host.held.begun ≡ Some c → All IsStore host.pending
+deletion_stores limit seats host c l begun = go l.phase
+  where
+    go : Phase seats l.from (writers l.since) host.held.begun host.held.region host.pending → All IsStore host.pending
+    go (Calling idle call) = absurd (let bad : None ≡ Some c = sym idle ∙ begun in cc)
+    go (Deleting d is at live room made last first own_is last_is) =
+        rest_stores l.from.marked.marks d.base d.length last host.pending last_is
 
 -- where nothing is pending and no deletion is under way, the last call has ended
 pub finished : (limit seats : ℕ) (host : Host) (l : Led limit seats host) → host.pending ≡ [] → host.held.begun ≡ None
@@ -133,7 +163,7 @@ finished limit seats host l none idle =
         call_stays limit seats l.before l.from (record { events = l.since; region = host.held.region }) l.stays l.threads
         (subst (λ (w : World). KnowsNoMore host.held.region.keeper.numbers w.keeper) l.world now)
         (subst (IsCall seats l.from host.held.region) own call)
-    go (Deleting c is at live room own) = absurd (let bad : None ≡ Some c = sym idle ∙ is in cc)
+    go (Deleting c is at live room made last first own_is last_is) = absurd (let bad : None ≡ Some c = sym idle ∙ is in cc)
 
 -- a call that begins where the last one has ended
 led_anew : (limit seats : ℕ) (old new : Host) (l : Led limit seats old) → old.pending ≡ [] → old.held.begun ≡ None
@@ -166,25 +196,33 @@ phase_ended : (seats : ℕ) (from : Region) (own : List Event) (old new : HeldSt
     → Phase seats from own new.begun new.region later
 phase_ended seats from own old new pending later stamp is none stamped (Calling idle call) =
     absurd (let bad : None ≡ Some is.chunk = sym idle ∙ is.begun in cc)
-phase_ended seats from own old new pending later stamp is none stamped (Deleting c begun at live room own_is) =
+phase_ended seats from own old new pending later stamp is none stamped (Deleting c begun at live room made last first own_is last_is) =
     let here : Some c ≡ Some is.chunk = sym begun ∙ is.begun in
     let same : c ≡ is.chunk = cc in
     let deleted : IsDeleted from new.region is.chunk.base stamp =
     subst (λ (r : Region). IsDeleted r new.region is.chunk.base stamp) at is.deleted in
     Calling (ap (λ (h : HeldState). h.begun) is.others)
     (gone at is.deleted is.same
-    (ap (λ (z : List Event). own ++ z) stamped
-    ∙ (ap (λ (z : List Event). own ++ (z ++ Retires is.chunk.base is.chunk.length ∷ [])) (sym none)
-    ∙ (ap (λ (d : Chunk). own ++ (pending ++ Retires d.base d.length ∷ [])) (sym same)
-    ∙ (own_is ∙ ap (λ (d : Chunk). delete_events from.marked.marks d.base d.length) same)))))
+    (subst (λ (d : Chunk). AreBeginnings from.marked.marks d.base d.length made) same first)
+    (ap (λ (z : List Event). z ++ later) own_is
+    ∙ (append_assoc made last later
+    ∙ ap (λ (z : List Event). made ++ z)
+    (ap (λ (z : List Event). last ++ z) stamped
+    ∙ (ap (λ (z : List Event). last ++ (z ++ Retires is.chunk.base is.chunk.length ∷ [])) (sym none)
+    ∙ (ap (λ (d : Chunk). last ++ (pending ++ Retires d.base d.length ∷ [])) (sym same)
+    ∙ (last_is ∙ ap (λ (d : Chunk). delete_events from.marked.marks d.base d.length) same)))))))
   where
     gone : {r : Region} → r ≡ from → (d : IsDeleted r new.region is.chunk.base stamp) → d.chunk ≡ is.chunk
-        → own ++ later ≡ delete_events from.marked.marks is.chunk.base is.chunk.length → IsCall seats from new.region (own ++ later)
-    gone {r} at d chunk events =
+        → AreBeginnings from.marked.marks is.chunk.base is.chunk.length made
+        → own ++ later ≡ made ++ delete_events from.marked.marks is.chunk.base is.chunk.length
+        → IsCall seats from new.region (own ++ later)
+    gone {r} at d chunk first events =
         subst (λ (q : Region). IsCall seats q new.region (own ++ later)) at
-        (Deletes is.chunk.base stamp d
-        (events ∙ (ap (λ (q : Region). delete_events q.marked.marks is.chunk.base is.chunk.length) (sym at)
-        ∙ ap (λ (e : Chunk). delete_events r.marked.marks is.chunk.base e.length) (sym chunk))))
+        (Deletes is.chunk.base stamp d made
+        (subst (λ (q : Region). AreBeginnings q.marked.marks is.chunk.base d.chunk.length made) (sym at)
+        (subst (λ (e : Chunk). AreBeginnings from.marked.marks is.chunk.base e.length made) (sym chunk) first))
+        (events ∙ (ap (λ (q : Region). made ++ delete_events q.marked.marks is.chunk.base is.chunk.length) (sym at)
+        ∙ ap (λ (e : Chunk). made ++ delete_events r.marked.marks is.chunk.base e.length) (sym chunk))))
 
 -- pages that were made are no part of a world
 pages_stay : (limit seats : ℕ) (before : List Event) (old new : Region) → Stays limit seats before old
@@ -225,7 +263,7 @@ led_fails limit seats old new l none pages nothing same found = go l.phase
           found = found;
           phase = Calling (begun ∙ idle) (Keeps refl nothing);
         }
-    go (Deleting c is at live room own) =
+    go (Deleting c is at live room made last first own_is last_is) =
         let from : new.held.region ≡ record l.from { made = new.held.region.made } =
         region ∙ ap (λ (r : Region). record r { made = new.held.region.made }) at in
         record {
@@ -240,8 +278,11 @@ led_fails limit seats old new l none pages nothing same found = go l.phase
           phase = Deleting c (begun ∙ is) refl
               (subst (λ (chunks : List Chunk). IsLiveAt chunks c.base c) (sym (ap (λ (r : Region). r.chunks) from)) live)
               (subst (λ (k : KeeperState). k.numbers.generation < 4611686018427387904) (sym (ap (λ (r : Region). r.keeper) from)) room)
-              (ap (λ (z : List Event). writers l.since ++ (z ++ Retires c.base c.length ∷ [])) (nothing ∙ sym none)
-              ∙ (own ∙ ap (λ (m : MarkedText). delete_events m.marks c.base c.length) (sym (ap (λ (r : Region). r.marked) from))));
+              made last
+              (subst (λ (m : MarkedText). AreBeginnings m.marks c.base c.length made) (sym (ap (λ (r : Region). r.marked) from)) first)
+              own_is
+              (ap (λ (z : List Event). last ++ (z ++ Retires c.base c.length ∷ [])) (nothing ∙ sym none)
+              ∙ (last_is ∙ ap (λ (m : MarkedText). delete_events m.marks c.base c.length) (sym (ap (λ (r : Region). r.marked) from))));
         }
 
 -- a call
@@ -252,7 +293,8 @@ led_calls limit seats old new l none (Changes idle then call) same found =
     (Calling then call)
 led_calls limit seats old new l none (Begins c begun own) same found =
     led_anew limit seats old new l none begun.none same found (stops_plain new.pending old.held.region c own)
-    (Deleting c (ap (λ (h : HeldState). h.begun) begun.others) (ap (λ (h : HeldState). h.region) begun.others) begun.live begun.room own)
+    (Deleting c (ap (λ (h : HeldState). h.begun) begun.others) (ap (λ (h : HeldState). h.region) begun.others) begun.live begun.room
+    [] [] NoneYet refl own)
 led_calls limit seats old new l none (Ends stamp is stamped) same found =
     record {
       before = l.before;
@@ -284,12 +326,57 @@ led_asks limit seats old held l region begun found =
           (subst (λ (b : Option Chunk). Phase seats l.from (writers l.since) b old.held.region old.pending) (sym begun) l.phase);
     }
 
+-- what is pending after the first call of a deletion
+anew : (seats : ℕ) (held : HeldState) (pending : List Event) (c : Chunk) → held.begun ≡ Some c
+    → IsHeldCall seats (record held { begun = None }) held pending
+    → pending ++ Retires c.base c.length ∷ [] ≡ delete_events held.region.marked.marks c.base c.length
+anew seats held pending c begun (Changes none then call) = absurd (let bad : None ≡ Some c = sym then ∙ begun in cc)
+anew seats held pending c begun (Begins d is own) =
+    let here : Some d ≡ Some c = sym (ap (λ (h : HeldState). h.begun) is.others) ∙ begun in
+    let same : d ≡ c = cc in
+    subst (λ (e : Chunk). pending ++ Retires e.base e.length ∷ [] ≡ delete_events held.region.marked.marks e.base e.length) same own
+anew seats held pending c begun (Ends stamp is stamped) = absurd (let bad : None ≡ Some is.chunk = is.begun in cc)
+anew seats held pending c begun (Fails pages nothing) =
+    absurd (let bad : None ≡ Some c = sym (ap (λ (h : HeldState). h.begun) pages) ∙ begun in cc)
+
+-- a deletion's events are to be made anew
+led_restarts : (limit seats : ℕ) (old : Host) (pending : List Event) (c : Chunk) → Led limit seats old → old.held.begun ≡ Some c
+    → pending ++ Retires c.base c.length ∷ [] ≡ delete_events old.held.region.marked.marks c.base c.length
+    → HasFound (record old { pending = pending }) → Led limit seats (record old { pending = pending })
+led_restarts limit seats old pending c l begun own found =
+    record {
+      before = l.before;
+      since = l.since;
+      from = l.from;
+      stays = l.stays;
+      world = l.world;
+      threads = l.threads;
+      plain = stops_plain pending old.held.region c own;
+      found = found;
+      phase = go l.phase;
+    }
+  where
+    go : Phase seats l.from (writers l.since) old.held.begun old.held.region old.pending
+        → Phase seats l.from (writers l.since) old.held.begun old.held.region pending
+    go (Calling idle call) = absurd (let bad : None ≡ Some c = sym idle ∙ begun in cc)
+    go (Deleting d is at live room made last first own_is last_is) =
+        let here : Some d ≡ Some c = sym is ∙ begun in
+        let same : d ≡ c = cc in
+        Deleting d is at live room (made ++ last) [] (OneMore first last old.pending last_is)
+        (own_is ∙ sym (append-nil (made ++ last)))
+        (ap (λ (e : Chunk). pending ++ Retires e.base e.length ∷ []) same
+        ∙ (own ∙ (ap (λ (r : Region). delete_events r.marked.marks c.base c.length) at
+        ∙ ap (λ (e : Chunk). delete_events l.from.marked.marks e.base e.length) (sym same))))
+
 -- a step
 led_step : (limit seats : ℕ) (old new : Host) → Led limit seats old → IsStep seats old new → HasFound new → Led limit seats new
 led_step limit seats old new l (Runs event is may same) found =
     subst (Led limit seats) (sym same) (led_runs limit seats old event l is may (subst HasFound same found))
 led_step limit seats old new l (Makes event is same) found =
     subst (Led limit seats) (sym same) (led_makes limit seats old event new.pending l is (subst HasFound same found))
+led_step limit seats old new l (Restarts c begun call same) found =
+    subst (Led limit seats) (sym same)
+    (led_restarts limit seats old new.pending c l begun (anew seats old.held new.pending c begun call) (subst HasFound same found))
 led_step limit seats old new l (Calls none call same) found = led_calls limit seats old new l none call same found
 led_step limit seats old new l (Asks region begun same) found =
     subst (Led limit seats) (sym same) (led_asks limit seats old new.held l region begun (subst HasFound same found))

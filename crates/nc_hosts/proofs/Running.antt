@@ -1,5 +1,5 @@
 -- A host that reads runs.
-use Rattle.std.proofs.Common.{◌≡◌, ℕ, ◌≤◌, List, length, arith, ◌∙◌, sym, ap, subst}
+use Rattle.std.proofs.Common.{◌≡◌, ℕ, ◌≤◌, ◌+◌, ◌*◌, List, length, Some, None, arith, refl, ◌∙◌, sym, ap, subst}
 use Rattle.std.specs.Prelude.{Contains, take}
 use Rattle.std.specs.List.{insert}
 use Rattle.std.proofs.lemmas.List.Edits.{get_or-insert_at, length-insert}
@@ -17,7 +17,8 @@ use Rattle.nc_handle.specs.Runs.{AreCreationRuns, AreDeletionRuns}
 use Rattle.nc_handle.specs.Shown.{bytes_of_span}
 use Rattle.nc_handle.specs.Pending.{IsHeldCall, Changes, Begins, events_pending}
 use Rattle.nc_handle.proofs.Offered.{create_runs_due, delete_runs_due, still_none, one_of_base, span_put, chunk_span}
-use Rattle.nc_hosts.specs.Hosts.{Host, IsReached}
+use Rattle.nc_hosts.specs.Hosts.{Host, IsStep, Restarts, IsReached}
+use Rattle.nc_hosts.proofs.Reaching.{could_begin, led}
 use Rattle.nc_hosts.proofs.Concluding.{is_region}
 
 -- a chunk that was inserted is in the list
@@ -60,3 +61,12 @@ deletion seats old new base v c lent now count begun runs =
     Begins c (subst (λ (b : ℕ). HasBegun old new b c) (sym begun.live.2) begun)
     (delete_runs_due v new.region.marked.marks c.base c.length (bytes_of_span new.region.marked.bytes c.base c.length) lent now count runs.1
     ∙ ap (λ (r : Region). delete_events r.marked.marks c.base c.length) region)
+
+-- a deletion that is under way
+pub again : (bundles seats : ℕ) (host : Host) (v : MarkedChunk) (c : Chunk) (lent now : List NcAct) (count : ℕ)
+    → IsReached bundles seats host → host.held.begun ≡ Some c → AreDeletionRuns host.held c lent now count
+    → IsStep seats host (record host { pending = events_pending v (take count now) })
+again bundles seats host v c lent now count reached begun runs =
+    Restarts c begun
+    (deletion seats (record host.held { begun = None }) host.held c.base v c lent now count
+    (could_begin (65536 + 32 * bundles) seats host c (led bundles seats host reached) begun) runs) refl

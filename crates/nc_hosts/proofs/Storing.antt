@@ -4,7 +4,7 @@ use Rattle.nc_region.specs.schedules.World.{World}
 use Rattle.nc_region.specs.schedules.Events.{Event, Steps, Enters, Exits, Takes, Sees, Stores, Leaves, Puts, Settles, Marks, Bumps, Retires, Frees}
 use Rattle.nc_region.specs.schedules.Events.{Looks, after}
 use Rattle.nc_calls.specs.Weaving.{is_writers}
-use Rattle.nc_hosts.specs.Hosts.{Host, IsStep, Runs, Makes, Calls, Asks}
+use Rattle.nc_hosts.specs.Hosts.{Host, IsStep, Runs, Makes, Restarts, Calls, Asks}
 
 -- a thread's event changes no byte
 thread_keeps : (w : World) (event : Event) → is_writers event ≡ false → (after w event).marked.bytes ≡ w.marked.bytes
@@ -56,5 +56,6 @@ stores seats old new (Runs event is may same) =
     world_is old new (after old.world event) (ap (λ (h : Host). h.world) same) (inl (thread_keeps old.world event is))
 stores seats old new (Makes event is same) =
     world_is old new (after old.world event) (ap (λ (h : Host). h.world) same) (due_changes old.world event old.pending new.pending is)
+stores seats old new (Restarts c begun call same) = world_is old new old.world (ap (λ (h : Host). h.world) same) (inl refl)
 stores seats old new (Calls none call same) = world_is old new old.world same (inl refl)
 stores seats old new (Asks region begun same) = world_is old new old.world (ap (λ (h : Host). h.world) same) (inl refl)

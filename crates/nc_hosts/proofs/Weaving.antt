@@ -4,6 +4,7 @@ use Rattle.std.specs.Prelude.{All}
 use Rattle.std.specs.List.{range_with_len}
 use Rattle.std.proofs.lemmas.List.{append-nil, take_at}
 use Rattle.std.proofs.lemmas.List.Elements.{All-nil, All-cons, All-head, All-tail, All-append, All-take, All-weaker, filter-append}
+use Rattle.nc_decode.specs.declared.instruction.Mark.{Mark}
 use Rattle.nc_region.specs.schedules.World.{World}
 use Rattle.nc_region.specs.schedules.Events.{Event, Steps, Enters, Exits, Takes, Sees, Stores, Leaves, Puts, Settles, Marks, Bumps, Retires, Frees}
 use Rattle.nc_region.specs.schedules.Events.{Looks, after, world_after}
@@ -17,9 +18,9 @@ use Rattle.nc_region.specs.Patch.{log_of_modify}
 use Rattle.nc_region.specs.Deletion.{freed, unmarkings}
 use Rattle.nc_region.specs.Quiet.{retired_spans}
 use Rattle.nc_calls.specs.Weaving.{is_writers, writers, IsKeepers, ThreadsMay}
-use Rattle.nc_calls.specs.Calls.{Details, no_details, events_of_entry, events_of_log}
+use Rattle.nc_calls.specs.Calls.{Details, no_details, events_of_entry, events_of_log, delete_events}
 use Rattle.nc_calls.proofs.Offered.{refusal_silent}
-use Rattle.nc_calls.specs.Histories.{IsCall, Creates, Patches, Deletes, Reclaims, UsesKeeper, Refuses, Keeps}
+use Rattle.nc_calls.specs.Histories.{AreBeginnings, NoneYet, OneMore, IsCall, Creates, Patches, Deletes, Reclaims, UsesKeeper, Refuses, Keeps}
 
 -- the event is the writer's
 abbrev pub IsWriters : Event → Type 0
@@ -102,15 +103,25 @@ keepers_writers (Sees n) k = absurd k
 keepers_writers (Stores n) k = absurd k
 keepers_writers (Leaves n) k = absurd k
 
+-- beginnings of a deletion
+begun_writers : (marks : List Mark) (base len : ℕ) (made : List Event) → AreBeginnings marks base len made → All IsWriters made
+begun_writers marks base len [] NoneYet = All-nil IsWriters
+begun_writers marks base len _ (OneMore {earlier} first part rest own) =
+    All-append IsWriters earlier part (begun_writers marks base len earlier first)
+    (all_front IsWriters part (rest ++ Retires base len ∷ [])
+    (subst (All IsWriters) (sym own) (log_writers (record no_details { base = base; len = len }) (log_of_delete marks base len))))
+
 -- those of a call
 pub call_writers : (seats : ℕ) (old new : Region) (own : List Event) → IsCall seats old new own → All IsWriters own
 call_writers seats old new own (Creates v valid lim is same) =
     subst (All IsWriters) (sym same) (log_writers (record no_details { marks = v.marks }) (log_of_create v.base v.code))
 call_writers seats old new own (Patches at bytes news lawful b is same) =
     subst (All IsWriters) (sym same) (log_writers no_details (log_of_modify old.marked.bytes at news))
-call_writers seats old new own (Deletes base stamp is same) =
+call_writers seats old new own (Deletes base stamp is made begun same) =
     subst (All IsWriters) (sym same)
-    (log_writers (record no_details { base = base; len = is.chunk.length }) (log_of_delete old.marked.marks base is.chunk.length))
+    (All-append IsWriters made (delete_events old.marked.marks base is.chunk.length)
+    (begun_writers old.marked.marks base is.chunk.length made begun)
+    (log_writers (record no_details { base = base; len = is.chunk.length }) (log_of_delete old.marked.marks base is.chunk.length)))
 call_writers seats old new own (Reclaims count is same) =
     subst (All IsWriters) (sym same)
     (log_writers (record no_details { seats = seats; spans = retired_spans old.chunks })

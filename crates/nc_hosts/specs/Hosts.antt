@@ -1,5 +1,6 @@
 -- A host in C, step by step: its memory, its calls by a handle of a region, and the threads that run that memory.
-use Rattle.std.specs.Prelude.{◌≡◌, ℕ, ◌+◌, ◌*◌, ⊤, false, List, [], ◌∷◌, All}
+use Rattle.std.specs.Prelude.{◌≡◌, ℕ, ◌+◌, ◌*◌, ⊤, false, List, [], ◌∷◌, All, Some, None}
+use Rattle.nc_list.specs.declared.chunk.Chunk.{Chunk}
 use Rattle.nc_region.specs.schedules.World.{World, first_world}
 use Rattle.nc_region.specs.schedules.Events.{Event, Looks, ThreadMay, after, world_after}
 use Rattle.nc_calls.specs.Weaving.{is_writers}
@@ -16,13 +17,16 @@ pub record Host : Type 0 where
   pub pending : List Event
 
 -- A step of a host with this number of seats. `Runs`: a thread does what it may. `Makes`: the first pending event happens.
--- `Calls`: while nothing is pending, the host makes a call that may change the region, after which events are pending.
--- `Asks`: another call, which leaves the region as it is.
+-- `Restarts`: while a deletion is under way, the host begins anew to make what was pending after its first call. `Calls`:
+-- while nothing is pending, the host makes a call that may change the region, after which events are pending. `Asks`: another
+-- call, which leaves the region as it is.
 pub data IsStep (seats : ℕ) (old new : Host) : Type 0 where
   Runs : (event : Event) → is_writers event ≡ false → ThreadMay old.world event
       → new ≡ record old { world = after old.world event } → IsStep seats old new
   Makes : (event : Event) → old.pending ≡ event ∷ new.pending
       → new ≡ record old { world = after old.world event; pending = new.pending } → IsStep seats old new
+  Restarts : (c : Chunk) → old.held.begun ≡ Some c → IsHeldCall seats (record old.held { begun = None }) old.held new.pending
+      → new ≡ record old { pending = new.pending } → IsStep seats old new
   Calls : old.pending ≡ [] → IsHeldCall seats old.held new.held new.pending → new.world ≡ old.world → IsStep seats old new
   Asks : new.held.region ≡ old.held.region → new.held.begun ≡ old.held.begun → new ≡ record old { held = new.held }
       → IsStep seats old new

@@ -1,20 +1,23 @@
 //! The law of runs.
 
-ghost use Rattle.std.specs.Prelude.{◌≡◌, ℕ, List, take};
+ghost use Rattle.std.specs.Prelude.{◌≡◌, ℕ, List, Some, take};
 ghost use Rattle.nc_vet.specs.Chunk.{MarkedChunk, IsValid};
 ghost use Rattle.nc_list.specs.declared.chunk.Chunk.{Chunk};
 ghost use Rattle.nc_handle.specs.declared.acts.act.NcAct.{NcAct};
 ghost use Rattle.nc_handle.specs.Held.{HeldState, IsLiveAt, HasBegun, HasLoaded};
 ghost use Rattle.nc_handle.specs.Runs.{AreCreationRuns, AreDeletionRuns};
 ghost use Rattle.nc_handle.specs.Pending.{IsHeldCall, events_pending};
-ghost use Rattle.nc_hosts.specs.Hosts.{Host, IsReached};
+ghost use Rattle.nc_hosts.specs.Hosts.{Host, IsStep, IsReached};
 
 /// A host that makes a call without a buffer, and asks for the acts as runs before it does anything else, reads there what is pending after
-/// that call. Calling it does nothing.
+/// that call. While a deletion is under way it reads there what it may make anew. Calling it does nothing.
 pub fn law_of_runs()
     ensures creation { (bundles seats : ℕ) (host : Host) (new : HeldState) (v : MarkedChunk) (c : Chunk) (lent now : List NcAct)
         (count : ℕ) → IsReached bundles seats host → IsValid v → HasLoaded v host.held new → IsLiveAt new.region.chunks v.base c
         → AreCreationRuns new c lent now count → IsHeldCall seats host.held new (events_pending v (take count now)) }
     ensures deletion { (seats : ℕ) (old new : HeldState) (base : ℕ) (v : MarkedChunk) (c : Chunk) (lent now : List NcAct) (count : ℕ)
         → HasBegun old new base c → AreDeletionRuns new c lent now count → IsHeldCall seats old new (events_pending v (take count now)) }
+    ensures again { (bundles seats : ℕ) (host : Host) (v : MarkedChunk) (c : Chunk) (lent now : List NcAct) (count : ℕ)
+        → IsReached bundles seats host → host.held.begun ≡ Some c → AreDeletionRuns host.held c lent now count
+        → IsStep seats host (record host { pending = events_pending v (take count now) }) }
 {}

@@ -1,4 +1,6 @@
+use Rattle.std.proofs.Common.{[]}
 use Rattle.nc_region.proofs.Offered.{safe_after}
+use Rattle.nc_calls.specs.Histories.{NoneYet}
 use Rattle.nc_calls.proofs.Keeping.{begins, keeper}
 use Rattle.nc_calls.proofs.Histories.{goes_on, created, deleted}
 use Rattle.nc_calls.proofs.Modified.{modified}
@@ -23,7 +25,7 @@ returns-clause-created c = λ limit seats before events old new v h region valid
 
 pub returns-clause-deleted : goal.returns-clause-deleted
 returns-clause-deleted c = λ limit seats before events old new base stamp h region is own threads.
-    (deleted limit seats before events old new base stamp h region is own threads).led
+    (deleted limit seats before events old new base stamp [] h region is NoneYet own threads).led
 
 pub returns-clause-reclaimed : goal.returns-clause-reclaimed
 returns-clause-reclaimed c = λ limit seats before events old new count h region is own threads found.

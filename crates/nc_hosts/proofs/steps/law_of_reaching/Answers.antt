@@ -1,4 +1,4 @@
-use Rattle.nc_hosts.proofs.Going.{makes_next, loads}
+use Rattle.nc_hosts.proofs.Going.{makes_next, loads, patches, begins, restarts, ends, fails, keeps}
 use Rattle.nc_hosts.proofs.steps.law_of_reaching.Goals as goal
 
 pub returns-clause-makes : goal.returns-clause-makes
@@ -6,3 +6,21 @@ returns-clause-makes c = makes_next
 
 pub returns-clause-loads : goal.returns-clause-loads
 returns-clause-loads c = loads
+
+pub returns-clause-patches : goal.returns-clause-patches
+returns-clause-patches c = patches
+
+pub returns-clause-begins : goal.returns-clause-begins
+returns-clause-begins c = begins
+
+pub returns-clause-restarts : goal.returns-clause-restarts
+returns-clause-restarts c = restarts
+
+pub returns-clause-ends : goal.returns-clause-ends
+returns-clause-ends c = ends
+
+pub returns-clause-fails : goal.returns-clause-fails
+returns-clause-fails c = fails
+
+pub returns-clause-keeps : goal.returns-clause-keeps
+returns-clause-keeps c = keeps

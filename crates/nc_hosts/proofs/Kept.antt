@@ -1,0 +1,89 @@
+-- The stores and settlings of a deletion leave the world's keeper as it is.
+use Rattle.std.proofs.Common.{◌≡◌, ℕ, ◌+◌, Bool, true, false, cond, List, [], ◌∷◌, ◌++◌, replicate, refl, ◌∙◌, sym, subst, append_assoc}
+use Rattle.std.specs.Prelude.{⊤, All}
+use Rattle.std.proofs.lemmas.List.Elements.{All-nil, All-cons, All-head, All-tail, All-append, All-weaker}
+use Rattle.nc_decode.specs.declared.instruction.Mark.{Mark}
+use Rattle.nc_region.specs.schedules.World.{World}
+use Rattle.nc_region.specs.schedules.Events.{Event, Steps, Enters, Exits, Takes, Sees, Stores, Leaves, Puts, Settles, Marks, Bumps, Retires, Frees}
+use Rattle.nc_region.specs.schedules.Events.{Looks, after, world_after}
+use Rattle.nc_region.specs.declared.acts.Act.TheVariants.{Put}
+use Rattle.nc_region.specs.Acts.{puts_where, is_marked_at, is_unmarked_at}
+use Rattle.nc_calls.specs.Calls.{Details, no_details, delete_events}
+use Rattle.nc_calls.proofs.Offered.{IsPart, OfMarked, OfOthers, is_part, events_of}
+use Rattle.nc_hosts.specs.Hosts.{IsNoLook}
+use Rattle.nc_hosts.proofs.Looked.{all_back}
+
+-- the event is a store or a settling
+abbrev pub IsStore : Event → Type 0
+IsStore (Puts at byte) = ⊤
+IsStore Settles = ⊤
+IsStore event = ⊥
+
+-- puts at chosen places
+puts_store : (d : Details) (chosen : ℕ → Bool) (at : ℕ) (bytes : List ℕ) → All IsStore (events_of d (puts_where chosen at bytes))
+puts_store d chosen at [] = All-nil IsStore
+puts_store d chosen at (byte ∷ rest) = go (chosen at) (puts_store d chosen (at + 1) rest)
+  where
+    go : (b : Bool) → All IsStore (events_of d (puts_where chosen (at + 1) rest))
+        → All IsStore (events_of d (cond b (Put at byte ∷ puts_where chosen (at + 1) rest) (puts_where chosen (at + 1) rest)))
+    go true all = All-cons IsStore (Puts at byte) (events_of d (puts_where chosen (at + 1) rest)) tt all
+    go false all = all
+
+-- the first events of a deletion
+part_stores : (marks : List Mark) (base len : ℕ) (part : List Event) → IsPart marks base len part → All IsStore part
+part_stores marks base len part (OfMarked n le is) =
+    subst (All IsStore) (sym is) (puts_store (record no_details { base = base; len = len }) (is_marked_at marks) base (replicate n 244))
+part_stores marks base len part (OfOthers n le is) =
+    let d : Details = record { marks = []; base = base; len = len; seats = 0; spans = [] } in
+    let others : List Event = events_of (record no_details { base = base; len = len })
+    (puts_where (is_unmarked_at marks) base (replicate n 244)) in
+    subst (All IsStore) (sym is)
+    (All-append IsStore (events_of (record no_details { base = base; len = len }) (puts_where (is_marked_at marks) base (replicate len 244)))
+    (Settles ∷ others) (puts_store d (is_marked_at marks) base (replicate len 244))
+    (All-cons IsStore Settles others tt (puts_store d (is_unmarked_at marks) base (replicate n 244))))
+
+-- those that are left of them
+pub rest_stores : (marks : List Mark) (base len : ℕ) (first rest : List Event)
+    → first ++ (rest ++ Retires base len ∷ []) ≡ delete_events marks base len → All IsStore rest
+rest_stores marks base len first rest is =
+    all_back IsStore first rest
+    (part_stores marks base len (first ++ rest)
+    (is_part marks base len (first ++ rest) [] (append_assoc first rest (Retires base len ∷ []) ∙ is)))
+
+-- no keeper's event
+pub stores_keep : (w : World) (events : List Event) → All IsStore events → (world_after w events).keeper ≡ w.keeper
+stores_keep w [] all = refl
+stores_keep w (Puts at byte ∷ events) all = stores_keep (after w (Puts at byte)) events (All-tail IsStore (Puts at byte) events all)
+stores_keep w (Settles ∷ events) all = stores_keep (after w Settles) events (All-tail IsStore Settles events all)
+stores_keep w (Steps k next ∷ events) all = absurd (All-head IsStore (Steps k next) events all)
+stores_keep w (Enters k at ∷ events) all = absurd (All-head IsStore (Enters k at) events all)
+stores_keep w (Exits k ∷ events) all = absurd (All-head IsStore (Exits k) events all)
+stores_keep w (Takes k ∷ events) all = absurd (All-head IsStore (Takes k) events all)
+stores_keep w (Sees k ∷ events) all = absurd (All-head IsStore (Sees k) events all)
+stores_keep w (Stores k ∷ events) all = absurd (All-head IsStore (Stores k) events all)
+stores_keep w (Leaves k ∷ events) all = absurd (All-head IsStore (Leaves k) events all)
+stores_keep w (Marks at marks ∷ events) all = absurd (All-head IsStore (Marks at marks) events all)
+stores_keep w (Bumps ∷ events) all = absurd (All-head IsStore Bumps events all)
+stores_keep w (Retires base len ∷ events) all = absurd (All-head IsStore (Retires base len) events all)
+stores_keep w (Frees span ∷ events) all = absurd (All-head IsStore (Frees span) events all)
+stores_keep w (Looks k ∷ events) all = absurd (All-head IsStore (Looks k) events all)
+
+-- they are no looks
+pub stores_look_not : (events : List Event) → All IsStore events → All IsNoLook events
+stores_look_not events all = All-weaker IsStore IsNoLook no_look events all
+  where
+    no_look : (event : Event) → IsStore event → IsNoLook event
+    no_look (Puts at byte) is = tt
+    no_look Settles is = tt
+    no_look (Steps k next) is = tt
+    no_look (Enters k at) is = tt
+    no_look (Exits k) is = tt
+    no_look (Takes k) is = tt
+    no_look (Sees k) is = tt
+    no_look (Stores k) is = tt
+    no_look (Leaves k) is = tt
+    no_look (Marks at marks) is = tt
+    no_look Bumps is = tt
+    no_look (Retires base len) is = tt
+    no_look (Frees span) is = tt
+    no_look (Looks k) is = absurd is
