@@ -293,7 +293,7 @@ NcVerdict nc_host_marks(uint32_t base, uint32_t limit, const uint8_t *code, size
  *   Refusals    "A refusal changes nothing" means that the region, the seats, the handles and the buffer are as before, except that after
  *               a creation refused for lack of memory the region may have allocated memory for the text of its span.
  *   Acts        Each change writes the acts by which it changes the region's text, including the settlings. The host must make them, in
- *               this order, after the call and before the next change. Then its memory has the region's bytes (for a deletion, once
+ *               this order, after the call and before the next one that could change the region. Then its memory has the region's bytes (for a deletion, once
  *               nc_region_end_delete has been called). If a buffer is shorter than the most that a change of this length may write, the
  *               fault is NC_NO_ROOM, even if fewer acts are due, and `count` is that length. But with a length of 0 the change is made,
  *               `count` is 0, and its acts aren't told, so that the host's memory no longer has the region's bytes. That is for a host
@@ -377,9 +377,10 @@ NcChange nc_region_load(NcRegion *region, NcVetted *vetted, NcAct *acts, size_t 
 NcChange nc_region_patch(NcRegion *region, uint32_t at, const uint8_t *bytes, size_t len, NcAct *acts, size_t acts_len);
 
 /*
- * The first step of a deletion. Its acts are stops at the chunk's marked addresses, NC_SETTLE, stops at its other addresses, and NC_BUMP.
- * A buffer for two acts more than the chunk has bytes is enough. Until the last step, which can't be left out, nc_region_place and
- * nc_region_walk show the chunk's bytes, and calls that change the region, except nc_region_seat, are refused with NC_UNDER_WAY.
+ * The first call of a deletion. Its acts are stops at the chunk's marked addresses, NC_SETTLE, stops at its other addresses, and NC_BUMP.
+ * A buffer for two acts more than the chunk has bytes is enough. Until the last call, which can't be left out, nc_region_place and
+ * nc_region_walk show the chunk's bytes, and creations, patches, deletions and reclaims are refused, with NC_UNDER_WAY unless vetting
+ * finds a fault first.
  * Promised: for NC_OK the deletion of the live chunk at `base` is under way (HasBegun), and the acts are those of the deletion
  * (log_of_delete) [begun]. For NC_OK, in a buffer that was lent, they are, up to NC_BUMP, what is pending next in the host's memory
  * (TellsPending) [pending]. A refusal is NC_NO_HANDLE; else the first of NC_UNDER_WAY, NC_NO_CHUNK, NC_FULL and NC_NO_ROOM that holds
@@ -389,7 +390,7 @@ NcChange nc_region_patch(NcRegion *region, uint32_t at, const uint8_t *bytes, si
 NcChange nc_region_begin_delete(NcRegion *region, uint32_t base, NcAct *acts, size_t acts_len);
 
 /*
- * The last step of a deletion.
+ * The last call of a deletion.
  * Promised: for NC_OK the chunk's bytes are stops, the chunk is retired, its stamp, the next one, is drawn, and the whole deletion is one
  * call of a history (HasEnded) [ended]. For NC_OK the stamp is pending, and the library has drawn it (DoesItself) [pending]. A refusal is
  * NC_NO_HANDLE, or NC_NOT_BEGUN exactly where no deletion is under way [refused]. A refusal changes nothing [unchanged].

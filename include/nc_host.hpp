@@ -292,7 +292,7 @@ class Deletion {
     Deletion(const Deletion &) = delete;
     Deletion &operator=(const Deletion &) = delete;
 
-    /* The acts that the first step wrote; none where its buffer was empty. */
+    /* The acts that the first call wrote; none where its buffer was empty. */
     Acts acts() const noexcept { return acts_; }
 
     /* nc_region_deletion_runs. Under the lock. */
@@ -342,7 +342,7 @@ class Region {
     }
 
     /* A deletion: nc_region_begin_delete; then `make(deletion)`, which makes its acts in the host's memory; then nc_region_end_delete, whose
-       stamp is returned. Under the lock, all of it. If the first step is refused, `make` isn't called. So the last step is made once, and
+       stamp is returned. Under the lock, all of it. If the first call is refused, `make` isn't called. So the last call is made once, and
        after the acts. Only an exception from `make` leaves it out: the region then refuses changes until resume_delete, since a stamp that
        was drawn before the stops are in place would free the span too early. */
     template <class Make>

@@ -18,7 +18,7 @@ use Rattle.nc_list.specs.declared.chunk.Chunk.{Chunk}
 use Rattle.nc_list.specs.declared.chunk.ChunkState.TheVariants.{Retired}
 use Rattle.nc_region.specs.schedules.Spans.{IsQuiet, IsShut}
 use Rattle.nc_region.specs.schedules.World.{World, AreApart}
-use Rattle.nc_region.specs.schedules.Events.{Event, Settles, Retires, IsAllowed, after, new_span}
+use Rattle.nc_region.specs.schedules.Events.{Settles, Retires, IsAllowed, after, new_span}
 use Rattle.nc_region.proofs.Offered.{Keeps, admits_is_mark, shut_if_quiet, as_it_stands}
 use Rattle.nc_region.specs.Acts.{is_mark, is_marked_at, is_unmarked_at, puts_where}
 use Rattle.nc_region.specs.Chunks.{HasGoodSpan}

@@ -24,10 +24,10 @@ use Rattle.nc_region.specs.Deletion.{IsDeleted}
 use Rattle.nc_region.proofs.Offered.{same_code, listed_there}
 use Rattle.nc_calls.specs.Weaving.{writers, ThreadsMay}
 use Rattle.nc_calls.specs.Calls.{KnowsNoMore, StandsFor, HasLedTo, Details, no_details, create_events, delete_events}
-use Rattle.nc_calls.specs.Histories.{AreBeginnings, NoneYet, OneMore}
+use Rattle.nc_calls.specs.Histories.{AreAttempts, NoneYet, OneMore}
 use Rattle.nc_calls.specs.Views.{ViewsKeep}
 use Rattle.nc_calls.proofs.Creation.{create_leads}
-use Rattle.nc_calls.proofs.Beginnings.{IsPart, OfMarked, OfOthers, is_part, delete_leads}
+use Rattle.nc_calls.proofs.Attempts.{IsPart, OfMarked, OfOthers, is_part, delete_leads}
 use Rattle.nc_calls.proofs.Deletion.{stopped}
 use Rattle.nc_calls.proofs.Entries.{events_of, create_is, delete_is}
 use Rattle.nc_calls.proofs.Knowing.{knows_raised}
@@ -71,7 +71,7 @@ delete_plain marks base len =
     (puts_where (is_unmarked_at marks) base (replicate len 244)) ++ Retires base len ∷ []))
     (plain_puts d (is_unmarked_at marks) base (replicate len 244) (Retires base len ∷ []) tt))
 
--- a beginning of a deletion before plain events
+-- an attempt at a deletion before plain events
 part_plain : (marks : List Mark) (base len : ℕ) (part more : List Event) → IsPart marks base len part → ArePlain more → ArePlain (part ++ more)
 part_plain marks base len part more (OfMarked n le is) plain =
     subst (λ (z : List Event). ArePlain (z ++ more)) (sym is)
@@ -87,7 +87,7 @@ part_plain marks base len part more (OfOthers n le is) plain =
     (plain_puts d (is_unmarked_at marks) base (replicate n 244) more plain)))
 
 -- any number of them
-begun_plain : (marks : List Mark) (base len : ℕ) (made more : List Event) → AreBeginnings marks base len made → ArePlain more
+begun_plain : (marks : List Mark) (base len : ℕ) (made more : List Event) → AreAttempts marks base len made → ArePlain more
     → ArePlain (made ++ more)
 begun_plain marks base len [] more NoneYet plain = plain
 begun_plain marks base len _ more (OneMore {earlier} first part rest own) plain =
@@ -217,21 +217,21 @@ created limit seats before events old new v h region valid lim is own threads =
     })
     (subst (λ (x : KeeperState). x.numbers.generation ≤ last_generation) (sym keeper) h.in_range)
 
--- a deletion, after beginnings of it
+-- a deletion, after unfinished attempts at it
 pub deleted : (limit seats : ℕ) (before events : List Event) (old new : Region) (base stamp : ℕ) (made : List Event)
     → HasLedTo limit seats before old → IsRegion old.marked old.chunks → (is : IsDeleted old new base stamp)
-    → AreBeginnings old.marked.marks base is.chunk.length made
+    → AreAttempts old.marked.marks base is.chunk.length made
     → writers events ≡ made ++ delete_events old.marked.marks base is.chunk.length
     → ThreadsMay (world_after (first_world limit seats) before) events → Grows limit seats before events new
-deleted limit seats before events old new base stamp made h region is beginnings own threads =
+deleted limit seats before events old new base stamp made h region is attempts own threads =
     let w = world_after (first_world limit seats) before in
     let c = is.chunk in
     let here = h.stands.marked in
     let there = listed_there old.chunks is.index is.chunk is.listed in
     let live : IsLive is.chunk.state = subst IsLive (sym is.live) tt in
-    let begun : AreBeginnings w.marked.marks is.chunk.base is.chunk.length made =
-    subst (λ (m : MarkedText). AreBeginnings m.marks is.chunk.base is.chunk.length made) (sym here)
-    (subst (λ (b : ℕ). AreBeginnings old.marked.marks b is.chunk.length made) (sym is.base_is) beginnings) in
+    let begun : AreAttempts w.marked.marks is.chunk.base is.chunk.length made =
+    subst (λ (m : MarkedText). AreAttempts m.marks is.chunk.base is.chunk.length made) (sym here)
+    (subst (λ (b : ℕ). AreAttempts old.marked.marks b is.chunk.length made) (sym is.base_is) attempts) in
     let l = delete_leads w old.chunks is.index is.chunk made (kept_there limit seats before old h) h.views
     (subst (λ (m : MarkedText). IsRegion m old.chunks) (sym here) region)
     (λ span has. (h.stands.spans span).0 has) there.0 there.1 live begun in

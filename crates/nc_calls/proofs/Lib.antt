@@ -9,7 +9,7 @@ pub mod Entries
 pub mod Putting
 pub mod Creation
 pub mod Deletion
-pub mod Beginnings
+pub mod Attempts
 pub mod Patching
 pub mod Knowing
 pub mod Histories

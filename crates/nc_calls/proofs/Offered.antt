@@ -1,6 +1,6 @@
 -- What proofs of the crates above may use of this crate: what a history keeps from one call to the next, and what each call leads
 -- to. The other files are private.
-pub use Rattle.nc_calls.proofs.Beginnings.{IsPart, OfMarked, OfOthers, is_part}
+pub use Rattle.nc_calls.proofs.Attempts.{IsPart, OfMarked, OfOthers, is_part}
 pub use Rattle.nc_calls.proofs.Entries.{events_of}
 pub use Rattle.nc_calls.proofs.Histories.{Grows, goes_on, created, deleted}
 pub use Rattle.nc_calls.proofs.Modified.{modified}

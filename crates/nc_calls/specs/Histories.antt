@@ -30,26 +30,25 @@ pub data IsRefusal (old new : Region) (own : List Event) : Type 0 where
       → IsRefusal old new own
   OfDeletion : (base : ℕ) (fault : DeleteFault) → MayRefuseDelete old base fault → new ≡ old → own ≡ [] → IsRefusal old new own
 
--- Beginnings of a deletion with these marks, one after the other. Each consists of the deletion's first events, any number of
--- them, but never of the stamp.
-pub data AreBeginnings (marks : List Mark) (base len : ℕ) : List Event → Type 0 where
-  NoneYet : AreBeginnings marks base len []
-  OneMore : {earlier : List Event} → AreBeginnings marks base len earlier → (part rest : List Event)
-      → part ++ (rest ++ Retires base len ∷ []) ≡ delete_events marks base len → AreBeginnings marks base len (earlier ++ part)
+-- Unfinished attempts at a deletion with these marks, one after the other. Each is a prefix, possibly empty, of the
+-- deletion's events, and ends before the stamp.
+pub data AreAttempts (marks : List Mark) (base len : ℕ) : List Event → Type 0 where
+  NoneYet : AreAttempts marks base len []
+  OneMore : {earlier : List Event} → AreAttempts marks base len earlier → (part rest : List Event)
+      → part ++ (rest ++ Retires base len ∷ []) ≡ delete_events marks base len → AreAttempts marks base len (earlier ++ part)
 
 -- A call of a region, as its contract describes it: the region that it leaves, and its own events. `Creates`, `Patches`,
--- `Deletes` and `Reclaims` are the accepted calls, with the events of their logs; the deletion's may have been begun before
--- and left unfinished, any number of times. `UsesKeeper` uses the keeper by itself. `Refuses` is a refused call. `Keeps` is
--- any other call without an event that leaves the region as it was, except that pages may have been made. A call that only
--- reads is one.
+-- `Deletes` and `Reclaims` are the accepted calls, with the events of their logs, a deletion's after any unfinished attempts.
+-- `UsesKeeper` uses the keeper by itself. `Refuses` is a refused call. `Keeps` is any other call without an event that
+-- leaves the region as it was, except that pages may have been made. A call that only reads is one.
 pub data IsCall (seats : ℕ) (old new : Region) (own : List Event) : Type 0 where
   Creates : (v : MarkedChunk) → IsValid v → v.limit ≡ limit_of old.marked.bytes → IsCreated old new v → own ≡ create_events v
       → IsCall seats old new own
   Patches : (at : ℕ) (bytes : List ℕ) (news : List Piece) → IsPatch old at bytes → AreBytesOf bytes news → IsModified old new at bytes
       → own ≡ modify_events old.marked.bytes at news → IsCall seats old new own
-  Deletes : (base stamp : ℕ) (is : IsDeleted old new base stamp) (made : List Event)
-      → AreBeginnings old.marked.marks base is.chunk.length made
-      → own ≡ made ++ delete_events old.marked.marks base is.chunk.length → IsCall seats old new own
+  Deletes : (base stamp : ℕ) (is : IsDeleted old new base stamp) (attempts : List Event)
+      → AreAttempts old.marked.marks base is.chunk.length attempts
+      → own ≡ attempts ++ delete_events old.marked.marks base is.chunk.length → IsCall seats old new own
   Reclaims : (count : ℕ) → IsReclaimed old new count
       → own ≡ reclaim_events seats (least_number new.keeper.numbers) old.chunks → IsCall seats old new own
   UsesKeeper : new.marked ≡ old.marked → new.chunks ≡ old.chunks → All IsKeepers own → new.keeper.numbers.generation ≤ last_generation

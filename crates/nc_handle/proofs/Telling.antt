@@ -185,7 +185,7 @@ patches old new at bytes lent now count v lawful is none others told =
     (due_log v no_details (log_of_modify old.region.marked.bytes at run.news)
     (patch_all v no_details old.region.marked.bytes at run.news))))
 
--- the first step of a deletion
+-- the first call of a deletion
 pub begins : (old new : HeldState) (base : ℕ) (c : Chunk) (lent now : List NcAct) (count : ℕ) (v : MarkedChunk) → HasBegun old new base c
     → IsTold lent now count (log_of_delete old.region.marked.marks base c.length) → TellsPending old new v lent now count
 begins old new base c lent now count v begun told =

@@ -36,10 +36,10 @@ events_pending v acts = flat_map (events_pending_by v) acts
 abbrev pub ChangesPages : HeldState → HeldState → Type 0
 ChangesPages old new = new ≡ record old { region = record old.region { made = new.region.made } }
 
--- A call by a handle that may change the region: what the library keeps before and after it, and the events that are pending
--- then, which have to happen before the next such call. `Changes` is a call of a history (`IsCall` of nc_calls), with its own
--- events. `Begins` is the first step of a deletion, with its events up to the stamp; `Ends` is the last step, with the stamp.
--- `Fails` is a refused call, which changes nothing but pages.
+-- An accepted call by a handle that changes the region: what the library keeps before and after it, and the events that are
+-- pending then, which have to happen before the next such call. `Changes` is a call of a history (`IsCall` of nc_calls),
+-- with its own events. `Begins` is the first call of a deletion, with its events up to the stamp; `Ends` is its last call,
+-- with the stamp.
 pub data IsHeldCall (seats : ℕ) (old new : HeldState) (pending : List Event) : Type 0 where
   Changes : old.begun ≡ None → new.begun ≡ None → IsCall seats old.region new.region pending → IsHeldCall seats old new pending
   Begins : (c : Chunk) → HasBegun old new c.base c
@@ -47,7 +47,6 @@ pub data IsHeldCall (seats : ℕ) (old new : HeldState) (pending : List Event) :
       → IsHeldCall seats old new pending
   Ends : (stamp : ℕ) (is : HasEnded old new stamp) → pending ≡ Retires is.chunk.base is.chunk.length ∷ []
       → IsHeldCall seats old new pending
-  Fails : ChangesPages old new → pending ≡ [] → IsHeldCall seats old new pending
 
 -- If a buffer was lent, its first `count` elements now are what is pending after the call, for a host that knows this chunk.
 pub record TellsPending (old new : HeldState) (v : MarkedChunk) (lent now : List NcAct) (count : ℕ) : Type 0 where

@@ -232,7 +232,7 @@ impl Held {
         }
     }
 
-    /// The last step of a deletion: the chunk is deleted, as by `RegionOf::delete`, and its stamp drawn. It takes no memory.
+    /// The last call of a deletion: the chunk is deleted, as by `RegionOf::delete`, and its stamp drawn. It takes no memory.
     pub fn end_delete(&mut self) -> Option<u64>
         // While a deletion is under way, it is never refused. The acts of the deletion are logged now, the stamp last.
         ensures ended { IfSome result (HasEnded self.old self.new) }
@@ -255,7 +255,7 @@ impl Held {
         }
     }
 
-    /// The first step of a deletion: writes its acts, which are the stops, the settling among them and the stamp, two more
+    /// The first call of a deletion: writes its acts, which are the stops, the settling among them and the stamp, two more
     /// than the chunk has bytes. Nothing else changes. The host makes them, and then `end_delete` draws the stamp; until then
     /// every call that changes the region is refused. An empty buffer counts as none. Returns the chunk and the number of acts
     /// written. It takes no memory.

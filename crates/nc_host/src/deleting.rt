@@ -15,7 +15,7 @@ use crate::region_answers::{NcChange, NcCount, NcStamp, no_change};
 use nc_handle::{Held, NcAct, NcRegion};
 use std::alloc::Global;
 
-/// The first step of a deletion, with its result as numbers.
+/// The first call of a deletion, with its result as numbers.
 fn begin(held: &mut Held, base: u32, acts: &mut [NcAct]) -> NcChange
     ensures begun { result.fault ≡ 0 → (c : Chunk) × HasBegun held.old held.new base c
         × IsTold acts.old acts.new result.count (log_of_delete held.old.region.marked.marks base c.length) }
@@ -35,7 +35,7 @@ fn begin(held: &mut Held, base: u32, acts: &mut [NcAct]) -> NcChange
     }
 }
 
-/// The first step of a deletion: its acts are written, and the region still has the chunk. It takes no memory.
+/// The first call of a deletion: its acts are written, and the region still has the chunk. It takes no memory.
 ///
 /// The acts are written into the buffer, with the settling among them and the stamp at the end: two more than the chunk has
 /// bytes. An empty buffer counts as none, and then the count is 0. Until `nc_region_end_delete` every call that changes the
@@ -68,7 +68,7 @@ pub extern "C" fn nc_region_begin_delete(
     change
 }
 
-/// The last step of a deletion: the chunk is deleted, and its stamp drawn. It takes no memory, and while a deletion is under
+/// The last call of a deletion: the chunk is deleted, and its stamp drawn. It takes no memory, and while a deletion is under
 /// way it is never refused.
 #[unsafe(no_mangle)]
 pub extern "C" fn nc_region_end_delete(alloc: Global, region: &mut NcRegion) -> NcStamp

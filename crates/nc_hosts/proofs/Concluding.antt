@@ -8,7 +8,7 @@ use Rattle.nc_decode.specs.Bundles.{IsLawfulLimit}
 use Rattle.nc_text.specs.Machine.{IsConfined}
 use Rattle.nc_text.specs.MarkedText.{MarkedText, with_span}
 use Rattle.nc_text.proofs.Offered.{confined_if_closed}
-use Rattle.nc_gens.specs.Seen.{least_number}
+use Rattle.nc_gens.specs.Seen.{KeeperState, least_number}
 use Rattle.nc_list.specs.declared.chunk.Chunk.{Chunk}
 use Rattle.nc_region.specs.schedules.Spans.{RetiredSpan}
 use Rattle.nc_region.specs.schedules.World.{World, first_world, NoneIsWithin}
@@ -21,7 +21,7 @@ use Rattle.nc_region.specs.Quiet.{retired_spans}
 use Rattle.nc_region.specs.Region.{Region, IsRegion}
 use Rattle.nc_calls.specs.Weaving.{writers, IsKeepers, ThreadsMay}
 use Rattle.nc_calls.specs.Calls.{KnowsNoMore, StandsFor, HasLedTo, no_details, events_of_log, delete_events, reclaim_events}
-use Rattle.nc_calls.specs.Histories.{AreBeginnings, IsRefusal, IsCall, Creates, Patches, Deletes, Reclaims, UsesKeeper, Refuses, Keeps, AllStand}
+use Rattle.nc_calls.specs.Histories.{AreAttempts, IsRefusal, IsCall, Creates, Patches, Deletes, Reclaims, UsesKeeper, Refuses, Keeps, AllStand}
 use Rattle.nc_calls.proofs.Offered.{goes_on, created, deleted}
 use Rattle.nc_calls.proofs.Offered.{refused}
 use Rattle.nc_calls.proofs.Offered.{keeper_woven}
@@ -139,7 +139,7 @@ call_goes limit seats before since pending from region stays some threads own fo
 deletion_led : (limit seats : ℕ) (before since pending made last : List Event) (from : Region) (c : Chunk)
     (live : IsLiveAt from.chunks c.base c) → Stays limit seats before from → ThreadsMay (world_after (first_world limit seats) before) since
     → All IsWriters pending → from.keeper.numbers.generation < 4611686018427387904
-    → AreBeginnings from.marked.marks c.base c.length made → writers since ≡ made ++ last
+    → AreAttempts from.marked.marks c.base c.length made → writers since ≡ made ++ last
     → last ++ (pending ++ Retires c.base c.length ∷ []) ≡ delete_events from.marked.marks c.base c.length
     → Grows limit seats before (since ++ (pending ++ Retires c.base c.length ∷ [])) (deleted_region from live.0.0 c)
 deletion_led limit seats before since pending made last from c live stays threads plain room first own_is last_is =
@@ -159,15 +159,17 @@ goes limit seats host l = go l.phase
   where
     go : Phase seats l.from (writers l.since) host.held.begun host.held.region host.pending
         → Goes (first_world limit seats) (l.before ++ l.since) host.pending
-    go (Calling idle call) =
-        call_goes limit seats l.before l.since host.pending l.from host.held.region l.stays l.threads
+    go (Calling called idle pages call) =
+        call_goes limit seats l.before l.since host.pending l.from called l.stays l.threads
         (threads_append (world_after (first_world limit seats) l.before) l.since host.pending l.threads
         (threads_none (world_after (world_after (first_world limit seats) l.before) l.since) host.pending l.plain))
         (writers_own l.since host.pending l.plain)
-        (λ none. subst (λ (w : World). KnowsNoMore host.held.region.keeper.numbers w.keeper)
+        (λ none. subst (λ (k : KeeperState). KnowsNoMore k.numbers
+        (world_after (first_world limit seats) (l.before ++ (l.since ++ host.pending))).keeper) (ap (λ (r : Region). r.keeper) pages)
+        (subst (λ (w : World). KnowsNoMore host.held.region.keeper.numbers w.keeper)
         (ap (λ (w : World). world_after w host.pending) l.world
         ∙ (sym (after_append (first_world limit seats) (l.before ++ l.since) host.pending)
-        ∙ ap (world_after (first_world limit seats)) (append_assoc l.before l.since host.pending))) (l.found none))
+        ∙ ap (world_after (first_world limit seats)) (append_assoc l.before l.since host.pending))) (l.found none)))
         call
     go (Deleting c is at live room made last first own_is last_is) =
         let g = deletion_led limit seats l.before l.since host.pending made last l.from c live l.stays l.threads l.plain room first own_is
@@ -258,7 +260,7 @@ stopped_there limit seats host c l none begun = go l.phase
   where
     go : Phase seats l.from (writers l.since) host.held.begun host.held.region host.pending
         → host.world.marked ≡ stops_in host.held.region.marked c
-    go (Calling idle call) = absurd (let bad : None ≡ Some c = sym idle ∙ begun in cc)
+    go (Calling called idle pages call) = absurd (let bad : None ≡ Some c = sym idle ∙ begun in cc)
     go (Deleting d is at live room made last first own_is last_is) =
         let here : Some d ≡ Some c = sym is ∙ begun in
         let same : d ≡ c = cc in
@@ -299,7 +301,9 @@ region_there limit seats host l = go l.phase
   where
     go : Phase seats l.from (writers l.since) host.held.begun host.held.region host.pending
         → IsRegion host.held.region.marked host.held.region.chunks
-    go (Calling idle call) = call_region seats l.from host.held.region (writers l.since ++ host.pending) l.stays.region call
+    go (Calling called idle pages call) =
+        same_region called host.held.region (ap (λ (r : Region). r.marked) pages) (ap (λ (r : Region). r.chunks) pages)
+        (call_region seats l.from called (writers l.since ++ host.pending) l.stays.region call)
     go (Deleting c is at live room made last first own_is last_is) =
         same_region l.from host.held.region (ap (λ (r : Region). r.marked) at) (ap (λ (r : Region). r.chunks) at) l.stays.region
 

@@ -1,5 +1,5 @@
 -- From each state that a host can reach, its pending events can be made, and each call leads on.
-use Rattle.std.proofs.Common.{◌≡◌, ℕ, ◌+◌, ◌*◌, Some, List, [], ◌∷◌, ◌++◌, refl, ◌∙◌, sym, ap, subst}
+use Rattle.std.proofs.Common.{◌≡◌, ℕ, ◌+◌, ◌*◌, false, Some, List, [], ◌∷◌, ◌++◌, refl, ◌∙◌, sym, ap, subst}
 use Rattle.std.specs.Prelude.{All}
 use Rattle.std.proofs.lemmas.List.Elements.{All-nil, All-cons}
 use Rattle.nc_vet.specs.Chunk.{MarkedChunk, Piece, IsValid}
@@ -8,18 +8,19 @@ use Rattle.nc_gens.specs.Rule.{generation_raised}
 use Rattle.nc_gens.specs.Seen.{KeeperState}
 use Rattle.nc_list.specs.declared.chunk.Chunk.{Chunk}
 use Rattle.nc_region.specs.schedules.World.{World, first_world}
-use Rattle.nc_region.specs.schedules.Events.{Event, Retires, after, world_after}
+use Rattle.nc_region.specs.schedules.Events.{Event, Retires, ThreadMay, after, world_after}
 use Rattle.nc_region.specs.Log.{log_of_create}
 use Rattle.nc_region.specs.Patch.{AreBytesOf, log_of_modify}
 use Rattle.nc_region.specs.Region.{Region}
 use Rattle.nc_region.proofs.Offered.{after_append}
+use Rattle.nc_calls.specs.Weaving.{is_writers}
 use Rattle.nc_calls.specs.Calls.{KnowsNoMore, no_details, create_events, modify_events, delete_events}
-use Rattle.nc_calls.specs.Histories.{IsCall, Creates, Patches, Keeps}
+use Rattle.nc_calls.specs.Histories.{Creates, Patches}
 use Rattle.nc_calls.proofs.Offered.{created, modified, knows_raised}
 use Rattle.nc_handle.specs.Held.{HeldState, HasLoaded, HasPatched, HasBegun, HasEnded}
-use Rattle.nc_handle.specs.Pending.{ChangesPages, Changes, Begins, Ends, Fails}
-use Rattle.nc_hosts.specs.Hosts.{Host, Makes, Restarts, Calls, IsNoLook, IsReached, Then}
-use Rattle.nc_hosts.proofs.Kept.{IsStore, rest_stores, stores_keep, stores_look_not}
+use Rattle.nc_handle.specs.Pending.{IsHeldCall, ChangesPages, Changes, Begins, Ends}
+use Rattle.nc_hosts.specs.Hosts.{Host, Runs, Makes, Restarts, Calls, Asks, IsNoLook, IsReached, Then}
+use Rattle.nc_hosts.proofs.Kept.{IsStore, rest_stores, stores_keep, stores_look_not, thread_keeps_keeper, same_keeper}
 use Rattle.nc_hosts.proofs.Weaving.{IsWriters, log_writers, writers_own, threads_none}
 use Rattle.nc_hosts.proofs.Reaching.{finished, could_begin, deletion_stores, led}
 
@@ -85,7 +86,7 @@ knows_before bundles seats host events reached stores all =
 none_stores : (pending : List Event) → pending ≡ [] → All IsStore pending
 none_stores pending none = subst (All IsStore) (sym none) (All-nil IsStore)
 
--- the first step of a deletion
+-- the first call of a deletion
 pub begins : (bundles seats : ℕ) (host : Host) (new : HeldState) (c : Chunk) (stops : List Event) → IsReached bundles seats host
     → host.pending ≡ [] → HasBegun host.held new c.base c
     → stops ++ Retires c.base c.length ∷ [] ≡ delete_events host.held.region.marked.marks c.base c.length
@@ -120,15 +121,31 @@ ends bundles seats host new stamp is reached none =
     (knows_raised host.held.region.keeper.numbers host.world.keeper
     (knows_then bundles seats host reached (none_stores host.pending none))))
 
--- a refused call
-pub fails : (bundles seats : ℕ) (host : Host) (new : HeldState) → IsReached bundles seats host → host.pending ≡ []
-    → ChangesPages host.held new → IsReached bundles seats (record host { held = new })
-fails bundles seats host new reached none pages =
-    let keeper : new.region.keeper ≡ host.held.region.keeper = ap (λ (h : HeldState). h.region.keeper) pages in
-    Then reached (Calls none (Fails pages none) refl) (λ looks.
-    subst (λ (k : KeeperState). KnowsNoMore k.numbers (world_after host.world host.pending).keeper) (sym keeper)
-    ((led bundles seats host reached).found looks))
+-- any other call, refused or not
+pub asks : (bundles seats : ℕ) (host : Host) (new : HeldState) → IsReached bundles seats host → new.begun ≡ host.held.begun
+    → new.region ≡ record host.held.region { made = new.region.made } → IsReached bundles seats (record host { held = new })
+asks bundles seats host new reached begun region =
+    Then reached (Asks begun region refl) (λ looks.
+    subst (λ (k : KeeperState). KnowsNoMore k.numbers (world_after host.world host.pending).keeper)
+    (sym (ap (λ (r : Region). r.keeper) region)) ((led bundles seats host reached).found looks))
 
--- which is a call of a history
-pub keeps : (seats : ℕ) (old new : HeldState) → ChangesPages old new → IsCall seats old.region new.region []
-keeps seats old new pages = Keeps (ap (λ (h : HeldState). h.region) pages) refl
+-- a refused call
+pub fails : (bundles seats : ℕ) (host : Host) (new : HeldState) → IsReached bundles seats host → ChangesPages host.held new
+    → IsReached bundles seats (record host { held = new })
+fails bundles seats host new reached pages =
+    asks bundles seats host new reached (ap (λ (h : HeldState). h.begun) pages) (ap (λ (h : HeldState). h.region) pages)
+
+-- a call after which a look is pending
+pub looks : (bundles seats : ℕ) (host : Host) (new : HeldState) (own : List Event) → IsReached bundles seats host → host.pending ≡ []
+    → IsHeldCall seats host.held new own → ¬ All IsNoLook own
+    → IsReached bundles seats (record { held = new; world = host.world; pending = own })
+looks bundles seats host new own reached none call some = Then reached (Calls none call refl) (λ no_look. absurd (some no_look))
+
+-- an event of a thread
+pub runs : (bundles seats : ℕ) (host : Host) (event : Event) → IsReached bundles seats host → is_writers event ≡ false
+    → ThreadMay host.world event → IsReached bundles seats (record host { world = after host.world event })
+runs bundles seats host event reached thread may =
+    Then reached (Runs event thread may refl) (λ none.
+    subst (KnowsNoMore host.held.region.keeper.numbers)
+    (sym (same_keeper host.pending (after host.world event) host.world none (thread_keeps_keeper host.world event thread)))
+    ((led bundles seats host reached).found none))

@@ -1,5 +1,5 @@
--- The stores and settlings of a deletion leave the world's keeper as it is.
-use Rattle.std.proofs.Common.{◌≡◌, ℕ, ◌+◌, Bool, true, false, cond, List, [], ◌∷◌, ◌++◌, replicate, refl, ◌∙◌, sym, subst, append_assoc}
+-- What leaves the numbers of the world's keeper as they are: events of threads, and the stores and settlings of a deletion.
+use Rattle.std.proofs.Common.{◌≡◌, ℕ, ◌+◌, Bool, true, false, cond, List, [], ◌∷◌, ◌++◌, replicate, refl, ◌∙◌, sym, ap, subst, append_assoc}
 use Rattle.std.specs.Prelude.{⊤, All}
 use Rattle.std.proofs.lemmas.List.Elements.{All-nil, All-cons, All-head, All-tail, All-append, All-weaker}
 use Rattle.nc_decode.specs.declared.instruction.Mark.{Mark}
@@ -8,6 +8,8 @@ use Rattle.nc_region.specs.schedules.Events.{Event, Steps, Enters, Exits, Takes,
 use Rattle.nc_region.specs.schedules.Events.{Looks, after, world_after}
 use Rattle.nc_region.specs.declared.acts.Act.TheVariants.{Put}
 use Rattle.nc_region.specs.Acts.{puts_where, is_marked_at, is_unmarked_at}
+use Rattle.nc_gens.specs.Rule.{generation_raised}
+use Rattle.nc_calls.specs.Weaving.{is_writers}
 use Rattle.nc_calls.specs.Calls.{Details, no_details, delete_events}
 use Rattle.nc_calls.proofs.Offered.{IsPart, OfMarked, OfOthers, is_part, events_of}
 use Rattle.nc_hosts.specs.Hosts.{IsNoLook}
@@ -87,3 +89,45 @@ stores_look_not events all = All-weaker IsStore IsNoLook no_look events all
     no_look (Retires base len) is = tt
     no_look (Frees span) is = tt
     no_look (Looks k) is = absurd is
+
+-- an event of a thread changes no keeper's number
+pub thread_keeps_keeper : (w : World) (event : Event) → is_writers event ≡ false → (after w event).keeper ≡ w.keeper
+thread_keeps_keeper w (Steps k next) thread = refl
+thread_keeps_keeper w (Enters k at) thread = refl
+thread_keeps_keeper w (Exits k) thread = refl
+thread_keeps_keeper w (Takes k) thread = refl
+thread_keeps_keeper w (Sees k) thread = refl
+thread_keeps_keeper w (Stores k) thread = refl
+thread_keeps_keeper w (Leaves k) thread = refl
+thread_keeps_keeper w (Puts at byte) thread = absurd (let bad : true ≡ false = thread in cc)
+thread_keeps_keeper w Settles thread = absurd (let bad : true ≡ false = thread in cc)
+thread_keeps_keeper w (Marks at marks) thread = absurd (let bad : true ≡ false = thread in cc)
+thread_keeps_keeper w Bumps thread = absurd (let bad : true ≡ false = thread in cc)
+thread_keeps_keeper w (Retires base len) thread = absurd (let bad : true ≡ false = thread in cc)
+thread_keeps_keeper w (Frees span) thread = absurd (let bad : true ≡ false = thread in cc)
+thread_keeps_keeper w (Looks k) thread = absurd (let bad : true ≡ false = thread in cc)
+
+-- an event that is no look changes the keeper's numbers by these alone
+event_keeper : (event : Event) (w v : World) → IsNoLook event → w.keeper ≡ v.keeper → (after w event).keeper ≡ (after v event).keeper
+event_keeper (Steps k next) w v none same = same
+event_keeper (Enters k at) w v none same = same
+event_keeper (Exits k) w v none same = same
+event_keeper (Takes k) w v none same = same
+event_keeper (Sees k) w v none same = same
+event_keeper (Stores k) w v none same = same
+event_keeper (Leaves k) w v none same = same
+event_keeper (Puts at byte) w v none same = same
+event_keeper Settles w v none same = same
+event_keeper (Marks at marks) w v none same = same
+event_keeper (Frees span) w v none same = same
+event_keeper Bumps w v none same = ap generation_raised same
+event_keeper (Retires base len) w v none same = ap generation_raised same
+event_keeper (Looks k) w v none same = absurd none
+
+-- nor do several
+pub same_keeper : (events : List Event) (w v : World) → All IsNoLook events → w.keeper ≡ v.keeper
+    → (world_after w events).keeper ≡ (world_after v events).keeper
+same_keeper [] w v none same = same
+same_keeper (event ∷ events) w v none same =
+    same_keeper events (after w event) (after v event) (All-tail IsNoLook event events none)
+    (event_keeper event w v (All-head IsNoLook event events none) same)

@@ -4,6 +4,6 @@ mod Looked
 mod Kept
 mod Reaching
 mod Concluding
-mod Running
 mod Storing
 mod Going
+mod Running

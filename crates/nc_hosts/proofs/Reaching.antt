@@ -15,11 +15,11 @@ use Rattle.nc_region.specs.Region.{Region, IsRegion}
 use Rattle.nc_region.specs.Deletion.{IsDeleted}
 use Rattle.nc_calls.specs.Weaving.{is_writers, writers, ThreadsMay}
 use Rattle.nc_calls.specs.Calls.{HasLedTo, no_details, delete_events}
-use Rattle.nc_calls.specs.Histories.{AreBeginnings, NoneYet, OneMore, IsCall, Deletes, Keeps}
+use Rattle.nc_calls.specs.Histories.{AreAttempts, NoneYet, OneMore, IsCall, Deletes, Keeps}
 use Rattle.nc_calls.proofs.Offered.{begins_unused}
 use Rattle.nc_region.specs.Log.{log_of_delete}
 use Rattle.nc_handle.specs.Held.{HeldState, IsLiveAt, IsFirst, HasBegun, HasEnded}
-use Rattle.nc_handle.specs.Pending.{IsHeldCall, Changes, Begins, Ends, Fails}
+use Rattle.nc_handle.specs.Pending.{IsHeldCall, Changes, Begins, Ends}
 use Rattle.nc_calls.specs.Calls.{KnowsNoMore}
 use Rattle.nc_hosts.specs.Hosts.{Host, IsStep, Runs, Makes, Restarts, Calls, Asks, IsNoLook, HasFound, IsReached, First, Then}
 use Rattle.nc_calls.proofs.Offered.{Stays, same_region, goes_on, call_stays}
@@ -28,13 +28,14 @@ use Rattle.nc_hosts.proofs.Kept.{IsStore, rest_stores}
 use Rattle.nc_hosts.proofs.Weaving.{IsWriters, all_front, one_writers, writers_thread, writers_own, threads_append, threads_none}
 use Rattle.nc_hosts.proofs.Weaving.{log_writers, call_writers}
 
--- The events that there are before a call of a region ends are those of that call so far, whose rest is pending. Or they are beginnings of
--- a deletion and the last one so far, whose rest but for the stamp is pending.
+-- The events that there are before a call of a region ends are those of that call so far, whose rest is pending. Or they are unfinished
+-- attempts at a deletion, and the last one so far, whose rest up to the stamp is pending.
 pub data Phase (seats : ℕ) (from : Region) (own : List Event) (begun : Option Chunk) (region : Region) (pending : List Event) : Type 0 where
-  Calling : begun ≡ None → IsCall seats from region (own ++ pending) → Phase seats from own begun region pending
+  Calling : (called : Region) → begun ≡ None → region ≡ record called { made = region.made } → IsCall seats from called (own ++ pending)
+      → Phase seats from own begun region pending
   Deleting : (c : Chunk) → begun ≡ Some c → region ≡ from → IsLiveAt from.chunks c.base c
       → from.keeper.numbers.generation < 4611686018427387904 → (made last : List Event)
-      → AreBeginnings from.marked.marks c.base c.length made → own ≡ made ++ last
+      → AreAttempts from.marked.marks c.base c.length made → own ≡ made ++ last
       → last ++ (pending ++ Retires c.base c.length ∷ []) ≡ delete_events from.marked.marks c.base c.length
       → Phase seats from own begun region pending
 
@@ -68,8 +69,8 @@ led_there limit seats before since w is = is ∙ after_append (first_world limit
 phase_made : (seats : ℕ) (from : Region) (own : List Event) (begun : Option Chunk) (region : Region) (event : Event)
     (pending rest : List Event) → pending ≡ event ∷ rest → Phase seats from own begun region pending
     → Phase seats from (own ++ event ∷ []) begun region rest
-phase_made seats from own begun region event pending rest is (Calling none call) =
-    Calling none (subst (IsCall seats from region)
+phase_made seats from own begun region event pending rest is (Calling called none pages call) =
+    Calling called none pages (subst (IsCall seats from called)
     (ap (λ (z : List Event). own ++ z) is ∙ sym (append_assoc own (event ∷ []) rest)) call)
 phase_made seats from own begun region event pending rest is (Deleting c at same live room made last first own_is last_is) =
     Deleting c at same live room made (last ++ event ∷ []) first
@@ -125,7 +126,7 @@ could_begin limit seats host c l begun = go l.phase
   where
     go : Phase seats l.from (writers l.since) host.held.begun host.held.region host.pending
         → HasBegun (record host.held { begun = None }) host.held c.base c
-    go (Calling idle call) = absurd (let bad : None ≡ Some c = sym idle ∙ begun in cc)
+    go (Calling called idle pages call) = absurd (let bad : None ≡ Some c = sym idle ∙ begun in cc)
     go (Deleting d is at live room made last first own_is last_is) =
         let here : Some d ≡ Some c = sym is ∙ begun in
         let same : d ≡ c = cc in
@@ -142,9 +143,20 @@ pub deletion_stores : (limit seats : ℕ) (host : Host) (c : Chunk) → Led limi
 deletion_stores limit seats host c l begun = go l.phase
   where
     go : Phase seats l.from (writers l.since) host.held.begun host.held.region host.pending → All IsStore host.pending
-    go (Calling idle call) = absurd (let bad : None ≡ Some c = sym idle ∙ begun in cc)
+    go (Calling called idle pages call) = absurd (let bad : None ≡ Some c = sym idle ∙ begun in cc)
     go (Deleting d is at live room made last first own_is last_is) =
         rest_stores l.from.marked.marks d.base d.length last host.pending last_is
+
+-- pages that were made are no part of a world
+pages_stay : (limit seats : ℕ) (before : List Event) (old new : Region) → Stays limit seats before old
+    → new ≡ record old { made = new.made } → Stays limit seats before new
+pages_stay limit seats before old new s pages =
+    record {
+      led = subst (λ (z : List Event). HasLedTo limit seats z new) (append-nil before)
+          (goes_on limit seats before [] old new s.led pages refl tt).led;
+      whole = s.whole;
+      region = same_region old new (ap (λ (r : Region). r.marked) pages) (ap (λ (r : Region). r.chunks) pages) s.region;
+    }
 
 -- where nothing is pending and no deletion is under way, the last call has ended
 pub finished : (limit seats : ℕ) (host : Host) (l : Led limit seats host) → host.pending ≡ [] → host.held.begun ≡ None
@@ -154,15 +166,17 @@ finished limit seats host l none idle =
   where
     go : Phase seats l.from (writers l.since) host.held.begun host.held.region host.pending
         → Stays limit seats (l.before ++ l.since) host.held.region
-    go (Calling idle call) =
+    go (Calling called idle pages call) =
         let own : writers l.since ++ host.pending ≡ writers l.since =
         ap (λ (z : List Event). writers l.since ++ z) none ∙ append-nil (writers l.since) in
         let now : KnowsNoMore host.held.region.keeper.numbers host.world.keeper =
         subst (λ (z : List Event). KnowsNoMore host.held.region.keeper.numbers (world_after host.world z).keeper) none
         (l.found (subst (All IsNoLook) (sym none) (All-nil IsNoLook))) in
-        call_stays limit seats l.before l.from (record { events = l.since; region = host.held.region }) l.stays l.threads
-        (subst (λ (w : World). KnowsNoMore host.held.region.keeper.numbers w.keeper) l.world now)
-        (subst (IsCall seats l.from host.held.region) own call)
+        pages_stay limit seats (l.before ++ l.since) called host.held.region
+        (call_stays limit seats l.before l.from (record { events = l.since; region = called }) l.stays l.threads
+        (subst (λ (w : World). KnowsNoMore called.keeper.numbers w.keeper) l.world
+        (subst (λ (k : KeeperState). KnowsNoMore k.numbers host.world.keeper) (ap (λ (r : Region). r.keeper) pages) now))
+        (subst (IsCall seats l.from called) own call)) pages
     go (Deleting c is at live room made last first own_is last_is) = absurd (let bad : None ≡ Some c = sym idle ∙ is in cc)
 
 -- a call that begins where the last one has ended
@@ -190,20 +204,20 @@ stops_plain pending r c own =
     (subst (All IsWriters) (sym own)
     (log_writers (record no_details { base = c.base; len = c.length }) (log_of_delete r.marked.marks c.base c.length)))
 
--- the last step of a deletion
+-- the last call of a deletion
 phase_ended : (seats : ℕ) (from : Region) (own : List Event) (old new : HeldState) (pending later : List Event) (stamp : ℕ)
     (is : HasEnded old new stamp) → pending ≡ [] → later ≡ Retires is.chunk.base is.chunk.length ∷ [] → Phase seats from own old.begun old.region pending
     → Phase seats from own new.begun new.region later
-phase_ended seats from own old new pending later stamp is none stamped (Calling idle call) =
+phase_ended seats from own old new pending later stamp is none stamped (Calling called idle pages call) =
     absurd (let bad : None ≡ Some is.chunk = sym idle ∙ is.begun in cc)
 phase_ended seats from own old new pending later stamp is none stamped (Deleting c begun at live room made last first own_is last_is) =
     let here : Some c ≡ Some is.chunk = sym begun ∙ is.begun in
     let same : c ≡ is.chunk = cc in
     let deleted : IsDeleted from new.region is.chunk.base stamp =
     subst (λ (r : Region). IsDeleted r new.region is.chunk.base stamp) at is.deleted in
-    Calling (ap (λ (h : HeldState). h.begun) is.others)
+    Calling new.region (ap (λ (h : HeldState). h.begun) is.others) refl
     (gone at is.deleted is.same
-    (subst (λ (d : Chunk). AreBeginnings from.marked.marks d.base d.length made) same first)
+    (subst (λ (d : Chunk). AreAttempts from.marked.marks d.base d.length made) same first)
     (ap (λ (z : List Event). z ++ later) own_is
     ∙ (append_assoc made last later
     ∙ ap (λ (z : List Event). made ++ z)
@@ -213,84 +227,23 @@ phase_ended seats from own old new pending later stamp is none stamped (Deleting
     ∙ (last_is ∙ ap (λ (d : Chunk). delete_events from.marked.marks d.base d.length) same)))))))
   where
     gone : {r : Region} → r ≡ from → (d : IsDeleted r new.region is.chunk.base stamp) → d.chunk ≡ is.chunk
-        → AreBeginnings from.marked.marks is.chunk.base is.chunk.length made
+        → AreAttempts from.marked.marks is.chunk.base is.chunk.length made
         → own ++ later ≡ made ++ delete_events from.marked.marks is.chunk.base is.chunk.length
         → IsCall seats from new.region (own ++ later)
     gone {r} at d chunk first events =
         subst (λ (q : Region). IsCall seats q new.region (own ++ later)) at
         (Deletes is.chunk.base stamp d made
-        (subst (λ (q : Region). AreBeginnings q.marked.marks is.chunk.base d.chunk.length made) (sym at)
-        (subst (λ (e : Chunk). AreBeginnings from.marked.marks is.chunk.base e.length made) (sym chunk) first))
+        (subst (λ (q : Region). AreAttempts q.marked.marks is.chunk.base d.chunk.length made) (sym at)
+        (subst (λ (e : Chunk). AreAttempts from.marked.marks is.chunk.base e.length made) (sym chunk) first))
         (events ∙ (ap (λ (q : Region). made ++ delete_events q.marked.marks is.chunk.base is.chunk.length) (sym at)
         ∙ ap (λ (e : Chunk). made ++ delete_events r.marked.marks is.chunk.base e.length) (sym chunk))))
-
--- pages that were made are no part of a world
-pages_stay : (limit seats : ℕ) (before : List Event) (old new : Region) → Stays limit seats before old
-    → new ≡ record old { made = new.made } → Stays limit seats before new
-pages_stay limit seats before old new s pages =
-    record {
-      led = subst (λ (z : List Event). HasLedTo limit seats z new) (append-nil before)
-          (goes_on limit seats before [] old new s.led pages refl tt).led;
-      whole = s.whole;
-      region = same_region old new (ap (λ (r : Region). r.marked) pages) (ap (λ (r : Region). r.chunks) pages) s.region;
-    }
-
--- a creation that was refused
-led_fails : (limit seats : ℕ) (old new : Host) → Led limit seats old → old.pending ≡ []
-    → new.held ≡ record old.held { region = record old.held.region { made = new.held.region.made } } → new.pending ≡ []
-    → new.world ≡ old.world → HasFound new → Led limit seats new
-led_fails limit seats old new l none pages nothing same found = go l.phase
-  where
-    region : new.held.region ≡ record old.held.region { made = new.held.region.made }
-    region = ap (λ (h : HeldState). h.region) pages
-
-    begun : new.held.begun ≡ old.held.begun
-    begun = ap (λ (h : HeldState). h.begun) pages
-
-    marks : new.held.region.marked ≡ old.held.region.marked
-    marks = ap (λ (r : Region). r.marked) region
-
-    go : Phase seats l.from (writers l.since) old.held.begun old.held.region old.pending → Led limit seats new
-    go (Calling idle call) =
-        record {
-          before = l.before ++ l.since;
-          since = [];
-          from = new.held.region;
-          stays = pages_stay limit seats (l.before ++ l.since) old.held.region new.held.region (finished limit seats old l none idle) region;
-          world = same ∙ (l.world ∙ ap (world_after (first_world limit seats)) (sym (append-nil (l.before ++ l.since))));
-          threads = tt;
-          plain = subst (All IsWriters) (sym nothing) (All-nil IsWriters);
-          found = found;
-          phase = Calling (begun ∙ idle) (Keeps refl nothing);
-        }
-    go (Deleting c is at live room made last first own_is last_is) =
-        let from : new.held.region ≡ record l.from { made = new.held.region.made } =
-        region ∙ ap (λ (r : Region). record r { made = new.held.region.made }) at in
-        record {
-          before = l.before;
-          since = l.since;
-          from = new.held.region;
-          stays = pages_stay limit seats l.before l.from new.held.region l.stays from;
-          world = same ∙ l.world;
-          threads = l.threads;
-          plain = subst (All IsWriters) (sym nothing) (All-nil IsWriters);
-          found = found;
-          phase = Deleting c (begun ∙ is) refl
-              (subst (λ (chunks : List Chunk). IsLiveAt chunks c.base c) (sym (ap (λ (r : Region). r.chunks) from)) live)
-              (subst (λ (k : KeeperState). k.numbers.generation < 4611686018427387904) (sym (ap (λ (r : Region). r.keeper) from)) room)
-              made last
-              (subst (λ (m : MarkedText). AreBeginnings m.marks c.base c.length made) (sym (ap (λ (r : Region). r.marked) from)) first)
-              own_is
-              (ap (λ (z : List Event). last ++ (z ++ Retires c.base c.length ∷ [])) (nothing ∙ sym none)
-              ∙ (last_is ∙ ap (λ (m : MarkedText). delete_events m.marks c.base c.length) (sym (ap (λ (r : Region). r.marked) from))));
-        }
 
 -- a call
 led_calls : (limit seats : ℕ) (old new : Host) → Led limit seats old → old.pending ≡ [] → IsHeldCall seats old.held new.held new.pending
     → new.world ≡ old.world → HasFound new → Led limit seats new
 led_calls limit seats old new l none (Changes idle then call) same found =
     led_anew limit seats old new l none idle same found (call_writers seats old.held.region new.held.region new.pending call)
-    (Calling then call)
+    (Calling new.held.region then refl call)
 led_calls limit seats old new l none (Begins c begun own) same found =
     led_anew limit seats old new l none begun.none same found (stops_plain new.pending old.held.region c own)
     (Deleting c (ap (λ (h : HeldState). h.begun) begun.others) (ap (λ (h : HeldState). h.region) begun.others) begun.live begun.room
@@ -307,24 +260,46 @@ led_calls limit seats old new l none (Ends stamp is stamped) same found =
       found = found;
       phase = phase_ended seats l.from (writers l.since) old.held new.held old.pending new.pending stamp is none stamped l.phase;
     }
-led_calls limit seats old new l none (Fails pages nothing) same found = led_fails limit seats old new l none pages nothing same found
 
--- a call that leaves the region as it is
-led_asks : (limit seats : ℕ) (old : Host) (held : HeldState) → Led limit seats old → held.region ≡ old.held.region
-    → held.begun ≡ old.held.begun → HasFound (record old { held = held }) → Led limit seats (record old { held = held })
-led_asks limit seats old held l region begun found =
-    record {
-      before = l.before;
-      since = l.since;
-      from = l.from;
-      stays = l.stays;
-      world = l.world;
-      threads = l.threads;
-      plain = l.plain;
-      found = found;
-      phase = subst (λ (r : Region). Phase seats l.from (writers l.since) held.begun r old.pending) (sym region)
-          (subst (λ (b : Option Chunk). Phase seats l.from (writers l.since) b old.held.region old.pending) (sym begun) l.phase);
-    }
+-- a call that leaves the region as it is, but for pages
+led_asks : (limit seats : ℕ) (old : Host) (held : HeldState) → Led limit seats old → held.begun ≡ old.held.begun
+    → held.region ≡ record old.held.region { made = held.region.made } → HasFound (record old { held = held })
+    → Led limit seats (record old { held = held })
+led_asks limit seats old held l begun region found = go l.phase
+  where
+    go : Phase seats l.from (writers l.since) old.held.begun old.held.region old.pending → Led limit seats (record old { held = held })
+    go (Calling called idle pages call) =
+        record {
+          before = l.before;
+          since = l.since;
+          from = l.from;
+          stays = l.stays;
+          world = l.world;
+          threads = l.threads;
+          plain = l.plain;
+          found = found;
+          phase = Calling called (begun ∙ idle) (region ∙ ap (λ (r : Region). record r { made = held.region.made }) pages) call;
+        }
+    go (Deleting c is at live room made last first own_is last_is) =
+        let from : held.region ≡ record l.from { made = held.region.made } =
+        region ∙ ap (λ (r : Region). record r { made = held.region.made }) at in
+        record {
+          before = l.before;
+          since = l.since;
+          from = held.region;
+          stays = pages_stay limit seats l.before l.from held.region l.stays from;
+          world = l.world;
+          threads = l.threads;
+          plain = l.plain;
+          found = found;
+          phase = Deleting c (begun ∙ is) refl
+              (subst (λ (chunks : List Chunk). IsLiveAt chunks c.base c) (sym (ap (λ (r : Region). r.chunks) from)) live)
+              (subst (λ (k : KeeperState). k.numbers.generation < 4611686018427387904) (sym (ap (λ (r : Region). r.keeper) from)) room)
+              made last
+              (subst (λ (m : MarkedText). AreAttempts m.marks c.base c.length made) (sym (ap (λ (r : Region). r.marked) from)) first)
+              own_is
+              (last_is ∙ ap (λ (m : MarkedText). delete_events m.marks c.base c.length) (sym (ap (λ (r : Region). r.marked) from)));
+        }
 
 -- what is pending after the first call of a deletion
 anew : (seats : ℕ) (held : HeldState) (pending : List Event) (c : Chunk) → held.begun ≡ Some c
@@ -336,8 +311,6 @@ anew seats held pending c begun (Begins d is own) =
     let same : d ≡ c = cc in
     subst (λ (e : Chunk). pending ++ Retires e.base e.length ∷ [] ≡ delete_events held.region.marked.marks e.base e.length) same own
 anew seats held pending c begun (Ends stamp is stamped) = absurd (let bad : None ≡ Some is.chunk = is.begun in cc)
-anew seats held pending c begun (Fails pages nothing) =
-    absurd (let bad : None ≡ Some c = sym (ap (λ (h : HeldState). h.begun) pages) ∙ begun in cc)
 
 -- a deletion's events are to be made anew
 led_restarts : (limit seats : ℕ) (old : Host) (pending : List Event) (c : Chunk) → Led limit seats old → old.held.begun ≡ Some c
@@ -358,7 +331,7 @@ led_restarts limit seats old pending c l begun own found =
   where
     go : Phase seats l.from (writers l.since) old.held.begun old.held.region old.pending
         → Phase seats l.from (writers l.since) old.held.begun old.held.region pending
-    go (Calling idle call) = absurd (let bad : None ≡ Some c = sym idle ∙ begun in cc)
+    go (Calling called idle pages call) = absurd (let bad : None ≡ Some c = sym idle ∙ begun in cc)
     go (Deleting d is at live room made last first own_is last_is) =
         let here : Some d ≡ Some c = sym is ∙ begun in
         let same : d ≡ c = cc in
@@ -378,8 +351,8 @@ led_step limit seats old new l (Restarts c begun call same) found =
     subst (Led limit seats) (sym same)
     (led_restarts limit seats old new.pending c l begun (anew seats old.held new.pending c begun call) (subst HasFound same found))
 led_step limit seats old new l (Calls none call same) found = led_calls limit seats old new l none call same found
-led_step limit seats old new l (Asks region begun same) found =
-    subst (Led limit seats) (sym same) (led_asks limit seats old new.held l region begun (subst HasFound same found))
+led_step limit seats old new l (Asks begun region same) found =
+    subst (Led limit seats) (sym same) (led_asks limit seats old new.held l begun region (subst HasFound same found))
 
 -- the first state
 led_first : (bundles seats : ℕ) (host : Host) → IsFirst bundles seats host.held
@@ -403,7 +376,7 @@ led_first bundles seats host is world none =
       found = λ all. subst (λ (z : List Event). KnowsNoMore host.held.region.keeper.numbers (world_after host.world z).keeper) (sym none)
           (subst (λ (w : World). KnowsNoMore host.held.region.keeper.numbers w.keeper) (sym world)
           (knows_as_much host.held.region.keeper.numbers (first_keeper_numbers seats) (sym numbers)));
-      phase = Calling is.begun (Keeps refl none);
+      phase = Calling host.held.region is.begun refl (Keeps refl none);
     }
 
 -- every state

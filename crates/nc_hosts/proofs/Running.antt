@@ -1,5 +1,5 @@
 -- A host that reads runs.
-use Rattle.std.proofs.Common.{◌≡◌, ℕ, ◌≤◌, ◌+◌, ◌*◌, List, length, Some, None, arith, refl, ◌∙◌, sym, ap, subst}
+use Rattle.std.proofs.Common.{◌≡◌, ℕ, ◌≤◌, List, length, Some, arith, ◌∙◌, sym, ap, subst}
 use Rattle.std.specs.Prelude.{Contains, take}
 use Rattle.std.specs.List.{insert}
 use Rattle.std.proofs.lemmas.List.Edits.{get_or-insert_at, length-insert}
@@ -17,8 +17,8 @@ use Rattle.nc_handle.specs.Runs.{AreCreationRuns, AreDeletionRuns}
 use Rattle.nc_handle.specs.Shown.{bytes_of_span}
 use Rattle.nc_handle.specs.Pending.{IsHeldCall, Changes, Begins, events_pending}
 use Rattle.nc_handle.proofs.Offered.{create_runs_due, delete_runs_due, still_none, one_of_base, span_put, chunk_span}
-use Rattle.nc_hosts.specs.Hosts.{Host, IsStep, Restarts, IsReached}
-use Rattle.nc_hosts.proofs.Reaching.{could_begin, led}
+use Rattle.nc_hosts.specs.Hosts.{Host, IsReached}
+use Rattle.nc_hosts.proofs.Going.{restarts}
 use Rattle.nc_hosts.proofs.Concluding.{is_region}
 
 -- a chunk that was inserted is in the list
@@ -53,7 +53,7 @@ creation bundles seats host new v c lent now count reached valid loaded live run
     Changes loaded.0 (still_none host.held new loaded.4 loaded.0)
     (Creates v valid loaded.1 loaded.3 (create_runs_due v lent now count here))
 
--- the first step of a deletion
+-- the first call of a deletion
 pub deletion : (seats : ℕ) (old new : HeldState) (base : ℕ) (v : MarkedChunk) (c : Chunk) (lent now : List NcAct) (count : ℕ)
     → HasBegun old new base c → AreDeletionRuns new c lent now count → IsHeldCall seats old new (events_pending v (take count now))
 deletion seats old new base v c lent now count begun runs =
@@ -65,8 +65,8 @@ deletion seats old new base v c lent now count begun runs =
 -- a deletion that is under way
 pub again : (bundles seats : ℕ) (host : Host) (v : MarkedChunk) (c : Chunk) (lent now : List NcAct) (count : ℕ)
     → IsReached bundles seats host → host.held.begun ≡ Some c → AreDeletionRuns host.held c lent now count
-    → IsStep seats host (record host { pending = events_pending v (take count now) })
+    → IsReached bundles seats (record host { pending = events_pending v (take count now) })
 again bundles seats host v c lent now count reached begun runs =
-    Restarts c begun
-    (deletion seats (record host.held { begun = None }) host.held c.base v c lent now count
-    (could_begin (65536 + 32 * bundles) seats host c (led bundles seats host reached) begun) runs) refl
+    restarts bundles seats host c (events_pending v (take count now)) reached begun
+    (delete_runs_due v host.held.region.marked.marks c.base c.length (bytes_of_span host.held.region.marked.bytes c.base c.length) lent now
+    count runs.1)

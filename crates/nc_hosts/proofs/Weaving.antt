@@ -20,7 +20,7 @@ use Rattle.nc_region.specs.Quiet.{retired_spans}
 use Rattle.nc_calls.specs.Weaving.{is_writers, writers, IsKeepers, ThreadsMay}
 use Rattle.nc_calls.specs.Calls.{Details, no_details, events_of_entry, events_of_log, delete_events}
 use Rattle.nc_calls.proofs.Offered.{refusal_silent}
-use Rattle.nc_calls.specs.Histories.{AreBeginnings, NoneYet, OneMore, IsCall, Creates, Patches, Deletes, Reclaims, UsesKeeper, Refuses, Keeps}
+use Rattle.nc_calls.specs.Histories.{AreAttempts, NoneYet, OneMore, IsCall, Creates, Patches, Deletes, Reclaims, UsesKeeper, Refuses, Keeps}
 
 -- the event is the writer's
 abbrev pub IsWriters : Event → Type 0
@@ -103,8 +103,8 @@ keepers_writers (Sees n) k = absurd k
 keepers_writers (Stores n) k = absurd k
 keepers_writers (Leaves n) k = absurd k
 
--- beginnings of a deletion
-begun_writers : (marks : List Mark) (base len : ℕ) (made : List Event) → AreBeginnings marks base len made → All IsWriters made
+-- unfinished attempts at a deletion
+begun_writers : (marks : List Mark) (base len : ℕ) (made : List Event) → AreAttempts marks base len made → All IsWriters made
 begun_writers marks base len [] NoneYet = All-nil IsWriters
 begun_writers marks base len _ (OneMore {earlier} first part rest own) =
     All-append IsWriters earlier part (begun_writers marks base len earlier first)

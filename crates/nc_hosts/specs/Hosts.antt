@@ -17,9 +17,9 @@ pub record Host : Type 0 where
   pub pending : List Event
 
 -- A step of a host with this number of seats. `Runs`: a thread does what it may. `Makes`: the first pending event happens.
--- `Restarts`: while a deletion is under way, the host begins anew to make what was pending after its first call. `Calls`:
--- while nothing is pending, the host makes a call that may change the region, after which events are pending. `Asks`: another
--- call, which leaves the region as it is.
+-- `Restarts`: while a deletion is under way, all of its stores and its settling become pending again. `Calls`: while nothing
+-- is pending, the host makes a call that changes the region, after which events are pending. `Asks`: any other call, also
+-- one that is refused, which leaves the region as it is, except that pages may have been made.
 pub data IsStep (seats : ℕ) (old new : Host) : Type 0 where
   Runs : (event : Event) → is_writers event ≡ false → ThreadMay old.world event
       → new ≡ record old { world = after old.world event } → IsStep seats old new
@@ -28,8 +28,8 @@ pub data IsStep (seats : ℕ) (old new : Host) : Type 0 where
   Restarts : (c : Chunk) → old.held.begun ≡ Some c → IsHeldCall seats (record old.held { begun = None }) old.held new.pending
       → new ≡ record old { pending = new.pending } → IsStep seats old new
   Calls : old.pending ≡ [] → IsHeldCall seats old.held new.held new.pending → new.world ≡ old.world → IsStep seats old new
-  Asks : new.held.region ≡ old.held.region → new.held.begun ≡ old.held.begun → new ≡ record old { held = new.held }
-      → IsStep seats old new
+  Asks : new.held.begun ≡ old.held.begun → new.held.region ≡ record old.held.region { made = new.held.region.made }
+      → new ≡ record old { held = new.held } → IsStep seats old new
 
 -- the event isn't a look at a seat's word
 abbrev pub IsNoLook : Event → Type 0

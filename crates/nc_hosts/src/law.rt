@@ -27,7 +27,7 @@ ghost use Rattle.nc_hosts.specs.Hosts.{Host, IsStep, IsReached};
 /// - the text of the handle's region is confined.
 ///
 /// A host (`specs/Hosts`) makes what is pending one by one and in order, and makes no call that may change the region before it has
-/// made all of it. While a deletion is under way it may begin again with the first of the deletion's stores. What is pending is what it
+/// made all of it. While a deletion is under way it may make all of the deletion's stores and its settling again. What is pending is what it
 /// reads in the buffer that it lent, or what the library does itself (`TellsPending`, `DoesItself` of `nc_handle`). A state is after each
 /// single store, so `stand` and `whole` are about every moment. The function does nothing when called.
 ///
@@ -35,8 +35,8 @@ ghost use Rattle.nc_hosts.specs.Hosts.{Host, IsStep, IsReached};
 /// they were stored, and all threads are outside; a thread inside moves only as the machine does in some view, and by no masked jump or
 /// call to the limit or above; it enters only at bundle starts and while its seat hasn't left, and its pass checks in and leaves only
 /// while it is outside; the keeper has the world's generation and a bound for each of its seats, and finds no word to be greater than it
-/// is; and the host makes the pending events in their order, each once unless it begins a deletion's anew, and its stores and settlings
-/// reach execution in that order.
+/// is; and the host makes the pending events in order, each once (only a deletion's may be made again, all of them, from the first), and
+/// its stores and settlings reach execution in that order.
 pub fn law_of_hosts()
     ensures stand { (bundles seats : ℕ) (host : Host) → IsReached bundles seats host → AllStand host.world }
     ensures whole { (bundles seats : ℕ) (host : Host) → IsReached bundles seats host → AllFetchWhole host.world }

@@ -7,7 +7,7 @@ ghost use Rattle.nc_handle.specs.declared.acts.act.NcAct.{NcAct};
 ghost use Rattle.nc_handle.specs.Held.{HeldState, IsLiveAt, HasBegun, HasLoaded};
 ghost use Rattle.nc_handle.specs.Runs.{AreCreationRuns, AreDeletionRuns};
 ghost use Rattle.nc_handle.specs.Pending.{IsHeldCall, events_pending};
-ghost use Rattle.nc_hosts.specs.Hosts.{Host, IsStep, IsReached};
+ghost use Rattle.nc_hosts.specs.Hosts.{Host, IsReached};
 
 /// A host that makes a call without a buffer, and asks for the acts as runs before it does anything else, reads there what is pending after
 /// that call. While a deletion is under way it reads there what it may make anew. Calling it does nothing.
@@ -19,5 +19,5 @@ pub fn law_of_runs()
         → HasBegun old new base c → AreDeletionRuns new c lent now count → IsHeldCall seats old new (events_pending v (take count now)) }
     ensures again { (bundles seats : ℕ) (host : Host) (v : MarkedChunk) (c : Chunk) (lent now : List NcAct) (count : ℕ)
         → IsReached bundles seats host → host.held.begun ≡ Some c → AreDeletionRuns host.held c lent now count
-        → IsStep seats host (record host { pending = events_pending v (take count now) }) }
+        → IsReached bundles seats (record host { pending = events_pending v (take count now) }) }
 {}

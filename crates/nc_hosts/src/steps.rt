@@ -1,26 +1,27 @@
 //! From each state that a host can reach it goes on.
 
-ghost use Rattle.std.specs.Prelude.{◌≡◌, ℕ, List, Some, [], ◌∷◌, ◌++◌};
+ghost use Rattle.std.specs.Prelude.{◌≡◌, ℕ, false, List, Some, [], ◌∷◌, ◌++◌, All};
 ghost use Rattle.nc_vet.specs.Chunk.{MarkedChunk, Piece, IsValid};
 ghost use Rattle.nc_list.specs.declared.chunk.Chunk.{Chunk};
-ghost use Rattle.nc_region.specs.schedules.Events.{Event, after};
+ghost use Rattle.nc_region.specs.schedules.Events.{Event, ThreadMay, after};
 ghost use Rattle.nc_region.specs.Patch.{AreBytesOf};
+ghost use Rattle.nc_calls.specs.Weaving.{is_writers};
 ghost use Rattle.nc_calls.specs.Calls.{create_events, modify_events, delete_events};
-ghost use Rattle.nc_calls.specs.Histories.{IsCall};
 ghost use Rattle.nc_handle.specs.Held.{HeldState, HasLoaded, HasPatched, HasBegun, HasEnded};
-ghost use Rattle.nc_handle.specs.Pending.{ChangesPages};
+ghost use Rattle.nc_handle.specs.Pending.{IsHeldCall, ChangesPages};
 ghost use Rattle.nc_hosts.specs.Hosts.{Host, IsNoLook, IsReached};
 
-/// From each state that a host can reach:
+/// From each state that a host can reach, these lead to another one:
 ///
-/// - the next pending event can be made, unless it is a look at a seat's word, whose answer only a processor gives;
-/// - if nothing is pending, each creation, patch, and step of a deletion that the library accepts leads to a state in which its events are
-///   pending;
-/// - while a deletion is under way, its events can be made anew from the first one on;
-/// - if nothing is pending, each refused call leads to a state with nothing pending, and is a call of a history.
+/// - the first pending event, unless it is a look at a seat's word, whose answer only a processor gives;
+/// - if nothing is pending, each accepted creation, patch and call of a deletion, after which its events are pending; and each
+///   other accepted call after which a look is pending, as each call of a reclaim is one;
+/// - while a deletion is under way, its events made anew from the first one on;
+/// - each call that leaves the region as it is, and each refused call, also while events are pending;
+/// - each event of a thread that it may do.
 ///
-/// So an accepted call leads to a reached state with its events pending, and the first of these to the next. The function does nothing when
-/// called.
+/// So an accepted creation, patch or deletion leads to a state in which its first event is pending, and that event to the next. The function
+/// does nothing when called.
 pub fn law_of_reaching()
     ensures makes { (bundles seats : ℕ) (host : Host) (event : Event) (later : List Event) → IsReached bundles seats host
         → host.pending ≡ event ∷ later → IsNoLook event
@@ -46,7 +47,13 @@ pub fn law_of_reaching()
           world = host.world;
           pending = Event.Retires is.chunk.base is.chunk.length ∷ [];
         }) }
-    ensures fails { (bundles seats : ℕ) (host : Host) (new : HeldState) → IsReached bundles seats host → host.pending ≡ []
-        → ChangesPages host.held new → IsReached bundles seats (record host { held = new }) }
-    ensures keeps { (seats : ℕ) (old new : HeldState) → ChangesPages old new → IsCall seats old.region new.region [] }
+    ensures looks { (bundles seats : ℕ) (host : Host) (new : HeldState) (own : List Event) → IsReached bundles seats host
+        → host.pending ≡ [] → IsHeldCall seats host.held new own → ¬ All IsNoLook own
+        → IsReached bundles seats (record { held = new; world = host.world; pending = own }) }
+    ensures asks { (bundles seats : ℕ) (host : Host) (new : HeldState) → IsReached bundles seats host → new.begun ≡ host.held.begun
+        → new.region ≡ record host.held.region { made = new.region.made } → IsReached bundles seats (record host { held = new }) }
+    ensures fails { (bundles seats : ℕ) (host : Host) (new : HeldState) → IsReached bundles seats host → ChangesPages host.held new
+        → IsReached bundles seats (record host { held = new }) }
+    ensures runs { (bundles seats : ℕ) (host : Host) (event : Event) → IsReached bundles seats host → is_writers event ≡ false
+        → ThreadMay host.world event → IsReached bundles seats (record host { world = after host.world event }) }
 {}

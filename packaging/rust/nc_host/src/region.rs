@@ -79,7 +79,7 @@ impl Region {
         Acts::written(change, buffer)
     }
 
-    /// `nc_region_begin_delete`: the first step of a deletion. [`Deletion::finish`] is the last.
+    /// `nc_region_begin_delete`: the first call of a deletion. [`Deletion::finish`] is the last.
     pub fn begin_delete<'a>(&'a mut self, base: u32, buffer: &'a mut [RawAct]) -> Result<Deletion<'a>, Fault> {
         let (acts, room) = (buffer.as_mut_ptr(), buffer.len());
         // SAFETY: "Locks" and "Arguments".
@@ -181,7 +181,7 @@ fn runs<'b>(region: &Region, buffer: &'b mut [RawAct]) -> Result<Acts<'b>, Fault
 ///
 /// Meanwhile the region is borrowed. A guard that is dropped or forgotten draws no stamp, since a stamp that was drawn before the stops are in
 /// the host's memory would free the span while a thread is in it: the region then refuses changes with [`Fault::UnderWay`], until the deletion
-/// is taken up again by [`Region::resume_delete`]. The last step can't be made twice:
+/// is taken up again by [`Region::resume_delete`]. The last call can't be made twice:
 ///
 /// ```compile_fail,E0382
 /// fn end_twice(deletion: nc_host::Deletion<'_>) {
@@ -197,7 +197,7 @@ pub struct Deletion<'a> {
 }
 
 impl<'a> Deletion<'a> {
-    /// The acts that the first step wrote; none where its buffer was empty.
+    /// The acts that the first call wrote; none where its buffer was empty.
     pub fn acts(&self) -> Acts<'a> {
         self.acts
     }
@@ -207,7 +207,7 @@ impl<'a> Deletion<'a> {
         runs(self.region, buffer)
     }
 
-    /// `nc_region_end_delete`: the last step, which draws the stamp and returns it. The host must have made all acts except [`Act::Bump`],
+    /// `nc_region_end_delete`: the last call, which draws the stamp and returns it. The host must have made all acts except [`Act::Bump`],
     /// which is this one.
     ///
     /// [`Act::Bump`]: crate::Act::Bump

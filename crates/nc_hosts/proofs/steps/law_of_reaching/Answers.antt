@@ -1,4 +1,4 @@
-use Rattle.nc_hosts.proofs.Going.{makes_next, loads, patches, begins, restarts, ends, fails, keeps}
+use Rattle.nc_hosts.proofs.Going.{makes_next, loads, patches, begins, restarts, ends, looks, asks, fails, runs}
 use Rattle.nc_hosts.proofs.steps.law_of_reaching.Goals as goal
 
 pub returns-clause-makes : goal.returns-clause-makes
@@ -19,8 +19,14 @@ returns-clause-restarts c = restarts
 pub returns-clause-ends : goal.returns-clause-ends
 returns-clause-ends c = ends
 
+pub returns-clause-looks : goal.returns-clause-looks
+returns-clause-looks c = looks
+
+pub returns-clause-asks : goal.returns-clause-asks
+returns-clause-asks c = asks
+
 pub returns-clause-fails : goal.returns-clause-fails
 returns-clause-fails c = fails
 
-pub returns-clause-keeps : goal.returns-clause-keeps
-returns-clause-keeps c = keeps
+pub returns-clause-runs : goal.returns-clause-runs
+returns-clause-runs c = runs

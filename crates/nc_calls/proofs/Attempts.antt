@@ -1,9 +1,8 @@
--- A deletion that was begun before, any number of times: what each beginning leaves, and the whole deletion after them.
+-- A deletion after unfinished attempts at it: what each attempt leaves, and the whole deletion after them.
 use Rattle.std.proofs.Common.{◌≡◌, ℕ, zero, suc, ◌+◌, ◌-◌, ◌<◌, ◌≤◌, ◌⊎◌, Bool, true, false, cond, List, [], ◌∷◌, ◌++◌, length, get_or}
-use Rattle.std.proofs.Common.{set, replicate, inl, inr, arith, refl, ◌∙◌, sym, ap, subst, append-nil, append_assoc}
+use Rattle.std.proofs.Common.{set, replicate, inl, inr, arith, refl, ◌∙◌, sym, ap, subst, append-nil}
 use Rattle.std.proofs.lemmas.List.{length-replicate, get_or-replicate}
 use Rattle.nc_decode.specs.declared.instruction.Mark.{Mark}
-use Rattle.nc_text.specs.Places.{InRegion}
 use Rattle.nc_list.specs.declared.chunk.Chunk.{Chunk}
 use Rattle.nc_list.specs.declared.chunk.ChunkState.TheVariants.{Retired}
 use Rattle.nc_region.specs.schedules.World.{World}
@@ -13,7 +12,7 @@ use Rattle.nc_region.specs.declared.acts.Act.TheVariants.{Put}
 use Rattle.nc_region.specs.Acts.{is_marked_at, is_unmarked_at, puts_where}
 use Rattle.nc_region.specs.Region.{IsLive, IsRegion}
 use Rattle.nc_calls.specs.Calls.{Details, no_details, delete_events}
-use Rattle.nc_calls.specs.Histories.{AreBeginnings, NoneYet, OneMore}
+use Rattle.nc_calls.specs.Histories.{AreAttempts, NoneYet, OneMore}
 use Rattle.nc_calls.specs.Views.{ViewsKeep}
 use Rattle.nc_calls.proofs.Creation.{start_good}
 use Rattle.nc_calls.proofs.Deletion.{IsDeleting, placed_there, may_lay_marked, may_lay_others, Emptied, Agrees, put_agrees, stops_marked}
@@ -95,7 +94,7 @@ no_end base len [] [] none = cc
 no_end base len [] (e ∷ z) none = cc
 no_end base len (e ∷ y) z none = cc
 
--- each beginning is of this form
+-- each attempt is of this form
 pub is_part : (marks : List Mark) (base len : ℕ) (part rest : List Event)
     → part ++ (rest ++ Retires base len ∷ []) ≡ delete_events marks base len → IsPart marks base len part
 is_part marks base len part rest is =
@@ -184,7 +183,7 @@ record HasBegun (w : World) (c : Chunk) (now : List ℕ) (before : List (List �
   agrees : Agrees c.base c.length w.marked.bytes bytes
   views : Views (λ view. Good view w.marked.marks w.retired) bytes earlier
 
--- one beginning
+-- one attempt
 part_begun : (w : World) (chunks : List Chunk) (k : ℕ) (c : Chunk) → IsDeleting w chunks k c → (now : List ℕ) (before : List (List ℕ))
     → Agrees c.base c.length w.marked.bytes now → Views (λ view. Good view w.marked.marks w.retired) now before → (part : List Event)
     → IsPart w.marked.marks c.base c.length part → HasBegun w c now before part
@@ -228,7 +227,7 @@ part_begun w chunks k c r now before agrees good part (OfOthers n le is) =
 
 -- any number of them
 begun : (w : World) (chunks : List Chunk) (k : ℕ) (c : Chunk) → IsDeleting w chunks k c → (made : List Event)
-    → AreBeginnings w.marked.marks c.base c.length made → HasBegun w c w.marked.bytes w.earlier made
+    → AreAttempts w.marked.marks c.base c.length made → HasBegun w c w.marked.bytes w.earlier made
 begun w chunks k c r [] NoneYet =
     record {
       bytes = w.marked.bytes;
@@ -248,17 +247,17 @@ begun w chunks k c r _ (OneMore {earlier} first part rest own) =
       views = b.views;
     }
 
--- a live chunk is deleted, after such beginnings, in a world that has a region's text and spans
+-- a live chunk is deleted, after such attempts, in a world that has a region's text and spans
 pub delete_leads : (w : World) (chunks : List Chunk) (k : ℕ) (c : Chunk) (made : List Event) → Keeps w → ViewsKeep w chunks
     → IsRegion w.marked chunks → AreSpansOf w.retired chunks → k < length chunks → get_or chunks k c ≡ c → IsLive c.state
-    → AreBeginnings w.marked.marks c.base c.length made
+    → AreAttempts w.marked.marks c.base c.length made
     → Reaches w (made ++ delete_events w.marked.marks c.base c.length)
     (after (record w { marked = stopped w c }) (Retires c.base c.length))
     (Kept w.marked.marks (set chunks k (record c { state = Retired (w.keeper.generation + 1) })))
-delete_leads w chunks k c made keeps views region spans inside here live beginnings =
+delete_leads w chunks k c made keeps views region spans inside here live attempts =
     let is : IsDeleting w chunks k c =
     record { keeps = keeps; views = views; region = region; spans = spans; inside = inside; here = here; live = live } in
-    let b = begun w chunks k c is made beginnings in
+    let b = begun w chunks k c is made attempts in
     let r = deletion_leads w chunks k c is b.bytes b.earlier b.agrees b.views in
     record {
       earlier = r.earlier;
