@@ -155,6 +155,7 @@ static NcsEnd watch_and_run(NcsBox *b, Thread *t) {
 /* The box is the thread's, and lives. Its stack begins at `top`. */
 static NcsEnd call(NcsBox *b, Thread *t, uint32_t place, uint32_t top, unsigned count, const uint32_t *args) {
     Live *live = b->module->live;
+    uint32_t how;
     NcsEnd end;
     if (t->depth >= b->limits.depth) {
         return refused(NCS_TOO_DEEP);
@@ -162,8 +163,9 @@ static NcsEnd call(NcsBox *b, Thread *t, uint32_t place, uint32_t top, unsigned 
     if (!can_enter(b, place)) {
         return refused(NCS_BAD_ENTRY);
     }
-    if (live != NULL && !ncs_live_begin(live)) {
-        return refused(NCS_BUSY);
+    how = live != NULL ? ncs_live_begin(live) : NCS_RETURNED;
+    if (how != NCS_RETURNED) {
+        return refused(how);
     }
     t->place = place;
     if (lay_frame(b, t, top, count, args)) {

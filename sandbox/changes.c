@@ -107,11 +107,11 @@ static Live *live_of(const NcsModule *m, NcsRefusal *why) {
     return m->live != NULL ? m->live : ncs_refuse(why, NCS_NOT_LIVE, "the module isn't one of ncs_module_live");
 }
 
-static void lock(Live *live) {
+void ncs_live_lock(Live *live) {
     must(pthread_mutex_lock(&live->lock) == 0, "a lock failed");
 }
 
-static void unlock(Live *live) {
+void ncs_live_unlock(Live *live) {
     must(pthread_mutex_unlock(&live->lock) == 0, "a lock failed");
 }
 
@@ -132,12 +132,12 @@ static void make_runs(Live *live, const Chunk *chunk) {
 
 static int load(Live *live, NcVetted *vetted, const Chunk *chunk, NcsRefusal *why) {
     NcChange loaded;
-    lock(live);
+    ncs_live_lock(live);
     loaded = nc_region_load(&live->region, vetted, NULL, 0);
     if (loaded.fault == NC_OK) {
         make_runs(live, chunk);
     }
-    unlock(live);
+    ncs_live_unlock(live);
     return loaded.fault == NC_OK || ncs_refuse_fault(why, NCS_BAD_CHANGE, loaded.fault, 0);
 }
 
@@ -190,12 +190,12 @@ int ncs_patch(NcsModule *m, NcsAt at, const void *code, size_t len, NcsRefusal *
         return ncs_refuse_fault(why, NCS_BAD_CHANGE, NC_PATCH_BAD_SPAN, 0);
     }
     memcpy(bytes, code, len);
-    lock(live);
+    ncs_live_lock(live);
     told = nc_region_patch(&live->region, at.at, bytes, len, acts, sizeof acts / sizeof *acts);
     if (told.fault == NC_OK) {
         make(live, acts, told.count, NULL);
     }
-    unlock(live);
+    ncs_live_unlock(live);
     return told.fault == NC_OK || ncs_refuse_fault(why, NCS_BAD_CHANGE, told.fault, 0);
 }
 
@@ -221,9 +221,9 @@ int ncs_delete(NcsModule *m, NcsAt base, NcsRefusal *why) {
     if (live == NULL) {
         return 0;
     }
-    lock(live);
+    ncs_live_lock(live);
     fault = delete_chunk(live, base.at);
-    unlock(live);
+    ncs_live_unlock(live);
     return fault == NC_OK || ncs_refuse_fault(why, NCS_BAD_CHANGE, fault, 0);
 }
 
@@ -231,9 +231,9 @@ uint32_t ncs_reclaim(NcsModule *m) {
     Live *live = live_of(m, NULL);
     uint32_t freed = 0;
     if (live != NULL) {
-        lock(live);
+        ncs_live_lock(live);
         freed = ncs_seats_reclaim(live);
-        unlock(live);
+        ncs_live_unlock(live);
     }
     return freed;
 }

@@ -117,18 +117,22 @@ typedef struct Live {
     uint8_t *writable;    /* the text, from place 0, mapped a second time */
     uint64_t changes;     /* odd while acts are being made; atomic [25] */
     unsigned calls;       /* how many are under way; atomic */
+    unsigned given;       /* seats; written under the lock, atomic */
     Seat seats[SEATS];
 } Live;
 
 void ncs_put_act(uint8_t *text, const NcAct *act, const uint8_t *code, uint32_t base); /* its stores [30]; of a chunk at this base */
 
+void ncs_live_lock(Live *live);
+void ncs_live_unlock(Live *live);
+
 /* What a thread that is inside has met at a place where the processor says that a stop may be. */
 enum { MET_STOP, MET_FAULT, MET_NOTHING }; /* the last: it goes back to its instruction */
 int ncs_live_meet(Live *live, Thread *thread, uint32_t place);
 
-/* ---- live.c */
+/* ---- livecode.c */
 
-int ncs_live_begin(Live *live); /* whether one more call may be under way */
+uint32_t ncs_live_begin(Live *live); /* NCS_RETURNED where one more call is under way now, or why it isn't */
 void ncs_live_end(Live *live);
 void ncs_seat_take(Live *live, Thread *thread); /* and checks in: directly before the way in, in a call that was begun [16, 17, 18] */
 void ncs_seat_leave(Live *live, Thread *thread);

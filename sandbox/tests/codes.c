@@ -57,6 +57,12 @@ void codes_load(uint8_t code[BUNDLE], uint32_t at) {
     lay(code, bytes, sizeof bytes);
 }
 
+/* mov [at], eax */
+void codes_store(uint8_t code[BUNDLE], uint32_t at) {
+    codes_load(code, at);
+    code[0] = 0xA3;
+}
+
 /* mov eax, to; and eax, -32; jmp eax */
 void codes_jump(uint8_t code[BUNDLE], uint32_t to) {
     uint8_t bytes[] = {0xB8, 0, 0, 0, 0, 0x83, 0xE0, 0xE0, 0xFF, 0xE0};

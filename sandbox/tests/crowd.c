@@ -16,11 +16,12 @@
 #define LIVES 800u     /* chunks that each thread makes */
 #define LOOP_EACH 200u /* one in so many loops without end */
 #define PATCHES 20000u
+#define PATCHES_MOST 1000000u
 #define SLOT_AT(k) (NC_START + MOST * BUNDLE * (k))
 
 static NcsModule *module;
 static NcsBox *boxes[THREADS];
-static uint64_t met_stops; /* of changes under way; atomic */
+static uint64_t met_stops; /* of changes under way, in the first part; atomic */
 static int over;
 
 static uint32_t next_random(uint64_t *random) {
@@ -139,7 +140,6 @@ static void *live(void *one) {
             live_once(o, slot);
         }
     }
-    __atomic_add_fetch(&met_stops, ncs_thread->met_stops, __ATOMIC_SEQ_CST);
     return NULL;
 }
 
@@ -200,28 +200,33 @@ static void run_threads(void *(*what)(void *), int kills) {
 
 static void *call_patched(void *one) {
     Owner *o = one;
-    uint64_t calls = 0;
+    uint64_t calls = 0, met = 0;
     while (!__atomic_load_n(&over, __ATOMIC_SEQ_CST)) {
         NcsEnd end = run(o, SLOT_AT(0));
         CHECK(end.how == NCS_RETURNED && is_from(end.result, 0, 0));
+        __atomic_add_fetch(&met_stops, ncs_thread->met_stops - met, __ATOMIC_SEQ_CST);
+        met = ncs_thread->met_stops;
         calls++;
     }
     CHECK(calls != 0);
-    __atomic_add_fetch(&met_stops, ncs_thread->met_stops, __ATOMIC_SEQ_CST);
     return NULL;
+}
+
+/* On a busy machine threads meet few stops, so there are more patches until one is met. */
+static int is_enough(uint32_t patches) {
+    return patches == PATCHES_MOST || (patches >= PATCHES && __atomic_load_n(&met_stops, __ATOMIC_SEQ_CST) != 0);
 }
 
 static void try_patches(void) {
     Owner owners[THREADS];
     uint8_t mov[MOV_LEN];
     uint32_t k;
-    met_stops = 0;
     over = 0;
     CHECK(codes_create_number(module, SLOT_AT(0), number_of(0, 0, 0)));
     for (k = 1; k < THREADS; k++) {
         start(&owners[k], k, call_patched);
     }
-    for (k = 1; k <= PATCHES; k++) {
+    for (k = 1; !is_enough(k); k++) {
         codes_mov(mov, number_of(0, 0, k));
         CHECK(ncs_patch(module, (NcsAt){SLOT_AT(0)}, mov, sizeof mov, NULL));
     }

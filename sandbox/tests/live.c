@@ -147,6 +147,8 @@ static void try_faults(NcsModule *m, NcsBox *box) {
     fault_in(m, box, code, THERE, PAGE_FAULT);
     codes_load(code, ROOM);
     fault_in(m, box, code, THERE, GENERAL_PROTECTION);
+    codes_store(code, m->text_at + THERE - box->data_at);
+    fault_in(m, box, code, THERE, GENERAL_PROTECTION);
     codes_jump(code, LIMIT);
     fault_in(m, box, code, THERE + JUMP, GENERAL_PROTECTION);
 }
@@ -341,6 +343,8 @@ static void try_memory(void) {
     scarce = codes_module(BUNDLES);
     box = codes_box(scarce, SHORT);
     CHECK(codes_create_number(scarce, HERE, 5));
+    watching_fail_after = 0; /* the first call needs seats */
+    CHECK(codes_run(box, HERE).how == NCS_HOST && scarce->live->calls == 0);
     CHECK(run_short(scarce_module, undo_nothing) > 2 && run_short(scarce_creation, undo_creation) > 2);
     CHECK(codes_create_number(scarce, THERE, 8) && run_short(scarce_deletion, undo_deletion) > 0);
     CHECK(codes_returns(box, THERE, 8) && codes_returns(box, HERE, 5));

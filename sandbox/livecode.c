@@ -28,13 +28,39 @@ static void check_in(Seat *seat) {
     }
 }
 
-/* A call has at most one thread inside, and a reclaim takes one seat at a time. So with SEATS - 1 calls there is always a seat. */
-int ncs_live_begin(Live *live) {
-    if (__atomic_add_fetch(&live->calls, 1, __ATOMIC_SEQ_CST) < SEATS) {
-        return 1;
+/* A new seat holds back what was deleted since the last reclaim, until somebody checks in by it. */
+static int give_seats(Live *live, unsigned wanted) {
+    unsigned k;
+    uint32_t fault = NC_OK;
+    ncs_live_lock(live);
+    for (k = live->given; k < wanted && fault == NC_OK; k++) {
+        fault = nc_region_seat(&live->region, &live->seats[k].handle);
+        if (fault == NC_OK) {
+            __atomic_store_n(&live->given, k + 1, __ATOMIC_SEQ_CST);
+        }
     }
-    ncs_live_end(live);
-    return 0;
+    ncs_live_unlock(live);
+    return fault == NC_OK;
+}
+
+static unsigned given_seats(const Live *live) {
+    return __atomic_load_n(&live->given, __ATOMIC_SEQ_CST);
+}
+
+/* A call has at most one thread inside, and whoever reclaims takes one seat at a time. So there is always a free seat if there is one more
+   than there are calls. */
+uint32_t ncs_live_begin(Live *live) {
+    unsigned calls = __atomic_add_fetch(&live->calls, 1, __ATOMIC_SEQ_CST);
+    uint32_t how = NCS_RETURNED;
+    if (calls >= SEATS) {
+        how = NCS_BUSY;
+    } else if (calls >= given_seats(live) && !give_seats(live, calls + 1)) {
+        how = NCS_HOST;
+    }
+    if (how != NCS_RETURNED) {
+        ncs_live_end(live);
+    }
+    return how;
 }
 
 void ncs_live_end(Live *live) {
@@ -42,8 +68,8 @@ void ncs_live_end(Live *live) {
 }
 
 void ncs_seat_take(Live *live, Thread *t) {
-    while (!claim(&live->seats[t->seat])) {
-        t->seat = (t->seat + 1) % SEATS;
+    while (t->seat >= given_seats(live) || !claim(&live->seats[t->seat])) {
+        t->seat = t->seat + 1 < given_seats(live) ? t->seat + 1 : 0;
     }
     t->met_at = 0;
     check_in(&live->seats[t->seat]);
@@ -56,7 +82,7 @@ void ncs_seat_leave(Live *live, Thread *t) {
 uint32_t ncs_seats_reclaim(Live *live) {
     NcCount freed;
     unsigned k;
-    for (k = 0; k < SEATS; k++) {
+    for (k = 0; k < live->given; k++) {
         if (claim(&live->seats[k])) {
             check_in(&live->seats[k]);
             release(&live->seats[k]);
@@ -67,16 +93,6 @@ uint32_t ncs_seats_reclaim(Live *live) {
 }
 
 /* ---- The module */
-
-/* The region with all its seats, while no other thread knows it. */
-static uint32_t make_region(Live *live, uint32_t bundles) {
-    uint32_t fault = nc_region_new(bundles, SEATS, &live->region);
-    unsigned k;
-    for (k = 0; k < SEATS && fault == NC_OK; k++) {
-        fault = nc_region_seat(&live->region, &live->seats[k].handle);
-    }
-    return fault;
-}
 
 /* Whether the whole text is there as a file without a name. Its pages are taken now, so no later store finds no memory. */
 static int make_file(uint32_t len) {
@@ -147,7 +163,7 @@ static int begin(NcsModule *m, uint32_t bundles, NcsRefusal *why) {
     if (pthread_mutex_init(&live->lock, NULL) != 0) {
         return ncs_refuse_fault(why, NCS_NO_MEMORY, NC_OUT_OF_MEMORY, 0);
     }
-    fault = make_region(live, bundles);
+    fault = nc_region_new(bundles, SEATS, &live->region);
     return fault == NC_OK ? ncs_prepare(why) && make_text(m, why) : ncs_refuse_fault(why, NCS_BAD_SYSTEM, fault, 0);
 }
 
