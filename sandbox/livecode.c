@@ -118,17 +118,13 @@ static uint8_t *map_writable(int file, uint32_t len) {
 }
 
 /* Under ncs_lock. What is executed can never be written, and what is written never executed. */
-static int map_twice(NcsModule *m) {
-    int file = make_file(m->limit);
-    if (file < 0) {
+static int map_twice(NcsModule *m, int file) {
+    m->live->writable = map_writable(file, m->limit);
+    if (m->live->writable == NULL) {
         return 0;
     }
-    m->live->writable = map_writable(file, m->limit);
-    if (m->live->writable != NULL) {
-        ncs_text_lay(m->live->writable, m->limit);
-        m->text_at = ncs_low_new(m->limit, PROT_READ | PROT_EXEC, file);
-    }
-    (void)close(file);
+    ncs_text_lay(m->live->writable, m->limit);
+    m->text_at = ncs_low_new(m->limit, PROT_READ | PROT_EXEC, file);
     m->selector = m->text_at != 0 ? ncs_segment_code(m->text_at, m->limit) : 0;
     return m->selector != 0;
 }
@@ -137,15 +133,20 @@ static int can_settle(void) {
     return syscall(SYS_membarrier, MEMBARRIER_CMD_REGISTER_PRIVATE_EXPEDITED_SYNC_CORE, 0, 0) == 0;
 }
 
+/* No call that may end the thread is made under the lock. */
 static int make_text(NcsModule *m, NcsRefusal *why) {
-    int made;
+    int file, made = 0;
     if (!can_settle()) {
         ncs_refuse(why, NCS_BAD_SYSTEM, "the system has no membarrier that makes processors serialize");
         return 0;
     }
-    (void)pthread_mutex_lock(&ncs_lock);
-    made = map_twice(m);
-    (void)pthread_mutex_unlock(&ncs_lock);
+    file = make_file(m->limit);
+    if (file >= 0) {
+        (void)pthread_mutex_lock(&ncs_lock);
+        made = map_twice(m, file);
+        (void)pthread_mutex_unlock(&ncs_lock);
+        (void)close(file);
+    }
     if (!made) {
         ncs_refuse(why, NCS_NO_MEMORY, "there is no memory or no room below 4 GiB for the code, or no segment left");
     }

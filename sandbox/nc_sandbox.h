@@ -87,15 +87,14 @@ void ncs_module_free(NcsModule *module);
 NcsModule *ncs_module_live(uint32_t bundles, NcsRefusal *why);
 
 /*
- * The changes. Any thread may make them, also in a call-back, and they wait for each other, never for a thread inside. 1, and the change is
- * made; or 0, and nothing is changed and `why`, which may be null, has the refusal. Code is copied before it is judged, so it may be memory
- * of a box.
- *   A thread that meets a change in the midst of it waits in a signal handler until it is made, and then goes on.
- *   ncs_create  puts a chunk of whole bundles at a multiple of 32 where no chunk is, live or deleted and not yet reclaimed.
+ * The changes. Any thread may make them, also in a call-back. They wait for each other, and never for a thread inside. 1, and the change is
+ * made; or 0, and nothing is changed, and `why`, which may be null, has the refusal. Code is copied before it is judged, so it may lie in
+ * memory of a box.
+ *   ncs_create  puts a chunk of whole bundles at a multiple of 32, where no chunk is, live or deleted and not yet reclaimed.
  *   ncs_patch   replaces whole instructions of a chunk, within a bundle, by others of the same lengths.
- *   ncs_delete  removes the chunk that begins there. A thread in it stops at its next instruction. Its span can't be used yet.
- * Memory of the process that a change ends in the midst of is never seen by boxes: if the system takes away the barrier that it had
- * granted, the process is aborted.
+ *   ncs_delete  removes the chunk that begins at `base`. A thread in it stops at its next instruction. Its span can't be used yet.
+ * A thread inside that meets a change under way waits until that is made, and goes on; the wait counts as its time. Where the system refuses
+ * a barrier that it had granted, in the midst of a change, the process is aborted.
  */
 int ncs_create(NcsModule *module, NcsAt base, const void *code, size_t len, NcsRefusal *why);
 int ncs_patch(NcsModule *module, NcsAt at, const void *code, size_t len, NcsRefusal *why);
