@@ -93,18 +93,19 @@ NcsModule *ncs_module_live(uint32_t bundles, NcsRefusal *why);
  *   ncs_create  puts a chunk of whole bundles at a multiple of 32, where no chunk is, live or deleted and not yet reclaimed.
  *   ncs_patch   replaces whole instructions of a chunk, within a bundle, by others of the same lengths.
  *   ncs_delete  removes the chunk that begins at `base`. A thread in it stops at its next instruction. Its span can't be used yet.
- * A thread inside that meets a change under way waits until that is made, and goes on; the wait counts as its time. Where the system refuses
- * a barrier that it had granted, in the midst of a change, the process is aborted.
+ * A thread inside that meets a change under way waits until that is made, and goes on. The wait counts as its time. The process is aborted
+ * if the system refuses, in the midst of a change, a barrier that it had granted.
  */
 int ncs_create(NcsModule *module, NcsAt base, const void *code, size_t len, NcsRefusal *why);
 int ncs_patch(NcsModule *module, NcsAt at, const void *code, size_t len, NcsRefusal *why);
 int ncs_delete(NcsModule *module, NcsAt base, NcsRefusal *why);
 
 /*
- * Frees the spans of deleted chunks in which no thread can be any more. How many chunks it freed. It waits for no thread inside. A span gets
- * free once each thread that was inside when its chunk was deleted has come out: by a return, a call-back, its end or its time limit. So the
- * longest time limit of the module's boxes bounds how long that takes, and a slow call-back doesn't matter.
- * A call that is on its way to a chunk while that is deleted, reclaimed and replaced may run the new one, from a bundle start on.
+ * Frees the spans of deleted chunks in which no thread can be any more, and returns how many chunks it freed. It waits for nobody inside. A
+ * chunk is freed once each thread that was inside when it was deleted has come out: by a return, a call-back, a stop, a kill or its time
+ * limit. So the longest time limit of the module's boxes, in processor time of each thread inside, bounds how long that takes. In a
+ * call-back a thread is outside, however slow that is.
+ *   A call on its way to a chunk that is meanwhile deleted, reclaimed and replaced may run the new one, from a bundle start on.
  */
 uint32_t ncs_reclaim(NcsModule *module);
 

@@ -1,7 +1,7 @@
 /*
- * Code that is generated, run, patched and thrown away in boxes: jit [SECONDS]. examples/jit/build compiles it. First chunks are made, run and
- * thrown away. Then threads run a chunk whose inline cache is patched: a stub is made, the cache's jump is patched to it, and the stub before
- * it is thrown away.
+ * Code that is generated, run, patched and thrown away in boxes: jit [SECONDS]. `build` compiles it. First chunks are made, run and thrown
+ * away. Then threads run a chunk whose inline cache is patched: a stub is made, the cache's jump is patched to it, and the stub before it
+ * is thrown away.
  *
  * Status 0: each sum is right. 1: a line says WRONG. 2: a change was refused, or standard output can't be written. 77: the system refuses
  * what live code needs.

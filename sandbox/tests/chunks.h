@@ -1,5 +1,5 @@
-/* Chunks made by hand, for threads that run while they are changed. Each judges itself: what isn't as it was written stops at BAD, traps, or
-   brings wrong numbers. */
+/* Chunks made by hand, for threads that run while they are changed. Each judges itself: what isn't as it was written stops at BAD, traps,
+   or brings wrong numbers. */
 #ifndef CHUNKS_H
 #define CHUNKS_H
 

@@ -29,7 +29,7 @@ void codes_loop(uint8_t code[BUNDLE]);
 /* Calls call-back 0, without arguments, and returns what that returns: two bundles, at this base. */
 void codes_call(uint8_t code[2 * BUNDLE], uint32_t base);
 
-/* Loads from an address of the box, or stores there, and returns; a masked jump to an address, by the instruction at JUMP: a bundle each. */
+/* A load from an address of the box, or a store there, and a return; a masked jump to an address, by the instruction at JUMP: a bundle. */
 void codes_load(uint8_t code[BUNDLE], uint32_t at);
 void codes_store(uint8_t code[BUNDLE], uint32_t at);
 void codes_jump(uint8_t code[BUNDLE], uint32_t to);

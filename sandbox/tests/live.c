@@ -286,8 +286,8 @@ static void try_refusals(void) {
     puts("refusals");
 }
 
-/* ---- Want of memory: each allocation of a call fails in turn. Then the call is refused, and nothing is changed; or it is made all the same,
-   where nc_host can do without. What was made is undone. */
+/* ---- Want of memory: each allocation of a call fails in turn. Then the call is refused, and nothing is changed; or it is made all the
+   same, where nc_host can do without. What was made is undone. */
 
 static NcsModule *scarce;
 

@@ -1,6 +1,6 @@
 /*
- * Threads inside while code is patched, deleted and replaced: race [--control] [--seconds N] [--threads N]. Each judges what comes out. These
- * numbers count it:
+ * Threads inside while code is patched, deleted and replaced: race [--control] [--seconds N] [--threads N]. Each judges what comes out.
+ * These numbers count it:
  *
  *   stays                          times inside, each from its entry to its end
  *   waits                          times that the writer wanted a deleted span and some thread could still be in it; nothing blocks
@@ -59,7 +59,7 @@ static NcsEnd go(Guest *g, uint32_t way, uint64_t *random) {
     return ncs_call(g->box, (NcsAt){ENTRY_AT}, NCS_ARGS(ecx, ebp, esi, edi, way == STRAIGHT ? CHANGING_AT : PATCHED_AT));
 }
 
-/* A version that stood at some time during the stay. Of one that is forgotten, after a long time without the processor, nothing is known. */
+/* A version that stood at some time during the stay. Of one that is forgotten, after a long time without a processor, nothing is known. */
 static int is_version(const Guest *g, const NcsEnd *end, uint32_t first, uint32_t last) {
     uint32_t id = g->result[1];
     return id - first <= last - first &&
