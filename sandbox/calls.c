@@ -139,12 +139,13 @@ static NcsEnd run(NcsBox *b, Thread *t) {
 }
 
 /* An inner call has no more time than is left of the outer one. */
-static NcsEnd watch_and_run(NcsBox *b, Thread *t) {
+static NcsEnd call(NcsBox *b, Thread *t, uint32_t place) {
     NcsBox *outer_box = t->box;
     uint64_t outer = t->deadline, own = t->ticks + (b->limits.milliseconds - 1) / TICK_MILLISECONDS + 2;
     NcsEnd end;
     t->deadline = t->depth != 0 && outer < own ? outer : own;
     t->depth++;
+    t->place = place;
     end = ncs_thread_watch(t) ? run(b, t) : ended(b, t, NCS_HOST);
     t->box = outer_box;
     t->deadline = outer;
@@ -153,7 +154,7 @@ static NcsEnd watch_and_run(NcsBox *b, Thread *t) {
 }
 
 /* The box is the thread's, and lives. Its stack begins at `top`. */
-static NcsEnd call(NcsBox *b, Thread *t, uint32_t place, uint32_t top, unsigned count, const uint32_t *args) {
+static NcsEnd begin(NcsBox *b, Thread *t, uint32_t place, uint32_t top, unsigned count, const uint32_t *args) {
     Live *live = b->module->live;
     uint32_t how;
     NcsEnd end;
@@ -167,9 +168,8 @@ static NcsEnd call(NcsBox *b, Thread *t, uint32_t place, uint32_t top, unsigned 
     if (how != NCS_RETURNED) {
         return refused(how);
     }
-    t->place = place;
     if (lay_frame(b, t, top, count, args)) {
-        end = watch_and_run(b, t);
+        end = call(b, t, place);
     } else {
         t->place = 0;
         end = ended(b, t, NCS_BAD_CALL);
@@ -191,7 +191,7 @@ NcsEnd ncs_call(NcsBox *b, NcsAt function, unsigned count, const uint32_t *args)
     if (!nested && !ncs_box_claim(b, t)) {
         return refused(NCS_BUSY);
     }
-    end = b->dead ? refused(NCS_DEAD) : call(b, t, function.at, nested ? b->nest_at : b->module->image.data_begin, count, args);
+    end = b->dead ? refused(NCS_DEAD) : begin(b, t, function.at, nested ? b->nest_at : b->module->image.data_begin, count, args);
     if (!nested) {
         ncs_box_release(b);
     }
