@@ -104,7 +104,7 @@ static void call_another(Owner *o) {
         CHECK(end.place >= at && end.place < at + BUNDLE);
         o->stopped++;
     } else {
-        CHECK((end.how == NCS_RETURNED && is_from(end.result, slot, bundle)) || end.how == NCS_LATE);
+        CHECK(end.how == NCS_RETURNED && is_from(end.result, slot, bundle));
     }
 }
 
@@ -120,13 +120,13 @@ static void live_once(Owner *o, uint32_t slot) {
     CHECK(codes_delete(module, SLOT_AT(slot)));
 }
 
-static void loop_once(Owner *o, uint32_t slot) {
+/* Another thread that is in the loop stops once it is deleted. */
+static void loop_once(uint32_t slot) {
+    NcsBox *box = codes_box(module, SHORT);
     uint8_t code[BUNDLE];
-    NcsEnd end;
     codes_loop(code);
     create(SLOT_AT(slot), code, sizeof code);
-    end = codes_run(o->box, SLOT_AT(slot));
-    CHECK((end.how == NCS_LATE || end.how == NCS_KILLED) && ncs_reset(o->box) && codes_delete(module, SLOT_AT(slot)));
+    CHECK(codes_run(box, SLOT_AT(slot)).how == NCS_LATE && codes_delete(module, SLOT_AT(slot)) && ncs_free(box));
 }
 
 static void *live(void *one) {
@@ -135,7 +135,7 @@ static void *live(void *one) {
     for (k = 1; k <= LIVES; k++) {
         uint32_t slot = THREADS * (k % (SLOTS / THREADS)) + o->id;
         if (k % LOOP_EACH == 0) {
-            loop_once(o, slot);
+            loop_once(slot);
         } else {
             live_once(o, slot);
         }
@@ -147,7 +147,7 @@ static void start(Owner *o, unsigned id, void *(*what)(void *)) {
     memset(o, 0, sizeof *o);
     o->id = id;
     o->random = 0x9E3779B97F4A7C15ull * (id + 1);
-    o->box = boxes[id] = codes_box(module, SHORT);
+    o->box = boxes[id] = codes_box(module, LONG);
     if (pthread_create(&o->thread, NULL, what, o) != 0) {
         abort();
     }

@@ -134,16 +134,15 @@ static void try_callback(void) {
 }
 
 static void try_late(void) {
-    unsigned early, freed = 0;
+    unsigned freed = 0;
     Stay s;
-    begin(&s, WAITS, 300);
+    begin(&s, WAITS, SHORT);
     until_inside(&s);
     delete_given();
-    early = ncs_reclaim(module);
     while (freed == 0) {
         freed = ncs_reclaim(module);
     }
-    CHECK(early == 0 && freed == 1 && end_of(&s).how == NCS_LATE);
+    CHECK(freed == 1 && end_of(&s).how == NCS_LATE);
     puts("the end of its time");
 }
 
