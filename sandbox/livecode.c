@@ -2,6 +2,7 @@
 #define _GNU_SOURCE
 #include "inner.h"
 
+#include <errno.h>
 #include <fcntl.h>
 #include <linux/membarrier.h>
 #include <stdlib.h>
@@ -94,14 +95,20 @@ uint32_t ncs_seats_reclaim(Live *live) {
 
 /* ---- The module */
 
-/* Whether the whole text is there as a file without a name. Its pages are taken now, so no later store finds no memory. */
-static int make_file(uint32_t len) {
+/* The text as a file without a name, or -1. Its pages are taken now, so no later store finds no memory. */
+static int make_file(uint32_t len, NcsRefusal *why) {
     int file = memfd_create("nc_sandbox", MFD_CLOEXEC);
-    if (file >= 0 && fallocate(file, 0, 0, len) != 0) {
-        (void)close(file);
-        file = -1;
+    if (file < 0 && errno != EMFILE && errno != ENFILE && errno != ENOMEM) {
+        ncs_refuse(why, NCS_BAD_SYSTEM, "the system has no files in memory");
+    } else if (file < 0 || fallocate(file, 0, 0, len) != 0) {
+        ncs_refuse(why, NCS_NO_MEMORY, "there is no memory for the code");
+    } else {
+        return file;
     }
-    return file;
+    if (file >= 0) {
+        (void)close(file);
+    }
+    return -1;
 }
 
 /* Out of reach of 32-bit addresses, and of a forked child. */
@@ -135,20 +142,21 @@ static int can_settle(void) {
 
 /* No call that may end the thread is made under the lock. */
 static int make_text(NcsModule *m, NcsRefusal *why) {
-    int file, made = 0;
+    int file, made;
     if (!can_settle()) {
         ncs_refuse(why, NCS_BAD_SYSTEM, "the system has no membarrier that makes processors serialize");
         return 0;
     }
-    file = make_file(m->limit);
-    if (file >= 0) {
-        (void)pthread_mutex_lock(&ncs_lock);
-        made = map_twice(m, file);
-        (void)pthread_mutex_unlock(&ncs_lock);
-        (void)close(file);
+    file = make_file(m->limit, why);
+    if (file < 0) {
+        return 0;
     }
+    (void)pthread_mutex_lock(&ncs_lock);
+    made = map_twice(m, file);
+    (void)pthread_mutex_unlock(&ncs_lock);
+    (void)close(file);
     if (!made) {
-        ncs_refuse(why, NCS_NO_MEMORY, "there is no memory or no room below 4 GiB for the code, or no segment left");
+        ncs_refuse(why, NCS_NO_MEMORY, "there is no room for the code, below 4 GiB and above, or no segment left");
     }
     return made;
 }

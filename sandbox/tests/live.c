@@ -2,9 +2,11 @@
 #define _GNU_SOURCE
 #include "watching.h"
 
+#include <errno.h>
 #include <stdio.h>
 #include <stdlib.h>
 #include <string.h>
+#include <sys/syscall.h>
 
 /* ---- Order. What each change does stands in nc_host.h; docs/EMBEDDING.md says when the count of changes is odd. */
 
@@ -286,6 +288,30 @@ static void try_refusals(void) {
     puts("refusals");
 }
 
+/* ---- What the system refuses, with nothing left behind */
+
+static void refuse_module(int number, int error, uint32_t kind) {
+    Maps before_it = read_maps(), maps;
+    NcsRefusal why;
+    watching_refuse = number;
+    watching_errno = error;
+    CHECK(ncs_module_live(BUNDLES, &why) == NULL && why.kind == kind && why.fault == 0 && why.sentence != NULL);
+    watching_refuse = 0;
+    maps = read_maps();
+    CHECK(maps.all == before_it.all);
+}
+
+static void try_system(void) {
+    refuse_module(SYS_membarrier, EINVAL, NCS_BAD_SYSTEM);
+    refuse_module(SYS_memfd_create, ENOSYS, NCS_BAD_SYSTEM);
+    refuse_module(SYS_memfd_create, EMFILE, NCS_NO_MEMORY);
+    refuse_module(SYS_fallocate, ENOSPC, NCS_NO_MEMORY);
+    refuse_module(SYS_madvise, EINVAL, NCS_NO_MEMORY);
+    refuse_module(SYS_modify_ldt, ENOMEM, NCS_NO_MEMORY);
+    ncs_module_free(codes_module(BUNDLES));
+    puts("refusals of the system");
+}
+
 /* ---- Want of memory: each allocation of a call fails in turn. Then the call is refused, and nothing is changed; or it is made all the
    same, where nc_host can do without. What was made is undone. */
 
@@ -358,6 +384,7 @@ int main(void) {
     try_text();
     try_changes();
     try_refusals();
+    try_system();
     try_memory();
     printf("%u wrong\n", testing_wrong);
     return testing_wrong != 0;

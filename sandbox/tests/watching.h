@@ -17,6 +17,8 @@ extern NcsModule *watching_module; /* whose steps are noted, or NULL */
 extern Step watching_steps[STEPS];
 extern unsigned watching_count;
 extern unsigned watching_fail_settlings; /* so many settlings fail */
+extern int watching_refuse; /* the number of a call of the system that is refused, with watching_errno; 0 for none */
+extern int watching_errno;
 extern long watching_fail_after; /* so many allocations succeed, and one fails; below 0 none does */
 
 #endif
