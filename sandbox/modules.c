@@ -92,8 +92,12 @@ static int load(NcsModule *m, NcsRefusal *why) {
 }
 
 NcsModule *ncs_module_new(const void *bytes, size_t len, NcsRefusal *why) {
-    NcsModule *m = calloc(1, sizeof *m);
+    NcsModule *m;
+    if (ncs_forked) { /* nothing of nc_host's may be called there [27] */
+        return ncs_refuse(why, NCS_BAD_SYSTEM, "this is a forked child");
+    }
     ncs_refuse(why, NCS_OK, "nothing is refused");
+    m = calloc(1, sizeof *m);
     if (m == NULL || (m->image.bytes = malloc(len + 1)) == NULL) {
         free(m);
         return ncs_refuse(why, NCS_NO_MEMORY, "out of memory");
