@@ -306,6 +306,7 @@ static void refuse_module(int number, int error, uint32_t kind) {
     Maps before_it = read_maps(), maps;
     NcsRefusal why;
     watching_refuse = number;
+    watching_times = 100;
     watching_errno = error;
     CHECK(ncs_module_live(BUNDLES, &why) == NULL && why.kind == kind && why.fault == 0 && why.sentence != NULL);
     watching_refuse = 0;
@@ -320,7 +321,12 @@ static void try_system(void) {
     refuse_module(SYS_fallocate, ENOSPC, NCS_NO_MEMORY);
     refuse_module(SYS_madvise, EINVAL, NCS_NO_MEMORY);
     refuse_module(SYS_modify_ldt, ENOMEM, NCS_NO_MEMORY);
+    watching_refuse = SYS_memfd_create; /* as an older kernel does, which doesn't know all flags */
+    watching_times = 1;
+    watching_errno = EINVAL;
     ncs_module_free(codes_module(BUNDLES));
+    CHECK(watching_times == 0);
+    watching_refuse = 0;
     puts("refusals of the system");
 }
 

@@ -13,7 +13,7 @@ NcsModule *watching_module;
 Step watching_steps[STEPS];
 unsigned watching_count, watching_fail_settlings;
 uint8_t *watching_lent;
-int watching_refuse, watching_errno;
+int watching_refuse, watching_times, watching_errno;
 long watching_fail_after = -1;
 
 long __real_syscall(long number, ...);
@@ -48,9 +48,10 @@ static void note(int stamp) {
 }
 
 static int refuses(long number) {
-    if (watching_refuse != number) {
+    if (watching_refuse != number || watching_times == 0) {
         return 0;
     }
+    watching_times--;
     errno = watching_errno;
     return 1;
 }
