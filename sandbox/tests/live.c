@@ -12,7 +12,8 @@
 
 static int is_step(unsigned k, int stamp, const uint8_t bytes[SEEN]) {
     const Step *step = &watching_steps[k];
-    return k < watching_count && step->stamp == stamp && step->changes % 2 == (stamp ? 0 : 1) && memcmp(step->bytes, bytes, SEEN) == 0;
+    return k < watching_count && step->stamp == stamp && step->locked && step->changes % 2 == (stamp ? 0 : 1) &&
+           memcmp(step->bytes, bytes, SEEN) == 0;
 }
 
 /* Puts away from bundle starts, a settling, puts at bundle starts. */

@@ -37,10 +37,19 @@ void *__wrap_calloc(size_t count, size_t len);
 void *__wrap_realloc(void *at, size_t len);
 void *__wrap_aligned_alloc(size_t to, size_t len);
 
+static int is_locked(Live *live) {
+    if (pthread_mutex_trylock(&live->lock) != 0) {
+        return 1;
+    }
+    CHECK(pthread_mutex_unlock(&live->lock) == 0);
+    return 0;
+}
+
 static void note(int stamp) {
     Step *step = &watching_steps[watching_count % STEPS];
     if (watching_module != NULL) {
         step->stamp = stamp;
+        step->locked = is_locked(watching_module->live);
         step->changes = watching_module->live->changes;
         memcpy(step->bytes, codes_text(watching_module, HERE), SEEN);
         watching_count++;

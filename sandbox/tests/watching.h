@@ -8,7 +8,8 @@
 #define SEEN (2 * BUNDLE) /* bytes from HERE on */
 
 typedef struct Step {
-    int stamp; /* else it is a settling */
+    int stamp;  /* else it is a settling */
+    int locked; /* whether the module's lock is held */
     uint64_t changes;
     uint8_t bytes[SEEN];
 } Step;
