@@ -24,9 +24,9 @@ static void lay_trampoline(uint8_t *text, uint32_t k) {
     memcpy(to + 10, &selector, 2);
 }
 
-void ncs_text_lay(const NcsModule *m, uint8_t *text) {
+void ncs_zone_lay(uint8_t *text) {
     uint32_t k;
-    memset(text, NC_STOP, m->limit);
+    memset(text, NC_STOP, NC_START);
     lay_trampoline(text, OUT_RETURN);
     lay_trampoline(text, OUT_EXIT);
     for (k = OUT_CALLBACK; k < OUT_END; k++) {
@@ -44,7 +44,8 @@ static int map_text(NcsModule *m, const NcAct *acts, size_t count) {
         return 0;
     }
     text = (uint8_t *)(uintptr_t)m->text_at;
-    ncs_text_lay(m, text);
+    ncs_zone_lay(text);
+    memset(text + NC_START, NC_STOP, m->limit - NC_START);
     for (i = 0; i < count; i++) {
         ncs_put_act(text, &acts[i], m->image.bytes + m->image.code_offset, m->image.code_at);
     }
