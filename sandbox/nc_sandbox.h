@@ -74,9 +74,9 @@ NcsAt ncs_symbol(const NcsModule *module, const char *name);
 /* Where the file begins (ld -e), or 00010000 for code alone. A file may name any number here too. */
 NcsAt ncs_entry(const NcsModule *module);
 
-/* The function of the file in which a place of the code lies, and how far it is behind the function's beginning. It is the nearest global or
-   local symbol at the place or below it, whose name has up to 255 printable ASCII characters. Null, and `offset` stays as it is, if there is
-   none. The name is valid until the module is freed. */
+/* The function of the file in which a place of the code lies, and how far the place is behind its beginning. It is the nearest symbol at or
+   below the place whose name has up to 255 printable ASCII characters. Null, and `offset` stays as it is, if there is none. The name is
+   valid until the module is freed. */
 const char *ncs_function_at(const NcsModule *module, NcsAt at, uint32_t *offset);
 
 /* The same for a file whose code was refused. The name is in the file. */

@@ -70,8 +70,10 @@ static void try_code(void) {
 static int is_in(uint32_t place, const char *name, uint32_t far) {
     uint32_t offset = 77, other = 77;
     const char *found = ncs_function_at(guest, (NcsAt){place}, &offset), *in = ncs_function_in(file, file_len, (NcsAt){place}, &other);
-    int none = found == NULL && in == NULL && offset == 77 && other == 77;
-    return name == NULL ? none : found != NULL && in != NULL && strcmp(found, name) == 0 && strcmp(in, name) == 0 && offset == far && other == far;
+    if (name == NULL || found == NULL || in == NULL) {
+        return name == NULL && found == NULL && in == NULL && offset == 77 && other == 77;
+    }
+    return strcmp(found, name) == 0 && strcmp(in, name) == 0 && offset == far && other == far;
 }
 
 static void try_names(void) {
