@@ -5,10 +5,13 @@ import subprocess
 import sys
 
 from examples import TOP
+from executing import missing
 from native import INCLUDE, archives, compiler
 
 SANDBOX = os.path.join(TOP, "sandbox")
 FLAGS = ["-std=gnu11", "-O2", "-Wall", "-Wextra", "-pthread", "-I" + INCLUDE, "-I" + SANDBOX]
+NC_CC = os.path.join(TOP, "examples", "compile", "nc-cc")
+SYSTEM_LACKS = 123  # a status of nc-run
 CHECKED = ["-g1", "-fsanitize=address,undefined", "-fno-sanitize-recover=all"]
 
 
@@ -34,8 +37,9 @@ def objects(pool, paths, folder, flags):
     return made
 
 
-def link(parts, made, flags=()):
-    call([compiler(), "-pthread", *flags, *parts, *archives(), "-o", made])
+def link(parts, made, flags=(), over=None):
+    """A program, over the built library nc_host or over other archives."""
+    call([compiler(), "-pthread", *flags, *parts, *(archives() if over is None else over), "-o", made])
     return made
 
 
@@ -49,6 +53,23 @@ def planted(name, expression, source, folder):
     with open(changed, "w", encoding="utf-8") as file:
         file.write(text)
     return compile_one(changed, changed + ".o", ["-w"])
+
+
+def nc_run(folder):
+    """The path of the program, which is made in a folder."""
+    made = os.path.join(folder, "nc-run")
+    call([compiler(), *FLAGS, "-I" + os.path.join(SANDBOX, "run"), *sources(), *sources("run"), *archives(), "-o", made])
+    return made
+
+
+def no_boxes(program, folder):
+    """What isn't here without which nc-run runs nothing, or None."""
+    if missing():
+        return missing() + " isn't there"
+    made = os.path.join(folder, "hello.elf")
+    call([NC_CC, os.path.join(TOP, "examples", "run", "hello.c"), "-o", made])
+    done = subprocess.run([program, made], stdin=subprocess.DEVNULL, capture_output=True, text=True)
+    return done.stderr.strip() if done.returncode == SYSTEM_LACKS else None
 
 
 def has_sanitizers(folder):
