@@ -35,6 +35,8 @@
 	AT(write_without_stack) /* 00010180 */
 	movl	$-4, %esp
 	jmp	nc_write
-	AT(off_the_end) /* 000101a0, the last one */
+	AT(recurse) /* 000101a0; the call ends its bundle */
+	call	recurse
+	AT(off_the_end) /* 000101c0, the last one */
 	nop
 	.section .note.GNU-stack, "", @progbits

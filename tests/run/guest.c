@@ -142,6 +142,29 @@ static int all(const char *path) {
     return 0;
 }
 
+static u32 next_random(u32 *state) {
+    *state ^= *state << 13;
+    *state ^= *state >> 17;
+    return *state ^= *state << 5;
+}
+/* A number that a call may take amiss, a path, a range of memory, or any number. */
+static u32 any(u32 *state) {
+    static const char *const paths[] = {"file", "sub/inner", "made", "sub/more", "out", "../secret", "../made", "/made", "beyond", "pipe", "."};
+    const u32 edges[] = {0, 1, 2, 3, 4, 63, 64, 0x41, 0x242, 0x7FFFFFFF, 0x80000000, 0xFFFFFFFF, 0xFFFF, 0x10000, nc_memory(), 4096};
+    u32 k = next_random(state), way = next_random(state) % 8;
+    if (way < 4) return edges[k % (sizeof edges / sizeof *edges)];
+    if (way == 4) return (u32)paths[k % (sizeof paths / sizeof *paths)];
+    return way == 5 ? (u32)bytes + k % sizeof bytes : way == 6 ? k % 70 : k;
+}
+/* Any calls with any arguments. */
+static int random_calls(u32 state) {
+    for (u32 k = 0; k < 200000; k++) {
+        u32 at = 0x100 + 32 * (next_random(&state) % 8), a = any(&state), b = any(&state), c = any(&state), d = any(&state);
+        ((u32 (*)(u32, u32, u32, u32))at)(a, b, c, d);
+    }
+    return 9;
+}
+
 /* Whether the memory is there up to its end, behind the data, and the words lie above. */
 static int memory(char **argv) {
     char *end = (char *)nc_memory();
@@ -180,6 +203,7 @@ int start(int argc, char **argv) {
     if (same(what, "size")) return line(1, "size", nc_size(number_of(path))), 0;
     if (same(what, "put")) return line(2, "write", nc_write(number_of(path), "x", 1)), 0;
     if (same(what, "get")) return line(2, "read", nc_read(number_of(path), bytes, 1)), 0;
+    if (same(what, "random")) return random_calls((u32)number_of(path));
     if (same(what, "memory")) return memory(argv);
     if (same(what, "clocks")) return clocks();
     return 99;
