@@ -40,16 +40,15 @@ static int printed(int count) {
 
 /* The digits at the beginning of a text, as a number up to `most`; what follows them. 0 if there is no such number. */
 static int read_number(const char *text, int base, uint64_t most, uint64_t *number, const char **rest) {
-    static const char digits[] = "0123456789abcdefABCDEF";
-    size_t len = strspn(text, digits) < strlen(text) ? strspn(text, digits) : strlen(text);
+    size_t len = strspn(text, base == 16 ? "0123456789abcdefABCDEF" : "0123456789");
     char *end;
-    if (len == 0 || strchr(base == 16 ? digits : "0123456789", text[0]) == NULL) {
+    if (len == 0) {
         return 0;
     }
     errno = 0;
     *number = strtoull(text, &end, base);
     *rest = end;
-    return errno == 0 && *number <= most;
+    return errno == 0 && end == text + len && *number <= most;
 }
 
 static int read_time(const char *text, Line *line) {
@@ -154,8 +153,14 @@ static const struct Option {
     int (*take)(const char *value, Line *line);
     int has_value;
 } OPTIONS[] = {
-    {"--time", take_time, 1},        {"--memory", take_memory, 1}, {"--call", take_call, 1}, {"--dir", take_folder, 1},
-    {"--dir-rw", take_writable, 1}, {"--help", take_help, 0},     {"-h", take_help, 0},     {"--version", take_version, 0},
+    {"--time", take_time, 1},
+    {"--memory", take_memory, 1},
+    {"--call", take_call, 1},
+    {"--dir", take_folder, 1},
+    {"--dir-rw", take_writable, 1},
+    {"--help", take_help, 0},
+    {"-h", take_help, 0},
+    {"--version", take_version, 0},
     {"-V", take_version, 0},
 };
 
