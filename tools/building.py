@@ -13,7 +13,7 @@ import subprocess
 import tempfile
 
 from boxes import link as link_boxes
-from boxes import objects, sources
+from boxes import compile_all, sources
 from examples import TOP
 from native import kit
 
@@ -112,8 +112,8 @@ def boxes(cpu, static):
         host = os.path.join(folder, "libnc_host.a")
         with open(host, "wb") as file:
             file.write(static)
-        archive = merge_boxes(objects(pool, sources(), folder, ["-fPIC"]).values(), folder)
-        own = objects(pool, sources("run"), folder, ["-DNC_RUN_LEVEL=%d" % level])
+        archive = merge_boxes(compile_all(pool, sources(), folder, ["-fPIC"]).values(), folder)
+        own = compile_all(pool, sources("sandbox", "run"), folder, ["-DNC_RUN_LEVEL=%d" % level])
         made = link_boxes([*own.values(), archive, host], os.path.join(folder, "nc-run"), ["-s", "-Wl,-z,relro,-z,now"], over=[])
         files = []
         for path in (archive, made):
