@@ -150,7 +150,7 @@ static const char *shown_name(const Image *image, const Elf32_Sym *s) {
     while (len <= NAME_MOST && name[len] > ' ' && name[len] <= '~') {
         len++;
     }
-    return len != 0 && len <= NAME_MOST && name[len] == 0 && name[0] != '$' && strncmp(name, ".L", 2) != 0 ? name : NULL;
+    return len != 0 && len <= NAME_MOST && name[len] == 0 && name[0] != '$' && !(name[0] == '.' && name[1] == 'L') ? name : NULL;
 }
 
 /* The nearest one at the address or below it. Of several at one address the last one of the table counts, as for nc_check. */
