@@ -11,12 +11,26 @@
  * Errors     A call that fails returns a negative number, -9 for EBADF. Errors have the numbers of Linux. A pointer outside the memory is
  *            EFAULT. Nothing is done then.
  * Files      0, 1 and 2 are nc-run's own, with EBADF where they aren't open. A program gets others by nc_open, at most 64 in all.
- * Addresses  Call k is at 00000100 + 32 k, nc_exit at 00000040. EAX, ECX and EDX are overwritten, as by any function in C.
+ * Addresses  Call k is at 00000100 + 32 k, nc_exit at 00000040. The arguments lie on the stack above the address to return to; 64 bits are
+ *            two words. The result is in EAX, or in EDX and EAX. These two and ECX are overwritten, and no other register.
+ *
+ *     k  address   call                    result                   errors, beside those that the file's system has, such as EIO
+ *     -  00000040  exit(status)            none
+ *     0  00000100  read(file, to, len)     bytes; 0 at the end      EBADF, EFAULT, EAGAIN if the file doesn't wait
+ *     1  00000120  write(file, from, len)  bytes                    EBADF, EFAULT, EAGAIN, EPIPE, ENOSPC, EFBIG
+ *     2  00000140  clock(clock)            nanoseconds, 64 bits     EINVAL
+ *     3  00000160  memory()                address
+ *     4  00000180  open(path, how, mode)   file                     EFAULT, ENAMETOOLONG, EINVAL, EACCES, EROFS, EMFILE, EISDIR, ENOENT,
+ *                                                                   EEXIST, ENOTDIR, ELOOP
+ *     5  000001a0  close(file)             0                        EBADF
+ *     6  000001c0  lseek(file, low, high,  place, 64 bits           EBADF, EINVAL, ESPIPE
+ *                  from)
+ *     7  000001e0  size(file)              bytes, 64 bits           EBADF, ESPIPE
  */
 #ifndef NC_RUN_H
 #define NC_RUN_H
 
-/* The calls by their numbers, each with the count of its arguments in words of 32 bits. */
+/* The calls by their numbers, each with the words of its arguments. */
 #define NC_RUN_CALLS(CALL) \
     CALL(0, read, 3) \
     CALL(1, write, 3) \
