@@ -73,16 +73,23 @@ static const char *word(const Run *run, unsigned k) {
     return k == 0 ? run->line.file : run->line.words[k - 1];
 }
 
-/* Writes the words at the end of the memory, and below them argv, which ends with a null. The address of argv, or 0 if there is no room
-   above the data. */
-static uint32_t lay_words(Run *run, unsigned count) {
-    uint32_t heap = ncs_take(run->box, 0).at, at, argv, zero = 0;
+/* Their bytes, each with its 0. */
+static uint64_t words_len(const Run *run, unsigned count) {
     uint64_t len = 0;
     unsigned k;
     for (k = 0; k < count; k++) {
         len += strlen(word(run, k)) + 1;
     }
-    if (heap == 0 || len + 4ull * count + 4 + 16 > run->line.memory - heap) {
+    return len;
+}
+
+/* Writes the words at the end of the memory, and below them argv, which ends with a null. The address of argv, a multiple of 16; or 0 if
+   there is no room above the data. */
+static uint32_t lay_words(Run *run, unsigned count) {
+    uint32_t heap = ncs_take(run->box, 0).at, at, argv, zero = 0;
+    uint64_t len = words_len(run, count);
+    unsigned k;
+    if (heap == 0 || len + 4ull * count + 4 + 15 > run->line.memory - heap) {
         return 0;
     }
     at = run->line.memory - (uint32_t)len;
