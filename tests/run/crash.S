@@ -1,4 +1,4 @@
-/* Functions that crash, each in a bundle of its own from 00010000 on, so that their places are known. */
+/* Functions that crash or don't end, each in a bundle of its own from 00010000 on, so that their places are known. */
 #define AT(name) .p2align 5, 0x90; .globl name; .type name, @function; name:
 	.text
 	AT(start) /* 00010000 */
@@ -37,6 +37,9 @@
 	jmp	nc_write
 	AT(recurse) /* 000101a0; the call ends its bundle */
 	call	recurse
-	AT(off_the_end) /* 000101c0, the last one */
+	AT(calls) /* 000101c0, of two bundles */
+	call	nc_memory
+	jmp	calls
+	AT(off_the_end) /* 00010200, the last one */
 	nop
 	.section .note.GNU-stack, "", @progbits
