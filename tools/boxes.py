@@ -27,6 +27,7 @@ class Fault(NamedTuple):
 
 
 def faults(path):
+    """The faults of a faults.txt."""
     with open(path, encoding="utf-8") as file:
         text = file.read()
     other = [line for line in FAULT.sub("", text).splitlines() if line and not line.startswith("#")]
