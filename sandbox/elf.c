@@ -4,6 +4,8 @@
 #include <elf.h>
 #include <string.h>
 
+#define NAME_MOST 255u /* bytes of a name that is shown */
+
 static int file_has(const Image *image, uint64_t at, uint64_t len) {
     return at <= image->len && len <= image->len - at;
 }
@@ -37,6 +39,7 @@ static const char *read_header(Image *image) {
         return "its program headers aren't in the file";
     }
     image->segment_count = h.e_phnum;
+    image->entry = h.e_entry;
     return NULL;
 }
 
@@ -127,6 +130,51 @@ uint32_t ncs_elf_symbol(const Image *image, const char *name) {
         }
     }
     return 0;
+}
+
+/* Whether a symbol names a place of the code. Data may have the same addresses as code, so the section decides. */
+static int is_of_code(const Image *image, const Elf32_Ehdr *h, const Elf32_Sym *s) {
+    unsigned kind = ELF32_ST_TYPE(s->st_info);
+    Elf32_Shdr of;
+    return (kind == STT_FUNC || kind == STT_NOTYPE) && section(image, h, s->st_shndx, &of) && (of.sh_flags & SHF_EXECINSTR) != 0 &&
+           s->st_value >= image->code_at && s->st_value - image->code_at < image->code_len;
+}
+
+/* The symbol's name, or NULL if it isn't fit to be printed: a file may name anything. */
+static const char *shown_name(const Image *image, const Elf32_Sym *s) {
+    const char *name = (const char *)image->bytes + image->names + s->st_name;
+    unsigned len = 0;
+    if (s->st_name >= image->names_len) {
+        return NULL;
+    }
+    while (len <= NAME_MOST && name[len] > ' ' && name[len] <= '~') {
+        len++;
+    }
+    return len != 0 && len <= NAME_MOST && name[len] == 0 && name[0] != '$' && !(name[0] == '.' && name[1] == 'L') ? name : NULL;
+}
+
+/* The nearest one at the address or below it. Of several at one address the last one of the table counts, as for nc_check. */
+const char *ncs_elf_function(const Image *image, uint32_t at, uint32_t *offset) {
+    const char *found = NULL, *name;
+    uint32_t nearest = image->code_at;
+    Elf32_Ehdr h;
+    size_t k;
+    if (at < image->code_at || at - image->code_at >= image->code_len || image->symbol_count == 0) {
+        return NULL;
+    }
+    memcpy(&h, image->bytes, sizeof h);
+    for (k = 0; k < image->symbol_count; k++) {
+        Elf32_Sym s;
+        memcpy(&s, image->bytes + image->symbols + k * sizeof s, sizeof s);
+        if (s.st_value >= nearest && s.st_value <= at && is_of_code(image, &h, &s) && (name = shown_name(image, &s)) != NULL) {
+            nearest = s.st_value;
+            found = name;
+        }
+    }
+    if (found != NULL) {
+        *offset = at - nearest;
+    }
+    return found;
 }
 
 void ncs_elf_copy_data(const Image *image, uint8_t *to) {

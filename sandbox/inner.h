@@ -90,7 +90,7 @@ int ncs_bad_handler(void);     /* the number of a signal whose handler lacks SA_
 typedef struct Image {
     uint8_t *bytes; /* a copy */
     size_t len;
-    uint32_t code_at, code_len;
+    uint32_t code_at, code_len, entry;
     size_t code_offset;
     unsigned segment_count; /* of a file; code alone has none */
     uint32_t data_begin, data_end;
@@ -99,6 +99,7 @@ typedef struct Image {
 
 const char *ncs_elf_read(Image *image); /* NULL, or what is wrong */
 uint32_t ncs_elf_symbol(const Image *image, const char *name); /* 0 if there is none */
+const char *ncs_elf_function(const Image *image, uint32_t at, uint32_t *offset); /* NULL if there is none */
 void ncs_elf_copy_data(const Image *image, uint8_t *to); /* each segment of data to its address, counted from `to` */
 
 /* ---- changes.c: code that changes while boxes run it */

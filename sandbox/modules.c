@@ -134,7 +134,7 @@ NcsModule *ncs_module_code(const void *code, size_t len, NcsRefusal *why) {
     if (m == NULL) {
         return NULL;
     }
-    m->image.code_at = NC_START;
+    m->image.code_at = m->image.entry = NC_START;
     m->image.code_len = (uint32_t)len;
     m->image.data_begin = m->image.data_end = STACK_TOP;
     if (load(m, why)) {
@@ -147,6 +147,24 @@ NcsModule *ncs_module_code(const void *code, size_t len, NcsRefusal *why) {
 NcsAt ncs_symbol(const NcsModule *m, const char *name) {
     NcsAt at = {ncs_elf_symbol(&m->image, name)};
     return at;
+}
+
+NcsAt ncs_entry(const NcsModule *m) {
+    NcsAt at = {m->image.entry};
+    return at;
+}
+
+const char *ncs_function_at(const NcsModule *m, NcsAt at, uint32_t *offset) {
+    return ncs_elf_function(&m->image, at.at, offset);
+}
+
+/* The file is only read. */
+const char *ncs_function_in(const void *file, size_t len, NcsAt at, uint32_t *offset) {
+    Image image;
+    memset(&image, 0, sizeof image);
+    image.bytes = (uint8_t *)(uintptr_t)file;
+    image.len = len;
+    return ncs_elf_read(&image) == NULL ? ncs_elf_function(&image, at.at, offset) : NULL;
 }
 
 void ncs_module_drop(NcsModule *m) {

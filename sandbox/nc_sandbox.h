@@ -73,6 +73,17 @@ NcsModule *ncs_module_code(const void *code, size_t len, NcsRefusal *why);
    for memory judge the address. */
 NcsAt ncs_symbol(const NcsModule *module, const char *name);
 
+/* Where the file begins (ld -e), or 00010000 for code alone. A file may name any number here too. */
+NcsAt ncs_entry(const NcsModule *module);
+
+/* The function of the file in which a place of the code lies, and how far the place is behind its beginning. It is the nearest symbol at or
+   below the place whose name has up to 255 printable ASCII characters. Null, and `offset` stays as it is, if there is none. The name is
+   valid until the module is freed. */
+const char *ncs_function_at(const NcsModule *module, NcsAt at, uint32_t *offset);
+
+/* The same for a file whose code was refused. The name is in the file. */
+const char *ncs_function_in(const void *file, size_t len, NcsAt at, uint32_t *offset);
+
 /* Frees a module, once its last box is freed. Null is allowed. */
 void ncs_module_free(NcsModule *module);
 

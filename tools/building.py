@@ -1,9 +1,10 @@
-"""The built programs and the two forms of the library for C, for a processor.
+"""The built programs, the two forms of the library for C, and what is compiled over it, for a processor.
 
 What `rt` built last is taken as it is, and built if it isn't there. For another processor than the default it is kept apart, in
 out/cpu/NAME of its crate, and what stands in out stays.
 """
 
+import concurrent.futures
 import contextlib
 import fcntl
 import os
@@ -11,6 +12,8 @@ import shutil
 import subprocess
 import tempfile
 
+from boxes import link as link_boxes
+from boxes import compile_all, sources
 from examples import TOP
 from native import kit
 
@@ -89,6 +92,34 @@ def merge(archives, folder):
     subprocess.run(["objcopy"] + only + [whole, kept], check=True)
     subprocess.run(["ar", "rcsD", archive, kept], check=True)
     return archive
+
+
+def merge_boxes(parts, folder):
+    """One archive with one object of the library of boxes. Only the calls of its header are global in it: all other names are hidden."""
+    whole, kept, archive = (os.path.join(folder, name) for name in ("whole.o", "nc_sandbox.o", "libnc_sandbox.a"))
+    subprocess.run(["ld", "-r", "-o", whole, *parts], check=True)
+    subprocess.run(["objcopy", "--localize-hidden", whole, kept], check=True)
+    subprocess.run(["ar", "rcsD", archive, kept], check=True)
+    return archive
+
+
+def boxes(cpu, static):
+    """The bytes of the static library of boxes and of nc-run, over these of the static library nc_host, which alone is for this processor:
+    nc-run says so where it is another one."""
+    level = PROCESSORS.index(cpu) + 1
+    compiler()
+    with tempfile.TemporaryDirectory() as folder, concurrent.futures.ThreadPoolExecutor() as pool:
+        host = os.path.join(folder, "libnc_host.a")
+        with open(host, "wb") as file:
+            file.write(static)
+        archive = merge_boxes(compile_all(pool, sources(), folder, ["-fPIC"]).values(), folder)
+        own = compile_all(pool, sources("sandbox", "run"), folder, ["-DNC_RUN_LEVEL=%d" % level])
+        made = link_boxes([*own.values(), archive, host], os.path.join(folder, "nc-run"), ["-s", "-Wl,-z,relro,-z,now"], over=[])
+        files = []
+        for path in (archive, made):
+            with open(path, "rb") as file:
+                files.append(file.read())
+    return files
 
 
 def link(archive, soname, folder):

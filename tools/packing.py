@@ -5,7 +5,7 @@ import re
 import stat
 from string import Template
 
-from building import DEFAULT, libraries, program
+from building import DEFAULT, boxes, libraries, program
 from examples import TOP
 from placing import File, Link
 
@@ -17,6 +17,8 @@ SHARE, DOC = "share/reedbodkin/", "share/doc/reedbodkin/"
 FILES = [
     ("include/nc_host.h", "include/nc_host.h"),
     ("include/nc_host.hpp", "include/nc_host.hpp"),
+    ("sandbox/nc_sandbox.h", "include/nc_sandbox.h"),
+    ("sandbox/guest/nc_run.h", SHARE + "guest/nc_run.h"),
     ("packaging/rust/nc_host", SHARE + "rust/nc_host"),
     ("packaging/rust/nc_host/src", SHARE + "rust/nc_host/src"),
     ("packaging/rust/nc_host/examples", SHARE + "rust/nc_host/examples"),
@@ -24,10 +26,13 @@ FILES = [
     ("examples/compile/bundling", SHARE + "bundling"),
     ("docs/man/nc_check.1", "share/man/man1/nc_check.1"),
     ("docs/man/nc_replay.1", "share/man/man1/nc_replay.1"),
+    ("docs/man/nc-run.1", "share/man/man1/nc-run.1"),
     ("packaging/completions/nc_check.bash", "share/bash-completion/completions/nc_check"),
     ("packaging/completions/nc_replay.bash", "share/bash-completion/completions/nc_replay"),
+    ("packaging/completions/nc-run.bash", "share/bash-completion/completions/nc-run"),
     ("packaging/completions/_nc_check", "share/zsh/site-functions/_nc_check"),
     ("packaging/completions/_nc_replay", "share/zsh/site-functions/_nc_replay"),
+    ("packaging/completions/_nc-run", "share/zsh/site-functions/_nc-run"),
     ("packaging/NOTICE", DOC + "NOTICE"),
     ("README.md", DOC + "README.md"),
     ("SECURITY.md", DOC + "SECURITY.md"),
@@ -38,6 +43,8 @@ FILES = [
     ("examples/host", DOC + "examples/host"),
     ("examples/sandbox", DOC + "examples/sandbox"),
     ("examples/jit", DOC + "examples/jit"),
+    ("examples/boxes", DOC + "examples/boxes"),
+    ("examples/run", DOC + "examples/run"),
     ("examples/library", DOC + "examples/library"),
     ("examples/library/trials", DOC + "examples/library/trials"),
     ("examples/library/musl", DOC + "examples/library/musl"),
@@ -48,7 +55,7 @@ FILES = [
 ]
 
 # Folders and files of the repository that pages name and that aren't installed, and what stands before their names on an installed page.
-ELSEWHERE = [".ci/", "bench/", "crates/", "examples/boxes/", "examples/mapped/", "packaging/", "sandbox/", "tests/", "tools/"] + [
+ELSEWHERE = [".ci/", "bench/", "crates/", "examples/mapped/", "packaging/", "sandbox/", "tests/", "tools/"] + [
     "examples/compile/" + name for name in ("build", "host.s", "instructions.txt", "nc-cc", "to-bundles")]
 ONLY_THERE = "Named on this page, and only in the source repository: "
 
@@ -57,7 +64,10 @@ TEMPLATES = [
     ("nc_host.pc.in", "lib/pkgconfig/nc_host.pc"),
     ("nc_host-static.pc.in", "lib/pkgconfig/nc_host-static.pc"),
     ("nc_hostConfig.cmake.in", "lib/cmake/nc_host/nc_hostConfig.cmake"),
-    ("nc_hostConfigVersion.cmake.in", "lib/cmake/nc_host/nc_hostConfigVersion.cmake"),
+    ("ConfigVersion.cmake.in", "lib/cmake/nc_host/nc_hostConfigVersion.cmake"),
+    ("nc_sandbox.pc.in", "lib/pkgconfig/nc_sandbox.pc"),
+    ("nc_sandboxConfig.cmake.in", "lib/cmake/nc_sandbox/nc_sandboxConfig.cmake"),
+    ("ConfigVersion.cmake.in", "lib/cmake/nc_sandbox/nc_sandboxConfigVersion.cmake"),
 ]
 
 
@@ -146,5 +156,8 @@ def tree(cpu=DEFAULT, anew=False):
     made["lib/libnc_host.so." + number] = File(shared, 0o755)
     made["lib/" + soname] = Link("libnc_host.so." + number)
     made["lib/libnc_host.so"] = Link(soname)
+    sandbox, runner = boxes(cpu, static)
+    made["lib/libnc_sandbox.a"] = File(sandbox, 0o644)
+    made["bin/nc-run"] = File(runner, 0o755)
     made[SHARE + "processor"] = File((cpu + "\n").encode(), 0o644)
     return made

@@ -34,3 +34,13 @@ SECTIONS {
 /* The host's trampolines: bundle starts below 00010000. */
 PROVIDE(host_exit = 0x00000020);
 PROVIDE(host_print = 0x00000040);
+/* The calls of nc-run (nc_run.h). */
+PROVIDE(nc_exit = 0x00000040);
+PROVIDE(nc_read = 0x00000100);
+PROVIDE(nc_write = 0x00000120);
+PROVIDE(nc_clock = 0x00000140);
+PROVIDE(nc_memory = 0x00000160);
+PROVIDE(nc_open = 0x00000180);
+PROVIDE(nc_close = 0x000001a0);
+PROVIDE(nc_lseek = 0x000001c0);
+PROVIDE(nc_size = 0x000001e0);

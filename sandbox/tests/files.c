@@ -43,6 +43,13 @@ static uint32_t place(uint64_t *random) {
     }
 }
 
+/* Whether the place has no name, or one that can be printed. */
+static int is_named_well(const uint8_t *bytes, size_t len, uint32_t place) {
+    uint32_t offset = 0;
+    const char *name = ncs_function_in(bytes, len, (NcsAt){place}, &offset);
+    return name == NULL || (strlen(name) - 1 < 255 && strspn(name, "\n\r\x1b ") == 0 && offset <= place - CODE_AT);
+}
+
 /* A copy of the file in a block of its length, so that a sanitizer sees what is read behind it. */
 static void try_file(const uint8_t *bytes, size_t len) {
     static const NcsLimits limits = {.memory = ROOM, .depth = 2, .milliseconds = 1};
@@ -57,6 +64,7 @@ static void try_file(const uint8_t *bytes, size_t len) {
     }
     memcpy(exact, bytes, len);
     module = ncs_module_elf(exact, len, &why);
+    CHECK(is_named_well(exact, len, module == NULL ? why.at : ncs_entry(module).at) && is_named_well(exact, len, CODE_AT + 200));
     free(exact);
     if (module == NULL) {
         CHECK(why.kind != NCS_OK && why.kind != NCS_BAD_SYSTEM && why.kind != NCS_NO_MEMORY && why.sentence != NULL);

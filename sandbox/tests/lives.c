@@ -66,6 +66,25 @@ static void try_code(void) {
     CHECK(ncs_free(box));
 }
 
+/* The name of a place, and whether it is so far behind the function's beginning. */
+static int is_in(uint32_t place, const char *name, uint32_t far) {
+    uint32_t offset = 77, other = 77;
+    const char *found = ncs_function_at(guest, (NcsAt){place}, &offset), *in = ncs_function_in(file, file_len, (NcsAt){place}, &other);
+    if (name == NULL || found == NULL || in == NULL) {
+        return name == NULL && found == NULL && in == NULL && offset == 77 && other == 77;
+    }
+    return strcmp(found, name) == 0 && strcmp(in, name) == 0 && offset == far && other == far;
+}
+
+static void try_names(void) {
+    uint32_t stop = ncs_symbol(guest, "stop").at, leave = ncs_symbol(guest, "leave").at;
+    CHECK(ncs_entry(guest).at == ncs_symbol(guest, "start").at);
+    CHECK(is_in(stop, "stop", 0) && is_in(stop + 31, "stop", 31) && is_in(leave + 1, "leave", 1));
+    CHECK(is_in(0, NULL, 0) && is_in(NCS_CALLBACK(0), NULL, 0) && is_in(CODE_AT - 1, NULL, 0));
+    CHECK(is_in(ncs_symbol(guest, "greeting").at, NULL, 0) && is_in(UINT32_MAX, NULL, 0));
+    CHECK(ncs_function_in(file, 100, (NcsAt){stop}, &stop) == NULL && ncs_function_in("", 0, (NcsAt){stop}, &stop) == NULL);
+}
+
 static void try_calls(void) {
     NcsBox *box = box_of(&limits), *other = box_of(&limits);
     static const uint32_t many[NCS_ARGS_MAX + 1] = {1, 2, 3, 4, 5, 6, 7, 8, 0xFEDCBA98};
@@ -91,6 +110,7 @@ static void try_calls(void) {
     CHECK(end.how == NCS_FAULTED && end.trap == 14 && end.data == 0x1234);
     CHECK(ncs_free(box) && ncs_free(other) && ncs_free(NULL));
     try_code();
+    try_names();
     puts("calls");
 }
 

@@ -1,0 +1,16 @@
+# Completions of nc-run for bash. tools/check-completions compares them with its --help.
+_nc_run() {
+    local word=${COMP_WORDS[COMP_CWORD]} words=
+    case ${COMP_WORDS[COMP_CWORD - 1]} in
+    --time) words="0 1000 10000" ;;
+    --memory) words="256M 1G" ;;
+    --call) words= ;;
+    --dir | --dir-rw)
+        mapfile -t COMPREPLY < <(compgen -d -- "$word")
+        return
+        ;;
+    *) [[ $word != -* ]] || words="--time --memory --call --dir --dir-rw --help --version -h -V" ;;
+    esac
+    mapfile -t COMPREPLY < <(compgen -W "$words" -- "$word")
+}
+complete -o default -F _nc_run nc-run

@@ -1,0 +1,95 @@
+/*
+ * nc_run.h: what a program can call when nc-run runs it. For code that nc-cc compiles: it finds this header and links the calls.
+ *
+ *     #include <nc_run.h>
+ *     int start(int argc, char **argv) { return nc_write(1, "hello\n", 6) != 6; }
+ *
+ * Start      nc-run calls the entry, `start`, as C for i386 does. argv[0] is the file as the command line names it, the other words follow,
+ *            and argv[argc] is null. What `start` returns is the program's status; the low 8 bits count.
+ * Memory     From the end of the data, `_end`, to nc_memory() the memory is free for the program to use. The words of argv lie above. The
+ *            stack grows down from the data to 00010000: 64 MiB, or as much as nc-cc --data leaves.
+ * Errors     A call that fails returns a negative number, -9 for EBADF. Errors have the numbers of Linux. A pointer outside the memory is
+ *            EFAULT. Nothing is done then.
+ * Files      0, 1 and 2 are nc-run's own, with EBADF where they aren't open. A program gets others by nc_open, at most 64 in all.
+ * Addresses  Call k is at 00000100 + 32 k, nc_exit at 00000040. The arguments lie on the stack above the address to return to; 64 bits are
+ *            two words. The result is in EAX, or in EDX and EAX. These two and ECX are overwritten, and no other register.
+ *
+ *     k  address   call                    result                   errors, beside those that the file's system has, such as EIO
+ *     -  00000040  exit(status)            none
+ *     0  00000100  read(file, to, len)     bytes; 0 at the end      EBADF, EFAULT, EAGAIN if the file doesn't wait
+ *     1  00000120  write(file, from, len)  bytes                    EBADF, EFAULT, EAGAIN, EPIPE, ENOSPC, EFBIG
+ *     2  00000140  clock(clock)            nanoseconds, 64 bits     EINVAL
+ *     3  00000160  memory()                address
+ *     4  00000180  open(path, how, mode)   file                     EFAULT, ENAMETOOLONG, EINVAL, EACCES, EROFS, EMFILE, EISDIR, ENOENT,
+ *                                                                   EEXIST, ENOTDIR, ELOOP
+ *     5  000001a0  close(file)             0                        EBADF
+ *     6  000001c0  lseek(file, low, high,  place, 64 bits           EBADF, EINVAL, ESPIPE
+ *                  from)
+ *     7  000001e0  size(file)              bytes, 64 bits           EBADF, ESPIPE
+ */
+#ifndef NC_RUN_H
+#define NC_RUN_H
+
+/* The calls by their numbers, each with the words of its arguments. */
+#define NC_RUN_CALLS(CALL) \
+    CALL(0, read, 3) \
+    CALL(1, write, 3) \
+    CALL(2, clock, 1) \
+    CALL(3, memory, 0) \
+    CALL(4, open, 3) \
+    CALL(5, close, 1) \
+    CALL(6, lseek, 4) \
+    CALL(7, size, 1)
+
+/* What nc_clock reads, in nanoseconds: the time since 1970; since some moment, without steps; and the processor time of nc-run. */
+#define NC_CLOCK_REAL 0
+#define NC_CLOCK_STEADY 1
+#define NC_CLOCK_PROCESSOR 2
+
+/* How nc_open opens: one of the first three, with any of the others. The numbers are those of Linux for i386. */
+#define NC_OPEN_READ 0
+#define NC_OPEN_WRITE 1
+#define NC_OPEN_BOTH 2
+#define NC_OPEN_CREATE 0x40
+#define NC_OPEN_NEW 0x80 /* with NC_OPEN_CREATE: EEXIST if the file is there */
+#define NC_OPEN_EMPTY 0x200
+#define NC_OPEN_APPEND 0x400
+
+#ifdef __cplusplus
+extern "C" {
+#endif
+
+/* Ends the program; the low 8 bits of the status count. */
+__attribute__((noreturn)) void nc_exit(int status);
+
+/* Read or write at most `len` bytes, and return how many: 0 at the end of a file. Fewer than `len` are no error. A read waits until there
+   are some. A write that nobody reads any more is EPIPE. */
+int nc_read(int file, void *to, unsigned len);
+int nc_write(int file, const void *from, unsigned len);
+
+/* A clock in nanoseconds. EINVAL for another one. */
+long long nc_clock(int clock);
+
+/* The end of the memory that the program may use. */
+unsigned nc_memory(void);
+
+/* Opens a regular file below the folder of nc-run --dir or --dir-rw, and returns its number, the least that is free. `mode` counts where a
+   file is created. EACCES without such a folder, for a path that leads out of it, and for devices and pipes; EISDIR for a folder; EROFS for
+   more than reading, without --dir-rw; EMFILE if the program has 64 files; EINVAL for another way to open. */
+int nc_open(const char *path, int how, unsigned mode);
+
+/* Any file can be closed, and its number is given again. */
+int nc_close(int file);
+
+/* Sets where the next read or write begins, and returns it: `from` is 0 for the file's beginning, 1 for the present place, 2 for its end.
+   ESPIPE for a pipe. */
+long long nc_lseek(int file, long long offset, int from);
+
+/* A regular file's length in bytes. ESPIPE for anything else. */
+long long nc_size(int file);
+
+#ifdef __cplusplus
+}
+#endif
+
+#endif

@@ -1,0 +1,216 @@
+/* The command line. TRUSTED, NOT PROVED. */
+#include "run.h"
+
+#include "nc_host.h"
+
+#include <errno.h>
+#include <stdio.h>
+#include <stdlib.h>
+#include <string.h>
+
+#define PAGE 4096u
+#define MEMORY_DEFAULT (256u << 20)
+
+static const char HELP[] =
+    "Run a program that nc-cc has compiled for the sandbox\n"
+    "\n"
+    "Usage: nc-run [OPTIONS] <FILE> [ARGS]...\n"
+    "\n"
+    "Arguments:\n"
+    "  <FILE>     ELF file made by nc-cc\n"
+    "  [ARGS]...  Words for the program; with --call, 32-bit numbers for the function\n"
+    "\n"
+    "Options:\n"
+    "      --time <MS>       Processor time in milliseconds, from 0 to 4294967295; 0 sets no limit [default: 0]\n"
+    "      --memory <SIZE>   Bytes of data, heap and stack; K, M and G may follow [default: 256M]\n"
+    "      --call <NAME>     Call this function of the file, and print its result\n"
+    "      --dir <DIR>       Let the program read files below this folder\n"
+    "      --dir-rw <DIR>    Let the program read, write and make files below this folder\n"
+    "  -h, --help            Print help\n"
+    "  -V, --version         Print version\n";
+
+static int wrong(const char *what, const char *word) {
+    fprintf(stderr, "nc-run: %s%s\nTry 'nc-run --help'.\n", what, word);
+    return STATUS_USAGE;
+}
+
+static int printed(int count) {
+    return count < 0 || fflush(stdout) != 0 ? report_system("standard output", errno) : 0;
+}
+
+/* The digits at the beginning of a text, as a number up to `most`; what follows them. 0 if there is no such number. */
+static int read_number(const char *text, int base, uint64_t most, uint64_t *number, const char **rest) {
+    size_t len = strspn(text, base == 16 ? "0123456789abcdefABCDEF" : "0123456789");
+    char *end;
+    if (len == 0) {
+        return 0;
+    }
+    errno = 0;
+    *number = strtoull(text, &end, base);
+    *rest = end;
+    return errno == 0 && end == text + len && *number <= most;
+}
+
+static int read_time(const char *text, Line *line) {
+    uint64_t time;
+    const char *rest;
+    if (!read_number(text, 10, UINT32_MAX, &time, &rest) || *rest != 0) {
+        return 0;
+    }
+    line->milliseconds = time != 0 ? (uint32_t)time : UINT32_MAX;
+    return 1;
+}
+
+/* It is rounded up to whole pages. */
+static int read_size(const char *text, Line *line) {
+    static const char units[] = "KMG";
+    uint64_t size;
+    const char *rest, *unit;
+    if (!read_number(text, 10, NCS_MEMORY_MAX, &size, &rest)) {
+        return 0;
+    }
+    unit = *rest != 0 ? strchr(units, *rest) : NULL;
+    if (unit != NULL) {
+        size <<= 10 * (unit - units + 1);
+        rest++;
+    }
+    if (*rest != 0 || size == 0 || size > NCS_MEMORY_MAX) {
+        return 0;
+    }
+    line->memory = ((uint32_t)size + PAGE - 1) & ~(PAGE - 1);
+    return 1;
+}
+
+/* A number of 32 bits, signed or not, decimal or hexadecimal. */
+static int read_word(const char *text, uint32_t *word) {
+    int negative = *text == '-', hex;
+    uint64_t number;
+    text += negative;
+    hex = text[0] == '0' && (text[1] == 'x' || text[1] == 'X');
+    text += hex ? 2 : 0;
+    if (!read_number(text, hex ? 16 : 10, negative ? 1ull << 31 : UINT32_MAX, &number, &text) || *text != 0) {
+        return 0;
+    }
+    *word = (uint32_t)(negative ? 0 - number : number);
+    return 1;
+}
+
+static int read_words(Line *line) {
+    unsigned k;
+    if (line->count > NCS_ARGS_MAX) {
+        return wrong("a function gets at most 16 numbers", "");
+    }
+    for (k = 0; k < line->count; k++) {
+        if (!read_word(line->words[k], &line->numbers[k])) {
+            return wrong("not a 32-bit number, such as 7, -7 or 0x7: ", line->words[k]);
+        }
+    }
+    return -1;
+}
+
+/* Each takes the value of an option: -1, or the status to end with. */
+
+static int take_time(const char *value, Line *line) {
+    return read_time(value, line) ? -1 : wrong("--time wants milliseconds from 0 to 4294967295: ", value);
+}
+
+static int take_memory(const char *value, Line *line) {
+    return read_size(value, line) ? -1 : wrong("--memory wants bytes, such as 1048576, 1024K or 1M, up to 1G: ", value);
+}
+
+static int take_call(const char *value, Line *line) {
+    line->call = value;
+    return -1;
+}
+
+static int take_folder(const char *value, Line *line) {
+    if (line->folder != NULL) {
+        return wrong("there can be one --dir or --dir-rw, and not also ", value);
+    }
+    line->folder = value;
+    return -1;
+}
+
+static int take_writable(const char *value, Line *line) {
+    line->writable = 1;
+    return take_folder(value, line);
+}
+
+static int take_help(const char *value, Line *line) {
+    (void)value;
+    (void)line;
+    return printed(fputs(HELP, stdout));
+}
+
+static int take_version(const char *value, Line *line) {
+    (void)value;
+    (void)line;
+    return printed(printf("nc-run %u.%u.%u\n", NC_VERSION_MAJOR, NC_VERSION_MINOR, NC_VERSION_PATCH));
+}
+
+static const struct Option {
+    const char *name;
+    int (*take)(const char *value, Line *line);
+    int has_value;
+} OPTIONS[] = {
+    {"--time", take_time, 1},
+    {"--memory", take_memory, 1},
+    {"--call", take_call, 1},
+    {"--dir", take_folder, 1},
+    {"--dir-rw", take_writable, 1},
+    {"--help", take_help, 0},
+    {"-h", take_help, 0},
+    {"--version", take_version, 0},
+    {"-V", take_version, 0},
+};
+
+/* The option that this word is, up to a `=`. */
+static const struct Option *find_option(const char *word) {
+    size_t len = strncmp(word, "--", 2) == 0 ? strcspn(word, "=") : strlen(word), k;
+    for (k = 0; k < sizeof OPTIONS / sizeof *OPTIONS; k++) {
+        if (strlen(OPTIONS[k].name) == len && memcmp(OPTIONS[k].name, word, len) == 0) {
+            return &OPTIONS[k];
+        }
+    }
+    return NULL;
+}
+
+/* Takes the option at `*word`, and moves that to its value where it is a word of its own. */
+static int take_option(char ***word, Line *line) {
+    const struct Option *option = find_option(**word);
+    const char *value = strchr(**word, '=');
+    if (option == NULL || (value != NULL && !option->has_value)) {
+        return wrong("no such option: ", **word);
+    }
+    if (value != NULL) {
+        return option->take(value + 1, line);
+    }
+    if (option->has_value && *++*word == NULL) {
+        return wrong("a value is missing behind ", option->name);
+    }
+    return option->take(**word, line);
+}
+
+/* The words behind the file's name aren't options. */
+int line_read(int argc, char **argv, Line *line) {
+    char **word = argv + (argc != 0);
+    int status = -1;
+    memset(line, 0, sizeof *line);
+    line->milliseconds = UINT32_MAX;
+    line->memory = MEMORY_DEFAULT;
+    while (status < 0 && *word != NULL && (*word)[0] == '-' && strcmp(*word, "--") != 0) {
+        status = take_option(&word, line);
+        word++;
+    }
+    if (status >= 0) {
+        return status;
+    }
+    word += *word != NULL && strcmp(*word, "--") == 0;
+    if (*word == NULL) {
+        return wrong("no file", "");
+    }
+    line->file = *word++;
+    line->words = word;
+    line->count = (unsigned)(argv + argc - word);
+    return line->call != NULL ? read_words(line) : -1;
+}

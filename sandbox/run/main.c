@@ -1,0 +1,188 @@
+/* nc-run: runs a program that nc-cc has compiled, in a box. docs/man/nc-run.1 describes it. TRUSTED, NOT PROVED. */
+#define _GNU_SOURCE
+#include "run.h"
+
+#include <errno.h>
+#include <fcntl.h>
+#include <signal.h>
+#include <stdio.h>
+#include <stdlib.h>
+#include <string.h>
+#include <unistd.h>
+
+#define FILE_MOST ((size_t)1 << 30)
+#define LACKING 127
+#define LOW_BITS 0xFFu /* of a status */
+#define ON -1          /* no status yet: nc-run goes on */
+
+/* The rest of a file, in memory that grows. 0, or an error. */
+static int read_all(int file, uint8_t **bytes, size_t *len) {
+    size_t room = 0;
+    ssize_t got = 1;
+    *bytes = NULL;
+    *len = 0;
+    while (got != 0) {
+        if (*len == room) {
+            uint8_t *more = room < FILE_MOST ? realloc(*bytes, room != 0 ? 2 * room : 1 << 16) : NULL;
+            if (more == NULL) {
+                return room < FILE_MOST ? ENOMEM : EFBIG;
+            }
+            *bytes = more;
+            room = room != 0 ? 2 * room : 1 << 16;
+        }
+        got = read(file, *bytes + *len, room - *len);
+        if (got < 0 && errno != EINTR) {
+            return errno;
+        }
+        *len += got > 0 ? (size_t)got : 0;
+    }
+    return 0;
+}
+
+static int load(Run *run) {
+    int file = open(run->line.file, O_RDONLY | O_CLOEXEC), error = file < 0 ? errno : read_all(file, &run->bytes, &run->len);
+    NcsRefusal why;
+    if (file >= 0) {
+        (void)close(file);
+    }
+    if (error != 0) {
+        return error == ENOMEM ? report_system("out of memory", 0) : report_file(run, strerror(error), "");
+    }
+    run->module = ncs_module_elf(run->bytes, run->len, &why);
+    if (run->module == NULL) {
+        return report_refusal(run, &why);
+    }
+    free(run->bytes); /* the module has a copy */
+    run->bytes = NULL;
+    return ON;
+}
+
+static int make_box(Run *run) {
+    const NcsLimits limits = {.memory = run->line.memory, .depth = 1, .milliseconds = run->line.milliseconds};
+    NcsRefusal why;
+    run->box = ncs_box_new(run->module, &limits, &why);
+    if (run->box == NULL) {
+        return report_refusal(run, &why);
+    }
+    run->memory_end = run->line.memory;
+    return calls_give(run) ? ON : report_system("a call of the host isn't given", 0);
+}
+
+/* The words of the command line, from the file's name on. */
+static const char *word(const Run *run, unsigned k) {
+    return k == 0 ? run->line.file : run->line.words[k - 1];
+}
+
+/* Their bytes, each with its 0. */
+static uint64_t words_len(const Run *run, unsigned count) {
+    uint64_t len = 0;
+    unsigned k;
+    for (k = 0; k < count; k++) {
+        len += strlen(word(run, k)) + 1;
+    }
+    return len;
+}
+
+/* Writes the words at the end of the memory, and below them argv, which ends with a null. The address of argv, a multiple of 16; or 0 if
+   there is no room above the data. */
+static uint32_t lay_words(Run *run, unsigned count) {
+    uint32_t heap = ncs_take(run->box, 0).at, at, argv, zero = 0;
+    uint64_t len = words_len(run, count);
+    unsigned k;
+    if (heap == 0 || len + 4ull * count + 4 + 15 > run->line.memory - heap) {
+        return 0;
+    }
+    at = run->line.memory - (uint32_t)len;
+    argv = (at - 4 * count - 4) & ~15u;
+    for (k = 0; k < count; k++) {
+        uint32_t size = (uint32_t)strlen(word(run, k)) + 1;
+        if (!ncs_set(run->box, (NcsAt){argv + 4 * k}, &at, 4) || !ncs_set(run->box, (NcsAt){at}, word(run, k), size)) {
+            return 0;
+        }
+        at += size;
+    }
+    run->memory_end = argv;
+    return ncs_set(run->box, (NcsAt){argv + 4 * count}, &zero, 4) ? argv : 0;
+}
+
+/* The result of a function goes to standard output; that of the program is its status. */
+static int finish(Run *run, NcsAt function, const NcsEnd *end) {
+    if (end->how == NCS_EXITED) {
+        return (int)(end->status & LOW_BITS);
+    }
+    if (end->how != NCS_RETURNED) {
+        NcsEnd again = end->how == NCS_BAD_ENTRY ? ncs_call(run->box, function, NCS_NO_ARGS) : *end;
+        return report_end(run, end, again.how != NCS_BAD_ENTRY); /* a box that was entered is dead */
+    }
+    if (run->line.call == NULL) {
+        return (int)(end->result & LOW_BITS);
+    }
+    return printf("%u\n", (unsigned)end->result) < 0 || fflush(stdout) != 0 ? report_system("standard output", errno) : 0;
+}
+
+static int call_function(Run *run) {
+    NcsAt function = ncs_symbol(run->module, run->line.call);
+    NcsEnd end;
+    if (function.at == 0) {
+        return report_file(run, "it has no global symbol ", run->line.call);
+    }
+    end = ncs_call(run->box, function, run->line.count, run->line.numbers);
+    return finish(run, function, &end);
+}
+
+static int start(Run *run) {
+    unsigned count = 1 + run->line.count;
+    uint32_t argv = lay_words(run, count);
+    NcsAt entry = ncs_entry(run->module);
+    NcsEnd end;
+    if (argv == 0) {
+        return report_file(run, "there is no room for the words of the command line above its data", "");
+    }
+    end = ncs_call(run->box, entry, NCS_ARGS(count, argv));
+    return finish(run, entry, &end);
+}
+
+/* A write that nobody reads, and one beyond the longest file allowed, are errors of the program's call. */
+static int run_all(Run *run) {
+    const char *what = files_begin(&run->files);
+    int status;
+    if (what != NULL || signal(SIGPIPE, SIG_IGN) == SIG_ERR || signal(SIGXFSZ, SIG_IGN) == SIG_ERR) {
+        return report_system(what != NULL ? what : "a signal", errno);
+    }
+    what = run->line.folder != NULL ? files_folder(&run->files, run->line.folder, run->line.writable) : NULL;
+    if (what != NULL) {
+        return report_system(what, errno);
+    }
+    status = load(run);
+    status = status == ON ? make_box(run) : status;
+    return status != ON ? status : run->line.call != NULL ? call_function(run) : start(run);
+}
+
+/* What nc_host was built for: NC_RUN_LEVEL 2 is x86-64-v2, and so on. This file is for any processor. */
+static int lacks(void) {
+#if NC_RUN_LEVEL >= 3
+    return !__builtin_cpu_supports("avx2") || !__builtin_cpu_supports("bmi2");
+#elif NC_RUN_LEVEL >= 2
+    return !__builtin_cpu_supports("sse4.2") || !__builtin_cpu_supports("popcnt");
+#else
+    return 0;
+#endif
+}
+
+int main(int argc, char **argv) {
+    static Run run;
+    int status;
+    if (lacks()) {
+        (void)report_system("this processor lacks instructions for which nc-run was built", 0);
+        return LACKING;
+    }
+    status = line_read(argc, argv, &run.line);
+    if (status >= 0) {
+        return status;
+    }
+    status = run_all(&run);
+    (void)ncs_free(run.box);
+    ncs_module_free(run.module);
+    free(run.bytes);
+    return status;
+}

@@ -1,0 +1,134 @@
+/* The host's end of the calls of nc_run.h. Every argument is untrusted. TRUSTED, NOT PROVED. */
+#define _GNU_SOURCE
+#include "run.h"
+
+#include "guest/nc_run.h"
+
+#include <errno.h>
+#include <limits.h>
+#include <sys/stat.h>
+#include <time.h>
+#include <unistd.h>
+
+static uint64_t failed(int error) {
+    return (uint64_t)-(int64_t)error;
+}
+
+/* What a system call returned, with its errno. */
+static uint64_t result(int64_t returned) {
+    return returned < 0 ? failed(errno) : (uint64_t)returned;
+}
+
+/* The pointer and the file of a call that reads or writes. 0, or the error. */
+static int judge_transfer(const Run *run, const uint32_t *args, int *file, void **bytes) {
+    *file = files_host(&run->files, args[0]);
+    *bytes = ncs_at(run->box, (NcsAt){args[1]}, args[2]);
+    return *file < 0 ? EBADF : *bytes == NULL && args[2] != 0 ? EFAULT : 0;
+}
+
+/* It waits as long as the file makes it: the time that is limited is the processor's. */
+static uint64_t call_read(NcsBox *box, void *user, const uint32_t *args) {
+    int file, error;
+    void *to;
+    ssize_t got;
+    (void)box;
+    error = judge_transfer(user, args, &file, &to);
+    if (error != 0) {
+        return failed(error);
+    }
+    do {
+        got = read(file, to, args[2]);
+    } while (got < 0 && errno == EINTR);
+    return result(got);
+}
+
+static uint64_t call_write(NcsBox *box, void *user, const uint32_t *args) {
+    int file, error;
+    void *from;
+    ssize_t put;
+    (void)box;
+    error = judge_transfer(user, args, &file, &from);
+    if (error != 0) {
+        return failed(error);
+    }
+    do {
+        put = write(file, from, args[2]);
+    } while (put < 0 && errno == EINTR);
+    return result(put);
+}
+
+static uint64_t call_clock(NcsBox *box, void *user, const uint32_t *args) {
+    static const clockid_t clocks[] = {
+        [NC_CLOCK_REAL] = CLOCK_REALTIME, [NC_CLOCK_STEADY] = CLOCK_MONOTONIC, [NC_CLOCK_PROCESSOR] = CLOCK_PROCESS_CPUTIME_ID};
+    struct timespec now;
+    (void)box;
+    (void)user;
+    if (args[0] >= sizeof clocks / sizeof *clocks) {
+        return failed(EINVAL);
+    }
+    return clock_gettime(clocks[args[0]], &now) != 0 ? failed(errno) : (uint64_t)now.tv_sec * 1000000000 + (uint64_t)now.tv_nsec;
+}
+
+static uint64_t call_memory(NcsBox *box, void *user, const uint32_t *args) {
+    const Run *run = user;
+    (void)box;
+    (void)args;
+    return run->memory_end;
+}
+
+static uint64_t call_open(NcsBox *box, void *user, const uint32_t *args) {
+    Run *run = user;
+    char path[PATH_MAX];
+    long len = ncs_text(box, path, sizeof path, (NcsAt){args[0]});
+    if (len < 0 || len == PATH_MAX - 1) {
+        return failed(len < 0 ? EFAULT : ENAMETOOLONG);
+    }
+    return (uint64_t)(int64_t)files_open(&run->files, path, args[1], args[2]);
+}
+
+static uint64_t call_close(NcsBox *box, void *user, const uint32_t *args) {
+    Run *run = user;
+    (void)box;
+    return (uint64_t)(int64_t)files_close(&run->files, args[0]);
+}
+
+static uint64_t call_lseek(NcsBox *box, void *user, const uint32_t *args) {
+    static const int from[] = {SEEK_SET, SEEK_CUR, SEEK_END};
+    const Run *run = user;
+    int file = files_host(&run->files, args[0]);
+    (void)box;
+    if (file < 0 || args[3] >= sizeof from / sizeof *from) {
+        return failed(file < 0 ? EBADF : EINVAL);
+    }
+    return result(lseek(file, (off_t)((uint64_t)args[2] << 32 | args[1]), from[args[3]]));
+}
+
+static uint64_t call_size(NcsBox *box, void *user, const uint32_t *args) {
+    const Run *run = user;
+    int file = files_host(&run->files, args[0]);
+    struct stat about;
+    (void)box;
+    if (file < 0) {
+        return failed(EBADF);
+    }
+    if (fstat(file, &about) != 0) {
+        return failed(errno);
+    }
+    return S_ISREG(about.st_mode) ? (uint64_t)about.st_size : failed(ESPIPE);
+}
+
+/* Call-backs get their addresses in their order, so the table is by numbers. */
+int calls_give(Run *run) {
+#define CALL(number, name, words) [number] = {call_##name, words},
+    static const struct {
+        NcsCallback function;
+        unsigned words;
+    } calls[] = {NC_RUN_CALLS(CALL)};
+    unsigned k;
+    for (k = 0; k < sizeof calls / sizeof *calls; k++) {
+        if (ncs_callback(run->box, calls[k].function, run, calls[k].words).at != NCS_CALLBACK(k)) {
+            return 0;
+        }
+    }
+    return 1;
+}

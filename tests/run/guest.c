@@ -1,0 +1,219 @@
+/* A program for nc-run, without a C library: its first word says what it does. */
+#include <nc_run.h>
+
+typedef unsigned u32;
+extern char _end[];
+static char bytes[1 << 16];
+static char many[1 << 20]; /* more than a pipe holds */
+
+static u32 length(const char *text) {
+    u32 len = 0;
+    while (text[len] != 0) len++;
+    return len;
+}
+static int same(const char *a, const char *b) {
+    while (*a != 0 && *a == *b) a++, b++;
+    return *a == *b;
+}
+static void put(int file, const char *text) { nc_write(file, text, length(text)); }
+static void put_number(int file, long long number) {
+    char digits[24], *at = digits + sizeof digits;
+    unsigned left = (unsigned)(number < 0 ? -number : number);
+    *--at = 0;
+    do *--at = (char)('0' + left % 10); while ((left /= 10) != 0);
+    if (number < 0) *--at = '-';
+    put(file, at);
+}
+static void line(int file, const char *name, long long number) {
+    put(file, name);
+    put(file, ": ");
+    put_number(file, number);
+    put(file, "\n");
+}
+static int number_of(const char *text) {
+    int number = 0, negative = *text == '-';
+    for (text += negative; *text != 0; text++) number = 10 * number + *text - '0';
+    return negative ? -number : number;
+}
+
+static int words(int argc, char **argv) {
+    line(1, "words", argc);
+    for (; *argv != 0; argv++) put(1, "["), put(1, *argv), put(1, "]\n");
+    return 0;
+}
+
+/* Copies its input to its output, however few bytes a call takes. */
+static int cat(int from) {
+    int got, put = 1;
+    while ((got = nc_read(from, bytes, sizeof bytes)) > 0) {
+        for (int at = 0; at < got; at += put)
+            if ((put = nc_write(1, bytes + at, (u32)(got - at))) <= 0) return line(2, "write", put), 3;
+    }
+    return got < 0 ? (line(2, "read", got), 2) : 0;
+}
+static int reads(void) {
+    int got;
+    do line(1, "read", got = nc_read(0, bytes, sizeof bytes)); while (got > 0);
+    return 0;
+}
+/* Writes until a write fails. */
+static int flood(void) {
+    int put;
+    while ((put = nc_write(1, many, sizeof many)) > 0) {}
+    line(2, "write", put);
+    return 0;
+}
+
+/* Arguments that no good program gives. */
+static int hostile(void) {
+    u32 end = nc_memory() + 4096 & ~4095u; /* of the memory */
+    line(1, "write from 0", nc_write(1, (void *)0, 1));
+    line(1, "write from below the memory", nc_write(1, (void *)0xFFFF, 2));
+    line(1, "write across the end", nc_write(1, (void *)(end - 1), 2));
+    line(1, "write behind the end", nc_write(1, (void *)end, 1));
+    line(1, "write of 2^32 - 1 bytes", nc_write(1, bytes, 0xFFFFFFFF));
+    line(1, "write around the end of all addresses", nc_write(1, (void *)0xFFFFFFFF, 2));
+    line(1, "write of nothing from nowhere", nc_write(1, (void *)0, 0));
+    line(1, "read to 0", nc_read(0, (void *)0, 1));
+    line(1, "read to the code", nc_read(0, (void *)0x8000, 1));
+    line(1, "read across the end", nc_read(0, (void *)(end - 1), 2));
+    line(1, "read of 2^31 bytes", nc_read(0, bytes, 0x80000000));
+    line(1, "read of file -1", nc_read(-1, bytes, 1));
+    line(1, "read of file -2^31", nc_read(-2147483647 - 1, bytes, 1));
+    line(1, "read of file 63", nc_read(63, bytes, 1));
+    line(1, "read of file 64", nc_read(64, bytes, 1));
+    line(1, "write of file 3", nc_write(3, bytes, 1));
+    line(1, "write of file 2^31 - 1", nc_write(2147483647, bytes, 1));
+    line(1, "close of file 3", nc_close(3));
+    line(1, "close of file -1", nc_close(-1));
+    line(1, "lseek of file -1", nc_lseek(-1, 0, 0));
+    line(1, "lseek from 3", nc_lseek(0, 0, 3));
+    line(1, "lseek from -1", nc_lseek(0, 0, -1));
+    line(1, "size of file 9", nc_size(9));
+    line(1, "clock 3", nc_clock(3));
+    line(1, "clock -1", nc_clock(-1));
+    line(1, "open of 0", nc_open((const char *)0, 0, 0));
+    *(char *)(end - 1) = 'a';
+    line(1, "open across the end", nc_open((const char *)(end - 1), 0, 0));
+    for (u32 k = 0; k < 5000; k++) bytes[k] = 'a';
+    line(1, "open of a long path", nc_open(bytes, 0, 0));
+    return 0;
+}
+
+/* Opens a file, shows it, and closes it. */
+static int show(const char *path, int how) {
+    int file = nc_open(path, how, 0644);
+    if (file < 0) return line(1, "open", file), 0;
+    line(1, "file", file);
+    line(1, "size", nc_size(file));
+    cat(file);
+    line(1, "close", nc_close(file));
+    line(1, "read", nc_read(file, bytes, 1));
+    return 0;
+}
+/* Writes a text to a file. */
+static int set(const char *path, int how, const char *text) {
+    int file = nc_open(path, how, 0640);
+    line(1, file < 0 ? "open" : "write", file < 0 ? file : nc_write(file, text, length(text)));
+    return 0;
+}
+static int seek(const char *path) {
+    int file = nc_open(path, NC_OPEN_READ, 0);
+    line(1, "to 2", nc_lseek(file, 2, 0));
+    line(1, "read", nc_read(file, bytes, 1));
+    line(1, "at", nc_lseek(file, 0, 1));
+    line(1, "end", nc_lseek(file, 0, 2));
+    line(1, "before the beginning", nc_lseek(file, -1, 0));
+    line(1, "far", nc_lseek(file, 1ll << 40, 0) == 1ll << 40);
+    line(1, "read", nc_read(file, bytes, 1));
+    line(1, "write", nc_write(file, bytes, 1));
+    return 0;
+}
+/* Opens as many files as it can; one number is given anew. */
+static int all(const char *path) {
+    int file, last = 0;
+    while ((file = nc_open(path, NC_OPEN_READ, 0)) >= 0) last = file;
+    line(1, "last", last);
+    line(1, "open", file);
+    line(1, "close", nc_close(7));
+    line(1, "again", nc_open(path, NC_OPEN_READ, 0));
+    line(1, "close", nc_close(0));
+    line(1, "again", nc_open(path, NC_OPEN_READ, 0));
+    return 0;
+}
+
+static u32 next_random(u32 *state) {
+    *state ^= *state << 13;
+    *state ^= *state >> 17;
+    return *state ^= *state << 5;
+}
+/* A number that a call may take amiss, a path, a range of memory, or any number. */
+static u32 any(u32 *state) {
+    static const char *const paths[] = {"file", "sub/inner", "made", "sub/more", "out", "../secret", "../made", "/made", "beyond", "pipe", "."};
+    const u32 edges[] = {0, 1, 2, 3, 4, 63, 64, 0x41, 0x242, 0x7FFFFFFF, 0x80000000, 0xFFFFFFFF, 0xFFFF, 0x10000, nc_memory(), 4096};
+    u32 k = next_random(state), way = next_random(state) % 8;
+    if (way < 4) return edges[k % (sizeof edges / sizeof *edges)];
+    if (way == 4) return (u32)paths[k % (sizeof paths / sizeof *paths)];
+    return way == 5 ? (u32)bytes + k % sizeof bytes : way == 6 ? k % 70 : k;
+}
+/* Any calls with any arguments. */
+static int random_calls(u32 state) {
+    for (u32 k = 0; k < 200000; k++) {
+        u32 at = 0x100 + 32 * (next_random(&state) % 8), a = any(&state), b = any(&state), c = any(&state), d = any(&state);
+        ((u32 (*)(u32, u32, u32, u32))at)(a, b, c, d);
+    }
+    return 9;
+}
+
+/* Whether the memory is there up to its end, behind the data, and the words lie above. */
+static int memory(char **argv) {
+    char *end = (char *)nc_memory();
+    for (char *at = _end; at < end; at++) if (*at != 0) return 1;
+    for (char *at = _end; at < end; at += 4096) *at = 1;
+    end[-1] = 1;
+    line(1, "of argv", (char *)argv - end);
+    line(1, "above", argv[0] > end && argv[1] > argv[0]);
+    line(1, "MiB", ((u32)end + 4096) >> 20);
+    return 0;
+}
+static int clocks(void) {
+    long long steady = nc_clock(NC_CLOCK_STEADY), used = nc_clock(NC_CLOCK_PROCESSOR);
+    while (nc_clock(NC_CLOCK_PROCESSOR) - used < 20000000) {} /* 20 ms */
+    line(1, "steady", nc_clock(NC_CLOCK_STEADY) - steady >= 20000000);
+    line(1, "since 2020", nc_clock(NC_CLOCK_REAL) > 1577836800ll * 1000000000);
+    return 0;
+}
+
+int start(int argc, char **argv) {
+    const char *what = argc > 1 ? argv[1] : "";
+    const char *path = argc > 2 ? argv[2] : "";
+    int how = argc > 3 ? number_of(argv[3]) : 0;
+    if (same(what, "words")) return words(argc, argv);
+    if (same(what, "exit")) nc_exit(number_of(path));
+    if (same(what, "return")) return number_of(path);
+    if (same(what, "cat")) return cat(0);
+    if (same(what, "reads")) return reads();
+    if (same(what, "flood")) return flood();
+    if (same(what, "hostile")) return hostile();
+    if (same(what, "show")) return show(path, how);
+    if (same(what, "set")) return set(path, how, argc > 4 ? argv[4] : "");
+    if (same(what, "spill") && nc_open(path, NC_OPEN_WRITE, 0) >= 0) __asm__ volatile("hlt");
+    if (same(what, "seek")) return seek(path);
+    if (same(what, "all")) return all(path);
+    if (same(what, "size")) return line(1, "size", nc_size(number_of(path))), 0;
+    if (same(what, "put")) return line(2, "write", nc_write(number_of(path), "x", 1)), 0;
+    if (same(what, "get")) return line(2, "read", nc_read(number_of(path), bytes, 1)), 0;
+    if (same(what, "random")) return random_calls((u32)number_of(path));
+    if (same(what, "memory")) return memory(argv);
+    if (same(what, "clocks")) return clocks();
+    return 99;
+}
+
+/* For --call */
+unsigned add(unsigned a, unsigned b) { return a + b; }
+unsigned sum(unsigned a, unsigned b, unsigned c, unsigned d, unsigned e, unsigned f, unsigned g, unsigned h, unsigned i, unsigned j,
+             unsigned k, unsigned l, unsigned m, unsigned n, unsigned o, unsigned p) {
+    return a + b + c + d + e + f + g + h + i + j + k + l + m + n + o + p;
+}
+void leave(int status) { nc_exit(status); }
+unsigned table[4] = {1, 2, 3, 4};
