@@ -7,6 +7,8 @@
 #include <stdio.h>
 #include <stdlib.h>
 
+#define SKIPPED 77
+
 typedef struct Library {
     NcsModule *module;
     NcsBox *box;
@@ -37,7 +39,7 @@ static inline void write_ppm(const char *name, const void *pixels, uint32_t widt
     }
 }
 
-/* A module of an ELF file, and a box of it. It ends the process if one is refused. */
+/* A module of an ELF file, and a box of it. It ends the process if one is refused, with SKIPPED where the system has no boxes. */
 static inline Library library_open(const char *name, uint32_t memory, uint32_t milliseconds) {
     static uint8_t bytes[4 << 20];
     const NcsLimits limits = {.memory = memory, .depth = 1, .milliseconds = milliseconds};
@@ -47,7 +49,7 @@ static inline Library library_open(const char *name, uint32_t memory, uint32_t m
     library.box = library.module != NULL ? ncs_box_new(library.module, &limits, &why) : NULL;
     if (library.box == NULL) {
         fprintf(stderr, "%s: refused: %s, at %08x\n", name, why.sentence, (unsigned)why.at);
-        exit(2);
+        exit(why.kind == NCS_BAD_SYSTEM ? SKIPPED : 2);
     }
     return library;
 }
