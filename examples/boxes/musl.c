@@ -1,5 +1,5 @@
-/* What a library with musl finds in a box: `begin`, which the host calls once, and a heap. No system call leaves the box. For nc-cc, with musl's
-   inner headers (build). It runs inside, so nobody has to trust it. */
+/* What a library with musl finds in a box: `begin`, which the host calls once, and a heap. No system call leaves the box. For nc-cc, with
+   musl's inner headers (build). It runs inside, so nobody has to trust it. */
 
 #include <errno.h>
 #include <string.h>

@@ -1,5 +1,5 @@
-/* Decodes PNG files by libpng in a box: host PICTURE.ELF ROW FILE.. writes FILE.ppm for each FILE. ROW is the distance of rows that libpng is
-   told, in bytes, or 0 for no gap. A distance that is too large is a mistake, and libpng writes where there is no memory. */
+/* Decodes PNG files by libpng in a box: host PICTURE.ELF ROW FILE.. writes FILE.ppm for each FILE. ROW is the distance of rows that libpng
+   is told, in bytes, or 0 for no gap. A distance that is too large is a mistake, and libpng writes where there is no memory. */
 #include "../library.h"
 
 #include <stddef.h>

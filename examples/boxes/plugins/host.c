@@ -16,7 +16,8 @@ static void *kill_later(void *box) {
 }
 
 int main(int argc, char **argv) {
-    Library divisor = library_open(argc == 3 ? argv[1] : "", 2 << 20, 60000), fibonacci = library_open(argc == 3 ? argv[2] : "", 2 << 20, 50);
+    Library divisor = library_open(argc == 3 ? argv[1] : "", 2 << 20, 60000);
+    Library fibonacci = library_open(argc == 3 ? argv[2] : "", 2 << 20, 50);
     pthread_t thread;
     if (pthread_create(&thread, NULL, kill_later, divisor.box) != 0) {
         return 2;
