@@ -39,19 +39,23 @@ static inline void write_ppm(const char *name, const void *pixels, uint32_t widt
     }
 }
 
-/* A module of an ELF file, and a box of it. It ends the process if one is refused, with SKIPPED where the system has no boxes. */
-static inline Library library_open(const char *name, uint32_t memory, uint32_t milliseconds) {
-    static uint8_t bytes[4 << 20];
+/* A box of a module, or `why` there is no module. It ends the process if one is refused, with SKIPPED where the system has no boxes. */
+static inline Library library_of(const char *name, NcsModule *module, NcsRefusal *why, uint32_t memory, uint32_t milliseconds) {
     const NcsLimits limits = {.memory = memory, .depth = 1, .milliseconds = milliseconds};
-    Library library = {NULL, NULL, {0}};
-    NcsRefusal why;
-    library.module = ncs_module_elf(bytes, read_file(name, bytes, sizeof bytes), &why);
-    library.box = library.module != NULL ? ncs_box_new(library.module, &limits, &why) : NULL;
+    Library library = {module, module != NULL ? ncs_box_new(module, &limits, why) : NULL, {0}};
     if (library.box == NULL) {
-        fprintf(stderr, "%s: refused: %s, at %08x\n", name, why.sentence, (unsigned)why.at);
-        exit(why.kind == NCS_BAD_SYSTEM ? SKIPPED : 2);
+        fprintf(stderr, "%s: refused: %s, at %08x\n", name, why->sentence, (unsigned)why->at);
+        exit(why->kind == NCS_BAD_SYSTEM ? SKIPPED : 2);
     }
     return library;
+}
+
+/* A box of an ELF file. */
+static inline Library library_open(const char *name, uint32_t memory, uint32_t milliseconds) {
+    static uint8_t bytes[4 << 20];
+    NcsRefusal why;
+    NcsModule *module = ncs_module_elf(bytes, read_file(name, bytes, sizeof bytes), &why);
+    return library_of(name, module, &why, memory, milliseconds);
 }
 
 /* What a function returned, or 0 where the call ended otherwise. The box is dead then, so later calls give 0 too, until its reset. */
