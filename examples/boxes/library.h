@@ -58,7 +58,7 @@ static inline Library library_open(const char *name, uint32_t memory, uint32_t m
     return library_of(name, module, &why, memory, milliseconds);
 }
 
-/* What a function returned, or 0 where the call ended otherwise. The box is dead then, so later calls give 0 too, until its reset. */
+/* What a function returned, or 0 where the call ended otherwise. If that left the box dead, later calls give 0 too, until its reset. */
 static inline uint32_t library_call(Library *library, const char *name, unsigned count, const uint32_t *args) {
     NcsEnd end = ncs_call(library->box, ncs_symbol(library->module, name), count, args);
     if (end.how != NCS_DEAD) {
