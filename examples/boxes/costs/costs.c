@@ -8,7 +8,7 @@
 #include <unistd.h>
 
 enum { TURNS = 9, CALLS = 100000, TRIPS = 2000, LIVES = 100, BOXES = 32, MEMORY = 64 << 20, HEAP = 24 << 20, MILLISECONDS = 60000 };
-enum { JOBS = 4, SERVERS = 3 };
+enum { JOBS = 4, SERVERS = 3, OF_PROCESSOR = CLOCK_THREAD_CPUTIME_ID };
 
 static Library png, xml, plain;
 static uint8_t pixels[PIXELS_MAX];
@@ -151,6 +151,16 @@ static double resets(void) {
     return LIVES;
 }
 
+/* The same with 1 MiB written before. */
+static double written_resets(void) {
+    const NcsAt begin = {(1 << 20) - 4096};
+    for (unsigned k = 0; k < LIVES; k++) {
+        memset(ncs_at(plain.box, begin, 1 << 20), 1, 1 << 20);
+        need(ncs_reset(plain.box), "no reset");
+    }
+    return LIVES;
+}
+
 static double lives(void) {
     const NcsLimits limits = {.memory = MEMORY, .depth = 1, .milliseconds = MILLISECONDS};
     for (unsigned k = 0; k < LIVES; k++) {
@@ -171,12 +181,12 @@ static double loads(void) {
     return LIVES / 10;
 }
 
-/* The least time of one call, by the clock, in ns. */
-static void tell(const char *what, double (*some)(void)) {
+/* The least time of one call. */
+static void tell(const char *what, int clock, double (*some)(void)) {
     double least = 0;
     for (unsigned k = 0; k < TURNS; k++) {
-        uint64_t begun = time_by(CLOCK_MONOTONIC);
-        double count = some(), took = (double)(time_by(CLOCK_MONOTONIC) - begun) / count;
+        uint64_t begun = time_by(clock);
+        double count = some(), took = (double)(time_by(clock) - begun) / count;
         least = k == 0 || took < least ? took : least;
     }
     printf(least < 1e3 ? "| %s | %.0f ns |\n" : least < 1e6 ? "| %s | %.1f us |\n" : "| %s | %.1f ms |\n", what,
@@ -219,13 +229,14 @@ int main(void) {
     xml = library_open("document.elf", MEMORY, MILLISECONDS);
     plain = library_open("guest.elf", 2 << 20, MILLISECONDS);
     compare_all();
-    tell("an empty call of a box", calls);
-    tell("a call-back", callbacks);
-    tell("an empty call of a process, by pipes", pipe_trips);
-    tell("an empty call of a process, by shared memory", memory_trips);
-    tell("a reset of an untouched box", resets);
-    tell("making and freeing a box of 64 MiB", lives);
-    tell("loading picture.elf, and freeing it", loads);
+    tell("an empty call of a box", OF_PROCESSOR, calls);
+    tell("a call-back", OF_PROCESSOR, callbacks);
+    tell("a reset of an untouched box", OF_PROCESSOR, resets);
+    tell("writing 1 MiB of a box, and a reset", OF_PROCESSOR, written_resets);
+    tell("making and freeing a box of 64 MiB", OF_PROCESSOR, lives);
+    tell("loading picture.elf, and freeing it", OF_PROCESSOR, loads);
+    tell("an empty call of a process, by pipes, by the clock", CLOCK_MONOTONIC, pipe_trips);
+    tell("an empty call of a process, by shared memory, by the clock", CLOCK_MONOTONIC, memory_trips);
     tell_memory("picture.elf");
     tell_memory("document.elf");
     for (unsigned k = 0; k < SERVERS; k++) {
