@@ -123,10 +123,28 @@ def decoded(file):
     return rows and b"P6\n%d %d\n255\n" % (header.width, header.height) + b"".join(pixels_of(header, row, palette) for row in rows)
 
 
+def written(header, data, *more):
+    """A file with this header, other chunks, and this as what its data becomes."""
+    chunks = [(b"IHDR", struct.pack(">IIBBBBB", *header)), *more, (b"IDAT", zlib.compress(data, 9)), (b"IEND", b"")]
+    return assemble(chunks)
+
+
 def made(header, rows, palette=b""):
     """The file of a picture with these rows."""
-    chunks = [(b"IHDR", struct.pack(">IIBBBBB", *header))] + ([(b"PLTE", palette)] if palette else [])
-    return assemble(chunks + [(b"IDAT", zlib.compress(filtered(header, rows), 9)), (b"IEND", b"")])
+    return written(header, filtered(header, rows), *([(b"PLTE", palette)] if palette else []))
+
+
+def hostile():
+    """Files that are made to harm: sizes that make no sense or overflow, rows of two bytes a channel in passes, and much from little."""
+    sizes = [(0, 0), (0, 1), (1, 0x7FFFFFFF), (0x7FFFFFFF, 1), (0xFFFFFFFF, 0xFFFFFFFF), (0x10000, 0x10000), (0x5556, 0x10000), (4097, 1)]
+    made = [written(Header(*size, 8, RGB), bytes(1000)) for size in sizes]
+    passes = [(color, width) for color in (GRAY, RGB, 4, 6) for width in (1, 2, 5, 8, 33, 100)]
+    made += [written(Header(width, 33, 16, color, interlace=1), bytes(range(FILTERS)) * 20000) for color, width in passes]
+    much, small = bytes(32 << 20), Header(2, 2, 8, RGB)
+    made.append(written(small, much))
+    made += [written(small, bytes(14), (kind, b"k\0\0" + zlib.compress(much, 9))) for kind in (b"zTXt", b"iCCP")]
+    made += [written(small, bytes(14), *[(kind, b"")] * 20000) for kind in (b"IDAT", b"tEXt", b"PLTE", b"abCd")]
+    return made
 
 
 def flipped(data):
