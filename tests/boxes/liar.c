@@ -1,5 +1,5 @@
-/* A library that lies, in place of libpng and of expat, for nc-cc: the first letter of a file says how. Nothing that it does or says may harm
-   the hosts of examples/boxes. */
+/* A library that lies, in place of libpng and of expat, for nc-cc: the first letter of a file says how. Nothing that it does or says may
+   harm the hosts of examples/boxes. */
 typedef unsigned u32;
 typedef void (*Function)();
 
