@@ -25,12 +25,16 @@ __attribute__((section(".text.start"))) void begin(char *at, char *end) {
     set_up();
 }
 
-static size_t size_of(unsigned k) { return (size_t)HEAD << k; }
+static size_t size_of(unsigned k) {
+    return (size_t)HEAD << k;
+}
 
 void *malloc(size_t len) {
     unsigned k = 0;
     Block *block;
-    while (k < SIZES && len > size_of(k) - HEAD) k++;
+    while (k < SIZES && len > size_of(k) - HEAD) {
+        k++;
+    }
     if (k < SIZES && freed[k]) {
         block = freed[k];
         freed[k] = block->next;
@@ -45,14 +49,17 @@ void *malloc(size_t len) {
     return (char *)block + HEAD;
 }
 
-static Block *block_of(void *at) { return (Block *)((char *)at - HEAD); }
+static Block *block_of(void *at) {
+    return (Block *)((char *)at - HEAD);
+}
 
 void free(void *at) {
-    Block *block = at ? block_of(at) : 0;
-    unsigned k = at ? block->k : 0;
-    if (!at) return;
-    block->next = freed[k];
-    freed[k] = block;
+    if (at) {
+        Block *block = block_of(at);
+        unsigned k = block->k;
+        block->next = freed[k];
+        freed[k] = block;
+    }
 }
 
 void *calloc(size_t count, size_t len) {
@@ -74,6 +81,8 @@ void *realloc(void *old, size_t len) {
 /* What musl takes for a system call, with the numbers of i386. */
 long host_syscall(long number, long a, long b, long c, long d, long e, long f) {
     (void)b, (void)c, (void)d, (void)e, (void)f;
-    if (number == 1 || number == 252) ncs_exit((int)a);
+    if (number == 1 || number == 252) { /* exit, exit_group */
+        ncs_exit((int)a);
+    }
     return -ENOSYS;
 }
