@@ -1,0 +1,8 @@
+/* What costs.c calls in a box besides libraries, for nc-cc. */
+__attribute__((section(".text.start"))) void nothing(void) {}
+
+void calls(unsigned count, void (*callback)(void)) {
+    for (; count != 0; count--) {
+        callback();
+    }
+}

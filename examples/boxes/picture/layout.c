@@ -1,0 +1,8 @@
+/* Fails to compile where png_image isn't what host.c takes it for. */
+#include <stddef.h>
+#include "png.h"
+
+_Static_assert(sizeof(png_image) == 96 && offsetof(png_image, version) == 4 && offsetof(png_image, width) == 8 &&
+                   offsetof(png_image, height) == 12 && offsetof(png_image, format) == 16 && offsetof(png_image, message) == 32,
+               "struct Image of host.c");
+_Static_assert(PNG_IMAGE_VERSION == 1 && PNG_FORMAT_RGB == 2, "VERSION and RGB of host.c");

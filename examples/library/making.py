@@ -1,0 +1,135 @@
+"""Builds the C library musl for the sandbox, by nc-cc: what the scripts `build` of this folder and of examples/boxes share."""
+
+import glob
+import os
+import shutil
+import subprocess
+import sys
+from typing import NamedTuple
+
+HERE = os.path.dirname(os.path.abspath(__file__))
+DRIVER = os.path.join(HERE, "..", "compile", "nc-cc")
+if not os.path.exists(DRIVER):  # where Reedbodkin is installed
+    DRIVER = shutil.which("nc-cc") or "nc-cc"
+NOT_THERE = "there is no %s below %s: `build --help` says what to get"
+
+MUSL_FOLDERS = """string stdlib ctype stdio math multibyte locale errno malloc malloc/mallocng internal exit env time unistd prng fenv setjmp stat
+    fcntl misc thread signal select temp conf dirent mman linux sched process legacy search regex""".split()
+MUSL_FAST = {"internal", "malloc", "malloc/mallocng", "string"}  # which musl's own Makefile optimises more
+C_FLAGS = ["-w", "-std=gnu99"]
+LIMIT = 100
+
+
+class Library(NamedTuple):
+    """Where a library's sources are, by patterns of which one fits; which of them are left out; and its flags."""
+
+    folders: str
+    files: str
+    without: tuple = ()
+    flags: tuple = ()
+
+
+LIBRARIES = {
+    "zlib": Library("zlib-*", "*.c", flags=("-DHAVE_UNISTD_H",)),
+    "lz4": Library("lz4-*/lib", "*.c"),
+    "bzip2": Library("bzip2-*", "*.c", ("bzip2.c", "bzip2recover.c", "dlltest.c", "mk251.c", "spewG.c", "unzcrash.c")),
+    "expat": Library("expat-*/expat/lib libexpat-*/expat/lib expat-*/lib", "*.c",
+                     flags=("-DXML_NS", "-DXML_DTD", "-DXML_CONTEXT_BYTES=1024", "-DBYTEORDER=1234", "-DXML_POOR_ENTROPY")),
+    "libpng": Library("libpng1.6-1.6.* libpng-1.6.*", "png*.c", ("pngtest.c", "pngnow.c")),
+    "lua": Library("lua5.4-5.4.*/src lua-5.4.*/src", "*.c", ("lua.c", "luac.c")),
+    "sqlite": Library("sqlite3-* sqlite-amalgamation-*", "sqlite3.c",
+                      flags=("-DSQLITE_THREADSAFE=0", "-DSQLITE_OMIT_LOAD_EXTENSION", "-DSQLITE_TEMP_STORE=3")),
+}
+
+
+class Fault(Exception):
+    """What isn't there, or failed."""
+
+
+def found(sources, patterns):
+    """The folder that one of the patterns fits; the last by name, where several do."""
+    places = sorted(place for pattern in patterns.split() for place in glob.glob(os.path.join(sources, pattern)) if os.path.isdir(place))
+    if not places:
+        raise Fault(NOT_THERE % (" or ".join(patterns.split()), sources))
+    return places[-1]
+
+
+def sources_of(name, sources):
+    """The folder of a library, and its sources."""
+    library = LIBRARIES[name]
+    folder = found(sources, library.folders)
+    files = [path for path in sorted(glob.glob(os.path.join(folder, library.files))) if os.path.basename(path) not in library.without]
+    if not files:
+        raise Fault(NOT_THERE % (library.files, folder))
+    return folder, files
+
+
+def run(words, cc="gcc", **more):
+    try:
+        done = subprocess.run(words, env={**os.environ, "NC_CC": cc}, capture_output=True, text=True, errors="replace", **more)
+    except subprocess.TimeoutExpired:
+        raise Fault("%s took more than %d seconds" % (words[0], LIMIT)) from None
+    if done.returncode:
+        raise Fault("%s ended with status %d: %s" % (" ".join(words[:6]), done.returncode, done.stderr.strip()[-400:]))
+    return done.stdout
+
+
+def nc_cc(words, cc, **more):
+    return run([sys.executable, DRIVER, *words], cc, **more)
+
+
+def write_headers(musl, made):
+    """The headers that musl's own Makefile writes, and those that expat and Debian's Lua get when they are configured."""
+    bits, internal = os.path.join(made, "include", "bits"), os.path.join(made, "internal")
+    for folder in (bits, internal, os.path.join(made, "given")):
+        os.makedirs(folder, exist_ok=True)
+    types = [os.path.join(musl, name) for name in ("arch/i386/bits/alltypes.h.in", "include/alltypes.h.in")]
+    with open(os.path.join(musl, "arch/i386/bits/syscall.h.in"), encoding="ascii") as file:
+        calls = file.read()
+    texts = {
+        os.path.join(bits, "alltypes.h"): run(["sed", "-f", os.path.join(musl, "tools/mkalltypes.sed"), *types]),
+        os.path.join(bits, "syscall.h"): calls + "".join(line.replace("__NR_", "SYS_") + "\n" for line in calls.splitlines() if "__NR_" in line),
+        os.path.join(internal, "version.h"): '#define VERSION "1.2"\n',
+        os.path.join(made, "given", "expat_config.h"): "",
+        os.path.join(made, "given", "lua5.4-deb-multiarch.h"): '#define DEB_HOST_MULTIARCH ""\n',
+    }
+    for path, text in texts.items():
+        with open(path, "w", encoding="ascii") as file:
+            file.write(text)
+
+
+def including(musl, made, inner):
+    """Flags that find musl's headers, and those of this folder before them; `inner`: as musl's own sources see them."""
+    own = os.path.join(HERE, "musl")
+    within = ["arch/i386", "arch/generic"] + (["src/include", "src/internal"] if inner else [])
+    written = [os.path.join(made, name) for name in ("internal", "include")]
+    places = [own, *(os.path.join(musl, name) for name in within), *written, os.path.join(musl, "include")]
+    return ["-nostdinc", *(word for place in places for word in (("-I" if inner else "-isystem"), place))]
+
+
+def build_folder(musl, made, cc, name):
+    """The objects of one of musl's folders, where they aren't there yet."""
+    folder = os.path.join(made, "musl-" + cc, name.replace("/", "-"))
+    os.makedirs(folder, exist_ok=True)
+    files = sorted(glob.glob(os.path.join(musl, "src", name, "*.c")))
+    if name == "setjmp":
+        files = sorted(glob.glob(os.path.join(musl, "src/setjmp/i386/*.s")))
+    if len(glob.glob(os.path.join(folder, "*.o"))) < len(files):
+        level = "-O3" if name in MUSL_FAST else "-Os"
+        nc_cc(["-c", level, *C_FLAGS, "-D_XOPEN_SOURCE=700", *including(musl, made, inner=True), *files], cc, cwd=folder)
+    return sorted(glob.glob(os.path.join(folder, "*.o")))
+
+
+def build_musl(musl, made, cc, pool):
+    """libc-CC.a and the object with `start`, where they aren't there yet."""
+    archive, start = os.path.join(made, "libc-%s.a" % cc), os.path.join(made, "start-%s.o" % cc)
+    if os.path.exists(archive):
+        return
+    print("musl by %s: %d folders" % (cc, len(MUSL_FOLDERS)), flush=True)
+    objects = [path for paths in pool.map(lambda name: build_folder(musl, made, cc, name), MUSL_FOLDERS) for path in paths]
+    for name in ("division", "floating"):
+        objects.append(os.path.join(made, "%s-%s.o" % (name, cc)))
+        nc_cc(["-c", "-O2", os.path.join(HERE, name + ".c"), "-o", objects[-1]], cc)
+    nc_cc(["-c", "-Os", *C_FLAGS, *including(musl, made, inner=True), os.path.join(HERE, "start.c"), "-o", start], cc)
+    run(["ar", "rc", archive + ".new", *objects])
+    os.rename(archive + ".new", archive)
