@@ -71,7 +71,8 @@ void calls() {
 void memory() {
     ncs::Box box = new_box();
     std::uint8_t six[6];
-    CHECK(*box.text(at("greeting"), 100) == "good morning" && *box.text(at("greeting"), 4) == "good" && box.text(at("greeting"), 0)->empty());
+    CHECK(*box.text(at("greeting"), 100) == "good morning" && *box.text(at("greeting"), 4) == "good");
+    CHECK(box.text(at("greeting"), 0)->empty());
     CHECK(!box.text(ncs::At(), 4) && !box.text(ncs::At(LIMITS.memory), 4));
     CHECK(box.get(six, at("buffer")) && std::memcmp(six, "first", 6) == 0);
     CHECK(!box.get(six, ncs::At(LIMITS.memory - 5)) && !box.set(ncs::At(LIMITS.memory - 5), six) && !box.set(ncs::At(), "x"));
@@ -108,10 +109,33 @@ void callbacks() {
     unsigned long long seen = 0;
     ncs::At wide = box.callback([&](unsigned long long first, ncs::At second) { seen = first + second.number(); return -1ll; });
     CHECK(box.call(wide, 1).how() == NCS_BAD_ENTRY && box.call(at("each"), 1, wide).result<int>() == -1 && seen != 0);
+    auto held = std::make_shared<int>(5);
     unsigned given = 6;
-    for (; box.callback(twice); given++) {
+    for (; box.callback([held] { return *held; }); given++) {
     }
-    CHECK(given == NCS_CALLBACKS);
+    CHECK(given == NCS_CALLBACKS && held.use_count() == 1 + NCS_CALLBACKS - 6);
+}
+
+// Code that passes on, as it is, what the first call-back returns.
+ncs::Module passing() {
+    std::uint8_t code[2 * NC_BUNDLE];
+    std::memset(code, 0x90, sizeof code);
+    std::memcpy(code + NC_BUNDLE - 5, "\xE8\xE0\x00\xFF\xFF\x59\x83\xE1\xE0\xFF\xE1", 11); // call 0x100; pop ecx; and ecx, -32; jmp ecx
+    auto made = ncs::Module::code(code);
+    CHECK(made.ok());
+    return std::move(made).value();
+}
+
+void results_of_callbacks() {
+    const ncs::Module module = passing();
+    auto box = ncs::Box::make(module, LIMITS);
+    long long result = -2;
+    CHECK(box && box->callback([&] { return result; }));
+    CHECK(box->call(ncs::At(0x10000)).result<long long>() == -2);
+    result = 0x123456789ABCDE00;
+    const auto end = box->call(ncs::At(0x10000));
+    CHECK(end.result<long long>() == result && end.result<unsigned>() == 0x9ABCDE00 && end.result<ncs::At>() == ncs::At(0x9ABCDE00));
+    CHECK(end.result<bool>() == false && end.result<short>() == -0x2200 && end.result<unsigned char>() == 0);
 }
 
 // A call-back that is called while it is under way.
@@ -268,7 +292,8 @@ int main(int argc, char **argv) {
         return made.fault().number() == NCS_BAD_SYSTEM ? SKIPPED : 2;
     }
     guest = std::move(made).value();
-    for (auto test : {calls, memory, callbacks, within_itself, exceptions, exceptions_of_others, lives, left_behind, refusals, threads, children}) {
+    for (auto test : {calls, memory, callbacks, results_of_callbacks, within_itself, exceptions, exceptions_of_others, lives, left_behind, refusals,
+                      threads, children}) {
         test();
     }
     if (failures == 0) {

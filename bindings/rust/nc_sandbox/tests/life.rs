@@ -158,6 +158,25 @@ fn callbacks_have_what_they_capture() -> Outcome {
     })
 }
 
+/// Code that passes on, as it is, what the first call-back returns: call 0x100; pop ecx; and ecx, -32; jmp ecx.
+#[test]
+fn results_of_callbacks() -> Outcome {
+    with_guest(|_| {
+        let mut code = [0x90; 64];
+        code[27..38].copy_from_slice(b"\xE8\xE0\x00\xFF\xFF\x59\x83\xE1\xE0\xFF\xE1");
+        let mut sandbox = Sandbox::new(&Module::code(&code)?, LIMITS)?;
+        sandbox.callback(0, |_, _| 0x8234_5678_9ABC_DE00)?;
+        let start = At(0x10000);
+        assert_eq!(
+            (sandbox.call(start, ()), sandbox.call(start, ())),
+            (Ok(0x8234_5678_9ABC_DE00u64), Ok(At(0x9ABC_DE00)))
+        );
+        assert_eq!((sandbox.call(start, ()), sandbox.call(start, ())), (Ok(-0x7DCB_A987_6543_2200i64), Ok(false)));
+        assert_eq!((sandbox.call(start, ()), sandbox.call(start, ())), (Ok(-0x2200i16), Ok(0u8)));
+        Ok(())
+    })
+}
+
 #[test]
 fn callbacks_that_are_not_given() -> Outcome {
     with_guest(|module| {
@@ -298,6 +317,15 @@ fn killers() -> Outcome {
     })
 }
 
+/// Ends the threads that look at it, also where a test panics.
+struct Over<'a>(&'a AtomicBool);
+
+impl Drop for Over<'_> {
+    fn drop(&mut self) {
+        self.0.store(true, SeqCst);
+    }
+}
+
 /// Threads kill while the owner drops one box after the other.
 #[test]
 fn killers_outlive_their_boxes() -> Outcome {
@@ -312,6 +340,7 @@ fn killers_outlive_their_boxes() -> Outcome {
                     }
                 });
             }
+            let _over = Over(&is_over);
             for k in 0..2000 {
                 let mut sandbox = Sandbox::new(module, LIMITS).expect("there is a box");
                 let mut known = killers.lock().expect("no thread panics");
@@ -320,7 +349,6 @@ fn killers_outlive_their_boxes() -> Outcome {
                 drop(known);
                 assert!(matches!(count(&mut sandbox), Ok(41) | Err(End::Killed { .. })));
             }
-            is_over.store(true, SeqCst);
         });
         let known = killers.into_inner()?;
         assert!(known.len() == 1000 && known.iter().all(|killer| !killer.kill()));
