@@ -24,7 +24,7 @@ class Build(NamedTuple):
 
 
 class Misuse(NamedTuple):
-    """A text that mustn't compile, and what the compiler then says, as a regular expression. Without its lines that begin with @ it must."""
+    """A text that mustn't compile, and what the compiler says, as a regular expression. Without its lines that begin with @ it must."""
     name: str
     text: str
     said: str
@@ -34,6 +34,13 @@ class Misuse(NamedTuple):
 
     def right(self):
         return re.sub("^@.*\n?", "", self.text, flags=re.M) if "@" in self.text else ""
+
+
+def misuses(path, frame):
+    """Those of a file, within a text that has %s where their lines go."""
+    with open(path, encoding="utf-8") as file:
+        parts = [part.partition("\n") for part in file.read().strip().split("\n\n") if not part.startswith("#")]
+    return [Misuse(first.partition(": ")[0], frame % lines, first.partition(": ")[2]) for first, _, lines in parts]
 
 
 def known_standards(compiler):
@@ -98,12 +105,12 @@ def try_misuses(name, jobs):
     return wrong
 
 
-def try_cxx_misuses(header, front, misuses, flags=()):
-    """How many misuses of a header aren't refused by each compiler. `front` stands before each of them."""
+def try_cxx_misuses(header, known, flags=()):
+    """How many misuses of a header aren't refused by each compiler."""
     def by(compiler):
         words = [compiler, "-std=c++17", *WARN, *flags, "-x", "c++", "-fsyntax-only", "-"]
-        return lambda text: subprocess.run(words, input='#include "%s"\n%s%s\n' % (header, front, text), capture_output=True, text=True)
-    return try_misuses(header, [(by(compiler), misuse, compiler) for compiler in filter(shutil.which, COMPILERS) for misuse in misuses])
+        return lambda text: subprocess.run(words, input='#include "%s"\n%s\n' % (header, text), capture_output=True, text=True)
+    return try_misuses(header, [(by(compiler), misuse, compiler) for compiler in filter(shutil.which, COMPILERS) for misuse in known])
 
 
 def try_reach(of, to, pattern, what):
@@ -132,7 +139,8 @@ def library_folder(folder, name, archives):
 
 def cargo(crate, folder, words, **names):
     """A run of cargo in a crate, with a folder for what it builds, and with these variables set or, by None, not set."""
-    env = dict(os.environ, CARGO_TARGET_DIR=os.path.join(folder, "target"), RUSTFLAGS="-D warnings", **{k: v for k, v in names.items() if v})
+    env = dict(os.environ, CARGO_TARGET_DIR=os.path.join(folder, "target"), RUSTFLAGS="-D warnings")
+    env.update({name: value for name, value in names.items() if value})
     for name in (name for name, value in names.items() if value is None):
         env.pop(name, None)
     line = ["cargo"] + words[:1] + ["--offline", "--locked", "--quiet"] + words[1:]
@@ -158,7 +166,7 @@ def try_rust_example(crate, folder, line, wanted, how, **names):
 
 
 def try_rust_by_pkg_config(crate, folder, line, wanted, where, variable):
-    """Whether an example prints something else where pkg-config finds the library in a folder. The variable isn't set that would name it."""
+    """Whether an example prints something else where pkg-config finds the library in a folder, and the variable isn't set that names it."""
     if shutil.which("pkg-config") is None:
         print("skipped: %s.rs by pkg-config, which isn't there" % line[0])
         return False

@@ -292,8 +292,8 @@ int main(int argc, char **argv) {
         return made.fault().number() == NCS_BAD_SYSTEM ? SKIPPED : 2;
     }
     guest = std::move(made).value();
-    for (auto test : {calls, memory, callbacks, results_of_callbacks, within_itself, exceptions, exceptions_of_others, lives, left_behind, refusals,
-                      threads, children}) {
+    for (auto test : {calls, memory, callbacks, results_of_callbacks, within_itself, exceptions, exceptions_of_others, lives, left_behind,
+                      refusals, threads, children}) {
         test();
     }
     if (failures == 0) {

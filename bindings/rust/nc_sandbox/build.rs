@@ -41,7 +41,7 @@ fn from_pkg_config() -> Result<(), String> {
     if !output.status.success() {
         let said = String::from_utf8_lossy(&output.stderr);
         return Err(format!(
-            "NC_SANDBOX_LIB_DIR isn't set, and {program} knows no nc_sandbox, for which PKG_CONFIG_PATH has to name the folder of nc_sandbox.pc: {}",
+            "NC_SANDBOX_LIB_DIR isn't set, and {program} knows no nc_sandbox (does PKG_CONFIG_PATH name the folder of nc_sandbox.pc?): {}",
             said.trim()
         ));
     }

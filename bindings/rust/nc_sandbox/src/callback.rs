@@ -62,7 +62,7 @@ impl Slot {
         Arc::new(Slot { shared, args, function: Mutex::new(Some(function)) })
     }
 
-    /// Calls the function, unless it is under way: the code may call back whatever it likes, and a second `&mut` mustn't be. A panic is kept
+    /// Calls the function, unless it is under way: the code may call back whatever it likes, and there is only one `&mut`. A panic is kept
     /// for the call that has called back, which ends.
     fn answer(&self, args: &[u32]) -> u64 {
         let mut caller = Caller { shared: &self.shared, one_thread: PhantomData };

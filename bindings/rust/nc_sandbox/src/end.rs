@@ -5,8 +5,8 @@ use crate::At;
 use std::error::Error;
 use std::fmt;
 
-/// How a call ended that hasn't returned. `Stopped` and those down to `Denied` leave the box dead until [`Sandbox::reset`]. `place` is where
-/// in the code the call ended.
+/// How a call ended that hasn't returned. `Stopped` and those down to `Denied` leave the box dead until [`Sandbox::reset`]. `place` is
+/// where in the code the call ended.
 ///
 /// [`Sandbox::reset`]: crate::Sandbox::reset
 #[non_exhaustive]

@@ -1,15 +1,15 @@
 //! A safe interface of the C library `nc_sandbox`, which runs untrusted 32-bit code in boxes.
 //!
-//! Each method makes the call of the library that its documentation names, and `nc_sandbox.h` says what that call promises. This crate is
-//! trusted, as the library is.
+//! Each method makes the call of the library that its documentation names, and `nc_sandbox.h` says what that call promises. This crate
+//! is trusted, as the library is.
 //!
-//! A [`Module`] is code that was accepted, with its data. A [`Sandbox`] is a box, an instance of a module. [`Access`] has what its owner can
-//! do with it: calls, and reading and writing its memory. Call-backs are closures, which get a [`Caller`] that can do the same. A [`Killer`]
-//! ends calls from other threads.
+//! A [`Module`] is code that was accepted, with its data. A [`Sandbox`] is a box, an instance of a module. [`Access`] has what its owner
+//! can do with it: calls, and reading and writing its memory. Call-backs are closures, which get a [`Caller`] that can do the same. A
+//! [`Killer`] ends calls from other threads.
 //!
 //! What the header asks of its caller is kept by types, but for this, which stays with the host: its handlers of signals have `SA_ONSTACK`,
-//! it leaves the library's own signals and alternate stacks alone, it makes no call from a signal handler, and it judges what comes out of a
-//! box. Results, arguments of call-backs and bytes of a box's memory may be anything.
+//! it leaves the library's own signals and alternate stacks alone, it makes no call from a signal handler, and it judges what comes out of
+//! a box. Results, arguments of call-backs and bytes of a box's memory may be anything.
 //!
 //! ```
 //! use nc_sandbox::{Access, At, Limits, Module, Sandbox};

@@ -24,8 +24,8 @@ pub struct Limits {
 /// A box: an instance of a module, with data, heap and stack of its own. By [`Access`] its functions are called, and its memory is read and
 /// written. Dropping it is `ncs_free`.
 ///
-/// It may go to another thread, but no two threads may use it at once, not even to look. It can't be copied, and a range of its memory can't
-/// outlive it:
+/// It may go to another thread, but no two threads may use it at once, not even to look. It can't be copied, and a range of its memory
+/// can't outlive it:
 ///
 /// ```compile_fail,E0277
 /// fn is_sync<T: Sync>() {}
@@ -63,8 +63,8 @@ impl Sandbox {
         Ok(Sandbox { slots: Vec::new(), shared: Arc::new(Shared::of(made)), one_thread: PhantomData })
     }
 
-    /// `ncs_callback`: gives the box a call-back with so many 32-bit arguments, at most 12, and returns its address. The box keeps it until it
-    /// is dropped, also over a reset. What it returns goes to EDX and EAX.
+    /// `ncs_callback`: gives the box a call-back with so many 32-bit arguments, at most 12, and returns its address. The box keeps it until
+    /// it is dropped, also over a reset. What it returns goes to EDX and EAX.
     ///
     /// If it panics, the call of the code that has called back ends with [`End::Denied`](crate::End::Denied), and the panic is resumed from
     /// [`Access::call`]. It is denied a second call while it is under way, which the code of the box may try when the call-back calls it.
@@ -107,7 +107,8 @@ impl Sandbox {
         Ok(At(given.at))
     }
 
-    /// `ncs_reset`: gives the box its first memory again, and revives it. Its call-backs stay. A kill that hasn't ended a call is taken back.
+    /// `ncs_reset`: gives the box its first memory again, and revives it. Its call-backs stay. A kill that hasn't ended a call is taken
+    /// back.
     pub fn reset(&mut self) -> Result<(), Refusal> {
         // SAFETY: "One thread" and "Outside": nobody has a range of its memory.
         let made = unsafe { ffi::ncs_reset(self.shared.raw()) };
@@ -148,8 +149,8 @@ pub struct Killer {
 }
 
 impl Killer {
-    /// `ncs_kill`: ends the call that is under way, or else the next one, with [`End::Killed`](crate::End::Killed). It doesn't wait. Whether
-    /// the box was still there.
+    /// `ncs_kill`: ends the call that is under way, or else the next one, with [`End::Killed`](crate::End::Killed). It doesn't wait.
+    /// Whether the box was still there.
     pub fn kill(&self) -> bool {
         let Some(shared) = self.shared.upgrade() else { return false };
         // SAFETY: "Freed once"; any thread may ask for this at any time.

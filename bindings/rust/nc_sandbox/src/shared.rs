@@ -11,12 +11,12 @@ pub(crate) type Payload = Box<dyn Any + Send>;
 /// A box of the library. It is freed when the last of its owner and of killers that are just at work lets go of it.
 ///
 /// The rules of nc_sandbox.h that the SAFETY comments of this crate cite, and why they are kept:
-/// - "One thread": one thread at a time is in a call of a box. [`Sandbox`](crate::Sandbox) and [`Caller`](crate::Caller) are the only ways to
-///   it, and neither is `Sync`. A `Caller` isn't `Send`, so it stays with the thread whose call is under way, and the `Sandbox` is borrowed by
-///   that call.
+/// - "One thread": one thread at a time is in a call of a box. [`Sandbox`](crate::Sandbox) and [`Caller`](crate::Caller) are the only ways
+///   to it, and neither is `Sync`. A `Caller` isn't `Send`, so it stays with the thread whose call is under way, and the `Sandbox` is
+///   borrowed by that call.
 /// - "Freed once": a box is freed once, and isn't used after that. Whoever uses it holds an `Arc` of this type or borrows from one.
-/// - "Outside": nobody is in the box, so that its memory stays as it is, while somebody has a `&mut` of its `Sandbox` and makes no call, or a
-///   `&mut` of a `Caller`, whose thread is in a call-back. The same holds of `&`. Nobody else writes there: each box has memory of its own.
+/// - "Outside": nobody is in the box, so that its memory stays as it is, while somebody has a `&mut` of its `Sandbox` and makes no call, or
+///   a `&mut` of a `Caller`, whose thread is in a call-back. The same holds of `&`. Nobody else writes there, since no boxes share memory.
 pub struct Shared {
     raw: NonNull<NcsBox>,
     panic: Mutex<Option<Payload>>,

@@ -22,9 +22,9 @@ thread_local! {
     static IS_PREPARED: Cell<bool> = const { Cell::new(false) };
 }
 
-/// Whether this thread may call a box, as far as its alternate stack goes. The library gives it one at its first call, and relies on it from
-/// then on. Rust takes it away as the thread ends, before the destructors of thread-local values run: a signal would then be handled on the
-/// stack of the untrusted code.
+/// Whether this thread may call a box, as far as its alternate stack goes. The library gives it one at its first call, and relies on it
+/// from then on. Rust takes it away as the thread ends, before the destructors of thread-local values run: a signal would then be handled
+/// on the stack of the untrusted code. The look takes a system call.
 pub(crate) fn is_there() -> bool {
     if !IS_PREPARED.replace(true) {
         return true;

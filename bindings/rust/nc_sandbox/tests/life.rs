@@ -1,5 +1,5 @@
-//! Lives of boxes, on a module of sandbox/tests/guest.c, which NC_SANDBOX_GUEST names. Where it isn't set, or the system has no boxes, each test
-//! says so and ends.
+//! Lives of boxes, on a module of sandbox/tests/guest.c, which NC_SANDBOX_GUEST names. Where it isn't set, or the system has no boxes, each
+//! test says so and ends.
 
 use nc_sandbox::{ffi, Access, Args, At, Caller, End, Killer, Limits, Module, Refusal, Returned, Sandbox};
 use std::cell::RefCell;
