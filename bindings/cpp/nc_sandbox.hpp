@@ -1,17 +1,17 @@
 /*
  * nc_sandbox.hpp: modules, boxes and call-backs of nc_sandbox.h as C++ values.
  *
- * It needs C++17, and neither exceptions nor RTTI. A member makes the call of the library that its comment names. nc_sandbox.h says what that
- * call promises, and what it asks of the host. This header is trusted, as the library is.
+ * It needs C++17, and neither exceptions nor RTTI. A member makes the call of the library that its comment names. nc_sandbox.h says what
+ * that call promises, and what it asks of the host. This header is trusted, as the library is.
  *
  *   Values      Module and Box own what they stand for. They are moved and never copied. A default-constructed and a moved-from value are
- *               empty and may be used: their calls are refused, a call of a function with NCS_HOST. A module's code stays until its last box
- *               is gone, so the module may go first.
+ *               empty and may be used: their calls are refused, a call of a function with NCS_HOST. A module's code stays until its last
+ *               box is gone, so the module may go first.
  *   Call-backs  A box keeps its call-backs, with what they capture, until it is destroyed. A call-back that throws ends its call with
  *               NCS_DENIED. The exception is thrown on from Access::call, once no untrusted code is left between.
- *   Threads     One thread at a time uses a Box. Any thread may use a Killer, and any number of them a const Module.
- *   Lives       A box is neither destroyed nor assigned to while a call of it is under way. If a call-back does that to its own box, the box
- *               and its call-backs are left behind, and never freed.
+ *   Threads     One thread at a time uses a Box. Any thread may use a Killer, and any number of them a Module that isn't assigned to.
+ *   Lives       A box is neither destroyed nor assigned to while a call of it is under way. If a call-back does that to its own box, the
+ *               box and its call-backs are left behind, and never freed.
  *   Numbers     What has another size in a box than here can't be an argument or a result: a pointer, and long, which is also size_t,
  *               int64_t and uint64_t. Say std::uint32_t or long long.
  */
@@ -19,12 +19,7 @@
 #define NC_SANDBOX_HPP
 
 #include "nc_host.hpp"
-
-#include <stddef.h>
-#include <stdint.h>
-extern "C" {
 #include "nc_sandbox.h"
-}
 
 #include <cstring>
 #include <exception>
