@@ -48,7 +48,8 @@ FILES = [
 ]
 
 # Folders and files of the repository that pages name and that aren't installed, and what stands before their names on an installed page.
-ELSEWHERE = [".ci/", "bench/", "crates/", "examples/boxes/", "examples/mapped/", "packaging/", "sandbox/", "tests/", "tools/"] + [
+ELSEWHERE = [
+    ".ci/", "bench/", "bindings/", "crates/", "examples/boxes/", "examples/mapped/", "packaging/", "sandbox/", "tests/", "tools/"] + [
     "examples/compile/" + name for name in ("build", "host.s", "instructions.txt", "nc-cc", "to-bundles")]
 ONLY_THERE = "Named on this page, and only in the source repository: "
 
