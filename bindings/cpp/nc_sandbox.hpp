@@ -45,7 +45,7 @@ class Refusal {
     explicit Refusal(NcsRefusal why) noexcept : why_(why) {}
 
     std::uint32_t number() const noexcept { return why_.kind; }            /* NCS_BAD_FILE and so on */
-    nc::Fault verdict() const noexcept { return nc::Fault(why_.fault); }   /* of refused code */
+    nc::Fault verdict() const noexcept { return nc::Fault(why_.fault); }   /* of refused code or a refused change */
     std::uint32_t at() const noexcept { return why_.at; }                  /* the address of that fault, or the number of a signal */
     const char *sentence() const noexcept { return why_.sentence; }
 
@@ -98,6 +98,30 @@ class Module {
     /* ncs_symbol. */
     At symbol(const char *name) const noexcept { return handle_ != nullptr ? At(ncs_symbol(handle(), name)) : At(); }
 
+    /* ncs_module_live. The changes may be made by any threads at once. */
+    static Result<Module> live(std::uint32_t bundles) noexcept {
+        NcsRefusal why{};
+        return told(ncs_module_live(bundles, &why), why);
+    }
+
+    /* ncs_create. */
+    Result<void> create(At base, Bytes code) noexcept {
+        return changed([&](NcsRefusal *why) { return ncs_create(handle(), base, code.data(), code.size(), why); });
+    }
+
+    /* ncs_patch. */
+    Result<void> patch(At at, Bytes code) noexcept {
+        return changed([&](NcsRefusal *why) { return ncs_patch(handle(), at, code.data(), code.size(), why); });
+    }
+
+    /* ncs_delete. */
+    Result<void> delete_chunk(At base) noexcept {
+        return changed([&](NcsRefusal *why) { return ncs_delete(handle(), base, why); });
+    }
+
+    /* ncs_reclaim. How many chunks it freed. */
+    std::uint32_t reclaim() noexcept { return handle_ != nullptr ? ncs_reclaim(handle()) : 0; }
+
     NcsModule *handle() const noexcept { return handle_.get(); }
 
   private:
@@ -116,6 +140,15 @@ class Module {
             return Refusal(why);
         }
         return Result<Module>(std::move(module));
+    }
+
+    template <class Change>
+    Result<void> changed(Change change) noexcept {
+        NcsRefusal why{NCS_NOT_LIVE, 0, 0, "the module is empty"};
+        if (handle_ == nullptr || change(&why) == 0) {
+            return Refusal(why);
+        }
+        return Refusal();
     }
 
     std::unique_ptr<NcsModule, Free> handle_;

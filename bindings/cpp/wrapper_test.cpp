@@ -238,6 +238,32 @@ void left_behind() {
     CHECK(same->call(at("logged"), 1).result<unsigned>() == 3 && box == nullptr && killer.kill());
 }
 
+void live_code() {
+    auto made = ncs::Module::live(8);
+    if (made.fault().number() == NCS_BAD_SYSTEM) {
+        return; // the system has boxes, and no live code
+    }
+    const ncs::At start(0x10000);
+    std::uint8_t code[NC_BUNDLE] = {0xB8, 5, 0, 0, 0, 0x59, 0x83, 0xE1, 0xE0, 0xFF, 0xE1}; // mov eax, 5; pop ecx; and ecx, -32; jmp ecx
+    const std::uint8_t other[] = {0xB8, 7, 0, 0, 0};
+    std::memset(code + 11, 0x90, NC_BUNDLE - 11);
+    auto box = ncs::Box::make(*made, LIMITS);
+    CHECK(box && box->call(start).how() == NCS_STOPPED && box->reset());
+    CHECK(made->create(start, code) && box->call(start).result<int>() == 5);
+    CHECK(made->patch(start, other) && box->call(start).result<int>() == 7);
+    CHECK(made->patch(start + 1, other).fault().number() == NCS_BAD_CHANGE && box->call(start).result<int>() == 7);
+    CHECK(made->delete_chunk(start) && box->call(start).how() == NCS_STOPPED && box->reset());
+    auto occupied = made->create(start, code);
+    CHECK(occupied.fault().number() == NCS_BAD_CHANGE && occupied.fault().verdict().number() == NC_OCCUPIED);
+    CHECK(made->reclaim() == 1 && made->reclaim() == 0 && made->create(start, code) && box->call(start).result<int>() == 5);
+    code[20] = 0xC3;
+    auto refused = made->create(start + 64, code);
+    CHECK(refused.fault().number() == NCS_BAD_CODE && refused.fault().at() == start.number() + 64 + 20);
+    CHECK(guest.delete_chunk(start).fault().number() == NCS_NOT_LIVE && guest.reclaim() == 0);
+    *made = ncs::Module();
+    CHECK(made->delete_chunk(start).fault().number() == NCS_NOT_LIVE && box->call(start).result<int>() == 5);
+}
+
 void refusals() {
     const auto bad = ncs::Module::elf(bytes_of("\x7F" "ELF", 4));
     CHECK(!bad && bad.fault().number() == NCS_BAD_FILE && bad.fault().sentence() != nullptr);
@@ -293,7 +319,7 @@ int main(int argc, char **argv) {
     }
     guest = std::move(made).value();
     for (auto test : {calls, memory, callbacks, results_of_callbacks, within_itself, exceptions, exceptions_of_others, lives, left_behind,
-                      refusals, threads, children}) {
+                      live_code, refusals, threads, children}) {
         test();
     }
     if (failures == 0) {

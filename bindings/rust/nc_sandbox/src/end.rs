@@ -60,7 +60,7 @@ pub enum End {
     TooDeep,
     /// An earlier call has left the box dead, and nothing was entered.
     Dead,
-    /// Another thread is in a call of the box, and nothing was entered. Calls of this crate never end so.
+    /// 255 calls of boxes of a live module are under way, and nothing was entered.
     Busy,
     /// Too many arguments, a thread that can't be prepared or is about to end, or a forked child. Nothing was entered, unless a call-back
     /// forked. A thread that has called a box is about to end once the destructors of its thread-local values run.

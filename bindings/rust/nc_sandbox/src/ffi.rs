@@ -11,6 +11,10 @@ pub const NCS_BAD_LIMITS: u32 = 3;
 pub const NCS_BAD_HANDLER: u32 = 4;
 pub const NCS_NO_MEMORY: u32 = 5;
 pub const NCS_BAD_SYSTEM: u32 = 6;
+pub const NCS_NOT_LIVE: u32 = 7;
+pub const NCS_BAD_CHANGE: u32 = 8;
+
+pub const NCS_LIVE_CALLS: u32 = 255;
 
 pub const NCS_RETURNED: u32 = 0;
 pub const NCS_STOPPED: u32 = 1;
@@ -90,6 +94,18 @@ extern "C" {
     pub fn ncs_module_code(code: *const c_void, len: usize, why: *mut NcsRefusal) -> *mut NcsModule;
     pub fn ncs_symbol(module: *const NcsModule, name: *const c_char) -> NcsAt;
     pub fn ncs_module_free(module: *mut NcsModule);
+    pub fn ncs_module_live(bundles: u32, why: *mut NcsRefusal) -> *mut NcsModule;
+    pub fn ncs_create(
+        module: *mut NcsModule,
+        base: NcsAt,
+        code: *const c_void,
+        len: usize,
+        why: *mut NcsRefusal,
+    ) -> c_int;
+    pub fn ncs_patch(module: *mut NcsModule, at: NcsAt, code: *const c_void, len: usize, why: *mut NcsRefusal)
+        -> c_int;
+    pub fn ncs_delete(module: *mut NcsModule, base: NcsAt, why: *mut NcsRefusal) -> c_int;
+    pub fn ncs_reclaim(module: *mut NcsModule) -> u32;
     pub fn ncs_box_new(module: *mut NcsModule, limits: *const NcsLimits, why: *mut NcsRefusal) -> *mut NcsBox;
     pub fn ncs_reset(box_: *mut NcsBox) -> c_int;
     pub fn ncs_kill(box_: *mut NcsBox);

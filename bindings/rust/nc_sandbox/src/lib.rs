@@ -36,6 +36,7 @@ mod callback;
 mod end;
 #[allow(missing_docs)]
 pub mod ffi;
+mod live;
 mod module;
 mod refusal;
 mod sandbox;

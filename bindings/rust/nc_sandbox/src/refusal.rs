@@ -3,11 +3,11 @@
 use crate::ffi::{self, NcsRefusal};
 use crate::At;
 use std::error::Error;
-use std::ffi::CStr;
+use std::ffi::{c_int, CStr};
 use std::fmt;
 use std::ptr;
 
-/// Why there is no module, no box, no range or no room. Everything is as it was.
+/// Why there is no module, no box, no change, no range or no room. Everything is as it was.
 #[non_exhaustive]
 #[derive(Clone, Copy, Debug, PartialEq, Eq, Hash)]
 pub enum Refusal {
@@ -33,6 +33,15 @@ pub enum Refusal {
     NoMemory(&'static str),
     /// The system refuses what boxes need, or this is a forked child.
     BadSystem(&'static str),
+    /// The module isn't one of [`Module::live`](crate::Module::live), so its code never changes.
+    NotLive,
+    /// `nc_host` refuses a change of live code.
+    BadChange {
+        /// The number of the fault in `nc_host.h`.
+        fault: u32,
+        /// What it says.
+        sentence: &'static str,
+    },
     /// A range isn't all the box's, or a text leaves the box.
     NotInBox {
         /// Where it begins.
@@ -55,6 +64,15 @@ impl Refusal {
         ptr::NonNull::new(call(&mut why)).ok_or_else(|| Refusal::of(why))
     }
 
+    /// The same for a change, of which the call says whether it was made.
+    pub(crate) fn unless_made(call: impl FnOnce(*mut NcsRefusal) -> c_int) -> Result<(), Refusal> {
+        let mut why = NcsRefusal { kind: ffi::NCS_OK, fault: 0, at: 0, sentence: ptr::null() };
+        match call(&mut why) {
+            0 => Err(Refusal::of(why)),
+            _ => Ok(()),
+        }
+    }
+
     fn of(why: NcsRefusal) -> Refusal {
         let sentence = sentence(&why);
         match why.kind {
@@ -64,6 +82,8 @@ impl Refusal {
             ffi::NCS_BAD_HANDLER => Refusal::BadHandler { signal: why.at },
             ffi::NCS_NO_MEMORY => Refusal::NoMemory(sentence),
             ffi::NCS_BAD_SYSTEM => Refusal::BadSystem(sentence),
+            ffi::NCS_NOT_LIVE => Refusal::NotLive,
+            ffi::NCS_BAD_CHANGE => Refusal::BadChange { fault: why.fault, sentence },
             _ => Refusal::Other(sentence),
         }
     }
@@ -83,6 +103,7 @@ impl fmt::Display for Refusal {
             Refusal::BadCode { at: At(0), sentence, .. } => f.write_str(sentence),
             Refusal::BadCode { at, sentence, .. } => write!(f, "{sentence} ({at})"),
             Refusal::BadHandler { signal } => write!(f, "signal {signal} has a handler without SA_ONSTACK"),
+            Refusal::NotLive => f.write_str("the code of this module never changes"),
             Refusal::NotInBox { at } => write!(f, "what begins at {at} isn't all the box's"),
             Refusal::NoRoom => f.write_str("the heap of the box has no room for this"),
             Refusal::NoCallback => f.write_str("the box has 64 call-backs, or this one has more than 12 arguments"),
@@ -90,6 +111,7 @@ impl fmt::Display for Refusal {
             Refusal::BadFile(sentence)
             | Refusal::BadLimits(sentence)
             | Refusal::NoMemory(sentence)
+            | Refusal::BadChange { sentence, .. }
             | Refusal::BadSystem(sentence)
             | Refusal::Other(sentence) => f.write_str(sentence),
         }
