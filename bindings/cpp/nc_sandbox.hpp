@@ -85,6 +85,12 @@ class [[nodiscard]] End {
 
 /* ---- Modules */
 
+/* The function in which a place of the code lies, null if none is known, and how far the place is behind its beginning. */
+struct Place {
+    const char *name = nullptr;
+    std::uint32_t offset = 0;
+};
+
 class Module {
   public:
     Module() noexcept = default;
@@ -97,6 +103,23 @@ class Module {
 
     /* ncs_symbol. */
     At symbol(const char *name) const noexcept { return handle_ != nullptr ? At(ncs_symbol(handle(), name)) : At(); }
+
+    /* ncs_entry. */
+    At entry() const noexcept { return handle_ != nullptr ? At(ncs_entry(handle())) : At(); }
+
+    /* ncs_function_at. The name is valid until the module is freed. */
+    Place function_at(At at) const noexcept {
+        Place place;
+        place.name = handle_ != nullptr ? ncs_function_at(handle(), at, &place.offset) : nullptr;
+        return place;
+    }
+
+    /* ncs_function_in. The name is in the file. */
+    static Place function_in(Bytes file, At at) noexcept {
+        Place place;
+        place.name = ncs_function_in(file.data(), file.size(), at, &place.offset);
+        return place;
+    }
 
     /* ncs_module_live. The changes may be made by any threads at once. */
     static Result<Module> live(std::uint32_t bundles) noexcept {

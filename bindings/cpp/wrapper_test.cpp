@@ -238,6 +238,14 @@ void left_behind() {
     CHECK(same->call(at("logged"), 1).result<unsigned>() == 3 && box == nullptr && killer.kill());
 }
 
+void names_of_places(const std::vector<char> &file) {
+    const ncs::Place place = guest.function_at(at("sum") + 3), same = ncs::Module::function_in(bytes_of(file.data(), file.size()), at("sum"));
+    CHECK(place.name != nullptr && std::strcmp(place.name, "sum") == 0 && place.offset == 3);
+    CHECK(same.name != nullptr && std::strcmp(same.name, "sum") == 0 && same.offset == 0);
+    CHECK(guest.function_at(ncs::At()).name == nullptr && ncs::Module().function_at(at("sum")).name == nullptr);
+    CHECK(guest.entry() == at("start") && ncs::Module().entry() == ncs::At());
+}
+
 void live_code() {
     auto made = ncs::Module::live(8);
     if (made.fault().number() == NCS_BAD_SYSTEM) {
@@ -318,6 +326,7 @@ int main(int argc, char **argv) {
         return made.fault().number() == NCS_BAD_SYSTEM ? SKIPPED : 2;
     }
     guest = std::move(made).value();
+    names_of_places(file);
     for (auto test : {calls, memory, callbacks, results_of_callbacks, within_itself, exceptions, exceptions_of_others, lives, left_behind,
                       live_code, refusals, threads, children}) {
         test();

@@ -93,6 +93,9 @@ extern "C" {
     pub fn ncs_module_elf(file: *const c_void, len: usize, why: *mut NcsRefusal) -> *mut NcsModule;
     pub fn ncs_module_code(code: *const c_void, len: usize, why: *mut NcsRefusal) -> *mut NcsModule;
     pub fn ncs_symbol(module: *const NcsModule, name: *const c_char) -> NcsAt;
+    pub fn ncs_entry(module: *const NcsModule) -> NcsAt;
+    pub fn ncs_function_at(module: *const NcsModule, at: NcsAt, offset: *mut u32) -> *const c_char;
+    pub fn ncs_function_in(file: *const c_void, len: usize, at: NcsAt, offset: *mut u32) -> *const c_char;
     pub fn ncs_module_free(module: *mut NcsModule);
     pub fn ncs_module_live(bundles: u32, why: *mut NcsRefusal) -> *mut NcsModule;
     pub fn ncs_create(

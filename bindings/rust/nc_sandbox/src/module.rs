@@ -2,7 +2,7 @@
 
 use crate::ffi::{self, NcsModule};
 use crate::{At, Refusal};
-use std::ffi::CString;
+use std::ffi::{c_char, CStr, CString};
 use std::fmt;
 use std::ptr::NonNull;
 
@@ -39,6 +39,43 @@ impl Module {
         let found = unsafe { ffi::ncs_symbol(self.handle.as_ptr(), name.as_ptr()) };
         (found.at != 0).then_some(At(found.at))
     }
+
+    /// `ncs_entry`: where the file begins, or 00010000 for code alone. A file may name any number.
+    pub fn entry(&self) -> At {
+        // SAFETY: the module is there as long as this value.
+        At(unsafe { ffi::ncs_entry(self.handle.as_ptr()) }.at)
+    }
+
+    /// `ncs_function_at`: the function of the file in which a place of the code lies, and how far the place is behind its beginning.
+    pub fn function_at(&self, at: At) -> Option<(&str, u32)> {
+        let mut offset = 0;
+        // SAFETY: the module is there as long as this value, and the pointer leads to a number.
+        let name = unsafe { ffi::ncs_function_at(self.handle.as_ptr(), at.raw(), &mut offset) };
+        // SAFETY: nc_sandbox.h: the name is valid until the module is freed.
+        Some((unsafe { text(name) }?, offset))
+    }
+
+    /// `ncs_function_in`: the same for a file whose code was refused.
+    pub fn function_in(file: &[u8], at: At) -> Option<(&str, u32)> {
+        let mut offset = 0;
+        // SAFETY: the pointers lead to as many bytes as the slice has, and to a number.
+        let name = unsafe { ffi::ncs_function_in(file.as_ptr().cast(), file.len(), at.raw(), &mut offset) };
+        // SAFETY: nc_sandbox.h: the name is in the file.
+        Some((unsafe { text(name) }?, offset))
+    }
+}
+
+/// A name of the library's, or `None` for a null pointer.
+///
+/// # Safety
+///
+/// It ends with a 0, and stays as long as the lifetime says.
+unsafe fn text<'a>(name: *const c_char) -> Option<&'a str> {
+    if name.is_null() {
+        return None;
+    }
+    // SAFETY: as above.
+    unsafe { CStr::from_ptr(name) }.to_str().ok()
 }
 
 impl Drop for Module {

@@ -401,6 +401,20 @@ fn a_box_keeps_its_module() -> Outcome {
 }
 
 #[test]
+fn names_of_places() -> Outcome {
+    with_guest(|module| {
+        assert_eq!((module.entry(), module.function_at(at("sum").offset(3))), (at("start"), Some(("sum", 3))));
+        assert_eq!((module.function_at(At(0)), module.function_at(at("greeting"))), (None, None));
+        let file = std::fs::read(std::env::var("NC_SANDBOX_GUEST")?)?;
+        assert_eq!(
+            (Module::function_in(&file, at("add")), Module::function_in(&[], at("add"))),
+            (Some(("add", 0)), None)
+        );
+        Ok(())
+    })
+}
+
+#[test]
 fn refusals() -> Outcome {
     with_guest(|module| {
         assert!(matches!(Module::elf(b"\x7FELF"), Err(Refusal::BadFile(_))));
