@@ -113,29 +113,29 @@ constexpr const char *Fault::sentence() const noexcept {
 #undef NC_HPP_NAME_OF
 #undef NC_HPP_SENTENCE_OF
 
-/* Whether a call was refused, and how. */
-template <class T>
+/* Whether a call was refused, and how: by a Fault, or by a type of another library, whose number() is 0 where nothing was refused. */
+template <class T, class Why = Fault>
 class Result;
 
-template <>
-class [[nodiscard]] Result<void> {
+template <class Why>
+class [[nodiscard]] Result<void, Why> {
   public:
-    constexpr Result(Fault fault) noexcept : fault_(fault) {}
+    constexpr Result(Why fault) noexcept : fault_(fault) {}
 
     [[nodiscard]] constexpr bool ok() const noexcept { return fault_.number() == NC_OK; }
     constexpr explicit operator bool() const noexcept { return ok(); }
-    [[nodiscard]] constexpr Fault fault() const noexcept { return fault_; }
+    [[nodiscard]] constexpr Why fault() const noexcept { return fault_; }
 
   private:
-    Fault fault_;
+    Why fault_;
 };
 
 /* A value, or the fault for which there is none. Where there is a fault, value() is a default-constructed value: 0, nothing, or empty. */
-template <class T>
-class [[nodiscard]] Result : public Result<void> {
+template <class T, class Why>
+class [[nodiscard]] Result : public Result<void, Why> {
   public:
-    constexpr Result(T value) noexcept : Result<void>(Fault()), value_(std::move(value)) {}
-    constexpr Result(Fault fault) noexcept : Result<void>(fault) {}
+    constexpr Result(T value) noexcept : Result<void, Why>(Why()), value_(std::move(value)) {}
+    constexpr Result(Why fault) noexcept : Result<void, Why>(fault) {}
 
     constexpr T &value() & noexcept { return value_; }
     constexpr const T &value() const & noexcept { return value_; }

@@ -26,6 +26,10 @@
 #include <stddef.h>
 #include <stdint.h>
 
+#ifdef __cplusplus
+extern "C" {
+#endif
+
 typedef struct NcsModule NcsModule;
 typedef struct NcsBox NcsBox;
 
@@ -224,5 +228,9 @@ NcsAt ncs_take(NcsBox *box, uint32_t len);
 
 /* Takes room for these bytes, and copies them there. 0 if there is no room. */
 NcsAt ncs_put(NcsBox *box, const void *from, uint32_t len);
+
+#ifdef __cplusplus
+}
+#endif
 
 #endif

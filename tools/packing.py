@@ -19,6 +19,11 @@ FILES = [
     ("include/nc_host.hpp", "include/nc_host.hpp"),
     ("sandbox/nc_sandbox.h", "include/nc_sandbox.h"),
     ("sandbox/guest/nc_run.h", SHARE + "guest/nc_run.h"),
+    ("bindings/cpp/nc_sandbox.hpp", "include/nc_sandbox.hpp"),
+    ("bindings/cpp/nc_sandbox_words.hpp", "include/nc_sandbox_words.hpp"),
+    ("bindings/rust/nc_sandbox", SHARE + "rust/nc_sandbox"),
+    ("bindings/rust/nc_sandbox/src", SHARE + "rust/nc_sandbox/src"),
+    ("bindings/rust/nc_sandbox/examples", SHARE + "rust/nc_sandbox/examples"),
     ("packaging/rust/nc_host", SHARE + "rust/nc_host"),
     ("packaging/rust/nc_host/src", SHARE + "rust/nc_host/src"),
     ("packaging/rust/nc_host/examples", SHARE + "rust/nc_host/examples"),
@@ -44,6 +49,11 @@ FILES = [
     ("examples/sandbox", DOC + "examples/sandbox"),
     ("examples/jit", DOC + "examples/jit"),
     ("examples/boxes", DOC + "examples/boxes"),
+    ("examples/boxes/calculator", DOC + "examples/boxes/calculator"),
+    ("examples/boxes/costs", DOC + "examples/boxes/costs"),
+    ("examples/boxes/document", DOC + "examples/boxes/document"),
+    ("examples/boxes/picture", DOC + "examples/boxes/picture"),
+    ("examples/boxes/plugins", DOC + "examples/boxes/plugins"),
     ("examples/run", DOC + "examples/run"),
     ("examples/library", DOC + "examples/library"),
     ("examples/library/trials", DOC + "examples/library/trials"),
@@ -55,7 +65,7 @@ FILES = [
 ]
 
 # Folders and files of the repository that pages name and that aren't installed, and what stands before their names on an installed page.
-ELSEWHERE = [".ci/", "bench/", "crates/", "examples/mapped/", "packaging/", "sandbox/", "tests/", "tools/"] + [
+ELSEWHERE = [".ci/", "bench/", "bindings/", "crates/", "examples/mapped/", "packaging/", "sandbox/", "tests/", "tools/"] + [
     "examples/compile/" + name for name in ("build", "host.s", "instructions.txt", "nc-cc", "to-bundles")]
 ONLY_THERE = "Named on this page, and only in the source repository: "
 

@@ -1,0 +1,438 @@
+/*
+ * nc_sandbox.hpp: modules, boxes and call-backs of nc_sandbox.h as C++ values.
+ *
+ * It needs C++17, and neither exceptions nor RTTI. A member makes the call of the library that its comment names. nc_sandbox.h says what
+ * that call promises, and what it asks of the host. This header is trusted, as the library is.
+ *
+ *   Values      Module and Box own what they stand for. They are moved and never copied. A default-constructed and a moved-from value are
+ *               empty and may be used: their calls are refused, a call of a function with NCS_HOST. A module's code stays until its last
+ *               box is gone, so the module may go first.
+ *   Call-backs  A box keeps its call-backs, with what they capture, until it is destroyed. A call-back that throws ends its call with
+ *               NCS_DENIED. The exception is thrown on from Access::call, once no untrusted code is left between.
+ *   Threads     One thread at a time uses a Box. Any thread may use a Killer, and any number of them a Module that isn't assigned to.
+ *   Lives       A box is neither destroyed nor assigned to while a call of it is under way. If a call-back does that to its own box, the
+ *               box and its call-backs are left behind, and never freed.
+ *   Numbers     What has another size in a box than here can't be an argument or a result: a pointer, and long, which is also size_t,
+ *               int64_t and uint64_t. Say std::uint32_t or long long.
+ */
+#ifndef NC_SANDBOX_HPP
+#define NC_SANDBOX_HPP
+
+#include "nc_host.hpp"
+#include "nc_sandbox.h"
+#include "nc_sandbox_words.hpp"
+
+#include <exception>
+#include <memory>
+#include <optional>
+#include <string>
+#include <string_view>
+#include <type_traits>
+#include <utility>
+#include <vector>
+
+namespace ncs {
+
+using nc::Bytes;
+using nc::Span;
+using Limits = NcsLimits;
+
+/* ---- Refusals */
+
+class Refusal {
+  public:
+    Refusal() noexcept = default; /* NCS_OK */
+    explicit Refusal(NcsRefusal why) noexcept : why_(why) {}
+
+    std::uint32_t number() const noexcept { return why_.kind; }            /* NCS_BAD_FILE and so on */
+    nc::Fault verdict() const noexcept { return nc::Fault(why_.fault); }   /* of refused code or a refused change */
+    std::uint32_t at() const noexcept { return why_.at; }                  /* the address of that fault, or the number of a signal */
+    const char *sentence() const noexcept { return why_.sentence; }
+
+  private:
+    NcsRefusal why_{NCS_OK, 0, 0, "nothing is refused"};
+};
+
+template <class T>
+using Result = nc::Result<T, Refusal>;
+
+/* ---- Ends */
+
+/* How a call ended. */
+class [[nodiscard]] End {
+  public:
+    explicit End(NcsEnd end) noexcept : end_(end) {}
+
+    std::uint32_t how() const noexcept { return end_.how; }
+    const char *name() const noexcept { return ncs_how(end_.how); } /* ncs_how */
+    explicit operator bool() const noexcept { return end_.how == NCS_RETURNED; }
+
+    /* What the function returned, read as a T. 0 where it hasn't returned. */
+    template <class T>
+    T result() const noexcept {
+        const std::uint32_t words[] = {end_.result, end_.high};
+        return detail::Word<T>::of(words);
+    }
+
+    At place() const noexcept { return At(end_.place); }
+    std::uint32_t trap() const noexcept { return end_.trap; }
+    At data() const noexcept { return At(end_.data); }
+    std::uint32_t status() const noexcept { return end_.status; }
+
+  private:
+    NcsEnd end_;
+};
+
+/* ---- Modules */
+
+/* The function in which a place of the code lies, null if none is known, and how far the place is behind its beginning. */
+struct Place {
+    const char *name = nullptr;
+    std::uint32_t offset = 0;
+};
+
+class Module {
+  public:
+    Module() noexcept = default;
+
+    /* ncs_module_elf. */
+    static Result<Module> elf(Bytes file) noexcept { return made(ncs_module_elf, file); }
+
+    /* ncs_module_code. */
+    static Result<Module> code(Bytes code) noexcept { return made(ncs_module_code, code); }
+
+    /* ncs_symbol. */
+    At symbol(const char *name) const noexcept { return handle_ != nullptr ? At(ncs_symbol(handle(), name)) : At(); }
+
+    /* ncs_entry. */
+    At entry() const noexcept { return handle_ != nullptr ? At(ncs_entry(handle())) : At(); }
+
+    /* ncs_function_at. The name is valid until the module is freed. */
+    Place function_at(At at) const noexcept {
+        Place place;
+        place.name = handle_ != nullptr ? ncs_function_at(handle(), at, &place.offset) : nullptr;
+        return place;
+    }
+
+    /* ncs_function_in. The name is in the file. */
+    static Place function_in(Bytes file, At at) noexcept {
+        Place place;
+        place.name = ncs_function_in(file.data(), file.size(), at, &place.offset);
+        return place;
+    }
+
+    /* ncs_module_live. The changes may be made by any threads at once. */
+    static Result<Module> live(std::uint32_t bundles) noexcept {
+        NcsRefusal why{};
+        return told(ncs_module_live(bundles, &why), why);
+    }
+
+    /* ncs_create. */
+    Result<void> create(At base, Bytes code) noexcept {
+        return changed([&](NcsRefusal *why) { return ncs_create(handle(), base, code.data(), code.size(), why); });
+    }
+
+    /* ncs_patch. */
+    Result<void> patch(At at, Bytes code) noexcept {
+        return changed([&](NcsRefusal *why) { return ncs_patch(handle(), at, code.data(), code.size(), why); });
+    }
+
+    /* ncs_delete. */
+    Result<void> delete_chunk(At base) noexcept {
+        return changed([&](NcsRefusal *why) { return ncs_delete(handle(), base, why); });
+    }
+
+    /* ncs_reclaim. How many chunks it freed. */
+    std::uint32_t reclaim() noexcept { return handle_ != nullptr ? ncs_reclaim(handle()) : 0; }
+
+    NcsModule *handle() const noexcept { return handle_.get(); }
+
+  private:
+    struct Free {
+        void operator()(NcsModule *module) const noexcept { ncs_module_free(module); }
+    };
+
+    static Result<Module> made(NcsModule *(*make)(const void *, std::size_t, NcsRefusal *), Bytes bytes) noexcept {
+        NcsRefusal why{};
+        return told(make(bytes.data(), bytes.size(), &why), why);
+    }
+    static Result<Module> told(NcsModule *handle, NcsRefusal why) noexcept {
+        Module module;
+        module.handle_.reset(handle);
+        if (handle == nullptr) {
+            return Refusal(why);
+        }
+        return Result<Module>(std::move(module));
+    }
+
+    template <class Change>
+    Result<void> changed(Change change) noexcept {
+        NcsRefusal why{NCS_NOT_LIVE, 0, 0, "the module is empty"};
+        if (handle_ == nullptr || change(&why) == 0) {
+            return Refusal(why);
+        }
+        return Refusal();
+    }
+
+    std::unique_ptr<NcsModule, Free> handle_;
+};
+
+/* ---- What a box has behind it */
+
+namespace detail {
+
+/* Boxes and killers share it. It is freed by whoever lets go of it last. */
+struct Handle {
+    NcsBox *box = nullptr;
+
+    Handle() noexcept = default;
+    Handle(const Handle &) = delete;
+    Handle &operator=(const Handle &) = delete;
+    ~Handle() { (void)ncs_free(box); } /* in a forked child nothing is freed */
+};
+
+struct Callable {
+    Callable() noexcept = default;
+    Callable(const Callable &) = delete;
+    Callable &operator=(const Callable &) = delete;
+    virtual ~Callable() = default;
+};
+
+/* It stays where it is while its Box is moved. */
+struct State {
+    std::shared_ptr<Handle> handle = std::make_shared<Handle>();
+    std::vector<std::unique_ptr<Callable>> callables;
+    std::exception_ptr thrown; /* by the call-back that returned last, to be thrown on */
+    unsigned serving = 0;      /* call-backs that are under way */
+};
+
+} // namespace detail
+
+/* What a box and a caller have in common: calls, and memory. Functions that work on either take an Access &. */
+class Access {
+  public:
+    Access(const Access &) = delete;
+    Access &operator=(const Access &) = delete;
+
+    /* ncs_call, with integers up to 64 bits and addresses. An exception of a call-back comes out here. */
+    template <class... Args>
+    End call(At function, Args... args) {
+        constexpr unsigned count = (0u + ... + detail::Word<Args>::count);
+        static_assert(count <= NCS_ARGS_MAX, "a call has at most 16 arguments of 32 bits");
+        std::uint32_t words[count + 1] = {};
+        [[maybe_unused]] std::uint32_t *to = words;
+        ((to = detail::lay(to, args)), ...);
+        return run(function, count, words);
+    }
+
+    /* ncs_at. Empty unless all of it is the box's. It is valid until the box is destroyed, and a call changes what is there. */
+    Span<std::uint8_t> bytes(At at, std::size_t len) noexcept {
+        void *data = box() != nullptr && len <= NCS_MEMORY_MAX ? ncs_at(box(), at, static_cast<std::uint32_t>(len)) : nullptr;
+        return data != nullptr ? Span<std::uint8_t>(static_cast<std::uint8_t *>(data), len) : Span<std::uint8_t>();
+    }
+
+    /* ncs_set, and ncs_get. Whether it was copied. */
+    [[nodiscard]] bool set(At at, Bytes from) noexcept { return set(at, from.data(), from.size()); }
+    [[nodiscard]] bool set(At at, std::string_view from) noexcept { return set(at, from.data(), from.size()); }
+    [[nodiscard]] bool get(Span<std::uint8_t> to, At at) noexcept {
+        return box() != nullptr && to.size() <= NCS_MEMORY_MAX && ncs_get(box(), to.data(), at, static_cast<std::uint32_t>(to.size())) != 0;
+    }
+
+    /* ncs_text, cut to so many bytes without the 0. Nothing if it leaves the box. */
+    std::optional<std::string> text(At at, std::size_t most) {
+        std::string to(most < NCS_MEMORY_MAX ? most + 1 : NCS_MEMORY_MAX, '\0');
+        long len = box() != nullptr ? ncs_text(box(), to.data(), to.size(), at) : -1;
+        if (len < 0) {
+            return std::nullopt;
+        }
+        to.resize(static_cast<std::size_t>(len));
+        return to;
+    }
+
+    /* ncs_take, and ncs_put. 0 if there is no room. */
+    At take(std::size_t len) noexcept {
+        return box() != nullptr && len <= NCS_MEMORY_MAX ? At(ncs_take(box(), static_cast<std::uint32_t>(len))) : At();
+    }
+    At put(Bytes from) noexcept { return put(from.data(), from.size()); }
+    At put(std::string_view from) noexcept { return put(from.data(), from.size()); }
+
+  protected:
+    Access() noexcept = default;
+    explicit Access(detail::State *state) noexcept : state_(state) {}
+    ~Access() = default;
+
+    NcsBox *box() const noexcept { return state_ != nullptr ? state_->handle->box : nullptr; }
+
+    detail::State *state_ = nullptr;
+
+  private:
+    /* A call-back may move the box, so this value isn't looked at after the call. */
+    End run(At function, unsigned count, const std::uint32_t *words) {
+        detail::State *state = state_;
+        NcsEnd end{};
+        end.how = NCS_HOST;
+        if (state != nullptr) {
+            end = ncs_call(state->handle->box, function, count, words);
+            if (state->thrown != nullptr) {
+                std::rethrow_exception(std::exchange(state->thrown, nullptr));
+            }
+        }
+        return End(end);
+    }
+    bool set(At at, const void *from, std::size_t len) noexcept {
+        return box() != nullptr && len <= NCS_MEMORY_MAX && ncs_set(box(), at, from, static_cast<std::uint32_t>(len)) != 0;
+    }
+    At put(const void *from, std::size_t len) noexcept {
+        return box() != nullptr && len <= NCS_MEMORY_MAX ? At(ncs_put(box(), from, static_cast<std::uint32_t>(len))) : At();
+    }
+};
+
+/* The box whose code made a call-back, for as long as that lasts. */
+class Caller : public Access {
+  public:
+    explicit Caller(detail::State *state) noexcept : Access(state) {}
+
+    /* ncs_deny. */
+    void deny() noexcept { ncs_deny(box()); }
+};
+
+/* ---- Call-backs */
+
+namespace detail {
+
+template <class F>
+struct CallableOf : Callable {
+    template <class From>
+    CallableOf(State *its_state, From &&from) : state(its_state), function(std::forward<From>(from)) {}
+
+    std::uint64_t answer(const std::uint32_t *args) {
+        using Of = SignatureOf<F>;
+        Caller caller(state);
+        if constexpr (std::is_void_v<decltype(Of::call(function, caller, args))>) {
+            Of::call(function, caller, args);
+            return 0;
+        } else {
+            auto value = Of::call(function, caller, args);
+            return Word<decltype(value)>::bits(value);
+        }
+    }
+
+    /* An NcsCallback. No exception may cross the code or the library. */
+    static std::uint64_t serve(NcsBox *box, void *user, const std::uint32_t *args) noexcept {
+        CallableOf *self = static_cast<CallableOf *>(user);
+        State *state = self->state;
+        std::uint64_t value = 0;
+        (void)box;
+        state->serving++;
+#ifdef __cpp_exceptions
+        try {
+            value = self->answer(args);
+        } catch (...) {
+            state->thrown = std::current_exception();
+            ncs_deny(box);
+        }
+#else
+        value = self->answer(args);
+#endif
+        state->serving--;
+        return value;
+    }
+
+    State *state;
+    F function;
+};
+
+} // namespace detail
+
+/* ---- Boxes */
+
+/* It ends the calls of a box from any thread. It may be copied, and may outlive the box. */
+class Killer {
+  public:
+    Killer() noexcept = default;
+
+    /* ncs_kill. Whether the box was still there. */
+    bool kill() const noexcept {
+        std::shared_ptr<detail::Handle> handle = handle_.lock();
+        if (handle == nullptr) {
+            return false;
+        }
+        ncs_kill(handle->box);
+        return true;
+    }
+
+  private:
+    friend class Box;
+    explicit Killer(const std::shared_ptr<detail::Handle> &handle) noexcept : handle_(handle) {}
+
+    std::weak_ptr<detail::Handle> handle_;
+};
+
+class Box : public Access {
+  public:
+    Box() noexcept = default;
+    Box(Box &&other) noexcept : Access(std::exchange(other.state_, nullptr)) {}
+    Box &operator=(Box &&other) noexcept {
+        if (this != &other) {
+            give_back();
+            state_ = std::exchange(other.state_, nullptr);
+        }
+        return *this;
+    }
+    ~Box() { give_back(); } /* ncs_free */
+
+    /* ncs_box_new. */
+    static Result<Box> make(const Module &module, const Limits &limits) {
+        NcsRefusal why{NCS_BAD_FILE, 0, 0, "the module is empty"};
+        Box box;
+        box.state_ = new detail::State;
+        NcsBox *made = module.handle() != nullptr ? ncs_box_new(module.handle(), &limits, &why) : nullptr;
+        box.state_->handle->box = made;
+        if (made == nullptr) {
+            return Refusal(why);
+        }
+        return Result<Box>(std::move(box));
+    }
+
+    /* ncs_callback, with anything that can be called in one way: a function, a lambda, a std::function. Its first parameter may be a
+       Caller &, and the others are what the code passes: integers up to 64 bits, and addresses. It returns such a one, or nothing. It is
+       called again while it is under way if it calls code that calls back. Its address; 0 if it isn't given. */
+    template <class F>
+    At callback(F &&function) {
+        using Stored = detail::CallableOf<std::decay_t<F>>;
+        constexpr unsigned args = detail::SignatureOf<std::decay_t<F>>::count;
+        static_assert(args <= NCS_CALLBACK_ARGS, "a call-back has at most 12 arguments of 32 bits");
+        if (box() == nullptr) {
+            return At();
+        }
+        auto stored = std::make_unique<Stored>(state_, std::forward<F>(function));
+        Stored *user = stored.get();
+        state_->callables.push_back(std::move(stored));
+        At at = ncs_callback(box(), Stored::serve, user, args);
+        if (!at) {
+            state_->callables.pop_back();
+        }
+        return at;
+    }
+
+    /* ncs_reset. Whether it was done. */
+    [[nodiscard]] bool reset() noexcept { return box() != nullptr && ncs_reset(box()) != 0; }
+
+    /* What ends a call of this box, from any thread: ncs_kill. */
+    Killer killer() const noexcept { return state_ != nullptr ? Killer(state_->handle) : Killer(); }
+
+    NcsBox *handle() const noexcept { return box(); }
+
+  private:
+    /* Call-backs that are under way are still needed. */
+    void give_back() noexcept {
+        if (state_ != nullptr && state_->serving == 0) {
+            delete state_;
+        }
+        state_ = nullptr;
+    }
+};
+
+} // namespace ncs
+
+#endif

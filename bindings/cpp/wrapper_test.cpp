@@ -1,0 +1,338 @@
+// Tests of nc_sandbox.hpp: wrapper_test GUEST, on a module of sandbox/tests/guest.c. What failed is printed with its line.
+// tools/try-box-bindings compiles and runs them.
+#include "nc_sandbox.hpp"
+
+#include <cstdio>
+#include <cstdlib>
+#include <cstring>
+#include <fstream>
+#include <functional>
+#include <iterator>
+#include <stdexcept>
+#include <sys/wait.h>
+#include <thread>
+#include <unistd.h>
+
+#define CHECK(condition) check((condition) ? true : false, #condition, __LINE__)
+
+namespace {
+
+constexpr ncs::Limits LIMITS = {0x120000, 8, 10000}, BRIEF = {0x120000, 8, 30};
+constexpr int SKIPPED = 77;
+
+int failures;
+ncs::Module guest;
+
+void check(bool holds, const char *condition, int line) {
+    if (!holds) {
+        std::printf("line %d: FAILED: %s\n", line, condition);
+        failures++;
+    }
+}
+
+static_assert(std::is_nothrow_move_constructible_v<ncs::Module> && std::is_nothrow_move_assignable_v<ncs::Module>);
+static_assert(std::is_nothrow_move_constructible_v<ncs::Box> && std::is_nothrow_move_assignable_v<ncs::Box>);
+static_assert(!std::is_copy_constructible_v<ncs::Module> && !std::is_copy_assignable_v<ncs::Module>);
+static_assert(!std::is_copy_constructible_v<ncs::Box> && !std::is_copy_assignable_v<ncs::Box>);
+static_assert(!std::is_move_constructible_v<ncs::Caller> && !std::is_move_constructible_v<ncs::Access>);
+static_assert(std::is_copy_constructible_v<ncs::Killer> && sizeof(ncs::At) == sizeof(NcsAt));
+
+ncs::Bytes bytes_of(const char *text, std::size_t len) {
+    return {reinterpret_cast<const std::uint8_t *>(text), len};
+}
+
+ncs::Box new_box(const ncs::Limits &limits = LIMITS) {
+    auto made = ncs::Box::make(guest, limits);
+    CHECK(made.ok());
+    return std::move(made).value();
+}
+
+ncs::At at(const char *name) {
+    return guest.symbol(name);
+}
+
+void calls() {
+    ncs::Box box = new_box();
+    const auto sum = box.call(at("add"), 2, 3u);
+    CHECK(sum && sum.result<int>() == 5 && sum.how() == NCS_RETURNED && std::strcmp(sum.name(), "returned") == 0);
+    CHECK(box.call(at("add"), -7, 3).result<int>() == -4);
+    CHECK(box.call(at("add"), static_cast<signed char>(-1), true).result<bool>() == false);
+    CHECK(box.call(at("wide"), 0x0123456789ABCDEFull).result<unsigned long long>() == 0x0123456789ABCDEFull);
+    CHECK(box.call(at("wide"), -2ll).result<long long>() == -2);
+    CHECK(box.call(at("ninth"), 1, 2, 3, 4, 5, 6, 7, 8, at("add")).result<ncs::At>() == at("add"));
+    CHECK(box.call(at("nothing"), 1).how() == NCS_BAD_ENTRY && box.call(at("count")).result<int>() == 41);
+    const auto left = box.call(at("leave"), 9);
+    CHECK(!left && left.how() == NCS_EXITED && left.status() == 9 && left.place() == ncs::At(NCS_EXIT));
+    CHECK(box.call(at("count")).how() == NCS_DEAD && box.reset() && box.call(at("count")).result<int>() == 41);
+    const auto touched = box.call(at("touch"), 0x1234);
+    CHECK(touched.how() == NCS_FAULTED && touched.trap() == 14 && touched.data() == ncs::At(0x1234) && touched.result<int>() == 0);
+}
+
+void memory() {
+    ncs::Box box = new_box();
+    std::uint8_t six[6];
+    CHECK(*box.text(at("greeting"), 100) == "good morning" && *box.text(at("greeting"), 4) == "good");
+    CHECK(box.text(at("greeting"), 0)->empty());
+    CHECK(!box.text(ncs::At(), 4) && !box.text(ncs::At(LIMITS.memory), 4));
+    CHECK(box.get(six, at("buffer")) && std::memcmp(six, "first", 6) == 0);
+    CHECK(!box.get(six, ncs::At(LIMITS.memory - 5)) && !box.set(ncs::At(LIMITS.memory - 5), six) && !box.set(ncs::At(), "x"));
+    CHECK(box.set(at("buffer"), "other") && *box.text(at("buffer"), 9) == "other");
+    auto range = box.bytes(at("buffer"), 6);
+    range[0] = 'e';
+    CHECK(range.size() == 6 && *box.text(at("buffer") + 1, 9) == "ther" && *box.text(at("buffer"), 1) == "e");
+    CHECK(box.bytes(ncs::At(LIMITS.memory), 1).empty() && box.bytes(at("buffer"), std::size_t(1) << 32).empty());
+    const std::vector<std::uint8_t> threes(256, 3);
+    ncs::At in = box.put(threes);
+    CHECK(in && in != box.put(threes) && box.call(at("sum"), in, 256u).result<std::uint32_t>() == 768);
+    CHECK(box.take(1) && !box.take(LIMITS.memory) && !box.take(std::size_t(1) << 32));
+}
+
+unsigned twice(unsigned n) noexcept {
+    return 2 * n;
+}
+
+void callbacks() {
+    ncs::Box box = new_box();
+    unsigned all = 0;
+    auto owned = std::make_unique<unsigned>(100); // nobody can copy what the lambda has
+    ncs::At logs = box.callback([&all, owned = std::move(owned)](ncs::Caller &caller, unsigned n) mutable {
+        all += n;
+        *owned += 1;
+        return caller.call(at("add"), n, *owned).result<unsigned>();
+    });
+    CHECK(logs == ncs::At(NCS_CALLBACK(0)) && box.call(at("logged"), 5).result<unsigned>() == 5 + 101 + 1);
+    CHECK(box.call(at("each"), 3, logs).result<unsigned>() == 3 + 2 + 1 + 102 + 103 + 104 && all == 5 + 6);
+    CHECK(box.call(at("each"), 3, box.callback(twice)).result<unsigned>() == 12);
+    CHECK(box.call(at("each"), 3, box.callback(std::function<unsigned(unsigned)>(twice))).result<unsigned>() == 12);
+    CHECK(box.call(at("each"), 3, box.callback([] {})).result<unsigned>() == 0);
+    CHECK(box.call(at("each"), 1, box.callback([](signed char c) { return c; })).result<int>() == 1);
+    unsigned long long seen = 0;
+    ncs::At wide = box.callback([&](unsigned long long first, ncs::At second) { seen = first + second.number(); return -1ll; });
+    CHECK(box.call(wide, 1).how() == NCS_BAD_ENTRY && box.call(at("each"), 1, wide).result<int>() == -1 && seen != 0);
+    auto held = std::make_shared<int>(5);
+    unsigned given = 6;
+    for (; box.callback([held] { return *held; }); given++) {
+    }
+    CHECK(given == NCS_CALLBACKS && held.use_count() == 1 + NCS_CALLBACKS - 6);
+}
+
+// Code that passes on, as it is, what the first call-back returns.
+ncs::Module passing() {
+    std::uint8_t code[2 * NC_BUNDLE];
+    std::memset(code, 0x90, sizeof code);
+    std::memcpy(code + NC_BUNDLE - 5, "\xE8\xE0\x00\xFF\xFF\x59\x83\xE1\xE0\xFF\xE1", 11); // call 0x100; pop ecx; and ecx, -32; jmp ecx
+    auto made = ncs::Module::code(code);
+    CHECK(made.ok());
+    return std::move(made).value();
+}
+
+void results_of_callbacks() {
+    const ncs::Module module = passing();
+    auto box = ncs::Box::make(module, LIMITS);
+    long long result = -2;
+    CHECK(box && box->callback([&] { return result; }));
+    CHECK(box->call(ncs::At(0x10000)).result<long long>() == -2);
+    result = 0x123456789ABCDE00;
+    const auto end = box->call(ncs::At(0x10000));
+    CHECK(end.result<long long>() == result && end.result<unsigned>() == 0x9ABCDE00 && end.result<ncs::At>() == ncs::At(0x9ABCDE00));
+    CHECK(end.result<bool>() == false && end.result<short>() == -0x2200 && end.result<unsigned char>() == 0);
+}
+
+// A call-back that is called while it is under way.
+void within_itself() {
+    ncs::Box box = new_box();
+    unsigned deepest = 0;
+    ncs::At f = box.callback([&](ncs::Caller &caller, unsigned n) -> unsigned {
+        deepest = n > deepest ? n : deepest;
+        return n < 3 ? caller.call(at("logged"), n + 1).result<unsigned>() : n;
+    });
+    CHECK(f && box.call(at("logged"), 0).result<unsigned>() == 3 + 4 && deepest == 3);
+    CHECK(box.callback([](ncs::Caller &caller) { caller.deny(); }) == ncs::At(NCS_CALLBACK(1)));
+    const auto denied = box.call(at("each"), 3, ncs::At(NCS_CALLBACK(1)));
+    CHECK(denied.how() == NCS_DENIED && denied.trap() == 0 && box.call(at("count")).how() == NCS_DEAD);
+    CHECK(box.reset() && box.call(at("logged"), 0).result<unsigned>() == 7);
+}
+
+#ifdef __cpp_exceptions
+std::string message_of(ncs::Box &box, const char *name, unsigned n) {
+    try {
+        return box.call(at(name), n) ? "returned" : "ended";
+    } catch (const std::runtime_error &error) {
+        return error.what();
+    }
+}
+
+void exceptions() {
+    ncs::Box box = new_box();
+    bool is_caught = false;
+    CHECK(box.callback([&](ncs::Caller &caller, unsigned n) -> unsigned {
+        if (n == 0) {
+            throw std::runtime_error("zero");
+        }
+        try {
+            return caller.call(at("logged"), n - 1).result<unsigned>();
+        } catch (const std::runtime_error &) {
+            CHECK(caller.call(at("count")).how() == NCS_DEAD);
+            if (is_caught) {
+                return 0;
+            }
+            throw;
+        }
+    }));
+    CHECK(message_of(box, "logged", 0) == "zero" && box.call(at("count")).how() == NCS_DEAD);
+    CHECK(box.reset() && message_of(box, "logged", 3) == "zero" && box.reset());
+    is_caught = true;
+    const auto end = box.call(at("logged"), 2);
+    CHECK(end.how() == NCS_DENIED && box.reset() && box.call(at("count")).result<int>() == 41);
+    CHECK(message_of(box, "count", 0) == "returned");
+}
+
+// From a box through a call-back of another one.
+void exceptions_of_others() {
+    ncs::Box outer = new_box(), inner = new_box();
+    CHECK(inner.callback([](unsigned) { throw std::runtime_error("inner"); }));
+    CHECK(outer.callback([&](unsigned n) { return inner.call(at("logged"), n).result<unsigned>(); }));
+    CHECK(message_of(outer, "logged", 1) == "inner");
+    CHECK(inner.call(at("count")).how() == NCS_DEAD && outer.call(at("count")).how() == NCS_DEAD);
+}
+#else
+void exceptions() {}
+void exceptions_of_others() {}
+#endif
+
+void lives() {
+    ncs::Box box = new_box(), other = std::move(box), none;
+    CHECK(box.call(at("count")).how() == NCS_HOST && !box.reset() && !box.put("x") && !box.take(1) && !box.callback(twice)); // NOLINT
+    CHECK(box.bytes(at("buffer"), 1).empty() && !box.text(at("buffer"), 1) && !box.set(at("buffer"), "x") && box.handle() == nullptr);
+    CHECK(!none.killer().kill() && !ncs::Killer().kill() && other.call(at("count")).result<int>() == 41);
+    int held = 0;
+    auto count = std::shared_ptr<int>(&held, [](int *n) { ++*n; });
+    CHECK(other.callback([count = std::move(count)] { return *count; }));
+    other = new_box();
+    CHECK(held == 1 && other.call(at("count")).result<int>() == 41);
+    ncs::Box moved;
+    CHECK(other.callback([&](ncs::Caller &caller, unsigned n) {
+        moved = std::move(other);
+        return caller.call(at("add"), n, 1).result<unsigned>();
+    }));
+    CHECK(other.call(at("logged"), 1).result<unsigned>() == 3 && other.handle() == nullptr && moved.call(at("count")).result<int>() == 42);
+    std::uint8_t add[32];
+    std::memset(add, 0x90, sizeof add);
+    std::memcpy(add, "\x8B\x44\x24\x04\x03\x44\x24\x08\x59\x83\xE1\xE0\xFF\xE1", 14);
+    auto made = ncs::Module::code(add);
+    auto small = ncs::Box::make(*made, LIMITS);
+    *made = ncs::Module(); // its box keeps it
+    CHECK(small && small->call(ncs::At(0x10000), 7, 8).result<int>() == 15 && !made->symbol("add"));
+}
+
+// A box that a call-back of its own lets go of stays as it is, for that call. The killer also shows it to a detector of leaks.
+void left_behind() {
+    static ncs::Killer killer;
+    auto box = std::make_unique<ncs::Box>(new_box());
+    ncs::Box *same = box.get();
+    killer = box->killer();
+    CHECK(box->callback([&](ncs::Caller &caller, unsigned n) {
+        box.reset();
+        return caller.call(at("add"), n, 1).result<unsigned>();
+    }));
+    CHECK(same->call(at("logged"), 1).result<unsigned>() == 3 && box == nullptr && killer.kill());
+}
+
+void names_of_places(const std::vector<char> &file) {
+    const ncs::Place place = guest.function_at(at("sum") + 3), same = ncs::Module::function_in(bytes_of(file.data(), file.size()), at("sum"));
+    CHECK(place.name != nullptr && std::strcmp(place.name, "sum") == 0 && place.offset == 3);
+    CHECK(same.name != nullptr && std::strcmp(same.name, "sum") == 0 && same.offset == 0);
+    CHECK(guest.function_at(ncs::At()).name == nullptr && ncs::Module().function_at(at("sum")).name == nullptr);
+    CHECK(guest.entry() == at("start") && ncs::Module().entry() == ncs::At());
+}
+
+void live_code() {
+    auto made = ncs::Module::live(8);
+    if (made.fault().number() == NCS_BAD_SYSTEM) {
+        return; // the system has boxes, and no live code
+    }
+    const ncs::At start(0x10000);
+    std::uint8_t code[NC_BUNDLE] = {0xB8, 5, 0, 0, 0, 0x59, 0x83, 0xE1, 0xE0, 0xFF, 0xE1}; // mov eax, 5; pop ecx; and ecx, -32; jmp ecx
+    const std::uint8_t other[] = {0xB8, 7, 0, 0, 0};
+    std::memset(code + 11, 0x90, NC_BUNDLE - 11);
+    auto box = ncs::Box::make(*made, LIMITS);
+    CHECK(box && box->call(start).how() == NCS_STOPPED && box->reset());
+    CHECK(made->create(start, code) && box->call(start).result<int>() == 5);
+    CHECK(made->patch(start, other) && box->call(start).result<int>() == 7);
+    CHECK(made->patch(start + 1, other).fault().number() == NCS_BAD_CHANGE && box->call(start).result<int>() == 7);
+    CHECK(made->delete_chunk(start) && box->call(start).how() == NCS_STOPPED && box->reset());
+    auto occupied = made->create(start, code);
+    CHECK(occupied.fault().number() == NCS_BAD_CHANGE && occupied.fault().verdict().number() == NC_OCCUPIED);
+    CHECK(made->reclaim() == 1 && made->reclaim() == 0 && made->create(start, code) && box->call(start).result<int>() == 5);
+    code[20] = 0xC3;
+    auto refused = made->create(start + 64, code);
+    CHECK(refused.fault().number() == NCS_BAD_CODE && refused.fault().at() == start.number() + 64 + 20);
+    CHECK(guest.delete_chunk(start).fault().number() == NCS_NOT_LIVE && guest.reclaim() == 0);
+    *made = ncs::Module();
+    CHECK(made->delete_chunk(start).fault().number() == NCS_NOT_LIVE && box->call(start).result<int>() == 5);
+}
+
+void refusals() {
+    const auto bad = ncs::Module::elf(bytes_of("\x7F" "ELF", 4));
+    CHECK(!bad && bad.fault().number() == NCS_BAD_FILE && bad.fault().sentence() != nullptr);
+    std::uint8_t code[32];
+    std::memset(code, 0x90, sizeof code);
+    code[5] = 0xC3;
+    auto refused = ncs::Module::code(code);
+    CHECK(refused.fault().number() == NCS_BAD_CODE && refused.fault().verdict().number() == NC_NOT_PERMITTED);
+    CHECK(refused.fault().at() == 0x10005 && ncs::Refusal().number() == NCS_OK);
+    CHECK(ncs::Box::make(*refused, LIMITS).fault().number() == NCS_BAD_FILE);
+    CHECK(ncs::Box::make(guest, {1, 1, 1}).fault().number() == NCS_BAD_LIMITS);
+}
+
+void threads() {
+    ncs::Box box = new_box(), brief = new_box(BRIEF);
+    ncs::Killer killer = box.killer(), same = killer;
+    std::thread spins([mine = std::move(box)]() mutable {
+        CHECK(mine.call(at("spin")).how() == NCS_KILLED && mine.reset() && mine.call(at("count")).result<int>() == 41);
+    });
+    CHECK(brief.call(at("spin")).how() == NCS_LATE);
+    CHECK(same.kill());
+    spins.join();
+    CHECK(!killer.kill() && !same.kill());
+    killer = brief.killer();
+    CHECK(killer.kill() && brief.reset() && killer.kill() && brief.reset());
+}
+
+// In a forked child every call is refused, and values may go all the same.
+void children() {
+    ncs::Box box = new_box();
+    std::fflush(stdout);
+    pid_t child = fork();
+    if (child == 0) {
+        bool refused = box.call(at("count")).how() == NCS_HOST && !box.reset() && !ncs::Box::make(guest, LIMITS);
+        box = ncs::Box();
+        guest = ncs::Module();
+        _exit(refused ? 0 : 1);
+    }
+    int status = -1;
+    CHECK(child > 0 && waitpid(child, &status, 0) == child && WIFEXITED(status) && WEXITSTATUS(status) == 0);
+    CHECK(box.call(at("count")).result<int>() == 41);
+}
+
+} // namespace
+
+int main(int argc, char **argv) {
+    std::ifstream in(argc == 2 ? argv[1] : "", std::ios::binary);
+    const std::vector<char> file{std::istreambuf_iterator<char>(in), {}};
+    auto made = ncs::Module::elf(bytes_of(file.data(), file.size()));
+    if (!made) {
+        std::printf("%s: boxes: %s\n", made.fault().number() == NCS_BAD_SYSTEM ? "skipped" : "refused", made.fault().sentence());
+        return made.fault().number() == NCS_BAD_SYSTEM ? SKIPPED : 2;
+    }
+    guest = std::move(made).value();
+    names_of_places(file);
+    for (auto test : {calls, memory, callbacks, results_of_callbacks, within_itself, exceptions, exceptions_of_others, lives, left_behind,
+                      live_code, refusals, threads, children}) {
+        test();
+    }
+    if (failures == 0) {
+        std::printf("nc_sandbox.hpp: all as it should be\n");
+    }
+    return failures != 0;
+}

@@ -1,0 +1,118 @@
+//! Calls and memory.
+
+use crate::ffi;
+use crate::shared::Shared;
+use crate::words::Words;
+use crate::{Args, At, End, Refusal, Returned};
+use std::panic::resume_unwind;
+use std::slice;
+
+pub(crate) mod sealed {
+    /// A box into which its owner can call. Nobody outside the crate implements it.
+    pub trait Inside {
+        #[doc(hidden)]
+        fn shared(&self) -> &super::Shared;
+
+        /// Whether the thread may enter. One that is in a call-back has entered already.
+        #[doc(hidden)]
+        fn may_enter(&self) -> bool {
+            true
+        }
+    }
+}
+
+/// What can be done with a box by its owner, a [`Sandbox`](crate::Sandbox), and by its call-backs, which have a [`Caller`](crate::Caller).
+///
+/// While somebody looks at a range of its memory, the box can't be called:
+///
+/// ```compile_fail,E0502
+/// # use nc_sandbox::{Access, At, Sandbox};
+/// fn overlap(sandbox: &mut Sandbox, at: At) -> Option<u8> {
+///     let range = sandbox.bytes(at, 4).ok()?;
+///     let called: Result<(), _> = sandbox.call(at, ());
+///     called.ok()?;
+///     Some(range[0])
+/// }
+/// ```
+pub trait Access: sealed::Inside {
+    /// `ncs_call`: calls a function of the box with a tuple of arguments, such as `(at, 5u32)`, or with words.
+    ///
+    /// If a call-back of this call panics, the call ends, and the panic is resumed here.
+    fn call<R: Returned>(&mut self, function: At, args: impl Args) -> Result<R, End> {
+        let (shared, words) = (self.shared(), Words::of(args));
+        let words = words.all().filter(|_| self.may_enter()).ok_or(End::Host)?;
+        // SAFETY: "One thread", and this one has its alternate stack. The pointer leads to as many words as are named.
+        // Call-backs come back to `serve`, which keeps its own rules.
+        let end = unsafe { ffi::ncs_call(shared.raw(), function.raw(), words.len() as u32, words.as_ptr()) };
+        let panic = shared.panic().take();
+        if let Some(payload) = panic {
+            resume_unwind(payload);
+        }
+        End::check(&end)?;
+        Ok(R::of(end.result, end.high))
+    }
+
+    /// `ncs_at`: a range of the box's memory, to be read where it is.
+    fn bytes(&self, at: At, len: usize) -> Result<&[u8], Refusal> {
+        let data = range(self.shared(), at, len)?;
+        // SAFETY: "Outside", as long as `self` is borrowed. All of the range is memory that can be read, and stays until the box is freed.
+        Ok(unsafe { slice::from_raw_parts(data, len) })
+    }
+
+    /// `ncs_at`: a range of the box's memory, to be changed where it is.
+    fn bytes_mut(&mut self, at: At, len: usize) -> Result<&mut [u8], Refusal> {
+        let data = range(self.shared(), at, len)?;
+        // SAFETY: as above, and the range can be written. Nobody has another range, since `self` is borrowed by `&mut`.
+        Ok(unsafe { slice::from_raw_parts_mut(data, len) })
+    }
+
+    /// `ncs_get`: copies out of the box, until `to` is full.
+    fn get(&self, to: &mut [u8], at: At) -> Result<(), Refusal> {
+        to.copy_from_slice(self.bytes(at, to.len())?);
+        Ok(())
+    }
+
+    /// `ncs_set`: copies into the box.
+    fn set(&mut self, at: At, from: &[u8]) -> Result<(), Refusal> {
+        self.bytes_mut(at, from.len())?.copy_from_slice(from);
+        Ok(())
+    }
+
+    /// `ncs_text`: a copy of a text up to its 0, which isn't copied, cut to `most` bytes.
+    fn text(&self, at: At, most: usize) -> Result<Vec<u8>, Refusal> {
+        let mut to = vec![0; most.min(ffi::NCS_MEMORY_MAX as usize) + 1];
+        // SAFETY: "Outside", and `to` has room for as many bytes as are named.
+        let len = unsafe { ffi::ncs_text(self.shared().raw(), to.as_mut_ptr().cast(), to.len(), at.raw()) };
+        to.truncate(usize::try_from(len).map_err(|_| Refusal::NotInBox { at })?);
+        Ok(to)
+    }
+
+    /// `ncs_take`: takes so many bytes from the heap, at a multiple of 16. Only a reset gives them back.
+    fn take(&mut self, len: usize) -> Result<At, Refusal> {
+        let len = u32::try_from(len).map_err(|_| Refusal::NoRoom)?;
+        // SAFETY: "One thread".
+        let taken = unsafe { ffi::ncs_take(self.shared().raw(), len) };
+        match taken.at {
+            0 => Err(Refusal::NoRoom),
+            at => Ok(At(at)),
+        }
+    }
+
+    /// `ncs_put`: takes room for these bytes, and copies them there.
+    fn put(&mut self, from: &[u8]) -> Result<At, Refusal> {
+        let at = self.take(from.len())?;
+        self.set(at, from)?;
+        Ok(at)
+    }
+}
+
+/// A pointer to as many bytes, all of which are the box's. It isn't null, also for a length of 0.
+fn range(shared: &Shared, at: At, len: usize) -> Result<*mut u8, Refusal> {
+    let known = u32::try_from(len).map_err(|_| Refusal::NotInBox { at })?;
+    // SAFETY: "Freed once". The call judges the range, and reads and writes nothing.
+    let data = unsafe { ffi::ncs_at(shared.raw(), at.raw(), known) };
+    if data.is_null() {
+        return Err(Refusal::NotInBox { at });
+    }
+    Ok(data.cast())
+}

@@ -1,0 +1,119 @@
+//! Ends of calls.
+
+use crate::ffi::{self, NcsEnd};
+use crate::At;
+use std::error::Error;
+use std::fmt;
+
+/// How a call ended that hasn't returned. `Stopped` and those down to `Denied` leave the box dead until [`Sandbox::reset`]. `place` is
+/// where in the code the call ended.
+///
+/// [`Sandbox::reset`]: crate::Sandbox::reset
+#[non_exhaustive]
+#[derive(Clone, Copy, Debug, PartialEq, Eq, Hash)]
+pub enum End {
+    /// At a stop (`hlt`), which is also at each address without code.
+    Stopped {
+        /// Where.
+        place: At,
+    },
+    /// By a fault.
+    Faulted {
+        /// Where.
+        place: At,
+        /// The interrupt.
+        trap: u32,
+        /// The address of the data, of a page fault (interrupt 14).
+        data: Option<At>,
+    },
+    /// Its time is over.
+    Late {
+        /// Where.
+        place: At,
+    },
+    /// By a [`Killer`](crate::Killer).
+    Killed {
+        /// Where.
+        place: At,
+    },
+    /// The code called `NCS_EXIT`.
+    Exited {
+        /// With this status.
+        status: u32,
+    },
+    /// A call of the host that is none, or arguments or a frame that aren't in the box's memory.
+    BadCall {
+        /// Where.
+        place: At,
+    },
+    /// By [`Caller::deny`](crate::Caller::deny), or because a call-back was called while it was under way.
+    Denied {
+        /// Where the call-back would have returned to.
+        place: At,
+    },
+    /// The function isn't at a bundle start of the code, and nothing was entered; or the code was to return to such a place, and is dead.
+    BadEntry {
+        /// That place; else 0.
+        place: At,
+    },
+    /// The thread has too many calls under way, and nothing was entered.
+    TooDeep,
+    /// An earlier call has left the box dead, and nothing was entered.
+    Dead,
+    /// 255 calls of boxes of a live module are under way, and nothing was entered.
+    Busy,
+    /// Too many arguments, a thread that can't be prepared or is about to end, or a forked child. Nothing was entered, unless a call-back
+    /// forked. A thread that has called a box is about to end once the destructors of its thread-local values run.
+    Host,
+    /// A number that this crate doesn't know, from a newer library.
+    Other(u32),
+}
+
+impl End {
+    /// `Ok` where the function has returned.
+    pub(crate) fn check(end: &NcsEnd) -> Result<(), End> {
+        let place = At(end.place);
+        Err(match end.how {
+            ffi::NCS_RETURNED => return Ok(()),
+            ffi::NCS_STOPPED => End::Stopped { place },
+            ffi::NCS_FAULTED => End::Faulted { place, trap: end.trap, data: (end.trap == 14).then_some(At(end.data)) },
+            ffi::NCS_LATE => End::Late { place },
+            ffi::NCS_KILLED => End::Killed { place },
+            ffi::NCS_EXITED => End::Exited { status: end.status },
+            ffi::NCS_BAD_ENTRY => End::BadEntry { place },
+            ffi::NCS_BAD_CALL => End::BadCall { place },
+            ffi::NCS_DENIED => End::Denied { place },
+            ffi::NCS_TOO_DEEP => End::TooDeep,
+            ffi::NCS_DEAD => End::Dead,
+            ffi::NCS_BUSY => End::Busy,
+            ffi::NCS_HOST => End::Host,
+            other => End::Other(other),
+        })
+    }
+}
+
+impl fmt::Display for End {
+    fn fmt(&self, f: &mut fmt::Formatter<'_>) -> fmt::Result {
+        match *self {
+            End::Stopped { place } => write!(f, "stopped at {place}"),
+            End::Faulted { place, trap, data: None } => write!(f, "faulted by interrupt {trap} at {place}"),
+            End::Faulted { place, trap, data: Some(data) } => {
+                write!(f, "faulted by interrupt {trap} at {place}, data {data}")
+            }
+            End::Late { place } => write!(f, "late at {place}"),
+            End::Killed { place } => write!(f, "killed at {place}"),
+            End::Exited { status } => write!(f, "exited with status {status}"),
+            End::BadEntry { place: At(0) } => f.write_str("bad entry"),
+            End::BadEntry { place } => write!(f, "bad entry at {place}"),
+            End::BadCall { place } => write!(f, "bad call at {place}"),
+            End::Denied { place } => write!(f, "denied at {place}"),
+            End::TooDeep => f.write_str("too deep"),
+            End::Dead => f.write_str("dead"),
+            End::Busy => f.write_str("busy"),
+            End::Host => f.write_str("host"),
+            End::Other(number) => write!(f, "end {number}"),
+        }
+    }
+}
+
+impl Error for End {}

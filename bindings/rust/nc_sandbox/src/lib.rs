@@ -1,0 +1,53 @@
+//! A safe interface of the C library `nc_sandbox`, which runs untrusted 32-bit code in boxes.
+//!
+//! Each method makes the call of the library that its documentation names, and `nc_sandbox.h` says what that call promises. This crate
+//! is trusted, as the library is.
+//!
+//! A [`Module`] is code that was accepted, with its data. A [`Sandbox`] is a box, an instance of a module. [`Access`] has what its owner
+//! can do with it: calls, and reading and writing its memory. Call-backs are closures, which get a [`Caller`] that can do the same. A
+//! [`Killer`] ends calls from other threads.
+//!
+//! What the header asks of its caller is kept by types, but for this, which stays with the host: its handlers of signals have `SA_ONSTACK`,
+//! it leaves the library's own signals and alternate stacks alone, it makes no call from a signal handler, and it judges what comes out of
+//! a box. Results, arguments of call-backs and bytes of a box's memory may be anything.
+//!
+//! ```
+//! use nc_sandbox::{Access, At, Limits, Module, Sandbox};
+//!
+//! /// mov eax, [esp + 4]; add eax, [esp + 8]; pop ecx; and ecx, -32; jmp ecx
+//! const ADD: [u8; 14] = [0x8B, 0x44, 0x24, 4, 0x03, 0x44, 0x24, 8, 0x59, 0x83, 0xE1, 0xE0, 0xFF, 0xE1];
+//!
+//! # fn main() -> Result<(), Box<dyn std::error::Error>> {
+//! let mut code = [0x90; 32];
+//! code[..ADD.len()].copy_from_slice(&ADD);
+//! let module = Module::code(&code)?;
+//! let mut sandbox = Sandbox::new(&module, Limits { memory: 2 << 20, depth: 1, milliseconds: 100 })?;
+//! let sum: u32 = sandbox.call(At(0x10000), (7u32, 8u32))?;
+//! assert_eq!(sum, 15);
+//! # Ok(())
+//! # }
+//! ```
+
+#![warn(missing_docs)]
+#![deny(unsafe_op_in_unsafe_fn)]
+
+mod access;
+mod callback;
+mod end;
+#[allow(missing_docs)]
+pub mod ffi;
+mod live;
+mod module;
+mod refusal;
+mod sandbox;
+mod shared;
+mod stack;
+mod words;
+
+pub use access::Access;
+pub use callback::Caller;
+pub use end::End;
+pub use module::Module;
+pub use refusal::Refusal;
+pub use sandbox::{Killer, Limits, Sandbox};
+pub use words::{Args, At, Returned, Word};

@@ -1,0 +1,92 @@
+//! Modules.
+
+use crate::ffi::{self, NcsModule};
+use crate::{At, Refusal};
+use std::ffi::{c_char, CStr, CString};
+use std::fmt;
+use std::ptr::NonNull;
+
+/// Code that was accepted, with its data. Boxes of it are made by [`Sandbox::new`](crate::Sandbox::new), by any number of threads. Its code
+/// stays until the last of its boxes is gone, so a module may be dropped before them.
+pub struct Module {
+    pub(crate) handle: NonNull<NcsModule>,
+}
+
+// SAFETY: nc_sandbox.h, "Threads": any thread may call. A module is freed once, by the owner of this value.
+unsafe impl Send for Module {}
+// SAFETY: as above. A `&Module` makes boxes and looks up symbols, and any threads may do that at once.
+unsafe impl Sync for Module {}
+
+impl Module {
+    /// `ncs_module_elf`: a module from an ELF file, as `nc-cc` makes it.
+    pub fn elf(file: &[u8]) -> Result<Module, Refusal> {
+        // SAFETY: the pointer leads to as many bytes as the slice has, which are copied, and `why` to a refusal.
+        let made = Refusal::or(|why| unsafe { ffi::ncs_module_elf(file.as_ptr().cast(), file.len(), why) })?;
+        Ok(Module { handle: made })
+    }
+
+    /// `ncs_module_code`: a module from bytes of code, which begins at 00010000.
+    pub fn code(code: &[u8]) -> Result<Module, Refusal> {
+        // SAFETY: the pointer leads to as many bytes as the slice has, which are copied, and `why` to a refusal.
+        let made = Refusal::or(|why| unsafe { ffi::ncs_module_code(code.as_ptr().cast(), code.len(), why) })?;
+        Ok(Module { handle: made })
+    }
+
+    /// `ncs_symbol`: the address that a global symbol of the file has. A file may name any number.
+    pub fn symbol(&self, name: &str) -> Option<At> {
+        let name = CString::new(name).ok()?;
+        // SAFETY: the module is there as long as this value, and the name ends with a 0.
+        let found = unsafe { ffi::ncs_symbol(self.handle.as_ptr(), name.as_ptr()) };
+        (found.at != 0).then_some(At(found.at))
+    }
+
+    /// `ncs_entry`: where the file begins, or 00010000 for code alone. A file may name any number.
+    pub fn entry(&self) -> At {
+        // SAFETY: the module is there as long as this value.
+        At(unsafe { ffi::ncs_entry(self.handle.as_ptr()) }.at)
+    }
+
+    /// `ncs_function_at`: the function of the file in which a place of the code lies, and how far the place is behind its beginning.
+    pub fn function_at(&self, at: At) -> Option<(&str, u32)> {
+        let mut offset = 0;
+        // SAFETY: the module is there as long as this value, and the pointer leads to a number.
+        let name = unsafe { ffi::ncs_function_at(self.handle.as_ptr(), at.raw(), &mut offset) };
+        // SAFETY: nc_sandbox.h: the name is valid until the module is freed.
+        Some((unsafe { text(name) }?, offset))
+    }
+
+    /// `ncs_function_in`: the same for a file whose code was refused.
+    pub fn function_in(file: &[u8], at: At) -> Option<(&str, u32)> {
+        let mut offset = 0;
+        // SAFETY: the pointers lead to as many bytes as the slice has, and to a number.
+        let name = unsafe { ffi::ncs_function_in(file.as_ptr().cast(), file.len(), at.raw(), &mut offset) };
+        // SAFETY: nc_sandbox.h: the name is in the file.
+        Some((unsafe { text(name) }?, offset))
+    }
+}
+
+/// A name of the library's, or `None` for a null pointer.
+///
+/// # Safety
+///
+/// It ends with a 0, and stays as long as the lifetime says.
+unsafe fn text<'a>(name: *const c_char) -> Option<&'a str> {
+    if name.is_null() {
+        return None;
+    }
+    // SAFETY: as above.
+    unsafe { CStr::from_ptr(name) }.to_str().ok()
+}
+
+impl Drop for Module {
+    fn drop(&mut self) {
+        // SAFETY: nc_sandbox.h, "Threads": a module is freed once, and isn't used after that. Its boxes keep what they need.
+        unsafe { ffi::ncs_module_free(self.handle.as_ptr()) }
+    }
+}
+
+impl fmt::Debug for Module {
+    fn fmt(&self, f: &mut fmt::Formatter<'_>) -> fmt::Result {
+        f.debug_struct("Module").finish_non_exhaustive()
+    }
+}

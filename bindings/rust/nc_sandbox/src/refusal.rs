@@ -1,0 +1,121 @@
+//! Refusals.
+
+use crate::ffi::{self, NcsRefusal};
+use crate::At;
+use std::error::Error;
+use std::ffi::{c_int, CStr};
+use std::fmt;
+use std::ptr;
+
+/// Why there is no module, no box, no change, no range or no room. Everything is as it was.
+#[non_exhaustive]
+#[derive(Clone, Copy, Debug, PartialEq, Eq, Hash)]
+pub enum Refusal {
+    /// It isn't an ELF file as `nc-cc` makes it. The sentence says why.
+    BadFile(&'static str),
+    /// `nc_host` refuses the code.
+    BadCode {
+        /// The number of the fault in `nc_host.h`.
+        fault: u32,
+        /// Where it is, for a fault that has a place.
+        at: At,
+        /// What it says.
+        sentence: &'static str,
+    },
+    /// A limit is 0 or too large, or there is less memory than the data needs.
+    BadLimits(&'static str),
+    /// A signal has a handler without `SA_ONSTACK`.
+    BadHandler {
+        /// The number of the signal.
+        signal: u32,
+    },
+    /// There is no memory, no room below 4 GiB, or no segment left.
+    NoMemory(&'static str),
+    /// The system refuses what boxes need, or this is a forked child.
+    BadSystem(&'static str),
+    /// The module isn't one of [`Module::live`](crate::Module::live), so its code never changes.
+    NotLive,
+    /// `nc_host` refuses a change of live code.
+    BadChange {
+        /// The number of the fault in `nc_host.h`.
+        fault: u32,
+        /// What it says.
+        sentence: &'static str,
+    },
+    /// A range isn't all the box's, or a text leaves the box.
+    NotInBox {
+        /// Where it begins.
+        at: At,
+    },
+    /// The heap has no room for this.
+    NoRoom,
+    /// The box has 64 call-backs, or the one that was to be given has more than 12 arguments.
+    NoCallback,
+    /// The system has refused to reset the box, which is dead, or this is a forked child.
+    NotReset,
+    /// A kind that this crate doesn't know, from a newer library.
+    Other(&'static str),
+}
+
+impl Refusal {
+    /// What was refused by the call, which gets a place for the reason; else the pointer that it returns.
+    pub(crate) fn or<T>(call: impl FnOnce(*mut NcsRefusal) -> *mut T) -> Result<ptr::NonNull<T>, Refusal> {
+        let mut why = NcsRefusal { kind: ffi::NCS_OK, fault: 0, at: 0, sentence: ptr::null() };
+        ptr::NonNull::new(call(&mut why)).ok_or_else(|| Refusal::of(why))
+    }
+
+    /// The same for a change, of which the call says whether it was made.
+    pub(crate) fn unless_made(call: impl FnOnce(*mut NcsRefusal) -> c_int) -> Result<(), Refusal> {
+        let mut why = NcsRefusal { kind: ffi::NCS_OK, fault: 0, at: 0, sentence: ptr::null() };
+        match call(&mut why) {
+            0 => Err(Refusal::of(why)),
+            _ => Ok(()),
+        }
+    }
+
+    fn of(why: NcsRefusal) -> Refusal {
+        let sentence = sentence(&why);
+        match why.kind {
+            ffi::NCS_BAD_FILE => Refusal::BadFile(sentence),
+            ffi::NCS_BAD_CODE => Refusal::BadCode { fault: why.fault, at: At(why.at), sentence },
+            ffi::NCS_BAD_LIMITS => Refusal::BadLimits(sentence),
+            ffi::NCS_BAD_HANDLER => Refusal::BadHandler { signal: why.at },
+            ffi::NCS_NO_MEMORY => Refusal::NoMemory(sentence),
+            ffi::NCS_BAD_SYSTEM => Refusal::BadSystem(sentence),
+            ffi::NCS_NOT_LIVE => Refusal::NotLive,
+            ffi::NCS_BAD_CHANGE => Refusal::BadChange { fault: why.fault, sentence },
+            _ => Refusal::Other(sentence),
+        }
+    }
+}
+
+fn sentence(why: &NcsRefusal) -> &'static str {
+    if why.sentence.is_null() {
+        return "?";
+    }
+    // SAFETY: nc_sandbox.h, NcsRefusal: the sentence is a constant text, so it ends with a 0 and stays.
+    unsafe { CStr::from_ptr(why.sentence) }.to_str().unwrap_or("?")
+}
+
+impl fmt::Display for Refusal {
+    fn fmt(&self, f: &mut fmt::Formatter<'_>) -> fmt::Result {
+        match *self {
+            Refusal::BadCode { at: At(0), sentence, .. } => f.write_str(sentence),
+            Refusal::BadCode { at, sentence, .. } => write!(f, "{sentence} ({at})"),
+            Refusal::BadHandler { signal } => write!(f, "signal {signal} has a handler without SA_ONSTACK"),
+            Refusal::NotLive => f.write_str("the code of this module never changes"),
+            Refusal::NotInBox { at } => write!(f, "what begins at {at} isn't all the box's"),
+            Refusal::NoRoom => f.write_str("the heap of the box has no room for this"),
+            Refusal::NoCallback => f.write_str("the box has 64 call-backs, or this one has more than 12 arguments"),
+            Refusal::NotReset => f.write_str("the system has refused to reset the box"),
+            Refusal::BadFile(sentence)
+            | Refusal::BadLimits(sentence)
+            | Refusal::NoMemory(sentence)
+            | Refusal::BadChange { sentence, .. }
+            | Refusal::BadSystem(sentence)
+            | Refusal::Other(sentence) => f.write_str(sentence),
+        }
+    }
+}
+
+impl Error for Refusal {}

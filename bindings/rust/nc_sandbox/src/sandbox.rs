@@ -1,0 +1,166 @@
+//! Boxes, and killers.
+
+use crate::access::sealed::Inside;
+use crate::callback::{serve, Slot};
+use crate::ffi::{self, NcsLimits};
+use crate::shared::Shared;
+use crate::{stack, Access, At, Caller, Module, Refusal};
+use std::cell::Cell;
+use std::fmt;
+use std::marker::PhantomData;
+use std::sync::{Arc, Weak};
+
+/// What a box may use.
+#[derive(Clone, Copy, Debug, PartialEq, Eq, Hash)]
+pub struct Limits {
+    /// In bytes: data, heap and stack are below this address. A multiple of 4096, at most 1 GiB.
+    pub memory: u32,
+    /// Calls that one thread may have under way at once, with those of other boxes: 1 to 64.
+    pub depth: u32,
+    /// Of processor time of the calling thread, for a call with its call-backs: from 1.
+    pub milliseconds: u32,
+}
+
+/// A box: an instance of a module, with data, heap and stack of its own. By [`Access`] its functions are called, and its memory is read and
+/// written. Dropping it is `ncs_free`.
+///
+/// It may go to another thread, but no two threads may use it at once, not even to look. It can't be copied, and a range of its memory
+/// can't outlive it:
+///
+/// ```compile_fail,E0277
+/// fn is_sync<T: Sync>() {}
+/// is_sync::<nc_sandbox::Sandbox>();
+/// ```
+///
+/// ```compile_fail,E0277
+/// fn copy(sandbox: &nc_sandbox::Sandbox) -> nc_sandbox::Sandbox {
+///     nc_sandbox::Sandbox::clone(sandbox)
+/// }
+/// ```
+///
+/// ```compile_fail,E0505
+/// # use nc_sandbox::{Access, At, Sandbox};
+/// fn outlive(sandbox: Sandbox, at: At) -> Option<u8> {
+///     let range = sandbox.bytes(at, 4).ok()?;
+///     drop(sandbox);
+///     Some(range[0])
+/// }
+/// ```
+pub struct Sandbox {
+    /// What the library has the addresses of, until the box is freed or can't be called any more.
+    slots: Vec<Arc<Slot>>,
+    shared: Arc<Shared>,
+    one_thread: PhantomData<Cell<()>>,
+}
+
+impl Sandbox {
+    /// `ncs_box_new`: a box with its data as the file has it, and all other memory 0.
+    pub fn new(module: &Module, limits: Limits) -> Result<Sandbox, Refusal> {
+        let Limits { memory, depth, milliseconds } = limits;
+        let limits = NcsLimits { memory, depth, milliseconds };
+        // SAFETY: the module is there, and the pointers lead to limits and a refusal. The library keeps the module as long as the box.
+        let made = Refusal::or(|why| unsafe { ffi::ncs_box_new(module.handle.as_ptr(), &limits, why) })?;
+        Ok(Sandbox { slots: Vec::new(), shared: Arc::new(Shared::of(made)), one_thread: PhantomData })
+    }
+
+    /// `ncs_callback`: gives the box a call-back with so many 32-bit arguments, at most 12, and returns its address. The box keeps it until
+    /// it is dropped, also over a reset. What it returns goes to EDX and EAX.
+    ///
+    /// If it panics, the call of the code that has called back ends with [`End::Denied`](crate::End::Denied), and the panic is resumed from
+    /// [`Access::call`]. It is denied a second call while it is under way, which the code of the box may try when the call-back calls it.
+    ///
+    /// ```
+    /// # use nc_sandbox::{Access, At, Refusal, Sandbox};
+    /// fn gives(sandbox: &mut Sandbox) -> Result<At, Refusal> {
+    ///     let mut seen = Vec::new();
+    ///     sandbox.callback(1, move |caller, args| {
+    ///         seen.extend(caller.text(At(args[0]), 80));
+    ///         seen.len() as u64
+    ///     })
+    /// }
+    /// ```
+    ///
+    /// It goes where the box goes, so it is `Send`, and it borrows nothing:
+    ///
+    /// ```compile_fail,E0277
+    /// # use nc_sandbox::Sandbox;
+    /// fn gives(sandbox: &mut Sandbox) {
+    ///     let seen = std::rc::Rc::new(5);
+    ///     let _ = sandbox.callback(0, move |_, _| *seen);
+    /// }
+    /// ```
+    pub fn callback<F>(&mut self, args: usize, function: F) -> Result<At, Refusal>
+    where
+        F: FnMut(&mut Caller<'_>, &[u32]) -> u64 + Send + 'static,
+    {
+        let count = u32::try_from(args).map_err(|_| Refusal::NoCallback)?;
+        let slot = Slot::new(Arc::clone(&self.shared), args, Box::new(function));
+        let user = Arc::as_ptr(&slot).cast_mut().cast();
+        self.slots.push(slot);
+        // SAFETY: "One thread". What `serve` asks for is kept: the slot stays in `slots` as long as the box can be called, which needs this
+        // value or a call of it, and the library gives each call-back as many arguments as are named here.
+        let given = unsafe { ffi::ncs_callback(self.shared.raw(), serve, user, count) };
+        if given.at == 0 {
+            self.slots.pop();
+            return Err(Refusal::NoCallback);
+        }
+        Ok(At(given.at))
+    }
+
+    /// `ncs_reset`: gives the box its first memory again, and revives it. Its call-backs stay. A kill that hasn't ended a call is taken
+    /// back.
+    pub fn reset(&mut self) -> Result<(), Refusal> {
+        // SAFETY: "One thread" and "Outside": nobody has a range of its memory.
+        let made = unsafe { ffi::ncs_reset(self.shared.raw()) };
+        if made == 0 {
+            return Err(Refusal::NotReset);
+        }
+        Ok(())
+    }
+
+    /// What ends the calls of this box from any thread.
+    pub fn killer(&self) -> Killer {
+        Killer { shared: Arc::downgrade(&self.shared) }
+    }
+}
+
+impl Inside for Sandbox {
+    fn shared(&self) -> &Shared {
+        &self.shared
+    }
+
+    fn may_enter(&self) -> bool {
+        stack::is_there()
+    }
+}
+
+impl Access for Sandbox {}
+
+impl fmt::Debug for Sandbox {
+    fn fmt(&self, f: &mut fmt::Formatter<'_>) -> fmt::Result {
+        f.debug_struct("Sandbox").field("callbacks", &self.slots.len()).finish_non_exhaustive()
+    }
+}
+
+/// It ends the calls of a box, from any thread, and may outlive the box.
+#[derive(Clone)]
+pub struct Killer {
+    shared: Weak<Shared>,
+}
+
+impl Killer {
+    /// `ncs_kill`: ends the call that is under way, or else the next one, with [`End::Killed`](crate::End::Killed). It doesn't wait.
+    /// Whether the box was still there.
+    pub fn kill(&self) -> bool {
+        let Some(shared) = self.shared.upgrade() else { return false };
+        // SAFETY: "Freed once"; any thread may ask for this at any time.
+        unsafe { ffi::ncs_kill(shared.raw()) };
+        true
+    }
+}
+
+impl fmt::Debug for Killer {
+    fn fmt(&self, f: &mut fmt::Formatter<'_>) -> fmt::Result {
+        f.debug_struct("Killer").finish_non_exhaustive()
+    }
+}
