@@ -140,7 +140,7 @@ int ncs_bad_handler(void) {
     for (sig = 1; sig < SIGNALS; sig++) {
         KernelAction action;
         if (syscall(SYS_rt_sigaction, sig, NULL, &action, sizeof action.mask) != 0) {
-            return sig;
+            return -1;
         }
         if (action.handler <= (uintptr_t)SIG_IGN || (action.flags & SA_ONSTACK)) {
             continue;
