@@ -1,0 +1,118 @@
+/* The library of sandbox/ as a host for the kit. */
+#define _GNU_SOURCE
+#include "kit.h"
+
+#include "../inner.h"
+
+#include <elf.h>
+#include <stdlib.h>
+#include <string.h>
+
+#define STUB_AT NC_START            /* the function that is called; the code stands behind it */
+#define DATA_AT 0x30000u            /* the stack is below */
+#define MEMORY 0x5F000u             /* no other box begins directly behind it */
+#define FILE_ROOM (KIT_CODE_MAX + 4096)
+
+static uint64_t plain(NcsBox *box, void *user, const uint32_t *args) {
+    (void)box;
+    (void)user;
+    return kit_called(args[0]);
+}
+
+/* The box is called while it calls. */
+static uint64_t nested(NcsBox *box, void *user, const uint32_t *args) {
+    NcsAt function = {args[0]};
+    (void)user;
+    (void)kit_called(0);
+    return ncs_call(box, function, NCS_ARGS(1, 2, 3)).result;
+}
+
+/* EAX, EDX and the place are its arguments. */
+static void lay_stub(uint8_t to[NC_BUNDLE]) {
+    static const uint8_t stub[] = {0x8B, 0x44, 0x24, 4, 0x8B, 0x54, 0x24, 8, 0x8B, 0x4C, 0x24, 12, 0x83, 0xE1, 0xE0, 0xFF, 0xE1};
+    memset(to, 0x90, NC_BUNDLE);
+    memcpy(to, stub, sizeof stub);
+}
+
+static size_t lay_file(uint8_t *to, const uint8_t *code, uint32_t len) {
+    static const Elf32_Ehdr h = {.e_ident = ELFMAG "\1\1\1", .e_type = ET_EXEC, .e_machine = EM_386, .e_version = 1, .e_entry = STUB_AT,
+                                 .e_phoff = sizeof h, .e_ehsize = sizeof h, .e_phentsize = sizeof(Elf32_Phdr), .e_phnum = 2};
+    uint32_t all = NC_BUNDLE + len;
+    Elf32_Phdr p[2] = {{.p_type = PT_LOAD, .p_vaddr = STUB_AT, .p_filesz = all, .p_memsz = all, .p_flags = PF_R | PF_X},
+                       {.p_type = PT_LOAD, .p_vaddr = DATA_AT, .p_filesz = 16, .p_memsz = KIT_PAGE, .p_flags = PF_R | PF_W}};
+    uint8_t *text = to + sizeof h + sizeof p;
+    p[0].p_offset = p[1].p_offset = sizeof h + sizeof p;
+    memcpy(to, &h, sizeof h);
+    memcpy(to + sizeof h, p, sizeof p);
+    lay_stub(text);
+    memcpy(text + NC_BUNDLE, code, len);
+    return sizeof h + sizeof p + all;
+}
+
+static NcsBox *make_box(NcsModule *module) {
+    static const NcsLimits limits = {.memory = MEMORY, .depth = 16, .milliseconds = 1};
+    NcsBox *box = module != NULL ? ncs_box_new(module, &limits, NULL) : NULL;
+    if (box != NULL && (ncs_callback(box, plain, NULL, 1).at == 0 || ncs_callback(box, nested, NULL, 1).at == 0)) {
+        abort();
+    }
+    return box;
+}
+
+/* The box keeps its module. */
+static int load(Box *to, const uint8_t *code, uint32_t len) {
+    uint8_t file[FILE_ROOM];
+    NcsModule *module = ncs_module_elf(file, lay_file(file, code, len), NULL);
+    NcsBox *box = make_box(module);
+    ncs_module_free(module);
+    if (box == NULL) {
+        return 0;
+    }
+    to->code_base = box->module->text_at;
+    to->data_base = box->data_at;
+    to->code_at = STUB_AT + NC_BUNDLE;
+    to->code_len = len;
+    to->code_limit = box->module->limit;
+    to->data_first = DATA_LEAST;
+    to->data_at = DATA_AT;
+    to->data_limit = MEMORY;
+    to->own = box;
+    return 1;
+}
+
+static End run(Box *box, uint32_t place, uint32_t eax, uint32_t edx) {
+    static const uint32_t ends[] = {[NCS_RETURNED] = CAME_OUT, [NCS_STOPPED] = STOPPED, [NCS_FAULTED] = FAULTED, [NCS_LATE] = LATE,
+                                    [NCS_KILLED] = OTHERWISE, [NCS_EXITED] = CAME_OUT, [NCS_BAD_ENTRY] = REFUSED, [NCS_BAD_CALL] = REFUSED,
+                                    [NCS_DENIED] = OTHERWISE, [NCS_TOO_DEEP] = REFUSED, [NCS_DEAD] = OTHERWISE, [NCS_BUSY] = OTHERWISE,
+                                    [NCS_HOST] = OTHERWISE};
+    NcsAt stub = {STUB_AT};
+    NcsEnd got = ncs_call(box->own, stub, NCS_ARGS(eax, edx, place));
+    End end = {ends[got.how], got.trap, got.place, got.data};
+    return end;
+}
+
+static int renew(Box *box) {
+    return ncs_reset(box->own);
+}
+
+static void drop(Box *box) {
+    if (!ncs_free(box->own)) {
+        abort();
+    }
+}
+
+static int is_trampoline(uint32_t place) {
+    return place == NC_BUNDLE * OUT_RETURN || place == NCS_EXIT || (place >= NCS_CALLBACK(0) && place < NCS_CALLBACK(NCS_CALLBACKS));
+}
+
+static const char *begin(void) {
+    static const uint8_t code[NC_BUNDLE] = {NC_STOP};
+    NcsRefusal why;
+    NcsModule *module = ncs_module_code(code, sizeof code, &why);
+    ncs_module_free(module);
+    return why.kind == NCS_BAD_SYSTEM ? why.sentence : NULL;
+}
+
+static const uint32_t CALLS[] = {NCS_CALLBACK(0), NCS_CALLBACK(1)};
+
+const Host kit_host = {.name = "boxes", .way_out = NC_BUNDLE * OUT_RETURN, .calls = CALLS, .call_count = 2, .begin = begin, .load = load,
+                       .run = run, .renew = renew, .drop = drop, .is_trampoline = is_trampoline};
