@@ -13,14 +13,14 @@
 enum { LOW, ON_STACK, BEHIND_DATA, BEHIND_TEXT, AREAS };
 
 typedef struct Run {
-    Box *box;
+    KitBox *box;
     uint32_t place, eax, edx;
-    End end;
+    KitEnd end;
 } Run;
 
 const char *kit_harm;
 unsigned long kit_calls;
-Box kit_other;
+KitBox kit_other;
 static struct {
     uint8_t *at; /* NULL: it isn't looked at */
     size_t len;
@@ -53,7 +53,7 @@ int kit_canaries_begin(void) {
     return areas[LOW].at != NULL;
 }
 
-void kit_canaries_behind(const Box *box, int protection) {
+void kit_canaries_behind(const KitBox *box, int protection) {
     uint32_t ends[2] = {box->data_base + box->data_limit, box->code_base + box->code_limit};
     int k;
     for (k = BEHIND_DATA; k < AREAS; k++) {
@@ -86,6 +86,9 @@ static uint8_t *other_data(void) {
 
 int kit_other_begin(void) {
     uint32_t k;
+    if (kit_host.has_one_box) {
+        return 1;
+    }
     if (!kit_load_stop(&kit_other)) {
         return 0;
     }
@@ -125,11 +128,11 @@ static const char *look(unsigned guarded) {
             return areas[k].harm;
         }
     }
-    return memcmp(other_was, other_data(), other_len()) != 0 ? "ANOTHER BOX HAS CHANGED" : NULL;
+    return !kit_host.has_one_box && memcmp(other_was, other_data(), other_len()) != 0 ? "ANOTHER BOX HAS CHANGED" : NULL;
 }
 
-End kit_run(Box *box, uint32_t place, uint32_t eax, uint32_t edx) {
-    Run r = {box, place, eax, edx, {OTHERWISE, 0, 0, 0}};
+KitEnd kit_run(KitBox *box, uint32_t place, uint32_t eax, uint32_t edx) {
+    Run r = {box, place, eax, edx, {KIT_OTHERWISE, 0, 0, 0}};
     const char *harm;
     called_backwards = 0;
     harm = look(kit_guarded(run, &r));

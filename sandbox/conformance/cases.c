@@ -27,11 +27,11 @@ typedef struct Case {
 #define THEN(...) .more_len = sizeof((uint8_t[]){__VA_ARGS__}), .more = {__VA_ARGS__}
 #define EAX(of, plus) .eax = {of, plus}
 #define EDX(of, plus) .edx = {of, plus}
-#define COMES_OUT .how = CAME_OUT
-#define STOPS(of, plus) .how = STOPPED, .trap = GENERAL_PROTECTION, .place = {of, plus}
-#define FAULTS(interrupt, at) .how = FAULTED, .trap = interrupt, .place = {CASE, at}
-#define IS_LATE .how = LATE
-#define IS_REFUSED .how = REFUSED
+#define COMES_OUT .how = KIT_CAME_OUT
+#define STOPS(of, plus) .how = KIT_STOPPED, .trap = KIT_GENERAL_PROTECTION, .place = {of, plus}
+#define FAULTS(interrupt, at) .how = KIT_FAULTED, .trap = interrupt, .place = {CASE, at}
+#define IS_LATE .how = KIT_LATE
+#define IS_REFUSED .how = KIT_REFUSED
 #define JMP_EAX 0x83, 0xE0, 0xE0, 0xFF, 0xE0 /* and eax, -32; jmp eax */
 #define CALL_EAX 0x83, 0xE0, 0xE0, 0xFF, 0xD0
 #define RETURN_TO_EDX 0x89, 0x14, 0x24 /* mov [esp], edx */
@@ -43,30 +43,30 @@ static const Case CASES[] = {
     {"a way out", CODE(JMP_EAX), EAX(WAY_OUT, 0), COMES_OUT},
     {"a stop", CODE(NC_STOP), STOPS(CASE, 0)},
     {"code that runs on behind its end", CODE(0x90), STOPS(CASE_END, 0)},
-    {"an undefined opcode", CODE(0x0F, 0x0B), FAULTS(INVALID_OPCODE, 0)},
-    {"a division by zero", CODE(0x31, 0xC9, 0xF7, 0xF1), FAULTS(DIVISION_ERROR, 2)},
-    {"a quotient that is too large", CODE(0x99, 0x83, 0xC9, 0xFF, 0xF7, 0xF9), EAX(NUMBER, 0x80000000), FAULTS(DIVISION_ERROR, 4)},
+    {"an undefined opcode", CODE(0x0F, 0x0B), FAULTS(KIT_INVALID_OPCODE, 0)},
+    {"a division by zero", CODE(0x31, 0xC9, 0xF7, 0xF1), FAULTS(KIT_DIVISION_ERROR, 2)},
+    {"a quotient that is too large", CODE(0x99, 0x83, 0xC9, 0xFF, 0xF7, 0xF9), EAX(NUMBER, 0x80000000), FAULTS(KIT_DIVISION_ERROR, 4)},
     {"a loop without end", CODE(0xEB, 0xFE), IS_LATE},
     {"a loop, the direction flag set and no stack", CODE(0xFD, 0x83, 0xCC, 0xFF, 0xEB, 0xFE), IS_LATE},
     /* Data and stack [8] */
-    {"a push at 0", CODE(ESP_IS_0, 0x50), FAULTS(STACK_FAULT, 2), .data_is_kept = 1},
-    {"a push across 0", CODE(ESP_IS_EDX, 0x50), EDX(NUMBER, 2), FAULTS(STACK_FAULT, 2), .data_is_kept = 1},
-    {"a push across 2 GiB", CODE(ESP_IS_EDX, 0x50), EDX(NUMBER, 0x80000002), FAULTS(STACK_FAULT, 2), .data_is_kept = 1},
-    {"pushes without end", CODE(0x50, 0xEB, 0xFD), FAULTS(STACK_FAULT, 0), .below = 1, .data_is_kept = 1},
-    {"a string store over everything", CODE(0x89, 0xC7, 0x83, 0xC9, 0xFF, 0xF3, 0xAA), EAX(DATA, 0), FAULTS(GENERAL_PROTECTION, 5)},
-    {"a string store downwards", CODE(0xFD, 0x89, 0xC7, 0x83, 0xC9, 0xFF, 0xF3, 0xAA), EAX(DATA, 15), FAULTS(GENERAL_PROTECTION, 6),
+    {"a push at 0", CODE(ESP_IS_0, 0x50), FAULTS(KIT_STACK_FAULT, 2), .data_is_kept = 1},
+    {"a push across 0", CODE(ESP_IS_EDX, 0x50), EDX(NUMBER, 2), FAULTS(KIT_STACK_FAULT, 2), .data_is_kept = 1},
+    {"a push across 2 GiB", CODE(ESP_IS_EDX, 0x50), EDX(NUMBER, 0x80000002), FAULTS(KIT_STACK_FAULT, 2), .data_is_kept = 1},
+    {"pushes without end", CODE(0x50, 0xEB, 0xFD), FAULTS(KIT_STACK_FAULT, 0), .below = 1, .data_is_kept = 1},
+    {"a string store over everything", CODE(0x89, 0xC7, 0x83, 0xC9, 0xFF, 0xF3, 0xAA), EAX(DATA, 0), FAULTS(KIT_GENERAL_PROTECTION, 5)},
+    {"a string store downwards", CODE(0xFD, 0x89, 0xC7, 0x83, 0xC9, 0xFF, 0xF3, 0xAA), EAX(DATA, 15), FAULTS(KIT_GENERAL_PROTECTION, 6),
      .below = 1},
     {"a string load from beyond", CODE(0x89, 0xC6, 0x89, 0xD7, 0x83, 0xC9, 0xFF, 0xF3, 0xA4), EAX(NUMBER, 0x7FFFFFFF), EDX(DATA, 0),
-     FAULTS(GENERAL_PROTECTION, 7), .data_is_kept = 1},
-    {"a bit far above its address", CODE(0x0F, 0xAB, 0x02), EAX(NUMBER, 0x7FFFFFFF), EDX(DATA, 0), FAULTS(GENERAL_PROTECTION, 0),
+     FAULTS(KIT_GENERAL_PROTECTION, 7), .data_is_kept = 1},
+    {"a bit far above its address", CODE(0x0F, 0xAB, 0x02), EAX(NUMBER, 0x7FFFFFFF), EDX(DATA, 0), FAULTS(KIT_GENERAL_PROTECTION, 0),
      .data_is_kept = 1},
-    {"a bit far below its address", CODE(0x0F, 0xAB, 0x02), EAX(NUMBER, 0x80000000), EDX(DATA, 0), FAULTS(GENERAL_PROTECTION, 0),
+    {"a bit far below its address", CODE(0x0F, 0xAB, 0x02), EAX(NUMBER, 0x80000000), EDX(DATA, 0), FAULTS(KIT_GENERAL_PROTECTION, 0),
      .data_is_kept = 1},
     /* Code [7] */
-    {"a jump to the limit of the code", CODE(JMP_EAX), EAX(TEXT_END, 0), FAULTS(GENERAL_PROTECTION, 3), .data_is_kept = 1},
-    {"a jump a page behind it", CODE(JMP_EAX), EAX(TEXT_END, KIT_PAGE), FAULTS(GENERAL_PROTECTION, 3), .data_is_kept = 1},
-    {"a jump to the end of all addresses", CODE(JMP_EAX), EAX(NUMBER, 0xFFFFFFE0), FAULTS(GENERAL_PROTECTION, 3), .data_is_kept = 1},
-    {"a call beyond the limit of the code", CODE(CALL_EAX), EAX(NUMBER, 0x7FFFFFE0), FAULTS(GENERAL_PROTECTION, 3), .data_is_kept = 1},
+    {"a jump to the limit of the code", CODE(JMP_EAX), EAX(TEXT_END, 0), FAULTS(KIT_GENERAL_PROTECTION, 3), .data_is_kept = 1},
+    {"a jump a page behind it", CODE(JMP_EAX), EAX(TEXT_END, KIT_PAGE), FAULTS(KIT_GENERAL_PROTECTION, 3), .data_is_kept = 1},
+    {"a jump to the end of all addresses", CODE(JMP_EAX), EAX(NUMBER, 0xFFFFFFE0), FAULTS(KIT_GENERAL_PROTECTION, 3), .data_is_kept = 1},
+    {"a call beyond the limit of the code", CODE(CALL_EAX), EAX(NUMBER, 0x7FFFFFE0), FAULTS(KIT_GENERAL_PROTECTION, 3), .data_is_kept = 1},
     {"a jump to the guard", CODE(JMP_EAX), EAX(TEXT_END, -NC_BUNDLE), STOPS(TEXT_END, -NC_BUNDLE), .data_is_kept = 1},
     /* Ways in and out [9 to 14] */
     {"a way out, the direction flag set", CODE(0xFD, JMP_EAX), EAX(WAY_OUT, 0), COMES_OUT},
@@ -86,7 +86,7 @@ static const Case CASES[] = {
      EAX(CALL, 0), EDX(CASE, 32), IS_LATE},
 };
 
-static uint32_t number(const Box *box, Number n) {
+static uint32_t number(const KitBox *box, Number n) {
     uint32_t of[] = {[NUMBER] = 0, [CASE] = box->code_at, [CASE_END] = box->code_at + box->code_len, [TEXT_END] = box->code_limit,
                      [DATA] = box->data_at, [DATA_END] = box->data_limit, [CALL] = kit_host.call_count != 0 ? kit_host.calls[0] : 0,
                      [WAY_OUT] = kit_host.way_out};
@@ -99,9 +99,9 @@ static void lay(uint8_t code[2 * NC_BUNDLE], const Case *c) {
 }
 
 /* Where a late end was isn't known beforehand. */
-static const char *judge(const Case *c, const Box *box, End end) {
-    int stands = end.how == STOPPED || end.how == FAULTED;
-    uint32_t trap = c->below && box->data_first != 0 ? PAGE_FAULT : c->trap;
+static const char *judge(const Case *c, const KitBox *box, KitEnd end) {
+    int stands = end.how == KIT_STOPPED || end.how == KIT_FAULTED;
+    uint32_t trap = c->below && box->data_first != 0 ? KIT_PAGE_FAULT : c->trap;
     return end.how != c->how                            ? "ANOTHER END"
          : stands && end.trap != trap                   ? "ANOTHER INTERRUPT"
          : stands && end.place != number(box, c->place) ? "ANOTHER PLACE"
@@ -109,9 +109,9 @@ static const char *judge(const Case *c, const Box *box, End end) {
                                                         : NULL;
 }
 
-static void show(const char *name, End end) {
+static void show(const char *name, KitEnd end) {
     printf("%s: %s", name, kit_how(end.how));
-    if (end.how == STOPPED || end.how == FAULTED) {
+    if (end.how == KIT_STOPPED || end.how == KIT_FAULTED) {
         printf(" by interrupt %u at %08x", (unsigned)end.trap, (unsigned)end.place);
     }
 }
@@ -120,8 +120,8 @@ static void try_case(const Case *c) {
     uint8_t code[2 * NC_BUNDLE], *was;
     size_t len;
     const char *wrong;
-    Box box;
-    End end;
+    KitBox box;
+    KitEnd end;
     lay(code, c);
     if (!kit_load(&box, code, sizeof code, PROT_READ | PROT_WRITE)) {
         return;
@@ -165,7 +165,7 @@ void kit_try_refused(void) {
     for (k = 0; k < sizeof cases / sizeof *cases; k++) {
         uint8_t code[2 * NC_BUNDLE];
         int accepted;
-        Box box;
+        KitBox box;
         lay(code, &cases[k]);
         accepted = kit_host.load(&box, code, sizeof code);
         printf("%s: %s", cases[k].name, accepted ? "accepted" : "refused");

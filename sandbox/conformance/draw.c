@@ -22,7 +22,7 @@ static uint32_t word(Draw *d) {
     return draw(d, 0x10000) << 16 | draw(d, 0x10000);
 }
 
-uint32_t draw_number(Draw *d, const Box *box) {
+uint32_t draw_number(Draw *d, const KitBox *box) {
     const uint32_t numbers[] = {0, 0x80000000, box->data_first, box->data_at, box->data_limit, box->code_at, box->code_limit,
                                 KIT_LOW_AT + KIT_LOW_LEN / 2 - box->data_base, KIT_LOW_AT + KIT_LOW_LEN / 2,
                                 KIT_STACK_CANARY - box->data_base, KIT_STACK_CANARY,

@@ -59,7 +59,7 @@ static NcsBox *make_box(NcsModule *module) {
 }
 
 /* The box keeps its module. */
-static int load(Box *to, const uint8_t *code, uint32_t len) {
+static int load(KitBox *to, const uint8_t *code, uint32_t len) {
     uint8_t file[FILE_ROOM];
     NcsModule *module = ncs_module_elf(file, lay_file(file, code, len), NULL);
     NcsBox *box = make_box(module);
@@ -79,22 +79,23 @@ static int load(Box *to, const uint8_t *code, uint32_t len) {
     return 1;
 }
 
-static End run(Box *box, uint32_t place, uint32_t eax, uint32_t edx) {
-    static const uint32_t ends[] = {[NCS_RETURNED] = CAME_OUT, [NCS_STOPPED] = STOPPED, [NCS_FAULTED] = FAULTED, [NCS_LATE] = LATE,
-                                    [NCS_KILLED] = OTHERWISE, [NCS_EXITED] = CAME_OUT, [NCS_BAD_ENTRY] = REFUSED, [NCS_BAD_CALL] = REFUSED,
-                                    [NCS_DENIED] = OTHERWISE, [NCS_TOO_DEEP] = REFUSED, [NCS_DEAD] = OTHERWISE, [NCS_BUSY] = OTHERWISE,
-                                    [NCS_HOST] = OTHERWISE};
+static KitEnd run(KitBox *box, uint32_t place, uint32_t eax, uint32_t edx) {
+    static const uint32_t ends[] = {
+        [NCS_RETURNED] = KIT_CAME_OUT, [NCS_STOPPED] = KIT_STOPPED, [NCS_FAULTED] = KIT_FAULTED,  [NCS_LATE] = KIT_LATE,
+        [NCS_KILLED] = KIT_OTHERWISE,  [NCS_EXITED] = KIT_CAME_OUT, [NCS_BAD_ENTRY] = KIT_REFUSED, [NCS_BAD_CALL] = KIT_REFUSED,
+        [NCS_DENIED] = KIT_OTHERWISE,  [NCS_TOO_DEEP] = KIT_REFUSED, [NCS_DEAD] = KIT_OTHERWISE,  [NCS_BUSY] = KIT_OTHERWISE,
+        [NCS_HOST] = KIT_OTHERWISE};
     NcsAt stub = {STUB_AT};
     NcsEnd got = ncs_call(box->own, stub, NCS_ARGS(eax, edx, place));
-    End end = {ends[got.how], got.trap, got.place, got.data};
+    KitEnd end = {ends[got.how], got.trap, got.place, got.data};
     return end;
 }
 
-static int renew(Box *box) {
+static int renew(KitBox *box) {
     return ncs_reset(box->own);
 }
 
-static void drop(Box *box) {
+static void drop(KitBox *box) {
     if (!ncs_free(box->own)) {
         abort();
     }
@@ -114,5 +115,5 @@ static const char *begin(void) {
 
 static const uint32_t CALLS[] = {NCS_CALLBACK(0), NCS_CALLBACK(1)};
 
-const Host kit_host = {.name = "boxes", .way_out = NC_BUNDLE * OUT_RETURN, .calls = CALLS, .call_count = 2, .begin = begin, .load = load,
+const KitHost kit_host = {.name = "boxes", .way_out = NC_BUNDLE * OUT_RETURN, .calls = CALLS, .call_count = 2, .begin = begin, .load = load,
                        .run = run, .renew = renew, .drop = drop, .is_trampoline = is_trampoline};

@@ -5,6 +5,7 @@
 #include "kit.h"
 
 #include <pthread.h>
+#include <signal.h>
 #include <stdio.h>
 #include <stdlib.h>
 #include <string.h>
@@ -33,11 +34,11 @@ void kit_end_line(const char *wrong) {
     (void)fflush(stdout);
 }
 
-int kit_missed_limit(const Box *box, End end) {
-    return end.how == FAULTED && end.trap == PAGE_FAULT && end.data >= box->data_first;
+int kit_missed_limit(const KitBox *box, KitEnd end) {
+    return end.how == KIT_FAULTED && end.trap == KIT_PAGE_FAULT && end.data >= box->data_first;
 }
 
-int kit_load(Box *box, const uint8_t *code, uint32_t len, int protection) {
+int kit_load(KitBox *box, const uint8_t *code, uint32_t len, int protection) {
     if (!kit_host.load(box, code, len)) {
         printf("code that is right");
         kit_end_line("REFUSED");
@@ -52,20 +53,26 @@ void kit_lay(uint8_t *to, uint32_t len, const uint8_t *code, size_t code_len) {
     memcpy(to, code, code_len);
 }
 
-int kit_load_stop(Box *box) {
+int kit_load_stop(KitBox *box) {
     static const uint8_t stop = NC_STOP;
     uint8_t code[NC_BUNDLE];
     kit_lay(code, sizeof code, &stop, 1);
     return kit_load(box, code, sizeof code, PROT_READ | PROT_WRITE);
 }
 
-void kit_drop(Box *box) {
+void kit_drop(KitBox *box) {
     kit_canaries_leave();
     kit_host.drop(box);
 }
 
+/* The thread comes with every signal blocked [24]. */
 static int begin(void) {
-    const char *lacking = kit_host.begin();
+    sigset_t all;
+    const char *lacking;
+    if (sigfillset(&all) != 0 || pthread_sigmask(SIG_BLOCK, &all, NULL) != 0) {
+        return 2;
+    }
+    lacking = kit_host.begin();
     if (lacking != NULL) {
         printf("skipped: %s: %s\n", kit_host.name, lacking);
         return KIT_SKIPPED;

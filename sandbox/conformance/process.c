@@ -53,12 +53,12 @@ static int can(const Map *m, char what) {
 }
 
 static int overlaps(const Map *m, uint64_t from, uint64_t to) {
-    return m->from < to && from < m->to;
+    return from < to && m->from < to && from < m->to;
 }
 
 /* [1, 3]: nothing is writable and executable, and the text of untrusted code has no second mapping that can be written, but for a live
    text's, which no segment reaches. */
-static const char *judge_text(const Box *box, size_t count) {
+static const char *judge_text(const KitBox *box, size_t count) {
     uint64_t text = (uint64_t)box->code_base + box->code_at;
     const Map *own = NULL;
     size_t k;
@@ -79,15 +79,15 @@ static const char *judge_text(const Box *box, size_t count) {
     return NULL;
 }
 
-static int within(const Map *m, uint64_t from, uint64_t to) {
-    return from <= m->from && m->to <= to;
-}
-
 /* A segment as the processor reads it: SDM volume 3, "Segment Descriptors". */
 typedef struct Segment {
     uint64_t base, end;
     int is_there, is_code, is_64_bit, is_users, expands_down;
 } Segment;
+
+static int reaches(const Segment *s, uint64_t at, uint64_t len) {
+    return s->base < at + len && at < s->end;
+}
 
 static Segment segment(uint64_t d) {
     uint64_t limit = (d & 0xFFFF) | (d >> 32 & 0xF0000);
@@ -98,25 +98,28 @@ static Segment segment(uint64_t d) {
     return s;
 }
 
-/* [2, 8]: what can be executed in the code segment is text. What a data segment has is the box's, and none of it can be executed. */
-static const char *judge_map(const Map *m, const Segment *s, const Box *box) {
-    uint64_t code = box->code_base, data = box->data_base;
+/* [2, 8]: what can be executed in the code segment is text. What a data segment has is the box's, and none of it can be executed. The box's
+   memory may be one mapping with what is behind it. */
+static const char *judge_map(const Map *m, const Segment *s, const KitBox *box) {
+    uint64_t code_end = (uint64_t)box->code_base + box->code_limit, data_end = (uint64_t)box->data_base + box->data_limit;
     if (!overlaps(m, s->base, s->end)) {
         return NULL;
     }
     if (s->is_code) {
-        int is_text = !m->named && within(m, code, code + box->code_limit);
-        return s->base == code && can(m, 'x') && !is_text ? "OTHER CODE IN THE CODE SEGMENT" : NULL;
+        int is_other = s->base == box->code_base && can(m, 'x') && (m->named || overlaps(m, code_end, s->end));
+        return is_other ? "OTHER CODE IN THE CODE SEGMENT" : NULL;
     }
-    return can(m, 'x')                                                         ? "CODE IN A DATA SEGMENT"
-         : s->base == data && !within(m, data, data + box->data_limit)         ? "OTHER MEMORY IN THE DATA SEGMENT"
-         : overlaps(m, KIT_LOW_AT, KIT_LOW_AT + KIT_LOW_LEN) ||
-                   overlaps(m, KIT_STACK_AT, KIT_STACK_AT + KIT_STACK_LEN) ? "MEMORY OF THE HOST'S IN A DATA SEGMENT"
-                                                                           : NULL;
+    if (can(m, 'x')) {
+        return "CODE IN A DATA SEGMENT";
+    }
+    if (s->base == box->data_base && overlaps(m, data_end, s->end)) {
+        return "OTHER MEMORY IN THE DATA SEGMENT";
+    }
+    return reaches(s, KIT_LOW_AT, KIT_LOW_LEN) || reaches(s, KIT_STACK_AT, KIT_STACK_LEN) ? "MEMORY OF THE HOST'S IN A DATA SEGMENT" : NULL;
 }
 
 /* [6] */
-static const char *judge_segment(const Segment *s, const Box *box, size_t count) {
+static const char *judge_segment(const Segment *s, const KitBox *box, size_t count) {
     const char *wrong = s->is_64_bit    ? "A SEGMENT OF 64-BIT CODE"
                       : !s->is_users    ? "A SEGMENT OF ANOTHER PRIVILEGE"
                       : s->expands_down ? "A SEGMENT THAT EXPANDS DOWN"
@@ -129,7 +132,7 @@ static const char *judge_segment(const Segment *s, const Box *box, size_t count)
 }
 
 /* [7, 8]: the local table, in which two segments have the limits of the box. */
-static const char *judge_segments(const Box *box, size_t count) {
+static const char *judge_segments(const KitBox *box, size_t count) {
     static uint64_t table[LDT_ENTRIES];
     long len = syscall(SYS_modify_ldt, 0, table, sizeof table), k;
     int has_code = 0, has_data = 0;
@@ -194,7 +197,7 @@ static const char *judge_signals(void) {
     return NULL;
 }
 
-const char *kit_judge_process(const Box *box) {
+const char *kit_judge_process(const KitBox *box) {
     size_t count = read_maps();
     const char *wrong = judge_text(box, count);
     wrong = wrong != NULL ? wrong : judge_segments(box, count);
@@ -210,7 +213,7 @@ static void show(const char *name, const char *wrong) {
 
 void kit_try_process(void) {
     size_t count;
-    Box box;
+    KitBox box;
     if (!kit_load_stop(&box)) {
         return;
     }

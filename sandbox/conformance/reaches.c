@@ -21,8 +21,8 @@ typedef struct Way {
 } Way;
 
 #define CODE(...) .len = sizeof((uint8_t[]){__VA_ARGS__}), .code = {__VA_ARGS__}
-#define BY_DATA(where, bytes, behind) .at = where, .size = bytes, .trap = GENERAL_PROTECTION, .stop = behind
-#define BY_STACK(where, bytes, behind) .at = where, .size = bytes, .trap = STACK_FAULT, .stop = behind
+#define BY_DATA(where, bytes, behind) .at = where, .size = bytes, .trap = KIT_GENERAL_PROTECTION, .stop = behind
+#define BY_STACK(where, bytes, behind) .at = where, .size = bytes, .trap = KIT_STACK_FAULT, .stop = behind
 
 static const Way WAYS[] = {
     {"a load", CODE(0x8B, 0x00, NC_STOP), BY_DATA(0, 4, 2)},
@@ -52,7 +52,7 @@ typedef struct Place {
 } Place;
 
 /* Memory of the host's that is mapped, so that nothing but a segment stops the access. */
-static size_t list_places(const Box *box, uint32_t size, Place places[]) {
+static size_t list_places(const KitBox *box, uint32_t size, Place places[]) {
     uint32_t base = box->data_base, end = box->data_limit, other = kit_other.data_base + kit_other.data_at;
     const Place all[] = {
         {"the end of its data", end - size, 1},
@@ -62,17 +62,17 @@ static size_t list_places(const Box *box, uint32_t size, Place places[]) {
         {"its text", box->code_base + box->code_at - base, 0},
         {"the host's memory", KIT_LOW_AT + KIT_LOW_LEN / 2 - base, 0},
         {"the host's stack", KIT_STACK_CANARY - base, 0},
-        {"another box", other - base, 0},
         {"the end of all addresses", 0u - size, 0},
+        {"another box", other - base, 0},
     };
     memcpy(places, all, sizeof all);
-    return sizeof all / sizeof *all;
+    return sizeof all / sizeof *all - (kit_host.has_one_box ? 1 : 0);
 }
 
-static const char *judge(const Way *way, const Box *box, const Place *place, End end) {
+static const char *judge(const Way *way, const KitBox *box, const Place *place, KitEnd end) {
     uint32_t at = box->code_at + (place->is_within ? way->stop : way->at);
-    return end.how != (place->is_within ? STOPPED : FAULTED)               ? "ANOTHER END"
-         : end.trap != (place->is_within ? GENERAL_PROTECTION : way->trap) ? "ANOTHER INTERRUPT"
+    return end.how != (place->is_within ? KIT_STOPPED : KIT_FAULTED)               ? "ANOTHER END"
+         : end.trap != (place->is_within ? KIT_GENERAL_PROTECTION : way->trap) ? "ANOTHER INTERRUPT"
          : end.place != at                                                 ? "ANOTHER PLACE"
                                                                            : kit_harm;
 }
@@ -82,14 +82,14 @@ static void try_way(const Way *way) {
     Place places[16];
     const char *wrong = NULL;
     size_t k, count;
-    Box box;
+    KitBox box;
     kit_lay(code, sizeof code, way->code, way->len);
     if (!kit_load(&box, code, sizeof code, PROT_READ | PROT_WRITE)) {
         return;
     }
     count = list_places(&box, way->size, places);
     for (k = 0; k < count && wrong == NULL; k++) {
-        End end = kit_run(&box, box.code_at, (uint32_t)places[k].at, box.data_at);
+        KitEnd end = kit_run(&box, box.code_at, (uint32_t)places[k].at, box.data_at);
         wrong = judge(way, &box, &places[k], end);
         wrong = wrong == NULL && !kit_host.renew(&box) ? "IT ISN'T RENEWED" : wrong;
     }
@@ -106,10 +106,10 @@ void kit_try_reaches(void) {
 }
 
 /* A run that stops or is late with this stack pointer. Linux takes it for a linear address. */
-static const char *try_stack(Box *box, uint32_t place, uint32_t esp, uint32_t how) {
-    End end = kit_run(box, place, 0, esp);
+static const char *try_stack(KitBox *box, uint32_t place, uint32_t esp, uint32_t how) {
+    KitEnd end = kit_run(box, place, 0, esp);
     return end.how != how                             ? "ANOTHER END"
-         : how == STOPPED && end.place != place + 2 ? "ANOTHER PLACE"
+         : how == KIT_STOPPED && end.place != place + 2 ? "ANOTHER PLACE"
          : !kit_host.renew(box)                     ? "IT ISN'T RENEWED"
                                                     : kit_harm;
 }
@@ -122,7 +122,7 @@ void kit_try_stacks(void) {
     unsigned k, stops;
     uint8_t code[2 * NC_BUNDLE];
     stack_t stack;
-    Box box;
+    KitBox box;
     kit_lay(code, NC_BUNDLE, stop, sizeof stop);
     kit_lay(code + NC_BUNDLE, NC_BUNDLE, loop, sizeof loop);
     if (!kit_load(&box, code, sizeof code, PROT_READ | PROT_WRITE)) {
@@ -130,10 +130,10 @@ void kit_try_stacks(void) {
     }
     own[2] = sigaltstack(NULL, &stack) == 0 ? (uint32_t)(uintptr_t)stack.ss_sp + (uint32_t)stack.ss_size / 2 : 0;
     for (k = 0; k < 6 && wrong == NULL; k++) {
-        wrong = try_stack(&box, box.code_at + k % 2 * NC_BUNDLE, own[k / 2], k % 2 == 0 ? STOPPED : LATE);
+        wrong = try_stack(&box, box.code_at + k % 2 * NC_BUNDLE, own[k / 2], k % 2 == 0 ? KIT_STOPPED : KIT_LATE);
     }
     for (stops = 0; stops < 4096 && wrong == NULL; stops++) {
-        wrong = try_stack(&box, box.code_at, (stops << 20) + 8, STOPPED);
+        wrong = try_stack(&box, box.code_at, (stops << 20) + 8, KIT_STOPPED);
     }
     printf("stops and loops with any stack pointer: %u", k + stops);
     kit_end_line(wrong);
@@ -141,17 +141,17 @@ void kit_try_stacks(void) {
 }
 
 /* A call of the host may go back to some place, and stop there. */
-static const char *judge_jump(const Box *box, uint32_t place, uint32_t how, End end) {
+static const char *judge_jump(const KitBox *box, uint32_t place, uint32_t how, KitEnd end) {
     if (kit_host.is_trampoline(place)) {
-        return end.how == CAME_OUT || end.how == REFUSED || end.how == STOPPED ? kit_harm : "ANOTHER END";
+        return end.how == KIT_CAME_OUT || end.how == KIT_REFUSED || end.how == KIT_STOPPED ? kit_harm : "ANOTHER END";
     }
-    return end.how != how || end.trap != GENERAL_PROTECTION                ? "ANOTHER END"
-         : end.place != (how == STOPPED ? place : box->code_at + JUMP_AT) ? "ANOTHER PLACE"
+    return end.how != how || end.trap != KIT_GENERAL_PROTECTION                ? "ANOTHER END"
+         : end.place != (how == KIT_STOPPED ? place : box->code_at + JUMP_AT) ? "ANOTHER PLACE"
                                                                           : kit_harm;
 }
 
 /* Jumps by code that sets ESP to EDX, to bundle starts from one place to another. */
-static void try_jumps(Box *box, const char *name, uint64_t from, uint64_t to, uint32_t step, uint32_t how) {
+static void try_jumps(KitBox *box, const char *name, uint64_t from, uint64_t to, uint32_t step, uint32_t how) {
     const uint32_t stacks[] = {box->data_at + 64, KIT_LOW_AT + 64, 0xFFFFFFFC};
     const char *wrong = NULL;
     unsigned tried = 0;
@@ -172,15 +172,15 @@ void kit_try_jumps(void) {
     static const uint8_t jump[] = {0x89, 0xD4, 0x83, 0xE0, 0xE0, 0xFF, 0xE0}; /* mov esp, edx; and eax, -32; jmp eax */
     uint8_t code[NC_BUNDLE];
     uint32_t behind, step;
-    Box box;
+    KitBox box;
     kit_lay(code, sizeof code, jump, sizeof jump);
     if (!kit_load(&box, code, sizeof code, PROT_READ | PROT_WRITE)) {
         return;
     }
     behind = box.code_at + box.code_len;
     step = ((box.code_limit - behind) / 1000 + NC_BUNDLE) & ~(NC_BUNDLE - 1);
-    try_jumps(&box, "jumps to the zone", 0, NC_START, NC_BUNDLE, STOPPED);
-    try_jumps(&box, "jumps to text without code", behind, box.code_limit, step, STOPPED);
-    try_jumps(&box, "jumps beyond the limit of the code", box.code_limit, 1ull << 32, 0xFFFFE0, FAULTED);
+    try_jumps(&box, "jumps to the zone", 0, NC_START, NC_BUNDLE, KIT_STOPPED);
+    try_jumps(&box, "jumps to text without code", behind, box.code_limit, step, KIT_STOPPED);
+    try_jumps(&box, "jumps beyond the limit of the code", box.code_limit, 1ull << 32, 0xFFFFE0, KIT_FAULTED);
     kit_drop(&box);
 }

@@ -13,7 +13,7 @@
 #define LOOKS_EACH 32u   /* chunks to one look at the process */
 
 typedef struct Counts {
-    unsigned long chunks, runs, ends[OTHERWISE + 1];
+    unsigned long chunks, runs, ends[KIT_OTHERWISE + 1];
 } Counts;
 
 /* Of a processor, so that a busy machine tries as much. */
@@ -24,7 +24,7 @@ static double now(void) {
 }
 
 /* Whether a thread may stand there: at an instruction of the code, in code of the host's, or at another bundle start. */
-static int may_stand(const Box *box, const uint8_t *marks, uint32_t place) {
+static int may_stand(const KitBox *box, const uint8_t *marks, uint32_t place) {
     uint32_t at = place - box->code_at;
     if (at < box->code_len) {
         return marks[at] != NC_UNMARKED;
@@ -32,17 +32,17 @@ static int may_stand(const Box *box, const uint8_t *marks, uint32_t place) {
     return (place >= NC_START && place < box->code_at) || (place % NC_BUNDLE == 0 && place < box->code_limit);
 }
 
-static const char *judge(const Box *box, const uint8_t *code, const uint8_t *marks, End end) {
+static const char *judge(const KitBox *box, const uint8_t *code, const uint8_t *marks, KitEnd end) {
     uint32_t at = end.place - box->code_at;
-    int stands = end.how == STOPPED || end.how == FAULTED || end.how == LATE;
-    return end.how >= OTHERWISE                                                ? "ANOTHER END"
+    int stands = end.how == KIT_STOPPED || end.how == KIT_FAULTED || end.how == KIT_LATE;
+    return end.how >= KIT_OTHERWISE                                                ? "ANOTHER END"
          : stands && !may_stand(box, marks, end.place)                         ? "NO INSTRUCTION IS AT ITS PLACE"
-         : end.how == STOPPED && at < box->code_len && code[at] != NC_STOP     ? "NO STOP IS AT ITS PLACE"
+         : end.how == KIT_STOPPED && at < box->code_len && code[at] != NC_STOP     ? "NO STOP IS AT ITS PLACE"
          : kit_missed_limit(box, end)                                          ? "A PAGE FAULT BEYOND A LIMIT"
                                                                                : kit_harm;
 }
 
-static const char *run_chunk(Draw *d, Box *box, const uint8_t *code, Counts *counts) {
+static const char *run_chunk(Draw *d, KitBox *box, const uint8_t *code, Counts *counts) {
     uint8_t marks[LEN];
     const char *wrong = NULL;
     unsigned k;
@@ -51,10 +51,10 @@ static const char *run_chunk(Draw *d, Box *box, const uint8_t *code, Counts *cou
     }
     for (k = 0; k < RUNS && wrong == NULL; k++) {
         uint32_t eax = draw_number(d, box), edx = draw_number(d, box);
-        End end = kit_run(box, box->code_at + NC_BUNDLE * draw(d, BUNDLES), eax, edx);
+        KitEnd end = kit_run(box, box->code_at + NC_BUNDLE * draw(d, BUNDLES), eax, edx);
         wrong = judge(box, code, marks, end);
         counts->runs++;
-        counts->ends[end.how < OTHERWISE ? end.how : OTHERWISE]++;
+        counts->ends[end.how < KIT_OTHERWISE ? end.how : KIT_OTHERWISE]++;
         if (wrong != NULL) {
             fprintf(stderr, "run %u: eax %08x edx %08x, %s by %u at %08x, data %08x\n", k, (unsigned)eax, (unsigned)edx, kit_how(end.how),
                     (unsigned)end.trap, (unsigned)end.place, (unsigned)end.data);
@@ -70,11 +70,11 @@ static const char *try_chunk(Draw *d, uint64_t seed, Counts *counts) {
     uint8_t code[LEN];
     const char *wrong;
     unsigned k;
-    Box box;
+    KitBox box;
     d->random = (seed + 1) * 0x9E3779B97F4A7C15ull;
     draw_code(d, code, LEN);
     if (!kit_load(&box, code, LEN, PROT_NONE)) {
-        wrong = "CODE IS REFUSED THAT IS PERMITTED";
+        wrong = "CODE IS KIT_REFUSED THAT IS PERMITTED";
     } else {
         wrong = run_chunk(d, &box, code, counts);
         wrong = wrong == NULL && counts->chunks % LOOKS_EACH == LOOKS_EACH - 1 ? kit_judge_process(&box) : wrong;
@@ -93,11 +93,11 @@ void kit_try_wild(double seconds, uint64_t seed) {
     const char *wrong = NULL;
     Draw d = {1, NULL, 0};
     unsigned k;
-    Box like;
+    KitBox like;
     if (!kit_load_stop(&like)) {
         return;
     }
-    kit_canaries_leave();
+    kit_drop(&like); /* another one is where it was */
     d.like = &like;
     while (wrong == NULL && now() < end) {
         wrong = try_chunk(&d, seed++, &counts);
@@ -108,9 +108,8 @@ void kit_try_wild(double seconds, uint64_t seed) {
     }
     kit_end_line(wrong);
     printf("counts: %lu chunks, %lu runs", counts.chunks, counts.runs);
-    for (k = 0; k < OTHERWISE; k++) {
+    for (k = 0; k < KIT_OTHERWISE; k++) {
         printf(", %lu %s", counts.ends[k], kit_how(k));
     }
     printf(", %lu calls of the host\n", kit_calls);
-    kit_host.drop(&like);
 }
